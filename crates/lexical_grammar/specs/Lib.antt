@@ -1,0 +1,11 @@
+pub mod Characters
+pub mod Numbers
+pub mod Strings
+pub mod Tokens
+pub mod Cut
+pub mod Begins
+pub mod Values
+pub mod NumberStates
+pub mod Reads
+pub mod Agreement
+pub mod Answers
