@@ -1,0 +1,183 @@
+-- Derivations: trees whose nodes fit their rows, with the rules on leaves, names, constants and braces; and the nesting of a tree.
+use Rattle.std.specs.Prelude.{◌≡◌, ◌≢◌, ℕ, ◌+◌, ◌<◌, ◌≤◌, max, cond, ltb, List, [], ◌∷◌, ◌++◌, ◌⊎◌, IsTrue, IsFalse}
+use Rattle.document_grammar.specs.Tree.{Text, Token, Tree, leaf, node, Forest, none, ◌▸◌, root}
+use Rattle.document_grammar.specs.Pattern.{Pattern, Matches, member}
+use Rattle.document_grammar.specs.Rows.{Row, FirstRow, bare_selections}
+use Rattle.document_grammar.specs.Kinds.{DOCUMENT, OPERATION_DEFINITION, SELECTION_SET, FRAGMENT_NAME, ENUM_VALUE, VARIABLE, DEFAULT_VALUE, DIRECTIVES, L_CURLY, ERROR, IDENT, STRING, Types, VARIABLE_DEFINITION, SCHEMA_DEFINITION, SCALAR_TYPE_DEFINITION, OBJECT_TYPE_DEFINITION, FIELD_DEFINITION, INPUT_VALUE_DEFINITION, INTERFACE_TYPE_DEFINITION, UNION_TYPE_DEFINITION, ENUM_TYPE_DEFINITION, ENUM_VALUE_DEFINITION, INPUT_OBJECT_TYPE_DEFINITION, SCHEMA_EXTENSION, SCALAR_TYPE_EXTENSION, OBJECT_TYPE_EXTENSION, INTERFACE_TYPE_EXTENSION, UNION_TYPE_EXTENSION, ENUM_TYPE_EXTENSION, INPUT_OBJECT_TYPE_EXTENSION, FIELDS_DEFINITION, ENUM_VALUES_DEFINITION, INPUT_FIELDS_DEFINITION, LIST_TYPE, LIST_VALUE, OBJECT_FIELD, Values, words}
+
+abbrev pub kinds : Forest → List ℕ
+kinds none = []
+kinds (t ▸ f) = root t ∷ kinds f
+
+-- The joined text of the leaves.
+abbrev mutual
+  pub text : Tree → Text
+  text (leaf k x) = x
+  text (node k f) = texts f
+
+  pub texts : Forest → Text
+  texts none = []
+  texts (t ▸ f) = text t ++ texts f
+
+-- The token that a leaf spells, its kind and text; a keyword's leaf spells a Name. Ignored leaves spell none.
+abbrev pub spelled : ℕ → Text → Token
+spelled k x = (cond (ltb STRING k) IDENT k, x)
+
+abbrev mutual
+  pub Yield : Tree → List Token
+  Yield (leaf k x) = cond (ltb k ERROR) [] (spelled k x ∷ [])
+  Yield (node k f) = Yields f
+
+  pub Yields : Forest → List Token
+  Yields none = []
+  Yields (t ▸ f) = Yield t ++ Yields f
+
+-- A keyword leaf has its word as text.
+abbrev pub Listed : List (ℕ × Text) → ℕ → Text → Type 0
+Listed [] k x = ⊥
+Listed (w ∷ more) k x = ((w.0 ≡ k) × (w.1 ≡ x)) ⊎ Listed more k x
+
+abbrev pub LeafRule : ℕ → Text → Type 0
+LeafRule k x = STRING < k → Listed words k x
+
+-- The texts `on`, `true`, `false` and `null`.
+abbrev pub on_text : Text
+on_text = 111 ∷ 110 ∷ []
+
+abbrev pub true_text : Text
+true_text = 116 ∷ 114 ∷ 117 ∷ 101 ∷ []
+
+abbrev pub false_text : Text
+false_text = 102 ∷ 97 ∷ 108 ∷ 115 ∷ 101 ∷ []
+
+abbrev pub null_text : Text
+null_text = 110 ∷ 117 ∷ 108 ∷ 108 ∷ []
+
+abbrev pub NameRule : ℕ → Forest → Type 0
+NameRule k f = (k ≡ FRAGMENT_NAME → texts f ≢ on_text) × (k ≡ ENUM_VALUE → (texts f ≢ true_text) × (texts f ≢ false_text) × (texts f ≢ null_text))
+
+abbrev mutual
+  pub NoVariable : Tree → Type 0
+  NoVariable (leaf k x) = Unit {0}
+  NoVariable (node k f) = (k ≢ VARIABLE) × NoVariables f
+
+  pub NoVariables : Forest → Type 0
+  NoVariables none = Unit {0}
+  NoVariables (t ▸ f) = NoVariable t × NoVariables f
+
+-- The kinds whose DIRECTIVES are constant.
+abbrev pub Marked : List ℕ
+Marked = VARIABLE_DEFINITION ∷ SCHEMA_DEFINITION ∷ SCALAR_TYPE_DEFINITION ∷ OBJECT_TYPE_DEFINITION ∷ FIELD_DEFINITION ∷ INPUT_VALUE_DEFINITION ∷ INTERFACE_TYPE_DEFINITION ∷ UNION_TYPE_DEFINITION ∷ ENUM_TYPE_DEFINITION ∷ ENUM_VALUE_DEFINITION ∷ INPUT_OBJECT_TYPE_DEFINITION ∷ SCHEMA_EXTENSION ∷ SCALAR_TYPE_EXTENSION ∷ OBJECT_TYPE_EXTENSION ∷ INTERFACE_TYPE_EXTENSION ∷ UNION_TYPE_EXTENSION ∷ ENUM_TYPE_EXTENSION ∷ INPUT_OBJECT_TYPE_EXTENSION ∷ []
+
+abbrev pub ConstantDirectives : Forest → Type 0
+ConstantDirectives none = Unit {0}
+ConstantDirectives (t ▸ f) = (root t ≡ DIRECTIVES → NoVariable t) × ConstantDirectives f
+
+abbrev pub ConstantRule : ℕ → Forest → Type 0
+ConstantRule k f = (k ≡ DEFAULT_VALUE → NoVariables f) × (IsTrue (member k Marked) → ConstantDirectives f)
+
+-- A definition that may have a block in braces and has none is not followed by a selection set.
+abbrev pub Braced : List ℕ
+Braced = OBJECT_TYPE_DEFINITION ∷ INTERFACE_TYPE_DEFINITION ∷ ENUM_TYPE_DEFINITION ∷ INPUT_OBJECT_TYPE_DEFINITION ∷ SCHEMA_EXTENSION ∷ OBJECT_TYPE_EXTENSION ∷ INTERFACE_TYPE_EXTENSION ∷ ENUM_TYPE_EXTENSION ∷ INPUT_OBJECT_TYPE_EXTENSION ∷ []
+
+abbrev pub NoBlock : Forest → Type 0
+NoBlock none = Unit {0}
+NoBlock (t ▸ f) = IsFalse (member (root t) (FIELDS_DEFINITION ∷ ENUM_VALUES_DEFINITION ∷ INPUT_FIELDS_DEFINITION ∷ L_CURLY ∷ [])) × NoBlock f
+
+abbrev pub LacksBlock : Tree → Type 0
+LacksBlock (leaf k x) = ⊥
+LacksBlock (node k f) = IsTrue (member k Braced) × NoBlock f
+
+abbrev pub StartsWithSelections : Forest → Type 0
+StartsWithSelections none = ⊥
+StartsWithSelections (t ▸ f) = root t ≡ SELECTION_SET
+
+abbrev pub IsQuery : Tree → Type 0
+IsQuery (leaf k x) = ⊥
+IsQuery (node k f) = (k ≡ OPERATION_DEFINITION) × StartsWithSelections f
+
+abbrev pub NotBefore : Tree → Forest → Type 0
+NotBefore t none = Unit {0}
+NotBefore t (u ▸ f) = LacksBlock t → IsQuery u → ⊥
+
+abbrev pub BraceRule : Forest → Type 0
+BraceRule none = Unit {0}
+BraceRule (t ▸ f) = NotBefore t f × BraceRule f
+
+-- Each node fits its row, by a table of rows, and the rules hold.
+abbrev mutual
+  pub FitsBy : (ℕ → Pattern) → Tree → Type 0
+  FitsBy row (leaf k x) = LeafRule k x
+  FitsBy row (node k f) = Matches (row k) (kinds f) × NameRule k f × ConstantRule k f × (k ≡ DOCUMENT → BraceRule f) × AllFitBy row f
+
+  pub AllFitBy : (ℕ → Pattern) → Forest → Type 0
+  AllFitBy row none = Unit {0}
+  AllFitBy row (t ▸ f) = FitsBy row t × AllFitBy row f
+
+-- A node that holds what stands between the braces of a selection set.
+abbrev pub BareBy : (ℕ → Pattern) → Tree → Type 0
+BareBy row (leaf k x) = ⊥
+BareBy row (node k f) = Matches bare_selections (kinds f) × AllFitBy row f
+
+-- What is parsed: a document, a selection set, or a type.
+pub data Sort : Type 0 where
+  document : Sort
+  selections : Sort
+  type : Sort
+
+-- The root is of the sort; a SELECTION_SET as root may lack both braces.
+abbrev pub DerivationBy : (ℕ → Pattern) → Tree → Sort → Type 0
+DerivationBy row t document = (root t ≡ DOCUMENT) × FitsBy row t
+DerivationBy row t selections = (root t ≡ SELECTION_SET) × (FitsBy row t ⊎ BareBy row t)
+DerivationBy row t type = IsTrue (member (root t) Types) × FitsBy row t
+
+abbrev pub Fits : Tree → Type 0
+Fits t = FitsBy Row t
+
+abbrev pub AllFit : Forest → Type 0
+AllFit f = AllFitBy Row f
+
+abbrev pub Derivation : Tree → Sort → Type 0
+Derivation t sort = DerivationBy Row t sort
+
+-- The sentence that a derivation spells.
+abbrev pub Spells : List Token → Tree → Sort → Type 0
+Spells w t sort = Derivation t sort × (Yield t ≡ w)
+
+-- The same by the rows of the first profile.
+abbrev pub FirstSpells : List Token → Tree → Sort → Type 0
+FirstSpells w t sort = DerivationBy FirstRow t sort × (Yield t ≡ w)
+
+-- Whether a node of the kind `k` is counted below a parent of the kind `p`: each SELECTION_SET, each LIST_TYPE, and each value that
+-- is a child of a LIST_VALUE or an OBJECT_FIELD.
+abbrev pub counts : ℕ → ℕ → ℕ
+counts p k = cond (member k (SELECTION_SET ∷ LIST_TYPE ∷ [])) 1 (cond (member p (LIST_VALUE ∷ OBJECT_FIELD ∷ [])) (cond (member k Values) 1 0) 0)
+
+-- The greatest number of counted nodes on a path: below the root; with the root, which counts as a child of a DOCUMENT does.
+abbrev mutual
+  pub below : Tree → ℕ
+  below (leaf k x) = 0
+  below (node k f) = belows k f
+
+  pub belows : ℕ → Forest → ℕ
+  belows k none = 0
+  belows k (t ▸ f) = max (counts k (root t) + below t) (belows k f)
+
+abbrev pub nest : Tree → ℕ
+nest t = counts DOCUMENT (root t) + below t
+
+-- Where the significant tokens of a text end there is a mark.
+pub data Mark : Type 0 where
+  word : Token → Mark
+  end : Mark
+
+abbrev pub marks : List Token → List Mark
+marks [] = end ∷ []
+marks (a ∷ w) = word a ∷ marks w
+
+-- The list is a beginning of some sentence with its end mark; of one whose nesting is at most `r`.
+abbrev pub Starts : Sort → List Mark → Type 0
+Starts sort l = (w : List Token) × (t : Tree) × (v : List Mark) × Spells w t sort × (marks w ≡ l ++ v)
+
+abbrev pub StartsWithin : Sort → ℕ → List Mark → Type 0
+StartsWithin sort r l = (w : List Token) × (t : Tree) × (v : List Mark) × Spells w t sort × (marks w ≡ l ++ v) × (nest t ≤ r)

@@ -1,0 +1,17 @@
+pub mod Tree
+pub mod Kinds
+pub mod Symbols
+pub mod States
+pub mod Pattern
+pub mod Rows
+pub mod Table
+pub mod Labels
+pub mod Derivation
+pub mod Places
+pub mod Machine
+pub mod Numbers
+pub mod Forests
+pub mod Builds
+pub mod Joins
+pub mod Numbered
+pub mod Sentence

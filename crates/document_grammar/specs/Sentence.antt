@@ -1,0 +1,61 @@
+-- Sentences: texts whose significant tokens a derivation spells (GraphQL October 2021, section 2.2, "Document").
+use Rattle.std.specs.Prelude.{◌≡◌, ℕ, ◌≤◌, Bool, true, List, ◌++◌, length, map}
+use Rattle.std.specs.Str.{IsUtf8}
+use Rattle.lexical_grammar.specs.declared.TokenKind.{TokenKind}
+use Rattle.lexical_grammar.specs.declared.TokenKind.TheVariants as token
+use Rattle.lexical_grammar.specs.Cut.{Item, Word, Cut, Significant}
+use Rattle.lexical_grammar.specs.Begins.{are_tokens}
+use Rattle.document_grammar.specs.Kinds.{WHITESPACE, COMMENT, COMMA, ERROR, BANG, DOLLAR, AMP, SPREAD, COLON, EQ, AT, L_PAREN, R_PAREN, L_BRACK, R_BRACK, L_CURLY, R_CURLY, PIPE, IDENT, INT, FLOAT, STRING}
+use Rattle.document_grammar.specs.Tree.{Token, Tree}
+use Rattle.document_grammar.specs.Derivation.{Sort, document, Derivation, Yield, nest}
+
+-- the number of the leaf that a token becomes, IDENT for each Name; the end becomes none
+abbrev pub leaf_number : TokenKind → ℕ
+leaf_number token.Whitespace = WHITESPACE
+leaf_number token.Comment = COMMENT
+leaf_number token.Comma = COMMA
+leaf_number token.Eof = ERROR
+leaf_number token.Bang = BANG
+leaf_number token.Dollar = DOLLAR
+leaf_number token.Amp = AMP
+leaf_number token.Spread = SPREAD
+leaf_number token.Colon = COLON
+leaf_number token.Eq = EQ
+leaf_number token.At = AT
+leaf_number token.LParen = L_PAREN
+leaf_number token.RParen = R_PAREN
+leaf_number token.LBracket = L_BRACK
+leaf_number token.RBracket = R_BRACK
+leaf_number token.LCurly = L_CURLY
+leaf_number token.RCurly = R_CURLY
+leaf_number token.Pipe = PIPE
+leaf_number token.Name = IDENT
+leaf_number token.Int = INT
+leaf_number token.Float = FLOAT
+leaf_number token.StringValue = STRING
+
+abbrev pub token_of : Word → Token
+token_of word = (leaf_number word.kind, word.text)
+
+-- The text is a sentence of the sort, with this derivation: a cut of it has no bad text, and the derivation's leaves are, text by text
+-- and kind by kind, its significant tokens.
+pub record Sentence (source : List ℕ) (t : Tree) (sort : Sort) : Type 0 where
+  pub items : List Item
+  pub cut : Cut source items
+  pub tokens : are_tokens items ≡ true
+  pub derivation : Derivation t sort
+  pub yield : Yield t ≡ map token_of (Significant items)
+
+-- The derivation nests at most r deep, and the text has at most k items, bad text and the end included.
+pub record Within (source : List ℕ) (t : Tree) (r k : ℕ) : Type 0 where
+  pub nesting : nest t ≤ r
+  pub items : List Item
+  pub cut : Cut source items
+  pub count : length items ≤ k
+
+-- Some text goes on behind this one to a sentence.
+pub record Begins (front : List ℕ) : Type 0 where
+  pub rest : List ℕ
+  pub tree : Tree
+  pub characters : IsUtf8 (front ++ rest)
+  pub sentence : Sentence (front ++ rest) tree document

@@ -1,0 +1,6 @@
+// The document grammar of GraphQL: the kinds of syntax trees, the children of each kind, and which trees are derivations.
+#![tactic(auto)]
+
+mod kind;
+
+pub use kind::SyntaxKind;
