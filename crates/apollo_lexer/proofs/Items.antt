@@ -1,0 +1,111 @@
+-- The items of a text are its first item and those of what follows it.
+use Rattle.std.proofs.Common.{◌≡◌, ℕ, zero, suc, ◌+◌, ◌-◌, ◌<◌, ◌≤◌, List, [], ◌∷◌, length, take, drop, Some, None, refl, sym, ap, ◌∙◌, arith}
+use Rattle.lexical_grammar.specs.Cut.{Item, end_at}
+use Rattle.lexical_grammar.specs.declared.TokenKind.{TokenKind}
+use Rattle.lexical_grammar.specs.declared.TokenKind.TheVariants.{Eof}
+use Rattle.lexical_grammar.specs.Tokens.{Tok}
+use Rattle.std.proofs.Common.{Option, subst}
+use Rattle.std.proofs.Common.{length-take-le}
+use Rattle.apollo_lexer.proofs.Sound.{sound}
+use Rattle.std.specs.Iterator.{MakesProgress, YieldsFirstBy, item_count}
+use Rattle.std.specs.Prelude.{⊤}
+use Rattle.apollo_lexer.specs.Reads.{first_token, item_of, first_item, items_from}
+use Rattle.lexical_grammar.specs.Answers.{gives, limit_at, limit_index, limit_index_at, limited}
+
+pub inside : (k place : ℕ) (source : List ℕ) → k ≤ length source → items_from place k source ≡ items_from (place + k) 0 (drop k source)
+unfolding items_from
+inside zero place source le = ap (λ n. items_from n 0 source) (omega arith)
+inside (suc k) place [] le = absurd (omega arith)
+inside (suc k) place (b ∷ bs) le = inside k (1 + place) bs (omega arith) ∙ ap (λ n. items_from n 0 (drop k bs)) (omega arith)
+
+rest_then : (n place : ℕ) (b : ℕ) (bs : List ℕ) → 0 < n → n ≤ length (b ∷ bs) → items_from (1 + place) (n - 1) bs ≡ items_from (place + n) 0 (drop n (b ∷ bs))
+rest_then zero place b bs some within = absurd (omega arith)
+rest_then (suc k) place b bs some within =
+    let less : suc k - 1 ≡ k = omega arith in
+    ap (λ m. items_from (1 + place) m bs) less ∙ inside k (1 + place) bs (omega arith) ∙ ap (λ m. items_from m 0 (drop k bs)) (omega arith)
+
+-- the first item, and the items of what follows it
+pub first_then : (place : ℕ) (source : List ℕ) → 0 < length source → 0 < (first_item source).1 → (first_item source).1 ≤ length source
+    → items_from place 0 source ≡ record { kind = (first_item source).0; text = take (first_item source).1 source; index = place }
+    ∷ items_from (place + (first_item source).1) 0 (drop (first_item source).1 source)
+unfolding items_from
+first_then place [] some one within = absurd (omega arith)
+first_then place (b ∷ bs) some one within =
+    ap (λ items. record { kind = (first_item (b ∷ bs)).0; text = take (first_item (b ∷ bs)).1 (b ∷ bs); index = place } ∷ items)
+    (rest_then (first_item (b ∷ bs)).1 place b bs one within)
+
+-- at the end
+pub end_then : (place : ℕ) (source : List ℕ) → length source ≡ 0 → items_from place 0 source ≡ end_at place ∷ []
+unfolding items_from
+end_then place [] e = refl
+end_then place (b ∷ bs) e = absurd (omega arith)
+
+-- what a lexer answers next, where it has more to give, and where it has not
+pub limited_some : (allowed : ℕ) (item : Item) (items : List Item) → 0 < allowed → limited allowed (item ∷ items) ≡ gives item ∷ limited (allowed - 1) items
+limited_some zero item items some = absurd (omega arith)
+limited_some (suc n) item items some = let less : suc n - 1 ≡ n = omega arith in ap (λ m. gives item ∷ limited m items) (sym less)
+
+pub limited_none : (allowed : ℕ) (item : Item) (items : List Item) → allowed ≡ 0 → limited allowed (item ∷ items) ≡ limit_at (limit_index item) ∷ []
+limited_none zero item items e = refl
+limited_none (suc n) item items e = absurd (omega arith)
+
+pub limited_end : (allowed : ℕ) → limited allowed [] ≡ []
+limited_end zero = refl
+limited_end (suc n) = refl
+
+-- the first item is not the end
+not_end : (kind : TokenKind) (place : ℕ) → (kind ≡ Eof → ⊥) → limit_index_at (Some kind) place ≡ place
+not_end Eof place h = absurd (h refl)
+not_end _ place h = refl
+
+token_not_end : (kind : TokenKind) (text : List ℕ) → Tok kind text → kind ≡ Eof → ⊥
+token_not_end kind text tok e = subst (λ k. Tok k text) e tok
+
+first_not_end : (place : ℕ) (source : List ℕ) (found : Option (TokenKind × ℕ)) → first_token source ≡ found → limit_index_at (item_of source found).0 place ≡ place
+first_not_end place source None e = refl
+first_not_end place source (Some token) e = not_end token.0 place (token_not_end token.0 (take token.1 source) (sound source token.0 token.1 e).stands.token)
+
+-- the limit is met
+pub limit_met : (count limit place : ℕ) (source : List ℕ) → limit < count + 1 → 0 < length source
+    → limited (limit - count) (items_from place 0 source) ≡ limit_at place ∷ []
+unfolding items_from
+limit_met count limit place [] met some = absurd (omega arith)
+limit_met count limit place (b ∷ bs) met some =
+    limited_none (limit - count) (record { kind = (first_item (b ∷ bs)).0; text = take (first_item (b ∷ bs)).1 (b ∷ bs); index = place })
+    (items_from (1 + place) ((first_item (b ∷ bs)).1 - 1) bs) (omega arith)
+    ∙ ap (λ n. limit_at n ∷ []) (first_not_end place (b ∷ bs) (first_token (b ∷ bs)) refl)
+
+pub limit_met_end : (count limit place : ℕ) (source : List ℕ) → limit < count + 1 → length source ≡ 0 → limited (limit - count) (items_from place 0 source) ≡ limit_at (place - 1) ∷ []
+limit_met_end count limit place source met none =
+    ap (limited (limit - count)) (end_then place source none) ∙ limited_none (limit - count) (end_at place) [] (omega arith)
+
+-- the end comes
+pub end_comes : (count limit place : ℕ) (source : List ℕ) → count + 1 ≤ limit → length source ≡ 0
+    → limited (limit - count) (items_from place 0 source) ≡ gives (end_at place) ∷ []
+end_comes count limit place source more none =
+    ap (limited (limit - count)) (end_then place source none) ∙ limited_some (limit - count) (end_at place) [] (omega arith)
+    ∙ ap (λ l. gives (end_at place) ∷ l) (limited_end (limit - count - 1))
+
+-- an item comes
+pub item_comes : (count limit place : ℕ) (source text after : List ℕ) (kind : Option TokenKind) → count + 1 ≤ limit → 0 < length source
+    → kind ≡ (first_item source).0 → text ≡ take (first_item source).1 source → after ≡ drop (first_item source).1 source
+    → 0 < (first_item source).1 → (first_item source).1 + length after ≡ length source
+    → limited (limit - count) (items_from place 0 source)
+    ≡ gives (record { kind = kind; text = text; index = place }) ∷ limited (limit - (count + 1)) (items_from (place + length text) 0 after)
+item_comes count limit place source text after kind more some k t a one within =
+    let n = (first_item source).1 in
+    let len : length text ≡ n = ap (λ (l : List ℕ). length l) t ∙ length-take-le n source (omega arith) in
+    let less : limit - count - 1 ≡ limit - (count + 1) = omega arith in
+    let item : Item = record { kind = (first_item source).0; text = take n source; index = place } in
+    let rest : List Item = items_from (place + n) 0 (drop n source) in
+    ap (limited (limit - count)) (first_then place source some one (omega arith))
+    ∙ limited_some (limit - count) item rest (omega arith)
+    ∙ (λ i. gives (record { kind = sym k i; text = sym t i; index = place }) ∷ limited (less i) (items_from (place + sym len i) 0 (sym a i)))
+
+-- an answer less is left
+pub progress : (S A B : Type 0) (view : A → B) (rest : S → List B) (s : S) (r : Option A) (t : S) → YieldsFirstBy view rest s r t
+    → MakesProgress (λ _. ⊤) (item_count rest) s r t
+progress S A B view rest s None t h = record { on = λ _. tt; keeps = tt; rests = λ f. f }
+progress S A B view rest s (Some x) t h =
+    let len = ap (λ (l : List B). length l) h in
+    record { on = λ f. (tt, f, omega arith); keeps = tt; rests = λ _. tt }
