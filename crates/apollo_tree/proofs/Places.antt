@@ -1,0 +1,250 @@
+-- Where an element stands in the table and in the text.
+use Rattle.std.proofs.Common.{◌≡◌, ℕ, zero, suc, ◌+◌, ◌-◌, ◌<◌, ◌≤◌, List, [], ◌∷◌, ◌++◌, length, take, drop, get_or, refl, sym, ap, ◌∙◌, subst, ⊎_elim, arith, true, false, Option, Some, None}
+use Rattle.std.proofs.lemmas.List.{append-nil, append_assoc, length-append, take_at, drop_at, get_or_at, get_or_append_left, get_or-append-add}
+use Rattle.std.proofs.lemmas.Bool.{cases_lt}
+use Rattle.document_grammar.specs.declared.kind.SyntaxKind.{SyntaxKind}
+use Rattle.apollo_tree.specs.declared.record.Record.{Record}
+use Rattle.document_grammar.specs.Forests.{Forest, none, leaf, node, Tree, Leaf, Node, text, count}
+use Rattle.apollo_tree.specs.Records.{records, forest}
+use Rattle.apollo_tree.specs.Order.{Element, element, tree_at, order_from, order, nowhere, tree_text, tree_kids, tree_kind, is_node, places}
+use Rattle.apollo_tree.specs.Table.{IsTable}
+use Rattle.apollo_tree.specs.Sound.{IsSound, IsSoundTree}
+use Rattle.std.specs.Str.{IsUtf8, IsCharBoundary}
+use Rattle.std.proofs.lemmas.Str.{IsUtf8-nil, IsUtf8-append, IsUtf8-had, IsCharBoundary-at_seam}
+use Rattle.std.proofs.Math.Logic.{∥∥₁_map}
+use Rattle.apollo_tree.specs.ReadBack.{length-records}
+
+-- the records of one tree
+abbrev pub tree_records : ℕ → Tree → List Record
+tree_records at (Leaf k s) = record { kind = k; is_node = false; start = at; end = at + length s; size = 1 } ∷ []
+tree_records at (Node k kids) = record { kind = k; is_node = true; start = at; end = at + length (text kids); size = suc (count kids) } ∷ records at kids
+
+pub length-order : (at i : ℕ) (p : Option ℕ) (f : Forest) → length (order_from at i p f) ≡ count f
+length-order at i p none = refl
+length-order at i p (leaf k s rest) = ap suc (length-order (at + length s) (suc i) p rest)
+length-order at i p (node k kids rest) =
+    ap suc (length-append (order_from at (suc i) (Some i) kids) _ ∙ omega (arith, length-order at (suc i) (Some i) kids, length-order (at + length (text kids)) (suc (i + count kids)) p rest))
+
+-- a tree whose leaves are texts, before a text
+pub record SoundParts (t : Tree) (s : List ℕ) : Type 0 where
+  pub tree : IsSoundTree t
+  pub after : IsUtf8 s
+
+pub sound_text : (f : Forest) → IsSound f → IsUtf8 (text f)
+sound_text none h = IsUtf8-nil
+sound_text (leaf k s rest) h = IsUtf8-append s (text rest) h.0 (sound_text rest h.1)
+sound_text (node k kids rest) h = IsUtf8-append (text kids) (text rest) (sound_text kids h.1) (sound_text rest h.2)
+
+pub sound_tree_text : (t : Tree) → IsSoundTree t → IsUtf8 (tree_text t)
+sound_tree_text (Leaf k s) h = h
+sound_tree_text (Node k kids) h = sound_text kids h.1
+
+-- the table and the text, cut at an element
+pub record Cut (at : ℕ) (f : Forest) (n : ℕ) (e : Element) : Type 0 where
+  pub front : List Record
+  pub back : List Record
+  pub before : List ℕ
+  pub after : List ℕ
+  pub table : records at f ≡ front ++ (tree_records e.start e.tree ++ back)
+  pub index : length front ≡ n
+  pub words : text f ≡ before ++ (tree_text e.tree ++ after)
+  pub begins : at + length before ≡ e.start
+  pub kept : IsSound f → SoundParts e.tree after
+
+lower : {at : ℕ} {f : Forest} {n : ℕ} {e : Element} (r : Record) (rs : List Record) (s t : List ℕ) (at2 : ℕ) (f2 : Forest) → Cut at f n e → records at2 f2 ≡ r ∷ (records at f ++ rs) → text f2 ≡ s ++ (text f ++ t) → at ≡ at2 + length s → (IsSound f2 → IsSound f) → (IsSound f2 → IsUtf8 t) → Cut at2 f2 (suc n) e
+lower {at} {f} {n} {e} r rs s t at2 f2 c h w a k u = record {
+  front = r ∷ c.front;
+  back = c.back ++ rs;
+  before = s ++ c.before;
+  after = c.after ++ t;
+  table = h ∙ ap (λ x. r ∷ x) (ap (λ x. x ++ rs) c.table ∙ append_assoc c.front (tree_records e.start e.tree ++ c.back) rs ∙ ap (λ x. c.front ++ x) (append_assoc (tree_records e.start e.tree) c.back rs));
+  index = ap suc c.index;
+  words = w ∙ ap (λ x. s ++ x) (ap (λ x. x ++ t) c.words ∙ append_assoc c.before (tree_text e.tree ++ c.after) t ∙ ap (λ x. c.before ++ x) (append_assoc (tree_text e.tree) c.after t)) ∙ sym (append_assoc s c.before _);
+  begins = omega (arith, length-append s c.before, c.begins);
+  kept = λ h2. let parts = c.kept (k h2) in record { tree = parts.tree; after = IsUtf8-append c.after t parts.after (u h2) };
+}
+
+-- past a whole list of trees
+beyond : {at : ℕ} {f : Forest} {n : ℕ} {e : Element} (rs : List Record) (s : List ℕ) (at2 m : ℕ) (f2 : Forest) → Cut at f n e → records at2 f2 ≡ rs ++ records at f → text f2 ≡ s ++ text f → at ≡ at2 + length s → length rs + n ≡ m → (IsSound f2 → IsSound f) → Cut at2 f2 m e
+beyond {at} {f} {n} {e} rs s at2 m f2 c h w a l k = record {
+  front = rs ++ c.front;
+  back = c.back;
+  before = s ++ c.before;
+  after = c.after;
+  table = h ∙ ap (λ x. rs ++ x) c.table ∙ sym (append_assoc rs c.front _);
+  index = length-append rs c.front ∙ omega (arith, c.index);
+  words = w ∙ ap (λ x. s ++ x) c.words ∙ sym (append_assoc s c.before _);
+  begins = omega (arith, length-append s c.before, c.begins);
+  kept = λ h2. c.kept (k h2);
+}
+
+pub cut : (at i : ℕ) (p : Option ℕ) (f : Forest) (n : ℕ) (d : Element) → n < count f → Cut at f n (get_or (order_from at i p f) n d)
+cut at i p none n d h = absurd (omega arith)
+cut at i p (leaf k s rest) zero d h = record {
+  front = [];
+  back = records (at + length s) rest;
+  before = [];
+  after = text rest;
+  table = refl;
+  index = refl;
+  words = refl;
+  begins = omega arith;
+  kept = λ h2. record { tree = h2.0; after = sound_text rest h2.1 };
+}
+cut at i p (leaf k s rest) (suc n) d h =
+    let r : Record = record { kind = k; is_node = false; start = at; end = at + length s; size = 1 } in
+    beyond (r ∷ []) s at (suc n) (leaf k s rest) (cut (at + length s) (suc i) p rest n d (omega arith)) refl refl refl (omega arith) (λ h2. h2.1)
+cut at i p (node k kids rest) zero d h = record {
+  front = [];
+  back = records (at + length (text kids)) rest;
+  before = [];
+  after = text rest;
+  table = refl;
+  index = refl;
+  words = refl;
+  begins = omega arith;
+  kept = λ h2. record { tree = (h2.0, h2.1); after = sound_text rest h2.2 };
+}
+cut at i p (node k kids rest) (suc n) d h =
+    let r : Record = record { kind = k; is_node = true; start = at; end = at + length (text kids); size = suc (count kids) } in
+    let inner = order_from at (suc i) (Some i) kids in
+    let outer = order_from (at + length (text kids)) (suc (i + count kids)) p rest in
+    let l = length-order at (suc i) (Some i) kids in
+    let f2 = node k kids rest in
+    ⊎_elim
+    (λ (lt : n < count kids).
+    subst (λ x. Cut at f2 (suc n) x) (sym (get_or_append_left inner outer d n (omega arith)))
+    (lower r (records (at + length (text kids)) rest) [] (text rest) at f2 (cut at (suc i) (Some i) kids n d lt) refl refl (omega arith) (λ h2. h2.1) (λ h2. sound_text rest h2.2)))
+    (λ (ge : count kids ≤ n).
+    let m = n - count kids in
+    let q : get_or (inner ++ outer) n d ≡ get_or outer m d = ap (λ x. get_or (inner ++ outer) x d) (omega arith) ∙ get_or-append-add inner outer m d in
+    subst (λ x. Cut at f2 (suc n) x) (sym q)
+    (beyond (r ∷ records at kids) (text kids) at (suc n) f2 (cut (at + length (text kids)) (suc (i + count kids)) p rest m d (omega arith)) refl refl refl (omega (arith, length-records at kids)) (λ h2. h2.2)))
+    (cases_lt n (count kids))
+
+-- ---- what the element of a table's record is
+pub record_kind : (at : ℕ) (t : Tree) (d : Record) → (get_or (tree_records at t) 0 d).kind ≡ tree_kind t
+record_kind at (Leaf k s) d = refl
+record_kind at (Node k kids) d = refl
+
+-- a tree's records are its first record, and those of its children
+abbrev pub root_record : ℕ → Tree → Record
+root_record at (Leaf k s) = record { kind = k; is_node = false; start = at; end = at + length s; size = 1 }
+root_record at (Node k kids) = record { kind = k; is_node = true; start = at; end = at + length (text kids); size = suc (count kids) }
+
+abbrev pub under_root : ℕ → Tree → List Record
+under_root at t = records at (tree_kids t)
+
+pub tree_records-is : (at : ℕ) (t : Tree) → tree_records at t ≡ root_record at t ∷ under_root at t
+tree_records-is at (Leaf k s) = refl
+tree_records-is at (Node k kids) = refl
+
+module _ (rs : List Record) (s : List ℕ) (t : IsTable rs s) (i : ℕ) (h : i < length rs) where
+  pub cut_of : Cut 0 (forest s rs) i (element (record { whole = forest s rs; index = i }))
+  cut_of = cut 0 0 None (forest s rs) i nowhere (omega (arith, ap length t.table, length-records 0 (forest s rs)))
+
+  -- the record is the element's
+  pub record_is : (d : Record) → get_or rs i d ≡ root_record (element (record { whole = forest s rs; index = i })).start (tree_at (record { whole = forest s rs; index = i }))
+  record_is d =
+      let e = element (record { whole = forest s rs; index = i }) in
+      let c = cut_of in
+      let split : rs ≡ c.front ++ (root_record e.start e.tree ∷ (under_root e.start e.tree ++ c.back)) = sym t.table ∙ c.table ∙ ap (λ x. c.front ++ (x ++ c.back)) (tree_records-is e.start e.tree) in
+      ap (λ x. get_or x i d) split ∙ get_or_at c.front (root_record e.start e.tree) (under_root e.start e.tree ++ c.back) d i c.index
+
+root_kind : (at : ℕ) (t : Tree) → (root_record at t).kind ≡ tree_kind t
+root_kind at (Leaf k s) = refl
+root_kind at (Node k kids) = refl
+
+root_start : (at : ℕ) (t : Tree) → (root_record at t).start ≡ at
+root_start at (Leaf k s) = refl
+root_start at (Node k kids) = refl
+
+root_end : (at : ℕ) (t : Tree) → (root_record at t).end ≡ at + length (tree_text t)
+root_end at (Leaf k s) = refl
+root_end at (Node k kids) = refl
+
+root_size : (at : ℕ) (t : Tree) → (root_record at t).size ≡ suc (count (tree_kids t))
+root_size at (Leaf k s) = refl
+root_size at (Node k kids) = refl
+
+root_node : (at : ℕ) (t : Tree) → (root_record at t).is_node ≡ is_node t
+root_node at (Leaf k s) = refl
+root_node at (Node k kids) = refl
+
+module _ (rs : List Record) (s : List ℕ) (t : IsTable rs s) (i : ℕ) (h : i < length rs) (d : Record) where
+  pub node_is : (get_or rs i d).is_node ≡ is_node (tree_at (record { whole = forest s rs; index = i }))
+  node_is = ap (λ r. r.is_node) (record_is rs s t i h d) ∙ root_node _ (tree_at (record { whole = forest s rs; index = i }))
+
+  pub kind_is : (get_or rs i d).kind ≡ tree_kind (tree_at (record { whole = forest s rs; index = i }))
+  kind_is = ap (λ r. r.kind) (record_is rs s t i h d) ∙ root_kind _ (tree_at (record { whole = forest s rs; index = i }))
+
+  pub start_is : (get_or rs i d).start ≡ (element (record { whole = forest s rs; index = i })).start
+  start_is = ap (λ r. r.start) (record_is rs s t i h d) ∙ root_start _ (tree_at (record { whole = forest s rs; index = i }))
+
+  pub end_is : (get_or rs i d).end ≡ (element (record { whole = forest s rs; index = i })).start + length (tree_text (tree_at (record { whole = forest s rs; index = i })))
+  end_is = ap (λ r. r.end) (record_is rs s t i h d) ∙ root_end _ (tree_at (record { whole = forest s rs; index = i }))
+
+  pub size_is : (get_or rs i d).size ≡ suc (count (tree_kids (tree_at (record { whole = forest s rs; index = i }))))
+  size_is = ap (λ r. r.size) (record_is rs s t i h d) ∙ root_size _ (tree_at (record { whole = forest s rs; index = i }))
+
+-- ---- the element's text
+module _ (rs : List Record) (s : List ℕ) (t : IsTable rs s) (i : ℕ) (h : i < length rs) (d : Record) where
+  pub words_is : (e : Element) (c : Cut 0 (forest s rs) i e) → s ≡ c.before ++ (tree_text e.tree ++ c.after)
+  words_is e c = sym t.words ∙ c.words
+
+  pub start_boundary : IsCharBoundary s (get_or rs i d).start
+  start_boundary =
+      let c = cut_of rs s t i h in
+      let e = element (record { whole = forest s rs; index = i }) in
+      let l : length c.before ≡ (get_or rs i d).start = omega (arith, c.begins, start_is rs s t i h d) in
+      let u : IsUtf8 (tree_text e.tree ++ c.after) = IsUtf8-had _ (∥∥₁_map t.sound (λ k. let parts = c.kept k in IsUtf8-append (tree_text e.tree) c.after (sound_tree_text e.tree parts.tree) parts.after)) in
+      subst (λ n. IsCharBoundary s n) l (IsCharBoundary-at_seam s c.before _ (words_is e c) u)
+
+  pub end_boundary : IsCharBoundary s (get_or rs i d).end
+  end_boundary =
+      let c = cut_of rs s t i h in
+      let e = element (record { whole = forest s rs; index = i }) in
+      let l : length (c.before ++ tree_text e.tree) ≡ (get_or rs i d).end = omega (arith, length-append c.before (tree_text e.tree), c.begins, end_is rs s t i h d) in
+      let u : IsUtf8 c.after = IsUtf8-had _ (∥∥₁_map t.sound (λ k. let parts = c.kept k in parts.after)) in
+      subst (λ n. IsCharBoundary s n) l (IsCharBoundary-at_seam s (c.before ++ tree_text e.tree) c.after (words_is e c ∙ sym (append_assoc c.before _ _)) u)
+
+  pub start_le_end : (get_or rs i d).start ≤ (get_or rs i d).end
+  start_le_end = omega (arith, start_is rs s t i h d, end_is rs s t i h d)
+
+  pub text_is : take ((get_or rs i d).end - (get_or rs i d).start) (drop (get_or rs i d).start s) ≡ tree_text (tree_at (record { whole = forest s rs; index = i }))
+  text_is =
+      let c = cut_of rs s t i h in
+      let e = element (record { whole = forest s rs; index = i }) in
+      let l : length c.before ≡ (get_or rs i d).start = omega (arith, c.begins, start_is rs s t i h d) in
+      let n : length (tree_text e.tree) ≡ (get_or rs i d).end - (get_or rs i d).start = omega (arith, start_is rs s t i h d, end_is rs s t i h d) in
+      ap (take ((get_or rs i d).end - (get_or rs i d).start)) (ap (drop (get_or rs i d).start) (words_is e c) ∙ drop_at c.before _ (get_or rs i d).start l) ∙ take_at (tree_text e.tree) c.after _ n
+
+-- ---- the children of an element are the places of its tree's
+abbrev HasPlaces : ℕ → ℕ → Element → Type 0
+HasPlaces i n e = e.children ≡ places (suc (i + n)) (tree_kids e.tree)
+
+pub children_are : (at i : ℕ) (p : Option ℕ) (f : Forest) (n : ℕ) (d : Element) → n < count f → HasPlaces i n (get_or (order_from at i p f) n d)
+children_are at i p none n d h = absurd (omega arith)
+children_are at i p (leaf k s rest) zero d h = refl
+children_are at i p (leaf k s rest) (suc n) d h =
+    children_are (at + length s) (suc i) p rest n d (omega arith) ∙ ap (λ j. places j (tree_kids (get_or (order_from (at + length s) (suc i) p rest) n d).tree)) (omega arith)
+children_are at i p (node k kids rest) zero d h = ap (λ j. places j kids) (omega arith)
+children_are at i p (node k kids rest) (suc n) d h =
+    let inner = order_from at (suc i) (Some i) kids in
+    let outer = order_from (at + length (text kids)) (suc (i + count kids)) p rest in
+    let l = length-order at (suc i) (Some i) kids in
+    ⊎_elim
+    (λ (lt : n < count kids).
+    let q : get_or (inner ++ outer) n d ≡ get_or inner n d = get_or_append_left inner outer d n (omega arith) in
+    subst (HasPlaces i (suc n)) (sym q)
+    (children_are at (suc i) (Some i) kids n d lt ∙ ap (λ j. places j (tree_kids (get_or inner n d).tree)) (omega arith)))
+    (λ (ge : count kids ≤ n).
+    let m = n - count kids in
+    let q : get_or (inner ++ outer) n d ≡ get_or outer m d = ap (λ x. get_or (inner ++ outer) x d) (omega arith) ∙ get_or-append-add inner outer m d in
+    subst (HasPlaces i (suc n)) (sym q)
+    (children_are (at + length (text kids)) (suc (i + count kids)) p rest m d (omega arith) ∙ ap (λ j. places j (tree_kids (get_or outer m d).tree)) (omega arith)))
+    (cases_lt n (count kids))
+
+-- what every tree keeps, at an element
+pub tree_sound : (rs : List Record) (s : List ℕ) → IsTable rs s → (i : ℕ) → i < length rs → ∥ IsSoundTree (tree_at (record { whole = forest s rs; index = i })) ∥₁
+tree_sound rs s t i h = ∥∥₁_map t.sound (λ k. let parts = (cut_of rs s t i h).kept k in parts.tree)

@@ -1,0 +1,12 @@
+pub mod Records
+pub mod ReadBack
+pub mod Open
+pub mod Codes
+pub mod Order
+pub mod Sound
+pub mod Table
+pub mod References
+pub mod Children
+pub mod Yields
+pub mod Literals
+pub mod Brackets

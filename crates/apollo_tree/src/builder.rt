@@ -1,0 +1,150 @@
+ghost use Rattle.std.specs.Prelude.{◌≡◌, ℕ, ◌+◌, ◌<◌, ◌≤◌, [], ◌∷◌, ◌++◌, length, IfOk, OnErr, OnOk};
+ghost use Rattle.apollo_tree.specs.Sound.{CanFinish};
+ghost use Rattle.apollo_tree.specs.Open.{IsComplete};
+ghost use Rattle.apollo_tree.specs.Brackets.{Opening, Single, Closing, brackets, written, open_at};
+ghost use Rattle.document_grammar.specs.Builds.{nothing, start, add_leaf, finish, wrap, IsPlace, built_count};
+
+use crate::record::Record;
+use crate::subtree::Subtree;
+use document_grammar::SyntaxKind;
+use std::alloc::{AllocError, Allocator};
+use std::marker::Model;
+
+/// A place in what is being built, where a node can be opened later.
+#[derive(Clone, Copy)]
+pub struct Checkpoint {
+    pub place: usize,
+}
+
+/// Builds a tree from its leaves and the starts and ends of its nodes.
+#[derive(Drop)]
+pub struct TreeBuilder<A: Allocator> {
+    records: Vec<Record, A>,
+    unfinished: Vec<usize, A>,
+    text: String<A>,
+}
+
+impl<A: Allocator> Model for TreeBuilder<A> {
+    ghost use Rattle.std.specs.Prelude.{◌≡◌, string_bytes};
+    ghost use Rattle.document_grammar.specs.Builds.{Building};
+    ghost use Rattle.apollo_tree.specs.Codes.{building_code};
+
+    ghost Value = { Building };
+
+    ghost coded = { building_code };
+
+    ghost use Rattle.apollo_tree.specs.Records.{built};
+    ghost use Rattle.apollo_tree.specs.Open.{Holds};
+
+    ghost view = { λ a. built (string_bytes a.text) a.records.items };
+
+    ghost invariant = { λ a. Holds (built (string_bytes a.text) a.records.items) a.records.items a.unfinished.items (string_bytes a.text) };
+}
+
+impl<A: Allocator + Copy> TreeBuilder<A> {
+    pub fn new(alloc: A) -> TreeBuilder<A>
+        ensures { result ≡ nothing }
+    {
+        TreeBuilder {
+            records: Vec::new(alloc),
+            unfinished: Vec::new(alloc),
+            text: String::new(alloc),
+        }
+    }
+
+    /// Opens a node behind what has been built.
+    pub fn start_node(&mut self, kind: SyntaxKind) -> Result<(), AllocError>
+        ensures ok { OnOk result (self.new ≡ start kind self.old) }
+        ensures calls { OnOk result (written self.new ≡ written self.old ++ Opening kind ∷ []) }
+        ensures err { OnErr result (self.new ≡ self.old) }
+    {
+        self.wrap(self.checkpoint(), kind)
+    }
+
+    /// The present place, for a later `wrap`.
+    pub fn checkpoint(&self) -> Checkpoint
+        ensures place { result.place ≡ built_count self.now }
+        ensures is_place { IsPlace result.place self.now }
+    {
+        Checkpoint {
+            place: self.records.len(),
+        }
+    }
+
+    /// Opens a node at an earlier place of the innermost open node.
+    pub fn wrap(&mut self, checkpoint: Checkpoint, kind: SyntaxKind) -> Result<(), AllocError>
+        requires { IsPlace checkpoint.place self.old }
+        ensures ok { OnOk result (self.new ≡ wrap checkpoint.place kind self.old) }
+        ensures calls { OnOk result (written self.new ≡ open_at checkpoint.place kind (written self.old)) }
+        ensures err { OnErr result (self.new ≡ self.old) }
+    {
+        let place = checkpoint.place;
+        let start = if place < self.records.len() {
+            self.records[place].start
+        } else {
+            self.text.len()
+        };
+        self.unfinished.reserve(1)?;
+        self.records.insert(
+            place,
+            Record {
+                kind,
+                is_node: true,
+                start,
+                end: start,
+                size: 0,
+            },
+        )?;
+        self.unfinished.push(place)?;
+        Ok(())
+    }
+
+    /// Adds a leaf behind what has been built.
+    pub fn token(&mut self, kind: SyntaxKind, text: &str) -> Result<(), AllocError>
+        ensures ok { OnOk result (self.new ≡ add_leaf kind text.now self.old) }
+        ensures calls { OnOk result (written self.new ≡ written self.old ++ Single kind text.now ∷ []) }
+        ensures err { OnErr result (self.new ≡ self.old) }
+    {
+        let start = self.text.len();
+        self.text.reserve(text.len())?;
+        let end = start + text.len();
+        self.records.push(Record {
+            kind,
+            is_node: false,
+            start,
+            end,
+            size: 1,
+        })?;
+        self.text.push_str(text)?;
+        Ok(())
+    }
+
+    /// Closes the innermost open node.
+    pub fn finish_node(&mut self)
+        requires { CanFinish self.old }
+        ensures after { self.new ≡ finish self.old }
+        ensures calls { written self.new ≡ written self.old ++ Closing ∷ [] }
+    {
+        let place = self.unfinished.pop().unwrap();
+        let started = self.records[place];
+        self.records[place] = Record {
+            end: self.text.len(),
+            size: self.records.len() - place,
+            ..started
+        };
+    }
+
+    /// The tree, of which all nodes are closed.
+    pub fn finish(self) -> Subtree<A>
+        requires { IsComplete self }
+        ensures value { result ≡ self.here }
+        ensures calls { brackets result ≡ written self }
+    {
+        let TreeBuilder {
+            records,
+            unfinished: _,
+            text,
+        } = self;
+        Subtree { records, text }
+    }
+}

@@ -1,0 +1,241 @@
+ghost use Rattle.std.specs.Prelude.{◌≡◌, ℕ, ◌+◌, ◌<◌, ◌≤◌, length, get_or, true, IfOk, string_bytes, option_map};
+ghost use Rattle.apollo_tree.specs.Table.{IsTable, IsTable-prop, IsNodeAt, IsLeafAt, none_there};
+
+use crate::children::{SyntaxElementChildren, SyntaxNodeChildren};
+use crate::record::Record;
+use document_grammar::SyntaxKind;
+use std::alloc::{AllocError, Allocator};
+
+/// A range of bytes of a text.
+#[derive(Clone, Copy, PartialEq, Eq)]
+pub struct TextRange {
+    pub start: usize,
+    pub end: usize,
+}
+
+/// What a reference reads: a tree's records and its text.
+#[derive(Clone, Copy)]
+pub struct Table<'t> {
+    pub(crate) records: &'t [Record],
+    pub(crate) text: &'t str,
+    ghost is_table: { IsTable records.now text.now } by { IsTable-prop records.now text.now },
+}
+
+/// A node of a tree.
+#[derive(Clone, Copy)]
+pub struct SyntaxNode<'t> {
+    pub(crate) table: Table<'t>,
+    pub(crate) index: usize,
+    ghost inside: { index < length table.records.now },
+    ghost is_node: { IsNodeAt table.records.now index },
+}
+
+/// A leaf of a tree.
+#[derive(Clone, Copy)]
+pub struct SyntaxToken<'t> {
+    pub(crate) table: Table<'t>,
+    pub(crate) index: usize,
+    ghost inside: { index < length table.records.now },
+    ghost is_leaf: { IsLeafAt table.records.now index },
+}
+
+pub(crate) fn record_at(records: &[Record], index: usize) -> Record
+    requires { index < length records.now }
+    ensures value { result ≡ get_or records.now index none_there }
+    ensures len { length records.now ≤ usize.MAX }
+{
+    let _len = records.len();
+    records[index]
+}
+
+impl<'t> Table<'t> {
+    ghost use Rattle.std.specs.Prelude.{suc};
+    ghost use Rattle.apollo_tree.specs.Sound.{IsSoundTree};
+    ghost use Rattle.apollo_tree.specs.Children.{IsSpan};
+    ghost use Rattle.document_grammar.specs.Forests.{count};
+    ghost use Rattle.apollo_tree.specs.References.{table_place, node_place};
+    ghost use Rattle.apollo_tree.specs.Order.{element, tree_at, tree_kind, tree_text, tree_kids, is_node, parent_place};
+
+    pub(crate) fn record(self, index: usize) -> Record
+        requires { index < length self.records.now }
+        ensures kind { result.kind ≡ tree_kind (tree_at (table_place self.entry index)) }
+        ensures node { result.is_node ≡ is_node (tree_at (table_place self.entry index)) }
+        ensures start { result.start ≡ (element (table_place self.entry index)).start }
+        ensures end { result.end ≡ (element (table_place self.entry index)).start + length (tree_text (tree_at (table_place self.entry index))) }
+        ensures size { result.size ≡ suc (count (tree_kids (tree_at (table_place self.entry index)))) }
+        ensures value { result ≡ get_or self.entry.records.now index none_there }
+        ensures len { length self.entry.records.now ≤ usize.MAX }
+    {
+        record_at(self.records, index)
+    }
+
+    /// Where the tree ends that stands at a place of a span.
+    pub(crate) fn after(self, from: usize, to: usize) -> usize
+        requires span { IsSpan self.records.now from to }
+        requires some { from < to }
+        ensures rest { IsSpan self.entry.records.now result to }
+        ensures kids { IsSpan self.entry.records.now (from + 1) result }
+        ensures order { (from < result) × (result ≤ to) }
+        ensures inside { from < length self.entry.records.now }
+    {
+        from + record_at(self.records, from).size
+    }
+
+    /// Where the table ends.
+    pub(crate) fn end(self) -> usize
+        ensures { IsSpan self.entry.records.now 0 result }
+    {
+        self.records.len()
+    }
+
+    /// The nearest node before an element that reaches beyond it.
+    pub(crate) fn parent(self, index: usize) -> Option<SyntaxNode<'t>>
+        requires { index < length self.records.now }
+        ensures { option_map node_place result ≡ parent_place (table_place self.entry index) }
+    {
+        let mut before = index;
+        while before > 0 {
+            before -= 1;
+            let record = record_at(self.records, before);
+            if record.size > index - before {
+                return Some(SyntaxNode {
+                    table: self,
+                    index: before,
+                });
+            }
+        }
+        None
+    }
+
+    pub(crate) fn range(self, index: usize) -> TextRange
+        requires { index < length self.records.now }
+        ensures start { result.start ≡ (element (table_place self.entry index)).start }
+        ensures end { result.end ≡ (element (table_place self.entry index)).start + length (tree_text (tree_at (table_place self.entry index))) }
+    {
+        let record = self.record(index);
+        TextRange {
+            start: record.start,
+            end: record.end,
+        }
+    }
+
+    pub(crate) fn slice(self, index: usize) -> &'t str
+        requires { index < length self.records.now }
+        ensures text { result.now ≡ tree_text (tree_at (table_place self.entry index)) }
+        ensures sound { ∥ IsSoundTree (tree_at (table_place self.entry index)) ∥₁ }
+    {
+        let record = self.record(index);
+        &self.text[record.start..record.end]
+    }
+}
+
+impl<'t> SyntaxNode<'t> {
+    ghost use Rattle.apollo_tree.specs.References.{node_place};
+    ghost use Rattle.apollo_tree.specs.Children.{child_places, child_nodes};
+    ghost use Rattle.apollo_tree.specs.Yields.{rest_places, rest_nodes};
+    ghost use Rattle.apollo_tree.specs.Sound.{IsSoundTree};
+    ghost use Rattle.apollo_tree.specs.Order.{element, tree_at, tree_kind, tree_text, is_node, parent_place};
+
+    pub fn kind(&self) -> SyntaxKind
+        ensures { result ≡ tree_kind (tree_at (node_place self.now)) }
+    {
+        self.table.record(self.index).kind
+    }
+
+    pub fn parent(&self) -> Option<SyntaxNode<'t>>
+        ensures { option_map node_place result ≡ parent_place (node_place self.now) }
+    {
+        self.table.parent(self.index)
+    }
+
+    pub fn text_range(&self) -> TextRange
+        ensures start { result.start ≡ (element (node_place self.now)).start }
+        ensures end { result.end ≡ (element (node_place self.now)).start + length (tree_text (tree_at (node_place self.now))) }
+    {
+        self.table.range(self.index)
+    }
+
+    pub fn text(&self) -> &'t str
+        ensures text { result.now ≡ tree_text (tree_at (node_place self.now)) }
+        ensures sound { ∥ IsSoundTree (tree_at (node_place self.now)) ∥₁ }
+        ensures node { is_node (tree_at (node_place self.now)) ≡ true }
+    {
+        self.table.slice(self.index)
+    }
+
+    /// The text in memory of its own.
+    pub fn source_string<A: Allocator>(&self, alloc: A) -> Result<String<A>, AllocError>
+        ensures { IfOk result (λ s. string_bytes s ≡ tree_text (tree_at (node_place self.now))) }
+    {
+        String::from_str(alloc, self.text())
+    }
+
+    pub fn children_with_tokens(&self) -> SyntaxElementChildren<'t>
+        ensures { rest_places result ≡ child_places (node_place self.now) }
+    {
+        let record = self.table.record(self.index);
+        SyntaxElementChildren {
+            table: self.table,
+            next: self.index + 1,
+            end: self.index + record.size,
+        }
+    }
+
+    pub fn children(&self) -> SyntaxNodeChildren<'t>
+        ensures { rest_nodes result ≡ child_nodes (node_place self.now) }
+    {
+        SyntaxNodeChildren {
+            elements: self.children_with_tokens(),
+        }
+    }
+}
+
+impl<'t> SyntaxToken<'t> {
+    ghost use Rattle.apollo_tree.specs.References.{token_place, node_place};
+    ghost use Rattle.apollo_tree.specs.Order.{element, tree_at, tree_kind, tree_text, parent_place};
+
+    pub fn kind(&self) -> SyntaxKind
+        ensures { result ≡ tree_kind (tree_at (token_place self.now)) }
+    {
+        self.table.record(self.index).kind
+    }
+
+    pub fn parent(&self) -> Option<SyntaxNode<'t>>
+        ensures { option_map node_place result ≡ parent_place (token_place self.now) }
+    {
+        self.table.parent(self.index)
+    }
+
+    pub fn text_range(&self) -> TextRange
+        ensures start { result.start ≡ (element (token_place self.now)).start }
+        ensures end { result.end ≡ (element (token_place self.now)).start + length (tree_text (tree_at (token_place self.now))) }
+    {
+        self.table.range(self.index)
+    }
+
+    pub fn text(&self) -> &'t str
+        ensures { result.now ≡ tree_text (tree_at (token_place self.now)) }
+    {
+        self.table.slice(self.index)
+    }
+}
+
+/// The text of a leaf, or of a node that is one leaf.
+#[derive(Clone, Copy, PartialEq, Eq, PartialOrd, Ord)]
+pub struct TokenText<'t> {
+    text: &'t str,
+}
+
+impl<'t> TokenText<'t> {
+    pub fn new(text: &'t str) -> TokenText<'t>
+        ensures { result.text.now ≡ text.now }
+    {
+        TokenText { text }
+    }
+
+    pub fn as_str(&self) -> &'t str
+        ensures { result.now ≡ self.now.text.now }
+    {
+        self.text
+    }
+}
