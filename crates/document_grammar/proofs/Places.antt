@@ -1,68 +1,9 @@
--- Ignored leaves: leaving them out keeps the tokens and the nesting; and they are placed where no inner node is empty or begins or
--- ends with one.
-use Rattle.std.proofs.Common.{◌≡◌, ◌≢◌, ℕ, ◌+◌, max, Bool, true, false, cond, ltb, List, [], ◌∷◌, ◌++◌, refl, sym, ap, ap₂, ◌∙◌, subst, inl, inr, true≢false, IsFalse, zero, suc, arith, ltb-true, ◌<◌}
-use Rattle.document_grammar.specs.Tree.{Token, Tree, leaf, node, Forest, none, ◌▸◌, root}
-use Rattle.document_grammar.specs.Derivation.{Yield, Yields, counts, below, belows, nest}
-use Rattle.document_grammar.specs.Places.{ignored, bare, bares, Between, PlacedIn, AllPlaced, Placed}
-use Rattle.document_grammar.proofs.Basics.{false-true, either}
-use Rattle.document_grammar.specs.Kinds.{DOCUMENT, LIST_VALUE, OBJECT_FIELD}
-use Rattle.document_grammar.specs.Pattern.{member}
-use Rattle.document_grammar.proofs.Depth.{cond-zero}
-
-yield-ignored : (t : Tree) → ignored t ≡ true → Yield t ≡ []
-yield-ignored (leaf k x) h = rw h refl
-yield-ignored (node k f) h = absurd (true≢false (sym h))
-
-kept-yields : (t : Tree) (f : Forest) → Yield (bare t) ≡ Yield t → Yields (bares f) ≡ Yields f → Yields (bares (t ▸ f)) ≡ Yields (t ▸ f)
-kept-yields t f a b = elim (either (ignored t)) [
-  | inl p ↦ subst (λ (c : Bool). Yields (cond c (bares f) (bare t ▸ bares f)) ≡ Yield t ++ Yields f) (sym p) (b ∙ sym (ap (λ (w : List Token). w ++ Yields f) (yield-ignored t p)))
-  | inr p ↦ subst (λ (c : Bool). Yields (cond c (bares f) (bare t ▸ bares f)) ≡ Yield t ++ Yields f) (sym p) (ap₂ (λ (v w : List Token). v ++ w) a b)
-]
-
-mutual
-  pub bare-yield : (t : Tree) → Yield (bare t) ≡ Yield t
-  bare-yield (leaf k x) = refl
-  bare-yield (node k f) = bares-yields f
-
-  pub bares-yields : (f : Forest) → Yields (bares f) ≡ Yields f
-  bares-yields none = refl
-  bares-yields (t ▸ f) = kept-yields t f (bare-yield t) (bares-yields f)
-
-ignored-count : (p k : ℕ) → ltb k 3 ≡ true → counts p k ≡ 0
-unfolding member
-ignored-count p zero h = cond-zero (member p (LIST_VALUE ∷ OBJECT_FIELD ∷ []))
-ignored-count p (suc zero) h = cond-zero (member p (LIST_VALUE ∷ OBJECT_FIELD ∷ []))
-ignored-count p (suc (suc zero)) h = cond-zero (member p (LIST_VALUE ∷ OBJECT_FIELD ∷ []))
-ignored-count p (suc (suc (suc k))) h = let l : suc (suc (suc k)) < 3 = ltb-true _ _ h in absurd (omega arith)
-
-ignored-below : (p : ℕ) (t : Tree) → ignored t ≡ true → counts p (root t) + below t ≡ 0
-ignored-below p (leaf k x) h = ap (λ (n : ℕ). n + 0) (ignored-count p k h)
-ignored-below p (node k f) h = absurd (true≢false (sym h))
-
-bare-root : (t : Tree) → root (bare t) ≡ root t
-bare-root (leaf k x) = refl
-bare-root (node k f) = refl
-
-max-none : (a b : ℕ) → a ≡ 0 → b ≡ max a b
-max-none a b e = omega arith
-
-kept-belows : (p : ℕ) (t : Tree) (f : Forest) → below (bare t) ≡ below t → belows p (bares f) ≡ belows p f → belows p (bares (t ▸ f)) ≡ belows p (t ▸ f)
-kept-belows p t f a b = elim (either (ignored t)) [
-  | inl q ↦ subst (λ (c : Bool). belows p (cond c (bares f) (bare t ▸ bares f)) ≡ max (counts p (root t) + below t) (belows p f)) (sym q) (b ∙ max-none (counts p (root t) + below t) (belows p f) (ignored-below p t q))
-  | inr q ↦ subst (λ (c : Bool). belows p (cond c (bares f) (bare t ▸ bares f)) ≡ max (counts p (root t) + below t) (belows p f)) (sym q) (ap₂ (λ (x y : ℕ). max x y) (ap₂ (λ (x y : ℕ). x + y) (ap (λ (k : ℕ). counts p k) (bare-root t)) a) b)
-]
-
-mutual
-  pub bare-below : (t : Tree) → below (bare t) ≡ below t
-  bare-below (leaf k x) = refl
-  bare-below (node k f) = bares-belows k f
-
-  pub bares-belows : (p : ℕ) (f : Forest) → belows p (bares f) ≡ belows p f
-  bares-belows p none = refl
-  bares-belows p (t ▸ f) = kept-belows p t f (bare-below t) (bares-belows p f)
-
-pub bare-nest : (t : Tree) → nest (bare t) ≡ nest t
-bare-nest t = ap₂ (λ (x y : ℕ). x + y) (ap (λ (k : ℕ). counts DOCUMENT k) (bare-root t)) (bare-below t)
+-- Ignored leaves are placed where no inner node is empty or begins or ends with one.
+use Rattle.std.proofs.Common.{◌≡◌, ◌≢◌, ℕ, false, List, [], ◌∷◌, ◌++◌, refl, IsFalse}
+use Rattle.document_grammar.specs.Tree.{Token, Tree, leaf, node, Forest, none, ◌▸◌}
+use Rattle.document_grammar.specs.Derivation.{spelled, Yield, Yields}
+use Rattle.document_grammar.specs.Places.{ignored, Between, PlacedIn, AllPlaced, Placed}
+use Rattle.document_grammar.proofs.Basics.{false-true}
 
 -- Where all nodes spell something and none begins or ends with an ignored leaf.
 abbrev pub Ends : Forest → Type 0
@@ -94,7 +35,7 @@ nil-right (a ∷ v) w e = absurd (cc)
 spells : (t : Tree) → Trim t → ignored t ≡ false → Yield t ≢ []
 spells (leaf k x) h i = leaf-spells (rw i refl)
   where
-    leaf-spells : Yield (leaf k x) ≡ Rattle.document_grammar.specs.Derivation.spelled k x ∷ [] → Yield (leaf k x) ≢ []
+    leaf-spells : Yield (leaf k x) ≡ spelled k x ∷ [] → Yield (leaf k x) ≢ []
     leaf-spells e z = absurd (cc)
 spells (node k f) h i = h.0
 

@@ -1,0 +1,135 @@
+-- Trees that grow by one tree at the end, without their ignored leaves: what they spell and how deep they nest; and the same of built trees.
+use Rattle.std.proofs.Common.{◌≡◌, ℕ, ◌+◌, ◌<◌, max, Bool, true, false, cond, ltb, zero, suc, List, [], ◌∷◌, ◌++◌, append_assoc, refl, sym, ap, ap₂, ◌∙◌, subst, inl, inr, true≢false, ltb-true, arith}
+use Rattle.document_grammar.specs.declared.kind.SyntaxKind.{SyntaxKind}
+use Rattle.document_grammar.specs.Kinds.{ERROR, DOCUMENT, LIST_VALUE, OBJECT_FIELD}
+use Rattle.document_grammar.specs.Numbers.{number}
+use Rattle.document_grammar.specs.Forests as built
+use Rattle.document_grammar.specs.Numbered.{numbered}
+use Rattle.document_grammar.specs.Tree.{Text, Token, Tree, leaf, node, Forest, none, ◌▸◌, ◌+++◌, root}
+use Rattle.document_grammar.specs.Pattern.{member}
+use Rattle.document_grammar.specs.Derivation.{kinds, text, texts, Yield, Yields, counts, below, belows, nest}
+use Rattle.document_grammar.specs.Places.{ignored, bare, bares}
+use Rattle.document_grammar.proofs.Basics.{either}
+use Rattle.document_grammar.proofs.Depth.{cond-zero}
+use Rattle.document_grammar.proofs.Run.{forest-none}
+
+-- One list of trees after the other.
+pub kinds-append : (f g : Forest) → kinds (f +++ g) ≡ kinds f ++ kinds g
+kinds-append none g = refl
+kinds-append (t ▸ f) g = ap (λ (w : List ℕ). root t ∷ w) (kinds-append f g)
+
+pub texts-append : (f g : Forest) → texts (f +++ g) ≡ texts f ++ texts g
+texts-append none g = refl
+texts-append (t ▸ f) g = ap (λ (x : Text). text t ++ x) (texts-append f g) ∙ sym (append_assoc (text t) (texts f) (texts g))
+
+pub Yields-append : (f g : Forest) → Yields (f +++ g) ≡ Yields f ++ Yields g
+Yields-append none g = refl
+Yields-append (t ▸ f) g = ap (λ (w : List Token). Yield t ++ w) (Yields-append f g) ∙ sym (append_assoc (Yield t) (Yields f) (Yields g))
+
+max_assoc : (a b c : ℕ) → max a (max b c) ≡ max (max a b) c
+max_assoc a b c = omega arith
+
+max_first : (b : ℕ) → b ≡ max 0 b
+max_first b = omega arith
+
+pub belows-append : (k : ℕ) (f g : Forest) → belows k (f +++ g) ≡ max (belows k f) (belows k g)
+belows-append k none g = max_first (belows k g)
+belows-append k (t ▸ f) g = ap (λ (n : ℕ). max (counts k (root t) + below t) n) (belows-append k f g) ∙ max_assoc (counts k (root t) + below t) (belows k f) (belows k g)
+
+pub bares-append : (f g : Forest) → bares (f +++ g) ≡ bares f +++ bares g
+bares-append none g = refl
+bares-append (t ▸ f) g = elim (either (ignored t)) [
+  | inl p ↦ subst (λ (c : Bool). cond c (bares (f +++ g)) (bare t ▸ bares (f +++ g)) ≡ cond c (bares f) (bare t ▸ bares f) +++ bares g) (sym p) (bares-append f g)
+  | inr p ↦ subst (λ (c : Bool). cond c (bares (f +++ g)) (bare t ▸ bares (f +++ g)) ≡ cond c (bares f) (bare t ▸ bares f) +++ bares g) (sym p) (ap (λ (h : Forest). bare t ▸ h) (bares-append f g))
+]
+
+-- One more tree: an ignored leaf, another leaf, a node.
+pub bares-ignored : (f : Forest) (k : ℕ) (x : Text) → ltb k ERROR ≡ true → bares (f +++ (leaf k x ▸ none)) ≡ bares f
+bares-ignored f k x h =
+    bares-append f (leaf k x ▸ none) ∙ (subst (λ (c : Bool). bares f +++ cond c none (leaf k x ▸ none) ≡ bares f) (sym h) (forest-none (bares f)))
+
+pub bares-leaf : (f : Forest) (k : ℕ) (x : Text) → ltb k ERROR ≡ false → bares (f +++ (leaf k x ▸ none)) ≡ bares f +++ (leaf k x ▸ none)
+bares-leaf f k x h =
+    bares-append f (leaf k x ▸ none) ∙ (subst (λ (c : Bool). bares f +++ cond c none (leaf k x ▸ none) ≡ bares f +++ (leaf k x ▸ none)) (sym h) refl)
+
+pub bares-node : (f : Forest) (k : ℕ) (g : Forest) → bares (f +++ (node k g ▸ none)) ≡ bares f +++ (node k (bares g) ▸ none)
+bares-node f k g = bares-append f (node k g ▸ none)
+
+-- What stays without the ignored leaves: the tokens and the nesting.
+pub yield-ignored : (t : Tree) → ignored t ≡ true → Yield t ≡ []
+yield-ignored (leaf k x) h = rw h refl
+yield-ignored (node k f) h = absurd (true≢false (sym h))
+
+kept-yields : (t : Tree) (f : Forest) → Yield (bare t) ≡ Yield t → Yields (bares f) ≡ Yields f → Yields (bares (t ▸ f)) ≡ Yields (t ▸ f)
+kept-yields t f a b = elim (either (ignored t)) [
+  | inl p ↦ subst (λ (c : Bool). Yields (cond c (bares f) (bare t ▸ bares f)) ≡ Yield t ++ Yields f) (sym p) (b ∙ sym (ap (λ (w : List Token). w ++ Yields f) (yield-ignored t p)))
+  | inr p ↦ subst (λ (c : Bool). Yields (cond c (bares f) (bare t ▸ bares f)) ≡ Yield t ++ Yields f) (sym p) (ap₂ (λ (v w : List Token). v ++ w) a b)
+]
+
+mutual
+  pub Yield-bare : (t : Tree) → Yield (bare t) ≡ Yield t
+  Yield-bare (leaf k x) = refl
+  Yield-bare (node k f) = Yields-bares f
+
+  pub Yields-bares : (f : Forest) → Yields (bares f) ≡ Yields f
+  Yields-bares none = refl
+  Yields-bares (t ▸ f) = kept-yields t f (Yield-bare t) (Yields-bares f)
+
+ignored-count : (p k : ℕ) → ltb k 3 ≡ true → counts p k ≡ 0
+unfolding member
+ignored-count p zero h = cond-zero (member p (LIST_VALUE ∷ OBJECT_FIELD ∷ []))
+ignored-count p (suc zero) h = cond-zero (member p (LIST_VALUE ∷ OBJECT_FIELD ∷ []))
+ignored-count p (suc (suc zero)) h = cond-zero (member p (LIST_VALUE ∷ OBJECT_FIELD ∷ []))
+ignored-count p (suc (suc (suc k))) h = let l : suc (suc (suc k)) < 3 = ltb-true _ _ h in absurd (omega arith)
+
+ignored-below : (p : ℕ) (t : Tree) → ignored t ≡ true → counts p (root t) + below t ≡ 0
+ignored-below p (leaf k x) h = ap (λ (n : ℕ). n + 0) (ignored-count p k h)
+ignored-below p (node k f) h = absurd (true≢false (sym h))
+
+pub root-bare : (t : Tree) → root (bare t) ≡ root t
+root-bare (leaf k x) = refl
+root-bare (node k f) = refl
+
+max-none : (a b : ℕ) → a ≡ 0 → b ≡ max a b
+max-none a b e = omega arith
+
+kept-belows : (p : ℕ) (t : Tree) (f : Forest) → below (bare t) ≡ below t → belows p (bares f) ≡ belows p f → belows p (bares (t ▸ f)) ≡ belows p (t ▸ f)
+kept-belows p t f a b = elim (either (ignored t)) [
+  | inl q ↦ subst (λ (c : Bool). belows p (cond c (bares f) (bare t ▸ bares f)) ≡ max (counts p (root t) + below t) (belows p f)) (sym q) (b ∙ max-none (counts p (root t) + below t) (belows p f) (ignored-below p t q))
+  | inr q ↦ subst (λ (c : Bool). belows p (cond c (bares f) (bare t ▸ bares f)) ≡ max (counts p (root t) + below t) (belows p f)) (sym q) (ap₂ (λ (x y : ℕ). max x y) (ap₂ (λ (x y : ℕ). x + y) (ap (λ (k : ℕ). counts p k) (root-bare t)) a) b)
+]
+
+mutual
+  pub below-bare : (t : Tree) → below (bare t) ≡ below t
+  below-bare (leaf k x) = refl
+  below-bare (node k f) = belows-bares k f
+
+  pub belows-bares : (p : ℕ) (f : Forest) → belows p (bares f) ≡ belows p f
+  belows-bares p none = refl
+  belows-bares p (t ▸ f) = kept-belows p t f (below-bare t) (belows-bares p f)
+
+pub nest-bare : (t : Tree) → nest (bare t) ≡ nest t
+nest-bare t = ap₂ (λ (x y : ℕ). x + y) (ap (λ (k : ℕ). counts DOCUMENT k) (root-bare t)) (below-bare t)
+
+-- Built trees.
+pub numbered-join : (f g : built.Forest) → numbered (built.join f g) ≡ numbered f +++ numbered g
+numbered-join built.none g = refl
+numbered-join (built.leaf k s rest) g = ap (λ (h : Forest). leaf (number k) s ▸ h) (numbered-join rest g)
+numbered-join (built.node k kids rest) g = ap (λ (h : Forest). node (number k) (numbered kids) ▸ h) (numbered-join rest g)
+
+pub texts-numbered : (f : built.Forest) → texts (numbered f) ≡ built.text f
+texts-numbered built.none = refl
+texts-numbered (built.leaf k s rest) = ap (λ (x : Text). s ++ x) (texts-numbered rest)
+texts-numbered (built.node k kids rest) = ap₂ (λ (x y : Text). x ++ y) (texts-numbered kids) (texts-numbered rest)
+
+pub bares-numbered-join : (f g : built.Forest) → bares (numbered (built.join f g)) ≡ bares (numbered f) +++ bares (numbered g)
+bares-numbered-join f g = ap (λ (h : Forest). bares h) (numbered-join f g) ∙ bares-append (numbered f) (numbered g)
+
+pub bares-built_ignored : (f : built.Forest) (k : SyntaxKind) (x : Text) → ltb (number k) ERROR ≡ true → bares (numbered (built.join f (built.leaf k x built.none))) ≡ bares (numbered f)
+bares-built_ignored f k x h = ap (λ (g : Forest). bares g) (numbered-join f (built.leaf k x built.none)) ∙ bares-ignored (numbered f) (number k) x h
+
+pub bares-built_leaf : (f : built.Forest) (k : SyntaxKind) (x : Text) → ltb (number k) ERROR ≡ false → bares (numbered (built.join f (built.leaf k x built.none))) ≡ bares (numbered f) +++ (leaf (number k) x ▸ none)
+bares-built_leaf f k x h = ap (λ (g : Forest). bares g) (numbered-join f (built.leaf k x built.none)) ∙ bares-leaf (numbered f) (number k) x h
+
+pub bares-built_node : (f : built.Forest) (k : SyntaxKind) (kids : built.Forest) → bares (numbered (built.join f (built.node k kids built.none))) ≡ bares (numbered f) +++ (node (number k) (bares (numbered kids)) ▸ none)
+bares-built_node f k kids = ap (λ (g : Forest). bares g) (numbered-join f (built.node k kids built.none)) ∙ bares-node (numbered f) (number k) (numbered kids)
