@@ -29,6 +29,11 @@ abbrev pub is_token : Answer → Bool
 is_token (gives item) = is_some item.kind
 is_token (limit_at index) = false
 
+-- an item, and not the limit
+abbrev pub is_given : Answer → Bool
+is_given (gives item) = true
+is_given (limit_at index) = false
+
 abbrev pub is_end : TokenKind → Bool
 is_end Eof = true
 is_end _ = false
