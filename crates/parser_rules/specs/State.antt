@@ -1,0 +1,184 @@
+-- What a parser has read and built, and its steps.
+use Rattle.std.specs.Prelude.{◌≡◌, ℕ, ◌+◌, ◌-◌, max, min, Bool, true, false, not, nat_le, if◌then◌else◌, List, [], ◌∷◌, ◌++◌, length, Option, Some, None, ⊤}
+use denote.Enum.Bare.{sameb}
+use Rattle.lexical_grammar.specs.contracts.TokenKind.{the_type}
+use Rattle.lexical_grammar.specs.declared.TokenKind.{TokenKind}
+use Rattle.lexical_grammar.specs.declared.TokenKind.TheVariants as token
+use Rattle.lexical_grammar.specs.Tokens.{IsName}
+use Rattle.lexical_grammar.specs.Cut.{Item}
+use Rattle.lexical_grammar.specs.Answers.{Answer, gives, limit_at, is_end, IsTokenText, IsItemText, answers_text}
+use Rattle.document_grammar.specs.declared.kind.SyntaxKind.{SyntaxKind}
+use Rattle.document_grammar.specs.declared.kind.SyntaxKind.TheVariants as kind
+use Rattle.document_grammar.specs.Forests.{Forest, none}
+use Rattle.document_grammar.specs.Builds.{Building, Open, nothing, start, add_leaf, finish, wrap, IsPlace, built_text}
+
+abbrev pub Text : Type 0
+Text = List ℕ
+
+-- a significant token, or the end
+pub record Lexeme : Type 0 where
+  pub kind : TokenKind
+  pub text : Text
+  pub index : ℕ
+
+-- an ignored token or bad text, which waits for the next leaf
+pub record Part : Type 0 where
+  pub kind : SyntaxKind
+  pub text : Text
+
+-- what a report is about: a text, the end of the text, or a limit
+pub data Found : Type 0 where
+  at_text : Text → Found
+  at_end : Found
+  at_limit : Found
+
+pub record Report : Type 0 where
+  pub found : Found
+  pub index : ℕ
+
+-- the answers that are left, the current token, what waits, what is built, the reports, the recursion limit with its count and the
+-- greatest count that was asked for, and whether the grammar's reports are still taken
+pub record State : Type 0 where
+  pub items : List Answer
+  pub current : Option Lexeme
+  pub waiting : List Part
+  pub tree : Building
+  pub errors : List Report
+  pub limit : ℕ
+  pub depth : ℕ
+  pub high : ℕ
+  pub accepts : Bool
+
+-- `==` on kinds
+unfoldable pub same_kind : TokenKind → TokenKind → Bool
+same_kind = sameb the_type
+
+-- the current token's text is one of its kind
+abbrev pub IsNow : Option Lexeme → Type 0
+IsNow None = ⊤
+IsNow (Some t) = IsTokenText t.kind t.text
+
+-- the leaf that an ignored token becomes
+abbrev pub ignored : TokenKind → Option SyntaxKind
+ignored token.Whitespace = Some kind.WHITESPACE
+ignored token.Comment = Some kind.COMMENT
+ignored token.Comma = Some kind.COMMA
+ignored _ = None
+
+-- ---- reading
+
+abbrev pub wait : SyntaxKind → Text → State → State
+wait k text s = record s { waiting = s.waiting ++ record { kind = k; text = text } ∷ [] }
+
+-- bad text, which waits for the next leaf
+abbrev pub bad : Text → ℕ → State → State
+bad text index s = wait kind.ERROR text (record s { errors = s.errors ++ record { found = at_text text; index = index } ∷ [] })
+
+-- the token limit
+abbrev pub met : ℕ → State → State
+met index s = record s { errors = s.errors ++ record { found = at_limit; index = index } ∷ []; accepts = false }
+
+abbrev pub lexeme : TokenKind → Item → Lexeme
+lexeme k item = record { kind = k; text = item.text; index = item.index }
+
+-- reads up to the next token that is not ignored
+unfoldable pub read_on : List Answer → State → State
+read_on [] s = record s { current = None }
+read_on (limit_at index ∷ rest) s = read_on rest (met index (record s { items = rest }))
+read_on (gives item ∷ rest) s = elim item.kind [
+  | None ↦ read_on rest (bad item.text item.index (record s { items = rest }))
+  | Some k ↦ elim (ignored k) [
+    | Some leaf ↦ read_on rest (wait leaf item.text (record s { items = rest }))
+    | None ↦ record s { items = rest; current = Some (lexeme k item) }
+  ]
+]
+
+-- ---- building
+
+abbrev pub add_all : List Part → Building → Building
+add_all [] b = b
+add_all (part ∷ parts) b = add_all parts (add_leaf part.kind part.text b)
+
+-- what waits goes into the tree
+unfoldable pub flush : State → State
+flush s = record s { tree = add_all s.waiting s.tree; waiting = [] }
+
+unfoldable pub opened : SyntaxKind → State → State
+opened k s = let f = flush s in record f { tree = start k f.tree }
+
+unfoldable pub closed : State → State
+closed s = record s { tree = finish s.tree }
+
+-- moves the current token into the tree behind what waits, and reads on; where there is none, nothing happens
+abbrev pub moved : SyntaxKind → State → Option Lexeme → State
+moved leaf s None = s
+moved leaf s (Some t) = let f = flush s in read_on f.items (record f { tree = add_leaf leaf t.text f.tree })
+
+unfoldable pub bump : SyntaxKind → State → State
+bump leaf s = moved leaf s s.current
+
+-- ---- reporting
+
+abbrev pub found_at : Lexeme → Found
+found_at t = if is_end t.kind then at_end else at_text t.text
+
+-- a report of the grammar
+abbrev pub fault : Found → ℕ → State → State
+fault found index s = if s.accepts then record s { errors = s.errors ++ record { found = found; index = index } ∷ [] } else s
+
+abbrev pub noted : State → Option Lexeme → State
+noted s None = s
+noted s (Some t) = fault (found_at t) t.index s
+
+-- a report at the current token
+unfoldable pub note : State → State
+note s = noted s s.current
+
+-- ---- nesting
+
+-- the recursion limit is reached
+unfoldable pub is_deep : State → Bool
+is_deep s = nat_le s.limit s.depth
+
+unfoldable pub enter : State → State
+enter s = record s { depth = s.depth + 1; high = max s.high (s.depth + 1) }
+
+unfoldable pub leave : State → State
+leave s = record s { depth = s.depth - 1 }
+
+-- one level more was asked for
+abbrev pub deepened : State → State
+deepened s = record s { high = max s.high (min (s.depth + 1) 18446744073709551615) }
+
+abbrev pub limited_at : State → Option Lexeme → State
+limited_at s None = s
+limited_at s (Some t) = record (fault at_limit t.index s) { accepts = false }
+
+-- the report of the recursion limit at the current token; the grammar's later reports are dropped
+unfoldable pub too_deep : State → State
+too_deep s = limited_at (deepened s) s.current
+
+-- ---- tests
+
+abbrev pub is_at : TokenKind → Option Lexeme → Bool
+is_at k None = false
+is_at k (Some t) = same_kind t.kind k
+
+-- no token is left but the end
+abbrev pub is_over : Option Lexeme → Bool
+is_over None = true
+is_over (Some t) = is_end t.kind
+
+-- ---- the whole
+
+-- the root is open, and nothing is read
+abbrev pub fresh : List Answer → ℕ → SyntaxKind → State
+fresh items limit root = record { items = items; current = None; waiting = []; tree = start root nothing; errors = []; limit = limit; depth = 0; high = 0; accepts = true }
+
+-- the root is open, and the first token is read
+abbrev pub begun : List Answer → ℕ → SyntaxKind → State
+begun items limit root = read_on items (fresh items limit root)
+
+-- the tree, where all that waits is taken in and the root is closed
+abbrev pub finished : State → Forest
+finished s = (finish (add_all s.waiting s.tree)).here
