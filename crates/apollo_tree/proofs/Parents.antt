@@ -5,12 +5,11 @@ use Rattle.std.proofs.lemmas.List.{append-nil, length-append, get_or_append_left
 use Rattle.std.proofs.lemmas.Bool.{cases_lt}
 use Rattle.apollo_tree.specs.declared.record.Record.{Record}
 use Rattle.document_grammar.specs.Forests.{Forest, none, leaf, node, Tree, Leaf, Node, text, count}
-use Rattle.apollo_tree.specs.Records.{records, forest}
-use Rattle.apollo_tree.specs.Order.{Element, element, order_from, order, nowhere, tree_kids, places, tree_at, Place, parent_place, is_node}
-use Rattle.apollo_tree.specs.Open.{one_node}
+use Rattle.apollo_tree.specs.Records.{forest}
+use Rattle.apollo_tree.specs.Order.{Element, order_from, order, nowhere, tree_kids, places, tree_at, Place, parent_place, is_node}
 use Rattle.apollo_tree.specs.Table.{IsTable, none_there}
 use Rattle.apollo_tree.specs.ReadBack.{length-records}
-use Rattle.apollo_tree.proofs.Places.{Cut, cut, length-order, tree_records, size_is, node_is}
+use Rattle.apollo_tree.proofs.Places.{cut, length-order, tree_records, size_is, node_is}
 
 abbrev at_index : List Element → ℕ → Element
 at_index xs m = get_or xs m nowhere

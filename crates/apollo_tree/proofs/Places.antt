@@ -1,12 +1,11 @@
 -- Where an element stands in the table and in the text.
 use Rattle.std.proofs.Common.{◌≡◌, ℕ, zero, suc, ◌+◌, ◌-◌, ◌<◌, ◌≤◌, List, [], ◌∷◌, ◌++◌, length, take, drop, get_or, refl, sym, ap, ◌∙◌, subst, ⊎_elim, arith, true, false, Option, Some, None}
-use Rattle.std.proofs.lemmas.List.{append-nil, append_assoc, length-append, take_at, drop_at, get_or_at, get_or_append_left, get_or-append-add}
+use Rattle.std.proofs.lemmas.List.{append_assoc, length-append, take_at, drop_at, get_or_at, get_or_append_left, get_or-append-add}
 use Rattle.std.proofs.lemmas.Bool.{cases_lt}
-use Rattle.document_grammar.specs.declared.kind.SyntaxKind.{SyntaxKind}
 use Rattle.apollo_tree.specs.declared.record.Record.{Record}
 use Rattle.document_grammar.specs.Forests.{Forest, none, leaf, node, Tree, Leaf, Node, text, count}
 use Rattle.apollo_tree.specs.Records.{records, forest}
-use Rattle.apollo_tree.specs.Order.{Element, element, tree_at, order_from, order, nowhere, tree_text, tree_kids, tree_kind, is_node, places}
+use Rattle.apollo_tree.specs.Order.{Element, element, tree_at, order_from, nowhere, tree_text, tree_kids, tree_kind, is_node, places, range_at}
 use Rattle.apollo_tree.specs.Table.{IsTable}
 use Rattle.apollo_tree.specs.Sound.{IsSound, IsSoundTree}
 use Rattle.std.specs.Str.{IsUtf8, IsCharBoundary}
@@ -183,6 +182,9 @@ module _ (rs : List Record) (s : List ℕ) (t : IsTable rs s) (i : ℕ) (h : i <
 
   pub end_is : (get_or rs i d).end ≡ (element (record { whole = forest s rs; index = i })).start + length (tree_text (tree_at (record { whole = forest s rs; index = i })))
   end_is = ap (λ r. r.end) (record_is rs s t i h d) ∙ root_end _ (tree_at (record { whole = forest s rs; index = i }))
+
+  pub range_is : ◌≡◌ {A = ℕ × ℕ} ((get_or rs i d).start, (get_or rs i d).end) (range_at (record { whole = forest s rs; index = i }))
+  range_is = let a = start_is in let b = end_is in cc (a, b)
 
   pub size_is : (get_or rs i d).size ≡ suc (count (tree_kids (tree_at (record { whole = forest s rs; index = i }))))
   size_is = ap (λ r. r.size) (record_is rs s t i h d) ∙ root_size _ (tree_at (record { whole = forest s rs; index = i }))

@@ -1,15 +1,15 @@
 -- The trees that stand one after another in a table, and one step along them.
-use Rattle.std.proofs.Common.{◌≡◌, ℕ, zero, suc, pred, ◌+◌, ◌-◌, ◌<◌, ◌≤◌, List, [], ◌∷◌, ◌++◌, length, take, drop, get_or, map, refl, sym, ap, ◌∙◌, subst, arith, Bool, true, false, Option, Some, None}
-use Rattle.std.proofs.lemmas.List.{append-nil, append_assoc, length-append, length-take, length-drop, take_at, drop_at, drop-take, drop-drop, get_or_at, take_all}
+use Rattle.std.proofs.Common.{◌≡◌, ℕ, zero, suc, pred, ◌+◌, ◌-◌, ◌<◌, ◌≤◌, List, [], ◌∷◌, ◌++◌, length, take, drop, get_or, map, refl, sym, ap, ◌∙◌, arith, true, false, None}
+use Rattle.std.proofs.lemmas.List.{append_assoc, length-append, length-take, take_at, drop_at, drop-take, drop-drop, take_all}
 use Rattle.std.proofs.Math.Seq.{drop-cons}
 use Rattle.apollo_tree.specs.declared.record.Record.{Record}
-use Rattle.document_grammar.specs.Forests.{Forest, none, leaf, node, text, count, Tree, Leaf, Node}
+use Rattle.document_grammar.specs.Forests.{Forest, none, leaf, node, text, count}
 use Rattle.apollo_tree.specs.Records.{records, forest}
-use Rattle.apollo_tree.specs.Order.{Place, Element, element, tree_at, tree_kids, places, nowhere}
+use Rattle.apollo_tree.specs.Order.{Place, element, tree_at, tree_kids, places, nowhere}
 use Rattle.apollo_tree.specs.Children.{heads, tiled, span_heads, IsSpan, child_places}
 use Rattle.apollo_tree.specs.Table.{IsTable, none_there}
 use Rattle.apollo_tree.specs.ReadBack.{length-records}
-use Rattle.apollo_tree.proofs.Places.{children_are, Cut, cut_of, size_is, root_record, under_root, tree_records-is}
+use Rattle.apollo_tree.proofs.Places.{children_are, cut_of, size_is, root_record, under_root, tree_records-is}
 
 size_parts : (n : ℕ) (rs : List Record) → elim n [ zero ↦ false | suc m ↦ tiled m rs ] ≡ true → (0 < n) × (tiled (pred n) rs ≡ true)
 size_parts zero rs h = absurd cc

@@ -5,12 +5,11 @@ use Rattle.std.proofs.lemmas.List.{append-nil, append_assoc, length-append, take
 use Rattle.document_grammar.specs.declared.kind.SyntaxKind.{SyntaxKind}
 use Rattle.apollo_tree.specs.declared.record.Record.{Record}
 use Rattle.document_grammar.specs.Forests.{Forest, none, leaf, node, text, count, join}
-use Rattle.document_grammar.specs.Builds.{Open, Building, nothing, open_count, open_text, built_text, built_count, start, add_leaf, finish, close, front, back, wrap, wrap_at, IsPlace, IsSeam}
+use Rattle.document_grammar.specs.Builds.{Open, Building, open_count, open_text, built_count, start, add_leaf, finish, close, front, back, wrap, IsPlace}
 use Rattle.apollo_tree.specs.Records.{records, open_record, open_records, built_records, open_places, built, forest}
 use Rattle.apollo_tree.specs.ReadBack.{length-records, records-join, front-join, back-join, built-records, forest-records}
-use Rattle.document_grammar.specs.Joins.{join-none, join_assoc, count-join, text-join}
-use Rattle.std.specs.Str.{IsUtf8}
-use Rattle.apollo_tree.specs.Sound.{IsSound, AreSound, Fits, FitsInnermost, CanFinish}
+use Rattle.document_grammar.specs.Joins.{join-none, count-join, text-join}
+use Rattle.apollo_tree.specs.Sound.{IsSound, AreSound, FitsInnermost, CanFinish}
 use Rattle.apollo_tree.specs.Open.{IsTableOf, Holds, IsComplete, IsTree, one_node}
 
 -- the table is read back

@@ -1,8 +1,7 @@
 -- The places of the trees that stand one after another in a table.
-use Rattle.std.specs.Prelude.{◌≡◌, ℕ, zero, suc, pred, ◌+◌, ◌-◌, ◌≤◌, List, [], ◌∷◌, length, take, drop, map, Bool, true, false}
+use Rattle.std.specs.Prelude.{◌≡◌, ℕ, zero, suc, pred, ◌-◌, ◌≤◌, List, [], ◌∷◌, length, take, drop, map, Bool, true, false}
 use Rattle.std.specs.List.{filter}
 use Rattle.apollo_tree.specs.declared.record.Record.{Record}
-use Rattle.document_grammar.specs.Forests.{Forest}
 use Rattle.apollo_tree.specs.Order.{Place, element, tree_at, is_node}
 
 -- from the record with the number i on, after the first n

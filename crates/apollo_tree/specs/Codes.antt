@@ -1,5 +1,5 @@
 -- A list of trees is stored as its table and its text, and what was built likewise.
-use Rattle.std.specs.Prelude.{ℕ, List, length}
+use Rattle.std.specs.Prelude.{ℕ, List}
 use Rattle.std.specs.Coded.{Coded, code_by, coded×, coded_ℕ, coded_list}
 use Rattle.apollo_tree.specs.contracts.record.Record as row
 use Rattle.apollo_tree.specs.declared.record.Record.{Record}

@@ -1,9 +1,9 @@
 -- A table over its text holds what was built, or a whole tree.
-use Rattle.std.specs.Prelude.{◌≡◌, ℕ, List, [], ◌∷◌, ◌++◌, Bool, true, false}
+use Rattle.std.specs.Prelude.{◌≡◌, ℕ, List, [], Bool, true, false}
 use Rattle.apollo_tree.specs.declared.record.Record.{Record}
-use Rattle.document_grammar.specs.Forests.{Forest, none, leaf, node, text}
+use Rattle.document_grammar.specs.Forests.{Forest, none, node, text}
 use Rattle.document_grammar.specs.Builds.{Building, built_text}
-use Rattle.apollo_tree.specs.Records.{records, built, built_records, open_places}
+use Rattle.apollo_tree.specs.Records.{records, built_records, open_places}
 use Rattle.apollo_tree.specs.Sound.{IsSound, AreSound}
 
 pub record IsTableOf (b : Building) (rs : List Record) (open_at s : List ℕ) : Type 0 where

@@ -1,5 +1,5 @@
--- All leaves and nodes of a tree in document order.
-use Rattle.std.specs.Prelude.{◌≡◌, ℕ, zero, suc, ◌+◌, ◌-◌, List, [], ◌∷◌, ◌++◌, length, get_or, map, Bool, true, false, Option, Some, None, option_map}
+-- The elements of a tree, its leaves and nodes, in document order: each with its tree, its range, its parent and its children.
+use Rattle.std.specs.Prelude.{ℕ, suc, ◌+◌, List, [], ◌∷◌, ◌++◌, length, get_or, Bool, true, false, Option, Some, None, option_map}
 use Rattle.document_grammar.specs.declared.kind.SyntaxKind.{SyntaxKind}
 use Rattle.document_grammar.specs.declared.kind.SyntaxKind.TheVariants.{ERROR}
 use Rattle.document_grammar.specs.Forests.{Forest, none, leaf, node, Tree, Leaf, Node, text, count}
@@ -58,6 +58,16 @@ element p = get_or (order p.whole) p.index nowhere
 
 abbrev pub tree_at : Place → Tree
 tree_at p = (element p).tree
+
+abbrev pub kind_at : Place → SyntaxKind
+kind_at p = tree_kind (tree_at p)
+
+abbrev pub text_at : Place → List ℕ
+text_at p = tree_text (tree_at p)
+
+-- the bytes of the whole text that the element's text takes up: the offset where it begins, and the offset where it has ended
+abbrev pub range_at : Place → ℕ × ℕ
+range_at p = ((element p).start, (element p).start + length (text_at p))
 
 -- the parent of an element
 abbrev pub parent_place : Place → Option Place

@@ -1,12 +1,11 @@
 -- The table of what was built gives it back.
-use Rattle.std.proofs.Common.{◌≡◌, ℕ, zero, suc, ◌+◌, ◌-◌, List, [], ◌∷◌, ◌++◌, length, take, drop, refl, sym, ap, ◌∙◌, subst, arith, true, false}
+use Rattle.std.proofs.Common.{◌≡◌, ℕ, suc, ◌+◌, ◌-◌, List, [], ◌∷◌, ◌++◌, length, take, drop, refl, sym, ap, ◌∙◌, arith, true, false}
 use Rattle.std.proofs.lemmas.List.{append-nil, append_assoc, length-append, take_at, drop_at}
-use Rattle.document_grammar.specs.declared.kind.SyntaxKind.{SyntaxKind}
 use Rattle.apollo_tree.specs.declared.record.Record.{Record}
-use Rattle.document_grammar.specs.Joins.{join-none, join_assoc, count-join, text-join}
+use Rattle.document_grammar.specs.Joins.{join-none}
 use Rattle.document_grammar.specs.Forests.{Forest, none, leaf, node, text, count, join}
-use Rattle.document_grammar.specs.Builds.{Open, Building, open_count, open_text, built_text, built_count, front, back}
-use Rattle.apollo_tree.specs.Records.{records, open_record, open_records, built_records, open_places, Opened, Inward, read_record, read, turn, forest, built}
+use Rattle.document_grammar.specs.Builds.{Open, Building, open_text, built_text, front, back}
+use Rattle.apollo_tree.specs.Records.{records, open_record, open_records, built_records, Inward, read_record, read, turn, forest, built}
 
 pub length-records : (at : ℕ) (f : Forest) → length (records at f) ≡ count f
 length-records at none = refl

@@ -1,8 +1,9 @@
 -- The element that a reference refers to.
-use Rattle.std.specs.Prelude.{ℕ}
+use Rattle.std.specs.Prelude.{ℕ, List}
 use Rattle.apollo_tree.specs.declared.node.SyntaxNode.{SyntaxNode}
 use Rattle.apollo_tree.specs.declared.node.SyntaxToken.{SyntaxToken}
 use Rattle.apollo_tree.specs.declared.node.Table.{Table}
+use Rattle.apollo_tree.specs.declared.token_text.TokenText.{TokenText}
 use Rattle.document_grammar.specs.Forests.{Forest}
 use Rattle.apollo_tree.specs.Records.{forest}
 use Rattle.apollo_tree.specs.Order.{Place}
@@ -18,3 +19,7 @@ node_place n = table_place n.table n.index
 
 abbrev pub token_place : SyntaxToken → Place
 token_place n = table_place n.table n.index
+
+-- the text that a `TokenText` stands for
+abbrev pub token_text : TokenText → List ℕ
+token_text t = t.text.now

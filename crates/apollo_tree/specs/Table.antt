@@ -1,5 +1,5 @@
 -- The table that a reference reads: the records and the text of one sound tree. That it is one can be shown in one way.
-use Rattle.std.specs.Prelude.{◌≡◌, ℕ, List, Bool, true, false, get_or}
+use Rattle.std.specs.Prelude.{◌≡◌, ℕ, List, true, false, get_or}
 use Rattle.apollo_tree.specs.declared.record.Record.{Record}
 use Rattle.document_grammar.specs.declared.kind.SyntaxKind.TheVariants.{ERROR}
 use Rattle.apollo_tree.specs.Records.{forest}

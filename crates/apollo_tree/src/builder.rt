@@ -10,13 +10,17 @@ use document_grammar::SyntaxKind;
 use std::alloc::{AllocError, Allocator};
 use std::marker::Model;
 
-/// A place in what is being built, where a node can be opened later.
+/// A place between the elements of what is being built, where a node can be opened later: the number of elements before it.
 #[derive(Clone, Copy)]
 pub struct Checkpoint {
     pub place: usize,
 }
 
-/// Builds a tree from its leaves and the starts and ends of its nodes.
+/// Builds a tree from its leaves and the starts and ends of its nodes, called in document order.
+///
+/// Contracts see it as the trees that stand in the innermost open node, and the open nodes from there outward. Each call also says
+/// which brackets have been written: a start opens, a finish closes, and a wrap opens at the place of its checkpoint.
+/// A call that fails, which it does only where memory is refused, leaves what has been built as it was.
 #[derive(Drop)]
 pub struct TreeBuilder<A: Allocator> {
     records: Vec<Record, A>,
@@ -42,6 +46,7 @@ impl<A: Allocator> Model for TreeBuilder<A> {
 }
 
 impl<A: Allocator + Copy> TreeBuilder<A> {
+    /// A builder that has built nothing. It takes no memory yet.
     pub fn new(alloc: A) -> TreeBuilder<A>
         ensures { result ≡ nothing }
     {
@@ -52,7 +57,7 @@ impl<A: Allocator + Copy> TreeBuilder<A> {
         }
     }
 
-    /// Opens a node behind what has been built.
+    /// Opens a node behind what has been built. Its children are what is built until it is closed.
     pub fn start_node(&mut self, kind: SyntaxKind) -> Result<(), AllocError>
         ensures ok { OnOk result (self.new ≡ start kind self.old) }
         ensures calls { OnOk result (written self.new ≡ written self.old ++ Opening kind ∷ []) }
@@ -71,7 +76,7 @@ impl<A: Allocator + Copy> TreeBuilder<A> {
         }
     }
 
-    /// Opens a node at an earlier place of the innermost open node.
+    /// Opens a node at an earlier place of the innermost open node, round all that has been built in it since.
     pub fn wrap(&mut self, checkpoint: Checkpoint, kind: SyntaxKind) -> Result<(), AllocError>
         requires { IsPlace checkpoint.place self.old }
         ensures ok { OnOk result (self.new ≡ wrap checkpoint.place kind self.old) }
@@ -99,7 +104,7 @@ impl<A: Allocator + Copy> TreeBuilder<A> {
         Ok(())
     }
 
-    /// Adds a leaf behind what has been built.
+    /// Adds a leaf behind what has been built. The leaves' texts, joined, are the tree's text.
     pub fn token(&mut self, kind: SyntaxKind, text: &str) -> Result<(), AllocError>
         ensures ok { OnOk result (self.new ≡ add_leaf kind text.now self.old) }
         ensures calls { OnOk result (written self.new ≡ written self.old ++ Single kind text.now ∷ []) }
@@ -119,7 +124,9 @@ impl<A: Allocator + Copy> TreeBuilder<A> {
         Ok(())
     }
 
-    /// Closes the innermost open node.
+    /// Closes the innermost open node. It takes no memory and can't fail.
+    ///
+    /// A node of the kind NAME, INT_VALUE, STRING_VALUE or BOOLEAN_VALUE must hold one leaf, the one of its row, whose text is a token of its kind.
     pub fn finish_node(&mut self)
         requires { CanFinish self.old }
         ensures after { self.new ≡ finish self.old }
@@ -134,7 +141,7 @@ impl<A: Allocator + Copy> TreeBuilder<A> {
         };
     }
 
-    /// The tree, of which all nodes are closed.
+    /// The finished tree, once all nodes are closed and there is one root.
     pub fn finish(self) -> Subtree<A>
         requires { IsComplete self }
         ensures value { result ≡ self.here }

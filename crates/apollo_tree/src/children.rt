@@ -3,9 +3,10 @@ ghost use Rattle.apollo_tree.specs.Table.{IsSpan-prop};
 ghost use Rattle.apollo_tree.specs.Children.{IsSpan};
 
 use crate::node::{SyntaxNode, SyntaxToken, Table};
+use crate::range::TextRange;
 use document_grammar::SyntaxKind;
 
-/// A node or a leaf.
+/// A node or a leaf of a tree.
 #[derive(Clone, Copy)]
 pub enum SyntaxElement<'t> {
     Node(SyntaxNode<'t>),
@@ -17,10 +18,11 @@ impl<'t> SyntaxElement<'t> {
     ghost use Rattle.apollo_tree.specs.References.{node_place, token_place};
     ghost use Rattle.apollo_tree.specs.Children.{is_node_place};
     ghost use Rattle.apollo_tree.specs.Yields.{element_place};
-    ghost use Rattle.apollo_tree.specs.Order.{tree_at, tree_kind};
+    ghost use Rattle.apollo_tree.specs.Order.{kind_at, range_at};
 
+    /// The element's kind.
     pub fn kind(&self) -> SyntaxKind
-        ensures { result ≡ tree_kind (tree_at (element_place self.now)) }
+        ensures { result ≡ kind_at (element_place self.now) }
     {
         match self {
             SyntaxElement::Node(node) => node.kind(),
@@ -28,6 +30,17 @@ impl<'t> SyntaxElement<'t> {
         }
     }
 
+    /// Where its text stands in the text of the whole tree, in bytes.
+    pub fn text_range(&self) -> TextRange
+        ensures { result ≡ range_at (element_place self.now) }
+    {
+        match self {
+            SyntaxElement::Node(node) => node.text_range(),
+            SyntaxElement::Token(token) => token.text_range(),
+        }
+    }
+
+    /// The element where it is a node.
     pub fn into_node(self) -> Option<SyntaxNode<'t>>
         ensures { MatchOption result (is_node_place (element_place self.entry) ≡ false) (λ n. (is_node_place (element_place self.entry) ≡ true) × (node_place n ≡ element_place self.entry)) }
     {
@@ -37,6 +50,7 @@ impl<'t> SyntaxElement<'t> {
         }
     }
 
+    /// The element where it is a leaf.
     pub fn into_token(self) -> Option<SyntaxToken<'t>>
         ensures { MatchOption result (is_node_place (element_place self.entry) ≡ true) (λ t. (is_node_place (element_place self.entry) ≡ false) × (token_place t ≡ element_place self.entry)) }
     {
@@ -47,7 +61,7 @@ impl<'t> SyntaxElement<'t> {
     }
 }
 
-/// The children of a node, leaves too.
+/// The children of a node, leaves too, in document order. Each step is one step over a subtree's size, however large the subtree.
 #[derive(Clone, Copy)]
 pub struct SyntaxElementChildren<'t> {
     pub(crate) table: Table<'t>,
@@ -82,7 +96,7 @@ impl<'t> Iterator for SyntaxElementChildren<'t> {
     }
 }
 
-/// The child nodes of a node.
+/// The child nodes of a node, in document order.
 #[derive(Clone, Copy)]
 pub struct SyntaxNodeChildren<'t> {
     pub(crate) elements: SyntaxElementChildren<'t>,

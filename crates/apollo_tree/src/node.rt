@@ -2,18 +2,12 @@ ghost use Rattle.std.specs.Prelude.{◌≡◌, ℕ, ◌+◌, ◌<◌, ◌≤◌,
 ghost use Rattle.apollo_tree.specs.Table.{IsTable, IsTable-prop, IsNodeAt, IsLeafAt, none_there};
 
 use crate::children::{SyntaxElementChildren, SyntaxNodeChildren};
+use crate::range::TextRange;
 use crate::record::Record;
 use document_grammar::SyntaxKind;
 use std::alloc::{AllocError, Allocator};
 
-/// A range of bytes of a text.
-#[derive(Clone, Copy, PartialEq, Eq)]
-pub struct TextRange {
-    pub start: usize,
-    pub end: usize,
-}
-
-/// What a reference reads: a tree's records and its text.
+// What a reference reads: a tree's records and its text.
 #[derive(Clone, Copy)]
 pub struct Table<'t> {
     pub(crate) records: &'t [Record],
@@ -21,7 +15,9 @@ pub struct Table<'t> {
     ghost is_table: { IsTable records.now text.now } by { IsTable-prop records.now text.now },
 }
 
-/// A node of a tree.
+/// A node of a tree. It borrows from the tree and can be copied.
+///
+/// Contracts speak of its place in the tree's document order.
 #[derive(Clone, Copy)]
 pub struct SyntaxNode<'t> {
     pub(crate) table: Table<'t>,
@@ -30,7 +26,9 @@ pub struct SyntaxNode<'t> {
     ghost is_node: { IsNodeAt table.records.now index },
 }
 
-/// A leaf of a tree.
+/// A leaf of a tree. It borrows from the tree and can be copied.
+///
+/// Contracts speak of its place in the tree's document order.
 #[derive(Clone, Copy)]
 pub struct SyntaxToken<'t> {
     pub(crate) table: Table<'t>,
@@ -54,14 +52,13 @@ impl<'t> Table<'t> {
     ghost use Rattle.apollo_tree.specs.Children.{IsSpan};
     ghost use Rattle.document_grammar.specs.Forests.{count};
     ghost use Rattle.apollo_tree.specs.References.{table_place, node_place};
-    ghost use Rattle.apollo_tree.specs.Order.{element, tree_at, tree_kind, tree_text, tree_kids, is_node, parent_place};
+    ghost use Rattle.apollo_tree.specs.Order.{element, tree_at, kind_at, text_at, range_at, tree_kids, is_node, parent_place};
 
     pub(crate) fn record(self, index: usize) -> Record
         requires { index < length self.records.now }
-        ensures kind { result.kind ≡ tree_kind (tree_at (table_place self.entry index)) }
+        ensures kind { result.kind ≡ kind_at (table_place self.entry index) }
         ensures node { result.is_node ≡ is_node (tree_at (table_place self.entry index)) }
-        ensures start { result.start ≡ (element (table_place self.entry index)).start }
-        ensures end { result.end ≡ (element (table_place self.entry index)).start + length (tree_text (tree_at (table_place self.entry index))) }
+        ensures range { (result.start, result.end) ≡ range_at (table_place self.entry index) }
         ensures size { result.size ≡ suc (count (tree_kids (tree_at (table_place self.entry index)))) }
         ensures value { result ≡ get_or self.entry.records.now index none_there }
         ensures len { length self.entry.records.now ≤ usize.MAX }
@@ -69,7 +66,7 @@ impl<'t> Table<'t> {
         record_at(self.records, index)
     }
 
-    /// Where the tree ends that stands at a place of a span.
+    // Where the tree ends that stands at a place of a span.
     pub(crate) fn after(self, from: usize, to: usize) -> usize
         requires span { IsSpan self.records.now from to }
         requires some { from < to }
@@ -81,14 +78,14 @@ impl<'t> Table<'t> {
         from + record_at(self.records, from).size
     }
 
-    /// Where the table ends.
+    // Where the table ends.
     pub(crate) fn end(self) -> usize
         ensures { IsSpan self.entry.records.now 0 result }
     {
         self.records.len()
     }
 
-    /// The nearest node before an element that reaches beyond it.
+    // The nearest node before an element that reaches beyond it.
     pub(crate) fn parent(self, index: usize) -> Option<SyntaxNode<'t>>
         requires { index < length self.records.now }
         ensures { option_map node_place result ≡ parent_place (table_place self.entry index) }
@@ -109,19 +106,15 @@ impl<'t> Table<'t> {
 
     pub(crate) fn range(self, index: usize) -> TextRange
         requires { index < length self.records.now }
-        ensures start { result.start ≡ (element (table_place self.entry index)).start }
-        ensures end { result.end ≡ (element (table_place self.entry index)).start + length (tree_text (tree_at (table_place self.entry index))) }
+        ensures { result ≡ range_at (table_place self.entry index) }
     {
         let record = self.record(index);
-        TextRange {
-            start: record.start,
-            end: record.end,
-        }
+        TextRange::new(record.start, record.end)
     }
 
     pub(crate) fn slice(self, index: usize) -> &'t str
         requires { index < length self.records.now }
-        ensures text { result.now ≡ tree_text (tree_at (table_place self.entry index)) }
+        ensures text { result.now ≡ text_at (table_place self.entry index) }
         ensures sound { ∥ IsSoundTree (tree_at (table_place self.entry index)) ∥₁ }
     {
         let record = self.record(index);
@@ -134,42 +127,48 @@ impl<'t> SyntaxNode<'t> {
     ghost use Rattle.apollo_tree.specs.Children.{child_places, child_nodes};
     ghost use Rattle.apollo_tree.specs.Yields.{rest_places, rest_nodes};
     ghost use Rattle.apollo_tree.specs.Sound.{IsSoundTree};
-    ghost use Rattle.apollo_tree.specs.Order.{element, tree_at, tree_kind, tree_text, is_node, parent_place};
+    ghost use Rattle.apollo_tree.specs.Order.{tree_at, kind_at, text_at, range_at, is_node, parent_place};
 
+    /// The node's kind.
     pub fn kind(&self) -> SyntaxKind
-        ensures { result ≡ tree_kind (tree_at (node_place self.now)) }
+        ensures { result ≡ kind_at (node_place self.now) }
     {
         self.table.record(self.index).kind
     }
 
+    /// The node that it is a child of; `None` for the root.
     pub fn parent(&self) -> Option<SyntaxNode<'t>>
         ensures { option_map node_place result ≡ parent_place (node_place self.now) }
     {
         self.table.parent(self.index)
     }
 
+    /// Where its text stands in the text of the whole tree, in bytes.
     pub fn text_range(&self) -> TextRange
-        ensures start { result.start ≡ (element (node_place self.now)).start }
-        ensures end { result.end ≡ (element (node_place self.now)).start + length (tree_text (tree_at (node_place self.now))) }
+        ensures { result ≡ range_at (node_place self.now) }
     {
         self.table.range(self.index)
     }
 
+    /// Its text, which is that of all leaves below it.
+    ///
+    /// A node of the kind NAME, INT_VALUE, STRING_VALUE or BOOLEAN_VALUE is one leaf, so this is that leaf's text.
     pub fn text(&self) -> &'t str
-        ensures text { result.now ≡ tree_text (tree_at (node_place self.now)) }
+        ensures text { result.now ≡ text_at (node_place self.now) }
         ensures sound { ∥ IsSoundTree (tree_at (node_place self.now)) ∥₁ }
         ensures node { is_node (tree_at (node_place self.now)) ≡ true }
     {
         self.table.slice(self.index)
     }
 
-    /// The text in memory of its own.
+    /// Its text in memory of its own. Fails only where memory is refused.
     pub fn source_string<A: Allocator>(&self, alloc: A) -> Result<String<A>, AllocError>
-        ensures { IfOk result (λ s. string_bytes s ≡ tree_text (tree_at (node_place self.now))) }
+        ensures { IfOk result (λ s. string_bytes s ≡ text_at (node_place self.now)) }
     {
         String::from_str(alloc, self.text())
     }
 
+    /// Its children, leaves too, in document order.
     pub fn children_with_tokens(&self) -> SyntaxElementChildren<'t>
         ensures { rest_places result ≡ child_places (node_place self.now) }
     {
@@ -181,6 +180,7 @@ impl<'t> SyntaxNode<'t> {
         }
     }
 
+    /// Its child nodes, in document order.
     pub fn children(&self) -> SyntaxNodeChildren<'t>
         ensures { rest_nodes result ≡ child_nodes (node_place self.now) }
     {
@@ -192,50 +192,33 @@ impl<'t> SyntaxNode<'t> {
 
 impl<'t> SyntaxToken<'t> {
     ghost use Rattle.apollo_tree.specs.References.{token_place, node_place};
-    ghost use Rattle.apollo_tree.specs.Order.{element, tree_at, tree_kind, tree_text, parent_place};
+    ghost use Rattle.apollo_tree.specs.Order.{kind_at, text_at, range_at, parent_place};
 
+    /// The leaf's kind.
     pub fn kind(&self) -> SyntaxKind
-        ensures { result ≡ tree_kind (tree_at (token_place self.now)) }
+        ensures { result ≡ kind_at (token_place self.now) }
     {
         self.table.record(self.index).kind
     }
 
+    /// The node that it is a child of.
     pub fn parent(&self) -> Option<SyntaxNode<'t>>
         ensures { option_map node_place result ≡ parent_place (token_place self.now) }
     {
         self.table.parent(self.index)
     }
 
+    /// Where its text stands in the text of the whole tree, in bytes.
     pub fn text_range(&self) -> TextRange
-        ensures start { result.start ≡ (element (token_place self.now)).start }
-        ensures end { result.end ≡ (element (token_place self.now)).start + length (tree_text (tree_at (token_place self.now))) }
+        ensures { result ≡ range_at (token_place self.now) }
     {
         self.table.range(self.index)
     }
 
+    /// Its text.
     pub fn text(&self) -> &'t str
-        ensures { result.now ≡ tree_text (tree_at (token_place self.now)) }
+        ensures { result.now ≡ text_at (token_place self.now) }
     {
         self.table.slice(self.index)
-    }
-}
-
-/// The text of a leaf, or of a node that is one leaf.
-#[derive(Clone, Copy, PartialEq, Eq, PartialOrd, Ord)]
-pub struct TokenText<'t> {
-    text: &'t str,
-}
-
-impl<'t> TokenText<'t> {
-    pub fn new(text: &'t str) -> TokenText<'t>
-        ensures { result.text.now ≡ text.now }
-    {
-        TokenText { text }
-    }
-
-    pub fn as_str(&self) -> &'t str
-        ensures { result.now ≡ self.now.text.now }
-    {
-        self.text
     }
 }

@@ -1,18 +1,10 @@
 ghost use Rattle.std.specs.Prelude.{◌≡◌, ℕ, ◌+◌, ◌≤◌, length};
 ghost use Rattle.apollo_tree.specs.Children.{IsSpan};
 
-use crate::node::{Table, TextRange};
+use crate::node::Table;
 use crate::subtree::Subtree;
 use std::alloc::Allocator;
 use std::fmt;
-
-impl fmt::Debug for TextRange {
-    fn fmt<W: fmt::Write>(&self, f: &mut fmt::Formatter<W>) -> fmt::Result {
-        let start = self.start;
-        let end = self.end;
-        write!(f, "{start}..{end}")
-    }
-}
 
 // One line for each element of a span, four spaces a level.
 pub(crate) fn write_elements<W: fmt::Write>(
@@ -47,6 +39,8 @@ pub(crate) fn write_elements<W: fmt::Write>(
     Ok(())
 }
 
+/// The printed form of the tree: one line for each element in document order, four spaces a level, as
+/// `- FIELD@1..2` for a node and `- IDENT@1..2 "a"` for a leaf. Each line ends in LF.
 impl<A: Allocator> fmt::Debug for Subtree<A> {
     fn fmt<W: fmt::Write>(&self, f: &mut fmt::Formatter<W>) -> fmt::Result {
         let table = self.root().table;

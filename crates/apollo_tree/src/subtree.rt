@@ -3,7 +3,9 @@ use crate::record::Record;
 use std::alloc::{AllocError, Allocator};
 use std::marker::Model;
 
-/// A tree that owns its table and its text.
+/// A tree that owns its elements and its text. Its ranges count from 0.
+///
+/// Contracts see it as a list of one tree, whose root is a node.
 #[derive(Drop)]
 pub struct Subtree<A: Allocator> {
     pub(crate) records: Vec<Record, A>,
@@ -32,7 +34,7 @@ impl<A: Allocator> Subtree<A> {
     ghost use Rattle.apollo_tree.specs.References.{node_place};
     ghost use Rattle.document_grammar.specs.Forests.{count};
 
-    /// The root, which is the first element.
+    /// The root, which is the first element in document order.
     pub fn root(&self) -> SyntaxNode<'_>
         ensures { node_place result ≡ record { whole = self.now; index = 0 } }
     {
@@ -43,7 +45,7 @@ impl<A: Allocator> Subtree<A> {
         SyntaxNode { table, index: 0 }
     }
 
-    /// How many elements there are.
+    /// How many elements there are, nodes and leaves.
     pub fn element_count(&self) -> usize
         ensures { result ≡ count self.now }
     {
@@ -54,7 +56,7 @@ impl<A: Allocator> Subtree<A> {
 impl<A: Allocator + Copy> Subtree<A> {
     ghost use Rattle.std.specs.Prelude.{◌≡◌, IfOk};
 
-    /// The same tree, in memory of its own.
+    /// The same tree, in memory of its own. Fails only where memory is refused.
     pub fn try_clone(&self, alloc: A) -> Result<Subtree<A>, AllocError>
         ensures { IfOk result (λ t. t ≡ self.now) }
     {

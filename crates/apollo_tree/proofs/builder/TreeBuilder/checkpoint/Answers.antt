@@ -1,5 +1,4 @@
 use Rattle.std.proofs.Common.{◌≡◌, ◌∙◌, length, arith}
-use Rattle.document_grammar.specs.Builds.{IsPlace, built_count}
 use Rattle.apollo_tree.proofs.Steps.{holds, count_is, place_end}
 use Rattle.apollo_tree.proofs.builder.TreeBuilder.checkpoint.Goals as goal
 

@@ -1,4 +1,4 @@
-use Rattle.std.proofs.Common.{◌≡◌, ◌+◌, ◌-◌, List, [], ◌∷◌, ◌++◌, length, ◌∙◌, ap, sym, refl, arith}
+use Rattle.std.proofs.Common.{◌≡◌, ◌+◌, ◌-◌, [], ◌∷◌, ◌++◌, length, ◌∙◌, ap, refl, arith}
 use Rattle.document_grammar.specs.Forests.{text}
 use Rattle.document_grammar.specs.Builds.{open_count, open_text, front}
 use Rattle.apollo_tree.proofs.Steps.{holds, kept, built_is, wrap_table, moved, place_le, count_is, start_at, end_at, sound-front, sound-back}
