@@ -1,43 +1,124 @@
-// An error that owns its texts.
-ghost use Rattle.std.specs.Prelude.{◌≡◌, IfOk, IsTrue, codes, string_bytes, IsAscii};
-ghost use Rattle.apollo_lexer.specs.Messages.{message_of};
+// Errors of the lexer and the parser, which own their texts.
+ghost use Rattle.std.specs.Prelude.{◌≡◌, ◌+◌, ◌<◌, ◌^◌, IfOk, string_bytes, string_len};
+ghost use Rattle.apollo_lexer.specs.Diagnostics.{of_text, of_end, of_limit, subject_text, is_end_subject, is_limit_subject};
 
-use crate::token::LexError;
-use std::alloc::{AllocError, Global};
+use std::alloc::{AllocError, Allocator};
+use std::marker::Model;
 
+// What an error is about.
 #[derive(Drop)]
-pub struct Error {
-    pub message: String,
-    pub data_text: String,
-    pub index: usize,
-    pub is_limit: bool,
+enum ErrorData<A: Allocator> {
+    Text(String<A>),
+    Eof,
+    LimitExceeded,
 }
 
-impl<'a> LexError<'a> {
-    fn message(&self, alloc: Global) -> Result<String, AllocError>
-        ensures { IfOk result (λ m. string_bytes m ≡ message_of self.now.is_limit self.now.text.now) }
+/// What is wrong, and where: a message, the text of the source that it is about, and the byte where that begins. In place of a text an
+/// error may be about the end of the source, or about a limit that was met.
+#[derive(Drop)]
+pub struct Error<A: Allocator> {
+    message: String<A>,
+    subject: ErrorData<A>,
+    index: usize,
+}
+
+impl<A: Allocator> Model for Error<A> {
+    ghost use Rattle.std.specs.Prelude.{◌+◌, ◌<◌, ◌^◌, length, string_bytes};
+    ghost use Rattle.apollo_lexer.specs.Diagnostics.{Diagnostic, subject_text};
+
+    ghost Value = { Diagnostic };
+
+    ghost use Rattle.apollo_lexer.specs.Subjects.{subject_of};
+
+    ghost view = { λ e. record { message = string_bytes e.message; subject = subject_of e.subject; index = e.index } };
+
+    ghost invariant = { λ e. e.index + length (subject_text (subject_of e.subject)) < 2 ^ 64 };
+}
+
+impl<A: Allocator> Error<A> {
+    /// An error about a text of the source, at its index.
+    pub fn with_loc(message: String<A>, text: String<A>, index: usize) -> Self
+        requires { index + string_len text < 2 ^ 64 }
+        ensures { result ≡ record { message = string_bytes message; subject = of_text (string_bytes text); index = index } }
     {
-        let text = self.text;
-        if self.is_limit {
-            String::from_str(alloc, "token limit reached, aborting lexing")
-        } else {
-            format!(in alloc; "Unexpected character \"{text}\"")
+        Error {
+            message,
+            subject: ErrorData::Text(text),
+            index,
         }
     }
 
-    /// The error, with texts of its own.
-    pub fn to_error(&self, alloc: Global) -> Result<Error, AllocError>
-        ensures data_text { IfOk result (λ e. string_bytes e.data_text ≡ self.now.text.now) }
-        ensures index { IfOk result (λ e. e.index ≡ self.now.index) }
-        ensures is_limit { IfOk result (λ e. e.is_limit ≡ self.now.is_limit) }
-        ensures limit { IfOk result (λ e. IsTrue self.now.is_limit → string_bytes e.message ≡ codes "token limit reached, aborting lexing") }
-        ensures ascii { IfOk result (λ e. IsAscii self.now.text.now → IsAscii (string_bytes e.message)) }
+    /// An error about a limit.
+    pub fn limit(message: String<A>, index: usize) -> Self
+        ensures { result ≡ record { message = string_bytes message; subject = of_limit; index = index } }
     {
+        Error {
+            message,
+            subject: ErrorData::LimitExceeded,
+            index,
+        }
+    }
+
+    /// An error about the end of the source.
+    pub fn eof(message: String<A>, index: usize) -> Self
+        ensures { result ≡ record { message = string_bytes message; subject = of_end; index = index } }
+    {
+        Error {
+            message,
+            subject: ErrorData::Eof,
+            index,
+        }
+    }
+
+    /// The text that it is about, which is empty for a limit and for the end.
+    pub fn data(&self) -> &str
+        ensures { result.now ≡ subject_text self.now.subject }
+    {
+        match &self.subject {
+            ErrorData::Text(text) => text.as_str(),
+            _ => "",
+        }
+    }
+
+    pub fn is_limit(&self) -> bool
+        ensures { result ≡ is_limit_subject self.now.subject }
+    {
+        matches!(&self.subject, ErrorData::LimitExceeded)
+    }
+
+    pub fn is_eof(&self) -> bool
+        ensures { result ≡ is_end_subject self.now.subject }
+    {
+        matches!(&self.subject, ErrorData::Eof)
+    }
+
+    /// The byte of the source where it begins.
+    pub fn index(&self) -> usize
+        ensures { result ≡ self.now.index }
+    {
+        self.index
+    }
+
+    pub fn message(&self) -> &str
+        ensures { result.now ≡ self.now.message }
+    {
+        self.message.as_str()
+    }
+
+    /// A clone with texts of its own.
+    pub fn try_clone<B: Allocator + Copy>(&self, alloc: B) -> Result<Error<B>, AllocError>
+        ensures { IfOk result (λ e. e ≡ self.now) }
+    {
+        let subject = match &self.subject {
+            ErrorData::Text(text) => ErrorData::Text(String::from_str(alloc, text.as_str())?),
+            ErrorData::Eof => ErrorData::Eof,
+            ErrorData::LimitExceeded => ErrorData::LimitExceeded,
+        };
+        let message = String::from_str(alloc, self.message.as_str())?;
         Ok(Error {
-            message: self.message(alloc)?,
-            data_text: String::from_str(alloc, self.text)?,
+            message,
+            subject,
             index: self.index,
-            is_limit: self.is_limit,
         })
     }
 }

@@ -1,13 +1,16 @@
 // Cuts a text into its items.
 ghost use Rattle.std.specs.Prelude.{◌≡◌, ◌+◌, ◌-◌, ◌≤◌, ◌<◌, ◌^◌, cond, length, false};
 
+use crate::error::Error;
 use crate::limit::LimitTracker;
 use crate::scan::cut;
 use crate::token::{LexError, Token};
 use lexical_grammar::TokenKind;
-use std::alloc::{AllocError, Global};
+use std::alloc::{AllocError, Allocator};
 
-#[derive(Clone, Copy, Drop)]
+/// Cuts a text into its items: tokens, bad text, and the end. It is an iterator of them that takes no memory. Where more items are
+/// there than the token limit allows, it gives an error in place of the next one. After the end or that error it gives nothing more.
+#[derive(Clone, Copy)]
 pub struct Lexer<'a> {
     rest: &'a str,
     index: usize,
@@ -24,6 +27,7 @@ impl<'a> Lexer<'a> {
     ghost use Rattle.apollo_lexer.specs.Answers.{answers_left, left_unless};
     ghost use Rattle.lexical_grammar.specs.Answers.{limited};
 
+    /// A lexer of the text, which has no limit.
     #[tactic(auto, unfolding(crate::specs::Answers::answers_left))]
     pub fn new(input: &'a str) -> Self
         ensures answers { answers_left result ≡ limited (2 ^ 64 - 1) (items_from 0 0 input.now) }
@@ -39,7 +43,7 @@ impl<'a> Lexer<'a> {
         }
     }
 
-    /// Sets the limit, which counts from the next item on.
+    /// Sets the token limit: the number of items, the end among them, that are given from here on.
     #[tactic(auto, unfolding(crate::specs::Answers::answers_left))]
     pub fn with_limit(self, limit: usize) -> Self
         ensures { answers_left result ≡ left_unless self.entry.is_finished limit (items_from self.entry.index 0 self.entry.rest.now) }
@@ -63,31 +67,27 @@ impl<'a> Lexer<'a> {
 }
 
 impl<'a> Lexer<'a> {
-    ghost use Rattle.std.specs.Prelude.{IfOk, map, filter, not, Ok, Err};
-    ghost use Rattle.apollo_lexer.specs.Answers.{answers_left, answer_of};
+    ghost use Rattle.std.specs.Prelude.{IfOk, map, filter, not, Ok};
+    ghost use Rattle.apollo_lexer.specs.Answers.{answers_left, answer_of, diagnostic_answer};
     ghost use Rattle.lexical_grammar.specs.Answers.{is_token};
 
     /// The tokens and the errors that are left, each in order.
-    pub fn lex(self, alloc: Global) -> Result<(Vec<Token<'a>>, Vec<LexError<'a>>), AllocError>
+    pub fn lex<A: Allocator + Copy>(
+        self,
+        alloc: A,
+    ) -> Result<(Vec<Token<'a>, A>, Vec<Error<A>, A>), AllocError>
         ensures tokens { IfOk result (λ lists. map (λ token. answer_of (Ok token)) lists.0.items ≡ filter is_token (answers_left self.entry)) }
-        ensures errors { IfOk result (λ lists. map (λ error. answer_of (Err error)) lists.1.items ≡ filter (λ answer. not (is_token answer)) (answers_left self.entry)) }
+        ensures errors { IfOk result (λ lists. map diagnostic_answer lists.1.items ≡ filter (λ answer. not (is_token answer)) (answers_left self.entry)) }
     {
         let mut tokens = Vec::new(alloc);
         let mut errors = Vec::new(alloc);
         for item in self {
             match item {
                 Ok(token) => tokens.push(token)?,
-                Err(error) => errors.push(error)?,
+                Err(error) => errors.push(error.to_error(alloc)?)?,
             }
         }
         Ok((tokens, errors))
-    }
-
-    /// A clone is a copy: it is had without memory, and answers what the lexer that it was made of answers.
-    pub fn clone_of(&self) -> Result<Self, AllocError>
-        ensures { result ≡ Ok self.now }
-    {
-        self.clone()
     }
 }
 
