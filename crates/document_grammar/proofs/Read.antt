@@ -1,9 +1,9 @@
 -- A derivation is shown by a tree of the tables.
-use Rattle.std.proofs.Common.{◌≡◌, ◌≢◌, ℕ, zero, suc, ◌+◌, ◌<◌, Bool, true, false, cond, not, eqb, ltb, List, [], ◌∷◌, ◌++◌, get_or, refl, sym, ap, ap₂, ◌∙◌, subst, ◌⊎◌, inl, inr, true≢false, arith, eqb-true, append-nil, lt-ltb, ltb-true, ltb-false, ◌≤◌}
+use Rattle.std.proofs.Common.{◌≡◌, ◌≢◌, ℕ, zero, suc, ◌+◌, ◌<◌, Bool, true, false, cond, not, eqb, ltb, List, [], ◌∷◌, ◌++◌, get_or, refl, sym, ap, ap₂, ◌∙◌, subst, ◌⊎◌, inl, inr, true≢false, arith, eqb-true, append-nil, ltb-true, ltb-false, ◌≤◌}
 use Rattle.std.proofs.lemmas.Bool.{eqb-false}
 use Rattle.document_grammar.specs.Tree.{Text, Tree, leaf, node, Forest, none, ◌▸◌, root}
 use Rattle.document_grammar.specs.Pattern.{Pattern, any_of, one, member, Matches}
-use Rattle.document_grammar.specs.Rows.{Row, keyword_operation, bare_selections}
+use Rattle.document_grammar.specs.Rows.{Row, row_in, children, keyword_operation, bare_selections}
 use Rattle.document_grammar.specs.Kinds.{Types, words, DOCUMENT, OPERATION_DEFINITION, SELECTION_SET, NAME, FRAGMENT_NAME, DIRECTIVES, VARIABLE, DEFAULT_VALUE, ENUM_VALUE, NAMED_TYPE, LIST_TYPE, NON_NULL_TYPE, OBJECT_TYPE_DEFINITION, INTERFACE_TYPE_DEFINITION, ENUM_TYPE_DEFINITION, INPUT_OBJECT_TYPE_DEFINITION, OBJECT_TYPE_EXTENSION, INTERFACE_TYPE_EXTENSION, ENUM_TYPE_EXTENSION, INPUT_OBJECT_TYPE_EXTENSION}
 use Rattle.document_grammar.specs.Table.{State, rows, firsts, name_leaves, token_kinds, endings, spellings}
 use Rattle.document_grammar.specs.Labels.{paths, labels}
@@ -360,9 +360,24 @@ label-node k h l = ltb-true _ _ (rw l at (number-at 131 k h numbers-checked))
 label-leaf : (k : ℕ) → k < 131 → is_leaf k ≡ true → label k < 60
 label-leaf k h l = ltb-true _ _ (rw l at (number-at 131 k h numbers-checked))
 
+abbrev all_nodes : List (ℕ × Pattern) → Bool
+all_nodes [] = true
+all_nodes (row ∷ more) = ltb 59 row.0 and all_nodes more
+
+no-row-in : (l : List (ℕ × Pattern)) (j : ℕ) → j < 60 → all_nodes l ≡ true → row_in l j ≡ any_of []
+no-row-in [] j h c = refl
+no-row-in (row ∷ more) j h c = elim (either (eqb row.0 j)) [
+  | inl p ↦ (let e : row.0 ≡ j = eqb-true row.0 j p in let l : 59 < row.0 = ltb-true 59 row.0 (and-l _ _ c) in absurd (omega arith))
+  | inr p ↦ rw p (no-row-in more j h (and-r _ _ c))
+]
+
+children-nodes : all_nodes children ≡ true
+unfolding ◌and◌
+children-nodes = refl
+
 no-row : {A : Type 0} (j : ℕ) (w : List ℕ) → j < 60 → Matches (Row j) w → A
 unfolding Row member
-no-row j w h m = let e : ltb j 60 ≡ true = lt-ltb _ _ h in let m' : Matches (any_of []) w = rw e at m in absurd (true≢false (sym m'.1))
+no-row j w h m = let m' : Matches (any_of []) w = subst (λ (p : Pattern). Matches p w) (no-row-in children j h children-nodes) m in absurd (true≢false (sym m'.1))
 
 -- The row of a symbol, from the row of its kind.
 member-one : (k j : ℕ) → member k (j ∷ []) ≡ true → k ≡ j

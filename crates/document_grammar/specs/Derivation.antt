@@ -1,10 +1,12 @@
--- Derivations: trees whose nodes fit their rows, with the rules on leaves, names, constants and braces; and the nesting of a tree.
-use Rattle.std.specs.Prelude.{◌≡◌, ◌≢◌, ℕ, ◌+◌, ◌<◌, ◌≤◌, max, cond, ltb, List, [], ◌∷◌, ◌++◌, ◌⊎◌, IsTrue, IsFalse}
+-- Derivations: trees whose nodes fit their rows and that keep four rules, on leaves, names, constants and braces (GraphQL October 2021,
+-- section 2.2, "Document", and the sections that `Rows` names). Then the nesting of a tree, and which tokens start a sentence.
+use Rattle.std.specs.Prelude.{◌≡◌, ◌≢◌, ℕ, ◌+◌, ◌<◌, ◌≤◌, max, cond, List, [], ◌∷◌, ◌++◌, ◌⊎◌, IsTrue, IsFalse}
 use Rattle.document_grammar.specs.Tree.{Text, Token, Tree, leaf, node, Forest, none, ◌▸◌, root}
 use Rattle.document_grammar.specs.Pattern.{Pattern, Matches, member}
 use Rattle.document_grammar.specs.Rows.{Row, FirstRow, bare_selections}
-use Rattle.document_grammar.specs.Kinds.{DOCUMENT, OPERATION_DEFINITION, SELECTION_SET, FRAGMENT_NAME, ENUM_VALUE, VARIABLE, DEFAULT_VALUE, DIRECTIVES, L_CURLY, ERROR, IDENT, STRING, Types, VARIABLE_DEFINITION, SCHEMA_DEFINITION, SCALAR_TYPE_DEFINITION, OBJECT_TYPE_DEFINITION, FIELD_DEFINITION, INPUT_VALUE_DEFINITION, INTERFACE_TYPE_DEFINITION, UNION_TYPE_DEFINITION, ENUM_TYPE_DEFINITION, ENUM_VALUE_DEFINITION, INPUT_OBJECT_TYPE_DEFINITION, SCHEMA_EXTENSION, SCALAR_TYPE_EXTENSION, OBJECT_TYPE_EXTENSION, INTERFACE_TYPE_EXTENSION, UNION_TYPE_EXTENSION, ENUM_TYPE_EXTENSION, INPUT_OBJECT_TYPE_EXTENSION, FIELDS_DEFINITION, ENUM_VALUES_DEFINITION, INPUT_FIELDS_DEFINITION, LIST_TYPE, LIST_VALUE, OBJECT_FIELD, Values, words}
+use Rattle.document_grammar.specs.Kinds.{DOCUMENT, OPERATION_DEFINITION, SELECTION_SET, FRAGMENT_NAME, ENUM_VALUE, VARIABLE, DEFAULT_VALUE, DIRECTIVES, L_CURLY, IDENT, STRING, Types, VARIABLE_DEFINITION, SCHEMA_DEFINITION, SCALAR_TYPE_DEFINITION, OBJECT_TYPE_DEFINITION, FIELD_DEFINITION, INPUT_VALUE_DEFINITION, INTERFACE_TYPE_DEFINITION, UNION_TYPE_DEFINITION, ENUM_TYPE_DEFINITION, ENUM_VALUE_DEFINITION, INPUT_OBJECT_TYPE_DEFINITION, SCHEMA_EXTENSION, SCALAR_TYPE_EXTENSION, OBJECT_TYPE_EXTENSION, INTERFACE_TYPE_EXTENSION, UNION_TYPE_EXTENSION, ENUM_TYPE_EXTENSION, INPUT_OBJECT_TYPE_EXTENSION, FIELDS_DEFINITION, ENUM_VALUES_DEFINITION, INPUT_FIELDS_DEFINITION, LIST_TYPE, LIST_VALUE, OBJECT_FIELD, Values, words, is_ignored, is_keyword}
 
+-- The kinds of the trees of a list.
 abbrev pub kinds : Forest → List ℕ
 kinds none = []
 kinds (t ▸ f) = root t ∷ kinds f
@@ -19,24 +21,27 @@ abbrev mutual
   texts none = []
   texts (t ▸ f) = text t ++ texts f
 
--- The token that a leaf spells, its kind and text; a keyword's leaf spells a Name. Ignored leaves spell none.
+-- The token that a leaf spells, its kind and text: a keyword's leaf spells a Name, as IDENT does.
 abbrev pub spelled : ℕ → Text → Token
-spelled k x = (cond (ltb STRING k) IDENT k, x)
+spelled k x = (cond (is_keyword k) IDENT k, x)
 
+-- The tokens that the leaves spell, in order; ignored leaves spell none.
 abbrev mutual
   pub Yield : Tree → List Token
-  Yield (leaf k x) = cond (ltb k ERROR) [] (spelled k x ∷ [])
+  Yield (leaf k x) = cond (is_ignored k) [] (spelled k x ∷ [])
   Yield (node k f) = Yields f
 
   pub Yields : Forest → List Token
   Yields none = []
   Yields (t ▸ f) = Yield t ++ Yields f
 
--- A keyword leaf has its word as text.
+-- The text stands beside the kind in a list.
 abbrev pub Listed : List (ℕ × Text) → ℕ → Text → Type 0
 Listed [] k x = ⊥
 Listed (w ∷ more) k x = ((w.0 ≡ k) × (w.1 ≡ x)) ⊎ Listed more k x
 
+-- Leaf rule: the leaf of a keyword has its word as text. The kinds behind STRING are those of keywords, and then those of nodes, which
+-- have no word, so no leaf has one. That other leaves have texts of their token kinds, is asked where the leaves are a text's tokens.
 abbrev pub LeafRule : ℕ → Text → Type 0
 LeafRule k x = STRING < k → Listed words k x
 
@@ -53,9 +58,13 @@ false_text = 102 ∷ 97 ∷ 108 ∷ 115 ∷ 101 ∷ []
 abbrev pub null_text : Text
 null_text = 110 ∷ 117 ∷ 108 ∷ 108 ∷ []
 
+-- Name rule: the name of a fragment is not `on` (section 2.8), and an enum value is not `true`, `false` or `null` (section 2.9.6).
 abbrev pub NameRule : ℕ → Forest → Type 0
-NameRule k f = (k ≡ FRAGMENT_NAME → texts f ≢ on_text) × (k ≡ ENUM_VALUE → (texts f ≢ true_text) × (texts f ≢ false_text) × (texts f ≢ null_text))
+NameRule k f =
+    (k ≡ FRAGMENT_NAME → texts f ≢ on_text)
+    × (k ≡ ENUM_VALUE → (texts f ≢ true_text) × (texts f ≢ false_text) × (texts f ≢ null_text))
 
+-- No VARIABLE is in the tree.
 abbrev mutual
   pub NoVariable : Tree → Type 0
   NoVariable (leaf k x) = Unit {0}
@@ -67,27 +76,61 @@ abbrev mutual
 
 -- The kinds whose DIRECTIVES are constant.
 abbrev pub Marked : List ℕ
-Marked = VARIABLE_DEFINITION ∷ SCHEMA_DEFINITION ∷ SCALAR_TYPE_DEFINITION ∷ OBJECT_TYPE_DEFINITION ∷ FIELD_DEFINITION ∷ INPUT_VALUE_DEFINITION ∷ INTERFACE_TYPE_DEFINITION ∷ UNION_TYPE_DEFINITION ∷ ENUM_TYPE_DEFINITION ∷ ENUM_VALUE_DEFINITION ∷ INPUT_OBJECT_TYPE_DEFINITION ∷ SCHEMA_EXTENSION ∷ SCALAR_TYPE_EXTENSION ∷ OBJECT_TYPE_EXTENSION ∷ INTERFACE_TYPE_EXTENSION ∷ UNION_TYPE_EXTENSION ∷ ENUM_TYPE_EXTENSION ∷ INPUT_OBJECT_TYPE_EXTENSION ∷ []
+Marked =
+    VARIABLE_DEFINITION
+    ∷ SCHEMA_DEFINITION
+    ∷ SCALAR_TYPE_DEFINITION
+    ∷ OBJECT_TYPE_DEFINITION
+    ∷ FIELD_DEFINITION
+    ∷ INPUT_VALUE_DEFINITION
+    ∷ INTERFACE_TYPE_DEFINITION
+    ∷ UNION_TYPE_DEFINITION
+    ∷ ENUM_TYPE_DEFINITION
+    ∷ ENUM_VALUE_DEFINITION
+    ∷ INPUT_OBJECT_TYPE_DEFINITION
+    ∷ SCHEMA_EXTENSION
+    ∷ SCALAR_TYPE_EXTENSION
+    ∷ OBJECT_TYPE_EXTENSION
+    ∷ INTERFACE_TYPE_EXTENSION
+    ∷ UNION_TYPE_EXTENSION
+    ∷ ENUM_TYPE_EXTENSION
+    ∷ INPUT_OBJECT_TYPE_EXTENSION
+    ∷ []
 
 abbrev pub ConstantDirectives : Forest → Type 0
 ConstantDirectives none = Unit {0}
 ConstantDirectives (t ▸ f) = (root t ≡ DIRECTIVES → NoVariable t) × ConstantDirectives f
 
+-- Constant rule: no VARIABLE stands below a DEFAULT_VALUE or below constant DIRECTIVES (`Const` in the standard's grammar, section 2.9).
 abbrev pub ConstantRule : ℕ → Forest → Type 0
 ConstantRule k f = (k ≡ DEFAULT_VALUE → NoVariables f) × (IsTrue (member k Marked) → ConstantDirectives f)
 
--- A definition that may have a block in braces and has none is not followed by a selection set.
+-- The kinds of definitions that may have a block in braces, but the definition of a schema, which always has it.
 abbrev pub Braced : List ℕ
-Braced = OBJECT_TYPE_DEFINITION ∷ INTERFACE_TYPE_DEFINITION ∷ ENUM_TYPE_DEFINITION ∷ INPUT_OBJECT_TYPE_DEFINITION ∷ SCHEMA_EXTENSION ∷ OBJECT_TYPE_EXTENSION ∷ INTERFACE_TYPE_EXTENSION ∷ ENUM_TYPE_EXTENSION ∷ INPUT_OBJECT_TYPE_EXTENSION ∷ []
+Braced =
+    OBJECT_TYPE_DEFINITION
+    ∷ INTERFACE_TYPE_DEFINITION
+    ∷ ENUM_TYPE_DEFINITION
+    ∷ INPUT_OBJECT_TYPE_DEFINITION
+    ∷ SCHEMA_EXTENSION
+    ∷ OBJECT_TYPE_EXTENSION
+    ∷ INTERFACE_TYPE_EXTENSION
+    ∷ ENUM_TYPE_EXTENSION
+    ∷ INPUT_OBJECT_TYPE_EXTENSION
+    ∷ []
 
+-- No child is a block in braces, or the brace of one: that of a schema's extension is no node of its own.
 abbrev pub NoBlock : Forest → Type 0
 NoBlock none = Unit {0}
-NoBlock (t ▸ f) = IsFalse (member (root t) (FIELDS_DEFINITION ∷ ENUM_VALUES_DEFINITION ∷ INPUT_FIELDS_DEFINITION ∷ L_CURLY ∷ [])) × NoBlock f
+NoBlock (t ▸ f) =
+    IsFalse (member (root t) (FIELDS_DEFINITION ∷ ENUM_VALUES_DEFINITION ∷ INPUT_FIELDS_DEFINITION ∷ L_CURLY ∷ [])) × NoBlock f
 
+-- A definition of such a kind without its block.
 abbrev pub LacksBlock : Tree → Type 0
 LacksBlock (leaf k x) = ⊥
 LacksBlock (node k f) = IsTrue (member k Braced) × NoBlock f
 
+-- An operation that is a selection set alone.
 abbrev pub StartsWithSelections : Forest → Type 0
 StartsWithSelections none = ⊥
 StartsWithSelections (t ▸ f) = root t ≡ SELECTION_SET
@@ -100,15 +143,18 @@ abbrev pub NotBefore : Tree → Forest → Type 0
 NotBefore t none = Unit {0}
 NotBefore t (u ▸ f) = LacksBlock t → IsQuery u → ⊥
 
+-- Brace rule: a definition that lacks its block is not directly followed by an operation that is a selection set alone (the standard's
+-- lookahead restriction `[lookahead ≠ {]` in section 3).
 abbrev pub BraceRule : Forest → Type 0
 BraceRule none = Unit {0}
 BraceRule (t ▸ f) = NotBefore t f × BraceRule f
 
--- Each node fits its row, by a table of rows, and the rules hold.
+-- Each node's children match the row of its kind, by a table of rows, and the rules hold.
 abbrev mutual
   pub FitsBy : (ℕ → Pattern) → Tree → Type 0
   FitsBy row (leaf k x) = LeafRule k x
-  FitsBy row (node k f) = Matches (row k) (kinds f) × NameRule k f × ConstantRule k f × (k ≡ DOCUMENT → BraceRule f) × AllFitBy row f
+  FitsBy row (node k f) =
+      Matches (row k) (kinds f) × NameRule k f × ConstantRule k f × (k ≡ DOCUMENT → BraceRule f) × AllFitBy row f
 
   pub AllFitBy : (ℕ → Pattern) → Forest → Type 0
   AllFitBy row none = Unit {0}
@@ -140,7 +186,7 @@ AllFit f = AllFitBy Row f
 abbrev pub Derivation : Tree → Sort → Type 0
 Derivation t sort = DerivationBy Row t sort
 
--- The sentence that a derivation spells.
+-- The tree is a derivation that spells these tokens.
 abbrev pub Spells : List Token → Tree → Sort → Type 0
 Spells w t sort = Derivation t sort × (Yield t ≡ w)
 
@@ -151,7 +197,8 @@ FirstSpells w t sort = DerivationBy FirstRow t sort × (Yield t ≡ w)
 -- Whether a node of the kind `k` is counted below a parent of the kind `p`: each SELECTION_SET, each LIST_TYPE, and each value that
 -- is a child of a LIST_VALUE or an OBJECT_FIELD.
 abbrev pub counts : ℕ → ℕ → ℕ
-counts p k = cond (member k (SELECTION_SET ∷ LIST_TYPE ∷ [])) 1 (cond (member p (LIST_VALUE ∷ OBJECT_FIELD ∷ [])) (cond (member k Values) 1 0) 0)
+counts p k =
+    cond (member k (SELECTION_SET ∷ LIST_TYPE ∷ [])) 1 (cond (member p (LIST_VALUE ∷ OBJECT_FIELD ∷ [])) (cond (member k Values) 1 0) 0)
 
 -- The greatest number of counted nodes on a path: below the root; with the root, which counts as a child of a DOCUMENT does.
 abbrev mutual
@@ -166,18 +213,21 @@ abbrev mutual
 abbrev pub nest : Tree → ℕ
 nest t = counts DOCUMENT (root t) + below t
 
--- Where the significant tokens of a text end there is a mark.
+-- A significant token, or the mark of the end.
 pub data Mark : Type 0 where
   word : Token → Mark
   end : Mark
 
+-- All significant tokens, and then the end.
 abbrev pub marks : List Token → List Mark
 marks [] = end ∷ []
 marks (a ∷ w) = word a ∷ marks w
 
--- The list is a beginning of some sentence with its end mark; of one whose nesting is at most `r`.
+-- The list is a beginning of the tokens that some derivation spells, and the end.
 abbrev pub Starts : Sort → List Mark → Type 0
 Starts sort l = (w : List Token) × (t : Tree) × (v : List Mark) × Spells w t sort × (marks w ≡ l ++ v)
 
+-- The same of a derivation whose nesting is at most `r`.
 abbrev pub StartsWithin : Sort → ℕ → List Mark → Type 0
-StartsWithin sort r l = (w : List Token) × (t : Tree) × (v : List Mark) × Spells w t sort × (marks w ≡ l ++ v) × (nest t ≤ r)
+StartsWithin sort r l =
+    (w : List Token) × (t : Tree) × (v : List Mark) × Spells w t sort × (marks w ≡ l ++ v) × (nest t ≤ r)

@@ -1,5 +1,7 @@
--- The numbers of the syntax kinds, and the words of keyword leaves.
-use Rattle.std.specs.Prelude.{ℕ, List, [], ◌∷◌}
+-- The numbers of the syntax kinds under their names, the choices of kinds, and the words of keyword leaves (GraphQL October 2021, sections
+-- 2 and 3). Leaves come first: those of ignored tokens, ERROR, those of the other tokens, those of keywords; nodes begin with DOCUMENT.
+-- The numbers are this project's own.
+use Rattle.std.specs.Prelude.{ℕ, Bool, ltb, List, [], ◌∷◌}
 use Rattle.document_grammar.specs.Tree.{Text}
 
 abbrev pub WHITESPACE : ℕ
@@ -362,22 +364,73 @@ ENUM_TYPE_EXTENSION = 118
 abbrev pub INPUT_OBJECT_TYPE_EXTENSION : ℕ
 INPUT_OBJECT_TYPE_EXTENSION = 119
 
-abbrev pub Definitions : List ℕ
-Definitions = OPERATION_DEFINITION ∷ FRAGMENT_DEFINITION ∷ DIRECTIVE_DEFINITION ∷ SCHEMA_DEFINITION ∷ SCALAR_TYPE_DEFINITION ∷ OBJECT_TYPE_DEFINITION ∷ INTERFACE_TYPE_DEFINITION ∷ UNION_TYPE_DEFINITION ∷ ENUM_TYPE_DEFINITION ∷ INPUT_OBJECT_TYPE_DEFINITION ∷ SCHEMA_EXTENSION ∷ SCALAR_TYPE_EXTENSION ∷ OBJECT_TYPE_EXTENSION ∷ INTERFACE_TYPE_EXTENSION ∷ UNION_TYPE_EXTENSION ∷ ENUM_TYPE_EXTENSION ∷ INPUT_OBJECT_TYPE_EXTENSION ∷ []
+-- The leaves of ignored tokens: WHITESPACE, COMMENT and COMMA.
+abbrev pub is_ignored : ℕ → Bool
+is_ignored k = ltb k ERROR
 
+-- Of the leaves those of keywords.
+abbrev pub is_keyword : ℕ → Bool
+is_keyword k = ltb STRING k
+
+-- What a document is made of (section 2.2).
+abbrev pub Definitions : List ℕ
+Definitions =
+    OPERATION_DEFINITION
+    ∷ FRAGMENT_DEFINITION
+    ∷ DIRECTIVE_DEFINITION
+    ∷ SCHEMA_DEFINITION
+    ∷ SCALAR_TYPE_DEFINITION
+    ∷ OBJECT_TYPE_DEFINITION
+    ∷ INTERFACE_TYPE_DEFINITION
+    ∷ UNION_TYPE_DEFINITION
+    ∷ ENUM_TYPE_DEFINITION
+    ∷ INPUT_OBJECT_TYPE_DEFINITION
+    ∷ SCHEMA_EXTENSION
+    ∷ SCALAR_TYPE_EXTENSION
+    ∷ OBJECT_TYPE_EXTENSION
+    ∷ INTERFACE_TYPE_EXTENSION
+    ∷ UNION_TYPE_EXTENSION
+    ∷ ENUM_TYPE_EXTENSION
+    ∷ INPUT_OBJECT_TYPE_EXTENSION
+    ∷ []
+
+-- What stands in a selection set (section 2.4).
 abbrev pub Selections : List ℕ
 Selections = FIELD ∷ FRAGMENT_SPREAD ∷ INLINE_FRAGMENT ∷ []
 
+-- The values (section 2.9).
 abbrev pub Values : List ℕ
 Values = VARIABLE ∷ INT_VALUE ∷ FLOAT_VALUE ∷ STRING_VALUE ∷ BOOLEAN_VALUE ∷ NULL_VALUE ∷ ENUM_VALUE ∷ LIST_VALUE ∷ OBJECT_VALUE ∷ []
 
+-- The types (section 2.11).
 abbrev pub Types : List ℕ
 Types = NAMED_TYPE ∷ LIST_TYPE ∷ NON_NULL_TYPE ∷ []
 
+-- The words of the places where a directive may stand (section 3.13).
 abbrev pub DirectiveLocations : List ℕ
-DirectiveLocations = QUERY_KW ∷ MUTATION_KW ∷ SUBSCRIPTION_KW ∷ FIELD_KW ∷ FRAGMENT_DEFINITION_KW ∷ FRAGMENT_SPREAD_KW ∷ INLINE_FRAGMENT_KW ∷ VARIABLE_DEFINITION_KW ∷ SCHEMA_KW ∷ SCALAR_KW ∷ OBJECT_KW ∷ FIELD_DEFINITION_KW ∷ ARGUMENT_DEFINITION_KW ∷ INTERFACE_KW ∷ UNION_KW ∷ ENUM_KW ∷ ENUM_VALUE_KW ∷ INPUT_OBJECT_KW ∷ INPUT_FIELD_DEFINITION_KW ∷ []
+DirectiveLocations =
+    QUERY_KW
+    ∷ MUTATION_KW
+    ∷ SUBSCRIPTION_KW
+    ∷ FIELD_KW
+    ∷ FRAGMENT_DEFINITION_KW
+    ∷ FRAGMENT_SPREAD_KW
+    ∷ INLINE_FRAGMENT_KW
+    ∷ VARIABLE_DEFINITION_KW
+    ∷ SCHEMA_KW
+    ∷ SCALAR_KW
+    ∷ OBJECT_KW
+    ∷ FIELD_DEFINITION_KW
+    ∷ ARGUMENT_DEFINITION_KW
+    ∷ INTERFACE_KW
+    ∷ UNION_KW
+    ∷ ENUM_KW
+    ∷ ENUM_VALUE_KW
+    ∷ INPUT_OBJECT_KW
+    ∷ INPUT_FIELD_DEFINITION_KW
+    ∷ []
 
--- The word of each keyword leaf.
+-- The word of each keyword leaf. Each is a Name for the lexical grammar.
 unfoldable pub words : List (ℕ × Text)
 words =
     -- `query`

@@ -172,7 +172,10 @@ abbrev mutual
 
   pub RunFrom : ℕ → ℕ → Forest → List Token → Type 0
   RunFrom s q none r = move s q (first r) (second r) ≡ close
-  RunFrom s q (t ▸ f) r = (move s q (first (yields (t ▸ f) ++ r)) (second (yields (t ▸ f) ++ r)) ≡ go (root t)) × Run t (yields f ++ r) × RunFrom s (target s q (root t) + finish t) f r
+  RunFrom s q (t ▸ f) r =
+      (move s q (first (yields (t ▸ f) ++ r)) (second (yields (t ▸ f) ++ r)) ≡ go (root t))
+      × Run t (yields f ++ r)
+      × RunFrom s (target s q (root t) + finish t) f r
 
 -- The machine's configurations: the open nodes, innermost first, each with its symbol, its state and its closed children.
 pub data Frame : Type 0 where
@@ -181,6 +184,12 @@ pub data Frame : Type 0 where
 -- `Reach s w fs r`: from the symbol `s` before the tokens `w`, the machine comes to the open nodes `fs` before the tokens `r`.
 pub data Reach (s0 : ℕ) (w : List Token) : List Frame → List Token → Type 0 where
   start : Reach s0 w (frame s0 0 none ∷ []) w
-  shift : {s q l : ℕ} {f : Forest} {fs : List Frame} {a : Token} {r : List Token} → Reach s0 w (frame s q f ∷ fs) (a ∷ r) → move s q (first (a ∷ r)) (second (a ∷ r)) ≡ go l → IsTrue (is_leaf l) → Reach s0 w (frame s (target s q l) (f +++ (leaf l a.1 ▸ none)) ∷ fs) r
-  open' : {s q k : ℕ} {f : Forest} {fs : List Frame} {r : List Token} → Reach s0 w (frame s q f ∷ fs) r → move s q (first r) (second r) ≡ go k → IsFalse (is_leaf k) → Reach s0 w (frame k 0 none ∷ frame s q f ∷ fs) r
-  closed : {s q k p : ℕ} {f g : Forest} {fs : List Frame} {r : List Token} → Reach s0 w (frame k p g ∷ frame s q f ∷ fs) r → move k p (first r) (second r) ≡ close → Reach s0 w (frame s (target s q k + exit k p) (f +++ (node k g ▸ none)) ∷ fs) r
+  shift : {s q l : ℕ} {f : Forest} {fs : List Frame} {a : Token} {r : List Token}
+      → Reach s0 w (frame s q f ∷ fs) (a ∷ r) → move s q (first (a ∷ r)) (second (a ∷ r)) ≡ go l → IsTrue (is_leaf l)
+      → Reach s0 w (frame s (target s q l) (f +++ (leaf l a.1 ▸ none)) ∷ fs) r
+  open' : {s q k : ℕ} {f : Forest} {fs : List Frame} {r : List Token}
+      → Reach s0 w (frame s q f ∷ fs) r → move s q (first r) (second r) ≡ go k → IsFalse (is_leaf k)
+      → Reach s0 w (frame k 0 none ∷ frame s q f ∷ fs) r
+  closed : {s q k p : ℕ} {f g : Forest} {fs : List Frame} {r : List Token}
+      → Reach s0 w (frame k p g ∷ frame s q f ∷ fs) r → move k p (first r) (second r) ≡ close
+      → Reach s0 w (frame s (target s q k + exit k p) (f +++ (node k g ▸ none)) ∷ fs) r

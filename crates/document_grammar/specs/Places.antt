@@ -1,11 +1,12 @@
 -- Trees with ignored leaves: without them, and where they may stand.
-use Rattle.std.specs.Prelude.{◌≢◌, Bool, false, cond, ltb, List, [], ◌++◌, IsTrue}
+use Rattle.std.specs.Prelude.{◌≢◌, Bool, false, cond, List, [], ◌++◌, IsTrue}
 use Rattle.document_grammar.specs.Tree.{Token, Tree, leaf, node, Forest, none, ◌▸◌}
-use Rattle.document_grammar.specs.Kinds.{ERROR}
+use Rattle.document_grammar.specs.Kinds.{is_ignored}
 use Rattle.document_grammar.specs.Derivation.{Yield, Yields}
 
+-- A leaf of an ignored token.
 abbrev pub ignored : Tree → Bool
-ignored (leaf k x) = ltb k ERROR
+ignored (leaf k x) = is_ignored k
 ignored (node k f) = false
 
 -- The tree without its ignored leaves.

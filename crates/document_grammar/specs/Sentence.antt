@@ -1,4 +1,5 @@
--- Sentences: texts whose significant tokens a derivation spells (GraphQL October 2021, section 2.2, "Document").
+-- Sentences: texts whose significant tokens a derivation spells (GraphQL October 2021, section 2.1.6, "Lexical Tokens", for the cut, and
+-- section 2.2, "Document").
 use Rattle.std.specs.Prelude.{◌≡◌, ℕ, ◌≤◌, true, List, ◌++◌, length, map}
 use Rattle.std.specs.Str.{IsUtf8}
 use Rattle.lexical_grammar.specs.declared.TokenKind.{TokenKind}
@@ -7,9 +8,9 @@ use Rattle.lexical_grammar.specs.Cut.{Item, Word, Cut, Significant}
 use Rattle.lexical_grammar.specs.Begins.{are_tokens}
 use Rattle.document_grammar.specs.Kinds.{WHITESPACE, COMMENT, COMMA, ERROR, BANG, DOLLAR, AMP, SPREAD, COLON, EQ, AT, L_PAREN, R_PAREN, L_BRACK, R_BRACK, L_CURLY, R_CURLY, PIPE, IDENT, INT, FLOAT, STRING}
 use Rattle.document_grammar.specs.Tree.{Token, Tree}
-use Rattle.document_grammar.specs.Derivation.{Sort, document, Derivation, Yield, nest}
+use Rattle.document_grammar.specs.Derivation.{Sort, document, Derivation, Yield, nest, Mark, marks}
 
--- the number of the leaf that a token becomes, IDENT for each Name; the end becomes none
+-- the number of the leaf of a token, IDENT for each Name, keywords among them; the end, which has no leaf, has ERROR's
 abbrev pub leaf_number : TokenKind → ℕ
 leaf_number token.Whitespace = WHITESPACE
 leaf_number token.Comment = COMMENT
@@ -59,3 +60,22 @@ pub record Begins (front : List ℕ) : Type 0 where
   pub tree : Tree
   pub characters : IsUtf8 (front ++ rest)
   pub sentence : Sentence (front ++ rest) tree document
+
+-- The tokens, perhaps closed by the end, are a beginning of the significant tokens, and then the end, of some sentence.
+pub record StartSentence (front : List Mark) : Type 0 where
+  pub source : List ℕ
+  pub tree : Tree
+  pub rest : List Mark
+  pub characters : IsUtf8 source
+  pub sentence : Sentence source tree document
+  pub beginning : marks (Yield tree) ≡ front ++ rest
+
+-- The same of some sentence whose derivation nests at most r deep.
+pub record StartSentenceWithin (r : ℕ) (front : List Mark) : Type 0 where
+  pub source : List ℕ
+  pub tree : Tree
+  pub rest : List Mark
+  pub characters : IsUtf8 source
+  pub sentence : Sentence source tree document
+  pub beginning : marks (Yield tree) ≡ front ++ rest
+  pub nesting : nest tree ≤ r
