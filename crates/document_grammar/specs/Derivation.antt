@@ -1,6 +1,6 @@
 -- Derivations: trees whose nodes fit their rows and that keep four rules, on leaves, names, constants and braces (GraphQL October 2021,
 -- section 2.2, "Document", and the sections that `Rows` names). Then the nesting of a tree, and which tokens start a sentence.
-use Rattle.std.specs.Prelude.{◌≡◌, ◌≢◌, ℕ, ◌+◌, ◌<◌, ◌≤◌, max, cond, List, [], ◌∷◌, ◌++◌, ◌⊎◌, IsTrue, IsFalse}
+use Rattle.std.specs.Prelude.{◌≡◌, ◌≢◌, ℕ, ◌+◌, ◌<◌, ◌≤◌, max, cond, List, [], ◌∷◌, ◌++◌, ◌⊎◌, IsTrue, IsFalse, codes}
 use Rattle.document_grammar.specs.Tree.{Text, Token, Tree, leaf, node, Forest, none, ◌▸◌, root}
 use Rattle.document_grammar.specs.Pattern.{Pattern, Matches, member}
 use Rattle.document_grammar.specs.Rows.{Row, FirstRow, bare_selections}
@@ -45,18 +45,17 @@ Listed (w ∷ more) k x = ((w.0 ≡ k) × (w.1 ≡ x)) ⊎ Listed more k x
 abbrev pub LeafRule : ℕ → Text → Type 0
 LeafRule k x = STRING < k → Listed words k x
 
--- The texts `on`, `true`, `false` and `null`.
 abbrev pub on_text : Text
-on_text = 111 ∷ 110 ∷ []
+on_text = codes "on"
 
 abbrev pub true_text : Text
-true_text = 116 ∷ 114 ∷ 117 ∷ 101 ∷ []
+true_text = codes "true"
 
 abbrev pub false_text : Text
-false_text = 102 ∷ 97 ∷ 108 ∷ 115 ∷ 101 ∷ []
+false_text = codes "false"
 
 abbrev pub null_text : Text
-null_text = 110 ∷ 117 ∷ 108 ∷ 108 ∷ []
+null_text = codes "null"
 
 -- Name rule: the name of a fragment is not `on` (section 2.8), and an enum value is not `true`, `false` or `null` (section 2.9.6).
 abbrev pub NameRule : ℕ → Forest → Type 0

@@ -1,7 +1,7 @@
 -- The numbers of the syntax kinds under their names, the choices of kinds, and the words of keyword leaves (GraphQL October 2021, sections
 -- 2 and 3). Leaves come first: those of ignored tokens, ERROR, those of the other tokens, those of keywords; nodes begin with DOCUMENT.
 -- The numbers are this project's own.
-use Rattle.std.specs.Prelude.{ℕ, Bool, ltb, List, [], ◌∷◌}
+use Rattle.std.specs.Prelude.{ℕ, Bool, ltb, List, [], ◌∷◌, codes}
 use Rattle.document_grammar.specs.Tree.{Text}
 
 abbrev pub WHITESPACE : ℕ
@@ -433,80 +433,42 @@ DirectiveLocations =
 -- The word of each keyword leaf. Each is a Name for the lexical grammar.
 unfoldable pub words : List (ℕ × Text)
 words =
-    -- `query`
-    (query_KW, 113 ∷ 117 ∷ 101 ∷ 114 ∷ 121 ∷ [])
-    -- `mutation`
-    ∷ (mutation_KW, 109 ∷ 117 ∷ 116 ∷ 97 ∷ 116 ∷ 105 ∷ 111 ∷ 110 ∷ [])
-    -- `subscription`
-    ∷ (subscription_KW, 115 ∷ 117 ∷ 98 ∷ 115 ∷ 99 ∷ 114 ∷ 105 ∷ 112 ∷ 116 ∷ 105 ∷ 111 ∷ 110 ∷ [])
-    -- `fragment`
-    ∷ (fragment_KW, 102 ∷ 114 ∷ 97 ∷ 103 ∷ 109 ∷ 101 ∷ 110 ∷ 116 ∷ [])
-    -- `on`
-    ∷ (on_KW, 111 ∷ 110 ∷ [])
-    -- `true`
-    ∷ (true_KW, 116 ∷ 114 ∷ 117 ∷ 101 ∷ [])
-    -- `false`
-    ∷ (false_KW, 102 ∷ 97 ∷ 108 ∷ 115 ∷ 101 ∷ [])
-    -- `null`
-    ∷ (null_KW, 110 ∷ 117 ∷ 108 ∷ 108 ∷ [])
-    -- `extend`
-    ∷ (extend_KW, 101 ∷ 120 ∷ 116 ∷ 101 ∷ 110 ∷ 100 ∷ [])
-    -- `schema`
-    ∷ (schema_KW, 115 ∷ 99 ∷ 104 ∷ 101 ∷ 109 ∷ 97 ∷ [])
-    -- `scalar`
-    ∷ (scalar_KW, 115 ∷ 99 ∷ 97 ∷ 108 ∷ 97 ∷ 114 ∷ [])
-    -- `type`
-    ∷ (type_KW, 116 ∷ 121 ∷ 112 ∷ 101 ∷ [])
-    -- `interface`
-    ∷ (interface_KW, 105 ∷ 110 ∷ 116 ∷ 101 ∷ 114 ∷ 102 ∷ 97 ∷ 99 ∷ 101 ∷ [])
-    -- `union`
-    ∷ (union_KW, 117 ∷ 110 ∷ 105 ∷ 111 ∷ 110 ∷ [])
-    -- `enum`
-    ∷ (enum_KW, 101 ∷ 110 ∷ 117 ∷ 109 ∷ [])
-    -- `input`
-    ∷ (input_KW, 105 ∷ 110 ∷ 112 ∷ 117 ∷ 116 ∷ [])
-    -- `directive`
-    ∷ (directive_KW, 100 ∷ 105 ∷ 114 ∷ 101 ∷ 99 ∷ 116 ∷ 105 ∷ 118 ∷ 101 ∷ [])
-    -- `implements`
-    ∷ (implements_KW, 105 ∷ 109 ∷ 112 ∷ 108 ∷ 101 ∷ 109 ∷ 101 ∷ 110 ∷ 116 ∷ 115 ∷ [])
-    -- `repeatable`
-    ∷ (repeatable_KW, 114 ∷ 101 ∷ 112 ∷ 101 ∷ 97 ∷ 116 ∷ 97 ∷ 98 ∷ 108 ∷ 101 ∷ [])
-    -- `QUERY`
-    ∷ (QUERY_KW, 81 ∷ 85 ∷ 69 ∷ 82 ∷ 89 ∷ [])
-    -- `MUTATION`
-    ∷ (MUTATION_KW, 77 ∷ 85 ∷ 84 ∷ 65 ∷ 84 ∷ 73 ∷ 79 ∷ 78 ∷ [])
-    -- `SUBSCRIPTION`
-    ∷ (SUBSCRIPTION_KW, 83 ∷ 85 ∷ 66 ∷ 83 ∷ 67 ∷ 82 ∷ 73 ∷ 80 ∷ 84 ∷ 73 ∷ 79 ∷ 78 ∷ [])
-    -- `FIELD`
-    ∷ (FIELD_KW, 70 ∷ 73 ∷ 69 ∷ 76 ∷ 68 ∷ [])
-    -- `FRAGMENT_DEFINITION`
-    ∷ (FRAGMENT_DEFINITION_KW, 70 ∷ 82 ∷ 65 ∷ 71 ∷ 77 ∷ 69 ∷ 78 ∷ 84 ∷ 95 ∷ 68 ∷ 69 ∷ 70 ∷ 73 ∷ 78 ∷ 73 ∷ 84 ∷ 73 ∷ 79 ∷ 78 ∷ [])
-    -- `FRAGMENT_SPREAD`
-    ∷ (FRAGMENT_SPREAD_KW, 70 ∷ 82 ∷ 65 ∷ 71 ∷ 77 ∷ 69 ∷ 78 ∷ 84 ∷ 95 ∷ 83 ∷ 80 ∷ 82 ∷ 69 ∷ 65 ∷ 68 ∷ [])
-    -- `INLINE_FRAGMENT`
-    ∷ (INLINE_FRAGMENT_KW, 73 ∷ 78 ∷ 76 ∷ 73 ∷ 78 ∷ 69 ∷ 95 ∷ 70 ∷ 82 ∷ 65 ∷ 71 ∷ 77 ∷ 69 ∷ 78 ∷ 84 ∷ [])
-    -- `VARIABLE_DEFINITION`
-    ∷ (VARIABLE_DEFINITION_KW, 86 ∷ 65 ∷ 82 ∷ 73 ∷ 65 ∷ 66 ∷ 76 ∷ 69 ∷ 95 ∷ 68 ∷ 69 ∷ 70 ∷ 73 ∷ 78 ∷ 73 ∷ 84 ∷ 73 ∷ 79 ∷ 78 ∷ [])
-    -- `SCHEMA`
-    ∷ (SCHEMA_KW, 83 ∷ 67 ∷ 72 ∷ 69 ∷ 77 ∷ 65 ∷ [])
-    -- `SCALAR`
-    ∷ (SCALAR_KW, 83 ∷ 67 ∷ 65 ∷ 76 ∷ 65 ∷ 82 ∷ [])
-    -- `OBJECT`
-    ∷ (OBJECT_KW, 79 ∷ 66 ∷ 74 ∷ 69 ∷ 67 ∷ 84 ∷ [])
-    -- `FIELD_DEFINITION`
-    ∷ (FIELD_DEFINITION_KW, 70 ∷ 73 ∷ 69 ∷ 76 ∷ 68 ∷ 95 ∷ 68 ∷ 69 ∷ 70 ∷ 73 ∷ 78 ∷ 73 ∷ 84 ∷ 73 ∷ 79 ∷ 78 ∷ [])
-    -- `ARGUMENT_DEFINITION`
-    ∷ (ARGUMENT_DEFINITION_KW, 65 ∷ 82 ∷ 71 ∷ 85 ∷ 77 ∷ 69 ∷ 78 ∷ 84 ∷ 95 ∷ 68 ∷ 69 ∷ 70 ∷ 73 ∷ 78 ∷ 73 ∷ 84 ∷ 73 ∷ 79 ∷ 78 ∷ [])
-    -- `INTERFACE`
-    ∷ (INTERFACE_KW, 73 ∷ 78 ∷ 84 ∷ 69 ∷ 82 ∷ 70 ∷ 65 ∷ 67 ∷ 69 ∷ [])
-    -- `UNION`
-    ∷ (UNION_KW, 85 ∷ 78 ∷ 73 ∷ 79 ∷ 78 ∷ [])
-    -- `ENUM`
-    ∷ (ENUM_KW, 69 ∷ 78 ∷ 85 ∷ 77 ∷ [])
-    -- `ENUM_VALUE`
-    ∷ (ENUM_VALUE_KW, 69 ∷ 78 ∷ 85 ∷ 77 ∷ 95 ∷ 86 ∷ 65 ∷ 76 ∷ 85 ∷ 69 ∷ [])
-    -- `INPUT_OBJECT`
-    ∷ (INPUT_OBJECT_KW, 73 ∷ 78 ∷ 80 ∷ 85 ∷ 84 ∷ 95 ∷ 79 ∷ 66 ∷ 74 ∷ 69 ∷ 67 ∷ 84 ∷ [])
-    -- `INPUT_FIELD_DEFINITION`
-    ∷ (INPUT_FIELD_DEFINITION_KW, 73 ∷ 78 ∷ 80 ∷ 85 ∷ 84 ∷ 95 ∷ 70 ∷ 73 ∷ 69 ∷ 76 ∷ 68 ∷ 95 ∷ 68 ∷ 69 ∷ 70 ∷ 73 ∷ 78 ∷ 73 ∷ 84 ∷ 73 ∷ 79 ∷ 78 ∷ [])
+    (query_KW, codes "query")
+    ∷ (mutation_KW, codes "mutation")
+    ∷ (subscription_KW, codes "subscription")
+    ∷ (fragment_KW, codes "fragment")
+    ∷ (on_KW, codes "on")
+    ∷ (true_KW, codes "true")
+    ∷ (false_KW, codes "false")
+    ∷ (null_KW, codes "null")
+    ∷ (extend_KW, codes "extend")
+    ∷ (schema_KW, codes "schema")
+    ∷ (scalar_KW, codes "scalar")
+    ∷ (type_KW, codes "type")
+    ∷ (interface_KW, codes "interface")
+    ∷ (union_KW, codes "union")
+    ∷ (enum_KW, codes "enum")
+    ∷ (input_KW, codes "input")
+    ∷ (directive_KW, codes "directive")
+    ∷ (implements_KW, codes "implements")
+    ∷ (repeatable_KW, codes "repeatable")
+    ∷ (QUERY_KW, codes "QUERY")
+    ∷ (MUTATION_KW, codes "MUTATION")
+    ∷ (SUBSCRIPTION_KW, codes "SUBSCRIPTION")
+    ∷ (FIELD_KW, codes "FIELD")
+    ∷ (FRAGMENT_DEFINITION_KW, codes "FRAGMENT_DEFINITION")
+    ∷ (FRAGMENT_SPREAD_KW, codes "FRAGMENT_SPREAD")
+    ∷ (INLINE_FRAGMENT_KW, codes "INLINE_FRAGMENT")
+    ∷ (VARIABLE_DEFINITION_KW, codes "VARIABLE_DEFINITION")
+    ∷ (SCHEMA_KW, codes "SCHEMA")
+    ∷ (SCALAR_KW, codes "SCALAR")
+    ∷ (OBJECT_KW, codes "OBJECT")
+    ∷ (FIELD_DEFINITION_KW, codes "FIELD_DEFINITION")
+    ∷ (ARGUMENT_DEFINITION_KW, codes "ARGUMENT_DEFINITION")
+    ∷ (INTERFACE_KW, codes "INTERFACE")
+    ∷ (UNION_KW, codes "UNION")
+    ∷ (ENUM_KW, codes "ENUM")
+    ∷ (ENUM_VALUE_KW, codes "ENUM_VALUE")
+    ∷ (INPUT_OBJECT_KW, codes "INPUT_OBJECT")
+    ∷ (INPUT_FIELD_DEFINITION_KW, codes "INPUT_FIELD_DEFINITION")
     ∷ []
