@@ -193,3 +193,12 @@ pub data Reach (s0 : ℕ) (w : List Token) : List Frame → List Token → Type 
   closed : {s q k p : ℕ} {f g : Forest} {fs : List Frame} {r : List Token}
       → Reach s0 w (frame k p g ∷ frame s q f ∷ fs) r → move k p (first r) (second r) ≡ close
       → Reach s0 w (frame s (target s q k + exit k p) (f +++ (node k g ▸ none)) ∷ fs) r
+
+-- The machine has read the tokens `before`, and has no move before the next two of `rest`.
+pub record IsStuck (sort : Sort) (before rest : List Token) : Type 0 where
+  pub symbol : ℕ
+  pub state : ℕ
+  pub children : Forest
+  pub above : List Frame
+  pub reached : Reach (opening sort (first (before ++ rest))) (before ++ rest) (frame symbol state children ∷ above) rest
+  pub no_move : move symbol state (first rest) (second rest) ≡ stuck

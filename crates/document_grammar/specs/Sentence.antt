@@ -8,7 +8,8 @@ use Rattle.lexical_grammar.specs.Cut.{Item, Word, Cut, Significant}
 use Rattle.lexical_grammar.specs.Begins.{are_tokens}
 use Rattle.document_grammar.specs.Kinds.{WHITESPACE, COMMENT, COMMA, ERROR, BANG, DOLLAR, AMP, SPREAD, COLON, EQ, AT, L_PAREN, R_PAREN, L_BRACK, R_BRACK, L_CURLY, R_CURLY, PIPE, IDENT, INT, FLOAT, STRING}
 use Rattle.document_grammar.specs.Tree.{Token, Tree}
-use Rattle.document_grammar.specs.Derivation.{Sort, document, Derivation, Yield, nest, Mark, marks}
+use Rattle.document_grammar.specs.Rows.{FirstRow}
+use Rattle.document_grammar.specs.Derivation.{Sort, document, DerivationBy, Derivation, Yield, nest, Mark, marks}
 
 -- the number of the leaf of a token, IDENT for each Name, keywords among them; the end, which has no leaf, has ERROR's
 abbrev pub leaf_number : TokenKind → ℕ
@@ -45,6 +46,14 @@ pub record Sentence (source : List ℕ) (t : Tree) (sort : Sort) : Type 0 where
   pub cut : Cut source items
   pub tokens : are_tokens items ≡ true
   pub derivation : Derivation t sort
+  pub yield : Yield t ≡ map token_of (Significant items)
+
+-- The same by the rows of the first profile.
+pub record FirstSentence (source : List ℕ) (t : Tree) (sort : Sort) : Type 0 where
+  pub items : List Item
+  pub cut : Cut source items
+  pub tokens : are_tokens items ≡ true
+  pub derivation : DerivationBy FirstRow t sort
   pub yield : Yield t ≡ map token_of (Significant items)
 
 -- The derivation nests at most r deep, and the text has at most k items, bad text and the end included.

@@ -2,5 +2,6 @@
 #![tactic(auto)]
 
 mod kind;
+pub mod laws;
 
 pub use kind::SyntaxKind;

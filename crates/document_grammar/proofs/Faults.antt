@@ -1,0 +1,38 @@
+-- Where the machine is stuck, no sentence goes on as the tokens do, and what has been read begins a sentence.
+use Rattle.std.proofs.Common.{◌≡◌, List, [], ◌∷◌, ◌++◌, take, map, refl, sym, ap, ap₂, ◌∙◌, subst}
+use Rattle.std.proofs.lemmas.List.{append_cancel_right}
+use Rattle.document_grammar.specs.Tree.{Token, Tree}
+use Rattle.document_grammar.specs.Derivation.{Sort, Mark, word, marks, Spells, Starts}
+use Rattle.document_grammar.specs.Machine.{first, IsStuck}
+use Rattle.document_grammar.proofs.Theory.{fault}
+use Rattle.document_grammar.proofs.Starts.{opens, read, next_two}
+use Rattle.document_grammar.proofs.Main.{start_symbol, FaultIn, begins, not-starts}
+
+read-map : (w : List Token) → map word w ≡ read w
+read-map [] = refl
+read-map (a ∷ w) = ap (λ (l : List Mark). word a ∷ l) (read-map w)
+
+two-marks : (r : List Token) → take 2 (marks r) ≡ next_two r
+two-marks [] = refl
+two-marks (a ∷ []) = refl
+two-marks (a ∷ b ∷ r) = refl
+
+fault-of : (sort : Sort) (before rest : List Token) → IsStuck sort before rest → FaultIn sort (before ++ rest) rest
+fault-of sort before rest s =
+    fault (start_symbol sort (before ++ rest)) (opens sort (first (before ++ rest))) (before ++ rest) s.symbol s.state s.children s.above rest s.reached s.no_move
+
+before-of : (sort : Sort) (before rest : List Token) (k : FaultIn sort (before ++ rest) rest) → k.before ≡ before
+before-of sort before rest k = append_cancel_right k.before before rest (sym k.split)
+
+pub stuck-begins : (sort : Sort) (before rest : List Token) → IsStuck sort before rest → (t : Tree) × (v : List Token) × Spells (before ++ v) t sort
+stuck-begins sort before rest s =
+    let k = fault-of sort before rest s in
+    let h = begins sort (before ++ rest) rest k in
+    (h.0, h.1, subst (λ (b : List Token). Spells (b ++ h.1) h.0 sort) (before-of sort before rest k) h.2)
+
+pub stuck-starts-none : (sort : Sort) (before rest : List Token) → IsStuck sort before rest → Starts sort (map word before ++ take 2 (marks rest)) → ⊥
+stuck-starts-none sort before rest s h =
+    let k = fault-of sort before rest s in
+    let e : map word before ++ take 2 (marks rest) ≡ read k.before ++ next_two rest =
+    ap₂ (λ (l m : List Mark). l ++ m) (read-map before ∙ ap read (sym (before-of sort before rest k))) (two-marks rest) in
+    not-starts sort (before ++ rest) rest k (subst (λ (l : List Mark). Starts sort l) e h)

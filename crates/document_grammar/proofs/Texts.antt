@@ -1,0 +1,47 @@
+-- A text has at most one cut without bad text, so a sentence has one derivation. And what is said of texts, said of their tokens.
+use Rattle.std.proofs.Common.{◌≡◌, ℕ, true, List, [], ◌∷◌, map, refl, sym, ap, ap₂, ◌∙◌, inl, inr, true≢false}
+use Rattle.std.proofs.lemmas.Bool.{and_parts}
+use Rattle.std.specs.Prelude.{is_some}
+use Rattle.lexical_grammar.specs.Cut.{Item, Cut, Significant}
+use Rattle.lexical_grammar.specs.Begins.{are_tokens}
+use Rattle.lexical_grammar.specs.Agreement.{Agree}
+use Rattle.lexical_grammar.proofs.Agree.{agree}
+use Rattle.document_grammar.specs.Tree.{Tree}
+use Rattle.document_grammar.specs.Derivation.{Sort, document, Spells, Yield, Mark, Starts, StartsWithin}
+use Rattle.document_grammar.specs.Sentence.{token_of, Sentence, FirstSentence, StartSentence, StartSentenceWithin}
+use Rattle.document_grammar.proofs.Main.{one-derivation}
+use Rattle.document_grammar.proofs.FirstProfile.{derivation-kept}
+
+agree-same : (items others : List Item) → Agree items others → are_tokens items ≡ true → items ≡ others
+agree-same [] [] a h = refl
+agree-same [] (other ∷ others) a h = elim a [ ]
+agree-same (item ∷ items) [] a h = elim a [ ]
+agree-same (item ∷ items) (other ∷ others) a h =
+    let parts = and_parts (is_some item.kind) (are_tokens items) h in
+    elim a [
+      | inl same ↦ ap₂ (λ (i : Item) (is : List Item). i ∷ is) same.0 (agree-same items others same.1 parts.1)
+      | inr bad ↦ absurd (true≢false (sym parts.0 ∙ ap is_some bad.0.bad))
+    ]
+
+pub one-cut : (source : List ℕ) (items others : List Item) → Cut source items → Cut source others → are_tokens items ≡ true → items ≡ others
+one-cut source items others c d h = agree-same items others (agree items others 0 c.each d.each (c.joined ∙ sym d.joined)) h
+
+pub sentence-spells : (source : List ℕ) (t : Tree) (sort : Sort) (s : Sentence source t sort) → Spells (map token_of (Significant s.items)) t sort
+sentence-spells source t sort s = (s.derivation, s.yield)
+
+pub one-sentence : (source : List ℕ) (t u : Tree) (sort : Sort) → Sentence source t sort → Sentence source u sort → t ≡ u
+one-sentence source t u sort a b =
+    let same = one-cut source a.items b.items a.cut b.cut a.tokens in
+    one-derivation sort (map token_of (Significant b.items)) t u
+    (a.derivation, a.yield ∙ ap (λ (items : List Item). map token_of (Significant items)) same) (b.derivation, b.yield)
+
+pub first-sentence : (source : List ℕ) (t : Tree) (sort : Sort) → FirstSentence source t sort → Sentence source t sort
+first-sentence source t sort s =
+    record { items = s.items; cut = s.cut; tokens = s.tokens; derivation = derivation-kept sort t s.derivation; yield = s.yield }
+
+-- What starts a sentence, starts the tokens that a derivation spells.
+pub sentence-starts : (front : List Mark) → StartSentence front → Starts document front
+sentence-starts front s = (Yield s.tree, s.tree, s.rest, (s.sentence.derivation, refl), s.beginning)
+
+pub sentence-starts-within : (r : ℕ) (front : List Mark) → StartSentenceWithin r front → StartsWithin document r front
+sentence-starts-within r front s = (Yield s.tree, s.tree, s.rest, (s.sentence.derivation, refl), s.beginning, s.nesting)
