@@ -4,13 +4,17 @@ use Rattle.lexical_grammar.specs.Cut.{Item, end_at}
 use Rattle.lexical_grammar.specs.declared.TokenKind.{TokenKind}
 use Rattle.lexical_grammar.specs.declared.TokenKind.TheVariants.{Eof}
 use Rattle.lexical_grammar.specs.Tokens.{Tok}
-use Rattle.std.proofs.Common.{Option, subst}
+use Rattle.std.proofs.Common.{Option, subst, cond, eqb, false}
 use Rattle.std.proofs.Common.{length-take-le}
 use Rattle.apollo_lexer.proofs.Sound.{sound}
 use Rattle.std.specs.Iterator.{MakesProgress, YieldsFirstBy, item_count}
-use Rattle.std.specs.Prelude.{⊤}
+use Rattle.std.specs.Prelude.{⊤, max}
+use Rattle.std.proofs.lemmas.Bool.Decides.{nat_tests}
 use Rattle.apollo_lexer.specs.Reads.{first_token, item_of, first_item, items_from}
-use Rattle.lexical_grammar.specs.Answers.{gives, limit_at, limit_index, limit_index_at, limited}
+use Rattle.lexical_grammar.specs.Answers.{Answer, gives, limit_at, limit_index, limit_index_at, limited}
+
+max_next : (n : ℕ) → max n (n + 1) ≡ n + 1
+max_next n = grind (arith, nat_tests)
 
 pub inside : (k place : ℕ) (source : List ℕ) → k ≤ length source → items_from place k source ≡ items_from (place + k) 0 (drop k source)
 unfolding items_from
@@ -66,7 +70,7 @@ first_not_end place source None e = refl
 first_not_end place source (Some token) e = not_end token.0 place (token_not_end token.0 (take token.1 source) (sound source token.0 token.1 e).stands.token)
 
 -- the limit is met
-pub limit_met : (count limit place : ℕ) (source : List ℕ) → limit < count + 1 → 0 < length source
+limit_met : (count limit place : ℕ) (source : List ℕ) → limit < count + 1 → 0 < length source
     → limited (limit - count) (items_from place 0 source) ≡ limit_at place ∷ []
 unfolding items_from
 limit_met count limit place [] met some = absurd (omega arith)
@@ -75,9 +79,17 @@ limit_met count limit place (b ∷ bs) met some =
     (items_from (1 + place) ((first_item (b ∷ bs)).1 - 1) bs) (omega arith)
     ∙ ap (λ n. limit_at n ∷ []) (first_not_end place (b ∷ bs) (first_token (b ∷ bs)) refl)
 
-pub limit_met_end : (count limit place : ℕ) (source : List ℕ) → limit < count + 1 → length source ≡ 0 → limited (limit - count) (items_from place 0 source) ≡ limit_at (place - 1) ∷ []
+limit_met_end : (count limit place : ℕ) (source : List ℕ) → limit < count + 1 → length source ≡ 0 → limited (limit - count) (items_from place 0 source) ≡ limit_at (place - 1) ∷ []
 limit_met_end count limit place source met none =
     ap (limited (limit - count)) (end_then place source none) ∙ limited_none (limit - count) (end_at place) [] (omega arith)
+
+some_more : (n : ℕ) → 0 < n → eqb n 0 ≡ false
+some_more n h = grind (arith, nat_tests)
+
+pub limit_met_at : (count limit place : ℕ) (source : List ℕ) → limit < count + 1
+    → limited (limit - count) (items_from place 0 source) ≡ limit_at (cond (eqb (length source) 0) (place - 1) place) ∷ []
+limit_met_at count limit place [] met = limit_met_end count limit place [] met refl
+limit_met_at count limit place (b ∷ bs) met = rw (some_more (length (b ∷ bs)) (omega arith)) (limit_met count limit place (b ∷ bs) met (omega arith))
 
 -- the end comes
 pub end_comes : (count limit place : ℕ) (source : List ℕ) → count + 1 ≤ limit → length source ≡ 0
@@ -101,6 +113,10 @@ item_comes count limit place source text after kind more some k t a one within =
     ap (limited (limit - count)) (first_then place source some one (omega arith))
     ∙ limited_some (limit - count) item rest (omega arith)
     ∙ (λ i. gives (record { kind = sym k i; text = sym t i; index = place }) ∷ limited (less i) (items_from (place + sym len i) 0 (sym a i)))
+
+-- one more was asked for, and an answer less is left
+pub high_kept : (high next count : ℕ) (answer : Answer) (old new : List Answer) → old ≡ answer ∷ new → high ≡ count → next ≡ max high (count + 1) → next + length new ≡ high + length old
+high_kept high next count answer old new e same asked = omega (arith, ap (λ (l : List Answer). length l) e, max_next high)
 
 -- an answer less is left
 pub progress : (S A B : Type 0) (view : A → B) (rest : S → List B) (s : S) (r : Option A) (t : S) → YieldsFirstBy view rest s r t

@@ -1,9 +1,7 @@
 -- What a lexer answers, one call of `next` after another.
-use Rattle.std.specs.Prelude.{ℕ, zero, suc, ◌-◌, Bool, true, false, List, [], ◌∷◌, Option, Some, None, Result, Ok, Err, is_some}
-use Rattle.lexical_grammar.specs.declared.TokenKind.{TokenKind}
-use Rattle.lexical_grammar.specs.declared.TokenKind.TheVariants.{Eof}
+use Rattle.std.specs.Prelude.{ℕ, ◌+◌, ◌-◌, Bool, true, false, if◌then◌else◌, List, [], ◌∷◌, length, Option, Some, None, Result, Ok, Err}
 use Rattle.lexical_grammar.specs.Cut.{Item}
-use Rattle.lexical_grammar.specs.Answers.{Answer, gives, limit_at, limited}
+use Rattle.lexical_grammar.specs.Answers.{Answer, gives, limit_at, limited, is_given}
 use Rattle.apollo_lexer.specs.Reads.{items_from}
 use Rattle.apollo_lexer.specs.Diagnostics.{Diagnostic, subject_text, is_limit_subject}
 use Rattle.apollo_lexer.specs.declared.token.Token.{Token}
@@ -30,3 +28,12 @@ left_unless false allowed items = limited allowed items
 -- the answers that are left
 unfoldable pub answers_left : Lexer → List Answer
 answers_left l = left_unless l.is_finished (l.limit_tracker.limit - l.limit_tracker.current) (items_from l.index 0 l.rest.now)
+
+-- the tracker's `high` when all that is left has been answered: each answer raises it by one
+abbrev pub final_high : Lexer → ℕ
+final_high l = l.limit_tracker.high + length (answers_left l)
+
+-- how many items a call of `next` cut: one, but none where it gave nothing or met the limit
+abbrev pub cut_count : Option (Result Token LexError) → ℕ
+cut_count None = 0
+cut_count (Some answer) = if is_given (answer_of answer) then 1 else 0

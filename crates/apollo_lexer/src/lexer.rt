@@ -1,9 +1,10 @@
 // Cuts a text into its items.
-ghost use Rattle.std.specs.Prelude.{◌≡◌, ◌+◌, ◌-◌, ◌≤◌, ◌<◌, ◌^◌, cond, length, false};
+ghost use Rattle.std.specs.Prelude.{◌≡◌, ◌+◌, ◌-◌, ◌≤◌, ◌<◌, ◌^◌, ◌==◌, if◌then◌else◌, cond, length, true, false};
 
 use crate::error::Error;
 use crate::limit::LimitTracker;
 use crate::scan::cut;
+use crate::steps::Steps;
 use crate::token::{LexError, Token};
 use lexical_grammar::TokenKind;
 use std::alloc::{AllocError, Allocator};
@@ -20,6 +21,8 @@ pub struct Lexer<'a> {
     ghost in_range: { index + length rest.now < 2 ^ 63 },
     // each item but the end takes a byte
     ghost counted: { limit_tracker.current ≤ index + cond is_finished 1 0 },
+    // nothing has been refused
+    ghost granted: { is_finished ≡ false → limit_tracker.high ≡ limit_tracker.current },
 }
 
 impl<'a> Lexer<'a> {
@@ -32,6 +35,7 @@ impl<'a> Lexer<'a> {
     pub fn new(input: &'a str) -> Self
         ensures answers { answers_left result ≡ limited (2 ^ 64 - 1) (items_from 0 0 input.now) }
         ensures open { result.is_finished ≡ false }
+        ensures tracker { result.limit_tracker ≡ record { current = 0; high = 0; limit = 2 ^ 64 - 1 } }
         ensures index { result.index ≡ 0 }
         ensures rest { result.rest.now ≡ input.now }
     {
@@ -46,7 +50,8 @@ impl<'a> Lexer<'a> {
     /// Sets the token limit: the number of items, the end among them, that are given from here on.
     #[tactic(auto, unfolding(crate::specs::Answers::answers_left))]
     pub fn with_limit(self, limit: usize) -> Self
-        ensures { answers_left result ≡ left_unless self.entry.is_finished limit (items_from self.entry.index 0 self.entry.rest.now) }
+        ensures answers { answers_left result ≡ left_unless self.entry.is_finished limit (items_from self.entry.index 0 self.entry.rest.now) }
+        ensures tracker { result.limit_tracker ≡ record { current = 0; high = 0; limit = limit } }
     {
         Lexer {
             rest: self.rest,
@@ -91,34 +96,43 @@ impl<'a> Lexer<'a> {
     }
 }
 
-impl<'a> Iterator for Lexer<'a> {
-    type Item = Result<Token<'a>, LexError<'a>>;
+impl<'a> Lexer<'a> {
+    ghost use Rattle.std.specs.Iterator.{YieldsFirstBy};
+    ghost use Rattle.apollo_lexer.specs.Answers.{answers_left, answer_of, final_high, cut_count};
 
-    ghost use Rattle.std.specs.Iterator.{YieldsFirstBy, item_count};
-    ghost use Rattle.apollo_lexer.specs.Answers.{answers_left, answer_of};
+    // Where the next item begins, or at the last byte where that is the end of a text with some.
+    fn limit_error(&self) -> LexError<'a>
+        ensures is_limit { result.is_limit ≡ true }
+        ensures index { result.index ≡ (if length self.now.rest.now == 0 then self.now.index - 1 else self.now.index) }
+    {
+        let index = if self.rest.is_empty() {
+            self.index.saturating_sub(1)
+        } else {
+            self.index
+        };
+        LexError {
+            text: "",
+            index,
+            is_limit: true,
+        }
+    }
 
-    ghost next_gives = { YieldsFirstBy answer_of answers_left };
-
-    ghost remaining = { item_count answers_left };
-
+    /// Answers as `next`, and counts one step where an item was cut.
     #[tactic(auto, unfolding(crate::specs::Answers::answers_left))]
-    fn next(&mut self) -> Option<Result<Token<'a>, LexError<'a>>> {
+    pub fn next_counted(&mut self, steps: &mut Steps) -> Option<Result<Token<'a>, LexError<'a>>>
+        ensures answers { YieldsFirstBy answer_of answers_left self.old result self.new }
+        ensures count { steps.new.count ≡ steps.old.count + cut_count result }
+        ensures high { final_high self.new ≡ final_high self.old }
+        ensures limit { self.new.limit_tracker.limit ≡ self.old.limit_tracker.limit }
+    {
         if self.is_finished {
             return None;
         }
         if self.limit_tracker.check_and_increment() {
             self.is_finished = true;
-            let index = if self.rest.is_empty() {
-                self.index.saturating_sub(1)
-            } else {
-                self.index
-            };
-            return Some(Err(LexError {
-                text: "",
-                index,
-                is_limit: true,
-            }));
+            return Some(Err(self.limit_error()));
         }
+        steps.add_one();
         if self.rest.is_empty() {
             self.is_finished = true;
             return Some(Ok(Token {
@@ -139,5 +153,20 @@ impl<'a> Iterator for Lexer<'a> {
                 is_limit: false,
             })),
         }
+    }
+}
+
+impl<'a> Iterator for Lexer<'a> {
+    type Item = Result<Token<'a>, LexError<'a>>;
+
+    ghost use Rattle.std.specs.Iterator.{YieldsFirstBy, item_count};
+    ghost use Rattle.apollo_lexer.specs.Answers.{answers_left, answer_of};
+
+    ghost next_gives = { YieldsFirstBy answer_of answers_left };
+
+    ghost remaining = { item_count answers_left };
+
+    fn next(&mut self) -> Option<Result<Token<'a>, LexError<'a>>> {
+        self.next_counted(&mut Steps::new())
     }
 }

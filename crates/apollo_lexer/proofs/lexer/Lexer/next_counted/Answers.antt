@@ -1,47 +1,39 @@
-use Rattle.std.proofs.Common.{◌≡◌, ◌∙◌, ◌+◌, ◌-◌, ap, sym, arith, length, false, nat_lt, eqb-true, ◌∷◌, [], Some, None}
+use Rattle.std.proofs.Common.{◌≡◌, ◌∙◌, ◌+◌, ◌-◌, ap, sym, arith, length, cond, eqb, false, nat_lt, eqb-true, ◌∷◌, [], Some, None}
 use Rattle.std.proofs.lemmas.Bool.{ltb-true, ltb-false, eqb-false, cond-false}
-use Rattle.apollo_lexer.specs.Answers.{answers_left, answer_of}
+use Rattle.apollo_lexer.specs.Answers.{answers_left}
 use Rattle.lexical_grammar.specs.Answers.{limited, limit_at, gives}
 use Rattle.apollo_lexer.specs.Reads.{items_from}
-use Rattle.apollo_lexer.proofs.Items.{limit_met, limit_met_end, end_comes, item_comes, progress}
-use Rattle.apollo_lexer.proofs.lexer.LexerIterator.next.Goals as goal
-use Rattle.apollo_lexer.proofs.lexer.LexerIterator.next.Goals.{then-is_empty, else-is_empty}
+use Rattle.apollo_lexer.proofs.Items.{limit_met_at, end_comes, item_comes, high_kept}
+use Rattle.apollo_lexer.proofs.lexer.Lexer.next_counted.Goals as goal
 
 -- the token limit
-pub returns-then-check_and_increment-clause-steps : goal.returns-then-check_and_increment-clause-steps
+pub returns-then-check_and_increment-clause-answers : goal.returns-then-check_and_increment-clause-answers
 unfolding answers_left
-returns-then-check_and_increment-clause-steps c =
+returns-then-check_and_increment-clause-answers c =
     let l = c.args.self.now in
     let open_yet : l.is_finished ≡ false = c.if-self.false in
     let met = ltb-true l.limit_tracker.limit (l.limit_tracker.current + 1) (sym c.check_and_increment.ensures.refused ∙ c.if-check_and_increment.true) in
-    rw open_yet (elim c.if-is_empty.branch [
-      | then-is_empty w ↦
-          let empty = eqb-true (length l.rest.now) 0 (sym c.is_empty.ensures ∙ w.if-is_empty.true) in
-          limit_met_end l.limit_tracker.current l.limit_tracker.limit l.index l.rest.now met empty ∙ ap (λ n. limit_at n ∷ []) (omega (arith, w.saturating_sub-index.ensures, w.index-is))
-      | else-is_empty w ↦
-          let more = eqb-false (length l.rest.now) 0 (sym c.is_empty.ensures ∙ w.if-is_empty.false) in
-          limit_met l.limit_tracker.current l.limit_tracker.limit l.index l.rest.now met (omega arith) ∙ ap (λ n. limit_at n ∷ []) (sym w.index-is)
-    ])
+    rw (open_yet, c.limit_error.ensures.is_limit) (limit_met_at l.limit_tracker.current l.limit_tracker.limit l.index l.rest.now met ∙ ap (λ n. limit_at n ∷ []) (sym c.limit_error.ensures.index))
 
 -- the end
-pub returns-then-is_empty-2-clause-steps : goal.returns-then-is_empty-2-clause-steps
+pub returns-then-is_empty-clause-answers : goal.returns-then-is_empty-clause-answers
 unfolding answers_left
-returns-then-is_empty-2-clause-steps c =
+returns-then-is_empty-clause-answers c =
     let l = c.args.self.now in
     let open_yet : l.is_finished ≡ false = c.if-self.false in
     let more = ltb-false l.limit_tracker.limit (l.limit_tracker.current + 1) (sym c.check_and_increment.ensures.refused ∙ c.if-check_and_increment.false) in
-    let empty = eqb-true (length l.rest.now) 0 (sym c.is_empty-2.ensures ∙ c.if-is_empty-2.true) in
+    let empty = eqb-true (length l.rest.now) 0 (sym c.is_empty.ensures ∙ c.if-is_empty.true) in
     rw open_yet (end_comes l.limit_tracker.current l.limit_tracker.limit l.index l.rest.now more empty)
 
 -- a token
-pub returns-in-Some-clause-steps : goal.returns-in-Some-clause-steps
+pub returns-in-Some-clause-answers : goal.returns-in-Some-clause-answers
 unfolding answers_left
-returns-in-Some-clause-steps c =
+returns-in-Some-clause-answers c =
     let l = c.args.self.now in
     let open_yet : l.is_finished ≡ false = c.if-self.false in
     let refused = sym c.check_and_increment.ensures.refused ∙ c.if-check_and_increment.false in
     let more = ltb-false l.limit_tracker.limit (l.limit_tracker.current + 1) refused in
-    let some = eqb-false (length l.rest.now) 0 (sym c.is_empty-2.ensures ∙ c.if-is_empty-2.false) in
+    let some = eqb-false (length l.rest.now) 0 (sym c.is_empty.ensures ∙ c.if-is_empty.false) in
     let cut = c.cut-kind.ensures in
     let comes = item_comes l.limit_tracker.current l.limit_tracker.limit l.index l.rest.now c.cut-kind.result.1.now c.cut-kind.result.2.now (Some c.in-Some.kind) more (omega arith) (sym c.in-Some.is ∙ cut.kind) cut.text cut.after cut.some cut.within in
     let limit = c.check_and_increment.ensures.limit in
@@ -50,14 +42,14 @@ returns-in-Some-clause-steps c =
     rw open_yet (comes ∙ ap (λ m. gives (record { kind = (Some c.in-Some.kind); text = c.cut-kind.result.1.now; index = l.index }) ∷ limited m (items_from (l.index + length c.cut-kind.result.1.now) 0 c.cut-kind.result.2.now)) same)
 
 -- bad text
-pub returns-in-None-clause-steps : goal.returns-in-None-clause-steps
+pub returns-in-None-clause-answers : goal.returns-in-None-clause-answers
 unfolding answers_left
-returns-in-None-clause-steps c =
+returns-in-None-clause-answers c =
     let l = c.args.self.now in
     let open_yet : l.is_finished ≡ false = c.if-self.false in
     let refused = sym c.check_and_increment.ensures.refused ∙ c.if-check_and_increment.false in
     let more = ltb-false l.limit_tracker.limit (l.limit_tracker.current + 1) refused in
-    let some = eqb-false (length l.rest.now) 0 (sym c.is_empty-2.ensures ∙ c.if-is_empty-2.false) in
+    let some = eqb-false (length l.rest.now) 0 (sym c.is_empty.ensures ∙ c.if-is_empty.false) in
     let cut = c.cut-kind.ensures in
     let comes = item_comes l.limit_tracker.current l.limit_tracker.limit l.index l.rest.now c.cut-kind.result.1.now c.cut-kind.result.2.now None more (omega arith) (sym c.in-None.is ∙ cut.kind) cut.text cut.after cut.some cut.within in
     let limit = c.check_and_increment.ensures.limit in
@@ -65,15 +57,23 @@ returns-in-None-clause-steps c =
     let same : l.limit_tracker.limit - (l.limit_tracker.current + 1) ≡ c.check_and_increment.new.self.limit - c.check_and_increment.new.self.current = omega (arith, limit, count) in
     rw open_yet (comes ∙ ap (λ m. gives (record { kind = None; text = c.cut-kind.result.1.now; index = l.index }) ∷ limited m (items_from (l.index + length c.cut-kind.result.1.now) 0 c.cut-kind.result.2.now)) same)
 
--- each answer leaves one less
-pub returns-then-check_and_increment-clause-goes : goal.returns-then-check_and_increment-clause-goes
-returns-then-check_and_increment-clause-goes c = progress _ _ _ answer_of answers_left _ _ _ (returns-then-check_and_increment-clause-steps c)
+-- each answer raises the tracker's `high` by one
+pub returns-then-check_and_increment-clause-high : goal.returns-then-check_and_increment-clause-high
+returns-then-check_and_increment-clause-high c =
+    let l = c.args.self.now in
+    high_kept l.limit_tracker.high c.check_and_increment.new.self.high l.limit_tracker.current _ _ _ (returns-then-check_and_increment-clause-answers c) (l.granted c.if-self.false) c.check_and_increment.ensures.high
 
-pub returns-then-is_empty-2-clause-goes : goal.returns-then-is_empty-2-clause-goes
-returns-then-is_empty-2-clause-goes c = progress _ _ _ answer_of answers_left _ _ _ (returns-then-is_empty-2-clause-steps c)
+pub returns-then-is_empty-clause-high : goal.returns-then-is_empty-clause-high
+returns-then-is_empty-clause-high c =
+    let l = c.args.self.now in
+    high_kept l.limit_tracker.high c.check_and_increment.new.self.high l.limit_tracker.current _ _ _ (returns-then-is_empty-clause-answers c) (l.granted c.if-self.false) c.check_and_increment.ensures.high
 
-pub returns-in-Some-clause-goes : goal.returns-in-Some-clause-goes
-returns-in-Some-clause-goes c = progress _ _ _ answer_of answers_left _ _ _ (returns-in-Some-clause-steps c)
+pub returns-in-Some-clause-high : goal.returns-in-Some-clause-high
+returns-in-Some-clause-high c =
+    let l = c.args.self.now in
+    high_kept l.limit_tracker.high c.check_and_increment.new.self.high l.limit_tracker.current _ _ _ (returns-in-Some-clause-answers c) (l.granted c.if-self.false) c.check_and_increment.ensures.high
 
-pub returns-in-None-clause-goes : goal.returns-in-None-clause-goes
-returns-in-None-clause-goes c = progress _ _ _ answer_of answers_left _ _ _ (returns-in-None-clause-steps c)
+pub returns-in-None-clause-high : goal.returns-in-None-clause-high
+returns-in-None-clause-high c =
+    let l = c.args.self.now in
+    high_kept l.limit_tracker.high c.check_and_increment.new.self.high l.limit_tracker.current _ _ _ (returns-in-None-clause-answers c) (l.granted c.if-self.false) c.check_and_increment.ensures.high
