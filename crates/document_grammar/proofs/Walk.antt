@@ -3,14 +3,14 @@ use Rattle.std.proofs.Common.{◌≡◌, ℕ, zero, suc, ◌+◌, Bool, true, fa
 use Rattle.std.proofs.lemmas.List.{append_cancel_right}
 use Rattle.document_grammar.specs.Tree.{Token, Tree, leaf, node, Forest, none, ◌▸◌, ◌+++◌}
 use Rattle.document_grammar.specs.Derivation.{Sort, Spells, Starts}
-use Rattle.document_grammar.specs.Machine.{is_leaf, exit, target, Move, go, close, stuck, first, yields, Frame, frame, Reach, start, shift, open', closed}
-use Rattle.document_grammar.proofs.Basics.{either}
+use Rattle.document_grammar.specs.Machine.{◌or◌, is_leaf, exit, target, Move, go, close, stuck, first, yields, Frame, frame, Reach, start, shift, open', closed}
+use Rattle.document_grammar.proofs.Basics.{either, or-c}
 use Rattle.document_grammar.proofs.Run.{next}
 use Rattle.document_grammar.proofs.Show.{show}
 use Rattle.document_grammar.proofs.Sound.{reach-sound}
 use Rattle.document_grammar.proofs.Theory.{fault, no-leaf}
 use Rattle.document_grammar.proofs.Starts.{opens, read, next_two}
-use Rattle.document_grammar.proofs.Main.{start_symbol, FaultIn, Ended, sound, not-starts}
+use Rattle.document_grammar.proofs.Main.{start_symbol, FaultIn, Ended, sound, sound-all, accepts, not-starts}
 
 abbrev Config : Type 0
 Config = List Frame × List Token
@@ -96,18 +96,43 @@ abbrev ends_stuck : Config → Bool
 ends_stuck ([], r) = false
 ends_stuck (frame s q f ∷ fs, r) = is_stuck (next s q r)
 
-clean-from : (sort : Sort) (w : List Token) (c : Config) → At (start_symbol sort w) w c → ends_clean c ≡ true → (t : Tree) × Spells w t sort
+-- The root is all that is open and ends, before more tokens.
+abbrev ends_early : Config → Bool
+ends_early ([], r) = false
+ends_early (frame s q f ∷ [], []) = false
+ends_early (frame s q f ∷ [], a ∷ r) = is_close (next s q (a ∷ r))
+ends_early (frame s q f ∷ (g ∷ fs), r) = false
+
+-- The tree of the innermost open node.
+abbrev tree_in : Config → Tree
+tree_in ([], r) = leaf 0 []
+tree_in (frame s q f ∷ fs, r) = show (node s f)
+
+ended : (sort : Sort) (w : List Token) (s q : ℕ) (f : Forest) (r : List Token) → Reach (start_symbol sort w) w (frame s q f ∷ []) r → is_close (next s q r) ≡ true → (s ≡ start_symbol sort w) × Ended sort w f r
+ended sort w s q f r h e =
+    let i : s ≡ start_symbol sort w = (reach-sound (no-leaf (start_symbol sort w) (opens sort (first w))) h).2 in
+    let m : next s q r ≡ close = is-close (next s q r) e in
+    (i, (q, subst (λ (n : ℕ). Reach (start_symbol sort w) w (frame n q f ∷ []) r) i h, subst (λ (n : ℕ). next n q r ≡ close) i m))
+
+clean-from : (sort : Sort) (w : List Token) (c : Config) → At (start_symbol sort w) w c → ends_clean c ≡ true → Spells w (tree_in c) sort
 clean-from sort w ([], r) h e = absurd (true≢false (sym e))
 clean-from sort w (frame s q f ∷ [], []) h e =
-    let i : s ≡ start_symbol sort w = (reach-sound (no-leaf (start_symbol sort w) (opens sort (first w))) h).2 in
-    let m : next s q [] ≡ close = is-close (next s q []) e in
-    let x : Ended sort w f [] = (q, subst (λ (n : ℕ). Reach (start_symbol sort w) w (frame n q f ∷ []) []) i h, subst (λ (n : ℕ). next n q [] ≡ close) i m) in
-    let d = sound sort w f [] x in
-    (show (node (start_symbol sort w) f), subst (λ (v : List Token). Spells v (show (node (start_symbol sort w) f)) sort) (sym (d.0 ∙ append-nil (yields f))) d.1)
+    let x = ended sort w s q f [] h e in
+    let d = sound sort w f [] x.1 in
+    let y : Spells w (show (node (start_symbol sort w) f)) sort = subst (λ (v : List Token). Spells v (show (node (start_symbol sort w) f)) sort) (sym (d.0 ∙ append-nil (yields f))) d.1 in
+    subst (λ (n : ℕ). Spells w (show (node n f)) sort) (sym x.0) y
 clean-from sort w (frame s q f ∷ [], a ∷ r) h e = absurd (true≢false (sym e))
 clean-from sort w (frame s q f ∷ (g ∷ fs), r) h e = absurd (true≢false (sym e))
 
-pub clean : (sort : Sort) (n : ℕ) (w : List Token) → ends_clean (walked sort n w) ≡ true → (t : Tree) × Spells w t sort
+-- The tree that is read, and the test that it is a derivation of all tokens.
+unfoldable pub tree_read : Sort → ℕ → List Token → Tree
+tree_read sort n w = tree_in (walked sort n w)
+
+unfoldable pub is_read : Sort → ℕ → List Token → Bool
+is_read sort n w = ends_clean (walked sort n w)
+
+pub clean : (sort : Sort) (n : ℕ) (w : List Token) → is_read sort n w ≡ true → Spells w (tree_read sort n w) sort
+unfolding tree_read is_read
 clean sort n w e = clean-from sort w (walked sort n w) (walked-reach sort n w) e
 
 stuck-from : (sort : Sort) (w : List Token) (c : Config) → At (start_symbol sort w) w c → ends_stuck c ≡ true → FaultIn sort w c.1
@@ -120,3 +145,20 @@ refused sort n b r e i h =
     let k : FaultIn sort (b ++ r) r = subst (λ (v : List Token). FaultIn sort (b ++ r) v) i (stuck-from sort (b ++ r) (walked sort n (b ++ r)) (walked-reach sort n (b ++ r)) e) in
     let j : k.before ≡ b = append_cancel_right k.before b r (sym k.split) in
     not-starts sort (b ++ r) r k (subst (λ (z : List Token). Starts sort (read z ++ next_two r)) (sym j) h)
+
+-- The test that the tokens are refused: nothing goes on, or the root ends before more of them.
+unfoldable pub is_refused : Sort → ℕ → List Token → Bool
+is_refused sort n w = ends_stuck (walked sort n w) or ends_early (walked sort n w)
+
+early-from : (sort : Sort) (w : List Token) (c : Config) → At (start_symbol sort w) w c → ends_early c ≡ true → (t : Tree) → Spells w t sort → ⊥
+early-from sort w ([], r) h e t k = absurd (true≢false (sym e))
+early-from sort w (frame s q f ∷ [], []) h e t k = absurd (true≢false (sym e))
+early-from sort w (frame s q f ∷ [], a ∷ r) h e t k = let x : a ∷ r ≡ [] = (sound-all sort w t f (a ∷ r) k (ended sort w s q f (a ∷ r) h e).1).0 in absurd (cc)
+early-from sort w (frame s q f ∷ (g ∷ fs), r) h e t k = absurd (true≢false (sym e))
+
+pub none-spelled : (sort : Sort) (n : ℕ) (w : List Token) → is_refused sort n w ≡ true → (t : Tree) → Spells w t sort → ⊥
+unfolding is_refused
+none-spelled sort n w e t k = elim (or-c _ _ e) [
+  | inl p ↦ accepts sort w (walked sort n w).1 t k (stuck-from sort w (walked sort n w) (walked-reach sort n w) p)
+  | inr p ↦ early-from sort w (walked sort n w) (walked-reach sort n w) p t k
+]
