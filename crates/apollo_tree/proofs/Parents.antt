@@ -1,187 +1,170 @@
--- The parent of an element is the nearest element before it whose records reach beyond it.
+-- The parent of an element stands as far before it as its record says.
 use Rattle.std.proofs.Common.{◌≡◌, ℕ, zero, suc, ◌+◌, ◌-◌, ◌<◌, ◌≤◌, List, [], ◌∷◌, ◌++◌, length, get_or, refl, sym, ap, ◌∙◌, subst, ◌⊎◌, inl, inr, ⊎_elim, arith, true, Option, Some, None}
 use Rattle.std.specs.Prelude.{option_map}
-use Rattle.std.proofs.lemmas.List.{append-nil, length-append, get_or_append_left, get_or-append-add}
+use Rattle.std.proofs.lemmas.List.{get_or_append_left, get_or-append-add}
 use Rattle.std.proofs.lemmas.Bool.{cases_lt}
 use Rattle.apollo_tree.specs.declared.record.Record.{Record}
-use Rattle.document_grammar.specs.Forests.{Forest, none, leaf, node, Tree, Leaf, Node, text, count}
-use Rattle.apollo_tree.specs.Records.{forest}
-use Rattle.apollo_tree.specs.Order.{Element, order_from, order, nowhere, tree_kids, places, tree_at, Place, parent_place, is_node}
+use Rattle.document_grammar.specs.Forests.{Forest, none, leaf, node, Leaf, Node, text, count}
+use Rattle.apollo_tree.specs.Records.{records, leaf_record, node_record, further, forest}
+use Rattle.apollo_tree.specs.Order.{Element, order_from, order, nowhere, places, tree_at, Place, parent_place, is_node}
 use Rattle.apollo_tree.specs.Table.{IsTable, none_there}
 use Rattle.apollo_tree.specs.ReadBack.{length-records}
-use Rattle.apollo_tree.proofs.Places.{cut, length-order, tree_records, size_is, node_is}
+use Rattle.apollo_tree.proofs.Places.{length-order, node_is}
 
 abbrev at_index : List Element → ℕ → Element
-at_index xs m = get_or xs m nowhere
+at_index xs n = get_or xs n nowhere
 
--- where the subtree of the element with the number m ends
-abbrev pub past : List Element → ℕ → ℕ
-past xs m = m + suc (count (tree_kids (at_index xs m).tree))
+abbrev distance_at : List Record → ℕ → ℕ
+distance_at rs n = (get_or rs n none_there).to_parent
 
-pub record IsTop (xs : List Element) (p : Option ℕ) (n : ℕ) : Type 0 where
-  pub parent : (at_index xs n).parent ≡ p
-  pub ended : (m : ℕ) → m < n → past xs m ≤ n
+further-zero : (up : ℕ) → up ≡ further up 0
+further-zero zero = refl
+further-zero (suc up) = omega arith
 
-pub record IsUnder (xs : List Element) (i n : ℕ) : Type 0 where
+further-further : (up m n : ℕ) → further (further up m) n ≡ further up (m + n)
+further-further zero m n = refl
+further-further (suc up) m n = omega arith
+
+-- the element with the number n is one of the list's own trees
+record IsTop (xs : List Element) (rs : List Record) (parent : Option ℕ) (up n : ℕ) : Type 0 where
+  pub parent_is : (at_index xs n).parent ≡ parent
+  pub distance : distance_at rs n ≡ further up n
+
+-- it stands below one of the list's elements, of which the first has the place i
+record IsUnder (xs : List Element) (rs : List Record) (i n : ℕ) : Type 0 where
   pub under : ℕ
   pub below : under < n
-  pub parent : (at_index xs n).parent ≡ Some (i + under)
-  pub reaches : n < past xs under
-  pub nearest : (k : ℕ) → under < k → k < n → past xs k ≤ n
+  pub parent_is : (at_index xs n).parent ≡ Some (i + under)
+  pub distance : under + distance_at rs n ≡ n
+  pub node : is_node (at_index xs under).tree ≡ true
 
-left_is : (xs ys : List Element) (m : ℕ) → m < length xs → at_index (xs ++ ys) m ≡ at_index xs m
-left_is xs ys m h = get_or_append_left xs ys nowhere m h
+-- past elements that stand before
+module _ (xs ys : List Element) (rs qs : List Record) (k : ℕ) (e : length xs ≡ k) (f : length rs ≡ k) where
+  later_element : (n : ℕ) → at_index (xs ++ ys) (k + n) ≡ at_index ys n
+  later_element n = ap (λ j. at_index (xs ++ ys) (j + n)) (sym e) ∙ get_or-append-add xs ys n nowhere
 
-right_is : (xs ys : List Element) (m : ℕ) → at_index (xs ++ ys) (length xs + m) ≡ at_index ys m
-right_is xs ys m = get_or-append-add xs ys m nowhere
+  later_distance : (n : ℕ) → distance_at (rs ++ qs) (k + n) ≡ distance_at qs n
+  later_distance n =
+      ap (λ (r : Record). r.to_parent) (ap (λ j. get_or (rs ++ qs) (j + n) none_there) (sym f) ∙ get_or-append-add rs qs n none_there)
 
-past_left : (xs ys : List Element) (m : ℕ) → m < length xs → past (xs ++ ys) m ≡ past xs m
-past_left xs ys m h = ap (λ (e : Element). m + suc (count (tree_kids e.tree))) (left_is xs ys m h)
+  top_later : (p : Option ℕ) (up n : ℕ) → IsTop ys qs p (further up k) n → IsTop (xs ++ ys) (rs ++ qs) p up (k + n)
+  top_later p up n t = record {
+    parent_is = ap (λ (x : Element). x.parent) (later_element n) ∙ t.parent_is;
+    distance = later_distance n ∙ t.distance ∙ further-further up k n;
+  }
 
-past_right : (xs ys : List Element) (m : ℕ) → past (xs ++ ys) (length xs + m) ≡ length xs + past ys m
-past_right xs ys m = ap (λ (e : Element). (length xs + m) + suc (count (tree_kids e.tree))) (right_is xs ys m) ∙ omega arith
+  under_later : (i n : ℕ) → IsUnder ys qs (i + k) n → IsUnder (xs ++ ys) (rs ++ qs) i (k + n)
+  under_later i n u = record {
+    under = k + u.under;
+    below = omega (arith, u.below);
+    parent_is = ap (λ (x : Element). x.parent) (later_element n) ∙ u.parent_is ∙ ap Some (omega arith);
+    distance = omega (arith, later_distance n, u.distance);
+    node = ap (λ (x : Element). is_node x.tree) (later_element u.under) ∙ u.node;
+  }
 
--- an element of a prefix, or of what follows
-past_le : (xs ys : List Element) (n : ℕ) → ((m : ℕ) → m < length xs → past xs m ≤ length xs) → (low : ℕ) → ((m : ℕ) → low ≤ length xs + m → m < n → past ys m ≤ n) → (m : ℕ) → low ≤ m → m < length xs + n → past (xs ++ ys) m ≤ length xs + n
-past_le xs ys n ends low rest m l h =
-    ⊎_elim
-    (λ (lt : m < length xs). omega (arith, past_left xs ys m lt, ends m lt))
-    (λ (ge : length xs ≤ m).
-    let k = m - length xs in
-    let e : m ≡ length xs + k = omega arith in
-    let q : past (xs ++ ys) m ≡ length xs + past ys k = ap (past (xs ++ ys)) e ∙ past_right xs ys k in
-    omega (arith, q, rest k (omega arith) (omega arith)))
-    (cases_lt m (length xs))
+-- below a node: its children, and what stands behind the node
+module _ (e : Element) (r : Record) (xs ys : List Element) (rs qs : List Record) (i n : ℕ) (lt : n < length xs) (lq : n < length rs) (node_e : is_node e.tree ≡ true) where
+  inner_element : (m : ℕ) → m ≤ n → at_index (e ∷ (xs ++ ys)) (suc m) ≡ at_index xs m
+  inner_element m h = get_or_append_left xs ys nowhere m (omega arith)
 
-top_right : (xs ys : List Element) (p : Option ℕ) (n : ℕ) → ((m : ℕ) → m < length xs → past xs m ≤ length xs) → IsTop ys p n → IsTop (xs ++ ys) p (length xs + n)
-top_right xs ys p n ends t = record {
-  parent = ap (λ (e : Element). e.parent) (right_is xs ys n) ∙ t.parent;
-  ended = λ m h. past_le xs ys n ends 0 (λ k _ l. t.ended k l) m (omega arith) h;
-}
+  inner_distance : distance_at (r ∷ (rs ++ qs)) (suc n) ≡ distance_at rs n
+  inner_distance = ap (λ (x : Record). x.to_parent) (get_or_append_left rs qs none_there n lq)
 
-under_right : (xs ys : List Element) (i n : ℕ) → ((m : ℕ) → m < length xs → past xs m ≤ length xs) → IsUnder ys (i + length xs) n → IsUnder (xs ++ ys) i (length xs + n)
-under_right xs ys i n ends u = record {
-  under = length xs + u.under;
-  below = omega (arith, u.below);
-  parent = ap (λ (e : Element). e.parent) (right_is xs ys n) ∙ u.parent ∙ ap Some (omega arith);
-  reaches = omega (arith, past_right xs ys u.under, u.reaches);
-  nearest = λ k l h. past_le xs ys n ends (suc (length xs + u.under)) (λ m a b. u.nearest m (omega arith) b) k (omega arith) h;
-}
-
--- no subtree reaches beyond the list
-ends_of : (at i : ℕ) (p : Option ℕ) (f : Forest) (m : ℕ) → m < count f → past (order_from at i p f) m ≤ count f
-ends_of at i p f m h =
-    let e = at_index (order_from at i p f) m in
-    let c = cut at i p f m nowhere h in
-    omega (arith, ap length c.table, length-append c.front (tree_records e.start e.tree ++ c.back), length-append (tree_records e.start e.tree) c.back, tree_count e.start e.tree, c.index, length-records at f)
-  where
-    tree_count : (at : ℕ) (t : Tree) → length (tree_records at t) ≡ suc (count (tree_kids t))
-    tree_count at (Leaf k s) = refl
-    tree_count at (Node k kids) = ap suc (length-records at kids)
-
--- from the children to the list that begins with their parent
-module _ (e : Element) (inner outer : List Element) (n i : ℕ) (lt : n < length inner) (whole : count (tree_kids e.tree) ≡ length inner) where
-  inner_is : (m : ℕ) → m ≤ n → at_index (e ∷ (inner ++ outer)) (suc m) ≡ at_index inner m
-  inner_is m h = left_is inner outer m (omega arith)
-
-  inner_past : (m : ℕ) → m ≤ n → past (e ∷ (inner ++ outer)) (suc m) ≡ suc (past inner m)
-  inner_past m h = ap (λ (x : Element). suc m + suc (count (tree_kids x.tree))) (inner_is m h) ∙ omega arith
-
-  nearest_in : (low : ℕ) → ((m : ℕ) → low ≤ m → m < n → past inner m ≤ n) → (k : ℕ) → suc low ≤ k → k < suc n → past (e ∷ (inner ++ outer)) k ≤ suc n
-  nearest_in low h zero l b = absurd (omega arith)
-  nearest_in low h (suc m) l b = omega (arith, inner_past m (omega arith), h m (omega arith) (omega arith))
-
-  top_in : IsTop inner (Some i) n → IsUnder (e ∷ (inner ++ outer)) i (suc n)
-  top_in t = record {
+  top_below : IsTop xs rs (Some i) 1 n → IsUnder (e ∷ (xs ++ ys)) (r ∷ (rs ++ qs)) i (suc n)
+  top_below t = record {
     under = 0;
     below = omega arith;
-    parent = ap (λ (x : Element). x.parent) (inner_is n (omega arith)) ∙ t.parent ∙ ap Some (omega arith);
-    reaches = omega (arith, whole);
-    nearest = λ k l h. nearest_in 0 (λ m a b. t.ended m b) k (omega arith) h;
+    parent_is = ap (λ (x : Element). x.parent) (inner_element n (omega arith)) ∙ t.parent_is ∙ ap Some (omega arith);
+    distance = omega (arith, inner_distance, t.distance);
+    node = node_e;
   }
 
-  under_in : IsUnder inner (suc i) n → IsUnder (e ∷ (inner ++ outer)) i (suc n)
-  under_in u = record {
+  under_below : IsUnder xs rs (suc i) n → IsUnder (e ∷ (xs ++ ys)) (r ∷ (rs ++ qs)) i (suc n)
+  under_below u = record {
     under = suc u.under;
     below = omega (arith, u.below);
-    parent = ap (λ (x : Element). x.parent) (inner_is n (omega arith)) ∙ u.parent ∙ ap Some (omega arith);
-    reaches = omega (arith, inner_past u.under (omega (arith, u.below)), u.reaches);
-    nearest = λ k l h. nearest_in (suc u.under) (λ m a b. u.nearest m (omega arith) b) k (omega arith) h;
+    parent_is = ap (λ (x : Element). x.parent) (inner_element n (omega arith)) ∙ u.parent_is ∙ ap Some (omega arith);
+    distance = omega (arith, inner_distance, u.distance);
+    node = ap (λ (x : Element). is_node x.tree) (inner_element u.under (omega (arith, u.below))) ∙ u.node;
   }
 
-pub parents : (at i : ℕ) (p : Option ℕ) (f : Forest) (n : ℕ) → n < count f → IsTop (order_from at i p f) p n ⊎ IsUnder (order_from at i p f) i n
-parents at i p none n h = absurd (omega arith)
-parents at i p (leaf k s rest) zero h = inl (record { parent = refl; ended = λ m l. absurd (omega arith) })
-parents at i p (leaf k s rest) (suc n) h =
+parents : (at up i : ℕ) (p : Option ℕ) (f : Forest) (n : ℕ) → n < count f → IsTop (order_from at i p f) (records at up f) p up n ⊎ IsUnder (order_from at i p f) (records at up f) i n
+parents at up i p none n h = absurd (omega arith)
+parents at up i p (leaf k s rest) zero h = inl (record { parent_is = refl; distance = further-zero up })
+parents at up i p (leaf k s rest) (suc n) h =
     let e : Element = record { tree = Leaf k s; start = at; parent = p; children = [] } in
+    let r = leaf_record at up k s in
     let ys = order_from (at + length s) (suc i) p rest in
-    let one : i + length (e ∷ []) ≡ suc i = omega arith in
-    let next : length (e ∷ []) + n ≡ suc n = omega arith in
-    let ends : (m : ℕ) → m < length (e ∷ []) → past (e ∷ []) m ≤ length (e ∷ []) = ends_of at i p (leaf k s none) in
+    let qs = records (at + length s) (further up 1) rest in
+    let one : i + 1 ≡ suc i = omega arith in
+    let next : 1 + n ≡ suc n = omega arith in
     ⊎_elim
-    (λ t. inl (subst (IsTop (e ∷ ys) p) next (top_right (e ∷ []) ys p n ends t)))
-    (λ u. inr (subst (IsUnder (e ∷ ys) i) next (under_right (e ∷ []) ys i n ends (subst (λ j. IsUnder ys j n) (sym one) u))))
-    (parents (at + length s) (suc i) p rest n (omega arith))
-parents at i p (node k kids rest) zero h = inl (record { parent = refl; ended = λ m l. absurd (omega arith) })
-parents at i p (node k kids rest) (suc n) h =
+    (λ t. inl (subst (IsTop (e ∷ ys) (r ∷ qs) p up) next (top_later (e ∷ []) ys (r ∷ []) qs 1 refl refl p up n t)))
+    (λ u. inr (subst (IsUnder (e ∷ ys) (r ∷ qs) i) next (under_later (e ∷ []) ys (r ∷ []) qs 1 refl refl i n (subst (λ j. IsUnder ys qs j n) (sym one) u))))
+    (parents (at + length s) (further up 1) (suc i) p rest n (omega arith))
+parents at up i p (node k kids rest) zero h = inl (record { parent_is = refl; distance = further-zero up })
+parents at up i p (node k kids rest) (suc n) h =
     let e : Element = record { tree = Node k kids; start = at; parent = p; children = places (suc i) kids } in
-    let inner = order_from at (suc i) (Some i) kids in
-    let outer = order_from (at + length (text kids)) (suc (i + count kids)) p rest in
+    let r = node_record at up k kids in
+    let at2 = at + length (text kids) in
+    let size = suc (count kids) in
+    let xs = order_from at (suc i) (Some i) kids in
+    let ys = order_from at2 (suc (i + count kids)) p rest in
+    let rs = records at 1 kids in
+    let qs = records at2 (further up size) rest in
     let l = length-order at (suc i) (Some i) kids in
+    let lq = length-records at 1 kids in
     ⊎_elim
     (λ (lt : n < count kids).
-    let lt2 : n < length inner = omega arith in
-    inr (⊎_elim (top_in e inner outer n i lt2 (sym l)) (under_in e inner outer n i lt2 (sym l)) (parents at (suc i) (Some i) kids n lt)))
+    let a : n < length xs = omega arith in
+    let b : n < length rs = omega arith in
+    inr (⊎_elim (top_below e r xs ys rs qs i n a b refl) (under_below e r xs ys rs qs i n a b refl) (parents at 1 (suc i) (Some i) kids n lt)))
     (λ (ge : count kids ≤ n).
     let m = n - count kids in
-    let xs = e ∷ inner in
-    let sum : length xs + m ≡ suc n = omega arith in
-    let base : i + length xs ≡ suc (i + count kids) = omega arith in
-    let plain : order_from at i p (node k kids none) ≡ xs = ap (λ x. e ∷ x) (append-nil inner) in
-    let ends : (j : ℕ) → j < length xs → past xs j ≤ length xs = λ j b.
-    let whole : count (node k kids none) ≡ length xs = omega arith in
-    subst (λ (x : List Element). past x j ≤ length xs) plain (subst (λ c. past (order_from at i p (node k kids none)) j ≤ c) whole (ends_of at i p (node k kids none) j (omega arith))) in
+    let next : size + m ≡ suc n = omega arith in
+    let base : i + size ≡ suc (i + count kids) = omega arith in
+    let a : length (e ∷ xs) ≡ size = omega arith in
+    let b : length (r ∷ rs) ≡ size = omega arith in
     ⊎_elim
-    (λ t. inl (subst (IsTop (xs ++ outer) p) sum (top_right xs outer p m ends t)))
-    (λ u. inr (subst (IsUnder (xs ++ outer) i) sum (under_right xs outer i m ends (subst (λ j. IsUnder outer j m) (sym base) u))))
-    (parents (at + length (text kids)) (suc (i + count kids)) p rest m (omega arith)))
+    (λ t. inl (subst (IsTop (e ∷ (xs ++ ys)) (r ∷ (rs ++ qs)) p up) next (top_later (e ∷ xs) ys (r ∷ rs) qs size a b p up m t)))
+    (λ u. inr (subst (IsUnder (e ∷ (xs ++ ys)) (r ∷ (rs ++ qs)) i) next (under_later (e ∷ xs) ys (r ∷ rs) qs size a b i m (subst (λ j. IsUnder ys qs j m) (sym base) u))))
+    (parents at2 (further up size) (suc (i + count kids)) p rest m (omega arith)))
     (cases_lt n (count kids))
 
--- ---- as a search from an element backward finds it
-module _ (rs : List Record) (s : List ℕ) (t : IsTable rs s) (i : ℕ) (h : i < length rs) where
-  records_past : (k : ℕ) → k < length rs → past (order (forest s rs)) k ≡ k + (get_or rs k none_there).size
-  records_past k l = ap (λ n. k + n) (sym (size_is rs s t k l none_there))
+-- ---- as a table has it
+pub record IsParent (rs : List Record) (s : List ℕ) (i up : ℕ) : Type 0 where
+  pub inside : up ≤ i
+  pub node : (get_or rs (i - up) none_there).is_node ≡ true
+  pub parent : parent_place (record { whole = forest s rs; index = i }) ≡ Some (record { whole = forest s rs; index = i - up })
 
-  total : length rs ≡ count (forest s rs)
-  total = ap length (sym t.table) ∙ length-records 0 (forest s rs)
+module _ (rs : List Record) (s : List ℕ) (t : IsTable rs s) (i : ℕ) (h : i < length rs) (up : ℕ) (e : up ≡ distance_at rs i) where
+  known : IsTop (order (forest s rs)) (records 0 0 (forest s rs)) None 0 i ⊎ IsUnder (order (forest s rs)) (records 0 0 (forest s rs)) 0 i
+  known = parents 0 0 0 None (forest s rs) i (omega (arith, ap length t.table, length-records 0 0 (forest s rs)))
 
-  pub found : (j : ℕ) → j < i → i < j + (get_or rs j none_there).size → ((k : ℕ) → j < k → k < i → k + (get_or rs k none_there).size ≤ i) → parent_place (record { whole = forest s rs; index = i }) ≡ Some (record { whole = forest s rs; index = j })
-  found j below reaches nearest =
+  distance_is : up ≡ distance_at (records 0 0 (forest s rs)) i
+  distance_is = e ∙ ap (λ x. distance_at x i) (sym t.table)
+
+  pub no_parent : up ≡ 0 → parent_place (record { whole = forest s rs; index = i }) ≡ None
+  no_parent z =
       ap (option_map (λ n. record { whole = forest s rs; index = n }))
       (⊎_elim
-      (λ (top : IsTop (order (forest s rs)) None i). absurd (omega (arith, top.ended j below, records_past j (omega arith))))
-      (λ (u : IsUnder (order (forest s rs)) 0 i).
-      let le : j ≤ u.under = ⊎_elim (λ (lt : u.under < j). absurd (omega (arith, u.nearest j lt below, records_past j (omega arith)))) (λ (ge : j ≤ u.under). ge) (cases_lt u.under j) in
-      let ge : u.under ≤ j = ⊎_elim (λ (lt : j < u.under). absurd (omega (arith, nearest u.under lt u.below, u.reaches, records_past u.under (omega (arith, u.below))))) (λ (ge : u.under ≤ j). ge) (cases_lt j u.under) in
-      let same : 0 + u.under ≡ j = omega arith in
-      u.parent ∙ ap Some same)
-      (parents 0 0 None (forest s rs) i (omega (arith, total))))
+      (λ (top : IsTop (order (forest s rs)) (records 0 0 (forest s rs)) None 0 i). top.parent_is)
+      (λ (u : IsUnder (order (forest s rs)) (records 0 0 (forest s rs)) 0 i). absurd (omega (arith, distance_is, u.below, u.distance)))
+      known)
 
-  pub not_found : ((k : ℕ) → k < i → k + (get_or rs k none_there).size ≤ i) → parent_place (record { whole = forest s rs; index = i }) ≡ None
-  not_found ends =
-      ap (option_map (λ n. record { whole = forest s rs; index = n }))
-      (⊎_elim
-      (λ (top : IsTop (order (forest s rs)) None i). top.parent)
-      (λ (u : IsUnder (order (forest s rs)) 0 i). absurd (omega (arith, ends u.under u.below, u.reaches, records_past u.under (omega (arith, u.below)))))
-      (parents 0 0 None (forest s rs) i (omega (arith, total))))
-
-  -- what has more than one record is a node
-  pub large_is_node : (j : ℕ) → j < i → i < j + (get_or rs j none_there).size → (get_or rs j none_there).is_node ≡ true
-  large_is_node j below reaches =
-      let l : j < length rs = omega arith in
-      let p : Place = record { whole = forest s rs; index = j } in
-      node_is rs s t j l none_there ∙ has_kids (tree_at p) (omega (arith, size_is rs s t j l none_there))
-    where
-      has_kids : (x : Tree) → 0 < count (tree_kids x) → is_node x ≡ true
-      has_kids (Leaf k w) c = absurd (omega arith)
-      has_kids (Node k kids) c = refl
+  pub some_parent : 0 < up → IsParent rs s i up
+  some_parent positive =
+      ⊎_elim
+      (λ (top : IsTop (order (forest s rs)) (records 0 0 (forest s rs)) None 0 i). absurd (omega (arith, distance_is, top.distance)))
+      (λ (u : IsUnder (order (forest s rs)) (records 0 0 (forest s rs)) 0 i).
+      let same : 0 + u.under ≡ i - up = omega (arith, distance_is, u.distance) in
+      let plain : u.under ≡ i - up = omega arith in
+      let lt : i - up < length rs = omega arith in
+      let parent : Place = record { whole = forest s rs; index = i - up } in
+      let is : is_node (tree_at parent) ≡ true = subst (λ j. is_node (at_index (order (forest s rs)) j).tree ≡ true) plain u.node in
+      record {
+        inside = omega (arith, distance_is, u.distance);
+        node = node_is rs s t (i - up) lt none_there ∙ is;
+        parent = ap (option_map (λ n. record { whole = forest s rs; index = n })) (u.parent_is ∙ ap Some same);
+      })
+      known

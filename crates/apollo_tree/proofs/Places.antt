@@ -1,10 +1,10 @@
 -- Where an element stands in the table and in the text.
-use Rattle.std.proofs.Common.{◌≡◌, ℕ, zero, suc, ◌+◌, ◌-◌, ◌<◌, ◌≤◌, List, [], ◌∷◌, ◌++◌, length, take, drop, get_or, refl, sym, ap, ◌∙◌, subst, ⊎_elim, arith, true, false, Option, Some, None}
+use Rattle.std.proofs.Common.{◌≡◌, ℕ, zero, suc, ◌+◌, ◌-◌, ◌<◌, ◌≤◌, List, [], ◌∷◌, ◌++◌, length, take, drop, get_or, refl, sym, ap, ◌∙◌, subst, ⊎_elim, arith, Option, Some, None}
 use Rattle.std.proofs.lemmas.List.{append_assoc, length-append, take_at, drop_at, get_or_at, get_or_append_left, get_or-append-add}
 use Rattle.std.proofs.lemmas.Bool.{cases_lt}
 use Rattle.apollo_tree.specs.declared.record.Record.{Record}
 use Rattle.document_grammar.specs.Forests.{Forest, none, leaf, node, Tree, Leaf, Node, text, count}
-use Rattle.apollo_tree.specs.Records.{records, forest}
+use Rattle.apollo_tree.specs.Records.{records, leaf_record, node_record, further, forest}
 use Rattle.apollo_tree.specs.Order.{Element, element, tree_at, order_from, nowhere, tree_text, tree_kids, tree_kind, is_node, places, range_at}
 use Rattle.apollo_tree.specs.Table.{IsTable}
 use Rattle.apollo_tree.specs.Sound.{IsSound, IsSoundTree}
@@ -14,9 +14,9 @@ use Rattle.std.proofs.Math.Logic.{∥∥₁_map}
 use Rattle.apollo_tree.specs.ReadBack.{length-records}
 
 -- the records of one tree
-abbrev pub tree_records : ℕ → Tree → List Record
-tree_records at (Leaf k s) = record { kind = k; is_node = false; start = at; end = at + length s; size = 1 } ∷ []
-tree_records at (Node k kids) = record { kind = k; is_node = true; start = at; end = at + length (text kids); size = suc (count kids) } ∷ records at kids
+abbrev pub tree_records : ℕ → ℕ → Tree → List Record
+tree_records at up (Leaf k s) = leaf_record at up k s ∷ []
+tree_records at up (Node k kids) = node_record at up k kids ∷ records at 1 kids
 
 pub length-order : (at i : ℕ) (p : Option ℕ) (f : Forest) → length (order_from at i p f) ≡ count f
 length-order at i p none = refl
@@ -39,24 +39,26 @@ sound_tree_text (Leaf k s) h = h
 sound_tree_text (Node k kids) h = sound_text kids h.1
 
 -- the table and the text, cut at an element
-pub record Cut (at : ℕ) (f : Forest) (n : ℕ) (e : Element) : Type 0 where
+pub record Cut (at top : ℕ) (f : Forest) (n : ℕ) (e : Element) : Type 0 where
+  pub up : ℕ
   pub front : List Record
   pub back : List Record
   pub before : List ℕ
   pub after : List ℕ
-  pub table : records at f ≡ front ++ (tree_records e.start e.tree ++ back)
+  pub table : records at top f ≡ front ++ (tree_records e.start up e.tree ++ back)
   pub index : length front ≡ n
   pub words : text f ≡ before ++ (tree_text e.tree ++ after)
   pub begins : at + length before ≡ e.start
   pub kept : IsSound f → SoundParts e.tree after
 
-lower : {at : ℕ} {f : Forest} {n : ℕ} {e : Element} (r : Record) (rs : List Record) (s t : List ℕ) (at2 : ℕ) (f2 : Forest) → Cut at f n e → records at2 f2 ≡ r ∷ (records at f ++ rs) → text f2 ≡ s ++ (text f ++ t) → at ≡ at2 + length s → (IsSound f2 → IsSound f) → (IsSound f2 → IsUtf8 t) → Cut at2 f2 (suc n) e
-lower {at} {f} {n} {e} r rs s t at2 f2 c h w a k u = record {
+lower : {at top : ℕ} {f : Forest} {n : ℕ} {e : Element} (r : Record) (rs : List Record) (s t : List ℕ) (at2 top2 : ℕ) (f2 : Forest) → Cut at top f n e → records at2 top2 f2 ≡ r ∷ (records at top f ++ rs) → text f2 ≡ s ++ (text f ++ t) → at ≡ at2 + length s → (IsSound f2 → IsSound f) → (IsSound f2 → IsUtf8 t) → Cut at2 top2 f2 (suc n) e
+lower {at} {top} {f} {n} {e} r rs s t at2 top2 f2 c h w a k u = record {
+  up = c.up;
   front = r ∷ c.front;
   back = c.back ++ rs;
   before = s ++ c.before;
   after = c.after ++ t;
-  table = h ∙ ap (λ x. r ∷ x) (ap (λ x. x ++ rs) c.table ∙ append_assoc c.front (tree_records e.start e.tree ++ c.back) rs ∙ ap (λ x. c.front ++ x) (append_assoc (tree_records e.start e.tree) c.back rs));
+  table = h ∙ ap (λ x. r ∷ x) (ap (λ x. x ++ rs) c.table ∙ append_assoc c.front (tree_records e.start c.up e.tree ++ c.back) rs ∙ ap (λ x. c.front ++ x) (append_assoc (tree_records e.start c.up e.tree) c.back rs));
   index = ap suc c.index;
   words = w ∙ ap (λ x. s ++ x) (ap (λ x. x ++ t) c.words ∙ append_assoc c.before (tree_text e.tree ++ c.after) t ∙ ap (λ x. c.before ++ x) (append_assoc (tree_text e.tree) c.after t)) ∙ sym (append_assoc s c.before _);
   begins = omega (arith, length-append s c.before, c.begins);
@@ -64,8 +66,9 @@ lower {at} {f} {n} {e} r rs s t at2 f2 c h w a k u = record {
 }
 
 -- past a whole list of trees
-beyond : {at : ℕ} {f : Forest} {n : ℕ} {e : Element} (rs : List Record) (s : List ℕ) (at2 m : ℕ) (f2 : Forest) → Cut at f n e → records at2 f2 ≡ rs ++ records at f → text f2 ≡ s ++ text f → at ≡ at2 + length s → length rs + n ≡ m → (IsSound f2 → IsSound f) → Cut at2 f2 m e
-beyond {at} {f} {n} {e} rs s at2 m f2 c h w a l k = record {
+beyond : {at top : ℕ} {f : Forest} {n : ℕ} {e : Element} (rs : List Record) (s : List ℕ) (at2 top2 m : ℕ) (f2 : Forest) → Cut at top f n e → records at2 top2 f2 ≡ rs ++ records at top f → text f2 ≡ s ++ text f → at ≡ at2 + length s → length rs + n ≡ m → (IsSound f2 → IsSound f) → Cut at2 top2 f2 m e
+beyond {at} {top} {f} {n} {e} rs s at2 top2 m f2 c h w a l k = record {
+  up = c.up;
   front = rs ++ c.front;
   back = c.back;
   before = s ++ c.before;
@@ -77,11 +80,12 @@ beyond {at} {f} {n} {e} rs s at2 m f2 c h w a l k = record {
   kept = λ h2. c.kept (k h2);
 }
 
-pub cut : (at i : ℕ) (p : Option ℕ) (f : Forest) (n : ℕ) (d : Element) → n < count f → Cut at f n (get_or (order_from at i p f) n d)
-cut at i p none n d h = absurd (omega arith)
-cut at i p (leaf k s rest) zero d h = record {
+pub cut : (at top i : ℕ) (p : Option ℕ) (f : Forest) (n : ℕ) (d : Element) → n < count f → Cut at top f n (get_or (order_from at i p f) n d)
+cut at top i p none n d h = absurd (omega arith)
+cut at top i p (leaf k s rest) zero d h = record {
+  up = top;
   front = [];
-  back = records (at + length s) rest;
+  back = records (at + length s) (further top 1) rest;
   before = [];
   after = text rest;
   table = refl;
@@ -90,12 +94,12 @@ cut at i p (leaf k s rest) zero d h = record {
   begins = omega arith;
   kept = λ h2. record { tree = h2.0; after = sound_text rest h2.1 };
 }
-cut at i p (leaf k s rest) (suc n) d h =
-    let r : Record = record { kind = k; is_node = false; start = at; end = at + length s; size = 1 } in
-    beyond (r ∷ []) s at (suc n) (leaf k s rest) (cut (at + length s) (suc i) p rest n d (omega arith)) refl refl refl (omega arith) (λ h2. h2.1)
-cut at i p (node k kids rest) zero d h = record {
+cut at top i p (leaf k s rest) (suc n) d h =
+    beyond (leaf_record at top k s ∷ []) s at top (suc n) (leaf k s rest) (cut (at + length s) (further top 1) (suc i) p rest n d (omega arith)) refl refl refl (omega arith) (λ h2. h2.1)
+cut at top i p (node k kids rest) zero d h = record {
+  up = top;
   front = [];
-  back = records (at + length (text kids)) rest;
+  back = records (at + length (text kids)) (further top (suc (count kids))) rest;
   before = [];
   after = text rest;
   table = refl;
@@ -104,94 +108,92 @@ cut at i p (node k kids rest) zero d h = record {
   begins = omega arith;
   kept = λ h2. record { tree = (h2.0, h2.1); after = sound_text rest h2.2 };
 }
-cut at i p (node k kids rest) (suc n) d h =
-    let r : Record = record { kind = k; is_node = true; start = at; end = at + length (text kids); size = suc (count kids) } in
+cut at top i p (node k kids rest) (suc n) d h =
+    let r = node_record at top k kids in
+    let at2 = at + length (text kids) in
+    let top2 = further top (suc (count kids)) in
     let inner = order_from at (suc i) (Some i) kids in
-    let outer = order_from (at + length (text kids)) (suc (i + count kids)) p rest in
+    let outer = order_from at2 (suc (i + count kids)) p rest in
     let l = length-order at (suc i) (Some i) kids in
     let f2 = node k kids rest in
     ⊎_elim
     (λ (lt : n < count kids).
-    subst (λ x. Cut at f2 (suc n) x) (sym (get_or_append_left inner outer d n (omega arith)))
-    (lower r (records (at + length (text kids)) rest) [] (text rest) at f2 (cut at (suc i) (Some i) kids n d lt) refl refl (omega arith) (λ h2. h2.1) (λ h2. sound_text rest h2.2)))
+    subst (λ x. Cut at top f2 (suc n) x) (sym (get_or_append_left inner outer d n (omega arith)))
+    (lower r (records at2 top2 rest) [] (text rest) at top f2 (cut at 1 (suc i) (Some i) kids n d lt) refl refl (omega arith) (λ h2. h2.1) (λ h2. sound_text rest h2.2)))
     (λ (ge : count kids ≤ n).
     let m = n - count kids in
     let q : get_or (inner ++ outer) n d ≡ get_or outer m d = ap (λ x. get_or (inner ++ outer) x d) (omega arith) ∙ get_or-append-add inner outer m d in
-    subst (λ x. Cut at f2 (suc n) x) (sym q)
-    (beyond (r ∷ records at kids) (text kids) at (suc n) f2 (cut (at + length (text kids)) (suc (i + count kids)) p rest m d (omega arith)) refl refl refl (omega (arith, length-records at kids)) (λ h2. h2.2)))
+    subst (λ x. Cut at top f2 (suc n) x) (sym q)
+    (beyond (r ∷ records at 1 kids) (text kids) at top (suc n) f2 (cut at2 top2 (suc (i + count kids)) p rest m d (omega arith)) refl refl refl (omega (arith, length-records at 1 kids)) (λ h2. h2.2)))
     (cases_lt n (count kids))
 
 -- ---- what the element of a table's record is
-pub record_kind : (at : ℕ) (t : Tree) (d : Record) → (get_or (tree_records at t) 0 d).kind ≡ tree_kind t
-record_kind at (Leaf k s) d = refl
-record_kind at (Node k kids) d = refl
-
 -- a tree's records are its first record, and those of its children
-abbrev pub root_record : ℕ → Tree → Record
-root_record at (Leaf k s) = record { kind = k; is_node = false; start = at; end = at + length s; size = 1 }
-root_record at (Node k kids) = record { kind = k; is_node = true; start = at; end = at + length (text kids); size = suc (count kids) }
+abbrev pub root_record : ℕ → ℕ → Tree → Record
+root_record at up (Leaf k s) = leaf_record at up k s
+root_record at up (Node k kids) = node_record at up k kids
 
 abbrev pub under_root : ℕ → Tree → List Record
-under_root at t = records at (tree_kids t)
+under_root at t = records at 1 (tree_kids t)
 
-pub tree_records-is : (at : ℕ) (t : Tree) → tree_records at t ≡ root_record at t ∷ under_root at t
-tree_records-is at (Leaf k s) = refl
-tree_records-is at (Node k kids) = refl
+pub tree_records-is : (at up : ℕ) (t : Tree) → tree_records at up t ≡ root_record at up t ∷ under_root at t
+tree_records-is at up (Leaf k s) = refl
+tree_records-is at up (Node k kids) = refl
 
 module _ (rs : List Record) (s : List ℕ) (t : IsTable rs s) (i : ℕ) (h : i < length rs) where
-  pub cut_of : Cut 0 (forest s rs) i (element (record { whole = forest s rs; index = i }))
-  cut_of = cut 0 0 None (forest s rs) i nowhere (omega (arith, ap length t.table, length-records 0 (forest s rs)))
+  pub cut_of : Cut 0 0 (forest s rs) i (element (record { whole = forest s rs; index = i }))
+  cut_of = cut 0 0 0 None (forest s rs) i nowhere (omega (arith, ap length t.table, length-records 0 0 (forest s rs)))
 
   -- the record is the element's
-  pub record_is : (d : Record) → get_or rs i d ≡ root_record (element (record { whole = forest s rs; index = i })).start (tree_at (record { whole = forest s rs; index = i }))
+  pub record_is : (d : Record) → get_or rs i d ≡ root_record (element (record { whole = forest s rs; index = i })).start cut_of.up (tree_at (record { whole = forest s rs; index = i }))
   record_is d =
       let e = element (record { whole = forest s rs; index = i }) in
       let c = cut_of in
-      let split : rs ≡ c.front ++ (root_record e.start e.tree ∷ (under_root e.start e.tree ++ c.back)) = sym t.table ∙ c.table ∙ ap (λ x. c.front ++ (x ++ c.back)) (tree_records-is e.start e.tree) in
-      ap (λ x. get_or x i d) split ∙ get_or_at c.front (root_record e.start e.tree) (under_root e.start e.tree ++ c.back) d i c.index
+      let split : rs ≡ c.front ++ (root_record e.start c.up e.tree ∷ (under_root e.start e.tree ++ c.back)) = sym t.table ∙ c.table ∙ ap (λ x. c.front ++ (x ++ c.back)) (tree_records-is e.start c.up e.tree) in
+      ap (λ x. get_or x i d) split ∙ get_or_at c.front (root_record e.start c.up e.tree) (under_root e.start e.tree ++ c.back) d i c.index
 
-root_kind : (at : ℕ) (t : Tree) → (root_record at t).kind ≡ tree_kind t
-root_kind at (Leaf k s) = refl
-root_kind at (Node k kids) = refl
+root_kind : (at up : ℕ) (t : Tree) → (root_record at up t).kind ≡ tree_kind t
+root_kind at up (Leaf k s) = refl
+root_kind at up (Node k kids) = refl
 
-root_start : (at : ℕ) (t : Tree) → (root_record at t).start ≡ at
-root_start at (Leaf k s) = refl
-root_start at (Node k kids) = refl
+root_start : (at up : ℕ) (t : Tree) → (root_record at up t).start ≡ at
+root_start at up (Leaf k s) = refl
+root_start at up (Node k kids) = refl
 
-root_end : (at : ℕ) (t : Tree) → (root_record at t).end ≡ at + length (tree_text t)
-root_end at (Leaf k s) = refl
-root_end at (Node k kids) = refl
+root_end : (at up : ℕ) (t : Tree) → (root_record at up t).end ≡ at + length (tree_text t)
+root_end at up (Leaf k s) = refl
+root_end at up (Node k kids) = refl
 
-root_size : (at : ℕ) (t : Tree) → (root_record at t).size ≡ suc (count (tree_kids t))
-root_size at (Leaf k s) = refl
-root_size at (Node k kids) = refl
+root_size : (at up : ℕ) (t : Tree) → (root_record at up t).size ≡ suc (count (tree_kids t))
+root_size at up (Leaf k s) = refl
+root_size at up (Node k kids) = refl
 
-root_node : (at : ℕ) (t : Tree) → (root_record at t).is_node ≡ is_node t
-root_node at (Leaf k s) = refl
-root_node at (Node k kids) = refl
+root_node : (at up : ℕ) (t : Tree) → (root_record at up t).is_node ≡ is_node t
+root_node at up (Leaf k s) = refl
+root_node at up (Node k kids) = refl
 
 module _ (rs : List Record) (s : List ℕ) (t : IsTable rs s) (i : ℕ) (h : i < length rs) (d : Record) where
   pub node_is : (get_or rs i d).is_node ≡ is_node (tree_at (record { whole = forest s rs; index = i }))
-  node_is = ap (λ r. r.is_node) (record_is rs s t i h d) ∙ root_node _ (tree_at (record { whole = forest s rs; index = i }))
+  node_is = ap (λ r. r.is_node) (record_is rs s t i h d) ∙ root_node _ _ (tree_at (record { whole = forest s rs; index = i }))
 
   pub kind_is : (get_or rs i d).kind ≡ tree_kind (tree_at (record { whole = forest s rs; index = i }))
-  kind_is = ap (λ r. r.kind) (record_is rs s t i h d) ∙ root_kind _ (tree_at (record { whole = forest s rs; index = i }))
+  kind_is = ap (λ r. r.kind) (record_is rs s t i h d) ∙ root_kind _ _ (tree_at (record { whole = forest s rs; index = i }))
 
   pub start_is : (get_or rs i d).start ≡ (element (record { whole = forest s rs; index = i })).start
-  start_is = ap (λ r. r.start) (record_is rs s t i h d) ∙ root_start _ (tree_at (record { whole = forest s rs; index = i }))
+  start_is = ap (λ r. r.start) (record_is rs s t i h d) ∙ root_start _ _ (tree_at (record { whole = forest s rs; index = i }))
 
   pub end_is : (get_or rs i d).end ≡ (element (record { whole = forest s rs; index = i })).start + length (tree_text (tree_at (record { whole = forest s rs; index = i })))
-  end_is = ap (λ r. r.end) (record_is rs s t i h d) ∙ root_end _ (tree_at (record { whole = forest s rs; index = i }))
+  end_is = ap (λ r. r.end) (record_is rs s t i h d) ∙ root_end _ _ (tree_at (record { whole = forest s rs; index = i }))
 
   pub range_is : ◌≡◌ {A = ℕ × ℕ} ((get_or rs i d).start, (get_or rs i d).end) (range_at (record { whole = forest s rs; index = i }))
   range_is = let a = start_is in let b = end_is in cc (a, b)
 
   pub size_is : (get_or rs i d).size ≡ suc (count (tree_kids (tree_at (record { whole = forest s rs; index = i }))))
-  size_is = ap (λ r. r.size) (record_is rs s t i h d) ∙ root_size _ (tree_at (record { whole = forest s rs; index = i }))
+  size_is = ap (λ r. r.size) (record_is rs s t i h d) ∙ root_size _ _ (tree_at (record { whole = forest s rs; index = i }))
 
 -- ---- the element's text
 module _ (rs : List Record) (s : List ℕ) (t : IsTable rs s) (i : ℕ) (h : i < length rs) (d : Record) where
-  pub words_is : (e : Element) (c : Cut 0 (forest s rs) i e) → s ≡ c.before ++ (tree_text e.tree ++ c.after)
+  pub words_is : (e : Element) (c : Cut 0 0 (forest s rs) i e) → s ≡ c.before ++ (tree_text e.tree ++ c.after)
   words_is e c = sym t.words ∙ c.words
 
   pub start_boundary : IsCharBoundary s (get_or rs i d).start

@@ -1,56 +1,34 @@
 -- The trees that stand one after another in a table, and one step along them.
-use Rattle.std.proofs.Common.{◌≡◌, ℕ, zero, suc, pred, ◌+◌, ◌-◌, ◌<◌, ◌≤◌, List, [], ◌∷◌, ◌++◌, length, take, drop, get_or, map, refl, sym, ap, ◌∙◌, arith, true, false, None}
+use Rattle.std.proofs.Common.{◌≡◌, ℕ, zero, suc, pred, ◌+◌, ◌-◌, ◌<◌, ◌≤◌, List, [], ◌∷◌, ◌++◌, length, take, drop, get_or, map, refl, sym, ap, ◌∙◌, arith, true, None}
 use Rattle.std.proofs.lemmas.List.{append_assoc, length-append, length-take, take_at, drop_at, drop-take, drop-drop, take_all}
 use Rattle.std.proofs.Math.Seq.{drop-cons}
 use Rattle.apollo_tree.specs.declared.record.Record.{Record}
 use Rattle.document_grammar.specs.Forests.{Forest, none, leaf, node, text, count}
-use Rattle.apollo_tree.specs.Records.{records, forest}
+use Rattle.apollo_tree.specs.Records.{records, further, forest}
 use Rattle.apollo_tree.specs.Order.{Place, element, tree_at, tree_kids, places, nowhere}
 use Rattle.apollo_tree.specs.Children.{heads, tiled, span_heads, IsSpan, child_places}
 use Rattle.apollo_tree.specs.Table.{IsTable, none_there}
 use Rattle.apollo_tree.specs.ReadBack.{length-records}
+use Rattle.apollo_tree.proofs.Tiles.{size_parts, tiled-skip, tiled-le, tiled-records}
 use Rattle.apollo_tree.proofs.Places.{children_are, cut_of, size_is, root_record, under_root, tree_records-is}
-
-size_parts : (n : ℕ) (rs : List Record) → elim n [ zero ↦ false | suc m ↦ tiled m rs ] ≡ true → (0 < n) × (tiled (pred n) rs ≡ true)
-size_parts zero rs h = absurd cc
-size_parts (suc n) rs h = (omega arith, h)
 
 heads-skip : (n i : ℕ) (rs : List Record) → tiled n rs ≡ true → heads n i rs ≡ heads 0 (i + n) (drop n rs)
 heads-skip zero i rs h = ap (λ j. heads 0 j rs) (omega arith)
 heads-skip (suc n) i [] h = refl
 heads-skip (suc n) i (r ∷ rs) h = heads-skip n (suc i) rs h ∙ ap (λ j. heads 0 j (drop n rs)) (omega arith)
 
-tiled-skip : (n : ℕ) (rs : List Record) → tiled n rs ≡ true → tiled 0 (drop n rs) ≡ true
-tiled-skip zero rs h = h
-tiled-skip (suc n) [] h = absurd cc
-tiled-skip (suc n) (r ∷ rs) h = tiled-skip n rs h
-
-tiled-le : (n : ℕ) (rs : List Record) → tiled n rs ≡ true → n ≤ length rs
-tiled-le zero rs h = omega arith
-tiled-le (suc n) [] h = absurd cc
-tiled-le (suc n) (r ∷ rs) h = omega (arith, tiled-le n rs h)
-
 heads-past : (xs ys : List Record) (i : ℕ) → heads (length xs) i (xs ++ ys) ≡ heads 0 (i + length xs) ys
 heads-past [] ys i = ap (λ j. heads 0 j ys) (omega arith)
 heads-past (x ∷ xs) ys i = heads-past xs ys (suc i) ∙ ap (λ j. heads 0 j ys) (omega arith)
 
-tiled-past : (xs ys : List Record) → tiled (length xs) (xs ++ ys) ≡ tiled 0 ys
-tiled-past [] ys = refl
-tiled-past (x ∷ xs) ys = tiled-past xs ys
-
-pub heads-records : (at i : ℕ) (f : Forest) → heads 0 i (records at f) ≡ places i f
-heads-records at i none = refl
-heads-records at i (leaf k s rest) = ap (λ x. i ∷ x) (heads-records (at + length s) (suc i) rest)
-heads-records at i (node k kids rest) =
-    let l = length-records at kids in
+pub heads-records : (at up i : ℕ) (f : Forest) → heads 0 i (records at up f) ≡ places i f
+heads-records at up i none = refl
+heads-records at up i (leaf k s rest) = ap (λ x. i ∷ x) (heads-records (at + length s) (further up 1) (suc i) rest)
+heads-records at up i (node k kids rest) =
+    let l = length-records at 1 kids in
     let at2 = at + length (text kids) in
-    ap (λ x. i ∷ x) (ap (λ n. heads n (suc i) (records at kids ++ records at2 rest)) (sym l) ∙ heads-past (records at kids) (records at2 rest) (suc i) ∙ ap (λ n. heads 0 (suc i + n) (records at2 rest)) l ∙ ap (λ n. heads 0 n (records at2 rest)) (omega arith) ∙ heads-records at2 (suc (i + count kids)) rest)
-
-pub tiled-records : (at : ℕ) (f : Forest) → tiled 0 (records at f) ≡ true
-tiled-records at none = refl
-tiled-records at (leaf k s rest) = tiled-records (at + length s) rest
-tiled-records at (node k kids rest) =
-    ap (λ n. tiled n (records at kids ++ records (at + length (text kids)) rest)) (sym (length-records at kids)) ∙ tiled-past (records at kids) _ ∙ tiled-records (at + length (text kids)) rest
+    let up2 = further up (suc (count kids)) in
+    ap (λ x. i ∷ x) (ap (λ n. heads n (suc i) (records at 1 kids ++ records at2 up2 rest)) (sym l) ∙ heads-past (records at 1 kids) (records at2 up2 rest) (suc i) ∙ ap (λ n. heads 0 (suc i + n) (records at2 up2 rest)) l ∙ ap (λ n. heads 0 n (records at2 up2 rest)) (omega arith) ∙ heads-records at2 up2 (suc (i + count kids)) rest)
 
 -- one step
 pub record IsStep (rs : List Record) (from to size : ℕ) : Type 0 where
@@ -97,14 +75,14 @@ span_end rs from to h = let e : to - from ≡ 0 = omega arith in ap (λ n. heads
 
 -- the children of an element
 module _ (rs : List Record) (s : List ℕ) (t : IsTable rs s) (i : ℕ) (h : i < length rs) (size : ℕ) (e : size ≡ (get_or rs i none_there).size) where
-  under : take ((i + size) - suc i) (drop (suc i) rs) ≡ records (element (record { whole = forest s rs; index = i })).start (tree_kids (tree_at (record { whole = forest s rs; index = i })))
+  under : take ((i + size) - suc i) (drop (suc i) rs) ≡ records (element (record { whole = forest s rs; index = i })).start 1 (tree_kids (tree_at (record { whole = forest s rs; index = i })))
   under =
       let el = element (record { whole = forest s rs; index = i }) in
       let c = cut_of rs s t i h in
-      let split : rs ≡ (c.front ++ root_record el.start el.tree ∷ []) ++ (under_root el.start el.tree ++ c.back) =
-      sym t.table ∙ c.table ∙ ap (λ x. c.front ++ (x ++ c.back)) (tree_records-is el.start el.tree) ∙ sym (append_assoc c.front (root_record el.start el.tree ∷ []) _) in
-      let l : length (c.front ++ root_record el.start el.tree ∷ []) ≡ suc i = length-append c.front _ ∙ omega (arith, c.index) in
-      let n : length (under_root el.start el.tree) ≡ (i + size) - suc i = omega (arith, length-records el.start (tree_kids el.tree), size_is rs s t i h none_there) in
+      let split : rs ≡ (c.front ++ root_record el.start c.up el.tree ∷ []) ++ (under_root el.start el.tree ++ c.back) =
+      sym t.table ∙ c.table ∙ ap (λ x. c.front ++ (x ++ c.back)) (tree_records-is el.start c.up el.tree) ∙ sym (append_assoc c.front (root_record el.start c.up el.tree ∷ []) _) in
+      let l : length (c.front ++ root_record el.start c.up el.tree ∷ []) ≡ suc i = length-append c.front _ ∙ omega (arith, c.index) in
+      let n : length (under_root el.start el.tree) ≡ (i + size) - suc i = omega (arith, length-records el.start 1 (tree_kids el.tree), size_is rs s t i h none_there) in
       ap (λ x. take ((i + size) - suc i) (drop (suc i) x)) split
       ∙ ap (take ((i + size) - suc i)) (drop_at _ (under_root el.start el.tree ++ c.back) (suc i) l)
       ∙ take_at (under_root el.start el.tree) c.back _ n
@@ -115,25 +93,25 @@ module _ (rs : List Record) (s : List ℕ) (t : IsTable rs s) (i : ℕ) (h : i <
       let c = cut_of rs s t i h in
       let n = size_is rs s t i h none_there in
       let whole : length rs ≡ length c.front + (suc (count (tree_kids el.tree)) + length c.back) =
-      ap length (sym t.table ∙ c.table ∙ ap (λ x. c.front ++ (x ++ c.back)) (tree_records-is el.start el.tree)) ∙ length-append c.front _ ∙ omega (arith, length-append (under_root el.start el.tree) c.back, length-records el.start (tree_kids el.tree)) in
+      ap length (sym t.table ∙ c.table ∙ ap (λ x. c.front ++ (x ++ c.back)) (tree_records-is el.start c.up el.tree)) ∙ length-append c.front _ ∙ omega (arith, length-append (under_root el.start el.tree) c.back, length-records el.start 1 (tree_kids el.tree)) in
       record {
         order = omega arith;
         inside = omega (arith, c.index);
-        trees = ap (tiled 0) under ∙ tiled-records el.start (tree_kids el.tree);
+        trees = ap (tiled 0) under ∙ tiled-records el.start 1 (tree_kids el.tree);
       }
 
   pub children_heads : span_heads rs (suc i) (i + size) ≡ places (suc i) (tree_kids (tree_at (record { whole = forest s rs; index = i })))
-  children_heads = ap (heads 0 (suc i)) under ∙ heads-records _ (suc i) (tree_kids (tree_at (record { whole = forest s rs; index = i })))
+  children_heads = ap (heads 0 (suc i)) under ∙ heads-records _ 1 (suc i) (tree_kids (tree_at (record { whole = forest s rs; index = i })))
 
   pub children_places : map (λ j. record { whole = forest s rs; index = j }) (span_heads rs (suc i) (i + size)) ≡ child_places (record { whole = forest s rs; index = i })
   children_places =
       let p : Place = record { whole = forest s rs; index = i } in
-      let l : i < count (forest s rs) = omega (arith, ap length t.table, length-records 0 (forest s rs)) in
+      let l : i < count (forest s rs) = omega (arith, ap length t.table, length-records 0 0 (forest s rs)) in
       let e : (element p).children ≡ places (suc (0 + i)) (tree_kids (tree_at p)) = children_are 0 0 None (forest s rs) i nowhere l in
       let z : suc i ≡ suc (0 + i) = omega arith in
       ap (map (λ j. record { whole = forest s rs; index = j })) (children_heads ∙ ap (λ j. places j (tree_kids (tree_at p))) z ∙ sym e)
 
 pub whole_span : (rs : List Record) (s : List ℕ) → IsTable rs s → IsSpan rs 0 (length rs)
 whole_span rs s t =
-    let all : take (length rs - 0) rs ≡ records 0 (forest s rs) = take_all (length rs - 0) rs (omega arith) ∙ sym t.table in
-    record { order = omega arith; inside = omega arith; trees = ap (tiled 0) all ∙ tiled-records 0 (forest s rs) }
+    let all : take (length rs - 0) rs ≡ records 0 0 (forest s rs) = take_all (length rs - 0) rs (omega arith) ∙ sym t.table in
+    record { order = omega arith; inside = omega arith; trees = ap (tiled 0) all ∙ tiled-records 0 0 (forest s rs) }

@@ -4,6 +4,10 @@ use Rattle.std.specs.List.{insert}
 use Rattle.std.proofs.lemmas.List.{append-nil, append_assoc, length-append, take_at, drop_at, set_at, get_or_at}
 use Rattle.document_grammar.specs.declared.kind.SyntaxKind.{SyntaxKind}
 use Rattle.apollo_tree.specs.declared.record.Record.{Record}
+use Rattle.apollo_tree.specs.Adopted.{after_adoption}
+use Rattle.apollo_tree.specs.Children.{tiled}
+use Rattle.apollo_tree.proofs.Tiles.{tiled-records}
+use Rattle.apollo_tree.proofs.Adoption.{adoption-at}
 use Rattle.document_grammar.specs.Forests.{Forest, none, leaf, node, text, count, join}
 use Rattle.document_grammar.specs.Builds.{Open, Building, open_count, open_text, built_count, start, add_leaf, finish, close, front, back, wrap, IsPlace}
 use Rattle.apollo_tree.specs.Records.{records, open_record, open_records, built_records, open_places, built, forest}
@@ -24,10 +28,10 @@ length-open_records [] = refl
 length-open_records (o ∷ above) =
     let at = length (open_text above) in
     let mark = open_record (at + length (text o.before)) o.kind in
-    length-append (open_records above) (records at o.before ++ mark ∷ []) ∙ omega (arith, length-append (records at o.before) (mark ∷ []), length-records at o.before, length-open_records above)
+    length-append (open_records above) (records at 0 o.before ++ mark ∷ []) ∙ omega (arith, length-append (records at 0 o.before) (mark ∷ []), length-records at 0 o.before, length-open_records above)
 
 pub length-built_records : (b : Building) → length (built_records b) ≡ built_count b
-length-built_records b = length-append (open_records b.above) (records (length (open_text b.above)) b.here) ∙ omega (arith, length-open_records b.above, length-records (length (open_text b.above)) b.here)
+length-built_records b = length-append (open_records b.above) (records (length (open_text b.above)) 0 b.here) ∙ omega (arith, length-open_records b.above, length-records (length (open_text b.above)) 0 b.here)
 
 -- the trees before a place and after it
 pub join-cut : (n : ℕ) (f : Forest) → join (front n f) (back n f) ≡ f
@@ -37,21 +41,21 @@ join-cut (suc n) (leaf k s rest) = ap (leaf k s) (join-cut n rest)
 join-cut (suc n) (node k kids rest) = ap (node k kids) (join-cut (n - count kids) rest)
 
 -- ---- a leaf
-pub leaf_table : {b : Building} {rs : List Record} {ps s : List ℕ} (k : SyntaxKind) (t : List ℕ) (at end : ℕ) → IsTableOf b rs ps s → at ≡ length s → end ≡ at + length t → IsTableOf (add_leaf k t b) (rs ++ record { kind = k; is_node = false; start = at; end = end; size = 1 } ∷ []) ps (s ++ t)
+pub leaf_table : {b : Building} {rs : List Record} {ps s : List ℕ} (k : SyntaxKind) (t : List ℕ) (at end : ℕ) → IsTableOf b rs ps s → at ≡ length s → end ≡ at + length t → IsTableOf (add_leaf k t b) (rs ++ record { kind = k; is_node = false; start = at; end = end; size = 1; to_parent = 0 } ∷ []) ps (s ++ t)
 leaf_table {b} {rs} {ps} {s} k t at end h e f =
     let i = length (open_text b.above) in
     let place : i + length (text b.here) ≡ at = sym (length-append (open_text b.above) (text b.here)) ∙ ap length h.text ∙ sym e in
     record {
       table =
-          ap (λ x. open_records b.above ++ x) (records-join i b.here (leaf k t none)) ∙ sym (append_assoc (open_records b.above) (records i b.here) _) ∙ rw (place, ← f, h.table) refl;
+          ap (λ x. open_records b.above ++ x) (records-join i b.here (leaf k t none)) ∙ sym (append_assoc (open_records b.above) (records i 0 b.here) _) ∙ rw (place, ← f, h.table) refl;
       places = h.places;
       text =
           ap (λ x. open_text b.above ++ x) (text-join b.here (leaf k t none)) ∙ sym (append_assoc (open_text b.above) (text b.here) _) ∙ rw (append-nil t, h.text) refl;
     }
 
 -- ---- a wrap
-seam_split : (at : ℕ) (n : ℕ) (f : Forest) → records at f ≡ records at (front n f) ++ records (at + length (text (front n f))) (back n f)
-seam_split at n f = ap (records at) (sym (join-cut n f)) ∙ records-join at (front n f) (back n f)
+seam_split : (at : ℕ) (n : ℕ) (f : Forest) → records at 0 f ≡ records at 0 (front n f) ++ records (at + length (text (front n f))) 0 (back n f)
+seam_split at n f = ap (records at 0) (sym (join-cut n f)) ∙ records-join at (front n f) (back n f)
 
 pub wrap_table : {b : Building} {rs : List Record} {ps s : List ℕ} (k : SyntaxKind) (p at : ℕ) → IsTableOf b rs ps s → IsPlace p b → at ≡ length (open_text b.above) + length (text (front (p - open_count b.above) b.here)) → IsTableOf (wrap p k b) (insert rs p (open_record at k)) (ps ++ p ∷ []) s
 wrap_table {b} {rs} {ps} {s} k p at h place e =
@@ -59,13 +63,13 @@ wrap_table {b} {rs} {ps} {s} k p at h place e =
     let i = length (open_text b.above) in
     let f = front n b.here in
     let g = back n b.here in
-    let l : length (open_records b.above ++ records i f) ≡ p = length-append (open_records b.above) (records i f) ∙ omega (arith, length-open_records b.above, length-records i f, place.inside, place.seam) in
-    let r : rs ≡ (open_records b.above ++ records i f) ++ records at g = sym h.table ∙ ap (λ x. open_records b.above ++ x) (seam_split i n b.here) ∙ sym (append_assoc (open_records b.above) (records i f) _) ∙ rw (← e) refl in
+    let l : length (open_records b.above ++ records i 0 f) ≡ p = length-append (open_records b.above) (records i 0 f) ∙ omega (arith, length-open_records b.above, length-records i 0 f, place.inside, place.seam) in
+    let r : rs ≡ (open_records b.above ++ records i 0 f) ++ records at 0 g = sym h.table ∙ ap (λ x. open_records b.above ++ x) (seam_split i n b.here) ∙ sym (append_assoc (open_records b.above) (records i 0 f) _) ∙ rw (← e) refl in
     let after : length (open_text b.above ++ text f) ≡ at = length-append (open_text b.above) (text f) ∙ sym e in
     record {
       table =
-          rw (r, after, ← e, take_at (open_records b.above ++ records i f) (records at g) p l, drop_at (open_records b.above ++ records i f) (records at g) p l)
-          (ap (λ x. x ++ records at g) (sym (append_assoc (open_records b.above) (records i f) (open_record at k ∷ []))) ∙ append_assoc (open_records b.above ++ records i f) (open_record at k ∷ []) (records at g));
+          rw (r, after, ← e, take_at (open_records b.above ++ records i 0 f) (records at 0 g) p l, drop_at (open_records b.above ++ records i 0 f) (records at 0 g) p l)
+          (ap (λ x. x ++ records at 0 g) (sym (append_assoc (open_records b.above) (records i 0 f) (open_record at k ∷ []))) ∙ append_assoc (open_records b.above ++ records i 0 f) (open_record at k ∷ []) (records at 0 g));
       places =
           let c : open_count b.above + count f ≡ p = omega (arith, place.inside, place.seam) in
           rw (h.places, c) refl;
@@ -73,24 +77,52 @@ wrap_table {b} {rs} {ps} {s} k p at h place e =
     }
 
 -- ---- a finish
-pub finish_table : (o : Open) (above : List Open) (here : Forest) {rs : List Record} {ps s : List ℕ} (p end size at : ℕ) → IsTableOf (record { here = here; above = o ∷ above }) rs ps s → p ≡ open_count above + count o.before → end ≡ length s → p + size ≡ length rs → at ≡ length (open_text above) + length (text o.before) → IsTableOf (close here (o ∷ above)) (set rs p (record { kind = o.kind; is_node = true; start = at; end = end; size = size })) (open_places above) s
+-- the table, cut at the innermost open node's record
+pub record AtInnermost (o : Open) (above : List Open) (here : Forest) (rs : List Record) (p at : ℕ) : Type 0 where
+  pub front : List Record
+  pub table : rs ≡ front ++ (open_record at o.kind ∷ records at 0 here)
+  pub index : length front ≡ p
+
+at_innermost : (o : Open) (above : List Open) (here : Forest) {rs : List Record} {ps s : List ℕ} (p at : ℕ) → IsTableOf (record { here = here; above = o ∷ above }) rs ps s → p ≡ open_count above + count o.before → at ≡ length (open_text above) + length (text o.before) → AtInnermost o above here rs p at
+at_innermost o above here {rs} {ps} {s} p at h place a =
+    let i = length (open_text above) in
+    let mark = open_record at o.kind in
+    let kids = records at 0 here in
+    let pre = open_records above ++ records i 0 o.before in
+    let after : length (open_text above ++ text o.before) ≡ at = length-append (open_text above) (text o.before) ∙ sym a in
+    record {
+      front = pre;
+      table = sym h.table ∙ rw (after, ← a) (ap (λ x. x ++ kids) (sym (append_assoc (open_records above) (records i 0 o.before) (mark ∷ []))) ∙ append_assoc pre (mark ∷ []) kids);
+      index = length-append (open_records above) (records i 0 o.before) ∙ omega (arith, length-open_records above, length-records i 0 o.before);
+    }
+
+-- whole trees stand behind that record
+trees_behind : (o : Open) (above : List Open) (here : Forest) (rs : List Record) (p at : ℕ) (r : Record) → AtInnermost o above here rs p at → tiled 0 (drop (suc p) (set rs p r)) ≡ true
+trees_behind o above here rs p at r c =
+    let kids = records at 0 here in
+    let front = c.front ++ r ∷ [] in
+    let l : length front ≡ suc p = length-append c.front (r ∷ []) ∙ omega (arith, c.index) in
+    let written : set rs p r ≡ front ++ kids = ap (λ x. set x p r) c.table ∙ set_at c.front (open_record at o.kind) kids r p c.index ∙ sym (append_assoc c.front (r ∷ []) kids) in
+    ap (λ x. tiled 0 (drop (suc p) x)) written ∙ ap (tiled 0) (drop_at front kids (suc p) l) ∙ tiled-records at 0 here
+
+pub finish_table : (o : Open) (above : List Open) (here : Forest) {rs : List Record} {ps s : List ℕ} (p end size at : ℕ) → IsTableOf (record { here = here; above = o ∷ above }) rs ps s → p ≡ open_count above + count o.before → end ≡ length s → p + size ≡ length rs → at ≡ length (open_text above) + length (text o.before) → IsTableOf (close here (o ∷ above)) (after_adoption p (set rs p (record { kind = o.kind; is_node = true; start = at; end = end; size = size; to_parent = 0 }))) (open_places above) s
+unfolding at_innermost
 finish_table o above here {rs} {ps} {s} p end size at h place e l a =
     let i = length (open_text above) in
     let mark = open_record at o.kind in
-    let kids = records at here in
-    let done : Record = record { kind = o.kind; is_node = true; start = at; end = end; size = size } in
-    let pre = open_records above ++ records i o.before in
-    let n : length pre ≡ p = length-append (open_records above) (records i o.before) ∙ omega (arith, length-open_records above, length-records i o.before) in
-    let after : length (open_text above ++ text o.before) ≡ at = length-append (open_text above) (text o.before) ∙ sym a in
-    let r : rs ≡ pre ++ (mark ∷ kids) = sym h.table ∙ rw (after, ← a) (ap (λ x. x ++ kids) (sym (append_assoc (open_records above) (records i o.before) (mark ∷ []))) ∙ append_assoc pre (mark ∷ []) kids) in
-    let whole : length rs ≡ p + suc (count here) = ap length r ∙ length-append pre (mark ∷ kids) ∙ omega (arith, length-records at here) in
+    let kids = records at 0 here in
+    let done : Record = record { kind = o.kind; is_node = true; start = at; end = end; size = size; to_parent = 0 } in
+    let c = at_innermost o above here p at h place a in
+    let pre = c.front in
+    let whole : length rs ≡ p + suc (count here) = ap length c.table ∙ length-append pre (mark ∷ kids) ∙ omega (arith, c.index, length-records at 0 here) in
     let sized : suc (count here) ≡ size = omega arith in
     let t : length (open_text above ++ text o.before) + length (text here) ≡ length s = sym (length-append (open_text above ++ text o.before) (text here)) ∙ ap length h.text in
+    let before : length (open_text above ++ text o.before) ≡ at = length-append (open_text above) (text o.before) ∙ sym a in
     let ended : at + length (text here) ≡ end = omega arith in
     record {
       table =
-          ap (λ x. open_records above ++ x) (records-join i o.before (node o.kind here none)) ∙ sym (append_assoc (open_records above) (records i o.before) _)
-          ∙ rw (← a, ended, sized, append-nil kids) (sym (ap (λ x. set x p done) r ∙ set_at pre mark kids done p n));
+          ap (λ x. open_records above ++ x) (records-join i o.before (node o.kind here none)) ∙ sym (append_assoc (open_records above) (records i 0 o.before) _)
+          ∙ rw (← a, ended, sized, append-nil (records at 1 here)) (sym (ap (λ x. after_adoption p (set x p done)) c.table ∙ ap (after_adoption p) (set_at pre mark kids done p c.index) ∙ adoption-at pre done at here p c.index));
       places = refl;
       text =
           ap (λ x. open_text above ++ x) (text-join o.before (node o.kind here none) ∙ ap (λ x. text o.before ++ x) (append-nil (text here))) ∙ sym (append_assoc (open_text above) (text o.before) (text here)) ∙ h.text;
@@ -140,7 +172,7 @@ end_at {b} {rs} {ps} {s} p h place le =
     let w : length s ≡ length (open_text b.above) + length (text b.here) = ap length (sym h.text) ∙ length-append (open_text b.above) (text b.here) in
     omega (arith, no_text g z)
 
-first_start : (at : ℕ) (f : Forest) (pre : List Record) (p : ℕ) (d : Record) → length pre ≡ p → 0 < count f → (get_or (pre ++ records at f) p d).start ≡ at
+first_start : (at : ℕ) (f : Forest) (pre : List Record) (p : ℕ) (d : Record) → length pre ≡ p → 0 < count f → (get_or (pre ++ records at 0 f) p d).start ≡ at
 first_start at none pre p d e h = absurd (omega arith)
 first_start at (leaf k s rest) pre p d e h = ap (λ r. r.start) (get_or_at pre _ _ d p e)
 first_start at (node k kids rest) pre p d e h = ap (λ r. r.start) (get_or_at pre _ _ d p e)
@@ -152,10 +184,10 @@ start_at {b} {rs} {ps} {s} p d h place lt =
     let i = length (open_text b.above) in
     let f = front n b.here in
     let g = back n b.here in
-    let l : length (open_records b.above ++ records i f) ≡ p = length-append (open_records b.above) (records i f) ∙ omega (arith, length-open_records b.above, length-records i f, place.inside, place.seam) in
-    let r : rs ≡ (open_records b.above ++ records i f) ++ records (i + length (text f)) g = sym h.table ∙ ap (λ x. open_records b.above ++ x) (seam_split i n b.here) ∙ sym (append_assoc (open_records b.above) (records i f) _) in
+    let l : length (open_records b.above ++ records i 0 f) ≡ p = length-append (open_records b.above) (records i 0 f) ∙ omega (arith, length-open_records b.above, length-records i 0 f, place.inside, place.seam) in
+    let r : rs ≡ (open_records b.above ++ records i 0 f) ++ records (i + length (text f)) 0 g = sym h.table ∙ ap (λ x. open_records b.above ++ x) (seam_split i n b.here) ∙ sym (append_assoc (open_records b.above) (records i 0 f) _) in
     let m : 0 < count g = omega (arith, count_is h, place.inside, place.seam, cut_counts n b.here) in
-    ap (λ x. (get_or x p d).start) r ∙ first_start (i + length (text f)) g (open_records b.above ++ records i f) p d l m
+    ap (λ x. (get_or x p d).start) r ∙ first_start (i + length (text f)) g (open_records b.above ++ records i 0 f) p d l m
 
 -- ---- the innermost open node
 pub open_le : {o : Open} {above : List Open} {here : Forest} {rs : List Record} {ps s : List ℕ} → IsTableOf (record { here = here; above = o ∷ above }) rs ps s → open_count above + count o.before < length rs
@@ -163,15 +195,9 @@ open_le {o} {above} {here} h = omega (arith, count_is h)
 
 pub open_record_at : {o : Open} {above : List Open} {here : Forest} {rs : List Record} {ps s : List ℕ} (p : ℕ) (d : Record) → IsTableOf (record { here = here; above = o ∷ above }) rs ps s → p ≡ open_count above + count o.before → get_or rs p d ≡ open_record (length (open_text above) + length (text o.before)) o.kind
 open_record_at {o} {above} {here} {rs} {ps} {s} p d h place =
-    let i = length (open_text above) in
-    let at = i + length (text o.before) in
-    let mark = open_record at o.kind in
-    let kids = records at here in
-    let pre = open_records above ++ records i o.before in
-    let n : length pre ≡ p = length-append (open_records above) (records i o.before) ∙ omega (arith, length-open_records above, length-records i o.before) in
-    let after : length (open_text above ++ text o.before) ≡ at = length-append (open_text above) (text o.before) in
-    let r : rs ≡ pre ++ (mark ∷ kids) = sym h.table ∙ rw after (ap (λ x. x ++ kids) (sym (append_assoc (open_records above) (records i o.before) (mark ∷ []))) ∙ append_assoc pre (mark ∷ []) kids) in
-    ap (λ x. get_or x p d) r ∙ get_or_at pre mark kids d p n
+    let at = length (open_text above) + length (text o.before) in
+    let c = at_innermost o above here p at h place refl in
+    ap (λ x. get_or x p d) c.table ∙ get_or_at c.front (open_record at o.kind) (records at 0 here) d p c.index
 
 -- ---- at a return
 pub moved : {b : Building} {rs : List Record} {ps s : List ℕ} {rs' : List Record} {ps' s' : List ℕ} → IsTableOf b rs ps s → rs' ≡ rs → ps' ≡ ps → s' ≡ s → IsTableOf b rs' ps' s'
@@ -191,8 +217,9 @@ same_snoc xs ys x y e =
 -- what is known of the innermost open node's record
 pub record IsInnermost (b : Building) (rs : List Record) (s : List ℕ) (p : ℕ) (ps : List ℕ) : Type 0 where
   pub inside : p < length rs
+  pub behind : (r : Record) → tiled 0 (drop (suc p) (set rs p r)) ≡ true
   pub done : (started : Record) (end size : ℕ) → started ≡ get_or rs p started → end ≡ length s → p + size ≡ length rs →
-      IsTableOf (finish b) (set rs p (record { kind = started.kind; is_node = started.is_node; start = started.start; end = end; size = size })) ps s
+      IsTableOf (finish b) (after_adoption p (set rs p (record { kind = started.kind; is_node = started.is_node; start = started.start; end = end; size = size; to_parent = started.to_parent }))) ps s
 
 innermost_of : (here : Forest) (above : List Open) {rs : List Record} {s : List ℕ} (p : ℕ) (ps : List ℕ) → IsTableOf (record { here = here; above = above }) rs (ps ++ p ∷ []) s → IsInnermost (record { here = here; above = above }) rs s p ps
 innermost_of here [] p ps h = absurd (omega (arith, ap length h.places, length-append ps (p ∷ [])))
@@ -200,10 +227,11 @@ innermost_of here (o ∷ above) {rs} {s} p ps h =
     let e = same_snoc _ _ _ _ h.places in
     record {
       inside = omega (arith, open_le h);
+      behind = λ r. trees_behind o above here rs p _ r (at_innermost o above here p _ h (sym e.1) refl);
       done = λ started end size r f g.
           let k = r ∙ open_record_at p started h (sym e.1) in
           let t = finish_table o above here p end size (length (open_text above) + length (text o.before)) h (sym e.1) f g refl in
-          rw (ap (λ x. x.kind) k, ap (λ x. x.is_node) k, ap (λ x. x.start) k, ← e.0) t;
+          rw (ap (λ x. x.kind) k, ap (λ x. x.is_node) k, ap (λ x. x.start) k, ap (λ x. x.to_parent) k, ← e.0) t;
     }
 
 pub innermost : {b : Building} {rs : List Record} {qs s : List ℕ} (p : ℕ) (ps : List ℕ) → IsTableOf b rs qs s → qs ≡ ps ++ p ∷ [] → IsInnermost b rs s p ps

@@ -7,6 +7,7 @@ pub mod Sound
 pub mod Table
 pub mod References
 pub mod Children
+pub mod Adopted
 pub mod Yields
 pub mod Literals
 pub mod Brackets

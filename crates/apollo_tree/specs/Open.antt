@@ -28,7 +28,7 @@ pub record IsComplete (b : Building) : Type 0 where
 
 -- the table and the text of one sound tree
 pub record IsTree (f : Forest) (rs : List Record) (s : List ℕ) : Type 0 where
-  pub table : records 0 f ≡ rs
+  pub table : records 0 0 f ≡ rs
   pub words : text f ≡ s
   pub sound : IsSound f
   pub root : one_node f ≡ true

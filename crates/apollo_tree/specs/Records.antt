@@ -5,25 +5,38 @@ use Rattle.apollo_tree.specs.declared.record.Record.{Record}
 use Rattle.document_grammar.specs.Forests.{Forest, none, leaf, node, text, count}
 use Rattle.document_grammar.specs.Builds.{Open, Building, open_count, open_text, front, back}
 
--- the records of trees whose text begins at a place
-abbrev pub records : ℕ → Forest → List Record
-records at none = []
-records at (leaf k s rest) =
-    record { kind = k; is_node = false; start = at; end = at + length s; size = 1 } ∷ records (at + length s) rest
-records at (node k kids rest) =
-    record { kind = k; is_node = true; start = at; end = at + length (text kids); size = suc (count kids) } ∷ (records at kids ++ records (at + length (text kids)) rest)
+-- the record of a leaf or of a node whose text begins at a place, and whose parent stands so many records before it
+abbrev pub leaf_record : ℕ → ℕ → SyntaxKind → List ℕ → Record
+leaf_record at up k s =
+    record { kind = k; is_node = false; start = at; end = at + length s; size = 1; to_parent = up }
 
--- the record of a node that is open has the size 0
+abbrev pub node_record : ℕ → ℕ → SyntaxKind → Forest → Record
+node_record at up k kids =
+    record { kind = k; is_node = true; start = at; end = at + length (text kids); size = suc (count kids); to_parent = up }
+
+-- how many records before it the parent stands, n records further on; 0 where there is no parent
+abbrev pub further : ℕ → ℕ → ℕ
+further zero n = zero
+further (suc up) n = suc (up + n)
+
+-- the records of trees under one parent, of which the first one's text begins at a place
+abbrev pub records : ℕ → ℕ → Forest → List Record
+records at up none = []
+records at up (leaf k s rest) = leaf_record at up k s ∷ records (at + length s) (further up 1) rest
+records at up (node k kids rest) =
+    node_record at up k kids ∷ (records at 1 kids ++ records (at + length (text kids)) (further up (suc (count kids))) rest)
+
+-- the record of a node that is open has the size 0, and its children don't know it as their parent
 abbrev pub open_record : ℕ → SyntaxKind → Record
-open_record at k = record { kind = k; is_node = true; start = at; end = at; size = 0 }
+open_record at k = record { kind = k; is_node = true; start = at; end = at; size = 0; to_parent = 0 }
 
 abbrev pub open_records : List Open → List Record
 open_records [] = []
 open_records (o ∷ above) =
-    open_records above ++ (records (length (open_text above)) o.before ++ open_record (length (open_text above) + length (text o.before)) o.kind ∷ [])
+    open_records above ++ (records (length (open_text above)) 0 o.before ++ open_record (length (open_text above) + length (text o.before)) o.kind ∷ [])
 
 abbrev pub built_records : Building → List Record
-built_records b = open_records b.above ++ records (length (open_text b.above)) b.here
+built_records b = open_records b.above ++ records (length (open_text b.above)) 0 b.here
 
 -- where the open nodes' records stand, the innermost last
 abbrev pub open_places : List Open → List ℕ

@@ -13,16 +13,16 @@ use Rattle.apollo_tree.specs.Open.{one_node}
 use Rattle.apollo_tree.specs.Children.{IsSpan}
 
 pub record IsTable (rs : List Record) (s : List ℕ) : Type 0 where
-  pub table : records 0 (forest s rs) ≡ rs
+  pub table : records 0 0 (forest s rs) ≡ rs
   pub words : text (forest s rs) ≡ s
   pub root : one_node (forest s rs) ≡ true
   pub sound : ∥ IsSound (forest s rs) ∥₁
 
 pub IsTable-prop : (rs : List Record) (s : List ℕ) → IsProp (IsTable rs s)
-IsTable-prop rs s = hlevel (Coded-set (coded_list row.the_row.coded) (records 0 (forest s rs)) rs, props)
+IsTable-prop rs s = hlevel (Coded-set (coded_list row.the_row.coded) (records 0 0 (forest s rs)) rs, props)
 
 abbrev pub none_there : Record
-none_there = record { kind = ERROR; is_node = false; start = 0; end = 0; size = 0 }
+none_there = record { kind = ERROR; is_node = false; start = 0; end = 0; size = 0; to_parent = 0 }
 
 -- the record with that number is a node's, or a leaf's
 abbrev pub IsNodeAt : List Record → ℕ → Type 0

@@ -1,7 +1,9 @@
-ghost use Rattle.std.specs.Prelude.{◌≡◌, ℕ, ◌+◌, ◌<◌, ◌≤◌, [], ◌∷◌, ◌++◌, length, IfOk, OnErr, OnOk};
+ghost use Rattle.std.specs.Prelude.{suc, drop, true, ◌≡◌, ℕ, ◌+◌, ◌<◌, ◌≤◌, [], ◌∷◌, ◌++◌, length, IfOk, OnErr, OnOk};
 ghost use Rattle.apollo_tree.specs.Sound.{CanFinish};
 ghost use Rattle.apollo_tree.specs.Open.{IsComplete};
 ghost use Rattle.apollo_tree.specs.Brackets.{Opening, Single, Closing, brackets, written, open_at};
+ghost use Rattle.apollo_tree.specs.Children.{tiled};
+ghost use Rattle.apollo_tree.specs.Adopted.{after_adoption};
 ghost use Rattle.document_grammar.specs.Builds.{nothing, start, add_leaf, finish, wrap, IsPlace, built_count};
 
 use crate::record::Record;
@@ -14,6 +16,20 @@ use std::marker::Model;
 #[derive(Clone, Copy)]
 pub struct Checkpoint {
     pub place: usize,
+}
+
+// Tells the trees that stand behind a record that it is their parent.
+fn adopt(records: &mut [Record], parent: usize)
+    requires inside { parent < length records.old }
+    requires trees { tiled 0 (drop (suc parent) records.old) ≡ true }
+    ensures { records.new ≡ after_adoption parent records.old }
+{
+    let mut child = parent + 1;
+    while child < records.len() {
+        let size = records[child].size;
+        records[child].to_parent = child - parent;
+        child += size;
+    }
 }
 
 /// Builds a tree from its leaves and the starts and ends of its nodes, called in document order.
@@ -98,6 +114,7 @@ impl<A: Allocator + Copy> TreeBuilder<A> {
                 start,
                 end: start,
                 size: 0,
+                to_parent: 0,
             },
         )?;
         self.unfinished.push(place)?;
@@ -119,6 +136,7 @@ impl<A: Allocator + Copy> TreeBuilder<A> {
             start,
             end,
             size: 1,
+            to_parent: 0,
         })?;
         self.text.push_str(text)?;
         Ok(())
@@ -139,6 +157,7 @@ impl<A: Allocator + Copy> TreeBuilder<A> {
             size: self.records.len() - place,
             ..started
         };
+        adopt(self.records.as_mut_slice(), place);
     }
 
     /// The finished tree, once all nodes are closed and there is one root.

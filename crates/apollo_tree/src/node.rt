@@ -85,23 +85,18 @@ impl<'t> Table<'t> {
         self.records.len()
     }
 
-    // The nearest node before an element that reaches beyond it.
     pub(crate) fn parent(self, index: usize) -> Option<SyntaxNode<'t>>
         requires { index < length self.records.now }
         ensures { option_map node_place result ≡ parent_place (table_place self.entry index) }
     {
-        let mut before = index;
-        while before > 0 {
-            before -= 1;
-            let record = record_at(self.records, before);
-            if record.size > index - before {
-                return Some(SyntaxNode {
-                    table: self,
-                    index: before,
-                });
-            }
+        let up = record_at(self.records, index).to_parent;
+        if up == 0 {
+            return None;
         }
-        None
+        Some(SyntaxNode {
+            table: self,
+            index: index - up,
+        })
     }
 
     pub(crate) fn range(self, index: usize) -> TextRange

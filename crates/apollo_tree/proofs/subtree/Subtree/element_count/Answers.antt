@@ -6,4 +6,4 @@ use Rattle.apollo_tree.proofs.subtree.Subtree.element_count.Goals as goal
 pub returns : goal.returns
 returns g c =
     let l : c.len.result ≡ length c.self.inside.records.items = omega (arith, c.self.inside.records.ok.0) in
-    l ∙ ap length (sym c.self.invariant.table) ∙ length-records 0 _ ∙ ap count c.self.view_is
+    l ∙ ap length (sym c.self.invariant.table) ∙ length-records 0 0 _ ∙ ap count c.self.view_is
