@@ -1,6 +1,7 @@
 -- The law of answers, and that the answers' texts are the source where the limit isn't met.
 use Rattle.std.proofs.Common.{◌≡◌, ℕ, zero, suc, ◌+◌, ◌-◌, ◌<◌, ◌≤◌, Bool, true, false, List, [], ◌∷◌, ◌++◌, length, take, drop, Option, Some, None, refl, sym, ap, ◌∙◌, arith}
-use Rattle.std.specs.Prelude.{slice_index}
+use Rattle.std.specs.Prelude.{slice_index, min}
+use Rattle.std.proofs.lemmas.Bool.Decides.{nat_tests}
 use Rattle.std.specs.Str.{chars}
 use Rattle.std.specs.Char.{len_utf8}
 use Rattle.std.proofs.lemmas.Str.{len_utf8_bounds}
@@ -8,6 +9,7 @@ use Rattle.std.proofs.lemmas.List.{take-append-drop}
 use Rattle.lexical_grammar.specs.declared.TokenKind.{TokenKind}
 use Rattle.lexical_grammar.specs.declared.TokenKind.TheVariants.{Eof}
 use Rattle.lexical_grammar.specs.Tokens.{Tok}
+use Rattle.lexical_grammar.specs.Cut.{Item}
 use Rattle.apollo_lexer.specs.Reads.{first_token, item_of, first_item, items_from}
 use Rattle.apollo_lexer.specs.Answers.{left_unless, answers_left}
 use Rattle.lexical_grammar.specs.Answers.{Answer, limited}
@@ -81,5 +83,25 @@ limited_text (suc n) place zero (b ∷ bs) h =
     ∙ take_and_drop k b bs (item_some (b ∷ bs) (first_token (b ∷ bs)) refl (omega arith))
 
 -- where no more items are there than the limit allows, the answers' texts are the source
+pub joined_text : (limit : ℕ) (source : List ℕ) → length (items_from 0 0 source) ≤ limit → answers_text (limited limit (items_from 0 0 source)) ≡ source
+joined_text limit source h = limited_text limit 0 0 source h
+
 pub whole_text : (l : Lexer) (limit : ℕ) (source : List ℕ) → answers_left l ≡ limited limit (items_from 0 0 source) → length (items_from 0 0 source) ≤ limit → answers_text (answers_left l) ≡ source
-whole_text l limit source e h = ap answers_text e ∙ limited_text limit 0 0 source h
+whole_text l limit source e h = ap answers_text e ∙ joined_text limit source h
+
+-- ---- how many there are
+
+min_next : (m n : ℕ) → min (m + 1) (n + 1) ≡ min m n + 1
+min_next m n = grind (arith, nat_tests)
+
+min_zero : (n : ℕ) → min 0 n ≡ 0
+min_zero n = grind (arith, nat_tests)
+
+min_one : (n : ℕ) → min (suc n) 1 ≡ 1
+min_one n = grind (arith, nat_tests)
+
+pub limited_length : (limit : ℕ) (items : List Item) → length (limited limit items) ≡ min (length items) (limit + 1)
+limited_length zero [] = refl
+limited_length (suc limit) [] = sym (min_zero (suc limit + 1))
+limited_length zero (item ∷ items) = sym (min_one (length items))
+limited_length (suc limit) (item ∷ items) = omega (arith, limited_length limit items, min_next (length items) (limit + 1))

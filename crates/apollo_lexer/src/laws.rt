@@ -1,0 +1,29 @@
+// What holds of a lexer's answers, as contracts of functions that do nothing.
+ghost use Rattle.std.specs.Prelude.{◌≡◌, ◌+◌, ◌-◌, ◌≤◌, ℕ, List, length, min, true};
+ghost use Rattle.lexical_grammar.specs.Answers.{AreAnswers, answers_text, limited};
+ghost use Rattle.lexical_grammar.specs.Begins.{are_tokens};
+ghost use Rattle.lexical_grammar.specs.Cut.{Item, Cut};
+ghost use Rattle.apollo_lexer.specs.Answers.{answers_left};
+ghost use Rattle.apollo_lexer.specs.Reads.{items_from};
+
+use crate::lexer::Lexer;
+
+/// A token's text is one of its kind, and nothing comes behind the end or behind the limit error.
+pub fn answers_are_items(lexer: &Lexer)
+    ensures { AreAnswers (answers_left lexer.now) }
+{}
+
+/// Where no more items are there than the limit allows, the texts of the answers, joined, are the source.
+pub fn answers_join(source: &str)
+    ensures { (limit : ℕ) → length (items_from 0 0 source.now) ≤ limit → answers_text (limited limit (items_from 0 0 source.now)) ≡ source.now }
+{}
+
+/// There are as many answers as items, and no more than one above the limit.
+pub fn answers_count()
+    ensures { (limit : ℕ) (items : List Item) → length (limited limit items) ≡ min (length items) (limit + 1) }
+{}
+
+/// Where no item of a text is bad, its items are a cut of it.
+pub fn tokens_are_cut(source: &str)
+    ensures { are_tokens (items_from 0 0 source.now) ≡ true → Cut source.now (items_from 0 0 source.now) }
+{}
