@@ -63,7 +63,7 @@ misses-fires (entry x1 y1 alone ∷ more) x y a b t ha hb =
     ])
     (misses-fires more x y a b (and-r _ _ t) ha hb)
 
-hits-fires : (es : List Entry) (x y a b : ℕ) → any_entries es (λ x1 y1 alone. subset x x1 and (alone or subset y y1)) ≡ true → holds a x ≡ true → holds b y ≡ true → fires_in es a b ≡ true
+pub hits-fires : (es : List Entry) (x y a b : ℕ) → any_entries es (λ x1 y1 alone. subset x x1 and (alone or subset y y1)) ≡ true → holds a x ≡ true → holds b y ≡ true → fires_in es a b ≡ true
 hits-fires [] x y a b t ha hb = t
 hits-fires (entry x1 y1 alone ∷ more) x y a b t ha hb = elim (or-c _ _ t) [
   | inl p ↦ or-l _ _ (and-i (holds-subset a x x1 (and-l _ _ p) ha) (elim (or-c _ _ (and-r _ _ p)) [ inl q ↦ or-l _ _ q | inr q ↦ or-r _ _ (holds-subset b y y1 q hb) ]))

@@ -1,0 +1,6 @@
+pub mod Strip
+pub mod Calm
+pub mod Sets
+pub mod Check
+pub mod Checked
+pub mod Link
