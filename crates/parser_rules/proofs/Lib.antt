@@ -4,3 +4,5 @@ pub mod Sets
 pub mod Check
 pub mod Checked
 pub mod Link
+pub mod Sound
+pub mod Endings

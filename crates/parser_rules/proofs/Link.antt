@@ -524,7 +524,7 @@ module _ (answers : List Answer) (base : List Report) (lim : ℕ) (w : List Toke
   Good n s p x (Nested a b) k = ok n s p x (Nested a b) k ≡ true
   Good n s p x (Call q) k = ok n s p x (Call q) k ≡ true
 
-  good : (n s : ℕ) (p : Spot) (x : ℕ) (r : Rule) (k : Spot → ℕ → Bool) → ok n s p x r k ≡ true → Good n s p x r k
+  pub good : (n s : ℕ) (p : Spot) (x : ℕ) (r : Rule) (k : Spot → ℕ → Bool) → ok n s p x r k ≡ true → Good n s p x r k
   unfolding Good ok
   good n s p x Skip k h = h
   good n s p x (Do a) k h = h
@@ -576,10 +576,10 @@ module _ (answers : List Answer) (base : List Report) (lim : ℕ) (w : List Toke
       let b = begun-in s q l x c fs st g c0 (and-l _ _ l1) (eqb-true _ _ (and-r _ _ l1)) (and-l _ _ (and-r _ _ h)) (and-r _ _ (and-l _ _ h)) in
       let b' : Fits (symbol c) (spot 0 low) (begins (symbol c)) (frame s q g.place.children ∷ fs) t = subst (λ (y : State). Fits (symbol c) (spot 0 low) (begins (symbol c)) (frame s q g.place.children ∷ fs) y) (sym i) b in
       subst (λ (y : State). Out s fs k y) (sym j) (
-        elim (link h1 4 (symbol c) (spot 0 low) (begins (symbol c)) (frame s q g.place.children ∷ fs) (ends_well (symbol c)) (good 4 (symbol c) (spot 0 low) (begins (symbol c)) (inside c) (ends_well (symbol c)) (and-r _ _ (checked c))) b') [
-          | inl o ↦ inl (told-on answers base u (closed u) (closed-grows u) o)
-          | inr o ↦ inr (spot (target s q (symbol c)) l, any, and-r _ _ (and-r _ _ h), ended-in s q (symbol c) l o.0 o.1 fs st u g.place (no-type c c0) (and-l _ _ l1) o.2 o.3)
-        ])
+      elim (link h1 4 (symbol c) (spot 0 low) (begins (symbol c)) (frame s q g.place.children ∷ fs) (ends_well (symbol c)) (good 4 (symbol c) (spot 0 low) (begins (symbol c)) (inside c) (ends_well (symbol c)) (and-r _ _ (checked c))) b') [
+        | inl o ↦ inl (told-on answers base u (closed u) (closed-grows u) o)
+        | inr o ↦ inr (spot (target s q (symbol c)) l, any, and-r _ _ (and-r _ _ h), ended-in s q (symbol c) l o.0 o.1 fs st u g.place (no-type c c0) (and-l _ _ l1) o.2 o.3)
+      ])
   link {st = st} {t = y} (deeper {a = a} {b = b} {t = t} {u = u} {v = v} d i j h1 h2) n s (spot q l) x fs k h g =
       let k1 : Spot → ℕ → Bool = λ p'' u'. is_high p'' and ok n s (lowered p'') u' b k in
       let e = entered-in s q l x fs st (eqb-true _ _ (and-l _ _ h)) d g in
