@@ -1,4 +1,8 @@
-/// The kinds of the tree's leaves and nodes, in the order of their numbers.
+/// The kinds of the leaves and nodes of syntax trees, in the order of their numbers, which are this project's own.
+///
+/// Leaves come first. WHITESPACE, COMMENT and COMMA are those of ignored tokens (GraphQL October 2021, section 2.1.7), ERROR that of what
+/// the grammar refuses. Then come the punctuators, IDENT, INT, FLOAT and STRING, and the keywords, each a Name with the kind's name
+/// without `_KW` as its text. Nodes begin with DOCUMENT; their children are those of the standard's sections 2 and 3.
 #[derive(Clone, Copy, PartialEq, Eq, Hash, Debug)]
 pub enum SyntaxKind {
     WHITESPACE,
@@ -127,26 +131,28 @@ ghost use Rattle.std.specs.Prelude.{◌≡◌, ℕ, ◌<◌, ◌≤◌, ◌↔�
 ghost use Rattle.document_grammar.specs.Numbers.{number, is_trivia, is_kind};
 
 impl SyntaxKind {
+    /// The number of the kind, from 0 to 119.
     pub fn to_u16(self) -> u16
         ensures { result ≡ number self }
     {
         self as u16
     }
 
+    /// Whether the kind is WHITESPACE or COMMENT. COMMA, though the grammar ignores it too, is not.
     pub fn is_trivia(self) -> bool
         ensures { result ≡ is_trivia self }
     {
         matches!(self, SyntaxKind::WHITESPACE | SyntaxKind::COMMENT)
     }
 
-    /// Whether two kinds are the same.
+    /// Whether two kinds are the same, by their numbers.
     pub fn is(self, other: SyntaxKind) -> bool
         ensures { result ≡ is_kind other self }
     {
         self.to_u16() == other.to_u16()
     }
 
-    /// The kind with a number.
+    /// The kind with the number `of`, or None from 120 on.
     pub fn from_u16(of: u16) -> Option<SyntaxKind>
         ensures { MatchOption result (120 ≤ of) (λ k. number k ≡ of) }
     {
@@ -274,5 +280,39 @@ impl SyntaxKind {
             _ => return None,
         };
         Some(kind)
+    }
+}
+
+#[cfg(test)]
+mod tests {
+    use super::*;
+    use std::test::Fail;
+
+    #[test]
+    fn numbers(rt: HostRuntime) {
+        assert_eq!(rt; SyntaxKind::DOCUMENT.to_u16(), 60);
+        assert_eq!(rt;
+            SyntaxKind::from_u16(119),
+            Some(SyntaxKind::INPUT_OBJECT_TYPE_EXTENSION)
+        );
+        assert_eq!(rt; SyntaxKind::from_u16(120), None);
+    }
+
+    #[test]
+    fn trivia(rt: HostRuntime) {
+        for number in 0..120 {
+            let trivia = SyntaxKind::from_u16(number).map(|kind| kind.is_trivia());
+            assert_eq!(rt; trivia, Some(number < 2), "at {number}");
+        }
+    }
+
+    #[test]
+    fn equal_and_printed(rt: HostRuntime) -> Result<(), Fail> {
+        assert!(rt; SyntaxKind::NAME.is(SyntaxKind::NAME));
+        assert!(rt; !SyntaxKind::NAME.is(SyntaxKind::IDENT));
+        assert_ne!(rt; SyntaxKind::query_KW, SyntaxKind::QUERY_KW);
+        let printed = format!(in rt.alloc(); "{:?}", SyntaxKind::query_KW)?;
+        assert_eq!(rt; printed.as_str(), "query_KW");
+        Ok(())
     }
 }

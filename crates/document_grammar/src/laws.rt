@@ -53,3 +53,19 @@ pub fn starts()
     ensures any { (front : List Mark) → StartSentence front → Starts document front }
     ensures within { (r : ℕ) (front : List Mark) → StartSentenceWithin r front → StartsWithin document r front }
 {}
+
+#[cfg(test)]
+mod tests {
+    use super::*;
+
+    #[test]
+    fn laws_end() {
+        one_kind();
+        one_cut();
+        one_derivation();
+        first_profile();
+        ignored_leaves();
+        machine_faults();
+        starts();
+    }
+}
