@@ -4,6 +4,7 @@ use Rattle.std.proofs.lemmas.List.{append_cancel_right}
 use Rattle.document_grammar.specs.Tree.{Token, Tree}
 use Rattle.document_grammar.specs.Derivation.{Sort, Mark, word, marks, Spells, Starts}
 use Rattle.document_grammar.specs.Machine.{first, IsStuck}
+use Rattle.document_grammar.proofs.Sound.{AllSpelt}
 use Rattle.document_grammar.proofs.Theory.{fault}
 use Rattle.document_grammar.proofs.Starts.{opens, read, next_two}
 use Rattle.document_grammar.proofs.Main.{start_symbol, FaultIn, begins, not-starts}
@@ -24,11 +25,15 @@ fault-of sort before rest s =
 before-of : (sort : Sort) (before rest : List Token) (k : FaultIn sort (before ++ rest) rest) → k.before ≡ before
 before-of sort before rest k = append_cancel_right k.before before rest (sym k.split)
 
-pub stuck-begins : (sort : Sort) (before rest : List Token) → IsStuck sort before rest → (t : Tree) × (v : List Token) × Spells (before ++ v) t sort
-stuck-begins sort before rest s =
+-- What goes on is spelled as the leaves are listed.
+pub stuck-spelt : (sort : Sort) (before rest : List Token) → IsStuck sort before rest → (t : Tree) × (v : List Token) × Spells (before ++ v) t sort × AllSpelt v
+stuck-spelt sort before rest s =
     let k = fault-of sort before rest s in
     let h = begins sort (before ++ rest) rest k in
-    (h.0, h.1, subst (λ (b : List Token). Spells (b ++ h.1) h.0 sort) (before-of sort before rest k) h.2)
+    (h.0, h.1, subst (λ (b : List Token). Spells (b ++ h.1) h.0 sort) (before-of sort before rest k) h.2, h.3)
+
+pub stuck-begins : (sort : Sort) (before rest : List Token) → IsStuck sort before rest → (t : Tree) × (v : List Token) × Spells (before ++ v) t sort
+stuck-begins sort before rest s = let h = stuck-spelt sort before rest s in (h.0, h.1, h.2)
 
 pub stuck-starts-none : (sort : Sort) (before rest : List Token) → IsStuck sort before rest → Starts sort (map word before ++ take 2 (marks rest)) → ⊥
 stuck-starts-none sort before rest s h =

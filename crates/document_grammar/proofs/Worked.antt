@@ -21,7 +21,7 @@ abbrev pub all_ascii : List ℕ → Bool
 all_ascii [] = true
 all_ascii (b ∷ bs) = ltb b 128 and all_ascii bs
 
-is-ascii : (bs : List ℕ) → all_ascii bs ≡ true → IsAscii bs
+pub is-ascii : (bs : List ℕ) → all_ascii bs ≡ true → IsAscii bs
 is-ascii [] h = IsAscii-nil
 is-ascii (b ∷ bs) h = IsAscii-cons b bs (ltb-true b 128 (and-l _ _ h)) (is-ascii bs (and-r _ _ h))
 

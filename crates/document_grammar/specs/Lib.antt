@@ -1,7 +1,6 @@
 pub mod Tree
 pub mod Kinds
 pub mod Symbols
-pub mod States
 pub mod Pattern
 pub mod Rows
 pub mod Table

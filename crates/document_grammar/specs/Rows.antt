@@ -148,7 +148,7 @@ children =
     ∷ (INPUT_OBJECT_TYPE_EXTENSION, one extend_KW then one input_KW then one NAME then parts_with INPUT_FIELDS_DEFINITION)
     ∷ []
 
--- The pattern that stands beside a kind; beside no other kind stands any.
+-- The pattern that stands beside a kind. Nothing fits a kind that has none.
 abbrev pub row_in : List (ℕ × Pattern) → ℕ → Pattern
 row_in [] k = any_of []
 row_in (row ∷ more) k = cond (eqb row.0 k) row.1 (row_in more k)

@@ -1,7 +1,7 @@
 //! Laws of the definitions: calls that do nothing, each with a theorem as its contract.
 
-ghost use Rattle.std.specs.Prelude.{◌≡◌, ℕ, true, List, ◌++◌, map, take};
-ghost use Rattle.lexical_grammar.specs.Cut.{Item, Cut};
+ghost use Rattle.std.specs.Prelude.{◌≡◌, ℕ, true, List, ◌∷◌, ◌++◌, map, take, IsUtf8};
+ghost use Rattle.lexical_grammar.specs.Cut.{Item, Cut, texts, Significant};
 ghost use Rattle.lexical_grammar.specs.Begins.{are_tokens};
 ghost use Rattle.document_grammar.specs.declared.kind.SyntaxKind.{SyntaxKind};
 ghost use Rattle.document_grammar.specs.Numbers.{number};
@@ -9,7 +9,7 @@ ghost use Rattle.document_grammar.specs.Tree.{Token, Tree};
 ghost use Rattle.document_grammar.specs.Derivation.{Sort, document, Yield, nest, Spells, FirstSpells, Mark, word, marks, Starts, StartsWithin};
 ghost use Rattle.document_grammar.specs.Places.{bare};
 ghost use Rattle.document_grammar.specs.Machine.{IsStuck};
-ghost use Rattle.document_grammar.specs.Sentence.{Sentence, FirstSentence, StartSentence, StartSentenceWithin};
+ghost use Rattle.document_grammar.specs.Sentence.{token_of, Sentence, FirstSentence, Begins, StartSentence, StartSentenceWithin};
 
 /// No two kinds have one number.
 pub fn one_kind()
@@ -41,11 +41,18 @@ pub fn ignored_leaves()
     ensures nesting { (t : Tree) → nest (bare t) ≡ nest t }
 {}
 
-/// Where the machine is stuck, what it has read begins the tokens of a sentence, and no sentence goes on behind it with the next two
-/// tokens.
-pub fn machine_faults()
-    ensures not_late { (sort : Sort) (before rest : List Token) → IsStuck sort before rest → (t : Tree) × (v : List Token) × Spells (before ++ v) t sort }
-    ensures not_early { (sort : Sort) (before rest : List Token) → IsStuck sort before rest → ¬ Starts sort (map word before ++ take 2 (marks rest)) }
+/// No late fault: where the machine is stuck, what it has read begins the tokens that a derivation spells; and where these are all the
+/// tokens of a text before a place, the text before begins a sentence.
+pub fn no_late_fault()
+    ensures tokens { (sort : Sort) (before rest : List Token) → IsStuck sort before rest → (t : Tree) × (v : List Token) × Spells (before ++ v) t sort }
+    ensures texts { (source : List ℕ) (before : List Item) (item : Item) (more : List Item) (rest : List Token) → IsUtf8 source
+        → Cut source (before ++ item ∷ more) → are_tokens before ≡ true → IsStuck document (map token_of (Significant before)) rest
+        → Begins (texts before) }
+{}
+
+/// No early fault: where the machine is stuck, no derivation spells tokens that go on behind what it has read with the next two.
+pub fn no_early_fault()
+    ensures { (sort : Sort) (before rest : List Token) → IsStuck sort before rest → ¬ Starts sort (map word before ++ take 2 (marks rest)) }
 {}
 
 /// What starts a sentence, within a nesting too, starts the tokens that a derivation spells.
@@ -65,7 +72,8 @@ mod tests {
         one_derivation();
         first_profile();
         ignored_leaves();
-        machine_faults();
+        no_late_fault();
+        no_early_fault();
         starts();
     }
 }
