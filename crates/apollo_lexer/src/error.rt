@@ -1,8 +1,14 @@
 // Errors of the lexer and the parser, which own their texts.
 ghost use Rattle.std.specs.Prelude.{◌≡◌, ◌+◌, ◌<◌, ◌^◌, IfOk, string_bytes, string_len};
+ghost use Rattle.std.proofs.Common.{rules};
+ghost use Rattle.std.specs.Cmp.Rules.{comparing, hashing};
+ghost use Rattle.apollo_lexer.specs.Equal.{same_diagnostic, subject_number, hashed};
+ghost use Rattle.apollo_lexer.specs.Printed.{error_text};
 ghost use Rattle.apollo_lexer.specs.Diagnostics.{of_text, of_end, of_limit, subject_text, is_end_subject, is_limit_subject};
 
 use std::alloc::{AllocError, Allocator};
+use std::fmt;
+use std::hash::{Hash, Hasher};
 use std::marker::Model;
 
 // What an error is about.
@@ -120,5 +126,71 @@ impl<A: Allocator> Error<A> {
             subject,
             index: self.index,
         })
+    }
+}
+
+impl<A: Allocator> Error<A> {
+    // Which of the three things it is about.
+    fn subject_number(&self) -> u8
+        ensures { result ≡ subject_number self.now.subject }
+    {
+        match &self.subject {
+            ErrorData::Text(_) => 0,
+            ErrorData::Eof => 1,
+            ErrorData::LimitExceeded => 2,
+        }
+    }
+}
+
+impl<A: Allocator> PartialEq for Error<A> {
+    ghost eq = { same_diagnostic };
+
+    ghost laws = { Prim.search (comparing, rules) depth 9 };
+
+    fn eq(&self, other: &Error<A>) -> bool {
+        self.message() == other.message()
+            && self.subject_number() == other.subject_number()
+            && self.data() == other.data()
+            && self.index() == other.index()
+    }
+}
+
+impl<A: Allocator> Eq for Error<A> {
+    ghost laws = { Prim.search (comparing, rules) depth 9 };
+}
+
+impl<A: Allocator> Hash for Error<A> {
+    ghost hash_input = { hashed };
+
+    ghost respects_eq = { Prim.search (hashing, rules) depth 9 };
+
+    fn hash<H: Hasher>(&self, state: &mut H) {
+        self.message().hash(state);
+        state.write_u8(self.subject_number());
+        self.data().hash(state);
+        state.write_usize(self.index());
+    }
+}
+
+impl<A: Allocator> fmt::Display for Error<A> {
+    ghost output = { error_text };
+
+    fn fmt<W: fmt::Write>(&self, f: &mut fmt::Formatter<W>) -> fmt::Result {
+        let start = self.index;
+        let end = start + self.data().len();
+        let message = self.message();
+        match &self.subject {
+            ErrorData::Text(text) => write!(f, "ERROR@{start}:{end} {message:?} {text}"),
+            ErrorData::Eof => write!(f, "ERROR@{start}:{end} {message:?} EOF"),
+            ErrorData::LimitExceeded => write!(f, "ERROR@{start}:{end} {message:?} "),
+        }
+    }
+}
+
+impl<A: Allocator> fmt::Debug for Error<A> {
+    ghost debug_output = { error_text };
+
+    fn fmt<W: fmt::Write>(&self, f: &mut fmt::Formatter<W>) -> fmt::Result {
+        write!(f, "{self}")
     }
 }
