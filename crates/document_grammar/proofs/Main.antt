@@ -1,17 +1,17 @@
 -- The theorems on sentences, for each sort of them.
 use Rattle.std.proofs.Common.{◌≡◌, ℕ, true, false, ◌+◌, ◌<◌, ◌≤◌, List, [], ◌∷◌, ◌++◌, sym, ap, ◌∙◌, subst, arith}
 use Rattle.document_grammar.specs.Tree.{Token, Tree, node, Forest, none}
-use Rattle.document_grammar.specs.Machine.{holds, is_leaf, first, second, yield, yields, opening, close, Frame, frame, Reach, open'}
+use Rattle.document_grammar.specs.Machine.{holds, is_leaf, first, second, yield, yields, opening, close, Frame, frame, Reach}
 use Rattle.document_grammar.specs.Derivation.{AllFit, Sort, Spells, Yield, nest, Starts, StartsWithin}
 use Rattle.document_grammar.proofs.Run.{next, Left}
 use Rattle.document_grammar.proofs.Show.{show, shows}
 use Rattle.document_grammar.proofs.Constants.{path-fits, show-yield, parse-sentence}
 use Rattle.document_grammar.proofs.Read.{derivation-read}
-use Rattle.document_grammar.proofs.Theory.{Parse, one_tree, done, done-all, Fault, no_fault, at-stuck, no-leaf, can-end, on-the-way}
+use Rattle.document_grammar.proofs.Theory.{Parse, one_tree, done, done-all, Fault, no_fault, no-leaf, can-end, on-the-way}
 use Rattle.document_grammar.proofs.Sound.{any, Sound, reach-sound, AllSpelt, viable, spent, reach-spent}
-use Rattle.document_grammar.proofs.Steps.{goes, closes, sticks, closes-move, At}
+use Rattle.document_grammar.proofs.Steps.{goes}
 use Rattle.document_grammar.proofs.Starts.{opens, opens-by, first-same, read, next_one, next_two, after-one, after-two}
-use Rattle.document_grammar.proofs.Firm.{Firm, firm-left, FirmAt, own-open}
+use Rattle.document_grammar.proofs.Firm.{Firm, firm-open, firm-left}
 use Rattle.document_grammar.proofs.Peak.{peak, peak-end}
 use Rattle.document_grammar.proofs.Depth.{count_in, depth_above, depth, left-depth, nest-show, nesting_all}
 
@@ -111,16 +111,9 @@ depth-within sort w t fs r h c =
     subst (λ (n : ℕ). depth fs ≤ n) (sym (nest-show p.0 p.1.0) ∙ ap nest p.2) d
 
 -- The same where a counted node of the symbol `k` begins with the next token.
-pub at-limit : (sort : Sort) (n : ℕ) (w : List Token) (s q x k : ℕ) (f : Forest) (fs : List Frame) (r : List Token) (h : FirmAt (start_symbol sort w) w s q f fs r) → goes s q x any k ≡ true → is_leaf k ≡ false → holds (first r) x ≡ true → n < depth_above fs s + count_in s k → StartsWithin sort n (read h.firmly.before ++ next_one r) → ⊥
-at-limit sort n w s q x k f fs r h t i hx d =
-    not-within sort n w (frame k 0 none ∷ frame s h.own f ∷ fs) r (record { before = h.firmly.before; split = h.firmly.split; firm = λ v g. open' (h.firmly.firm v g) (own-open x k h t hx v g) i }) d
-
--- The callers' forms at a fault and at the end.
-pub at-fault : (sort : Sort) (w : List Token) (s q x y : ℕ) (f : Forest) (fs : List Frame) (r : List Token) → At (start_symbol sort w) w s q f fs r → sticks s q x y ≡ true → holds (first r) x ≡ true → holds (second r) y ≡ true → FaultIn sort w r
-at-fault sort w s q x y f fs r h t hx hy = at-stuck (start_symbol sort w) (opens sort (first w)) w s q x y f fs r h t hx hy
-
-pub at-end : (sort : Sort) (w : List Token) (q x y : ℕ) (f : Forest) (r : List Token) → At (start_symbol sort w) w (start_symbol sort w) q f [] r → closes (start_symbol sort w) q x y ≡ true → holds (first r) x ≡ true → holds (second r) y ≡ true → Ended sort w f r
-at-end sort w q x y f r h t hx hy = (h.own, h.reached, h.moves.0 ∙ closes-move (start_symbol sort w) q x y (first r) (second r) t hx hy)
+pub at-limit : (sort : Sort) (n : ℕ) (w : List Token) (s q x k : ℕ) (f : Forest) (fs : List Frame) (r : List Token) (c : Firm (start_symbol sort w) w (frame s q f ∷ fs) r) → goes s q x any k ≡ true → is_leaf k ≡ false → holds (first r) x ≡ true → n < depth_above fs s + count_in s k → StartsWithin sort n (read c.before ++ next_one r) → ⊥
+unfolding firm-open
+at-limit sort n w s q x k f fs r c t i h d = not-within sort n w (frame k 0 none ∷ frame s q f ∷ fs) r (firm-open x k c t i h) d
 
 -- The closed nodes fit their rows, whatever follows.
 abbrev pub ClosedFit : List Frame → Type 0

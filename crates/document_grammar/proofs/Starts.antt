@@ -78,9 +78,6 @@ head-mark e = cc
 tail-mark : {a b : Mark} {v w : List Mark} → a ∷ v ≡ b ∷ w → v ≡ w
 tail-mark e = cc
 
-nil-mark : {A : Type 0} {a : Mark} {v : List Mark} → [] ≡ a ∷ v → A
-nil-mark e = absurd (cc)
-
 two-from : (r w : List Token) (v : List Mark) → marks w ≡ next_two r ++ v → (first r ≡ first w) × (second r ≡ second w)
 unfolding first second
 two-from [] [] v e = (refl, refl)

@@ -10,7 +10,6 @@ use Rattle.document_grammar.proofs.Run.{next, same_tree, Left, left-stuck, left-
 use Rattle.document_grammar.proofs.Ll.{tree-run}
 use Rattle.document_grammar.proofs.Endings.{ending, fillable}
 use Rattle.document_grammar.proofs.Sound.{reach-sound, reach-spent, spent, viable, Whole, path-ok, move-ends}
-use Rattle.document_grammar.proofs.Steps.{closes, sticks, sticks-move, closes-move, At}
 use Rattle.document_grammar.specs.Kinds.{words, DOCUMENT, SELECTION_SET}
 use Rattle.document_grammar.specs.Symbols.{TYPE, BARE_SELECTIONS}
 
@@ -88,11 +87,3 @@ module _ (s0 : ℕ) (b : begins_parse s0 ≡ true) where
   -- So a fault before the end of the tokens of a tree is none.
   pub no_fault : (t : Tree) (w r : List Token) → Parse s0 t w → Fault w r → ⊥
   no_fault t w r p h = h.not_early t r (subst (λ (z : List Token). Parse s0 t z) h.split p) refl refl
-
-  -- The caller's form: the test that nothing goes on here.
-  pub at-stuck : (w : List Token) (s q x y : ℕ) (f : Forest) (fs : List Frame) (r : List Token) → At s0 w s q f fs r → sticks s q x y ≡ true → holds (first r) x ≡ true → holds (second r) y ≡ true → Fault w r
-  at-stuck w s q x y f fs r h t hx hy = fault w s h.own f fs r h.reached (h.moves.0 ∙ sticks-move s q x y (first r) (second r) t hx hy)
-
-  -- The caller's form at the end.
-  pub at-done : (w : List Token) (q x y : ℕ) (f : Forest) (r : List Token) → At s0 w s0 q f [] r → closes s0 q x y ≡ true → holds (first r) x ≡ true → holds (second r) y ≡ true → (w ≡ yields f ++ r) × Parse s0 (node s0 f) (yields f)
-  at-done w q x y f r h t hx hy = done w h.own f r h.reached (h.moves.0 ∙ closes-move s0 q x y (first r) (second r) t hx hy)
