@@ -1,5 +1,6 @@
 -- What the tests say, for each state and symbol.
 use Rattle.std.proofs.Common.{◌≡◌, ℕ, zero, suc, ◌+◌, ◌-◌, ◌≤◌, ◌<◌, min, max, Bool, true, false, cond, not, eqb, List, [], ◌∷◌, get_or, bit_and, bit_or, refl, sym, ◌∙◌, subst, ◌⊎◌, inl, inr, true≢false, eqb-true, ltb-false, arith}
+use Rattle.std.proofs.lemmas.Bool.{eqb-false}
 use Rattle.std.specs.Int.{bit_at}
 use Rattle.std.proofs.lemmas.Nat.Bits.{bit_at_and, bit_at_or, bit_at-lt, bit_at-zero}
 use Rattle.document_grammar.specs.Tree.{Tree, leaf, node, Forest, none, ◌▸◌, root}
@@ -52,6 +53,19 @@ not-c false h = refl
 pub either : (a : Bool) → (a ≡ true) ⊎ (a ≡ false)
 either true = inl refl
 either false = inr refl
+
+pub eqb-refl : (k : ℕ) → eqb k k ≡ true
+eqb-refl k = elim (either (eqb k k)) [ inl p ↦ p | inr p ↦ absurd (eqb-false k k p refl) ]
+
+-- Equal lists.
+pub head-same : {A : Type 0} {a b : A} {v w : List A} → a ∷ v ≡ b ∷ w → a ≡ b
+head-same e = cc
+
+pub tail-same : {A : Type 0} {a b : A} {v w : List A} → a ∷ v ≡ b ∷ w → v ≡ w
+tail-same e = cc
+
+pub no-cons : {A B : Type 0} {a : B} {w : List B} → [] ≡ a ∷ w → A
+no-cons e = absurd (cc)
 
 -- Sets of classes.
 bit_min : (a b : ℕ) → b ≡ 1 → a ≡ min b a → a ≡ 1 → 1 ≤ a

@@ -18,7 +18,7 @@ use Rattle.document_grammar.specs.Table.{firsts, spellings}
 use Rattle.document_grammar.specs.Derivation.{document, Spells}
 use Rattle.document_grammar.specs.Machine.{◌and◌, ◌or◌, holds, is_leaf, entries, fires, class, token, Ok, IsStuck}
 use Rattle.document_grammar.specs.Sentence.{leaf_number, token_of, Begins}
-use Rattle.document_grammar.proofs.Basics.{false-true, or-c, either}
+use Rattle.document_grammar.proofs.Basics.{false-true, or-c, either, head-same, tail-same}
 use Rattle.document_grammar.proofs.Endings.{spell}
 use Rattle.document_grammar.proofs.Sound.{AllSpelt}
 use Rattle.document_grammar.proofs.Worked.{all_ascii, is-ascii}
@@ -63,12 +63,6 @@ wordless l = eqb l 0 or eqb l 3
 abbrev down : ℕ → List ℕ
 down zero = []
 down (suc n) = n ∷ down n
-
-head-same : {A : Type 0} {a b : A} {v w : List A} → a ∷ v ≡ b ∷ w → a ≡ b
-head-same e = cc
-
-tail-same : {A : Type 0} {a b : A} {v w : List A} → a ∷ v ≡ b ∷ w → v ≡ w
-tail-same e = cc
 
 less : (n m : ℕ) → n < suc m → (n ≡ m → ⊥) → n < m
 less n m h i = omega arith

@@ -6,7 +6,7 @@ use Rattle.document_grammar.specs.Table.{State, rows}
 use Rattle.document_grammar.specs.Labels.{paths, labels}
 use Rattle.document_grammar.specs.Machine.{◌and◌, ◌or◌, is_leaf, at, ends, exit, arcs}
 use Rattle.document_grammar.proofs.Checks.{all_arcs, exits}
-use Rattle.document_grammar.proofs.Basics.{and-l, and-r, or-c, or-l, or-r, either}
+use Rattle.document_grammar.proofs.Basics.{and-l, and-r, or-c, or-l, or-r, either, head-same, tail-same, no-cons}
 use Rattle.document_grammar.specs.Kinds.{OPERATION_DEFINITION, SELECTION_SET, VARIABLE, DEFAULT_VALUE, NAMED_TYPE, LIST_TYPE, NON_NULL_TYPE}
 use Rattle.document_grammar.specs.Symbols.{TYPE, SHORT_QUERY, BARE_SELECTIONS}
 
@@ -189,25 +189,6 @@ nullable-from nothing h = refl
 nullable-from (p then q) h = ([], [], refl, nullable-from p (and-l _ _ h), nullable-from q (and-r _ _ h))
 nullable-from (p or_else q) h = elim (or-c _ _ h) [ inl x ↦ inl (nullable-from p x) | inr x ↦ inr (nullable-from q x) ]
 nullable-from (many p) h = stop
-
-list-head : ℕ → List ℕ → ℕ
-list-head d [] = d
-list-head d (a ∷ r) = a
-
-list-tail : List ℕ → List ℕ
-list-tail [] = []
-list-tail (a ∷ r) = r
-
-pub head-same : {a b : ℕ} {r v : List ℕ} → a ∷ r ≡ b ∷ v → a ≡ b
-unfolding list-head
-head-same {a} e = ap (list-head a) e
-
-pub tail-same : {a b : ℕ} {r v : List ℕ} → a ∷ r ≡ b ∷ v → r ≡ v
-unfolding list-tail
-tail-same e = ap list-tail e
-
-pub no-cons : {A : Type 0} {k : ℕ} {w : List ℕ} → [] ≡ k ∷ w → A
-no-cons e = absurd (cc)
 
 -- The rest of a repetition behind its first child.
 rest-split : (p : Pattern) (k : ℕ) (w u v : List ℕ) → ((v : List ℕ) → Matches p (k ∷ v) → Matches (deriv p k) v) → Matches p u → Repeats (Matches p) v → u ++ v ≡ k ∷ w → (v ≡ k ∷ w → Matches (deriv p k then many p) w) → Matches (deriv p k then many p) w

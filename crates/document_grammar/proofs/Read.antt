@@ -10,11 +10,11 @@ use Rattle.document_grammar.specs.Labels.{paths, labels}
 use Rattle.document_grammar.specs.Machine.{◌and◌, ◌or◌, holds, is_leaf, at, ends, exit, arcs, has, has_in, target, target_in, entries, fires, class, word_class, text_eq, token, dead, state_arcs, state_exit, finish, walk, Ok, OkFrom}
 use Rattle.document_grammar.specs.Derivation.{kinds, text, texts, Listed, LeafRule, NameRule, on_text, true_text, false_text, null_text, NoVariable, NoVariables, Marked, ConstantDirectives, ConstantRule, Braced, NoBlock, LacksBlock, StartsWithSelections, NotBefore, BraceRule, IsQuery, Fits, AllFit, BareBy, Sort, document, selections, type, Derivation}
 use Rattle.document_grammar.proofs.Checks.{all_arcs, all_rows, exits}
-use Rattle.document_grammar.proofs.Basics.{false-true, and-l, and-r, or-c, or-l, or-r, not-c, either, implies, arcs-at, exits-at, row-test}
+use Rattle.document_grammar.proofs.Basics.{false-true, and-l, and-r, or-c, or-l, or-r, not-c, either, implies, arcs-at, exits-at, row-test, head-same, tail-same, no-cons, eqb-refl}
 use Rattle.document_grammar.proofs.Endings.{ending, fillable}
 use Rattle.document_grammar.proofs.Sound.{leaf-lt, fill-after, fill-start, fillable-ok}
-use Rattle.document_grammar.proofs.Patterns.{deriv, pattern_of, symbol_row, type_row, label, shown, all_kinds, any_arcs, constant, begin_kinds, agree_at, nullable-to, to-deriv, first-kind, head-same, tail-same, no-cons}
-use Rattle.document_grammar.proofs.Show.{shown-root, show, shows, type_of, show-root, Live, agree, agree-end-from, agree-arc, agree-kind, kinds-at, has-live, ends-live, eqb-refl}
+use Rattle.document_grammar.proofs.Patterns.{deriv, pattern_of, symbol_row, type_row, label, shown, all_kinds, any_arcs, constant, begin_kinds, agree_at, nullable-to, to-deriv, first-kind}
+use Rattle.document_grammar.proofs.Show.{shown-root, show, shows, type_of, show-root, Live, agree, agree-end-from, agree-arc, agree-kind, kinds-at, has-live, ends-live}
 use Rattle.document_grammar.proofs.Constants.{type-first, document-arc, block_marks}
 use Rattle.document_grammar.proofs.Rules.{listed, text-same, start-pattern, keyword-class}
 use Rattle.document_grammar.specs.Symbols.{TYPE, SHORT_QUERY, NAME_FOR_FRAGMENT, NAME_FOR_ENUM, DIRECTIVES_CONST, BARE_SELECTIONS}

@@ -9,9 +9,9 @@ use Rattle.document_grammar.specs.Labels.{paths, labels}
 use Rattle.document_grammar.specs.Machine.{◌and◌, ◌or◌, holds, is_leaf, at, arcs, has, entries, fires, class, word_class, text_eq, token, Ok, OkFrom}
 use Rattle.document_grammar.specs.Derivation.{kinds, text, texts, Listed, LeafRule, NameRule, on_text, true_text, false_text, null_text}
 use Rattle.document_grammar.proofs.Checks.{all_entries}
-use Rattle.document_grammar.proofs.Basics.{false-true, and-l, and-r, or-c, either, implies}
+use Rattle.document_grammar.proofs.Basics.{false-true, and-l, and-r, or-c, either, implies, tail-same, no-cons}
 use Rattle.document_grammar.proofs.Sound.{fired, holds-one, leaf-lt}
-use Rattle.document_grammar.proofs.Patterns.{derive_all, pattern_of, symbol_row, label, tail-same, no-cons}
+use Rattle.document_grammar.proofs.Patterns.{derive_all, pattern_of, symbol_row, label}
 use Rattle.document_grammar.proofs.Show.{show, shows, row-shown, show-root}
 use Rattle.document_grammar.specs.Kinds.{words, OPERATION_DEFINITION, SELECTION_SET, NAME, FRAGMENT_NAME, ENUM_VALUE}
 use Rattle.document_grammar.specs.Symbols.{TYPE, SHORT_QUERY, NAME_FOR_FRAGMENT, NAME_FOR_ENUM, BARE_SELECTIONS}

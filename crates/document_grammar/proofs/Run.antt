@@ -3,7 +3,7 @@
 use Rattle.std.proofs.Common.{◌≡◌, ℕ, ◌+◌, Bool, true, false, List, [], ◌∷◌, ◌++◌, refl, sym, ap, ap₂, ◌∙◌, subst, IsTrue, IsFalse, append_assoc, append-nil, add-zero}
 use Rattle.document_grammar.specs.Tree.{Token, Tree, leaf, node, Forest, none, ◌▸◌, ◌+++◌, root}
 use Rattle.document_grammar.specs.Machine.{is_leaf, exit, target, Move, go, close, stuck, move, first, second, token, yield, yields, finish, walk, Run, RunFrom, Frame, frame, Reach, start, shift, open', closed}
-use Rattle.document_grammar.proofs.Basics.{false-true}
+use Rattle.document_grammar.proofs.Basics.{false-true, head-same, tail-same}
 
 abbrev is_go : Move → Bool
 is_go (go k) = true
@@ -39,22 +39,6 @@ next s q r = move s q (first r) (second r)
 same_move : (s s' q q' : ℕ) (r r' : List Token) (m m' : Move) → s ≡ s' → q ≡ q' → r ≡ r' → next s q r ≡ m → next s' q' r' ≡ m' → m ≡ m'
 same_move s s' q q' r r' m m' es eq er a b = cc
 
-head_of : Token → List Token → Token
-head_of d [] = d
-head_of d (a ∷ r) = a
-
-tail_of : List Token → List Token
-tail_of [] = []
-tail_of (a ∷ r) = r
-
-pub head-eq : (a b : Token) (r v : List Token) → a ∷ r ≡ b ∷ v → a ≡ b
-unfolding head_of
-head-eq a b r v e = ap (head_of a) e
-
-pub tail-eq : (a b : Token) (r v : List Token) → a ∷ r ≡ b ∷ v → r ≡ v
-unfolding tail_of
-tail-eq a b r v e = ap tail_of e
-
 both : {t u : Tree} {f g : Forest} {v w v' w' : List Token} → (t ≡ u) × (v ≡ w) → (t ≡ u → v ≡ w → (f ≡ g) × (v' ≡ w')) → (t ▸ f ≡ u ▸ g) × (v' ≡ w')
 both p h = let r = h p.0 p.1 in (ap₂ (λ x y. x ▸ y) p.0 r.0, r.1)
 
@@ -66,7 +50,7 @@ mutual
   unfolding token
 
   pub same_tree : (t u : Tree) (v w : List Token) → root t ≡ root u → Run t v → Run u w → yield t ++ v ≡ yield u ++ w → (t ≡ u) × (v ≡ w)
-  same_tree (leaf l x) (leaf m y) v w e a b h = (ap₂ leaf e (ap (λ (p : Token). p.1) (head-eq _ _ _ _ h)), tail-eq _ _ _ _ h)
+  same_tree (leaf l x) (leaf m y) v w e a b h = (ap₂ leaf e (ap (λ (p : Token). p.1) (head-same h)), tail-same h)
   same_tree (leaf l x) (node s f) v w e a b h = false-true (rw (← e) at b.0) a
   same_tree (node s f) (leaf l x) v w e a b h = false-true (rw e at a.0) b
   same_tree (node s f) (node s' g) v w e a b h = let r = same_forest s s' 0 0 f g v w e refl a.1 b.1 h in (ap₂ node e r.0, r.1)
@@ -113,11 +97,11 @@ left-shift s q l f fs a r t h m i = on h.0 h.1 h.2 h.3 h.4
     on none v e run up = go-close (next-at s q _ _ _ _ e m run)
     on (leaf k x ▸ g) v e run up =
         let ek' : k ≡ l = sym (go-inj (next-at s q _ _ _ _ e m run.0)) in
-        let et : a ≡ token k x = head-eq _ _ _ _ e in
+        let et : a ≡ token k x = head-same e in
         let ex : x ≡ a.1 = ap (λ (z : Token). z.1) (sym et) in
         let es : target s q k + 0 ≡ target s q l = add-zero (target s q k) ∙ ap (target s q) ek' in
         let ef : f +++ (leaf k x ▸ g) ≡ (f +++ (leaf l a.1 ▸ none)) +++ g = ap (λ (z : Tree). f +++ (z ▸ g)) (ap₂ leaf ek' ex) ∙ sym (forest_assoc f (leaf l a.1) g) in
-        (g, v, tail-eq _ _ _ _ e, subst (λ (n : ℕ). RunFrom s n g v) es run.2, subst (λ (z : Forest). Upper fs (node s z) v t) ef up)
+        (g, v, tail-same e, subst (λ (n : ℕ). RunFrom s n g v) es run.2, subst (λ (z : Forest). Upper fs (node s z) v t) ef up)
     on (node k f' ▸ g) v e run up = false-true (rw (sym (go-inj (next-at s q _ _ _ _ e m run.0))) at run.1.0) i
 
 pub left-open : (s q k : ℕ) (f : Forest) (fs : List Frame) (r : List Token) (t : Tree) → Left (frame s q f ∷ fs) r t → next s q r ≡ go k → IsFalse (is_leaf k) → Left (frame k 0 none ∷ frame s q f ∷ fs) r t

@@ -1,6 +1,5 @@
 -- A tree of the tables, shown as the tree of syntax kinds, is a derivation.
 use Rattle.std.proofs.Common.{◌≡◌, ℕ, zero, suc, ◌+◌, ◌-◌, Bool, true, false, cond, eqb, List, [], ◌∷◌, get_or, refl, sym, ap, ap₂, subst, ◌⊎◌, inl, inr, true≢false, arith, eqb-true}
-use Rattle.std.proofs.lemmas.Bool.{eqb-false}
 use Rattle.document_grammar.specs.Tree.{Tree, leaf, node, Forest, none, ◌▸◌, root}
 use Rattle.document_grammar.specs.Pattern.{Pattern, any_of, nothing, ◌then◌, ◌or_else◌, many, member, Matches}
 use Rattle.document_grammar.specs.Table.{State, rows}
@@ -8,7 +7,7 @@ use Rattle.document_grammar.specs.Labels.{labels}
 use Rattle.document_grammar.specs.Machine.{◌and◌, ◌or◌, is_leaf, at, ends, arcs, has, has_in, target, target_in, dead, state_arcs, state_ends, finish, Ok, OkFrom}
 use Rattle.document_grammar.specs.Derivation.{kinds}
 use Rattle.document_grammar.proofs.Checks.{exits}
-use Rattle.document_grammar.proofs.Basics.{false-true, and-l, and-r, or-c, either, arcs-at, exits-at, node-sum}
+use Rattle.document_grammar.proofs.Basics.{false-true, and-l, and-r, or-c, either, arcs-at, exits-at, node-sum, eqb-refl}
 use Rattle.document_grammar.proofs.Patterns.{nullable, deriv, kinds_eq, pattern_eq, pattern_of, label, shown, all_kinds, any_arcs, constant, begin_kinds, agree_at, agree_states, agree_rows, agree_checked, nullable-from, from-deriv}
 use Rattle.document_grammar.specs.Kinds.{VARIABLE, NAMED_TYPE, LIST_TYPE, NON_NULL_TYPE}
 use Rattle.document_grammar.specs.Symbols.{TYPE}
@@ -73,9 +72,6 @@ unfolding at
 agree s q l v = subst (λ (n : ℕ). agree_at n q ≡ true) (node-sum s l) (agree-rows 60 (s - 60) q rows agree_checked v)
 
 -- The rows.
-pub eqb-refl : (k : ℕ) → eqb k k ≡ true
-eqb-refl k = elim (either (eqb k k)) [ inl p ↦ p | inr p ↦ absurd (eqb-false k k p refl) ]
-
 leaf-no-type : (l : ℕ) → is_leaf l ≡ true → eqb l TYPE ≡ false
 unfolding is_leaf
 leaf-no-type l h = elim (either (eqb l TYPE)) [ inl p ↦ false-true refl (rw (eqb-true l TYPE p) at h) | inr p ↦ p ]

@@ -7,7 +7,7 @@ use Rattle.document_grammar.specs.Tree.{Text, Token, Tree, leaf, node, Forest, n
 use Rattle.document_grammar.specs.Table.{Entry, entry, name_leaves, name_classes, token_kinds}
 use Rattle.document_grammar.specs.Machine.{◌and◌, ◌or◌, holds, is_leaf, ends, exit, arcs, has, target, entries, fires, fires_in, has_in, choose, go, close, move, class, word_class, text_eq, first, second, token, yield, yields, finish, walk, Ok, OkFrom, Path, Frame, frame, Reach, start, shift, open', closed}
 use Rattle.document_grammar.proofs.Checks.{subset, exits, all_arcs, all_entries, leaf_checked}
-use Rattle.document_grammar.proofs.Basics.{false-true, and-l, and-r, and-i, or-c, or-l, or-r, not-c, either, holds-subset, holds-disjoint, arcs-at, row-test, exits-at}
+use Rattle.document_grammar.proofs.Basics.{false-true, and-l, and-r, and-i, or-c, or-l, or-r, not-c, either, holds-subset, holds-disjoint, arcs-at, row-test, exits-at, eqb-refl}
 use Rattle.document_grammar.proofs.Run.{go-close, go-stuck, close-stuck, go-inj, forest-none}
 use Rattle.document_grammar.proofs.Ll.{leaf-at}
 use Rattle.document_grammar.proofs.Endings.{ending, okb, okb_from, fillable, fill_test, fill_checked, leaf_test, leaf_tests, leaf_classes_checked, word_tests, words_checked, spell, spelt, spelt_all}
@@ -21,9 +21,6 @@ choose-has (c ∷ more) e a b k h = elim (either (fires c.0 a b)) [
   | inl p ↦ (let n : c.0 ≡ k = go-inj (rw p at h) in (or-l _ _ (rw n (eqb-refl k)), rw (← n) p))
   | inr p ↦ (let r = choose-has more e a b k (rw p at h) in (or-r _ _ r.0, r.1))
 ]
-  where
-    eqb-refl : (k : ℕ) → eqb k k ≡ true
-    eqb-refl k = elim (either (eqb k k)) [ inl p ↦ p | inr p ↦ absurd (eqb-false k k p refl) ]
 
 pub choose-ends : (l : List (ℕ × ℕ)) (e : Bool) (a b : ℕ) → choose l e a b ≡ close → e ≡ true
 choose-ends [] true a b h = refl

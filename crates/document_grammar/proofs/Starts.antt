@@ -5,7 +5,7 @@ use Rattle.document_grammar.specs.Tree.{Token, Tree, none}
 use Rattle.document_grammar.specs.Table.{rows, firsts}
 use Rattle.document_grammar.specs.Derivation.{Sort, document, selections, type, Mark, word, end, marks}
 use Rattle.document_grammar.specs.Machine.{◌and◌, ◌or◌, holds, is_leaf, at, ends, arcs, entries, class, first, second, opening, start}
-use Rattle.document_grammar.proofs.Basics.{either}
+use Rattle.document_grammar.proofs.Basics.{either, tail-same}
 use Rattle.document_grammar.proofs.Sound.{any, first-any, second-any}
 use Rattle.document_grammar.proofs.Steps.{sticks, sticks-move}
 use Rattle.document_grammar.proofs.Theory.{begins_parse, Parse, document-begins, fragments-begin, never_stuck}
@@ -75,19 +75,16 @@ no-word e = absurd (cc)
 head-mark : {a b : Token} {v w : List Mark} → word a ∷ v ≡ word b ∷ w → a ≡ b
 head-mark e = cc
 
-tail-mark : {a b : Mark} {v w : List Mark} → a ∷ v ≡ b ∷ w → v ≡ w
-tail-mark e = cc
-
 two-from : (r w : List Token) (v : List Mark) → marks w ≡ next_two r ++ v → (first r ≡ first w) × (second r ≡ second w)
 unfolding first second
 two-from [] [] v e = (refl, refl)
 two-from [] (c ∷ w) v e = no-word e
 two-from (a ∷ []) [] v e = no-end e
 two-from (a ∷ []) (c ∷ []) v e = (ap class (sym (head-mark e)), refl)
-two-from (a ∷ []) (c ∷ (d ∷ w)) v e = no-word (tail-mark e)
+two-from (a ∷ []) (c ∷ (d ∷ w)) v e = no-word (tail-same e)
 two-from (a ∷ (b ∷ r)) [] v e = no-end e
-two-from (a ∷ (b ∷ r)) (c ∷ []) v e = no-end (tail-mark e)
-two-from (a ∷ (b ∷ r)) (c ∷ (d ∷ w)) v e = (ap class (sym (head-mark e)), ap class (sym (head-mark (tail-mark e))))
+two-from (a ∷ (b ∷ r)) (c ∷ []) v e = no-end (tail-same e)
+two-from (a ∷ (b ∷ r)) (c ∷ (d ∷ w)) v e = (ap class (sym (head-mark e)), ap class (sym (head-mark (tail-same e))))
 
 one-from : (r w : List Token) (v : List Mark) → marks w ≡ next_one r ++ v → first r ≡ first w
 unfolding first
@@ -100,7 +97,7 @@ one-from (a ∷ r) (c ∷ w) v e = ap class (sym (head-mark e))
 pub after-read : (b : List Token) (l : List Mark) (w : List Token) (v : List Mark) → marks w ≡ (read b ++ l) ++ v → (u : List Token) × (w ≡ b ++ u) × (marks u ≡ l ++ v)
 after-read [] l w v e = (w, refl, e)
 after-read (a ∷ b) l [] v e = no-end e
-after-read (a ∷ b) l (c ∷ w) v e = let r = after-read b l w v (tail-mark e) in (r.0, ap₂ (λ (x : Token) (y : List Token). x ∷ y) (head-mark e) r.1, r.2)
+after-read (a ∷ b) l (c ∷ w) v e = let r = after-read b l w v (tail-same e) in (r.0, ap₂ (λ (x : Token) (y : List Token). x ∷ y) (head-mark e) r.1, r.2)
 
 pub after-two : (b r w : List Token) (v : List Mark) → marks w ≡ (read b ++ next_two r) ++ v → (u : List Token) × (w ≡ b ++ u) × (first r ≡ first u) × (second r ≡ second u)
 after-two b r w v e = let h = after-read b (next_two r) w v e in let t = two-from r h.0 v h.2 in (h.0, h.1, t.0, t.1)
