@@ -1,10 +1,12 @@
 -- The lists of tokens and errors that are made of a lexer's answers.
-use Rattle.std.proofs.Common.{◌≡◌, ℕ, Bool, true, false, List, [], ◌∷◌, ◌++◌, refl, ap, ◌∙◌, append_assoc}
-use Rattle.std.specs.Prelude.{map, filter, not}
-use Rattle.std.proofs.lemmas.List.{map-append}
+use Rattle.std.proofs.Common.{◌≡◌, ℕ, Bool, true, false, List, [], ◌∷◌, ◌++◌, refl, sym, subst, IsAscii}
+use Rattle.std.specs.Prelude.{filter, not}
 use Rattle.lexical_grammar.specs.Answers.{Answer, is_token}
-use Rattle.apollo_lexer.specs.Diagnostics.{Diagnostic, subject_text, is_limit_subject}
-use Rattle.apollo_lexer.specs.Answers.{error_answer, diagnostic_answer}
+use Rattle.apollo_lexer.specs.Diagnostics.{Diagnostic, of_text, of_limit}
+use Rattle.apollo_lexer.specs.Answers.{error_answer}
+use Rattle.apollo_lexer.specs.Told.{Tells, AreTold}
+use Rattle.apollo_lexer.specs.Messages.{message_of}
+use Rattle.apollo_lexer.proofs.Messages.{message_ascii}
 
 -- an error's answer is no token
 error_no_token : (limit : Bool) (text : List ℕ) (index : ℕ) → is_token (error_answer limit text index) ≡ false
@@ -18,14 +20,45 @@ tokens_kept tokens limit text index old rest all e h =
     let kept = rw e at h in
     rw error_no_token at kept
 
--- and is one more of the errors
-pub errors_more : (errors : List Diagnostic) (d : Diagnostic) (limit : Bool) (text : List ℕ) (index : ℕ) (old rest all : List Answer)
-    → old ≡ error_answer limit text index ∷ rest
-    → subject_text d.subject ≡ text → d.index ≡ index → is_limit_subject d.subject ≡ limit
-    → map diagnostic_answer errors ++ filter (λ answer. not (is_token answer)) old ≡ all
-    → map diagnostic_answer (errors ++ d ∷ []) ++ filter (λ answer. not (is_token answer)) rest ≡ all
-errors_more errors d limit text index old rest all e t i l h =
-    let same : diagnostic_answer d ≡ error_answer limit text index = rw (t, i, l) refl in
+-- the errors tell the first of all answers, and the rest is left
+abbrev pub Telling : List Answer → List Diagnostic → List Answer → Type 0
+Telling all [] rest = all ≡ rest
+Telling [] (d ∷ ds) rest = ⊥
+Telling (answer ∷ all) (d ∷ ds) rest = Tells answer d × Telling all ds rest
+
+pub told_more : (all : List Answer) (ds : List Diagnostic) (answer : Answer) (d : Diagnostic) (rest : List Answer) → Telling all ds (answer ∷ rest) → Tells answer d
+    → Telling all (ds ++ d ∷ []) rest
+told_more all [] answer d rest h t = subst (λ l. Telling l (d ∷ []) rest) (sym h) (t, refl)
+told_more [] (e ∷ ds) answer d rest h t = absurd h
+told_more (a ∷ all) (e ∷ ds) answer d rest h t = (h.0, told_more all ds answer d rest h.1 t)
+
+pub told_all : (all : List Answer) (ds : List Diagnostic) → Telling all ds [] → AreTold all ds
+told_all all [] h = subst (λ l. AreTold l []) (sym h) tt
+told_all [] (d ∷ ds) h = absurd h
+told_all (a ∷ all) (d ∷ ds) h = (h.0, told_all all ds h.1)
+
+-- a token leaves the errors as they are
+pub errors_kept : (all : List Answer) (ds : List Diagnostic) (answer : Answer) (old rest : List Answer) → is_token answer ≡ true → old ≡ answer ∷ rest
+    → Telling all ds (filter (λ a. not (is_token a)) old) → Telling all ds (filter (λ a. not (is_token a)) rest)
+errors_kept all ds answer old rest is e h =
     let kept = rw e at h in
-    let more = rw error_no_token at kept in
-    rw (map-append, append_assoc) (ap (λ a. map diagnostic_answer errors ++ (a ∷ filter (λ answer. not (is_token answer)) rest)) same ∙ more)
+    rw is at kept
+
+-- and an error is one more
+pub errors_more : (all : List Answer) (ds : List Diagnostic) (d : Diagnostic) (limit : Bool) (text : List ℕ) (index : ℕ) (old rest : List Answer)
+    → old ≡ error_answer limit text index ∷ rest → Tells (error_answer limit text index) d
+    → Telling all ds (filter (λ a. not (is_token a)) old) → Telling all (ds ++ d ∷ []) (filter (λ a. not (is_token a)) rest)
+errors_more all ds d limit text index old rest e t h =
+    let kept = rw e at h in
+    told_more all ds (error_answer limit text index) d (filter (λ a. not (is_token a)) rest) (rw error_no_token at kept) t
+
+-- what is made of a limit error, and of bad text
+pub tells_limit : (limit : Bool) (text message : List ℕ) (index : ℕ) (d : Diagnostic) → limit ≡ true → message ≡ message_of limit text
+    → d ≡ record { message = message; subject = of_limit; index = index } → Tells (error_answer limit text index) d
+tells_limit true text message index d is m e = rw e (rw m refl)
+tells_limit false text message index d is m e = absurd (cc)
+
+pub tells_text : (limit : Bool) (text message : List ℕ) (index : ℕ) (d : Diagnostic) → limit ≡ false → message ≡ message_of limit text
+    → d ≡ record { message = message; subject = of_text text; index = index } → Tells (error_answer limit text index) d
+tells_text true text message index d is m e = absurd (cc)
+tells_text false text message index d is m e = rw e (refl, refl, λ h. subst IsAscii (sym m) (message_ascii false text h))

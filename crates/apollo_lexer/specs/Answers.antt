@@ -3,7 +3,6 @@ use Rattle.std.specs.Prelude.{ℕ, ◌+◌, ◌-◌, Bool, true, false, if◌the
 use Rattle.lexical_grammar.specs.Cut.{Item}
 use Rattle.lexical_grammar.specs.Answers.{Answer, gives, limit_at, limited, is_given}
 use Rattle.apollo_lexer.specs.Reads.{items_from}
-use Rattle.apollo_lexer.specs.Diagnostics.{Diagnostic, subject_text, is_limit_subject}
 use Rattle.apollo_lexer.specs.declared.token.Token.{Token}
 use Rattle.apollo_lexer.specs.declared.token.LexError.{LexError}
 use Rattle.apollo_lexer.specs.declared.lexer.Lexer.{Lexer}
@@ -16,10 +15,6 @@ error_answer false text index = gives (record { kind = None; text = text; index 
 abbrev pub answer_of : Result Token LexError → Answer
 answer_of (Ok token) = gives (record { kind = Some token.kind; text = token.text.now; index = token.index })
 answer_of (Err error) = error_answer error.is_limit error.text.now error.index
-
--- what an error of a lexer answers
-abbrev pub diagnostic_answer : Diagnostic → Answer
-diagnostic_answer d = error_answer (is_limit_subject d.subject) (subject_text d.subject) d.index
 
 abbrev pub left_unless : Bool → ℕ → List Item → List Answer
 left_unless true allowed items = []

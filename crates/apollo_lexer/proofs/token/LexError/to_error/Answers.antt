@@ -1,11 +1,14 @@
-use Rattle.std.proofs.Common.{sym, ◌∙◌, subst, IsAscii}
-use Rattle.apollo_lexer.proofs.Messages.{message_ascii}
-use Rattle.apollo_lexer.specs.Diagnostics.{Diagnostic}
+use Rattle.apollo_lexer.proofs.Lexing.{tells_limit, tells_text}
 use Rattle.apollo_lexer.proofs.token.LexError.to_error.Goals as goal
 
--- the message is ASCII where the text is
-pub returns-then-self-clause-ascii : goal.returns-then-self-clause-ascii
-returns-then-self-clause-ascii g c = λ h. rw c.limit.ensures (subst IsAscii (sym c.in_ok-message.ensures) (message_ascii c.args.self.now.is_limit c.args.self.now.text.now h))
+-- the token limit
+pub returns-then-self : goal.returns-then-self
+returns-then-self g c =
+    let e = c.args.self.now in
+    tells_limit e.is_limit e.text.now _ e.index _ c.if-self.true c.in_ok-message.ensures c.limit.ensures
 
-pub returns-clause-ascii : goal.returns-clause-ascii
-returns-clause-ascii g c = λ h. rw c.with_loc.ensures (subst IsAscii (sym c.in_ok-message.ensures) (message_ascii c.args.self.now.is_limit c.args.self.now.text.now h))
+-- bad text
+pub returns : goal.returns
+returns g c =
+    let e = c.args.self.now in
+    tells_text e.is_limit e.text.now _ e.index _ c.if-self.false c.in_ok-message.ensures (rw c.in_ok-text.ensures.ok at c.with_loc.ensures)
