@@ -75,7 +75,7 @@ span_end rs from to h = let e : to - from ≡ 0 = omega arith in ap (λ n. heads
 
 -- the children of an element
 module _ (rs : List Record) (s : List ℕ) (t : IsTable rs s) (i : ℕ) (h : i < length rs) (size : ℕ) (e : size ≡ (get_or rs i none_there).size) where
-  under : take ((i + size) - suc i) (drop (suc i) rs) ≡ records (element (record { whole = forest s rs; index = i })).start 1 (tree_kids (tree_at (record { whole = forest s rs; index = i })))
+  pub under : take ((i + size) - suc i) (drop (suc i) rs) ≡ records (element (record { whole = forest s rs; index = i })).start 1 (tree_kids (tree_at (record { whole = forest s rs; index = i })))
   under =
       let el = element (record { whole = forest s rs; index = i }) in
       let c = cut_of rs s t i h in

@@ -278,7 +278,7 @@ can_finish_open b = is_open b.here b.above
 
 -- ---- a finished tree
 whole : (here : Forest) (above : List Open) {rs : List Record} {ps s : List ℕ} → above ≡ [] → one_node here ≡ true → Holds (record { here = here; above = above }) rs ps s → IsTree here rs s
-whole here [] e r h = record { table = h.parts.table; words = h.parts.text; sound = h.here; root = r }
+whole here [] e r h = record { table = h.parts.table; words = h.parts.text; sound = ∣ h.here ∣₁; root = r }
 whole here (o ∷ above) e r h = absurd cc
 
 pub finished : {b : Building} {rs : List Record} {ps s : List ℕ} → Holds b rs ps s → IsComplete b → IsTree b.here rs s

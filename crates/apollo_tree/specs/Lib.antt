@@ -8,6 +8,9 @@ pub mod Table
 pub mod References
 pub mod Children
 pub mod Adopted
+pub mod Moved
+pub mod Below
+pub mod Tiled
 pub mod Yields
 pub mod Literals
 pub mod Brackets

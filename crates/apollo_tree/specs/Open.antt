@@ -30,5 +30,5 @@ pub record IsComplete (b : Building) : Type 0 where
 pub record IsTree (f : Forest) (rs : List Record) (s : List ℕ) : Type 0 where
   pub table : records 0 0 f ≡ rs
   pub words : text f ≡ s
-  pub sound : IsSound f
+  pub sound : ∥ IsSound f ∥₁
   pub root : one_node f ≡ true

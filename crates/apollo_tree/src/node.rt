@@ -1,9 +1,10 @@
-ghost use Rattle.std.specs.Prelude.{◌≡◌, ℕ, ◌+◌, ◌<◌, ◌≤◌, length, get_or, true, IfOk, string_bytes, option_map};
+ghost use Rattle.std.specs.Prelude.{◌≡◌, ℕ, ◌+◌, ◌<◌, ◌≤◌, length, get_or, true, IfOk, string_bytes, option_map, slice_range};
 ghost use Rattle.apollo_tree.specs.Table.{IsTable, IsTable-prop, IsNodeAt, IsLeafAt, none_there};
 
 use crate::children::{SyntaxElementChildren, SyntaxNodeChildren};
 use crate::range::TextRange;
 use crate::record::Record;
+use crate::subtree::{Subtree, clone_tree};
 use document_grammar::SyntaxKind;
 use std::alloc::{AllocError, Allocator};
 
@@ -50,7 +51,7 @@ impl<'t> Table<'t> {
     ghost use Rattle.std.specs.Prelude.{suc};
     ghost use Rattle.apollo_tree.specs.Sound.{IsSoundTree};
     ghost use Rattle.apollo_tree.specs.Children.{IsSpan};
-    ghost use Rattle.document_grammar.specs.Forests.{count};
+    ghost use Rattle.document_grammar.specs.Forests.{count, text};
     ghost use Rattle.apollo_tree.specs.References.{table_place, node_place};
     ghost use Rattle.apollo_tree.specs.Order.{element, tree_at, kind_at, text_at, range_at, tree_kids, is_node, parent_place};
 
@@ -110,6 +111,7 @@ impl<'t> Table<'t> {
     pub(crate) fn slice(self, index: usize) -> &'t str
         requires { index < length self.records.now }
         ensures text { result.now ≡ text_at (table_place self.entry index) }
+        ensures slice { result.now ≡ slice_range (text (table_place self.entry index).whole) (range_at (table_place self.entry index)).0 (range_at (table_place self.entry index)).1 }
         ensures sound { ∥ IsSoundTree (tree_at (table_place self.entry index)) ∥₁ }
     {
         let record = self.record(index);
@@ -118,7 +120,12 @@ impl<'t> Table<'t> {
 }
 
 impl<'t> SyntaxNode<'t> {
-    ghost use Rattle.apollo_tree.specs.References.{node_place};
+    ghost use Rattle.std.specs.Prelude.{map};
+    ghost use Rattle.std.specs.List.{find};
+    ghost use Rattle.document_grammar.specs.Forests.{first, none, text};
+    ghost use Rattle.apollo_tree.specs.References.{node_place, token_place};
+    ghost use Rattle.apollo_tree.specs.Below.{below, is_leaf_place};
+    ghost use Rattle.apollo_tree.specs.Tiled.{AreTiles};
     ghost use Rattle.apollo_tree.specs.Children.{child_places, child_nodes};
     ghost use Rattle.apollo_tree.specs.Yields.{rest_places, rest_nodes};
     ghost use Rattle.apollo_tree.specs.Sound.{IsSoundTree};
@@ -150,6 +157,7 @@ impl<'t> SyntaxNode<'t> {
     /// A node of the kind NAME, INT_VALUE, STRING_VALUE or BOOLEAN_VALUE is one leaf, so this is that leaf's text.
     pub fn text(&self) -> &'t str
         ensures text { result.now ≡ text_at (node_place self.now) }
+        ensures slice { result.now ≡ slice_range (text (node_place self.now).whole) (range_at (node_place self.now)).0 (range_at (node_place self.now)).1 }
         ensures sound { ∥ IsSoundTree (tree_at (node_place self.now)) ∥₁ }
         ensures node { is_node (tree_at (node_place self.now)) ≡ true }
     {
@@ -163,9 +171,33 @@ impl<'t> SyntaxNode<'t> {
         String::from_str(alloc, self.text())
     }
 
-    /// Its children, leaves too, in document order.
+    /// The node with all below it, as a tree in memory of its own, whose ranges count from 0. Fails only where memory is refused.
+    pub fn clone_subtree<A: Allocator + Copy>(&self, alloc: A) -> Result<Subtree<A>, AllocError>
+        ensures { IfOk result (λ t. t ≡ first (tree_at (node_place self.now)) none) }
+    {
+        clone_tree(self.table, self.index, alloc)
+    }
+
+    /// The first leaf below it in document order; `None` where no leaf stands below it.
+    pub fn first_token(&self) -> Option<SyntaxToken<'t>>
+        ensures { option_map token_place result ≡ find is_leaf_place (below (node_place self.now)) }
+    {
+        let table = self.table;
+        let end = self.index + table.record(self.index).size;
+        let mut index = self.index + 1;
+        while index < end {
+            if !table.record(index).is_node {
+                return Some(SyntaxToken { table, index });
+            }
+            index += 1;
+        }
+        None
+    }
+
+    /// Its children, leaves too, in document order. Their ranges, one behind another, fill its own.
     pub fn children_with_tokens(&self) -> SyntaxElementChildren<'t>
-        ensures { rest_places result ≡ child_places (node_place self.now) }
+        ensures places { rest_places result ≡ child_places (node_place self.now) }
+        ensures tiles { AreTiles (range_at (node_place self.now)).0 (range_at (node_place self.now)).1 (map range_at (rest_places result)) }
     {
         let record = self.table.record(self.index);
         SyntaxElementChildren {
@@ -186,6 +218,7 @@ impl<'t> SyntaxNode<'t> {
 }
 
 impl<'t> SyntaxToken<'t> {
+    ghost use Rattle.document_grammar.specs.Forests.{text};
     ghost use Rattle.apollo_tree.specs.References.{token_place, node_place};
     ghost use Rattle.apollo_tree.specs.Order.{kind_at, text_at, range_at, parent_place};
 
@@ -212,7 +245,8 @@ impl<'t> SyntaxToken<'t> {
 
     /// Its text.
     pub fn text(&self) -> &'t str
-        ensures { result.now ≡ text_at (token_place self.now) }
+        ensures text { result.now ≡ text_at (token_place self.now) }
+        ensures slice { result.now ≡ slice_range (text (token_place self.now).whole) (range_at (token_place self.now)).0 (range_at (token_place self.now)).1 }
     {
         self.table.slice(self.index)
     }

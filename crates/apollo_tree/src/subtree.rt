@@ -1,3 +1,11 @@
+ghost use Rattle.std.specs.Prelude.{◌≡◌, ◌∷◌, ◌<◌, ◌≤◌, map, length, IfOk};
+ghost use Rattle.std.specs.List.{All};
+ghost use Rattle.document_grammar.specs.Forests.{first, none};
+ghost use Rattle.apollo_tree.specs.Moved.{moved_back, as_root, StandsFrom};
+ghost use Rattle.apollo_tree.specs.Table.{IsNodeAt};
+ghost use Rattle.apollo_tree.specs.References.{table_place};
+ghost use Rattle.apollo_tree.specs.Order.{tree_at};
+
 use crate::node::{SyntaxNode, Table};
 use crate::record::Record;
 use std::alloc::{AllocError, Allocator};
@@ -30,9 +38,8 @@ impl<A: Allocator> Model for Subtree<A> {
 }
 
 impl<A: Allocator> Subtree<A> {
-    ghost use Rattle.std.specs.Prelude.{◌≡◌};
     ghost use Rattle.apollo_tree.specs.References.{node_place};
-    ghost use Rattle.document_grammar.specs.Forests.{count};
+    ghost use Rattle.apollo_tree.specs.Order.{order};
 
     /// The root, which is the first element in document order.
     pub fn root(&self) -> SyntaxNode<'_>
@@ -47,15 +54,13 @@ impl<A: Allocator> Subtree<A> {
 
     /// How many elements there are, nodes and leaves.
     pub fn element_count(&self) -> usize
-        ensures { result ≡ count self.now }
+        ensures { result ≡ length (order self.now) }
     {
         self.records.len()
     }
 }
 
 impl<A: Allocator + Copy> Subtree<A> {
-    ghost use Rattle.std.specs.Prelude.{◌≡◌, IfOk};
-
     /// The same tree, in memory of its own. Fails only where memory is refused.
     pub fn try_clone(&self, alloc: A) -> Result<Subtree<A>, AllocError>
         ensures { IfOk result (λ t. t ≡ self.now) }
@@ -64,4 +69,48 @@ impl<A: Allocator + Copy> Subtree<A> {
         let text = String::from_str(alloc, self.text.as_str())?;
         Ok(Subtree { records, text })
     }
+}
+
+// The records of a node and of the elements below it, moved to the beginning of a text of their own.
+fn own_records<A: Allocator>(
+    alloc: A,
+    root: Record,
+    under: &[Record],
+) -> Result<Vec<Record, A>, AllocError>
+    requires root { root.start ≤ root.end }
+    requires under { All (StandsFrom root.start) under.now }
+    ensures { IfOk result (λ v. v.items ≡ as_root root ∷ map (moved_back root.start) under.now) }
+{
+    let mut records = Vec::new(alloc);
+    records.push(Record {
+        start: 0,
+        end: root.end - root.start,
+        to_parent: 0,
+        ..root
+    })?;
+    for below in under {
+        records.push(Record {
+            start: below.start - root.start,
+            end: below.end - root.start,
+            ..*below
+        })?;
+    }
+    Ok(records)
+}
+
+// The tree of the node with an index.
+pub(crate) fn clone_tree<A: Allocator + Copy>(
+    table: Table<'_>,
+    index: usize,
+    alloc: A,
+) -> Result<Subtree<A>, AllocError>
+    requires inside { index < length table.records.now }
+    requires node { IsNodeAt table.records.now index }
+    ensures { IfOk result (λ t. t ≡ first (tree_at (table_place table.entry index)) none) }
+{
+    let root = table.record(index);
+    let under = &table.records[index + 1..index + root.size];
+    let records = own_records(alloc, root, under)?;
+    let text = String::from_str(alloc, table.slice(index))?;
+    Ok(Subtree { records, text })
 }
