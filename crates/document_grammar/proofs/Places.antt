@@ -1,7 +1,9 @@
 -- Ignored leaves are placed where no inner node is empty or begins or ends with one.
-use Rattle.std.proofs.Common.{◌≡◌, ◌≢◌, ℕ, false, List, [], ◌∷◌, ◌++◌, refl, IsFalse}
-use Rattle.document_grammar.specs.Tree.{Token, Tree, leaf, node, Forest, none, ◌▸◌}
+use Rattle.std.proofs.Common.{◌≡◌, ◌≢◌, ℕ, true≢false, sym, IsTrue, false, List, [], ◌∷◌, ◌++◌, refl, IsFalse}
+use Rattle.document_grammar.specs.Tree.{Token, Tree, leaf, node, Forest, none, ◌▸◌, ◌+++◌}
 use Rattle.document_grammar.specs.Derivation.{spelled, Yield, Yields}
+use Rattle.std.specs.Prelude.{codes}
+use Rattle.document_grammar.specs.Kinds.{WHITESPACE, L_CURLY, R_CURLY, IDENT, DOCUMENT, OPERATION_DEFINITION, SELECTION_SET, FIELD, NAME}
 use Rattle.document_grammar.specs.Places.{ignored, Between, PlacedIn, AllPlaced, Placed}
 use Rattle.document_grammar.proofs.Basics.{false-true}
 
@@ -65,3 +67,28 @@ mutual
 
 pub placed : (k : ℕ) (f : Forest) → AllTrim f → Placed (node k f)
 placed k f h = trims-placed f h
+
+-- Examples: a space is placed between a brace and a field, and behind an operation; not behind the leaf of a name.
+abbrev space : Tree
+space = leaf WHITESPACE (codes " ")
+
+abbrev name : Forest → Tree
+name f = node FIELD (node NAME (leaf IDENT (codes "a") ▸ f) ▸ none)
+
+abbrev query : Forest → Tree → Tree
+query f t = node DOCUMENT (node OPERATION_DEFINITION (node SELECTION_SET (leaf L_CURLY (codes "{") ▸ (f +++ (t ▸ leaf R_CURLY (codes "}") ▸ none))) ▸ none) ▸ space ▸ none)
+
+no : {A : Type 0} → IsTrue false → A
+no h = absurd (true≢false (sym h))
+
+some : {a : Token} {w : List Token} → a ∷ w ≢ []
+some e = absurd (cc)
+
+spaces_placed : Placed (query (space ▸ none) (name none))
+spaces_placed =
+    let ident : PlacedIn (node NAME (leaf IDENT (codes "a") ▸ none)) = ((no, tt), (tt, tt)) in
+    let field : PlacedIn (name none) = ((no, tt), (ident, tt)) in
+    ((((no, tt)), (((no, ((λ i. (some, some)), (no, (no, tt)))), (tt, (tt, (field, (tt, tt))))), tt)), (tt, tt))
+
+space_in_a_name : Placed (query none (name (space ▸ none))) → ⊥
+space_in_a_name h = (h.0.1.0.1.1.0.1.0.0.1.0 refl).1 refl

@@ -4,7 +4,7 @@ use Rattle.std.specs.Prelude.{codes}
 use Rattle.std.specs.Str.{chars}
 use Rattle.lexical_grammar.specs.Reads.{items_from}
 use Rattle.document_grammar.specs.Tree.{Token, leaf, node, none, ◌▸◌}
-use Rattle.document_grammar.specs.Kinds.{L_PAREN, R_PAREN, L_CURLY, R_CURLY, IDENT, STRING, query_KW, fragment_KW, on_KW, extend_KW, type_KW, words, DOCUMENT, OPERATION_DEFINITION, SELECTION_SET, FIELD, NAME}
+use Rattle.document_grammar.specs.Kinds.{L_PAREN, R_PAREN, L_CURLY, R_CURLY, IDENT, STRING, query_KW, fragment_KW, on_KW, extend_KW, type_KW, words, DOCUMENT, OPERATION_DEFINITION, SELECTION_SET, FIELD, NAME, UNION_TYPE_DEFINITION, union_KW, NON_NULL_TYPE, LIST_TYPE, NAMED_TYPE, L_BRACK, R_BRACK, BANG}
 use Rattle.document_grammar.specs.Pattern.{member}
 use Rattle.document_grammar.specs.Table.{rows, firsts, spellings}
 use Rattle.document_grammar.specs.Labels.{labels}
@@ -26,6 +26,16 @@ braces : Sentence (codes "{a}")
     (node DOCUMENT (node OPERATION_DEFINITION (node SELECTION_SET (leaf L_CURLY (codes "{") ▸ node FIELD (node NAME (leaf IDENT (codes "a") ▸ none) ▸ none) ▸ leaf R_CURLY (codes "}") ▸ none) ▸ none) ▸ none)) document
 unfolding running
 braces = is-sentence document 30 (codes "{a}") refl
+
+union_tree : Sentence (codes "union A")
+    (node DOCUMENT (node UNION_TYPE_DEFINITION (leaf union_KW (codes "union") ▸ node NAME (leaf IDENT (codes "A") ▸ none) ▸ none) ▸ none)) document
+unfolding running
+union_tree = is-sentence document 30 (codes "union A") refl
+
+type_tree : Sentence (codes "[A]!")
+    (node NON_NULL_TYPE (node LIST_TYPE (leaf L_BRACK (codes "[") ▸ node NAMED_TYPE (node NAME (leaf IDENT (codes "A") ▸ none) ▸ none) ▸ leaf R_BRACK (codes "]") ▸ none) ▸ leaf BANG (codes "!") ▸ none)) type
+unfolding running
+type_tree = is-sentence type 30 (codes "[A]!") refl
 
 -- Texts that are sentences, with the nesting of their derivations.
 nested_selections : Worked document "{a{b}}" 2
