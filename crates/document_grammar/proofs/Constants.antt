@@ -55,41 +55,41 @@ pub inner-arc : (s q k : ℕ) → is_leaf s ≡ false → has s q k ≡ true →
 unfolding has arcs
 inner-arc s q k l h = not-c _ (arcs-at (arcs s q) (λ k q. not (eqb k BARE_SELECTIONS)) k (row-test inner_test inner-checked (λ k. refl) s q l) h)
 
-label-78 : (s : ℕ) → label s ≡ VARIABLE → s ≡ VARIABLE
+label-variable : (s : ℕ) → label s ≡ VARIABLE → s ≡ VARIABLE
 unfolding labels ◌and◌ ◌or◌
-label-78 s e = label-alone VARIABLE s refl refl e
+label-variable s e = label-alone VARIABLE s refl refl e
 
-label-79 : (s : ℕ) → label s ≡ DEFAULT_VALUE → s ≡ DEFAULT_VALUE
+label-default_value : (s : ℕ) → label s ≡ DEFAULT_VALUE → s ≡ DEFAULT_VALUE
 unfolding labels ◌and◌ ◌or◌
-label-79 s e = label-alone DEFAULT_VALUE s refl refl e
+label-default_value s e = label-alone DEFAULT_VALUE s refl refl e
 
-label-60 : (s : ℕ) → label s ≡ DOCUMENT → s ≡ DOCUMENT
+label-document : (s : ℕ) → label s ≡ DOCUMENT → s ≡ DOCUMENT
 unfolding labels ◌and◌ ◌or◌
-label-60 s e = label-alone 60 s refl refl e
+label-document s e = label-alone 60 s refl refl e
 
-pure-78 : pure VARIABLE ≡ false
+pure-variable : pure VARIABLE ≡ false
 unfolding pure member
-pure-78 = refl
+pure-variable = refl
 
-pure-79 : pure DEFAULT_VALUE ≡ true
+pure-default_value : pure DEFAULT_VALUE ≡ true
 unfolding pure member
-pure-79 = refl
+pure-default_value = refl
 
-no-78 : (s : ℕ) → pure s ≡ true → label s ≢ VARIABLE
-no-78 s p e = false-true pure-78 (rw (label-78 s e) at p)
+pure-is_no_variable : (s : ℕ) → pure s ≡ true → label s ≢ VARIABLE
+pure-is_no_variable s p e = false-true pure-variable (rw (label-variable s e) at p)
 
-ninety-one : ◌≢◌ {A = ℕ} NON_NULL_TYPE VARIABLE
-ninety-one e = omega arith
+non_null-is_no_variable : ◌≢◌ {A = ℕ} NON_NULL_TYPE VARIABLE
+non_null-is_no_variable e = omega arith
 
 no-variable-type : (f : Forest) → NoVariables f → NoVariable (type_of f)
-no-variable-type none h = (ninety-one, tt)
+no-variable-type none h = (non_null-is_no_variable, tt)
 no-variable-type (t ▸ none) h = h.0
-no-variable-type (t ▸ (u ▸ f)) h = (ninety-one, h)
+no-variable-type (t ▸ (u ▸ f)) h = (non_null-is_no_variable, h)
 
 no-variable-build : (s : ℕ) (f : Forest) → pure s ≡ true → NoVariables f → NoVariable (build s f)
 no-variable-build s f p h = elim (either (eqb s TYPE)) [
   | inl e ↦ rw e (no-variable-type f h)
-  | inr e ↦ rw e (no-78 s p, h)
+  | inr e ↦ rw e (pure-is_no_variable s p, h)
 ]
 
 mutual
@@ -110,7 +110,7 @@ constant-directives s q (t ▸ f) l m o = (
 
 pub constant-rule : (s : ℕ) (f : Forest) → is_leaf s ≡ false → OkFrom s 0 f → ConstantRule (label s) (shows f)
 constant-rule s f l o = (
-  (λ e. let n : s ≡ DEFAULT_VALUE = label-79 s e in pure-forest s 0 f l (rw n pure-79) o),
+  (λ e. let n : s ≡ DEFAULT_VALUE = label-default_value s e in pure-forest s 0 f l (rw n pure-default_value) o),
   (λ m. constant-directives s 0 f l m o),
 )
 
@@ -164,13 +164,13 @@ document-checked : all_rows 60 rows document_test ≡ true
 unfolding ◌and◌ ◌or◌ rows
 document-checked = refl
 
-node-60 : is_leaf DOCUMENT ≡ false
+node-document : is_leaf DOCUMENT ≡ false
 unfolding is_leaf
-node-60 = refl
+node-document = refl
 
 pub document-arc : (q k : ℕ) → has DOCUMENT q k ≡ true → not (eqb k TYPE) and eqb (target DOCUMENT q k) 1 ≡ true
 unfolding has target arcs
-document-arc q k h = arcs-at (arcs DOCUMENT q) (λ k q. not (eqb k TYPE) and eqb q 1) k (implies _ _ (row-test document_test document-checked (λ k. or-r _ _ refl) DOCUMENT q node-60) refl) h
+document-arc q k h = arcs-at (arcs DOCUMENT q) (λ k q. not (eqb k TYPE) and eqb q 1) k (implies _ _ (row-test document_test document-checked (λ k. or-r _ _ refl) DOCUMENT q node-document) refl) h
 
 query-symbols : (s : ℕ) → label s ≡ OPERATION_DEFINITION → (s ≡ OPERATION_DEFINITION) ⊎ (s ≡ SHORT_QUERY)
 unfolding label labels ◌and◌ ◌or◌
@@ -179,20 +179,20 @@ query-symbols s e =
     let q : eqb (get_or labels s 0) OPERATION_DEFINITION ≡ true = rw e refl in
     elim (or-c _ _ (implies _ _ c q)) [ inl p ↦ inl (eqb-true _ _ p) | inr p ↦ inr (eqb-true _ _ p) ]
 
-no-121 : has DOCUMENT 2 SHORT_QUERY ≡ false
+no-short_query : has DOCUMENT 2 SHORT_QUERY ≡ false
 unfolding has arcs at rows ◌or◌
-no-121 = refl
+no-short_query = refl
 
 -- An operation with a keyword does not begin with a selection set.
-head-61 : all_arcs (arcs OPERATION_DEFINITION 0) (λ k q. not (member SELECTION_SET (shown k))) ≡ true
+head-operation : all_arcs (arcs OPERATION_DEFINITION 0) (λ k q. not (member SELECTION_SET (shown k))) ≡ true
 unfolding arcs at rows shown label labels member ◌and◌
-head-61 = refl
+head-operation = refl
 
 no-selections : (f : Forest) → OkFrom OPERATION_DEFINITION 0 f → StartsWithSelections (shows f) → ⊥
 unfolding has
 no-selections none o h = h
 no-selections (t ▸ f) o h =
-    let n : member SELECTION_SET (shown (root t)) ≡ false = not-c _ (arcs-at (arcs OPERATION_DEFINITION 0) (λ k q. not (member SELECTION_SET (shown k))) (root t) head-61 o.0) in
+    let n : member SELECTION_SET (shown (root t)) ≡ false = not-c _ (arcs-at (arcs OPERATION_DEFINITION 0) (λ k q. not (member SELECTION_SET (shown k))) (root t) head-operation o.0) in
     false-true n (subst (λ (j : ℕ). member j (shown (root t)) ≡ true) h (shown-root t o.1))
 
 not-query : (u : Tree) → Ok u → eqb (root u) TYPE ≡ false → has DOCUMENT 2 (root u) ≡ true → IsQuery (show u) → ⊥
@@ -201,7 +201,7 @@ not-query (node s f) o e h i =
     let j : IsQuery (node (label s) (shows f)) = subst (λ (z : Tree). IsQuery z) (show-root s f e) i in
     elim (query-symbols s j.0) [
       | inl p ↦ no-selections f (subst (λ (n : ℕ). OkFrom n 0 f) p o.1) j.1
-      | inr p ↦ false-true no-121 (rw p at h)
+      | inr p ↦ false-true no-short_query (rw p at h)
     ]
 
 two : 1 + 1 ≡ 2
@@ -259,14 +259,14 @@ type-row : (a : ℕ) → (a ≡ NAMED_TYPE) ⊎ (a ≡ LIST_TYPE) → Matches (R
 unfolding Row member
 type-row a h = (a ∷ [], 4 ∷ [], refl, (a, elim h [ inl p ↦ rw p refl | inr p ↦ rw p refl ], refl), (4, refl, refl))
 
-label-4 : label 4 ≡ 4
+label-bang : label 4 ≡ 4
 unfolding label labels
-label-4 = refl
+label-bang = refl
 
 -- The second child of a type is its `!`, and the last.
 type-bang : (u : Tree) → root u ≡ 4 → Ok u → (root (show u) ≡ 4) × (target TYPE 1 (root u) + finish u ≡ 2)
 unfolding is_leaf
-type-bang (leaf l x) e o = (ap label e ∙ label-4, rw e (ap (λ (z : ℕ). z + 0) type-target-1))
+type-bang (leaf l x) e o = (ap label e ∙ label-bang, rw e (ap (λ (z : ℕ). z + 0) type-target-1))
 type-bang (node s f) e o = false-true (rw e at o.0) refl
 
 type-rest : (u : Tree) (f : Forest) (q : ℕ) → q ≡ 1 → OkFrom TYPE q (u ▸ f) → (root (show u) ≡ 4) × (f ≡ none)
@@ -283,9 +283,9 @@ type-rest u f q e o =
 no-eq : (a b : ℕ) → eqb a b ≡ false → a ≡ b → ⊥
 no-eq a b h e = eqb-false a b h e
 
-rules-91 : (f : Forest) → NameRule NON_NULL_TYPE f × ConstantRule NON_NULL_TYPE f × (◌≡◌ {A = ℕ} NON_NULL_TYPE 60 → BraceRule f)
+rules-non_null_type : (f : Forest) → NameRule NON_NULL_TYPE f × ConstantRule NON_NULL_TYPE f × (◌≡◌ {A = ℕ} NON_NULL_TYPE 60 → BraceRule f)
 unfolding member
-rules-91 f = (((λ e. absurd (no-eq NON_NULL_TYPE FRAGMENT_NAME refl e)), (λ e. absurd (no-eq NON_NULL_TYPE ENUM_VALUE refl e))), ((λ e. absurd (no-eq NON_NULL_TYPE DEFAULT_VALUE refl e)), (λ e. absurd (true≢false (sym e)))), (λ e. absurd (no-eq NON_NULL_TYPE DOCUMENT refl e)))
+rules-non_null_type f = (((λ e. absurd (no-eq NON_NULL_TYPE FRAGMENT_NAME refl e)), (λ e. absurd (no-eq NON_NULL_TYPE ENUM_VALUE refl e))), ((λ e. absurd (no-eq NON_NULL_TYPE DEFAULT_VALUE refl e)), (λ e. absurd (true≢false (sym e)))), (λ e. absurd (no-eq NON_NULL_TYPE DOCUMENT refl e)))
 
 type-fits : (f : Forest) → OkFrom TYPE 0 f → AllFit (shows f) → Fits (type_of (shows f))
 type-fits none o h = false-true type-end o
@@ -294,7 +294,7 @@ type-fits (t ▸ (u ▸ f)) o h =
     let c = type-rest u f (target TYPE 0 (root t) + finish t) (type-first t o.0 o.1) o.2 in
     let a = type-child t o.1 (type-arc (root t) o.0) in
     let m : Matches (Row NON_NULL_TYPE) (root (show t) ∷ root (show u) ∷ kinds (shows f)) = subst (λ (z : Forest). Matches (Row NON_NULL_TYPE) (root (show t) ∷ root (show u) ∷ kinds (shows z))) (sym c.1) (subst (λ (n : ℕ). Matches (Row NON_NULL_TYPE) (root (show t) ∷ n ∷ [])) (sym c.0) (type-row (root (show t)) a)) in
-    let r = rules-91 (show t ▸ (show u ▸ shows f)) in
+    let r = rules-non_null_type (show t ▸ (show u ▸ shows f)) in
     (m, r.0, r.1, r.2, h)
 
 node-fits : (s : ℕ) (f : Forest) → Ok (node s f) → eqb s BARE_SELECTIONS ≡ false → AllFit (shows f) → Fits (show (node s f))
@@ -304,7 +304,7 @@ node-fits s f o n h = elim (either (eqb s TYPE)) [
     symbol-row s (kinds (shows f)) n (subst (λ (p : Pattern). Matches p (kinds (shows f))) (start-pattern s e) (row-shown s 0 f o.0 o.1)),
     name-rule s f o.1,
     constant-rule s f o.0 o.1,
-    (λ i. brace-rule 0 f (subst (λ (z : ℕ). OkFrom z 0 f) (label-60 s i) o.1)),
+    (λ i. brace-rule 0 f (subst (λ (z : ℕ). OkFrom z 0 f) (label-document s i) o.1)),
     h,
   )
 ]
@@ -404,15 +404,15 @@ unfolding is_leaf
 type-shown (leaf l x) o e = false-true refl (rw e at o.0)
 type-shown (node s f) o e = subst (λ (n : ℕ). member (root (build n (shows f))) Types ≡ true) (sym e) (type-member f (subst (λ (n : ℕ). OkFrom n 0 f) e o.1))
 
-node-60-63-131 : (is_leaf DOCUMENT ≡ false) × (is_leaf SELECTION_SET ≡ false) × (is_leaf BARE_SELECTIONS ≡ false)
+nodes-at_roots : (is_leaf DOCUMENT ≡ false) × (is_leaf SELECTION_SET ≡ false) × (is_leaf BARE_SELECTIONS ≡ false)
 unfolding is_leaf
-node-60-63-131 = (refl, refl, refl)
+nodes-at_roots = (refl, refl, refl)
 
 pub ok-derivation : (sort : Sort) (a : ℕ) (t : Tree) → Ok t → root t ≡ opening sort a → Derivation (show t) sort
-ok-derivation document a t o e = (root-shown DOCUMENT t node-60-63-131.0 refl o e ∙ label-roots.0, ok-fits t o (rw e refl))
+ok-derivation document a t o e = (root-shown DOCUMENT t nodes-at_roots.0 refl o e ∙ label-roots.0, ok-fits t o (rw e refl))
 ok-derivation selections a t o e = elim (either (eqb a L_CURLY)) [
-  | inl p ↦ (let e' : root t ≡ SELECTION_SET = rw p at e in (root-shown SELECTION_SET t node-60-63-131.1 refl o e' ∙ label-roots.1, inl (ok-fits t o (rw e' refl))))
-  | inr p ↦ (let e' : root t ≡ BARE_SELECTIONS = rw p at e in (root-shown BARE_SELECTIONS t node-60-63-131.2 refl o e' ∙ label-roots.2, inr (bare-fits t o e')))
+  | inl p ↦ (let e' : root t ≡ SELECTION_SET = rw p at e in (root-shown SELECTION_SET t nodes-at_roots.1 refl o e' ∙ label-roots.1, inl (ok-fits t o (rw e' refl))))
+  | inr p ↦ (let e' : root t ≡ BARE_SELECTIONS = rw p at e in (root-shown BARE_SELECTIONS t nodes-at_roots.2 refl o e' ∙ label-roots.2, inr (bare-fits t o e')))
 ]
 ok-derivation type a t o e = (type-shown t o e, ok-fits t o (rw e refl))
 

@@ -75,14 +75,14 @@ weight-none : (j k : ℕ) → (k ≡ NAMED_TYPE) ⊎ (k ≡ NON_NULL_TYPE) → w
 unfolding weight member
 weight-none j k h = elim h [ inl p ↦ rw p (cond-zero (member j (LIST_VALUE ∷ OBJECT_FIELD ∷ []))) | inr p ↦ rw p (cond-zero (member j (LIST_VALUE ∷ OBJECT_FIELD ∷ []))) ]
 
-below-91 : (f : Forest) → belows NON_NULL_TYPE f ≡ belows NAMED_TYPE f
+below-non_null_type : (f : Forest) → belows NON_NULL_TYPE f ≡ belows NAMED_TYPE f
 unfolding member
-below-91 none = refl
-below-91 (t ▸ f) = ap (λ (n : ℕ). max (counts NAMED_TYPE (root t) + below t) n) (below-91 f)
+below-non_null_type none = refl
+below-non_null_type (t ▸ f) = ap (λ (n : ℕ). max (counts NAMED_TYPE (root t) + below t) n) (below-non_null_type f)
 
-label-120 : label TYPE ≡ NAMED_TYPE
+label-type : label TYPE ≡ NAMED_TYPE
 unfolding label labels
-label-120 = refl
+label-type = refl
 
 -- A child's part, under a parent of the kind `j`.
 abbrev pub Part : ℕ → Tree → Type 0
@@ -104,7 +104,7 @@ type-part j (t ▸ none) o h =
   where
     one : (a b c d e : ℕ) → a ≡ b → max (b + c) 0 ≡ e → d ≡ 0 → a + c ≡ d + e
     one a b c d e p q r = omega arith
-type-part j (t ▸ (u ▸ f)) o h = ap₂ (λ (x y : ℕ). x + y) (weight-none j NON_NULL_TYPE (inr refl) ∙ sym (weight-none j NAMED_TYPE (inl refl))) (below-91 (shows (t ▸ (u ▸ f))) ∙ h)
+type-part j (t ▸ (u ▸ f)) o h = ap₂ (λ (x y : ℕ). x + y) (weight-none j NON_NULL_TYPE (inr refl) ∙ sym (weight-none j NAMED_TYPE (inl refl))) (below-non_null_type (shows (t ▸ (u ▸ f))) ∙ h)
 
 part-node : (j s : ℕ) (f : Forest) → OkFrom s 0 f → belows (label s) (shows f) ≡ nestings s f → Part j (node s f)
 part-node j s f o h = elim (either (eqb s TYPE)) [
@@ -114,7 +114,7 @@ part-node j s f o h = elim (either (eqb s TYPE)) [
 ]
   where
     at-type : OkFrom TYPE 0 f → belows (label TYPE) (shows f) ≡ nestings TYPE f → Part j (node TYPE f)
-    at-type o' h' = type-part j f o' (rw label-120 at h') ∙ ap (λ (n : ℕ). weight j n + nestings TYPE f) (sym label-120)
+    at-type o' h' = type-part j f o' (rw label-type at h') ∙ ap (λ (n : ℕ). weight j n + nestings TYPE f) (sym label-type)
 
 mutual
   unfolding weight

@@ -10,26 +10,26 @@ use Rattle.document_grammar.proofs.Basics.{either}
 described : (p : Pattern) (w : List ℕ) → Matches p w → Matches (maybe (one DESCRIPTION) then p) w
 described p w m = ([], w, refl, inr refl, m)
 
-row-61 : (w : List ℕ) → Matches first_operation w → Matches (Row OPERATION_DEFINITION) w
+row-operation : (w : List ℕ) → Matches first_operation w → Matches (Row OPERATION_DEFINITION) w
 unfolding Row
-row-61 w m = elim m [ inl a ↦ inl a | inr b ↦ inr ([], w, refl, inr refl, b) ]
+row-operation w m = elim m [ inl a ↦ inl a | inr b ↦ inr ([], w, refl, inr refl, b) ]
 
-row-69 : (w : List ℕ) → Matches first_fragment w → Matches (Row FRAGMENT_DEFINITION) w
+row-fragment : (w : List ℕ) → Matches first_fragment w → Matches (Row FRAGMENT_DEFINITION) w
 unfolding Row
-row-69 w m = described first_fragment w m
+row-fragment w m = described first_fragment w m
 
-row-77 : (w : List ℕ) → Matches first_variable w → Matches (Row VARIABLE_DEFINITION) w
+row-variable : (w : List ℕ) → Matches first_variable w → Matches (Row VARIABLE_DEFINITION) w
 unfolding Row
-row-77 w m = described first_variable w m
+row-variable w m = described first_variable w m
 
 row-kept : (k : ℕ) (w : List ℕ) → Matches (FirstRow k) w → Matches (Row k) w
 unfolding FirstRow
 row-kept k w m = elim (either (eqb k OPERATION_DEFINITION)) [
-  | inl p ↦ (let m' : Matches first_operation w = rw p at m in rw (eqb-true k OPERATION_DEFINITION p) (row-61 w m'))
+  | inl p ↦ (let m' : Matches first_operation w = rw p at m in rw (eqb-true k OPERATION_DEFINITION p) (row-operation w m'))
   | inr p ↦ elim (either (eqb k FRAGMENT_DEFINITION)) [
-    | inl q ↦ (let m' : Matches first_fragment w = rw (p, q) at m in rw (eqb-true k FRAGMENT_DEFINITION q) (row-69 w m'))
+    | inl q ↦ (let m' : Matches first_fragment w = rw (p, q) at m in rw (eqb-true k FRAGMENT_DEFINITION q) (row-fragment w m'))
     | inr q ↦ elim (either (eqb k VARIABLE_DEFINITION)) [
-      | inl r ↦ (let m' : Matches first_variable w = rw (p, q, r) at m in rw (eqb-true k VARIABLE_DEFINITION r) (row-77 w m'))
+      | inl r ↦ (let m' : Matches first_variable w = rw (p, q, r) at m in rw (eqb-true k VARIABLE_DEFINITION r) (row-variable w m'))
       | inr r ↦ (rw (p, q, r) at m)
     ]
   ]

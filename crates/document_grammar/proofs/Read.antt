@@ -68,9 +68,9 @@ child-arc : (s q k : ℕ) → is_leaf s ≡ false → has s q k ≡ true → (no
 unfolding has arcs
 child-arc s q k l h = arcs-at (arcs s q) (λ k q. (not (inconst k) or (constant s or (member (label s) Marked and eqb k DIRECTIVES_CONST))) and (not (fname k) or fparent s) and (not (ename k) or eparent s) and (not (eqb k OPERATION_DEFINITION or eqb k SHORT_QUERY) or eqb s DOCUMENT) and not (eqb k 0 or eqb k 3 or ltb 130 k)) k (row-test child_test child-checked (λ k. refl) s q l) h
 
-shown-124 : (j k : ℕ) → eqb k DIRECTIVES_CONST ≡ true → member j (shown k) ≡ true → j ≡ DIRECTIVES
+shown-directives : (j k : ℕ) → eqb k DIRECTIVES_CONST ≡ true → member j (shown k) ≡ true → j ≡ DIRECTIVES
 unfolding shown label labels member
-shown-124 j k e m = let m' : member j (shown DIRECTIVES_CONST) ≡ true = rw (eqb-true k DIRECTIVES_CONST e) at m in elim (either (eqb DIRECTIVES j)) [ inl p ↦ sym (eqb-true DIRECTIVES j p) | inr p ↦ absurd (true≢false (sym (rw p at m'))) ]
+shown-directives j k e m = let m' : member j (shown DIRECTIVES_CONST) ≡ true = rw (eqb-true k DIRECTIVES_CONST e) at m in elim (either (eqb DIRECTIVES j)) [ inl p ↦ sym (eqb-true DIRECTIVES j p) | inr p ↦ absurd (true≢false (sym (rw p at m'))) ]
 
 kids-cond : (s q k : ℕ) (t : Tree) (f : Forest) → is_leaf s ≡ false → eqb s DOCUMENT ≡ false → has s q k ≡ true → member (root t) (shown k) ≡ true → Kids s (t ▸ f) → Cond k t
 kids-cond s q k t f l n h m d =
@@ -80,7 +80,7 @@ kids-cond s q k t f l n h m d =
     let c1 = and-l _ _ c2 in
     let no : (eqb k OPERATION_DEFINITION or eqb k SHORT_QUERY) ≡ true → ⊥ = λ e. true≢false (sym (sym n ∙ implies _ _ (and-r _ _ c3) e)) in (
       m,
-      (λ e. elim (or-c _ _ (implies _ _ (and-l _ _ c1) e)) [ inl p ↦ (d.0 p).0 | inr p ↦ (d.1 (and-l _ _ p)).0 (shown-124 (root t) k (and-r _ _ p) m) ]),
+      (λ e. elim (or-c _ _ (implies _ _ (and-l _ _ c1) e)) [ inl p ↦ (d.0 p).0 | inr p ↦ (d.1 (and-l _ _ p)).0 (shown-directives (root t) k (and-r _ _ p) m) ]),
       (λ e. (d.2 (implies _ _ (and-r _ _ c1) e)).0),
       (λ e. (d.3 (implies _ _ (and-r _ _ c2) e)).0),
       (λ e i. no (or-l _ _ (rw e (eqb-refl OPERATION_DEFINITION)))),
@@ -186,9 +186,9 @@ fires-2-checked : all_words words (λ k y. (eqb k 27 or (eqb k 28 or eqb k 29)) 
 unfolding ◌and◌ ◌or◌ words fires entries firsts holds
 fires-2-checked = refl
 
-fires-18 : (fires 18 18 0 ≡ true) × (fires 1 18 0 ≡ true) × (fires 2 18 0 ≡ true)
+fires-ident : (fires 18 18 0 ≡ true) × (fires 1 18 0 ≡ true) × (fires 2 18 0 ≡ true)
 unfolding ◌and◌ ◌or◌ fires entries firsts holds
-fires-18 = (refl, refl, refl)
+fires-ident = (refl, refl, refl)
 
 word-is : (x : Text) (k : ℕ) → word_class words x ≡ k → (k ≡ 18 → ⊥) → (not (eqb k 26) or text_eq x on_text) and (not (eqb k 27) or text_eq x true_text) and (not (eqb k 28) or text_eq x false_text) and (not (eqb k 29) or text_eq x null_text) ≡ true
 word-is x k e n = listed-at words (λ k y. (not (eqb k 26) or text_eq y on_text) and (not (eqb k 27) or text_eq y true_text) and (not (eqb k 28) or text_eq y false_text) and (not (eqb k 29) or text_eq y null_text)) k x word-texts-checked (listed words k x e n)
@@ -197,13 +197,13 @@ num : (a b : ℕ) → eqb a b ≡ false → a ≡ b → ⊥
 num a b h = eqb-false a b h
 
 fires-fname : (x : Text) → x ≢ on_text → fires 1 (word_class words x) 0 ≡ true
-fires-fname x n = elim (or-c _ _ (word-at words (λ k. eqb k 26 or fires 1 k 0) x fires-1-checked (or-r _ _ fires-18.1))) [
+fires-fname x n = elim (or-c _ _ (word-at words (λ k. eqb k 26 or fires 1 k 0) x fires-1-checked (or-r _ _ fires-ident.1))) [
   | inl p ↦ (let c = word-is x 26 (eqb-true _ _ p) (num 26 18 refl) in absurd (n (text-same x on_text (implies _ _ (and-l _ _ (and-l _ _ (and-l _ _ c))) refl))))
   | inr p ↦ p
 ]
 
 fires-ename : (x : Text) → NoWord x → fires 2 (word_class words x) 0 ≡ true
-fires-ename x n = elim (or-c _ _ (word-at words (λ k. (eqb k 27 or (eqb k 28 or eqb k 29)) or fires 2 k 0) x fires-2-checked (or-r _ _ fires-18.2))) [
+fires-ename x n = elim (or-c _ _ (word-at words (λ k. (eqb k 27 or (eqb k 28 or eqb k 29)) or fires 2 k 0) x fires-2-checked (or-r _ _ fires-ident.2))) [
   | inl p ↦ elim (or-c _ _ p) [
     | inl q ↦ (let c = word-is x 27 (eqb-true _ _ q) (num 27 18 refl) in absurd (n.0 (text-same x true_text (implies _ _ (and-r _ _ (and-l _ _ (and-l _ _ c))) refl))))
     | inr q ↦ elim (or-c _ _ q) [
@@ -244,7 +244,7 @@ leaf-fires k x l n r fn en = elim (or-c _ _ (leaf-read-at 60 k (leaf-lt k l) lea
         subst (λ (n : ℕ). fires k n 0 ≡ true) (sym (keyword-class k x h)) (elim (or-c _ _ c') [
           | inl p ↦ keyword-fires k x r p
           | inr p ↦ elim (or-c _ _ p) [
-            | inl q ↦ subst (λ (n : ℕ). fires n (word_class words x) 0 ≡ true) (sym (eqb-true k 18 q)) (word-at words (λ k. fires 18 k 0) x fires-18-checked fires-18.0)
+            | inl q ↦ subst (λ (n : ℕ). fires n (word_class words x) 0 ≡ true) (sym (eqb-true k 18 q)) (word-at words (λ k. fires 18 k 0) x fires-18-checked fires-ident.0)
             | inr q ↦ elim (or-c _ _ q) [
               | inl e ↦ subst (λ (n : ℕ). fires n (word_class words x) 0 ≡ true) (sym (eqb-true k 1 e)) (fires-fname x (fn (or-r _ _ e)))
               | inr e ↦ subst (λ (n : ℕ). fires n (word_class words x) 0 ≡ true) (sym (eqb-true k 2 e)) (fires-ename x (en (or-r _ _ e)))
@@ -351,8 +351,8 @@ number-at (suc n) l h e = elim (either (eqb l n)) [
     lt-of-ne : (l n : ℕ) → l < suc n → (l ≡ n → ⊥) → l < n
     lt-of-ne l n h p = omega arith
 
-below-131 : (k : ℕ) → eqb k 0 or eqb k 3 or ltb 130 k ≡ false → k < 131
-below-131 k h = let e : ltb 130 k ≡ false = or-false-r _ _ h in let l : k ≤ 130 = ltb-false 130 k e in omega arith
+below-bare_selections : (k : ℕ) → eqb k 0 or eqb k 3 or ltb 130 k ≡ false → k < 131
+below-bare_selections k h = let e : ltb 130 k ≡ false = or-false-r _ _ h in let l : k ≤ 130 = ltb-false 130 k e in omega arith
 
 label-node : (k : ℕ) → k < 131 → is_leaf k ≡ false → 59 < label k
 label-node k h l = ltb-true _ _ (rw l at (number-at 131 k h numbers-checked))
@@ -410,12 +410,12 @@ symbol-row-from k j f e n b q1 q2 m = elim (either (eqb k OPERATION_DEFINITION))
         let ej : OPERATION_DEFINITION ≡ j = subst (λ (z : ℕ). get_or labels z 0 ≡ j) x e in
         let m' : Matches (Row OPERATION_DEFINITION) (kinds f) = subst (λ (z : ℕ). Matches (Row z) (kinds f)) (sym ej) m in
         rw (p, r) (elim m' [ inl a ↦ a | inr a ↦ absurd (query-head f (q2 x).1 a) ]))
-    | inr r ↦ (let s : eqb k BARE_SELECTIONS ≡ false = not-131 k b in rw (p, r, s) (subst (λ (z : ℕ). Matches (Row z) (kinds f)) (sym e) m))
+    | inr r ↦ (let s : eqb k BARE_SELECTIONS ≡ false = not-bare_selections k b in rw (p, r, s) (subst (λ (z : ℕ). Matches (Row z) (kinds f)) (sym e) m))
   ]
 ]
   where
-    not-131 : (k : ℕ) → k < 131 → eqb k BARE_SELECTIONS ≡ false
-    not-131 k b = elim (either (eqb k BARE_SELECTIONS)) [ inl p ↦ (let x : k ≡ BARE_SELECTIONS = eqb-true k BARE_SELECTIONS p in absurd (omega arith)) | inr p ↦ p ]
+    not-bare_selections : (k : ℕ) → k < 131 → eqb k BARE_SELECTIONS ≡ false
+    not-bare_selections k b = elim (either (eqb k BARE_SELECTIONS)) [ inl p ↦ (let x : k ≡ BARE_SELECTIONS = eqb-true k BARE_SELECTIONS p in absurd (omega arith)) | inr p ↦ p ]
 
 -- A document: a definition is read as the symbol of its kind; a query without a keyword as its own symbol.
 abbrev shut : ℕ → List ℕ
@@ -482,29 +482,29 @@ abbrev FirstNoQuery : Forest → Type 0
 FirstNoQuery none = Unit {0}
 FirstNoQuery (t ▸ f) = IsQuery t → ⊥
 
-document-61 : (q : ℕ) → InDocument q → has DOCUMENT q OPERATION_DEFINITION ≡ true
+document-operation : (q : ℕ) → InDocument q → has DOCUMENT q OPERATION_DEFINITION ≡ true
 unfolding has arcs at rows ◌or◌
-document-61 q h = elim h [ inl e ↦ rw e refl | inr e ↦ elim e [ inl e' ↦ rw e' refl | inr e' ↦ rw e' refl ] ]
+document-operation q h = elim h [ inl e ↦ rw e refl | inr e ↦ elim e [ inl e' ↦ rw e' refl | inr e' ↦ rw e' refl ] ]
 
-document-121 : (q : ℕ) → InDocument q → (q ≡ 2 → ⊥) → has DOCUMENT q SHORT_QUERY ≡ true
+document-short_query : (q : ℕ) → InDocument q → (q ≡ 2 → ⊥) → has DOCUMENT q SHORT_QUERY ≡ true
 unfolding has arcs at rows ◌or◌
-document-121 q h n = elim h [ inl e ↦ rw e refl | inr e ↦ elim e [ inl e' ↦ rw e' refl | inr e' ↦ absurd (n e') ] ]
+document-short_query q h n = elim h [ inl e ↦ rw e refl | inr e ↦ elim e [ inl e' ↦ rw e' refl | inr e' ↦ absurd (n e') ] ]
 
-shown-121 : (j : ℕ) → j ≡ OPERATION_DEFINITION → (member j (shown SHORT_QUERY) ≡ true) × (member j (shown OPERATION_DEFINITION) ≡ true)
+shown-short_query : (j : ℕ) → j ≡ OPERATION_DEFINITION → (member j (shown SHORT_QUERY) ≡ true) × (member j (shown OPERATION_DEFINITION) ≡ true)
 unfolding shown label labels member
-shown-121 j e = (rw e refl, rw e refl)
+shown-short_query j e = (rw e refl, rw e refl)
 
 document-plain : (constant DOCUMENT ≡ false) × (member (label DOCUMENT) Marked ≡ false) × (fparent DOCUMENT ≡ false) × (eparent DOCUMENT ≡ false)
 unfolding constant label labels member ◌or◌ ◌and◌
 document-plain = (refl, refl, refl, refl)
 
-node-60 : is_leaf DOCUMENT ≡ false
+node-document : is_leaf DOCUMENT ≡ false
 unfolding is_leaf
-node-60 = refl
+node-document = refl
 
 document-cond : (q k : ℕ) (t : Tree) → has DOCUMENT q k ≡ true → member (root t) (shown k) ≡ true → (k ≡ OPERATION_DEFINITION → IsQuery t → ⊥) → (k ≡ SHORT_QUERY → IsQuery t) → Cond k t
 document-cond q k t h m q1 q2 =
-    let c = child-arc DOCUMENT q k node-60 h in
+    let c = child-arc DOCUMENT q k node-document h in
     let c3 = and-l _ _ c in
     let c2 = and-l _ _ c3 in
     let c1 = and-l _ _ c2 in (
@@ -515,7 +515,7 @@ document-cond q k t h m q1 q2 =
       q1,
       q2,
       not-c _ (and-r _ _ c),
-      (λ i. fill-start DOCUMENT q k node-60 h i),
+      (λ i. fill-start DOCUMENT q k node-document h i),
     )
 
 abbrev finish_test : ℕ → State → Bool
@@ -528,7 +528,7 @@ finish-checked = refl
 document-finish : (q : ℕ) (u : Tree) → has DOCUMENT q (root u) ≡ true → Ok u → (finish u ≡ 0) ⊎ (finish u ≡ 1)
 unfolding has arcs
 document-finish q u h o =
-    let c = implies _ _ (row-test finish_test finish-checked (λ k. or-r _ _ refl) DOCUMENT q node-60) refl in
+    let c = implies _ _ (row-test finish_test finish-checked (λ k. or-r _ _ refl) DOCUMENT q node-document) refl in
     elim (or-c _ _ (exits-at u (λ x. eqb x 0 or eqb x 1) (arcs-at (arcs DOCUMENT q) (λ k q. exits k (λ x. eqb x 0 or eqb x 1)) (root u) c h) o)) [ inl p ↦ inl (eqb-true _ _ p) | inr p ↦ inr (eqb-true _ _ p) ]
 
 not-before : (t : Tree) (f : Forest) → NotBefore t f → LacksBlock t → FirstNoQuery f
@@ -543,7 +543,7 @@ document-build q k t f a h m d nb r rf =
     let hu : has DOCUMENT q (root r.0) ≡ true = subst (λ (n : ℕ). has DOCUMENT q n ≡ true) (sym r.2) h in
     let mu : member (root t) (shown (root r.0)) ≡ true = subst (λ (n : ℕ). member (root t) (shown n) ≡ true) (sym r.2) m in
     let e : deriv (pattern_of DOCUMENT q) (root t) ≡ pattern_of DOCUMENT (target DOCUMENT q (root r.0) + finish r.0) = agree-arc DOCUMENT q (root t) r.0 a hu r.1 mu in
-    let v : Live (at DOCUMENT (target DOCUMENT q (root r.0) + finish r.0)) = fill-live DOCUMENT (target DOCUMENT q (root r.0) + finish r.0) (fill-after DOCUMENT q r.0 node-60 hu r.1) in
+    let v : Live (at DOCUMENT (target DOCUMENT q (root r.0) + finish r.0)) = fill-live DOCUMENT (target DOCUMENT q (root r.0) + finish r.0) (fill-after DOCUMENT q r.0 node-document hu r.1) in
     let ar = document-arc q (root r.0) hu in
     let g1 : target DOCUMENT q (root r.0) ≡ 1 = eqb-true _ _ (and-r _ _ ar) in
     let n120 : eqb (root r.0) TYPE ≡ false = not-c _ (and-l _ _ ar) in
@@ -553,7 +553,7 @@ document-build q k t f a h m d nb r rf =
       | inl z ↦ absurd (num 1 2 refl (sym (sum-is _ _ 1 0 g1 z) ∙ w))
       | inr z ↦ not-before t f nb (subst (λ (y : Tree). LacksBlock y) r.3 (finish-lacks r.0 r.1 n120 z))
     ] in
-    let g = rf (target DOCUMENT q (root r.0) + finish r.0) ip fq (subst (λ (z : Pattern). Matches z (kinds f)) e d) (agree DOCUMENT (target DOCUMENT q (root r.0) + finish r.0) node-60 v) in
+    let g = rf (target DOCUMENT q (root r.0) + finish r.0) ip fq (subst (λ (z : Pattern). Matches z (kinds f)) e d) (agree DOCUMENT (target DOCUMENT q (root r.0) + finish r.0) node-document v) in
     (r.0 ▸ g.0, (hu, r.1, g.1), ap₂ (λ x y. x ▸ y) r.3 g.2)
 
 dec-query : (t : Tree) → IsQuery t ⊎ (IsQuery t → ⊥)
@@ -564,24 +564,24 @@ dec-query (node j (t ▸ f)) = elim (either (eqb j OPERATION_DEFINITION)) [
   | inr p ↦ inr (λ h. eqb-false j OPERATION_DEFINITION p h.0)
 ]
 
-shown-61 : (j k : ℕ) → (k ≡ OPERATION_DEFINITION) ⊎ (k ≡ SHORT_QUERY) → member j (shown k) ≡ true → j ≡ OPERATION_DEFINITION
+shown-operation : (j k : ℕ) → (k ≡ OPERATION_DEFINITION) ⊎ (k ≡ SHORT_QUERY) → member j (shown k) ≡ true → j ≡ OPERATION_DEFINITION
 unfolding shown label labels
-shown-61 j k h m = elim h [ inl e ↦ (let m' : member j (OPERATION_DEFINITION ∷ []) ≡ true = rw e at m in member-one j OPERATION_DEFINITION m') | inr e ↦ (let m' : member j (OPERATION_DEFINITION ∷ []) ≡ true = rw e at m in member-one j OPERATION_DEFINITION m') ]
+shown-operation j k h m = elim h [ inl e ↦ (let m' : member j (OPERATION_DEFINITION ∷ []) ≡ true = rw e at m in member-one j OPERATION_DEFINITION m') | inr e ↦ (let m' : member j (OPERATION_DEFINITION ∷ []) ≡ true = rw e at m in member-one j OPERATION_DEFINITION m') ]
 
 document-step : (q : ℕ) (t : Tree) (f : Forest) → InDocument q → (q ≡ 2 → IsQuery t → ⊥) → Matches (pattern_of DOCUMENT q) (root t ∷ kinds f) → agree_at DOCUMENT q ≡ true → NotBefore t f → ((k : ℕ) → Cond k t → Read k t) → ((p : ℕ) → InDocument p → (p ≡ 2 → FirstNoQuery f) → Matches (pattern_of DOCUMENT p) (kinds f) → agree_at DOCUMENT p ≡ true → ReadFrom DOCUMENT p f) → ReadFrom DOCUMENT q (t ▸ f)
 document-step q t f i n m a nb rt rf =
     let dm : Matches (deriv (pattern_of DOCUMENT q) (root t)) (kinds f) = to-deriv (pattern_of DOCUMENT q) (root t) (kinds f) m in
     elim (either (eqb (root t) OPERATION_DEFINITION)) [
       | inl p ↦ (let e : root t ≡ OPERATION_DEFINITION = eqb-true _ _ p in elim (dec-query t) [
-        | inl w ↦ (let h : has DOCUMENT q SHORT_QUERY ≡ true = document-121 q i (λ z. n z w) in
-            document-build q SHORT_QUERY t f a h (shown-121 (root t) e).0 dm nb (rt SHORT_QUERY (document-cond q SHORT_QUERY t h (shown-121 (root t) e).0 (λ z. absurd (num SHORT_QUERY OPERATION_DEFINITION refl z)) (λ z. w))) rf)
-        | inr w ↦ (let h : has DOCUMENT q OPERATION_DEFINITION ≡ true = document-61 q i in
-            document-build q OPERATION_DEFINITION t f a h (shown-121 (root t) e).1 dm nb (rt OPERATION_DEFINITION (document-cond q OPERATION_DEFINITION t h (shown-121 (root t) e).1 (λ z. w) (λ z. absurd (num OPERATION_DEFINITION SHORT_QUERY refl z)))) rf)
+        | inl w ↦ (let h : has DOCUMENT q SHORT_QUERY ≡ true = document-short_query q i (λ z. n z w) in
+            document-build q SHORT_QUERY t f a h (shown-short_query (root t) e).0 dm nb (rt SHORT_QUERY (document-cond q SHORT_QUERY t h (shown-short_query (root t) e).0 (λ z. absurd (num SHORT_QUERY OPERATION_DEFINITION refl z)) (λ z. w))) rf)
+        | inr w ↦ (let h : has DOCUMENT q OPERATION_DEFINITION ≡ true = document-operation q i in
+            document-build q OPERATION_DEFINITION t f a h (shown-short_query (root t) e).1 dm nb (rt OPERATION_DEFINITION (document-cond q OPERATION_DEFINITION t h (shown-short_query (root t) e).1 (λ z. w) (λ z. absurd (num OPERATION_DEFINITION SHORT_QUERY refl z)))) rf)
       ])
       | inr p ↦ elim (or-c _ _ (agree-kind DOCUMENT q (root t) a (first-kind (pattern_of DOCUMENT q) (root t) (kinds f) dm))) [
         | inl c ↦ false-true document-plain.0 (and-l _ _ c)
         | inr c ↦ (let k = arc-for DOCUMENT q (root t) c in
-            document-build q k.0 t f a k.1 k.2 dm nb (rt k.0 (document-cond q k.0 t k.1 k.2 (λ z w. eqb-false _ _ p (shown-61 (root t) k.0 (inl z) k.2)) (λ z. absurd (eqb-false _ _ p (shown-61 (root t) k.0 (inr z) k.2))))) rf)
+            document-build q k.0 t f a k.1 k.2 dm nb (rt k.0 (document-cond q k.0 t k.1 k.2 (λ z w. eqb-false _ _ p (shown-operation (root t) k.0 (inl z) k.2)) (λ z. absurd (eqb-false _ _ p (shown-operation (root t) k.0 (inr z) k.2))))) rf)
       ]
     ]
 
@@ -602,9 +602,9 @@ type-pattern : pattern_of TYPE 0 ≡ type_row
 unfolding pattern_of symbol_row label labels Row paths
 type-pattern = refl
 
-row-91 : (w : List ℕ) → Matches (Row NON_NULL_TYPE) w → (Matches type_row w) × ((a : ℕ) × (b : ℕ) × (w ≡ a ∷ b ∷ []))
+row-non_null_type : (w : List ℕ) → Matches (Row NON_NULL_TYPE) w → (Matches type_row w) × ((a : ℕ) × (b : ℕ) × (w ≡ a ∷ b ∷ []))
 unfolding Row
-row-91 w m = ((m.0, m.1, m.2, m.3, inl m.4), (m.3.0, m.4.0, m.2 ∙ ap₂ (λ (x y : List ℕ). x ++ y) m.3.2 m.4.2))
+row-non_null_type w m = ((m.0, m.1, m.2, m.3, inl m.4), (m.3.0, m.4.0, m.2 ∙ ap₂ (λ (x y : List ℕ). x ++ y) m.3.2 m.4.2))
 
 shown-types : (j : ℕ) → member j (shown TYPE) ≡ true → ((j ≡ NAMED_TYPE) ⊎ (j ≡ LIST_TYPE)) ⊎ (j ≡ NON_NULL_TYPE)
 unfolding shown member
@@ -630,7 +630,7 @@ wrap j t h r =
 node-read : (k j : ℕ) (f : Forest) → is_leaf k ≡ false → eqb k TYPE ≡ false → eqb k DOCUMENT ≡ false → Fits (node j f) → Cond k (node j f) → ((s q : ℕ) → is_leaf s ≡ false → eqb s DOCUMENT ≡ false → Matches (pattern_of s q) (kinds f) → agree_at s q ≡ true → Kids s f → ReadFrom s q f) → Read k (node j f)
 node-read k j f l n n' h c rf =
     let e : label k ≡ j = shown-label j k n c.0 in
-    let m : Matches (symbol_row k) (kinds f) = symbol-row-from k j f e n (below-131 k c.6) c.4 c.5 h.0 in
+    let m : Matches (symbol_row k) (kinds f) = symbol-row-from k j f e n (below-bare_selections k c.6) c.4 c.5 h.0 in
     let m' : Matches (pattern_of k 0) (kinds f) = subst (λ (p : Pattern). Matches p (kinds f)) (sym (start-pattern k n)) m in
     let a : agree_at k 0 ≡ true = agree k 0 l (fill-live k 0 (c.7 l)) in
     let g = rf k 0 l n' m' a (cond-kids k j f e m' h.1 h.2 c) in
@@ -656,7 +656,7 @@ type-cond j f h =
 type-read : (j : ℕ) (f : Forest) → Fits (node j f) → member j (shown TYPE) ≡ true → ((s q : ℕ) → is_leaf s ≡ false → eqb s DOCUMENT ≡ false → Matches (pattern_of s q) (kinds f) → agree_at s q ≡ true → Kids s f → ReadFrom s q f) → Read TYPE (node j f)
 type-read j f h m rf = elim (shown-types j m) [
   | inl x ↦ (let p = type-plain j x in wrap j (node j f) x (node-read j j f p.0 p.1 p.2 h (type-cond j f x) rf))
-  | inr x ↦ (let r = row-91 (kinds f) (subst (λ (n : ℕ). Matches (Row n) (kinds f)) x h.0) in
+  | inr x ↦ (let r = row-non_null_type (kinds f) (subst (λ (n : ℕ). Matches (Row n) (kinds f)) x h.0) in
       let m' : Matches (pattern_of TYPE 0) (kinds f) = subst (λ (p : Pattern). Matches p (kinds f)) (sym type-pattern) r.0 in
       let g = rf TYPE 0 type-facts.0 refl m' (agree TYPE 0 type-facts.0 (fill-live TYPE 0 type-facts.6)) (type-kids f) in
       (node TYPE g.0, (type-facts.0, g.1), refl, ap type_of g.2 ∙ (type-two f r.1.0 r.1.1 r.1.2 ∙ ap (λ (n : ℕ). node n f) (sym x))))
@@ -674,14 +674,14 @@ brace-first t f b = b.0
 
 pick-node : (k j : ℕ) (f : Forest) → Fits (node j f) → Cond k (node j f) → ((s q : ℕ) → is_leaf s ≡ false → eqb s DOCUMENT ≡ false → Matches (pattern_of s q) (kinds f) → agree_at s q ≡ true → Kids s f → ReadFrom s q f) → ((q : ℕ) → InDocument q → (q ≡ 2 → FirstNoQuery f) → BraceRule f → Matches (pattern_of DOCUMENT q) (kinds f) → agree_at DOCUMENT q ≡ true → ReadFrom DOCUMENT q f) → Read k (node j f)
 pick-node k j f h c rf rd = elim (either (is_leaf k)) [
-  | inl l ↦ (let e : label k ≡ j = shown-label j k (leaf-is-no-type k l) c.0 in no-row j (kinds f) (subst (λ (n : ℕ). n < 60) e (label-leaf k (below-131 k c.6) l)) h.0)
+  | inl l ↦ (let e : label k ≡ j = shown-label j k (leaf-is-no-type k l) c.0 in no-row j (kinds f) (subst (λ (n : ℕ). n < 60) e (label-leaf k (below-bare_selections k c.6) l)) h.0)
   | inr l ↦ elim (either (eqb k TYPE)) [
     | inl n ↦ (let x : k ≡ TYPE = eqb-true k TYPE n in subst (λ (z : ℕ). Read z (node j f)) (sym x) (type-read j f h (subst (λ (z : ℕ). member j (shown z) ≡ true) x c.0) rf))
     | inr n ↦ elim (either (eqb k DOCUMENT)) [
       | inl d ↦ (let x : k ≡ DOCUMENT = eqb-true k 60 d in
           let e : label k ≡ j = shown-label j k n c.0 in
           let ej : j ≡ DOCUMENT = sym e ∙ label-of k DOCUMENT d label-60-same in
-          let m : Matches (symbol_row k) (kinds f) = symbol-row-from k j f e n (below-131 k c.6) c.4 c.5 h.0 in
+          let m : Matches (symbol_row k) (kinds f) = symbol-row-from k j f e n (below-bare_selections k c.6) c.4 c.5 h.0 in
           let m' : Matches (pattern_of k 0) (kinds f) = subst (λ (p : Pattern). Matches p (kinds f)) (sym (start-pattern k n)) m in
           let a : agree_at k 0 ≡ true = agree k 0 l (fill-live k 0 (c.7 l)) in
           let g : ReadFrom k 0 f = subst (λ (z : ℕ). ReadFrom z 0 f) (sym x) (rd 0 (inl refl) (λ z. absurd (num 0 2 refl z)) (h.3 ej) (subst (λ (z : ℕ). Matches (pattern_of z 0) (kinds f)) x m') (subst (λ (z : ℕ). agree_at z 0 ≡ true) x a)) in
@@ -696,7 +696,7 @@ leaf-any k j x r c = elim (either (is_leaf k)) [
   | inl l ↦ read-leaf k j x l r c
   | inr l ↦ elim (either (eqb k TYPE)) [
     | inl n ↦ (let m : member j (shown TYPE) ≡ true = subst (λ (z : ℕ). member j (shown z) ≡ true) (eqb-true k TYPE n) c.0 in absurd (leaf-below j x r (type-above j (shown-types j m))))
-    | inr n ↦ (let e : label k ≡ j = shown-label j k n c.0 in absurd (leaf-below j x r (subst (λ (z : ℕ). 59 < z) e (label-node k (below-131 k c.6) l))))
+    | inr n ↦ (let e : label k ≡ j = shown-label j k n c.0 in absurd (leaf-below j x r (subst (λ (z : ℕ). 59 < z) e (label-node k (below-bare_selections k c.6) l))))
   ]
 ]
 

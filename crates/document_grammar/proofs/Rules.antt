@@ -43,13 +43,13 @@ label-alone j s h z e =
     eqb-self : (k : ℕ) → eqb k k ≡ true
     eqb-self k = elim (either (eqb k k)) [ inl p ↦ p | inr p ↦ absurd (eqb-false k k p refl) ]
 
-pub label-70 : (s : ℕ) → label s ≡ FRAGMENT_NAME → s ≡ FRAGMENT_NAME
+pub label-fragment_name : (s : ℕ) → label s ≡ FRAGMENT_NAME → s ≡ FRAGMENT_NAME
 unfolding labels ◌and◌ ◌or◌
-label-70 s e = label-alone FRAGMENT_NAME s refl refl e
+label-fragment_name s e = label-alone FRAGMENT_NAME s refl refl e
 
-pub label-85 : (s : ℕ) → label s ≡ ENUM_VALUE → s ≡ ENUM_VALUE
+pub label-enum_value : (s : ℕ) → label s ≡ ENUM_VALUE → s ≡ ENUM_VALUE
 unfolding labels ◌and◌ ◌or◌
-label-85 s e = label-alone ENUM_VALUE s refl refl e
+label-enum_value s e = label-alone ENUM_VALUE s refl refl e
 
 -- The row of a symbol.
 abbrev first_empty : List (List (List ℕ)) → Bool
@@ -124,8 +124,8 @@ pub keyword-class : (l : ℕ) (x : Text) → holds l name_leaves ≡ true → cl
 unfolding class token
 keyword-class l x h = rw h refl
 
-above-21 : (l : ℕ) → 21 < l → l ≡ 18 → ⊥
-above-21 l h e = omega arith
+above-string : (l : ℕ) → 21 < l → l ≡ 18 → ⊥
+above-string l h e = omega arith
 
 pub leaf-rule : (l : ℕ) (x : Text) → Ok (leaf l x) → LeafRule (label l) x
 unfolding fires
@@ -135,7 +135,7 @@ leaf-rule l x o h =
     let d = fired (entries l) (λ x. eqb x (2 ^ l)) (class (token l x)) 0 (and-r _ _ c) o.1 in
     let k : class (token l x) ≡ l = holds-one (class (token l x)) l (rw (eqb-true _ _ d.1) at d.2) in
     let w : word_class words x ≡ label l = sym (keyword-class l x (and-r _ _ (and-l _ _ c))) ∙ (k ∙ sym e) in
-    listed words (label l) x w (above-21 (label l) h)
+    listed words (label l) x w (above-string (label l) h)
 
 -- Names.
 pub one-tree : (f : Forest) (k : ℕ) → kinds (shows f) ≡ k ∷ [] → (t : Tree) × (f ≡ t ▸ none)
@@ -211,7 +211,7 @@ enum-leaf f o = name-leaf ENUM_VALUE NAME_FOR_ENUM 2 f refl refl refl refl refl 
 pub name-rule : (s : ℕ) (f : Forest) → OkFrom s 0 f → NameRule (label s) (shows f)
 unfolding NameLeaf
 name-rule s f o = (
-  (λ e t. let c = fragment-leaf f (subst (λ (n : ℕ). OkFrom n 0 f) (label-70 s e) o) in on-refused c.0 c.2 (sym c.1 ∙ t)),
-  (λ e. let c = enum-leaf f (subst (λ (n : ℕ). OkFrom n 0 f) (label-85 s e) o) in
+  (λ e t. let c = fragment-leaf f (subst (λ (n : ℕ). OkFrom n 0 f) (label-fragment_name s e) o) in on-refused c.0 c.2 (sym c.1 ∙ t)),
+  (λ e. let c = enum-leaf f (subst (λ (n : ℕ). OkFrom n 0 f) (label-enum_value s e) o) in
       ((λ t. true-refused c.0 c.2 (sym c.1 ∙ t)), (λ t. false-refused c.0 c.2 (sym c.1 ∙ t)), (λ t. null-refused c.0 c.2 (sym c.1 ∙ t)))),
 )

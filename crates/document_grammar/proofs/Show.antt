@@ -90,13 +90,13 @@ type-end = refl
 pub show-root : (s : ℕ) (f : Forest) → eqb s TYPE ≡ false → show (node s f) ≡ node (label s) (shows f)
 show-root s f e = rw e refl
 
-label-89 : label NAMED_TYPE ≡ NAMED_TYPE
+label-named_type : label NAMED_TYPE ≡ NAMED_TYPE
 unfolding label labels
-label-89 = refl
+label-named_type = refl
 
-label-90 : label LIST_TYPE ≡ LIST_TYPE
+label-list_type : label LIST_TYPE ≡ LIST_TYPE
 unfolding label labels
-label-90 = refl
+label-list_type = refl
 
 pub shown-one : (k : ℕ) → eqb k TYPE ≡ false → member (label k) (shown k) ≡ true
 unfolding shown member
@@ -110,8 +110,8 @@ pub type-child : (t : Tree) → Ok t → (root t ≡ NAMED_TYPE) ⊎ (root t ≡
 unfolding is_leaf
 type-child (leaf l x) o h = elim h [ inl p ↦ false-true refl (rw p at o.0) | inr p ↦ false-true refl (rw p at o.0) ]
 type-child (node s f) o h = elim h [
-  | inl p ↦ inl (subst (λ (n : ℕ). root (build n (shows f)) ≡ NAMED_TYPE) (sym p) label-89)
-  | inr p ↦ inr (subst (λ (n : ℕ). root (build n (shows f)) ≡ LIST_TYPE) (sym p) label-90)
+  | inl p ↦ inl (subst (λ (n : ℕ). root (build n (shows f)) ≡ NAMED_TYPE) (sym p) label-named_type)
+  | inr p ↦ inr (subst (λ (n : ℕ). root (build n (shows f)) ≡ LIST_TYPE) (sym p) label-list_type)
 ]
 
 pub type-root : (f : Forest) → OkFrom TYPE 0 f → (root (type_of (shows f)) ≡ NAMED_TYPE) ⊎ (root (type_of (shows f)) ≡ LIST_TYPE) ⊎ (root (type_of (shows f)) ≡ NON_NULL_TYPE)

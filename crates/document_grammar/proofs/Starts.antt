@@ -25,15 +25,15 @@ tests : (sticks SELECTION_SET 0 (but (L_CURLY ∷ [])) any ≡ true) × (sticks 
 unfolding ◌and◌ ◌or◌ holds is_leaf at ends arcs entries rows firsts sticks
 tests = (refl, refl, refl)
 
-begins-63 : (u : Tree) (w : List Token) → Parse SELECTION_SET u w → eqb (first w) L_CURLY ≡ true
-begins-63 u w p = elim (either (eqb (first w) L_CURLY)) [
+begins-selection_set : (u : Tree) (w : List Token) → Parse SELECTION_SET u w → eqb (first w) L_CURLY ≡ true
+begins-selection_set u w p = elim (either (eqb (first w) L_CURLY)) [
   | inl e ↦ e
   | inr e ↦ (let h : holds (first w) (but (L_CURLY ∷ [])) ≡ true = holds-but (first w) L_CURLY any (but (L_CURLY ∷ [])) (first-any w) (eqb-false _ _ e) refl in
       absurd (never_stuck SELECTION_SET fragments-begin.0 u w SELECTION_SET 0 none [] w p start (sticks-move SELECTION_SET 0 (but (L_CURLY ∷ [])) any (first w) (second w) tests.0 h (second-any w))))
 ]
 
-begins-131 : (u : Tree) (w : List Token) → Parse BARE_SELECTIONS u w → eqb (first w) L_CURLY ≡ false
-begins-131 u w p = elim (either (eqb (first w) L_CURLY)) [
+begins-bare_selections : (u : Tree) (w : List Token) → Parse BARE_SELECTIONS u w → eqb (first w) L_CURLY ≡ false
+begins-bare_selections u w p = elim (either (eqb (first w) L_CURLY)) [
   | inl e ↦ (let h : holds (first w) (only (L_CURLY ∷ [])) ≡ true = rw (eqb-true _ _ e) tests.2 in
       absurd (never_stuck BARE_SELECTIONS fragments-begin.1 u w BARE_SELECTIONS 0 none [] w p start (sticks-move BARE_SELECTIONS 0 (only (L_CURLY ∷ [])) any (first w) (second w) tests.1 h (second-any w))))
   | inr e ↦ e
@@ -42,8 +42,8 @@ begins-131 u w p = elim (either (eqb (first w) L_CURLY)) [
 pub opens-by : (sort : Sort) (k : ℕ) (u : Tree) (w : List Token) → Opens sort k → Parse k u w → k ≡ opening sort (first w)
 opens-by document k u w e p = e
 opens-by selections k u w e p = elim e [
-  | inl c ↦ rw (begins-63 u w (subst (λ (n : ℕ). Parse n u w) c p)) c
-  | inr c ↦ rw (begins-131 u w (subst (λ (n : ℕ). Parse n u w) c p)) c
+  | inl c ↦ rw (begins-selection_set u w (subst (λ (n : ℕ). Parse n u w) c p)) c
+  | inr c ↦ rw (begins-bare_selections u w (subst (λ (n : ℕ). Parse n u w) c p)) c
 ]
 opens-by type k u w e p = e
 

@@ -4,7 +4,7 @@ use Rattle.std.specs.Int.{bit_at}
 use Rattle.document_grammar.specs.Tree.{Text, Token, Tree, leaf, node, Forest, none, ◌▸◌, ◌+++◌, root}
 use Rattle.document_grammar.specs.Derivation.{Sort, document, selections, type}
 use Rattle.document_grammar.specs.Table.{State, state, Entry, entry, rows, firsts, name_leaves, token_kinds}
-use Rattle.document_grammar.specs.Kinds.{L_CURLY, words, SELECTION_SET, DOCUMENT}
+use Rattle.document_grammar.specs.Kinds.{ERROR, L_CURLY, IDENT, words, SELECTION_SET, DOCUMENT}
 use Rattle.document_grammar.specs.Symbols.{TYPE, BARE_SELECTIONS}
 
 infixl 35 ◌and◌
@@ -22,15 +22,16 @@ false or b = b
 unfoldable pub holds : ℕ → ℕ → Bool
 holds a set = eqb (bit_at set a) 1
 
+-- Leaves have the numbers before DOCUMENT.
 unfoldable pub is_leaf : ℕ → Bool
-is_leaf k = ltb k 60
+is_leaf k = ltb k DOCUMENT
 
 -- The rows.
 abbrev pub dead : State
 dead = state false 0 []
 
 unfoldable pub at : ℕ → ℕ → State
-at s q = get_or (get_or rows (s - 60) []) q dead
+at s q = get_or (get_or rows (s - DOCUMENT) []) q dead
 
 abbrev pub state_ends : State → Bool
 state_ends (state e x a) = e
@@ -94,7 +95,8 @@ unfoldable pub move : ℕ → ℕ → ℕ → ℕ → Move
 unfolding arcs ends
 move s q a b = choose (arcs s q) (ends s q) a b
 
--- Classes of tokens.
+-- Classes of tokens: a Name that is a word has the word's class, another Name that of IDENT, and each other token that of its kind. The end
+-- has class 0.
 abbrev pub text_eq : Text → Text → Bool
 text_eq [] [] = true
 text_eq [] (b ∷ bs) = false
@@ -102,11 +104,11 @@ text_eq (a ∷ as') [] = false
 text_eq (a ∷ as') (b ∷ bs) = eqb a b and text_eq as' bs
 
 abbrev pub word_class : List (ℕ × Text) → Text → ℕ
-word_class [] x = 18
+word_class [] x = IDENT
 word_class (w ∷ more) x = cond (text_eq w.1 x) w.0 (word_class more x)
 
 unfoldable pub class : Token → ℕ
-class t = cond (eqb t.0 18) (word_class words t.1) (cond (holds t.0 token_kinds) t.0 3)
+class t = cond (eqb t.0 IDENT) (word_class words t.1) (cond (holds t.0 token_kinds) t.0 ERROR)
 
 -- The classes of the next token and of the one after it, 0 at the end.
 unfoldable pub first : List Token → ℕ
@@ -119,7 +121,7 @@ second (t ∷ r) = first r
 
 -- The token that a leaf spells.
 unfoldable pub token : ℕ → Text → Token
-token l x = (cond (holds l name_leaves) 18 l, x)
+token l x = (cond (holds l name_leaves) IDENT l, x)
 
 abbrev mutual
   pub yield : Tree → List Token
