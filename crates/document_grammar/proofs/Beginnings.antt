@@ -16,13 +16,13 @@ use Rattle.lexical_grammar.proofs.Texts.{words_follow_text}
 use Rattle.document_grammar.specs.Tree.{Token, Tree, leaf}
 use Rattle.document_grammar.specs.Table.{firsts, spellings}
 use Rattle.document_grammar.specs.Derivation.{document, Spells}
-use Rattle.document_grammar.specs.Machine.{◌and◌, ◌or◌, holds, is_leaf, entries, fires, class, token, Ok, IsStuck}
+use Rattle.document_grammar.specs.Machine.{◌and◌, ◌or◌, holds, is_leaf, entries, fires, class, token, Ok, Frame, Reached}
 use Rattle.document_grammar.specs.Sentence.{leaf_number, token_of, Begins}
 use Rattle.document_grammar.proofs.Basics.{false-true, or-c, either, head-same, tail-same}
 use Rattle.document_grammar.proofs.Endings.{spell}
 use Rattle.document_grammar.proofs.Sound.{AllSpelt}
 use Rattle.document_grammar.proofs.Worked.{all_ascii, is-ascii}
-use Rattle.document_grammar.proofs.Faults.{stuck-spelt}
+use Rattle.document_grammar.proofs.Faults.{reached-begins}
 
 -- The kind of the tokens that become a leaf.
 kinds_by_leaf : List TokenKind
@@ -152,9 +152,9 @@ begins-text source before item more t v u cut h s spelt =
       };
     }
 
--- Where the machine is stuck in a text's tokens, the text before begins a sentence.
-pub stuck-begins-text : (source : List ℕ) (before : List Item) (item : Item) (more : List Item) (rest : List Token) → IsUtf8 source → Cut source (before ++ item ∷ more) → are_tokens before ≡ true
-    → IsStuck document (map token_of (Significant before)) rest → Begins (texts before)
-stuck-begins-text source before item more rest u cut h s =
-    let k = stuck-spelt document (map token_of (Significant before)) rest s in
+-- Wherever the machine comes in the tokens of a text, the text before begins a sentence.
+pub reached-begins-text : (source : List ℕ) (before : List Item) (item : Item) (more : List Item) (rest : List Token) (fs : List Frame) → IsUtf8 source → Cut source (before ++ item ∷ more) → are_tokens before ≡ true
+    → Reached document (map token_of (Significant before)) rest fs → Begins (texts before)
+reached-begins-text source before item more rest fs u cut h c =
+    let k = reached-begins document (map token_of (Significant before)) rest fs c in
     begins-text source before item more k.0 k.1 u cut h k.2 k.3

@@ -1,13 +1,13 @@
--- Where the machine is stuck, no sentence goes on as the tokens do, and what has been read begins a sentence.
+-- What the machine has read begins tokens that a derivation spells; and where it is stuck, none goes on as the tokens do.
 use Rattle.std.proofs.Common.{◌≡◌, List, [], ◌∷◌, ◌++◌, take, map, refl, sym, ap, ap₂, ◌∙◌, subst}
 use Rattle.std.proofs.lemmas.List.{append_cancel_right}
 use Rattle.document_grammar.specs.Tree.{Token, Tree}
 use Rattle.document_grammar.specs.Derivation.{Sort, Mark, word, marks, Spells, Starts}
-use Rattle.document_grammar.specs.Machine.{first, IsStuck}
+use Rattle.document_grammar.specs.Machine.{first, Frame, Reached, IsStuck}
 use Rattle.document_grammar.proofs.Sound.{AllSpelt}
 use Rattle.document_grammar.proofs.Theory.{fault}
 use Rattle.document_grammar.proofs.Starts.{opens, read, next_two}
-use Rattle.document_grammar.proofs.Main.{start_symbol, FaultIn, begins, not-starts}
+use Rattle.document_grammar.proofs.Main.{start_symbol, FaultIn, begins-at, not-starts}
 
 read-map : (w : List Token) → map word w ≡ read w
 read-map [] = refl
@@ -25,15 +25,15 @@ fault-of sort before rest s =
 before-of : (sort : Sort) (before rest : List Token) (k : FaultIn sort (before ++ rest) rest) → k.before ≡ before
 before-of sort before rest k = append_cancel_right k.before before rest (sym k.split)
 
--- What goes on is spelled as the leaves are listed.
-pub stuck-spelt : (sort : Sort) (before rest : List Token) → IsStuck sort before rest → (t : Tree) × (v : List Token) × Spells (before ++ v) t sort × AllSpelt v
-stuck-spelt sort before rest s =
-    let k = fault-of sort before rest s in
-    let h = begins sort (before ++ rest) rest k in
-    (h.0, h.1, subst (λ (b : List Token). Spells (b ++ h.1) h.0 sort) (before-of sort before rest k) h.2, h.3)
+-- What has been read begins tokens that a derivation spells, and that go on as the leaves are listed.
+pub reached-begins : (sort : Sort) (before rest : List Token) (fs : List Frame) → Reached sort before rest fs → (t : Tree) × (v : List Token) × Spells (before ++ v) t sort × AllSpelt v
+reached-begins sort before rest fs c =
+    let h = begins-at sort (before ++ rest) fs rest c in
+    let e : h.0 ≡ before = append_cancel_right h.0 before rest (sym h.1) in
+    (h.2.0, h.2.1, subst (λ (b : List Token). Spells (b ++ h.2.1) h.2.0 sort) e h.2.2, h.2.3)
 
-pub stuck-begins : (sort : Sort) (before rest : List Token) → IsStuck sort before rest → (t : Tree) × (v : List Token) × Spells (before ++ v) t sort
-stuck-begins sort before rest s = let h = stuck-spelt sort before rest s in (h.0, h.1, h.2)
+pub reached-starts : (sort : Sort) (before rest : List Token) (fs : List Frame) → Reached sort before rest fs → (t : Tree) × (v : List Token) × Spells (before ++ v) t sort
+reached-starts sort before rest fs c = let h = reached-begins sort before rest fs c in (h.0, h.1, h.2)
 
 pub stuck-starts-none : (sort : Sort) (before rest : List Token) → IsStuck sort before rest → Starts sort (map word before ++ take 2 (marks rest)) → ⊥
 stuck-starts-none sort before rest s h =

@@ -196,11 +196,15 @@ pub data Reach (s0 : ℕ) (w : List Token) : List Frame → List Token → Type 
       → Reach s0 w (frame k p g ∷ frame s q f ∷ fs) r → move k p (first r) (second r) ≡ close
       → Reach s0 w (frame s (target s q k + exit k p) (f +++ (node k g ▸ none)) ∷ fs) r
 
--- The machine has read the tokens `before`, and has no move before the next two of `rest`.
+-- The machine has read the tokens `before`, from the start symbol of the sort, and is in these open nodes before the tokens `rest`.
+abbrev pub Reached : Sort → List Token → List Token → List Frame → Type 0
+Reached sort before rest frames = Reach (opening sort (first (before ++ rest))) (before ++ rest) frames rest
+
+-- It is stuck there: it has no move before the next two tokens.
 pub record IsStuck (sort : Sort) (before rest : List Token) : Type 0 where
   pub symbol : ℕ
   pub state : ℕ
   pub children : Forest
   pub above : List Frame
-  pub reached : Reach (opening sort (first (before ++ rest))) (before ++ rest) (frame symbol state children ∷ above) rest
+  pub reached : Reached sort before rest (frame symbol state children ∷ above)
   pub no_move : move symbol state (first rest) (second rest) ≡ stuck

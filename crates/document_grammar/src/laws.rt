@@ -8,7 +8,7 @@ ghost use Rattle.document_grammar.specs.Numbers.{number};
 ghost use Rattle.document_grammar.specs.Tree.{Token, Tree};
 ghost use Rattle.document_grammar.specs.Derivation.{Sort, document, Yield, nest, Spells, FirstSpells, Mark, word, marks, Starts, StartsWithin};
 ghost use Rattle.document_grammar.specs.Places.{bare};
-ghost use Rattle.document_grammar.specs.Machine.{IsStuck};
+ghost use Rattle.document_grammar.specs.Machine.{Frame, Reached, IsStuck};
 ghost use Rattle.document_grammar.specs.Sentence.{token_of, Sentence, FirstSentence, Begins, StartSentence, StartSentenceWithin};
 
 /// No two kinds have one number.
@@ -41,12 +41,13 @@ pub fn ignored_leaves()
     ensures nesting { (t : Tree) → nest (bare t) ≡ nest t }
 {}
 
-/// No late fault: where the machine is stuck, what it has read begins the tokens that a derivation spells; and where these are all the
-/// tokens of a text before a place, the text before begins a sentence.
+/// No late fault: what the machine has read, wherever it comes, begins tokens that a derivation spells; and where these are the tokens of
+/// a text before a place, the text before begins a sentence.
 pub fn no_late_fault()
-    ensures tokens { (sort : Sort) (before rest : List Token) → IsStuck sort before rest → (t : Tree) × (v : List Token) × Spells (before ++ v) t sort }
-    ensures texts { (source : List ℕ) (before : List Item) (item : Item) (more : List Item) (rest : List Token) → IsUtf8 source
-        → Cut source (before ++ item ∷ more) → are_tokens before ≡ true → IsStuck document (map token_of (Significant before)) rest
+    ensures tokens { (sort : Sort) (before rest : List Token) (frames : List Frame) → Reached sort before rest frames
+        → (t : Tree) × (v : List Token) × Spells (before ++ v) t sort }
+    ensures texts { (source : List ℕ) (before : List Item) (item : Item) (more : List Item) (rest : List Token) (frames : List Frame) → IsUtf8 source
+        → Cut source (before ++ item ∷ more) → are_tokens before ≡ true → Reached document (map token_of (Significant before)) rest frames
         → Begins (texts before) }
 {}
 
