@@ -2,9 +2,9 @@
 use Rattle.std.proofs.Common.{◌≡◌, ℕ, Bool, true, false, List, [], ◌∷◌, ◌++◌, refl, sym, subst, IsAscii}
 use Rattle.std.specs.Prelude.{filter, not}
 use Rattle.lexical_grammar.specs.Answers.{Answer, is_token}
-use Rattle.apollo_lexer.specs.Diagnostics.{Diagnostic, of_text, of_limit}
+use Rattle.apollo_lexer.specs.Diagnostics.{Diagnostic}
 use Rattle.apollo_lexer.specs.Answers.{error_answer}
-use Rattle.apollo_lexer.specs.Told.{Tells, AreTold}
+use Rattle.apollo_lexer.specs.Told.{told_subject, IsLexMessage, Tells, AreTold}
 use Rattle.apollo_lexer.specs.Messages.{message_of}
 use Rattle.apollo_lexer.proofs.Messages.{message_ascii}
 
@@ -52,13 +52,17 @@ errors_more all ds d limit text index old rest e t h =
     let kept = rw e at h in
     told_more all ds (error_answer limit text index) d (filter (λ a. not (is_token a)) rest) (rw error_no_token at kept) t
 
--- what is made of a limit error, and of bad text
-pub tells_limit : (limit : Bool) (text message : List ℕ) (index : ℕ) (d : Diagnostic) → limit ≡ true → message ≡ message_of limit text
-    → d ≡ record { message = message; subject = of_limit; index = index } → Tells (error_answer limit text index) d
-tells_limit true text message index d is m e = rw e (rw m refl)
-tells_limit false text message index d is m e = absurd (cc)
+-- what is made of an error's answer tells it
+pub told_tells : (limit : Bool) (text : List ℕ) (index : ℕ) (d : Diagnostic) → d.subject ≡ told_subject limit text → d.index ≡ index → IsLexMessage limit text d.message
+    → Tells (error_answer limit text index) d
+told_tells true text index d s i m = λ j. record { message = m j; subject = s j; index = i j }
+told_tells false text index d s i m = (s, i, m)
 
-pub tells_text : (limit : Bool) (text message : List ℕ) (index : ℕ) (d : Diagnostic) → limit ≡ false → message ≡ message_of limit text
-    → d ≡ record { message = message; subject = of_text text; index = index } → Tells (error_answer limit text index) d
-tells_text true text message index d is m e = absurd (cc)
-tells_text false text message index d is m e = rw e (refl, refl, λ h. subst IsAscii (sym m) (message_ascii false text h))
+-- the messages
+pub limit_told : (limit : Bool) (text message : List ℕ) → limit ≡ true → message ≡ message_of limit text → IsLexMessage limit text message
+limit_told true text message is m = m
+limit_told false text message is m = absurd (cc)
+
+pub text_told : (limit : Bool) (text message : List ℕ) → limit ≡ false → message ≡ message_of limit text → IsLexMessage limit text message
+text_told true text message is m = absurd (cc)
+text_told false text message is m = λ h. subst IsAscii (sym m) (message_ascii false text h)

@@ -4,7 +4,7 @@ use Rattle.lexical_grammar.specs.Cut.{Item}
 use Rattle.lexical_grammar.specs.Answers.{Answer, gives, limit_at, limited, is_given}
 use Rattle.apollo_lexer.specs.Reads.{items_from}
 use Rattle.apollo_lexer.specs.declared.token.Token.{Token}
-use Rattle.apollo_lexer.specs.declared.token.LexError.{LexError}
+use Rattle.apollo_lexer.specs.declared.lex_error.LexError.{LexError}
 use Rattle.apollo_lexer.specs.declared.lexer.Lexer.{Lexer}
 
 abbrev pub error_answer : Bool → List ℕ → ℕ → Answer

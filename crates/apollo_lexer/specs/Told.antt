@@ -1,10 +1,20 @@
 -- The errors that are made of a lexer's answers.
-use Rattle.std.specs.Prelude.{◌≡◌, ℕ, List, [], ◌∷◌, ⊤, IsAscii, codes}
+use Rattle.std.specs.Prelude.{◌≡◌, ℕ, Bool, true, false, List, [], ◌∷◌, ⊤, IsAscii, codes}
 use Rattle.lexical_grammar.specs.Answers.{Answer, gives, limit_at}
-use Rattle.apollo_lexer.specs.Diagnostics.{Diagnostic, of_text, of_limit}
+use Rattle.apollo_lexer.specs.Diagnostics.{Subject, of_text, of_limit, Diagnostic}
 
 abbrev pub limit_message : List ℕ
 limit_message = codes "token limit reached, aborting lexing"
+
+-- what the error of a lexer is about: its text, or that the limit is met
+abbrev pub told_subject : Bool → List ℕ → Subject
+told_subject true text = of_limit
+told_subject false text = of_text text
+
+-- its message: that of the limit, or one that is ASCII where the text is
+abbrev pub IsLexMessage : Bool → List ℕ → List ℕ → Type 0
+IsLexMessage true text message = message ≡ limit_message
+IsLexMessage false text message = IsAscii text → IsAscii message
 
 -- the error keeps the answer's text and index, or that the limit is met; its message is ASCII where the text is
 abbrev pub Tells : Answer → Diagnostic → Type 0

@@ -2,10 +2,11 @@
 ghost use Rattle.std.specs.Prelude.{◌≡◌, ◌+◌, ◌-◌, ◌≤◌, ◌<◌, ◌^◌, ◌==◌, if◌then◌else◌, cond, length, true, false};
 
 use crate::error::Error;
+use crate::lex_error::LexError;
 use crate::limit::LimitTracker;
 use crate::scan::cut;
 use crate::steps::Steps;
-use crate::token::{LexError, Token};
+use crate::token::Token;
 use lexical_grammar::TokenKind;
 use std::alloc::{AllocError, Allocator};
 

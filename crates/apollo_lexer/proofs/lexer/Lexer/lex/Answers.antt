@@ -2,17 +2,18 @@ use Rattle.std.proofs.Common.{refl}
 use Rattle.std.specs.Prelude.{filter, not}
 use Rattle.lexical_grammar.specs.Answers.{is_token}
 use Rattle.apollo_lexer.specs.Answers.{answers_left}
-use Rattle.apollo_lexer.proofs.Lexing.{tokens_kept, errors_more, told_all}
+use Rattle.apollo_lexer.proofs.Lexing.{tokens_kept, errors_more, told_tells, told_all}
 use Rattle.apollo_lexer.proofs.lexer.Lexer.lex.Goals as goal
 
 -- an error is pushed
 pub loop-item-preserved : goal.loop-item-preserved
 loop-item-preserved g c =
     let e = c.in-Err.error in
+    let told = c.in_ok-to_error-in-Err.ensures in
     let comes = rw c.in-Err.is at c.in-Some.ensures.steps in
     record {
       tokens_so_far = tokens_kept _ e.is_limit e.text.now e.index _ _ _ comes c.loop-item.invariant.tokens_so_far;
-      errors_so_far = rw c.in_ok-push-in-Err.ensures.items (errors_more _ _ c.in_ok-to_error-in-Err.field-0 e.is_limit e.text.now e.index _ _ comes c.in_ok-to_error-in-Err.ensures c.loop-item.invariant.errors_so_far);
+      errors_so_far = rw c.in_ok-push-in-Err.ensures.items (errors_more _ _ c.in_ok-to_error-in-Err.field-0 e.is_limit e.text.now e.index _ _ comes (told_tells e.is_limit e.text.now e.index _ told.subject told.index told.message) c.loop-item.invariant.errors_so_far);
     }
 
 -- nothing is left

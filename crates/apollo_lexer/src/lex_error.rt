@@ -1,0 +1,67 @@
+// The errors that a lexer gives.
+ghost use Rattle.std.specs.Prelude.{◌≡◌, ◌+◌, ◌<◌, ◌^◌, length, IsTrue, [], IfOk, string_bytes};
+ghost use Rattle.apollo_lexer.specs.Messages.{message_of};
+ghost use Rattle.apollo_lexer.specs.Told.{told_subject, IsLexMessage};
+
+use crate::error::Error;
+use std::alloc::{AllocError, Allocator};
+
+/// Bad text of a source, which it borrows, or that the token limit is met.
+#[derive(Clone, Copy, Debug, PartialEq, Eq)]
+pub struct LexError<'a> {
+    pub(crate) text: &'a str,
+    pub(crate) index: usize,
+    pub(crate) is_limit: bool,
+    // where it ends is a place
+    ghost in_range: { index + length text.now < 2 ^ 64 },
+    ghost no_text: { IsTrue is_limit → text.now ≡ [] },
+}
+
+impl<'a> LexError<'a> {
+    /// The bad text, which is empty for a limit error.
+    pub fn data(&self) -> &'a str
+        ensures text { result.now ≡ self.now.text.now }
+        ensures none { IsTrue self.now.is_limit → result.now ≡ [] }
+    {
+        self.text
+    }
+
+    /// The byte of the source where it begins.
+    pub fn index(&self) -> usize
+        ensures { result ≡ self.now.index }
+    {
+        self.index
+    }
+
+    /// Whether the token limit was met.
+    pub fn is_limit(&self) -> bool
+        ensures { result ≡ self.now.is_limit }
+    {
+        self.is_limit
+    }
+
+    fn message<A: Allocator>(&self, alloc: A) -> Result<String<A>, AllocError>
+        ensures { IfOk result (λ m. string_bytes m ≡ message_of self.now.is_limit self.now.text.now) }
+    {
+        let text = self.text;
+        if self.is_limit {
+            String::from_str(alloc, "token limit reached, aborting lexing")
+        } else {
+            format!(in alloc; "Unexpected character \"{text}\"")
+        }
+    }
+
+    /// The error, with a message, and with texts of its own.
+    pub fn to_error<A: Allocator + Copy>(&self, alloc: A) -> Result<Error<A>, AllocError>
+        ensures subject { IfOk result (λ e. e.subject ≡ told_subject self.now.is_limit self.now.text.now) }
+        ensures index { IfOk result (λ e. e.index ≡ self.now.index) }
+        ensures message { IfOk result (λ e. IsLexMessage self.now.is_limit self.now.text.now e.message) }
+    {
+        let message = self.message(alloc)?;
+        if self.is_limit {
+            return Ok(Error::limit(message, self.index));
+        }
+        let text = String::from_str(alloc, self.text)?;
+        Ok(Error::with_loc(message, text, self.index))
+    }
+}
