@@ -1,9 +1,10 @@
 -- Trees that grow by one tree at the end, without their ignored leaves: what they spell and how deep they nest; and the same of built trees.
-use Rattle.std.proofs.Common.{◌≡◌, ℕ, ◌+◌, ◌<◌, max, Bool, true, false, cond, ltb, zero, suc, List, [], ◌∷◌, ◌++◌, append_assoc, refl, sym, ap, ap₂, ◌∙◌, subst, inl, inr, true≢false, ltb-true, arith}
+use Rattle.std.proofs.Common.{◌≡◌, ℕ, ◌+◌, ◌-◌, ◌<◌, max, Bool, true, false, cond, ltb, zero, suc, List, [], ◌∷◌, ◌++◌, append_assoc, refl, sym, ap, ap₂, ◌∙◌, subst, inl, inr, true≢false, ltb-true, arith}
 use Rattle.document_grammar.specs.declared.kind.SyntaxKind.{SyntaxKind}
 use Rattle.document_grammar.specs.Kinds.{ERROR, DOCUMENT, LIST_VALUE, OBJECT_FIELD}
 use Rattle.document_grammar.specs.Numbers.{number}
 use Rattle.document_grammar.specs.Forests as built
+use Rattle.document_grammar.specs.Builds.{front, back}
 use Rattle.document_grammar.specs.Numbered.{numbered}
 use Rattle.document_grammar.specs.Tree.{Text, Token, Tree, leaf, node, Forest, none, ◌▸◌, ◌+++◌, root}
 use Rattle.document_grammar.specs.Pattern.{member}
@@ -133,3 +134,27 @@ bares-built_leaf f k x h = ap (λ (g : Forest). bares g) (numbered-join f (built
 
 pub bares-built_node : (f : built.Forest) (k : SyntaxKind) (kids : built.Forest) → bares (numbered (built.join f (built.node k kids built.none))) ≡ bares (numbered f) +++ (node (number k) (bares (numbered kids)) ▸ none)
 bares-built_node f k kids = ap (λ (g : Forest). bares g) (numbered-join f (built.node k kids built.none)) ∙ bares-node (numbered f) (number k) (numbered kids)
+
+-- A node that opens at an earlier place takes the trees from there on.
+less_first : (a b : ℕ) → (a + b) - a ≡ b
+less_first a b = omega arith
+
+pub join-front_back : (n : ℕ) (f : built.Forest) → built.join (front n f) (back n f) ≡ f
+join-front_back zero f = refl
+join-front_back (suc n) built.none = refl
+join-front_back (suc n) (built.leaf k s rest) = ap (built.leaf k s) (join-front_back n rest)
+join-front_back (suc n) (built.node k kids rest) = ap (built.node k kids) (join-front_back (n - built.count kids) rest)
+
+pub front-join : (f g : built.Forest) → front (built.count f) (built.join f g) ≡ f
+front-join built.none g = refl
+front-join (built.leaf k s rest) g = ap (built.leaf k s) (front-join rest g)
+front-join (built.node k kids rest) g =
+    ap (λ (n : ℕ). built.node k kids (front n (built.join rest g))) (less_first (built.count kids) (built.count rest)) ∙ ap (built.node k kids) (front-join rest g)
+
+pub back-join : (f g : built.Forest) → back (built.count f) (built.join f g) ≡ g
+back-join built.none g = refl
+back-join (built.leaf k s rest) g = back-join rest g
+back-join (built.node k kids rest) g = ap (λ (n : ℕ). back n (built.join rest g)) (less_first (built.count kids) (built.count rest)) ∙ back-join rest g
+
+pub bares-front_back : (n : ℕ) (f : built.Forest) → bares (numbered f) ≡ bares (numbered (front n f)) +++ bares (numbered (back n f))
+bares-front_back n f = ap (λ (g : built.Forest). bares (numbered g)) (sym (join-front_back n f)) ∙ bares-numbered-join (front n f) (back n f)
