@@ -39,11 +39,13 @@ impl<A: Allocator> Model for Subtree<A> {
 
 impl<A: Allocator> Subtree<A> {
     ghost use Rattle.apollo_tree.specs.References.{node_place};
-    ghost use Rattle.apollo_tree.specs.Order.{order};
+    ghost use Rattle.document_grammar.specs.Forests.{text};
+    ghost use Rattle.apollo_tree.specs.Order.{order, text_at};
 
-    /// The root, which is the first element in document order.
+    /// The root, which is the first element in document order. Its text is that of the whole tree.
     pub fn root(&self) -> SyntaxNode<'_>
-        ensures { node_place result ≡ record { whole = self.now; index = 0 } }
+        ensures place { node_place result ≡ record { whole = self.now; index = 0 } }
+        ensures text { text_at (node_place result) ≡ text self.now }
     {
         let table = Table {
             records: self.records.as_slice(),

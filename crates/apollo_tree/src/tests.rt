@@ -1,0 +1,120 @@
+ghost use Rattle.std.specs.Prelude.{◌≡◌, ◌↔◌, IsTrue};
+ghost use Rattle.std.specs.Ordering.{nat_cmp};
+ghost use Rattle.std.specs.Cmp.Lexicographic.{slice_cmp};
+ghost use Rattle.apollo_tree.specs.References.{token_text};
+
+use crate::{Subtree, SyntaxElement, SyntaxKind, SyntaxNodePtr, TokenText, TreeBuilder};
+use std::alloc::{AllocError, Global};
+use std::cmp::Ordering;
+use std::test::Fail;
+
+// The tree of `{a}`, with one wrap.
+fn selection(alloc: Global) -> Result<Subtree<Global>, AllocError> {
+    let mut builder = TreeBuilder::new(alloc);
+    builder.start_node(SyntaxKind::DOCUMENT)?;
+    builder.start_node(SyntaxKind::SELECTION_SET)?;
+    builder.token(SyntaxKind::L_CURLY, "{")?;
+    let field = builder.checkpoint();
+    builder.start_node(SyntaxKind::NAME)?;
+    builder.token(SyntaxKind::IDENT, "a")?;
+    builder.finish_node();
+    builder.wrap(field, SyntaxKind::FIELD)?;
+    builder.finish_node();
+    builder.token(SyntaxKind::R_CURLY, "}")?;
+    builder.finish_node();
+    builder.finish_node();
+    Ok(builder.finish())
+}
+
+#[test]
+fn a_tree_is_printed(rt: HostRuntime) -> Result<(), Fail> {
+    let alloc = rt.alloc();
+    let tree = selection(alloc)?;
+    let printed = format!(in alloc; "{tree:?}")?;
+    assert_eq!(rt;
+        printed.as_str(),
+        "- DOCUMENT@0..3\n    - SELECTION_SET@0..3\n        - L_CURLY@0..1 \"{\"\n        - FIELD@1..2\n            - NAME@1..2\n                - IDENT@1..2 \"a\"\n        - R_CURLY@2..3 \"}\"\n"
+    );
+    let copy = tree.try_clone(alloc)?;
+    let copied = format!(in alloc; "{copy:?}")?;
+    assert_eq!(rt; copied.as_str(), printed.as_str());
+    assert_eq!(rt; copy.element_count(), 7);
+    Ok(())
+}
+
+#[test]
+fn a_node_knows_its_place(rt: HostRuntime) -> Result<(), Fail> {
+    let alloc = rt.alloc();
+    let tree = selection(alloc)?;
+    let root = tree.root();
+    let set = root.children().next().ok_or("a child node")?;
+    let field = set.children().next().ok_or("a child node")?;
+    assert!(rt; field.kind().is(SyntaxKind::FIELD));
+    assert_eq!(rt;
+        (
+            field.text_range().start(),
+            field.text_range().end(),
+            field.text_range().len()
+        ),
+        (1, 2, 1)
+    );
+    assert_eq!(rt; field.text(), "a");
+    assert_eq!(rt; set.source_string(alloc)?.as_str(), "{a}");
+    let leaf = field.first_token().ok_or("a leaf")?;
+    assert!(rt; leaf.kind().is(SyntaxKind::IDENT));
+    assert_eq!(rt; (leaf.text(), leaf.text_range().start()), ("a", 1));
+    let name = leaf.parent().ok_or("a parent")?;
+    assert!(rt; name.kind().is(SyntaxKind::NAME));
+    assert!(rt; root.parent().is_none());
+    let found = SyntaxNodePtr::new(&name).to_node(&root).ok_or("the node")?;
+    assert_eq!(rt; found.index, name.index);
+    let own = format!(in alloc; "{:?}", field.clone_subtree(alloc)?)?;
+    assert_eq!(rt;
+        own.as_str(),
+        "- FIELD@0..1\n    - NAME@0..1\n        - IDENT@0..1 \"a\"\n"
+    );
+    Ok(())
+}
+
+#[test]
+fn children_come_in_order(rt: HostRuntime) -> Result<(), Fail> {
+    let tree = selection(rt.alloc())?;
+    let set = tree.root().children().next().ok_or("a child node")?;
+    let mut children = set.children_with_tokens();
+    let first = children.next().ok_or("a child")?;
+    assert!(rt; first.kind().is(SyntaxKind::L_CURLY));
+    assert_eq!(rt; first.text_range().end(), 1);
+    assert!(rt; first.into_node().is_none());
+    assert!(rt; first.into_token().is_some());
+    let second = children.next().ok_or("a child")?;
+    assert!(rt; second.into_node().is_some());
+    assert!(rt; matches!(children.next(), Some(SyntaxElement::Token(_))));
+    assert!(rt; children.next().is_none());
+    Ok(())
+}
+
+// What a caller knows of `==` and of the order.
+fn are_equal(left: TokenText<'_>, right: TokenText<'_>) -> bool
+    ensures { IsTrue result ↔ (token_text left.entry ≡ token_text right.entry) }
+{
+    left == right
+}
+
+fn order_of(left: TokenText<'_>, right: TokenText<'_>) -> Ordering
+    ensures { result ≡ slice_cmp nat_cmp (token_text left.entry) (token_text right.entry) }
+{
+    left.cmp(&right)
+}
+
+#[test]
+fn token_texts_are_like_their_texts(rt: HostRuntime) -> Result<(), Fail> {
+    let alloc = rt.alloc();
+    let text = TokenText::new("a\"b");
+    assert_eq!(rt; text.as_str(), "a\"b");
+    assert_eq!(rt; text.to_string_in(alloc)?.as_str(), "a\"b");
+    let shown = format!(in alloc; "{text} {text:?}")?;
+    assert_eq!(rt; shown.as_str(), "a\"b \"a\\\"b\"");
+    assert!(rt; are_equal(text, TokenText::new("a\"b")));
+    assert!(rt; order_of(TokenText::new("a"), text) == Ordering::Less);
+    Ok(())
+}
