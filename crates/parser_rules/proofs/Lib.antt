@@ -6,3 +6,7 @@ pub mod Checked
 pub mod Link
 pub mod Sound
 pub mod Endings
+pub mod Steps
+pub mod Kept
+pub mod Takes
+pub mod Then

@@ -1,2 +1,4 @@
 pub mod State
 pub mod Rule
+pub mod Open
+pub mod Leaves

@@ -1,0 +1,69 @@
+-- A relation between states that holds along each step holds along each run.
+use Rattle.std.proofs.Common.{◌≡◌, ℕ, refl, sym, subst, true, false, Bool, if◌then◌else◌, Option, Some, None, List, [], ◌∷◌, ◌++◌}
+use Rattle.document_grammar.specs.declared.kind.SyntaxKind.{SyntaxKind}
+use Rattle.document_grammar.specs.Builds.{start, add_leaf, finish}
+use Rattle.parser_rules.specs.State.{State, Lexeme, Report, Found, read_on, flush, opened, closed, moved, bump, fault, found_at, noted, note, is_deep, enter, leave, deepened, limited_at, too_deep, at_limit}
+use Rattle.parser_rules.specs.Rule.{Test, Prim, Bump, Note, step, Node, kind_of, Part, Rule, Runs, skip, does, seq, yes, no, done, again, child, deeper, refused, call, Turns, begin, turn}
+
+pub record Holds_along (R : State → State → Type 0) : Type 0 where
+  pub same : (s : State) → R s s
+  pub next : (s t u : State) → R s t → R t u → R s u
+  -- what waits goes into the tree
+  pub flushes : (s : State) → R s (flush s)
+  -- the current token goes into the tree behind what waited, and the next one is read
+  pub moves : (leaf : SyntaxKind) (x : Lexeme) (s : State) → s.current ≡ Some x → s.waiting ≡ [] → R s (read_on s.items (record s { tree = add_leaf leaf x.text s.tree }))
+  pub reports : (e : Report) (s : State) → R s (record s { errors = s.errors ++ e ∷ [] })
+  pub drops : (s : State) → R s (record s { accepts = false })
+  pub asks : (s : State) → true ≡ is_deep s → R s (deepened s)
+  pub nodes : (k : SyntaxKind) (s u : State) → R (record s { tree = start k s.tree }) u → R s (closed u)
+  pub levels : (s u : State) → false ≡ is_deep s → R (enter s) u → R s (leave u)
+
+module _ {R : State → State → Type 0} (r : Holds_along R) where
+  moved_along : (leaf : SyntaxKind) (s : State) (o : Option Lexeme) → s.current ≡ o → R s (moved leaf s o)
+  unfolding flush
+  moved_along leaf s None e = r.same s
+  moved_along leaf s (Some x) e = r.next s (flush s) (moved leaf s (Some x)) (r.flushes s) (r.moves leaf x (flush s) e refl)
+
+  fault_along : (found : Found) (index : ℕ) (s : State) → R s (fault found index s)
+  fault_along found index s = elim s.accepts as (λ b. R s (if b then record s { errors = s.errors ++ record { found = found; index = index } ∷ [] } else s)) [
+    | true ↦ r.reports (record { found = found; index = index }) s
+    | false ↦ r.same s
+  ]
+
+  noted_along : (s : State) (o : Option Lexeme) → R s (noted s o)
+  noted_along s None = r.same s
+  noted_along s (Some x) = fault_along (found_at x) x.index s
+
+  limited_along : (s : State) (o : Option Lexeme) → R s (limited_at s o)
+  limited_along s None = r.same s
+  limited_along s (Some x) = r.next s (fault at_limit x.index s) (limited_at s (Some x)) (fault_along at_limit x.index s) (r.drops (fault at_limit x.index s))
+
+  step_along : (a : Prim) (s : State) → R s (step a s)
+  unfolding step bump note
+  step_along (Bump leaf) s = moved_along leaf s s.current refl
+  step_along (Note m) s = noted_along s s.current
+
+  too_deep_along : (s : State) → true ≡ is_deep s → R s (too_deep s)
+  unfolding too_deep
+  too_deep_along s e = r.next s (deepened s) (too_deep s) (r.asks s e) (limited_along (deepened s) s.current)
+
+  node_along : (k : SyntaxKind) (s u : State) → R (opened k s) u → R s (closed u)
+  unfolding opened
+  node_along k s u h = r.next s (flush s) (closed u) (r.flushes s) (r.nodes k (flush s) u h)
+
+  pub along : {a : Rule} {s t : State} → Runs a s t → R s t
+  along {s = s} skip = r.same s
+  along {s = s} (does {a = a} e) = subst (R s) (sym e) (step_along a s)
+  along {s = s} (seq {t = t} {u = u} h k) = r.next s t u (along h) (along k)
+  along (yes q h) = along h
+  along (no q h) = along h
+  along {s = s} (done q) = r.same s
+  along {s = s} (again {t = t} {u = u} q h k) = r.next s t u (along h) (along k)
+  along {s = s} (child {n = n} {t = t} {u = u} e k h) = subst (R s) (sym k) (node_along (kind_of n) s u (subst (λ w. R w u) e (along h)))
+  along {s = s} (deeper {t = t} {u = u} {v = v} {w = w} q e k h i) = r.next s v w (subst (R s) (sym k) (r.levels s u q (subst (λ x. R x u) e (along h)))) (along i)
+  along {s = s} (refused q e) = subst (R s) (sym e) (too_deep_along s q)
+  along (call h) = along h
+
+  pub turns_along : {q : Test} {a : Rule} {s t : State} → Turns q a s t → R s t
+  turns_along {s = s} begin = r.same s
+  turns_along {s = s} {t = u} (turn {t = t} h q k) = r.next s t u (turns_along h) (along k)
