@@ -5,10 +5,10 @@ use Rattle.lexical_grammar.specs.declared.TokenKind.{TokenKind}
 use Rattle.lexical_grammar.specs.Cut.{Item}
 use Rattle.lexical_grammar.specs.Answers.{Answer, gives, limit_at}
 use Rattle.document_grammar.specs.declared.kind.SyntaxKind.{SyntaxKind}
-use Rattle.document_grammar.specs.Builds.{Building, Open, start, add_leaf, finish}
-use Rattle.parser_rules.specs.State.{State, Lexeme, Part, Report, ignored, bad, met, wait, lexeme, read_on, add_all, flush, opened, closed, is_at, is_deep, enter, leave, deepened}
-use Rattle.parser_rules.specs.Open.{is_free, is_free_in, IsOpen, IsInside}
-use Rattle.parser_rules.specs.Rule.{Test, At, holds, Rule, While, Runs, done, again, Turns, begin, turn}
+use Rattle.document_grammar.specs.Builds.{Building, Open, nothing, start, add_leaf, finish}
+use Rattle.parser_rules.specs.State.{State, Lexeme, Part, Report, ignored, bad, met, wait, lexeme, read_on, add_all, flush, opened, closed, is_at, is_deep, enter, leave, deepened, too_deep, fresh, begun}
+use Rattle.parser_rules.specs.Open.{is_free, is_free_in, IsOpen, IsInside, IsRoot}
+use Rattle.parser_rules.specs.Rule.{Test, At, holds, Rule, Skip, While, Runs, done, again, refused, Turns, begin, turn}
 use Rattle.parser_rules.proofs.Steps.{Holds_along, along, turns_along}
 
 -- ---- reading on
@@ -131,7 +131,7 @@ nodes : (k : SyntaxKind) (s u : State) → Keeps (record s { tree = start k s.tr
 unfolding closed left tail
 nodes k s u h = record { above = finish_tail u.tree ∙ ap tail h.above; fewer = h.fewer; depth = h.depth; limit = h.limit; higher = h.higher; bound = h.bound }
 
-not_deep : (s : State) → false ≡ is_deep s → s.depth < s.limit
+pub not_deep : (s : State) → false ≡ is_deep s → s.depth < s.limit
 unfolding is_deep
 not_deep s e = leb-false s.limit s.depth (sym e)
 
@@ -196,6 +196,9 @@ pub open_outside : (s : State) {t : State} → t ≡ leave s → IsOpen s.tree �
 unfolding IsOpen leave
 open_outside s e o = subst (λ w. is_free_in w.tree.above ≡ true) (sym e) o
 
+pub open_too_deep : (s : State) {t : State} → true ≡ is_deep s → t ≡ too_deep s → IsOpen s.tree → IsOpen t.tree
+open_too_deep s q e o = still_open (refused {a = Skip} {b = Skip} q e) o
+
 pub is_inside : (s : State) {t : State} → t ≡ enter s → IsInside t
 unfolding enter IsInside
 is_inside s e = subst (λ w. 0 < w.depth) (sym e) (omega arith)
@@ -218,3 +221,22 @@ onto (turn h q r) k = onto h (again q r k)
 -- a loop that ends ran
 pub ended : {q : Test} {a : Rule} {s t : State} → Turns q a s t → false ≡ holds q t → Runs (While q a) s t
 ended h q = onto h (done q)
+
+-- ---- the root
+
+root_open : (items : List Answer) (limit : ℕ) (k : SyntaxKind) → (begun items limit k).tree ≡ start k nothing
+root_open items limit k = (read_untouched items (fresh items limit k)).tree
+
+pub root_kept : {r : Rule} {t : State} (items : List Answer) (limit : ℕ) (k : SyntaxKind) → is_free k ≡ true → Runs r (begun items limit k) t → IsRoot t.tree
+root_kept items limit k free h = (k, free, (keeps h).above ∙ ap (λ b. b.above) (root_open items limit k))
+
+-- the nesting is taken back, the limit is the one that was set, and at most one level more than it was asked for
+pub begun_nesting : {r : Rule} {t : State} (items : List Answer) (limit : ℕ) (k : SyntaxKind) → Runs r (begun items limit k) t → (t.depth ≡ 0) × (t.limit ≡ limit) × (t.high ≤ limit + 1)
+begun_nesting items limit k h =
+    let b = read_untouched items (fresh items limit k) in
+    let n = keeps h in
+    let d = b.depth in
+    let l = b.limit in
+    let g = b.high in
+    let bound = n.bound (omega (arith, d, l)) (omega (arith, g, l)) in
+    (n.depth ∙ d, n.limit ∙ l, omega (arith, bound, l))

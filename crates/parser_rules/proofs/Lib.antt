@@ -10,3 +10,6 @@ pub mod Steps
 pub mod Kept
 pub mod Takes
 pub mod Then
+pub mod Parts
+pub mod Ends
+pub mod OneLeaf

@@ -4,7 +4,7 @@ use Rattle.lexical_grammar.specs.declared.TokenKind.{TokenKind}
 use Rattle.document_grammar.specs.declared.kind.SyntaxKind.{SyntaxKind}
 use Rattle.document_grammar.specs.Machine.{◌and◌, ◌or◌}
 use Rattle.document_grammar.proofs.Basics.{and-l, and-r, either}
-use Rattle.parser_rules.specs.State.{State, Lexeme, Found, flush, opened, closed, moved, bump, fault, found_at, noted, note, is_at, is_over, is_deep}
+use Rattle.parser_rules.specs.State.{State, Lexeme, Found, flush, opened, closed, moved, bump, fault, found_at, noted, note, is_at, is_over, enter}
 use Rattle.parser_rules.specs.Rule.{Test, At, Ready, holds, Prim, Bump, Note, step, Node, ShortQuery, SelectionSet, Field, Name, kind_of, inside, Part, Selections, Definition, Document, body, Rule, Skip, Do, Seq, When, While, Child, Nested, Call, Runs, skip, does, seq, yes, no, done, again, child, deeper, refused, call}
 use Rattle.parser_rules.specs.declared.message.Message.{Message}
 use Rattle.parser_rules.proofs.Kept.{left, moved_left, fewer}
@@ -66,7 +66,7 @@ closed_left s e = ap left e
 
 -- ---- a report changes nothing that is read
 
-abbrev Unread : State → State → Type 0
+abbrev pub Unread : State → State → Type 0
 Unread s t = (t.current ≡ s.current) × (left t ≡ left s)
 
 fault_unread : (found : Found) (index : ℕ) (s : State) → Unread s (fault found index s)
@@ -81,7 +81,7 @@ note_unread : (m : Message) (s : State) {t : State} → t ≡ step (Note m) s �
 unfolding step note left
 note_unread m s e = subst (λ w. Unread s w) (sym e) (noted_unread s.current s)
 
-stayed : {a : Rule} {s t : State} → Runs a s t → stays a ≡ true → Unread s t
+pub stayed : {a : Rule} {s t : State} → Runs a s t → stays a ≡ true → Unread s t
 stayed skip e = (refl, refl)
 stayed {s = s} (does {a = Note m} h) e = note_unread m s h
 stayed (does {a = Bump leaf} h) e = absurd (true≢false (sym e))
@@ -142,3 +142,15 @@ taken (refused q k) h e = absurd (true≢false (sym e))
 taken (call {p = Definition} k) h e = taken k h definition_takes
 taken (call {p = Selections} k) h e = absurd (true≢false (sym e))
 taken (call {p = Document} k) h e = absurd (true≢false (sym e))
+
+-- ---- what the code's measures ask
+
+pub opened_takes : (k : SyntaxKind) (s : State) {t u : State} {a : Rule} → t ≡ opened k s → Runs a t u → IsThere s → takes a ≡ true → left u < left s
+opened_takes k s o r h e =
+    let f = taken r (opened_there k s o h) e in
+    let l = opened_left k s o in
+    omega (arith, f, l)
+
+pub entered_left : (s : State) {t : State} → t ≡ enter s → left t ≡ left s
+unfolding enter left
+entered_left s e = ap left e

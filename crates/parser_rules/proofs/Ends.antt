@@ -1,0 +1,63 @@
+-- Nothing comes behind the end, and the text of the end is empty.
+use Rattle.std.proofs.Common.{◌≡◌, ℕ, Option, Some, None, List, [], ◌∷◌, ◌++◌, refl, sym, ◌∙◌, ap, subst, true, false, Bool}
+use Rattle.lexical_grammar.specs.declared.TokenKind.{TokenKind}
+use Rattle.lexical_grammar.specs.declared.TokenKind.TheVariants as token
+use Rattle.lexical_grammar.specs.Cut.{Item}
+use Rattle.lexical_grammar.specs.Answers.{Answer, gives, limit_at, is_end, IsTokenText, IsItemText, IsLast, AreAnswers}
+use Rattle.document_grammar.specs.declared.kind.SyntaxKind.{SyntaxKind}
+use Rattle.document_grammar.specs.Builds.{start, add_leaf}
+use Rattle.parser_rules.specs.State.{State, Lexeme, Report, ignored, bad, met, wait, lexeme, read_on, flush, closed, enter, leave, deepened}
+use Rattle.parser_rules.specs.Rule.{Rule, Runs}
+use Rattle.parser_rules.proofs.Steps.{Holds_along, along}
+
+unfoldable pub EndNow : Option Lexeme → List Answer → Type 0
+EndNow None items = items ≡ []
+EndNow (Some x) items = is_end x.kind ≡ true → items ≡ []
+
+pub record Ends (s : State) : Type 0 where
+  pub answers : AreAnswers s.items
+  pub now : EndNow s.current s.items
+
+on_kind : List Answer → State → Item → TokenKind → Option SyntaxKind → State
+on_kind rest s item k found = elim found [
+  | Some leaf ↦ read_on rest (wait leaf item.text (record s { items = rest }))
+  | None ↦ record s { items = rest; current = Some (lexeme k item) }
+]
+
+on_item : List Answer → State → Item → Option TokenKind → State
+on_item rest s item found = elim found [ None ↦ read_on rest (bad item.text item.index (record s { items = rest })) | Some k ↦ on_kind rest s item k (ignored k) ]
+
+pub read_ends : (xs : List Answer) (s : State) → s.items ≡ xs → AreAnswers xs → Ends (read_on xs s)
+unfolding read_on on_kind on_item EndNow
+read_ends [] s e h = record { answers = subst AreAnswers (sym e) tt; now = e }
+read_ends (limit_at index ∷ rest) s e h = read_ends rest (met index (record s { items = rest })) refl (subst AreAnswers (sym h) tt)
+read_ends (gives item ∷ rest) s e h = (elim item.kind as (λ found. IsLast found rest → Ends (on_item rest s item found)) [
+  | None ↦ λ l. read_ends rest (bad item.text item.index (record s { items = rest })) refl h.2
+  | Some k ↦ λ l. elim (ignored k) as (λ found. Ends (on_kind rest s item k found)) [
+    | Some leaf ↦ read_ends rest (wait leaf item.text (record s { items = rest })) refl h.2
+    | None ↦ record { answers = h.2; now = l }
+  ]
+]) h.1
+
+abbrev Kept : State → State → Type 0
+Kept s t = Ends s → Ends t
+
+same_reading : (s t : State) → t.items ≡ s.items → t.current ≡ s.current → Kept s t
+same_reading s t i c h = record { answers = subst AreAnswers (sym i) h.answers; now = subst (λ o. EndNow o t.items) (sym c) (subst (EndNow s.current) (sym i) h.now) }
+
+kept_along : Holds_along Kept
+unfolding flush closed enter leave
+kept_along = record {
+  same = λ s h. h;
+  next = λ s t u h k e. k (h e);
+  flushes = λ s. same_reading s (flush s) refl refl;
+  moves = λ leaf x s e w h. read_ends s.items (record s { tree = add_leaf leaf x.text s.tree }) refl h.answers;
+  reports = λ e s. same_reading s (record s { errors = s.errors ++ e ∷ [] }) refl refl;
+  drops = λ s. same_reading s (record s { accepts = false }) refl refl;
+  asks = λ s e. same_reading s (deepened s) refl refl;
+  nodes = λ k s u h e. same_reading u (closed u) refl refl (h (same_reading s (record s { tree = start k s.tree }) refl refl e));
+  levels = λ s u q h e. same_reading u (leave u) refl refl (h (same_reading s (enter s) refl refl e));
+}
+
+pub ends : {r : Rule} {s t : State} → Runs r s t → Ends s → Ends t
+ends h = along kept_along h

@@ -1,0 +1,28 @@
+-- A run, taken apart by its rule.
+use Rattle.std.proofs.Common.{◌≡◌, true, false, refl, subst, ◌⊎◌, inl, inr}
+use Rattle.parser_rules.specs.State.{State, opened, closed, is_deep, enter, leave, too_deep}
+use Rattle.parser_rules.specs.Rule.{Test, holds, step, kind_of, inside, body, Rule, Skip, Do, Seq, When, While, Child, Nested, Call, Runs, skip, does, seq, yes, no, done, again, child, deeper, refused, call}
+
+unfoldable pub Parts : Rule → State → State → Type 0
+Parts Skip s t = t ≡ s
+Parts (Do a) s t = t ≡ step a s
+Parts (Seq a b) s t = (u : State) × Runs a s u × Runs b u t
+Parts (When q a b) s t = ((true ≡ holds q s) × Runs a s t) ⊎ ((false ≡ holds q s) × Runs b s t)
+Parts (While q a) s t = false ≡ holds q t
+Parts (Child n) s v = (t u : State) × (t ≡ opened (kind_of n) s) × Runs (inside n) t u × (v ≡ closed u)
+Parts (Nested a b) s w = ((u : State) × (false ≡ is_deep s) × Runs a (enter s) u × Runs b (leave u) w) ⊎ ((true ≡ is_deep s) × (w ≡ too_deep s))
+Parts (Call p) s t = Runs (body p) s t
+
+pub parts : {r : Rule} {s t : State} → Runs r s t → Parts r s t
+unfolding Parts
+parts skip = refl
+parts (does e) = e
+parts (seq {t = t} h k) = (t, h, k)
+parts (yes q h) = inl (q, h)
+parts (no q h) = inr (q, h)
+parts (done q) = q
+parts (again q h k) = parts k
+parts (child {t = t} {u = u} e k h) = (t, u, e, h, k)
+parts (deeper {a = a} {b = b} {u = u} {w = w} q e k h i) = inl (u, q, subst (λ x. Runs a x u) e h, subst (λ x. Runs b x w) k i)
+parts (refused q e) = inr (q, e)
+parts (call h) = h
