@@ -1,16 +1,15 @@
 -- A state without a new report: what is left to read, and that reading on keeps it so or reports.
-use Rattle.std.proofs.Common.{◌≡◌, ℕ, Bool, true, false, ltb, if◌then◌else◌, List, [], ◌∷◌, ◌++◌, Option, Some, None, refl, sym, ap, ap₂, ◌∙◌, subst, ◌⊎◌, inl, inr, append_assoc, append-nil, true≢false}
+use Rattle.std.proofs.Common.{◌≡◌, Bool, true, false, ltb, if◌then◌else◌, List, [], ◌∷◌, ◌++◌, Option, Some, None, refl, sym, ap, ◌∙◌, subst, ◌⊎◌, inl, inr, append_assoc, append-nil}
 use Rattle.std.specs.Prelude.{⊤}
 use Rattle.lexical_grammar.specs.declared.TokenKind.{TokenKind}
 use Rattle.lexical_grammar.specs.declared.TokenKind.TheVariants as token
-use Rattle.lexical_grammar.specs.Cut.{Item, Word, is_significant_kind, significant_word}
+use Rattle.lexical_grammar.specs.Cut.{Item, is_significant_kind}
 use Rattle.lexical_grammar.specs.Answers.{Answer, gives, limit_at, is_token, is_end}
 use Rattle.document_grammar.specs.declared.kind.SyntaxKind.{SyntaxKind}
-use Rattle.document_grammar.specs.declared.kind.SyntaxKind.TheVariants as kind
 use Rattle.document_grammar.specs.Numbers.{number}
 use Rattle.document_grammar.specs.Kinds.{ERROR}
 use Rattle.document_grammar.specs.Tree.{Token}
-use Rattle.document_grammar.specs.Sentence.{token_of, leaf_number}
+use Rattle.document_grammar.specs.Sentence.{token_of}
 use Rattle.document_grammar.proofs.Basics.{either, false-true, and-i, and-l, and-r}
 use Rattle.document_grammar.specs.Machine.{◌and◌}
 use Rattle.parser_rules.specs.State.{State, Text, Lexeme, Part, Report, at_text, at_limit, ignored, wait, bad, met, lexeme, read_on}

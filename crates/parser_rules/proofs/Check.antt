@@ -11,7 +11,6 @@ use Rattle.document_grammar.proofs.Steps.{hits}
 use Rattle.document_grammar.proofs.Patterns.{label}
 use Rattle.document_grammar.proofs.Sound.{any}
 use Rattle.document_grammar.proofs.Depth.{count_in}
-use Rattle.document_grammar.proofs.Show.{show}
 use Rattle.parser_rules.specs.Rule.{Prim, Bump, Note, Test, Node, symbol, kind_of, inside, body, Rule, Skip, Do, Seq, When, While, Child, Nested, Call}
 use Rattle.parser_rules.proofs.Sets.{set_of}
 

@@ -1,9 +1,9 @@
 -- The answers of a limited reader of a cut come to an end.
-use Rattle.std.proofs.Common.{◌≡◌, ℕ, zero, suc, ◌+◌, Bool, true, false, List, [], ◌∷◌, Option, Some, None, length, refl, sym, ap, subst}
+use Rattle.std.proofs.Common.{◌≡◌, ℕ, zero, suc, ◌+◌, Bool, false, List, [], ◌∷◌, Option, Some, None, length, refl, sym, subst}
 use Rattle.lexical_grammar.specs.declared.TokenKind.{TokenKind}
 use Rattle.lexical_grammar.specs.declared.TokenKind.TheVariants as token
-use Rattle.lexical_grammar.specs.Cut.{Item, IsItem, Cut, CutFrom, end_at, texts}
-use Rattle.lexical_grammar.specs.Answers.{Answer, gives, limit_at, limited, is_end}
+use Rattle.lexical_grammar.specs.Cut.{Item, IsItem, CutFrom, texts}
+use Rattle.lexical_grammar.specs.Answers.{gives, limited}
 use Rattle.parser_rules.proofs.Calm.{EndsWell, choose, ends}
 
 limited-none : (k : ℕ) → limited k [] ≡ []

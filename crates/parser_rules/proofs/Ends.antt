@@ -1,12 +1,11 @@
 -- Nothing comes behind the end, and the text of the end is empty.
-use Rattle.std.proofs.Common.{◌≡◌, ℕ, Option, Some, None, List, [], ◌∷◌, ◌++◌, refl, sym, ◌∙◌, ap, subst, true, false, Bool}
+use Rattle.std.proofs.Common.{◌≡◌, Option, Some, None, List, [], ◌∷◌, ◌++◌, refl, sym, subst, true, false}
 use Rattle.lexical_grammar.specs.declared.TokenKind.{TokenKind}
-use Rattle.lexical_grammar.specs.declared.TokenKind.TheVariants as token
 use Rattle.lexical_grammar.specs.Cut.{Item}
-use Rattle.lexical_grammar.specs.Answers.{Answer, gives, limit_at, is_end, IsTokenText, IsItemText, IsLast, AreAnswers}
+use Rattle.lexical_grammar.specs.Answers.{Answer, gives, limit_at, is_end, IsLast, AreAnswers}
 use Rattle.document_grammar.specs.declared.kind.SyntaxKind.{SyntaxKind}
 use Rattle.document_grammar.specs.Builds.{start, add_leaf}
-use Rattle.parser_rules.specs.State.{State, Lexeme, Report, ignored, bad, met, wait, lexeme, read_on, flush, closed, enter, leave, deepened}
+use Rattle.parser_rules.specs.State.{State, Lexeme, ignored, bad, met, wait, lexeme, read_on, flush, closed, enter, leave, deepened}
 use Rattle.parser_rules.specs.Rule.{Rule, Runs}
 use Rattle.parser_rules.proofs.Steps.{Holds_along, along}
 

@@ -1,12 +1,12 @@
 -- What all runs keep: the open nodes, the nesting and its limit; and no more is left than before.
-use Rattle.std.proofs.Common.{◌≡◌, ℕ, ◌+◌, ◌<◌, ◌≤◌, max, min, Option, Some, None, List, [], ◌∷◌, ◌++◌, length, refl, sym, ◌∙◌, ap, subst, arith, true, false, Bool, nat_le}
+use Rattle.std.proofs.Common.{◌≡◌, ℕ, ◌+◌, ◌<◌, ◌≤◌, Option, Some, None, List, [], ◌∷◌, ◌++◌, length, refl, sym, ◌∙◌, ap, subst, arith, true, false}
 use Rattle.std.proofs.lemmas.Bool.{leb-false}
 use Rattle.lexical_grammar.specs.declared.TokenKind.{TokenKind}
 use Rattle.lexical_grammar.specs.Cut.{Item}
 use Rattle.lexical_grammar.specs.Answers.{Answer, gives, limit_at}
 use Rattle.document_grammar.specs.declared.kind.SyntaxKind.{SyntaxKind}
 use Rattle.document_grammar.specs.Builds.{Building, Open, nothing, start, add_leaf, finish}
-use Rattle.parser_rules.specs.State.{State, Lexeme, Part, Report, ignored, bad, met, wait, lexeme, read_on, add_all, flush, opened, closed, is_at, is_deep, enter, leave, deepened, too_deep, fresh, begun}
+use Rattle.parser_rules.specs.State.{State, Lexeme, Part, ignored, bad, met, wait, lexeme, read_on, add_all, flush, opened, closed, is_at, is_deep, enter, leave, deepened, too_deep, fresh, begun}
 use Rattle.parser_rules.specs.Open.{is_free, is_free_in, IsOpen, IsInside, IsRoot}
 use Rattle.parser_rules.specs.Rule.{Test, At, holds, Rule, Skip, While, Runs, done, again, refused, Turns, begin, turn}
 use Rattle.parser_rules.proofs.Steps.{Holds_along, along, turns_along}

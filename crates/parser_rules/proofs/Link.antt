@@ -1,5 +1,5 @@
 -- The link: each run of a rule that keeps to the table builds trees that fit the rows, or it reports.
-use Rattle.std.proofs.Common.{◌≡◌, ℕ, zero, suc, ◌+◌, ◌-◌, ◌%◌, ◌≤◌, min, max, Bool, true, false, cond, eqb, ltb, not, if◌then◌else◌, nat_le, List, [], ◌∷◌, ◌++◌, Option, Some, None, bit_and, refl, sym, ap, ap₂, ◌∙◌, subst, ◌⊎◌, inl, inr, true≢false, eqb-true, append-nil, append_assoc, arith, add-zero, leb-true, leb-false}
+use Rattle.std.proofs.Common.{◌≡◌, ℕ, zero, suc, ◌+◌, ◌-◌, ◌%◌, ◌≤◌, min, max, Bool, true, false, cond, eqb, ltb, not, if◌then◌else◌, List, [], ◌∷◌, ◌++◌, Option, Some, None, bit_and, refl, sym, ap, ap₂, ◌∙◌, subst, ◌⊎◌, inl, inr, true≢false, eqb-true, append-nil, append_assoc, arith, add-zero, leb-false}
 use Rattle.std.specs.Int.{bit_at}
 use Rattle.std.specs.Int.Bits.{bit_xor}
 use Rattle.std.proofs.lemmas.Nat.Bits.{bit_at_and, bit_at_xor, bit_at-lt, bit_at-zero}
@@ -9,9 +9,9 @@ use Rattle.document_grammar.specs.Numbers.{number}
 use Rattle.document_grammar.specs.Sentence.{leaf_number}
 use Rattle.document_grammar.specs.Kinds.{ERROR, DOCUMENT}
 use Rattle.document_grammar.specs.Symbols.{TYPE}
-use Rattle.document_grammar.specs.Builds.{start, add_leaf, finish}
+use Rattle.document_grammar.specs.Builds.{add_leaf}
 use Rattle.document_grammar.specs.Tree.{Text, Token, Tree, leaf, node, Forest, none, ◌▸◌, ◌+++◌}
-use Rattle.document_grammar.specs.Machine.{◌and◌, ◌or◌, holds as within, is_leaf, ends, exit, has, target, entries, fires, class, first, token, Frame, frame, Ok, Path, yield, yields, finish as leaves_behind}
+use Rattle.document_grammar.specs.Machine.{◌and◌, ◌or◌, holds as within, is_leaf, ends, exit, has, target, entries, fires, class, first, Frame, frame, Ok, Path, yields, finish as leaves_behind}
 use Rattle.document_grammar.proofs.Basics.{false-true, and-l, and-r, or-c, not-c, either, holds-subset, holds-disjoint}
 use Rattle.document_grammar.proofs.Checks.{subset, disjoint}
 use Rattle.document_grammar.proofs.Classes.{holds-and}
@@ -21,12 +21,12 @@ use Rattle.document_grammar.proofs.Patterns.{label}
 use Rattle.document_grammar.proofs.Show.{show, shows}
 use Rattle.document_grammar.proofs.Sound.{any, first-any, Sound, spent, snoc-spent, path-snoc, path-ok, path-walk, leaf-ok, leaf-token}
 use Rattle.document_grammar.proofs.Steps.{hits, hits-fires}
-use Rattle.parser_rules.specs.State.{State, Lexeme, Report, at_limit, found_at, fault, noted, note, flush, opened, closed, moved, bump, is_deep, enter, leave, deepened, limited_at, too_deep, add_all, read_on}
+use Rattle.parser_rules.specs.State.{State, Lexeme, Report, at_limit, found_at, noted, note, flush, opened, closed, moved, bump, is_deep, enter, leave, deepened, limited_at, too_deep, add_all, read_on}
 use Rattle.parser_rules.specs.Rule.{Test, holds, Prim, Bump, Note, step, Node, symbol, kind_of, inside, body, Rule, Skip, Do, Seq, When, While, Child, Nested, Call, Runs, skip, does, seq, yes, no, done, again, child, deeper, refused, call}
 use Rattle.parser_rules.proofs.Strip.{Stack, stack, put, pop, stack-leaf, stack-finish, stack-flush}
-use Rattle.parser_rules.proofs.Calm.{Now, choose, EndsWell, rest, answers_tokens, current_tokens, Same, Grows, same-errors, grows-on, read-grows, Told, told-on, Quiet, Passed, Calm, Reads, read-on}
-use Rattle.parser_rules.proofs.Sets.{set_of, AtEnd, AtToken, standing, test-set}
-use Rattle.parser_rules.proofs.Check.{Level, low, high, past, Spot, spot, Mark, raised, own, owed, same_level, same_spot, covered, all_marks, part, split, levels, shift_to, risen, is_high, lowered, heads, takes, begins, holds_child, nests, is_node, ok, ends_well, checks}
+use Rattle.parser_rules.proofs.Calm.{Now, choose, EndsWell, rest, answers_tokens, current_tokens, Grows, same-errors, grows-on, read-grows, Told, told-on, Quiet, Calm, Reads, read-on}
+use Rattle.parser_rules.proofs.Sets.{set_of, AtToken, standing, test-set}
+use Rattle.parser_rules.proofs.Check.{Level, low, high, past, Spot, spot, Mark, raised, own, owed, same_level, same_spot, covered, all_marks, part, split, levels, is_high, lowered, heads, takes, begins, holds_child, nests, is_node, ok, ends_well, checks}
 use Rattle.parser_rules.proofs.Checked.{checked}
 
 -- ---- sets of classes

@@ -1,5 +1,5 @@
 -- Each item becomes one leaf: runs of the grammar's rules give each token a leaf of its own kind, or an ERROR.
-use Rattle.std.proofs.Common.{◌≡◌, ℕ, ◌<◌, ◌≤◌, Option, Some, None, List, [], ◌∷◌, ◌++◌, refl, sym, ◌∙◌, ap, ap₂, subst, true, false, Bool, if◌then◌else◌, cond, ltb, leb, eqb, rules, append_assoc, append-nil, not, ◌⊎◌, inl, inr, true≢false, arith}
+use Rattle.std.proofs.Common.{◌≡◌, ℕ, ◌≤◌, Option, Some, None, List, [], ◌∷◌, ◌++◌, refl, sym, ◌∙◌, ap, ap₂, subst, true, false, Bool, if◌then◌else◌, cond, leb, eqb, rules, append_assoc, append-nil, not, inl, inr, true≢false, arith}
 use Rattle.std.specs.Prelude.{⊤}
 use Rattle.std.proofs.lemmas.Bool.{le-ltb, eqb-true, leb-true}
 use denote.Enum.Bare.{same_true}
@@ -13,12 +13,11 @@ use Rattle.document_grammar.specs.declared.kind.SyntaxKind.TheVariants as kind
 use Rattle.document_grammar.specs.Kinds.{STRING, IDENT}
 use Rattle.document_grammar.specs.Numbers.{number}
 use Rattle.document_grammar.specs.Forests.{Forest, none, leaf, node, text, join}
-use Rattle.document_grammar.specs.Builds as builds
 use Rattle.document_grammar.specs.Builds.{Building, Open, start, add_leaf, finish, close}
 use Rattle.document_grammar.specs.Sentence.{leaf_number}
 use Rattle.document_grammar.specs.Machine.{◌and◌, ◌or◌}
 use Rattle.document_grammar.proofs.Basics.{and-l, and-r, either}
-use Rattle.parser_rules.specs.State.{State, Text, Lexeme, Part, Found, ignored, same_kind, bad, met, wait, lexeme, read_on, add_all, flush, opened, closed, moved, bump, found_at, fault, noted, note, is_at, is_over, is_deep, enter, leave, deepened, limited_at, too_deep, at_limit, fresh, begun, finished}
+use Rattle.parser_rules.specs.State.{State, Text, Lexeme, Part, Found, ignored, same_kind, bad, met, wait, lexeme, read_on, add_all, flush, opened, closed, moved, bump, found_at, fault, noted, note, is_at, is_over, enter, leave, deepened, limited_at, too_deep, at_limit, fresh, begun, finished}
 use Rattle.parser_rules.specs.Open.{is_free, IsRoot}
 use Rattle.parser_rules.specs.Leaves.{leaves, IsLeafOf, IsLeafOfToken, Belongs, OneLeafAnItem, nothing, one, the_end, the_limit}
 use Rattle.parser_rules.specs.Rule as rule
@@ -122,8 +121,11 @@ one_more b w p ms = ap (λ l. l ++ ms) (sym (append_assoc b w (p ∷ []))) ∙ a
 waits : (s t : State) (own : SyntaxKind) (item : Item) (rest : List Answer) → IsLeafOf item.kind (record { kind = own; text = item.text })
     → Reads (wait own item.text s) rest t → Reads s (gives item ∷ rest) t
 unfolding Reads
-waits s t own item rest fit h = (h.0, λ ls o. let a = h.1 ls o in
-    (record { kind = own; text = item.text } ∷ a.0, a.1 ∙ one_more (built_leaves s.tree) s.waiting (record { kind = own; text = item.text }) a.0, one refl fit a.2))
+waits s t own item rest fit h = (
+  h.0,
+  λ ls o. let a = h.1 ls o in
+      (record { kind = own; text = item.text } ∷ a.0, a.1 ∙ one_more (built_leaves s.tree) s.waiting (record { kind = own; text = item.text }) a.0, one refl fit a.2),
+)
 
 limits : (s t : State) (index : ℕ) (rest : List Answer) → Reads (met index s) rest t → Reads s (limit_at index ∷ rest) t
 unfolding Reads
@@ -157,13 +159,15 @@ moves : (k : SyntaxKind) (x : Lexeme) (s : State) → IsLeafOf (Some x.kind) (re
 unfolding Kept Fits Reads
 moves k x s fit e w c =
     let r = read_fits s.items (moved_on k x s) refl in
-    let l : Part = record { kind = k; text = x.text } in
-    (r.0, λ ls o. let a = r.1 ls o in
-      ( l ∷ a.0
-      , a.1 ∙ ap (λ v. (v ++ s.waiting) ++ a.0) (leaves_leaf k x.text s.tree) ∙ ap (λ v. ((built_leaves s.tree ++ l ∷ []) ++ v) ++ a.0) w ∙ ap (λ v. v ++ a.0) (append-nil (built_leaves s.tree ++ l ∷ []))
-        ∙ append_assoc (built_leaves s.tree) (l ∷ []) a.0 ∙ ap (λ v. v ++ l ∷ a.0) (sym (append-nil (built_leaves s.tree))) ∙ ap (λ v. (built_leaves s.tree ++ v) ++ l ∷ a.0) (sym w)
-      , subst (λ o. OneLeafAnItem (to_come o s.items) (l ∷ a.0)) (sym e) (one refl fit a.2)
-      ))
+    let l : Part = record { kind = k; text = x.text } in (
+      r.0,
+      λ ls o. let a = r.1 ls o in (
+        l ∷ a.0,
+        a.1 ∙ ap (λ v. (v ++ s.waiting) ++ a.0) (leaves_leaf k x.text s.tree) ∙ ap (λ v. ((built_leaves s.tree ++ l ∷ []) ++ v) ++ a.0) w ∙ ap (λ v. v ++ a.0) (append-nil (built_leaves s.tree ++ l ∷ []))
+            ∙ append_assoc (built_leaves s.tree) (l ∷ []) a.0 ∙ ap (λ v. v ++ l ∷ a.0) (sym (append-nil (built_leaves s.tree))) ∙ ap (λ v. (built_leaves s.tree ++ v) ++ l ∷ a.0) (sym w),
+        subst (λ o. OneLeafAnItem (to_come o s.items) (l ∷ a.0)) (sym e) (one refl fit a.2),
+      ),
+    )
 
 starts : (k : SyntaxKind) (s : State) → Kept s (opened k s)
 unfolding opened
@@ -258,10 +262,10 @@ error_fits : (x : Lexeme) (own : SyntaxKind) → ignored x.kind ≡ None → own
 error_fits x own i e = subst (λ found. IsLeafOfToken x.kind found (record { kind = own; text = x.text })) (sym i) (inl e)
 
 own_belongs : (k : TokenKind) (own : SyntaxKind) (t : Text) → number own ≡ leaf_number k → number own ≤ STRING → Belongs k (record { kind = own; text = t })
-own_belongs k own t e le =
-    ( ap (λ b. (cond b IDENT (number own), t)) (le-ltb STRING (number own) le) ∙ ap (λ n. (n, t)) e
-    , λ lt. absurd (omega (arith, le, lt))
-    )
+own_belongs k own t e le = (
+  ap (λ b. (cond b IDENT (number own), t)) (le-ltb STRING (number own) le) ∙ ap (λ n. (n, t)) e,
+  λ lt. absurd (omega (arith, le, lt)),
+)
 
 same_kinds : (k l : TokenKind) → same_kind k l ≡ true → k ≡ l
 unfolding same_kind

@@ -1,7 +1,7 @@
 -- A run, taken apart by its rule.
 use Rattle.std.proofs.Common.{◌≡◌, true, false, refl, subst, ◌⊎◌, inl, inr}
 use Rattle.parser_rules.specs.State.{State, opened, closed, is_deep, enter, leave, too_deep}
-use Rattle.parser_rules.specs.Rule.{Test, holds, step, kind_of, inside, body, Rule, Skip, Do, Seq, When, While, Child, Nested, Call, Runs, skip, does, seq, yes, no, done, again, child, deeper, refused, call}
+use Rattle.parser_rules.specs.Rule.{holds, step, kind_of, inside, body, Rule, Skip, Do, Seq, When, While, Child, Nested, Call, Runs, skip, does, seq, yes, no, done, again, child, deeper, refused, call}
 
 unfoldable pub Parts : Rule → State → State → Type 0
 Parts Skip s t = t ≡ s

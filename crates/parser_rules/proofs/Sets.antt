@@ -7,11 +7,11 @@ use Rattle.document_grammar.specs.Kinds.{words}
 use Rattle.document_grammar.specs.Sentence.{leaf_number}
 use Rattle.document_grammar.specs.Table.{name_classes, token_kinds}
 use Rattle.document_grammar.specs.Tree.{Token}
-use Rattle.document_grammar.specs.Machine.{holds as within, class, word_class, first, ◌and◌}
+use Rattle.document_grammar.specs.Machine.{holds as within, class, word_class, first}
 use Rattle.document_grammar.proofs.Basics.{either, holds-subset, holds-disjoint}
 use Rattle.document_grammar.proofs.Sound.{any, word-name}
 use Rattle.document_grammar.proofs.Endings.{words_checked}
-use Rattle.parser_rules.specs.State.{State, Text, Lexeme, same_kind, ignored, is_at, is_over}
+use Rattle.parser_rules.specs.State.{State, Text, Lexeme, same_kind, ignored}
 use Rattle.parser_rules.specs.Rule.{Test, At, Ready, holds}
 use Rattle.parser_rules.proofs.Calm.{Now, choose, EndsWell as Ends, rest, answers_tokens, current_tokens, kind_tokens}
 

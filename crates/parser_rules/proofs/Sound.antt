@@ -1,41 +1,41 @@
 -- Soundness: where a run of the document's rule over a text reports nothing, the text is a sentence within both limits, and the tree,
 -- without its ignored leaves, is its derivation.
-use Rattle.std.proofs.Common.{◌≡◌, ℕ, zero, suc, ◌+◌, ◌≤◌, max, Bool, true, false, eqb, List, [], ◌∷◌, ◌++◌, Option, Some, None, if◌then◌else◌, length, refl, sym, ap, ap₂, ◌∙◌, subst, ◌⊎◌, inl, inr, true≢false, eqb-true, append-nil, arith}
+use Rattle.std.proofs.Common.{◌≡◌, ℕ, zero, suc, ◌+◌, ◌≤◌, max, Bool, true, false, List, [], ◌∷◌, ◌++◌, Option, Some, None, if◌then◌else◌, length, refl, sym, ap, ap₂, ◌∙◌, subst, ◌⊎◌, inl, inr, true≢false, eqb-true, append-nil, arith}
 use Rattle.std.specs.Prelude.{map}
 use Rattle.std.proofs.lemmas.List.{map-append}
 use Rattle.lexical_grammar.specs.declared.TokenKind.{TokenKind}
-use Rattle.lexical_grammar.specs.Cut.{Item, Word, Cut, Significant, significant_word, is_significant_kind}
+use Rattle.lexical_grammar.specs.Cut.{Item, Cut, Significant, significant_word, is_significant_kind}
 use Rattle.lexical_grammar.specs.Begins.{are_tokens}
-use Rattle.lexical_grammar.specs.Answers.{Answer, gives, limit_at, limited, is_token}
+use Rattle.lexical_grammar.specs.Answers.{Answer, gives, limited, is_token}
 use Rattle.document_grammar.specs.declared.kind.SyntaxKind.{SyntaxKind}
 use Rattle.document_grammar.specs.declared.kind.SyntaxKind.TheVariants as kind
 use Rattle.document_grammar.specs.Numbers.{number}
-use Rattle.document_grammar.specs.Kinds.{DOCUMENT, SELECTION_SET, LIST_TYPE, LIST_VALUE, OBJECT_FIELD, Values}
+use Rattle.document_grammar.specs.Kinds.{DOCUMENT}
 use Rattle.document_grammar.specs.Forests as built
-use Rattle.document_grammar.specs.Builds.{Building, Open, nothing, start, add_leaf, close}
+use Rattle.document_grammar.specs.Builds.{Building, Open, add_leaf, close}
 use Rattle.document_grammar.specs.Numbered.{tree_of}
 use Rattle.document_grammar.specs.Labels.{labels}
 use Rattle.document_grammar.specs.Pattern.{member}
-use Rattle.document_grammar.specs.Tree.{Token, Tree, node, Forest, none, ◌▸◌, ◌+++◌}
-use Rattle.document_grammar.specs.Derivation.{document, Spells, Derivation, Yield, nest}
+use Rattle.document_grammar.specs.Tree.{Token, Tree, node, Forest, none}
+use Rattle.document_grammar.specs.Derivation.{document, Spells, nest}
 use Rattle.document_grammar.specs.Places.{bare}
 use Rattle.document_grammar.specs.Sentence.{token_of, Sentence, Within}
-use Rattle.document_grammar.specs.Machine.{◌and◌, ◌or◌, holds as within, is_leaf, ends, first, Frame, frame, Ok, yields}
-use Rattle.document_grammar.proofs.Basics.{and-l, and-r, either, false-true, holds-subset}
+use Rattle.document_grammar.specs.Machine.{◌and◌, ◌or◌, is_leaf, first, frame, Ok, yields}
+use Rattle.document_grammar.proofs.Basics.{and-l, and-r, holds-subset}
 use Rattle.document_grammar.proofs.Constants.{parse-sentence}
-use Rattle.document_grammar.proofs.Depth.{count_in, nest-show, nesting_all}
+use Rattle.document_grammar.proofs.Depth.{count_in, nest-show}
 use Rattle.document_grammar.proofs.Patterns.{label}
 use Rattle.document_grammar.proofs.Peak.{peak, peak-end, peak-start}
 use Rattle.document_grammar.proofs.Show.{show, shows}
 use Rattle.document_grammar.proofs.Sound.{any, first-any, path-ok}
-use Rattle.parser_rules.specs.State.{State, Part, Lexeme, Report, read_on, add_all, fresh, begun, finished}
-use Rattle.parser_rules.specs.Rule.{Rule, Runs, Call, Document}
-use Rattle.parser_rules.proofs.Strip.{Stack, stack, strip, layers, stack-flush}
-use Rattle.parser_rules.proofs.Calm.{answers_tokens, all_tokens, rest, current_tokens, EndsWell, Now, Told, Calm, Reads, Grows, read-on}
+use Rattle.parser_rules.specs.State.{State, Part, Lexeme, Report, add_all, fresh, begun, finished}
+use Rattle.parser_rules.specs.Rule.{Runs, Call, Document}
+use Rattle.parser_rules.proofs.Strip.{stack, strip, layers, stack-flush}
+use Rattle.parser_rules.proofs.Calm.{answers_tokens, all_tokens, rest, current_tokens, EndsWell, Now, Told, Reads, read-on}
 use Rattle.parser_rules.proofs.Sets.{AtEnd, AtToken, standing, nothing-left}
-use Rattle.parser_rules.proofs.Check.{Level, low, high, past, Spot, spot, raised, own, owed, root_ends, checks_rule}
+use Rattle.parser_rules.proofs.Check.{Level, low, high, past, spot, raised, own, owed, root_ends, checks_rule}
 use Rattle.parser_rules.proofs.Checked.{checked_document}
-use Rattle.parser_rules.proofs.Link.{image, Leveled, Place, Fits, Out, Good, good, link, run-grows}
+use Rattle.parser_rules.proofs.Link.{Leveled, Place, Fits, Out, good, link, run-grows}
 
 -- ---- what was answered, where all answers are tokens
 

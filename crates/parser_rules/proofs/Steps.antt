@@ -1,9 +1,9 @@
 -- A relation between states that holds along each step holds along each run.
-use Rattle.std.proofs.Common.{◌≡◌, ℕ, refl, sym, subst, true, false, Bool, if◌then◌else◌, Option, Some, None, List, [], ◌∷◌, ◌++◌}
+use Rattle.std.proofs.Common.{◌≡◌, ℕ, refl, sym, subst, true, false, if◌then◌else◌, Option, Some, None, [], ◌∷◌, ◌++◌}
 use Rattle.document_grammar.specs.declared.kind.SyntaxKind.{SyntaxKind}
-use Rattle.document_grammar.specs.Builds.{start, add_leaf, finish}
+use Rattle.document_grammar.specs.Builds.{start, add_leaf}
 use Rattle.parser_rules.specs.State.{State, Lexeme, Report, Found, read_on, flush, opened, closed, moved, bump, fault, found_at, noted, note, is_deep, enter, leave, deepened, limited_at, too_deep, at_limit}
-use Rattle.parser_rules.specs.Rule.{Test, Prim, Bump, Note, step, Node, kind_of, Part, Rule, Runs, skip, does, seq, yes, no, done, again, child, deeper, refused, call, Turns, begin, turn}
+use Rattle.parser_rules.specs.Rule.{Test, Prim, Bump, Note, step, kind_of, Rule, Runs, skip, does, seq, yes, no, done, again, child, deeper, refused, call, Turns, begin, turn}
 
 pub record Holds_along (R : State → State → Type 0) : Type 0 where
   pub same : (s : State) → R s s

@@ -1,5 +1,5 @@
 -- What is built, as the grammar's machine sees it: the open nodes with their kinds' numbers and their children without ignored leaves.
-use Rattle.std.proofs.Common.{◌≡◌, ℕ, Bool, true, false, ltb, List, [], ◌∷◌, refl, sym, ap, ◌∙◌, subst, true≢false}
+use Rattle.std.proofs.Common.{◌≡◌, ℕ, Bool, true, false, ltb, List, [], ◌∷◌, refl, ap, ◌∙◌}
 use Rattle.document_grammar.specs.declared.kind.SyntaxKind.{SyntaxKind}
 use Rattle.document_grammar.specs.Kinds.{ERROR}
 use Rattle.document_grammar.specs.Numbers.{number}

@@ -1,11 +1,11 @@
 -- What surely reads on: rules that take the token that is there.
-use Rattle.std.proofs.Common.{◌≡◌, ℕ, ◌<◌, ◌≤◌, Option, Some, None, List, [], ◌∷◌, ◌++◌, refl, sym, ◌∙◌, ap, subst, arith, true, false, Bool, not, if◌then◌else◌, inl, inr, true≢false}
+use Rattle.std.proofs.Common.{◌≡◌, ℕ, ◌<◌, Option, Some, None, [], ◌∷◌, ◌++◌, refl, sym, ◌∙◌, ap, subst, arith, true, false, Bool, not, if◌then◌else◌, inl, inr, true≢false}
 use Rattle.lexical_grammar.specs.declared.TokenKind.{TokenKind}
 use Rattle.document_grammar.specs.declared.kind.SyntaxKind.{SyntaxKind}
 use Rattle.document_grammar.specs.Machine.{◌and◌, ◌or◌}
 use Rattle.document_grammar.proofs.Basics.{and-l, and-r, either}
 use Rattle.parser_rules.specs.State.{State, Lexeme, Found, flush, opened, closed, moved, bump, fault, found_at, noted, note, is_at, is_over, enter}
-use Rattle.parser_rules.specs.Rule.{Test, At, Ready, holds, Prim, Bump, Note, step, Node, ShortQuery, SelectionSet, Field, Name, kind_of, inside, Part, Selections, Definition, Document, body, Rule, Skip, Do, Seq, When, While, Child, Nested, Call, Runs, skip, does, seq, yes, no, done, again, child, deeper, refused, call}
+use Rattle.parser_rules.specs.Rule.{At, Ready, holds, Prim, Bump, Note, step, Node, ShortQuery, SelectionSet, Field, Name, kind_of, inside, Selections, Definition, Document, body, Rule, Skip, Do, Seq, When, Child, Call, Runs, skip, does, seq, yes, no, done, again, child, deeper, refused, call}
 use Rattle.parser_rules.specs.declared.message.Message.{Message}
 use Rattle.parser_rules.proofs.Kept.{left, moved_left, fewer}
 

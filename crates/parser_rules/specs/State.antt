@@ -1,16 +1,15 @@
 -- What a parser has read and built, and its steps.
-use Rattle.std.specs.Prelude.{◌≡◌, ℕ, ◌+◌, ◌-◌, max, min, Bool, true, false, not, nat_le, if◌then◌else◌, List, [], ◌∷◌, ◌++◌, length, Option, Some, None, ⊤}
+use Rattle.std.specs.Prelude.{ℕ, ◌+◌, ◌-◌, max, min, Bool, true, false, nat_le, if◌then◌else◌, List, [], ◌∷◌, ◌++◌, Option, Some, None, ⊤}
 use denote.Enum.Bare.{sameb}
 use Rattle.lexical_grammar.specs.contracts.TokenKind.{the_type}
 use Rattle.lexical_grammar.specs.declared.TokenKind.{TokenKind}
 use Rattle.lexical_grammar.specs.declared.TokenKind.TheVariants as token
-use Rattle.lexical_grammar.specs.Tokens.{IsName}
 use Rattle.lexical_grammar.specs.Cut.{Item}
-use Rattle.lexical_grammar.specs.Answers.{Answer, gives, limit_at, is_end, IsTokenText, IsItemText, answers_text}
+use Rattle.lexical_grammar.specs.Answers.{Answer, gives, limit_at, is_end, IsTokenText}
 use Rattle.document_grammar.specs.declared.kind.SyntaxKind.{SyntaxKind}
 use Rattle.document_grammar.specs.declared.kind.SyntaxKind.TheVariants as kind
-use Rattle.document_grammar.specs.Forests.{Forest, none}
-use Rattle.document_grammar.specs.Builds.{Building, Open, nothing, start, add_leaf, finish, wrap, IsPlace, built_text}
+use Rattle.document_grammar.specs.Forests.{Forest}
+use Rattle.document_grammar.specs.Builds.{Building, nothing, start, add_leaf, finish}
 
 abbrev pub Text : Type 0
 Text = List ℕ
