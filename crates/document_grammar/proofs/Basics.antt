@@ -104,7 +104,8 @@ holds-or a x y h =
     ]
 
 -- Arcs.
-arc-step : (a : ℕ × ℕ) (more : List (ℕ × ℕ)) (t : ℕ → ℕ → Bool) (k : ℕ) (b : Bool) → eqb a.0 k ≡ b → t a.0 a.1 ≡ true → (has_in more k ≡ true → t k (target_in more k) ≡ true) → b or has_in more k ≡ true → t k (cond b a.1 (target_in more k)) ≡ true
+arc-step : (a : ℕ × ℕ) (more : List (ℕ × ℕ)) (t : ℕ → ℕ → Bool) (k : ℕ) (b : Bool) → eqb a.0 k ≡ b → t a.0 a.1 ≡ true
+    → (has_in more k ≡ true → t k (target_in more k) ≡ true) → b or has_in more k ≡ true → t k (cond b a.1 (target_in more k)) ≡ true
 unfolding ◌or◌
 arc-step a more t k true e h r i = subst (λ (n : ℕ). t n a.1 ≡ true) (eqb-true _ _ e) h
 arc-step a more t k false e h r i = r i
@@ -119,7 +120,8 @@ states-at [] t q h d = d
 states-at (v ∷ more) t zero h d = and-l _ _ h
 states-at (v ∷ more) t (suc q) h d = states-at more t q (and-r (t v) _ h) d
 
-rows-at : (s : ℕ) (l : List (List State)) (t : ℕ → State → Bool) (n q : ℕ) → all_rows s l t ≡ true → ((k : ℕ) → t k dead ≡ true) → t (s + n) (get_or (get_or l n []) q dead) ≡ true
+rows-at : (s : ℕ) (l : List (List State)) (t : ℕ → State → Bool) (n q : ℕ) → all_rows s l t ≡ true → ((k : ℕ) → t k dead ≡ true)
+    → t (s + n) (get_or (get_or l n []) q dead) ≡ true
 rows-at s [] t n q h d = d (s + n)
 rows-at s (r ∷ more) t zero q h d = let e : s + 0 ≡ s = omega arith in rw e (states-at r (t s) q (and-l _ _ h) (d s))
 rows-at s (r ∷ more) t (suc n) q h d = let e : s + suc n ≡ suc s + n = omega arith in rw e (rows-at (suc s) more t n q (and-r (all_states r (t s)) _ h) d)
@@ -133,7 +135,8 @@ unfolding at
 row-test t h d s q l = subst (λ (n : ℕ). t n (get_or (get_or rows (s - 60) []) q dead) ≡ true) (node-sum s l) (rows-at 60 rows t (s - 60) q h d)
 
 -- What a tree leaves behind.
-ends-at : (l : List State) (t : ℕ → Bool) (q : ℕ) → all_ends l t ≡ true → state_ends (get_or l q dead) ≡ true → t (state_exit (get_or l q dead)) ≡ true
+ends-at : (l : List State) (t : ℕ → Bool) (q : ℕ) → all_ends l t ≡ true → state_ends (get_or l q dead) ≡ true
+    → t (state_exit (get_or l q dead)) ≡ true
 ends-at [] t q h e = absurd (true≢false (sym e))
 ends-at (state b x a ∷ more) t zero h e = implies b (t x) (and-l _ _ h) e
 ends-at (state b x a ∷ more) t (suc q) h e = ends-at more t q (and-r (not b or t x) _ h) e

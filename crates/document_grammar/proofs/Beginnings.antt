@@ -130,7 +130,8 @@ map-append : (v w : List Word) → map token_of (v ++ w) ≡ map token_of v ++ m
 map-append [] w = refl
 map-append (a ∷ v) w = ap (λ (l : List Token). token_of a ∷ l) (map-append v w)
 
-pub begins-text : (source : List ℕ) (before : List Item) (item : Item) (more : List Item) (t : Tree) (v : List Token) → IsUtf8 source → Cut source (before ++ item ∷ more) → are_tokens before ≡ true
+pub begins-text : (source : List ℕ) (before : List Item) (item : Item) (more : List Item) (t : Tree) (v : List Token) → IsUtf8 source
+    → Cut source (before ++ item ∷ more) → are_tokens before ≡ true
     → Spells (map token_of (Significant before) ++ v) t document → AllSpelt v → Begins (texts before)
 begins-text source before item more t v u cut h s spelt =
     let w = listed-words v spelt in
@@ -153,7 +154,8 @@ begins-text source before item more t v u cut h s spelt =
     }
 
 -- Wherever the machine comes in the tokens of a text, the text before begins a sentence.
-pub reached-begins-text : (source : List ℕ) (before : List Item) (item : Item) (more : List Item) (rest : List Token) (fs : List Frame) → IsUtf8 source → Cut source (before ++ item ∷ more) → are_tokens before ≡ true
+pub reached-begins-text : (source : List ℕ) (before : List Item) (item : Item) (more : List Item) (rest : List Token) (fs : List Frame)
+    → IsUtf8 source → Cut source (before ++ item ∷ more) → are_tokens before ≡ true
     → Reached document (map token_of (Significant before)) rest fs → Begins (texts before)
 reached-begins-text source before item more rest fs u cut h c =
     let k = reached-begins document (map token_of (Significant before)) rest fs c in

@@ -94,7 +94,8 @@ root-bare (node k f) = refl
 max-none : (a b : ℕ) → a ≡ 0 → b ≡ max a b
 max-none a b e = omega arith
 
-kept-belows : (p : ℕ) (t : Tree) (f : Forest) → below (bare t) ≡ below t → belows p (bares f) ≡ belows p f → belows p (bares (t ▸ f)) ≡ belows p (t ▸ f)
+kept-belows : (p : ℕ) (t : Tree) (f : Forest) → below (bare t) ≡ below t → belows p (bares f) ≡ belows p f
+    → belows p (bares (t ▸ f)) ≡ belows p (t ▸ f)
 kept-belows p t f a b = elim (either (ignored t)) [
   | inl q ↦ subst (λ (c : Bool). belows p (cond c (bares f) (bare t ▸ bares f)) ≡ max (counts p (root t) + below t) (belows p f)) (sym q) (b ∙ max-none (counts p (root t) + below t) (belows p f) (ignored-below p t q))
   | inr q ↦ subst (λ (c : Bool). belows p (cond c (bares f) (bare t ▸ bares f)) ≡ max (counts p (root t) + below t) (belows p f)) (sym q) (ap₂ (λ (x y : ℕ). max x y) (ap₂ (λ (x y : ℕ). x + y) (ap (λ (k : ℕ). counts p k) (root-bare t)) a) b)
@@ -126,13 +127,16 @@ texts-numbered (built.node k kids rest) = ap₂ (λ (x y : Text). x ++ y) (texts
 pub bares-numbered-join : (f g : built.Forest) → bares (numbered (built.join f g)) ≡ bares (numbered f) +++ bares (numbered g)
 bares-numbered-join f g = ap (λ (h : Forest). bares h) (numbered-join f g) ∙ bares-append (numbered f) (numbered g)
 
-pub bares-built_ignored : (f : built.Forest) (k : SyntaxKind) (x : Text) → ltb (number k) ERROR ≡ true → bares (numbered (built.join f (built.leaf k x built.none))) ≡ bares (numbered f)
+pub bares-built_ignored : (f : built.Forest) (k : SyntaxKind) (x : Text) → ltb (number k) ERROR ≡ true
+    → bares (numbered (built.join f (built.leaf k x built.none))) ≡ bares (numbered f)
 bares-built_ignored f k x h = ap (λ (g : Forest). bares g) (numbered-join f (built.leaf k x built.none)) ∙ bares-ignored (numbered f) (number k) x h
 
-pub bares-built_leaf : (f : built.Forest) (k : SyntaxKind) (x : Text) → ltb (number k) ERROR ≡ false → bares (numbered (built.join f (built.leaf k x built.none))) ≡ bares (numbered f) +++ (leaf (number k) x ▸ none)
+pub bares-built_leaf : (f : built.Forest) (k : SyntaxKind) (x : Text) → ltb (number k) ERROR ≡ false
+    → bares (numbered (built.join f (built.leaf k x built.none))) ≡ bares (numbered f) +++ (leaf (number k) x ▸ none)
 bares-built_leaf f k x h = ap (λ (g : Forest). bares g) (numbered-join f (built.leaf k x built.none)) ∙ bares-leaf (numbered f) (number k) x h
 
-pub bares-built_node : (f : built.Forest) (k : SyntaxKind) (kids : built.Forest) → bares (numbered (built.join f (built.node k kids built.none))) ≡ bares (numbered f) +++ (node (number k) (bares (numbered kids)) ▸ none)
+pub bares-built_node : (f : built.Forest) (k : SyntaxKind) (kids : built.Forest)
+    → bares (numbered (built.join f (built.node k kids built.none))) ≡ bares (numbered f) +++ (node (number k) (bares (numbered kids)) ▸ none)
 bares-built_node f k kids = ap (λ (g : Forest). bares g) (numbered-join f (built.node k kids built.none)) ∙ bares-node (numbered f) (number k) (numbered kids)
 
 -- A node that opens at an earlier place takes the trees from there on.

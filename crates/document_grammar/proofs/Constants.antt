@@ -132,7 +132,8 @@ blocks-checked : all_kinds Braced (λ s. block_kind s) ≡ true
 unfolding open_states ◌and◌ ◌or◌ is_leaf rows label labels shown member arcs ends exit exits at
 blocks-checked = refl
 
-block-walk : (s q : ℕ) (f : Forest) → all_kinds (open_states s) (λ q. block_at s q) ≡ true → member q (open_states s) ≡ true → OkFrom s q f → NoBlock (shows f) → exit s (walk s q f) ≡ 1
+block-walk : (s q : ℕ) (f : Forest) → all_kinds (open_states s) (λ q. block_at s q) ≡ true → member q (open_states s) ≡ true → OkFrom s q f
+    → NoBlock (shows f) → exit s (walk s q f) ≡ 1
 unfolding has target
 block-walk s q none b m o n = eqb-true _ _ (implies _ _ (and-r _ _ (kinds-at (open_states s) (λ q. block_at s q) q b m)) o)
 block-walk s q (t ▸ f) b m o n =

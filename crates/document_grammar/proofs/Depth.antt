@@ -94,7 +94,8 @@ part-max a b c d e f p q = omega arith
 type-one : (j w m n v : ℕ) → j ≡ w → w + m ≡ v + n → j + m ≡ 0 + max (v + n) 0
 type-one j w m n v e p = omega arith
 
-type-part : (j : ℕ) (f : Forest) → OkFrom TYPE 0 f → belows NAMED_TYPE (shows f) ≡ nestings TYPE f → weight j (root (type_of (shows f))) + below (type_of (shows f)) ≡ weight j NAMED_TYPE + nestings TYPE f
+type-part : (j : ℕ) (f : Forest) → OkFrom TYPE 0 f → belows NAMED_TYPE (shows f) ≡ nestings TYPE f
+    → weight j (root (type_of (shows f))) + below (type_of (shows f)) ≡ weight j NAMED_TYPE + nestings TYPE f
 unfolding weight
 type-part j none o h = ap₂ (λ (x y : ℕ). x + y) (weight-none j NON_NULL_TYPE (inr refl) ∙ sym (weight-none j NAMED_TYPE (inl refl))) h
 type-part j (t ▸ none) o h =

@@ -26,13 +26,15 @@ before-of : (sort : Sort) (before rest : List Token) (k : FaultIn sort (before +
 before-of sort before rest k = append_cancel_right k.before before rest (sym k.split)
 
 -- What has been read begins tokens that a derivation spells, and that go on as the leaves are listed.
-pub reached-begins : (sort : Sort) (before rest : List Token) (fs : List Frame) → Reached sort before rest fs → (t : Tree) × (v : List Token) × Spells (before ++ v) t sort × AllSpelt v
+pub reached-begins : (sort : Sort) (before rest : List Token) (fs : List Frame) → Reached sort before rest fs
+    → (t : Tree) × (v : List Token) × Spells (before ++ v) t sort × AllSpelt v
 reached-begins sort before rest fs c =
     let h = begins-at sort (before ++ rest) fs rest c in
     let e : h.0 ≡ before = append_cancel_right h.0 before rest (sym h.1) in
     (h.2.0, h.2.1, subst (λ (b : List Token). Spells (b ++ h.2.1) h.2.0 sort) e h.2.2, h.2.3)
 
-pub reached-starts : (sort : Sort) (before rest : List Token) (fs : List Frame) → Reached sort before rest fs → (t : Tree) × (v : List Token) × Spells (before ++ v) t sort
+pub reached-starts : (sort : Sort) (before rest : List Token) (fs : List Frame) → Reached sort before rest fs
+    → (t : Tree) × (v : List Token) × Spells (before ++ v) t sort
 reached-starts sort before rest fs c = let h = reached-begins sort before rest fs c in (h.0, h.1, h.2)
 
 pub stuck-starts-none : (sort : Sort) (before rest : List Token) → IsStuck sort before rest → Starts sort (map word before ++ take 2 (marks rest)) → ⊥

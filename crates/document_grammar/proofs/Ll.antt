@@ -54,19 +54,25 @@ abbrev TailOk : ℕ → ℕ → List Token → Type 0
 TailOk s q [] = ends s q ≡ true
 TailOk s q (b ∷ r) = holds (class b) (state_begins (at s q)) ≡ true
 
-second-covered : (s q : ℕ) (y z : List Token) (y1 y2 : ℕ) (a1 a2 : Bool) → subset y1 y2 ≡ true → (a1 ≡ true → (subset (state_begins (at s q)) y2 and (not (ends s q) or a2)) ≡ true) → TailOk s q z → second_fits a1 y1 y ≡ true → second_fits a2 y2 (y ++ z) ≡ true
+second-covered : (s q : ℕ) (y z : List Token) (y1 y2 : ℕ) (a1 a2 : Bool) → subset y1 y2 ≡ true
+    → (a1 ≡ true → (subset (state_begins (at s q)) y2 and (not (ends s q) or a2)) ≡ true) → TailOk s q z → second_fits a1 y1 y ≡ true
+    → second_fits a2 y2 (y ++ z) ≡ true
 second-covered s q [] [] y1 y2 a1 a2 u c o h = implies (ends s q) a2 (and-r (subset (state_begins (at s q)) y2) _ (c h)) o
 second-covered s q [] (b ∷ z) y1 y2 a1 a2 u c o h = holds-subset (class b) (state_begins (at s q)) y2 (and-l _ _ (c h)) o
 second-covered s q (b ∷ y) z y1 y2 a1 a2 u c o h = holds-subset (class b) y1 y2 u h
 
-entry-covered : (es : List Entry) (s q x a : ℕ) (y z : List Token) (x1 y1 : ℕ) (a1 : Bool) → any_entries es (λ x2 y2 a2. subset x1 x2 and subset y1 y2 and (not a1 or (subset (state_begins (at s (q + x))) y2 and (not (ends s (q + x)) or a2)))) ≡ true → TailOk s (q + x) z → holds a x1 ≡ true → second_fits a1 y1 y ≡ true → starts_in es a (y ++ z) ≡ true
+entry-covered : (es : List Entry) (s q x a : ℕ) (y z : List Token) (x1 y1 : ℕ) (a1 : Bool)
+    → any_entries es (λ x2 y2 a2. subset x1 x2 and subset y1 y2 and (not a1 or (subset (state_begins (at s (q + x))) y2 and (not (ends s (q + x)) or a2)))) ≡ true
+    → TailOk s (q + x) z → holds a x1 ≡ true → second_fits a1 y1 y ≡ true → starts_in es a (y ++ z) ≡ true
 entry-covered [] s q x a y z x1 y1 a1 t o h h' = t
 entry-covered (entry x2 y2 a2 ∷ more) s q x a y z x1 y1 a1 t o h h' = elim (or-c (subset x1 x2 and subset y1 y2 and (not a1 or (subset (state_begins (at s (q + x))) y2 and (not (ends s (q + x)) or a2)))) _ t) [
   | inl p ↦ or-l _ _ (and-i (holds-subset a x1 x2 (and-l _ _ (and-l _ _ p)) h) (second-covered s (q + x) y z y1 y2 a1 a2 (and-r (subset x1 x2) _ (and-l _ _ p)) (implies a1 _ (and-r (subset x1 x2 and subset y1 y2) _ p)) o h'))
   | inr p ↦ or-r (holds a x2 and second_fits a2 y2 (y ++ z)) _ (entry-covered more s q x a y z x1 y1 a1 p o h h')
 ]
 
-all-covered : (es fs : List Entry) (s q x a : ℕ) (y z : List Token) → all_entries es (λ x1 y1 a1. any_entries fs (λ x2 y2 a2. subset x1 x2 and subset y1 y2 and (not a1 or (subset (state_begins (at s (q + x))) y2 and (not (ends s (q + x)) or a2))))) ≡ true → TailOk s (q + x) z → starts_in es a y ≡ true → starts_in fs a (y ++ z) ≡ true
+all-covered : (es fs : List Entry) (s q x a : ℕ) (y z : List Token)
+    → all_entries es (λ x1 y1 a1. any_entries fs (λ x2 y2 a2. subset x1 x2 and subset y1 y2 and (not a1 or (subset (state_begins (at s (q + x))) y2 and (not (ends s (q + x)) or a2))))) ≡ true
+    → TailOk s (q + x) z → starts_in es a y ≡ true → starts_in fs a (y ++ z) ≡ true
 all-covered [] fs s q x a y z t o h = absurd (true≢false (sym h))
 all-covered (entry x1 y1 a1 ∷ more) fs s q x a y z t o h = elim (or-c (holds a x1 and second_fits a1 y1 y) (starts_in more a y) h) [
   | inl p ↦ entry-covered fs s q x a y z x1 y1 a1 (and-l _ _ t) o (and-l _ _ p) (and-r _ _ p)
@@ -99,7 +105,8 @@ leaf-begun : (l : ℕ) (x : Text) → Ok (leaf l x) → Begun (leaf l x)
 unfolding fires is_leaf
 leaf-begun l x o = (token l x, [], refl, leaf-starts (entries l) (class (token l x)) 0 (leaf-at 60 l (ltb-true _ _ o.0) leaf_checked) o.1)
 
-node-begun : (s : ℕ) (t : Tree) (g : Forest) → is_leaf s ≡ false → has s 0 (root t) ≡ true → Ok t → Begun t → TailOk s (target s 0 (root t) + finish t) (yields g) → Begun (node s (t ▸ g))
+node-begun : (s : ℕ) (t : Tree) (g : Forest) → is_leaf s ≡ false → has s 0 (root t) ≡ true → Ok t → Begun t
+    → TailOk s (target s 0 (root t) + finish t) (yields g) → Begun (node s (t ▸ g))
 unfolding has target
 node-begun s t g l h o b z =
     let c = exits-at t (λ x. all_entries (entries (root t)) (covered s (target s 0 (root t)) x)) (arcs-at (arcs s 0) (λ k q. exits k (λ x. all_entries (entries k) (covered s q x))) (root t) (first-test s l) h) o in
@@ -131,7 +138,8 @@ begun-first : (t : Tree) (b : Begun t) (g : Forest) (r : List Token) → first (
 unfolding first
 begun-first t b g r = rw b.2 refl
 
-next-ok : (s q : ℕ) (f : Forest) (r : List Token) → OkFrom s q f → holds (first r) (follow s (exit s (walk s q f))) ≡ true → NextOk s q (yields f ++ r)
+next-ok : (s q : ℕ) (f : Forest) (r : List Token) → OkFrom s q f → holds (first r) (follow s (exit s (walk s q f))) ≡ true
+    → NextOk s q (yields f ++ r)
 next-ok s q none r o h = inr (o, h)
 next-ok s q (t ▸ g) r o h = let b = tree-first t o.1 in inl (rw (begun-first t b g r) (begins-arc s q (root t) (class b.0) o.0 (starts-begins (entries (root t)) (class b.0) b.1 b.3)))
 
@@ -166,7 +174,8 @@ close-at s q l e = implies _ _ (row-test close_test close_checked (λ k. refl) s
 disjoint-r : (a x y : ℕ) → disjoint x y ≡ true → holds a y ≡ true → holds a x ≡ false
 disjoint-r a x y d h = elim (either (holds a x)) [ inl p ↦ false-true (holds-disjoint a x y d p) h | inr p ↦ p ]
 
-move-close : (s q : ℕ) (r : List Token) → is_leaf s ≡ false → ends s q ≡ true → holds (first r) (follow s (exit s q)) ≡ true → move s q (first r) (second r) ≡ close
+move-close : (s q : ℕ) (r : List Token) → is_leaf s ≡ false → ends s q ≡ true → holds (first r) (follow s (exit s q)) ≡ true
+    → move s q (first r) (second r) ≡ close
 unfolding move arcs
 move-close s q r l e h = choose-close (arcs s q) (ends s q) (first r) (second r) e (disjoint-r (first r) (state_begins (at s q)) (follow s (exit s q)) (close-at s q l e) h)
 
@@ -183,7 +192,8 @@ starts-fires (entry x1 y1 a1 ∷ more) a y z h = elim (or-c _ _ h) [
     fits [] g = or-l _ _ g
     fits (b ∷ y) g = or-r _ _ g
 
-choose-go : (l : List (ℕ × ℕ)) (s k q a b : ℕ) (e : Bool) → choice_arcs s l ≡ true → has_in l k ≡ true → target_in l k ≡ q → fires k a b ≡ true → ((j : ℕ) → differ s k q j ≡ true → fires j a b ≡ false) → choose l e a b ≡ go k
+choose-go : (l : List (ℕ × ℕ)) (s k q a b : ℕ) (e : Bool) → choice_arcs s l ≡ true → has_in l k ≡ true → target_in l k ≡ q → fires k a b ≡ true
+    → ((j : ℕ) → differ s k q j ≡ true → fires j a b ≡ false) → choose l e a b ≡ go k
 unfolding ◌or◌
 choose-go [] s k q a b e c h t f d = absurd (true≢false (sym h))
 choose-go (arc ∷ more) s k q a b e c h t f d = elim (either (eqb arc.0 k)) [
@@ -193,11 +203,13 @@ choose-go (arc ∷ more) s k q a b e c h t f d = elim (either (eqb arc.0 k)) [
       rw (d arc.0 d') (choose-go more s k q a b e (and-r _ _ c) h' t' f d))
 ]
 
-follow-arcs : (s q : ℕ) → is_leaf s ≡ false → all_arcs (arcs s q) (λ k q. exits k (λ x. subset (state_begins (at s (q + x))) (follow k x) and (not (ends s (q + x)) or subset (follow s (exit s (q + x))) (follow k x)))) ≡ true
+follow-arcs : (s q : ℕ) → is_leaf s ≡ false
+    → all_arcs (arcs s q) (λ k q. exits k (λ x. subset (state_begins (at s (q + x))) (follow k x) and (not (ends s (q + x)) or subset (follow s (exit s (q + x))) (follow k x)))) ≡ true
 unfolding arcs
 follow-arcs s q l = row-test follow_test follow_checked (λ k. refl) s q l
 
-child-follow : (s q : ℕ) (t : Tree) (r : List Token) → is_leaf s ≡ false → has s q (root t) ≡ true → Ok t → NextOk s (target s q (root t) + finish t) r → holds (first r) (follow (root t) (finish t)) ≡ true
+child-follow : (s q : ℕ) (t : Tree) (r : List Token) → is_leaf s ≡ false → has s q (root t) ≡ true → Ok t
+    → NextOk s (target s q (root t) + finish t) r → holds (first r) (follow (root t) (finish t)) ≡ true
 unfolding has target
 child-follow s q t r l h o n =
     let c = exits-at t (λ x. subset (state_begins (at s (target s q (root t) + x))) (follow (root t) x) and (not (ends s (target s q (root t) + x)) or subset (follow s (exit s (target s q (root t) + x))) (follow (root t) x))) (arcs-at (arcs s q) (λ k q. exits k (λ x. subset (state_begins (at s (q + x))) (follow k x) and (not (ends s (q + x)) or subset (follow s (exit s (q + x))) (follow k x)))) (root t) (follow-arcs s q l) h) o in
@@ -216,7 +228,10 @@ pub and-false-l : (a b : Bool) → a ≡ false → a and b ≡ false
 unfolding ◌and◌
 and-false-l a b e = rw e refl
 
-unfire-one : (ks : List Entry) (s k q a : ℕ) (y z : List Token) (x2 y2 : ℕ) (a2 : Bool) → all_entries ks (λ x1 y1 a1. disjoint x1 x2 or (not a2 and disjoint y1 y2 and (not a1 or exits k (λ x. clear s q x y2)))) ≡ true → starts_in ks a y ≡ true → ((m : ℕ) → exits k (λ x. clear s q x m) ≡ true → holds (first z) m ≡ false) → (holds a x2 and (a2 or holds (first (y ++ z)) y2)) ≡ false
+unfire-one : (ks : List Entry) (s k q a : ℕ) (y z : List Token) (x2 y2 : ℕ) (a2 : Bool)
+    → all_entries ks (λ x1 y1 a1. disjoint x1 x2 or (not a2 and disjoint y1 y2 and (not a1 or exits k (λ x. clear s q x y2)))) ≡ true
+    → starts_in ks a y ≡ true → ((m : ℕ) → exits k (λ x. clear s q x m) ≡ true → holds (first z) m ≡ false)
+    → (holds a x2 and (a2 or holds (first (y ++ z)) y2)) ≡ false
 unfolding first
 unfire-one [] s k q a y z x2 y2 a2 t h g = absurd (true≢false (sym h))
 unfire-one (entry x1 y1 a1 ∷ more) s k q a y z x2 y2 a2 t h g = elim (or-c _ _ h) [
@@ -227,11 +242,14 @@ unfire-one (entry x1 y1 a1 ∷ more) s k q a y z x2 y2 a2 t h g = elim (or-c _ _
   | inr p ↦ unfire-one more s k q a y z x2 y2 a2 (and-r _ _ t) p g
 ]
   where
-    miss : (y : List Token) → second_fits a1 y1 y ≡ true → disjoint y1 y2 ≡ true → not a1 or exits k (λ x. clear s q x y2) ≡ true → holds (first (y ++ z)) y2 ≡ false
+    miss : (y : List Token) → second_fits a1 y1 y ≡ true → disjoint y1 y2 ≡ true → not a1 or exits k (λ x. clear s q x y2) ≡ true
+        → holds (first (y ++ z)) y2 ≡ false
     miss [] f d e = g y2 (implies _ _ e f)
     miss (b ∷ y) f d e = holds-disjoint (class b) y1 y2 d f
 
-unfires : (es ks : List Entry) (s k q a : ℕ) (y z : List Token) → all_entries es (λ x2 y2 a2. all_entries ks (λ x1 y1 a1. disjoint x1 x2 or (not a2 and disjoint y1 y2 and (not a1 or exits k (λ x. clear s q x y2))))) ≡ true → starts_in ks a y ≡ true → ((m : ℕ) → exits k (λ x. clear s q x m) ≡ true → holds (first z) m ≡ false) → fires_in es a (first (y ++ z)) ≡ false
+unfires : (es ks : List Entry) (s k q a : ℕ) (y z : List Token)
+    → all_entries es (λ x2 y2 a2. all_entries ks (λ x1 y1 a1. disjoint x1 x2 or (not a2 and disjoint y1 y2 and (not a1 or exits k (λ x. clear s q x y2))))) ≡ true
+    → starts_in ks a y ≡ true → ((m : ℕ) → exits k (λ x. clear s q x m) ≡ true → holds (first z) m ≡ false) → fires_in es a (first (y ++ z)) ≡ false
 unfires [] ks s k q a y z t h g = refl
 unfires (entry x2 y2 a2 ∷ more) ks s k q a y z t h g = or-false (unfire-one ks s k q a y z x2 y2 a2 (and-l _ _ t) h g) (unfires more ks s k q a y z (and-r _ _ t) h g)
 
@@ -245,7 +263,9 @@ choice-at : (s q : ℕ) → is_leaf s ≡ false → choice_arcs s (arcs s q) ≡
 unfolding arcs
 choice-at s q l = row-test choice_test choice_checked (λ k. refl) s q l
 
-move-go : (s q : ℕ) (t : Tree) (a : Token) (y z : List Token) → is_leaf s ≡ false → has s q (root t) ≡ true → Ok t → starts_in (entries (root t)) (class a) y ≡ true → NextOk s (target s q (root t) + finish t) z → move s q (first (a ∷ (y ++ z))) (second (a ∷ (y ++ z))) ≡ go (root t)
+move-go : (s q : ℕ) (t : Tree) (a : Token) (y z : List Token) → is_leaf s ≡ false → has s q (root t) ≡ true → Ok t
+    → starts_in (entries (root t)) (class a) y ≡ true → NextOk s (target s q (root t) + finish t) z
+    → move s q (first (a ∷ (y ++ z))) (second (a ∷ (y ++ z))) ≡ go (root t)
 unfolding move has target first second fires
 move-go s q t a y z l h o st n = choose-go (arcs s q) s (root t) (target s q (root t)) (class a) (first (y ++ z)) (ends s q) (choice-at s q l) h refl (starts-fires (entries (root t)) (class a) y z st)
     (λ j d. unfires (entries j) (entries (root t)) s (root t) (target s q (root t)) (class a) y z d st
@@ -259,7 +279,8 @@ mutual
   tree-run (leaf l x) r o h = o.0
   tree-run (node s f) r o h = (o.0, forest-run s 0 f r o.0 o.1 h)
 
-  pub forest-run : (s q : ℕ) (f : Forest) (r : List Token) → is_leaf s ≡ false → OkFrom s q f → holds (first r) (follow s (exit s (walk s q f))) ≡ true → RunFrom s q f r
+  pub forest-run : (s q : ℕ) (f : Forest) (r : List Token) → is_leaf s ≡ false → OkFrom s q f
+      → holds (first r) (follow s (exit s (walk s q f))) ≡ true → RunFrom s q f r
   forest-run s q none r l o h = move-close s q r l o h
   forest-run s q (t ▸ f) r l o h =
       let n : NextOk s (target s q (root t) + finish t) (yields f ++ r) = next-ok s (target s q (root t) + finish t) f r o.2 h in

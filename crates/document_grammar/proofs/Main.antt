@@ -46,13 +46,15 @@ one-derivation sort w t u h k =
     sym a.2 ∙ (ap show (one_tree (start_symbol sort w) (opens sort (first w)) a.0 b.0 w a.1 b.1) ∙ b.2)
 
 -- Soundness: where the root's node ends, it is shown as a derivation of the tokens before.
-pub sound : (sort : Sort) (w : List Token) (f : Forest) (r : List Token) → Ended sort w f r → (w ≡ yields f ++ r) × Spells (yields f) (show (node (start_symbol sort w) f)) sort
+pub sound : (sort : Sort) (w : List Token) (f : Forest) (r : List Token) → Ended sort w f r
+    → (w ≡ yields f ++ r) × Spells (yields f) (show (node (start_symbol sort w) f)) sort
 sound sort w f r e =
     let d = done (start_symbol sort w) (opens sort (first w)) w e.0 f r e.1 e.2 in
     (d.0, parse-sentence sort (first w) (yields f) (node (start_symbol sort w) f) d.1.0 d.1.1 d.1.2)
 
 -- Over a sentence it ends behind all tokens, with the sentence's tree.
-pub sound-all : (sort : Sort) (w : List Token) (t : Tree) (f : Forest) (r : List Token) → Spells w t sort → Ended sort w f r → (r ≡ []) × (show (node (start_symbol sort w) f) ≡ t)
+pub sound-all : (sort : Sort) (w : List Token) (t : Tree) (f : Forest) (r : List Token) → Spells w t sort → Ended sort w f r
+    → (r ≡ []) × (show (node (start_symbol sort w) f) ≡ t)
 sound-all sort w t f r h e =
     let a = sentence-parse sort w t h in
     let d = done-all (start_symbol sort w) (opens sort (first w)) a.0 w e.0 f r a.1 e.1 e.2 in
@@ -67,7 +69,8 @@ pub begins : (sort : Sort) (w r : List Token) (k : FaultIn sort w r) → (t : Tr
 begins sort w r k = let h = k.not_late in (show h.0, h.1, parse-sentence sort (first w) (k.before ++ h.1) h.0 h.2 h.3 h.4, h.5)
 
 -- The same wherever the machine comes.
-pub begins-at : (sort : Sort) (w : List Token) (fs : List Frame) (r : List Token) → Reach (start_symbol sort w) w fs r → (b : List Token) × (w ≡ b ++ r) × ((t : Tree) × (v : List Token) × Spells (b ++ v) t sort × AllSpelt v)
+pub begins-at : (sort : Sort) (w : List Token) (fs : List Frame) (r : List Token) → Reach (start_symbol sort w) w fs r
+    → (b : List Token) × (w ≡ b ++ r) × ((t : Tree) × (v : List Token) × Spells (b ++ v) t sort × AllSpelt v)
 begins-at sort w fs r c =
     let s = start_symbol sort w in
     let o = opens sort (first w) in
@@ -75,11 +78,13 @@ begins-at sort w fs r c =
     (spent fs, reach-spent c, (show h.0, h.1, parse-sentence sort (first w) (spent fs ++ h.1) h.0 h.2 h.3 h.4, h.5))
 
 -- Another list with the same beginning has the same start symbol.
-same-start : (sort : Sort) (w b r v : List Token) (u : Tree) → w ≡ b ++ r → first r ≡ first v → Parse (start_symbol sort (b ++ v)) u (b ++ v) → Parse (start_symbol sort w) u (b ++ v)
+same-start : (sort : Sort) (w b r v : List Token) (u : Tree) → w ≡ b ++ r → first r ≡ first v → Parse (start_symbol sort (b ++ v)) u (b ++ v)
+    → Parse (start_symbol sort w) u (b ++ v)
 same-start sort w b r v u e f p = subst (λ (n : ℕ). Parse (opening sort n) u (b ++ v)) (sym (ap first e ∙ first-same b r v f)) p
 
 -- No early fault: no sentence begins with them and goes on with the next two.
-pub not-early : (sort : Sort) (w r : List Token) (k : FaultIn sort w r) (v : List Token) (t : Tree) → Spells (k.before ++ v) t sort → first r ≡ first v → second r ≡ second v → ⊥
+pub not-early : (sort : Sort) (w r : List Token) (k : FaultIn sort w r) (v : List Token) (t : Tree) → Spells (k.before ++ v) t sort
+    → first r ≡ first v → second r ≡ second v → ⊥
 not-early sort w r k v t h e e' =
     let a = sentence-parse sort (k.before ++ v) t h in
     k.not_early a.0 v (same-start sort w k.before r v a.0 k.split e a.1) e e'
@@ -94,7 +99,8 @@ not-starts sort w r k h =
 too-deep : (n a b c : ℕ) → n < a → a ≤ b → c ≡ b → c ≤ n → ⊥
 too-deep n a b c h i e j = omega arith
 
-pub not-within : (sort : Sort) (n : ℕ) (w : List Token) (fs : List Frame) (r : List Token) (c : Firm (start_symbol sort w) w fs r) → n < depth fs → StartsWithin sort n (read c.before ++ next_one r) → ⊥
+pub not-within : (sort : Sort) (n : ℕ) (w : List Token) (fs : List Frame) (r : List Token) (c : Firm (start_symbol sort w) w fs r) → n < depth fs
+    → StartsWithin sort n (read c.before ++ next_one r) → ⊥
 not-within sort n w fs r c d h =
     let a = after-one c.before r h.0 h.2 h.4 in
     let p = sentence-parse sort (c.before ++ a.0) h.1 (subst (λ (z : List Token). Spells z h.1 sort) a.1 h.3) in
@@ -103,7 +109,8 @@ not-within sort n w fs r c d h =
     too-deep n (depth fs) _ (nest h.1) d (left-depth fs a.0 p.0 l) (ap nest (sym p.2) ∙ nest-show p.0 q.0) h.5
 
 -- Over a sentence never more counted nodes are open than its derivation nests: so no limit that it keeps is met.
-pub depth-within : (sort : Sort) (w : List Token) (t : Tree) (fs : List Frame) (r : List Token) → Spells w t sort → Reach (start_symbol sort w) w fs r → depth fs ≤ nest t
+pub depth-within : (sort : Sort) (w : List Token) (t : Tree) (fs : List Frame) (r : List Token) → Spells w t sort → Reach (start_symbol sort w) w fs r
+    → depth fs ≤ nest t
 depth-within sort w t fs r h c =
     let p = sentence-parse sort w t h in
     let l : Left fs r p.0 = on-the-way (start_symbol sort w) (opens sort (first w)) p.0 w fs r p.1 c in
@@ -111,7 +118,9 @@ depth-within sort w t fs r h c =
     subst (λ (n : ℕ). depth fs ≤ n) (sym (nest-show p.0 p.1.0) ∙ ap nest p.2) d
 
 -- The same where a counted node of the symbol `k` begins with the next token.
-pub at-limit : (sort : Sort) (n : ℕ) (w : List Token) (s q x k : ℕ) (f : Forest) (fs : List Frame) (r : List Token) (c : Firm (start_symbol sort w) w (frame s q f ∷ fs) r) → goes s q x any k ≡ true → is_leaf k ≡ false → holds (first r) x ≡ true → n < depth_above fs s + count_in s k → StartsWithin sort n (read c.before ++ next_one r) → ⊥
+pub at-limit : (sort : Sort) (n : ℕ) (w : List Token) (s q x k : ℕ) (f : Forest) (fs : List Frame) (r : List Token) (c : Firm (start_symbol sort w) w (frame s q f ∷ fs) r)
+    → goes s q x any k ≡ true → is_leaf k ≡ false → holds (first r) x ≡ true → n < depth_above fs s + count_in s k
+    → StartsWithin sort n (read c.before ++ next_one r) → ⊥
 unfolding firm-open
 at-limit sort n w s q x k f fs r c t i h d = not-within sort n w (frame k 0 none ∷ frame s q f ∷ fs) r (firm-open x k c t i h) d
 
@@ -128,7 +137,8 @@ pub closed-fit : (sort : Sort) (w : List Token) (fs : List Frame) (r : List Toke
 closed-fit sort w fs r c = sound-fit (start_symbol sort w) fs (reach-sound (no-leaf (start_symbol sort w) (opens sort (first w))) c)
 
 -- The greatest depth that was met is the nesting of the derivation.
-pub peak-nest : (sort : Sort) (w : List Token) (f : Forest) (r : List Token) (e : Ended sort w f r) → peak (frame (start_symbol sort w) e.0 f ∷ []) ≡ nest (show (node (start_symbol sort w) f))
+pub peak-nest : (sort : Sort) (w : List Token) (f : Forest) (r : List Token) (e : Ended sort w f r)
+    → peak (frame (start_symbol sort w) e.0 f ∷ []) ≡ nest (show (node (start_symbol sort w) f))
 peak-nest sort w f r e =
     let d = done (start_symbol sort w) (opens sort (first w)) w e.0 f r e.1 e.2 in
     peak-end (start_symbol sort w) e.0 f ∙ sym (nest-show (node (start_symbol sort w) f) d.1.0)

@@ -191,18 +191,22 @@ nullable-from (p or_else q) h = elim (or-c _ _ h) [ inl x ↦ inl (nullable-from
 nullable-from (many p) h = stop
 
 -- The rest of a repetition behind its first child.
-rest-split : (p : Pattern) (k : ℕ) (w u v : List ℕ) → ((v : List ℕ) → Matches p (k ∷ v) → Matches (deriv p k) v) → Matches p u → Repeats (Matches p) v → u ++ v ≡ k ∷ w → (v ≡ k ∷ w → Matches (deriv p k then many p) w) → Matches (deriv p k then many p) w
+rest-split : (p : Pattern) (k : ℕ) (w u v : List ℕ) → ((v : List ℕ) → Matches p (k ∷ v) → Matches (deriv p k) v) → Matches p u → Repeats (Matches p) v
+    → u ++ v ≡ k ∷ w → (v ≡ k ∷ w → Matches (deriv p k then many p) w) → Matches (deriv p k then many p) w
 rest-split p k w [] v d m r e ih = ih e
 rest-split p k w (a ∷ u) v d m r e ih = (u, v, sym (tail-same e), d u (subst (λ (n : ℕ). Matches p (n ∷ u)) (head-same e) m), r)
 
-rest-of : (p : Pattern) (k : ℕ) (w : List ℕ) (d : (v : List ℕ) → Matches p (k ∷ v) → Matches (deriv p k) v) {x : List ℕ} → Repeats (Matches p) x → x ≡ k ∷ w → Matches (deriv p k then many p) w
+rest-of : (p : Pattern) (k : ℕ) (w : List ℕ) (d : (v : List ℕ) → Matches p (k ∷ v) → Matches (deriv p k) v) {x : List ℕ} → Repeats (Matches p) x
+    → x ≡ k ∷ w → Matches (deriv p k then many p) w
 rest-of p k w d stop e = no-cons e
 rest-of p k w d (again {u = u} {v = v} m r f) e = rest-split p k w u v d m r (sym f ∙ e) (λ e'. rest-of p k w d r e')
 
-then-at : (p q : Pattern) (k : ℕ) (w : List ℕ) (b : Bool) → nullable p ≡ b → Matches (cond b (alt (seq (deriv p k) q) (deriv q k)) (seq (deriv p k) q)) w → Matches (deriv (p then q) k) w
+then-at : (p q : Pattern) (k : ℕ) (w : List ℕ) (b : Bool) → nullable p ≡ b
+    → Matches (cond b (alt (seq (deriv p k) q) (deriv q k)) (seq (deriv p k) q)) w → Matches (deriv (p then q) k) w
 then-at p q k w b e m = subst (λ (z : Bool). Matches (cond z (alt (seq (deriv p k) q) (deriv q k)) (seq (deriv p k) q)) w) (sym e) m
 
-then-to : (p q : Pattern) (k : ℕ) (w u v : List ℕ) → k ∷ w ≡ u ++ v → Matches p u → Matches q v → ((u' : List ℕ) → Matches p (k ∷ u') → Matches (deriv p k) u') → (Matches q (k ∷ w) → Matches (deriv q k) w) → Matches (deriv (p then q) k) w
+then-to : (p q : Pattern) (k : ℕ) (w u v : List ℕ) → k ∷ w ≡ u ++ v → Matches p u → Matches q v
+    → ((u' : List ℕ) → Matches p (k ∷ u') → Matches (deriv p k) u') → (Matches q (k ∷ w) → Matches (deriv q k) w) → Matches (deriv (p then q) k) w
 then-to p q k w [] v e m n dp dq = then-at p q k w true (nullable-to p m) (alt-to (seq (deriv p k) q) (deriv q k) w (inr (dq (subst (λ (z : List ℕ). Matches q z) (sym e) n))))
 then-to p q k w (a ∷ u) v e m n dp dq =
     let s : Matches (seq (deriv p k) q) w = seq-to (deriv p k) q w (u, v, tail-same e, dp u (subst (λ (z : ℕ). Matches p (z ∷ u)) (sym (head-same e)) m), n) in
@@ -229,7 +233,8 @@ from-deriv (p then q) k w h = then-from (either (nullable p)) (λ u m. from-deri
     first-part : Matches (seq (deriv p k) q) w → ((u : List ℕ) → Matches (deriv p k) u → Matches p (k ∷ u)) → Matches (p then q) (k ∷ w)
     first-part m dp = let s = seq-from (deriv p k) q w m in (k ∷ s.0, s.1, ap (λ (v : List ℕ). k ∷ v) s.2, dp s.0 s.3, s.4)
 
-    then-from : (nullable p ≡ true) ⊎ (nullable p ≡ false) → ((u : List ℕ) → Matches (deriv p k) u → Matches p (k ∷ u)) → (Matches (deriv q k) w → Matches q (k ∷ w)) → Matches (p then q) (k ∷ w)
+    then-from : (nullable p ≡ true) ⊎ (nullable p ≡ false) → ((u : List ℕ) → Matches (deriv p k) u → Matches p (k ∷ u))
+        → (Matches (deriv q k) w → Matches q (k ∷ w)) → Matches (p then q) (k ∷ w)
     then-from (inl e) dp dq =
         let m : Matches (alt (seq (deriv p k) q) (deriv q k)) w = subst (λ (z : Bool). Matches (cond z (alt (seq (deriv p k) q) (deriv q k)) (seq (deriv p k) q)) w) e h in
         elim (alt-from (seq (deriv p k) q) (deriv q k) w m) [
@@ -256,7 +261,9 @@ first-kind (any_of ks) k w h = elim (either (member k ks)) [ inl e ↦ e | inr e
 first-kind nothing k w h = never-none w h
 first-kind (p then q) k w h = then-first (either (nullable p)) (λ u m. first-kind p k u m) (λ m. first-kind q k w m)
   where
-    then-first : (nullable p ≡ true) ⊎ (nullable p ≡ false) → ((u : List ℕ) → Matches (deriv p k) u → member k (begin_kinds p) ≡ true) → (Matches (deriv q k) w → member k (begin_kinds q) ≡ true) → member k (cond (nullable p) (begin_kinds p ++ begin_kinds q) (begin_kinds p)) ≡ true
+    then-first : (nullable p ≡ true) ⊎ (nullable p ≡ false) → ((u : List ℕ) → Matches (deriv p k) u → member k (begin_kinds p) ≡ true)
+        → (Matches (deriv q k) w → member k (begin_kinds q) ≡ true)
+        → member k (cond (nullable p) (begin_kinds p ++ begin_kinds q) (begin_kinds p)) ≡ true
     then-first (inl e) dp dq =
         let m : Matches (alt (seq (deriv p k) q) (deriv q k)) w = subst (λ (z : Bool). Matches (cond z (alt (seq (deriv p k) q) (deriv q k)) (seq (deriv p k) q)) w) e h in
         rw e (elim (alt-from (seq (deriv p k) q) (deriv q k) w m) [

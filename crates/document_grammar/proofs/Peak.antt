@@ -41,7 +41,8 @@ max-none : (c : ℕ) → c + max 0 0 ≡ c
 max-none c = omega arith
 
 -- A node opens.
-pub peak-open : (s q k : ℕ) (f : Forest) (fs : List Frame) → peak (frame k 0 none ∷ frame s q f ∷ fs) ≡ max (peak (frame s q f ∷ fs)) (depth_above (frame s q f ∷ fs) k)
+pub peak-open : (s q k : ℕ) (f : Forest) (fs : List Frame)
+    → peak (frame k 0 none ∷ frame s q f ∷ fs) ≡ max (peak (frame s q f ∷ fs)) (depth_above (frame s q f ∷ fs) k)
 peak-open s q k f fs = ap (λ (z : ℕ). peak_over (frame s q f ∷ fs) z) (max-none (count_in s k)) ∙ over s q f fs (count_in s k)
 
 -- It starts with the root's own.
@@ -58,7 +59,8 @@ max-right : (m : ℕ) → max m 0 ≡ m
 max-right m = omega arith
 
 -- A node ends.
-pub peak-close : (s q p k o : ℕ) (f g : Forest) (fs : List Frame) → peak (frame s p (f +++ (node k g ▸ none)) ∷ fs) ≡ peak (frame k o g ∷ frame s q f ∷ fs)
+pub peak-close : (s q p k o : ℕ) (f g : Forest) (fs : List Frame)
+    → peak (frame s p (f +++ (node k g ▸ none)) ∷ fs) ≡ peak (frame k o g ∷ frame s q f ∷ fs)
 peak-close s q p k o f g fs =
     ap (λ (z : ℕ). peak_over fs (count_on fs s + z))
     (max-right (nestings s (f +++ (node k g ▸ none))) ∙ (nestings-snoc s f (node k g) ∙ ap (λ (z : ℕ). max (nestings s f) (count_in s k + z)) (sym (max-right (nestings k g)))))
@@ -90,7 +92,8 @@ leaf-counts-none s l i =
     let c = leaf-count-at 60 l (leaf-lt l i) leaf-counts-checked in
     rw (not-c _ (and-l _ _ c), not-c _ (and-r _ _ c)) (cond-zero (member (label s) (LIST_VALUE ∷ OBJECT_FIELD ∷ [])))
 
-pub peak-shift : (s q p l : ℕ) (x : Text) (f : Forest) (fs : List Frame) → is_leaf l ≡ true → peak (frame s p (f +++ (leaf l x ▸ none)) ∷ fs) ≡ peak (frame s q f ∷ fs)
+pub peak-shift : (s q p l : ℕ) (x : Text) (f : Forest) (fs : List Frame) → is_leaf l ≡ true
+    → peak (frame s p (f +++ (leaf l x ▸ none)) ∷ fs) ≡ peak (frame s q f ∷ fs)
 peak-shift s q p l x f fs i =
     ap (λ (z : ℕ). peak_over fs (count_on fs s + max z 0)) (nestings-snoc s f (leaf l x) ∙ (ap (λ (z : ℕ). max (nestings s f) (z + 0)) (leaf-counts-none s l i) ∙ max-right (nestings s f)))
 

@@ -64,7 +64,8 @@ child-checked : all_rows 60 rows child_test ≡ true
 unfolding ◌and◌ ◌or◌ rows label labels constant member
 child-checked = refl
 
-child-arc : (s q k : ℕ) → is_leaf s ≡ false → has s q k ≡ true → (not (inconst k) or (constant s or (member (label s) Marked and eqb k DIRECTIVES_CONST))) and (not (fname k) or fparent s) and (not (ename k) or eparent s) and (not (eqb k OPERATION_DEFINITION or eqb k SHORT_QUERY) or eqb s DOCUMENT) and not (eqb k 0 or eqb k 3 or ltb 130 k) ≡ true
+child-arc : (s q k : ℕ) → is_leaf s ≡ false → has s q k ≡ true
+    → (not (inconst k) or (constant s or (member (label s) Marked and eqb k DIRECTIVES_CONST))) and (not (fname k) or fparent s) and (not (ename k) or eparent s) and (not (eqb k OPERATION_DEFINITION or eqb k SHORT_QUERY) or eqb s DOCUMENT) and not (eqb k 0 or eqb k 3 or ltb 130 k) ≡ true
 unfolding has arcs
 child-arc s q k l h = arcs-at (arcs s q) (λ k q. (not (inconst k) or (constant s or (member (label s) Marked and eqb k DIRECTIVES_CONST))) and (not (fname k) or fparent s) and (not (ename k) or eparent s) and (not (eqb k OPERATION_DEFINITION or eqb k SHORT_QUERY) or eqb s DOCUMENT) and not (eqb k 0 or eqb k 3 or ltb 130 k)) k (row-test child_test child-checked (λ k. refl) s q l) h
 
@@ -72,7 +73,8 @@ shown-directives : (j k : ℕ) → eqb k DIRECTIVES_CONST ≡ true → member j 
 unfolding shown label labels member
 shown-directives j k e m = let m' : member j (shown DIRECTIVES_CONST) ≡ true = rw (eqb-true k DIRECTIVES_CONST e) at m in elim (either (eqb DIRECTIVES j)) [ inl p ↦ sym (eqb-true DIRECTIVES j p) | inr p ↦ absurd (true≢false (sym (rw p at m'))) ]
 
-kids-cond : (s q k : ℕ) (t : Tree) (f : Forest) → is_leaf s ≡ false → eqb s DOCUMENT ≡ false → has s q k ≡ true → member (root t) (shown k) ≡ true → Kids s (t ▸ f) → Cond k t
+kids-cond : (s q k : ℕ) (t : Tree) (f : Forest) → is_leaf s ≡ false → eqb s DOCUMENT ≡ false → has s q k ≡ true → member (root t) (shown k) ≡ true
+    → Kids s (t ▸ f) → Cond k t
 kids-cond s q k t f l n h m d =
     let c = child-arc s q k l h in
     let c3 = and-l _ _ c in
@@ -190,7 +192,8 @@ fires-ident : (fires 18 18 0 ≡ true) × (fires 1 18 0 ≡ true) × (fires 2 18
 unfolding ◌and◌ ◌or◌ fires entries firsts holds
 fires-ident = (refl, refl, refl)
 
-word-is : (x : Text) (k : ℕ) → word_class words x ≡ k → (k ≡ 18 → ⊥) → (not (eqb k 26) or text_eq x on_text) and (not (eqb k 27) or text_eq x true_text) and (not (eqb k 28) or text_eq x false_text) and (not (eqb k 29) or text_eq x null_text) ≡ true
+word-is : (x : Text) (k : ℕ) → word_class words x ≡ k → (k ≡ 18 → ⊥)
+    → (not (eqb k 26) or text_eq x on_text) and (not (eqb k 27) or text_eq x true_text) and (not (eqb k 28) or text_eq x false_text) and (not (eqb k 29) or text_eq x null_text) ≡ true
 word-is x k e n = listed-at words (λ k y. (not (eqb k 26) or text_eq y on_text) and (not (eqb k 27) or text_eq y true_text) and (not (eqb k 28) or text_eq y false_text) and (not (eqb k 29) or text_eq y null_text)) k x word-texts-checked (listed words k x e n)
 
 num : (a b : ℕ) → eqb a b ≡ false → a ≡ b → ⊥
@@ -228,7 +231,8 @@ own-class : (k : ℕ) (x : Text) → holds k name_leaves ≡ false → eqb k 18 
 unfolding class token
 own-class k x h n t = rw (h, n, t) refl
 
-keyword-fires : (k : ℕ) (x : Text) → LeafRule (label k) x → ltb 21 k and fires k k 0 and eqb (label k) k ≡ true → fires k (word_class words x) 0 ≡ true
+keyword-fires : (k : ℕ) (x : Text) → LeafRule (label k) x → ltb 21 k and fires k k 0 and eqb (label k) k ≡ true
+    → fires k (word_class words x) 0 ≡ true
 keyword-fires k x r p =
     let e : label k ≡ k = eqb-true _ _ (and-r _ _ p) in
     let b : 21 < k = ltb-true _ _ (and-l _ _ (and-l _ _ p)) in
@@ -236,7 +240,8 @@ keyword-fires k x r p =
     let w : word_class words x ≡ k = eqb-true _ _ (listed-at words (λ k y. eqb (word_class words y) k) k x keywords-checked i) in
     subst (λ (n : ℕ). fires k n 0 ≡ true) (sym w) (and-r _ _ (and-l _ _ p))
 
-leaf-fires : (k : ℕ) (x : Text) → is_leaf k ≡ true → (eqb k 0 or eqb k 3) ≡ false → LeafRule (label k) x → (fname k ≡ true → x ≢ on_text) → (ename k ≡ true → NoWord x) → fires k (class (token k x)) 0 ≡ true
+leaf-fires : (k : ℕ) (x : Text) → is_leaf k ≡ true → (eqb k 0 or eqb k 3) ≡ false → LeafRule (label k) x → (fname k ≡ true → x ≢ on_text)
+    → (ename k ≡ true → NoWord x) → fires k (class (token k x)) 0 ≡ true
 leaf-fires k x l n r fn en = elim (or-c _ _ (leaf-read-at 60 k (leaf-lt k l) leaf-reads-checked)) [
   | inl p ↦ false-true n p
   | inr c ↦ elim (either (holds k name_leaves)) [
@@ -308,7 +313,9 @@ no-variable (node j f) h n e = n.0 e
 no-variables : (t : Tree) (f : Forest) → NoVariables (t ▸ f) → NoVariable t
 no-variables t f n = n.0
 
-build-forest : (s q k : ℕ) (t : Tree) (f : Forest) → is_leaf s ≡ false → agree_at s q ≡ true → has s q k ≡ true → member (root t) (shown k) ≡ true → Matches (deriv (pattern_of s q) (root t)) (kinds f) → Read k t → ((p : ℕ) → Matches (pattern_of s p) (kinds f) → agree_at s p ≡ true → ReadFrom s p f) → ReadFrom s q (t ▸ f)
+build-forest : (s q k : ℕ) (t : Tree) (f : Forest) → is_leaf s ≡ false → agree_at s q ≡ true → has s q k ≡ true → member (root t) (shown k) ≡ true
+    → Matches (deriv (pattern_of s q) (root t)) (kinds f) → Read k t
+    → ((p : ℕ) → Matches (pattern_of s p) (kinds f) → agree_at s p ≡ true → ReadFrom s p f) → ReadFrom s q (t ▸ f)
 build-forest s q k t f l a h m d r rf =
     let hu : has s q (root r.0) ≡ true = subst (λ (n : ℕ). has s q n ≡ true) (sym r.2) h in
     let mu : member (root t) (shown (root r.0)) ≡ true = subst (λ (n : ℕ). member (root t) (shown n) ≡ true) (sym r.2) m in
@@ -318,7 +325,9 @@ build-forest s q k t f l a h m d r rf =
     let g = rf (target s q (root r.0) + finish r.0) (subst (λ (z : Pattern). Matches z (kinds f)) e d) (agree s (target s q (root r.0) + finish r.0) l v) in
     (r.0 ▸ g.0, (hu, r.1, g.1), ap₂ (λ x y. x ▸ y) r.3 g.2)
 
-read-step : (s q : ℕ) (t : Tree) (f : Forest) → is_leaf s ≡ false → eqb s DOCUMENT ≡ false → Matches (pattern_of s q) (root t ∷ kinds f) → agree_at s q ≡ true → Kids s (t ▸ f) → Fits t → ((k : ℕ) → Cond k t → Read k t) → ((p : ℕ) → Matches (pattern_of s p) (kinds f) → agree_at s p ≡ true → ReadFrom s p f) → ReadFrom s q (t ▸ f)
+read-step : (s q : ℕ) (t : Tree) (f : Forest) → is_leaf s ≡ false → eqb s DOCUMENT ≡ false → Matches (pattern_of s q) (root t ∷ kinds f)
+    → agree_at s q ≡ true → Kids s (t ▸ f) → Fits t → ((k : ℕ) → Cond k t → Read k t)
+    → ((p : ℕ) → Matches (pattern_of s p) (kinds f) → agree_at s p ≡ true → ReadFrom s p f) → ReadFrom s q (t ▸ f)
 read-step s q t f l n m a d h rt rf =
     let dm : Matches (deriv (pattern_of s q) (root t)) (kinds f) = to-deriv (pattern_of s q) (root t) (kinds f) m in
     elim (or-c _ _ (agree-kind s q (root t) a (first-kind (pattern_of s q) (root t) (kinds f) dm))) [
@@ -398,7 +407,8 @@ no-query : (f : Forest) → Matches (one SELECTION_SET) (kinds f) → StartsWith
 no-query none m = no-cons m.2
 no-query (t ▸ f) m = head-same m.2 ∙ member-one m.0 SELECTION_SET m.1
 
-symbol-row-from : (k j : ℕ) (f : Forest) → label k ≡ j → eqb k TYPE ≡ false → k < 131 → (k ≡ OPERATION_DEFINITION → IsQuery (node j f) → ⊥) → (k ≡ SHORT_QUERY → IsQuery (node j f)) → Matches (Row j) (kinds f) → Matches (symbol_row k) (kinds f)
+symbol-row-from : (k j : ℕ) (f : Forest) → label k ≡ j → eqb k TYPE ≡ false → k < 131 → (k ≡ OPERATION_DEFINITION → IsQuery (node j f) → ⊥)
+    → (k ≡ SHORT_QUERY → IsQuery (node j f)) → Matches (Row j) (kinds f) → Matches (symbol_row k) (kinds f)
 unfolding symbol_row label labels Row
 symbol-row-from k j f e n b q1 q2 m = elim (either (eqb k OPERATION_DEFINITION)) [
   | inl p ↦ (let x : k ≡ OPERATION_DEFINITION = eqb-true k OPERATION_DEFINITION p in
@@ -502,7 +512,8 @@ node-document : is_leaf DOCUMENT ≡ false
 unfolding is_leaf
 node-document = refl
 
-document-cond : (q k : ℕ) (t : Tree) → has DOCUMENT q k ≡ true → member (root t) (shown k) ≡ true → (k ≡ OPERATION_DEFINITION → IsQuery t → ⊥) → (k ≡ SHORT_QUERY → IsQuery t) → Cond k t
+document-cond : (q k : ℕ) (t : Tree) → has DOCUMENT q k ≡ true → member (root t) (shown k) ≡ true → (k ≡ OPERATION_DEFINITION → IsQuery t → ⊥)
+    → (k ≡ SHORT_QUERY → IsQuery t) → Cond k t
 document-cond q k t h m q1 q2 =
     let c = child-arc DOCUMENT q k node-document h in
     let c3 = and-l _ _ c in
@@ -538,7 +549,10 @@ not-before t (u ▸ f) n l = n l
 sum-is : (a b c d : ℕ) → a ≡ c → b ≡ d → a + b ≡ c + d
 sum-is a b c d e f = ap₂ (λ (x y : ℕ). x + y) e f
 
-document-build : (q k : ℕ) (t : Tree) (f : Forest) → agree_at DOCUMENT q ≡ true → has DOCUMENT q k ≡ true → member (root t) (shown k) ≡ true → Matches (deriv (pattern_of DOCUMENT q) (root t)) (kinds f) → NotBefore t f → Read k t → ((p : ℕ) → InDocument p → (p ≡ 2 → FirstNoQuery f) → Matches (pattern_of DOCUMENT p) (kinds f) → agree_at DOCUMENT p ≡ true → ReadFrom DOCUMENT p f) → ReadFrom DOCUMENT q (t ▸ f)
+document-build : (q k : ℕ) (t : Tree) (f : Forest) → agree_at DOCUMENT q ≡ true → has DOCUMENT q k ≡ true → member (root t) (shown k) ≡ true
+    → Matches (deriv (pattern_of DOCUMENT q) (root t)) (kinds f) → NotBefore t f → Read k t
+    → ((p : ℕ) → InDocument p → (p ≡ 2 → FirstNoQuery f) → Matches (pattern_of DOCUMENT p) (kinds f) → agree_at DOCUMENT p ≡ true → ReadFrom DOCUMENT p f)
+    → ReadFrom DOCUMENT q (t ▸ f)
 document-build q k t f a h m d nb r rf =
     let hu : has DOCUMENT q (root r.0) ≡ true = subst (λ (n : ℕ). has DOCUMENT q n ≡ true) (sym r.2) h in
     let mu : member (root t) (shown (root r.0)) ≡ true = subst (λ (n : ℕ). member (root t) (shown n) ≡ true) (sym r.2) m in
@@ -568,7 +582,10 @@ shown-operation : (j k : ℕ) → (k ≡ OPERATION_DEFINITION) ⊎ (k ≡ SHORT_
 unfolding shown label labels
 shown-operation j k h m = elim h [ inl e ↦ (let m' : member j (OPERATION_DEFINITION ∷ []) ≡ true = rw e at m in member-one j OPERATION_DEFINITION m') | inr e ↦ (let m' : member j (OPERATION_DEFINITION ∷ []) ≡ true = rw e at m in member-one j OPERATION_DEFINITION m') ]
 
-document-step : (q : ℕ) (t : Tree) (f : Forest) → InDocument q → (q ≡ 2 → IsQuery t → ⊥) → Matches (pattern_of DOCUMENT q) (root t ∷ kinds f) → agree_at DOCUMENT q ≡ true → NotBefore t f → ((k : ℕ) → Cond k t → Read k t) → ((p : ℕ) → InDocument p → (p ≡ 2 → FirstNoQuery f) → Matches (pattern_of DOCUMENT p) (kinds f) → agree_at DOCUMENT p ≡ true → ReadFrom DOCUMENT p f) → ReadFrom DOCUMENT q (t ▸ f)
+document-step : (q : ℕ) (t : Tree) (f : Forest) → InDocument q → (q ≡ 2 → IsQuery t → ⊥) → Matches (pattern_of DOCUMENT q) (root t ∷ kinds f)
+    → agree_at DOCUMENT q ≡ true → NotBefore t f → ((k : ℕ) → Cond k t → Read k t)
+    → ((p : ℕ) → InDocument p → (p ≡ 2 → FirstNoQuery f) → Matches (pattern_of DOCUMENT p) (kinds f) → agree_at DOCUMENT p ≡ true → ReadFrom DOCUMENT p f)
+    → ReadFrom DOCUMENT q (t ▸ f)
 document-step q t f i n m a nb rt rf =
     let dm : Matches (deriv (pattern_of DOCUMENT q) (root t)) (kinds f) = to-deriv (pattern_of DOCUMENT q) (root t) (kinds f) m in
     elim (either (eqb (root t) OPERATION_DEFINITION)) [
@@ -627,7 +644,9 @@ wrap j t h r =
     (node TYPE (r.0 ▸ none), (type-facts.0, (hu, r.1, en)), refl, r.3)
 
 -- A node, but for a type or a document, from the reading of its children.
-node-read : (k j : ℕ) (f : Forest) → is_leaf k ≡ false → eqb k TYPE ≡ false → eqb k DOCUMENT ≡ false → Fits (node j f) → Cond k (node j f) → ((s q : ℕ) → is_leaf s ≡ false → eqb s DOCUMENT ≡ false → Matches (pattern_of s q) (kinds f) → agree_at s q ≡ true → Kids s f → ReadFrom s q f) → Read k (node j f)
+node-read : (k j : ℕ) (f : Forest) → is_leaf k ≡ false → eqb k TYPE ≡ false → eqb k DOCUMENT ≡ false → Fits (node j f) → Cond k (node j f)
+    → ((s q : ℕ) → is_leaf s ≡ false → eqb s DOCUMENT ≡ false → Matches (pattern_of s q) (kinds f) → agree_at s q ≡ true → Kids s f → ReadFrom s q f)
+    → Read k (node j f)
 node-read k j f l n n' h c rf =
     let e : label k ≡ j = shown-label j k n c.0 in
     let m : Matches (symbol_row k) (kinds f) = symbol-row-from k j f e n (below-bare_selections k c.6) c.4 c.5 h.0 in
@@ -636,7 +655,8 @@ node-read k j f l n n' h c rf =
     let g = rf k 0 l n' m' a (cond-kids k j f e m' h.1 h.2 c) in
     (node k g.0, (l, g.1), refl, show-root k g.0 n ∙ ap₂ node e g.2)
 
-type-plain : (j : ℕ) → (j ≡ NAMED_TYPE) ⊎ (j ≡ LIST_TYPE) → (is_leaf j ≡ false) × (eqb j TYPE ≡ false) × (eqb j 60 ≡ false) × (member j (shown j) ≡ true) × (inconst j ≡ false) × (fname j ≡ false) × (ename j ≡ false) × ((eqb j 0 or eqb j 3 or ltb 130 j) ≡ false) × (fillable j 0 ≡ true)
+type-plain : (j : ℕ) → (j ≡ NAMED_TYPE) ⊎ (j ≡ LIST_TYPE)
+    → (is_leaf j ≡ false) × (eqb j TYPE ≡ false) × (eqb j 60 ≡ false) × (member j (shown j) ≡ true) × (inconst j ≡ false) × (fname j ≡ false) × (ename j ≡ false) × ((eqb j 0 or eqb j 3 or ltb 130 j) ≡ false) × (fillable j 0 ≡ true)
 unfolding is_leaf constant label labels shown member ◌or◌ ◌and◌ ends at rows fillable ending endings spellings has target arcs exit fires entries firsts holds class token words
 type-plain j h = elim h [ inl p ↦ rw p (refl, refl, refl, refl, refl, refl, refl, refl, refl) | inr p ↦ rw p (refl, refl, refl, refl, refl, refl, refl, refl, refl) ]
 
@@ -653,7 +673,9 @@ type-cond j f h =
       (λ i. p.8),
     )
 
-type-read : (j : ℕ) (f : Forest) → Fits (node j f) → member j (shown TYPE) ≡ true → ((s q : ℕ) → is_leaf s ≡ false → eqb s DOCUMENT ≡ false → Matches (pattern_of s q) (kinds f) → agree_at s q ≡ true → Kids s f → ReadFrom s q f) → Read TYPE (node j f)
+type-read : (j : ℕ) (f : Forest) → Fits (node j f) → member j (shown TYPE) ≡ true
+    → ((s q : ℕ) → is_leaf s ≡ false → eqb s DOCUMENT ≡ false → Matches (pattern_of s q) (kinds f) → agree_at s q ≡ true → Kids s f → ReadFrom s q f)
+    → Read TYPE (node j f)
 type-read j f h m rf = elim (shown-types j m) [
   | inl x ↦ (let p = type-plain j x in wrap j (node j f) x (node-read j j f p.0 p.1 p.2 h (type-cond j f x) rf))
   | inr x ↦ (let r = row-non_null_type (kinds f) (subst (λ (n : ℕ). Matches (Row n) (kinds f)) x h.0) in
@@ -672,7 +694,10 @@ type-above j h = elim h [ inl p ↦ elim p [ inl q ↦ omega arith | inr q ↦ o
 brace-first : (t : Tree) (f : Forest) → BraceRule (t ▸ f) → NotBefore t f
 brace-first t f b = b.0
 
-pick-node : (k j : ℕ) (f : Forest) → Fits (node j f) → Cond k (node j f) → ((s q : ℕ) → is_leaf s ≡ false → eqb s DOCUMENT ≡ false → Matches (pattern_of s q) (kinds f) → agree_at s q ≡ true → Kids s f → ReadFrom s q f) → ((q : ℕ) → InDocument q → (q ≡ 2 → FirstNoQuery f) → BraceRule f → Matches (pattern_of DOCUMENT q) (kinds f) → agree_at DOCUMENT q ≡ true → ReadFrom DOCUMENT q f) → Read k (node j f)
+pick-node : (k j : ℕ) (f : Forest) → Fits (node j f) → Cond k (node j f)
+    → ((s q : ℕ) → is_leaf s ≡ false → eqb s DOCUMENT ≡ false → Matches (pattern_of s q) (kinds f) → agree_at s q ≡ true → Kids s f → ReadFrom s q f)
+    → ((q : ℕ) → InDocument q → (q ≡ 2 → FirstNoQuery f) → BraceRule f → Matches (pattern_of DOCUMENT q) (kinds f) → agree_at DOCUMENT q ≡ true → ReadFrom DOCUMENT q f)
+    → Read k (node j f)
 pick-node k j f h c rf rd = elim (either (is_leaf k)) [
   | inl l ↦ (let e : label k ≡ j = shown-label j k (leaf-is-no-type k l) c.0 in no-row j (kinds f) (subst (λ (n : ℕ). n < 60) e (label-leaf k (below-bare_selections k c.6) l)) h.0)
   | inr l ↦ elim (either (eqb k TYPE)) [
@@ -705,11 +730,13 @@ mutual
   read-tree (leaf j x) k h c = leaf-any k j x h c
   read-tree (node j f) k h c = pick-node k j f h c (λ s q l n m a d. read-forest f s q l n m a d h.4) (λ q i n b m a. read-document f q i n b m a h.4)
 
-  pub read-forest : (f : Forest) (s q : ℕ) → is_leaf s ≡ false → eqb s DOCUMENT ≡ false → Matches (pattern_of s q) (kinds f) → agree_at s q ≡ true → Kids s f → AllFit f → ReadFrom s q f
+  pub read-forest : (f : Forest) (s q : ℕ) → is_leaf s ≡ false → eqb s DOCUMENT ≡ false → Matches (pattern_of s q) (kinds f) → agree_at s q ≡ true
+      → Kids s f → AllFit f → ReadFrom s q f
   read-forest none s q l n m a d h = read-end s q a m
   read-forest (t ▸ f) s q l n m a d h = read-step s q t f l n m a d h.0 (λ k c. read-tree t k h.0 c) (λ p m' a'. read-forest f s p l n m' a' (kids-tail s t f d) h.1)
 
-  pub read-document : (f : Forest) (q : ℕ) → InDocument q → (q ≡ 2 → FirstNoQuery f) → BraceRule f → Matches (pattern_of DOCUMENT q) (kinds f) → agree_at DOCUMENT q ≡ true → AllFit f → ReadFrom DOCUMENT q f
+  pub read-document : (f : Forest) (q : ℕ) → InDocument q → (q ≡ 2 → FirstNoQuery f) → BraceRule f → Matches (pattern_of DOCUMENT q) (kinds f)
+      → agree_at DOCUMENT q ≡ true → AllFit f → ReadFrom DOCUMENT q f
   read-document none q i n b m a h = read-end DOCUMENT q a m
   read-document (t ▸ f) q i n b m a h = document-step q t f i n m a b.0 (λ k c. read-tree t k h.0 c) (λ p i' n' m' a'. read-document f p i' n' b.1 m' a' h.1)
 

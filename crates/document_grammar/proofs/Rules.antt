@@ -144,7 +144,8 @@ one-tree (t ▸ none) k e = (t, refl)
 one-tree (t ▸ (u ▸ f)) k e = no-cons (sym (tail-same e))
 
 -- A node whose row is one child of one kind has one child.
-pub single : (s k : ℕ) (f : Forest) → is_leaf s ≡ false → eqb s TYPE ≡ false → pattern_of s 0 ≡ any_of (k ∷ []) → OkFrom s 0 f → (t : Tree) × (f ≡ t ▸ none)
+pub single : (s k : ℕ) (f : Forest) → is_leaf s ≡ false → eqb s TYPE ≡ false → pattern_of s 0 ≡ any_of (k ∷ []) → OkFrom s 0 f
+    → (t : Tree) × (f ≡ t ▸ none)
 single s k f l e p o = let m : Matches (any_of (k ∷ [])) (kinds (shows f)) = subst (λ (q : Pattern). Matches q (kinds (shows f))) p (row-shown s 0 f l o) in one-tree f m.0 m.2
 
 -- A node of the symbol `s` whose row is the symbol `j` alone.
@@ -167,7 +168,8 @@ trim : (i : ℕ) (y : Text) → NameLeaf i y → NameLeaf i (y ++ [])
 unfolding NameLeaf
 trim i y h = (h.0, append-nil y ∙ h.1, h.2)
 
-inner-text : (j i : ℕ) (t : Tree) → root t ≡ j → is_leaf j ≡ false → eqb j TYPE ≡ false → pattern_of j 0 ≡ any_of (18 ∷ []) → arcs j 0 ≡ (i, 1) ∷ [] → is_leaf i ≡ true → Ok t → NameLeaf i (text (show t))
+inner-text : (j i : ℕ) (t : Tree) → root t ≡ j → is_leaf j ≡ false → eqb j TYPE ≡ false → pattern_of j 0 ≡ any_of (18 ∷ []) → arcs j 0 ≡ (i, 1) ∷ []
+    → is_leaf i ≡ true → Ok t → NameLeaf i (text (show t))
 inner-text j i (leaf l x) e lj ej pj aj li o = no-leaf-root l j o.0 e lj
 inner-text j i (node s g) e lj ej pj aj li o =
     let g' : OkFrom j 0 g = subst (λ (n : ℕ). OkFrom n 0 g) e o.1 in
@@ -178,7 +180,9 @@ inner-text j i (node s g) e lj ej pj aj li o =
     (subst (λ (z : Forest). NameLeaf i (texts (shows z))) (sym c.1) n)
 
 -- The text of a name node: its leaf is of the symbol `i`.
-name-leaf : (s j i : ℕ) (f : Forest) → is_leaf s ≡ false → eqb s TYPE ≡ false → pattern_of s 0 ≡ any_of (NAME ∷ []) → arcs s 0 ≡ (j, 1) ∷ [] → is_leaf j ≡ false → eqb j TYPE ≡ false → pattern_of j 0 ≡ any_of (18 ∷ []) → arcs j 0 ≡ (i, 1) ∷ [] → is_leaf i ≡ true → OkFrom s 0 f → NameLeaf i (texts (shows f))
+name-leaf : (s j i : ℕ) (f : Forest) → is_leaf s ≡ false → eqb s TYPE ≡ false → pattern_of s 0 ≡ any_of (NAME ∷ []) → arcs s 0 ≡ (j, 1) ∷ []
+    → is_leaf j ≡ false → eqb j TYPE ≡ false → pattern_of j 0 ≡ any_of (18 ∷ []) → arcs j 0 ≡ (i, 1) ∷ [] → is_leaf i ≡ true → OkFrom s 0 f
+    → NameLeaf i (texts (shows f))
 name-leaf s j i f ls es ps as' lj ej pj aj li o =
     let c = single s NAME f ls es ps o in
     let h : OkFrom s 0 (c.0 ▸ none) = subst (λ (z : Forest). OkFrom s 0 z) c.1 o in

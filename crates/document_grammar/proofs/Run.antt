@@ -55,7 +55,8 @@ mutual
   same_tree (node s f) (leaf l x) v w e a b h = false-true (rw e at a.0) b
   same_tree (node s f) (node s' g) v w e a b h = let r = same_forest s s' 0 0 f g v w e refl a.1 b.1 h in (ap₂ node e r.0, r.1)
 
-  pub same_forest : (s s' q q' : ℕ) (f g : Forest) (v w : List Token) → s ≡ s' → q ≡ q' → RunFrom s q f v → RunFrom s' q' g w → yields f ++ v ≡ yields g ++ w → (f ≡ g) × (v ≡ w)
+  pub same_forest : (s s' q q' : ℕ) (f g : Forest) (v w : List Token) → s ≡ s' → q ≡ q' → RunFrom s q f v → RunFrom s' q' g w
+      → yields f ++ v ≡ yields g ++ w → (f ≡ g) × (v ≡ w)
   same_forest s s' q q' none none v w es eq a b h = (refl, h)
   same_forest s s' q q' none (u ▸ g) v w es eq a b h = go-close (sym (same_move s s' q q' _ _ _ _ es eq h a b.0))
   same_forest s s' q q' (t ▸ f) none v w es eq a b h = go-close (same_move s s' q q' _ _ _ _ es eq h a.0 b)
@@ -89,11 +90,13 @@ next-at s q r v m m' e a b = cc
 pub left-start : (s : ℕ) (g : Forest) (w : List Token) → Run (node s g) [] → yields g ≡ w → Left (frame s 0 none ∷ []) w (node s g)
 left-start s g w h e = (g, [], sym e ∙ sym (append-nil (yields g)), h.1, (refl, refl))
 
-pub left-shift : (s q l : ℕ) (f : Forest) (fs : List Frame) (a : Token) (r : List Token) (t : Tree) → Left (frame s q f ∷ fs) (a ∷ r) t → next s q (a ∷ r) ≡ go l → IsTrue (is_leaf l) → Left (frame s (target s q l) (f +++ (leaf l a.1 ▸ none)) ∷ fs) r t
+pub left-shift : (s q l : ℕ) (f : Forest) (fs : List Frame) (a : Token) (r : List Token) (t : Tree) → Left (frame s q f ∷ fs) (a ∷ r) t
+    → next s q (a ∷ r) ≡ go l → IsTrue (is_leaf l) → Left (frame s (target s q l) (f +++ (leaf l a.1 ▸ none)) ∷ fs) r t
 unfolding token
 left-shift s q l f fs a r t h m i = on h.0 h.1 h.2 h.3 h.4
   where
-    on : (g : Forest) (v : List Token) → a ∷ r ≡ yields g ++ v → RunFrom s q g v → Upper fs (node s (f +++ g)) v t → Left (frame s (target s q l) (f +++ (leaf l a.1 ▸ none)) ∷ fs) r t
+    on : (g : Forest) (v : List Token) → a ∷ r ≡ yields g ++ v → RunFrom s q g v → Upper fs (node s (f +++ g)) v t
+        → Left (frame s (target s q l) (f +++ (leaf l a.1 ▸ none)) ∷ fs) r t
     on none v e run up = go-close (next-at s q _ _ _ _ e m run)
     on (leaf k x ▸ g) v e run up =
         let ek' : k ≡ l = sym (go-inj (next-at s q _ _ _ _ e m run.0)) in
@@ -104,10 +107,12 @@ left-shift s q l f fs a r t h m i = on h.0 h.1 h.2 h.3 h.4
         (g, v, tail-same e, subst (λ (n : ℕ). RunFrom s n g v) es run.2, subst (λ (z : Forest). Upper fs (node s z) v t) ef up)
     on (node k f' ▸ g) v e run up = false-true (rw (sym (go-inj (next-at s q _ _ _ _ e m run.0))) at run.1.0) i
 
-pub left-open : (s q k : ℕ) (f : Forest) (fs : List Frame) (r : List Token) (t : Tree) → Left (frame s q f ∷ fs) r t → next s q r ≡ go k → IsFalse (is_leaf k) → Left (frame k 0 none ∷ frame s q f ∷ fs) r t
+pub left-open : (s q k : ℕ) (f : Forest) (fs : List Frame) (r : List Token) (t : Tree) → Left (frame s q f ∷ fs) r t → next s q r ≡ go k
+    → IsFalse (is_leaf k) → Left (frame k 0 none ∷ frame s q f ∷ fs) r t
 left-open s q k f fs r t h m i = on h.0 h.1 h.2 h.3 h.4
   where
-    on : (g : Forest) (v : List Token) → r ≡ yields g ++ v → RunFrom s q g v → Upper fs (node s (f +++ g)) v t → Left (frame k 0 none ∷ frame s q f ∷ fs) r t
+    on : (g : Forest) (v : List Token) → r ≡ yields g ++ v → RunFrom s q g v → Upper fs (node s (f +++ g)) v t
+        → Left (frame k 0 none ∷ frame s q f ∷ fs) r t
     on none v e run up = go-close (next-at s q _ _ _ _ e m run)
     on (leaf k' x ▸ g) v e run up = false-true (rw (go-inj (next-at s q _ _ _ _ e m run.0)) at i) run.1
     on (node k' f' ▸ g) v e run up =
@@ -115,10 +120,12 @@ left-open s q k f fs r t h m i = on h.0 h.1 h.2 h.3 h.4
         let e' : r ≡ yields f' ++ (yields g ++ v) = e ∙ append_assoc (yields f') (yields g) v in
         subst (λ (n : ℕ). Left (frame n 0 none ∷ frame s q f ∷ fs) r t) ek (f', yields g ++ v, e', run.1.1, (g, v, refl, run.2, up))
 
-pub left-close : (s q k p : ℕ) (f g : Forest) (fs : List Frame) (r : List Token) (t : Tree) → walk k 0 g ≡ p → Left (frame k p g ∷ frame s q f ∷ fs) r t → next k p r ≡ close → Left (frame s (target s q k + exit k p) (f +++ (node k g ▸ none)) ∷ fs) r t
+pub left-close : (s q k p : ℕ) (f g : Forest) (fs : List Frame) (r : List Token) (t : Tree) → walk k 0 g ≡ p
+    → Left (frame k p g ∷ frame s q f ∷ fs) r t → next k p r ≡ close → Left (frame s (target s q k + exit k p) (f +++ (node k g ▸ none)) ∷ fs) r t
 left-close s q k p f g fs r t ew h m = on h.0 h.1 h.2 h.3 h.4
   where
-    on : (g' : Forest) (v : List Token) → r ≡ yields g' ++ v → RunFrom k p g' v → Upper (frame s q f ∷ fs) (node k (g +++ g')) v t → Left (frame s (target s q k + exit k p) (f +++ (node k g ▸ none)) ∷ fs) r t
+    on : (g' : Forest) (v : List Token) → r ≡ yields g' ++ v → RunFrom k p g' v → Upper (frame s q f ∷ fs) (node k (g +++ g')) v t
+        → Left (frame s (target s q k + exit k p) (f +++ (node k g ▸ none)) ∷ fs) r t
     on none v e run up =
         let eg : g +++ none ≡ g = forest-none g in
         let er : walk k 0 (g +++ none) ≡ p = ap (walk k 0) eg ∙ ew in
@@ -159,14 +166,16 @@ reach-tracks (closed {s = s} {q = q} {k = k} {p = p} {f = f} {g = g} h m) =
     let c = reach-tracks h in (walk-snoc s 0 f (node k g) ∙ ap₂ (λ (n n' : ℕ). target s n k + exit k n') c.1.0 c.0, c.1.1)
 
 -- What the machine has opened is the left part of every tree that it makes of these tokens.
-pub reach-left : {s0 : ℕ} {w : List Token} {fs : List Frame} {r : List Token} → Reach s0 w fs r → (g : Forest) → Run (node s0 g) [] → yields g ≡ w → Left fs r (node s0 g)
+pub reach-left : {s0 : ℕ} {w : List Token} {fs : List Frame} {r : List Token} → Reach s0 w fs r → (g : Forest) → Run (node s0 g) [] → yields g ≡ w
+    → Left fs r (node s0 g)
 reach-left {s0} {w} start g h e = left-start s0 g w h e
 reach-left {s0} (shift {s = s} {q = q} {l = l} {f = f} {fs = fs} {a = a} {r = r} c m i) g h e = left-shift s q l f fs a r (node s0 g) (reach-left c g h e) m i
 reach-left {s0} (open' {s = s} {q = q} {k = k} {f = f} {fs = fs} {r = r} c m i) g h e = left-open s q k f fs r (node s0 g) (reach-left c g h e) m i
 reach-left {s0} (closed {s = s} {q = q} {k = k} {p = p} {f = f} {g = g'} {fs = fs} {r = r} c m) g h e = left-close s q k p f g' fs r (node s0 g) (reach-tracks c).0 (reach-left c g h e) m
 
 -- The configuration depends only on the tokens read and on the classes of the next two.
-pub reach-other : {s0 : ℕ} {w : List Token} {fs : List Frame} {r : List Token} → Reach s0 w fs r → (u : List Token) × (w ≡ u ++ r) × ((v : List Token) → first r ≡ first v → second r ≡ second v → Reach s0 (u ++ v) fs v)
+pub reach-other : {s0 : ℕ} {w : List Token} {fs : List Frame} {r : List Token} → Reach s0 w fs r
+    → (u : List Token) × (w ≡ u ++ r) × ((v : List Token) → first r ≡ first v → second r ≡ second v → Reach s0 (u ++ v) fs v)
 unfolding first second
 reach-other start = ([], refl, λ v e f. start)
 reach-other {s0} (shift {s = s} {q = q} {l = l} {f = f} {fs = fs} {a = a} {r = r} c m i) =

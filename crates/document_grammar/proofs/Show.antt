@@ -114,7 +114,8 @@ type-child (node s f) o h = elim h [
   | inr p ↦ inr (subst (λ (n : ℕ). root (build n (shows f)) ≡ LIST_TYPE) (sym p) label-list_type)
 ]
 
-pub type-root : (f : Forest) → OkFrom TYPE 0 f → (root (type_of (shows f)) ≡ NAMED_TYPE) ⊎ (root (type_of (shows f)) ≡ LIST_TYPE) ⊎ (root (type_of (shows f)) ≡ NON_NULL_TYPE)
+pub type-root : (f : Forest) → OkFrom TYPE 0 f
+    → (root (type_of (shows f)) ≡ NAMED_TYPE) ⊎ (root (type_of (shows f)) ≡ LIST_TYPE) ⊎ (root (type_of (shows f)) ≡ NON_NULL_TYPE)
 type-root none o = false-true type-end o
 type-root (t ▸ none) o = elim (type-child t o.1 (type-arc (root t) o.0)) [ inl p ↦ inl p | inr p ↦ inr (inl p) ]
 type-root (t ▸ (u ▸ f)) o = inr (inr refl)
@@ -154,14 +155,16 @@ pub agree-end-from : (s q : ℕ) → agree_at s q ≡ true → nullable (pattern
 unfolding agree_at
 agree-end-from s q a e = (let c = and-l _ _ (and-l _ _ a) in rw e at c)
 
-pub agree-arc : (s q j : ℕ) (u : Tree) → agree_at s q ≡ true → has s q (root u) ≡ true → Ok u → member j (shown (root u)) ≡ true → deriv (pattern_of s q) j ≡ pattern_of s (target s q (root u) + finish u)
+pub agree-arc : (s q j : ℕ) (u : Tree) → agree_at s q ≡ true → has s q (root u) ≡ true → Ok u → member j (shown (root u)) ≡ true
+    → deriv (pattern_of s q) j ≡ pattern_of s (target s q (root u) + finish u)
 unfolding agree_at has target
 agree-arc s q j u a h o m =
     let c = arcs-at (arcs s q) (λ k p. all_kinds (shown k) (λ j. exits k (λ x. pattern_eq (deriv (pattern_of s q) j) (pattern_of s (p + x))))) (root u) (and-r _ _ (and-l _ _ a)) h in
     let d = kinds-at (shown (root u)) (λ j. exits (root u) (λ x. pattern_eq (deriv (pattern_of s q) j) (pattern_of s (target_in (arcs s q) (root u) + x)))) j c m in
     pattern-same _ _ (exits-at u (λ x. pattern_eq (deriv (pattern_of s q) j) (pattern_of s (target_in (arcs s q) (root u) + x))) d o)
 
-pub agree-kind : (s q j : ℕ) → agree_at s q ≡ true → member j (begin_kinds (pattern_of s q)) ≡ true → ((constant s and eqb j VARIABLE) or any_arcs (arcs s q) (λ k p. member j (shown k))) ≡ true
+pub agree-kind : (s q j : ℕ) → agree_at s q ≡ true → member j (begin_kinds (pattern_of s q)) ≡ true
+    → ((constant s and eqb j VARIABLE) or any_arcs (arcs s q) (λ k p. member j (shown k))) ≡ true
 unfolding agree_at
 agree-kind s q j a m = kinds-at (begin_kinds (pattern_of s q)) (λ j. (constant s and eqb j VARIABLE) or any_arcs (arcs s q) (λ k p. member j (shown k))) j (and-r _ _ a) m
 

@@ -74,7 +74,8 @@ unfolding holds
 three-no-name = refl
 
 -- The class of a token is a name's exactly where the token is a name; else it is the token's kind, or 3.
-pub class-cases : (a : Token) → ((a.0 ≡ 18) × (holds (class a) name_classes ≡ true)) ⊎ ((holds (class a) name_classes ≡ false) × ((class a ≡ a.0) ⊎ (class a ≡ 3)))
+pub class-cases : (a : Token)
+    → ((a.0 ≡ 18) × (holds (class a) name_classes ≡ true)) ⊎ ((holds (class a) name_classes ≡ false) × ((class a ≡ a.0) ⊎ (class a ≡ 3)))
 unfolding class
 class-cases a = elim (either (eqb a.0 18)) [
   | inl p ↦ inl (eqb-true _ _ p, rw p (word-name words a.1 words_checked))
@@ -85,7 +86,8 @@ class-cases a = elim (either (eqb a.0 18)) [
 ]
 
 -- A leaf's entry that holds the class.
-pub fired : (es : List Entry) (t : ℕ → Bool) (a b : ℕ) → all_entries es (λ x y alone. t x) ≡ true → fires_in es a b ≡ true → (x : ℕ) × (t x ≡ true) × (holds a x ≡ true)
+pub fired : (es : List Entry) (t : ℕ → Bool) (a b : ℕ) → all_entries es (λ x y alone. t x) ≡ true → fires_in es a b ≡ true
+    → (x : ℕ) × (t x ≡ true) × (holds a x ≡ true)
 fired [] t a b h f = absurd (true≢false (sym f))
 fired (entry x y alone ∷ more) t a b h f = elim (or-c _ _ f) [
   | inl p ↦ (x, and-l _ _ h, and-l _ _ p)
@@ -99,7 +101,9 @@ holds-one a l h = elim (either (eqb a l)) [
   | inr p ↦ (let ne : a ≢ l = eqb-false a l p in let z : bit_at (2 ^ l) a ≡ 0 = bit_at-pow_other l a ne in let o : bit_at (2 ^ l) a ≡ 1 = eqb-true _ _ h in absurd (omega arith))
 ]
 
-leaf-kind : (l : ℕ) (a : Token) (b : Bool) (x : ℕ) → holds l name_leaves ≡ b → cond b (subset x name_classes) (eqb x (2 ^ l) and not (holds l name_classes) and not (eqb l 3)) ≡ true → holds (class a) x ≡ true → cond b 18 l ≡ a.0
+leaf-kind : (l : ℕ) (a : Token) (b : Bool) (x : ℕ) → holds l name_leaves ≡ b
+    → cond b (subset x name_classes) (eqb x (2 ^ l) and not (holds l name_classes) and not (eqb l 3)) ≡ true → holds (class a) x ≡ true
+    → cond b 18 l ≡ a.0
 leaf-kind l a true x n t h = elim (class-cases a) [
   | inl p ↦ sym p.0
   | inr p ↦ false-true p.0 (holds-subset (class a) x name_classes t h)
@@ -131,7 +135,8 @@ unfolding fires
 leaf-ok l b a i f = (i, rw (leaf-token l b a i f) (fires-alone (entries l) (class a) b 0 (leaf-at 60 l (leaf-lt l i) leaf_checked) f))
 
 -- Paths.
-pub path-snoc : (s p q : ℕ) (f : Forest) (t : Tree) → Path s p f q → has s q (root t) ≡ true → Ok t → Path s p (f +++ (t ▸ none)) (target s q (root t) + finish t)
+pub path-snoc : (s p q : ℕ) (f : Forest) (t : Tree) → Path s p f q → has s q (root t) ≡ true → Ok t
+    → Path s p (f +++ (t ▸ none)) (target s q (root t) + finish t)
 path-snoc s p q none t e h o = (rw e h, o, ap (λ (n : ℕ). target s n (root t) + finish t) e)
 path-snoc s p q (u ▸ f) t e h o = (e.0, e.1, path-snoc s (target s p (root u) + finish u) q f t e.2 h o)
 
@@ -177,7 +182,8 @@ abbrev pub spent : List Frame → List Token
 spent [] = []
 spent (frame s q f ∷ fs) = spent fs ++ yields f
 
-pub snoc-spent : (fs : List Frame) (f : Forest) (t : Tree) (r : List Token) → (spent fs ++ yields (f +++ (t ▸ none))) ++ r ≡ (spent fs ++ yields f) ++ (yield t ++ r)
+pub snoc-spent : (fs : List Frame) (f : Forest) (t : Tree) (r : List Token)
+    → (spent fs ++ yields (f +++ (t ▸ none))) ++ r ≡ (spent fs ++ yields f) ++ (yield t ++ r)
 snoc-spent fs f t r =
     ap (λ (v : List Token). (spent fs ++ v) ++ r) (yields-append f (t ▸ none) ∙ ap (λ (v : List Token). yields f ++ v) (append-nil (yield t)))
     ∙ (append_assoc (spent fs) (yields f ++ yield t) r ∙ (ap (λ (v : List Token). spent fs ++ v) (append_assoc (yields f) (yield t) r) ∙ sym (append_assoc (spent fs) (yields f) (yield t ++ r))))
@@ -289,7 +295,8 @@ reach-nonempty (open' c m i) e = cc
 reach-nonempty (closed c m) e = cc
 
 -- No late fault: what the machine has read begins a sentence.
-pub viable : {s0 : ℕ} {w : List Token} {fs : List Frame} {r : List Token} → is_leaf s0 ≡ false → fillable s0 0 ≡ true → Reach s0 w fs r → Whole s0 (spent fs)
+pub viable : {s0 : ℕ} {w : List Token} {fs : List Frame} {r : List Token} → is_leaf s0 ≡ false → fillable s0 0 ≡ true → Reach s0 w fs r
+    → Whole s0 (spent fs)
 viable {s0} {w} {fs} {r} i b c = on fs (reach-sound i c) (reach-nonempty c)
   where
     on : (fs : List Frame) → Sound s0 fs → (fs ≡ [] → ⊥) → Whole s0 (spent fs)

@@ -94,12 +94,14 @@ one-from (a ∷ r) [] v e = no-end e
 one-from (a ∷ r) (c ∷ w) v e = ap class (sym (head-mark e))
 
 -- What begins with the tokens read goes on with the rest.
-pub after-read : (b : List Token) (l : List Mark) (w : List Token) (v : List Mark) → marks w ≡ (read b ++ l) ++ v → (u : List Token) × (w ≡ b ++ u) × (marks u ≡ l ++ v)
+pub after-read : (b : List Token) (l : List Mark) (w : List Token) (v : List Mark) → marks w ≡ (read b ++ l) ++ v
+    → (u : List Token) × (w ≡ b ++ u) × (marks u ≡ l ++ v)
 after-read [] l w v e = (w, refl, e)
 after-read (a ∷ b) l [] v e = no-end e
 after-read (a ∷ b) l (c ∷ w) v e = let r = after-read b l w v (tail-same e) in (r.0, ap₂ (λ (x : Token) (y : List Token). x ∷ y) (head-mark e) r.1, r.2)
 
-pub after-two : (b r w : List Token) (v : List Mark) → marks w ≡ (read b ++ next_two r) ++ v → (u : List Token) × (w ≡ b ++ u) × (first r ≡ first u) × (second r ≡ second u)
+pub after-two : (b r w : List Token) (v : List Mark) → marks w ≡ (read b ++ next_two r) ++ v
+    → (u : List Token) × (w ≡ b ++ u) × (first r ≡ first u) × (second r ≡ second u)
 after-two b r w v e = let h = after-read b (next_two r) w v e in let t = two-from r h.0 v h.2 in (h.0, h.1, t.0, t.1)
 
 pub after-one : (b r w : List Token) (v : List Mark) → marks w ≡ (read b ++ next_one r) ++ v → (u : List Token) × (w ≡ b ++ u) × (first r ≡ first u)

@@ -33,7 +33,8 @@ closes s q x y = no_arcs (arcs s q) x y and ends s q
 unfoldable pub sticks : ℕ → ℕ → ℕ → ℕ → Bool
 sticks s q x y = no_arcs (arcs s q) x y and not (ends s q)
 
-misses-fires : (es : List Entry) (x y a b : ℕ) → all_entries es (λ x1 y1 alone. disjoint x x1 or (not alone and disjoint y y1)) ≡ true → holds a x ≡ true → holds b y ≡ true → fires_in es a b ≡ false
+misses-fires : (es : List Entry) (x y a b : ℕ) → all_entries es (λ x1 y1 alone. disjoint x x1 or (not alone and disjoint y y1)) ≡ true
+    → holds a x ≡ true → holds b y ≡ true → fires_in es a b ≡ false
 misses-fires [] x y a b t ha hb = refl
 misses-fires (entry x1 y1 alone ∷ more) x y a b t ha hb =
     or-false (elim (or-c _ _ (and-l _ _ t)) [
@@ -42,7 +43,8 @@ misses-fires (entry x1 y1 alone ∷ more) x y a b t ha hb =
     ])
     (misses-fires more x y a b (and-r _ _ t) ha hb)
 
-pub hits-fires : (es : List Entry) (x y a b : ℕ) → any_entries es (λ x1 y1 alone. subset x x1 and (alone or subset y y1)) ≡ true → holds a x ≡ true → holds b y ≡ true → fires_in es a b ≡ true
+pub hits-fires : (es : List Entry) (x y a b : ℕ) → any_entries es (λ x1 y1 alone. subset x x1 and (alone or subset y y1)) ≡ true → holds a x ≡ true
+    → holds b y ≡ true → fires_in es a b ≡ true
 hits-fires [] x y a b t ha hb = t
 hits-fires (entry x1 y1 alone ∷ more) x y a b t ha hb = elim (or-c _ _ t) [
   | inl p ↦ or-l _ _ (and-i (holds-subset a x x1 (and-l _ _ p) ha) (elim (or-c _ _ (and-r _ _ p)) [ inl q ↦ or-l _ _ q | inr q ↦ or-r _ _ (holds-subset b y y1 q hb) ]))
@@ -58,7 +60,8 @@ go-choose (arc ∷ more) e x y a b k t ha hb = elim (either (eqb arc.0 k)) [
       rw (misses-fires (entries arc.0) x y a b (and-l _ _ t') ha hb) (go-choose more e x y a b k (and-r _ _ t') ha hb))
 ]
 
-no-choose : (l : List (ℕ × ℕ)) (e : Bool) (x y a b : ℕ) → no_arcs l x y ≡ true → holds a x ≡ true → holds b y ≡ true → choose l e a b ≡ cond e close stuck
+no-choose : (l : List (ℕ × ℕ)) (e : Bool) (x y a b : ℕ) → no_arcs l x y ≡ true → holds a x ≡ true → holds b y ≡ true
+    → choose l e a b ≡ cond e close stuck
 unfolding fires
 no-choose [] e x y a b t ha hb = refl
 no-choose (arc ∷ more) e x y a b t ha hb = rw (misses-fires (entries arc.0) x y a b (and-l _ _ t) ha hb) (no-choose more e x y a b (and-r _ _ t) ha hb)

@@ -52,17 +52,20 @@ module _ (s0 : ℕ) (b : begins_parse s0 ≡ true) where
   one_tree t u w p q = (same_tree t u [] [] (p.1 ∙ sym q.1) (runs t w p) (runs u w q) (append-nil (yield t) ∙ (p.2 ∙ (sym q.2 ∙ sym (append-nil (yield u)))))).0
 
   -- Acceptance: on the way through the tokens of a tree the machine is never stuck.
-  pub never_stuck : (t : Tree) (w : List Token) (s q : ℕ) (f : Forest) (fs : List Frame) (r : List Token) → Parse s0 t w → Reach s0 w (frame s q f ∷ fs) r → next s q r ≡ stuck → ⊥
+  pub never_stuck : (t : Tree) (w : List Token) (s q : ℕ) (f : Forest) (fs : List Frame) (r : List Token) → Parse s0 t w
+      → Reach s0 w (frame s q f ∷ fs) r → next s q r ≡ stuck → ⊥
   never_stuck t w s q f fs r p c m = left-stuck s q f fs r t (on-the-way t w (frame s q f ∷ fs) r p c) m
 
   -- Soundness: where the first symbol's node ends, it is a tree of the tokens before.
-  pub done : (w : List Token) (q : ℕ) (f : Forest) (r : List Token) → Reach s0 w (frame s0 q f ∷ []) r → next s0 q r ≡ close → (w ≡ yields f ++ r) × Parse s0 (node s0 f) (yields f)
+  pub done : (w : List Token) (q : ℕ) (f : Forest) (r : List Token) → Reach s0 w (frame s0 q f ∷ []) r → next s0 q r ≡ close
+      → (w ≡ yields f ++ r) × Parse s0 (node s0 f) (yields f)
   done w q f r c m =
       let h = reach-sound no-leaf c in
       (reach-spent c, ((h.0, path-ok s0 0 q f h.1 (move-ends s0 q _ _ m)), refl, refl))
 
   -- Over the tokens of a tree it ends behind all of them, and is that tree.
-  pub done-all : (t : Tree) (w : List Token) (q : ℕ) (f : Forest) (r : List Token) → Parse s0 t w → Reach s0 w (frame s0 q f ∷ []) r → next s0 q r ≡ close → (r ≡ []) × (node s0 f ≡ t)
+  pub done-all : (t : Tree) (w : List Token) (q : ℕ) (f : Forest) (r : List Token) → Parse s0 t w → Reach s0 w (frame s0 q f ∷ []) r
+      → next s0 q r ≡ close → (r ≡ []) × (node s0 f ≡ t)
   done-all t w q f r p c m = left-done s0 q f r t (on-the-way t w (frame s0 q f ∷ []) r p c) m
 
   -- What is said of the first fault, before the tokens `r`: the tokens before it begin a tree, and no tree's tokens begin with
@@ -73,7 +76,8 @@ module _ (s0 : ℕ) (b : begins_parse s0 ≡ true) where
     pub not_late : Whole s0 before
     pub not_early : (t : Tree) (v : List Token) → Parse s0 t (before ++ v) → first r ≡ first v → second r ≡ second v → ⊥
 
-  pub fault : (w : List Token) (s q : ℕ) (f : Forest) (fs : List Frame) (r : List Token) → Reach s0 w (frame s q f ∷ fs) r → next s q r ≡ stuck → Fault w r
+  pub fault : (w : List Token) (s q : ℕ) (f : Forest) (fs : List Frame) (r : List Token) → Reach s0 w (frame s q f ∷ fs) r → next s q r ≡ stuck
+      → Fault w r
   fault w s q f fs r c m =
       let o = reach-other c in
       let e : o.0 ≡ spent (frame s q f ∷ fs) = append_cancel_right o.0 (spent (frame s q f ∷ fs)) r (sym o.1 ∙ reach-spent c) in

@@ -36,11 +36,13 @@ steps (suc n) fs r = let c = step fs r in steps n c.0 c.1
 abbrev At : ℕ → List Token → Config → Type 0
 At s0 w c = Reach s0 w c.0 c.1
 
-take-reach : (s0 : ℕ) (w : List Token) (k s q : ℕ) (f : Forest) (fs : List Frame) (r : List Token) → Reach s0 w (frame s q f ∷ fs) r → next s q r ≡ go k → is_leaf k ≡ true → At s0 w (take k s q f fs r)
+take-reach : (s0 : ℕ) (w : List Token) (k s q : ℕ) (f : Forest) (fs : List Frame) (r : List Token) → Reach s0 w (frame s q f ∷ fs) r
+    → next s q r ≡ go k → is_leaf k ≡ true → At s0 w (take k s q f fs r)
 take-reach s0 w k s q f fs [] c m i = c
 take-reach s0 w k s q f fs (a ∷ r) c m i = shift c m i
 
-act-reach : (m : Move) (s0 : ℕ) (w : List Token) (s q : ℕ) (f : Forest) (fs : List Frame) (r : List Token) → Reach s0 w (frame s q f ∷ fs) r → next s q r ≡ m → At s0 w (act m s q f fs r)
+act-reach : (m : Move) (s0 : ℕ) (w : List Token) (s q : ℕ) (f : Forest) (fs : List Frame) (r : List Token) → Reach s0 w (frame s q f ∷ fs) r
+    → next s q r ≡ m → At s0 w (act m s q f fs r)
 act-reach (go k) s0 w s q f fs r c m = elim (either (is_leaf k)) [
   | inl p ↦ subst (λ (b : Bool). At s0 w (cond b (take k s q f fs r) (frame k 0 none ∷ frame s q f ∷ fs, r))) (sym p) (take-reach s0 w k s q f fs r c m p)
   | inr p ↦ subst (λ (b : Bool). At s0 w (cond b (take k s q f fs r) (frame k 0 none ∷ frame s q f ∷ fs, r))) (sym p) (open' c m p)
@@ -108,7 +110,8 @@ abbrev tree_in : Config → Tree
 tree_in ([], r) = leaf 0 []
 tree_in (frame s q f ∷ fs, r) = show (node s f)
 
-ended : (sort : Sort) (w : List Token) (s q : ℕ) (f : Forest) (r : List Token) → Reach (start_symbol sort w) w (frame s q f ∷ []) r → is_close (next s q r) ≡ true → (s ≡ start_symbol sort w) × Ended sort w f r
+ended : (sort : Sort) (w : List Token) (s q : ℕ) (f : Forest) (r : List Token) → Reach (start_symbol sort w) w (frame s q f ∷ []) r
+    → is_close (next s q r) ≡ true → (s ≡ start_symbol sort w) × Ended sort w f r
 ended sort w s q f r h e =
     let i : s ≡ start_symbol sort w = (reach-sound (no-leaf (start_symbol sort w) (opens sort (first w))) h).2 in
     let m : next s q r ≡ close = is-close (next s q r) e in
@@ -140,7 +143,8 @@ stuck-from sort w ([], r) h e = absurd (true≢false (sym e))
 stuck-from sort w (frame s q f ∷ fs, r) h e = fault (start_symbol sort w) (opens sort (first w)) w s q f fs r h (is-stuck (next s q r) e)
 
 -- The tokens `b`, the next and the one after it begin no sentence.
-pub refused : (sort : Sort) (n : ℕ) (b r : List Token) → ends_stuck (walked sort n (b ++ r)) ≡ true → (walked sort n (b ++ r)).1 ≡ r → Starts sort (read b ++ next_two r) → ⊥
+pub refused : (sort : Sort) (n : ℕ) (b r : List Token) → ends_stuck (walked sort n (b ++ r)) ≡ true → (walked sort n (b ++ r)).1 ≡ r
+    → Starts sort (read b ++ next_two r) → ⊥
 refused sort n b r e i h =
     let k : FaultIn sort (b ++ r) r = subst (λ (v : List Token). FaultIn sort (b ++ r) v) i (stuck-from sort (b ++ r) (walked sort n (b ++ r)) (walked-reach sort n (b ++ r)) e) in
     let j : k.before ≡ b = append_cancel_right k.before b r (sym k.split) in

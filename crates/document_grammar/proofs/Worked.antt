@@ -50,7 +50,8 @@ is-sentence sort n source h =
       yield = s.1;
     }
 
-pub worked : (sort : Sort) (n : ℕ) (text : String) (high : ℕ) → works sort n (codes text) and eqb (nest (tree_read sort n (tokens_in (codes text)))) high ≡ true → Worked sort text high
+pub worked : (sort : Sort) (n : ℕ) (text : String) (high : ℕ)
+    → works sort n (codes text) and eqb (nest (tree_read sort n (tokens_in (codes text)))) high ≡ true → Worked sort text high
 worked sort n text high h =
     (tree_read sort n (tokens_in (codes text)), is-sentence sort n (codes text) (and-l _ _ h), eqb-true _ _ (and-r _ _ h))
 

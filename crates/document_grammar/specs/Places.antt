@@ -1,4 +1,5 @@
--- Trees with ignored leaves: without them, and where they may stand.
+-- Trees with the leaves of ignored tokens (GraphQL October 2021, section 2.1.7, "Ignored Tokens"): without them, and where they hang, which
+-- is this project's own rule.
 use Rattle.std.specs.Prelude.{◌≢◌, Bool, false, cond, List, [], ◌++◌, IsTrue}
 use Rattle.document_grammar.specs.Tree.{Token, Tree, leaf, node, Forest, none, ◌▸◌}
 use Rattle.document_grammar.specs.Kinds.{is_ignored}
