@@ -6,37 +6,24 @@ use Rattle.lexical_grammar.specs.declared.TokenKind.TheVariants.{Eof}
 use Rattle.lexical_grammar.specs.Tokens.{Tok}
 use Rattle.std.proofs.Common.{Option, subst, cond, eqb, false}
 use Rattle.std.proofs.Common.{length-take-le}
-use Rattle.apollo_lexer.proofs.Sound.{sound}
+use Rattle.lexical_grammar.proofs.Sound.{sound}
 use Rattle.std.specs.Iterator.{MakesProgress, YieldsFirstBy, item_count}
 use Rattle.std.specs.Prelude.{⊤, max}
 use Rattle.std.proofs.lemmas.Bool.Decides.{nat_tests}
-use Rattle.apollo_lexer.specs.Reads.{first_token, item_of, first_item, items_from}
+use Rattle.lexical_grammar.specs.Reads.{token_at, item_of_token, first_item, items_from}
+use Rattle.lexical_grammar.proofs.Limited.{limited_end}
+use Rattle.lexical_grammar.proofs.TheCut
 use Rattle.lexical_grammar.specs.Answers.{Answer, gives, limit_at, limit_index, limit_index_at, limited}
 
 max_next : (n : ℕ) → max n (n + 1) ≡ n + 1
 max_next n = grind (arith, nat_tests)
 
-pub inside : (k place : ℕ) (source : List ℕ) → k ≤ length source → items_from place k source ≡ items_from (place + k) 0 (drop k source)
-unfolding items_from
-inside zero place source le = ap (λ n. items_from n 0 source) (omega arith)
-inside (suc k) place [] le = absurd (omega arith)
-inside (suc k) place (b ∷ bs) le = inside k (1 + place) bs (omega arith) ∙ ap (λ n. items_from n 0 (drop k bs)) (omega arith)
-
-rest_then : (n place : ℕ) (b : ℕ) (bs : List ℕ) → 0 < n → n ≤ length (b ∷ bs) → items_from (1 + place) (n - 1) bs ≡ items_from (place + n) 0 (drop n (b ∷ bs))
-rest_then zero place b bs some within = absurd (omega arith)
-rest_then (suc k) place b bs some within =
-    let less : suc k - 1 ≡ k = omega arith in
-    ap (λ m. items_from (1 + place) m bs) less ∙ inside k (1 + place) bs (omega arith) ∙ ap (λ m. items_from m 0 (drop k bs)) (omega arith)
-
 -- the first item, and the items of what follows it
 pub first_then : (place : ℕ) (source : List ℕ) → 0 < length source → 0 < (first_item source).1 → (first_item source).1 ≤ length source
     → items_from place 0 source ≡ record { kind = (first_item source).0; text = take (first_item source).1 source; index = place }
     ∷ items_from (place + (first_item source).1) 0 (drop (first_item source).1 source)
-unfolding items_from
 first_then place [] some one within = absurd (omega arith)
-first_then place (b ∷ bs) some one within =
-    ap (λ items. record { kind = (first_item (b ∷ bs)).0; text = take (first_item (b ∷ bs)).1 (b ∷ bs); index = place } ∷ items)
-    (rest_then (first_item (b ∷ bs)).1 place b bs one within)
+first_then place (b ∷ bs) some one within = TheCut.first_then place b bs one within
 
 -- at the end
 pub end_then : (place : ℕ) (source : List ℕ) → length source ≡ 0 → items_from place 0 source ≡ end_at place ∷ []
@@ -53,10 +40,6 @@ pub limited_none : (allowed : ℕ) (item : Item) (items : List Item) → allowed
 limited_none zero item items e = refl
 limited_none (suc n) item items e = absurd (omega arith)
 
-pub limited_end : (allowed : ℕ) → limited allowed [] ≡ []
-limited_end zero = refl
-limited_end (suc n) = refl
-
 -- the first item is not the end
 not_end : (kind : TokenKind) (place : ℕ) → (kind ≡ Eof → ⊥) → limit_index_at (Some kind) place ≡ place
 not_end Eof place h = absurd (h refl)
@@ -65,7 +48,7 @@ not_end _ place h = refl
 token_not_end : (kind : TokenKind) (text : List ℕ) → Tok kind text → kind ≡ Eof → ⊥
 token_not_end kind text tok e = subst (λ k. Tok k text) e tok
 
-first_not_end : (place : ℕ) (source : List ℕ) (found : Option (TokenKind × ℕ)) → first_token source ≡ found → limit_index_at (item_of source found).0 place ≡ place
+first_not_end : (place : ℕ) (source : List ℕ) (found : Option (TokenKind × ℕ)) → token_at source ≡ found → limit_index_at (item_of_token source found).0 place ≡ place
 first_not_end place source None e = refl
 first_not_end place source (Some token) e = not_end token.0 place (token_not_end token.0 (take token.1 source) (sound source token.0 token.1 e).stands.token)
 
@@ -77,7 +60,7 @@ limit_met count limit place [] met some = absurd (omega arith)
 limit_met count limit place (b ∷ bs) met some =
     limited_none (limit - count) (record { kind = (first_item (b ∷ bs)).0; text = take (first_item (b ∷ bs)).1 (b ∷ bs); index = place })
     (items_from (1 + place) ((first_item (b ∷ bs)).1 - 1) bs) (omega arith)
-    ∙ ap (λ n. limit_at n ∷ []) (first_not_end place (b ∷ bs) (first_token (b ∷ bs)) refl)
+    ∙ ap (λ n. limit_at n ∷ []) (first_not_end place (b ∷ bs) (token_at (b ∷ bs)) refl)
 
 limit_met_end : (count limit place : ℕ) (source : List ℕ) → limit < count + 1 → length source ≡ 0 → limited (limit - count) (items_from place 0 source) ≡ limit_at (place - 1) ∷ []
 limit_met_end count limit place source met none =

@@ -4,9 +4,7 @@ use Rattle.std.specs.Prelude.{filter, not}
 use Rattle.lexical_grammar.specs.Answers.{Answer, is_token}
 use Rattle.apollo_lexer.specs.Diagnostics.{Diagnostic}
 use Rattle.apollo_lexer.specs.Answers.{error_answer}
-use Rattle.apollo_lexer.specs.Told.{told_subject, IsLexMessage, Tells, AreTold}
-use Rattle.apollo_lexer.specs.Messages.{message_of}
-use Rattle.apollo_lexer.proofs.Messages.{message_ascii}
+use Rattle.apollo_lexer.specs.Told.{told_subject, limit_message, IsLexMessage, Tells, AreTold}
 
 -- an error's answer is no token
 error_no_token : (limit : Bool) (text : List ℕ) (index : ℕ) → is_token (error_answer limit text index) ≡ false
@@ -59,10 +57,10 @@ told_tells true text index d s i m = λ j. record { message = m j; subject = s j
 told_tells false text index d s i m = (s, i, m)
 
 -- the messages
-pub limit_told : (limit : Bool) (text message : List ℕ) → limit ≡ true → message ≡ message_of limit text → IsLexMessage limit text message
+pub limit_told : (limit : Bool) (text message : List ℕ) → limit ≡ true → message ≡ limit_message → IsLexMessage limit text message
 limit_told true text message is m = m
 limit_told false text message is m = absurd (cc)
 
-pub text_told : (limit : Bool) (text message : List ℕ) → limit ≡ false → message ≡ message_of limit text → IsLexMessage limit text message
+pub text_told : (limit : Bool) (text message : List ℕ) → limit ≡ false → (IsAscii text → IsAscii message) → IsLexMessage limit text message
 text_told true text message is m = absurd (cc)
-text_told false text message is m = λ h. subst IsAscii (sym m) (message_ascii false text h)
+text_told false text message is m = m

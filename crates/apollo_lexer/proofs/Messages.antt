@@ -1,24 +1,37 @@
--- Messages are ASCII.
-use Rattle.std.proofs.Common.{◌≡◌, ℕ, Bool, true, false, List, ◌++◌, refl}
+-- Messages are ASCII where the text is.
+use Rattle.std.proofs.Common.{◌≡◌, ℕ, true, List, ◌++◌, refl}
 use Rattle.std.specs.Prelude.{codes}
 use Rattle.std.specs.List.{list_all}
 use Rattle.std.specs.Str.{IsAscii}
 use Rattle.std.specs.Char.{is_ascii}
 use Rattle.std.proofs.lemmas.Bool.{ltb-true}
 use Rattle.std.proofs.lemmas.Str.{IsAscii-append}
-use Rattle.apollo_lexer.specs.Messages.{message_of}
-use Rattle.apollo_lexer.proofs.Sound.{ascii_run}
+use Rattle.lexical_grammar.proofs.Sound.{ascii_run}
+use Rattle.apollo_lexer.specs.declared.faults.LexFault.{LexFault}
+use Rattle.apollo_lexer.specs.declared.faults.LexFault.TheVariants.{UnexpectedCharacter, NumberSuffix, IntegerSuffix, FractionalDigit, FloatSuffix, ExponentDigitOrSign, ExponentDigit}
+use Rattle.apollo_lexer.specs.Faults.{words, fault_message}
 
 -- what computes to ASCII is ASCII
 pub ascii_text : (xs : List ℕ) → list_all is_ascii xs ≡ true → IsAscii xs
 ascii_text xs h = ascii_run is_ascii (λ c e. ltb-true c 128 e) xs h
 
-pub limit_ascii : IsAscii (codes "token limit reached, aborting lexing")
-limit_ascii = ascii_text (codes "token limit reached, aborting lexing") refl
+all_ascii : (fault : LexFault) → list_all is_ascii (words fault) ≡ true
+all_ascii UnexpectedCharacter = refl
+all_ascii _ = refl
 
-pub character_ascii : (text : List ℕ) → IsAscii text → IsAscii (codes "Unexpected character \"" ++ text ++ codes "\"")
-character_ascii text h = IsAscii-append (codes "Unexpected character \"" ++ text) (codes "\"") (IsAscii-append (codes "Unexpected character \"") text (ascii_text (codes "Unexpected character \"") refl) h) (ascii_text (codes "\"") refl)
+words_ascii : (fault : LexFault) → IsAscii (words fault)
+words_ascii fault = ascii_text (words fault) (all_ascii fault)
 
-pub message_ascii : (limit : Bool) (text : List ℕ) → IsAscii text → IsAscii (message_of limit text)
-message_ascii true text h = limit_ascii
-message_ascii false text h = character_ascii text h
+-- a message that quotes a text
+quoting : (front text back : List ℕ) → list_all is_ascii front ≡ true → list_all is_ascii back ≡ true → IsAscii text → IsAscii (front ++ text ++ back)
+quoting front text back f b h = IsAscii-append (front ++ text) back (IsAscii-append front text (ascii_text front f) h) (ascii_text back b)
+
+pub message_ascii : (fault : LexFault) (text next : List ℕ) → IsAscii text → IsAscii next → IsAscii (fault_message fault text next)
+message_ascii UnexpectedCharacter text next h k = quoting (codes "Unexpected character \"") text (codes "\"") refl refl h
+message_ascii NumberSuffix text next h k = quoting (codes "Unexpected character `") next (codes "`") refl refl k
+message_ascii IntegerSuffix text next h k = quoting (codes "Unexpected character `") next (codes "` as integer suffix") refl refl k
+message_ascii FractionalDigit text next h k = quoting (codes "Unexpected character `") next (codes "`, expected fractional digit") refl refl k
+message_ascii FloatSuffix text next h k = quoting (codes "Unexpected character `") next (codes "` as float suffix") refl refl k
+message_ascii ExponentDigitOrSign text next h k = quoting (codes "Unexpected character `") next (codes "`, expected exponent digit or sign") refl refl k
+message_ascii ExponentDigit text next h k = quoting (codes "Unexpected character `") next (codes "`, expected exponent digit") refl refl k
+message_ascii fault text next h k = words_ascii fault

@@ -2,7 +2,7 @@
 use Rattle.std.specs.Prelude.{ℕ, ◌+◌, ◌-◌, Bool, true, false, if◌then◌else◌, List, [], ◌∷◌, length, Option, Some, None, Result, Ok, Err}
 use Rattle.lexical_grammar.specs.Cut.{Item}
 use Rattle.lexical_grammar.specs.Answers.{Answer, gives, limit_at, limited, is_given}
-use Rattle.apollo_lexer.specs.Reads.{items_from}
+use Rattle.lexical_grammar.specs.Reads.{items_from}
 use Rattle.apollo_lexer.specs.declared.token.Token.{Token}
 use Rattle.apollo_lexer.specs.declared.lex_error.LexError.{LexError}
 use Rattle.apollo_lexer.specs.declared.lexer.Lexer.{Lexer}

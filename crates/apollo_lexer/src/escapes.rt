@@ -30,7 +30,7 @@ fn hex_value(digits: &[u8]) -> u32
     value
 }
 
-fn hex_digits_len(bytes: &[u8]) -> usize
+pub fn hex_digits_len(bytes: &[u8]) -> usize
     ensures value { result ≡ prefix_len is_hex_digit bytes.now }
     ensures within { result ≤ length bytes.now }
 {

@@ -1,12 +1,11 @@
 // What holds of a lexer's answers, as contracts of functions that do nothing.
 ghost use Rattle.std.specs.Prelude.{◌≡◌, ◌+◌, ◌≤◌, ◌↔◌, ℕ, List, length, min, true};
 ghost use Rattle.lexical_grammar.specs.Answers.{AreAnswers, answers_text, limited};
-ghost use Rattle.lexical_grammar.specs.Begins.{are_tokens};
 ghost use Rattle.lexical_grammar.specs.Cut.{Item, Cut};
 ghost use Rattle.apollo_lexer.specs.Answers.{answers_left};
 ghost use Rattle.apollo_lexer.specs.Diagnostics.{Diagnostic};
 ghost use Rattle.apollo_lexer.specs.Equal.{same_diagnostic};
-ghost use Rattle.apollo_lexer.specs.Reads.{items_from};
+ghost use Rattle.lexical_grammar.specs.Reads.{items_from};
 
 use crate::lexer::Lexer;
 
@@ -25,9 +24,9 @@ pub fn answers_count()
     ensures { (limit : ℕ) (items : List Item) → length (limited limit items) ≡ min (length items) (limit + 1) }
 {}
 
-/// Where no item of a text is bad, its items are a cut of it.
-pub fn tokens_are_cut(source: &str)
-    ensures { are_tokens (items_from 0 0 source.now) ≡ true → Cut source.now (items_from 0 0 source.now) }
+/// The items of a text are a cut of it.
+pub fn items_are_cut(source: &str)
+    ensures { Cut source.now (items_from 0 0 source.now) }
 {}
 
 /// Errors are equal exactly where their messages, their indices and what they are about are; a text, the end and a limit are three

@@ -1,9 +1,9 @@
 // The errors that a lexer gives.
-ghost use Rattle.std.specs.Prelude.{◌≡◌, ◌+◌, ◌<◌, ◌^◌, length, IsTrue, [], IfOk, string_bytes};
-ghost use Rattle.apollo_lexer.specs.Messages.{message_of};
+ghost use Rattle.std.specs.Prelude.{◌≡◌, ◌+◌, ◌<◌, ◌^◌, length, IsTrue, [], IfOk};
 ghost use Rattle.apollo_lexer.specs.Told.{told_subject, IsLexMessage};
 
 use crate::error::Error;
+use crate::faults::bad_text_message;
 use std::alloc::{AllocError, Allocator};
 
 /// Bad text of a source, which it borrows, or that the token limit is met.
@@ -40,27 +40,17 @@ impl<'a> LexError<'a> {
         self.is_limit
     }
 
-    fn message<A: Allocator>(&self, alloc: A) -> Result<String<A>, AllocError>
-        ensures { IfOk result (λ m. string_bytes m ≡ message_of self.now.is_limit self.now.text.now) }
-    {
-        let text = self.text;
-        if self.is_limit {
-            String::from_str(alloc, "token limit reached, aborting lexing")
-        } else {
-            format!(in alloc; "Unexpected character \"{text}\"")
-        }
-    }
-
     /// The error, with a message, and with texts of its own.
     pub fn to_error<A: Allocator + Copy>(&self, alloc: A) -> Result<Error<A>, AllocError>
         ensures subject { IfOk result (λ e. e.subject ≡ told_subject self.now.is_limit self.now.text.now) }
         ensures index { IfOk result (λ e. e.index ≡ self.now.index) }
         ensures message { IfOk result (λ e. IsLexMessage self.now.is_limit self.now.text.now e.message) }
     {
-        let message = self.message(alloc)?;
         if self.is_limit {
-            return Ok(Error::limit(message, self.index));
+            let told = String::from_str(alloc, "token limit reached, aborting lexing")?;
+            return Ok(Error::limit(told, self.index));
         }
+        let message = bad_text_message(self.text, alloc)?;
         let text = String::from_str(alloc, self.text)?;
         Ok(Error::with_loc(message, text, self.index))
     }

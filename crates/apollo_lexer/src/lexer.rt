@@ -27,7 +27,7 @@ pub struct Lexer<'a> {
 }
 
 impl<'a> Lexer<'a> {
-    ghost use Rattle.apollo_lexer.specs.Reads.{items_from};
+    ghost use Rattle.lexical_grammar.specs.Reads.{items_from};
     ghost use Rattle.apollo_lexer.specs.Answers.{answers_left, left_unless};
     ghost use Rattle.lexical_grammar.specs.Answers.{limited};
 

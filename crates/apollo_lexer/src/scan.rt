@@ -1,11 +1,13 @@
-// How far the first token of a text goes.
-ghost use Rattle.std.specs.Prelude.{◌≡◌, ◌+◌, ◌≤◌, ◌<◌, length, take, drop, IsCharBoundary};
+// Which item stands at the front of a text, and how far it goes.
+ghost use Rattle.std.specs.Prelude.{◌≡◌, ◌+◌, ◌≤◌, ◌<◌, ◌==◌, ◌||◌, length, take, drop};
 ghost use Rattle.std.specs.List.{prefix_len};
-ghost use Rattle.lexical_grammar.specs.Characters.{is_name_start, is_name_continue, is_comment_character};
-ghost use Rattle.lexical_grammar.specs.Reads.{blank_len, blanks_len, punctuator, character_len};
-ghost use Rattle.apollo_lexer.specs.Reads.{first_token, first_item};
+ghost use Rattle.lexical_grammar.specs.Characters.{is_name_start, is_name_continue, is_comment_character, is_digit};
+ghost use Rattle.lexical_grammar.specs.Reads.{blank_len, blanks_len, punctuator, character_len, token_at, bad_len, first_item};
 
+use crate::numbers::{number_at, number_len};
+use crate::strings::{bad_string_len, string_at};
 use lexical_grammar::TokenKind;
+use memchr::memchr2;
 
 fn is_name_start(b: u8) -> bool
     ensures { result ≡ is_name_start b }
@@ -19,6 +21,12 @@ fn is_name_continue(b: u8) -> bool
     b.is_ascii_alphanumeric() || b == b'_'
 }
 
+fn is_number_start(b: u8) -> bool
+    ensures { result ≡ (is_digit b || b == 45) }
+{
+    b.is_ascii_digit() || b == b'-'
+}
+
 fn name_len(bytes: &[u8]) -> usize
     ensures value { result ≡ prefix_len is_name_continue bytes.now }
     ensures within { result ≤ length bytes.now }
@@ -26,14 +34,15 @@ fn name_len(bytes: &[u8]) -> usize
     bytes.iter().take_while(|b| is_name_continue(**b)).count()
 }
 
+// A comment ends before a line terminator, or with the text.
 fn comment_len(bytes: &[u8]) -> usize
     ensures value { result ≡ prefix_len is_comment_character bytes.now }
     ensures within { result ≤ length bytes.now }
 {
-    bytes
-        .iter()
-        .take_while(|b| **b != b'\n' && **b != b'\r')
-        .count()
+    match memchr2(b'\n', b'\r', bytes) {
+        Some(i) => i,
+        None => bytes.len(),
+    }
 }
 
 fn punctuator(b: u8) -> Option<TokenKind>
@@ -81,15 +90,25 @@ fn blanks_len(bytes: &[u8]) -> usize
     }
 }
 
-pub fn first_token(text: &str) -> Option<(TokenKind, usize)>
-    ensures { result ≡ first_token text.now }
+// The token at the front, and its length in bytes.
+fn token_at(bytes: &[u8]) -> Option<(TokenKind, usize)>
+    ensures { result ≡ token_at bytes.now }
 {
-    let bytes = text.as_bytes();
     let (first, others) = bytes.split_first()?;
     if is_name_start(*first) {
         Some((TokenKind::Name, 1 + name_len(others)))
+    } else if is_number_start(*first) {
+        number_at(bytes)
+    } else if *first == b'"' {
+        string_at(bytes)
     } else if *first == b'#' {
         Some((TokenKind::Comment, 1 + comment_len(others)))
+    } else if *first == b'.' {
+        if others.starts_with(b"..") {
+            Some((TokenKind::Spread, 3))
+        } else {
+            None
+        }
     } else if blank_len(bytes) == 0 {
         let kind = punctuator(*first)?;
         Some((kind, 1))
@@ -98,7 +117,40 @@ pub fn first_token(text: &str) -> Option<(TokenKind, usize)>
     }
 }
 
-/// The first item of a text that isn't empty: its kind, its text and what follows.
+// The bytes of the first character; 0 if there is none.
+fn character_len(source: &str) -> usize
+    ensures value { result ≡ character_len source.now }
+    ensures small { result ≤ 4 }
+{
+    match source.chars().next() {
+        Some(c) => c.len_utf8(),
+        None => 0,
+    }
+}
+
+// The bytes of the bad text at the front, where no token stands.
+fn bad_len(source: &str) -> usize
+    ensures { result ≡ bad_len source.now }
+{
+    let bytes = source.as_bytes();
+    let Some((first, others)) = bytes.split_first() else {
+        return 0;
+    };
+    if is_number_start(*first) {
+        let (_, n) = number_len(bytes);
+        n + character_len(&source[n..])
+    } else if bytes.starts_with(b"\"\"\"") {
+        bytes.len()
+    } else if *first == b'"' {
+        1 + bad_string_len(others)
+    } else if *first == b'.' {
+        1 + character_len(&source[1..])
+    } else {
+        character_len(source)
+    }
+}
+
+/// The first item of a text that isn't empty: its kind, which bad text has none of, its text, and what follows.
 pub fn cut(source: &str) -> (Option<TokenKind>, &str, &str)
     requires { 0 < length source.now }
     ensures kind { result.0 ≡ (first_item source.now).0 }
@@ -107,27 +159,14 @@ pub fn cut(source: &str) -> (Option<TokenKind>, &str, &str)
     ensures some { 0 < (first_item source.now).1 }
     ensures within { (first_item source.now).1 + length result.2.now ≡ length source.now }
 {
-    match first_token(source) {
+    match token_at(source.as_bytes()) {
         Some((kind, n)) => {
             let (text, after) = source.split_at(n);
             (Some(kind), text, after)
         }
         None => {
-            let (text, after) = source.split_at(character_len(source));
+            let (text, after) = source.split_at(bad_len(source));
             (None, text, after)
         }
-    }
-}
-
-// The bytes of the first character.
-fn character_len(source: &str) -> usize
-    requires { 0 < length source.now }
-    ensures value { result ≡ character_len source.now }
-    ensures boundary { IsCharBoundary source.now result }
-    ensures some { 0 < result }
-{
-    match source.chars().next() {
-        Some(c) => c.len_utf8(),
-        None => 0,
     }
 }

@@ -1,6 +1,6 @@
 use crate::error::Error;
 use crate::laws::{
-    answers_are_items, answers_count, answers_join, equal_errors_are_same, tokens_are_cut,
+    answers_are_items, answers_count, answers_join, equal_errors_are_same, items_are_cut,
 };
 use crate::lexer::Lexer;
 use crate::limit::LimitTracker;
@@ -163,7 +163,7 @@ fn copies_go_on_alike(rt: HostRuntime) -> Result<(), Fail> {
     answers_are_items(&lexer);
     answers_join("a b");
     answers_count();
-    tokens_are_cut("a b");
+    items_are_cut("a b");
     equal_errors_are_same();
     Ok(())
 }

@@ -55,11 +55,11 @@ pub cut_text : (allowed : ℕ) (source : List ℕ) (items : List Item) → Cut s
 cut_text allowed source items cut le = whole_text allowed items le ∙ cut.joined
 
 -- a token is not the end
-token_text : (kind : TokenKind) (text : List ℕ) → Tok kind text → IsTokenText kind text
+pub token_text : (kind : TokenKind) (text : List ℕ) → Tok kind text → IsTokenText kind text
 token_text Eof text token = absurd token
 token_text _ text token = token
 
-not_last : (kind : TokenKind) (text : List ℕ) (rest : List Answer) → Tok kind text → is_end kind ≡ true → rest ≡ []
+pub not_last : (kind : TokenKind) (text : List ℕ) (rest : List Answer) → Tok kind text → is_end kind ≡ true → rest ≡ []
 not_last Eof text rest token e = absurd token
 not_last _ text rest token e = absurd (cc)
 

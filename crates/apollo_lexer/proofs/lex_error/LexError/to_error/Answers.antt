@@ -5,7 +5,7 @@ use Rattle.apollo_lexer.proofs.lex_error.LexError.to_error.Goals as goal
 pub returns-then-self-clause-message : goal.returns-then-self-clause-message
 returns-then-self-clause-message g c =
     let e = c.args.self.now in
-    rw c.limit.ensures (limit_told e.is_limit e.text.now _ c.if-self.true c.in_ok-message.ensures)
+    rw c.limit.ensures (limit_told e.is_limit e.text.now _ c.if-self.true c.in_ok-told.ensures.ok)
 
 -- bad text
 pub returns-clause-message : goal.returns-clause-message

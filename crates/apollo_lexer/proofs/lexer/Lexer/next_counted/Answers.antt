@@ -2,7 +2,7 @@ use Rattle.std.proofs.Common.{◌≡◌, ◌∙◌, ◌+◌, ◌-◌, ap, sym, a
 use Rattle.std.proofs.lemmas.Bool.{ltb-true, ltb-false, eqb-false, cond-false}
 use Rattle.apollo_lexer.specs.Answers.{answers_left}
 use Rattle.lexical_grammar.specs.Answers.{limited, limit_at, gives}
-use Rattle.apollo_lexer.specs.Reads.{items_from}
+use Rattle.lexical_grammar.specs.Reads.{items_from}
 use Rattle.apollo_lexer.proofs.Items.{limit_met_at, end_comes, item_comes, high_kept}
 use Rattle.apollo_lexer.proofs.lexer.Lexer.next_counted.Goals as goal
 

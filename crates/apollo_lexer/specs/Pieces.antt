@@ -1,0 +1,15 @@
+-- What a search finds at the front of a text, for one that reads how far a string goes.
+use Rattle.std.specs.Prelude.{◌≡◌, ℕ, ◌+◌, ◌<◌, ◌≤◌, List, length, drop, Option, Some, None, option_map}
+use Rattle.lexical_grammar.specs.Reads.{bad_string_len}
+use Rattle.apollo_lexer.specs.declared.strings.Piece.{Piece}
+use Rattle.apollo_lexer.specs.declared.strings.Piece.TheVariants.{Open, Last, Inner}
+
+-- none; the whole; or some bytes, and then what is read behind them
+abbrev pub IsPiece : (List ℕ → Option ℕ) → List ℕ → Piece → Type 0
+IsPiece read rest Open = read rest ≡ None
+IsPiece read rest (Last n) = (n ≤ length rest) × (read rest ≡ Some n)
+IsPiece read rest (Inner n) = (0 < n) × (n ≤ length rest) × (read rest ≡ option_map (λ m. n + m) (read (drop n rest)))
+
+-- a bad string has an end
+abbrev pub read_bad : List ℕ → Option ℕ
+read_bad text = Some (bad_string_len text)

@@ -1,0 +1,273 @@
+// What is wrong with bad text, and the messages that say it.
+ghost use Rattle.std.specs.Prelude.{◌≡◌, ◌≤◌, ◌<◌, IfOk, IfSome, IsAscii, length, slice_index, string_bytes};
+ghost use Rattle.apollo_lexer.specs.Faults.{words, fault_message, number_fault};
+
+use crate::escapes::{escape_len, hex_digits_len};
+use crate::numbers::number_len;
+use lexical_grammar::NumberState;
+use memchr::memchr2;
+use std::alloc::{AllocError, Allocator};
+
+// What is wrong with bad text. Where a string has several faults and an end, it is the last of them.
+#[derive(Clone, Copy, Debug, PartialEq, Eq)]
+enum LexFault {
+    UnexpectedCharacter,
+    LeadingZero,
+    NumberSuffix,
+    IntegerSuffix,
+    FractionalDigit,
+    FloatSuffix,
+    ExponentDigitOrSign,
+    ExponentDigit,
+    UnfinishedFloat,
+    UnterminatedSpread,
+    UnfinishedString,
+    UnterminatedString,
+    LineTerminator,
+    EscapedCharacter,
+    IncompleteEscape,
+    InvalidEscape,
+    UnpairedSurrogate,
+    NoScalarValue,
+}
+
+// What is wrong with a number that was read so far, and behind which this byte comes or the text ends.
+fn number_fault(state: NumberState, next: Option<u8>) -> LexFault
+    ensures { result ≡ number_fault state next }
+{
+    match next {
+        None => match state {
+            NumberState::Minus => LexFault::UnexpectedCharacter,
+            _ => LexFault::UnfinishedFloat,
+        },
+        Some(b) => match state {
+            NumberState::Minus => LexFault::NumberSuffix,
+            NumberState::Zero => if b.is_ascii_digit() {
+                LexFault::LeadingZero
+            } else {
+                LexFault::IntegerSuffix
+            },
+            NumberState::Integer => LexFault::IntegerSuffix,
+            NumberState::Point => LexFault::FractionalDigit,
+            NumberState::ExponentIndicator => LexFault::ExponentDigitOrSign,
+            NumberState::ExponentSign => LexFault::ExponentDigit,
+            _ => LexFault::FloatSuffix,
+        },
+    }
+}
+
+// What is wrong with what a backslash at the front begins, which is no string character.
+fn escape_fault(rest: &[u8]) -> LexFault {
+    if rest.starts_with(b"\\u{") {
+        let n = hex_digits_len(&rest[3..]);
+        return match rest.get(3 + n) {
+            Some(b'}') => LexFault::NoScalarValue,
+            Some(b'"') => LexFault::IncompleteEscape,
+            _ => LexFault::InvalidEscape,
+        };
+    }
+    if !rest.starts_with(b"\\u") {
+        return LexFault::EscapedCharacter;
+    }
+    let n = hex_digits_len(&rest[2..]);
+    if n >= 4 {
+        return LexFault::UnpairedSurrogate;
+    }
+    match rest.get(2 + n) {
+        Some(b'"') => LexFault::IncompleteEscape,
+        _ => LexFault::InvalidEscape,
+    }
+}
+
+// A piece of a bad string: its bytes, whether it ends the string, and its last fault.
+#[derive(Clone, Copy)]
+struct Part {
+    len: usize,
+    is_last: bool,
+    fault: Option<LexFault>,
+}
+
+// The characters up to a quote or a backslash, and that one or its escape.
+fn first_part(rest: &[u8]) -> Option<Part>
+    ensures { IfSome result (λ p. (0 < p.len) × (p.len ≤ length rest.now)) }
+{
+    match memchr2(b'"', b'\\', rest) {
+        None => None,
+        Some(i) => {
+            let breaks = memchr2(b'\n', b'\r', &rest[..i]).is_some();
+            let fault = if breaks {
+                Some(LexFault::LineTerminator)
+            } else {
+                None
+            };
+            if rest[i] == b'"' {
+                return Some(Part {
+                    len: i + 1,
+                    is_last: true,
+                    fault,
+                });
+            }
+            let tail = &rest[i..];
+            let n = escape_len(tail);
+            if n > 0 {
+                return Some(Part {
+                    len: i + n,
+                    is_last: false,
+                    fault,
+                });
+            }
+            Some(Part {
+                len: i + tail.len().min(2),
+                is_last: false,
+                fault: Some(escape_fault(tail)),
+            })
+        }
+    }
+}
+
+// What is wrong with a bad string, of which this stands behind the opening quote.
+fn string_fault(inside: &[u8]) -> LexFault {
+    if inside.is_empty() {
+        return LexFault::UnfinishedString;
+    }
+    if inside.starts_with(b"\"\"") {
+        return LexFault::UnterminatedString;
+    }
+    let mut last = LexFault::UnterminatedString;
+    let mut n = 0;
+    loop {
+        let Some(part) = first_part(&inside[n..]) else {
+            return LexFault::UnterminatedString;
+        };
+        if let Some(fault) = part.fault {
+            last = fault;
+        }
+        if part.is_last {
+            return last;
+        }
+        n += part.len;
+    }
+}
+
+// What is wrong with bad text, of which this much begins a number.
+fn fault(bytes: &[u8], state: NumberState, n: usize) -> LexFault {
+    match bytes {
+        [b'-' | b'0'..=b'9', ..] => number_fault(state, bytes.get(n).copied()),
+        [b'"', ..] => string_fault(&bytes[1..]),
+        [b'.', ..] => LexFault::UnterminatedSpread,
+        _ => LexFault::UnexpectedCharacter,
+    }
+}
+
+// The words of a message that quotes nothing.
+fn words(fault: LexFault) -> &'static str
+    ensures { result.now ≡ words fault }
+{
+    match fault {
+        LexFault::LeadingZero => "Numbers must not have non-significant leading zeroes",
+        LexFault::UnfinishedFloat => "Unexpected EOF in float value",
+        LexFault::UnterminatedSpread => "Unterminated spread operator",
+        LexFault::UnfinishedString => "unexpected end of data while lexing string value",
+        LexFault::UnterminatedString => "unterminated string value",
+        LexFault::LineTerminator => "unexpected line terminator",
+        LexFault::EscapedCharacter => "unexpected escaped character",
+        LexFault::IncompleteEscape => "incomplete unicode escape sequence",
+        LexFault::InvalidEscape => "invalid unicode escape sequence",
+        LexFault::UnpairedSurrogate => "unpaired surrogate in unicode escape sequence",
+        LexFault::NoScalarValue => "unicode escape sequence must specify a Unicode scalar value",
+        _ => "Unexpected character",
+    }
+}
+
+// The message for a fault of this text, where this character stands behind what begins a number.
+fn fault_message<A: Allocator>(
+    fault: LexFault,
+    text: &str,
+    next: &str,
+    alloc: A,
+) -> Result<String<A>, AllocError>
+    ensures { IfOk result (λ m. string_bytes m ≡ fault_message fault text.now next.now) }
+{
+    match fault {
+        LexFault::UnexpectedCharacter => format!(in alloc; "Unexpected character \"{text}\""),
+        LexFault::NumberSuffix => format!(in alloc; "Unexpected character `{next}`"),
+        LexFault::IntegerSuffix => format!(in alloc;
+            "Unexpected character `{next}` as integer suffix"
+        ),
+        LexFault::FractionalDigit => format!(in alloc;
+            "Unexpected character `{next}`, expected fractional digit"
+        ),
+        LexFault::FloatSuffix => format!(in alloc; "Unexpected character `{next}` as float suffix"),
+        LexFault::ExponentDigitOrSign => format!(in alloc;
+            "Unexpected character `{next}`, expected exponent digit or sign"
+        ),
+        LexFault::ExponentDigit => format!(in alloc;
+            "Unexpected character `{next}`, expected exponent digit"
+        ),
+        _ => {
+            let words = words(fault);
+            String::from_str(alloc, words)
+        }
+    }
+}
+
+/// The message for bad text, by its last fault.
+pub fn bad_text_message<A: Allocator>(text: &str, alloc: A) -> Result<String<A>, AllocError>
+    ensures { IfOk result (λ m. IsAscii text.now → IsAscii (string_bytes m)) }
+{
+    let bytes = text.as_bytes();
+    let (state, n) = number_len(bytes);
+    let next = &text[n..];
+    let message = fault_message(fault(bytes, state, n), text, next, alloc)?;
+    Ok(message)
+}
+
+#[cfg(test)]
+mod tests {
+    use crate::lexer::Lexer;
+    use std::test::Fail;
+
+    // the messages of the original, one for each fault; of several in one string the last counts
+    #[test]
+    fn first_messages(rt: HostRuntime) -> Result<(), Fail> {
+        for (text, message) in [
+            ("/", "Unexpected character \"/\""),
+            ("-", "Unexpected character \"-\""),
+            ("-a", "Unexpected character `a`"),
+            ("01", "Numbers must not have non-significant leading zeroes"),
+            ("0xF", "Unexpected character `x` as integer suffix"),
+            ("1.a", "Unexpected character `a`, expected fractional digit"),
+            ("1.5.6", "Unexpected character `.` as float suffix"),
+            (
+                "1ea",
+                "Unexpected character `a`, expected exponent digit or sign",
+            ),
+            ("1e+a", "Unexpected character `a`, expected exponent digit"),
+            ("1.5e", "Unexpected EOF in float value"),
+            (".a", "Unterminated spread operator"),
+            ("\"", "unexpected end of data while lexing string value"),
+            ("\"\"\"a", "unterminated string value"),
+            ("\"a", "unterminated string value"),
+            ("\"\n\"", "unexpected line terminator"),
+            ("\"\\q\"", "unexpected escaped character"),
+            ("\"\\u12\"", "incomplete unicode escape sequence"),
+            ("\"\\u12G4\"", "invalid unicode escape sequence"),
+            (
+                "\"\\uD83D\"",
+                "unpaired surrogate in unicode escape sequence",
+            ),
+            (
+                "\"\\u{110000}\"",
+                "unicode escape sequence must specify a Unicode scalar value",
+            ),
+            ("\"\\q\n\"", "unexpected line terminator"),
+            ("\"\n\\q\"", "unexpected escaped character"),
+        ] {
+            let mut lexer = Lexer::new(text);
+            let error = lexer.next().ok_or("an item")?.err().ok_or("bad text")?;
+            let told = error.to_error(rt.alloc())?;
+            assert_eq!(rt; told.message(), message, "at {text}");
+        }
+        Ok(())
+    }
+}

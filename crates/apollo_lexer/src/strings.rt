@@ -1,0 +1,139 @@
+// How far strings go: from one quote or backslash to the next.
+//
+// A search ends within the text that it is found to belong to, or at the end of the whole text, which is then bad text to its end. None is
+// repeated from a place that was passed, but for one: where a quoted string turns out to be bad, its end is searched for from its opening
+// quote again, and that end is no nearer than the last byte looked at. So no byte is looked at more than a fixed number of times, also in a
+// text of nothing but quotes, of bad strings or of backslashes.
+ghost use Rattle.std.specs.Prelude.{◌≡◌, ◌<◌, ◌≤◌, IfSome, Some, length};
+ghost use Rattle.lexical_grammar.specs.Reads.{block_len, quoted_len, string_at};
+ghost use Rattle.apollo_lexer.specs.Pieces.{IsPiece, read_bad};
+
+use crate::escapes::escape_len;
+use lexical_grammar::TokenKind;
+use memchr::memchr2;
+
+// What stands at the front: nothing that ends the string, its end, or some bytes of it.
+enum Piece {
+    Open,
+    Last(usize),
+    Inner(usize),
+}
+
+// In a block string: the characters up to a quote or a backslash, and that one or what it begins.
+fn block_piece(rest: &[u8]) -> Piece
+    ensures { IsPiece (block_len 0) rest.now result }
+{
+    match memchr2(b'"', b'\\', rest) {
+        None => Piece::Open,
+        Some(i) => {
+            let tail = &rest[i..];
+            if tail.starts_with(b"\"\"\"") {
+                Piece::Last(i + 3)
+            } else if tail.starts_with(b"\\\"\"\"") {
+                Piece::Inner(i + 4)
+            } else {
+                Piece::Inner(i + 1)
+            }
+        }
+    }
+}
+
+// The block characters at the front, and the quotes behind them.
+fn block_len(bytes: &[u8]) -> Option<usize>
+    ensures value { result ≡ block_len 0 bytes.now }
+    ensures within { IfSome result (λ n. n ≤ length bytes.now) }
+{
+    let mut n = 0;
+    loop {
+        match block_piece(&bytes[n..]) {
+            Piece::Open => return None,
+            Piece::Last(k) => return Some(n + k),
+            Piece::Inner(k) => n += k,
+        }
+    }
+}
+
+// In a quoted string: the plain characters up to a quote or a backslash, and that one or its escape.
+fn quoted_piece(rest: &[u8]) -> Piece
+    ensures { IsPiece (quoted_len 0) rest.now result }
+{
+    match memchr2(b'"', b'\\', rest) {
+        None => Piece::Open,
+        Some(i) => {
+            if memchr2(b'\n', b'\r', &rest[..i]).is_some() {
+                Piece::Open
+            } else if rest[i] == b'"' {
+                Piece::Last(i + 1)
+            } else {
+                let n = escape_len(&rest[i..]);
+                if n == 0 {
+                    Piece::Open
+                } else {
+                    Piece::Inner(i + n)
+                }
+            }
+        }
+    }
+}
+
+// The string characters at the front, and the quote behind them.
+fn quoted_len(bytes: &[u8]) -> Option<usize>
+    ensures value { result ≡ quoted_len 0 bytes.now }
+    ensures within { IfSome result (λ n. n ≤ length bytes.now) }
+{
+    let mut n = 0;
+    loop {
+        match quoted_piece(&bytes[n..]) {
+            Piece::Open => return None,
+            Piece::Last(k) => return Some(n + k),
+            Piece::Inner(k) => n += k,
+        }
+    }
+}
+
+// In a bad string: the bytes up to a quote or a backslash, and that one and the byte that it escapes.
+fn bad_piece(rest: &[u8]) -> Piece
+    ensures { IsPiece read_bad rest.now result }
+{
+    match memchr2(b'"', b'\\', rest) {
+        None => Piece::Last(rest.len()),
+        Some(i) => {
+            if rest[i] == b'"' {
+                Piece::Last(i + 1)
+            } else if i + 1 < rest.len() {
+                Piece::Inner(i + 2)
+            } else {
+                Piece::Last(rest.len())
+            }
+        }
+    }
+}
+
+/// How far a bad string goes behind its opening quote, in bytes: to the next quote that no backslash stands before, or to the end of the
+/// text.
+pub fn bad_string_len(bytes: &[u8]) -> usize
+    ensures value { Some result ≡ read_bad bytes.now }
+    ensures within { result ≤ length bytes.now }
+{
+    let mut n = 0;
+    loop {
+        match bad_piece(&bytes[n..]) {
+            Piece::Open => return n,
+            Piece::Last(k) => return n + k,
+            Piece::Inner(k) => n += k,
+        }
+    }
+}
+
+/// The string that stands at the front, where a quote does, and its length in bytes.
+pub fn string_at(bytes: &[u8]) -> Option<(TokenKind, usize)>
+    requires { 0 < length bytes.now }
+    ensures { result ≡ string_at bytes.now }
+{
+    let n = if bytes.starts_with(b"\"\"\"") {
+        3 + block_len(&bytes[3..])?
+    } else {
+        1 + quoted_len(&bytes[1..])?
+    };
+    Some((TokenKind::StringValue, n))
+}
