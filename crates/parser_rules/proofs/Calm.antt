@@ -13,6 +13,7 @@ use Rattle.document_grammar.specs.Sentence.{token_of}
 use Rattle.document_grammar.proofs.Basics.{either, false-true, and-i, and-l, and-r}
 use Rattle.document_grammar.specs.Machine.{◌and◌}
 use Rattle.parser_rules.specs.State.{State, Text, Lexeme, Part, Report, at_text, at_limit, ignored, wait, bad, met, lexeme, read_on}
+use Rattle.parser_rules.proofs.Kept.{on_kind, on_item}
 use Rattle.parser_rules.proofs.Strip.{all_ignored}
 
 -- the significant tokens of a kind and a text, of an answer, of the current token: one or none
@@ -67,12 +68,6 @@ all_tokens-append (x ∷ xs) ys h g = elim (either (is_token x)) [
   | inr p ↦ false-true refl (rw p at h)
 ]
 
-pub record Same (s t : State) : Type 0 where
-  pub tree : t.tree ≡ s.tree
-  pub limit : t.limit ≡ s.limit
-  pub depth : t.depth ≡ s.depth
-  pub high : t.high ≡ s.high
-
 -- reports stay
 pub record Grows (s t : State) : Type 0 where
   pub more : List Report
@@ -83,18 +78,6 @@ same-errors s t e = record { more = []; errors = e ∙ sym (append-nil s.errors)
 
 pub grows-on : (s t u : State) → Grows s t → Grows t u → Grows s u
 grows-on s t u h k = record { more = h.more ++ k.more; errors = k.errors ∙ (ap (λ (z : List Report). z ++ k.more) h.errors ∙ append_assoc s.errors h.more k.more) }
-
-abbrev pub on_kind : List Answer → State → Item → TokenKind → Option SyntaxKind → State
-on_kind xs s item k found = elim found [
-  | Some leaf ↦ read_on xs (wait leaf item.text (record s { items = xs }))
-  | None ↦ record s { items = xs; current = Some (lexeme k item) }
-]
-
-abbrev pub on_item : List Answer → State → Item → Option TokenKind → State
-on_item xs s item found = elim found [
-  | None ↦ read_on xs (bad item.text item.index (record s { items = xs }))
-  | Some k ↦ on_kind xs s item k (ignored k)
-]
 
 pub read-grows : (xs : List Answer) (s : State) → Grows s (read_on xs s)
 unfolding read_on
@@ -172,7 +155,6 @@ module _ (answers : List Answer) (base : List Report) where
   pub record Reads (xs : List Answer) (s t : State) : Type 0 where
     pub calm : Calm t
     pub left : rest t ≡ answers_tokens xs
-    pub same : Same s t
 
   abbrev Read : List Answer → State → State → Type 0
   Read xs s t = Told t ⊎ Reads xs s t
@@ -209,7 +191,6 @@ module _ (answers : List Answer) (base : List Report) where
       on_ignored go k None i e' p' = inr (record {
         calm = record { quiet = record { clean = q.clean; accepts = q.accepts; waits = q.waits }; now = (i, e'); passed = passed-one (kept k) xs refl p' };
         left = refl;
-        same = record { tree = refl; limit = refl; depth = refl; high = refl };
       })
       on_ignored go k (Some leaf) i e' p' =
           let part : Part = record { kind = leaf; text = item.text } in
@@ -221,6 +202,5 @@ module _ (answers : List Answer) (base : List Report) where
             | inr o ↦ inr (record {
               calm = o.calm;
               left = o.left ∙ sym (ap (λ (z : List Token). z ++ answers_tokens xs) (ignored-tokens k leaf item.text i));
-              same = record { tree = o.same.tree; limit = o.same.limit; depth = o.same.depth; high = o.same.high };
             })
           ]

@@ -13,13 +13,13 @@ use Rattle.parser_rules.proofs.Steps.{Holds_along, along, turns_along}
 
 -- ---- reading on
 
-on_kind : List Answer → State → Item → TokenKind → Option SyntaxKind → State
+abbrev pub on_kind : List Answer → State → Item → TokenKind → Option SyntaxKind → State
 on_kind rest s item k found = elim found [
   | Some leaf ↦ read_on rest (wait leaf item.text (record s { items = rest }))
   | None ↦ record s { items = rest; current = Some (lexeme k item) }
 ]
 
-on_item : List Answer → State → Item → Option TokenKind → State
+abbrev pub on_item : List Answer → State → Item → Option TokenKind → State
 on_item rest s item found = elim found [ None ↦ read_on rest (bad item.text item.index (record s { items = rest })) | Some k ↦ on_kind rest s item k (ignored k) ]
 
 -- what reading on leaves as it is
@@ -30,7 +30,7 @@ pub record Untouched (s t : State) : Type 0 where
   pub high : t.high ≡ s.high
 
 pub read_untouched : (xs : List Answer) (s : State) → Untouched s (read_on xs s)
-unfolding read_on on_kind on_item
+unfolding read_on
 read_untouched [] s = record { tree = refl; depth = refl; limit = refl; high = refl }
 read_untouched (limit_at index ∷ rest) s = let h = read_untouched rest (met index (record s { items = rest })) in record { tree = h.tree; depth = h.depth; limit = h.limit; high = h.high }
 read_untouched (gives item ∷ rest) s = elim item.kind as (λ found. Untouched s (on_item rest s item found)) [
@@ -43,7 +43,7 @@ read_untouched (gives item ∷ rest) s = elim item.kind as (λ found. Untouched 
 
 -- reading on and closing a node commute
 pub read_closed : (xs : List Answer) (s : State) → closed (read_on xs s) ≡ read_on xs (closed s)
-unfolding read_on closed on_kind on_item
+unfolding read_on closed
 read_closed [] s = refl
 read_closed (limit_at index ∷ rest) s = read_closed rest (met index (record s { items = rest }))
 read_closed (gives item ∷ rest) s = elim item.kind as (λ found. closed (on_item rest s item found) ≡ on_item rest (closed s) item found) [
@@ -63,7 +63,7 @@ unfoldable pub left : State → ℕ
 left s = one_if s.current + length s.items
 
 pub read_left : (xs : List Answer) (s : State) → s.items ≡ xs → left (read_on xs s) ≤ length xs
-unfolding read_on on_kind on_item left
+unfolding read_on left
 read_left [] s e = let n : length s.items ≡ 0 = ap length e in omega arith
 read_left (limit_at index ∷ rest) s e = let h = read_left rest (met index (record s { items = rest })) refl in omega (arith, h)
 read_left (gives item ∷ rest) s e = elim item.kind as (λ found. left (on_item rest s item found) ≤ length (gives item ∷ rest)) [

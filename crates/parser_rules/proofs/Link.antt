@@ -23,6 +23,8 @@ use Rattle.document_grammar.proofs.Sound.{any, first-any, Sound, spent, snoc-spe
 use Rattle.document_grammar.proofs.Steps.{hits, hits-fires}
 use Rattle.parser_rules.specs.State.{State, Lexeme, Report, at_limit, found_at, noted, note, flush, opened, closed, moved, bump, is_deep, enter, leave, deepened, limited_at, too_deep, add_all, read_on}
 use Rattle.parser_rules.specs.Rule.{Test, holds, Prim, Bump, Note, step, Node, symbol, kind_of, inside, body, Rule, Skip, Do, Seq, When, While, Child, Nested, Call, Runs, skip, does, seq, yes, no, done, again, child, deeper, refused, call}
+use Rattle.parser_rules.proofs.Steps.{Holds_along, along}
+use Rattle.parser_rules.proofs.Kept.{Untouched, read_untouched}
 use Rattle.parser_rules.proofs.Strip.{Stack, stack, put, pop, stack-leaf, stack-finish, stack-flush}
 use Rattle.parser_rules.proofs.Calm.{Now, choose, EndsWell, rest, answers_tokens, current_tokens, Grows, same-errors, grows-on, read-grows, Told, told-on, Quiet, Calm, Reads, read-on}
 use Rattle.parser_rules.proofs.Sets.{set_of, AtToken, standing, test-set}
@@ -140,49 +142,25 @@ moved-le a b c e f = omega arith
 
 -- ---- reports stay
 
-fault-grows : (r : Report) (s : State) (b : Bool) → Grows s (if b then record s { errors = s.errors ++ r ∷ [] } else s)
-fault-grows r s true = record { more = r ∷ []; errors = refl }
-fault-grows r s false = same-errors s s refl
+moved-grows : (k : SyntaxKind) (x : Lexeme) (s : State) → Grows s (read_on s.items (record s { tree = add_leaf k x.text s.tree }))
+moved-grows k x s = let u : State = record s { tree = add_leaf k x.text s.tree } in let g = read-grows s.items u in record { more = g.more; errors = g.errors }
 
-bump-grows : (kind : SyntaxKind) (s : State) (c : Option Lexeme) → Grows s (moved kind s c)
-unfolding flush
-bump-grows kind s None = same-errors s s refl
-bump-grows kind s (Some t) =
-    let f : State = flush s in
-    let u : State = record f { tree = add_leaf kind t.text f.tree } in
-    grows-on s u (read_on f.items u) (same-errors s u refl) (read-grows f.items u)
-
-note-grows : (s : State) (c : Option Lexeme) → Grows s (noted s c)
-note-grows s None = same-errors s s refl
-note-grows s (Some t) = fault-grows (record { found = found_at t; index = t.index }) s s.accepts
-
-deep-grows : (s : State) (c : Option Lexeme) → Grows s (limited_at s c)
-deep-grows s None = same-errors s s refl
-deep-grows s (Some t) = let g = fault-grows (record { found = at_limit; index = t.index }) s s.accepts in record { more = g.more; errors = g.errors }
-
-step-grows : (a : Prim) (s : State) → Grows s (step a s)
-unfolding step bump note
-step-grows (Bump kind) s = bump-grows kind s s.current
-step-grows (Note m) s = note-grows s s.current
-
-to-same : {s u t : State} → u ≡ t → t.errors ≡ s.errors → Grows s u
-to-same {s = s} {u = u} e f = same-errors s u (ap (λ (z : State). z.errors) e ∙ f)
+grows-along : Holds_along Grows
+unfolding flush enter leave closed
+grows-along = record {
+  same = λ s. same-errors s s refl;
+  next = grows-on;
+  flushes = λ s. same-errors s (flush s) refl;
+  moves = λ k x s e w. moved-grows k x s;
+  reports = λ r s. record { more = r ∷ []; errors = refl };
+  drops = λ s. same-errors s (record s { accepts = false }) refl;
+  asks = λ s e. same-errors s (deepened s) refl;
+  nodes = λ k s u g. record { more = g.more; errors = g.errors };
+  levels = λ s u d g. record { more = g.more; errors = g.errors };
+}
 
 pub run-grows : {r : Rule} {s t : State} → Runs r s t → Grows s t
-unfolding opened closed flush enter leave too_deep
-run-grows {s = s} skip = same-errors s s refl
-run-grows {s = s} (does {a = a} e) = subst (λ (z : State). Grows s z) (sym e) (step-grows a s)
-run-grows {s = s} {t = u} (seq {t = t} h k) = grows-on s t u (run-grows h) (run-grows k)
-run-grows (yes e h) = run-grows h
-run-grows (no e h) = run-grows h
-run-grows {s = s} (done e) = same-errors s s refl
-run-grows {s = s} {t = u} (again {t = t} e h k) = grows-on s t u (run-grows h) (run-grows k)
-run-grows {s = s} {t = v} (child {n = n} {t = t} {u = u} e f h) =
-    grows-on s t v (to-same e refl) (grows-on t u v (run-grows h) (to-same f refl))
-run-grows {s = s} {t = x} (deeper {t = t} {u = u} {v = v} d e f h k) =
-    grows-on s t x (to-same e refl) (grows-on t u x (run-grows h) (grows-on u v x (to-same f refl) (run-grows k)))
-run-grows {s = s} (refused d e) = subst (λ (z : State). Grows s z) (sym e) (record { more = (deep-grows (deepened s) s.current).more; errors = (deep-grows (deepened s) s.current).errors })
-run-grows (call h) = run-grows h
+run-grows h = along grows-along h
 
 -- ---- the link
 
@@ -342,13 +320,16 @@ module _ (answers : List Answer) (base : List Report) (lim : ℕ) (w : List Toke
       old : Place s q l fs st
       old = g.place
 
+      still : Untouched u v
+      still = read_untouched st.items u
+
       place : Reads answers base st.items u v → Place s (target s q k) l fs v
       place o = record {
         children = old.children +++ (leaf k t.text ▸ none);
         sound = (old.sound.0, subst (λ (n : ℕ). Path s 0 (old.children +++ (leaf k t.text ▸ none)) n) (add-zero (target s q k)) (path-snoc s 0 q old.children (leaf k t.text) old.sound.1 hs ok-leaf), old.sound.2, old.sound.3);
         read = old.read ∙ (ap (λ (r : List Token). (spent fs ++ yields old.children) ++ r) (ready ∙ ap₂ (λ (e : Token) (r : List Token). e ∷ r) (sym (leaf-token k 0 b i fires-it)) (sym o.left)) ∙ sym (snoc-spent fs old.children (leaf k t.text) (rest v)));
-        built = ap stack o.same.tree ∙ (stack-leaf kind t.text (add_all st.waiting st.tree) ne ∙ (ap (put (leaf k t.text ▸ none)) (flushed st g.calm ∙ old.built) ∙ (ap (λ (n : ℕ). put (leaf n t.text ▸ none) (image (frame s q old.children ∷ fs))) (sym lb) ∙ put-image s q (target s q k) old.children (leaf k t.text) fs)));
-        leveled = leveled-at s (target s q k) l _ fs st.depth v.depth st.high v.high st.limit v.limit o.same.depth o.same.high o.same.limit (leveled-leaf s q (target s q k) k l t.text old.children fs st.depth st.high st.limit i old.leveled);
+        built = ap stack still.tree ∙ (stack-leaf kind t.text (add_all st.waiting st.tree) ne ∙ (ap (put (leaf k t.text ▸ none)) (flushed st g.calm ∙ old.built) ∙ (ap (λ (n : ℕ). put (leaf n t.text ▸ none) (image (frame s q old.children ∷ fs))) (sym lb) ∙ put-image s q (target s q k) old.children (leaf k t.text) fs)));
+        leveled = leveled-at s (target s q k) l _ fs st.depth v.depth st.high v.high st.limit v.limit still.depth still.high still.limit (leveled-leaf s q (target s q k) k l t.text old.children fs st.depth st.high st.limit i old.leveled);
       }
 
   bump-out : (s : ℕ) (p : Spot) (x : ℕ) (kind : SyntaxKind) (fs : List Frame) (k : Spot → ℕ → Bool) (st : State) → takes s p x (number kind) (λ p'. k p' any) ≡ true → Fits s p x fs st → Out s fs k (bump kind st)
@@ -503,7 +484,7 @@ module _ (answers : List Answer) (base : List Report) (lim : ℕ) (w : List Toke
 
   leave-grows : (u v : State) → v ≡ leave u → Grows u v
   unfolding leave
-  leave-grows u v e = to-same e refl
+  leave-grows u v e = subst (λ (z : State). Grows u z) (sym e) (same-errors u (leave u) refl)
 
   abbrev Lowered : ℕ → ℕ → List Frame → (Spot → ℕ → Bool) → Rule → State → State → Type 0
   Lowered n s fs k b v y = (q' x' : ℕ) → ok n s (spot q' past) x' b k ≡ true → Fits s (spot q' past) x' fs v → Out s fs k y

@@ -30,6 +30,8 @@ use Rattle.document_grammar.proofs.Show.{show, shows}
 use Rattle.document_grammar.proofs.Sound.{any, first-any, path-ok}
 use Rattle.parser_rules.specs.State.{State, Part, Lexeme, Report, add_all, fresh, begun, finished}
 use Rattle.parser_rules.specs.Rule.{Runs, Call, Document}
+use Rattle.parser_rules.specs.Open.{IsRoot}
+use Rattle.parser_rules.proofs.Kept.{read_untouched, add_all_above}
 use Rattle.parser_rules.proofs.Strip.{stack, strip, layers, stack-flush}
 use Rattle.parser_rules.proofs.Calm.{answers_tokens, all_tokens, rest, current_tokens, EndsWell, Now, Told, Reads, read-on}
 use Rattle.parser_rules.proofs.Sets.{AtEnd, AtToken, standing, nothing-left}
@@ -103,25 +105,16 @@ start-fits r xs e clean =
           children = none;
           sound = (document-label.2, refl, refl, tt);
           read = sym o.left;
-          built = ap stack o.same.tree ∙ ap (λ (k : ℕ). (k, none) ∷ []) (sym document-label.0);
+          built = ap stack (read_untouched xs (fresh xs r kind.DOCUMENT)).tree ∙ ap (λ (k : ℕ). (k, none) ∷ []) (sym document-label.0);
           leveled = leveled-from s o;
         };
       }
     ]
   where
     leveled-from : (s : State) (o : Reads xs [] xs (fresh xs r kind.DOCUMENT) (begun xs r kind.DOCUMENT)) → Leveled xs [] r (answers_tokens xs) DOCUMENT 0 low none [] (begun xs r kind.DOCUMENT).depth (begun xs r kind.DOCUMENT).high (begun xs r kind.DOCUMENT).limit
-    leveled-from s o = rw (o.same.depth, o.same.high, o.same.limit) (start-level r xs (answers_tokens xs))
+    leveled-from s o = let still = read_untouched xs (fresh xs r kind.DOCUMENT) in rw (still.depth, still.high, still.limit) (start-level r xs (answers_tokens xs))
 
 -- ---- the end
-
-add_all-above : (parts : List Part) (b : Building) → (add_all parts b).above ≡ b.above
-add_all-above [] b = refl
-add_all-above (p ∷ parts) b = add_all-above parts (add_leaf p.kind p.text b)
-
--- the root alone is open, and nothing stands before it
-pub record AtRoot (b : Building) : Type 0 where
-  pub kind : SyntaxKind
-  pub alone : b.above ≡ record { before = built.none; kind = kind } ∷ []
 
 abbrev Layer : Type 0
 Layer = ℕ × Forest
@@ -135,12 +128,12 @@ same-layer a b e = ap (λ (x : Layer). node x.0 x.1) e
 root-tree : (k : SyntaxKind) (here : built.Forest) (layer : Layer) → layers here (record { before = built.none; kind = k } ∷ []) ≡ layer ∷ [] → bare (tree_of (built.node k here built.none)) ≡ node layer.0 layer.1
 root-tree k here layer e = same-layer (number k, strip here) layer (head-layer (number k, strip here) layer e)
 
-finished-tree : (s : State) (layer : Layer) → AtRoot s.tree → stack (add_all s.waiting s.tree) ≡ layer ∷ [] → bare (tree_of (finished s)) ≡ node layer.0 layer.1
+finished-tree : (s : State) (layer : Layer) → IsRoot s.tree → stack (add_all s.waiting s.tree) ≡ layer ∷ [] → bare (tree_of (finished s)) ≡ node layer.0 layer.1
 finished-tree s layer root e =
     let b : Building = add_all s.waiting s.tree in
-    let o : Open = record { before = built.none; kind = root.kind } in
-    let a : b.above ≡ o ∷ [] = add_all-above s.waiting s.tree ∙ root.alone in
-    ap (λ (above : List Open). bare (tree_of (close b.here above).here)) a ∙ root-tree root.kind b.here layer (sym (ap (layers b.here) a) ∙ e)
+    let o : Open = record { before = built.none; kind = root.0 } in
+    let a : b.above ≡ o ∷ [] = add_all_above s.waiting s.tree ∙ root.2 in
+    ap (λ (above : List Open). bare (tree_of (close b.here above).here)) a ∙ root-tree root.0 b.here layer (sym (ap (layers b.here) a) ∙ e)
 
 -- nothing is left to read: all answers were given
 read-all : (t : Lexeme) (items : List Answer) → AtEnd t items ⊎ AtToken t items → current_tokens (Some t) ++ answers_tokens items ≡ [] → items ≡ []
@@ -180,7 +173,7 @@ pub record Clean (r : ℕ) (xs : List Answer) (s : State) : Type 0 where
 abbrev Root : ℕ → List Answer → State → Type 0
 Root r xs s = Out xs [] r (answers_tokens xs) DOCUMENT [] root_ends s
 
-clean-root : (r : ℕ) (xs : List Answer) (s : State) → AtRoot s.tree → s.errors ≡ [] → Root r xs s → Clean r xs s
+clean-root : (r : ℕ) (xs : List Answer) (s : State) → IsRoot s.tree → s.errors ≡ [] → Root r xs s → Clean r xs s
 unfolding root_ends
 clean-root r xs s root e (inl o) = untold xs s e o
 clean-root r xs s root e (inr (spot q l, u, h, g)) =
@@ -204,7 +197,7 @@ clean-root r xs s root e (inr (spot q l, u, h, g)) =
       tokens = ap all_tokens split ∙ p.tokens;
     }
 
-pub clean : (r : ℕ) (xs : List Answer) (s : State) → EndsWell xs → AtRoot s.tree → s.errors ≡ [] → Runs (Call Document) (begun xs r kind.DOCUMENT) s → Clean r xs s
+pub clean : (r : ℕ) (xs : List Answer) (s : State) → EndsWell xs → IsRoot s.tree → s.errors ≡ [] → Runs (Call Document) (begun xs r kind.DOCUMENT) s → Clean r xs s
 unfolding checks_rule
 clean r xs s en root e run =
     let b : State = begun xs r kind.DOCUMENT in
@@ -223,7 +216,7 @@ pub record IsClean (source : List ℕ) (t : Tree) (r k : ℕ) : Type 0 where
   pub sentence : Sentence source t document
   pub within : Within source t r k
 
-pub sound : (r k : ℕ) (source : List ℕ) (items : List Item) (s : State) → EndsWell (limited k items) → (are_tokens items ≡ true → Cut source items) → AtRoot s.tree → s.errors ≡ [] → Runs (Call Document) (begun (limited k items) r kind.DOCUMENT) s → IsClean source (bare (tree_of (finished s))) r k
+pub sound : (r k : ℕ) (source : List ℕ) (items : List Item) (s : State) → EndsWell (limited k items) → (are_tokens items ≡ true → Cut source items) → IsRoot s.tree → s.errors ≡ [] → Runs (Call Document) (begun (limited k items) r kind.DOCUMENT) s → IsClean source (bare (tree_of (finished s))) r k
 sound r k source items s en cut root e run =
     let c = clean r (limited k items) s en root e run in
     let g = given k items c.tokens in
