@@ -1,5 +1,5 @@
 -- Equal errors are the same.
-use Rattle.std.proofs.Common.{◌≡◌, ℕ, Bool, true, arith, List, [], ◌∷◌, refl, sym, ◌∙◌, ap, subst, eqb-true, eq-eqb}
+use Rattle.std.proofs.Common.{◌≡◌, true, arith, refl, ap, subst, eqb-true, eq-eqb}
 use Rattle.std.proofs.lemmas.Bool.{and_parts, and_from}
 use Rattle.std.specs.Cmp.Lexicographic.{bytes_decides}
 use Rattle.apollo_lexer.specs.Diagnostics.{Subject, of_text, of_end, of_limit, Diagnostic, subject_text}

@@ -1,20 +1,14 @@
 -- The law of answers, and how many there are.
-use Rattle.std.proofs.Common.{◌≡◌, ℕ, zero, suc, ◌+◌, ◌-◌, ◌<◌, ◌≤◌, Bool, true, false, List, [], ◌∷◌, ◌++◌, length, take, drop, Option, Some, None, refl, sym, ap, ◌∙◌, arith}
-use Rattle.std.specs.Prelude.{slice_index, min}
+use Rattle.std.proofs.Common.{◌≡◌, ℕ, zero, suc, ◌+◌, ◌-◌, Bool, true, false, List, [], ◌∷◌, length, take, Option, Some, None, refl, sym, arith}
+use Rattle.std.specs.Prelude.{min}
 use Rattle.std.proofs.lemmas.Bool.Decides.{nat_tests}
-use Rattle.std.specs.Str.{chars}
-use Rattle.std.specs.Char.{len_utf8}
-use Rattle.std.proofs.lemmas.Str.{len_utf8_bounds}
-use Rattle.std.proofs.lemmas.List.{take-append-drop}
 use Rattle.lexical_grammar.specs.declared.TokenKind.{TokenKind}
-use Rattle.lexical_grammar.specs.declared.TokenKind.TheVariants.{Eof}
-use Rattle.lexical_grammar.specs.Tokens.{Tok}
 use Rattle.lexical_grammar.specs.Cut.{Item}
 use Rattle.lexical_grammar.specs.Reads.{token_at, item_of_token, first_item, items_from}
 use Rattle.lexical_grammar.proofs.Limited.{token_text, not_last}
 use Rattle.apollo_lexer.specs.Answers.{left_unless, answers_left}
 use Rattle.lexical_grammar.specs.Answers.{Answer, limited}
-use Rattle.lexical_grammar.specs.Answers.{is_end, IsTokenText, IsItemText, IsLast, AreAnswers, answers_text}
+use Rattle.lexical_grammar.specs.Answers.{IsItemText, IsLast, AreAnswers}
 use Rattle.apollo_lexer.specs.declared.lexer.Lexer.{Lexer}
 use Rattle.lexical_grammar.proofs.Sound.{sound}
 

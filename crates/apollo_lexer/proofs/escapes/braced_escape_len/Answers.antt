@@ -1,4 +1,4 @@
-use Rattle.std.proofs.Common.{◌∙◌, sym, true, false, arith}
+use Rattle.std.proofs.Common.{sym, true, false, arith}
 use Rattle.apollo_lexer.proofs.EscapeReads.{no_digits, no_close, braced_by}
 use Rattle.apollo_lexer.proofs.escapes.braced_escape_len.Goals as goal
 use Rattle.apollo_lexer.proofs.escapes.braced_escape_len.Goals.{then-n-eq0-via-then-n-eq0, then-n-eq0-via-else-n-eq0+then-not-starts_with-2}

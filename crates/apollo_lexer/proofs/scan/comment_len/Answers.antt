@@ -1,4 +1,4 @@
-use Rattle.std.proofs.Common.{sym, ◌∙◌}
+use Rattle.std.proofs.Common.{sym}
 use Rattle.apollo_lexer.proofs.Searches.{comment_ends, comment_whole}
 use Rattle.apollo_lexer.proofs.scan.comment_len.Goals as goal
 

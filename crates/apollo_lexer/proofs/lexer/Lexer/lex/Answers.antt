@@ -1,7 +1,3 @@
-use Rattle.std.proofs.Common.{refl}
-use Rattle.std.specs.Prelude.{filter, not}
-use Rattle.lexical_grammar.specs.Answers.{is_token}
-use Rattle.apollo_lexer.specs.Answers.{answers_left}
 use Rattle.apollo_lexer.proofs.Lexing.{tokens_kept, errors_more, told_tells, told_all}
 use Rattle.apollo_lexer.proofs.lexer.Lexer.lex.Goals as goal
 
