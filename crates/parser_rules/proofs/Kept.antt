@@ -28,16 +28,17 @@ pub record Untouched (s t : State) : Type 0 where
   pub depth : t.depth ≡ s.depth
   pub limit : t.limit ≡ s.limit
   pub high : t.high ≡ s.high
+  pub asked : t.asked ≡ s.asked
 
 pub read_untouched : (xs : List Answer) (s : State) → Untouched s (read_on xs s)
 unfolding read_on
-read_untouched [] s = record { tree = refl; depth = refl; limit = refl; high = refl }
-read_untouched (limit_at index ∷ rest) s = let h = read_untouched rest (met index (record s { items = rest })) in record { tree = h.tree; depth = h.depth; limit = h.limit; high = h.high }
+read_untouched [] s = record { tree = refl; depth = refl; limit = refl; high = refl; asked = refl }
+read_untouched (limit_at index ∷ rest) s = let h = read_untouched rest (met index (record s { items = rest })) in record { tree = h.tree; depth = h.depth; limit = h.limit; high = h.high; asked = h.asked }
 read_untouched (gives item ∷ rest) s = elim item.kind as (λ found. Untouched s (on_item rest s item found)) [
-  | None ↦ let h = read_untouched rest (bad item.text item.index (record s { items = rest })) in record { tree = h.tree; depth = h.depth; limit = h.limit; high = h.high }
+  | None ↦ let h = read_untouched rest (bad item.text item.index (record s { items = rest })) in record { tree = h.tree; depth = h.depth; limit = h.limit; high = h.high; asked = h.asked }
   | Some k ↦ elim (ignored k) as (λ found. Untouched s (on_kind rest s item k found)) [
-    | Some leaf ↦ let h = read_untouched rest (wait leaf item.text (record s { items = rest })) in record { tree = h.tree; depth = h.depth; limit = h.limit; high = h.high }
-    | None ↦ record { tree = refl; depth = refl; limit = refl; high = refl }
+    | Some leaf ↦ let h = read_untouched rest (wait leaf item.text (record s { items = rest })) in record { tree = h.tree; depth = h.depth; limit = h.limit; high = h.high; asked = h.asked }
+    | None ↦ record { tree = refl; depth = refl; limit = refl; high = refl; asked = refl }
   ]
 ]
 
@@ -92,11 +93,12 @@ pub record Keeps (s t : State) : Type 0 where
   pub fewer : left t ≤ left s
   pub depth : t.depth ≡ s.depth
   pub limit : t.limit ≡ s.limit
+  pub asked : t.asked ≡ s.asked
   pub higher : s.high ≤ t.high
   pub bound : s.depth ≤ s.limit → s.high ≤ s.limit + 1 → t.high ≤ s.limit + 1
 
-calm : (s t : State) → t.tree.above ≡ s.tree.above → left t ≤ left s → t.depth ≡ s.depth → t.limit ≡ s.limit → t.high ≡ s.high → Keeps s t
-calm s t a f d l h = record { above = a; fewer = f; depth = d; limit = l; higher = omega arith; bound = λ b c. omega arith }
+calm : (s t : State) → t.tree.above ≡ s.tree.above → left t ≤ left s → t.depth ≡ s.depth → t.limit ≡ s.limit → t.high ≡ s.high → t.asked ≡ s.asked → Keeps s t
+calm s t a f d l h n = record { above = a; fewer = f; depth = d; limit = l; asked = n; higher = omega arith; bound = λ b c. omega arith }
 
 next : (s t u : State) → Keeps s t → Keeps t u → Keeps s u
 next s t u h k = record {
@@ -104,19 +106,20 @@ next s t u h k = record {
   fewer = let a = h.fewer in let b = k.fewer in omega (arith, a, b);
   depth = k.depth ∙ h.depth;
   limit = k.limit ∙ h.limit;
+  asked = k.asked ∙ h.asked;
   higher = let a = h.higher in let b = k.higher in omega (arith, a, b);
   bound = λ d c. let e = h.depth in let l = h.limit in let b = h.bound d c in let g = k.bound (omega arith) (omega arith) in omega arith;
 }
 
 flushes : (s : State) → Keeps s (flush s)
 unfolding flush left
-flushes s = calm s (flush s) (add_all_above s.waiting s.tree) (omega arith) refl refl refl
+flushes s = calm s (flush s) (add_all_above s.waiting s.tree) (omega arith) refl refl refl refl
 
 moves : (leaf : SyntaxKind) (x : Lexeme) (s : State) → s.current ≡ Some x → Keeps s (read_on s.items (record s { tree = add_leaf leaf x.text s.tree }))
 moves leaf x s e =
     let u = read_untouched s.items (record s { tree = add_leaf leaf x.text s.tree }) in
     let f = moved_left leaf x s e in
-    calm s (read_on s.items (record s { tree = add_leaf leaf x.text s.tree })) (ap (λ b. b.above) u.tree) (omega (arith, f)) u.depth u.limit u.high
+    calm s (read_on s.items (record s { tree = add_leaf leaf x.text s.tree })) (ap (λ b. b.above) u.tree) (omega (arith, f)) u.depth u.limit u.high u.asked
 
 -- a node closes what it opened
 tail : List Open → List Open
@@ -129,7 +132,7 @@ finish_tail b = elim b.above as (λ above. (finish (record { here = b.here; abov
 
 nodes : (k : SyntaxKind) (s u : State) → Keeps (record s { tree = start k s.tree }) u → Keeps s (closed u)
 unfolding closed left tail
-nodes k s u h = record { above = finish_tail u.tree ∙ ap tail h.above; fewer = h.fewer; depth = h.depth; limit = h.limit; higher = h.higher; bound = h.bound }
+nodes k s u h = record { above = finish_tail u.tree ∙ ap tail h.above; fewer = h.fewer; depth = h.depth; limit = h.limit; asked = h.asked; higher = h.higher; bound = h.bound }
 
 pub not_deep : (s : State) → false ≡ is_deep s → s.depth < s.limit
 unfolding is_deep
@@ -142,23 +145,24 @@ levels s u q h = record {
   fewer = h.fewer;
   depth = let d = h.depth in omega (arith, d);
   limit = h.limit;
+  asked = h.asked;
   higher = let a = h.higher in omega (arith, a);
   bound = λ d c. let n = not_deep s q in h.bound (omega arith) (omega arith);
 }
 
 asks : (s : State) → Keeps s (deepened s)
 unfolding left
-asks s = record { above = refl; fewer = omega arith; depth = refl; limit = refl; higher = omega arith; bound = λ d c. omega arith }
+asks s = record { above = refl; fewer = omega arith; depth = refl; limit = refl; asked = refl; higher = omega arith; bound = λ d c. omega arith }
 
 abbrev keeps_along : Holds_along Keeps
 unfolding left
 keeps_along = record {
-  same = λ s. calm s s refl (omega arith) refl refl refl;
+  same = λ s. calm s s refl (omega arith) refl refl refl refl;
   next = next;
   flushes = flushes;
   moves = λ leaf x s e w. moves leaf x s e;
-  reports = λ e s. calm s (record s { errors = s.errors ++ e ∷ [] }) refl (omega arith) refl refl refl;
-  drops = λ s. calm s (record s { accepts = false }) refl (omega arith) refl refl refl;
+  reports = λ e s. calm s (record s { errors = s.errors ++ e ∷ [] }) refl (omega arith) refl refl refl refl;
+  drops = λ s. calm s (record s { accepts = false }) refl (omega arith) refl refl refl refl;
   asks = λ s e. asks s;
   nodes = nodes;
   levels = levels;
@@ -240,3 +244,6 @@ begun_nesting items limit k h =
     let g = b.high in
     let bound = n.bound (omega (arith, d, l)) (omega (arith, g, l)) in
     (n.depth ∙ d, n.limit ∙ l, omega (arith, bound, l))
+
+pub begun_asked : {r : Rule} {t : State} (items : List Answer) (limit : ℕ) (k : SyntaxKind) → Runs r (begun items limit k) t → t.asked ≡ length items
+begun_asked items limit k h = (keeps h).asked ∙ (read_untouched items (fresh items limit k)).asked

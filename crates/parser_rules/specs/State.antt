@@ -1,5 +1,5 @@
 -- What a parser has read and built, and its steps.
-use Rattle.std.specs.Prelude.{ℕ, ◌+◌, ◌-◌, max, min, Bool, true, false, nat_le, if◌then◌else◌, List, [], ◌∷◌, ◌++◌, Option, Some, None, ⊤}
+use Rattle.std.specs.Prelude.{ℕ, ◌+◌, ◌-◌, max, min, Bool, true, false, nat_le, if◌then◌else◌, List, [], ◌∷◌, ◌++◌, length, Option, Some, None, ⊤}
 use denote.Enum.Bare.{sameb}
 use Rattle.lexical_grammar.specs.contracts.TokenKind.{the_type}
 use Rattle.lexical_grammar.specs.declared.TokenKind.{TokenKind}
@@ -36,7 +36,7 @@ pub record Report : Type 0 where
   pub index : ℕ
 
 -- the answers that are left, the current token, what waits, what is built, the reports, the recursion limit with its count and the
--- greatest count that was asked for, and whether the grammar's reports are still taken
+-- greatest count that was asked for, whether the grammar's reports are still taken, and how many answers there are in all
 pub record State : Type 0 where
   pub items : List Answer
   pub current : Option Lexeme
@@ -47,6 +47,7 @@ pub record State : Type 0 where
   pub depth : ℕ
   pub high : ℕ
   pub accepts : Bool
+  pub asked : ℕ
 
 -- `==` on kinds
 unfoldable pub same_kind : TokenKind → TokenKind → Bool
@@ -172,7 +173,7 @@ is_over (Some t) = is_end t.kind
 
 -- the root is open, and nothing is read
 abbrev pub fresh : List Answer → ℕ → SyntaxKind → State
-fresh items limit root = record { items = items; current = None; waiting = []; tree = start root nothing; errors = []; limit = limit; depth = 0; high = 0; accepts = true }
+fresh items limit root = record { items = items; current = None; waiting = []; tree = start root nothing; errors = []; limit = limit; depth = 0; high = 0; accepts = true; asked = length items }
 
 -- the root is open, and the first token is read
 abbrev pub begun : List Answer → ℕ → SyntaxKind → State
