@@ -1,0 +1,36 @@
+-- What the builder asks where a node is closed.
+use Rattle.std.proofs.Common.{◌≡◌, ◌∙◌, ap, sym, subst, true, List, [], ◌∷◌}
+use Rattle.document_grammar.specs.declared.kind.SyntaxKind.{SyntaxKind}
+use Rattle.document_grammar.specs.declared.kind.SyntaxKind.TheVariants as kind
+use Rattle.document_grammar.specs.Forests.{Forest}
+use Rattle.document_grammar.specs.Builds.{Building, Open, finish, close}
+use Rattle.apollo_tree.specs.Sound.{Fits, FitsInnermost, CanFinish}
+use Rattle.apollo_tree.specs.Open.{IsComplete, one_node}
+use Rattle.parser_rules.specs.State.{Part, add_all}
+use Rattle.parser_rules.specs.Open.{is_free, is_free_in, IsOpen, IsRoot}
+use Rattle.parser_rules.proofs.Kept.{add_all_above}
+
+fits_free : (k : SyntaxKind) (kids : Forest) → is_free k ≡ true → Fits k kids
+fits_free kind.NAME kids e = absurd cc
+fits_free kind.INT_VALUE kids e = absurd cc
+fits_free kind.STRING_VALUE kids e = absurd cc
+fits_free kind.BOOLEAN_VALUE kids e = absurd cc
+fits_free _ kids e = tt
+
+fits_in : (here : Forest) (above : List Open) → is_free_in above ≡ true → FitsInnermost here above
+fits_in here [] e = absurd cc
+fits_in here (o ∷ above) e = fits_free o.kind here e
+
+pub free_fits : (b : Building) → IsOpen b → CanFinish b
+unfolding IsOpen
+free_fits b h = fits_in b.here b.above h
+
+pub root_closes : (b : Building) → IsRoot b → IsComplete (finish b)
+root_closes b h = record { closed = ap (λ above. (close b.here above).above) h.2; root = ap (λ above. one_node (close b.here above).here) h.2 }
+
+pub root_flushed : (ps : List Part) (b : Building) → IsRoot b → IsRoot (add_all ps b)
+root_flushed ps b h = (h.0, h.1, add_all_above ps b ∙ h.2)
+
+pub root_is_open : (b : Building) → IsRoot b → IsOpen b
+unfolding IsOpen
+root_is_open b h = subst (λ above. is_free_in above ≡ true) (sym h.2) h.1

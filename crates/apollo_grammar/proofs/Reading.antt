@@ -1,0 +1,63 @@
+-- Steps of reading on.
+use Rattle.std.proofs.Common.{◌≡◌, ℕ, ◌+◌, ◌<◌, Option, Some, None, List, ◌∷◌, map, length, get_or, drop, refl, sym, ◌∙◌, ap, subst, true, false, Bool, suc, add-one}
+use Rattle.std.proofs.Math.Seq.{drop-cons}
+use Rattle.lexical_grammar.specs.declared.TokenKind.{TokenKind}
+use Rattle.lexical_grammar.specs.Cut.{Item}
+use Rattle.document_grammar.specs.declared.kind.SyntaxKind.{SyntaxKind}
+use Rattle.lexical_grammar.specs.Answers.{Answer, gives, limit_at, AreAnswers}
+use Rattle.apollo_lexer.specs.Answers.{error_answer}
+use Rattle.document_grammar.specs.Builds.{Building, add_leaf}
+use Rattle.apollo_grammar.specs.declared.state.PendingToken.{PendingToken}
+use Rattle.apollo_grammar.specs.View.{part_of}
+use Rattle.parser_rules.specs.State.{State, Text, ignored, bad, met, wait, lexeme, read_on, add_all}
+use Rattle.apollo_grammar.specs.Reading.{Taken, IsAnswerText, refused}
+
+on_kind : List Answer → State → Item → TokenKind → Option SyntaxKind → State
+on_kind rest s item k found = elim found [
+  | Some kind ↦ read_on rest (wait kind item.text (record s { items = rest }))
+  | None ↦ record s { items = rest; current = Some (lexeme k item) }
+]
+
+on_is : (rest : List Answer) (s : State) (text : Text) (index : ℕ) (k : TokenKind)
+    → read_on (gives (record { kind = Some k; text = text; index = index }) ∷ rest) s ≡ on_kind rest s (record { kind = Some k; text = text; index = index }) k (ignored k)
+unfolding read_on on_kind
+on_is rest s text index k = refl
+
+-- bad text, or the limit
+pub read_bad : (s t u : State) (limit : Bool) (text : Text) (index : ℕ) → Taken (Some (error_answer limit text index)) s t → u ≡ refused limit text index t → read_on s.items s ≡ read_on u.items u
+unfolding read_on
+read_bad s t u true text index h e = ap (λ xs. read_on xs s) h.0 ∙ ap (λ w. read_on t.items (met index w)) (sym h.1) ∙ sym (ap (λ w. read_on w.items w) e)
+read_bad s t u false text index h e = ap (λ xs. read_on xs s) h.0 ∙ ap (λ w. read_on t.items (bad text index w)) (sym h.1) ∙ sym (ap (λ w. read_on w.items w) e)
+
+pub read_ignored : (s t u : State) (k : TokenKind) (text : Text) (index : ℕ) (kind : SyntaxKind) → Taken (Some (gives (record { kind = Some k; text = text; index = index }))) s t
+    → Some kind ≡ ignored k → u ≡ wait kind text t → read_on s.items s ≡ read_on u.items u
+unfolding on_kind
+read_ignored s t u k text index kind h i e =
+    let item : Item = record { kind = Some k; text = text; index = index } in
+    ap (λ xs. read_on xs s) h.0 ∙ on_is t.items s text index k ∙ sym (ap (on_kind t.items s item k) i) ∙ ap (λ w. read_on t.items (wait kind text w)) (sym h.1) ∙ sym (ap (λ w. read_on w.items w) e)
+
+pub read_token : (s t : State) (k : TokenKind) (text : Text) (index : ℕ) → Taken (Some (gives (record { kind = Some k; text = text; index = index }))) s t
+    → None ≡ ignored k → read_on s.items s ≡ record t { current = Some (record { kind = k; text = text; index = index }) }
+unfolding on_kind
+read_token s t k text index h i =
+    let item : Item = record { kind = Some k; text = text; index = index } in
+    ap (λ xs. read_on xs s) h.0 ∙ on_is t.items s text index k ∙ sym (ap (on_kind t.items s item k) i) ∙ sym (ap {A = State} (λ w. record w { current = Some (record { kind = k; text = text; index = index }) }) h.1)
+
+pub read_end : (s t : State) → Taken None s t → read_on s.items s ≡ record t { current = None }
+unfolding read_on
+read_end s t h = ap (λ xs. read_on xs s) h.0 ∙ sym (ap {A = State} (λ w. record w { current = None }) h.1)
+
+-- an answer that was taken has a text of its kind
+first_text : (answer : Answer) (rest items : List Answer) → items ≡ answer ∷ rest → AreAnswers items → IsAnswerText (Some answer)
+first_text (limit_at index) rest items e h = tt
+first_text (gives item) rest items e h = (subst AreAnswers e h).0
+
+pub taken_text : (r : Option Answer) (s t : State) → Taken r s t → AreAnswers s.items → IsAnswerText r
+taken_text None s t h k = tt
+taken_text (Some answer) s t h k = first_text answer t.items s.items h.0 k
+
+-- one leaf more
+pub one_more : (leaves : List PendingToken) (i : ℕ) (d : PendingToken) (b c : Building) → i < length leaves → c ≡ add_leaf (get_or leaves i d).kind (get_or leaves i d).text.now b
+    → add_all (map part_of (drop i leaves)) b ≡ add_all (map part_of (drop (i + 1) leaves)) c
+one_more leaves i d b c h e =
+    rw add-one (ap {A = List PendingToken} (λ ys. add_all (map part_of ys) b) (drop-cons leaves i d h) ∙ ap (λ x. add_all (map part_of (drop (suc i) leaves)) x) (sym e))

@@ -1,0 +1,9 @@
+use Rattle.parser_rules.specs.Rule.{Turns, Call, Ready, Definition}
+use Rattle.parser_rules.proofs.Kept.{left}
+use Rattle.apollo_grammar.proofs.grammar.document.document.Given as goal
+
+abbrev pub invariant-loop-p : goal.invariant-loop-p
+invariant-loop-p g l = Turns Ready (Call Definition) l.initial.p l.p
+
+abbrev pub decreases-loop-p : goal.decreases-loop-p
+decreases-loop-p g l = left l.p

@@ -1,0 +1,65 @@
+use Rattle.std.proofs.Common.{◌≡◌, ◌+◌, ◌≤◌, [], refl, sym, ap, ◌∙◌, subst, take, length, min, map}
+use Rattle.std.proofs.lemmas.Result.{IfOk-weaker}
+use Rattle.lexical_grammar.specs.Answers.{limited}
+use Rattle.lexical_grammar.specs.Cut.{texts}
+use Rattle.document_grammar.specs.declared.kind.SyntaxKind.TheVariants as kind
+use Rattle.document_grammar.specs.Derivation.{document}
+use Rattle.document_grammar.specs.Forests.{text}
+use Rattle.document_grammar.specs.Numbered.{tree_of}
+use Rattle.document_grammar.specs.Places.{bare}
+use Rattle.document_grammar.specs.Sentence.{Sentence, Within}
+use Rattle.apollo_lexer.specs.declared.limit.LimitTracker.{LimitTracker}
+use Rattle.lexical_grammar.specs.Reads.{items_of}
+use Rattle.apollo_lexer.specs.Answers.{answers_left}
+use Rattle.parser_rules.specs.Rule.{Runs, Call, Document}
+use Rattle.parser_rules.specs.Leaves.{leaves, OneLeafAnItem}
+use Rattle.parser_rules.proofs.Kept.{root_kept}
+use Rattle.apollo_grammar.specs.View.{report_of}
+use Rattle.apollo_grammar.proofs.Parses.{ran, run_leaves, run_text, run_nesting, run_asked, run_read, run_sound, both}
+use Rattle.apollo_grammar.proofs.parser.Parser.parse.Goals as goal
+
+pub finish-requires : goal.finish-requires
+finish-requires g c =
+    root_kept (answers_left c.lexer.result) c.args.self.recursion_limit kind.DOCUMENT refl (subst (λ s. Runs (Call Document) s c.document.new.p) c.in_ok-p.ensures c.in_ok-document.ensures)
+
+pub returns-clause-lossless : goal.returns-clause-lossless
+returns-clause-lossless g c =
+    let k = c.args.self.token_limit in
+    let source = c.args.self.source.now in
+    let run = ran k c.args.self.recursion_limit source (answers_left c.lexer.result) _ c.document.new.p c.lexer.ensures.answers c.in_ok-p.ensures c.in_ok-document.ensures in
+    IfOk-weaker c.finish.result _ (λ t. text t.tree ≡ texts (take k (items_of source))) (λ t e. ap text e ∙ run_text k c.args.self.recursion_limit source c.document.new.p c.lexer.ensures.cut run) c.finish.ensures.tree
+
+pub returns-clause-one_leaf : goal.returns-clause-one_leaf
+returns-clause-one_leaf g c =
+    let k = c.args.self.token_limit in
+    let source = c.args.self.source.now in
+    let run = ran k c.args.self.recursion_limit source (answers_left c.lexer.result) _ c.document.new.p c.lexer.ensures.answers c.in_ok-p.ensures c.in_ok-document.ensures in
+    IfOk-weaker c.finish.result _ (λ t. OneLeafAnItem (limited k (items_of source)) (leaves t.tree))
+    (λ t e. subst (λ f. OneLeafAnItem (limited k (items_of source)) (leaves f)) (sym e) (run_leaves k c.args.self.recursion_limit source c.document.new.p c.lexer.ensures.cut run)) c.finish.ensures.tree
+
+pub returns-clause-recursion : goal.returns-clause-recursion
+returns-clause-recursion g c =
+    let r = c.args.self.recursion_limit in
+    let source = c.args.self.source.now in
+    let run = ran c.args.self.token_limit r source (answers_left c.lexer.result) _ c.document.new.p c.lexer.ensures.answers c.in_ok-p.ensures c.in_ok-document.ensures in
+    IfOk-weaker c.finish.result _ (λ t. (t.recursion_limit.current ≡ 0) × (t.recursion_limit.limit ≡ r) × (t.recursion_limit.high ≤ r + 1))
+    (λ t e. subst (λ (l : LimitTracker). (l.current ≡ 0) × (l.limit ≡ r) × (l.high ≤ r + 1)) (sym e) (run_nesting c.args.self.token_limit r source c.document.new.p c.lexer.ensures.cut run)) c.finish.ensures.recursion_limit
+
+pub returns-clause-tokens : goal.returns-clause-tokens
+returns-clause-tokens g c =
+    let k = c.args.self.token_limit in
+    let r = c.args.self.recursion_limit in
+    let source = c.args.self.source.now in
+    let run = ran k r source (answers_left c.lexer.result) _ c.document.new.p c.lexer.ensures.answers c.in_ok-p.ensures c.in_ok-document.ensures in
+    IfOk-weaker c.finish.result _ (λ t. (t.token_limit.limit ≡ k) × (t.token_limit.high ≡ min (length (items_of source)) (k + 1)))
+    (λ t e. subst (λ (l : LimitTracker). (l.limit ≡ k) × (l.high ≡ min (length (items_of source)) (k + 1))) (sym e) (refl, run_asked k r source c.document.new.p c.lexer.ensures.cut run)) (c.finish.ensures.token_limit (run_read k r source c.document.new.p c.lexer.ensures.cut run))
+
+pub returns-clause-sound : goal.returns-clause-sound
+returns-clause-sound g c =
+    let k = c.args.self.token_limit in
+    let r = c.args.self.recursion_limit in
+    let source = c.args.self.source.now in
+    let s = c.document.new.p in
+    let run = ran k r source (answers_left c.lexer.result) _ s c.lexer.ensures.answers c.in_ok-p.ensures c.in_ok-document.ensures in
+    both c.finish.result _ _ (λ t. t.errors ≡ [] → Sentence source (bare (tree_of t.tree)) document × Within source (bare (tree_of t.tree)) r k)
+    (λ t e h none. subst (λ f. Sentence source (bare (tree_of f)) document × Within source (bare (tree_of f)) r k) (sym e) (run_sound k r source s c.lexer.ensures.cut run (sym h ∙ ap (map report_of) none))) c.finish.ensures.tree c.finish.ensures.errors

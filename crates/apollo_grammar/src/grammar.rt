@@ -1,0 +1,6 @@
+// The grammar: each function runs the rule of its name.
+pub mod document;
+pub mod field;
+pub mod name;
+pub mod operation;
+pub mod selection;

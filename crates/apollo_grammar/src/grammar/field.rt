@@ -1,0 +1,29 @@
+// Fields.
+#![tactic(auto, using(parser_rules::specs::Rule::child, parser_rules::specs::Rule::seq, parser_rules::specs::Rule::skip, parser_rules::specs::Rule::yes, parser_rules::specs::Rule::no, parser_rules::proofs::Kept::is_open, parser_rules::proofs::Kept::still_open, parser_rules::proofs::Kept::still_at), unfolding(parser_rules::specs::Rule::inside))]
+
+ghost use Rattle.std.specs.Prelude.{◌≡◌, true, OnOk};
+ghost use Rattle.lexical_grammar.specs.declared.TokenKind.TheVariants as token;
+ghost use Rattle.parser_rules.specs.Rule as rule;
+ghost use Rattle.parser_rules.specs.Rule.{At, holds, Runs, Child};
+
+use super::name::name;
+use super::selection::selection_set;
+use crate::state::ParserState;
+use document_grammar::SyntaxKind;
+use lexical_grammar::TokenKind;
+use std::alloc::{AllocError, Allocator};
+
+/// A field (GraphQL October 2021, section 2.5, "Fields").
+#[cycle(selection)]
+pub fn field<A: Allocator + Copy>(p: &mut ParserState<'_, A>) -> Result<(), AllocError>
+    requires { true ≡ holds (At token.Name) p.old }
+    ensures { OnOk result (Runs (Child rule.Field) p.old p.new) }
+{
+    p.start_node(SyntaxKind::FIELD)?;
+    name(p)?;
+    if p.at(TokenKind::LCurly) {
+        selection_set(p)?;
+    }
+    p.finish_node();
+    Ok(())
+}

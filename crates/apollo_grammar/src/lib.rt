@@ -1,0 +1,14 @@
+//! Parses GraphQL documents: each function of the parser runs the rule of its name.
+#![tactic(auto)]
+
+mod grammar;
+mod message;
+mod parser;
+mod state;
+mod syntax_tree;
+
+pub use parser::Parser;
+pub use syntax_tree::{DocumentRoot, SyntaxTree};
+
+#[cfg(test)]
+mod tests;

@@ -1,0 +1,106 @@
+// The whole parse.
+ghost use Rattle.std.specs.Prelude.{◌≡◌, ◌≤◌, ◌+◌, ◌^◌, ◌-◌, [], IfOk, length, min, take, map};
+ghost use Rattle.lexical_grammar.specs.Answers.{limited};
+ghost use Rattle.lexical_grammar.specs.Cut.{Cut, texts};
+ghost use Rattle.lexical_grammar.specs.Reads.{items_of};
+ghost use Rattle.apollo_lexer.specs.Answers.{answers_left};
+ghost use Rattle.document_grammar.specs.declared.kind.SyntaxKind.TheVariants as kind;
+ghost use Rattle.document_grammar.specs.Forests.{text};
+ghost use Rattle.document_grammar.specs.Derivation.{document as document_sort};
+ghost use Rattle.document_grammar.specs.Sentence.{Sentence, Within};
+ghost use Rattle.document_grammar.specs.Places.{bare};
+ghost use Rattle.document_grammar.specs.Numbered.{tree_of};
+ghost use Rattle.parser_rules.specs.State.{State, begun, finished};
+ghost use Rattle.parser_rules.specs.Rule.{Runs, Call, Document};
+ghost use Rattle.parser_rules.specs.Leaves.{leaves, OneLeafAnItem};
+ghost use Rattle.apollo_grammar.specs.View.{report_of};
+
+use crate::grammar::document::document;
+use crate::state::ParserState;
+use crate::syntax_tree::{DocumentRoot, SyntaxTree};
+use apollo_lexer::Lexer;
+use document_grammar::SyntaxKind;
+use lexical_grammar::the_cut;
+use std::alloc::{AllocError, Allocator};
+
+const DEFAULT_RECURSION_LIMIT: usize = 500;
+
+/// A parser of a text, with its limits.
+#[derive(Clone, Copy)]
+pub struct Parser<'i> {
+    source: &'i str,
+    recursion_limit: usize,
+    token_limit: usize,
+}
+
+impl<'i> Parser<'i> {
+    /// A parser of the text, with the recursion limit 500 and no token limit.
+    pub fn new(source: &'i str) -> Self
+        ensures source { result.source.now ≡ source.now }
+        ensures recursion_limit { result.recursion_limit ≡ 500 }
+        ensures token_limit { result.token_limit ≡ 2 ^ 64 - 1 }
+    {
+        Parser {
+            source,
+            recursion_limit: DEFAULT_RECURSION_LIMIT,
+            token_limit: usize::MAX,
+        }
+    }
+
+    /// Sets the recursion limit: how deep selection sets may nest.
+    pub fn recursion_limit(self, limit: usize) -> Self
+        ensures { result ≡ record self.entry { recursion_limit = limit } }
+    {
+        Parser {
+            recursion_limit: limit,
+            ..self
+        }
+    }
+
+    /// Sets the token limit: how many items of the text are read, ignored ones and the end among them.
+    pub fn token_limit(self, limit: usize) -> Self
+        ensures { result ≡ record self.entry { token_limit = limit } }
+    {
+        Parser {
+            token_limit: limit,
+            ..self
+        }
+    }
+
+    // A lexer that has read nothing.
+    fn lexer(self) -> Lexer<'i>
+        ensures answers { answers_left result ≡ limited self.entry.token_limit (items_of self.entry.source.now) }
+        ensures fresh { result.limit_tracker.high ≡ 0 }
+        ensures cut { Cut self.entry.source.now (items_of self.entry.source.now) }
+    {
+        the_cut(self.source);
+        Lexer::new(self.source).with_limit(self.token_limit)
+    }
+
+    /// Parses a document (GraphQL October 2021, section 2.2, "Document"). A text that is no document has a tree too: what cannot be read
+    /// stands in it as ERROR leaves, and the errors tell of it.
+    pub fn parse<A: Allocator + Copy>(
+        self,
+        alloc: A,
+    ) -> Result<SyntaxTree<DocumentRoot, A>, AllocError>
+        // the tree's text is the source, or its first items where the token limit is met
+        ensures lossless { IfOk result (λ t. text t.tree ≡ texts (take self.entry.token_limit (items_of self.entry.source.now))) }
+        ensures one_leaf { IfOk result (λ t. OneLeafAnItem (limited self.entry.token_limit (items_of self.entry.source.now)) (leaves t.tree)) }
+        ensures recursion { IfOk result (λ t. (t.recursion_limit.current ≡ 0) × (t.recursion_limit.limit ≡ self.entry.recursion_limit) × (t.recursion_limit.high ≤ self.entry.recursion_limit + 1)) }
+        ensures tokens { IfOk result (λ t. (t.token_limit.limit ≡ self.entry.token_limit) × (t.token_limit.high ≡ min (length (items_of self.entry.source.now)) (self.entry.token_limit + 1))) }
+        // without errors, the tree without its ignored leaves is the derivation of the text, which is a sentence within both limits
+        ensures sound { IfOk result (λ t. t.errors ≡ [] → Sentence self.entry.source.now (bare (tree_of t.tree)) document_sort × Within self.entry.source.now (bare (tree_of t.tree)) self.entry.recursion_limit self.entry.token_limit) }
+        // what the tree, the errors and the limits come from
+        ensures runs { IfOk result (λ t. (s : State) × Runs (Call Document) (begun (limited self.entry.token_limit (items_of self.entry.source.now)) self.entry.recursion_limit kind.DOCUMENT) s
+            × (t.tree ≡ finished s) × (map report_of t.errors ≡ s.errors) × (t.recursion_limit ≡ record { current = s.depth; high = s.high; limit = s.limit })) }
+    {
+        let mut p = ParserState::new(
+            alloc,
+            self.lexer(),
+            self.recursion_limit,
+            SyntaxKind::DOCUMENT,
+        )?;
+        document(&mut p)?;
+        p.finish(self.token_limit)
+    }
+}

@@ -1,0 +1,426 @@
+// The state of a parser, and its steps. Each is a step of the parser's rules.
+#![tactic(auto, using(parser_rules::specs::Rule::does), unfolding(parser_rules::specs::State::same_kind, parser_rules::specs::Rule::holds, parser_rules::specs::Rule::step, parser_rules::specs::State::flush, parser_rules::specs::State::opened, parser_rules::specs::State::closed, parser_rules::specs::State::bump, parser_rules::specs::State::note, parser_rules::specs::State::is_deep, parser_rules::specs::State::enter, parser_rules::specs::State::leave, parser_rules::specs::State::too_deep, parser_rules::specs::Open::IsInside))]
+
+ghost use Rattle.std.specs.Prelude.{◌≡◌, true, false, [], map, OnOk, IfOk, option_map};
+ghost use Rattle.lexical_grammar.specs.declared.TokenKind.TheVariants as token;
+ghost use Rattle.lexical_grammar.specs.Answers.{is_end};
+ghost use Rattle.lexical_grammar.specs.Tokens.{IsName};
+ghost use Rattle.apollo_lexer.specs.Answers.{answer_of, answers_left};
+ghost use Rattle.parser_rules.specs.State as state;
+ghost use Rattle.parser_rules.specs.Rule.{Test, At, Ready, holds, Bump, Note, step, Runs, Do, Child, Name, want, expect, refuse};
+ghost use Rattle.parser_rules.specs.Open.{IsOpen, IsInside, IsRoot};
+ghost use Rattle.apollo_grammar.specs.Reading as reading;
+ghost use Rattle.apollo_grammar.specs.View.{lexeme_of, current_of, part_of, report_of};
+
+use crate::message::message_text;
+use crate::syntax_tree::SyntaxTree;
+use apollo_lexer::{Error, LexError, Lexer, LimitTracker, Steps, Token};
+use apollo_tree::TreeBuilder;
+use document_grammar::SyntaxKind;
+use lexical_grammar::TokenKind;
+use parser_rules::Message;
+use std::alloc::{AllocError, Allocator};
+use std::marker::{Model, PhantomData};
+
+/// An ignored token or bad text, which waits for the next leaf.
+#[derive(Clone, Copy)]
+pub struct PendingToken<'i> {
+    pub kind: SyntaxKind,
+    pub text: &'i str,
+}
+
+/// The current token is always the next significant one, or the end, or none where nothing is left.
+#[derive(Drop)]
+pub struct ParserState<'i, A: Allocator> {
+    alloc: A,
+    lexer: Lexer<'i>,
+    current_token: Option<Token<'i>>,
+    builder: TreeBuilder<A>,
+    pending: Vec<PendingToken<'i>, A>,
+    errors: Vec<Error<A>, A>,
+    recursion_limit: LimitTracker,
+    accept_errors: bool,
+}
+
+impl<'i, A: Allocator> Model for ParserState<'i, A> {
+    ghost use Rattle.std.specs.Prelude.{map};
+    ghost use Rattle.std.specs.Coded.{codes};
+    ghost use Rattle.apollo_tree.specs.Codes.{building_code};
+    ghost use Rattle.parser_rules.specs.State.{State};
+
+    ghost Value = { State };
+
+    ghost coded = { Prim.hlevel (codes, building_code) };
+
+    ghost use Rattle.apollo_lexer.specs.Answers.{answers_left, final_high};
+    ghost use Rattle.apollo_grammar.specs.View.{current_of, part_of, report_of};
+    ghost use Rattle.parser_rules.specs.State.{IsNow};
+
+    ghost view = { λ p. record {
+      items = answers_left p.lexer;
+      current = current_of p.current_token;
+      waiting = map part_of p.pending.items;
+      tree = p.builder;
+      errors = map report_of p.errors.items;
+      limit = p.recursion_limit.limit;
+      depth = p.recursion_limit.current;
+      high = p.recursion_limit.high;
+      accepts = p.accept_errors;
+      asked = final_high p.lexer;
+    } };
+
+    ghost invariant = { λ p. IsNow (current_of p.current_token) };
+}
+
+fn is_same(a: TokenKind, b: TokenKind) -> bool
+    ensures { result ≡ state.same_kind a b }
+{
+    a == b
+}
+
+fn is_eof(kind: TokenKind) -> bool
+    ensures { result ≡ is_end kind }
+{
+    matches!(kind, TokenKind::Eof)
+}
+
+fn ignored(kind: TokenKind) -> Option<SyntaxKind>
+    ensures { result ≡ state.ignored kind }
+{
+    match kind {
+        TokenKind::Whitespace => Some(SyntaxKind::WHITESPACE),
+        TokenKind::Comment => Some(SyntaxKind::COMMENT),
+        TokenKind::Comma => Some(SyntaxKind::COMMA),
+        _ => None,
+    }
+}
+
+fn push_all<A: Allocator + Copy>(
+    builder: &mut TreeBuilder<A>,
+    pending: &[PendingToken<'_>],
+) -> Result<(), AllocError>
+    ensures { OnOk result (builder.new ≡ state.add_all (map part_of pending.now) builder.old) }
+{
+    for token in pending {
+        builder.token(token.kind, token.text)?;
+    }
+    Ok(())
+}
+
+impl<'i, A: Allocator + Copy> ParserState<'i, A> {
+    /// Opens the root, and reads the first token.
+    pub fn new(
+        alloc: A,
+        lexer: Lexer<'i>,
+        recursion_limit: usize,
+        root: SyntaxKind,
+    ) -> Result<ParserState<'i, A>, AllocError>
+        requires { lexer.limit_tracker.high ≡ 0 }
+        ensures { IfOk result (λ p. p ≡ state.begun (answers_left lexer.entry) recursion_limit root) }
+    {
+        let mut builder = TreeBuilder::new(alloc);
+        builder.start_node(root)?;
+        let mut p = ParserState {
+            alloc,
+            lexer,
+            current_token: None,
+            builder,
+            pending: Vec::new(alloc),
+            errors: Vec::new(alloc),
+            recursion_limit: LimitTracker::new(recursion_limit),
+            accept_errors: true,
+        };
+        p.read_on()?;
+        Ok(p)
+    }
+
+    /// Whether the current token is of the kind.
+    pub fn at(&self, kind: TokenKind) -> bool
+        ensures { result ≡ holds (At kind) self.now }
+    {
+        match self.current_token {
+            Some(token) => is_same(token.kind(), kind),
+            None => false,
+        }
+    }
+
+    /// Whether a token is left besides the end.
+    pub fn is_ready(&self) -> bool
+        ensures { result ≡ holds Ready self.now }
+    {
+        match self.current_token {
+            Some(token) => !is_eof(token.kind()),
+            None => false,
+        }
+    }
+
+    fn wait(&mut self, kind: SyntaxKind, text: &'i str) -> Result<(), AllocError>
+        ensures { OnOk result (self.new ≡ state.wait kind text.now self.old) }
+    {
+        self.pending.push(PendingToken { kind, text })?;
+        Ok(())
+    }
+
+    // An error of the lexer, and the bad text that it is about.
+    fn push_lex_error(&mut self, error: LexError<'i>) -> Result<(), AllocError>
+        ensures { OnOk result (self.new ≡ reading.refused error.entry.is_limit error.entry.text.now error.entry.index self.old) }
+    {
+        self.errors.push(error.to_error(self.alloc)?)?;
+        if error.is_limit() {
+            self.accept_errors = false;
+            return Ok(());
+        }
+        self.wait(SyntaxKind::ERROR, error.data())
+    }
+
+    // The lexer's next answer.
+    fn next_answer(&mut self) -> Option<Result<Token<'i>, LexError<'i>>>
+        ensures taken { reading.Taken (option_map answer_of result) self.old self.new }
+        ensures text { reading.IsAnswerText (option_map answer_of result) }
+    {
+        self.lexer.next_counted(&mut Steps::new())
+    }
+
+    fn set_current(&mut self, token: Option<Token<'i>>)
+        requires { state.IsNow (current_of token) }
+        ensures { self.new ≡ record self.old { current = current_of token.entry } }
+    {
+        self.current_token = token;
+    }
+
+    // Reads up to the next token that is not ignored. What it passes waits.
+    fn read_on(&mut self) -> Result<(), AllocError>
+        ensures { OnOk result (self.new ≡ state.read_on self.old.items self.old) }
+    {
+        while let Some(answer) = self.next_answer() {
+            match answer {
+                Err(error) => self.push_lex_error(error)?,
+                Ok(token) => match ignored(token.kind()) {
+                    Some(kind) => self.wait(kind, token.data())?,
+                    None => {
+                        self.set_current(Some(token));
+                        return Ok(());
+                    }
+                },
+            }
+        }
+        self.set_current(None);
+        Ok(())
+    }
+
+    // What waits goes into the tree.
+    fn push_pending(&mut self) -> Result<(), AllocError>
+        ensures { OnOk result (self.new ≡ state.flush self.old) }
+    {
+        push_all(&mut self.builder, &self.pending)?;
+        self.pending.clear();
+        Ok(())
+    }
+
+    /// Opens a node, behind what waits.
+    pub fn start_node(&mut self, kind: SyntaxKind) -> Result<(), AllocError>
+        ensures { OnOk result (self.new ≡ state.opened kind self.old) }
+    {
+        self.push_pending()?;
+        self.builder.start_node(kind)
+    }
+
+    /// Closes the innermost node.
+    pub fn finish_node(&mut self)
+        requires { IsOpen self.old.tree }
+        ensures { self.new ≡ state.closed self.old }
+    {
+        self.builder.finish_node();
+    }
+
+    fn push_token(&mut self, kind: SyntaxKind, text: &'i str) -> Result<(), AllocError>
+        ensures { OnOk result (self.new ≡ reading.added kind text.now self.old) }
+    {
+        self.builder.token(kind, text)
+    }
+
+    /// The current token becomes a leaf of the kind.
+    pub fn bump(&mut self, kind: SyntaxKind) -> Result<(), AllocError>
+        ensures { OnOk result (Runs (Do (Bump kind)) self.old self.new) }
+    {
+        let Some(current) = self.current_token else {
+            return Ok(());
+        };
+        self.push_pending()?;
+        self.push_token(kind, current.data())?;
+        self.read_on()
+    }
+
+    fn push_name(&mut self, text: &'i str) -> Result<(), AllocError>
+        requires { IsName text.now }
+        ensures { OnOk result (self.new ≡ reading.named text.now self.old) }
+    {
+        self.builder.start_node(SyntaxKind::NAME)?;
+        self.builder.token(SyntaxKind::IDENT, text)?;
+        self.builder.finish_node();
+        Ok(())
+    }
+
+    /// The current token, which is a name, becomes a node.
+    pub fn name(&mut self) -> Result<(), AllocError>
+        requires { true ≡ holds (At token.Name) self.old }
+        ensures { OnOk result (Runs (Child Name) self.old self.new) }
+    {
+        let Some(token) = self.current_token else {
+            return Ok(());
+        };
+        self.push_pending()?;
+        self.push_name(token.data())?;
+        self.read_on()
+    }
+
+    fn error_at(&self, message: Message, token: Token<'i>) -> Result<Error<A>, AllocError>
+        ensures { IfOk result (λ e. report_of e ≡ record { found = state.found_at (lexeme_of token.entry); index = token.entry.index }) }
+    {
+        let text = message_text(self.alloc, message, token)?;
+        if is_eof(token.kind()) {
+            return Ok(Error::eof(text, token.index()));
+        }
+        let found = String::from_str(self.alloc, token.data())?;
+        Ok(Error::with_loc(text, found, token.index()))
+    }
+
+    // After a limit error no more errors are taken.
+    fn push_err(&mut self, error: Error<A>) -> Result<(), AllocError>
+        ensures { OnOk result (self.new ≡ state.fault (report_of error).found (report_of error).index self.old) }
+    {
+        if self.accept_errors {
+            self.errors.push(error)?;
+        }
+        Ok(())
+    }
+
+    /// Reports an error at the current token.
+    pub fn err(&mut self, message: Message) -> Result<(), AllocError>
+        ensures { OnOk result (Runs (Do (Note message)) self.old self.new) }
+    {
+        if let Some(token) = self.current_token {
+            let error = self.error_at(message, token)?;
+            self.push_err(error)?;
+        }
+        Ok(())
+    }
+
+    /// Reports an error at the current token, and pops it: it becomes an ERROR leaf.
+    #[tactic(auto, using(parser_rules::specs::Rule::skip, parser_rules::specs::Rule::seq, parser_rules::specs::Rule::yes, parser_rules::specs::Rule::no))]
+    pub fn err_and_pop(&mut self, message: Message) -> Result<(), AllocError>
+        ensures { OnOk result (Runs (refuse message) self.old self.new) }
+    {
+        self.err(message)?;
+        self.bump(SyntaxKind::ERROR)
+    }
+
+    /// The punctuator becomes a leaf, or an error reports that it is missing.
+    #[tactic(auto, using(parser_rules::specs::Rule::skip, parser_rules::specs::Rule::seq, parser_rules::specs::Rule::yes, parser_rules::specs::Rule::no))]
+    pub fn expect(&mut self, token: TokenKind, kind: SyntaxKind) -> Result<(), AllocError>
+        ensures { OnOk result (Runs (expect token kind) self.old self.new) }
+    {
+        if self.at(token) {
+            self.bump(kind)
+        } else {
+            self.err(Message::Expected(token))
+        }
+    }
+
+    /// Reports an error where the current token is not of the kind.
+    #[tactic(auto, using(parser_rules::specs::Rule::skip, parser_rules::specs::Rule::seq, parser_rules::specs::Rule::yes, parser_rules::specs::Rule::no))]
+    pub fn want(&mut self, kind: TokenKind, message: Message) -> Result<(), AllocError>
+        ensures { OnOk result (Runs (want (At kind) message) self.old self.new) }
+    {
+        if self.at(kind) {
+            return Ok(());
+        }
+        self.err(message)
+    }
+
+    /// Reports an error where no token is left.
+    #[tactic(auto, using(parser_rules::specs::Rule::skip, parser_rules::specs::Rule::seq, parser_rules::specs::Rule::yes, parser_rules::specs::Rule::no))]
+    pub fn want_ready(&mut self, message: Message) -> Result<(), AllocError>
+        ensures { OnOk result (Runs (want Ready message) self.old self.new) }
+    {
+        if self.is_ready() {
+            return Ok(());
+        }
+        self.err(message)
+    }
+
+    /// Whether one level more is above the recursion limit.
+    pub fn is_too_deep(&self) -> bool
+        ensures { result ≡ state.is_deep self.now }
+    {
+        self.recursion_limit.limit <= self.recursion_limit.current()
+    }
+
+    /// Enters a level of nesting.
+    pub fn enter(&mut self)
+        requires { false ≡ state.is_deep self.old }
+        ensures { self.new ≡ state.enter self.old }
+    {
+        let tracker = &mut self.recursion_limit;
+        if tracker.current() < tracker.limit {
+            tracker.check_and_increment();
+        }
+    }
+
+    /// Leaves a level of nesting.
+    pub fn leave(&mut self)
+        requires { IsInside self.old }
+        ensures { self.new ≡ state.leave self.old }
+    {
+        self.recursion_limit.decrement();
+    }
+
+    fn limit_err(&mut self) -> Result<(), AllocError>
+        ensures { OnOk result (self.new ≡ state.limited_at self.old self.old.current) }
+    {
+        if let Some(token) = self.current_token {
+            let message = String::from_str(self.alloc, "parser recursion limit reached")?;
+            self.push_err(Error::limit(message, token.index()))?;
+            self.accept_errors = false;
+        }
+        Ok(())
+    }
+
+    /// Reports that one level more is above the recursion limit.
+    pub fn too_deep(&mut self) -> Result<(), AllocError>
+        ensures { OnOk result (self.new ≡ state.too_deep self.old) }
+    {
+        let asked = self.recursion_limit.current().saturating_add(1);
+        self.recursion_limit.high = self.recursion_limit.high.max(asked);
+        self.limit_err()
+    }
+
+    /// Takes in what waits, and closes the root. The token limit is the lexer's.
+    pub fn finish<R>(self, token_limit: usize) -> Result<SyntaxTree<R, A>, AllocError>
+        requires { IsRoot self.tree }
+        ensures tree { IfOk result (λ t. t.tree ≡ state.finished self.entry) }
+        ensures errors { IfOk result (λ t. map report_of t.errors ≡ self.entry.errors) }
+        ensures recursion_limit { IfOk result (λ t. t.recursion_limit ≡ record { current = self.entry.depth; high = self.entry.high; limit = self.entry.limit }) }
+        ensures token_limit { self.entry.items ≡ [] → IfOk result (λ t. t.token_limit ≡ record { current = 0; high = self.entry.asked; limit = token_limit }) }
+    {
+        let ParserState {
+            lexer,
+            pending,
+            mut builder,
+            errors,
+            recursion_limit,
+            ..
+        } = self;
+        push_all(&mut builder, &pending)?;
+        builder.finish_node();
+        let mut tokens = LimitTracker::new(token_limit);
+        tokens.high = lexer.limit_tracker().high;
+        Ok(SyntaxTree {
+            tree: builder.finish(),
+            errors,
+            recursion_limit,
+            token_limit: tokens,
+            root: PhantomData,
+        })
+    }
+}

@@ -1,0 +1,65 @@
+// What a parse gives.
+use apollo_lexer::{Error, LimitTracker};
+use apollo_tree::{Subtree, SyntaxNode};
+use std::alloc::Allocator;
+use std::marker::{Model, PhantomData};
+use std::slice::Iter;
+
+/// Marks the tree of a document, whose root is a DOCUMENT.
+pub struct DocumentRoot;
+
+/// The tree of a text, the errors that were found in it, and how the limits were used. `R` marks what the root is.
+#[derive(Drop)]
+pub struct SyntaxTree<R, A: Allocator> {
+    pub(crate) tree: Subtree<A>,
+    pub(crate) errors: Vec<Error<A>, A>,
+    pub(crate) recursion_limit: LimitTracker,
+    pub(crate) token_limit: LimitTracker,
+    pub(crate) root: PhantomData<R>,
+}
+
+impl<R, A: Allocator> Model for SyntaxTree<R, A> {
+    ghost use Rattle.std.specs.Coded.{codes};
+    ghost use Rattle.apollo_tree.specs.Codes.{forest_code};
+    ghost use Rattle.apollo_grammar.specs.Parsed.{Parsed};
+
+    ghost Value = { Parsed };
+
+    ghost coded = { Prim.hlevel (codes, forest_code) };
+
+    ghost view = { λ t. record { tree = t.tree; errors = t.errors.items; recursion_limit = t.recursion_limit; token_limit = t.token_limit } };
+}
+
+impl<R, A: Allocator> SyntaxTree<R, A> {
+    ghost use Rattle.std.specs.Prelude.{◌≡◌};
+    ghost use Rattle.std.specs.Slice.Iter.{iter_rest};
+    ghost use Rattle.apollo_tree.specs.References.{node_place};
+
+    /// The root, which holds all of the text.
+    pub fn root(&self) -> SyntaxNode<'_>
+        ensures { node_place result ≡ record { whole = self.now.tree; index = 0 } }
+    {
+        self.tree.root()
+    }
+
+    /// The errors, in the order in which they were found.
+    pub fn errors(&self) -> Iter<'_, Error<A>>
+        ensures { iter_rest result ≡ self.now.errors }
+    {
+        self.errors.iter()
+    }
+
+    /// The recursion limit, and the greatest nesting that was asked for.
+    pub fn recursion_limit(&self) -> LimitTracker
+        ensures { result ≡ self.now.recursion_limit }
+    {
+        self.recursion_limit
+    }
+
+    /// The token limit, and the number of items that were asked for.
+    pub fn token_limit(&self) -> LimitTracker
+        ensures { result ≡ self.now.token_limit }
+    {
+        self.token_limit
+    }
+}
