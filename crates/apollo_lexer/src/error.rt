@@ -42,7 +42,7 @@ impl<A: Allocator> Model for Error<A> {
 }
 
 impl<A: Allocator> Error<A> {
-    /// An error about a text of the source, at its index.
+    /// An error about a text of the source, at the byte where that begins.
     pub fn with_loc(message: String<A>, text: String<A>, index: usize) -> Self
         requires { index + string_len text < 2 ^ 64 }
         ensures { result ≡ record { message = string_bytes message; subject = of_text (string_bytes text); index = index } }
@@ -54,7 +54,7 @@ impl<A: Allocator> Error<A> {
         }
     }
 
-    /// An error about a limit.
+    /// An error about a limit, at a byte of the source.
     pub fn limit(message: String<A>, index: usize) -> Self
         ensures { result ≡ record { message = string_bytes message; subject = of_limit; index = index } }
     {
@@ -65,7 +65,7 @@ impl<A: Allocator> Error<A> {
         }
     }
 
-    /// An error about the end of the source.
+    /// An error about the end of the source, at a byte of it.
     pub fn eof(message: String<A>, index: usize) -> Self
         ensures { result ≡ record { message = string_bytes message; subject = of_end; index = index } }
     {
@@ -86,12 +86,14 @@ impl<A: Allocator> Error<A> {
         }
     }
 
+    /// Whether it is about a limit.
     pub fn is_limit(&self) -> bool
         ensures { result ≡ is_limit_subject self.now.subject }
     {
         matches!(&self.subject, ErrorData::LimitExceeded)
     }
 
+    /// Whether it is about the end of the source.
     pub fn is_eof(&self) -> bool
         ensures { result ≡ is_end_subject self.now.subject }
     {
@@ -105,13 +107,14 @@ impl<A: Allocator> Error<A> {
         self.index
     }
 
+    /// What is wrong, in words.
     pub fn message(&self) -> &str
         ensures { result.now ≡ self.now.message }
     {
         self.message.as_str()
     }
 
-    /// A clone with texts of its own.
+    /// An equal error with texts of its own. It fails only where memory is refused.
     pub fn try_clone<B: Allocator + Copy>(&self, alloc: B) -> Result<Error<B>, AllocError>
         ensures { IfOk result (λ e. e ≡ self.now) }
     {

@@ -40,7 +40,7 @@ impl<'a> LexError<'a> {
         self.is_limit
     }
 
-    /// The error, with a message, and with texts of its own.
+    /// The error, with a message, and with texts of its own. It fails only where memory is refused.
     pub fn to_error<A: Allocator + Copy>(&self, alloc: A) -> Result<Error<A>, AllocError>
         ensures subject { IfOk result (λ e. e.subject ≡ told_subject self.now.is_limit self.now.text.now) }
         ensures index { IfOk result (λ e. e.index ≡ self.now.index) }

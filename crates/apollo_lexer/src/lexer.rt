@@ -10,8 +10,9 @@ use crate::token::Token;
 use lexical_grammar::TokenKind;
 use std::alloc::{AllocError, Allocator};
 
-/// Cuts a text into its items: tokens, bad text, and the end. It is an iterator of them that takes no memory. Where more items are
-/// there than the token limit allows, it gives an error in place of the next one. After the end or that error it gives nothing more.
+/// Cuts a text into its items: tokens, bad text, and the end (GraphQL October 2021, section 2.1, "Source Text"). It is an iterator of
+/// them that takes no memory. Where more items are there than the token limit allows, it gives an error in place of the next one. After
+/// the end or that error it gives nothing more. A copy gives the items that its original gives.
 #[derive(Clone, Copy)]
 pub struct Lexer<'a> {
     rest: &'a str,
@@ -48,7 +49,7 @@ impl<'a> Lexer<'a> {
         }
     }
 
-    /// Sets the token limit: the number of items, the end among them, that are given from here on.
+    /// Sets the token limit: the number of items, bad text and the end among them, that are given from here on.
     #[tactic(auto, unfolding(crate::specs::Answers::answers_left))]
     pub fn with_limit(self, limit: usize) -> Self
         ensures answers { answers_left result ≡ left_unless self.entry.is_finished limit (items_from self.entry.index 0 self.entry.rest.now) }
@@ -78,7 +79,7 @@ impl<'a> Lexer<'a> {
     ghost use Rattle.apollo_lexer.specs.Told.{AreTold};
     ghost use Rattle.lexical_grammar.specs.Answers.{is_token};
 
-    /// The tokens and the errors that are left, each in order.
+    /// The tokens and the errors that are left, each in order. It fails only where memory is refused.
     pub fn lex<A: Allocator + Copy>(
         self,
         alloc: A,
