@@ -17,12 +17,12 @@ use Rattle.document_grammar.specs.Builds.{Building, Open, start, add_leaf, finis
 use Rattle.document_grammar.specs.Sentence.{leaf_number}
 use Rattle.document_grammar.specs.Machine.{◌and◌, ◌or◌}
 use Rattle.document_grammar.proofs.Basics.{and-l, and-r, either}
-use Rattle.parser_rules.specs.State.{State, Text, Lexeme, Part, Found, ignored, same_kind, bad, met, wait, lexeme, read_on, add_all, flush, opened, closed, moved, bump, found_at, fault, noted, note, is_at, is_over, enter, leave, deepened, limited_at, too_deep, at_limit, fresh, begun, finished}
+use Rattle.parser_rules.specs.State.{State, Text, Lexeme, Part, Found, ignored, same_kind, bad, met, wait, lexeme, read_on, add_all, flush, opened, closed, moved, bump, found_at, fault, noted, note, is_at, is_word, is_over, enter, leave, deepened, limited_at, too_deep, at_limit, fresh, begun, finished}
 use Rattle.parser_rules.specs.Open.{is_free, IsRoot}
 use Rattle.parser_rules.specs.Leaves.{leaves, IsLeafOf, IsLeafOfToken, Belongs, OneLeafAnItem, nothing, one, the_end, the_limit}
 use Rattle.parser_rules.specs.Rule as rule
 use Rattle.parser_rules.specs.declared.message.Message.{Message}
-use Rattle.parser_rules.specs.Rule.{Test, At, Ready, holds, Prim, Bump, Note, step, Node, kind_of, inside, body, Rule, Skip, Do, Seq, When, While, Child, Nested, Call, Runs, skip, does, seq, yes, no, done, again, child, deeper, refused, call}
+use Rattle.parser_rules.specs.Rule.{Test, At, Word, Ready, holds, Prim, Bump, Note, step, Node, kind_of, inside, body, Rule, Skip, Do, Seq, When, While, Child, Nested, Call, Runs, skip, does, seq, yes, no, done, again, child, deeper, refused, call}
 use Rattle.parser_rules.proofs.Takes.{stays, stayed}
 use Rattle.parser_rules.proofs.Kept.{add_all_above, root_kept}
 use Rattle.parser_rules.proofs.Parts.{Parts, parts}
@@ -205,6 +205,7 @@ known_same : (q : Option Test) (s t : State) → t.current ≡ s.current → Kno
 unfolding Known holds
 known_same None s t e h = tt
 known_same (Some (At k)) s t e h = h ∙ sym (ap (λ o. is_at k o) e)
+known_same (Some (Word k)) s t e h = h ∙ sym (ap (λ o. is_word k o) e)
 known_same (Some Ready) s t e h = h ∙ sym (ap (λ o. not (is_over o)) e)
 
 -- the leaf is an ERROR, or one of a known token
@@ -278,6 +279,7 @@ known_fits : (q : Option Test) (x : Lexeme) (own : SyntaxKind) (s : State) → s
 unfolding Known holds
 known_fits None x own s c i h e = absurd (true≢false (sym e))
 known_fits (Some Ready) x own s c i h e = absurd (true≢false (sym e))
+known_fits (Some (Word k)) x own s c i h e = absurd (true≢false (sym e))
 known_fits (Some (At k)) x own s c i h e =
     let is = at_kind k x (h ∙ ap (λ o. is_at k o) c) in
     let n = eqb-true (number own) (leaf_number k) (and-l (eqb (number own) (leaf_number k)) (leb (number own) STRING) e) in
@@ -328,7 +330,9 @@ entered : (q : Option Test) (n : Test) (s : State) → is_entry q n ≡ true →
 unfolding Known
 entered None n s e h = absurd (true≢false (sym e))
 entered (Some Ready) n s e h = absurd (true≢false (sym e))
+entered (Some (Word k)) n s e h = absurd (true≢false (sym e))
 entered (Some (At k)) Ready s e h = absurd (true≢false (sym e))
+entered (Some (At k)) (Word l) s e h = absurd (true≢false (sym e))
 entered (Some (At k)) (At l) s e h = subst (λ kind. true ≡ holds (At kind) s) (same_kinds k l e) h
 
 known_behind : (a : Rule) (q : Option Test) {s t : State} → Runs a s t → Known q s → Known (if stays a then q else None) t

@@ -1,18 +1,24 @@
 -- What a test says of the class of the next significant token: it passes exactly for the classes of its set.
-use Rattle.std.proofs.Common.{◌≡◌, ℕ, ◌-◌, ◌^◌, Bool, true, false, not, eqb, List, [], ◌∷◌, ◌++◌, Option, Some, None, ◌⊎◌, refl, sym, ap, ap₂, ◌∙◌, subst, inl, inr, true≢false}
+use Rattle.std.proofs.Common.{◌≡◌, ℕ, ◌-◌, ◌^◌, min, Bool, true, false, not, ◌&&◌, eqb, bit_and, List, [], ◌∷◌, ◌++◌, Option, Some, None, ◌⊎◌, refl, sym, ap, ap₂, ◌∙◌, subst, inl, inr, true≢false, eqb-true, arith}
+use Rattle.std.proofs.lemmas.Bool.{eqb-false}
+use Rattle.std.specs.Int.{bit_at}
+use Rattle.std.proofs.lemmas.Nat.Bits.{bit_at_and, bit_at-lt, bit_at-pow_same}
 use Rattle.lexical_grammar.specs.declared.TokenKind.{TokenKind}
 use Rattle.lexical_grammar.specs.declared.TokenKind.TheVariants as token
 use Rattle.lexical_grammar.specs.Answers.{Answer, is_end}
+use Rattle.document_grammar.specs.declared.kind.SyntaxKind.{SyntaxKind}
 use Rattle.document_grammar.specs.Kinds.{words}
+use Rattle.document_grammar.specs.Numbers.{number}
 use Rattle.document_grammar.specs.Sentence.{leaf_number}
 use Rattle.document_grammar.specs.Table.{name_classes, token_kinds}
 use Rattle.document_grammar.specs.Tree.{Token}
 use Rattle.document_grammar.specs.Machine.{holds as within, class, word_class, first}
-use Rattle.document_grammar.proofs.Basics.{either, holds-subset, holds-disjoint}
-use Rattle.document_grammar.proofs.Sound.{any, word-name}
+use Rattle.document_grammar.proofs.Classes.{holds-and}
+use Rattle.document_grammar.proofs.Basics.{either, false-true, holds-subset, holds-disjoint}
+use Rattle.document_grammar.proofs.Sound.{any, word-name, holds-one}
 use Rattle.document_grammar.proofs.Endings.{words_checked}
 use Rattle.parser_rules.specs.State.{State, Text, Lexeme, same_kind, ignored}
-use Rattle.parser_rules.specs.Rule.{Test, At, Ready, holds}
+use Rattle.parser_rules.specs.Rule.{Test, At, Word, Ready, holds}
 use Rattle.parser_rules.proofs.Calm.{Now, choose, EndsWell as Ends, rest, answers_tokens, current_tokens, kind_tokens}
 
 -- ignored tokens are never current
@@ -26,6 +32,7 @@ kind_set k = 2 ^ leaf_number k
 
 unfoldable pub set_of : Test → ℕ
 set_of (At k) = kind_set k
+set_of (Word k) = bit_and (2 ^ number k) name_classes
 set_of Ready = any - 1
 
 at-end : (k : TokenKind) → same_kind token.Eof k ≡ within 0 (kind_set k)
@@ -108,10 +115,54 @@ at-over : false ≡ within 0 (any - 1)
 unfolding within
 at-over = refl
 
+-- a class in two sets
+in-both : (a x y : ℕ) → within a (bit_and x y) ≡ true → (within a x ≡ true) × (within a y ≡ true)
+unfolding within
+in-both a x y h =
+    let e : bit_at (bit_and x y) a ≡ 1 = eqb-true _ _ h in
+    let i : bit_at (bit_and x y) a ≡ min (bit_at x a) (bit_at y a) = bit_at_and x y a in
+    let lx = bit_at-lt x a in
+    let ly = bit_at-lt y a in
+    let f : bit_at x a ≡ 1 = omega arith in
+    let g : bit_at y a ≡ 1 = omega arith in
+    (rw f refl, rw g refl)
+
+no-name : (a x : ℕ) → within a name_classes ≡ false → within a (bit_and x name_classes) ≡ false
+no-name a x n = elim (either (within a (bit_and x name_classes))) [ inl p ↦ false-true n (in-both a x name_classes p).1 | inr p ↦ p ]
+
+own-class : (n : ℕ) → within n (2 ^ n) ≡ true
+unfolding within
+own-class n = rw (bit_at-pow_same n) refl
+
+-- a name's class is in a keyword's set exactly where it is the keyword
+word-set : (a n : ℕ) → within a name_classes ≡ true → eqb a n ≡ within a (bit_and (2 ^ n) name_classes)
+word-set a n h = elim (either (eqb a n)) [
+  | inl p ↦ p ∙ sym (holds-and a (2 ^ n) name_classes (subst (λ (k : ℕ). within a (2 ^ k) ≡ true) (eqb-true a n p) (own-class a)) h)
+  | inr p ↦ elim (either (within a (bit_and (2 ^ n) name_classes))) [
+    | inl q ↦ absurd (eqb-false a n p (holds-one a n (in-both a (2 ^ n) name_classes q).0))
+    | inr q ↦ p ∙ sym q
+  ]
+]
+
+at-word : (j : TokenKind) (k : SyntaxKind) (text : Text) → is_end j ≡ false → ignored j ≡ None → same_kind j token.Name && eqb (word_class words text) (number k) ≡ within (class (leaf_number j, text)) (bit_and (2 ^ number k) name_classes)
+unfolding same_kind within class
+at-word token.Name k text e i = word-set (word_class words text) (number k) (word-name words text words_checked)
+at-word token.Whitespace k text e i = absurd cc
+at-word token.Comment k text e i = absurd cc
+at-word token.Comma k text e i = absurd cc
+at-word token.Eof k text e i = absurd cc
+at-word j k text e i = sym (no-name (leaf_number j) (2 ^ number k) refl)
+
+end-word : (k : SyntaxKind) (text : Text) → same_kind token.Eof token.Name && eqb (word_class words text) (number k) ≡ within 0 (bit_and (2 ^ number k) name_classes)
+unfolding same_kind within
+end-word k text = sym (no-name 0 (2 ^ number k) refl)
+
 tested : (q : Test) (t : Lexeme) (s : State) → s.current ≡ Some t → AtEnd t s.items ⊎ AtToken t s.items → holds q s ≡ within (first (rest s)) (set_of q)
 unfolding holds set_of first
 tested (At k) t s c (inl h) = rw c (rw h.nothing (ap (λ (j : TokenKind). same_kind j k) h.kind ∙ at-end k))
 tested (At k) t s c (inr h) = rw c (rw h.first (at-kind t.kind k t.text h.is_end h.shown))
+tested (Word k) t s c (inl h) = rw c (rw h.nothing (ap (λ (j : TokenKind). same_kind j token.Name && eqb (word_class words t.text) (number k)) h.kind ∙ end-word k t.text))
+tested (Word k) t s c (inr h) = rw c (rw h.first (at-word t.kind k t.text h.is_end h.shown))
 tested Ready t s c (inl h) = rw c (rw h.nothing (ap (λ (j : TokenKind). not (is_end j)) h.kind ∙ at-over))
 tested Ready t s c (inr h) = rw c (rw h.first (ap not h.is_end ∙ sym (not-zero (leaf_number t.kind, t.text))))
 

@@ -10,16 +10,19 @@ use Rattle.document_grammar.specs.Kinds as kinds
 use Rattle.document_grammar.specs.Symbols as symbols
 use Rattle.parser_rules.specs.declared.message.Message.{Message}
 use Rattle.parser_rules.specs.declared.message.Message.TheVariants as message
-use Rattle.parser_rules.specs.State.{State, opened, closed, bump, note, is_deep, enter, leave, too_deep, is_at, is_over}
+use Rattle.parser_rules.specs.State.{State, opened, closed, bump, note, is_deep, enter, leave, too_deep, is_at, is_word, is_over}
 
 pub data Test : Type 0 where
   -- the current token is of the kind
   At : TokenKind → Test
+  -- the current token is the keyword
+  Word : SyntaxKind → Test
   -- a token is left besides the end
   Ready : Test
 
 unfoldable pub holds : Test → State → Bool
 holds (At k) s = is_at k s.current
+holds (Word k) s = is_word k s.current
 holds Ready s = not (is_over s.current)
 
 pub data Prim : Type 0 where

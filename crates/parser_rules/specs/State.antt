@@ -1,5 +1,5 @@
 -- What a parser has read and built, and its steps.
-use Rattle.std.specs.Prelude.{ℕ, ◌+◌, ◌-◌, max, min, Bool, true, false, nat_le, if◌then◌else◌, List, [], ◌∷◌, ◌++◌, length, Option, Some, None, ⊤}
+use Rattle.std.specs.Prelude.{ℕ, ◌+◌, ◌-◌, max, min, Bool, true, false, nat_le, ◌&&◌, eqb, if◌then◌else◌, List, [], ◌∷◌, ◌++◌, length, Option, Some, None, ⊤}
 use denote.Enum.Bare.{sameb}
 use Rattle.lexical_grammar.specs.contracts.TokenKind.{the_type}
 use Rattle.lexical_grammar.specs.declared.TokenKind.{TokenKind}
@@ -8,6 +8,9 @@ use Rattle.lexical_grammar.specs.Cut.{Item}
 use Rattle.lexical_grammar.specs.Answers.{Answer, gives, limit_at, is_end, IsTokenText}
 use Rattle.document_grammar.specs.declared.kind.SyntaxKind.{SyntaxKind}
 use Rattle.document_grammar.specs.declared.kind.SyntaxKind.TheVariants as kind
+use Rattle.document_grammar.specs.Kinds.{words}
+use Rattle.document_grammar.specs.Numbers.{number}
+use Rattle.document_grammar.specs.Machine.{word_class}
 use Rattle.document_grammar.specs.Forests.{Forest}
 use Rattle.document_grammar.specs.Builds.{Building, nothing, start, add_leaf, finish}
 
@@ -163,6 +166,11 @@ too_deep s = limited_at (deepened s) s.current
 abbrev pub is_at : TokenKind → Option Lexeme → Bool
 is_at k None = false
 is_at k (Some t) = same_kind t.kind k
+
+-- the current token is a Name with the keyword's word as text
+abbrev pub is_word : SyntaxKind → Option Lexeme → Bool
+is_word k None = false
+is_word k (Some t) = same_kind t.kind token.Name && eqb (word_class words t.text) (number k)
 
 -- no token is left but the end
 abbrev pub is_over : Option Lexeme → Bool
