@@ -1,0 +1,2 @@
+//! The typed layer: what its nodes stand on.
+pub use apollo_tree::{SyntaxNode, SyntaxNodePtr};

@@ -1,0 +1,13 @@
+//! A lossless parser of GraphQL documents (GraphQL October 2021): its lexer, its trees, and the errors that it finds.
+#![tactic(auto)]
+
+pub mod cst;
+
+pub use apollo_grammar::{DocumentRoot, Parser, SyntaxTree};
+pub use apollo_lexer::{Error, LexError, Lexer, LimitTracker, Steps, Token};
+pub use apollo_tree::{
+    Subtree, SyntaxElement, SyntaxElementChildren, SyntaxNode, SyntaxNodeChildren, SyntaxToken,
+    TextRange, TokenText,
+};
+pub use document_grammar::SyntaxKind;
+pub use lexical_grammar::TokenKind;
