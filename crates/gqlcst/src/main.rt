@@ -1,0 +1,50 @@
+//! `gqlcst` reads a GraphQL document from the standard input, and says whether it is one or what is wrong with it.
+#![tactic(auto)]
+
+mod command;
+mod devices;
+mod ending;
+mod input;
+mod outcome;
+mod output;
+mod program;
+mod std_devices;
+#[cfg(test)]
+mod tests;
+mod trace;
+
+use command::{Limits, Mode, options};
+use ending::{USAGE, ending};
+use program::run;
+use std::env;
+use std::process::ExitCode;
+use std_devices::{StdSink, StdSource};
+
+// What the words after the program's name ask for: nothing where they can't be had as texts.
+fn request(rt: &HostRuntime) -> Option<(Mode, Limits)> {
+    let words = env::args(rt).ok()?;
+    let mut texts = Vec::new(rt.alloc());
+    for word in words {
+        texts.push(word).ok()?;
+    }
+    let mut views = Vec::new(rt.alloc());
+    for text in texts.iter().skip(1) {
+        views.push(text.as_str()).ok()?;
+    }
+    options(views.as_slice())
+}
+
+fn main(rt: HostRuntime) -> ExitCode {
+    let (status, complaint) = match request(&rt) {
+        Some((mode, limits)) => {
+            let mut reader = StdSource::new(rt.stdin());
+            let mut writer = StdSink::new(rt.stdout());
+            ending(&run(rt.alloc(), &mut reader, &mut writer, mode, limits))
+        }
+        None => (2, USAGE),
+    };
+    if !complaint.is_empty() {
+        let _ = eprintln!(rt; "{complaint}");
+    }
+    ExitCode::from(status)
+}

@@ -1,0 +1,217 @@
+// The program over readers and writers of its own, which fail or stop where they are told to.
+ghost use Rattle.std.specs.Prelude.{◌≡◌, IfOk};
+
+use crate::command::{Limits, Mode, options};
+use crate::devices::{DeviceError, Sink, Source};
+use crate::ending::ending;
+use crate::outcome::{Fault, Outcome};
+use crate::program::run;
+use crate::trace::Trace;
+use std::alloc::Global;
+use std::process::Abort;
+use std::test::Fail;
+
+// What a device does once it has nothing more to give, or no room left.
+#[derive(Clone, Copy)]
+enum Then {
+    Stops,
+    Fails,
+}
+
+impl Then {
+    fn answer(self) -> Result<usize, DeviceError>
+        ensures { IfOk result (λ n. n ≡ 0) }
+    {
+        match self {
+            Then::Stops => Ok(0),
+            Then::Fails => Err(DeviceError),
+        }
+    }
+}
+
+// Gives a text, at most `piece` bytes a call.
+#[derive(Drop)]
+struct Pieces<'a> {
+    rest: &'a [u8],
+    piece: usize,
+    then: Then,
+    trace: Trace,
+}
+
+impl<'a> Source for Pieces<'a> {
+    ghost use Rattle.gqlcst.specs.Traces.{account_of};
+
+    ghost account = { λ pieces. account_of pieces.trace };
+
+    fn read(&mut self, buffer: &mut [u8]) -> Result<usize, DeviceError> {
+        let count = self.rest.len().min(self.piece).min(buffer.len());
+        let answer = if count == 0 {
+            self.then.answer()
+        } else {
+            let (front, rest) = self.rest.split_at(count);
+            buffer[..count].copy_from_slice(front);
+            self.rest = rest;
+            Ok(count)
+        };
+        self.trace = self.trace.after(&answer, buffer);
+        answer
+    }
+}
+
+// Takes at most `piece` bytes a call, and `room` bytes in all.
+#[derive(Drop)]
+struct Page {
+    taken: Vec<u8>,
+    piece: usize,
+    room: usize,
+    then: Then,
+    trace: Trace,
+}
+
+impl Sink for Page {
+    ghost use Rattle.gqlcst.specs.Traces.{account_of};
+
+    ghost account = { λ page. account_of page.trace };
+
+    fn write(&mut self, bytes: &[u8]) -> Result<usize, DeviceError> {
+        let count = bytes.len().min(self.piece).min(self.room);
+        let answer = if count == 0 {
+            self.then.answer()
+        } else if self.taken.extend_from_slice(&bytes[..count]).is_err() {
+            Err(DeviceError)
+        } else {
+            self.room -= count;
+            Ok(count)
+        };
+        self.trace = self.trace.after(&answer, bytes);
+        answer
+    }
+}
+
+fn reader_of(text: &[u8], piece: usize, then: Then) -> Pieces<'_> {
+    Pieces {
+        rest: text,
+        piece,
+        then,
+        trace: Trace::new(),
+    }
+}
+
+fn writer_of(alloc: Global, piece: usize, room: usize, then: Then) -> Page {
+    Page {
+        taken: Vec::new(alloc),
+        piece,
+        room,
+        then,
+        trace: Trace::new(),
+    }
+}
+
+// What `check` with these limits finds in a text and writes, at once and a byte at a time.
+fn expect(
+    rt: &(impl Abort + AllocGlobal),
+    text: &[u8],
+    limits: Limits,
+    found: Result<Outcome, Fault>,
+    written: &str,
+) {
+    for piece in [1, 100] {
+        let mut reader = reader_of(text, piece, Then::Stops);
+        let mut writer = writer_of(rt.alloc(), piece, 100, Then::Stops);
+        let outcome = run(rt.alloc(), &mut reader, &mut writer, Mode::Check, limits);
+        assert_eq!(rt; outcome, found);
+        assert!(rt; writer.taken.as_slice() == written.as_bytes());
+    }
+}
+
+#[test]
+fn checks_texts(rt: HostRuntime) {
+    let limits = Limits::NONE_SET;
+    let one_level = Limits {
+        recursion: 1,
+        ..limits
+    };
+    let three_items = Limits {
+        tokens: 3,
+        ..limits
+    };
+    expect(&rt, b"{a}", limits, Ok(Outcome::Clean), "clean\n");
+    expect(
+        &rt,
+        b"",
+        limits,
+        Ok(Outcome::Errors(1)),
+        "ERROR@0:0 \"Unexpected <EOF>.\" EOF\nerrors: 1\n",
+    );
+    expect(
+        &rt,
+        b"{a{b}}",
+        one_level,
+        Ok(Outcome::Errors(1)),
+        "ERROR@3:3 \"parser recursion limit reached\" \nerrors: 1\n",
+    );
+    expect(
+        &rt,
+        b"{a}",
+        three_items,
+        Ok(Outcome::Errors(1)),
+        "ERROR@2:2 \"token limit reached, aborting lexing\" \nerrors: 1\n",
+    );
+    expect(&rt, b"\xff", limits, Err(Fault::Utf8), "");
+    expect(&rt, b"\x7b\xff", limits, Err(Fault::Utf8), "");
+}
+
+#[test]
+fn tells_faults(rt: HostRuntime) {
+    let limits = Limits::NONE_SET;
+    for text in [b"{a", b"\x7b\xff"] {
+        let mut reader = reader_of(text, 100, Then::Fails);
+        let mut writer = writer_of(rt.alloc(), 100, 100, Then::Stops);
+        let outcome = run(rt.alloc(), &mut reader, &mut writer, Mode::Check, limits);
+        assert_eq!(rt; outcome, Err(Fault::Read));
+        assert!(rt; writer.taken.is_empty());
+    }
+    for then in [Then::Fails, Then::Stops] {
+        let mut reader = reader_of(b"{a}", 100, Then::Stops);
+        let mut writer = writer_of(rt.alloc(), 100, 3, then);
+        let outcome = run(rt.alloc(), &mut reader, &mut writer, Mode::Check, limits);
+        assert_eq!(rt; outcome, Err(Fault::Write));
+        assert!(rt; writer.taken.as_slice() == b"cle".as_slice());
+    }
+}
+
+#[test]
+fn reads_words(rt: HostRuntime) {
+    let limits = |recursion, tokens| Some((Mode::Check, Limits { recursion, tokens }));
+    assert_eq!(rt; options(&["check"]), limits(500, usize::MAX));
+    assert_eq!(rt; options(&["check", "--tokens", "3"]), limits(500, 3));
+    assert_eq!(rt;
+        options(&["check", "--tokens", "3", "--recursion", "07"]),
+        limits(7, 3)
+    );
+    assert_eq!(rt;
+        options(&["check", "--recursion", "7", "--tokens", "3"]),
+        limits(7, 3)
+    );
+    assert_eq!(rt; options(&[]), None);
+    assert_eq!(rt; options(&["tokens"]), None);
+    assert_eq!(rt; options(&["check", "tokens"]), None);
+    assert_eq!(rt; options(&["check", "--tokens"]), None);
+    assert_eq!(rt; options(&["check", "--tokens", "3", "--tokens", "3"]), None);
+    assert_eq!(rt; options(&["check", "--tokens", "+3"]), None);
+    let too_large = "340282366920938463463374607431768211456";
+    assert_eq!(rt; options(&["check", "--recursion", too_large]), None);
+}
+
+#[test]
+fn ends(rt: HostRuntime) {
+    assert_eq!(rt; ending(&Ok(Outcome::Clean)), (0, ""));
+    assert_eq!(rt; ending(&Ok(Outcome::Errors(2))), (1, ""));
+    assert_eq!(rt; ending(&Err(Fault::Read)), (2, "gqlcst: cannot read"));
+    assert_eq!(rt;
+        ending(&Err(Fault::Utf8)),
+        (2, "gqlcst: input is not UTF-8")
+    );
+    assert_eq!(rt; ending(&Err(Fault::Memory)), (2, "gqlcst: out of memory"));
+    assert_eq!(rt; ending(&Err(Fault::Write)), (2, "gqlcst: cannot write"));
+}
