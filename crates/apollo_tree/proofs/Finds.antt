@@ -12,10 +12,7 @@ use Rattle.apollo_tree.specs.Order.{Place, tree_at, tree_kids, kind_at, range_at
 use Rattle.apollo_tree.specs.Children.{is_node_place}
 use Rattle.apollo_tree.specs.Below.{places_from, is_pointed}
 use Rattle.apollo_tree.specs.Table.{IsTable}
-use Rattle.apollo_tree.proofs.Parts.{within}
-
-abbrev pub spot : Forest → ℕ → Place
-spot whole i = record { whole = whole; index = i }
+use Rattle.apollo_tree.proofs.Parts.{spot, within}
 
 pub find_hit : (m : Place → Bool) (whole : Forest) (i n : ℕ) → 0 < n → m (spot whole i) ≡ true → find m (places_from whole i n) ≡ Some (spot whole i)
 find_hit m whole i zero b h = absurd (omega arith)

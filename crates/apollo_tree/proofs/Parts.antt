@@ -74,7 +74,7 @@ part at i p (node k kids rest) (suc n) d h =
     (cases_lt n (count kids))
 
 -- ---- tiles
-abbrev spot : Forest → ℕ → Place
+abbrev pub spot : Forest → ℕ → Place
 spot whole i = record { whole = whole; index = i }
 
 abbrev ranges : Forest → List ℕ → List (ℕ × ℕ)

@@ -5,7 +5,7 @@ use Rattle.std.proofs.lemmas.Bool.{cases_lt}
 use Rattle.apollo_tree.specs.declared.record.Record.{Record}
 use Rattle.document_grammar.specs.Forests.{Forest, none, leaf, node, Tree, Leaf, Node, text, count}
 use Rattle.apollo_tree.specs.Records.{records, leaf_record, node_record, further, forest}
-use Rattle.apollo_tree.specs.Order.{Element, element, tree_at, order_from, nowhere, tree_text, tree_kids, tree_kind, is_node, places, range_at}
+use Rattle.apollo_tree.specs.Order.{Element, element, tree_at, order_from, nowhere, tree_text, tree_kids, tree_kind, is_node, range_at}
 use Rattle.apollo_tree.specs.Table.{IsTable}
 use Rattle.apollo_tree.specs.Sound.{IsSound, IsSoundTree}
 use Rattle.std.specs.Str.{IsUtf8, IsCharBoundary}
@@ -222,32 +222,6 @@ module _ (rs : List Record) (s : List ℕ) (t : IsTable rs s) (i : ℕ) (h : i <
       let l : length c.before ≡ (get_or rs i d).start = omega (arith, c.begins, start_is rs s t i h d) in
       let n : length (tree_text e.tree) ≡ (get_or rs i d).end - (get_or rs i d).start = omega (arith, start_is rs s t i h d, end_is rs s t i h d) in
       ap (take ((get_or rs i d).end - (get_or rs i d).start)) (ap (drop (get_or rs i d).start) (words_is e c) ∙ drop_at c.before _ (get_or rs i d).start l) ∙ take_at (tree_text e.tree) c.after _ n
-
--- ---- the children of an element are the places of its tree's
-abbrev HasPlaces : ℕ → ℕ → Element → Type 0
-HasPlaces i n e = e.children ≡ places (suc (i + n)) (tree_kids e.tree)
-
-pub children_are : (at i : ℕ) (p : Option ℕ) (f : Forest) (n : ℕ) (d : Element) → n < count f → HasPlaces i n (get_or (order_from at i p f) n d)
-children_are at i p none n d h = absurd (omega arith)
-children_are at i p (leaf k s rest) zero d h = refl
-children_are at i p (leaf k s rest) (suc n) d h =
-    children_are (at + length s) (suc i) p rest n d (omega arith) ∙ ap (λ j. places j (tree_kids (get_or (order_from (at + length s) (suc i) p rest) n d).tree)) (omega arith)
-children_are at i p (node k kids rest) zero d h = ap (λ j. places j kids) (omega arith)
-children_are at i p (node k kids rest) (suc n) d h =
-    let inner = order_from at (suc i) (Some i) kids in
-    let outer = order_from (at + length (text kids)) (suc (i + count kids)) p rest in
-    let l = length-order at (suc i) (Some i) kids in
-    ⊎_elim
-    (λ (lt : n < count kids).
-    let q : get_or (inner ++ outer) n d ≡ get_or inner n d = get_or_append_left inner outer d n (omega arith) in
-    subst (HasPlaces i (suc n)) (sym q)
-    (children_are at (suc i) (Some i) kids n d lt ∙ ap (λ j. places j (tree_kids (get_or inner n d).tree)) (omega arith)))
-    (λ (ge : count kids ≤ n).
-    let m = n - count kids in
-    let q : get_or (inner ++ outer) n d ≡ get_or outer m d = ap (λ x. get_or (inner ++ outer) x d) (omega arith) ∙ get_or-append-add inner outer m d in
-    subst (HasPlaces i (suc n)) (sym q)
-    (children_are (at + length (text kids)) (suc (i + count kids)) p rest m d (omega arith) ∙ ap (λ j. places j (tree_kids (get_or outer m d).tree)) (omega arith)))
-    (cases_lt n (count kids))
 
 -- what every tree keeps, at an element
 pub tree_sound : (rs : List Record) (s : List ℕ) → IsTable rs s → (i : ℕ) → i < length rs → ∥ IsSoundTree (tree_at (record { whole = forest s rs; index = i })) ∥₁

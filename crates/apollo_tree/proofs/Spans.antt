@@ -1,16 +1,17 @@
 -- The trees that stand one after another in a table, and one step along them.
-use Rattle.std.proofs.Common.{◌≡◌, ℕ, zero, suc, pred, ◌+◌, ◌-◌, ◌<◌, ◌≤◌, List, [], ◌∷◌, ◌++◌, length, take, drop, get_or, map, refl, sym, ap, ◌∙◌, arith, true, None}
+use Rattle.std.proofs.Common.{◌≡◌, ℕ, zero, suc, pred, ◌+◌, ◌-◌, ◌<◌, ◌≤◌, List, [], ◌∷◌, ◌++◌, length, take, drop, get_or, map, refl, sym, ap, ◌∙◌, arith, true}
 use Rattle.std.proofs.lemmas.List.{append_assoc, length-append, length-take, take_at, drop_at, drop-take, drop-drop, take_all}
 use Rattle.std.proofs.Math.Seq.{drop-cons}
 use Rattle.apollo_tree.specs.declared.record.Record.{Record}
 use Rattle.document_grammar.specs.Forests.{Forest, none, leaf, node, text, count}
 use Rattle.apollo_tree.specs.Records.{records, further, forest}
-use Rattle.apollo_tree.specs.Order.{Place, element, tree_at, tree_kids, places, nowhere}
+use Rattle.apollo_tree.specs.Order.{element, tree_at, tree_kids, places}
 use Rattle.apollo_tree.specs.Children.{heads, tiled, span_heads, IsSpan, child_places}
 use Rattle.apollo_tree.specs.Table.{IsTable, none_there}
 use Rattle.apollo_tree.specs.ReadBack.{length-records}
+use Rattle.apollo_tree.proofs.Parts.{children_at}
 use Rattle.apollo_tree.proofs.Tiles.{size_parts, tiled-skip, tiled-le, tiled-records}
-use Rattle.apollo_tree.proofs.Places.{children_are, cut_of, size_is, root_record, under_root, tree_records-is}
+use Rattle.apollo_tree.proofs.Places.{cut_of, size_is, root_record, under_root, tree_records-is}
 
 heads-skip : (n i : ℕ) (rs : List Record) → tiled n rs ≡ true → heads n i rs ≡ heads 0 (i + n) (drop n rs)
 heads-skip zero i rs h = ap (λ j. heads 0 j rs) (omega arith)
@@ -104,12 +105,7 @@ module _ (rs : List Record) (s : List ℕ) (t : IsTable rs s) (i : ℕ) (h : i <
   children_heads = ap (heads 0 (suc i)) under ∙ heads-records _ 1 (suc i) (tree_kids (tree_at (record { whole = forest s rs; index = i })))
 
   pub children_places : map (λ j. record { whole = forest s rs; index = j }) (span_heads rs (suc i) (i + size)) ≡ child_places (record { whole = forest s rs; index = i })
-  children_places =
-      let p : Place = record { whole = forest s rs; index = i } in
-      let l : i < count (forest s rs) = omega (arith, ap length t.table, length-records 0 0 (forest s rs)) in
-      let e : (element p).children ≡ places (suc (0 + i)) (tree_kids (tree_at p)) = children_are 0 0 None (forest s rs) i nowhere l in
-      let z : suc i ≡ suc (0 + i) = omega arith in
-      ap (map (λ j. record { whole = forest s rs; index = j })) (children_heads ∙ ap (λ j. places j (tree_kids (tree_at p))) z ∙ sym e)
+  children_places = ap (map (λ j. record { whole = forest s rs; index = j })) (children_heads ∙ sym (children_at rs s t i h))
 
 pub whole_span : (rs : List Record) (s : List ℕ) → IsTable rs s → IsSpan rs 0 (length rs)
 whole_span rs s t =

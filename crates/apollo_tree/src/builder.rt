@@ -1,9 +1,10 @@
-ghost use Rattle.std.specs.Prelude.{suc, drop, true, ◌≡◌, ℕ, ◌+◌, ◌<◌, ◌≤◌, [], ◌∷◌, ◌++◌, length, IfOk, OnErr, OnOk};
+ghost use Rattle.std.specs.Prelude.{◌≡◌, ℕ, suc, ◌+◌, ◌<◌, ◌≤◌, [], ◌∷◌, ◌++◌, length, drop, true, OnErr, OnOk};
 ghost use Rattle.apollo_tree.specs.Sound.{CanFinish};
 ghost use Rattle.apollo_tree.specs.Open.{IsComplete};
 ghost use Rattle.apollo_tree.specs.Brackets.{Opening, Single, Closing, brackets, written, open_at};
 ghost use Rattle.apollo_tree.specs.Children.{tiled};
 ghost use Rattle.apollo_tree.specs.Adopted.{after_adoption};
+ghost use Rattle.document_grammar.specs.Forests.{Forest};
 ghost use Rattle.document_grammar.specs.Builds.{nothing, start, add_leaf, finish, wrap, IsPlace, built_count};
 
 use crate::record::Record;
@@ -16,20 +17,6 @@ use std::marker::Model;
 #[derive(Clone, Copy)]
 pub struct Checkpoint {
     pub place: usize,
-}
-
-// Tells the trees that stand behind a record that it is their parent.
-fn adopt(records: &mut [Record], parent: usize)
-    requires inside { parent < length records.old }
-    requires trees { tiled 0 (drop (suc parent) records.old) ≡ true }
-    ensures { records.new ≡ after_adoption parent records.old }
-{
-    let mut child = parent + 1;
-    while child < records.len() {
-        let size = records[child].size;
-        records[child].to_parent = child - parent;
-        child += size;
-    }
 }
 
 /// Builds a tree from its leaves and the starts and ends of its nodes, called in document order.
@@ -165,6 +152,7 @@ impl<A: Allocator + Copy> TreeBuilder<A> {
         requires { IsComplete self }
         ensures value { result ≡ self.here }
         ensures calls { brackets result ≡ written self }
+        ensures only { (f : Forest) → brackets f ≡ written self → f ≡ result }
     {
         let TreeBuilder {
             records,
@@ -172,5 +160,19 @@ impl<A: Allocator + Copy> TreeBuilder<A> {
             text,
         } = self;
         Subtree { records, text }
+    }
+}
+
+// Tells the trees that stand behind a record that it is their parent.
+fn adopt(records: &mut [Record], parent: usize)
+    requires inside { parent < length records.old }
+    requires trees { tiled 0 (drop (suc parent) records.old) ≡ true }
+    ensures { records.new ≡ after_adoption parent records.old }
+{
+    let mut child = parent + 1;
+    while child < records.len() {
+        let size = records[child].size;
+        records[child].to_parent = child - parent;
+        child += size;
     }
 }

@@ -1,6 +1,7 @@
 ghost use Rattle.std.specs.Prelude.{◌≡◌, ◌↔◌, IsTrue};
 ghost use Rattle.std.specs.Ordering.{nat_cmp};
 ghost use Rattle.std.specs.Cmp.Lexicographic.{slice_cmp};
+ghost use Rattle.lexical_grammar.specs.Tokens.{IsName};
 ghost use Rattle.apollo_tree.specs.References.{token_text};
 
 use crate::{Subtree, SyntaxElement, SyntaxKind, SyntaxNodePtr, TokenText, TreeBuilder};
@@ -8,15 +9,17 @@ use std::alloc::{AllocError, Global};
 use std::cmp::Ordering;
 use std::test::Fail;
 
-// The tree of `{a}`, with one wrap.
-fn selection(alloc: Global) -> Result<Subtree<Global>, AllocError> {
+// The tree of a name in braces, with one wrap.
+fn selection(alloc: Global, name: &str) -> Result<Subtree<Global>, AllocError>
+    requires { IsName name.now }
+{
     let mut builder = TreeBuilder::new(alloc);
     builder.start_node(SyntaxKind::DOCUMENT)?;
     builder.start_node(SyntaxKind::SELECTION_SET)?;
     builder.token(SyntaxKind::L_CURLY, "{")?;
     let field = builder.checkpoint();
     builder.start_node(SyntaxKind::NAME)?;
-    builder.token(SyntaxKind::IDENT, "a")?;
+    builder.token(SyntaxKind::IDENT, name)?;
     builder.finish_node();
     builder.wrap(field, SyntaxKind::FIELD)?;
     builder.finish_node();
@@ -29,7 +32,7 @@ fn selection(alloc: Global) -> Result<Subtree<Global>, AllocError> {
 #[test]
 fn a_tree_is_printed(rt: HostRuntime) -> Result<(), Fail> {
     let alloc = rt.alloc();
-    let tree = selection(alloc)?;
+    let tree = selection(alloc, "a")?;
     let printed = format!(in alloc; "{tree:?}")?;
     assert_eq!(rt;
         printed.as_str(),
@@ -45,7 +48,7 @@ fn a_tree_is_printed(rt: HostRuntime) -> Result<(), Fail> {
 #[test]
 fn a_node_knows_its_place(rt: HostRuntime) -> Result<(), Fail> {
     let alloc = rt.alloc();
-    let tree = selection(alloc)?;
+    let tree = selection(alloc, "a")?;
     let root = tree.root();
     let set = root.children().next().ok_or("a child node")?;
     let field = set.children().next().ok_or("a child node")?;
@@ -78,7 +81,7 @@ fn a_node_knows_its_place(rt: HostRuntime) -> Result<(), Fail> {
 
 #[test]
 fn children_come_in_order(rt: HostRuntime) -> Result<(), Fail> {
-    let tree = selection(rt.alloc())?;
+    let tree = selection(rt.alloc(), "a")?;
     let set = tree.root().children().next().ok_or("a child node")?;
     let mut children = set.children_with_tokens();
     let first = children.next().ok_or("a child")?;
@@ -90,6 +93,31 @@ fn children_come_in_order(rt: HostRuntime) -> Result<(), Fail> {
     assert!(rt; second.into_node().is_some());
     assert!(rt; matches!(children.next(), Some(SyntaxElement::Token(_))));
     assert!(rt; children.next().is_none());
+    Ok(())
+}
+
+#[test]
+fn pointers_find_nodes_of_other_trees(rt: HostRuntime) -> Result<(), Fail> {
+    let alloc = rt.alloc();
+    let tree = selection(alloc, "a")?;
+    let leaf = tree.root().first_token().ok_or("a leaf")?;
+    let set = SyntaxNodePtr::new(&leaf.parent().ok_or("a parent")?);
+    let name = tree
+        .root()
+        .children()
+        .next()
+        .ok_or("a child")?
+        .children()
+        .next()
+        .ok_or("a field")?;
+    let other = selection(alloc, "b")?;
+    let found = SyntaxNodePtr::new(&name)
+        .to_node(&other.root())
+        .ok_or("a node")?;
+    assert_eq!(rt; found.text(), "b");
+    let longer = selection(alloc, "ab")?;
+    assert!(rt; SyntaxNodePtr::new(&name).to_node(&longer.root()).is_none());
+    assert!(rt; set.to_node(&longer.root()).is_none());
     Ok(())
 }
 

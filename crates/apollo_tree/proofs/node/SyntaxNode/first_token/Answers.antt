@@ -6,7 +6,8 @@ use Rattle.apollo_tree.specs.Order.{tree_at, tree_kids}
 use Rattle.apollo_tree.specs.Children.{is_node_place}
 use Rattle.apollo_tree.specs.Below.{places_from, is_leaf_place}
 use Rattle.apollo_tree.specs.References.{node_place}
-use Rattle.apollo_tree.proofs.Finds.{spot, find_pass_one}
+use Rattle.apollo_tree.proofs.Parts.{spot}
+use Rattle.apollo_tree.proofs.Finds.{find_pass_one}
 use Rattle.apollo_tree.proofs.Spans.{children_span}
 use Rattle.apollo_tree.proofs.node.SyntaxNode.first_token.Goals as goal
 

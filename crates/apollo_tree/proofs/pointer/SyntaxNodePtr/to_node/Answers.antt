@@ -4,7 +4,8 @@ use Rattle.document_grammar.specs.Forests.{count}
 use Rattle.apollo_tree.specs.Order.{tree_at, tree_kids}
 use Rattle.apollo_tree.specs.Below.{places_from, is_pointed}
 use Rattle.apollo_tree.specs.References.{node_place}
-use Rattle.apollo_tree.proofs.Finds.{spot, find_hit, find_pass_one, IsRecordOf, pointed_is, pass_subtree}
+use Rattle.apollo_tree.proofs.Parts.{spot}
+use Rattle.apollo_tree.proofs.Finds.{find_hit, find_pass_one, IsRecordOf, pointed_is, pass_subtree}
 use Rattle.apollo_tree.proofs.Spans.{children_span}
 use Rattle.apollo_tree.proofs.pointer.SyntaxNodePtr.to_node.Goals as goal
 use Rattle.apollo_tree.proofs.pointer.SyntaxNodePtr.to_node.Goals.{then-is_within, else-is_within}
