@@ -5,6 +5,7 @@ use crate::laws::{
 use crate::lexer::Lexer;
 use crate::limit::LimitTracker;
 use crate::steps::Steps;
+use lexical_grammar::TokenKind;
 use std::alloc::{AllocError, Global};
 use std::fmt::Write;
 use std::hash::{DefaultHasher, Hash, Hasher};
@@ -165,5 +166,111 @@ fn copies_go_on_alike(rt: HostRuntime) -> Result<(), Fail> {
     answers_count();
     items_are_cut("a b");
     equal_errors_are_same();
+    Ok(())
+}
+
+#[test]
+fn strings_numbers_and_spreads(rt: HostRuntime) -> Result<(), Fail> {
+    let rows = [
+        (
+            ".a ..b ...c",
+            "ERROR@0:2 \"Unterminated spread operator\" .a\nWHITESPACE@2:3 \" \"\nERROR@3:5 \"Unterminated spread operator\" ..\nNAME@5:6 \"b\"\nWHITESPACE@6:7 \" \"\nSPREAD@7:10 \"...\"\nNAME@10:11 \"c\"\nEOF@11:11\n",
+        ),
+        (
+            "0xF",
+            "ERROR@0:2 \"Unexpected character `x` as integer suffix\" 0x\nNAME@2:3 \"F\"\nEOF@3:3\n",
+        ),
+        (
+            "1.5.6",
+            "ERROR@0:4 \"Unexpected character `.` as float suffix\" 1.5.\nINT@4:5 \"6\"\nEOF@5:5\n",
+        ),
+        (
+            "1.5e",
+            "ERROR@0:4 \"Unexpected EOF in float value\" 1.5e\nEOF@4:4\n",
+        ),
+        (
+            "\"\\u{110000}\"",
+            "ERROR@0:12 \"unicode escape sequence must specify a Unicode scalar value\" \"\\u{110000}\"\nEOF@12:12\n",
+        ),
+        (
+            "\"",
+            "ERROR@0:1 \"unexpected end of data while lexing string value\" \"\nEOF@1:1\n",
+        ),
+        (
+            "\"\"\"a",
+            "ERROR@0:4 \"unterminated string value\" \"\"\"a\nEOF@4:4\n",
+        ),
+        ("-0e1", "FLOAT@0:4 \"-0e1\"\nEOF@4:4\n"),
+        (
+            "\"\n\"",
+            "ERROR@0:3 \"unexpected line terminator\" \"\n\"\nEOF@3:3\n",
+        ),
+        (
+            "\"\\uD83D\"",
+            "ERROR@0:8 \"unpaired surrogate in unicode escape sequence\" \"\\uD83D\"\nEOF@8:8\n",
+        ),
+    ];
+    for (source, lines) in rows {
+        let text = printed(rt.alloc(), Lexer::new(source))?;
+        assert_eq!(rt; text.as_str(), lines);
+    }
+    Ok(())
+}
+
+#[test]
+fn errors_count_as_items(rt: HostRuntime) -> Result<(), Fail> {
+    let (tokens, errors) = Lexer::new("type Query { ..a a a a a a a a a }")
+        .with_limit(10)
+        .lex(rt.alloc())?;
+    assert_eq!(rt; tokens.len(), 9);
+    assert_eq!(rt; errors.len(), 2);
+    let (spread, limit) = (&errors[0], &errors[1]);
+    assert_eq!(rt; spread.message(), "Unterminated spread operator");
+    assert!(rt; spread.data() == ".." && spread.index() == 13);
+    assert!(rt; limit.is_limit() && limit.index() == 18);
+    Ok(())
+}
+
+#[test]
+fn long_string_is_one_token(rt: HostRuntime) -> Result<(), Fail> {
+    let mut text = String::from_str(rt.alloc(), "\"")?;
+    for _ in 0..1000 {
+        text.push_str("é")?;
+    }
+    text.push_str("\"")?;
+    let item = Lexer::new(text.as_str()).next().ok_or("an item")?;
+    let token = item.ok().ok_or("a token")?;
+    assert!(rt; token.kind() == TokenKind::StringValue && token.data().len() == 2002);
+    Ok(())
+}
+
+#[test]
+fn items_join_to_the_source(rt: HostRuntime) -> Result<(), Fail> {
+    let source =
+        "\ntype Query {\n    name: String\n    format: String = \"Y-m-d\\\\TH:i:sP\"\n}\n        ";
+    let mut joined = String::new(rt.alloc());
+    for item in Lexer::new(source) {
+        let token = item.ok().ok_or("a token")?;
+        joined.push_str(token.data())?;
+    }
+    assert_eq!(rt; joined.as_str(), source);
+    Ok(())
+}
+
+#[test]
+fn quotes_inside_block_strings(rt: HostRuntime) -> Result<(), Fail> {
+    let block =
+        "\"\"\"\nNot an escape character:\n'/\\W/'\nEscape character:\n\\\"\"\"\n\\\"\"\"\\\"\"\"\nNot escape characters:\n\\\" \\\"\"\nEscape character followed by a quote:\n\\\"\"\"\"\n\"\"\"";
+    let (tokens, errors) = Lexer::new(block).lex(rt.alloc())?;
+    assert!(rt; tokens.len() == 2 && errors.is_empty());
+    assert_eq!(rt; tokens[0].data(), block);
+    let source =
+        "\n# String contents: \"\"\"\n\"\"\"\\\"\"\"\"\"\"\n# Unclosed block string\n\"\"\"\\\"\"\"\n        ";
+    let (tokens, errors) = Lexer::new(source).lex(rt.alloc())?;
+    assert!(rt; tokens.len() > 3 && errors.len() == 1);
+    assert_eq!(rt; tokens[3].data(), "\"\"\"\\\"\"\"\"\"\"");
+    assert_eq!(rt; errors[0].message(), "unterminated string value");
+    assert_eq!(rt; errors[0].data(), "\"\"\"\\\"\"\"\n        ");
+    assert_eq!(rt; errors[0].index(), 59);
     Ok(())
 }
