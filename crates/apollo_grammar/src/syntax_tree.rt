@@ -1,7 +1,8 @@
 // What a parse gives.
 use apollo_lexer::{Error, LimitTracker};
 use apollo_tree::{Subtree, SyntaxNode};
-use std::alloc::Allocator;
+use std::alloc::{AllocError, Allocator};
+use std::fmt;
 use std::marker::{Model, PhantomData};
 use std::slice::Iter;
 
@@ -33,6 +34,8 @@ impl<R, A: Allocator> Model for SyntaxTree<R, A> {
 impl<R, A: Allocator> SyntaxTree<R, A> {
     ghost use Rattle.std.specs.Prelude.{◌≡◌};
     ghost use Rattle.std.specs.Slice.Iter.{iter_rest};
+    ghost use Rattle.std.specs.Prelude.{length};
+    ghost use Rattle.apollo_tree.specs.Order.{order};
     ghost use Rattle.apollo_tree.specs.References.{node_place};
 
     /// The root, which holds all of the text.
@@ -61,5 +64,47 @@ impl<R, A: Allocator> SyntaxTree<R, A> {
         ensures { result ≡ self.now.token_limit }
     {
         self.token_limit
+    }
+    /// How many elements the tree has, nodes and leaves.
+    pub fn element_count(&self) -> usize
+        ensures { result ≡ length (order self.now.tree) }
+    {
+        self.tree.element_count()
+    }
+}
+
+impl<R, A: Allocator + Copy> SyntaxTree<R, A> {
+    ghost use Rattle.std.specs.Prelude.{◌≡◌, IfOk};
+
+    /// The same tree, errors and limits, in memory of their own. It fails only where memory is refused.
+    pub fn try_clone(&self, alloc: A) -> Result<SyntaxTree<R, A>, AllocError>
+        ensures { IfOk result (λ t. t ≡ self.now) }
+    {
+        let tree = self.tree.try_clone(alloc)?;
+        let mut errors = Vec::new(alloc);
+        for error in &self.errors {
+            errors.push(error.try_clone(alloc)?)?;
+        }
+        Ok(SyntaxTree {
+            tree,
+            errors,
+            recursion_limit: self.recursion_limit,
+            token_limit: self.token_limit,
+            root: PhantomData,
+        })
+    }
+}
+
+/// The printed form: a line for each element of the tree in document order, four spaces a level; a line `- ` with the printed form for
+/// each error; and then, without a line feed, the printed recursion limit.
+impl<R, A: Allocator> fmt::Debug for SyntaxTree<R, A> {
+    fn fmt<W: fmt::Write>(&self, f: &mut fmt::Formatter<W>) -> fmt::Result {
+        let tree = &self.tree;
+        write!(f, "{tree:?}")?;
+        for error in self.errors() {
+            writeln!(f, "- {error}")?;
+        }
+        let limit = self.recursion_limit;
+        write!(f, "{limit}")
     }
 }

@@ -80,3 +80,57 @@ fn limits(rt: HostRuntime) -> Result<(), Fail> {
     }
     Ok(())
 }
+
+#[test]
+fn trees(rt: HostRuntime) -> Result<(), Fail> {
+    let rows = [
+        (
+            "{a}",
+            8,
+            "- DOCUMENT@0..3
+    - OPERATION_DEFINITION@0..3
+        - SELECTION_SET@0..3
+            - L_CURLY@0..1 \"{\"
+            - FIELD@1..2
+                - NAME@1..2
+                    - IDENT@1..2 \"a\"
+            - R_CURLY@2..3 \"}\"
+recursion limit: 500, high: 1",
+        ),
+        (
+            "{a,#c\n}",
+            11,
+            "- DOCUMENT@0..7
+    - OPERATION_DEFINITION@0..7
+        - SELECTION_SET@0..7
+            - L_CURLY@0..1 \"{\"
+            - FIELD@1..2
+                - NAME@1..2
+                    - IDENT@1..2 \"a\"
+            - COMMA@2..3 \",\"
+            - COMMENT@3..5 \"#c\"
+            - WHITESPACE@5..6 \"\\n\"
+            - R_CURLY@6..7 \"}\"
+recursion limit: 500, high: 1",
+        ),
+        (
+            "",
+            1,
+            "- DOCUMENT@0..0
+- ERROR@0:0 \"Unexpected <EOF>.\" EOF
+recursion limit: 500, high: 0",
+        ),
+    ];
+    for (source, count, wanted) in rows {
+        let tree = Parser::new(source).parse(rt.alloc())?;
+        assert_eq!(rt; tree.element_count(), count, "{source}");
+        let printed = format!(in rt.alloc(); "{tree:?}")?;
+        assert_eq!(rt; printed.as_str(), wanted);
+        let copy = tree.try_clone(rt.alloc())?;
+        drop(tree);
+        let copied = format!(in rt.alloc(); "{copy:?}")?;
+        assert_eq!(rt; copied.as_str(), wanted);
+        assert_eq!(rt; copy.token_limit().limit, usize::MAX);
+    }
+    Ok(())
+}
