@@ -11,8 +11,9 @@ use Rattle.apollo_tree.proofs.Adoption.{adoption-at}
 use Rattle.document_grammar.specs.Forests.{Forest, none, leaf, node, text, count, join}
 use Rattle.document_grammar.specs.Builds.{Open, Building, open_count, open_text, built_count, start, add_leaf, finish, close, front, back, wrap, IsPlace}
 use Rattle.apollo_tree.specs.Records.{records, open_record, open_records, built_records, open_places, built, forest}
-use Rattle.apollo_tree.specs.ReadBack.{length-records, records-join, front-join, back-join, built-records, forest-records}
+use Rattle.apollo_tree.specs.ReadBack.{length-records, records-join, built-records, forest-records}
 use Rattle.document_grammar.specs.Joins.{join-none, count-join, text-join}
+use Rattle.document_grammar.proofs.Built.{join-front_back, front-join, back-join}
 use Rattle.apollo_tree.specs.Sound.{IsSound, AreSound, FitsInnermost, CanFinish}
 use Rattle.apollo_tree.specs.Open.{IsTableOf, Holds, IsComplete, IsTree, one_node}
 
@@ -33,13 +34,6 @@ length-open_records (o ∷ above) =
 pub length-built_records : (b : Building) → length (built_records b) ≡ built_count b
 length-built_records b = length-append (open_records b.above) (records (length (open_text b.above)) 0 b.here) ∙ omega (arith, length-open_records b.above, length-records (length (open_text b.above)) 0 b.here)
 
--- the trees before a place and after it
-pub join-cut : (n : ℕ) (f : Forest) → join (front n f) (back n f) ≡ f
-join-cut zero f = refl
-join-cut (suc n) none = refl
-join-cut (suc n) (leaf k s rest) = ap (leaf k s) (join-cut n rest)
-join-cut (suc n) (node k kids rest) = ap (node k kids) (join-cut (n - count kids) rest)
-
 -- ---- a leaf
 pub leaf_table : {b : Building} {rs : List Record} {ps s : List ℕ} (k : SyntaxKind) (t : List ℕ) (at end : ℕ) → IsTableOf b rs ps s → at ≡ length s → end ≡ at + length t → IsTableOf (add_leaf k t b) (rs ++ record { kind = k; is_node = false; start = at; end = end; size = 1; to_parent = 0 } ∷ []) ps (s ++ t)
 leaf_table {b} {rs} {ps} {s} k t at end h e f =
@@ -55,7 +49,7 @@ leaf_table {b} {rs} {ps} {s} k t at end h e f =
 
 -- ---- a wrap
 seam_split : (at : ℕ) (n : ℕ) (f : Forest) → records at 0 f ≡ records at 0 (front n f) ++ records (at + length (text (front n f))) 0 (back n f)
-seam_split at n f = ap (records at 0) (sym (join-cut n f)) ∙ records-join at (front n f) (back n f)
+seam_split at n f = ap (records at 0) (sym (join-front_back n f)) ∙ records-join at (front n f) (back n f)
 
 pub wrap_table : {b : Building} {rs : List Record} {ps s : List ℕ} (k : SyntaxKind) (p at : ℕ) → IsTableOf b rs ps s → IsPlace p b → at ≡ length (open_text b.above) + length (text (front (p - open_count b.above) b.here)) → IsTableOf (wrap p k b) (insert rs p (open_record at k)) (ps ++ p ∷ []) s
 wrap_table {b} {rs} {ps} {s} k p at h place e =
@@ -73,7 +67,7 @@ wrap_table {b} {rs} {ps} {s} k p at h place e =
       places =
           let c : open_count b.above + count f ≡ p = omega (arith, place.inside, place.seam) in
           rw (h.places, c) refl;
-      text = append_assoc (open_text b.above) (text f) (text g) ∙ ap (λ x. open_text b.above ++ x) (sym (text-join f g) ∙ ap text (join-cut n b.here)) ∙ h.text;
+      text = append_assoc (open_text b.above) (text f) (text g) ∙ ap (λ x. open_text b.above ++ x) (sym (text-join f g) ∙ ap text (join-front_back n b.here)) ∙ h.text;
     }
 
 -- ---- a finish
@@ -152,7 +146,7 @@ wrap_end b k n e =
     rw (d, front-all b.here, back-all b.here) refl
 
 cut_counts : (n : ℕ) (f : Forest) → count (front n f) + count (back n f) ≡ count f
-cut_counts n f = sym (count-join (front n f) (back n f)) ∙ ap count (join-cut n f)
+cut_counts n f = sym (count-join (front n f) (back n f)) ∙ ap count (join-front_back n f)
 
 pub place_le : (p : ℕ) (b : Building) → IsPlace p b → p ≤ built_count b
 place_le p b h = omega (arith, h.inside, h.seam, cut_counts (p - open_count b.above) b.here)
@@ -168,7 +162,7 @@ end_at {b} {rs} {ps} {s} p h place le =
     let n = p - open_count b.above in
     let g = back n b.here in
     let z : count g ≡ 0 = omega (arith, count_is h, place.inside, place.seam, cut_counts n b.here) in
-    let t : length (text b.here) ≡ length (text (front n b.here)) + length (text g) = ap (λ x. length (text x)) (sym (join-cut n b.here)) ∙ ap length (text-join (front n b.here) g) ∙ length-append (text (front n b.here)) (text g) in
+    let t : length (text b.here) ≡ length (text (front n b.here)) + length (text g) = ap (λ x. length (text x)) (sym (join-front_back n b.here)) ∙ ap length (text-join (front n b.here) g) ∙ length-append (text (front n b.here)) (text g) in
     let w : length s ≡ length (open_text b.above) + length (text b.here) = ap length (sym h.text) ∙ length-append (open_text b.above) (text b.here) in
     omega (arith, no_text g z)
 

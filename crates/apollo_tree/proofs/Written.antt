@@ -6,7 +6,7 @@ use Rattle.document_grammar.specs.Forests.{Forest, none, leaf, node, count, join
 use Rattle.document_grammar.specs.Builds.{Open, Building, start, add_leaf, finish, close, wrap, front, back, open_count, IsPlace}
 use Rattle.apollo_tree.specs.Brackets.{Bracket, Opening, Single, Closing, brackets, open_brackets, written, open_at}
 use Rattle.apollo_tree.specs.Sound.{CanFinish, FitsInnermost}
-use Rattle.apollo_tree.proofs.Steps.{join-cut}
+use Rattle.document_grammar.proofs.Built.{join-front_back}
 
 brackets-join : (f g : Forest) → brackets (join f g) ≡ brackets f ++ brackets g
 brackets-join none g = refl
@@ -76,7 +76,7 @@ written-wrap p k b place =
     let f = front n b.here in
     let g = back n b.here in
     let xs = open_brackets b.above ++ brackets f in
-    let whole : written b ≡ xs ++ brackets g = ap (λ x. open_brackets b.above ++ brackets x) (sym (join-cut n b.here)) ∙ ap (λ x. open_brackets b.above ++ x) (brackets-join f g) ∙ sym (append_assoc (open_brackets b.above) (brackets f) (brackets g)) in
+    let whole : written b ≡ xs ++ brackets g = ap (λ x. open_brackets b.above ++ brackets x) (sym (join-front_back n b.here)) ∙ ap (λ x. open_brackets b.above ++ x) (brackets-join f g) ∙ sym (append_assoc (open_brackets b.above) (brackets f) (brackets g)) in
     let l : p ≡ elements xs = sym (elements-append (open_brackets b.above) (brackets f) ∙ omega (arith, elements-open b.above, elements-brackets f, place.inside, place.seam)) in
     sym (ap (open_at p k) whole ∙ open-past p k xs (brackets g) l ∙ ap (λ x. xs ++ x) (open-first k g)
     ∙ sym (ap (λ x. x ++ brackets g) (sym (append_assoc (open_brackets b.above) (brackets f) (Opening k ∷ []))) ∙ append_assoc xs (Opening k ∷ []) (brackets g)))

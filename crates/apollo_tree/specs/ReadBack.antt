@@ -3,8 +3,9 @@ use Rattle.std.proofs.Common.{◌≡◌, ℕ, suc, ◌+◌, ◌-◌, List, [], �
 use Rattle.std.proofs.lemmas.List.{append-nil, append_assoc, length-append, take_at, drop_at}
 use Rattle.apollo_tree.specs.declared.record.Record.{Record}
 use Rattle.document_grammar.specs.Joins.{join-none}
+use Rattle.document_grammar.proofs.Built.{front-join, back-join}
 use Rattle.document_grammar.specs.Forests.{Forest, none, leaf, node, text, count, join}
-use Rattle.document_grammar.specs.Builds.{Open, Building, open_text, built_text, front, back}
+use Rattle.document_grammar.specs.Builds.{Open, Building, open_text, built_text}
 use Rattle.apollo_tree.specs.Records.{leaf_record, node_record, further, records, open_record, open_records, built_records, Inward, read_record, read, turn, forest, built}
 
 pub length-records : (at up : ℕ) (f : Forest) → length (records at up f) ≡ count f
@@ -23,20 +24,6 @@ records-join at (node k kids rest) g =
     let e : (at + length (text kids)) + length (text rest) ≡ at + length (text kids ++ text rest) = omega (arith, length-append (text kids) (text rest)) in
     ap (λ rs. node_record at 0 k kids ∷ rs)
     (rw (← e) (ap (λ rs. records at 1 kids ++ rs) (records-join (at + length (text kids)) rest g) ∙ sym (append_assoc (records at 1 kids) _ _)))
-
-pub front-join : (f g : Forest) → front (count f) (join f g) ≡ f
-front-join none g = refl
-front-join (leaf k s rest) g = ap (leaf k s) (front-join rest g)
-front-join (node k kids rest) g =
-    let e : (count kids + count rest) - count kids ≡ count rest = omega arith in
-    ap (node k kids) (rw e (front-join rest g))
-
-pub back-join : (f g : Forest) → back (count f) (join f g) ≡ g
-back-join none g = refl
-back-join (leaf k s rest) g = back-join rest g
-back-join (node k kids rest) g =
-    let e : (count kids + count rest) - count kids ≡ count rest = omega arith in
-    ap (λ n. back n (join rest g)) e ∙ back-join rest g
 
 -- reading the records of trees puts the trees in front
 abbrev pub put_front : Forest → Inward → Inward
