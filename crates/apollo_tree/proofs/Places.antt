@@ -212,9 +212,6 @@ module _ (rs : List Record) (s : List ℕ) (t : IsTable rs s) (i : ℕ) (h : i <
       let u : IsUtf8 c.after = IsUtf8-had _ (∥∥₁_map t.sound (λ k. let parts = c.kept k in parts.after)) in
       subst (λ n. IsCharBoundary s n) l (IsCharBoundary-at_seam s (c.before ++ tree_text e.tree) c.after (words_is e c ∙ sym (append_assoc c.before _ _)) u)
 
-  pub start_le_end : (get_or rs i d).start ≤ (get_or rs i d).end
-  start_le_end = omega (arith, start_is rs s t i h d, end_is rs s t i h d)
-
   pub text_is : take ((get_or rs i d).end - (get_or rs i d).start) (drop (get_or rs i d).start s) ≡ tree_text (tree_at (record { whole = forest s rs; index = i }))
   text_is =
       let c = cut_of rs s t i h in
