@@ -59,6 +59,10 @@ impl TextRange {
 
 /// The two offsets, as `0..3`.
 impl fmt::Debug for TextRange {
+    ghost use Rattle.std.specs.Prelude.{◌++◌, Some, codes, decimal};
+
+    ghost debug_output = { λ r. Some (decimal r.0 ++ (codes ".." ++ decimal r.1)) };
+
     fn fmt<W: fmt::Write>(&self, f: &mut fmt::Formatter<W>) -> fmt::Result {
         let start = self.start;
         let end = self.end;

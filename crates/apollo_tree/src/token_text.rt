@@ -1,4 +1,6 @@
-ghost use Rattle.std.specs.Prelude.{◌≡◌, IfOk, string_bytes};
+ghost use Rattle.std.specs.Prelude.{◌≡◌, IfOk, Some, string_bytes};
+ghost use Rattle.std.specs.Fmt.{debug_str};
+ghost use Rattle.apollo_tree.specs.References.{token_text};
 
 use std::alloc::{AllocError, Allocator};
 use std::fmt;
@@ -12,8 +14,6 @@ pub struct TokenText<'t> {
 }
 
 impl<'t> TokenText<'t> {
-    ghost use Rattle.apollo_tree.specs.References.{token_text};
-
     /// A text as it stands.
     pub fn new(text: &'t str) -> TokenText<'t>
         ensures { token_text result ≡ text.now }
@@ -38,6 +38,8 @@ impl<'t> TokenText<'t> {
 
 /// The text as it stands.
 impl fmt::Display for TokenText<'_> {
+    ghost output = { λ t. Some (token_text t) };
+
     fn fmt<W: fmt::Write>(&self, f: &mut fmt::Formatter<W>) -> fmt::Result {
         f.write_str(self.text)
     }
@@ -45,6 +47,8 @@ impl fmt::Display for TokenText<'_> {
 
 /// The text in quotes and with escapes, as a `str` is shown.
 impl fmt::Debug for TokenText<'_> {
+    ghost debug_output = { λ t. debug_str (token_text t) };
+
     fn fmt<W: fmt::Write>(&self, f: &mut fmt::Formatter<W>) -> fmt::Result {
         let text = self.text;
         write!(f, "{text:?}")
