@@ -4,7 +4,9 @@ ghost use Rattle.std.specs.Cmp.Lexicographic.{slice_cmp};
 ghost use Rattle.lexical_grammar.specs.Tokens.{IsName};
 ghost use Rattle.apollo_tree.specs.References.{token_text};
 
-use crate::{Subtree, SyntaxElement, SyntaxKind, SyntaxNodePtr, TokenText, TreeBuilder};
+use crate::{
+    Subtree, SyntaxElement, SyntaxKind, SyntaxNode, SyntaxNodePtr, TokenText, TreeBuilder,
+};
 use std::alloc::{AllocError, Global};
 use std::cmp::Ordering;
 use std::test::Fail;
@@ -15,6 +17,7 @@ fn selection(alloc: Global, name: &str) -> Result<Subtree<Global>, AllocError>
 {
     let mut builder = TreeBuilder::new(alloc);
     builder.start_node(SyntaxKind::DOCUMENT)?;
+    builder.start_node(SyntaxKind::OPERATION_DEFINITION)?;
     builder.start_node(SyntaxKind::SELECTION_SET)?;
     builder.token(SyntaxKind::L_CURLY, "{")?;
     let field = builder.checkpoint();
@@ -26,22 +29,87 @@ fn selection(alloc: Global, name: &str) -> Result<Subtree<Global>, AllocError>
     builder.token(SyntaxKind::R_CURLY, "}")?;
     builder.finish_node();
     builder.finish_node();
+    builder.finish_node();
     Ok(builder.finish())
+}
+
+// The tree of `{ a }`, for the name `a`.
+fn spaced_selection(alloc: Global, name: &str) -> Result<Subtree<Global>, AllocError>
+    requires { IsName name.now }
+{
+    let mut builder = TreeBuilder::new(alloc);
+    builder.start_node(SyntaxKind::DOCUMENT)?;
+    builder.start_node(SyntaxKind::OPERATION_DEFINITION)?;
+    builder.start_node(SyntaxKind::SELECTION_SET)?;
+    builder.token(SyntaxKind::L_CURLY, "{")?;
+    builder.token(SyntaxKind::WHITESPACE, " ")?;
+    builder.start_node(SyntaxKind::FIELD)?;
+    builder.start_node(SyntaxKind::NAME)?;
+    builder.token(SyntaxKind::IDENT, name)?;
+    builder.finish_node();
+    builder.finish_node();
+    builder.token(SyntaxKind::WHITESPACE, " ")?;
+    builder.token(SyntaxKind::R_CURLY, "}")?;
+    builder.finish_node();
+    builder.finish_node();
+    builder.finish_node();
+    Ok(builder.finish())
+}
+
+// The tree of `{a,#c`, a line feed and `}`, for the name `a`.
+fn commented_selection(alloc: Global, name: &str) -> Result<Subtree<Global>, AllocError>
+    requires { IsName name.now }
+{
+    let mut builder = TreeBuilder::new(alloc);
+    builder.start_node(SyntaxKind::DOCUMENT)?;
+    builder.start_node(SyntaxKind::OPERATION_DEFINITION)?;
+    builder.start_node(SyntaxKind::SELECTION_SET)?;
+    builder.token(SyntaxKind::L_CURLY, "{")?;
+    builder.start_node(SyntaxKind::FIELD)?;
+    builder.start_node(SyntaxKind::NAME)?;
+    builder.token(SyntaxKind::IDENT, name)?;
+    builder.finish_node();
+    builder.finish_node();
+    builder.token(SyntaxKind::COMMA, ",")?;
+    builder.token(SyntaxKind::COMMENT, "#c")?;
+    builder.token(SyntaxKind::WHITESPACE, "\n")?;
+    builder.token(SyntaxKind::R_CURLY, "}")?;
+    builder.finish_node();
+    builder.finish_node();
+    builder.finish_node();
+    Ok(builder.finish())
+}
+
+// The SELECTION_SET of one of these trees.
+fn selection_set(tree: &Subtree<Global>) -> Option<SyntaxNode<'_>> {
+    tree.root().children().next()?.children().next()
+}
+
+// Its only FIELD.
+fn only_field(tree: &Subtree<Global>) -> Option<SyntaxNode<'_>> {
+    selection_set(tree)?.children().next()
 }
 
 #[test]
 fn a_tree_is_printed(rt: HostRuntime) -> Result<(), Fail> {
     let alloc = rt.alloc();
-    let tree = selection(alloc, "a")?;
+    let tree = commented_selection(alloc, "a")?;
     let printed = format!(in alloc; "{tree:?}")?;
     assert_eq!(rt;
         printed.as_str(),
-        "- DOCUMENT@0..3\n    - SELECTION_SET@0..3\n        - L_CURLY@0..1 \"{\"\n        - FIELD@1..2\n            - NAME@1..2\n                - IDENT@1..2 \"a\"\n        - R_CURLY@2..3 \"}\"\n"
+        "- DOCUMENT@0..7\n    - OPERATION_DEFINITION@0..7\n        - SELECTION_SET@0..7\n            - L_CURLY@0..1 \"{\"\n            - FIELD@1..2\n                - NAME@1..2\n                    - IDENT@1..2 \"a\"\n            - COMMA@2..3 \",\"\n            - COMMENT@3..5 \"#c\"\n            - WHITESPACE@5..6 \"\\n\"\n            - R_CURLY@6..7 \"}\"\n"
     );
     let copy = tree.try_clone(alloc)?;
     let copied = format!(in alloc; "{copy:?}")?;
     assert_eq!(rt; copied.as_str(), printed.as_str());
-    assert_eq!(rt; copy.element_count(), 7);
+    Ok(())
+}
+
+#[test]
+fn elements_are_counted(rt: HostRuntime) -> Result<(), Fail> {
+    let alloc = rt.alloc();
+    assert_eq!(rt; selection(alloc, "a")?.element_count(), 8);
+    assert_eq!(rt; commented_selection(alloc, "a")?.element_count(), 11);
     Ok(())
 }
 
@@ -50,8 +118,8 @@ fn a_node_knows_its_place(rt: HostRuntime) -> Result<(), Fail> {
     let alloc = rt.alloc();
     let tree = selection(alloc, "a")?;
     let root = tree.root();
-    let set = root.children().next().ok_or("a child node")?;
-    let field = set.children().next().ok_or("a child node")?;
+    let set = selection_set(&tree).ok_or("a selection set")?;
+    let field = only_field(&tree).ok_or("a field")?;
     assert!(rt; field.kind().is(SyntaxKind::FIELD));
     assert_eq!(rt;
         (
@@ -61,6 +129,10 @@ fn a_node_knows_its_place(rt: HostRuntime) -> Result<(), Fail> {
         ),
         (1, 2, 1)
     );
+    assert_eq!(rt;
+        format!(in alloc; "{:?}", field.text_range())?.as_str(),
+        "1..2"
+    );
     assert_eq!(rt; field.text(), "a");
     assert_eq!(rt; set.source_string(alloc)?.as_str(), "{a}");
     let leaf = field.first_token().ok_or("a leaf")?;
@@ -68,21 +140,41 @@ fn a_node_knows_its_place(rt: HostRuntime) -> Result<(), Fail> {
     assert_eq!(rt; (leaf.text(), leaf.text_range().start()), ("a", 1));
     let name = leaf.parent().ok_or("a parent")?;
     assert!(rt; name.kind().is(SyntaxKind::NAME));
-    assert!(rt; root.parent().is_none());
-    let found = SyntaxNodePtr::new(&name).to_node(&root).ok_or("the node")?;
-    assert_eq!(rt; found.index, name.index);
-    let own = format!(in alloc; "{:?}", field.clone_subtree(alloc)?)?;
-    assert_eq!(rt;
-        own.as_str(),
-        "- FIELD@0..1\n    - NAME@0..1\n        - IDENT@0..1 \"a\"\n"
+    assert!(rt;
+        name.parent()
+            .ok_or("a parent")?
+            .kind()
+            .is(SyntaxKind::FIELD)
     );
+    assert!(rt; root.parent().is_none());
+    Ok(())
+}
+
+#[test]
+fn a_subtree_counts_from_0(rt: HostRuntime) -> Result<(), Fail> {
+    let alloc = rt.alloc();
+    let tree = spaced_selection(alloc, "a")?;
+    let field = only_field(&tree).ok_or("a field")?;
+    assert_eq!(rt;
+        (field.text_range().start(), field.text_range().end()),
+        (2, 3)
+    );
+    let own = field.clone_subtree(alloc)?;
+    let root = own.root();
+    assert!(rt; root.kind().is(SyntaxKind::FIELD));
+    assert_eq!(rt;
+        (root.text_range().start(), root.text_range().end()),
+        (0, 1)
+    );
+    assert_eq!(rt; root.text(), "a");
+    assert!(rt; root.parent().is_none());
     Ok(())
 }
 
 #[test]
 fn children_come_in_order(rt: HostRuntime) -> Result<(), Fail> {
     let tree = selection(rt.alloc(), "a")?;
-    let set = tree.root().children().next().ok_or("a child node")?;
+    let set = selection_set(&tree).ok_or("a selection set")?;
     let mut children = set.children_with_tokens();
     let first = children.next().ok_or("a child")?;
     assert!(rt; first.kind().is(SyntaxKind::L_CURLY));
@@ -100,24 +192,14 @@ fn children_come_in_order(rt: HostRuntime) -> Result<(), Fail> {
 fn pointers_find_nodes_of_other_trees(rt: HostRuntime) -> Result<(), Fail> {
     let alloc = rt.alloc();
     let tree = selection(alloc, "a")?;
-    let leaf = tree.root().first_token().ok_or("a leaf")?;
-    let set = SyntaxNodePtr::new(&leaf.parent().ok_or("a parent")?);
-    let name = tree
-        .root()
-        .children()
-        .next()
-        .ok_or("a child")?
-        .children()
-        .next()
-        .ok_or("a field")?;
+    let pointer = SyntaxNodePtr::new(&only_field(&tree).ok_or("a field")?);
     let other = selection(alloc, "b")?;
-    let found = SyntaxNodePtr::new(&name)
-        .to_node(&other.root())
-        .ok_or("a node")?;
+    let found = pointer.to_node(&other.root()).ok_or("a field")?;
+    assert!(rt; found.kind().is(SyntaxKind::FIELD));
     assert_eq!(rt; found.text(), "b");
+    assert!(rt; SyntaxNodePtr::new(&found) == pointer);
     let longer = selection(alloc, "ab")?;
-    assert!(rt; SyntaxNodePtr::new(&name).to_node(&longer.root()).is_none());
-    assert!(rt; set.to_node(&longer.root()).is_none());
+    assert!(rt; pointer.to_node(&longer.root()).is_none());
     Ok(())
 }
 
