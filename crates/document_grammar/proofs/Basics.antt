@@ -6,7 +6,7 @@ use Rattle.std.proofs.lemmas.Nat.Bits.{bit_at_and, bit_at_or, bit_at-lt, bit_at-
 use Rattle.document_grammar.specs.Tree.{Tree, leaf, node, Forest, none, ◌▸◌, root}
 use Rattle.document_grammar.specs.Table.{State, state, rows}
 use Rattle.document_grammar.specs.Machine.{◌and◌, ◌or◌, holds, is_leaf, at, ends, exit, target, dead, state_ends, state_exit, has_in, target_in, finish, walk, Ok, OkFrom}
-use Rattle.document_grammar.proofs.Checks.{subset, disjoint, row_of, all_ends, exits, all_arcs, all_states, all_rows}
+use Rattle.document_grammar.proofs.Checks.{subset, disjoint, row_of, all_ends, exits, all_arcs, all_states, all_rows, all_below}
 
 pub false-true : {A : Type 0} {b : Bool} → b ≡ false → b ≡ true → A
 false-true e f = absurd (true≢false (sym f ∙ e))
@@ -56,6 +56,17 @@ either false = inr refl
 
 pub eqb-refl : (k : ℕ) → eqb k k ≡ true
 eqb-refl k = elim (either (eqb k k)) [ inl p ↦ p | inr p ↦ absurd (eqb-false k k p refl) ]
+
+-- A test that holds of each number below n.
+pub below-at : (t : ℕ → Bool) (n l : ℕ) → l < n → all_below n t ≡ true → t l ≡ true
+below-at t zero l h e = absurd (omega arith)
+below-at t (suc n) l h e = elim (either (eqb l n)) [
+  | inl p ↦ subst (λ (k : ℕ). t k ≡ true) (sym (eqb-true l n p)) (and-l _ _ e)
+  | inr p ↦ below-at t n l (lt-of-ne l n h (eqb-false l n p)) (and-r _ _ e)
+]
+  where
+    lt-of-ne : (l n : ℕ) → l < suc n → (l ≡ n → ⊥) → l < n
+    lt-of-ne l n h p = omega arith
 
 -- Equal lists.
 pub head-same : {A : Type 0} {a b : A} {v w : List A} → a ∷ v ≡ b ∷ w → a ≡ b

@@ -49,6 +49,10 @@ abbrev pub all_states : List State → (State → Bool) → Bool
 all_states [] t = true
 all_states (s ∷ more) t = t s and all_states more t
 
+abbrev pub all_below : ℕ → (ℕ → Bool) → Bool
+all_below zero t = true
+all_below (suc n) t = t n and all_below n t
+
 abbrev pub all_rows : ℕ → List (List State) → (ℕ → State → Bool) → Bool
 all_rows s [] t = true
 all_rows s (r ∷ more) t = all_states r (t s) and all_rows (suc s) more t
@@ -92,9 +96,8 @@ abbrev pub first_rows : ℕ → List (List State) → Bool
 first_rows s [] = true
 first_rows s (r ∷ more) = first_row s r and first_rows (suc s) more
 
-abbrev pub leaf_entries : ℕ → Bool
-leaf_entries zero = true
-leaf_entries (suc n) = all_entries (entries n) (λ x y a. a and eqb y 0) and leaf_entries n
+abbrev pub leaf_entry : ℕ → Bool
+leaf_entry l = all_entries (entries l) (λ x y a. a and eqb y 0)
 
 pub follow_checked : all_rows 60 rows follow_test ≡ true
 unfolding ◌and◌ ◌or◌ holds is_leaf at ends exit arcs entries rows firsts follows follow exits arcs_mask
@@ -112,7 +115,7 @@ pub first_checked : first_rows 60 rows ≡ true
 unfolding ◌and◌ ◌or◌ holds is_leaf at ends exit arcs entries rows firsts follows follow exits arcs_mask
 first_checked = refl
 
-pub leaf_checked : leaf_entries 60 ≡ true
+pub leaf_checked : all_below 60 leaf_entry ≡ true
 unfolding ◌and◌ ◌or◌ holds is_leaf at ends exit arcs entries rows firsts follows follow exits arcs_mask
 leaf_checked = refl
 

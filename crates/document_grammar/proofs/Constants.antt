@@ -9,8 +9,8 @@ use Rattle.document_grammar.specs.Table.{State, rows, firsts, name_leaves}
 use Rattle.document_grammar.specs.Labels.{paths, labels}
 use Rattle.document_grammar.specs.Machine.{◌and◌, ◌or◌, holds, is_leaf, at, ends, exit, arcs, has, target, target_in, state_arcs, opening, entries, fires, class, yield, yields, token, finish, walk, Ok, OkFrom, Path}
 use Rattle.document_grammar.specs.Derivation.{kinds, NameRule, NoVariable, NoVariables, Marked, ConstantDirectives, ConstantRule, Braced, NoBlock, LacksBlock, StartsWithSelections, IsQuery, BraceRule, Fits, AllFit, BareBy, Sort, document, selections, type, Derivation, Spells, Yield, Yields}
-use Rattle.document_grammar.proofs.Checks.{all_arcs, all_rows, exits}
-use Rattle.document_grammar.proofs.Basics.{false-true, and-l, and-r, or-c, or-r, not-c, either, implies, arcs-at, exits-at, row-test}
+use Rattle.document_grammar.proofs.Checks.{all_arcs, all_rows, exits, all_below}
+use Rattle.document_grammar.proofs.Basics.{false-true, and-l, and-r, or-c, or-r, not-c, either, implies, arcs-at, exits-at, row-test, below-at}
 use Rattle.document_grammar.proofs.Sound.{leaf-lt}
 use Rattle.document_grammar.proofs.Patterns.{all_kinds, label, shown, pattern_of, symbol_row}
 use Rattle.document_grammar.proofs.Show.{kinds-at, type-arc, type-child, type-root, type-end, show, shows, build, type_of, row-shown, show-root, shown-root}
@@ -327,23 +327,9 @@ path-fits s p q (t ▸ f) l o = (ok-fits t o.1 (inner-arc s p (root t) l o.0), p
 abbrev token_test : ℕ → Bool
 token_test l = eqb l 0 or (eqb (cond (ltb 21 (label l)) 18 (label l)) (cond (holds l name_leaves) 18 l) and not (ltb (label l) 3))
 
-abbrev token_tests : ℕ → Bool
-token_tests zero = true
-token_tests (suc n) = token_test n and token_tests n
-
-tokens-checked : token_tests 60 ≡ true
+tokens-checked : all_below 60 token_test ≡ true
 unfolding label labels holds ◌and◌ ◌or◌
 tokens-checked = refl
-
-token-at : (n l : ℕ) → l < n → token_tests n ≡ true → token_test l ≡ true
-token-at zero l h e = absurd (omega arith)
-token-at (suc n) l h e = elim (either (eqb l n)) [
-  | inl p ↦ subst (λ (k : ℕ). token_test k ≡ true) (sym (eqb-true l n p)) (and-l _ _ e)
-  | inr p ↦ token-at n l (lt-of-ne l n h (eqb-false l n p)) (and-r _ _ e)
-]
-  where
-    lt-of-ne : (l n : ℕ) → l < suc n → (l ≡ n → ⊥) → l < n
-    lt-of-ne l n h p = omega arith
 
 -- No tree has a leaf of the number 0.
 no-zero : (l : ℕ) (b : ℕ) → fires l b 0 ≡ true → l ≡ 0 → ⊥
@@ -352,7 +338,7 @@ no-zero l b h e = true≢false (sym (rw e at h))
 
 leaf-yield : (l : ℕ) (x : Text) → Ok (leaf l x) → Yield (leaf (label l) x) ≡ token l x ∷ []
 unfolding token
-leaf-yield l x o = elim (or-c _ _ (token-at 60 l (leaf-lt l o.0) tokens-checked)) [
+leaf-yield l x o = elim (or-c _ _ (below-at token_test 60 l (leaf-lt l o.0) tokens-checked)) [
   | inl p ↦ absurd (no-zero l (class (token l x)) o.1 (eqb-true l 0 p))
   | inr p ↦ rw (not-c _ (and-r _ _ p)) (ap (λ (n : ℕ). (n, x) ∷ []) (eqb-true _ _ (and-l _ _ p)))
 ]

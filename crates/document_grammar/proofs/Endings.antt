@@ -3,7 +3,7 @@ use Rattle.std.proofs.Common.{◌≡◌, ℕ, zero, suc, ◌+◌, ◌-◌, ◌^�
 use Rattle.document_grammar.specs.Tree.{Text, Tree, leaf, node, Forest, none, ◌▸◌, root}
 use Rattle.document_grammar.specs.Table.{State, rows, firsts, name_leaves, name_classes, endings, spellings}
 use Rattle.document_grammar.specs.Machine.{◌and◌, ◌or◌, holds, is_leaf, at, ends, exit, arcs, has, target, entries, fires, class, token, state_arcs, finish, text_eq}
-use Rattle.document_grammar.proofs.Checks.{subset, exits, all_arcs, all_entries, all_rows}
+use Rattle.document_grammar.proofs.Checks.{subset, exits, all_arcs, all_entries, all_rows, all_below}
 use Rattle.document_grammar.specs.Kinds.{words}
 
 abbrev plant : (ℕ → Tree) → List ℕ → Forest
@@ -53,15 +53,11 @@ fill_checked = refl
 abbrev pub leaf_test : ℕ → Bool
 leaf_test l = all_entries (entries l) (λ x y a. cond (holds l name_leaves) (subset x name_classes) (eqb x (2 ^ l) and not (holds l name_classes) and not (eqb l 3)))
 
-abbrev pub leaf_tests : ℕ → Bool
-leaf_tests zero = true
-leaf_tests (suc n) = leaf_test n and leaf_tests n
-
 abbrev pub word_tests : List (ℕ × Text) → Bool
 word_tests [] = true
 word_tests (w ∷ more) = holds w.0 name_classes and word_tests more
 
-pub leaf_classes_checked : leaf_tests 60 ≡ true
+pub leaf_classes_checked : all_below 60 leaf_test ≡ true
 unfolding ◌and◌ ◌or◌ holds is_leaf entries firsts
 leaf_classes_checked = refl
 

@@ -4,8 +4,8 @@ use Rattle.std.proofs.lemmas.Bool.{eqb-false}
 use Rattle.document_grammar.specs.Tree.{Text, Token, Tree, leaf, node, Forest, none, ◌▸◌, root}
 use Rattle.document_grammar.specs.Table.{State, Entry, entry, rows}
 use Rattle.document_grammar.specs.Machine.{◌and◌, ◌or◌, holds, is_leaf, at, ends, exit, arcs, has, target, entries, fires, fires_in, has_in, target_in, choose, go, close, move, class, first, second, token, yield, yields, finish, walk, Ok, OkFrom, Run, RunFrom}
-use Rattle.document_grammar.proofs.Checks.{subset, disjoint, entries_mask, arcs_mask, follow, exits, all_arcs, all_entries, any_entries, state_begins, follow_test, close_test, clear, differ, choice_arcs, choice_test, covered, first_arcs, first_row, first_rows, leaf_entries, follow_checked, close_checked, choice_checked, first_checked, leaf_checked, start_row, start_rows, start_checked}
-use Rattle.document_grammar.proofs.Basics.{false-true, and-l, and-r, and-i, or-c, or-l, or-r, implies, not-c, either, holds-subset, holds-disjoint, holds-or, arcs-at, row-test, exits-at, node-sum}
+use Rattle.document_grammar.proofs.Checks.{subset, disjoint, entries_mask, arcs_mask, follow, exits, all_arcs, all_entries, any_entries, state_begins, follow_test, close_test, clear, differ, choice_arcs, choice_test, covered, first_arcs, first_row, first_rows, leaf_entry, follow_checked, close_checked, choice_checked, first_checked, leaf_checked, start_row, start_rows, start_checked}
+use Rattle.document_grammar.proofs.Basics.{false-true, and-l, and-r, and-i, or-c, or-l, or-r, implies, not-c, either, holds-subset, holds-disjoint, holds-or, arcs-at, row-test, exits-at, node-sum, below-at}
 
 -- The second token of a list fits an entry.
 abbrev second_fits : Bool → ℕ → List Token → Bool
@@ -32,16 +32,6 @@ arc-begins (c ∷ more) k a h i = elim (or-c (eqb c.0 k) (has_in more k) h) [
 ]
 
 -- Leaves.
-lt-of-ne : (l n : ℕ) → l < suc n → (l ≡ n → ⊥) → l < n
-lt-of-ne l n h p = omega arith
-
-pub leaf-at : (n l : ℕ) → l < n → leaf_entries n ≡ true → all_entries (entries l) (λ x y a. a and eqb y 0) ≡ true
-leaf-at zero l h e = absurd (omega arith)
-leaf-at (suc n) l h e = elim (either (eqb l n)) [
-  | inl p ↦ subst (λ (k : ℕ). all_entries (entries k) (λ x y a. a and eqb y 0) ≡ true) (sym (eqb-true l n p)) (and-l _ _ e)
-  | inr p ↦ leaf-at n l (lt-of-ne l n h (eqb-false l n p)) (and-r _ _ e)
-]
-
 leaf-starts : (es : List Entry) (a b : ℕ) → all_entries es (λ x y a. a and eqb y 0) ≡ true → fires_in es a b ≡ true → starts_in es a [] ≡ true
 leaf-starts [] a b t h = h
 leaf-starts (entry x y alone ∷ more) a b t h = elim (or-c (holds a x and (alone or holds b y)) (fires_in more a b) h) [
@@ -103,7 +93,7 @@ Begun t = (a : Token) × (y : List Token) × (yield t ≡ a ∷ y) × (starts_in
 
 leaf-begun : (l : ℕ) (x : Text) → Ok (leaf l x) → Begun (leaf l x)
 unfolding fires is_leaf
-leaf-begun l x o = (token l x, [], refl, leaf-starts (entries l) (class (token l x)) 0 (leaf-at 60 l (ltb-true _ _ o.0) leaf_checked) o.1)
+leaf-begun l x o = (token l x, [], refl, leaf-starts (entries l) (class (token l x)) 0 (below-at leaf_entry 60 l (ltb-true _ _ o.0) leaf_checked) o.1)
 
 node-begun : (s : ℕ) (t : Tree) (g : Forest) → is_leaf s ≡ false → has s 0 (root t) ≡ true → Ok t → Begun t
     → TailOk s (target s 0 (root t) + finish t) (yields g) → Begun (node s (t ▸ g))

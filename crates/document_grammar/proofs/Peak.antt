@@ -7,10 +7,11 @@ use Rattle.document_grammar.specs.Labels.{labels}
 use Rattle.document_grammar.specs.Pattern.{member}
 use Rattle.document_grammar.specs.Machine.{◌and◌, is_leaf, Frame, frame}
 use Rattle.document_grammar.specs.Kinds.{DOCUMENT, SELECTION_SET, LIST_TYPE, LIST_VALUE, OBJECT_FIELD, Values}
-use Rattle.document_grammar.proofs.Basics.{and-l, and-r, not-c, either}
+use Rattle.document_grammar.proofs.Basics.{and-l, and-r, not-c, either, below-at}
 use Rattle.document_grammar.proofs.Sound.{leaf-lt}
 use Rattle.document_grammar.proofs.Patterns.{label}
 use Rattle.document_grammar.proofs.Depth.{cond-zero, count_in, nesting, nestings, nesting_all, depth_above}
+use Rattle.document_grammar.proofs.Checks.{all_below}
 
 -- The counted nodes on a path of the tree that the open nodes would be if they ended here, over a child whose own part is `m`.
 abbrev pub count_on : List Frame → ℕ → ℕ
@@ -69,27 +70,13 @@ peak-close s q p k o f g fs =
 abbrev leaf_count : ℕ → Bool
 leaf_count l = not (member (label l) (SELECTION_SET ∷ LIST_TYPE ∷ [])) and not (member (label l) Values)
 
-abbrev leaf_counts : ℕ → Bool
-leaf_counts zero = true
-leaf_counts (suc n) = leaf_count n and leaf_counts n
-
-leaf-counts-checked : leaf_counts 60 ≡ true
+leaf-counts-checked : all_below 60 leaf_count ≡ true
 unfolding ◌and◌ label labels member
 leaf-counts-checked = refl
 
-leaf-count-at : (n l : ℕ) → l < n → leaf_counts n ≡ true → leaf_count l ≡ true
-leaf-count-at zero l h e = absurd (omega arith)
-leaf-count-at (suc n) l h e = elim (either (eqb l n)) [
-  | inl p ↦ subst (λ (k : ℕ). leaf_count k ≡ true) (sym (eqb-true l n p)) (and-l _ _ e)
-  | inr p ↦ leaf-count-at n l (lt-of-ne l n h (eqb-false l n p)) (and-r _ _ e)
-]
-  where
-    lt-of-ne : (l n : ℕ) → l < suc n → (l ≡ n → ⊥) → l < n
-    lt-of-ne l n h p = omega arith
-
 leaf-counts-none : (s l : ℕ) → is_leaf l ≡ true → count_in s l ≡ 0
 leaf-counts-none s l i =
-    let c = leaf-count-at 60 l (leaf-lt l i) leaf-counts-checked in
+    let c = below-at leaf_count 60 l (leaf-lt l i) leaf-counts-checked in
     rw (not-c _ (and-l _ _ c), not-c _ (and-r _ _ c)) (cond-zero (member (label s) (LIST_VALUE ∷ OBJECT_FIELD ∷ [])))
 
 pub peak-shift : (s q p l : ℕ) (x : Text) (f : Forest) (fs : List Frame) → is_leaf l ≡ true

@@ -9,8 +9,8 @@ use Rattle.document_grammar.specs.Table.{State, rows, firsts, name_leaves, token
 use Rattle.document_grammar.specs.Labels.{paths, labels}
 use Rattle.document_grammar.specs.Machine.{◌and◌, ◌or◌, holds, is_leaf, at, ends, exit, arcs, has, has_in, target, target_in, entries, fires, class, word_class, text_eq, token, dead, state_arcs, state_exit, finish, walk, Ok, OkFrom}
 use Rattle.document_grammar.specs.Derivation.{kinds, text, texts, Listed, LeafRule, NameRule, on_text, true_text, false_text, null_text, NoVariable, NoVariables, Marked, ConstantDirectives, ConstantRule, Braced, NoBlock, LacksBlock, StartsWithSelections, NotBefore, BraceRule, IsQuery, Fits, AllFit, BareBy, Sort, document, selections, type, Derivation}
-use Rattle.document_grammar.proofs.Checks.{all_arcs, all_rows, exits}
-use Rattle.document_grammar.proofs.Basics.{false-true, and-l, and-r, or-c, or-l, or-r, not-c, either, implies, arcs-at, exits-at, row-test, head-same, tail-same, no-cons, eqb-refl}
+use Rattle.document_grammar.proofs.Checks.{all_arcs, all_rows, exits, all_below}
+use Rattle.document_grammar.proofs.Basics.{false-true, and-l, and-r, or-c, or-l, or-r, not-c, either, implies, arcs-at, exits-at, row-test, head-same, tail-same, no-cons, eqb-refl, below-at}
 use Rattle.document_grammar.proofs.Endings.{ending, fillable}
 use Rattle.document_grammar.proofs.Sound.{leaf-lt, fill-after, fill-start, fillable-ok}
 use Rattle.document_grammar.proofs.Patterns.{deriv, pattern_of, symbol_row, type_row, label, shown, all_kinds, any_arcs, constant, begin_kinds, agree_at, nullable-to, to-deriv, first-kind}
@@ -150,23 +150,9 @@ word-at (w ∷ more) t x h d = elim (either (text_eq w.1 x)) [
 abbrev leaf_read : ℕ → Bool
 leaf_read k = eqb k 0 or eqb k 3 or cond (holds k name_leaves) ((ltb 21 k and fires k k 0 and eqb (label k) k) or (eqb k 18 or (eqb k 1 or eqb k 2))) (not (eqb k 18) and holds k token_kinds and fires k k 0)
 
-abbrev leaf_reads : ℕ → Bool
-leaf_reads zero = true
-leaf_reads (suc n) = leaf_read n and leaf_reads n
-
-leaf-reads-checked : leaf_reads 60 ≡ true
+leaf-reads-checked : all_below 60 leaf_read ≡ true
 unfolding ◌and◌ ◌or◌ holds label labels fires entries firsts
 leaf-reads-checked = refl
-
-leaf-read-at : (n l : ℕ) → l < n → leaf_reads n ≡ true → leaf_read l ≡ true
-leaf-read-at zero l h e = absurd (omega arith)
-leaf-read-at (suc n) l h e = elim (either (eqb l n)) [
-  | inl p ↦ subst (λ (k : ℕ). leaf_read k ≡ true) (sym (eqb-true l n p)) (and-l _ _ e)
-  | inr p ↦ leaf-read-at n l (lt-of-ne l n h (eqb-false l n p)) (and-r _ _ e)
-]
-  where
-    lt-of-ne : (l n : ℕ) → l < suc n → (l ≡ n → ⊥) → l < n
-    lt-of-ne l n h p = omega arith
 
 keywords-checked : all_words words (λ k y. eqb (word_class words y) k) ≡ true
 unfolding ◌and◌ words
@@ -242,7 +228,7 @@ keyword-fires k x r p =
 
 leaf-fires : (k : ℕ) (x : Text) → is_leaf k ≡ true → (eqb k 0 or eqb k 3) ≡ false → LeafRule (label k) x → (fname k ≡ true → x ≢ on_text)
     → (ename k ≡ true → NoWord x) → fires k (class (token k x)) 0 ≡ true
-leaf-fires k x l n r fn en = elim (or-c _ _ (leaf-read-at 60 k (leaf-lt k l) leaf-reads-checked)) [
+leaf-fires k x l n r fn en = elim (or-c _ _ (below-at leaf_read 60 k (leaf-lt k l) leaf-reads-checked)) [
   | inl p ↦ false-true n p
   | inr c ↦ elim (either (holds k name_leaves)) [
     | inl h ↦ (let c' : (ltb 21 k and fires k k 0 and eqb (label k) k) or (eqb k 18 or (eqb k 1 or eqb k 2)) ≡ true = rw h at c in
@@ -342,32 +328,18 @@ read-end s q a m = (none, agree-end-from s q a (nullable-to (pattern_of s q) m),
 abbrev number_test : ℕ → Bool
 number_test n = cond (is_leaf n) (ltb (label n) 60) (ltb 59 (label n))
 
-abbrev number_tests : ℕ → Bool
-number_tests zero = true
-number_tests (suc n) = number_test n and number_tests n
-
-numbers-checked : number_tests 131 ≡ true
+numbers-checked : all_below 131 number_test ≡ true
 unfolding ◌and◌ label labels is_leaf
 numbers-checked = refl
-
-number-at : (n l : ℕ) → l < n → number_tests n ≡ true → number_test l ≡ true
-number-at zero l h e = absurd (omega arith)
-number-at (suc n) l h e = elim (either (eqb l n)) [
-  | inl p ↦ subst (λ (k : ℕ). number_test k ≡ true) (sym (eqb-true l n p)) (and-l _ _ e)
-  | inr p ↦ number-at n l (lt-of-ne l n h (eqb-false l n p)) (and-r _ _ e)
-]
-  where
-    lt-of-ne : (l n : ℕ) → l < suc n → (l ≡ n → ⊥) → l < n
-    lt-of-ne l n h p = omega arith
 
 below-bare_selections : (k : ℕ) → eqb k 0 or eqb k 3 or ltb 130 k ≡ false → k < 131
 below-bare_selections k h = let e : ltb 130 k ≡ false = or-false-r _ _ h in let l : k ≤ 130 = ltb-false 130 k e in omega arith
 
 label-node : (k : ℕ) → k < 131 → is_leaf k ≡ false → 59 < label k
-label-node k h l = ltb-true _ _ (rw l at (number-at 131 k h numbers-checked))
+label-node k h l = ltb-true _ _ (rw l at (below-at number_test 131 k h numbers-checked))
 
 label-leaf : (k : ℕ) → k < 131 → is_leaf k ≡ true → label k < 60
-label-leaf k h l = ltb-true _ _ (rw l at (number-at 131 k h numbers-checked))
+label-leaf k h l = ltb-true _ _ (rw l at (below-at number_test 131 k h numbers-checked))
 
 abbrev all_nodes : List (ℕ × Pattern) → Bool
 all_nodes [] = true

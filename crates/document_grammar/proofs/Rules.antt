@@ -8,8 +8,8 @@ use Rattle.document_grammar.specs.Table.{rows, firsts, name_leaves}
 use Rattle.document_grammar.specs.Labels.{paths, labels}
 use Rattle.document_grammar.specs.Machine.{◌and◌, ◌or◌, holds, is_leaf, at, arcs, has, entries, fires, class, word_class, text_eq, token, Ok, OkFrom}
 use Rattle.document_grammar.specs.Derivation.{kinds, text, texts, Listed, LeafRule, NameRule, on_text, true_text, false_text, null_text}
-use Rattle.document_grammar.proofs.Checks.{all_entries}
-use Rattle.document_grammar.proofs.Basics.{false-true, and-l, and-r, or-c, either, implies, tail-same, no-cons}
+use Rattle.document_grammar.proofs.Checks.{all_entries, all_below}
+use Rattle.document_grammar.proofs.Basics.{false-true, and-l, and-r, or-c, either, implies, tail-same, no-cons, below-at}
 use Rattle.document_grammar.proofs.Sound.{fired, holds-one, leaf-lt}
 use Rattle.document_grammar.proofs.Patterns.{derive_all, pattern_of, symbol_row, label}
 use Rattle.document_grammar.proofs.Show.{show, shows, row-shown, show-root}
@@ -102,23 +102,9 @@ listed (w ∷ more) l x e n = elim (either (text_eq w.1 x)) [
 abbrev keyword_test : ℕ → Bool
 keyword_test l = not (ltb 21 (label l)) or (eqb (label l) l and holds l name_leaves and all_entries (entries l) (λ x y a. eqb x (2 ^ l)))
 
-abbrev keyword_tests : ℕ → Bool
-keyword_tests zero = true
-keyword_tests (suc n) = keyword_test n and keyword_tests n
-
-keywords-checked : keyword_tests 60 ≡ true
+keywords-checked : all_below 60 keyword_test ≡ true
 unfolding ◌and◌ ◌or◌ holds label labels entries firsts
 keywords-checked = refl
-
-keyword-at : (n l : ℕ) → l < n → keyword_tests n ≡ true → keyword_test l ≡ true
-keyword-at zero l h e = absurd (omega arith)
-keyword-at (suc n) l h e = elim (either (eqb l n)) [
-  | inl p ↦ subst (λ (k : ℕ). keyword_test k ≡ true) (sym (eqb-true l n p)) (and-l _ _ e)
-  | inr p ↦ keyword-at n l (lt-of-ne l n h (eqb-false l n p)) (and-r _ _ e)
-]
-  where
-    lt-of-ne : (l n : ℕ) → l < suc n → (l ≡ n → ⊥) → l < n
-    lt-of-ne l n h p = omega arith
 
 pub keyword-class : (l : ℕ) (x : Text) → holds l name_leaves ≡ true → class (token l x) ≡ word_class words x
 unfolding class token
@@ -130,7 +116,7 @@ above-string l h e = omega arith
 pub leaf-rule : (l : ℕ) (x : Text) → Ok (leaf l x) → LeafRule (label l) x
 unfolding fires
 leaf-rule l x o h =
-    let c = implies _ _ (keyword-at 60 l (leaf-lt l o.0) keywords-checked) (lt-ltb _ _ h) in
+    let c = implies _ _ (below-at keyword_test 60 l (leaf-lt l o.0) keywords-checked) (lt-ltb _ _ h) in
     let e : label l ≡ l = eqb-true _ _ (and-l _ _ (and-l _ _ c)) in
     let d = fired (entries l) (λ x. eqb x (2 ^ l)) (class (token l x)) 0 (and-r _ _ c) o.1 in
     let k : class (token l x) ≡ l = holds-one (class (token l x)) l (rw (eqb-true _ _ d.1) at d.2) in

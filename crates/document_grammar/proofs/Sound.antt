@@ -6,11 +6,10 @@ use Rattle.std.proofs.lemmas.Nat.Bits.{bit_at-pow_other}
 use Rattle.document_grammar.specs.Tree.{Text, Token, Tree, leaf, node, Forest, none, ◌▸◌, ◌+++◌, root}
 use Rattle.document_grammar.specs.Table.{Entry, entry, name_leaves, name_classes, token_kinds}
 use Rattle.document_grammar.specs.Machine.{◌and◌, ◌or◌, holds, is_leaf, ends, exit, arcs, has, target, entries, fires, fires_in, has_in, choose, go, close, move, class, word_class, text_eq, first, second, token, yield, yields, finish, walk, Ok, OkFrom, Path, Frame, frame, Reach, start, shift, open', closed}
-use Rattle.document_grammar.proofs.Checks.{subset, exits, all_arcs, all_entries, leaf_checked}
-use Rattle.document_grammar.proofs.Basics.{false-true, and-l, and-r, and-i, or-c, or-l, or-r, not-c, either, holds-subset, holds-disjoint, arcs-at, row-test, exits-at, eqb-refl}
+use Rattle.document_grammar.proofs.Checks.{subset, exits, all_arcs, all_entries, leaf_checked, leaf_entry}
+use Rattle.document_grammar.proofs.Basics.{false-true, and-l, and-r, and-i, or-c, or-l, or-r, not-c, either, holds-subset, holds-disjoint, arcs-at, row-test, exits-at, eqb-refl, below-at}
 use Rattle.document_grammar.proofs.Run.{go-close, go-stuck, close-stuck, go-inj, forest-none}
-use Rattle.document_grammar.proofs.Ll.{leaf-at}
-use Rattle.document_grammar.proofs.Endings.{ending, okb, okb_from, fillable, fill_test, fill_checked, leaf_test, leaf_tests, leaf_classes_checked, word_tests, words_checked, spell, spelt, spelt_all}
+use Rattle.document_grammar.proofs.Endings.{ending, okb, okb_from, fillable, fill_test, fill_checked, leaf_test, leaf_classes_checked, word_tests, words_checked, spell, spelt, spelt_all}
 use Rattle.document_grammar.specs.Kinds.{words}
 
 -- What a move says of the row.
@@ -43,16 +42,6 @@ unfolding move
 move-ends s q a b h = choose-ends (arcs s q) (ends s q) a b h
 
 -- The token of a leaf.
-pub leaf-test-at : (n l : ℕ) → l < n → leaf_tests n ≡ true → leaf_test l ≡ true
-leaf-test-at zero l h e = absurd (omega arith)
-leaf-test-at (suc n) l h e = elim (either (eqb l n)) [
-  | inl p ↦ subst (λ (k : ℕ). leaf_test k ≡ true) (sym (eqb-true l n p)) (and-l _ _ e)
-  | inr p ↦ leaf-test-at n l (lt-of-ne l n h (eqb-false l n p)) (and-r _ _ e)
-]
-  where
-    lt-of-ne : (l n : ℕ) → l < suc n → (l ≡ n → ⊥) → l < n
-    lt-of-ne l n h p = omega arith
-
 pub leaf-lt : (l : ℕ) → is_leaf l ≡ true → l < 60
 unfolding is_leaf
 leaf-lt l h = ltb-true _ _ h
@@ -119,7 +108,7 @@ leaf-kind l a false x n t h =
 pub leaf-token : (l b : ℕ) (a : Token) → is_leaf l ≡ true → fires l (class a) b ≡ true → token l a.1 ≡ a
 unfolding token fires
 leaf-token l b a i f =
-    let c = fired (entries l) (λ x. cond (holds l name_leaves) (subset x name_classes) (eqb x (2 ^ l) and not (holds l name_classes) and not (eqb l 3))) (class a) b (leaf-test-at 60 l (leaf-lt l i) leaf_classes_checked) f in
+    let c = fired (entries l) (λ x. cond (holds l name_leaves) (subset x name_classes) (eqb x (2 ^ l) and not (holds l name_classes) and not (eqb l 3))) (class a) b (below-at leaf_test 60 l (leaf-lt l i) leaf_classes_checked) f in
     ap (λ (n : ℕ). (n, a.1)) (leaf-kind l a (holds l name_leaves) c.0 refl c.1 c.2)
 
 -- A leaf's entries don't ask for a second token.
@@ -132,7 +121,7 @@ fires-alone (entry x y alone ∷ more) a b b' t h = elim (or-c _ _ h) [
 
 pub leaf-ok : (l b : ℕ) (a : Token) → is_leaf l ≡ true → fires l (class a) b ≡ true → Ok (leaf l a.1)
 unfolding fires
-leaf-ok l b a i f = (i, rw (leaf-token l b a i f) (fires-alone (entries l) (class a) b 0 (leaf-at 60 l (leaf-lt l i) leaf_checked) f))
+leaf-ok l b a i f = (i, rw (leaf-token l b a i f) (fires-alone (entries l) (class a) b 0 (below-at leaf_entry 60 l (leaf-lt l i) leaf_checked) f))
 
 -- Paths.
 pub path-snoc : (s p q : ℕ) (f : Forest) (t : Tree) → Path s p f q → has s q (root t) ≡ true → Ok t
