@@ -584,8 +584,9 @@ type-facts : (is_leaf TYPE ≡ false) × (constant TYPE ≡ false) × (member (l
 unfolding is_leaf constant label labels member ◌or◌ ◌and◌ ends at rows fillable ending endings spellings has target arcs exit fires entries firsts holds class token words
 type-facts = (refl, refl, refl, refl, refl, refl, refl)
 
-type-kids : (f : Forest) → Kids TYPE f
-type-kids f = ((λ e. false-true type-facts.1 e), (λ e. false-true type-facts.2 e), (λ e. false-true type-facts.3 e), (λ e. false-true type-facts.4 e))
+-- A node that asks nothing of its children.
+plain-kids : (s : ℕ) (f : Forest) → constant s ≡ false → member (label s) Marked ≡ false → fparent s ≡ false → eparent s ≡ false → Kids s f
+plain-kids s f c m p q = ((λ e. false-true c e), (λ e. false-true m e), (λ e. false-true p e), (λ e. false-true q e))
 
 type-pattern : pattern_of TYPE 0 ≡ type_row
 unfolding pattern_of symbol_row label labels Row paths
@@ -652,7 +653,7 @@ type-read j f h m rf = elim (shown-types j m) [
   | inl x ↦ (let p = type-plain j x in wrap j (node j f) x (node-read j j f p.0 p.1 p.2 h (type-cond j f x) rf))
   | inr x ↦ (let r = row-non_null_type (kinds f) (subst (λ (n : ℕ). Matches (Row n) (kinds f)) x h.0) in
       let m' : Matches (pattern_of TYPE 0) (kinds f) = subst (λ (p : Pattern). Matches p (kinds f)) (sym type-pattern) r.0 in
-      let g = rf TYPE 0 type-facts.0 refl m' (agree TYPE 0 type-facts.0 (fill-live TYPE 0 type-facts.6)) (type-kids f) in
+      let g = rf TYPE 0 type-facts.0 refl m' (agree TYPE 0 type-facts.0 (fill-live TYPE 0 type-facts.6)) (plain-kids TYPE f type-facts.1 type-facts.2 type-facts.3 type-facts.4) in
       (node TYPE g.0, (type-facts.0, g.1), refl, ap type_of g.2 ∙ (type-two f r.1.0 r.1.1 r.1.2 ∙ ap (λ (n : ℕ). node n f) (sym x))))
 ]
 
@@ -750,9 +751,6 @@ bare-facts : (is_leaf BARE_SELECTIONS ≡ false) × (constant BARE_SELECTIONS �
 unfolding is_leaf constant label labels member ◌or◌ ◌and◌ ends at rows fillable ending endings spellings has target arcs exit fires entries firsts holds class token words
 bare-facts = (refl, refl, refl, refl, refl, refl, refl)
 
-bare-kids : (f : Forest) → Kids BARE_SELECTIONS f
-bare-kids f = ((λ e. false-true bare-facts.1 e), (λ e. false-true bare-facts.2 e), (λ e. false-true bare-facts.3 e), (λ e. false-true bare-facts.4 e))
-
 bare-start : pattern_of BARE_SELECTIONS 0 ≡ bare_selections
 unfolding pattern_of symbol_row label labels Row paths
 bare-start = refl
@@ -761,7 +759,7 @@ bare-read : (t : Tree) → root t ≡ SELECTION_SET → BareBy Row t → Read BA
 bare-read (leaf j x) e h = absurd h
 bare-read (node j f) e h =
     let m : Matches (pattern_of BARE_SELECTIONS 0) (kinds f) = subst (λ (p : Pattern). Matches p (kinds f)) (sym bare-start) h.0 in
-    let g = read-forest f BARE_SELECTIONS 0 bare-facts.0 refl m (agree BARE_SELECTIONS 0 bare-facts.0 (fill-live BARE_SELECTIONS 0 bare-facts.5)) (bare-kids f) h.1 in
+    let g = read-forest f BARE_SELECTIONS 0 bare-facts.0 refl m (agree BARE_SELECTIONS 0 bare-facts.0 (fill-live BARE_SELECTIONS 0 bare-facts.5)) (plain-kids BARE_SELECTIONS f bare-facts.1 bare-facts.2 bare-facts.3 bare-facts.4) h.1 in
     (node BARE_SELECTIONS g.0, (bare-facts.0, g.1), refl, show-root BARE_SELECTIONS g.0 refl ∙ ap₂ node (bare-facts.6 ∙ sym e) g.2)
 
 -- The symbols as which a derivation of the sort may be read.

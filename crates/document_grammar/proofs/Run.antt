@@ -10,7 +10,7 @@ is_go (go k) = true
 is_go close = false
 is_go stuck = false
 
-abbrev is_stuck : Move → Bool
+abbrev pub is_stuck : Move → Bool
 is_stuck (go k) = false
 is_stuck close = false
 is_stuck stuck = true

@@ -5,7 +5,7 @@ use Rattle.document_grammar.specs.Tree.{Token, Tree, leaf, node, Forest, none, �
 use Rattle.document_grammar.specs.Derivation.{Sort, Spells, Starts}
 use Rattle.document_grammar.specs.Machine.{◌or◌, is_leaf, exit, target, Move, go, close, stuck, first, yields, Frame, frame, Reach, start, shift, open', closed}
 use Rattle.document_grammar.proofs.Basics.{either, or-c}
-use Rattle.document_grammar.proofs.Run.{next}
+use Rattle.document_grammar.proofs.Run.{is_stuck, next}
 use Rattle.document_grammar.proofs.Show.{show}
 use Rattle.document_grammar.proofs.Sound.{reach-sound}
 use Rattle.document_grammar.proofs.Theory.{fault, no-leaf}
@@ -71,11 +71,6 @@ abbrev is_close : Move → Bool
 is_close (go k) = false
 is_close close = true
 is_close stuck = false
-
-abbrev is_stuck : Move → Bool
-is_stuck (go k) = false
-is_stuck close = false
-is_stuck stuck = true
 
 is-close : (m : Move) → is_close m ≡ true → m ≡ close
 is-close (go k) h = absurd (true≢false (sym h))
