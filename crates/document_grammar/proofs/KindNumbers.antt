@@ -133,133 +133,9 @@ all_kinds =
     ∷ kind.INPUT_OBJECT_TYPE_EXTENSION
     ∷ []
 
-numbers-named : map number all_kinds ≡
-    WHITESPACE
-    ∷ COMMENT
-    ∷ COMMA
-    ∷ ERROR
-    ∷ BANG
-    ∷ DOLLAR
-    ∷ AMP
-    ∷ SPREAD
-    ∷ COLON
-    ∷ EQ
-    ∷ AT
-    ∷ L_PAREN
-    ∷ R_PAREN
-    ∷ L_BRACK
-    ∷ R_BRACK
-    ∷ L_CURLY
-    ∷ R_CURLY
-    ∷ PIPE
-    ∷ IDENT
-    ∷ INT
-    ∷ FLOAT
-    ∷ STRING
-    ∷ query_KW
-    ∷ mutation_KW
-    ∷ subscription_KW
-    ∷ fragment_KW
-    ∷ on_KW
-    ∷ true_KW
-    ∷ false_KW
-    ∷ null_KW
-    ∷ extend_KW
-    ∷ schema_KW
-    ∷ scalar_KW
-    ∷ type_KW
-    ∷ interface_KW
-    ∷ union_KW
-    ∷ enum_KW
-    ∷ input_KW
-    ∷ directive_KW
-    ∷ implements_KW
-    ∷ repeatable_KW
-    ∷ QUERY_KW
-    ∷ MUTATION_KW
-    ∷ SUBSCRIPTION_KW
-    ∷ FIELD_KW
-    ∷ FRAGMENT_DEFINITION_KW
-    ∷ FRAGMENT_SPREAD_KW
-    ∷ INLINE_FRAGMENT_KW
-    ∷ VARIABLE_DEFINITION_KW
-    ∷ SCHEMA_KW
-    ∷ SCALAR_KW
-    ∷ OBJECT_KW
-    ∷ FIELD_DEFINITION_KW
-    ∷ ARGUMENT_DEFINITION_KW
-    ∷ INTERFACE_KW
-    ∷ UNION_KW
-    ∷ ENUM_KW
-    ∷ ENUM_VALUE_KW
-    ∷ INPUT_OBJECT_KW
-    ∷ INPUT_FIELD_DEFINITION_KW
-    ∷ DOCUMENT
-    ∷ OPERATION_DEFINITION
-    ∷ OPERATION_TYPE
-    ∷ SELECTION_SET
-    ∷ FIELD
-    ∷ ALIAS
-    ∷ NAME
-    ∷ FRAGMENT_SPREAD
-    ∷ INLINE_FRAGMENT
-    ∷ FRAGMENT_DEFINITION
-    ∷ FRAGMENT_NAME
-    ∷ TYPE_CONDITION
-    ∷ ARGUMENTS
-    ∷ ARGUMENT
-    ∷ DIRECTIVES
-    ∷ DIRECTIVE
-    ∷ VARIABLE_DEFINITIONS
-    ∷ VARIABLE_DEFINITION
-    ∷ VARIABLE
-    ∷ DEFAULT_VALUE
-    ∷ INT_VALUE
-    ∷ FLOAT_VALUE
-    ∷ STRING_VALUE
-    ∷ BOOLEAN_VALUE
-    ∷ NULL_VALUE
-    ∷ ENUM_VALUE
-    ∷ LIST_VALUE
-    ∷ OBJECT_VALUE
-    ∷ OBJECT_FIELD
-    ∷ NAMED_TYPE
-    ∷ LIST_TYPE
-    ∷ NON_NULL_TYPE
-    ∷ DESCRIPTION
-    ∷ SCHEMA_DEFINITION
-    ∷ ROOT_OPERATION_TYPE_DEFINITION
-    ∷ SCALAR_TYPE_DEFINITION
-    ∷ OBJECT_TYPE_DEFINITION
-    ∷ IMPLEMENTS_INTERFACES
-    ∷ FIELDS_DEFINITION
-    ∷ FIELD_DEFINITION
-    ∷ ARGUMENTS_DEFINITION
-    ∷ INPUT_VALUE_DEFINITION
-    ∷ INTERFACE_TYPE_DEFINITION
-    ∷ UNION_TYPE_DEFINITION
-    ∷ UNION_MEMBER_TYPES
-    ∷ ENUM_TYPE_DEFINITION
-    ∷ ENUM_VALUES_DEFINITION
-    ∷ ENUM_VALUE_DEFINITION
-    ∷ INPUT_OBJECT_TYPE_DEFINITION
-    ∷ INPUT_FIELDS_DEFINITION
-    ∷ DIRECTIVE_DEFINITION
-    ∷ DIRECTIVE_LOCATIONS
-    ∷ DIRECTIVE_LOCATION
-    ∷ SCHEMA_EXTENSION
-    ∷ SCALAR_TYPE_EXTENSION
-    ∷ OBJECT_TYPE_EXTENSION
-    ∷ INTERFACE_TYPE_EXTENSION
-    ∷ UNION_TYPE_EXTENSION
-    ∷ ENUM_TYPE_EXTENSION
-    ∷ INPUT_OBJECT_TYPE_EXTENSION
-    ∷ []
-unfolding all_kinds
-numbers-named = refl
-
--- The rows are those of the nodes, in the order of their numbers.
-rows-named : map (λ (row : _). row.0) children ≡
+-- the kinds of nodes, in the order of their numbers
+abbrev node_kinds : List ℕ
+node_kinds =
     DOCUMENT
     ∷ OPERATION_DEFINITION
     ∷ OPERATION_TYPE
@@ -321,6 +197,74 @@ rows-named : map (λ (row : _). row.0) children ≡
     ∷ ENUM_TYPE_EXTENSION
     ∷ INPUT_OBJECT_TYPE_EXTENSION
     ∷ []
+
+numbers-named : map number all_kinds ≡
+    WHITESPACE
+    ∷ COMMENT
+    ∷ COMMA
+    ∷ ERROR
+    ∷ BANG
+    ∷ DOLLAR
+    ∷ AMP
+    ∷ SPREAD
+    ∷ COLON
+    ∷ EQ
+    ∷ AT
+    ∷ L_PAREN
+    ∷ R_PAREN
+    ∷ L_BRACK
+    ∷ R_BRACK
+    ∷ L_CURLY
+    ∷ R_CURLY
+    ∷ PIPE
+    ∷ IDENT
+    ∷ INT
+    ∷ FLOAT
+    ∷ STRING
+    ∷ query_KW
+    ∷ mutation_KW
+    ∷ subscription_KW
+    ∷ fragment_KW
+    ∷ on_KW
+    ∷ true_KW
+    ∷ false_KW
+    ∷ null_KW
+    ∷ extend_KW
+    ∷ schema_KW
+    ∷ scalar_KW
+    ∷ type_KW
+    ∷ interface_KW
+    ∷ union_KW
+    ∷ enum_KW
+    ∷ input_KW
+    ∷ directive_KW
+    ∷ implements_KW
+    ∷ repeatable_KW
+    ∷ QUERY_KW
+    ∷ MUTATION_KW
+    ∷ SUBSCRIPTION_KW
+    ∷ FIELD_KW
+    ∷ FRAGMENT_DEFINITION_KW
+    ∷ FRAGMENT_SPREAD_KW
+    ∷ INLINE_FRAGMENT_KW
+    ∷ VARIABLE_DEFINITION_KW
+    ∷ SCHEMA_KW
+    ∷ SCALAR_KW
+    ∷ OBJECT_KW
+    ∷ FIELD_DEFINITION_KW
+    ∷ ARGUMENT_DEFINITION_KW
+    ∷ INTERFACE_KW
+    ∷ UNION_KW
+    ∷ ENUM_KW
+    ∷ ENUM_VALUE_KW
+    ∷ INPUT_OBJECT_KW
+    ∷ INPUT_FIELD_DEFINITION_KW
+    ∷ node_kinds
+unfolding all_kinds
+numbers-named = refl
+
+-- The rows are those of the nodes, in that order.
+rows-named : map (λ (row : _). row.0) children ≡ node_kinds
 rows-named = refl
 
 -- The kinds whose rows have DIRECTIVES: those of five parts of a document that is run, and those whose DIRECTIVES are constant.
