@@ -9,7 +9,8 @@ use Rattle.gqlcst.specs.declared.outcome.Fault.{Fault}
 use Rattle.gqlcst.specs.declared.outcome.Fault.TheVariants.{Read, Utf8, Memory, Write}
 use Rattle.gqlcst.specs.Devices.{Account, moved, stopped}
 use Rattle.gqlcst.specs.Written.{EndsWriting}
-use Rattle.gqlcst.specs.Runs.{IsOutput, Reads, Writes}
+use Rattle.gqlcst.specs.Outputs.{IsOutput}
+use Rattle.gqlcst.specs.Runs.{Reads, Writes}
 
 cut_off : (fault : Fault) (mode : Mode) (limits : Limits) (input : List ℕ) (outcome : Outcome) (output : List ℕ) (r r' w w' : Account)
     → r' ≡ stopped (moved r input) → IsUtf8 input → IsOutput mode limits input outcome output → EndsWriting fault output w w'

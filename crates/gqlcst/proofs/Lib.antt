@@ -1,5 +1,6 @@
 pub mod Accounts
-pub mod Clean
 pub mod Ends
+pub mod Found
+pub mod Items
 pub mod Lines
 pub mod Numbers

@@ -1,37 +1,35 @@
--- Printed errors, one after the other.
-use Rattle.std.proofs.Common.{◌≡◌, ℕ, ◌+◌, ◌<◌, List, [], ◌∷◌, ◌++◌, length, take, get_or, refl, sym, ap, subst, ◌∙◌, append_assoc}
-use Rattle.std.specs.Prelude.{IfSome}
+-- Lines, one after the other.
+use Rattle.std.proofs.Common.{◌≡◌, ℕ, ◌+◌, ◌<◌, List, [], ◌∷◌, ◌++◌, length, take, get_or, refl, sym, ap, subst, ◌∙◌}
+use Rattle.std.specs.List.{flat_map, AllZip}
 use Rattle.std.proofs.lemmas.List.{append-nil, take_more}
 use Rattle.std.proofs.lemmas.Grind.{flat_map-append}
-use Rattle.std.specs.List.{flat_map}
-use Rattle.apollo_parser.specs.Diagnostics.{Diagnostic}
-use Rattle.apollo_parser.specs.Printed.{error_text}
-use Rattle.gqlcst.specs.Runs.{line, ArePrinted, AreLines}
+use Rattle.gqlcst.specs.Lines.{line, AreLines}
 
-pub lines_none : AreLines [] []
-lines_none = record { texts = []; printed = tt; joined = refl }
+pub lines_none : {A : Type 0} (R : A → List ℕ → Type 0) → AreLines R [] []
+lines_none R = record { forms = []; each = tt; joined = refl }
 
-printed_more : (errors : List Diagnostic) (texts : List (List ℕ)) (error : Diagnostic) (text : List ℕ) → ArePrinted errors texts → IfSome (error_text error) (λ form. text ≡ form)
-    → ArePrinted (errors ++ error ∷ []) (texts ++ text ∷ [])
-printed_more [] [] error text all one = (one, tt)
-printed_more (e ∷ es) (t ∷ ts) error text all one = (all.0, printed_more es ts error text all.1 one)
-printed_more [] (t ∷ ts) error text all one = absurd all
-printed_more (e ∷ es) [] error text all one = absurd all
+zip_more : {A : Type 0} (R : A → List ℕ → Type 0) (values : List A) (forms : List (List ℕ)) (value : A) (form : List ℕ) → AllZip R values forms → R value form
+    → AllZip R (values ++ value ∷ []) (forms ++ form ∷ [])
+zip_more R [] [] value form all one = (one, tt)
+zip_more R (v ∷ vs) (f ∷ fs) value form all one = (all.0, zip_more R vs fs value form all.1 one)
+zip_more R [] (f ∷ fs) value form all one = absurd all
+zip_more R (v ∷ vs) [] value form all one = absurd all
 
--- one more error
-pub lines_more : (errors : List Diagnostic) (error : Diagnostic) (front text : List ℕ) → AreLines errors front → IfSome (error_text error) (λ form. text ≡ form)
-    → AreLines (errors ++ error ∷ []) ((front ++ text) ++ 10 ∷ [])
-lines_more errors error front text h one = record {
-  texts = h.texts ++ text ∷ [];
-  printed = printed_more errors h.texts error text h.printed one;
-  joined = append_assoc front text (10 ∷ []) ∙ (ap (λ (bytes : List ℕ). bytes ++ line text) h.joined ∙ (ap (λ (bytes : List ℕ). flat_map line h.texts ++ bytes) (sym (append-nil (line text))) ∙ sym (flat_map-append line h.texts (text ∷ []))));
+-- one more line
+pub lines_more : {A : Type 0} (R : A → List ℕ → Type 0) (values : List A) (value : A) (front form : List ℕ) → AreLines R values front → R value form
+    → AreLines R (values ++ value ∷ []) (front ++ line form)
+lines_more R values value front form h one = record {
+  forms = h.forms ++ form ∷ [];
+  each = zip_more R values h.forms value form h.each one;
+  joined =
+      ap (λ (bytes : List ℕ). bytes ++ line form) h.joined
+      ∙ (ap (λ (bytes : List ℕ). flat_map line h.forms ++ bytes) (sym (append-nil (line form))) ∙ sym (flat_map-append line h.forms (form ∷ [])));
 }
 
--- the same where the error is the next of a list, and the text is pushed and then a line feed
-pub lines_next : (errors : List Diagnostic) (i : ℕ) (error : Diagnostic) (front printed view pushed output : List ℕ) → AreLines (take i errors) front → error ≡ get_or errors i error → i < length errors
-    → IfSome (error_text error) (λ form. printed ≡ form) → view ≡ printed → pushed ≡ front ++ view → output ≡ pushed ++ 10 ∷ [] → AreLines (take (i + 1) errors) output
-lines_next errors i error front printed view pushed output before is within one viewed first second =
-    let more = take_more errors i error within ∙ ap (λ (e : Diagnostic). take i errors ++ e ∷ []) (sym is) in
-    let all = second ∙ ap (λ (bytes : List ℕ). bytes ++ 10 ∷ []) (first ∙ ap (λ (bytes : List ℕ). front ++ bytes) viewed) in
-    subst (λ (bytes : List ℕ). AreLines (take (i + 1) errors) bytes) (sym all)
-    (subst (λ (es : List Diagnostic). AreLines es ((front ++ printed) ++ 10 ∷ [])) (sym more) (lines_more (take i errors) error front printed before one))
+-- the same where the value is the next of a list
+pub lines_next : {A : Type 0} (R : A → List ℕ → Type 0) (values : List A) (i : ℕ) (value : A) (front form output : List ℕ) → AreLines R (take i values) front → value ≡ get_or values i value → i < length values
+    → R value form → output ≡ front ++ line form → AreLines R (take (i + 1) values) output
+lines_next {A} R values i value front form output before is within one joined =
+    let more = take_more values i value within ∙ ap (λ (v : A). take i values ++ v ∷ []) (sym is) in
+    subst (λ (bytes : List ℕ). AreLines R (take (i + 1) values) bytes) (sym joined)
+    (subst (λ (vs : List A). AreLines R vs (front ++ line form)) (sym more) (lines_more R (take i values) value front form before one))

@@ -2,6 +2,9 @@ pub mod Devices
 pub mod Traces
 pub mod Input
 pub mod Written
+pub mod Lines
+pub mod Found
+pub mod Outputs
 pub mod Runs
 pub mod Command
 pub mod Endings

@@ -31,10 +31,10 @@ impl Limits {
 fn mode_of(word: &str) -> Option<Mode>
     ensures { result ≡ mode_of word.now }
 {
-    if word == "check" {
-        Some(Mode::Check)
-    } else {
-        None
+    match word {
+        "check" => Some(Mode::Check),
+        "tokens" => Some(Mode::Tokens),
+        _ => None,
     }
 }
 

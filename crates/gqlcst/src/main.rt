@@ -7,7 +7,9 @@ mod ending;
 mod input;
 mod outcome;
 mod output;
+mod parsing;
 mod program;
+mod render;
 mod std_devices;
 #[cfg(test)]
 mod tests;

@@ -1,5 +1,6 @@
 // How a run of the program ends.
 ghost use Rattle.std.specs.Prelude.{◌≡◌};
+ghost use Rattle.gqlcst.specs.Found.{outcome_of};
 ghost use Rattle.gqlcst.specs.declared.outcome.Fault.TheVariants.{Memory};
 
 use std::alloc::AllocError;
@@ -10,6 +11,17 @@ pub enum Outcome {
     Clean,
     /// How many errors there are.
     Errors(usize),
+}
+
+/// What this many errors come to.
+pub fn outcome_of(errors: usize) -> Outcome
+    ensures { result ≡ outcome_of errors }
+{
+    if errors == 0 {
+        Outcome::Clean
+    } else {
+        Outcome::Errors(errors)
+    }
 }
 
 /// Why a run has no outcome.

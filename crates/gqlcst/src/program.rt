@@ -6,7 +6,8 @@ use crate::command::{Limits, Mode};
 use crate::devices::{Sink, Source};
 use crate::input::read_to_end;
 use crate::outcome::{Fault, Outcome};
-use crate::output::{render, write_all};
+use crate::output::write_all;
+use crate::render::render;
 use std::alloc::Allocator;
 
 /// Reads to the end, makes the whole output in memory, and then writes it.

@@ -107,18 +107,19 @@ fn writer_of(alloc: Global, piece: usize, room: usize, then: Then) -> Page {
     }
 }
 
-// What `check` with these limits finds in a text and writes, at once and a byte at a time.
+// What a mode with these limits finds in a text and writes, at once and a byte at a time.
 fn expect(
     rt: &(impl Abort + AllocGlobal),
+    mode: Mode,
     text: &[u8],
     limits: Limits,
     found: Result<Outcome, Fault>,
     written: &str,
 ) {
-    for piece in [1, 100] {
+    for piece in [1, 1000] {
         let mut reader = reader_of(text, piece, Then::Stops);
-        let mut writer = writer_of(rt.alloc(), piece, 100, Then::Stops);
-        let outcome = run(rt.alloc(), &mut reader, &mut writer, Mode::Check, limits);
+        let mut writer = writer_of(rt.alloc(), piece, 1000, Then::Stops);
+        let outcome = run(rt.alloc(), &mut reader, &mut writer, mode, limits);
         assert_eq!(rt; outcome, found);
         assert!(rt; writer.taken.as_slice() == written.as_bytes());
     }
@@ -135,9 +136,17 @@ fn checks_texts(rt: HostRuntime) {
         tokens: 3,
         ..limits
     };
-    expect(&rt, b"{a}", limits, Ok(Outcome::Clean), "clean\n");
     expect(
         &rt,
+        Mode::Check,
+        b"{a}",
+        limits,
+        Ok(Outcome::Clean),
+        "clean\n",
+    );
+    expect(
+        &rt,
+        Mode::Check,
         b"",
         limits,
         Ok(Outcome::Errors(1)),
@@ -145,6 +154,7 @@ fn checks_texts(rt: HostRuntime) {
     );
     expect(
         &rt,
+        Mode::Check,
         b"{a{b}}",
         one_level,
         Ok(Outcome::Errors(1)),
@@ -152,52 +162,126 @@ fn checks_texts(rt: HostRuntime) {
     );
     expect(
         &rt,
+        Mode::Check,
         b"{a}",
         three_items,
         Ok(Outcome::Errors(1)),
         "ERROR@2:2 \"token limit reached, aborting lexing\" \nerrors: 1\n",
     );
-    expect(&rt, b"\xff", limits, Err(Fault::Utf8), "");
-    expect(&rt, b"\x7b\xff", limits, Err(Fault::Utf8), "");
 }
 
 #[test]
-fn tells_faults(rt: HostRuntime) {
+fn prints_tokens(rt: HostRuntime) {
     let limits = Limits::NONE_SET;
-    for text in [b"{a", b"\x7b\xff"] {
-        let mut reader = reader_of(text, 100, Then::Fails);
-        let mut writer = writer_of(rt.alloc(), 100, 100, Then::Stops);
-        let outcome = run(rt.alloc(), &mut reader, &mut writer, Mode::Check, limits);
-        assert_eq!(rt; outcome, Err(Fault::Read));
-        assert!(rt; writer.taken.is_empty());
+    let two_items = Limits {
+        tokens: 2,
+        ..limits
+    };
+    expect(
+        &rt,
+        Mode::Tokens,
+        b"{a}",
+        limits,
+        Ok(Outcome::Clean),
+        "L_CURLY@0:1 \"{\"\nNAME@1:2 \"a\"\nR_CURLY@2:3 \"}\"\nEOF@3:3\n",
+    );
+    expect(
+        &rt,
+        Mode::Tokens,
+        b"{/",
+        limits,
+        Ok(Outcome::Errors(1)),
+        "L_CURLY@0:1 \"{\"\nERROR@1:2 \"Unexpected character \\\"/\\\"\" /\nEOF@2:2\n",
+    );
+    expect(
+        &rt,
+        Mode::Tokens,
+        b"{a}",
+        two_items,
+        Ok(Outcome::Errors(1)),
+        "L_CURLY@0:1 \"{\"\nNAME@1:2 \"a\"\nERROR@2:2 \"token limit reached, aborting lexing\" \n",
+    );
+    expect(
+        &rt,
+        Mode::Tokens,
+        b"{/",
+        two_items,
+        Ok(Outcome::Errors(2)),
+        "L_CURLY@0:1 \"{\"\nERROR@1:2 \"Unexpected character \\\"/\\\"\" /\nERROR@1:1 \"token limit reached, aborting lexing\" \n",
+    );
+}
+
+#[test]
+fn refuses_other_bytes(rt: HostRuntime) {
+    for mode in [Mode::Check, Mode::Tokens] {
+        expect(&rt, mode, b"\xff", Limits::NONE_SET, Err(Fault::Utf8), "");
+        expect(
+            &rt,
+            mode,
+            b"\x7b\xff",
+            Limits::NONE_SET,
+            Err(Fault::Utf8),
+            "",
+        );
     }
-    for then in [Then::Fails, Then::Stops] {
-        let mut reader = reader_of(b"{a}", 100, Then::Stops);
-        let mut writer = writer_of(rt.alloc(), 100, 3, then);
-        let outcome = run(rt.alloc(), &mut reader, &mut writer, Mode::Check, limits);
-        assert_eq!(rt; outcome, Err(Fault::Write));
-        assert!(rt; writer.taken.as_slice() == b"cle".as_slice());
+}
+
+#[test]
+fn tells_a_reader_that_fails(rt: HostRuntime) {
+    let limits = Limits::NONE_SET;
+    for mode in [Mode::Check, Mode::Tokens] {
+        for text in [b"{a", b"\x7b\xff"] {
+            let mut reader = reader_of(text, 100, Then::Fails);
+            let mut writer = writer_of(rt.alloc(), 100, 100, Then::Stops);
+            let outcome = run(rt.alloc(), &mut reader, &mut writer, mode, limits);
+            assert_eq!(rt; outcome, Err(Fault::Read));
+            assert!(rt; writer.taken.is_empty());
+        }
+    }
+}
+
+#[test]
+fn tells_a_writer_that_fails(rt: HostRuntime) {
+    let limits = Limits::NONE_SET;
+    for (mode, front) in [(Mode::Check, b"cle"), (Mode::Tokens, b"L_C")] {
+        for then in [Then::Fails, Then::Stops] {
+            let mut reader = reader_of(b"{a}", 100, Then::Stops);
+            let mut writer = writer_of(rt.alloc(), 100, 3, then);
+            let outcome = run(rt.alloc(), &mut reader, &mut writer, mode, limits);
+            assert_eq!(rt; outcome, Err(Fault::Write));
+            assert!(rt; writer.taken.as_slice() == front.as_slice());
+        }
     }
 }
 
 #[test]
 fn reads_words(rt: HostRuntime) {
-    let limits = |recursion, tokens| Some((Mode::Check, Limits { recursion, tokens }));
-    assert_eq!(rt; options(&["check"]), limits(500, usize::MAX));
-    assert_eq!(rt; options(&["check", "--tokens", "3"]), limits(500, 3));
-    assert_eq!(rt;
-        options(&["check", "--tokens", "3", "--recursion", "07"]),
-        limits(7, 3)
-    );
-    assert_eq!(rt;
-        options(&["check", "--recursion", "7", "--tokens", "3"]),
-        limits(7, 3)
-    );
+    for (word, mode) in [("check", Mode::Check), ("tokens", Mode::Tokens)] {
+        let limits = |recursion, tokens| Some((mode, Limits { recursion, tokens }));
+        assert_eq!(rt; options(&[word]), limits(500, usize::MAX));
+        assert_eq!(rt; options(&[word, "--tokens", "3"]), limits(500, 3));
+        assert_eq!(rt; options(&[word, "--recursion", "3"]), limits(3, usize::MAX));
+        assert_eq!(rt;
+            options(&[word, "--tokens", "3", "--recursion", "07"]),
+            limits(7, 3)
+        );
+        assert_eq!(rt;
+            options(&[word, "--recursion", "7", "--tokens", "3"]),
+            limits(7, 3)
+        );
+    }
+}
+
+#[test]
+fn refuses_other_words(rt: HostRuntime) {
     assert_eq!(rt; options(&[]), None);
-    assert_eq!(rt; options(&["tokens"]), None);
+    assert_eq!(rt; options(&["token"]), None);
     assert_eq!(rt; options(&["check", "tokens"]), None);
     assert_eq!(rt; options(&["check", "--tokens"]), None);
-    assert_eq!(rt; options(&["check", "--tokens", "3", "--tokens", "3"]), None);
+    assert_eq!(rt;
+        options(&["tokens", "--tokens", "3", "--tokens", "3"]),
+        None
+    );
     assert_eq!(rt; options(&["check", "--tokens", "+3"]), None);
     let too_large = "340282366920938463463374607431768211456";
     assert_eq!(rt; options(&["check", "--recursion", too_large]), None);

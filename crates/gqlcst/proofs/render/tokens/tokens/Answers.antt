@@ -1,0 +1,34 @@
+use Rattle.std.proofs.Common.{◌+◌, arith, refl, ap, ◌∙◌}
+use Rattle.apollo_parser.specs.LexerAnswers.{answers_left}
+use Rattle.gqlcst.proofs.Items.{printed_none, printed_next, error_counts, error_form, tokens_printed}
+use Rattle.gqlcst.proofs.render.tokens.tokens.Goals as goal
+
+pub loop-item-init : goal.loop-item-init
+loop-item-init g c = rw c.new-text.ensures.bytes (printed_none (answers_left c.into_iter-item-iterator.result))
+
+-- a token is printed
+pub loop-item-preserved-in_ok-push_line-in-Ok : goal.loop-item-preserved-in_ok-push_line-in-Ok
+loop-item-preserved-in_ok-push_line-in-Ok g c =
+    let comes = rw c.in-Ok.is at c.in-Some.ensures.steps in
+    let pushed = c.in_ok-push_line-in-Ok.ensures in
+    printed_next _ _ _ _ _ pushed.0 _ c.loop-item.errors 0 c.loop-item.errors c.loop-item.invariant comes pushed.1 pushed.2 refl (omega arith) (omega arith)
+
+-- an error is counted: each line has a byte
+pub overflow_add-errors : goal.overflow_add-errors
+overflow_add-errors g c = omega arith
+
+-- an error is printed
+pub loop-item-preserved : goal.loop-item-preserved
+loop-item-preserved g c =
+    let e = c.in-Err.error in
+    let made = c.in_ok-to_error-in-Err.ensures in
+    let comes = rw c.in-Err.is at c.in-Some.ensures.steps in
+    let pushed = c.in_ok-push_line-in-Err.ensures in
+    printed_next _ _ _ _ _ pushed.0 _ c.loop-item.errors 1 (c.loop-item.errors + 1) c.loop-item.invariant comes
+    (error_form e.is_limit e.text.now pushed.0 e.index c.in_ok-to_error-in-Err.field-0 made.subject made.index made.message pushed.1) pushed.2 (error_counts e.is_limit e.text.now e.index) (omega arith) refl
+
+-- nothing is left
+pub returns : goal.returns
+returns g c =
+    let fresh = rw (c.new.ensures.open, c.new.ensures.index, c.new.ensures.rest) at c.with_limit-item-items.ensures.answers in
+    tokens_printed _ _ _ _ _ _ _ _ c.items_are_cut.ensures (ap answers_left c.into_iter-item-iterator.ensures.into_iter_gives ∙ fresh) c.in-None.ensures.steps.0 c.loop-item.invariant c.outcome_of.ensures
