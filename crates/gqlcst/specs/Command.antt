@@ -3,7 +3,7 @@ use Rattle.std.specs.Prelude.{ℕ, ◌^◌, ◌-◌, Bool, ◌&&◌, nat_lt, Lis
 use Rattle.std.specs.Str.{all_ascii_digits}
 use Rattle.std.specs.Str.Parse.{digits_value}
 use Rattle.gqlcst.specs.declared.command.Mode.{Mode}
-use Rattle.gqlcst.specs.declared.command.Mode.TheVariants.{Check, Tokens}
+use Rattle.gqlcst.specs.declared.command.Mode.TheVariants.{Check, Tokens, Tree}
 use Rattle.gqlcst.specs.declared.command.Limits.{Limits}
 
 -- the modes that the program has
@@ -11,7 +11,8 @@ abbrev pub mode_of : List ℕ → Option Mode
 mode_of word =
     if bytes_eq word (codes "check") then Some Check
     else (if bytes_eq word (codes "tokens") then Some Tokens
-    else None)
+    else (if bytes_eq word (codes "tree") then Some Tree
+    else None))
 
 -- one or more decimal digits, whose number fits in a usize
 abbrev pub is_number : List ℕ → Bool

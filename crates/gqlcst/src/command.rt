@@ -34,6 +34,7 @@ fn mode_of(word: &str) -> Option<Mode>
     match word {
         "check" => Some(Mode::Check),
         "tokens" => Some(Mode::Tokens),
+        "tree" => Some(Mode::Tree),
         _ => None,
     }
 }

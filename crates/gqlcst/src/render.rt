@@ -5,11 +5,13 @@ ghost use Rattle.gqlcst.specs.Outputs.{IsOutput};
 mod check;
 mod lines;
 mod tokens;
+mod tree;
 
 use crate::command::{Limits, Mode};
 use crate::outcome::Outcome;
 use crate::render::check::check;
 use crate::render::tokens::tokens;
+use crate::render::tree::tree;
 use std::alloc::{AllocError, Allocator};
 
 /// What is written of a text in a mode, and what was found.
@@ -24,7 +26,6 @@ pub fn render<A: Allocator + Copy>(
     match mode {
         Mode::Check => check(alloc, source, limits),
         Mode::Tokens => tokens(alloc, source, limits.tokens),
-        // no word asks for it yet
-        Mode::Tree => check(alloc, source, limits),
+        Mode::Tree => tree(alloc, source, limits),
     }
 }

@@ -183,7 +183,11 @@ fn prints_tokens(rt: HostRuntime) {
         b"{a}",
         limits,
         Ok(Outcome::Clean),
-        "L_CURLY@0:1 \"{\"\nNAME@1:2 \"a\"\nR_CURLY@2:3 \"}\"\nEOF@3:3\n",
+        "L_CURLY@0:1 \"{\"
+NAME@1:2 \"a\"
+R_CURLY@2:3 \"}\"
+EOF@3:3
+",
     );
     expect(
         &rt,
@@ -191,7 +195,10 @@ fn prints_tokens(rt: HostRuntime) {
         b"{/",
         limits,
         Ok(Outcome::Errors(1)),
-        "L_CURLY@0:1 \"{\"\nERROR@1:2 \"Unexpected character \\\"/\\\"\" /\nEOF@2:2\n",
+        "L_CURLY@0:1 \"{\"
+ERROR@1:2 \"Unexpected character \\\"/\\\"\" /
+EOF@2:2
+",
     );
     expect(
         &rt,
@@ -199,7 +206,9 @@ fn prints_tokens(rt: HostRuntime) {
         b"{a}",
         two_items,
         Ok(Outcome::Errors(1)),
-        "L_CURLY@0:1 \"{\"\nNAME@1:2 \"a\"\nERROR@2:2 \"token limit reached, aborting lexing\" \n",
+        "L_CURLY@0:1 \"{\"
+NAME@1:2 \"a\"
+ERROR@2:2 \"token limit reached, aborting lexing\" \n",
     );
     expect(
         &rt,
@@ -207,13 +216,99 @@ fn prints_tokens(rt: HostRuntime) {
         b"{/",
         two_items,
         Ok(Outcome::Errors(2)),
-        "L_CURLY@0:1 \"{\"\nERROR@1:2 \"Unexpected character \\\"/\\\"\" /\nERROR@1:1 \"token limit reached, aborting lexing\" \n",
+        "L_CURLY@0:1 \"{\"
+ERROR@1:2 \"Unexpected character \\\"/\\\"\" /
+ERROR@1:1 \"token limit reached, aborting lexing\" \n",
+    );
+}
+
+#[test]
+fn prints_trees(rt: HostRuntime) {
+    let limits = Limits::NONE_SET;
+    let one_level = Limits {
+        recursion: 1,
+        ..limits
+    };
+    expect(
+        &rt,
+        Mode::Tree,
+        b"{a}",
+        limits,
+        Ok(Outcome::Clean),
+        "- DOCUMENT@0..3
+    - OPERATION_DEFINITION@0..3
+        - SELECTION_SET@0..3
+            - L_CURLY@0..1 \"{\"
+            - FIELD@1..2
+                - NAME@1..2
+                    - IDENT@1..2 \"a\"
+            - R_CURLY@2..3 \"}\"
+recursion limit: 500, high: 1
+",
+    );
+    expect(
+        &rt,
+        Mode::Tree,
+        b"{a,#c\n}",
+        limits,
+        Ok(Outcome::Clean),
+        "- DOCUMENT@0..7
+    - OPERATION_DEFINITION@0..7
+        - SELECTION_SET@0..7
+            - L_CURLY@0..1 \"{\"
+            - FIELD@1..2
+                - NAME@1..2
+                    - IDENT@1..2 \"a\"
+            - COMMA@2..3 \",\"
+            - COMMENT@3..5 \"#c\"
+            - WHITESPACE@5..6 \"\\n\"
+            - R_CURLY@6..7 \"}\"
+recursion limit: 500, high: 1
+",
+    );
+    expect(
+        &rt,
+        Mode::Tree,
+        b"{",
+        limits,
+        Ok(Outcome::Errors(2)),
+        "- DOCUMENT@0..1
+    - OPERATION_DEFINITION@0..1
+        - SELECTION_SET@0..1
+            - L_CURLY@0..1 \"{\"
+- ERROR@1:1 \"expected at least one Selection in Selection Set\" EOF
+- ERROR@1:1 \"expected R_CURLY, got EOF\" EOF
+recursion limit: 500, high: 1
+",
+    );
+    expect(
+        &rt,
+        Mode::Tree,
+        b"{a{b}}",
+        one_level,
+        Ok(Outcome::Errors(1)),
+        "- DOCUMENT@0..6
+    - OPERATION_DEFINITION@0..5
+        - SELECTION_SET@0..5
+            - L_CURLY@0..1 \"{\"
+            - FIELD@1..3
+                - NAME@1..2
+                    - IDENT@1..2 \"a\"
+                - SELECTION_SET@2..3
+                    - L_CURLY@2..3 \"{\"
+            - FIELD@3..4
+                - NAME@3..4
+                    - IDENT@3..4 \"b\"
+            - R_CURLY@4..5 \"}\"
+    - ERROR@5..6 \"}\"
+- ERROR@3:3 \"parser recursion limit reached\" \nrecursion limit: 1, high: 2
+",
     );
 }
 
 #[test]
 fn refuses_other_bytes(rt: HostRuntime) {
-    for mode in [Mode::Check, Mode::Tokens] {
+    for mode in [Mode::Check, Mode::Tokens, Mode::Tree] {
         expect(&rt, mode, b"\xff", Limits::NONE_SET, Err(Fault::Utf8), "");
         expect(
             &rt,
@@ -229,7 +324,7 @@ fn refuses_other_bytes(rt: HostRuntime) {
 #[test]
 fn tells_a_reader_that_fails(rt: HostRuntime) {
     let limits = Limits::NONE_SET;
-    for mode in [Mode::Check, Mode::Tokens] {
+    for mode in [Mode::Check, Mode::Tokens, Mode::Tree] {
         for text in [b"{a", b"\x7b\xff"] {
             let mut reader = reader_of(text, 100, Then::Fails);
             let mut writer = writer_of(rt.alloc(), 100, 100, Then::Stops);
@@ -243,7 +338,11 @@ fn tells_a_reader_that_fails(rt: HostRuntime) {
 #[test]
 fn tells_a_writer_that_fails(rt: HostRuntime) {
     let limits = Limits::NONE_SET;
-    for (mode, front) in [(Mode::Check, b"cle"), (Mode::Tokens, b"L_C")] {
+    for (mode, front) in [
+        (Mode::Check, b"cle"),
+        (Mode::Tokens, b"L_C"),
+        (Mode::Tree, b"- D"),
+    ] {
         for then in [Then::Fails, Then::Stops] {
             let mut reader = reader_of(b"{a}", 100, Then::Stops);
             let mut writer = writer_of(rt.alloc(), 100, 3, then);
@@ -256,7 +355,11 @@ fn tells_a_writer_that_fails(rt: HostRuntime) {
 
 #[test]
 fn reads_words(rt: HostRuntime) {
-    for (word, mode) in [("check", Mode::Check), ("tokens", Mode::Tokens)] {
+    for (word, mode) in [
+        ("check", Mode::Check),
+        ("tokens", Mode::Tokens),
+        ("tree", Mode::Tree),
+    ] {
         let limits = |recursion, tokens| Some((mode, Limits { recursion, tokens }));
         assert_eq!(rt; options(&[word]), limits(500, usize::MAX));
         assert_eq!(rt; options(&[word, "--tokens", "3"]), limits(500, 3));
@@ -275,9 +378,11 @@ fn reads_words(rt: HostRuntime) {
 #[test]
 fn refuses_other_words(rt: HostRuntime) {
     assert_eq!(rt; options(&[]), None);
-    assert_eq!(rt; options(&["token"]), None);
-    assert_eq!(rt; options(&["check", "tokens"]), None);
-    assert_eq!(rt; options(&["check", "--tokens"]), None);
+    assert_eq!(rt; options(&["trees"]), None);
+    assert_eq!(rt; options(&["tree", "tokens"]), None);
+    assert_eq!(rt; options(&["tree", "--tokens"]), None);
+    assert_eq!(rt; options(&["--tokens", "3", "tree"]), None);
+    assert_eq!(rt; options(&["tree", "--items", "3"]), None);
     assert_eq!(rt;
         options(&["tokens", "--tokens", "3", "--tokens", "3"]),
         None
