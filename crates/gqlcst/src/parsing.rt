@@ -7,6 +7,17 @@ use crate::outcome::{Outcome, outcome_of};
 use apollo_parser::{DocumentRoot, Parser, SyntaxTree};
 use std::alloc::{AllocError, Allocator};
 
+// A parser of the text, with these limits.
+fn parser(source: &str, limits: Limits) -> Parser<'_>
+    ensures source { result.source.now ≡ source.now }
+    ensures recursion { result.recursion_limit ≡ limits.recursion }
+    ensures tokens { result.token_limit ≡ limits.tokens }
+{
+    Parser::new(source)
+        .recursion_limit(limits.recursion)
+        .token_limit(limits.tokens)
+}
+
 /// The tree of a text, and whether the text is a sentence within the limits.
 pub fn parse<A: Allocator + Copy>(
     alloc: A,
@@ -16,10 +27,7 @@ pub fn parse<A: Allocator + Copy>(
     ensures found { IfOk result (λ it. IsFound limits source.now it.1) }
     ensures errors { IfOk result (λ it. it.1 ≡ outcome_of (length it.0.errors)) }
 {
-    let tree = Parser::new(source)
-        .recursion_limit(limits.recursion)
-        .token_limit(limits.tokens)
-        .parse(alloc)?;
+    let tree = parser(source, limits).parse(alloc)?;
     let outcome = outcome_of(tree.errors().len());
     Ok((tree, outcome))
 }

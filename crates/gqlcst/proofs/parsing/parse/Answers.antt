@@ -4,6 +4,6 @@ use Rattle.gqlcst.proofs.parsing.parse.Goals as goal
 
 pub returns-clause-found : goal.returns-clause-found
 returns-clause-found g c =
-    let sound = rw (c.token_limit.ensures, c.recursion_limit.ensures, c.new.ensures.source) at c.in_ok-tree.ensures.sound in
+    let sound = rw (c.parser.ensures.source, c.parser.ensures.recursion, c.parser.ensures.tokens) at c.in_ok-tree.ensures.sound in
     rw c.outcome_of-outcome.ensures
     (found c.args.limits c.args.source.now c.in_ok-tree.tree.errors c.len.result (c.len.ensures.value ∙ ap length c.errors.ensures) (λ none. (_, (sound none).0, (sound none).1)))
