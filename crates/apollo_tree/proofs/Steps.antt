@@ -15,7 +15,7 @@ use Rattle.apollo_tree.specs.ReadBack.{length-records, records-join, built-recor
 use Rattle.document_grammar.specs.Joins.{join-none, count-join, text-join}
 use Rattle.document_grammar.proofs.Built.{join-front_back, front-join, back-join}
 use Rattle.apollo_tree.specs.Sound.{IsSound, AreSound, FitsInnermost, CanFinish}
-use Rattle.apollo_tree.specs.Open.{IsTableOf, Holds, IsComplete, IsTree, one_node}
+use Rattle.apollo_tree.specs.Open.{IsTableOf, Holds, IsComplete, IsTree, one_node, start_behind}
 
 -- the table is read back
 pub built_is : {b : Building} {rs : List Record} {ps s : List ℕ} → IsTableOf b rs ps s → built s rs ≡ b
@@ -51,7 +51,7 @@ leaf_table {b} {rs} {ps} {s} k t at end h e f =
 seam_split : (at : ℕ) (n : ℕ) (f : Forest) → records at 0 f ≡ records at 0 (front n f) ++ records (at + length (text (front n f))) 0 (back n f)
 seam_split at n f = ap (records at 0) (sym (join-front_back n f)) ∙ records-join at (front n f) (back n f)
 
-pub wrap_table : {b : Building} {rs : List Record} {ps s : List ℕ} (k : SyntaxKind) (p at : ℕ) → IsTableOf b rs ps s → IsPlace p b → at ≡ length (open_text b.above) + length (text (front (p - open_count b.above) b.here)) → IsTableOf (wrap p k b) (insert rs p (open_record at k)) (ps ++ p ∷ []) s
+pub wrap_table : {b : Building} {rs : List Record} {ps s : List ℕ} (k : SyntaxKind) (p at : ℕ) → IsTableOf b rs ps s → IsPlace p b → at ≡ start_behind p b → IsTableOf (wrap p k b) (insert rs p (open_record at k)) (ps ++ p ∷ []) s
 wrap_table {b} {rs} {ps} {s} k p at h place e =
     let n = p - open_count b.above in
     let i = length (open_text b.above) in
@@ -157,7 +157,7 @@ no_text (leaf k s rest) e = absurd (omega arith)
 no_text (node k kids rest) e = absurd (omega arith)
 
 -- the text before a place, where it is the end
-pub end_at : {b : Building} {rs : List Record} {ps s : List ℕ} (p : ℕ) → IsTableOf b rs ps s → IsPlace p b → length rs ≤ p → length s ≡ length (open_text b.above) + length (text (front (p - open_count b.above) b.here))
+pub end_at : {b : Building} {rs : List Record} {ps s : List ℕ} (p : ℕ) → IsTableOf b rs ps s → IsPlace p b → length rs ≤ p → length s ≡ start_behind p b
 end_at {b} {rs} {ps} {s} p h place le =
     let n = p - open_count b.above in
     let g = back n b.here in
@@ -172,7 +172,7 @@ first_start at (leaf k s rest) pre p d e h = ap (λ r. r.start) (get_or_at pre _
 first_start at (node k kids rest) pre p d e h = ap (λ r. r.start) (get_or_at pre _ _ d p e)
 
 -- the text before a place, where a tree stands
-pub start_at : {b : Building} {rs : List Record} {ps s : List ℕ} (p : ℕ) (d : Record) → IsTableOf b rs ps s → IsPlace p b → p < length rs → (get_or rs p d).start ≡ length (open_text b.above) + length (text (front (p - open_count b.above) b.here))
+pub start_at : {b : Building} {rs : List Record} {ps s : List ℕ} (p : ℕ) (d : Record) → IsTableOf b rs ps s → IsPlace p b → p < length rs → (get_or rs p d).start ≡ start_behind p b
 start_at {b} {rs} {ps} {s} p d h place lt =
     let n = p - open_count b.above in
     let i = length (open_text b.above) in

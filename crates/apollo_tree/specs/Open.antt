@@ -1,8 +1,8 @@
 -- A table over its text holds what was built, or a whole tree.
-use Rattle.std.specs.Prelude.{◌≡◌, ℕ, List, [], Bool, true, false}
+use Rattle.std.specs.Prelude.{◌≡◌, ℕ, ◌+◌, ◌-◌, List, [], length, Bool, true, false}
 use Rattle.apollo_tree.specs.declared.record.Record.{Record}
 use Rattle.document_grammar.specs.Forests.{Forest, none, node, text}
-use Rattle.document_grammar.specs.Builds.{Building, built_text}
+use Rattle.document_grammar.specs.Builds.{Building, built_text, open_count, open_text, front}
 use Rattle.apollo_tree.specs.Records.{records, built_records, open_places}
 use Rattle.apollo_tree.specs.Sound.{IsSound, AreSound}
 
@@ -15,6 +15,10 @@ pub record Holds (b : Building) (rs : List Record) (open_at s : List ℕ) : Type
   pub parts : IsTableOf b rs open_at s
   pub here : IsSound b.here
   pub above : AreSound b.above
+
+-- the length of the text before a place between the elements of what was built
+abbrev pub start_behind : ℕ → Building → ℕ
+start_behind place b = length (open_text b.above) + length (text (front (place - open_count b.above) b.here))
 
 -- one node and no other tree
 abbrev pub one_node : Forest → Bool

@@ -1,6 +1,6 @@
 ghost use Rattle.std.specs.Prelude.{◌≡◌, ℕ, suc, ◌+◌, ◌<◌, ◌≤◌, [], ◌∷◌, ◌++◌, length, drop, true, OnErr, OnOk};
 ghost use Rattle.apollo_tree.specs.Sound.{CanFinish};
-ghost use Rattle.apollo_tree.specs.Open.{IsComplete};
+ghost use Rattle.apollo_tree.specs.Open.{IsComplete, start_behind};
 ghost use Rattle.apollo_tree.specs.Brackets.{Opening, Single, Closing, brackets, written, open_at};
 ghost use Rattle.apollo_tree.specs.Children.{tiled};
 ghost use Rattle.apollo_tree.specs.Adopted.{after_adoption};
@@ -87,11 +87,7 @@ impl<A: Allocator + Copy> TreeBuilder<A> {
         ensures err { OnErr result (self.new ≡ self.old) }
     {
         let place = checkpoint.place;
-        let start = if place < self.records.len() {
-            self.records[place].start
-        } else {
-            self.text.len()
-        };
+        let start = self.start_behind(place);
         self.unfinished.reserve(1)?;
         self.records.insert(
             place,
@@ -106,6 +102,18 @@ impl<A: Allocator + Copy> TreeBuilder<A> {
         )?;
         self.unfinished.push(place)?;
         Ok(())
+    }
+
+    // The offset in the text at which the element behind a place begins, or the text's length where the place is the end.
+    fn start_behind(&self, place: usize) -> usize
+        requires { IsPlace place self.now }
+        ensures { result ≡ start_behind place self.now }
+    {
+        if place < self.records.len() {
+            self.records[place].start
+        } else {
+            self.text.len()
+        }
     }
 
     /// Adds a leaf behind what has been built. The leaves' texts, joined, are the tree's text.
