@@ -43,7 +43,7 @@ find_pass_one m whole i end b h =
     find_pass m whole i 1 (end - i) (λ k lt. let e : i + k ≡ i = omega arith in ap (λ j. m (spot whole j)) e ∙ h) ∙ ap (λ j. find m (places_from whole (i + 1) j)) left
 
 -- ---- a pointer's node
--- whether the pointer's range lies within that of the element
+-- the pointer's range does not lie within that of the element
 pub record IsOutside (pointer : SyntaxKind × (ℕ × ℕ)) (p : Place) : Type 0 where
   pub out : (range_at p).0 ≤ pointer.1.0 → (range_at p).1 < pointer.1.1
 

@@ -80,34 +80,29 @@ beyond {at} {top} {f} {n} {e} rs s at2 top2 m f2 c h w a l k = record {
   kept = λ h2. c.kept (k h2);
 }
 
+-- at the first tree's own element
+foremost : (at top : ℕ) (f : Forest) (e : Element) (rs : List Record) (s : List ℕ) → records at top f ≡ tree_records e.start top e.tree ++ rs → text f ≡ tree_text e.tree ++ s → at ≡ e.start → (IsSound f → SoundParts e.tree s) → Cut at top f 0 e
+foremost at top f e rs s h w a k = record {
+  up = top;
+  front = [];
+  back = rs;
+  before = [];
+  after = s;
+  table = h;
+  index = refl;
+  words = w;
+  begins = omega (arith, a);
+  kept = k;
+}
+
 pub cut : (at top i : ℕ) (p : Option ℕ) (f : Forest) (n : ℕ) (d : Element) → n < count f → Cut at top f n (get_or (order_from at i p f) n d)
 cut at top i p none n d h = absurd (omega arith)
-cut at top i p (leaf k s rest) zero d h = record {
-  up = top;
-  front = [];
-  back = records (at + length s) (further top 1) rest;
-  before = [];
-  after = text rest;
-  table = refl;
-  index = refl;
-  words = refl;
-  begins = omega arith;
-  kept = λ h2. record { tree = h2.0; after = sound_text rest h2.1 };
-}
+cut at top i p (leaf k s rest) zero d h =
+    foremost at top (leaf k s rest) _ (records (at + length s) (further top 1) rest) (text rest) refl refl refl (λ h2. record { tree = h2.0; after = sound_text rest h2.1 })
 cut at top i p (leaf k s rest) (suc n) d h =
     beyond (leaf_record at top k s ∷ []) s at top (suc n) (leaf k s rest) (cut (at + length s) (further top 1) (suc i) p rest n d (omega arith)) refl refl refl (omega arith) (λ h2. h2.1)
-cut at top i p (node k kids rest) zero d h = record {
-  up = top;
-  front = [];
-  back = records (at + length (text kids)) (further top (suc (count kids))) rest;
-  before = [];
-  after = text rest;
-  table = refl;
-  index = refl;
-  words = refl;
-  begins = omega arith;
-  kept = λ h2. record { tree = (h2.0, h2.1); after = sound_text rest h2.2 };
-}
+cut at top i p (node k kids rest) zero d h =
+    foremost at top (node k kids rest) _ (records (at + length (text kids)) (further top (suc (count kids))) rest) (text rest) refl refl refl (λ h2. record { tree = (h2.0, h2.1); after = sound_text rest h2.2 })
 cut at top i p (node k kids rest) (suc n) d h =
     let r = node_record at top k kids in
     let at2 = at + length (text kids) in

@@ -1,6 +1,7 @@
 -- What a call of the builder does to the table, and to what the table holds.
-use Rattle.std.proofs.Common.{◌≡◌, ℕ, zero, suc, ◌+◌, ◌-◌, ◌<◌, ◌≤◌, List, [], ◌∷◌, ◌++◌, length, take, drop, set, get_or, refl, sym, ap, ◌∙◌, subst, arith, true, false}
+use Rattle.std.proofs.Common.{◌≡◌, ℕ, zero, suc, ◌+◌, ◌-◌, ◌<◌, ◌≤◌, List, [], ◌∷◌, ◌++◌, length, take, drop, set, get_or, refl, sym, ap, ◌∙◌, subst, arith, true, false, Option, Some}
 use Rattle.std.specs.List.{insert}
+use Rattle.std.specs.Option.{option_to_list}
 use Rattle.std.proofs.lemmas.List.{append-nil, append_assoc, length-append, take_at, drop_at, set_at, get_or_at}
 use Rattle.document_grammar.specs.declared.kind.SyntaxKind.{SyntaxKind}
 use Rattle.apollo_tree.specs.declared.record.Record.{Record}
@@ -228,8 +229,9 @@ innermost_of here (o ∷ above) {rs} {s} p ps h =
           rw (ap (λ x. x.kind) k, ap (λ x. x.is_node) k, ap (λ x. x.start) k, ap (λ x. x.to_parent) k, ← e.0) t;
     }
 
-pub innermost : {b : Building} {rs : List Record} {qs s : List ℕ} (p : ℕ) (ps : List ℕ) → IsTableOf b rs qs s → qs ≡ ps ++ p ∷ [] → IsInnermost b rs s p ps
-innermost {b} {rs} {qs} {s} p ps h e = innermost_of b.here b.above p ps (subst (λ x. IsTableOf b rs x s) e h)
+-- as the last of the open places is taken off
+pub innermost : {b : Building} {rs : List Record} {qs s : List ℕ} {p : ℕ} {ps : List ℕ} {last : Option ℕ} → Holds b rs qs s → qs ≡ ps ++ option_to_list last → last ≡ Some p → IsInnermost b rs s p ps
+innermost {b} {rs} {qs} {s} {p} {ps} {last} h e f = innermost_of b.here b.above p ps (subst (λ x. IsTableOf b rs x s) (e ∙ ap (λ o. ps ++ option_to_list o) f) h.parts)
 
 -- ---- soundness
 pub sound-join : (f g : Forest) → IsSound f → IsSound g → IsSound (join f g)
