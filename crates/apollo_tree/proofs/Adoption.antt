@@ -1,6 +1,6 @@
 -- How the children of a node that is finished get to know it, one after another.
 use Rattle.std.proofs.Common.{◌≡◌, ℕ, zero, suc, pred, ◌+◌, ◌-◌, ◌<◌, ◌≤◌, List, [], ◌∷◌, ◌++◌, length, take, drop, set, get_or, refl, sym, ap, ◌∙◌, subst, arith, true, false}
-use Rattle.std.proofs.lemmas.List.{append-nil, append_assoc, length-append, length-take, take_at, drop_at, set_at, take-append-drop}
+use Rattle.std.proofs.lemmas.List.{append_assoc, length-append, length-take, take_at, drop_at, set_at, take-append-drop}
 use Rattle.std.proofs.Math.Seq.{drop-cons}
 use Rattle.document_grammar.specs.declared.kind.SyntaxKind.TheVariants.{WHITESPACE}
 use Rattle.apollo_tree.specs.declared.record.Record.{Record}
@@ -110,22 +110,3 @@ child start rs parent next d lt h =
     let l : length pre ≡ next = length-take next rs ∙ omega arith in
     subst (λ x. IsAdopted start x parent next r.size (next - parent) r) (sym split)
     (child_in pre tail r start parent next (next - parent) l refl (subst (λ x. IsAdopting start x parent next) split h))
-
-pub adopting_begins : (rs : List Record) (parent : ℕ) → parent < length rs → tiled 0 (drop (suc parent) rs) ≡ true → IsAdopting rs rs parent (parent + 1)
-adopting_begins rs parent lt h =
-    let n : suc parent ≡ parent + 1 = omega arith in
-    let one : (parent + 1) - parent ≡ 1 = omega arith in
-    record {
-      order = omega arith;
-      inside = omega arith;
-      trees = rw (← n) h;
-      rest = rw (one, ← n) refl;
-    }
-
-pub adopting_ends : (start rs : List Record) (parent next : ℕ) → length rs ≤ next → IsAdopting start rs parent next → rs ≡ after_adoption parent start
-adopting_ends start rs parent next le h =
-    let all : length rs ≡ next = omega (arith, h.inside) in
-    let whole : take next (rs ++ []) ≡ rs = take_at rs [] next all in
-    let empty : drop next (rs ++ []) ≡ [] = drop_at rs [] next all in
-    let plain = append-nil rs in
-    sym (ap (λ x. take next rs ++ adopted 0 (next - parent) x) (ap (drop next) (sym plain) ∙ empty) ∙ append-nil (take next rs) ∙ ap (take next) (sym plain) ∙ whole) ∙ h.rest

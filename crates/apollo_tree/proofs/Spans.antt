@@ -70,10 +70,6 @@ module _ (rs : List Record) (from to : ℕ) (h : IsSpan rs from to) (lt : from <
         };
       }
 
--- the end
-pub span_end : (rs : List Record) (from to : ℕ) → to ≤ from → span_heads rs from to ≡ []
-span_end rs from to h = let e : to - from ≡ 0 = omega arith in ap (λ n. heads 0 from (take n (drop from rs))) e
-
 -- the children of an element
 module _ (rs : List Record) (s : List ℕ) (t : IsTable rs s) (i : ℕ) (h : i < length rs) (size : ℕ) (e : size ≡ (get_or rs i none_there).size) where
   pub under : take ((i + size) - suc i) (drop (suc i) rs) ≡ records (element (record { whole = forest s rs; index = i })).start 1 (tree_kids (tree_at (record { whole = forest s rs; index = i })))
