@@ -1,7 +1,9 @@
-ghost use Rattle.std.specs.Prelude.{◌≡◌, ◌↔◌, IsTrue};
+ghost use Rattle.std.specs.Prelude.{◌≡◌, ◌↔◌, IsTrue, OnOk};
 ghost use Rattle.std.specs.Ordering.{nat_cmp};
 ghost use Rattle.std.specs.Cmp.Lexicographic.{slice_cmp};
 ghost use Rattle.lexical_grammar.specs.Tokens.{IsName};
+ghost use Rattle.document_grammar.specs.Builds.{start, add_leaf, finish};
+ghost use Rattle.document_grammar.specs.declared.kind.SyntaxKind.TheVariants.{FIELD, NAME, IDENT};
 ghost use Rattle.apollo_tree.specs.References.{token_text};
 
 use crate::{
@@ -33,6 +35,19 @@ fn selection(alloc: Global, name: &str) -> Result<Subtree<Global>, AllocError>
     Ok(builder.finish())
 }
 
+// Adds a FIELD with a NAME.
+fn add_field(builder: &mut TreeBuilder<Global>, name: &str) -> Result<(), AllocError>
+    requires { IsName name.now }
+    ensures { OnOk result (builder.new ≡ finish (finish (add_leaf IDENT name.now (start NAME (start FIELD builder.old))))) }
+{
+    builder.start_node(SyntaxKind::FIELD)?;
+    builder.start_node(SyntaxKind::NAME)?;
+    builder.token(SyntaxKind::IDENT, name)?;
+    builder.finish_node();
+    builder.finish_node();
+    Ok(())
+}
+
 // The tree of `{ a }`, for the name `a`.
 fn spaced_selection(alloc: Global, name: &str) -> Result<Subtree<Global>, AllocError>
     requires { IsName name.now }
@@ -43,11 +58,7 @@ fn spaced_selection(alloc: Global, name: &str) -> Result<Subtree<Global>, AllocE
     builder.start_node(SyntaxKind::SELECTION_SET)?;
     builder.token(SyntaxKind::L_CURLY, "{")?;
     builder.token(SyntaxKind::WHITESPACE, " ")?;
-    builder.start_node(SyntaxKind::FIELD)?;
-    builder.start_node(SyntaxKind::NAME)?;
-    builder.token(SyntaxKind::IDENT, name)?;
-    builder.finish_node();
-    builder.finish_node();
+    add_field(&mut builder, name)?;
     builder.token(SyntaxKind::WHITESPACE, " ")?;
     builder.token(SyntaxKind::R_CURLY, "}")?;
     builder.finish_node();
@@ -65,11 +76,7 @@ fn commented_selection(alloc: Global, name: &str) -> Result<Subtree<Global>, All
     builder.start_node(SyntaxKind::OPERATION_DEFINITION)?;
     builder.start_node(SyntaxKind::SELECTION_SET)?;
     builder.token(SyntaxKind::L_CURLY, "{")?;
-    builder.start_node(SyntaxKind::FIELD)?;
-    builder.start_node(SyntaxKind::NAME)?;
-    builder.token(SyntaxKind::IDENT, name)?;
-    builder.finish_node();
-    builder.finish_node();
+    add_field(&mut builder, name)?;
     builder.token(SyntaxKind::COMMA, ",")?;
     builder.token(SyntaxKind::COMMENT, "#c")?;
     builder.token(SyntaxKind::WHITESPACE, "\n")?;
