@@ -1,6 +1,5 @@
 -- Every tree that fits the rows is made by the machine.
-use Rattle.std.proofs.Common.{◌≡◌, ℕ, zero, suc, ◌+◌, ◌-◌, ◌<◌, Bool, true, false, not, eqb, List, [], ◌∷◌, ◌++◌, get_or, refl, sym, ap, ◌∙◌, subst, ◌⊎◌, inl, inr, true≢false, append_assoc, arith, eqb-true, ltb-true}
-use Rattle.std.proofs.lemmas.Bool.{eqb-false}
+use Rattle.std.proofs.Common.{◌≡◌, ℕ, zero, suc, ◌+◌, ◌-◌, Bool, true, false, not, eqb, List, [], ◌∷◌, ◌++◌, get_or, refl, sym, ap, ◌∙◌, subst, ◌⊎◌, inl, inr, true≢false, append_assoc, arith, eqb-true, ltb-true}
 use Rattle.document_grammar.specs.Tree.{Text, Token, Tree, leaf, node, Forest, none, ◌▸◌, root}
 use Rattle.document_grammar.specs.Table.{State, Entry, entry, rows}
 use Rattle.document_grammar.specs.Machine.{◌and◌, ◌or◌, holds, is_leaf, at, ends, exit, arcs, has, target, entries, fires, fires_in, has_in, target_in, choose, go, close, move, class, first, second, token, yield, yields, finish, walk, Ok, OkFrom, Run, RunFrom}

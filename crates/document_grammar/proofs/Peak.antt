@@ -1,13 +1,12 @@
 -- The greatest number of counted nodes that were open at once is the nesting of the tree in the end: a counter that a parser raises
 -- to the depth at each node that it opens holds it.
-use Rattle.std.proofs.Common.{◌≡◌, ℕ, zero, suc, ◌+◌, ◌<◌, max, Bool, true, not, eqb, List, [], ◌∷◌, refl, sym, ap, ◌∙◌, subst, inl, inr, arith, eqb-true}
-use Rattle.std.proofs.lemmas.Bool.{eqb-false}
+use Rattle.std.proofs.Common.{◌≡◌, ℕ, ◌+◌, max, Bool, true, not, List, [], ◌∷◌, refl, sym, ap, ◌∙◌, arith}
 use Rattle.document_grammar.specs.Tree.{Text, Tree, leaf, node, Forest, none, ◌▸◌, ◌+++◌, root}
 use Rattle.document_grammar.specs.Labels.{labels}
 use Rattle.document_grammar.specs.Pattern.{member}
 use Rattle.document_grammar.specs.Machine.{◌and◌, is_leaf, Frame, frame}
 use Rattle.document_grammar.specs.Kinds.{DOCUMENT, SELECTION_SET, LIST_TYPE, LIST_VALUE, OBJECT_FIELD, Values}
-use Rattle.document_grammar.proofs.Basics.{and-l, and-r, not-c, either, below-at}
+use Rattle.document_grammar.proofs.Basics.{and-l, and-r, not-c, below-at}
 use Rattle.document_grammar.proofs.Sound.{leaf-lt}
 use Rattle.document_grammar.proofs.Patterns.{label}
 use Rattle.document_grammar.proofs.Depth.{cond-zero, count_in, nesting, nestings, nesting_all, depth_above}
