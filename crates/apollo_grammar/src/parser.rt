@@ -20,7 +20,6 @@ use crate::state::ParserState;
 use crate::syntax_tree::{DocumentRoot, SyntaxTree};
 use apollo_lexer::Lexer;
 use document_grammar::SyntaxKind;
-use lexical_grammar::the_cut;
 use std::alloc::{AllocError, Allocator};
 
 const DEFAULT_RECURSION_LIMIT: usize = 500;
@@ -73,7 +72,6 @@ impl<'i> Parser<'i> {
         ensures fresh { result.limit_tracker.high ≡ 0 }
         ensures cut { Cut self.entry.source.now (items_of self.entry.source.now) }
     {
-        the_cut(self.source);
         Lexer::new(self.source).with_limit(self.token_limit)
     }
 

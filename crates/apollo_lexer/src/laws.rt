@@ -1,7 +1,7 @@
 // What holds of a lexer's answers, as contracts of functions that do nothing.
 ghost use Rattle.std.specs.Prelude.{◌≡◌, ◌+◌, ◌≤◌, ◌↔◌, ℕ, List, length, min, true};
 ghost use Rattle.lexical_grammar.specs.Answers.{AreAnswers, answers_text, limited};
-ghost use Rattle.lexical_grammar.specs.Cut.{Item, Cut};
+ghost use Rattle.lexical_grammar.specs.Cut.{Item};
 ghost use Rattle.apollo_lexer.specs.Answers.{answers_left};
 ghost use Rattle.apollo_lexer.specs.Diagnostics.{Diagnostic};
 ghost use Rattle.apollo_lexer.specs.Equal.{same_diagnostic};
@@ -22,11 +22,6 @@ pub fn answers_join(source: &str)
 /// There are as many answers as items, and no more than one above the limit.
 pub fn answers_count()
     ensures { (limit : ℕ) (items : List Item) → length (limited limit items) ≡ min (length items) (limit + 1) }
-{}
-
-/// The items of a text are a cut of it.
-pub fn items_are_cut(source: &str)
-    ensures { Cut source.now (items_from 0 0 source.now) }
 {}
 
 /// Errors are equal exactly where their messages, their indices and what they are about are; a text, the end and a limit are three

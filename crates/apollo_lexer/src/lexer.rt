@@ -28,6 +28,7 @@ pub struct Lexer<'a> {
 }
 
 impl<'a> Lexer<'a> {
+    ghost use Rattle.lexical_grammar.specs.Cut.{Cut};
     ghost use Rattle.lexical_grammar.specs.Reads.{items_from};
     ghost use Rattle.apollo_lexer.specs.Answers.{answers_left, left_unless};
     ghost use Rattle.lexical_grammar.specs.Answers.{limited};
@@ -36,6 +37,7 @@ impl<'a> Lexer<'a> {
     #[tactic(auto, unfolding(crate::specs::Answers::answers_left))]
     pub fn new(input: &'a str) -> Self
         ensures answers { answers_left result ≡ limited (2 ^ 64 - 1) (items_from 0 0 input.now) }
+        ensures cut { Cut input.now (items_from 0 0 input.now) }
         ensures open { result.is_finished ≡ false }
         ensures tracker { result.limit_tracker ≡ record { current = 0; high = 0; limit = 2 ^ 64 - 1 } }
         ensures index { result.index ≡ 0 }

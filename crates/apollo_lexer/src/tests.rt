@@ -1,7 +1,5 @@
 use crate::error::Error;
-use crate::laws::{
-    answers_are_items, answers_count, answers_join, equal_errors_are_same, items_are_cut,
-};
+use crate::laws::{answers_are_items, answers_count, answers_join, equal_errors_are_same};
 use crate::lexer::Lexer;
 use crate::limit::LimitTracker;
 use crate::steps::Steps;
@@ -164,7 +162,6 @@ fn copies_go_on_alike(rt: HostRuntime) -> Result<(), Fail> {
     answers_are_items(&lexer);
     answers_join("a b");
     answers_count();
-    items_are_cut("a b");
     equal_errors_are_same();
     Ok(())
 }

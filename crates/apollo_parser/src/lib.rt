@@ -4,7 +4,7 @@
 pub mod cst;
 
 pub use apollo_grammar::{DocumentRoot, Parser, SyntaxTree};
-pub use apollo_lexer::{Error, LexError, Lexer, LimitTracker, Steps, Token, items_are_cut};
+pub use apollo_lexer::{Error, LexError, Lexer, LimitTracker, Steps, Token};
 pub use apollo_tree::{
     Subtree, SyntaxElement, SyntaxElementChildren, SyntaxNode, SyntaxNodeChildren, SyntaxToken,
     TextRange, TokenText,

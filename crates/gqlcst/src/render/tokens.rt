@@ -4,7 +4,7 @@ ghost use Rattle.gqlcst.specs.Outputs.{IsTokens};
 
 use crate::outcome::{Outcome, outcome_of};
 use crate::render::lines::push_line;
-use apollo_parser::{Lexer, items_are_cut};
+use apollo_parser::Lexer;
 use std::alloc::{AllocError, Allocator};
 
 /// The items of the text, and an error in place of the first that the limit leaves out.
@@ -15,7 +15,6 @@ pub fn tokens<A: Allocator + Copy>(
 ) -> Result<(String<A>, Outcome), AllocError>
     ensures { IfOk result (λ it. IsTokens limit source.now it.1 (string_bytes it.0)) }
 {
-    items_are_cut(source);
     let mut text = String::new(alloc);
     let mut errors = 0;
     for item in Lexer::new(source).with_limit(limit) {

@@ -31,4 +31,4 @@ loop-item-preserved g c =
 pub returns : goal.returns
 returns g c =
     let fresh = rw (c.new.ensures.open, c.new.ensures.index, c.new.ensures.rest) at c.with_limit-item-items.ensures.answers in
-    tokens_printed _ _ _ _ _ _ _ _ c.items_are_cut.ensures (ap answers_left c.into_iter-item-iterator.ensures.into_iter_gives ∙ fresh) c.in-None.ensures.steps.0 c.loop-item.invariant c.outcome_of.ensures
+    tokens_printed _ _ _ _ _ _ _ _ c.new.ensures.cut (ap answers_left c.into_iter-item-iterator.ensures.into_iter_gives ∙ fresh) c.in-None.ensures.steps.0 c.loop-item.invariant c.outcome_of.ensures
