@@ -3,7 +3,7 @@ use Rattle.std.proofs.Common.{◌≡◌, Bool, true, false, ltb, if◌then◌els
 use Rattle.std.specs.Prelude.{⊤}
 use Rattle.lexical_grammar.specs.declared.TokenKind.{TokenKind}
 use Rattle.lexical_grammar.specs.declared.TokenKind.TheVariants as token
-use Rattle.lexical_grammar.specs.Cut.{Item, is_significant_kind}
+use Rattle.lexical_grammar.specs.Cut.{is_significant_kind}
 use Rattle.lexical_grammar.specs.Answers.{Answer, gives, limit_at, is_token, is_end}
 use Rattle.document_grammar.specs.declared.kind.SyntaxKind.{SyntaxKind}
 use Rattle.document_grammar.specs.Numbers.{number}

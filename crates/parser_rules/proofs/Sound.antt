@@ -12,7 +12,7 @@ use Rattle.document_grammar.specs.declared.kind.SyntaxKind.TheVariants as kind
 use Rattle.document_grammar.specs.Numbers.{number}
 use Rattle.document_grammar.specs.Kinds.{DOCUMENT}
 use Rattle.document_grammar.specs.Forests as built
-use Rattle.document_grammar.specs.Builds.{Building, Open, add_leaf, close}
+use Rattle.document_grammar.specs.Builds.{Building, Open, close}
 use Rattle.document_grammar.specs.Numbered.{tree_of}
 use Rattle.document_grammar.specs.Labels.{labels}
 use Rattle.document_grammar.specs.Pattern.{member}
@@ -28,7 +28,7 @@ use Rattle.document_grammar.proofs.Patterns.{label}
 use Rattle.document_grammar.proofs.Peak.{peak, peak-end, peak-start}
 use Rattle.document_grammar.proofs.Show.{show, shows}
 use Rattle.document_grammar.proofs.Sound.{any, first-any, path-ok}
-use Rattle.parser_rules.specs.State.{State, Part, Lexeme, Report, add_all, fresh, begun, finished}
+use Rattle.parser_rules.specs.State.{State, Lexeme, Report, add_all, fresh, begun, finished}
 use Rattle.parser_rules.specs.Rule.{Runs, Call, Document}
 use Rattle.parser_rules.specs.Open.{IsRoot}
 use Rattle.parser_rules.proofs.Kept.{read_untouched, add_all_above}
