@@ -1,4 +1,4 @@
-use crate::Parser;
+use crate::{DocumentRoot, Parser, SyntaxTree};
 use std::alloc::{AllocError, Global};
 use std::test::Fail;
 
@@ -45,6 +45,32 @@ fn documents(rt: HostRuntime) -> Result<(), Fail> {
         let answer = shown(rt.alloc(), Parser::new(source))?;
         assert_eq!(rt; answer.as_str(), wanted, "{source}");
     }
+    Ok(())
+}
+
+// The texts of the definitions, which are the nodes under the root.
+fn definitions<'t>(
+    alloc: Global,
+    tree: &'t SyntaxTree<DocumentRoot, Global>,
+) -> Result<Vec<&'t str>, AllocError> {
+    let mut texts = Vec::new(alloc);
+    for node in tree.root().children() {
+        texts.push(node.text())?;
+    }
+    Ok(texts)
+}
+
+#[test]
+fn definitions_behind_unknown_words(rt: HostRuntime) -> Result<(), Fail> {
+    let alloc = rt.alloc();
+    let tree = Parser::new("\nuasdf21230jkdw\n\n{\n    pet\n    faveSnack\n}\n").parse(alloc)?;
+    assert_eq!(rt; tree.errors().len(), 1);
+    assert!(rt;
+        definitions(alloc, &tree)?.as_slice() == ["{\n    pet\n    faveSnack\n}"].as_slice()
+    );
+    let tree = Parser::new("dtzt7777777777t7777777777z7").parse(alloc)?;
+    assert_eq!(rt; tree.errors().len(), 1);
+    assert!(rt; definitions(alloc, &tree)?.is_empty());
     Ok(())
 }
 
