@@ -1,14 +1,18 @@
-ghost use Rattle.std.specs.Prelude.{◌≡◌, IfOk, Some, string_bytes};
+ghost use Rattle.std.specs.Prelude.{◌≡◌, IfOk, Some, string_bytes, nat_eq};
+ghost use Rattle.std.proofs.Common.{rules};
+ghost use Rattle.std.specs.Cmp.{partial_order_from_own_ties};
+ghost use Rattle.std.specs.Cmp.Lexicographic.{pointwise, slice_cmp};
+ghost use Rattle.std.specs.Cmp.Rules.{comparing};
 ghost use Rattle.std.specs.Fmt.{debug_str};
+ghost use Rattle.std.specs.Ordering.{on, nat_cmp, as_partial_cmp};
 ghost use Rattle.apollo_tree.specs.References.{token_text};
 
 use std::alloc::{AllocError, Allocator};
+use std::cmp::Ordering;
 use std::fmt;
 
 /// The text of a leaf, or of a node that is one leaf. It borrows from the tree.
-///
-/// Two of them are equal as their texts are, and ordered as their texts are: by bytes.
-#[derive(Clone, Copy, PartialEq, Eq, PartialOrd, Ord)]
+#[derive(Clone, Copy)]
 pub struct TokenText<'t> {
     text: &'t str,
 }
@@ -33,6 +37,46 @@ impl<'t> TokenText<'t> {
         ensures { IfOk result (λ s. string_bytes s ≡ token_text self.now) }
     {
         String::from_str(alloc, self.text)
+    }
+}
+
+/// Equal where they are the same bytes.
+impl PartialEq for TokenText<'_> {
+    ghost eq = { on token_text (pointwise nat_eq) };
+
+    ghost laws = { Prim.search (comparing, rules) };
+
+    fn eq(&self, other: &TokenText<'_>) -> bool {
+        self.as_str() == other.as_str()
+    }
+}
+
+impl Eq for TokenText<'_> {
+    ghost laws = { Prim.search (comparing, rules) };
+}
+
+/// The first byte that differs decides; a text comes before those that go on behind it.
+impl Ord for TokenText<'_> {
+    ghost cmp = { on token_text (slice_cmp nat_cmp) };
+
+    ghost total = { Prim.search (comparing, rules) };
+
+    ghost matches_partial_cmp = { Prim.search (comparing, rules) };
+
+    ghost matches_eq = { Prim.search (comparing, rules) };
+
+    fn cmp(&self, other: &TokenText<'_>) -> Ordering {
+        self.as_str().cmp(other.as_str())
+    }
+}
+
+impl PartialOrd for TokenText<'_> {
+    ghost partial_cmp = { as_partial_cmp (on token_text (slice_cmp nat_cmp)) };
+
+    ghost laws = { partial_order_from_own_ties (Prim.search (comparing, rules)) (Prim.search (comparing, rules)) };
+
+    fn partial_cmp(&self, other: &TokenText<'_>) -> Option<Ordering> {
+        Some(self.cmp(other))
     }
 }
 
