@@ -36,7 +36,7 @@ stands_as (Some kind) before text after item = token_behind before text after ki
 stands_as None before text after item = λ kind n token.
     item.0 kind _ _ (parts (before ++ (text ++ after)) (length before) n ∙ behind before text after) token.stands
 
-item_some : (kind : Option TokenKind) (text after : List ℕ) → IsItem kind text after → 0 < length text
+pub item_some : (kind : Option TokenKind) (text after : List ℕ) → IsItem kind text after → 0 < length text
 item_some None text after item = bad_some text after item.1
 item_some (Some kind) text after item = tok_some kind text item.token
 

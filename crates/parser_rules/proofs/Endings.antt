@@ -6,7 +6,7 @@ use Rattle.lexical_grammar.specs.Cut.{Item, IsItem, CutFrom, texts}
 use Rattle.lexical_grammar.specs.Answers.{gives, limited}
 use Rattle.parser_rules.proofs.Calm.{EndsWell, choose, ends}
 
-limited-none : (k : ℕ) → limited k [] ≡ []
+pub limited-none : (k : ℕ) → limited k [] ≡ []
 limited-none zero = refl
 limited-none (suc k) = refl
 

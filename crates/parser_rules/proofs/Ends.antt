@@ -5,7 +5,7 @@ use Rattle.lexical_grammar.specs.Cut.{Item}
 use Rattle.lexical_grammar.specs.Answers.{Answer, gives, limit_at, is_end, IsLast, AreAnswers}
 use Rattle.document_grammar.specs.declared.kind.SyntaxKind.{SyntaxKind}
 use Rattle.document_grammar.specs.Builds.{start, add_leaf}
-use Rattle.parser_rules.specs.State.{State, Lexeme, ignored, bad, met, wait, lexeme, read_on, flush, closed, enter, leave, deepened}
+use Rattle.parser_rules.specs.State.{State, Lexeme, ignored, bad, met, wait, lexeme, found_at, at_limit, read_on, flush, closed, enter, leave, deepened}
 use Rattle.parser_rules.specs.Rule.{Rule, Runs}
 use Rattle.parser_rules.proofs.Steps.{Holds_along, along}
 
@@ -51,8 +51,8 @@ kept_along = record {
   next = λ s t u h k e. k (h e);
   flushes = λ s. same_reading s (flush s) refl refl;
   moves = λ leaf x s e w h. read_ends s.items (record s { tree = add_leaf leaf x.text s.tree }) refl h.answers;
-  reports = λ e s. same_reading s (record s { errors = s.errors ++ e ∷ [] }) refl refl;
-  drops = λ s. same_reading s (record s { accepts = false }) refl refl;
+  reports = λ x s c a. same_reading s (record s { errors = s.errors ++ record { found = found_at x; index = x.index } ∷ [] }) refl refl;
+  limits = λ x s c a. same_reading s (record s { errors = s.errors ++ record { found = at_limit; index = x.index } ∷ []; accepts = false }) refl refl;
   asks = λ s e. same_reading s (deepened s) refl refl;
   nodes = λ k s u h e. same_reading u (closed u) refl refl (h (same_reading s (record s { tree = start k s.tree }) refl refl e));
   levels = λ s u q h e. same_reading u (leave u) refl refl (h (same_reading s (enter s) refl refl e));

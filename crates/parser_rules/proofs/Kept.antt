@@ -6,7 +6,7 @@ use Rattle.lexical_grammar.specs.Cut.{Item}
 use Rattle.lexical_grammar.specs.Answers.{Answer, gives, limit_at}
 use Rattle.document_grammar.specs.declared.kind.SyntaxKind.{SyntaxKind}
 use Rattle.document_grammar.specs.Builds.{Building, Open, nothing, start, add_leaf, finish}
-use Rattle.parser_rules.specs.State.{State, Lexeme, Part, ignored, bad, met, wait, lexeme, read_on, add_all, flush, opened, closed, is_at, is_deep, enter, leave, deepened, too_deep, fresh, begun}
+use Rattle.parser_rules.specs.State.{State, Lexeme, Part, ignored, bad, met, wait, lexeme, read_on, add_all, flush, opened, closed, found_at, at_limit, is_at, is_deep, enter, leave, deepened, too_deep, fresh, begun}
 use Rattle.parser_rules.specs.Open.{is_free, is_free_in, IsOpen, IsInside, IsRoot}
 use Rattle.parser_rules.specs.Rule.{Test, At, holds, Rule, Skip, While, Runs, done, again, refused, Turns, begin, turn}
 use Rattle.parser_rules.proofs.Steps.{Holds_along, along, turns_along}
@@ -161,8 +161,8 @@ keeps_along = record {
   next = next;
   flushes = flushes;
   moves = λ leaf x s e w. moves leaf x s e;
-  reports = λ e s. calm s (record s { errors = s.errors ++ e ∷ [] }) refl (omega arith) refl refl refl refl;
-  drops = λ s. calm s (record s { accepts = false }) refl (omega arith) refl refl refl refl;
+  reports = λ x s c a. calm s (record s { errors = s.errors ++ record { found = found_at x; index = x.index } ∷ [] }) refl (omega arith) refl refl refl refl;
+  limits = λ x s c a. calm s (record s { errors = s.errors ++ record { found = at_limit; index = x.index } ∷ []; accepts = false }) refl (omega arith) refl refl refl refl;
   asks = λ s e. asks s;
   nodes = nodes;
   levels = levels;

@@ -13,3 +13,5 @@ pub mod Then
 pub mod Parts
 pub mod Ends
 pub mod OneLeaf
+pub mod Told
+pub mod Rising

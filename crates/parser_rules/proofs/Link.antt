@@ -152,8 +152,8 @@ grows-along = record {
   next = grows-on;
   flushes = λ s. same-errors s (flush s) refl;
   moves = λ k x s e w. moved-grows k x s;
-  reports = λ r s. record { more = r ∷ []; errors = refl };
-  drops = λ s. same-errors s (record s { accepts = false }) refl;
+  reports = λ x s c a. record { more = record { found = found_at x; index = x.index } ∷ []; errors = refl };
+  limits = λ x s c a. record { more = record { found = at_limit; index = x.index } ∷ []; errors = refl };
   asks = λ s e. same-errors s (deepened s) refl;
   nodes = λ k s u g. record { more = g.more; errors = g.errors };
   levels = λ s u d g. record { more = g.more; errors = g.errors };

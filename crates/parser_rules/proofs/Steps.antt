@@ -1,8 +1,8 @@
 -- A relation between states that holds along each step holds along each run.
-use Rattle.std.proofs.Common.{◌≡◌, ℕ, refl, sym, subst, true, false, if◌then◌else◌, Option, Some, None, [], ◌∷◌, ◌++◌}
+use Rattle.std.proofs.Common.{◌≡◌, refl, sym, subst, true, false, if◌then◌else◌, Option, Some, None, [], ◌∷◌, ◌++◌}
 use Rattle.document_grammar.specs.declared.kind.SyntaxKind.{SyntaxKind}
 use Rattle.document_grammar.specs.Builds.{start, add_leaf}
-use Rattle.parser_rules.specs.State.{State, Lexeme, Report, Found, read_on, flush, opened, closed, moved, bump, fault, found_at, noted, note, is_deep, enter, leave, deepened, limited_at, too_deep, at_limit}
+use Rattle.parser_rules.specs.State.{State, Lexeme, read_on, flush, opened, closed, moved, bump, found_at, noted, note, is_deep, enter, leave, deepened, limited_at, too_deep, at_limit}
 use Rattle.parser_rules.specs.Rule.{Test, Prim, Bump, Note, step, kind_of, Rule, Runs, skip, does, seq, yes, no, done, again, child, deeper, refused, call, Turns, begin, turn}
 
 pub record Holds_along (R : State → State → Type 0) : Type 0 where
@@ -12,8 +12,9 @@ pub record Holds_along (R : State → State → Type 0) : Type 0 where
   pub flushes : (s : State) → R s (flush s)
   -- the current token goes into the tree behind what waited, and the next one is read
   pub moves : (leaf : SyntaxKind) (x : Lexeme) (s : State) → s.current ≡ Some x → s.waiting ≡ [] → R s (read_on s.items (record s { tree = add_leaf leaf x.text s.tree }))
-  pub reports : (e : Report) (s : State) → R s (record s { errors = s.errors ++ e ∷ [] })
-  pub drops : (s : State) → R s (record s { accepts = false })
+  -- a report of the grammar at the current token, and that of the recursion limit, after which none is taken
+  pub reports : (x : Lexeme) (s : State) → s.current ≡ Some x → s.accepts ≡ true → R s (record s { errors = s.errors ++ record { found = found_at x; index = x.index } ∷ [] })
+  pub limits : (x : Lexeme) (s : State) → s.current ≡ Some x → s.accepts ≡ true → R s (record s { errors = s.errors ++ record { found = at_limit; index = x.index } ∷ []; accepts = false })
   pub asks : (s : State) → true ≡ is_deep s → R s (deepened s)
   pub nodes : (k : SyntaxKind) (s u : State) → R (record s { tree = start k s.tree }) u → R s (closed u)
   pub levels : (s u : State) → false ≡ is_deep s → R (enter s) u → R s (leave u)
@@ -24,28 +25,28 @@ module _ {R : State → State → Type 0} (r : Holds_along R) where
   moved_along leaf s None e = r.same s
   moved_along leaf s (Some x) e = r.next s (flush s) (moved leaf s (Some x)) (r.flushes s) (r.moves leaf x (flush s) e refl)
 
-  fault_along : (found : Found) (index : ℕ) (s : State) → R s (fault found index s)
-  fault_along found index s = elim s.accepts as (λ b. R s (if b then record s { errors = s.errors ++ record { found = found; index = index } ∷ [] } else s)) [
-    | true ↦ r.reports (record { found = found; index = index }) s
-    | false ↦ r.same s
-  ]
+  noted_along : (s : State) (o : Option Lexeme) → s.current ≡ o → R s (noted s o)
+  noted_along s None e = r.same s
+  noted_along s (Some x) e = (elim s.accepts as (λ b. s.accepts ≡ b → R s (if b then record s { errors = s.errors ++ record { found = found_at x; index = x.index } ∷ [] } else s)) [
+    | true ↦ λ a. r.reports x s e a
+    | false ↦ λ a. r.same s
+  ]) refl
 
-  noted_along : (s : State) (o : Option Lexeme) → R s (noted s o)
-  noted_along s None = r.same s
-  noted_along s (Some x) = fault_along (found_at x) x.index s
-
-  limited_along : (s : State) (o : Option Lexeme) → R s (limited_at s o)
-  limited_along s None = r.same s
-  limited_along s (Some x) = r.next s (fault at_limit x.index s) (limited_at s (Some x)) (fault_along at_limit x.index s) (r.drops (fault at_limit x.index s))
+  limited_along : (s : State) (o : Option Lexeme) → s.current ≡ o → R s (limited_at s o)
+  limited_along s None e = r.same s
+  limited_along s (Some x) e = (elim s.accepts as (λ b. s.accepts ≡ b → R s (record (if b then record s { errors = s.errors ++ record { found = at_limit; index = x.index } ∷ [] } else s) { accepts = false })) [
+    | true ↦ λ a. r.limits x s e a
+    | false ↦ λ a. subst (λ b. R s (record s { accepts = b })) a (r.same s)
+  ]) refl
 
   step_along : (a : Prim) (s : State) → R s (step a s)
   unfolding step bump note
   step_along (Bump leaf) s = moved_along leaf s s.current refl
-  step_along (Note m) s = noted_along s s.current
+  step_along (Note m) s = noted_along s s.current refl
 
   too_deep_along : (s : State) → true ≡ is_deep s → R s (too_deep s)
   unfolding too_deep
-  too_deep_along s e = r.next s (deepened s) (too_deep s) (r.asks s e) (limited_along (deepened s) s.current)
+  too_deep_along s e = r.next s (deepened s) (too_deep s) (r.asks s e) (limited_along (deepened s) s.current refl)
 
   node_along : (k : SyntaxKind) (s u : State) → R (opened k s) u → R s (closed u)
   unfolding opened
