@@ -1,5 +1,6 @@
 -- What a run of the document's rule over the items of a text comes to.
-use Rattle.std.proofs.Common.{◌≡◌, ℕ, ◌+◌, ◌≤◌, min, true, List, [], length, take, Option, Some, None, Result, Ok, Err, IfOk, refl, ◌∙◌, subst}
+use Rattle.std.proofs.Common.{◌≡◌, ℕ, ◌+◌, ◌≤◌, min, true, List, [], length, map, take, Option, Some, None, Result, Ok, Err, IfOk, refl, ◌∙◌, subst}
+use Rattle.std.specs.List.Sorted.{IsNonDecreasing}
 use Rattle.lexical_grammar.specs.Cut.{Cut, texts}
 use Rattle.lexical_grammar.specs.Reads.{items_of}
 use Rattle.lexical_grammar.specs.Answers.{Answer, limited}
@@ -11,14 +12,17 @@ use Rattle.document_grammar.specs.Numbered.{tree_of}
 use Rattle.document_grammar.specs.Places.{bare}
 use Rattle.document_grammar.specs.Sentence.{Sentence, Within}
 use Rattle.apollo_lexer.proofs.Law.{limited_length}
-use Rattle.parser_rules.specs.State.{State, Lexeme, is_over, fresh, begun, finished}
+use Rattle.parser_rules.specs.State.{State, Lexeme, Report, is_over, fresh, begun, finished}
 use Rattle.parser_rules.specs.Rule.{Runs, Call, Document}
 use Rattle.parser_rules.specs.Leaves.{leaves, OneLeafAnItem}
+use Rattle.parser_rules.specs.Reports.{Reported}
 use Rattle.parser_rules.proofs.Endings.{ends-well}
 use Rattle.parser_rules.proofs.Ends.{EndNow, ends, read_ends}
 use Rattle.parser_rules.proofs.Kept.{root_kept, begun_nesting, begun_asked}
 use Rattle.parser_rules.proofs.OneLeaf.{document_leaves, document_over, leaves_text}
+use Rattle.parser_rules.proofs.Rising.{in_order}
 use Rattle.parser_rules.proofs.Sound.{sound}
+use Rattle.parser_rules.proofs.Told.{reported}
 
 all_read : (o : Option Lexeme) (items : List Answer) → EndNow o items → is_over o ≡ true → items ≡ []
 unfolding EndNow
@@ -49,6 +53,12 @@ module _ (k r : ℕ) (source : List ℕ) (s : State) (cut : Cut source (items_of
   run_read =
       let first = read_ends (answers k source) (fresh (answers k source) r kind.DOCUMENT) refl (limited_answers k source (items_of source) cut) in
       all_read s.current s.items (ends run first).now (document_over run)
+
+  pub run_reported : Reported true (answers k source) s.errors
+  run_reported = reported (answers k source) r kind.DOCUMENT run run_read
+
+  pub run_in_order : IsNonDecreasing (map (λ (e : Report). e.index) s.errors)
+  run_in_order = in_order k source (items_of source) cut run_reported
 
   pub run_sound : s.errors ≡ [] → Sentence source (bare (tree_of (finished s))) document × Within source (bare (tree_of (finished s))) r k
   run_sound e =

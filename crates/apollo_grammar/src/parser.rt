@@ -1,5 +1,6 @@
 // The whole parse.
-ghost use Rattle.std.specs.Prelude.{◌≡◌, ◌≤◌, ◌+◌, ◌^◌, ◌-◌, [], IfOk, length, min, take, map};
+ghost use Rattle.std.specs.Prelude.{◌≡◌, ◌≤◌, ◌+◌, ◌^◌, ◌-◌, true, [], IfOk, length, min, take, map};
+ghost use Rattle.std.specs.List.Sorted.{IsNonDecreasing};
 ghost use Rattle.lexical_grammar.specs.Answers.{limited};
 ghost use Rattle.lexical_grammar.specs.Cut.{Cut, texts};
 ghost use Rattle.lexical_grammar.specs.Reads.{items_of};
@@ -13,6 +14,7 @@ ghost use Rattle.document_grammar.specs.Numbered.{tree_of};
 ghost use Rattle.parser_rules.specs.State.{State, begun, finished};
 ghost use Rattle.parser_rules.specs.Rule.{Runs, Call, Document};
 ghost use Rattle.parser_rules.specs.Leaves.{leaves, OneLeafAnItem};
+ghost use Rattle.parser_rules.specs.Reports.{Reported};
 ghost use Rattle.apollo_grammar.specs.View.{report_of};
 
 use crate::grammar::document::document;
@@ -86,6 +88,10 @@ impl<'i> Parser<'i> {
         ensures one_leaf { IfOk result (λ t. OneLeafAnItem (limited self.entry.token_limit (items_of self.entry.source.now)) (leaves t.tree)) }
         ensures recursion { IfOk result (λ t. (t.recursion_limit.current ≡ 0) × (t.recursion_limit.limit ≡ self.entry.recursion_limit) × (t.recursion_limit.high ≤ self.entry.recursion_limit + 1)) }
         ensures tokens { IfOk result (λ t. (t.token_limit.limit ≡ self.entry.token_limit) × (t.token_limit.high ≡ min (length (items_of self.entry.source.now)) (self.entry.token_limit + 1))) }
+        // the errors go along the items: one for each bad text and for the token limit; the grammar's at significant tokens or the end, and
+        // none of these after a limit error
+        ensures errors { IfOk result (λ t. Reported true (limited self.entry.token_limit (items_of self.entry.source.now)) (map report_of t.errors)) }
+        ensures in_order { IfOk result (λ t. IsNonDecreasing (map (λ e. e.index) t.errors)) }
         // without errors, the tree without its ignored leaves is the derivation of the text, which is a sentence within both limits
         ensures sound { IfOk result (λ t. t.errors ≡ [] → Sentence self.entry.source.now (bare (tree_of t.tree)) document_sort × Within self.entry.source.now (bare (tree_of t.tree)) self.entry.recursion_limit self.entry.token_limit) }
         // what the tree, the errors and the limits come from

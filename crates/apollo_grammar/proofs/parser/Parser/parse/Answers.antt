@@ -1,5 +1,7 @@
-use Rattle.std.proofs.Common.{◌≡◌, ◌+◌, ◌≤◌, [], refl, sym, ap, ◌∙◌, subst, take, length, min, map}
+use Rattle.std.proofs.Common.{◌≡◌, ◌+◌, ◌≤◌, [], refl, sym, ap, ◌∙◌, subst, take, length, min, map, true}
+use Rattle.std.specs.List.Sorted.{IsNonDecreasing}
 use Rattle.std.proofs.lemmas.Result.{IfOk-weaker}
+use Rattle.std.proofs.lemmas.Simd.{map-map}
 use Rattle.lexical_grammar.specs.Answers.{limited}
 use Rattle.lexical_grammar.specs.Cut.{texts}
 use Rattle.document_grammar.specs.declared.kind.SyntaxKind.TheVariants as kind
@@ -13,9 +15,10 @@ use Rattle.lexical_grammar.specs.Reads.{items_of}
 use Rattle.apollo_lexer.specs.Answers.{answers_left}
 use Rattle.parser_rules.specs.Rule.{Runs, Call, Document}
 use Rattle.parser_rules.specs.Leaves.{leaves, OneLeafAnItem}
+use Rattle.parser_rules.specs.Reports.{Reported}
 use Rattle.parser_rules.proofs.Kept.{root_kept}
 use Rattle.apollo_grammar.specs.View.{report_of}
-use Rattle.apollo_grammar.proofs.Parses.{ran, run_leaves, run_text, run_nesting, run_asked, run_read, run_sound, both}
+use Rattle.apollo_grammar.proofs.Parses.{ran, run_leaves, run_text, run_nesting, run_asked, run_read, run_reported, run_in_order, run_sound, both}
 use Rattle.apollo_grammar.proofs.parser.Parser.parse.Goals as goal
 
 pub finish-requires : goal.finish-requires
@@ -53,6 +56,24 @@ returns-clause-tokens g c =
     let run = ran k r source (answers_left c.lexer.result) _ c.document.new.p c.lexer.ensures.answers c.in_ok-p.ensures c.in_ok-document.ensures in
     IfOk-weaker c.finish.result _ (λ t. (t.token_limit.limit ≡ k) × (t.token_limit.high ≡ min (length (items_of source)) (k + 1)))
     (λ t e. subst (λ (l : LimitTracker). (l.limit ≡ k) × (l.high ≡ min (length (items_of source)) (k + 1))) (sym e) (refl, run_asked k r source c.document.new.p c.lexer.ensures.cut run)) (c.finish.ensures.token_limit (run_read k r source c.document.new.p c.lexer.ensures.cut run))
+
+pub returns-clause-errors : goal.returns-clause-errors
+returns-clause-errors g c =
+    let k = c.args.self.token_limit in
+    let r = c.args.self.recursion_limit in
+    let source = c.args.self.source.now in
+    let run = ran k r source (answers_left c.lexer.result) _ c.document.new.p c.lexer.ensures.answers c.in_ok-p.ensures c.in_ok-document.ensures in
+    IfOk-weaker c.finish.result _ (λ t. Reported true (limited k (items_of source)) (map report_of t.errors))
+    (λ t e. subst (λ reports. Reported true (limited k (items_of source)) reports) (sym e) (run_reported k r source c.document.new.p c.lexer.ensures.cut run)) c.finish.ensures.errors
+
+pub returns-clause-in_order : goal.returns-clause-in_order
+returns-clause-in_order g c =
+    let k = c.args.self.token_limit in
+    let r = c.args.self.recursion_limit in
+    let source = c.args.self.source.now in
+    let run = ran k r source (answers_left c.lexer.result) _ c.document.new.p c.lexer.ensures.answers c.in_ok-p.ensures c.in_ok-document.ensures in
+    IfOk-weaker c.finish.result _ (λ t. IsNonDecreasing (map (λ e. e.index) t.errors))
+    (λ t e. subst IsNonDecreasing (map-map (λ e. e.index) report_of t.errors) (subst (λ reports. IsNonDecreasing (map (λ e. e.index) reports)) (sym e) (run_in_order k r source c.document.new.p c.lexer.ensures.cut run))) c.finish.ensures.errors
 
 pub returns-clause-sound : goal.returns-clause-sound
 returns-clause-sound g c =
