@@ -1,3 +1,6 @@
 pub mod Reading
 pub mod Building
 pub mod Parses
+pub mod Keywords
+pub mod Leaves
+pub mod Looks

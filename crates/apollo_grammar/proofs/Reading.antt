@@ -1,5 +1,5 @@
 -- Steps of reading on.
-use Rattle.std.proofs.Common.{◌≡◌, ℕ, ◌+◌, ◌<◌, Option, Some, None, List, ◌∷◌, map, length, get_or, drop, refl, sym, ◌∙◌, ap, subst, true, false, Bool, suc, add-one}
+use Rattle.std.proofs.Common.{◌≡◌, ℕ, ◌+◌, ◌<◌, Option, Some, None, is_some, List, ◌∷◌, map, length, get_or, drop, refl, sym, ◌∙◌, ap, subst, true, false, Bool, suc, add-one, [], arith}
 use Rattle.std.proofs.Math.Seq.{drop-cons}
 use Rattle.lexical_grammar.specs.declared.TokenKind.{TokenKind}
 use Rattle.lexical_grammar.specs.Cut.{Item}
@@ -9,7 +9,7 @@ use Rattle.apollo_lexer.specs.Answers.{error_answer}
 use Rattle.document_grammar.specs.Builds.{Building, add_leaf}
 use Rattle.apollo_grammar.specs.declared.state.PendingToken.{PendingToken}
 use Rattle.apollo_grammar.specs.View.{part_of}
-use Rattle.parser_rules.specs.State.{State, Text, ignored, bad, met, wait, lexeme, read_on, add_all}
+use Rattle.parser_rules.specs.State.{State, Text, Lexeme, ignored, bad, met, wait, lexeme, read_on, second, add_all}
 use Rattle.apollo_grammar.specs.Reading.{Taken, IsAnswerText, refused}
 
 on_kind : List Answer → State → Item → TokenKind → Option SyntaxKind → State
@@ -61,3 +61,45 @@ pub one_more : (leaves : List PendingToken) (i : ℕ) (d : PendingToken) (b c : 
     → add_all (map part_of (drop i leaves)) b ≡ add_all (map part_of (drop (i + 1) leaves)) c
 one_more leaves i d b c h e =
     rw add-one (ap {A = List PendingToken} (λ ys. add_all (map part_of ys) b) (drop-cons leaves i d h) ∙ ap (λ x. add_all (map part_of (drop (suc i) leaves)) x) (sym e))
+
+-- ---- looking behind the current token
+
+pub one_less : (answer : Answer) (xs ys : List Answer) → xs ≡ answer ∷ ys → length ys < length xs
+one_less answer xs ys e = let n = ap length e in omega (arith, n)
+
+pub second_end : (xs : List Answer) → xs ≡ [] → second xs ≡ None
+unfolding second
+second_end xs e = ap second e
+
+on_second : List Answer → TokenKind → Item → Option SyntaxKind → Option Lexeme
+on_second rest k item found = elim found [ Some leaf ↦ second rest | None ↦ Some (lexeme k item) ]
+
+second_is : (rest : List Answer) (text : Text) (index : ℕ) (k : TokenKind)
+    → second (gives (record { kind = Some k; text = text; index = index }) ∷ rest) ≡ on_second rest k (record { kind = Some k; text = text; index = index }) (ignored k)
+unfolding second on_second
+second_is rest text index k = refl
+
+no_leaf : (o : Option SyntaxKind) → is_some o ≡ false → o ≡ None
+no_leaf None e = refl
+no_leaf (Some leaf) e = absurd cc
+
+some_leaf : (rest : List Answer) (k : TokenKind) (item : Item) (o : Option SyntaxKind) → is_some o ≡ true → on_second rest k item o ≡ second rest
+unfolding on_second
+some_leaf rest k item None e = absurd cc
+some_leaf rest k item (Some leaf) e = refl
+
+pub second_found : (xs rest : List Answer) (k : TokenKind) (text : Text) (index : ℕ) (found : Option SyntaxKind) → xs ≡ gives (record { kind = Some k; text = text; index = index }) ∷ rest
+    → found ≡ ignored k → is_some found ≡ false → second xs ≡ Some (record { kind = k; text = text; index = index })
+unfolding on_second
+second_found xs rest k text index found e f i =
+    ap second e ∙ second_is rest text index k ∙ ap (on_second rest k (record { kind = Some k; text = text; index = index })) (sym f ∙ no_leaf found i)
+
+pub second_ignored : (xs rest : List Answer) (k : TokenKind) (text : Text) (index : ℕ) (found : Option SyntaxKind) → xs ≡ gives (record { kind = Some k; text = text; index = index }) ∷ rest
+    → found ≡ ignored k → is_some found ≡ true → second xs ≡ second rest
+second_ignored xs rest k text index found e f i =
+    ap second e ∙ second_is rest text index k ∙ ap (on_second rest k (record { kind = Some k; text = text; index = index })) (sym f) ∙ some_leaf rest k (record { kind = Some k; text = text; index = index }) found i
+
+pub second_bad : (xs rest : List Answer) (limit : Bool) (text : Text) (index : ℕ) → xs ≡ error_answer limit text index ∷ rest → second xs ≡ second rest
+unfolding second
+second_bad xs rest true text index e = ap second e
+second_bad xs rest false text index e = ap second e

@@ -1,3 +1,5 @@
 pub mod View
 pub mod Parsed
 pub mod Reading
+pub mod Keywords
+pub mod Looks

@@ -1,10 +1,11 @@
 -- What one call of a lexer answers to a parser.
 use Rattle.std.specs.Prelude.{◌≡◌, ℕ, Bool, true, false, [], ◌∷◌, Option, Some, None, ⊤}
+use Rattle.lexical_grammar.specs.declared.TokenKind.TheVariants as token
 use Rattle.lexical_grammar.specs.Answers.{Answer, gives, limit_at, IsItemText}
 use Rattle.document_grammar.specs.declared.kind.SyntaxKind.{SyntaxKind}
 use Rattle.document_grammar.specs.declared.kind.SyntaxKind.TheVariants as kind
 use Rattle.document_grammar.specs.Builds.{start, add_leaf, finish}
-use Rattle.parser_rules.specs.State.{State, Text, bad, met}
+use Rattle.parser_rules.specs.State.{State, Text, Lexeme, is_at, is_word, bad, met}
 
 -- an answer was taken
 abbrev pub Taken : Option Answer → State → State → Type 0
@@ -26,6 +27,15 @@ refused false text index s = bad text index s
 abbrev pub added : SyntaxKind → Text → State → State
 added k text s = record s { tree = add_leaf k text s.tree }
 
--- a name more
-abbrev pub named : Text → State → State
-named text s = record s { tree = finish (add_leaf kind.IDENT text (start kind.NAME s.tree)) }
+-- a node of one leaf more
+abbrev pub leaf_node : SyntaxKind → SyntaxKind → Text → State → State
+leaf_node node l text s = record s { tree = finish (add_leaf l text (start node s.tree)) }
+
+-- the current token may be this leaf of this node, which has no other
+abbrev pub is_leaf_of : SyntaxKind → SyntaxKind → Option Lexeme → Bool
+is_leaf_of kind.NAME kind.IDENT now = is_at token.Name now
+is_leaf_of kind.INT_VALUE kind.INT now = is_at token.Int now
+is_leaf_of kind.STRING_VALUE kind.STRING now = is_at token.StringValue now
+is_leaf_of kind.BOOLEAN_VALUE kind.true_KW now = is_word kind.true_KW now
+is_leaf_of kind.BOOLEAN_VALUE kind.false_KW now = is_word kind.false_KW now
+is_leaf_of _ _ now = false

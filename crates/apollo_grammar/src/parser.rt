@@ -48,7 +48,7 @@ impl<'i> Parser<'i> {
         }
     }
 
-    /// Sets the recursion limit: how deep selection sets may nest.
+    /// Sets the recursion limit: how deep selection sets, list types and values may nest.
     pub fn recursion_limit(self, limit: usize) -> Self
         ensures { result ≡ record self.entry { recursion_limit = limit } }
     {

@@ -1,21 +1,25 @@
 // The state of a parser, and its steps. Each is a step of the parser's rules.
-#![tactic(auto, using(parser_rules::specs::Rule::does), unfolding(parser_rules::specs::State::same_kind, parser_rules::specs::Rule::holds, parser_rules::specs::Rule::step, parser_rules::specs::State::flush, parser_rules::specs::State::opened, parser_rules::specs::State::closed, parser_rules::specs::State::bump, parser_rules::specs::State::note, parser_rules::specs::State::is_deep, parser_rules::specs::State::enter, parser_rules::specs::State::leave, parser_rules::specs::State::too_deep, parser_rules::specs::Open::IsInside))]
+#![tactic(auto, using(parser_rules::specs::Rule::does), unfolding(parser_rules::specs::State::same_kind, parser_rules::specs::Rule::holds, parser_rules::specs::Rule::step, parser_rules::specs::State::flush, parser_rules::specs::State::opened, parser_rules::specs::State::closed, parser_rules::specs::State::bump, parser_rules::specs::State::note, parser_rules::specs::State::is_deep, parser_rules::specs::State::enter, parser_rules::specs::State::leave, parser_rules::specs::State::too_deep, parser_rules::specs::State::wrapped_from, parser_rules::specs::Open::IsInside, parser_rules::specs::Open::IsMark))]
 
 ghost use Rattle.std.specs.Prelude.{◌≡◌, true, false, [], map, OnOk, IfOk, option_map};
 ghost use Rattle.lexical_grammar.specs.declared.TokenKind.TheVariants as token;
 ghost use Rattle.lexical_grammar.specs.Answers.{is_end};
-ghost use Rattle.lexical_grammar.specs.Tokens.{IsName};
+ghost use Rattle.document_grammar.specs.declared.kind.SyntaxKind.TheVariants as kind;
+ghost use Rattle.document_grammar.specs.Forests.{none, leaf as leaf_of};
+ghost use Rattle.document_grammar.specs.Builds.{built_count};
+ghost use Rattle.apollo_tree.specs.Sound.{Fits};
 ghost use Rattle.apollo_lexer.specs.Answers.{answer_of, answers_left};
 ghost use Rattle.parser_rules.specs.State as state;
-ghost use Rattle.parser_rules.specs.Rule.{Test, At, Ready, holds, Bump, Note, step, Runs, Do, Child, Name, want, expect, refuse};
-ghost use Rattle.parser_rules.specs.Open.{IsOpen, IsInside, IsRoot};
+ghost use Rattle.parser_rules.specs.Rule.{At, Word, Ready, Next, Either, holds, Bump, Note, TooDeep, Runs, Do, Child, Name, NameForFragment, NameForEnum, IntValue, StringValue, BooleanValue, want, expect, expect_word, refuse};
+ghost use Rattle.parser_rules.specs.Open.{IsOpen, IsMark, IsInside, IsRoot};
+ghost use Rattle.apollo_grammar.specs.Keywords as keywords;
 ghost use Rattle.apollo_grammar.specs.Reading as reading;
 ghost use Rattle.apollo_grammar.specs.View.{lexeme_of, current_of, part_of, report_of};
 
 use crate::message::message_text;
 use crate::syntax_tree::SyntaxTree;
 use apollo_lexer::{Error, LexError, Lexer, LimitTracker, Steps, Token};
-use apollo_tree::TreeBuilder;
+use apollo_tree::{Checkpoint, TreeBuilder};
 use document_grammar::SyntaxKind;
 use lexical_grammar::TokenKind;
 use parser_rules::Message;
@@ -95,6 +99,59 @@ fn ignored(kind: TokenKind) -> Option<SyntaxKind>
     }
 }
 
+/// Whether the token is of the kind.
+pub fn is_kind(token: Option<Token<'_>>, kind: TokenKind) -> bool
+    ensures { result ≡ state.is_at kind (current_of token.entry) }
+{
+    match token {
+        Some(token) => is_same(token.kind(), kind),
+        None => false,
+    }
+}
+
+// The word of a keyword that the parser asks for.
+fn word_of(keyword: SyntaxKind) -> &'static str
+    ensures { result.now ≡ keywords.word_of keyword }
+{
+    match keyword {
+        SyntaxKind::query_KW => "query",
+        SyntaxKind::mutation_KW => "mutation",
+        SyntaxKind::subscription_KW => "subscription",
+        SyntaxKind::fragment_KW => "fragment",
+        SyntaxKind::on_KW => "on",
+        SyntaxKind::true_KW => "true",
+        SyntaxKind::false_KW => "false",
+        SyntaxKind::null_KW => "null",
+        _ => "",
+    }
+}
+
+/// Whether the token is the keyword.
+pub fn is_word(token: Option<Token<'_>>, keyword: SyntaxKind) -> bool
+    requires { keywords.is_asked keyword ≡ true }
+    ensures { result ≡ state.is_word keyword (current_of token.entry) }
+{
+    match token {
+        Some(token) => is_same(token.kind(), TokenKind::Name) && token.data() == word_of(keyword),
+        None => false,
+    }
+}
+
+// The next significant token that the lexer gives.
+fn next_significant<'i>(lexer: Lexer<'i>) -> Option<Token<'i>>
+    ensures { current_of result ≡ state.second (answers_left lexer.entry) }
+{
+    let mut lexer = lexer;
+    while let Some(answer) = lexer.next_counted(&mut Steps::new()) {
+        if let Ok(token) = answer {
+            if ignored(token.kind()).is_none() {
+                return Some(token);
+            }
+        }
+    }
+    None
+}
+
 fn push_all<A: Allocator + Copy>(
     builder: &mut TreeBuilder<A>,
     pending: &[PendingToken<'_>],
@@ -138,10 +195,36 @@ impl<'i, A: Allocator + Copy> ParserState<'i, A> {
     pub fn at(&self, kind: TokenKind) -> bool
         ensures { result ≡ holds (At kind) self.now }
     {
-        match self.current_token {
-            Some(token) => is_same(token.kind(), kind),
-            None => false,
-        }
+        is_kind(self.current_token, kind)
+    }
+
+    /// Whether the current token is the keyword.
+    pub fn at_word(&self, keyword: SyntaxKind) -> bool
+        requires { keywords.is_asked keyword ≡ true }
+        ensures { result ≡ holds (Word keyword) self.now }
+    {
+        is_word(self.current_token, keyword)
+    }
+
+    /// Whether the current token is `true` or `false`.
+    pub fn at_boolean(&self) -> bool
+        ensures { result ≡ holds (Either (Word kind.true_KW) (Word kind.false_KW)) self.now }
+    {
+        self.at_word(SyntaxKind::true_KW) || self.at_word(SyntaxKind::false_KW)
+    }
+
+    /// The significant token behind the current one, or the end. A copy of the lexer looks for it.
+    pub fn peek(&self) -> Option<Token<'i>>
+        ensures { current_of result ≡ state.second self.now.items }
+    {
+        next_significant(self.lexer)
+    }
+
+    /// Whether the significant token behind the current one is of the kind.
+    pub fn next_is(&self, kind: TokenKind) -> bool
+        ensures { result ≡ holds (Next kind) self.now }
+    {
+        is_kind(self.peek(), kind)
     }
 
     /// Whether a token is left besides the end.
@@ -251,27 +334,112 @@ impl<'i, A: Allocator + Copy> ParserState<'i, A> {
         self.read_on()
     }
 
-    fn push_name(&mut self, text: &'i str) -> Result<(), AllocError>
-        requires { IsName text.now }
-        ensures { OnOk result (self.new ≡ reading.named text.now self.old) }
+    fn push_leaf_node(
+        &mut self,
+        node: SyntaxKind,
+        leaf: SyntaxKind,
+        text: &'i str,
+    ) -> Result<(), AllocError>
+        requires { Fits node (leaf_of leaf text.now none) }
+        ensures { OnOk result (self.new ≡ reading.leaf_node node leaf text.now self.old) }
     {
-        self.builder.start_node(SyntaxKind::NAME)?;
-        self.builder.token(SyntaxKind::IDENT, text)?;
+        self.builder.start_node(node)?;
+        self.builder.token(leaf, text)?;
         self.builder.finish_node();
         Ok(())
     }
 
-    /// The current token, which is a name, becomes a node.
-    pub fn name(&mut self) -> Result<(), AllocError>
-        requires { true ≡ holds (At token.Name) self.old }
-        ensures { OnOk result (Runs (Child Name) self.old self.new) }
+    // The current token becomes a node of one leaf.
+    fn leaf_node(&mut self, node: SyntaxKind, leaf: SyntaxKind) -> Result<(), AllocError>
+        requires { true ≡ reading.is_leaf_of node leaf self.old.current }
+        ensures { OnOk result (self.new ≡ state.closed (state.bump leaf (state.opened node self.old))) }
     {
         let Some(token) = self.current_token else {
             return Ok(());
         };
         self.push_pending()?;
-        self.push_name(token.data())?;
+        self.push_leaf_node(node, leaf, token.data())?;
         self.read_on()
+    }
+
+    /// The current token, which is a name, becomes a node.
+    #[tactic(auto, using(parser_rules::proofs::Then::leaf_run), unfolding(parser_rules::specs::Rule::inside, parser_rules::specs::Rule::holds))]
+    pub fn name(&mut self) -> Result<(), AllocError>
+        requires { true ≡ holds (At token.Name) self.old }
+        ensures { OnOk result (Runs (Child Name) self.old self.new) }
+    {
+        self.leaf_node(SyntaxKind::NAME, SyntaxKind::IDENT)?;
+        Ok(())
+    }
+
+    /// The same, for the name of a fragment.
+    #[tactic(auto, using(parser_rules::proofs::Then::leaf_run), unfolding(parser_rules::specs::Rule::inside, parser_rules::specs::Rule::holds))]
+    pub fn name_for_fragment(&mut self) -> Result<(), AllocError>
+        requires { true ≡ holds (At token.Name) self.old }
+        ensures { OnOk result (Runs (Child NameForFragment) self.old self.new) }
+    {
+        self.leaf_node(SyntaxKind::NAME, SyntaxKind::IDENT)?;
+        Ok(())
+    }
+
+    /// The same, for an enum's value.
+    #[tactic(auto, using(parser_rules::proofs::Then::leaf_run), unfolding(parser_rules::specs::Rule::inside, parser_rules::specs::Rule::holds))]
+    pub fn name_for_enum(&mut self) -> Result<(), AllocError>
+        requires { true ≡ holds (At token.Name) self.old }
+        ensures { OnOk result (Runs (Child NameForEnum) self.old self.new) }
+    {
+        self.leaf_node(SyntaxKind::NAME, SyntaxKind::IDENT)?;
+        Ok(())
+    }
+
+    /// The current token, which is an integer, becomes a node.
+    #[tactic(auto, using(parser_rules::proofs::Then::leaf_run), unfolding(parser_rules::specs::Rule::inside, parser_rules::specs::Rule::holds))]
+    pub fn int_value(&mut self) -> Result<(), AllocError>
+        requires { true ≡ holds (At token.Int) self.old }
+        ensures { OnOk result (Runs (Child IntValue) self.old self.new) }
+    {
+        self.leaf_node(SyntaxKind::INT_VALUE, SyntaxKind::INT)?;
+        Ok(())
+    }
+
+    /// The current token, which is a string, becomes a node.
+    #[tactic(auto, using(parser_rules::proofs::Then::leaf_run), unfolding(parser_rules::specs::Rule::inside, parser_rules::specs::Rule::holds))]
+    pub fn string_value(&mut self) -> Result<(), AllocError>
+        requires { true ≡ holds (At token.StringValue) self.old }
+        ensures { OnOk result (Runs (Child StringValue) self.old self.new) }
+    {
+        self.leaf_node(SyntaxKind::STRING_VALUE, SyntaxKind::STRING)?;
+        Ok(())
+    }
+
+    /// The current token, which is `true` or `false`, becomes a node.
+    pub fn boolean_value(&mut self) -> Result<(), AllocError>
+        requires { true ≡ holds (Either (Word kind.true_KW) (Word kind.false_KW)) self.old }
+        ensures { OnOk result (Runs (Child BooleanValue) self.old self.new) }
+    {
+        if self.at_word(SyntaxKind::true_KW) {
+            self.leaf_node(SyntaxKind::BOOLEAN_VALUE, SyntaxKind::true_KW)?;
+        } else {
+            self.leaf_node(SyntaxKind::BOOLEAN_VALUE, SyntaxKind::false_KW)?;
+        }
+        Ok(())
+    }
+
+    /// The present place in the open node, behind what waits, for a later `wrap`.
+    pub fn checkpoint(&mut self) -> Result<Checkpoint, AllocError>
+        ensures flushed { OnOk result (self.new ≡ state.flush self.old) }
+        ensures place { IfOk result (λ c. c.place ≡ built_count self.new.tree) }
+    {
+        self.push_pending()?;
+        Ok(self.builder.checkpoint())
+    }
+
+    /// Opens a node around what was added to the open one since the checkpoint.
+    pub fn wrap(&mut self, checkpoint: Checkpoint, kind: SyntaxKind) -> Result<(), AllocError>
+        requires { IsMark checkpoint.place self.old.tree }
+        ensures { OnOk result (self.new ≡ state.wrapped_from checkpoint.place kind self.old) }
+    {
+        self.builder.wrap(checkpoint, kind)
     }
 
     fn error_at(&self, message: Message, token: Token<'i>) -> Result<Error<A>, AllocError>
@@ -324,6 +492,19 @@ impl<'i, A: Allocator + Copy> ParserState<'i, A> {
             self.bump(kind)
         } else {
             self.err(Message::Expected(token))
+        }
+    }
+
+    /// The keyword becomes a leaf, or an error reports that it is missing.
+    #[tactic(auto, using(parser_rules::specs::Rule::skip, parser_rules::specs::Rule::seq, parser_rules::specs::Rule::yes, parser_rules::specs::Rule::no))]
+    pub fn expect_word(&mut self, keyword: SyntaxKind, message: Message) -> Result<(), AllocError>
+        requires { keywords.is_asked keyword ≡ true }
+        ensures { OnOk result (Runs (expect_word keyword message) self.old self.new) }
+    {
+        if self.at_word(keyword) {
+            self.bump(keyword)
+        } else {
+            self.err(message)
         }
     }
 

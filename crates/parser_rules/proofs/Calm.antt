@@ -1,5 +1,5 @@
 -- A state without a new report: what is left to read, and that reading on keeps it so or reports.
-use Rattle.std.proofs.Common.{◌≡◌, Bool, true, false, ltb, if◌then◌else◌, List, [], ◌∷◌, ◌++◌, Option, Some, None, refl, sym, ap, ◌∙◌, subst, ◌⊎◌, inl, inr, append_assoc, append-nil}
+use Rattle.std.proofs.Common.{◌≡◌, Bool, true, false, ltb, if◌then◌else◌, List, [], ◌∷◌, ◌++◌, Option, Some, None, refl, sym, ap, ap₂, ◌∙◌, subst, ◌⊎◌, inl, inr, append_assoc, append-nil}
 use Rattle.std.specs.Prelude.{⊤}
 use Rattle.lexical_grammar.specs.declared.TokenKind.{TokenKind}
 use Rattle.lexical_grammar.specs.declared.TokenKind.TheVariants as token
@@ -9,7 +9,7 @@ use Rattle.document_grammar.specs.declared.kind.SyntaxKind.{SyntaxKind}
 use Rattle.document_grammar.specs.Numbers.{number}
 use Rattle.document_grammar.specs.Kinds.{ERROR}
 use Rattle.document_grammar.specs.Tree.{Token}
-use Rattle.document_grammar.specs.Sentence.{token_of}
+use Rattle.document_grammar.specs.Sentence.{token_of, leaf_number}
 use Rattle.document_grammar.proofs.Basics.{either, false-true, and-i, and-l, and-r}
 use Rattle.document_grammar.specs.Machine.{◌and◌}
 use Rattle.parser_rules.specs.State.{State, Text, Lexeme, Part, Report, at_text, at_limit, ignored, wait, bad, met, lexeme, read_on}
@@ -124,6 +124,40 @@ all_ignored-append : (parts : List Part) (part : Part) → all_ignored parts ≡
 unfolding ◌and◌
 all_ignored-append [] part h g = and-i g refl
 all_ignored-append (p ∷ parts) part h g = and-i (and-l _ _ h) (all_ignored-append parts part (and-r _ _ h) g)
+
+-- ---- the current token
+
+-- the tokens that the end and any other current token give
+end-kind : (k : TokenKind) → is_end k ≡ true → k ≡ token.Eof
+end-kind token.Eof e = refl
+end-kind _ e = absurd cc
+
+significant : (k : TokenKind) (text : Text) → is_end k ≡ false → ignored k ≡ None → kind_tokens k text ≡ (leaf_number k, text) ∷ []
+significant token.Whitespace text e i = absurd cc
+significant token.Comment text e i = absurd cc
+significant token.Comma text e i = absurd cc
+significant token.Eof text e i = absurd cc
+significant _ text e i = refl
+
+-- the current token is the end, and nothing is left; or it is the first that is left
+pub record AtEnd (t : Lexeme) (items : List Answer) : Type 0 where
+  pub kind : t.kind ≡ token.Eof
+  pub none : items ≡ []
+  pub nothing : current_tokens (Some t) ++ answers_tokens items ≡ []
+
+pub record AtToken (t : Lexeme) (items : List Answer) : Type 0 where
+  pub is_end : is_end t.kind ≡ false
+  pub shown : ignored t.kind ≡ None
+  pub first : current_tokens (Some t) ++ answers_tokens items ≡ (leaf_number t.kind, t.text) ∷ answers_tokens items
+
+pub standing : (t : Lexeme) (items : List Answer) → Now (Some t) items → AtEnd t items ⊎ AtToken t items
+standing t items n = elim (either (is_end t.kind)) [
+  | inl e ↦ (
+      let k = end-kind t.kind e in
+      let none : items ≡ [] = subst (λ (b : Bool). choose b (items ≡ []) (EndsWell items)) e n.1 in
+      inl (record { kind = k; none = none; nothing = ap₂ (λ (j : TokenKind) (xs : List Answer). kind_tokens j t.text ++ answers_tokens xs) k none }))
+  | inr e ↦ inr (record { is_end = e; shown = n.0; first = ap (λ (v : List Token). v ++ answers_tokens items) (significant t.kind t.text e n.0) })
+]
 
 module _ (answers : List Answer) (base : List Report) where
   -- the reports go on

@@ -1,13 +1,11 @@
 -- Nothing comes behind the end, and the text of the end is empty.
 use Rattle.std.proofs.Common.{◌≡◌, Option, Some, None, List, [], ◌∷◌, ◌++◌, refl, sym, subst, true, false}
-use Rattle.lexical_grammar.specs.declared.TokenKind.{TokenKind}
-use Rattle.lexical_grammar.specs.Cut.{Item}
 use Rattle.lexical_grammar.specs.Answers.{Answer, gives, limit_at, is_end, IsLast, AreAnswers}
-use Rattle.document_grammar.specs.declared.kind.SyntaxKind.{SyntaxKind}
-use Rattle.document_grammar.specs.Builds.{start, add_leaf}
-use Rattle.parser_rules.specs.State.{State, Lexeme, ignored, bad, met, wait, lexeme, found_at, at_limit, read_on, flush, closed, enter, leave, deepened}
+use Rattle.document_grammar.specs.Builds.{start, add_leaf, built_count}
+use Rattle.parser_rules.specs.State.{State, Lexeme, ignored, bad, met, wait, found_at, at_limit, read_on, flush, closed, wrapped_from, enter, leave, deepened}
 use Rattle.parser_rules.specs.Rule.{Rule, Runs}
 use Rattle.parser_rules.proofs.Steps.{Holds_along, along}
+use Rattle.parser_rules.proofs.Kept.{on_kind, on_item}
 
 unfoldable pub EndNow : Option Lexeme → List Answer → Type 0
 EndNow None items = items ≡ []
@@ -17,17 +15,8 @@ pub record Ends (s : State) : Type 0 where
   pub answers : AreAnswers s.items
   pub now : EndNow s.current s.items
 
-on_kind : List Answer → State → Item → TokenKind → Option SyntaxKind → State
-on_kind rest s item k found = elim found [
-  | Some leaf ↦ read_on rest (wait leaf item.text (record s { items = rest }))
-  | None ↦ record s { items = rest; current = Some (lexeme k item) }
-]
-
-on_item : List Answer → State → Item → Option TokenKind → State
-on_item rest s item found = elim found [ None ↦ read_on rest (bad item.text item.index (record s { items = rest })) | Some k ↦ on_kind rest s item k (ignored k) ]
-
 pub read_ends : (xs : List Answer) (s : State) → s.items ≡ xs → AreAnswers xs → Ends (read_on xs s)
-unfolding read_on on_kind on_item EndNow
+unfolding read_on EndNow
 read_ends [] s e h = record { answers = subst AreAnswers (sym e) tt; now = e }
 read_ends (limit_at index ∷ rest) s e h = read_ends rest (met index (record s { items = rest })) refl (subst AreAnswers (sym h) tt)
 read_ends (gives item ∷ rest) s e h = (elim item.kind as (λ found. IsLast found rest → Ends (on_item rest s item found)) [
@@ -45,7 +34,7 @@ same_reading : (s t : State) → t.items ≡ s.items → t.current ≡ s.current
 same_reading s t i c h = record { answers = subst AreAnswers (sym i) h.answers; now = subst (λ o. EndNow o t.items) (sym c) (subst (EndNow s.current) (sym i) h.now) }
 
 kept_along : Holds_along Kept
-unfolding flush closed enter leave
+unfolding flush closed enter leave wrapped_from
 kept_along = record {
   same = λ s h. h;
   next = λ s t u h k e. k (h e);
@@ -53,9 +42,10 @@ kept_along = record {
   moves = λ leaf x s e w h. read_ends s.items (record s { tree = add_leaf leaf x.text s.tree }) refl h.answers;
   reports = λ x s c a. same_reading s (record s { errors = s.errors ++ record { found = found_at x; index = x.index } ∷ [] }) refl refl;
   limits = λ x s c a. same_reading s (record s { errors = s.errors ++ record { found = at_limit; index = x.index } ∷ []; accepts = false }) refl refl;
-  asks = λ s e. same_reading s (deepened s) refl refl;
+  asks = λ s. same_reading s (deepened s) refl refl;
   nodes = λ k s u h e. same_reading u (closed u) refl refl (h (same_reading s (record s { tree = start k s.tree }) refl refl e));
   levels = λ s u q h e. same_reading u (leave u) refl refl (h (same_reading s (enter s) refl refl e));
+  wraps = λ k t u w h l e. same_reading w (closed w) refl refl (l (same_reading u (wrapped_from (built_count t.tree) k u) refl refl (h e)));
 }
 
 pub ends : {r : Rule} {s t : State} → Runs r s t → Ends s → Ends t

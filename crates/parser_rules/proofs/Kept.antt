@@ -1,13 +1,17 @@
 -- What all runs keep: the open nodes, the nesting and its limit; and no more is left than before.
-use Rattle.std.proofs.Common.{◌≡◌, ℕ, ◌+◌, ◌<◌, ◌≤◌, Option, Some, None, List, [], ◌∷◌, ◌++◌, length, refl, sym, ◌∙◌, ap, subst, arith, true, false}
+use Rattle.std.proofs.Common.{◌≡◌, ℕ, zero, suc, ◌+◌, ◌-◌, ◌<◌, ◌≤◌, Option, Some, None, List, [], ◌∷◌, ◌++◌, length, refl, sym, ◌∙◌, ap, ap₂, subst, arith, true, false}
 use Rattle.std.proofs.lemmas.Bool.{leb-false}
 use Rattle.lexical_grammar.specs.declared.TokenKind.{TokenKind}
 use Rattle.lexical_grammar.specs.Cut.{Item}
 use Rattle.lexical_grammar.specs.Answers.{Answer, gives, limit_at}
 use Rattle.document_grammar.specs.declared.kind.SyntaxKind.{SyntaxKind}
-use Rattle.document_grammar.specs.Builds.{Building, Open, nothing, start, add_leaf, finish}
-use Rattle.parser_rules.specs.State.{State, Lexeme, Part, ignored, bad, met, wait, lexeme, read_on, add_all, flush, opened, closed, found_at, at_limit, is_at, is_deep, enter, leave, deepened, too_deep, fresh, begun}
-use Rattle.parser_rules.specs.Open.{is_free, is_free_in, IsOpen, IsInside, IsRoot}
+use Rattle.document_grammar.specs.Builds.{Building, Open, nothing, start, add_leaf, close, finish, built_count, open_count, front, wrap, wrap_at, IsSeam, IsPlace}
+use Rattle.document_grammar.specs.Forests.{Forest, count, join}
+use Rattle.document_grammar.specs.Forests as built
+use Rattle.document_grammar.specs.Joins.{join-none, join_assoc}
+use Rattle.document_grammar.proofs.Built.{front-join, back-join}
+use Rattle.parser_rules.specs.State.{State, Lexeme, Part, ignored, bad, met, wait, lexeme, read_on, add_all, flush, opened, closed, wrapped_from, found_at, at_limit, is_at, is_deep, enter, leave, deepened, too_deep, fresh, begun}
+use Rattle.parser_rules.specs.Open.{is_free, is_free_in, IsOpen, IsMark, IsInside, IsRoot}
 use Rattle.parser_rules.specs.Rule.{Test, At, holds, Rule, Skip, While, Runs, done, again, refused, Turns, begin, turn}
 use Rattle.parser_rules.proofs.Steps.{Holds_along, along, turns_along}
 
@@ -134,6 +138,11 @@ nodes : (k : SyntaxKind) (s u : State) → Keeps (record s { tree = start k s.tr
 unfolding closed left tail
 nodes k s u h = record { above = finish_tail u.tree ∙ ap tail h.above; fewer = h.fewer; depth = h.depth; limit = h.limit; asked = h.asked; higher = h.higher; bound = h.bound }
 
+-- a node that wraps what was added since `t`
+wraps : (k : SyntaxKind) (t u w : State) → Keeps t u → Keeps (wrapped_from (built_count t.tree) k u) w → Keeps t (closed w)
+unfolding closed left tail wrapped_from
+wraps k t u w h l = next t u (closed w) h (record { above = finish_tail w.tree ∙ ap tail l.above; fewer = l.fewer; depth = l.depth; limit = l.limit; asked = l.asked; higher = l.higher; bound = l.bound })
+
 pub not_deep : (s : State) → false ≡ is_deep s → s.depth < s.limit
 unfolding is_deep
 not_deep s e = leb-false s.limit s.depth (sym e)
@@ -163,9 +172,10 @@ keeps_along = record {
   moves = λ leaf x s e w. moves leaf x s e;
   reports = λ x s c a. calm s (record s { errors = s.errors ++ record { found = found_at x; index = x.index } ∷ [] }) refl (omega arith) refl refl refl refl;
   limits = λ x s c a. calm s (record s { errors = s.errors ++ record { found = at_limit; index = x.index } ∷ []; accepts = false }) refl (omega arith) refl refl refl refl;
-  asks = λ s e. asks s;
+  asks = asks;
   nodes = nodes;
   levels = levels;
+  wraps = wraps;
 }
 
 -- no run leaves a node or a level open, or closes one that it did not open
@@ -177,6 +187,77 @@ turned h = turns_along keeps_along h
 
 pub fewer : {r : Rule} {s t : State} → Runs r s t → left t ≤ left s
 fewer h = (keeps h).fewer
+
+-- ---- what is added
+
+-- each run only adds trees to the open node
+pub record Adds (s t : State) : Type 0 where
+  pub above : t.tree.above ≡ s.tree.above
+  pub more : Forest
+  pub here : t.tree.here ≡ join s.tree.here more
+
+adds_none : (s t : State) → t.tree ≡ s.tree → Adds s t
+adds_none s t e = record { above = ap (λ b. b.above) e; more = built.none; here = ap (λ b. b.here) e ∙ sym (join-none s.tree.here) }
+
+adds_next : (s t u : State) → Adds s t → Adds t u → Adds s u
+adds_next s t u h k = record { above = k.above ∙ h.above; more = join h.more k.more; here = k.here ∙ (ap (λ f. join f k.more) h.here ∙ join_assoc s.tree.here h.more k.more) }
+
+abbrev parts_forest : List Part → Forest
+parts_forest [] = built.none
+parts_forest (p ∷ parts) = built.leaf p.kind p.text (parts_forest parts)
+
+add_all_here : (parts : List Part) (b : Building) → (add_all parts b).here ≡ join b.here (parts_forest parts)
+add_all_here [] b = sym (join-none b.here)
+add_all_here (p ∷ parts) b = add_all_here parts (add_leaf p.kind p.text b) ∙ join_assoc b.here (built.leaf p.kind p.text built.none) (parts_forest parts)
+
+adds_waiting : (s : State) → Adds s (flush s)
+unfolding flush
+adds_waiting s = record { above = add_all_above s.waiting s.tree; more = parts_forest s.waiting; here = add_all_here s.waiting s.tree }
+
+adds_leaf : (k : SyntaxKind) (x : Lexeme) (s : State) → Adds s (read_on s.items (record s { tree = add_leaf k x.text s.tree }))
+adds_leaf k x s = let e = (read_untouched s.items (record s { tree = add_leaf k x.text s.tree })).tree in record { above = ap (λ b. b.above) e; more = built.leaf k x.text built.none; here = ap (λ b. b.here) e }
+
+-- a node that was opened behind the trees `before` is closed
+closed_here : (before : Forest) (k : SyntaxKind) (above : List Open) (w : Building) → w.above ≡ record { before = before; kind = k } ∷ above → finish w ≡ record { here = join before (built.node k w.here built.none); above = above }
+closed_here before k above w e = ap (close w.here) e
+
+adds_node : (s u w : State) (before : Forest) (k : SyntaxKind) → u.tree.above ≡ record { before = before; kind = k } ∷ s.tree.above → before ≡ s.tree.here → w.tree.above ≡ u.tree.above → Adds s (closed w)
+unfolding closed
+adds_node s u w before k e b a =
+    let f = closed_here before k s.tree.above w.tree (a ∙ e) in
+    record { above = ap (λ b. b.above) f; more = built.node k w.tree.here built.none; here = ap (λ b. b.here) f ∙ ap (λ f. join f (built.node k w.tree.here built.none)) b }
+
+place_left : (o c : ℕ) → (o + c) - o ≡ c
+place_left o c = omega arith
+
+-- the new node holds what was added since
+pub wrap_added : (k : SyntaxKind) (t u : Building) (more : Forest) → u.above ≡ t.above → u.here ≡ join t.here more → wrap (built_count t) k u ≡ record { here = more; above = record { before = t.here; kind = k } ∷ t.above }
+wrap_added k t u more a e =
+    ap₂ (λ above here. wrap (built_count t) k (record { here = here; above = above })) a e
+    ∙ (ap (λ n. wrap_at n k (record { here = join t.here more; above = t.above })) (place_left (open_count t.above) (count t.here))
+    ∙ ap₂ (λ f b. record { here = b; above = record { before = f; kind = k } ∷ t.above }) (front-join t.here more) (back-join t.here more))
+
+adds_wrap : (k : SyntaxKind) (t u w : State) → Adds t u → Adds (wrapped_from (built_count t.tree) k u) w → Adds t (closed w)
+unfolding wrapped_from
+adds_wrap k t u w h l = adds_node t (wrapped_from (built_count t.tree) k u) w t.tree.here k (ap (λ b. b.above) (wrap_added k t.tree u.tree h.more h.above h.here)) refl l.above
+
+abbrev adds_along : Holds_along Adds
+unfolding enter leave
+adds_along = record {
+  same = λ s. adds_none s s refl;
+  next = adds_next;
+  flushes = adds_waiting;
+  moves = λ leaf x s e w. adds_leaf leaf x s;
+  reports = λ x s c a. adds_none s (record s { errors = s.errors ++ record { found = found_at x; index = x.index } ∷ [] }) refl;
+  limits = λ x s c a. adds_none s (record s { errors = s.errors ++ record { found = at_limit; index = x.index } ∷ []; accepts = false }) refl;
+  asks = λ s. adds_none s (deepened s) refl;
+  nodes = λ k s u h. adds_node s (record s { tree = start k s.tree }) u s.tree.here k refl refl h.above;
+  levels = λ s u d h. record { above = h.above; more = h.more; here = h.here };
+  wraps = adds_wrap;
+}
+
+pub adds : {r : Rule} {s t : State} → Runs r s t → Adds s t
+adds h = along adds_along h
 
 -- ---- what closing a node and leaving a level require: steps that `search` chains
 
@@ -210,6 +291,40 @@ is_inside s e = subst (λ w. 0 < w.depth) (sym e) (omega arith)
 pub still_inside : {r : Rule} {s t : State} → Runs r s t → IsInside s → IsInside t
 unfolding IsInside
 still_inside h i = let k = (keeps h).depth in omega (arith, i, k)
+
+pub open_wrapped : (k : SyntaxKind) (place : ℕ) (s : State) {t : State} → is_free k ≡ true → t ≡ wrapped_from place k s → IsOpen t.tree
+unfolding wrapped_from IsOpen
+open_wrapped k place s free e = subst (λ w. is_free_in w.tree.above ≡ true) (sym e) free
+
+mark_seam : (f : Forest) → IsSeam (count f) f
+mark_seam f = ap count (ap (front (count f)) (sym (join-none f)) ∙ front-join f built.none)
+
+-- the place behind all that is built
+pub is_mark : (s : State) (place : ℕ) → place ≡ built_count s.tree → IsMark place s.tree
+unfolding IsMark
+is_mark s place e = subst (λ n. IsPlace n s.tree) (sym e) (record { inside = omega arith; seam = subst (λ n. IsSeam n s.tree.here) (sym (place_left (open_count s.tree.above) (count s.tree.here))) (mark_seam s.tree.here) })
+
+rest_seam : (n c m : ℕ) → suc (c + m) ≡ suc n → m ≡ n - c
+rest_seam n c m e = omega arith
+
+back_seam : (n c m m' : ℕ) → suc (c + m) ≡ suc n → m' ≡ n - c → suc (c + m') ≡ suc n
+back_seam n c m m' e f = omega arith
+
+-- a seam stays one when trees are added
+seam_join : (n : ℕ) (f g : Forest) → IsSeam n f → IsSeam n (join f g)
+seam_join zero f g h = refl
+seam_join (suc n) built.none g h = absurd cc
+seam_join (suc n) (built.leaf k s rest) g h = ap suc (seam_join n rest g (omega (arith, h)))
+seam_join (suc n) (built.node k kids rest) g h =
+    back_seam n (count kids) (count (front (n - count kids) rest)) (count (front (n - count kids) (join rest g))) h (seam_join (n - count kids) rest g (rest_seam n (count kids) (count (front (n - count kids) rest)) h))
+
+pub still_mark : (place : ℕ) {r : Rule} {s t : State} → Runs r s t → IsMark place s.tree → IsMark place t.tree
+unfolding IsMark
+still_mark place {s = s} {t = t} h m =
+    let a = adds h in
+    subst (λ f. IsPlace place (record { here = f; above = t.tree.above })) (sym a.here)
+    (subst (λ above. IsPlace place (record { here = join s.tree.here a.more; above = above })) (sym a.above)
+    (record { inside = m.inside; seam = seam_join (place - open_count s.tree.above) s.tree.here a.more m.seam }))
 
 -- a token that is there is still there in a node that was opened
 pub still_at : (k : SyntaxKind) (kind : TokenKind) (s : State) {t : State} → true ≡ holds (At kind) s → t ≡ opened k s → true ≡ holds (At kind) t

@@ -1,8 +1,10 @@
 pub mod Strip
 pub mod Calm
 pub mod Sets
+pub mod Entries
 pub mod Check
 pub mod Checked
+pub mod Image
 pub mod Link
 pub mod Sound
 pub mod Endings
@@ -12,6 +14,8 @@ pub mod Takes
 pub mod Then
 pub mod Parts
 pub mod Ends
+pub mod LeafCheck
+pub mod LeafChecked
 pub mod OneLeaf
 pub mod Told
 pub mod Rising

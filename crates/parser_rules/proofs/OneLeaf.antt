@@ -1,32 +1,40 @@
 -- Each item becomes one leaf: runs of the grammar's rules give each token a leaf of its own kind, or an ERROR.
-use Rattle.std.proofs.Common.{◌≡◌, ℕ, ◌≤◌, Option, Some, None, List, [], ◌∷◌, ◌++◌, refl, sym, ◌∙◌, ap, ap₂, subst, true, false, Bool, if◌then◌else◌, cond, leb, eqb, rules, append_assoc, append-nil, not, inl, inr, true≢false, arith}
-use Rattle.std.specs.Prelude.{⊤}
-use Rattle.std.proofs.lemmas.Bool.{le-ltb, eqb-true, leb-true}
-use denote.Enum.Bare.{same_true}
-use Rattle.lexical_grammar.specs.contracts.TokenKind.{the_type}
+use Rattle.std.proofs.Common.{◌≡◌, ℕ, zero, suc, ◌-◌, Option, Some, None, List, [], ◌∷◌, ◌++◌, refl, sym, ◌∙◌, ap, ap₂, subst, true, false, Bool, if◌then◌else◌, cond, eqb, append_assoc, append-nil, not, inl, inr, eqb-true}
 use Rattle.lexical_grammar.specs.declared.TokenKind.{TokenKind}
 use Rattle.lexical_grammar.specs.declared.TokenKind.TheVariants as token
 use Rattle.lexical_grammar.specs.Cut.{Item}
 use Rattle.lexical_grammar.specs.Answers.{Answer, gives, limit_at, is_end, AreAnswers, answers_text, IsItemText}
 use Rattle.document_grammar.specs.declared.kind.SyntaxKind.{SyntaxKind}
 use Rattle.document_grammar.specs.declared.kind.SyntaxKind.TheVariants as kind
-use Rattle.document_grammar.specs.Kinds.{STRING, IDENT}
+use Rattle.document_grammar.specs.Kinds.{IDENT, is_keyword}
+use Rattle.document_grammar.specs.Labels.{labels}
 use Rattle.document_grammar.specs.Numbers.{number}
 use Rattle.document_grammar.specs.Forests.{Forest, none, leaf, node, text, join}
-use Rattle.document_grammar.specs.Builds.{Building, Open, start, add_leaf, finish, close}
+use Rattle.document_grammar.specs.Builds.{Building, Open, start, add_leaf, finish, close, front, back, wrap, open_count}
+use Rattle.document_grammar.specs.Derivation.{spelled, LeafRule}
 use Rattle.document_grammar.specs.Sentence.{leaf_number}
-use Rattle.document_grammar.specs.Machine.{◌and◌, ◌or◌}
-use Rattle.document_grammar.proofs.Basics.{and-l, and-r, either}
-use Rattle.parser_rules.specs.State.{State, Text, Lexeme, Part, Found, ignored, same_kind, bad, met, wait, lexeme, read_on, add_all, flush, opened, closed, moved, bump, found_at, fault, noted, note, is_at, is_word, is_over, enter, leave, deepened, limited_at, too_deep, at_limit, fresh, begun, finished}
+use Rattle.document_grammar.specs.Table.{name_leaves}
+use Rattle.document_grammar.specs.Machine.{◌and◌, ◌or◌, holds as within, is_leaf, entries, fires, class, token as token_of_leaf}
+use Rattle.document_grammar.proofs.Basics.{false-true, and-l, and-r, either, below-at, implies, holds-disjoint}
+use Rattle.document_grammar.proofs.Built.{join-front_back}
+use Rattle.document_grammar.proofs.Checks.{subset, all_below}
+use Rattle.document_grammar.proofs.Patterns.{label}
+use Rattle.document_grammar.proofs.Rules.{leaf-rule}
+use Rattle.document_grammar.proofs.Sound.{any, leaf-lt, leaf-ok, leaf-token}
+use Rattle.document_grammar.proofs.Steps.{hits-fires}
+use Rattle.parser_rules.specs.State.{State, Text, Lexeme, Part, Found, ignored, bad, met, wait, read_on, second, add_all, flush, opened, closed, wrapped_from, moved, bump, found_at, fault, noted, note, is_over, enter, leave, deepened, limited_at, too_deep, at_limit, fresh, begun, finished}
 use Rattle.parser_rules.specs.Open.{is_free, IsRoot}
-use Rattle.parser_rules.specs.Leaves.{leaves, IsLeafOf, IsLeafOfToken, Belongs, OneLeafAnItem, nothing, one, the_end, the_limit}
+use Rattle.parser_rules.specs.Leaves.{leaves, IsLeafOf, IsLeafOfToken, OneLeafAnItem, nothing, one, the_end, the_limit}
 use Rattle.parser_rules.specs.Rule as rule
 use Rattle.parser_rules.specs.declared.message.Message.{Message}
-use Rattle.parser_rules.specs.Rule.{Test, At, Word, Ready, holds, Prim, Bump, Note, step, Node, kind_of, inside, body, Rule, Skip, Do, Seq, When, While, Child, Nested, Call, Runs, skip, does, seq, yes, no, done, again, child, deeper, refused, call}
-use Rattle.parser_rules.proofs.Takes.{stays, stayed}
-use Rattle.parser_rules.proofs.Kept.{add_all_above, root_kept}
+use Rattle.parser_rules.specs.Rule.{At, holds, Prim, Bump, Note, TooDeep, step, Node, kind_of, inside, body, Rule, Skip, Do, Seq, When, While, Child, Nested, Call, Typed, Runs, skip, does, seq, yes, no, done, again, child, deeper, refused, call, plain, wrapped}
+use Rattle.parser_rules.proofs.Kept.{on_kind, on_item, add_all_above, root_kept}
 use Rattle.parser_rules.proofs.Parts.{Parts, parts}
 use Rattle.parser_rules.proofs.Ends.{EndNow, ends, read_ends}
+use Rattle.parser_rules.proofs.Sets.{absent, over, class_of, Shown, second-shown, read-second, of-any, Seen, seen-any, seen-more, seen-same, split, Branch, split-at}
+use Rattle.parser_rules.proofs.Entries.{near_of, far_of, inlined}
+use Rattle.parser_rules.proofs.LeafCheck.{is_error, belongs, bump_to, checks, fine, node_checks}
+use Rattle.parser_rules.proofs.LeafChecked.{leaf_checked, document_checked}
 
 -- ---- the leaves of what is built
 
@@ -56,6 +64,11 @@ leaves_close here (o ∷ above) =
 leaves_finish : (b : Building) → built_leaves (finish b) ≡ built_leaves b
 leaves_finish b = leaves_close b.here b.above
 
+leaves_wrap : (place : ℕ) (k : SyntaxKind) (b : Building) → built_leaves (wrap place k b) ≡ built_leaves b
+leaves_wrap place k b =
+    let n = place - open_count b.above in
+    append_assoc (open_leaves b.above) (leaves (front n b.here)) (leaves (back n b.here)) ∙ ap (λ l. open_leaves b.above ++ l) (sym (leaves-join (front n b.here) (back n b.here)) ∙ ap leaves (join-front_back n b.here))
+
 leaves_all : (ps : List Part) (b : Building) → built_leaves (add_all ps b) ≡ built_leaves b ++ ps
 leaves_all [] b = sym (append-nil (built_leaves b))
 leaves_all (p ∷ ps) b = leaves_all ps (add_leaf p.kind p.text b) ∙ ap (λ l. l ++ ps) (leaves_leaf p.kind p.text b) ∙ append_assoc (built_leaves b) (p ∷ []) ps
@@ -73,13 +86,8 @@ to_come (Some x) xs = gives (record { kind = Some x.kind; text = x.text; index =
 Fits : State → State → Type 0
 Fits s t = (ls : List Part) → OneLeafAnItem (to_come t.current t.items) ls → (ms : List Part) × (stock t ++ ls ≡ stock s ++ ms) × OneLeafAnItem (to_come s.current s.items) ms
 
--- the current token is not an ignored one
-Significant : Option Lexeme → Type 0
-Significant None = ⊤
-Significant (Some x) = ignored x.kind ≡ None
-
 Kept : State → State → Type 0
-Kept s t = Significant s.current → Significant t.current × Fits s t
+Kept s t = Shown s.current → Shown t.current × Fits s t
 
 fits_next : (s t u : State) → Fits s t → Fits t u → Fits s u
 unfolding Fits
@@ -98,22 +106,13 @@ same s c = (c, λ ls o. (ls, refl, o))
 
 calm : (s t : State) → stock t ≡ stock s → t.current ≡ s.current → t.items ≡ s.items → Kept s t
 unfolding Kept Fits
-calm s t e c i h = (subst Significant (sym c) h, λ ls o. (ls, ap (λ l. l ++ ls) e, subst (λ x. OneLeafAnItem (to_come x s.items) ls) c (subst (λ xs. OneLeafAnItem (to_come t.current xs) ls) i o)))
+calm s t e c i h = (subst Shown (sym c) h, λ ls o. (ls, ap (λ l. l ++ ls) e, subst (λ x. OneLeafAnItem (to_come x s.items) ls) c (subst (λ xs. OneLeafAnItem (to_come t.current xs) ls) i o)))
 
 -- ---- reading on
 
-on_kind : List Answer → State → Item → TokenKind → Option SyntaxKind → State
-on_kind rest s item k found = elim found [
-  | Some own ↦ read_on rest (wait own item.text (record s { items = rest }))
-  | None ↦ record s { items = rest; current = Some (lexeme k item) }
-]
-
-on_item : List Answer → State → Item → Option TokenKind → State
-on_item rest s item found = elim found [ None ↦ read_on rest (bad item.text item.index (record s { items = rest })) | Some k ↦ on_kind rest s item k (ignored k) ]
-
 -- what was read has its leaves
 Reads : State → List Answer → State → Type 0
-Reads s xs t = Significant t.current × ((ls : List Part) → OneLeafAnItem (to_come t.current t.items) ls → (ms : List Part) × (stock t ++ ls ≡ stock s ++ ms) × OneLeafAnItem xs ms)
+Reads s xs t = Shown t.current × ((ls : List Part) → OneLeafAnItem (to_come t.current t.items) ls → (ms : List Part) × (stock t ++ ls ≡ stock s ++ ms) × OneLeafAnItem xs ms)
 
 one_more : (b w : List Part) (p : Part) (ms : List Part) → (b ++ (w ++ p ∷ [])) ++ ms ≡ (b ++ w) ++ (p ∷ ms)
 one_more b w p ms = ap (λ l. l ++ ms) (sym (append_assoc b w (p ∷ []))) ∙ append_assoc (b ++ w) (p ∷ []) ms
@@ -132,7 +131,7 @@ unfolding Reads
 limits s t index rest h = (h.0, λ ls o. let a = h.1 ls o in (a.0, a.1, the_limit a.2))
 
 read_fits : (xs : List Answer) (s : State) → s.items ≡ xs → Reads s xs (read_on xs s)
-unfolding read_on on_kind on_item Reads Significant
+unfolding read_on Reads
 read_fits [] s e = (tt, λ ls o. (ls, refl, subst (λ xs. OneLeafAnItem xs ls) e o))
 read_fits (limit_at index ∷ rest) s e = limits s (read_on rest (met index (record s { items = rest }))) index rest (read_fits rest (met index (record s { items = rest })) refl)
 read_fits (gives item ∷ rest) s e = (elim item.kind as (λ found. item.kind ≡ found → Reads s (gives item ∷ rest) (on_item rest s item found)) [
@@ -195,65 +194,56 @@ deepens : (s : State) → Kept s (too_deep s)
 unfolding too_deep
 deepens s = next s (deepened s) (too_deep s) (calm s (deepened s) refl refl refl) (limited (deepened s) s.current)
 
--- ---- what is known of the current token
+-- ---- the tokens that are there
 
-Known : Option Test → State → Type 0
-Known None s = ⊤
-Known (Some q) s = true ≡ holds q s
+-- what is read and what is left to read is the same
+abbrev Same : State → State → Type 0
+Same s t = (t.current ≡ s.current) × (t.items ≡ s.items)
 
-known_same : (q : Option Test) (s t : State) → t.current ≡ s.current → Known q s → Known q t
-unfolding Known holds
-known_same None s t e h = tt
-known_same (Some (At k)) s t e h = h ∙ sym (ap (λ o. is_at k o) e)
-known_same (Some (Word k)) s t e h = h ∙ sym (ap (λ o. is_word k o) e)
-known_same (Some Ready) s t e h = h ∙ sym (ap (λ o. not (is_over o)) e)
+fault-same : (found : Found) (index : ℕ) (s : State) → Same s (fault found index s)
+fault-same found index s = elim s.accepts as (λ b. Same s (if b then record s { errors = s.errors ++ record { found = found; index = index } ∷ [] } else s)) [ true ↦ (refl, refl) | false ↦ (refl, refl) ]
 
--- the leaf is an ERROR, or one of a known token
-abbrev pub is_error : SyntaxKind → Bool
-is_error kind.ERROR = true
-is_error _ = false
+noted-same : (s : State) (o : Option Lexeme) → Same s (noted s o)
+noted-same s None = (refl, refl)
+noted-same s (Some x) = fault-same (found_at x) x.index s
 
-abbrev pub is_known : Option Test → SyntaxKind → Bool
-is_known (Some (At k)) own = eqb (number own) (leaf_number k) and leb (number own) STRING
-is_known _ own = false
+note-same : (s : State) → Same s (note s)
+unfolding note
+note-same s = noted-same s s.current
 
--- what is known where a node begins
-abbrev pub entry : Node → Test
-entry rule.ShortQuery = At token.LCurly
-entry rule.SelectionSet = At token.LCurly
-entry rule.Field = At token.Name
-entry rule.Name = At token.Name
+limited-same : (s : State) (o : Option Lexeme) → Same s (limited_at s o)
+limited-same s None = (refl, refl)
+limited-same s (Some x) = fault-same at_limit x.index s
 
-abbrev pub is_entry : Option Test → Test → Bool
-is_entry (Some (At k)) (At l) = same_kind k l
-is_entry _ _ = false
+deep-same : (s : State) → Same s (too_deep s)
+unfolding too_deep
+deep-same s = limited-same (deepened s) s.current
 
--- each token gets a leaf of its kind, or an ERROR
-unfoldable pub checks : Option Test → Rule → Bool
-checks q Skip = true
-checks q (Do (Bump own)) = is_error own or is_known q own
-checks q (Do (Note m)) = true
-checks q (Seq a b) = checks q a and checks (if stays a then q else None) b
-checks q (When p a b) = checks (Some p) a and checks q b
-checks q (While p a) = checks (Some p) a
-checks q (Child n) = is_entry q (entry n)
-checks q (Nested a b) = checks q a and checks None b
-checks q (Call p) = true
+opened-same : (k : SyntaxKind) (s t : State) → t ≡ opened k s → Same s t
+unfolding opened flush
+opened-same k s t e = (ap (λ w. w.current) e, ap (λ w. w.items) e)
 
-node_checks : (n : Node) → checks (Some (entry n)) (inside n) ≡ true
-unfolding checks inside ◌and◌ ◌or◌ same_kind
-node_checks rule.ShortQuery = refl
-node_checks rule.SelectionSet = refl
-node_checks rule.Field = refl
-node_checks rule.Name = refl
+flush-same : (s t : State) → t ≡ flush s → Same s t
+unfolding flush
+flush-same s t e = (ap (λ w. w.current) e, ap (λ w. w.items) e)
 
-part_checks : (p : rule.Part) → checks None (body p) ≡ true
-unfolding checks body ◌and◌ ◌or◌ same_kind
-part_checks rule.Selections = refl
-part_checks rule.Definition = refl
-part_checks rule.Document = refl
+closed-same : (s t : State) → t ≡ closed s → Same s t
+unfolding closed
+closed-same s t e = (ap (λ w. w.current) e, ap (λ w. w.items) e)
 
--- ---- a leaf that is known fits
+entered-same : (s t : State) → t ≡ enter s → Same s t
+unfolding enter
+entered-same s t e = (ap (λ w. w.current) e, ap (λ w. w.items) e)
+
+left-same : (s t : State) → t ≡ leave s → Same s t
+unfolding leave
+left-same s t e = (ap (λ w. w.current) e, ap (λ w. w.items) e)
+
+wrapped-same : (place : ℕ) (k : SyntaxKind) (s t : State) → t ≡ wrapped_from place k s → Same s t
+unfolding wrapped_from
+wrapped-same place k s t e = (ap (λ w. w.current) e, ap (λ w. w.items) e)
+
+-- ---- a leaf that belongs to its token
 
 error_is : (k : SyntaxKind) → is_error k ≡ true → k ≡ kind.ERROR
 error_is kind.ERROR e = refl
@@ -262,53 +252,99 @@ error_is _ e = absurd cc
 error_fits : (x : Lexeme) (own : SyntaxKind) → ignored x.kind ≡ None → own ≡ kind.ERROR → IsLeafOf (Some x.kind) (record { kind = own; text = x.text })
 error_fits x own i e = subst (λ found. IsLeafOfToken x.kind found (record { kind = own; text = x.text })) (sym i) (inl e)
 
-own_belongs : (k : TokenKind) (own : SyntaxKind) (t : Text) → number own ≡ leaf_number k → number own ≤ STRING → Belongs k (record { kind = own; text = t })
-own_belongs k own t e le = (
-  ap (λ b. (cond b IDENT (number own), t)) (le-ltb STRING (number own) le) ∙ ap (λ n. (n, t)) e,
-  λ lt. absurd (omega (arith, le, lt)),
+abbrev spell_test : ℕ → Bool
+spell_test l = not (eqb (label l) l) or eqb (cond (is_keyword l) IDENT l) (cond (within l name_leaves) IDENT l)
+
+spell-checked : all_below 60 spell_test ≡ true
+unfolding ◌and◌ ◌or◌ within label labels
+spell-checked = refl
+
+zero-any : within 0 any ≡ true
+unfolding within
+zero-any = refl
+
+zero-one : within 0 over ≡ true
+unfolding within
+zero-one = refl
+
+absent-one : within absent over ≡ true
+unfolding within
+absent-one = refl
+
+token-belongs : (l : ℕ) (k : TokenKind) (t : Text) → is_leaf l ≡ true → eqb (label l) l ≡ true → fires l (class (leaf_number k, t)) 0 ≡ true → (spelled l t ≡ (leaf_number k, t)) × LeafRule l t
+unfolding token_of_leaf
+token-belongs l k t i e f =
+    let s = eqb-true _ _ (implies _ _ (below-at spell_test 60 l (leaf-lt l i) spell-checked) e) in (
+      ap (λ n. (n, t)) s ∙ leaf-token l 0 (leaf_number k, t) i f,
+      subst (λ n. LeafRule n t) (eqb-true _ _ e) (leaf-rule l t (leaf-ok l 0 (leaf_number k, t) i f)),
+    )
+
+belongs_fits : (x : ℕ) (own : SyntaxKind) (t : Lexeme) → ignored t.kind ≡ None → belongs x own ≡ true → within (class_of (Some t)) x ≡ true → IsLeafOf (Some t.kind) (record { kind = own; text = t.text })
+unfolding belongs fires
+belongs_fits x own t i b h = elim (either (is_end t.kind)) [
+  | inl e ↦ (
+      let z : within 0 x ≡ true = subst (λ b. within (cond b 0 (class (leaf_number t.kind, t.text))) x ≡ true) e h in
+      false-true (holds-disjoint 0 x over (and-l _ _ (and-l _ _ b)) z) zero-one)
+  | inr e ↦ (
+      let z : within (class (leaf_number t.kind, t.text)) x ≡ true = subst (λ b. within (cond b 0 (class (leaf_number t.kind, t.text))) x ≡ true) e h in
+      let f : fires (number own) (class (leaf_number t.kind, t.text)) 0 ≡ true = hits-fires (entries (number own)) x any (class (leaf_number t.kind, t.text)) 0 (and-r _ _ (and-r _ _ b)) z zero-any in
+      subst (λ found. IsLeafOfToken t.kind found (record { kind = own; text = t.text })) (sym i) (inr (token-belongs (number own) t.kind t.text (and-r _ _ (and-l _ _ b)) (and-l _ _ (and-r _ _ b)) f)))
+]
+
+none_belongs : {A : Type 0} (x : ℕ) (own : SyntaxKind) → belongs x own ≡ true → within absent x ≡ true → A
+unfolding belongs
+none_belongs x own b h = false-true (holds-disjoint absent x over (and-l _ _ (and-l _ _ b)) h) absent-one
+
+-- ---- runs
+
+abbrev Walked : (ℕ → ℕ → Bool) → State → State → Type 0
+Walked k s t = Kept s t × Branch k t
+
+-- each token that becomes a leaf of its kind
+bumps : (x y : ℕ) (own : SyntaxKind) (k : ℕ → ℕ → Bool) (s : State) (o : Option Lexeme) → s.current ≡ o → belongs x own and k y any ≡ true → Seen x y s → Walked k s (moved own s o)
+unfolding flush Kept
+bumps x y own k s None c h i = none_belongs x own (and-l _ _ h) (subst (λ o. within (class_of o) x ≡ true) c i.near)
+bumps x y own k s (Some t) c h i = (
+  λ w.
+      let sig : ignored t.kind ≡ None = subst Shown c w in
+      let fit = belongs_fits x own t sig (and-l _ _ h) (subst (λ o. within (class_of o) x ≡ true) c i.near) in
+      next s (flush s) (moved own s (Some t)) (flushes s) (moves own t (flush s) fit c refl) w,
+  (
+    y,
+    any,
+    and-r _ _ h,
+    record {
+      near = subst (λ o. within (class_of o) y ≡ true) (sym (read-second s.items (moved_on own t (flush s)))) i.far;
+      far = of-any (second (moved own s (Some t)).items) (second-shown (moved own s (Some t)).items);
+    },
+  ),
 )
 
-same_kinds : (k l : TokenKind) → same_kind k l ≡ true → k ≡ l
-unfolding same_kind
-same_kinds k l e = same_true the_type (search rules) k l e
+pops : (own : SyntaxKind) (s : State) (o : Option Lexeme) → own ≡ kind.ERROR → s.current ≡ o → Kept s (moved own s o)
+unfolding flush Kept
+pops own s None e c = same s
+pops own s (Some t) e c = λ w. next s (flush s) (moved own s (Some t)) (flushes s) (moves own t (flush s) (error_fits t own (subst Shown c w) e) c refl) w
 
-at_kind : (k : TokenKind) (x : Lexeme) → true ≡ same_kind x.kind k → x.kind ≡ k
-at_kind k x e = same_kinds x.kind k (sym e)
-
-known_fits : (q : Option Test) (x : Lexeme) (own : SyntaxKind) (s : State) → s.current ≡ Some x → ignored x.kind ≡ None → Known q s → is_known q own ≡ true → IsLeafOf (Some x.kind) (record { kind = own; text = x.text })
-unfolding Known holds
-known_fits None x own s c i h e = absurd (true≢false (sym e))
-known_fits (Some Ready) x own s c i h e = absurd (true≢false (sym e))
-known_fits (Some (Word k)) x own s c i h e = absurd (true≢false (sym e))
-known_fits (Some (At k)) x own s c i h e =
-    let is = at_kind k x (h ∙ ap (λ o. is_at k o) c) in
-    let n = eqb-true (number own) (leaf_number k) (and-l (eqb (number own) (leaf_number k)) (leb (number own) STRING) e) in
-    let le = leb-true (number own) STRING (and-r (eqb (number own) (leaf_number k)) (leb (number own) STRING) e) in
-    subst (λ found. IsLeafOfToken x.kind found (record { kind = own; text = x.text })) (sym i) (inr (subst (λ kind. Belongs kind (record { kind = own; text = x.text })) (sym is) (own_belongs k own x.text n le)))
-
-or-false : (a b : Bool) → a or b ≡ true → a ≡ false → b ≡ true
-unfolding ◌or◌
-or-false true b h e = absurd (true≢false e)
-or-false false b h e = h
-
-bumps : (q : Option Test) (own : SyntaxKind) (s : State) (o : Option Lexeme) → s.current ≡ o → Known q s → is_error own or is_known q own ≡ true → Kept s (moved own s o)
-unfolding flush Kept Significant
-bumps q own s None c h e = same s
-bumps q own s (Some x) c h e = λ i.
-    let sig : ignored x.kind ≡ None = subst Significant c i in
-    let fit : IsLeafOf (Some x.kind) (record { kind = own; text = x.text }) = elim (either (is_error own)) [
-      | inl y ↦ error_fits x own sig (error_is own y)
-      | inr n ↦ known_fits q x own s c sig h (or-false (is_error own) (is_known q own) e n)
-    ] in
-    next s (flush s) (moved own s (Some x)) (flushes s) (moves own x (flush s) fit c refl) i
-
-bumped : (q : Option Test) (own : SyntaxKind) (s : State) → Known q s → is_error own or is_known q own ≡ true → Kept s (step (Bump own) s)
-unfolding step bump
-bumped q own s h e = bumps q own s s.current refl h e
+bumped : (x y : ℕ) (own : SyntaxKind) (k : ℕ → ℕ → Bool) (s : State) → Shown s.current → cond (is_error own) (k any any) (belongs x own and k y any) ≡ true → Seen x y s → Walked k s (step (Bump own) s)
+unfolding step bump Kept
+bumped x y own k s w h i = elim (either (is_error own)) [
+  | inl e ↦ (
+      let p : Kept s (moved own s s.current) = pops own s s.current (error_is own e) refl in
+      (p, (any, any, subst (λ b. cond b (k any any) (belongs x own and k y any) ≡ true) e h, seen-any (moved own s s.current) (p w).0)))
+  | inr e ↦ bumps x y own k s s.current refl (subst (λ b. cond b (k any any) (belongs x own and k y any) ≡ true) e h) i
+]
 
 noted_kept : (m : Message) (s : State) → Kept s (step (Note m) s)
 unfolding step note
 noted_kept m s = notes s s.current
+
+deepened_kept : (s : State) → Kept s (step TooDeep s)
+unfolding step
+deepened_kept s = deepens s
+
+wraps_kept : (place : ℕ) (k : SyntaxKind) (s : State) → Kept s (wrapped_from place k s)
+unfolding wrapped_from
+wraps_kept place k s = calm s (wrapped_from place k s) (ap (λ l. l ++ s.waiting) (leaves_wrap place k s.tree)) refl refl
 
 entering : (s : State) → Kept s (enter s)
 unfolding enter
@@ -318,53 +354,84 @@ leaving : (s : State) → Kept s (leave s)
 unfolding leave
 leaving s = calm s (leave s) refl refl refl
 
-opened_current : (k : SyntaxKind) (s t : State) → t ≡ opened k s → t.current ≡ s.current
-unfolding opened flush
-opened_current k s t e = ap (λ w. w.current) e
+shown-on : (s t : State) → Kept s t → Shown s.current → Shown t.current
+unfolding Kept
+shown-on s t h w = (h w).0
 
-entered_current : (s t : State) → t ≡ enter s → t.current ≡ s.current
-unfolding enter
-entered_current s t e = ap (λ w. w.current) e
+behind : (k : ℕ → ℕ → Bool) (s t : State) → Same s t → Kept s t → Branch k s → Walked k s t
+behind k s t e h b = (h, (b.0, b.1, b.2, seen-same b.0 b.1 s t e.0 e.1 b.3))
 
-entered : (q : Option Test) (n : Test) (s : State) → is_entry q n ≡ true → Known q s → Known (Some n) s
-unfolding Known
-entered None n s e h = absurd (true≢false (sym e))
-entered (Some Ready) n s e h = absurd (true≢false (sym e))
-entered (Some (Word k)) n s e h = absurd (true≢false (sym e))
-entered (Some (At k)) Ready s e h = absurd (true≢false (sym e))
-entered (Some (At k)) (Word l) s e h = absurd (true≢false (sym e))
-entered (Some (At k)) (At l) s e h = subst (λ kind. true ≡ holds (At kind) s) (same_kinds k l e) h
+onward : (k : ℕ → ℕ → Bool) (s t u : State) → Kept s t → Walked k t u → Walked k s u
+onward k s t u h w = (next s t u h w.0, w.1)
 
-known_behind : (a : Rule) (q : Option Test) {s t : State} → Runs a s t → Known q s → Known (if stays a then q else None) t
-unfolding Known
-known_behind a q {s = s} {t = t} h k = elim (either (stays a)) [
-  | inl y ↦ subst (λ b. Known (if b then q else None) t) (sym y) (known_same q s t (stayed h y).0 k)
-  | inr n ↦ subst (λ b. Known (if b then q else None) t) (sym n) tt
-]
+nested-parts : (n x y : ℕ) (a b : Rule) (k : ℕ → ℕ → Bool) → checks n x y (Nested a b) k ≡ true → (k x y ≡ true) × (checks n x y a (λ u v. checks n u v b k) ≡ true)
+unfolding checks
+nested-parts n x y a b k h = (and-l _ _ h, and-r _ _ h)
 
-fits : {a : Rule} {s t : State} (q : Option Test) → Runs a s t → Known q s → checks q a ≡ true → Kept s t
-unfolding checks Known
-fits {s = s} q skip h e = same s
-fits {s = s} q (does {a = Bump own} k) h e = subst (Kept s) (sym k) (bumped q own s h e)
-fits {s = s} q (does {a = Note m} k) h e = subst (Kept s) (sym k) (noted_kept m s)
-fits {s = s} q (seq {a = a} {b = b} {t = t} {u = u} k l) h e =
-    next s t u (fits q k h (and-l (checks q a) (checks (if stays a then q else None) b) e)) (fits (if stays a then q else None) l (known_behind a q k h) (and-r (checks q a) (checks (if stays a then q else None) b) e))
-fits q (yes {q = p} {a = a} {b = b} y k) h e = fits (Some p) k y (and-l (checks (Some p) a) (checks q b) e)
-fits q (no {q = p} {a = a} {b = b} n k) h e = fits q k h (and-r (checks (Some p) a) (checks q b) e)
-fits {s = s} q (done n) h e = same s
-fits {s = s} q (again {q = p} {a = a} {t = t} {u = u} y k l) h e = next s t u (fits (Some p) k y e) (fits None l tt e)
-fits {s = s} {t = v} q (child {n = n} {t = t} {u = u} o c k) h e =
-    let starting : Kept s t = subst (Kept s) (sym o) (starts (kind_of n) s) in
-    let known : Known (Some (entry n)) t = known_same (Some (entry n)) s t (opened_current (kind_of n) s t o) (entered q (entry n) s e h) in
-    let within : Kept t u = fits (Some (entry n)) k known (node_checks n) in
-    next s t v starting (next t u v within (subst (Kept u) (sym c) (closes u)))
-fits {s = s} q (deeper {a = a} {b = b} {t = t} {u = u} {v = v} {w = w} n o c k l) h e =
+fits : {a : Rule} {s t : State} → Runs a s t → (n x y : ℕ) (k : ℕ → ℕ → Bool) → Shown s.current → checks n x y a k ≡ true → Seen x y s → Walked k s t
+unfolding checks node_checks step
+fits {s = s} skip n x y k w h i = (same s, (x, y, h, i))
+fits {s = s} (does {a = Bump own} e) n x y k w h i = subst (Walked k s) (sym e) (bumped x y own k s w h i)
+fits {s = s} (does {a = Note m} e) n x y k w h i = subst (Walked k s) (sym e) (behind k s (step (Note m) s) (note-same s) (noted_kept m s) (x, y, h, i))
+fits {s = s} (does {a = TooDeep} e) n x y k w h i = subst (Walked k s) (sym e) (behind k s (step TooDeep s) (deep-same s) (deepened_kept s) (x, y, h, i))
+fits {s = s} {t = u} (seq {a = a} {b = b} {t = t} h1 h2) n x y k w h i =
+    let r = fits h1 n x y (λ u v. checks n u v b k) w h i in
+    onward k s t u r.0 (fits h2 n r.1.0 r.1.1 k (shown-on s t r.0 w) r.1.2 r.1.3)
+fits {s = s} (yes {q = q} {a = a} {b = b} e h1) n x y k w h i =
+    let r = split-at q true x y (λ u v. checks n u v a k) (λ u v. checks n u v b k) s w e h i in
+    fits h1 n r.0 r.1 k w r.2 r.3
+fits {s = s} (no {q = q} {a = a} {b = b} e h1) n x y k w h i =
+    let r = split-at q false x y (λ u v. checks n u v a k) (λ u v. checks n u v b k) s w e h i in
+    fits h1 n r.0 r.1 k w r.2 r.3
+fits {s = s} (done {q = q} {a = a} e) n x y k w h i = (same s, split-at q false any any (λ u v. checks n u v a fine) k s w e h (seen-any s w))
+fits {s = s} {t = u} (again {q = q} {a = a} {t = t} e h1 h2) n x y k w h i =
+    let r = split-at q true any any (λ u v. checks n u v a fine) k s w e h (seen-any s w) in
+    let g = fits h1 n r.0 r.1 fine w r.2 r.3 in
+    onward k s t u g.0 (fits h2 n any any k (shown-on s t g.0 w) h (seen-any t (shown-on s t g.0 w)))
+fits (child o c h1) zero x y k w h i = false-true refl h
+fits {s = s} {t = v} (child {n = c} {t = t} {u = u} o e h1) (suc n) x y k w h i =
+    let starting : Kept s t = subst (Kept s) (sym o) (starts (kind_of c) s) in
+    let closing : Kept u v = subst (Kept u) (sym e) (closes u) in
+    let wt = shown-on s t starting w in
+    let it = seen-same x y s t (opened-same (kind_of c) s t o).0 (opened-same (kind_of c) s t o).1 i in
+    elim (either (inlined c)) [
+      | inl p ↦ (
+          let r = fits h1 n x y k wt (subst (λ b. cond b (checks n x y (inside c) k) ((subset x (near_of c) and subset y (far_of c)) and k any any) ≡ true) p h) it in
+          onward k s t v starting (onward k t u v r.0 (behind k u v (closed-same u v e) closing r.1)))
+      | inr p ↦ (
+          let g = subst (λ b. cond b (checks n x y (inside c) k) ((subset x (near_of c) and subset y (far_of c)) and k any any) ≡ true) p h in
+          let r = fits h1 5 (near_of c) (far_of c) fine wt (leaf_checked c) (seen-more x y (near_of c) (far_of c) t (and-l _ _ g) it) in
+          let kept : Kept s v = next s t v starting (next t u v r.0 closing) in
+          (kept, (any, any, and-r _ _ g, seen-any v (shown-on s v kept w))))
+    ]
+fits {s = s} {t = w'} (deeper {a = a} {b = b} {t = t} {u = u} {v = v} d o e h1 h2) n x y k w h i =
     let enters : Kept s t = subst (Kept s) (sym o) (entering s) in
-    let within : Kept t u = fits q k (known_same q s t (entered_current s t o) h) (and-l (checks q a) (checks None b) e) in
-    let leaves_it : Kept u v = subst (Kept u) (sym c) (leaving u) in
-    next s t w enters (next t u w within (next u v w leaves_it (fits None l tt (and-r (checks q a) (checks None b) e))))
-fits {s = s} q (refused y k) h e = subst (Kept s) (sym k) (deepens s)
-fits q (call {p = p} k) h e = fits None k tt (part_checks p)
+    let leaves_it : Kept u v = subst (Kept u) (sym e) (leaving u) in
+    let r = fits h1 n x y (λ u v. checks n u v b k) (shown-on s t enters w) (nested-parts n x y a b k h).1 (seen-same x y s t (entered-same s t o).0 (entered-same s t o).1 i) in
+    let m = behind (λ u v. checks n u v b k) u v (left-same u v e) leaves_it r.1 in
+    let kept : Kept s v = next s t v enters (next t u v r.0 leaves_it) in
+    onward k s v w' kept (fits h2 n m.1.0 m.1.1 k (shown-on s v kept w) m.1.2 m.1.3)
+fits {s = s} (refused {a = a} {b = b} d e) n x y k w h i = subst (Walked k s) (sym e) (behind k s (too_deep s) (deep-same s) (deepens s) (x, y, (nested-parts n x y a b k h).0, i))
+fits (call h1) zero x y k w h i = false-true refl h
+fits (call {p = p} h1) (suc n) x y k w h i = fits h1 n x y k w h i
+fits {s = s} {t = u} (plain {a = a} {t = t} o h1 e) n x y k w h i =
+    let flushing : Kept s t = subst (Kept s) (sym o) (flushes s) in
+    let k' : ℕ → ℕ → Bool = λ u v. split (λ a' b'. a' and b') true (At token.Bang) u v (λ u' v'. bump_to u' v' kind.BANG k) k in
+    let r = fits h1 n x y k' (shown-on s t flushing w) h (seen-same x y s t (flush-same s t o).0 (flush-same s t o).1 i) in
+    let kept : Kept s u = next s t u flushing r.0 in
+    (kept, split-at (At token.Bang) false r.1.0 r.1.1 (λ u' v'. bump_to u' v' kind.BANG k) k u (shown-on s u kept w) e r.1.2 r.1.3)
+fits {s = s} {t = z} (wrapped {a = a} {place = place} {t = t} {u = u} {v = v} {w = b} o p i1 e h1 q h2) n x y k w h i =
+    let flushing : Kept s t = subst (Kept s) (sym o) (flushes s) in
+    let k' : ℕ → ℕ → Bool = λ u v. split (λ a' b'. a' and b') true (At token.Bang) u v (λ u' v'. bump_to u' v' kind.BANG k) k in
+    let r = fits h1 n x y k' (shown-on s t flushing w) h (seen-same x y s t (flush-same s t o).0 (flush-same s t o).1 i) in
+    let here : Kept s u = next s t u flushing r.0 in
+    let g = split-at (At token.Bang) true r.1.0 r.1.1 (λ u' v'. bump_to u' v' kind.BANG k) k u (shown-on s u here w) q r.1.2 r.1.3 in
+    let wraps : Kept u v = subst (Kept u) (sym i1) (wraps_kept place kind.NON_NULL_TYPE u) in
+    let m = behind (λ u' v'. bump_to u' v' kind.BANG k) u v (wrapped-same place kind.NON_NULL_TYPE u v i1) wraps g in
+    let there : Kept s v = next s u v here wraps in
+    let f = fits h2 n m.1.0 m.1.1 k (shown-on s v there w) m.1.2 m.1.3 in
+    let closing : Kept b z = subst (Kept b) (sym e) (closes b) in
+    onward k s v z there (onward k v b z f.0 (behind k b z (closed-same b z e) closing f.1))
 
 -- ---- the whole
 
@@ -389,18 +456,19 @@ unfolding EndNow
 none_to_come None items h e = subst (λ xs. OneLeafAnItem xs []) (sym h) nothing
 none_to_come (Some x) items h e = the_end (ap Some (is_eof x.kind e)) (subst (λ xs. OneLeafAnItem xs []) (sym (h e)) nothing)
 
-begun_significant : (items : List Answer) (limit : ℕ) (k : SyntaxKind) → Significant (begun items limit k).current
+begun_shown : (items : List Answer) (limit : ℕ) (k : SyntaxKind) → Shown (begun items limit k).current
 unfolding Reads
-begun_significant items limit k = (read_fits items (fresh items limit k) refl).0
+begun_shown items limit k = (read_fits items (fresh items limit k) refl).0
 
 -- a run of the grammar's rules that ends where no token is left
-pub one_leaf : {a : Rule} {t : State} (items : List Answer) (limit : ℕ) (k : SyntaxKind) → is_free k ≡ true → checks None a ≡ true → AreAnswers items
+pub one_leaf : {a : Rule} {t : State} (items : List Answer) (limit : ℕ) (k : SyntaxKind) → is_free k ≡ true → checks 5 any any a fine ≡ true → AreAnswers items
     → Runs a (begun items limit k) t → is_over t.current ≡ true → OneLeafAnItem items (leaves (finished t))
-unfolding Known Kept Fits Reads
+unfolding Kept Fits Reads
 one_leaf {t = t} items limit k free checked are h over =
     let f = fresh items limit k in
     let s = begun items limit k in
-    let behind = (fits None h tt checked (begun_significant items limit k)).1 [] (none_to_come t.current t.items (ends h (read_ends items f refl are)).now over) in
+    let w = begun_shown items limit k in
+    let behind = ((fits h 5 any any fine w checked (seen-any s w)).0 w).1 [] (none_to_come t.current t.items (ends h (read_ends items f refl are)).now over) in
     let before = (read_fits items f refl).1 behind.0 behind.2 in
     let all : leaves (finished t) ≡ before.0 = finished_leaves t (root_kept items limit k free h) ∙ sym (append-nil (stock t)) ∙ behind.1 ∙ before.1 in
     subst (OneLeafAnItem items) (sym all) before.2
@@ -420,8 +488,7 @@ document_over {t = t} h = elim (parts (parts h)) [
 
 -- the leaves of a document's tree are one for one the items that were answered
 pub document_leaves : {t : State} (items : List Answer) (limit : ℕ) → AreAnswers items → Runs (Call rule.Document) (begun items limit kind.DOCUMENT) t → OneLeafAnItem items (leaves (finished t))
-unfolding checks
-document_leaves items limit are h = one_leaf items limit kind.DOCUMENT refl refl are h (document_over h)
+document_leaves items limit are h = one_leaf items limit kind.DOCUMENT refl document_checked are h (document_over h)
 
 -- ---- their text
 

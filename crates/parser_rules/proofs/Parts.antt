@@ -1,7 +1,10 @@
 -- A run, taken apart by its rule.
 use Rattle.std.proofs.Common.{◌≡◌, true, false, refl, subst, ◌⊎◌, inl, inr}
-use Rattle.parser_rules.specs.State.{State, opened, closed, is_deep, enter, leave, too_deep}
-use Rattle.parser_rules.specs.Rule.{holds, step, kind_of, inside, body, Rule, Skip, Do, Seq, When, While, Child, Nested, Call, Runs, skip, does, seq, yes, no, done, again, child, deeper, refused, call}
+use Rattle.parser_rules.specs.State.{State, flush, opened, closed, wrapped_from, is_deep, enter, leave, too_deep}
+use Rattle.lexical_grammar.specs.declared.TokenKind.TheVariants as token
+use Rattle.document_grammar.specs.declared.kind.SyntaxKind.TheVariants as kind
+use Rattle.document_grammar.specs.Builds.{built_count}
+use Rattle.parser_rules.specs.Rule.{At, Bump, holds, step, kind_of, inside, body, Rule, Skip, Do, Seq, When, While, Child, Nested, Call, Typed, Runs, skip, does, seq, yes, no, done, again, child, deeper, refused, call, plain, wrapped}
 
 unfoldable pub Parts : Rule → State → State → Type 0
 Parts Skip s t = t ≡ s
@@ -12,6 +15,7 @@ Parts (While q a) s t = false ≡ holds q t
 Parts (Child n) s v = (t u : State) × (t ≡ opened (kind_of n) s) × Runs (inside n) t u × (v ≡ closed u)
 Parts (Nested a b) s w = ((u : State) × (false ≡ is_deep s) × Runs a (enter s) u × Runs b (leave u) w) ⊎ ((true ≡ is_deep s) × (w ≡ too_deep s))
 Parts (Call p) s t = Runs (body p) s t
+Parts (Typed a) s x = (u : State) × Runs a (flush s) u × (((false ≡ holds (At token.Bang) u) × (x ≡ u)) ⊎ ((true ≡ holds (At token.Bang) u) × ((w : State) × Runs (Do (Bump kind.BANG)) (wrapped_from (built_count (flush s).tree) kind.NON_NULL_TYPE u) w × (x ≡ closed w))))
 
 pub parts : {r : Rule} {s t : State} → Runs r s t → Parts r s t
 unfolding Parts
@@ -26,3 +30,6 @@ parts (child {t = t} {u = u} e k h) = (t, u, e, h, k)
 parts (deeper {a = a} {b = b} {u = u} {w = w} q e k h i) = inl (u, q, subst (λ x. Runs a x u) e h, subst (λ x. Runs b x w) k i)
 parts (refused q e) = inr (q, e)
 parts (call h) = h
+parts (plain {a = a} {u = u} e h n) = (u, subst (λ t. Runs a t u) e h, inl (n, refl))
+parts (wrapped {a = a} {t = t} {u = u} {v = v} {w = w} e p i c h y l) =
+    (u, subst (λ t. Runs a t u) e h, inr (y, (w, subst (λ t. Runs (Do (Bump kind.BANG)) (wrapped_from (built_count t.tree) kind.NON_NULL_TYPE u) w) e (subst (λ n. Runs (Do (Bump kind.BANG)) (wrapped_from n kind.NON_NULL_TYPE u) w) p (subst (λ v. Runs (Do (Bump kind.BANG)) v w) i l)), c)))

@@ -1,25 +1,78 @@
--- What a test says of the class of the next significant token: it passes exactly for the classes of its set.
-use Rattle.std.proofs.Common.{◌≡◌, ℕ, ◌-◌, ◌^◌, min, Bool, true, false, not, ◌&&◌, eqb, bit_and, List, [], ◌∷◌, ◌++◌, Option, Some, None, ◌⊎◌, refl, sym, ap, ap₂, ◌∙◌, subst, inl, inr, true≢false, eqb-true, arith}
+-- What a test says of the classes of the current token and of the significant one behind it: it passes exactly for the classes of its set.
+use Rattle.std.proofs.Common.{◌≡◌, ℕ, zero, suc, ◌+◌, ◌-◌, ◌^◌, ◌%◌, ◌≤◌, min, Bool, true, false, not, cond, ◌&&◌, ◌||◌, eqb, bit_and, List, [], ◌∷◌, Option, Some, None, refl, sym, ap, ◌∙◌, subst, inl, inr, eqb-true, is_some, arith}
+use Rattle.std.specs.Prelude.{⊤}
 use Rattle.std.proofs.lemmas.Bool.{eqb-false}
 use Rattle.std.specs.Int.{bit_at}
-use Rattle.std.proofs.lemmas.Nat.Bits.{bit_at_and, bit_at-lt, bit_at-pow_same}
+use Rattle.std.specs.Int.Bits.{bit_xor}
+use Rattle.std.proofs.lemmas.Nat.Bits.{bit_at_and, bit_at_xor, bit_at-lt, bit_at-pow_same, bit_at-zero}
 use Rattle.lexical_grammar.specs.declared.TokenKind.{TokenKind}
 use Rattle.lexical_grammar.specs.declared.TokenKind.TheVariants as token
-use Rattle.lexical_grammar.specs.Answers.{Answer, is_end}
+use Rattle.lexical_grammar.specs.Cut.{Item}
+use Rattle.lexical_grammar.specs.Answers.{Answer, gives, limit_at, is_end}
 use Rattle.document_grammar.specs.declared.kind.SyntaxKind.{SyntaxKind}
-use Rattle.document_grammar.specs.Kinds.{words}
+use Rattle.document_grammar.specs.Kinds.{words, COMMENT}
 use Rattle.document_grammar.specs.Numbers.{number}
 use Rattle.document_grammar.specs.Sentence.{leaf_number}
 use Rattle.document_grammar.specs.Table.{name_classes, token_kinds}
 use Rattle.document_grammar.specs.Tree.{Token}
-use Rattle.document_grammar.specs.Machine.{holds as within, class, word_class, first}
+use Rattle.document_grammar.specs.Machine.{◌and◌, holds as within, class, word_class}
+use Rattle.document_grammar.proofs.Checks.{subset}
 use Rattle.document_grammar.proofs.Classes.{holds-and}
-use Rattle.document_grammar.proofs.Basics.{either, false-true, holds-subset, holds-disjoint}
-use Rattle.document_grammar.proofs.Sound.{any, word-name, holds-one}
+use Rattle.document_grammar.proofs.Basics.{either, false-true, and-l, and-r, holds-subset, holds-disjoint}
+use Rattle.document_grammar.proofs.Sound.{any, class-any, word-name, holds-one}
 use Rattle.document_grammar.proofs.Endings.{words_checked}
-use Rattle.parser_rules.specs.State.{State, Text, Lexeme, same_kind, ignored}
-use Rattle.parser_rules.specs.Rule.{Test, At, Word, Ready, holds}
-use Rattle.parser_rules.proofs.Calm.{Now, choose, EndsWell as Ends, rest, answers_tokens, current_tokens, kind_tokens}
+use Rattle.parser_rules.specs.State.{State, Text, Lexeme, same_kind, ignored, bad, met, wait, lexeme, read_on, second, is_at, is_word, is_over}
+use Rattle.parser_rules.specs.Rule.{Test, At, Word, Ready, Next, NextWord, HasNext, Deep, Not, Both, Either, holds}
+use Rattle.parser_rules.proofs.Kept.{on_kind, on_item}
+
+-- ---- classes of tokens
+
+-- where no token is; no token has this class
+abbrev pub absent : ℕ
+absent = COMMENT
+
+-- the end has class 0
+abbrev pub lexeme_class : TokenKind → Text → ℕ
+lexeme_class k text = cond (is_end k) 0 (class (leaf_number k, text))
+
+abbrev pub class_of : Option Lexeme → ℕ
+class_of None = absent
+class_of (Some t) = lexeme_class t.kind t.text
+
+-- not an ignored token
+abbrev pub Shown : Option Lexeme → Type 0
+Shown None = ⊤
+Shown (Some t) = ignored t.kind ≡ None
+
+abbrev on_ignored : List Answer → Item → TokenKind → Option SyntaxKind → Option Lexeme
+on_ignored rest item k found = elim found [ Some leaf ↦ second rest | None ↦ Some (lexeme k item) ]
+
+abbrev on_found : List Answer → Item → Option TokenKind → Option Lexeme
+on_found rest item found = elim found [ None ↦ second rest | Some k ↦ on_ignored rest item k (ignored k) ]
+
+pub second-shown : (xs : List Answer) → Shown (second xs)
+unfolding second
+second-shown [] = tt
+second-shown (limit_at index ∷ rest) = second-shown rest
+second-shown (gives item ∷ rest) = elim item.kind as (λ found. Shown (on_found rest item found)) [
+  | None ↦ second-shown rest
+  | Some k ↦ (elim (ignored k) as (λ found. ignored k ≡ found → Shown (on_ignored rest item k found)) [ Some leaf ↦ λ e. second-shown rest | None ↦ λ e. e ]) refl
+]
+
+-- reading on comes to the token behind the current one
+pub read-second : (xs : List Answer) (s : State) → (read_on xs s).current ≡ second xs
+unfolding read_on second
+read-second [] s = refl
+read-second (limit_at index ∷ rest) s = read-second rest (met index (record s { items = rest }))
+read-second (gives item ∷ rest) s = elim item.kind as (λ found. (on_item rest s item found).current ≡ on_found rest item found) [
+  | None ↦ read-second rest (bad item.text item.index (record s { items = rest }))
+  | Some k ↦ elim (ignored k) as (λ found. (on_kind rest s item k found).current ≡ on_ignored rest item k found) [
+    | Some leaf ↦ read-second rest (wait leaf item.text (record s { items = rest }))
+    | None ↦ refl
+  ]
+]
+
+-- ---- sets of the tests
 
 -- ignored tokens are never current
 abbrev pub kind_set : TokenKind → ℕ
@@ -30,10 +83,15 @@ kind_set token.Eof = 1
 kind_set token.Name = name_classes
 kind_set k = 2 ^ leaf_number k
 
-unfoldable pub set_of : Test → ℕ
-set_of (At k) = kind_set k
-set_of (Word k) = bit_and (2 ^ number k) name_classes
-set_of Ready = any - 1
+abbrev pub word_set : SyntaxKind → ℕ
+word_set k = bit_and (2 ^ number k) name_classes
+
+-- all classes but that of no token, and that of the end
+abbrev pub present : ℕ
+present = any - 2 ^ absent
+
+abbrev pub ready : ℕ
+ready = present - 1
 
 at-end : (k : TokenKind) → same_kind token.Eof k ≡ within 0 (kind_set k)
 unfolding same_kind within
@@ -58,62 +116,6 @@ at-kind token.Comma k text e i = absurd cc
 at-kind token.Eof k text e i = absurd cc
 at-kind _ token.Name text e i = refl
 at-kind _ _ text e i = refl
-
--- the tokens that the end and any other current token give
-end-kind : (k : TokenKind) → is_end k ≡ true → k ≡ token.Eof
-end-kind token.Eof e = refl
-end-kind _ e = absurd cc
-
-significant : (k : TokenKind) (text : Text) → is_end k ≡ false → ignored k ≡ None → kind_tokens k text ≡ (leaf_number k, text) ∷ []
-significant token.Whitespace text e i = absurd cc
-significant token.Comment text e i = absurd cc
-significant token.Comma text e i = absurd cc
-significant token.Eof text e i = absurd cc
-significant _ text e i = refl
-
--- the current token is the end, and nothing is left; or it is the first that is left
-pub record AtEnd (t : Lexeme) (items : List Answer) : Type 0 where
-  pub kind : t.kind ≡ token.Eof
-  pub none : items ≡ []
-  pub nothing : current_tokens (Some t) ++ answers_tokens items ≡ []
-
-pub record AtToken (t : Lexeme) (items : List Answer) : Type 0 where
-  pub is_end : is_end t.kind ≡ false
-  pub shown : ignored t.kind ≡ None
-  pub first : current_tokens (Some t) ++ answers_tokens items ≡ (leaf_number t.kind, t.text) ∷ answers_tokens items
-
-pub standing : (t : Lexeme) (items : List Answer) → Now (Some t) items → AtEnd t items ⊎ AtToken t items
-standing t items n = elim (either (is_end t.kind)) [
-  | inl e ↦ (
-      let k = end-kind t.kind e in
-      let none : items ≡ [] = subst (λ (b : Bool). choose b (items ≡ []) (Ends items)) e n.1 in
-      inl (record { kind = k; none = none; nothing = ap₂ (λ (j : TokenKind) (xs : List Answer). kind_tokens j t.text ++ answers_tokens xs) k none }))
-  | inr e ↦ inr (record { is_end = e; shown = n.0; first = ap (λ (v : List Token). v ++ answers_tokens items) (significant t.kind t.text e n.0) })
-]
-
--- the class of any token
-not-zero : (a : Token) → within (class a) (any - 1) ≡ true
-unfolding class within
-not-zero a = elim (either (eqb a.0 18)) [
-  | inl p ↦ rw p (holds-subset (word_class words a.1) name_classes (any - 1) refl (word-name words a.1 words_checked))
-  | inr p ↦ elim (either (within a.0 token_kinds)) [
-    | inl q ↦ rw (p, q) (holds-subset a.0 token_kinds (any - 1) refl q)
-    | inr q ↦ rw (p, q) three
-  ]
-]
-  where
-    three : within 3 (any - 1) ≡ true
-    three = refl
-
--- no class of a token is that of the end
-pub nothing-left : (r : List Token) → within (first r) 1 ≡ true → r ≡ []
-unfolding first
-nothing-left [] h = refl
-nothing-left (a ∷ r) h = absurd (true≢false (sym h ∙ holds-disjoint (class a) (any - 1) 1 refl (not-zero a)))
-
-at-over : false ≡ within 0 (any - 1)
-unfolding within
-at-over = refl
 
 -- a class in two sets
 in-both : (a x y : ℕ) → within a (bit_and x y) ≡ true → (within a x ≡ true) × (within a y ≡ true)
@@ -157,18 +159,198 @@ end-word : (k : SyntaxKind) (text : Text) → same_kind token.Eof token.Name && 
 unfolding same_kind within
 end-word k text = sym (no-name 0 (2 ^ number k) refl)
 
-tested : (q : Test) (t : Lexeme) (s : State) → s.current ≡ Some t → AtEnd t s.items ⊎ AtToken t s.items → holds q s ≡ within (first (rest s)) (set_of q)
-unfolding holds set_of first
-tested (At k) t s c (inl h) = rw c (rw h.nothing (ap (λ (j : TokenKind). same_kind j k) h.kind ∙ at-end k))
-tested (At k) t s c (inr h) = rw c (rw h.first (at-kind t.kind k t.text h.is_end h.shown))
-tested (Word k) t s c (inl h) = rw c (rw h.nothing (ap (λ (j : TokenKind). same_kind j token.Name && eqb (word_class words t.text) (number k)) h.kind ∙ end-word k t.text))
-tested (Word k) t s c (inr h) = rw c (rw h.first (at-word t.kind k t.text h.is_end h.shown))
-tested Ready t s c (inl h) = rw c (rw h.nothing (ap (λ (j : TokenKind). not (is_end j)) h.kind ∙ at-over))
-tested Ready t s c (inr h) = rw c (rw h.first (ap not h.is_end ∙ sym (not-zero (leaf_number t.kind, t.text))))
-
-pub test-set : (q : Test) (s : State) → Now s.current s.items → holds q s ≡ within (first (rest s)) (set_of q)
-test-set q s n = at s.current refl n
+-- the class of any token
+pub not-zero : (a : Token) → within (class a) ready ≡ true
+unfolding class within
+not-zero a = elim (either (eqb a.0 18)) [
+  | inl p ↦ rw p (holds-subset (word_class words a.1) name_classes ready refl (word-name words a.1 words_checked))
+  | inr p ↦ elim (either (within a.0 token_kinds)) [
+    | inl q ↦ rw (p, q) (holds-subset a.0 token_kinds ready refl q)
+    | inr q ↦ rw (p, q) three
+  ]
+]
   where
-    at : (c : Option Lexeme) → s.current ≡ c → Now c s.items → holds q s ≡ within (first (rest s)) (set_of q)
-    at None e n' = absurd n'
-    at (Some t) e n' = tested q t s e (standing t s.items n')
+    three : within 3 ready ≡ true
+    three = refl
+
+at-none : (k : TokenKind) → false ≡ within absent (kind_set k)
+unfolding within
+at-none token.Eof = refl
+at-none _ = refl
+
+end-ready : false ≡ within 0 ready
+unfolding within
+end-ready = refl
+
+none-ready : false ≡ within absent ready
+unfolding within
+none-ready = refl
+
+end-present : true ≡ within 0 present
+unfolding within
+end-present = refl
+
+none-present : false ≡ within absent present
+unfolding within
+none-present = refl
+
+end-any : within 0 any ≡ true
+unfolding within
+end-any = refl
+
+none-any : within absent any ≡ true
+unfolding within
+none-any = refl
+
+-- the end, or any other token
+at-token : (A : TokenKind → ℕ → Type 0) (k : TokenKind) (text : Text) → ignored k ≡ None → A token.Eof 0 → (is_end k ≡ false → A k (class (leaf_number k, text))) → A k (lexeme_class k text)
+at-token A token.Eof text i e h = e
+at-token A k text i e h = h refl
+
+pub at-set : (k : TokenKind) (o : Option Lexeme) → Shown o → is_at k o ≡ within (class_of o) (kind_set k)
+at-set k None w = at-none k
+at-set k (Some t) w = at-token (λ j c. same_kind j k ≡ within c (kind_set k)) t.kind t.text w (at-end k) (λ e. at-kind t.kind k t.text e w)
+
+name-none : within absent name_classes ≡ false
+unfolding within
+name-none = refl
+
+word-is : (k : SyntaxKind) (o : Option Lexeme) → Shown o → is_word k o ≡ within (class_of o) (word_set k)
+word-is k None w = sym (no-name absent (2 ^ number k) name-none)
+word-is k (Some t) w = at-token (λ j c. same_kind j token.Name && eqb (word_class words t.text) (number k) ≡ within c (word_set k)) t.kind t.text w (end-word k t.text) (λ e. at-word t.kind k t.text e w)
+
+ready-is : (o : Option Lexeme) → Shown o → not (is_over o) ≡ within (class_of o) ready
+ready-is None w = none-ready
+ready-is (Some t) w = at-token (λ j c. not (is_end j) ≡ within c ready) t.kind t.text w end-ready (λ e. ap not e ∙ sym (not-zero (leaf_number t.kind, t.text)))
+
+present-is : (o : Option Lexeme) → Shown o → is_some o ≡ within (class_of o) present
+present-is None w = none-present
+present-is (Some t) w = at-token (λ j c. true ≡ within c present) t.kind t.text w end-present (λ e. sym (holds-subset (class (leaf_number t.kind, t.text)) ready present refl (not-zero (leaf_number t.kind, t.text))))
+
+pub of-any : (o : Option Lexeme) → Shown o → within (class_of o) any ≡ true
+of-any None w = none-any
+of-any (Some t) w = at-token (λ j c. within c any ≡ true) t.kind t.text w end-any (λ e. class-any (leaf_number t.kind, t.text))
+
+-- ---- sets of the next two tokens
+
+-- sets that hold the classes of the current token and of the one behind it
+pub record Seen (x y : ℕ) (s : State) : Type 0 where
+  pub near : within (class_of s.current) x ≡ true
+  pub far : within (class_of (second s.items)) y ≡ true
+
+pub seen-any : (s : State) → Shown s.current → Seen any any s
+seen-any s w = record { near = of-any s.current w; far = of-any (second s.items) (second-shown s.items) }
+
+pub seen-more : (x y u v : ℕ) (s : State) → subset x u and subset y v ≡ true → Seen x y s → Seen u v s
+seen-more x y u v s e h = record { near = holds-subset (class_of s.current) x u (and-l _ _ e) h.near; far = holds-subset (class_of (second s.items)) y v (and-r _ _ e) h.far }
+
+pub seen-same : (x y : ℕ) (s t : State) → t.current ≡ s.current → t.items ≡ s.items → Seen x y s → Seen x y t
+seen-same x y s t c i h = record { near = subst (λ o. within (class_of o) x ≡ true) (sym c) h.near; far = subst (λ xs. within (class_of (second xs)) y ≡ true) (sym i) h.far }
+
+-- a set without a part; a branch that cannot be taken is left out
+abbrev pub part : {R : Type 0} → R → ℕ → (ℕ → R) → R
+part e z f = cond (eqb z 0) e (f z)
+
+abbrev pub by_near : {R : Type 0} → (R → R → R) → R → ℕ → ℕ → ℕ → (ℕ → ℕ → R) → (ℕ → ℕ → R) → R
+by_near c e m x y f g = c (part e (bit_and x m) (λ z. f z y)) (part e (bit_xor x (bit_and x m)) (λ z. g z y))
+
+abbrev pub by_far : {R : Type 0} → (R → R → R) → R → ℕ → ℕ → ℕ → (ℕ → ℕ → R) → (ℕ → ℕ → R) → R
+by_far c e m x y f g = c (part e (bit_and y m) (λ z. f x z)) (part e (bit_xor y (bit_and y m)) (λ z. g x z))
+
+-- the sets where a test passes go to `f`, those where it fails to `g`
+unfoldable pub split : {R : Type 0} → (R → R → R) → R → Test → ℕ → ℕ → (ℕ → ℕ → R) → (ℕ → ℕ → R) → R
+split c e (At k) x y f g = by_near c e (kind_set k) x y f g
+split c e (Word k) x y f g = by_near c e (word_set k) x y f g
+split c e Ready x y f g = by_near c e ready x y f g
+split c e (Next k) x y f g = by_far c e (kind_set k) x y f g
+split c e (NextWord k) x y f g = by_far c e (word_set k) x y f g
+split c e HasNext x y f g = by_far c e present x y f g
+split c e Deep x y f g = c (f x y) (g x y)
+split c e (Not t) x y f g = split c e t x y g f
+split c e (Both p q) x y f g = split c e p x y (λ u v. split c e q u v f g) g
+split c e (Either p q) x y f g = split c e p x y f (λ u v. split c e q u v f g)
+
+-- no token is left but the end
+abbrev pub over : ℕ
+over = 2 ^ absent + 1
+
+no-bit : (n : ℕ) → n ≤ 1 → eqb n 1 ≡ false → n ≡ 0
+no-bit zero l h = refl
+no-bit (suc zero) l h = false-true h refl
+no-bit (suc (suc n)) l h = omega arith
+
+-- a class in a set and not in a second is in the first without what they share
+pub holds-minus : (a x m : ℕ) → within a x ≡ true → within a m ≡ false → within a (bit_xor x (bit_and x m)) ≡ true
+unfolding within
+holds-minus a x m h g =
+    let e : bit_at x a ≡ 1 = eqb-true _ _ h in
+    let lm = bit_at-lt m a in
+    let f : bit_at m a ≡ 0 = no-bit (bit_at m a) (omega arith) g in
+    let i : bit_at (bit_and x m) a ≡ min (bit_at x a) (bit_at m a) = bit_at_and x m a in
+    let k : bit_at (bit_and x m) a ≡ 0 = omega arith in
+    let j : bit_at (bit_xor x (bit_and x m)) a ≡ (bit_at x a + bit_at (bit_and x m) a) % 2 = bit_at_xor x (bit_and x m) a in
+    let l : bit_at (bit_xor x (bit_and x m)) a ≡ 1 = rw (e, k) at j in
+    rw l refl
+
+zero-one : {A : Type 0} {n : ℕ} → n ≡ 0 → n ≡ 1 → A
+zero-one e f = absurd (omega (arith, e, f))
+
+holds-none : {A : Type 0} (a : ℕ) → within a 0 ≡ true → A
+unfolding within
+holds-none a h = let z : bit_at 0 a ≡ 0 = bit_at-zero a in let e : bit_at 0 a ≡ 1 = eqb-true _ _ h in zero-one z e
+
+part-live : (a z : ℕ) (f : ℕ → Bool) → part true z f ≡ true → within a z ≡ true → f z ≡ true
+part-live a z f h i = elim (either (eqb z 0)) [ inl p ↦ holds-none a (subst (λ n. within a n ≡ true) (eqb-true _ _ p) i) | inr p ↦ (rw p at h) ]
+
+abbrev pub Branch : (ℕ → ℕ → Bool) → State → Type 0
+Branch f s = (u : ℕ) × (v : ℕ) × (f u v ≡ true) × Seen u v s
+
+abbrev pub pick : Bool → (ℕ → ℕ → Bool) → (ℕ → ℕ → Bool) → ℕ → ℕ → Bool
+pick true f g = f
+pick false f g = g
+
+near-at : (b : Bool) (m x y : ℕ) (f g : ℕ → ℕ → Bool) (s : State) → b ≡ within (class_of s.current) m → by_near (λ a b. a and b) true m x y f g ≡ true → Seen x y s → Branch (pick b f g) s
+near-at true m x y f g s e h i = let z = holds-and (class_of s.current) x m i.near (sym e) in (bit_and x m, y, part-live (class_of s.current) (bit_and x m) (λ z. f z y) (and-l _ _ h) z, record { near = z; far = i.far })
+near-at false m x y f g s e h i = let z = holds-minus (class_of s.current) x m i.near (sym e) in (bit_xor x (bit_and x m), y, part-live (class_of s.current) (bit_xor x (bit_and x m)) (λ z. g z y) (and-r _ _ h) z, record { near = z; far = i.far })
+
+far-at : (b : Bool) (m x y : ℕ) (f g : ℕ → ℕ → Bool) (s : State) → b ≡ within (class_of (second s.items)) m → by_far (λ a b. a and b) true m x y f g ≡ true → Seen x y s → Branch (pick b f g) s
+far-at true m x y f g s e h i = let c = class_of (second s.items) in let z = holds-and c y m i.far (sym e) in (x, bit_and y m, part-live c (bit_and y m) (λ z. f x z) (and-l _ _ h) z, record { near = i.near; far = z })
+far-at false m x y f g s e h i = let c = class_of (second s.items) in let z = holds-minus c y m i.far (sym e) in (x, bit_xor y (bit_and y m), part-live c (bit_xor y (bit_and y m)) (λ z. g x z) (and-r _ _ h) z, record { near = i.near; far = z })
+
+blind-at : (b : Bool) (x y : ℕ) (f g : ℕ → ℕ → Bool) (s : State) → f x y and g x y ≡ true → Seen x y s → Branch (pick b f g) s
+blind-at true x y f g s h i = (x, y, and-l _ _ h, i)
+blind-at false x y f g s h i = (x, y, and-r _ _ h, i)
+
+flip : (b v : Bool) → b ≡ not v → not b ≡ v
+flip true true e = sym e
+flip true false e = refl
+flip false true e = refl
+flip false false e = sym e
+
+flipped : (b : Bool) (f g : ℕ → ℕ → Bool) (s : State) → Branch (pick (not b) g f) s → Branch (pick b f g) s
+flipped true f g s h = h
+flipped false f g s h = h
+
+-- the branch that is taken was checked
+pub split-at : (t : Test) (b : Bool) (x y : ℕ) (f g : ℕ → ℕ → Bool) (s : State) → Shown s.current → b ≡ holds t s → split (λ a b. a and b) true t x y f g ≡ true → Seen x y s → Branch (pick b f g) s
+unfolding split holds
+split-at (At k) b x y f g s w e h i = near-at b (kind_set k) x y f g s (e ∙ at-set k s.current w) h i
+split-at (Word k) b x y f g s w e h i = near-at b (word_set k) x y f g s (e ∙ word-is k s.current w) h i
+split-at Ready b x y f g s w e h i = near-at b ready x y f g s (e ∙ ready-is s.current w) h i
+split-at (Next k) b x y f g s w e h i = far-at b (kind_set k) x y f g s (e ∙ at-set k (second s.items) (second-shown s.items)) h i
+split-at (NextWord k) b x y f g s w e h i = far-at b (word_set k) x y f g s (e ∙ word-is k (second s.items) (second-shown s.items)) h i
+split-at HasNext b x y f g s w e h i = far-at b present x y f g s (e ∙ present-is (second s.items) (second-shown s.items)) h i
+split-at Deep b x y f g s w e h i = blind-at b x y f g s h i
+split-at (Not t) b x y f g s w e h i = flipped b f g s (split-at t (not b) x y g f s w (flip b (holds t s) e) h i)
+split-at (Both p q) b x y f g s w e h i =
+    let k : ℕ → ℕ → Bool = λ u v. split (λ a b. a and b) true q u v f g in
+    elim (either (holds p s)) [
+      | inl y' ↦ (let r = split-at p true x y k g s w (sym y') h i in split-at q b r.0 r.1 f g s w (e ∙ ap (λ z. z && holds q s) y') r.2 r.3)
+      | inr n ↦ subst (λ z. Branch (pick z f g) s) (sym (e ∙ ap (λ z. z && holds q s) n)) (split-at p false x y k g s w (sym n) h i)
+    ]
+split-at (Either p q) b x y f g s w e h i =
+    let k : ℕ → ℕ → Bool = λ u v. split (λ a b. a and b) true q u v f g in
+    elim (either (holds p s)) [
+      | inl y' ↦ subst (λ z. Branch (pick z f g) s) (sym (e ∙ ap (λ z. z || holds q s) y')) (split-at p true x y f k s w (sym y') h i)
+      | inr n ↦ (let r = split-at p false x y f k s w (sym n) h i in split-at q b r.0 r.1 f g s w (e ∙ ap (λ z. z || holds q s) n) r.2 r.3)
+    ]

@@ -1,6 +1,6 @@
 -- Soundness: where a run of the document's rule over a text reports nothing, the text is a sentence within both limits, and the tree,
 -- without its ignored leaves, is its derivation.
-use Rattle.std.proofs.Common.{◌≡◌, ℕ, zero, suc, ◌+◌, ◌≤◌, max, Bool, true, false, List, [], ◌∷◌, ◌++◌, Option, Some, None, if◌then◌else◌, length, refl, sym, ap, ap₂, ◌∙◌, subst, ◌⊎◌, inl, inr, true≢false, eqb-true, append-nil, arith}
+use Rattle.std.proofs.Common.{◌≡◌, ℕ, zero, suc, ◌+◌, ◌≤◌, max, Bool, cond, true, false, List, [], ◌∷◌, ◌++◌, Option, Some, None, if◌then◌else◌, length, refl, sym, ap, ap₂, ◌∙◌, subst, ◌⊎◌, inl, inr, true≢false, eqb-true, append-nil, arith}
 use Rattle.std.specs.Prelude.{map}
 use Rattle.std.proofs.lemmas.List.{map-append}
 use Rattle.lexical_grammar.specs.declared.TokenKind.{TokenKind}
@@ -19,25 +19,25 @@ use Rattle.document_grammar.specs.Pattern.{member}
 use Rattle.document_grammar.specs.Tree.{Token, Tree, node, Forest, none}
 use Rattle.document_grammar.specs.Derivation.{document, Spells, nest}
 use Rattle.document_grammar.specs.Places.{bare}
-use Rattle.document_grammar.specs.Sentence.{token_of, Sentence, Within}
-use Rattle.document_grammar.specs.Machine.{◌and◌, ◌or◌, is_leaf, first, frame, Ok, yields}
-use Rattle.document_grammar.proofs.Basics.{and-l, and-r, holds-subset}
+use Rattle.document_grammar.specs.Sentence.{token_of, leaf_number, Sentence, Within}
+use Rattle.document_grammar.specs.Machine.{◌and◌, ◌or◌, holds as within, is_leaf, class, frame, Ok, yields}
+use Rattle.document_grammar.proofs.Basics.{false-true, and-l, and-r, holds-subset, holds-disjoint}
 use Rattle.document_grammar.proofs.Constants.{parse-sentence}
 use Rattle.document_grammar.proofs.Depth.{count_in, nest-show}
 use Rattle.document_grammar.proofs.Patterns.{label}
 use Rattle.document_grammar.proofs.Peak.{peak, peak-end, peak-start}
 use Rattle.document_grammar.proofs.Show.{show, shows}
-use Rattle.document_grammar.proofs.Sound.{any, first-any, path-ok}
-use Rattle.parser_rules.specs.State.{State, Lexeme, Report, add_all, fresh, begun, finished}
+use Rattle.document_grammar.proofs.Sound.{any, path-ok}
+use Rattle.parser_rules.specs.State.{State, Lexeme, Report, add_all, second, fresh, begun, finished}
 use Rattle.parser_rules.specs.Rule.{Runs, Call, Document}
 use Rattle.parser_rules.specs.Open.{IsRoot}
 use Rattle.parser_rules.proofs.Kept.{read_untouched, add_all_above}
 use Rattle.parser_rules.proofs.Strip.{stack, strip, layers, stack-flush}
-use Rattle.parser_rules.proofs.Calm.{answers_tokens, all_tokens, rest, current_tokens, EndsWell, Now, Told, Reads, read-on}
-use Rattle.parser_rules.proofs.Sets.{AtEnd, AtToken, standing, nothing-left}
-use Rattle.parser_rules.proofs.Check.{Level, low, high, past, spot, raised, own, owed, root_ends, checks_rule}
+use Rattle.parser_rules.proofs.Calm.{answers_tokens, all_tokens, rest, current_tokens, EndsWell, Now, AtEnd, AtToken, standing, Told, Reads, read-on}
+use Rattle.parser_rules.proofs.Sets.{class_of, second-shown, of-any, over, ready, not-zero}
+use Rattle.parser_rules.proofs.Check.{Level, low, high, past, spot, lost, raised, own, owed, root_ends, checks_rule}
 use Rattle.parser_rules.proofs.Checked.{checked_document}
-use Rattle.parser_rules.proofs.Link.{Leveled, Place, Fits, Out, good, link, run-grows}
+use Rattle.parser_rules.proofs.Link.{Leveled, Place, Fits, Out, shown, good, link, run-grows}
 
 -- ---- what was answered, where all answers are tokens
 
@@ -93,20 +93,19 @@ start-level lim answers w = record {
   limit = refl;
 }
 
-start-fits : (r : ℕ) (xs : List Answer) → EndsWell xs → (begun xs r kind.DOCUMENT).errors ≡ [] → Fits xs [] r (answers_tokens xs) DOCUMENT (spot 0 low) any [] (begun xs r kind.DOCUMENT)
+start-fits : (r : ℕ) (xs : List Answer) → EndsWell xs → (begun xs r kind.DOCUMENT).errors ≡ [] → Fits xs [] r (answers_tokens xs) DOCUMENT (spot 0 low) any any [] (begun xs r kind.DOCUMENT)
 start-fits r xs e clean =
     let s : State = fresh xs r kind.DOCUMENT in
+    let b : State = begun xs r kind.DOCUMENT in
     elim (read-on xs [] xs s (record { clean = refl; accepts = refl; waits = refl }) e (record { front = []; split = refl; tokens = refl })) [
-      | inl o ↦ untold xs (begun xs r kind.DOCUMENT) clean o
+      | inl o ↦ untold xs b clean o
       | inr o ↦ record {
         calm = o.calm;
-        known = first-any (rest (begun xs r kind.DOCUMENT));
-        place = record {
+        seen = record { near = of-any b.current (shown xs [] r (answers_tokens xs) b o.calm); far = of-any (second b.items) (second-shown b.items) };
+        stands = record {
           children = none;
-          sound = (document-label.2, refl, refl, tt);
-          read = sym o.left;
-          built = ap stack (read_untouched xs (fresh xs r kind.DOCUMENT)).tree ∙ ap (λ (k : ℕ). (k, none) ∷ []) (sym document-label.0);
-          leveled = leveled-from s o;
+          place = record { sound = (document-label.2, refl, refl, tt); read = sym o.left; leveled = leveled-from s o };
+          built = ap stack (read_untouched xs s).tree ∙ ap (λ (k : ℕ). (k, none) ∷ []) (sym document-label.0);
         };
       }
     ]
@@ -134,6 +133,18 @@ finished-tree s layer root e =
     let o : Open = record { before = built.none; kind = root.0 } in
     let a : b.above ≡ o ∷ [] = add_all_above s.waiting s.tree ∙ root.2 in
     ap (λ (above : List Open). bare (tree_of (close b.here above).here)) a ∙ root-tree root.0 b.here layer (sym (ap (layers b.here) a) ∙ e)
+
+-- the class of no token left but the end
+none-over : (t : Lexeme) (items : List Answer) → AtEnd t items ⊎ AtToken t items → within (class_of (Some t)) over ≡ true → current_tokens (Some t) ++ answers_tokens items ≡ []
+none-over t items (inl a) h = a.nothing
+none-over t items (inr a) h =
+    let b : Token = (leaf_number t.kind, t.text) in
+    let i : within (class b) over ≡ true = subst (λ (e : Bool). within (cond e 0 (class b)) over ≡ true) a.is_end h in
+    false-true (holds-disjoint (class b) over ready refl i) (not-zero b)
+
+over-rest : (c : Option Lexeme) (items : List Answer) → Now c items → within (class_of c) over ≡ true → current_tokens c ++ answers_tokens items ≡ []
+over-rest None items n h = absurd n
+over-rest (Some t) items n h = none-over t items (standing t items n) h
 
 -- nothing is left to read: all answers were given
 read-all : (t : Lexeme) (items : List Answer) → AtEnd t items ⊎ AtToken t items → current_tokens (Some t) ++ answers_tokens items ≡ [] → items ≡ []
@@ -176,19 +187,20 @@ Root r xs s = Out xs [] r (answers_tokens xs) DOCUMENT [] root_ends s
 clean-root : (r : ℕ) (xs : List Answer) (s : State) → IsRoot s.tree → s.errors ≡ [] → Root r xs s → Clean r xs s
 unfolding root_ends
 clean-root r xs s root e (inl o) = untold xs s e o
-clean-root r xs s root e (inr (spot q l, u, h, g)) =
-    let i : Place xs [] r (answers_tokens xs) DOCUMENT q l [] s = g.place in
-    let t : Tree = node DOCUMENT i.children in
-    let none : rest s ≡ [] = nothing-left (rest s) (holds-subset (first (rest s)) u 1 (and-r _ _ (and-l _ _ h)) g.known) in
-    let ok : Ok t = (i.sound.0, path-ok DOCUMENT 0 q i.children i.sound.1 (and-l _ _ (and-l _ _ h))) in
-    let words : yields i.children ≡ answers_tokens xs = same-words (answers_tokens xs) (yields i.children) (i.read ∙ ap (λ (v : List Token). ([] ++ yields i.children) ++ v) none) in
-    let tree : bare (tree_of (finished s)) ≡ node (label DOCUMENT) (shows i.children) = finished-tree s (label DOCUMENT, shows i.children) root (stack-flush s.waiting s.tree g.calm.quiet.waits ∙ i.built) in
-    let shown : bare (tree_of (finished s)) ≡ show t = tree in
+clean-root r xs s root e (inr (lost, x, y, h, g)) = false-true refl h
+clean-root r xs s root e (inr (spot q l, x, y, h, g)) =
+    let f : Forest = g.stands.children in
+    let i : Place xs [] r (answers_tokens xs) DOCUMENT q l f [] s = g.stands.place in
+    let t : Tree = node DOCUMENT f in
+    let none : rest s ≡ [] = over-rest s.current s.items g.calm.now (holds-subset (class_of s.current) x over (and-r _ _ (and-l _ _ h)) g.seen.near) in
+    let ok : Ok t = (i.sound.0, path-ok DOCUMENT 0 q f i.sound.1 (and-l _ _ (and-l _ _ h))) in
+    let words : yields f ≡ answers_tokens xs = same-words (answers_tokens xs) (yields f) (i.read ∙ ap (λ (v : List Token). ([] ++ yields f) ++ v) none) in
+    let shown : bare (tree_of (finished s)) ≡ show t = finished-tree s (label DOCUMENT, shows f) root (stack-flush s.waiting s.tree g.calm.quiet.waits ∙ g.stands.built) in
     let spells : Spells (answers_tokens xs) (show t) document = parse-sentence document 0 (answers_tokens xs) t ok refl words in
     let lv = i.leveled in
     let raised-none : raised l ≡ 0 = eqb-true _ _ (and-r _ _ h) in
     let depth : s.depth ≡ 0 = top-depth s.depth (own DOCUMENT) (count_in DOCUMENT DOCUMENT) (raised l) lv.level document-label.1 document-label.3 raised-none in
-    let deep : nest (show t) ≤ r = at-most (nest (show t)) (peak (frame DOCUMENT q i.children ∷ [])) r (nest-show t ok ∙ sym (peak-end DOCUMENT q i.children)) (top-peak _ s.high s.depth (owed DOCUMENT l) r lv.most_open depth (owed-none l raised-none) lv.kept) in
+    let deep : nest (show t) ≤ r = at-most (nest (show t)) (peak (frame DOCUMENT q f ∷ [])) r (nest-show t ok ∙ sym (peak-end DOCUMENT q f)) (top-peak _ s.high s.depth (owed DOCUMENT l) r lv.most_open depth (owed-none l raised-none) lv.kept) in
     let p = g.calm.passed in
     let split : xs ≡ p.front = p.split ∙ (ap (λ (ys : List Answer). p.front ++ ys) (none-left s.current s.items g.calm.now none) ∙ append-nil p.front) in
     record {
@@ -203,8 +215,8 @@ clean r xs s en root e run =
     let b : State = begun xs r kind.DOCUMENT in
     let none : b.errors ≡ [] = no-reports b.errors (run-grows run).more (sym (run-grows run).errors ∙ e) in
     clean-root r xs s root e
-    (link xs [] r (answers_tokens xs) run 4 DOCUMENT (spot 0 low) any [] root_ends
-    (good xs [] r (answers_tokens xs) 4 DOCUMENT (spot 0 low) any (Call Document) root_ends checked_document)
+    (link xs [] r (answers_tokens xs) run 5 DOCUMENT (spot 0 low) any any [] root_ends
+    (good xs [] r (answers_tokens xs) 5 DOCUMENT (spot 0 low) any any (Call Document) root_ends checked_document)
     (start-fits r xs en none))
   where
     no-reports : (a b : List Report) → a ++ b ≡ [] → a ≡ []

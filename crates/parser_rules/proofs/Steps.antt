@@ -1,9 +1,10 @@
 -- A relation between states that holds along each step holds along each run.
 use Rattle.std.proofs.Common.{◌≡◌, refl, sym, subst, true, false, if◌then◌else◌, Option, Some, None, [], ◌∷◌, ◌++◌}
 use Rattle.document_grammar.specs.declared.kind.SyntaxKind.{SyntaxKind}
-use Rattle.document_grammar.specs.Builds.{start, add_leaf}
-use Rattle.parser_rules.specs.State.{State, Lexeme, read_on, flush, opened, closed, moved, bump, found_at, noted, note, is_deep, enter, leave, deepened, limited_at, too_deep, at_limit}
-use Rattle.parser_rules.specs.Rule.{Test, Prim, Bump, Note, step, kind_of, Rule, Runs, skip, does, seq, yes, no, done, again, child, deeper, refused, call, Turns, begin, turn}
+use Rattle.document_grammar.specs.declared.kind.SyntaxKind.TheVariants as kind
+use Rattle.document_grammar.specs.Builds.{start, add_leaf, built_count}
+use Rattle.parser_rules.specs.State.{State, Lexeme, read_on, flush, opened, closed, wrapped_from, moved, bump, found_at, noted, note, is_deep, enter, leave, deepened, limited_at, too_deep, at_limit}
+use Rattle.parser_rules.specs.Rule.{Test, Prim, Bump, Note, TooDeep, step, kind_of, Rule, Runs, skip, does, seq, yes, no, done, again, child, deeper, refused, call, plain, wrapped, Turns, begin, turn}
 
 pub record Holds_along (R : State → State → Type 0) : Type 0 where
   pub same : (s : State) → R s s
@@ -15,9 +16,10 @@ pub record Holds_along (R : State → State → Type 0) : Type 0 where
   -- a report of the grammar at the current token, and that of the recursion limit, after which none is taken
   pub reports : (x : Lexeme) (s : State) → s.current ≡ Some x → s.accepts ≡ true → R s (record s { errors = s.errors ++ record { found = found_at x; index = x.index } ∷ [] })
   pub limits : (x : Lexeme) (s : State) → s.current ≡ Some x → s.accepts ≡ true → R s (record s { errors = s.errors ++ record { found = at_limit; index = x.index } ∷ []; accepts = false })
-  pub asks : (s : State) → true ≡ is_deep s → R s (deepened s)
+  pub asks : (s : State) → R s (deepened s)
   pub nodes : (k : SyntaxKind) (s u : State) → R (record s { tree = start k s.tree }) u → R s (closed u)
   pub levels : (s u : State) → false ≡ is_deep s → R (enter s) u → R s (leave u)
+  pub wraps : (k : SyntaxKind) (t u w : State) → R t u → R (wrapped_from (built_count t.tree) k u) w → R t (closed w)
 
 module _ {R : State → State → Type 0} (r : Holds_along R) where
   moved_along : (leaf : SyntaxKind) (s : State) (o : Option Lexeme) → s.current ≡ o → R s (moved leaf s o)
@@ -39,14 +41,15 @@ module _ {R : State → State → Type 0} (r : Holds_along R) where
     | false ↦ λ a. subst (λ b. R s (record s { accepts = b })) a (r.same s)
   ]) refl
 
+  too_deep_along : (s : State) → R s (too_deep s)
+  unfolding too_deep
+  too_deep_along s = r.next s (deepened s) (too_deep s) (r.asks s) (limited_along (deepened s) s.current refl)
+
   step_along : (a : Prim) (s : State) → R s (step a s)
   unfolding step bump note
   step_along (Bump leaf) s = moved_along leaf s s.current refl
   step_along (Note m) s = noted_along s s.current refl
-
-  too_deep_along : (s : State) → true ≡ is_deep s → R s (too_deep s)
-  unfolding too_deep
-  too_deep_along s e = r.next s (deepened s) (too_deep s) (r.asks s e) (limited_along (deepened s) s.current refl)
+  step_along TooDeep s = too_deep_along s
 
   node_along : (k : SyntaxKind) (s u : State) → R (opened k s) u → R s (closed u)
   unfolding opened
@@ -62,8 +65,12 @@ module _ {R : State → State → Type 0} (r : Holds_along R) where
   along {s = s} (again {t = t} {u = u} q h k) = r.next s t u (along h) (along k)
   along {s = s} (child {n = n} {t = t} {u = u} e k h) = subst (R s) (sym k) (node_along (kind_of n) s u (subst (λ w. R w u) e (along h)))
   along {s = s} (deeper {t = t} {u = u} {v = v} {w = w} q e k h i) = r.next s v w (subst (R s) (sym k) (r.levels s u q (subst (λ x. R x u) e (along h)))) (along i)
-  along {s = s} (refused q e) = subst (R s) (sym e) (too_deep_along s q)
+  along {s = s} (refused q e) = subst (R s) (sym e) (too_deep_along s)
   along (call h) = along h
+  along {s = s} {t = u} (plain {t = t} e h n) = r.next s t u (subst (R s) (sym e) (r.flushes s)) (along h)
+  along {s = s} (wrapped {t = t} {u = u} {v = v} {w = w} {x = x} e p i c h y l) =
+      let wrapping : R (wrapped_from (built_count t.tree) kind.NON_NULL_TYPE u) w = subst (λ n. R (wrapped_from n kind.NON_NULL_TYPE u) w) p (subst (λ v. R v w) i (along l)) in
+      r.next s t x (subst (R s) (sym e) (r.flushes s)) (subst (R t) (sym c) (r.wraps kind.NON_NULL_TYPE t u w (along h) wrapping))
 
   pub turns_along : {q : Test} {a : Rule} {s t : State} → Turns q a s t → R s t
   turns_along {s = s} begin = r.same s

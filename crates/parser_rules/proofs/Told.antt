@@ -6,7 +6,7 @@ use Rattle.lexical_grammar.specs.Cut.{Item}
 use Rattle.lexical_grammar.specs.Answers.{Answer, gives, limit_at}
 use Rattle.document_grammar.specs.declared.kind.SyntaxKind.{SyntaxKind}
 use Rattle.document_grammar.specs.Builds.{add_leaf}
-use Rattle.parser_rules.specs.State.{State, Lexeme, Report, at_text, at_limit, found_at, ignored, bad, met, wait, lexeme, read_on, flush, closed, enter, leave, fresh, begun}
+use Rattle.parser_rules.specs.State.{State, Lexeme, Report, at_text, at_limit, found_at, ignored, bad, met, wait, lexeme, read_on, flush, closed, wrapped_from, enter, leave, fresh, begun}
 use Rattle.parser_rules.specs.Rule.{Rule, Runs}
 use Rattle.parser_rules.specs.Reports.{Reported, no_more, bad_text, token_limit, fault, recursion_limit, passed}
 use Rattle.parser_rules.proofs.Kept.{on_kind, on_item}
@@ -125,7 +125,7 @@ limits s x e a =
     })
 
 tells-along : Holds_along Tells
-unfolding Tells flush closed enter leave
+unfolding Tells flush closed enter leave wrapped_from
 tells-along = record {
   same = stands;
   next = tells-on;
@@ -133,9 +133,13 @@ tells-along = record {
   moves = λ leaf x s e w. moves leaf x s e;
   reports = λ x s e a. told s x e a;
   limits = λ x s e a. limits s x e a;
-  asks = λ s e i. let h = stands s i in record { more = h.more; are = h.are; onward = h.onward; shown = h.shown };
+  asks = λ s i. let h = stands s i in record { more = h.more; are = h.are; onward = h.onward; shown = h.shown };
   nodes = λ k s u tells i. let h = tells i in record { more = h.more; are = h.are; onward = h.onward; shown = h.shown };
   levels = λ s u q tells i. let h = tells i in record { more = h.more; are = h.are; onward = h.onward; shown = h.shown };
+  wraps = λ k t u w before tells i.
+      let inside : Tells u w = λ j. let h = tells j in record { more = h.more; are = h.are; onward = h.onward; shown = h.shown } in
+      let h = tells-on t u w before inside i in
+      record { more = h.more; are = h.are; onward = h.onward; shown = h.shown };
 }
 
 -- where all is read, the reports are those of the answers

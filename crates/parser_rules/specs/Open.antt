@@ -1,9 +1,9 @@
 -- What the calls of a parser's steps ask: which nodes are open.
-use Rattle.std.specs.Prelude.{◌≡◌, ◌<◌, Bool, true, false, List, [], ◌∷◌}
+use Rattle.std.specs.Prelude.{◌≡◌, ◌<◌, ℕ, Bool, true, false, List, [], ◌∷◌}
 use Rattle.document_grammar.specs.declared.kind.SyntaxKind.{SyntaxKind}
 use Rattle.document_grammar.specs.declared.kind.SyntaxKind.TheVariants as kind
 use Rattle.document_grammar.specs.Forests.{none}
-use Rattle.document_grammar.specs.Builds.{Building, Open}
+use Rattle.document_grammar.specs.Builds.{Building, Open, IsPlace}
 use Rattle.parser_rules.specs.State.{State}
 
 -- the kinds whose nodes may have any children; a name and the literals have one leaf
@@ -21,6 +21,10 @@ is_free_in (o ∷ above) = is_free o.kind
 -- a node is open that may have any children
 unfoldable pub IsOpen : Building → Type 0
 IsOpen b = is_free_in b.above ≡ true
+
+-- a place where a node may open around what was added since
+unfoldable pub IsMark : ℕ → Building → Type 0
+IsMark place b = IsPlace place b
 
 -- a level was entered
 unfoldable pub IsInside : State → Type 0

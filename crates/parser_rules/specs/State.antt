@@ -12,7 +12,7 @@ use Rattle.document_grammar.specs.Kinds.{words}
 use Rattle.document_grammar.specs.Numbers.{number}
 use Rattle.document_grammar.specs.Machine.{word_class}
 use Rattle.document_grammar.specs.Forests.{Forest}
-use Rattle.document_grammar.specs.Builds.{Building, nothing, start, add_leaf, finish}
+use Rattle.document_grammar.specs.Builds.{Building, nothing, start, add_leaf, finish, wrap}
 
 abbrev pub Text : Type 0
 Text = List ℕ
@@ -96,6 +96,18 @@ read_on (gives item ∷ rest) s = elim item.kind [
   ]
 ]
 
+-- the significant token behind the current one, as a copy of the reader finds it
+unfoldable pub second : List Answer → Option Lexeme
+second [] = None
+second (limit_at index ∷ rest) = second rest
+second (gives item ∷ rest) = elim item.kind [
+  | None ↦ second rest
+  | Some k ↦ elim (ignored k) [
+    | Some leaf ↦ second rest
+    | None ↦ Some (lexeme k item)
+  ]
+]
+
 -- ---- building
 
 abbrev pub add_all : List Part → Building → Building
@@ -111,6 +123,10 @@ opened k s = let f = flush s in record f { tree = start k f.tree }
 
 unfoldable pub closed : State → State
 closed s = record s { tree = finish s.tree }
+
+-- what was added to the open node since the place stands in a new node, which is open
+unfoldable pub wrapped_from : ℕ → SyntaxKind → State → State
+wrapped_from place k s = record s { tree = wrap place k s.tree }
 
 -- moves the current token into the tree behind what waits, and reads on; where there is none, nothing happens
 abbrev pub moved : SyntaxKind → State → Option Lexeme → State

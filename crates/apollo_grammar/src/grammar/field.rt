@@ -6,7 +6,9 @@ ghost use Rattle.lexical_grammar.specs.declared.TokenKind.TheVariants as token;
 ghost use Rattle.parser_rules.specs.Rule as rule;
 ghost use Rattle.parser_rules.specs.Rule.{At, holds, Runs, Child};
 
-use super::name::name;
+use super::argument::arguments;
+use super::directive::directives;
+use super::name::aliased_name;
 use super::selection::selection_set;
 use crate::state::ParserState;
 use document_grammar::SyntaxKind;
@@ -20,7 +22,9 @@ pub fn field<A: Allocator + Copy>(p: &mut ParserState<'_, A>) -> Result<(), Allo
     ensures { OnOk result (Runs (Child rule.Field) p.old p.new) }
 {
     p.start_node(SyntaxKind::FIELD)?;
-    name(p)?;
+    aliased_name(p)?;
+    arguments(p, false)?;
+    directives(p, false)?;
     if p.at(TokenKind::LCurly) {
         selection_set(p)?;
     }

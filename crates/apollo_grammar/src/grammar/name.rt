@@ -1,16 +1,57 @@
 // Names.
+#![tactic(auto, using(parser_rules::specs::Rule::child, parser_rules::specs::Rule::call, parser_rules::specs::Rule::seq, parser_rules::specs::Rule::skip, parser_rules::specs::Rule::yes, parser_rules::specs::Rule::no, parser_rules::proofs::Kept::is_open, parser_rules::proofs::Kept::still_open, parser_rules::proofs::Kept::still_at), unfolding(parser_rules::specs::Rule::inside, parser_rules::specs::Rule::body))]
+
 ghost use Rattle.std.specs.Prelude.{◌≡◌, true, OnOk};
 ghost use Rattle.lexical_grammar.specs.declared.TokenKind.TheVariants as token;
 ghost use Rattle.parser_rules.specs.Rule as rule;
-ghost use Rattle.parser_rules.specs.Rule.{At, holds, Runs, Child};
+ghost use Rattle.parser_rules.specs.Rule.{At, holds, Runs, Child, Call};
 
 use crate::state::ParserState;
+use document_grammar::SyntaxKind;
+use lexical_grammar::TokenKind;
+use parser_rules::Message;
 use std::alloc::{AllocError, Allocator};
 
 /// A name (GraphQL October 2021, section 2.1.9, "Names").
 pub fn name<A: Allocator + Copy>(p: &mut ParserState<'_, A>) -> Result<(), AllocError>
-    requires { true ≡ holds (At token.Name) p.old }
-    ensures { OnOk result (Runs (Child rule.Name) p.old p.new) }
+    ensures { OnOk result (Runs (Call rule.Named) p.old p.new) }
 {
+    if p.at(TokenKind::Name) {
+        return p.name();
+    }
+    p.err(Message::ExpectedName)
+}
+
+/// A name, where one comes next.
+pub fn maybe_name<A: Allocator + Copy>(p: &mut ParserState<'_, A>) -> Result<(), AllocError>
+    ensures { OnOk result (Runs (Call rule.MaybeName) p.old p.new) }
+{
+    if p.at(TokenKind::Name) {
+        return p.name();
+    }
+    Ok(())
+}
+
+/// A field's alias (GraphQL October 2021, section 2.7, "Field Alias").
+fn alias<A: Allocator + Copy>(p: &mut ParserState<'_, A>) -> Result<(), AllocError>
+    requires { true ≡ holds (At token.Name) p.old }
+    ensures { OnOk result (Runs (Child rule.Alias) p.old p.new) }
+{
+    p.start_node(SyntaxKind::ALIAS)?;
+    p.name()?;
+    p.bump(SyntaxKind::COLON)?;
+    p.finish_node();
+    Ok(())
+}
+
+/// A field's name, with its alias.
+pub fn aliased_name<A: Allocator + Copy>(p: &mut ParserState<'_, A>) -> Result<(), AllocError>
+    requires { true ≡ holds (At token.Name) p.old }
+    ensures { OnOk result (Runs (Call rule.AliasedName) p.old p.new) }
+{
+    if p.next_is(TokenKind::Colon) {
+        alias(p)?;
+        return name(p);
+    }
     p.name()
 }

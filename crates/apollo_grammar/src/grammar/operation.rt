@@ -1,20 +1,43 @@
 // Operations.
-#![tactic(auto, using(parser_rules::specs::Rule::child, parser_rules::proofs::Kept::is_open, parser_rules::proofs::Kept::still_open, parser_rules::proofs::Kept::still_at), unfolding(parser_rules::specs::Rule::inside))]
+#![tactic(auto, using(parser_rules::specs::Rule::child, parser_rules::specs::Rule::seq, parser_rules::specs::Rule::skip, parser_rules::specs::Rule::yes, parser_rules::specs::Rule::no, parser_rules::proofs::Kept::is_open, parser_rules::proofs::Kept::still_open, parser_rules::proofs::Kept::still_at), unfolding(parser_rules::specs::Rule::inside))]
 
 ghost use Rattle.std.specs.Prelude.{◌≡◌, true, OnOk};
 ghost use Rattle.lexical_grammar.specs.declared.TokenKind.TheVariants as token;
 ghost use Rattle.parser_rules.specs.Rule as rule;
 ghost use Rattle.parser_rules.specs.Rule.{At, holds, Runs, Child};
 
+use super::directive::directives;
+use super::name::maybe_name;
 use super::selection::selection_set;
+use super::variable::variable_definitions;
 use crate::state::ParserState;
 use document_grammar::SyntaxKind;
+use lexical_grammar::TokenKind;
+use parser_rules::Message;
 use std::alloc::{AllocError, Allocator};
 
-/// A query that is a selection set alone (GraphQL October 2021, section 2.3, "Operations", "Query shorthand").
+/// An operation with its type (GraphQL October 2021, section 2.3, "Operations").
 pub fn operation_definition<A: Allocator + Copy>(
     p: &mut ParserState<'_, A>,
 ) -> Result<(), AllocError>
+    ensures { OnOk result (Runs (Child rule.Operation) p.old p.new) }
+{
+    p.start_node(SyntaxKind::OPERATION_DEFINITION)?;
+    operation_type(p)?;
+    maybe_name(p)?;
+    variable_definitions(p)?;
+    directives(p, false)?;
+    if p.at(TokenKind::LCurly) {
+        selection_set(p)?;
+    } else {
+        p.err_and_pop(Message::ExpectedSelectionSet)?;
+    }
+    p.finish_node();
+    Ok(())
+}
+
+/// A query that is a selection set alone (GraphQL October 2021, section 2.3, "Operations", "Query shorthand").
+pub fn query_shorthand<A: Allocator + Copy>(p: &mut ParserState<'_, A>) -> Result<(), AllocError>
     requires { true ≡ holds (At token.LCurly) p.old }
     ensures { OnOk result (Runs (Child rule.ShortQuery) p.old p.new) }
 {
@@ -22,4 +45,28 @@ pub fn operation_definition<A: Allocator + Copy>(
     selection_set(p)?;
     p.finish_node();
     Ok(())
+}
+
+fn operation_type<A: Allocator + Copy>(p: &mut ParserState<'_, A>) -> Result<(), AllocError>
+    ensures { OnOk result (Runs (Child rule.OperationType) p.old p.new) }
+{
+    p.start_node(SyntaxKind::OPERATION_TYPE)?;
+    operation_word(p)?;
+    p.finish_node();
+    Ok(())
+}
+
+fn operation_word<A: Allocator + Copy>(p: &mut ParserState<'_, A>) -> Result<(), AllocError>
+    ensures { OnOk result (Runs rule.operation_word p.old p.new) }
+{
+    if p.at_word(SyntaxKind::query_KW) {
+        return p.bump(SyntaxKind::query_KW);
+    }
+    if p.at_word(SyntaxKind::mutation_KW) {
+        return p.bump(SyntaxKind::mutation_KW);
+    }
+    if p.at_word(SyntaxKind::subscription_KW) {
+        return p.bump(SyntaxKind::subscription_KW);
+    }
+    p.err_and_pop(Message::ExpectedOperationType)
 }

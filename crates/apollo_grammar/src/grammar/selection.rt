@@ -4,10 +4,15 @@
 ghost use Rattle.std.specs.Prelude.{◌≡◌, true, OnOk};
 ghost use Rattle.lexical_grammar.specs.declared.TokenKind.TheVariants as token;
 ghost use Rattle.parser_rules.specs.Rule as rule;
-ghost use Rattle.parser_rules.specs.Rule.{At, holds, Runs, Child, Call};
+ghost use Rattle.parser_rules.specs.declared.message.Message.TheVariants as message;
+ghost use Rattle.parser_rules.specs.Rule.{At, holds, want, Runs, Child, Call};
+ghost use Rattle.apollo_grammar.specs.View.{current_of};
+ghost use Rattle.apollo_grammar.specs.Looks.{inlines_at};
 
 use super::field::field;
-use crate::state::ParserState;
+use super::fragment::{fragment_spread, inline_fragment};
+use crate::state::{ParserState, is_kind, is_word};
+use apollo_lexer::Token;
 use document_grammar::SyntaxKind;
 use lexical_grammar::TokenKind;
 use parser_rules::Message;
@@ -39,9 +44,67 @@ pub fn selection_set<A: Allocator + Copy>(p: &mut ParserState<'_, A>) -> Result<
 fn selections<A: Allocator + Copy>(p: &mut ParserState<'_, A>) -> Result<(), AllocError>
     ensures { OnOk result (Runs (Call rule.Selections) p.old p.new) }
 {
-    p.want(TokenKind::Name, Message::ExpectedSelection)?;
-    while p.at(TokenKind::Name) {
-        field(p)?;
+    want_selection(p)?;
+    while starts_selection(p) {
+        selection(p)?;
     }
     Ok(())
+}
+
+// Whether a selection starts here.
+#[tactic(auto, unfolding(parser_rules::specs::Rule::holds))]
+fn starts_selection<A: Allocator + Copy>(p: &ParserState<'_, A>) -> bool
+    ensures { result ≡ holds rule.selects p.now }
+{
+    p.at(TokenKind::Name) || p.at(TokenKind::Spread)
+}
+
+// Reports an error where no selection starts.
+fn want_selection<A: Allocator + Copy>(p: &mut ParserState<'_, A>) -> Result<(), AllocError>
+    ensures { OnOk result (Runs (want rule.selects message.ExpectedSelection) p.old p.new) }
+{
+    if starts_selection(p) {
+        return Ok(());
+    }
+    p.err(Message::ExpectedSelection)
+}
+
+#[cycle(selection)]
+fn selection<A: Allocator + Copy>(p: &mut ParserState<'_, A>) -> Result<(), AllocError>
+    requires { true ≡ holds rule.selects p.old }
+    ensures { OnOk result (Runs (Call rule.Selection) p.old p.new) }
+{
+    if p.at(TokenKind::Name) {
+        return field(p);
+    }
+    spread(p)
+}
+
+// Whether a spread before the token is an inline fragment.
+fn is_inline(next: Option<Token<'_>>) -> bool
+    ensures { result ≡ inlines_at (current_of next.entry) }
+{
+    is_word(next, SyntaxKind::on_KW)
+        || is_kind(next, TokenKind::At)
+        || is_kind(next, TokenKind::LCurly)
+}
+
+// What starts with `...`: the token behind it tells which fragment it is. Where there is none, the `...` is popped.
+#[cycle(selection)]
+fn spread<A: Allocator + Copy>(p: &mut ParserState<'_, A>) -> Result<(), AllocError>
+    requires { true ≡ holds (At token.Spread) p.old }
+    ensures { OnOk result (Runs (Call rule.Spread) p.old p.new) }
+{
+    let next = p.peek();
+    if is_inline(next) {
+        return inline_fragment(p);
+    }
+    if is_kind(next, TokenKind::Name) {
+        return fragment_spread(p);
+    }
+    if next.is_none() {
+        return p.err_and_pop(Message::ExpectedFragment);
+    }
+    p.err(Message::ExpectedFragment)?;
+    p.bump(SyntaxKind::SPREAD)
 }

@@ -1,20 +1,28 @@
 use Rattle.std.proofs.Common.{◌+◌, ◌*◌}
-use Rattle.lexical_grammar.specs.declared.TokenKind.TheVariants as token
-use Rattle.parser_rules.specs.Rule.{Turns, At, Child, Field}
+use Rattle.parser_rules.specs.Rule.{Turns, Call, Selection, selects}
 use Rattle.parser_rules.proofs.Kept.{left}
 use Rattle.apollo_grammar.proofs.grammar.+selection.Given as goal
 
 abbrev pub decreases-field::field : goal.decreases-field::field
-decreases-field::field g l = 3 * left l.p.now + 1
+decreases-field::field g l = 5 * left l.p.now + 1
+
+abbrev pub decreases-fragment::inline_fragment : goal.decreases-fragment::inline_fragment
+decreases-fragment::inline_fragment g l = 5 * left l.p.now + 1
 
 abbrev pub decreases-selection::selection_set : goal.decreases-selection::selection_set
-decreases-selection::selection_set g l = 3 * left l.p.now
+decreases-selection::selection_set g l = 5 * left l.p.now
 
 abbrev pub decreases-selection::selections : goal.decreases-selection::selections
-decreases-selection::selections g l = 3 * left l.p.now + 2
+decreases-selection::selections g l = 5 * left l.p.now + 4
+
+abbrev pub decreases-selection::selection : goal.decreases-selection::selection
+decreases-selection::selection g l = 5 * left l.p.now + 3
+
+abbrev pub decreases-selection::spread : goal.decreases-selection::spread
+decreases-selection::spread g l = 5 * left l.p.now + 2
 
 abbrev pub invariant-selection::selections-loop-p : goal.invariant-selection::selections-loop-p
-invariant-selection::selections-loop-p g l = Turns (At token.Name) (Child Field) l.initial.p l.p
+invariant-selection::selections-loop-p g l = Turns selects (Call Selection) l.initial.p l.p
 
 abbrev pub decreases-selection::selections-loop-p : goal.decreases-selection::selections-loop-p
 decreases-selection::selections-loop-p g l = left l.p

@@ -1,0 +1,10 @@
+use Rattle.lexical_grammar.specs.declared.TokenKind.TheVariants as token
+use Rattle.parser_rules.specs.Rule.{Turns, At, Child, Directive}
+use Rattle.parser_rules.proofs.Kept.{left}
+use Rattle.apollo_grammar.proofs.grammar.directive.directives.Given as goal
+
+abbrev pub invariant-loop-p : goal.invariant-loop-p
+invariant-loop-p g l = Turns (At token.At) (Child (Directive l.is_constant)) l.initial.p l.p
+
+abbrev pub decreases-loop-p : goal.decreases-loop-p
+decreases-loop-p g l = left l.p

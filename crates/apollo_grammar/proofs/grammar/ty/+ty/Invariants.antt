@@ -1,0 +1,15 @@
+use Rattle.std.proofs.Common.{◌+◌, ◌*◌}
+use Rattle.parser_rules.proofs.Kept.{left}
+use Rattle.apollo_grammar.proofs.grammar.ty.+ty.Given as goal
+
+abbrev pub decreases-ty : goal.decreases-ty
+decreases-ty g l = 4 * left l.p.now + 2
+
+abbrev pub decreases-nullable_type : goal.decreases-nullable_type
+decreases-nullable_type g l = 4 * left l.p.now + 1
+
+abbrev pub decreases-list_type : goal.decreases-list_type
+decreases-list_type g l = 4 * left l.p.now
+
+abbrev pub decreases-item_type : goal.decreases-item_type
+decreases-item_type g l = 4 * left l.p.now + 3

@@ -1,0 +1,35 @@
+use Rattle.std.proofs.Common.{◌+◌, ◌*◌}
+use Rattle.lexical_grammar.specs.declared.TokenKind.TheVariants as token
+use Rattle.parser_rules.specs.Rule.{Turns, At, Child, Call, ObjectField, NestedValue, has_item}
+use Rattle.parser_rules.proofs.Kept.{left}
+use Rattle.apollo_grammar.proofs.grammar.value.+value.Given as goal
+
+abbrev pub decreases-value : goal.decreases-value
+decreases-value g l = 4 * left l.p.now + 1
+
+abbrev pub decreases-nested_value : goal.decreases-nested_value
+decreases-nested_value g l = 4 * left l.p.now + 2
+
+abbrev pub decreases-list_value : goal.decreases-list_value
+decreases-list_value g l = 4 * left l.p.now
+
+abbrev pub decreases-list_items : goal.decreases-list_items
+decreases-list_items g l = 4 * left l.p.now + 3
+
+abbrev pub decreases-object_value : goal.decreases-object_value
+decreases-object_value g l = 4 * left l.p.now
+
+abbrev pub decreases-object_field : goal.decreases-object_field
+decreases-object_field g l = 4 * left l.p.now
+
+abbrev pub invariant-list_items-loop-p : goal.invariant-list_items-loop-p
+invariant-list_items-loop-p g l = Turns has_item (Call (NestedValue l.is_constant)) l.initial.p l.p
+
+abbrev pub decreases-list_items-loop-p : goal.decreases-list_items-loop-p
+decreases-list_items-loop-p g l = left l.p
+
+abbrev pub invariant-object_value-loop-p : goal.invariant-object_value-loop-p
+invariant-object_value-loop-p g l = Turns (At token.Name) (Child (ObjectField l.is_constant)) l.initial.p l.p
+
+abbrev pub decreases-object_value-loop-p : goal.decreases-object_value-loop-p
+decreases-object_value-loop-p g l = left l.p

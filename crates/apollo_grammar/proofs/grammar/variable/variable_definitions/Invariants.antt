@@ -1,0 +1,10 @@
+use Rattle.lexical_grammar.specs.declared.TokenKind.TheVariants as token
+use Rattle.parser_rules.specs.Rule.{Turns, At, Child, VariableDefinition}
+use Rattle.parser_rules.proofs.Kept.{left}
+use Rattle.apollo_grammar.proofs.grammar.variable.variable_definitions.Given as goal
+
+abbrev pub invariant-loop-p : goal.invariant-loop-p
+invariant-loop-p g l = Turns (At token.Dollar) (Child VariableDefinition) l.initial.p l.p
+
+abbrev pub decreases-loop-p : goal.decreases-loop-p
+decreases-loop-p g l = left l.p

@@ -1,0 +1,12 @@
+use Rattle.std.proofs.Common.{refl}
+use Rattle.parser_rules.specs.State.{flush, opened}
+use Rattle.parser_rules.specs.Rule.{BooleanValue, child, does, yes, no, inside, holds, step}
+use Rattle.apollo_grammar.proofs.state.ParserState.boolean_value.Goals as goal
+
+pub returns-in_ok-leaf_node : goal.returns-in_ok-leaf_node
+unfolding inside step opened flush holds
+returns-in_ok-leaf_node g c = child {n = BooleanValue} refl c.in_ok-leaf_node.ensures (yes c.if-at_word.ensures (does refl))
+
+pub returns-in_ok-leaf_node-2 : goal.returns-in_ok-leaf_node-2
+unfolding inside step opened flush holds
+returns-in_ok-leaf_node-2 g c = child {n = BooleanValue} refl c.in_ok-leaf_node-2.ensures (no c.if-at_word.ensures (does refl))

@@ -1,0 +1,10 @@
+use Rattle.std.proofs.Common.{sym, ap, ◌∙◌}
+use Rattle.lexical_grammar.specs.declared.TokenKind.TheVariants as token
+use Rattle.parser_rules.specs.State.{same_kind, is_word}
+use Rattle.apollo_grammar.specs.View.{lexeme_of, current_of}
+use Rattle.apollo_grammar.proofs.Keywords.{name_is_word}
+use Rattle.apollo_grammar.proofs.state.is_word.Goals as goal
+
+pub returns-then-is_same : goal.returns-then-is_same
+returns-then-is_same c =
+    c.eq.ensures ∙ name_is_word c.args.keyword (lexeme_of c.in-Some.token) _ _ c.requires (c.if-is_same.ensures ∙ ap (λ k. same_kind k token.Name) c.kind.ensures) c.«data».ensures c.word_of.ensures ∙ sym (ap (λ o. is_word c.args.keyword (current_of o)) c.in-Some.is)

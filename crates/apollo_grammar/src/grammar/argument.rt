@@ -1,0 +1,54 @@
+// Arguments.
+#![tactic(auto, using(parser_rules::specs::Rule::child, parser_rules::specs::Rule::call, parser_rules::specs::Rule::seq, parser_rules::specs::Rule::skip, parser_rules::specs::Rule::yes, parser_rules::specs::Rule::no, parser_rules::specs::Rule::begin, parser_rules::specs::Rule::turn, parser_rules::proofs::Then::wanted, parser_rules::proofs::Kept::ended, parser_rules::proofs::Kept::is_open, parser_rules::proofs::Kept::still_open, parser_rules::proofs::Kept::open_in_loop, parser_rules::proofs::Kept::still_at), unfolding(parser_rules::specs::Rule::inside, parser_rules::specs::Rule::body))]
+
+ghost use Rattle.std.specs.Prelude.{◌≡◌, true, OnOk};
+ghost use Rattle.lexical_grammar.specs.declared.TokenKind.TheVariants as token;
+ghost use Rattle.parser_rules.specs.Rule as rule;
+ghost use Rattle.parser_rules.specs.Rule.{At, holds, Runs, Child, Call};
+
+use super::value::value;
+use crate::state::ParserState;
+use document_grammar::SyntaxKind;
+use lexical_grammar::TokenKind;
+use parser_rules::Message;
+use std::alloc::{AllocError, Allocator};
+
+/// Arguments (GraphQL October 2021, section 2.6, "Arguments"), where `(` comes next.
+pub fn arguments<A: Allocator + Copy>(
+    p: &mut ParserState<'_, A>,
+    is_constant: bool,
+) -> Result<(), AllocError>
+    ensures { OnOk result (Runs (Call (rule.MaybeArguments is_constant)) p.old p.new) }
+{
+    if !p.at(TokenKind::LParen) {
+        return Ok(());
+    }
+    p.start_node(SyntaxKind::ARGUMENTS)?;
+    p.bump(SyntaxKind::L_PAREN)?;
+    p.want(TokenKind::Name, Message::ExpectedArgument)?;
+    while p.at(TokenKind::Name) {
+        argument(p, is_constant)?;
+    }
+    p.expect(TokenKind::RParen, SyntaxKind::R_PAREN)?;
+    p.finish_node();
+    Ok(())
+}
+
+fn argument<A: Allocator + Copy>(
+    p: &mut ParserState<'_, A>,
+    is_constant: bool,
+) -> Result<(), AllocError>
+    requires { true ≡ holds (At token.Name) p.old }
+    ensures { OnOk result (Runs (Child (rule.Argument is_constant)) p.old p.new) }
+{
+    p.start_node(SyntaxKind::ARGUMENT)?;
+    p.name()?;
+    if p.at(TokenKind::Colon) {
+        p.bump(SyntaxKind::COLON)?;
+        value(p, is_constant, false)?;
+    } else {
+        p.err(Message::Expected(TokenKind::Colon))?;
+    }
+    p.finish_node();
+    Ok(())
+}

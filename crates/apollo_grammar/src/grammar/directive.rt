@@ -1,0 +1,45 @@
+// Directives.
+#![tactic(auto, using(parser_rules::specs::Rule::child, parser_rules::specs::Rule::call, parser_rules::specs::Rule::seq, parser_rules::specs::Rule::skip, parser_rules::specs::Rule::yes, parser_rules::specs::Rule::no, parser_rules::specs::Rule::begin, parser_rules::specs::Rule::turn, parser_rules::proofs::Kept::ended, parser_rules::proofs::Kept::is_open, parser_rules::proofs::Kept::still_open, parser_rules::proofs::Kept::open_in_loop), unfolding(parser_rules::specs::Rule::inside, parser_rules::specs::Rule::body))]
+
+ghost use Rattle.std.specs.Prelude.{◌≡◌, true, OnOk};
+ghost use Rattle.parser_rules.specs.Rule as rule;
+ghost use Rattle.parser_rules.specs.Rule.{Runs, Child, Call};
+
+use super::argument::arguments;
+use super::name::name;
+use crate::state::ParserState;
+use document_grammar::SyntaxKind;
+use lexical_grammar::TokenKind;
+use std::alloc::{AllocError, Allocator};
+
+/// Directives (GraphQL October 2021, section 2.12, "Directives"), where `@` comes next.
+pub fn directives<A: Allocator + Copy>(
+    p: &mut ParserState<'_, A>,
+    is_constant: bool,
+) -> Result<(), AllocError>
+    ensures { OnOk result (Runs (Call (rule.MaybeDirectives is_constant)) p.old p.new) }
+{
+    if !p.at(TokenKind::At) {
+        return Ok(());
+    }
+    p.start_node(SyntaxKind::DIRECTIVES)?;
+    while p.at(TokenKind::At) {
+        directive(p, is_constant)?;
+    }
+    p.finish_node();
+    Ok(())
+}
+
+fn directive<A: Allocator + Copy>(
+    p: &mut ParserState<'_, A>,
+    is_constant: bool,
+) -> Result<(), AllocError>
+    ensures { OnOk result (Runs (Child (rule.Directive is_constant)) p.old p.new) }
+{
+    p.start_node(SyntaxKind::DIRECTIVE)?;
+    p.bump(SyntaxKind::AT)?;
+    name(p)?;
+    arguments(p, is_constant)?;
+    p.finish_node();
+    Ok(())
+}

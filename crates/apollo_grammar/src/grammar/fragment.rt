@@ -1,0 +1,108 @@
+// Fragments.
+#![tactic(auto, using(parser_rules::specs::Rule::child, parser_rules::specs::Rule::call, parser_rules::specs::Rule::seq, parser_rules::specs::Rule::skip, parser_rules::specs::Rule::yes, parser_rules::specs::Rule::no, parser_rules::proofs::Then::chosen, parser_rules::proofs::Kept::is_open, parser_rules::proofs::Kept::still_open), unfolding(parser_rules::specs::Rule::inside, parser_rules::specs::Rule::body))]
+
+ghost use Rattle.std.specs.Prelude.{◌≡◌, true, OnOk};
+ghost use Rattle.lexical_grammar.specs.declared.TokenKind.TheVariants as token;
+ghost use Rattle.parser_rules.specs.Rule as rule;
+ghost use Rattle.parser_rules.specs.Rule.{At, holds, Runs, Child, Call};
+
+use super::directive::directives;
+use super::selection::selection_set;
+use super::ty::named_type;
+use crate::state::ParserState;
+use document_grammar::SyntaxKind;
+use lexical_grammar::TokenKind;
+use parser_rules::Message;
+use std::alloc::{AllocError, Allocator};
+
+/// A fragment definition (GraphQL October 2021, section 2.8, "Fragments").
+pub fn fragment_definition<A: Allocator + Copy>(
+    p: &mut ParserState<'_, A>,
+) -> Result<(), AllocError>
+    ensures { OnOk result (Runs (Child rule.FragmentDefinition) p.old p.new) }
+{
+    p.start_node(SyntaxKind::FRAGMENT_DEFINITION)?;
+    p.bump(SyntaxKind::fragment_KW)?;
+    fragment_name(p)?;
+    type_condition(p)?;
+    directives(p, false)?;
+    if p.at(TokenKind::LCurly) {
+        selection_set(p)?;
+    } else {
+        p.err(Message::ExpectedSelectionSet)?;
+    }
+    p.finish_node();
+    Ok(())
+}
+
+// The name of a fragment, which is not `on`.
+fn fragment_name<A: Allocator + Copy>(p: &mut ParserState<'_, A>) -> Result<(), AllocError>
+    ensures { OnOk result (Runs (Child rule.FragmentName) p.old p.new) }
+{
+    p.start_node(SyntaxKind::FRAGMENT_NAME)?;
+    if p.at_word(SyntaxKind::on_KW) {
+        p.err(Message::FragmentNamedOn)?;
+    } else if p.at(TokenKind::Name) {
+        p.name_for_fragment()?;
+    } else {
+        p.err(Message::ExpectedFragmentName)?;
+    }
+    p.finish_node();
+    Ok(())
+}
+
+// A type condition (section 2.8.1, "Type Conditions").
+fn type_condition<A: Allocator + Copy>(p: &mut ParserState<'_, A>) -> Result<(), AllocError>
+    ensures { OnOk result (Runs (Child rule.TypeCondition) p.old p.new) }
+{
+    p.start_node(SyntaxKind::TYPE_CONDITION)?;
+    p.expect_word(SyntaxKind::on_KW, Message::ExpectedOn)?;
+    if p.at(TokenKind::Name) {
+        named_type(p)?;
+    } else {
+        p.err(Message::ExpectedConditionName)?;
+    }
+    p.finish_node();
+    Ok(())
+}
+
+// A type condition, where a name comes next.
+fn maybe_type_condition<A: Allocator + Copy>(p: &mut ParserState<'_, A>) -> Result<(), AllocError>
+    ensures { OnOk result (Runs (Call rule.MaybeTypeCondition) p.old p.new) }
+{
+    if p.at(TokenKind::Name) {
+        return type_condition(p);
+    }
+    Ok(())
+}
+
+/// An inline fragment (GraphQL October 2021, section 2.8.2, "Inline Fragments").
+#[cycle(selection)]
+pub fn inline_fragment<A: Allocator + Copy>(p: &mut ParserState<'_, A>) -> Result<(), AllocError>
+    requires { true ≡ holds (At token.Spread) p.old }
+    ensures { OnOk result (Runs (Child rule.InlineFragment) p.old p.new) }
+{
+    p.start_node(SyntaxKind::INLINE_FRAGMENT)?;
+    p.bump(SyntaxKind::SPREAD)?;
+    maybe_type_condition(p)?;
+    directives(p, false)?;
+    if p.at(TokenKind::LCurly) {
+        selection_set(p)?;
+    } else {
+        p.err(Message::ExpectedInlineSelectionSet)?;
+    }
+    p.finish_node();
+    Ok(())
+}
+
+/// A fragment spread (GraphQL October 2021, section 2.8, "Fragments").
+pub fn fragment_spread<A: Allocator + Copy>(p: &mut ParserState<'_, A>) -> Result<(), AllocError>
+    ensures { OnOk result (Runs (Child rule.FragmentSpread) p.old p.new) }
+{
+    p.start_node(SyntaxKind::FRAGMENT_SPREAD)?;
+    p.bump(SyntaxKind::SPREAD)?;
+    fragment_name(p)?;
+    directives(p, false)?;
+    p.finish_node();
+    Ok(())
+}

@@ -1,0 +1,88 @@
+// Types.
+#![tactic(auto, using(parser_rules::specs::Rule::child, parser_rules::specs::Rule::call, parser_rules::specs::Rule::plain, parser_rules::specs::Rule::wrapped, parser_rules::specs::Rule::deeper, parser_rules::specs::Rule::refused, parser_rules::specs::Rule::seq, parser_rules::specs::Rule::skip, parser_rules::specs::Rule::yes, parser_rules::specs::Rule::no, parser_rules::proofs::Kept::is_open, parser_rules::proofs::Kept::still_open, parser_rules::proofs::Kept::open_too_deep, parser_rules::proofs::Kept::open_inside, parser_rules::proofs::Kept::open_outside, parser_rules::proofs::Kept::is_inside, parser_rules::proofs::Kept::still_inside), unfolding(parser_rules::specs::Rule::inside, parser_rules::specs::Rule::body))]
+
+ghost use Rattle.std.specs.Prelude.{◌≡◌, true, OnOk};
+ghost use Rattle.lexical_grammar.specs.declared.TokenKind.TheVariants as token;
+ghost use Rattle.parser_rules.specs.Rule as rule;
+ghost use Rattle.parser_rules.specs.Rule.{At, holds, Runs, Child, Call};
+
+use super::name::name;
+use crate::state::ParserState;
+use document_grammar::SyntaxKind;
+use lexical_grammar::TokenKind;
+use parser_rules::Message;
+use std::alloc::{AllocError, Allocator};
+
+/// Whether a type starts here.
+#[tactic(auto, unfolding(parser_rules::specs::Rule::holds))]
+pub fn starts_type<A: Allocator + Copy>(p: &ParserState<'_, A>) -> bool
+    ensures { result ≡ holds rule.types p.now }
+{
+    p.at(TokenKind::Name) || p.at(TokenKind::LBracket)
+}
+
+/// A type (GraphQL October 2021, section 2.11, "Type References"). Whether it is a non-null type is known at its end.
+#[cycle(ty)]
+pub fn ty<A: Allocator + Copy>(p: &mut ParserState<'_, A>) -> Result<(), AllocError>
+    ensures { OnOk result (Runs (Call rule.TypeOf) p.old p.new) }
+{
+    let checkpoint = p.checkpoint()?;
+    nullable_type(p)?;
+    if p.at(TokenKind::Bang) {
+        p.wrap(checkpoint, SyntaxKind::NON_NULL_TYPE)?;
+        p.bump(SyntaxKind::BANG)?;
+        p.finish_node();
+    }
+    Ok(())
+}
+
+#[cycle(ty)]
+fn nullable_type<A: Allocator + Copy>(p: &mut ParserState<'_, A>) -> Result<(), AllocError>
+    ensures { OnOk result (Runs rule.nullable_type p.old p.new) }
+{
+    if p.at(TokenKind::LBracket) {
+        return list_type(p);
+    }
+    named_type(p)
+}
+
+#[cycle(ty)]
+fn list_type<A: Allocator + Copy>(p: &mut ParserState<'_, A>) -> Result<(), AllocError>
+    requires { true ≡ holds (At token.LBracket) p.old }
+    ensures { OnOk result (Runs (Child rule.ListType) p.old p.new) }
+{
+    p.start_node(SyntaxKind::LIST_TYPE)?;
+    p.bump(SyntaxKind::L_BRACK)?;
+    if p.is_too_deep() {
+        p.too_deep()?;
+        p.finish_node();
+        return Ok(());
+    }
+    p.enter();
+    item_type(p)?;
+    p.leave();
+    p.expect(TokenKind::RBracket, SyntaxKind::R_BRACK)?;
+    p.finish_node();
+    Ok(())
+}
+
+// The type of a list's items. A token that starts none is popped.
+#[cycle(ty)]
+fn item_type<A: Allocator + Copy>(p: &mut ParserState<'_, A>) -> Result<(), AllocError>
+    ensures { OnOk result (Runs (Call rule.ItemType) p.old p.new) }
+{
+    if starts_type(p) {
+        return ty(p);
+    }
+    p.err_and_pop(Message::ExpectedItemType)
+}
+
+/// A named type.
+pub fn named_type<A: Allocator + Copy>(p: &mut ParserState<'_, A>) -> Result<(), AllocError>
+    ensures { OnOk result (Runs (Child rule.NamedType) p.old p.new) }
+{
+    p.start_node(SyntaxKind::NAMED_TYPE)?;
+    name(p)?;
+    p.finish_node();
+    Ok(())
+}

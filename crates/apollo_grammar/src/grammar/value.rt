@@ -1,0 +1,229 @@
+// Values.
+#![tactic(auto, using(parser_rules::specs::Rule::child, parser_rules::specs::Rule::call, parser_rules::specs::Rule::deeper, parser_rules::specs::Rule::refused, parser_rules::specs::Rule::does, parser_rules::specs::Rule::seq, parser_rules::specs::Rule::skip, parser_rules::specs::Rule::yes, parser_rules::specs::Rule::no, parser_rules::specs::Rule::begin, parser_rules::specs::Rule::turn, parser_rules::proofs::Kept::ended, parser_rules::proofs::Kept::is_open, parser_rules::proofs::Kept::still_open, parser_rules::proofs::Kept::open_in_loop, parser_rules::proofs::Kept::still_at, parser_rules::proofs::Kept::is_inside, parser_rules::proofs::Kept::still_inside), unfolding(parser_rules::specs::Rule::inside, parser_rules::specs::Rule::body))]
+
+ghost use Rattle.std.specs.Prelude.{◌≡◌, true, OnOk};
+ghost use Rattle.lexical_grammar.specs.declared.TokenKind.TheVariants as token;
+ghost use Rattle.parser_rules.specs.Rule as rule;
+ghost use Rattle.parser_rules.specs.Rule.{At, holds, Runs, Child, Call};
+
+use super::variable::variable;
+use crate::state::ParserState;
+use document_grammar::SyntaxKind;
+use lexical_grammar::TokenKind;
+use parser_rules::Message;
+use std::alloc::{AllocError, Allocator};
+
+/// A value (GraphQL October 2021, section 2.9, "Input Values"). A token that starts none is reported, and popped where that is asked.
+#[cycle(value)]
+pub fn value<A: Allocator + Copy>(
+    p: &mut ParserState<'_, A>,
+    is_constant: bool,
+    pop_on_error: bool,
+) -> Result<(), AllocError>
+    ensures { OnOk result (Runs (Call (rule.ValueOf is_constant pop_on_error)) p.old p.new) }
+{
+    if p.at(TokenKind::Dollar) {
+        return variable_value(p, is_constant);
+    }
+    if p.at(TokenKind::Int) {
+        return p.int_value();
+    }
+    if p.at(TokenKind::Float) {
+        return float_value(p);
+    }
+    if p.at(TokenKind::StringValue) {
+        return p.string_value();
+    }
+    if p.at(TokenKind::Name) {
+        return word_value(p);
+    }
+    if p.at(TokenKind::LBracket) {
+        return list_value(p, is_constant);
+    }
+    if p.at(TokenKind::LCurly) {
+        return object_value(p, is_constant);
+    }
+    no_value(p, pop_on_error)
+}
+
+// A variable. In a constant place it is reported, and read all the same.
+fn variable_value<A: Allocator + Copy>(
+    p: &mut ParserState<'_, A>,
+    is_constant: bool,
+) -> Result<(), AllocError>
+    ensures { OnOk result (Runs (rule.variable_of is_constant) p.old p.new) }
+{
+    if !is_constant {
+        return variable(p);
+    }
+    p.err(Message::VariableInConst)?;
+    variable(p)
+}
+
+fn no_value<A: Allocator + Copy>(
+    p: &mut ParserState<'_, A>,
+    pop_on_error: bool,
+) -> Result<(), AllocError>
+    ensures { OnOk result (Runs (rule.no_value pop_on_error) p.old p.new) }
+{
+    if pop_on_error {
+        return p.err_and_pop(Message::ExpectedValue);
+    }
+    p.err(Message::ExpectedValue)
+}
+
+fn float_value<A: Allocator + Copy>(p: &mut ParserState<'_, A>) -> Result<(), AllocError>
+    ensures { OnOk result (Runs (Child rule.FloatValue) p.old p.new) }
+{
+    p.start_node(SyntaxKind::FLOAT_VALUE)?;
+    p.bump(SyntaxKind::FLOAT)?;
+    p.finish_node();
+    Ok(())
+}
+
+// A value that is a word: a boolean, null, or an enum's value.
+fn word_value<A: Allocator + Copy>(p: &mut ParserState<'_, A>) -> Result<(), AllocError>
+    requires { true ≡ holds (At token.Name) p.old }
+    ensures { OnOk result (Runs (Call rule.WordValue) p.old p.new) }
+{
+    if p.at_boolean() {
+        return p.boolean_value();
+    }
+    if p.at_word(SyntaxKind::null_KW) {
+        return null_value(p);
+    }
+    enum_value(p)
+}
+
+fn null_value<A: Allocator + Copy>(p: &mut ParserState<'_, A>) -> Result<(), AllocError>
+    ensures { OnOk result (Runs (Child rule.NullValue) p.old p.new) }
+{
+    p.start_node(SyntaxKind::NULL_VALUE)?;
+    p.bump(SyntaxKind::null_KW)?;
+    p.finish_node();
+    Ok(())
+}
+
+fn enum_value<A: Allocator + Copy>(p: &mut ParserState<'_, A>) -> Result<(), AllocError>
+    requires { true ≡ holds (At token.Name) p.old }
+    ensures { OnOk result (Runs (Child rule.EnumValue) p.old p.new) }
+{
+    p.start_node(SyntaxKind::ENUM_VALUE)?;
+    p.name_for_enum()?;
+    p.finish_node();
+    Ok(())
+}
+
+// A value one level deeper.
+#[cycle(value)]
+fn nested_value<A: Allocator + Copy>(
+    p: &mut ParserState<'_, A>,
+    is_constant: bool,
+) -> Result<(), AllocError>
+    ensures { OnOk result (Runs (Call (rule.NestedValue is_constant)) p.old p.new) }
+{
+    if p.is_too_deep() {
+        return p.too_deep();
+    }
+    p.enter();
+    value(p, is_constant, true)?;
+    p.leave();
+    Ok(())
+}
+
+// A list value (section 2.9.7, "List Value").
+#[cycle(value)]
+fn list_value<A: Allocator + Copy>(
+    p: &mut ParserState<'_, A>,
+    is_constant: bool,
+) -> Result<(), AllocError>
+    requires { true ≡ holds (At token.LBracket) p.old }
+    ensures { OnOk result (Runs (Child (rule.ListValue is_constant)) p.old p.new) }
+{
+    p.start_node(SyntaxKind::LIST_VALUE)?;
+    p.bump(SyntaxKind::L_BRACK)?;
+    list_items(p, is_constant)?;
+    p.finish_node();
+    Ok(())
+}
+
+// The items of a list value, and its end.
+#[cycle(value)]
+fn list_items<A: Allocator + Copy>(
+    p: &mut ParserState<'_, A>,
+    is_constant: bool,
+) -> Result<(), AllocError>
+    ensures { OnOk result (Runs (Call (rule.ListItems is_constant)) p.old p.new) }
+{
+    while has_item(p) {
+        nested_value(p, is_constant)?;
+    }
+    if p.at(TokenKind::RBracket) {
+        return p.bump(SyntaxKind::R_BRACK);
+    }
+    if p.is_ready() {
+        return p.too_deep();
+    }
+    Ok(())
+}
+
+// Whether another item of a list value may start here.
+#[tactic(auto, unfolding(parser_rules::specs::Rule::holds))]
+fn has_item<A: Allocator + Copy>(p: &ParserState<'_, A>) -> bool
+    ensures { result ≡ holds rule.has_item p.now }
+{
+    p.is_ready() && !p.at(TokenKind::RBracket) && !p.is_too_deep()
+}
+
+// An input object value (section 2.9.8, "Input Object Values").
+#[cycle(value)]
+fn object_value<A: Allocator + Copy>(
+    p: &mut ParserState<'_, A>,
+    is_constant: bool,
+) -> Result<(), AllocError>
+    requires { true ≡ holds (At token.LCurly) p.old }
+    ensures { OnOk result (Runs (Child (rule.ObjectValue is_constant)) p.old p.new) }
+{
+    p.start_node(SyntaxKind::OBJECT_VALUE)?;
+    p.bump(SyntaxKind::L_CURLY)?;
+    while p.at(TokenKind::Name) {
+        object_field(p, is_constant)?;
+    }
+    p.expect(TokenKind::RCurly, SyntaxKind::R_CURLY)?;
+    p.finish_node();
+    Ok(())
+}
+
+#[cycle(value)]
+fn object_field<A: Allocator + Copy>(
+    p: &mut ParserState<'_, A>,
+    is_constant: bool,
+) -> Result<(), AllocError>
+    requires { true ≡ holds (At token.Name) p.old }
+    ensures { OnOk result (Runs (Child (rule.ObjectField is_constant)) p.old p.new) }
+{
+    p.start_node(SyntaxKind::OBJECT_FIELD)?;
+    p.name()?;
+    if p.at(TokenKind::Colon) {
+        p.bump(SyntaxKind::COLON)?;
+        nested_value(p, is_constant)?;
+    } else {
+        p.err(Message::Expected(TokenKind::Colon))?;
+    }
+    p.finish_node();
+    Ok(())
+}
+
+/// A default value (GraphQL October 2021, section 2.10, "Variables"), where `=` comes next.
+pub fn default_value<A: Allocator + Copy>(p: &mut ParserState<'_, A>) -> Result<(), AllocError>
+    ensures { OnOk result (Runs (Call rule.MaybeDefaultValue) p.old p.new) }
+{
+    if !p.at(TokenKind::Eq) {
+        return Ok(());
+    }
+    p.start_node(SyntaxKind::DEFAULT_VALUE)?;
+    p.bump(SyntaxKind::EQ)?;
+    value(p, true, false)?;
+    p.finish_node();
+    Ok(())
+}

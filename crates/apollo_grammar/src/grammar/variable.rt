@@ -1,0 +1,74 @@
+// Variables.
+#![tactic(auto, using(parser_rules::specs::Rule::child, parser_rules::specs::Rule::call, parser_rules::specs::Rule::seq, parser_rules::specs::Rule::skip, parser_rules::specs::Rule::yes, parser_rules::specs::Rule::no, parser_rules::specs::Rule::begin, parser_rules::specs::Rule::turn, parser_rules::proofs::Then::wanted, parser_rules::proofs::Kept::ended, parser_rules::proofs::Kept::is_open, parser_rules::proofs::Kept::still_open), unfolding(parser_rules::specs::Rule::inside, parser_rules::specs::Rule::body))]
+
+ghost use Rattle.std.specs.Prelude.{◌≡◌, true, OnOk};
+ghost use Rattle.parser_rules.specs.Rule as rule;
+ghost use Rattle.parser_rules.specs.Rule.{Runs, Child, Call};
+
+use super::directive::directives;
+use super::name::name;
+use super::ty::{starts_type, ty};
+use super::value::default_value;
+use crate::state::ParserState;
+use document_grammar::SyntaxKind;
+use lexical_grammar::TokenKind;
+use parser_rules::Message;
+use std::alloc::{AllocError, Allocator};
+
+/// Variable definitions (GraphQL October 2021, section 2.10, "Variables"), where `(` comes next.
+pub fn variable_definitions<A: Allocator + Copy>(
+    p: &mut ParserState<'_, A>,
+) -> Result<(), AllocError>
+    ensures { OnOk result (Runs (Call rule.MaybeVariableDefinitions) p.old p.new) }
+{
+    if !p.at(TokenKind::LParen) {
+        return Ok(());
+    }
+    p.start_node(SyntaxKind::VARIABLE_DEFINITIONS)?;
+    p.bump(SyntaxKind::L_PAREN)?;
+    p.want(TokenKind::Dollar, Message::ExpectedVariableDefinition)?;
+    while p.at(TokenKind::Dollar) {
+        variable_definition(p)?;
+    }
+    p.expect(TokenKind::RParen, SyntaxKind::R_PAREN)?;
+    p.finish_node();
+    Ok(())
+}
+
+fn variable_definition<A: Allocator + Copy>(p: &mut ParserState<'_, A>) -> Result<(), AllocError>
+    ensures { OnOk result (Runs (Child rule.VariableDefinition) p.old p.new) }
+{
+    p.start_node(SyntaxKind::VARIABLE_DEFINITION)?;
+    variable(p)?;
+    if p.at(TokenKind::Colon) {
+        p.bump(SyntaxKind::COLON)?;
+        variable_type(p)?;
+    } else {
+        p.err(Message::ExpectedName)?;
+    }
+    p.finish_node();
+    Ok(())
+}
+
+// What stands behind a variable's `:`.
+fn variable_type<A: Allocator + Copy>(p: &mut ParserState<'_, A>) -> Result<(), AllocError>
+    ensures { OnOk result (Runs (Call rule.VariableType) p.old p.new) }
+{
+    if !starts_type(p) {
+        return p.err(Message::ExpectedType);
+    }
+    ty(p)?;
+    default_value(p)?;
+    directives(p, true)
+}
+
+/// A variable (GraphQL October 2021, section 2.10, "Variables").
+pub fn variable<A: Allocator + Copy>(p: &mut ParserState<'_, A>) -> Result<(), AllocError>
+    ensures { OnOk result (Runs (Child rule.Variable) p.old p.new) }
+{
+    p.start_node(SyntaxKind::VARIABLE)?;
+    p.bump(SyntaxKind::DOLLAR)?;
+    name(p)?;
+    p.finish_node();
+    Ok(())
+}
