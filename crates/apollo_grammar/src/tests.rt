@@ -1,3 +1,5 @@
+mod executable;
+
 use crate::{DocumentRoot, Parser, SyntaxTree};
 use std::alloc::{AllocError, Global};
 use std::test::Fail;

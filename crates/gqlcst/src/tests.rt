@@ -147,6 +147,14 @@ fn checks_texts(rt: HostRuntime) {
     expect(
         &rt,
         Mode::Check,
+        b"{ a(b) }",
+        limits,
+        Ok(Outcome::Errors(1)),
+        "ERROR@5:6 \"expected COLON, got )\" )\nerrors: 1\n",
+    );
+    expect(
+        &rt,
+        Mode::Check,
         b"",
         limits,
         Ok(Outcome::Errors(1)),
