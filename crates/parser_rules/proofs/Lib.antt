@@ -7,6 +7,7 @@ pub mod Checked
 pub mod Image
 pub mod Link
 pub mod Sound
+pub mod Nesting
 pub mod Endings
 pub mod Steps
 pub mod Kept
