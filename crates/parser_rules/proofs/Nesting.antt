@@ -159,10 +159,6 @@ height-wrap k t u more a e h g i =
 
 -- ---- how much is built
 
-path-le : (above : List Open) → path above ≤ open_count above
-path-le [] = omega arith
-path-le (o ∷ above) = let h = path-le above in let w = weight-le (top above) (number o.kind) in omega (arith, h, w)
-
 counted : {r : Rule} {s t : State} → Runs r s t → built_count s.tree ≤ built_count t.tree
 counted {s = s} {t = t} h =
     let a = adds h in
@@ -339,6 +335,7 @@ record Held (p r o : ℕ) (s : State) : Type 0 where
   peak : height s.tree ≤ max s.high (s.depth + o)
   deep : s.depth ≤ s.high
   entered : r ≤ s.depth
+  rooted : path s.tree.above < open_count s.tree.above
   waits : all_uncounted s.waiting ≡ true
 
 abbrev Kept_in : ℕ → (ℕ → ℕ → Bool) → State → Type 0
@@ -364,6 +361,7 @@ held-on p r o s t a d u l h = record {
   peak = rise s.high t.high s.depth t.depth o (height s.tree) (height t.tree) h.peak l.high u d;
   deep = le-same s.depth t.depth s.high t.high h.deep d u;
   entered = same-le r s.depth t.depth h.entered d;
+  rooted = subst (λ as'. path as' < open_count as') (sym a) h.rooted;
   waits = l.waits;
 }
 
@@ -383,6 +381,9 @@ begin-level d o a r j c e f = omega arith
 begin-peak : (n n' h d o a r j c u : ℕ) → n ≤ max h (d + u) → u ≡ 0 → d ≤ h → n' ≡ max n (a + c) → d + o ≡ a + r → r + j ≡ o + c → n' ≤ max h (d + j)
 begin-peak n n' h d o a r j c u e f g i k l = omega arith
 
+begin-rooted : (a n w c : ℕ) → a < n → w ≤ 1 → a + w < n + suc c
+begin-rooted a n w c e f = omega arith
+
 opened-held : (p r o : ℕ) (k : SyntaxKind) (s : State) → r + own (number k) ≡ own p + weight p (number k) → o ≡ 0 → Held p r o s → Held (number k) 0 (own (number k)) (opened k s)
 unfolding opened
 opened-held p r o k s e z h =
@@ -395,6 +396,7 @@ opened-held p r o k s e z h =
       peak = begin-peak (height (flush s).tree) (height (start k (flush s).tree)) (flush s).high (flush s).depth (own p) (path (flush s).tree.above) r (own (number k)) (weight (top (flush s).tree.above) (number k)) o f.peak z f.deep (height-start k (flush s).tree) f.level e';
       deep = f.deep;
       entered = omega arith;
+      rooted = begin-rooted (path (flush s).tree.above) (open_count (flush s).tree.above) (weight (top (flush s).tree.above) (number k)) (count (flush s).tree.here) f.rooted (weight-le (top (flush s).tree.above) (number k));
       waits = f.waits;
     }
 
@@ -421,6 +423,7 @@ closed-held p r o q s u v a d e f l h i = record {
   peak = over-peak u.high v.high u.depth v.depth o (height u.tree) (height v.tree) i.peak l.high e f i.deep;
   deep = le-both u.depth v.depth u.high v.high i.deep f e;
   entered = same-le r s.depth v.depth h.entered d;
+  rooted = subst (λ as'. path as' < open_count as') (sym a) h.rooted;
   waits = l.waits;
 }
   where
@@ -448,6 +451,7 @@ entered-held p r o s e f h = record {
   peak = enter-peak (height s.tree) s.high s.depth o h.peak f;
   deep = enter-deep s.high s.depth;
   entered = omega arith;
+  rooted = h.rooted;
   waits = h.waits;
 }
 
@@ -468,6 +472,7 @@ left-held p s h = record {
   peak = leave-peak (height s.tree) s.high s.depth h.peak h.deep;
   deep = leave-deep s.depth s.high h.deep;
   entered = omega arith;
+  rooted = h.rooted;
   waits = h.waits;
 }
 
@@ -483,17 +488,17 @@ refuse-high s = asked-high s s.current
 refuse-peak : (n n' h h' d d' o c : ℕ) → n ≤ max h (d + o) → o ≤ 1 → n' ≡ n → h' ≡ max h (min (d + 1) c) → d' ≡ d → d + 1 ≤ c → n' ≤ max h' (d' + 0)
 refuse-peak n n' h h' d d' o c a b e f g i = omega arith
 
-depth-bound : (d o a r b : ℕ) → d + o ≡ a + r → r ≡ 0 → a ≤ b → suc b ≤ cap → d + 1 ≤ cap
+depth-bound : (d o a r b : ℕ) → d + o ≡ a + r → r ≡ 0 → a < b → b ≤ cap → d + 1 ≤ cap
 depth-bound d o a r b e f g h = omega arith
 
-path-count : (s t : State) → t.tree.above ≡ s.tree.above → path s.tree.above ≤ built_count t.tree
-path-count s t a = let h = path-le s.tree.above in let e = ap open_count a in omega (arith, h, e)
+path-count : (s t : State) → t.tree.above ≡ s.tree.above → path s.tree.above < open_count s.tree.above → path s.tree.above < built_count t.tree
+path-count s t a h = let e = ap open_count a in omega (arith, h, e)
 
 deep-is : (s : State) → too_deep s ≡ step TooDeep s
 unfolding step
 deep-is s = refl
 
-refused-held : (p r o : ℕ) (s : State) → r ≡ 0 → o ≤ 1 → suc (built_count (too_deep s).tree) ≤ cap → Held p r o s → Held p r 0 (too_deep s)
+refused-held : (p r o : ℕ) (s : State) → r ≡ 0 → o ≤ 1 → built_count (too_deep s).tree ≤ cap → Held p r o s → Held p r 0 (too_deep s)
 refused-held p r o s e f b h =
     let t : State = too_deep s in
     let k : Keeps s t = keeps (does {a = TooDeep} (deep-is s)) in
@@ -501,9 +506,10 @@ refused-held p r o s e f b h =
     record {
       kind = ap top k.above ∙ h.kind;
       level = sum-same s.depth t.depth (own p) (path s.tree.above) (path t.tree.above) r h.level k.depth (ap path k.above);
-      peak = refuse-peak (height s.tree) (height t.tree) s.high t.high s.depth t.depth o cap h.peak f l.high (refuse-high s) k.depth (depth-bound s.depth (own p) (path s.tree.above) r (built_count t.tree) h.level e (path-count s t k.above) b);
+      peak = refuse-peak (height s.tree) (height t.tree) s.high t.high s.depth t.depth o cap h.peak f l.high (refuse-high s) k.depth (depth-bound s.depth (own p) (path s.tree.above) r (built_count t.tree) h.level e (path-count s t k.above h.rooted) b);
       deep = le-same s.depth t.depth s.high t.high h.deep k.depth k.higher;
       entered = same-le r s.depth t.depth h.entered k.depth;
+      rooted = subst (λ as'. path as' < open_count as') (sym k.above) h.rooted;
       waits = l.waits;
     }
 
@@ -570,10 +576,10 @@ leave-tree : (u : State) → (leave u).tree ≡ u.tree
 unfolding leave
 leave-tree u = refl
 
-le-bound : (a b : ℕ) → a ≤ b → suc b ≤ cap → suc a ≤ cap
+le-bound : (a b : ℕ) → a ≤ b → b ≤ cap → a ≤ cap
 le-bound a b e f = omega arith
 
-same-bound : (a b : ℕ) → b ≡ a → suc b ≤ cap → suc a ≤ cap
+same-bound : (a b : ℕ) → b ≡ a → b ≤ cap → a ≤ cap
 same-bound a b e f = omega arith
 
 leb-le : (o : ℕ) → leb o 1 ≡ true → o ≤ 1
@@ -612,7 +618,7 @@ left-on n p b k u v e (r', o', g, j) =
 turn-on : (p r o : ℕ) (t : State) → Kept_in p (λ r' o'. eqb r' r and eqb o' o) t → Held p r o t
 turn-on p r o t (r', o', g, j) = subst (λ n. Held p r n t) (eqb-true _ _ (and-r _ _ g)) (subst (λ n. Held p n o' t) (eqb-true _ _ (and-l _ _ g)) j)
 
-nested : {a : Rule} {s t : State} → Runs a s t → (n p r o : ℕ) (k : ℕ → ℕ → Bool) → walks n p r o a k ≡ true → suc (built_count t.tree) ≤ cap → Held p r o s → Kept_in p k t
+nested : {a : Rule} {s t : State} → Runs a s t → (n p r o : ℕ) (k : ℕ → ℕ → Bool) → walks n p r o a k ≡ true → built_count t.tree ≤ cap → Held p r o s → Kept_in p k t
 unfolding walks
 nested skip n p r o k h b i = (r, o, h, i)
 nested {s = s} (does {a = a} e) n p r o k h b i = (r, o, and-r _ _ h, subst (Held p r o) (sym e) (step-held p r o a s (and-l _ _ h) i))
@@ -642,7 +648,7 @@ nested {s = s} {t = z} (deeper {a = a} {b = c} {t = t} {u = u} {v = v} d e f h1 
     nested h2 n p 0 0 k l.0 b l.1
 nested {s = s} {t = t} (refused {a = a} {b = c} d e) n p r o k h b i =
     let m = nested-parts n p r o a c k h in
-    (r, 0, m.2, subst (Held p r 0) (sym e) (refused-held p r o s m.0 m.1 (subst (λ y. suc (built_count y.tree) ≤ cap) e b) i))
+    (r, 0, m.2, subst (Held p r 0) (sym e) (refused-held p r o s m.0 m.1 (subst (λ y. built_count y.tree ≤ cap) e b) i))
 nested (call h1) zero p r o k h b i = false-true refl h
 nested (call h1) (suc n) p r o k h b i = nested h1 n p r o k h b i
 nested {s = s} (plain {t = t} e h1 f) n p r o k h b i = nested h1 n p r o k (and-r _ _ h) b (subst (Held p r o) (sym e) (flush-held p r o s i))
@@ -651,9 +657,9 @@ nested {s = s} {t = x} (wrapped {a = a} {place = place} {t = t} {u = u} {v = v} 
     let bang : Runs (Do (Bump kind.BANG)) (around t u) w = subst (λ z. Runs (Do (Bump kind.BANG)) z w) at-place h2 in
     let above : w.tree.above ≡ record { before = t.tree.here; kind = kind.NON_NULL_TYPE } ∷ t.tree.above = (keeps bang).above ∙ around-above t u (adds h1) in
     let last : built_count x.tree ≡ built_count w.tree = ap (λ z. built_count z.tree) d ∙ closed-count w (record { before = t.tree.here; kind = kind.NON_NULL_TYPE }) t.tree.above above in
-    let bw : suc (built_count w.tree) ≤ cap = same-bound (built_count w.tree) (built_count x.tree) last b in
-    let bv : suc (built_count (around t u).tree) ≤ cap = le-bound (built_count (around t u).tree) (built_count w.tree) (counted bang) bw in
-    let bu : suc (built_count u.tree) ≤ cap = le-bound (built_count u.tree) (built_count (around t u).tree) (around-count t u (adds h1)) bv in
+    let bw : built_count w.tree ≤ cap = same-bound (built_count w.tree) (built_count x.tree) last b in
+    let bv : built_count (around t u).tree ≤ cap = le-bound (built_count (around t u).tree) (built_count w.tree) (counted bang) bw in
+    let bu : built_count u.tree ≤ cap = le-bound (built_count u.tree) (built_count (around t u).tree) (around-count t u (adds h1)) bv in
     let g = nested h1 n p r o k (and-r _ _ h) bu (subst (Held p r o) (sym e) (flush-held p r o s i)) in
     (g.0, g.1, g.2, subst (Held p g.0 g.1) (sym d) (wrapped-held p g.0 g.1 t u w (adds h1) bang (and-l _ _ h) g.3))
 
@@ -667,8 +673,12 @@ no-level : 0 + own DOCUMENT ≡ path (start kind.DOCUMENT nothing).above + 0
 unfolding own ◌or◌ weight member
 no-level = refl
 
+no-path : path (start kind.DOCUMENT nothing).above ≡ 0
+unfolding weight member
+no-path = refl
+
 fresh-held : (items : List Answer) (limit : ℕ) → Held DOCUMENT 0 (own DOCUMENT) (fresh items limit kind.DOCUMENT)
-fresh-held items limit = record { kind = refl; level = no-level; peak = omega (arith, no-height); deep = omega arith; entered = omega arith; waits = refl }
+fresh-held items limit = record { kind = refl; level = no-level; peak = omega (arith, no-height); deep = omega arith; entered = omega arith; rooted = omega (arith, no-path); waits = refl }
 
 same-high : (a b : ℕ) → b ≡ a → a ≤ b
 same-high a b e = omega arith
@@ -712,15 +722,15 @@ root-count b h = ap (λ as'. open_count as' + count b.here) h.2 ∙ (one-count (
 end-high : (n m h d o : ℕ) → n ≡ m → m ≤ max h (d + o) → o ≡ 0 → d ≤ h → n ≤ h
 end-high n m h d o e f g i = omega arith
 
-count-bound : (a b c : ℕ) → a ≤ b → b ≡ c → suc c ≤ cap → suc a ≤ cap
+count-bound : (a b c : ℕ) → a ≤ b → b ≡ c → c ≤ cap → a ≤ cap
 count-bound a b c e f g = omega arith
 
 -- where the tree has not more elements than can be counted
-pub nesting : (items : List Answer) (limit : ℕ) (s : State) → Runs (Call Document) (begun items limit kind.DOCUMENT) s → count (finished s) < cap → nest (tree_of (finished s)) ≤ s.high
+pub nesting : (items : List Answer) (limit : ℕ) (s : State) → Runs (Call Document) (begun items limit kind.DOCUMENT) s → count (finished s) ≤ cap → nest (tree_of (finished s)) ≤ s.high
 nesting items limit s run c =
     let root : IsRoot s.tree = root_kept items limit kind.DOCUMENT refl run in
     let b : Building = add_all s.waiting s.tree in
     let last : IsRoot b = (root.0, root.1, add_all_above s.waiting s.tree ∙ root.2) in
-    let bound : suc (built_count s.tree) ≤ cap = count-bound (built_count s.tree) (built_count b) (count (finished s)) (count-all s.waiting s.tree) (root-count b last) c in
+    let bound : built_count s.tree ≤ cap = count-bound (built_count s.tree) (built_count b) (count (finished s)) (count-all s.waiting s.tree) (root-count b last) c in
     let (r, o, g, h) = nested run 5 DOCUMENT 0 (own DOCUMENT) settled walked_document bound (begun-held items limit) in
     end-high (nest (tree_of (finished s))) (height s.tree) s.high s.depth o (root-height b last ∙ height-all s.waiting s.tree h.waits) h.peak (eqb-true _ _ (and-r _ _ g)) h.deep
