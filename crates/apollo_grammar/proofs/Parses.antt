@@ -1,13 +1,13 @@
 -- What a run of the document's rule over the items of a text comes to.
-use Rattle.std.proofs.Common.{◌≡◌, ℕ, ◌+◌, ◌≤◌, min, true, List, [], length, map, take, Option, Some, None, Result, Ok, Err, IfOk, refl, ◌∙◌, subst}
+use Rattle.std.proofs.Common.{◌≡◌, ℕ, ◌+◌, ◌^◌, ◌<◌, ◌≤◌, arith, min, true, List, [], length, map, take, Option, Some, None, Result, Ok, Err, IfOk, refl, ◌∙◌, subst}
 use Rattle.std.specs.List.Sorted.{IsNonDecreasing}
 use Rattle.lexical_grammar.specs.Cut.{Cut, texts}
 use Rattle.lexical_grammar.specs.Reads.{items_of}
 use Rattle.lexical_grammar.specs.Answers.{Answer, limited}
 use Rattle.lexical_grammar.proofs.Limited.{limited_text, limited_answers}
 use Rattle.document_grammar.specs.declared.kind.SyntaxKind.TheVariants as kind
-use Rattle.document_grammar.specs.Derivation.{document}
-use Rattle.document_grammar.specs.Forests.{text}
+use Rattle.document_grammar.specs.Derivation.{document, nest}
+use Rattle.document_grammar.specs.Forests.{text, count}
 use Rattle.document_grammar.specs.Numbered.{tree_of}
 use Rattle.document_grammar.specs.Places.{bare}
 use Rattle.document_grammar.specs.Sentence.{Sentence, Within}
@@ -21,6 +21,7 @@ use Rattle.parser_rules.proofs.Ends.{EndNow, ends, read_ends}
 use Rattle.parser_rules.proofs.Kept.{root_kept, begun_nesting, begun_asked}
 use Rattle.parser_rules.proofs.OneLeaf.{document_leaves, document_over, leaves_text}
 use Rattle.parser_rules.proofs.Rising.{in_order}
+use Rattle.parser_rules.proofs.Nesting.{nesting}
 use Rattle.parser_rules.proofs.Sound.{sound}
 use Rattle.parser_rules.proofs.Told.{reported}
 
@@ -45,6 +46,9 @@ module _ (k r : ℕ) (source : List ℕ) (s : State) (cut : Cut source (items_of
 
   pub run_nesting : (s.depth ≡ 0) × (s.limit ≡ r) × (s.high ≤ r + 1)
   run_nesting = begun_nesting (answers k source) r kind.DOCUMENT run
+
+  pub run_nested : count (finished s) < 2 ^ 64 → nest (tree_of (finished s)) ≤ s.high
+  run_nested c = nesting (answers k source) r s run (omega (arith, c))
 
   pub run_asked : s.asked ≡ min (length (items_of source)) (k + 1)
   run_asked = begun_asked (answers k source) r kind.DOCUMENT run ∙ limited_length k (items_of source)

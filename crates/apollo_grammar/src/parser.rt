@@ -7,7 +7,7 @@ ghost use Rattle.lexical_grammar.specs.Reads.{items_of};
 ghost use Rattle.apollo_lexer.specs.Answers.{answers_left};
 ghost use Rattle.document_grammar.specs.declared.kind.SyntaxKind.TheVariants as kind;
 ghost use Rattle.document_grammar.specs.Forests.{text};
-ghost use Rattle.document_grammar.specs.Derivation.{document as document_sort};
+ghost use Rattle.document_grammar.specs.Derivation.{document as document_sort, nest};
 ghost use Rattle.document_grammar.specs.Sentence.{Sentence, Within};
 ghost use Rattle.document_grammar.specs.Places.{bare};
 ghost use Rattle.document_grammar.specs.Numbered.{tree_of};
@@ -87,6 +87,8 @@ impl<'i> Parser<'i> {
         ensures lossless { IfOk result (λ t. text t.tree ≡ texts (take self.entry.token_limit (items_of self.entry.source.now))) }
         ensures one_leaf { IfOk result (λ t. OneLeafAnItem (limited self.entry.token_limit (items_of self.entry.source.now)) (leaves t.tree)) }
         ensures recursion { IfOk result (λ t. (t.recursion_limit.current ≡ 0) × (t.recursion_limit.limit ≡ self.entry.recursion_limit) × (t.recursion_limit.high ≤ self.entry.recursion_limit + 1)) }
+        // the greatest depth that was asked for covers what the tree nests, also where there are errors
+        ensures nesting { IfOk result (λ t. nest (tree_of t.tree) ≤ t.recursion_limit.high) }
         ensures tokens { IfOk result (λ t. (t.token_limit.limit ≡ self.entry.token_limit) × (t.token_limit.high ≡ min (length (items_of self.entry.source.now)) (self.entry.token_limit + 1))) }
         // the errors go along the items: one for each bad text and for the token limit; the grammar's at significant tokens or the end, and
         // none of these after a limit error

@@ -1,11 +1,11 @@
 // The state of a parser, and its steps. Each is a step of the parser's rules.
 #![tactic(auto, using(parser_rules::specs::Rule::does), unfolding(parser_rules::specs::State::same_kind, parser_rules::specs::Rule::holds, parser_rules::specs::Rule::step, parser_rules::specs::State::flush, parser_rules::specs::State::opened, parser_rules::specs::State::closed, parser_rules::specs::State::bump, parser_rules::specs::State::note, parser_rules::specs::State::is_deep, parser_rules::specs::State::enter, parser_rules::specs::State::leave, parser_rules::specs::State::too_deep, parser_rules::specs::State::wrapped_from, parser_rules::specs::Open::IsInside, parser_rules::specs::Open::IsMark))]
 
-ghost use Rattle.std.specs.Prelude.{◌≡◌, true, false, [], map, OnOk, IfOk, option_map};
+ghost use Rattle.std.specs.Prelude.{◌≡◌, ◌<◌, ◌^◌, true, false, [], map, OnOk, IfOk, option_map};
 ghost use Rattle.lexical_grammar.specs.declared.TokenKind.TheVariants as token;
 ghost use Rattle.lexical_grammar.specs.Answers.{is_end};
 ghost use Rattle.document_grammar.specs.declared.kind.SyntaxKind.TheVariants as kind;
-ghost use Rattle.document_grammar.specs.Forests.{none, leaf as leaf_of};
+ghost use Rattle.document_grammar.specs.Forests.{count, none, leaf as leaf_of};
 ghost use Rattle.document_grammar.specs.Builds.{built_count};
 ghost use Rattle.apollo_tree.specs.Sound.{Fits};
 ghost use Rattle.apollo_lexer.specs.Answers.{answer_of, answers_left};
@@ -580,6 +580,7 @@ impl<'i, A: Allocator + Copy> ParserState<'i, A> {
     pub fn finish<R>(self, token_limit: usize) -> Result<SyntaxTree<R, A>, AllocError>
         requires { IsRoot self.tree }
         ensures tree { IfOk result (λ t. t.tree ≡ state.finished self.entry) }
+        ensures counted { IfOk result (λ t. count t.tree < 2 ^ 64) }
         ensures errors { IfOk result (λ t. map report_of t.errors ≡ self.entry.errors) }
         ensures recursion_limit { IfOk result (λ t. t.recursion_limit ≡ record { current = self.entry.depth; high = self.entry.high; limit = self.entry.limit }) }
         ensures token_limit { self.entry.items ≡ [] → IfOk result (λ t. t.token_limit ≡ record { current = 0; high = self.entry.asked; limit = token_limit }) }

@@ -1,4 +1,4 @@
-ghost use Rattle.std.specs.Prelude.{◌≡◌, ℕ, suc, ◌+◌, ◌<◌, ◌≤◌, [], ◌∷◌, ◌++◌, length, drop, true, OnErr, OnOk};
+ghost use Rattle.std.specs.Prelude.{◌≡◌, ℕ, suc, ◌+◌, ◌^◌, ◌<◌, ◌≤◌, [], ◌∷◌, ◌++◌, length, drop, true, OnErr, OnOk};
 ghost use Rattle.apollo_tree.specs.Sound.{CanFinish};
 ghost use Rattle.apollo_tree.specs.Open.{IsComplete, start_behind};
 ghost use Rattle.apollo_tree.specs.Brackets.{Opening, Single, Closing, brackets, written, open_at};
@@ -144,6 +144,7 @@ impl<A: Allocator + Copy> TreeBuilder<A> {
         requires { CanFinish self.old }
         ensures after { self.new ≡ finish self.old }
         ensures calls { written self.new ≡ written self.old ++ Closing ∷ [] }
+        ensures counted { built_count self.new < 2 ^ 64 }
     {
         let place = self.unfinished.pop().unwrap();
         let started = self.records[place];

@@ -4,7 +4,8 @@ use Rattle.document_grammar.specs.declared.kind.SyntaxKind.{SyntaxKind}
 use Rattle.document_grammar.specs.Kinds.{ERROR, DOCUMENT, LIST_VALUE, OBJECT_FIELD}
 use Rattle.document_grammar.specs.Numbers.{number}
 use Rattle.document_grammar.specs.Forests as built
-use Rattle.document_grammar.specs.Builds.{front, back}
+use Rattle.document_grammar.specs.Builds.{Open, front, back, close, open_count, built_count}
+use Rattle.document_grammar.specs.Joins.{count-join}
 use Rattle.document_grammar.specs.Numbered.{numbered}
 use Rattle.document_grammar.specs.Tree.{Text, Token, Tree, leaf, node, Forest, none, ◌▸◌, ◌+++◌, root}
 use Rattle.document_grammar.specs.Pattern.{member}
@@ -162,3 +163,11 @@ back-join (built.node k kids rest) g = ap (λ (n : ℕ). back n (built.join rest
 
 pub bares-front_back : (n : ℕ) (f : built.Forest) → bares (numbered f) ≡ bares (numbered (front n f)) +++ bares (numbered (back n f))
 bares-front_back n f = ap (λ (g : built.Forest). bares (numbered g)) (sym (join-front_back n f)) ∙ bares-numbered-join (front n f) (back n f)
+
+-- A node that is closed is an element as it was when it was open.
+closed_count : (o b i j : ℕ) → j ≡ b + suc (i + 0) → o + j ≡ (o + suc b) + i
+closed_count o b i j e = omega arith
+
+pub count-close : (here : built.Forest) (o : Open) (above : List Open) → built_count (close here (o ∷ above)) ≡ built_count (record { here = here; above = o ∷ above })
+count-close here o above =
+    closed_count (open_count above) (built.count o.before) (built.count here) (built.count (built.join o.before (built.node o.kind here built.none))) (count-join o.before (built.node o.kind here built.none))

@@ -18,7 +18,7 @@ use Rattle.document_grammar.specs.Tree.{◌▸◌, root}
 use Rattle.document_grammar.specs.Derivation.{counts, below, belows, nest}
 use Rattle.document_grammar.specs.Machine.{◌and◌, ◌or◌}
 use Rattle.document_grammar.proofs.Basics.{false-true, and-l, and-r, and-i, not-c}
-use Rattle.document_grammar.proofs.Built.{belows-append, numbered-join}
+use Rattle.document_grammar.proofs.Built.{belows-append, numbered-join, count-close}
 use Rattle.document_grammar.proofs.Depth.{cond-zero}
 use Rattle.parser_rules.specs.State.{State, Lexeme, Part, ignored, bad, met, wait, read_on, add_all, flush, opened, closed, wrapped_from, moved, bump, found_at, at_limit, noted, note, enter, leave, deepened, limited_at, too_deep, fresh, begun, finished}
 use Rattle.parser_rules.specs.Open.{IsRoot}
@@ -165,12 +165,6 @@ counted {s = s} {t = t} h =
     let e : built_count t.tree ≡ open_count s.tree.above + count (join s.tree.here a.more) = ap₂ (λ f as'. open_count as' + count f) a.here a.above in
     let c = count-join s.tree.here a.more in
     omega (arith, e, c)
-
-count-sum : (o b i j : ℕ) → j ≡ b + suc (i + 0) → o + j ≡ (o + suc b) + i
-count-sum o b i j e = omega arith
-
-count-close : (here : Forest) (o : Open) (above : List Open) → built_count (close here (o ∷ above)) ≡ built_count (record { here = here; above = o ∷ above })
-count-close here o above = count-sum (open_count above) (count o.before) (count here) (count (join o.before (built.node o.kind here built.none))) (count-join o.before (built.node o.kind here built.none))
 
 count-finish : (b : Building) (o : Open) (above : List Open) → b.above ≡ o ∷ above → built_count (finish b) ≡ built_count b
 count-finish b o above e = ap (λ as'. built_count (close b.here as')) e ∙ (count-close b.here o above ∙ sym (ap (λ as'. built_count (record { here = b.here; above = as' })) e))
