@@ -10,7 +10,7 @@ ghost use Rattle.document_grammar.specs.Builds.{built_count};
 ghost use Rattle.apollo_tree.specs.Sound.{Fits};
 ghost use Rattle.apollo_lexer.specs.Answers.{answer_of, answers_left};
 ghost use Rattle.parser_rules.specs.State as state;
-ghost use Rattle.parser_rules.specs.Rule.{At, Word, Ready, Next, Either, holds, Bump, Note, TooDeep, Runs, Do, Child, Name, NameForFragment, NameForEnum, IntValue, StringValue, BooleanValue, want, expect, expect_word, refuse};
+ghost use Rattle.parser_rules.specs.Rule.{At, Word, Ready, Next, Either, holds, Bump, Note, TooDeep, Runs, Do, Child, Name, IntValue, StringValue, BooleanValue, want, expect, expect_word, refuse};
 ghost use Rattle.parser_rules.specs.Open.{IsOpen, IsMark, IsInside, IsRoot};
 ghost use Rattle.apollo_grammar.specs.Keywords as keywords;
 ghost use Rattle.apollo_grammar.specs.Reading as reading;
@@ -367,26 +367,6 @@ impl<'i, A: Allocator + Copy> ParserState<'i, A> {
     pub fn name(&mut self) -> Result<(), AllocError>
         requires { true ≡ holds (At token.Name) self.old }
         ensures { OnOk result (Runs (Child Name) self.old self.new) }
-    {
-        self.leaf_node(SyntaxKind::NAME, SyntaxKind::IDENT)?;
-        Ok(())
-    }
-
-    /// The same, for the name of a fragment.
-    #[tactic(auto, using(parser_rules::proofs::Then::leaf_run), unfolding(parser_rules::specs::Rule::inside, parser_rules::specs::Rule::holds))]
-    pub fn name_for_fragment(&mut self) -> Result<(), AllocError>
-        requires { true ≡ holds (At token.Name) self.old }
-        ensures { OnOk result (Runs (Child NameForFragment) self.old self.new) }
-    {
-        self.leaf_node(SyntaxKind::NAME, SyntaxKind::IDENT)?;
-        Ok(())
-    }
-
-    /// The same, for an enum's value.
-    #[tactic(auto, using(parser_rules::proofs::Then::leaf_run), unfolding(parser_rules::specs::Rule::inside, parser_rules::specs::Rule::holds))]
-    pub fn name_for_enum(&mut self) -> Result<(), AllocError>
-        requires { true ≡ holds (At token.Name) self.old }
-        ensures { OnOk result (Runs (Child NameForEnum) self.old self.new) }
     {
         self.leaf_node(SyntaxKind::NAME, SyntaxKind::IDENT)?;
         Ok(())

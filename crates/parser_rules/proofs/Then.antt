@@ -4,7 +4,7 @@ use Rattle.document_grammar.specs.declared.kind.SyntaxKind.{SyntaxKind}
 use Rattle.parser_rules.specs.declared.message.Message.{Message}
 use Rattle.document_grammar.specs.Builds.{start, add_leaf, finish}
 use Rattle.parser_rules.specs.State.{State, Text, Lexeme, read_on, flush, opened, closed, moved, bump}
-use Rattle.parser_rules.specs.Rule.{Test, Prim, Bump, Note, step, Node, kind_of, inside, Rule, Do, Seq, When, Child, want, Runs, skip, does, seq, yes, no, child}
+use Rattle.parser_rules.specs.Rule.{Test, Prim, Bump, Note, step, Node, Name, NameForFragment, NameForEnum, kind_of, inside, Rule, Do, Seq, When, Child, want, Runs, skip, does, seq, yes, no, child}
 use Rattle.parser_rules.proofs.Kept.{read_closed}
 
 -- a report where the test fails, and what follows
@@ -32,3 +32,12 @@ pub leaf_run : (n : Node) (k leaf : SyntaxKind) {s t : State} → t ≡ closed (
 unfolding step
 leaf_run n k leaf {s = s} e m i =
     child refl (e ∙ ap (λ j. closed (bump leaf (opened j s))) (sym m)) (subst (λ (a : Rule). Runs a (opened (kind_of n) s) (bump leaf (opened (kind_of n) s))) (sym i) (does refl))
+
+-- a name is also one for a fragment, and one for an enum's value
+pub for_fragment : {s t : State} → Runs (Child Name) s t → Runs (Child NameForFragment) s t
+unfolding inside
+for_fragment (child e f h) = child e f h
+
+pub for_enum : {s t : State} → Runs (Child Name) s t → Runs (Child NameForEnum) s t
+unfolding inside
+for_enum (child e f h) = child e f h

@@ -1,5 +1,5 @@
 // Fragments.
-#![tactic(auto, using(parser_rules::specs::Rule::child, parser_rules::specs::Rule::call, parser_rules::specs::Rule::seq, parser_rules::specs::Rule::skip, parser_rules::specs::Rule::yes, parser_rules::specs::Rule::no, parser_rules::proofs::Then::chosen, parser_rules::proofs::Kept::is_open, parser_rules::proofs::Kept::still_open), unfolding(parser_rules::specs::Rule::inside, parser_rules::specs::Rule::body))]
+#![tactic(auto, using(parser_rules::specs::Rule::child, parser_rules::specs::Rule::call, parser_rules::specs::Rule::seq, parser_rules::specs::Rule::skip, parser_rules::specs::Rule::yes, parser_rules::specs::Rule::no, parser_rules::proofs::Then::chosen, parser_rules::proofs::Then::for_fragment, parser_rules::proofs::Kept::is_open, parser_rules::proofs::Kept::still_open), unfolding(parser_rules::specs::Rule::inside, parser_rules::specs::Rule::body))]
 
 ghost use Rattle.std.specs.Prelude.{◌≡◌, true, OnOk};
 ghost use Rattle.lexical_grammar.specs.declared.TokenKind.TheVariants as token;
@@ -43,7 +43,7 @@ fn fragment_name<A: Allocator + Copy>(p: &mut ParserState<'_, A>) -> Result<(), 
     if p.at_word(SyntaxKind::on_KW) {
         p.err(Message::FragmentNamedOn)?;
     } else if p.at(TokenKind::Name) {
-        p.name_for_fragment()?;
+        p.name()?;
     } else {
         p.err(Message::ExpectedFragmentName)?;
     }

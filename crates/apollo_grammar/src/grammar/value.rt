@@ -1,5 +1,5 @@
 // Values.
-#![tactic(auto, using(parser_rules::specs::Rule::child, parser_rules::specs::Rule::call, parser_rules::specs::Rule::deeper, parser_rules::specs::Rule::refused, parser_rules::specs::Rule::does, parser_rules::specs::Rule::seq, parser_rules::specs::Rule::skip, parser_rules::specs::Rule::yes, parser_rules::specs::Rule::no, parser_rules::specs::Rule::begin, parser_rules::specs::Rule::turn, parser_rules::proofs::Kept::ended, parser_rules::proofs::Kept::is_open, parser_rules::proofs::Kept::still_open, parser_rules::proofs::Kept::open_in_loop, parser_rules::proofs::Kept::still_at, parser_rules::proofs::Kept::is_inside, parser_rules::proofs::Kept::still_inside), unfolding(parser_rules::specs::Rule::inside, parser_rules::specs::Rule::body))]
+#![tactic(auto, using(parser_rules::specs::Rule::child, parser_rules::specs::Rule::call, parser_rules::specs::Rule::deeper, parser_rules::specs::Rule::refused, parser_rules::specs::Rule::does, parser_rules::specs::Rule::seq, parser_rules::specs::Rule::skip, parser_rules::specs::Rule::yes, parser_rules::specs::Rule::no, parser_rules::specs::Rule::begin, parser_rules::specs::Rule::turn, parser_rules::proofs::Then::for_enum, parser_rules::proofs::Kept::ended, parser_rules::proofs::Kept::is_open, parser_rules::proofs::Kept::still_open, parser_rules::proofs::Kept::open_in_loop, parser_rules::proofs::Kept::still_at, parser_rules::proofs::Kept::is_inside, parser_rules::proofs::Kept::still_inside), unfolding(parser_rules::specs::Rule::inside, parser_rules::specs::Rule::body))]
 
 ghost use Rattle.std.specs.Prelude.{◌≡◌, true, OnOk};
 ghost use Rattle.lexical_grammar.specs.declared.TokenKind.TheVariants as token;
@@ -109,7 +109,7 @@ fn enum_value<A: Allocator + Copy>(p: &mut ParserState<'_, A>) -> Result<(), All
     ensures { OnOk result (Runs (Child rule.EnumValue) p.old p.new) }
 {
     p.start_node(SyntaxKind::ENUM_VALUE)?;
-    p.name_for_enum()?;
+    p.name()?;
     p.finish_node();
     Ok(())
 }
