@@ -3,3 +3,4 @@ pub mod Parsed
 pub mod Reading
 pub mod Keywords
 pub mod Looks
+pub mod Roots

@@ -8,7 +8,7 @@ mod state;
 mod syntax_tree;
 
 pub use parser::Parser;
-pub use syntax_tree::{DocumentRoot, SyntaxTree};
+pub use syntax_tree::{DocumentRoot, Root, SyntaxTree};
 
 #[cfg(test)]
 mod tests;

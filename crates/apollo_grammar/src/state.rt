@@ -14,10 +14,11 @@ ghost use Rattle.parser_rules.specs.Rule.{At, Word, Ready, Next, Either, holds, 
 ghost use Rattle.parser_rules.specs.Open.{IsOpen, IsMark, IsInside, IsRoot};
 ghost use Rattle.apollo_grammar.specs.Keywords as keywords;
 ghost use Rattle.apollo_grammar.specs.Reading as reading;
+ghost use Rattle.apollo_grammar.specs.Roots.{root_kind};
 ghost use Rattle.apollo_grammar.specs.View.{lexeme_of, current_of, part_of, report_of};
 
 use crate::message::message_text;
-use crate::syntax_tree::SyntaxTree;
+use crate::syntax_tree::{Root, SyntaxTree};
 use apollo_lexer::{Error, LexError, Lexer, LimitTracker, Steps, Token};
 use apollo_tree::{Checkpoint, TreeBuilder};
 use document_grammar::SyntaxKind;
@@ -557,8 +558,9 @@ impl<'i, A: Allocator + Copy> ParserState<'i, A> {
     }
 
     /// Takes in what waits, and closes the root. The token limit is the lexer's.
-    pub fn finish<R>(self, token_limit: usize) -> Result<SyntaxTree<R, A>, AllocError>
-        requires { IsRoot self.tree }
+    pub fn finish<R: Root>(self, token_limit: usize) -> Result<SyntaxTree<R, A>, AllocError>
+        requires open_root { IsRoot self.tree }
+        requires kind { R.roots (root_kind (state.finished self)) ≡ true }
         ensures tree { IfOk result (λ t. t.tree ≡ state.finished self.entry) }
         ensures counted { IfOk result (λ t. count t.tree < 2 ^ 64) }
         ensures errors { IfOk result (λ t. map report_of t.errors ≡ self.entry.errors) }

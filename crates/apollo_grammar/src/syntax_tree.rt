@@ -1,4 +1,12 @@
 // What a parse gives.
+ghost use Rattle.std.specs.Prelude.{◌≡◌, Bool, true};
+ghost use Rattle.document_grammar.specs.declared.kind.SyntaxKind.{SyntaxKind};
+ghost use Rattle.document_grammar.specs.declared.kind.SyntaxKind.TheVariants.{DOCUMENT};
+ghost use Rattle.document_grammar.specs.Numbers.{is_kind};
+ghost use Rattle.apollo_grammar.specs.Roots.{root_kind};
+
+use apollo_cst_core::CstNode;
+use apollo_cst_document::Document;
 use apollo_lexer::{Error, LimitTracker};
 use apollo_tree::{Subtree, SyntaxNode};
 use std::alloc::{AllocError, Allocator};
@@ -6,20 +14,30 @@ use std::fmt;
 use std::marker::{Model, PhantomData};
 use std::slice::Iter;
 
+/// What a tree is of: its marker says which kinds the root may have.
+pub trait Root {
+    ghost roots: { SyntaxKind → Bool };
+}
+
 /// Marks the tree of a document, whose root is a DOCUMENT.
 pub struct DocumentRoot;
 
+impl Root for DocumentRoot {
+    ghost roots = { is_kind DOCUMENT };
+}
+
 /// The tree of a text, the errors that were found in it, and how the limits were used. `R` marks what the root is.
 #[derive(Drop)]
-pub struct SyntaxTree<R, A: Allocator> {
+pub struct SyntaxTree<R: Root, A: Allocator> {
     pub(crate) tree: Subtree<A>,
     pub(crate) errors: Vec<Error<A>, A>,
     pub(crate) recursion_limit: LimitTracker,
     pub(crate) token_limit: LimitTracker,
     pub(crate) root: PhantomData<R>,
+    ghost rooted: { R.roots (root_kind tree) ≡ true },
 }
 
-impl<R, A: Allocator> Model for SyntaxTree<R, A> {
+impl<R: Root, A: Allocator> Model for SyntaxTree<R, A> {
     ghost use Rattle.std.specs.Coded.{codes};
     ghost use Rattle.apollo_tree.specs.Codes.{forest_code};
     ghost use Rattle.apollo_grammar.specs.Parsed.{Parsed};
@@ -31,7 +49,7 @@ impl<R, A: Allocator> Model for SyntaxTree<R, A> {
     ghost view = { λ t. record { tree = t.tree; errors = t.errors.items; recursion_limit = t.recursion_limit; token_limit = t.token_limit } };
 }
 
-impl<R, A: Allocator> SyntaxTree<R, A> {
+impl<R: Root, A: Allocator> SyntaxTree<R, A> {
     ghost use Rattle.std.specs.Prelude.{◌≡◌};
     ghost use Rattle.std.specs.Slice.Iter.{iter_rest};
     ghost use Rattle.std.specs.Prelude.{length};
@@ -65,6 +83,7 @@ impl<R, A: Allocator> SyntaxTree<R, A> {
     {
         self.token_limit
     }
+
     /// How many elements the tree has, nodes and leaves.
     pub fn element_count(&self) -> usize
         ensures { result ≡ length (order self.now.tree) }
@@ -73,7 +92,18 @@ impl<R, A: Allocator> SyntaxTree<R, A> {
     }
 }
 
-impl<R, A: Allocator + Copy> SyntaxTree<R, A> {
+impl<A: Allocator> SyntaxTree<DocumentRoot, A> {
+    ghost use Rattle.apollo_tree.specs.References.{node_place};
+
+    /// The document (GraphQL October 2021, section 2.2), as the typed node of the root. Every tree of `parse` has it, also with errors.
+    pub fn document(&self) -> Document<'_>
+        ensures { node_place result.syntax ≡ record { whole = self.now.tree; index = 0 } }
+    {
+        Document::cast(self.tree.root()).unwrap()
+    }
+}
+
+impl<R: Root, A: Allocator + Copy> SyntaxTree<R, A> {
     ghost use Rattle.std.specs.Prelude.{◌≡◌, IfOk};
 
     /// The same tree, errors and limits, in memory of their own. It fails only where memory is refused.
@@ -97,7 +127,7 @@ impl<R, A: Allocator + Copy> SyntaxTree<R, A> {
 
 /// The printed form: a line for each element of the tree in document order, four spaces a level; a line `- ` with the printed form for
 /// each error; and then, without a line feed, the printed recursion limit.
-impl<R, A: Allocator> fmt::Debug for SyntaxTree<R, A> {
+impl<R: Root, A: Allocator> fmt::Debug for SyntaxTree<R, A> {
     fn fmt<W: fmt::Write>(&self, f: &mut fmt::Formatter<W>) -> fmt::Result {
         let tree = &self.tree;
         write!(f, "{tree:?}")?;

@@ -11,3 +11,6 @@ pub use apollo_tree::{
 };
 pub use document_grammar::SyntaxKind;
 pub use lexical_grammar::TokenKind;
+
+#[cfg(test)]
+mod tests;

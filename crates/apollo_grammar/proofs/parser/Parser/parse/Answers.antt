@@ -17,14 +17,22 @@ use Rattle.parser_rules.specs.State.{finished}
 use Rattle.parser_rules.specs.Rule.{Runs, Call, Document}
 use Rattle.parser_rules.specs.Leaves.{leaves, OneLeafAnItem}
 use Rattle.parser_rules.specs.Reports.{Reported}
-use Rattle.parser_rules.proofs.Kept.{root_kept}
+use Rattle.parser_rules.proofs.Kept.{root_kept, root_stays}
+use Rattle.document_grammar.specs.Numbers.{is_kind}
+use Rattle.apollo_grammar.proofs.Building.{finished_kind}
 use Rattle.apollo_grammar.specs.View.{report_of}
 use Rattle.apollo_grammar.proofs.Parses.{ran, run_leaves, run_text, run_nesting, run_nested, run_asked, run_read, run_reported, run_in_order, run_sound, both}
 use Rattle.apollo_grammar.proofs.parser.Parser.parse.Goals as goal
 
 pub finish-requires : goal.finish-requires
 finish-requires g c =
-    root_kept (answers_left c.lexer.result) c.args.self.recursion_limit kind.DOCUMENT refl (subst (λ s. Runs (Call Document) s c.document.new.p) c.in_ok-p.ensures c.in_ok-document.ensures)
+    let xs = answers_left c.lexer.result in
+    let r = c.args.self.recursion_limit in
+    let run = subst (λ s. Runs (Call Document) s c.document.new.p) c.in_ok-p.ensures c.in_ok-document.ensures in
+    record {
+      open_root = root_kept xs r kind.DOCUMENT refl run;
+      kind = ap (is_kind kind.DOCUMENT) (finished_kind c.document.new.p kind.DOCUMENT (root_stays xs r kind.DOCUMENT run));
+    }
 
 pub returns-clause-lossless : goal.returns-clause-lossless
 returns-clause-lossless g c =

@@ -8,10 +8,10 @@ use Rattle.apollo_grammar.proofs.state.ParserState.finish.Goals as goal
 
 pub finish_node-requires : goal.finish_node-requires
 finish_node-requires g c =
-    let r = root_flushed (map part_of c.deref.result.now) c.self.inside.builder (subst (λ (s : State). IsRoot s.tree) (sym c.self.view_is) c.requires) in
+    let r = root_flushed (map part_of c.deref.result.now) c.self.inside.builder (subst (λ (s : State). IsRoot s.tree) (sym c.self.view_is) c.requires.open_root) in
     free_fits c.push_all.new.builder (root_is_open c.push_all.new.builder (subst IsRoot (sym c.in_ok-push_all.ensures) r))
 
 pub finish-requires : goal.finish-requires
 finish-requires g c =
-    let r = root_flushed (map part_of c.deref.result.now) c.self.inside.builder (subst (λ (s : State). IsRoot s.tree) (sym c.self.view_is) c.requires) in
+    let r = root_flushed (map part_of c.deref.result.now) c.self.inside.builder (subst (λ (s : State). IsRoot s.tree) (sym c.self.view_is) c.requires.open_root) in
     subst IsComplete (sym c.finish_node.ensures.after) (root_closes c.push_all.new.builder (subst IsRoot (sym c.in_ok-push_all.ensures) r))

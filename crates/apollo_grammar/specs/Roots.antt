@@ -1,0 +1,7 @@
+-- The root of a tree.
+use Rattle.document_grammar.specs.declared.kind.SyntaxKind.{SyntaxKind}
+use Rattle.document_grammar.specs.Forests.{Forest}
+use Rattle.apollo_tree.specs.Order.{kind_at}
+
+abbrev pub root_kind : Forest → SyntaxKind
+root_kind f = kind_at (record { whole = f; index = 0 })
