@@ -8,10 +8,11 @@ use Rattle.document_grammar.specs.declared.kind.SyntaxKind.{SyntaxKind}
 use Rattle.document_grammar.specs.declared.kind.SyntaxKind.TheVariants as kind
 use Rattle.document_grammar.specs.Kinds.{words}
 use Rattle.document_grammar.specs.Numbers.{number}
-use Rattle.document_grammar.specs.Machine.{◌and◌, ◌or◌, word_class, text_eq}
-use Rattle.document_grammar.proofs.Basics.{either, implies, eqb-refl}
-use Rattle.document_grammar.proofs.Rules.{listed, text-same}
-use Rattle.document_grammar.proofs.Read.{all_words, listed-at}
+use Rattle.document_grammar.specs.Booleans.{◌and◌, ◌or◌}
+use Rattle.grammar_machine.specs.Machine.{word_class, text_eq}
+use Rattle.document_grammar.proofs.Booleans.{either, implies, eqb-refl}
+use Rattle.grammar_machine.proofs.Rules.{listed, text-same}
+use Rattle.document_grammar.proofs.Words.{all_words, listed-at}
 use Rattle.parser_rules.specs.State.{Text, Lexeme, same_kind, is_word}
 use Rattle.apollo_grammar.specs.Keywords.{word_of, is_asked}
 

@@ -9,7 +9,7 @@ use Rattle.document_grammar.specs.declared.kind.SyntaxKind.{SyntaxKind}
 use Rattle.document_grammar.specs.declared.kind.SyntaxKind.TheVariants as kind
 use Rattle.document_grammar.specs.Kinds.{words}
 use Rattle.document_grammar.specs.Numbers.{number}
-use Rattle.document_grammar.specs.Machine.{word_class}
+use Rattle.grammar_machine.specs.Machine.{word_class}
 use Rattle.document_grammar.specs.Forests.{none, leaf}
 use Rattle.apollo_tree.specs.Sound.{Fits}
 use Rattle.parser_rules.specs.State.{Text, Lexeme, IsNow, same_kind, is_at, is_word}

@@ -5,17 +5,20 @@ use Rattle.document_grammar.specs.Kinds.{ERROR, DOCUMENT, LIST_VALUE, OBJECT_FIE
 use Rattle.document_grammar.specs.Numbers.{number}
 use Rattle.document_grammar.specs.Forests as built
 use Rattle.document_grammar.specs.Builds.{Open, front, back, close, open_count, built_count}
-use Rattle.document_grammar.specs.Joins.{count-join}
+use Rattle.document_grammar.proofs.Joins.{count-join}
 use Rattle.document_grammar.specs.Numbered.{numbered}
 use Rattle.document_grammar.specs.Tree.{Text, Token, Tree, leaf, node, Forest, none, ◌▸◌, ◌+++◌, root}
 use Rattle.document_grammar.specs.Pattern.{member}
 use Rattle.document_grammar.specs.Derivation.{kinds, text, texts, Yield, Yields, counts, below, belows, nest}
 use Rattle.document_grammar.specs.Places.{ignored, bare, bares}
-use Rattle.document_grammar.proofs.Basics.{either}
-use Rattle.document_grammar.proofs.Depth.{cond-zero}
-use Rattle.document_grammar.proofs.Run.{forest-none}
+use Rattle.document_grammar.proofs.Booleans.{either}
+use Rattle.document_grammar.proofs.Booleans.{cond-zero}
 
 -- One list of trees after the other.
+pub forest-none : (f : Forest) → f +++ none ≡ f
+forest-none none = refl
+forest-none (u ▸ f) = ap (λ (x : Forest). u ▸ x) (forest-none f)
+
 pub kinds-append : (f g : Forest) → kinds (f +++ g) ≡ kinds f ++ kinds g
 kinds-append none g = refl
 kinds-append (t ▸ f) g = ap (λ (w : List ℕ). root t ∷ w) (kinds-append f g)

@@ -5,7 +5,7 @@ use Rattle.document_grammar.specs.Pattern.{Matches, maybe, one, ◌then◌, Patt
 use Rattle.document_grammar.specs.Kinds.{DESCRIPTION, OPERATION_DEFINITION, FRAGMENT_DEFINITION, VARIABLE_DEFINITION}
 use Rattle.document_grammar.specs.Rows.{Row, FirstRow, first_operation, first_fragment, first_variable}
 use Rattle.document_grammar.specs.Derivation.{FitsBy, AllFitBy, BareBy, Sort, document, selections, type, DerivationBy, Derivation, FirstSpells, Spells}
-use Rattle.document_grammar.proofs.Basics.{either}
+use Rattle.document_grammar.proofs.Booleans.{either}
 
 described : (p : Pattern) (w : List ℕ) → Matches p w → Matches (maybe (one DESCRIPTION) then p) w
 described p w m = ([], w, refl, inr refl, m)

@@ -5,7 +5,7 @@ use Rattle.document_grammar.specs.Derivation.{spelled, Yield, Yields}
 use Rattle.std.specs.Prelude.{codes}
 use Rattle.document_grammar.specs.Kinds.{WHITESPACE, L_CURLY, R_CURLY, IDENT, DOCUMENT, OPERATION_DEFINITION, SELECTION_SET, FIELD, NAME}
 use Rattle.document_grammar.specs.Places.{ignored, Between, PlacedIn, AllPlaced, Placed}
-use Rattle.document_grammar.proofs.Basics.{false-true}
+use Rattle.document_grammar.proofs.Booleans.{false-true}
 
 -- Where all nodes spell something and none begins or ends with an ignored leaf.
 abbrev pub Ends : Forest → Type 0

@@ -9,7 +9,6 @@ use Rattle.lexical_grammar.proofs.Agree.{agree}
 use Rattle.document_grammar.specs.Tree.{Tree}
 use Rattle.document_grammar.specs.Derivation.{Sort, document, Spells, Yield, Mark, Starts, StartsWithin}
 use Rattle.document_grammar.specs.Sentence.{token_of, Sentence, FirstSentence, StartSentence, StartSentenceWithin}
-use Rattle.document_grammar.proofs.Main.{one-derivation}
 use Rattle.document_grammar.proofs.FirstProfile.{derivation-kept}
 
 agree-same : (items others : List Item) → Agree items others → are_tokens items ≡ true → items ≡ others
@@ -28,12 +27,6 @@ one-cut source items others c d h = agree-same items others (agree items others 
 
 pub sentence-spells : (source : List ℕ) (t : Tree) (sort : Sort) (s : Sentence source t sort) → Spells (map token_of (Significant s.items)) t sort
 sentence-spells source t sort s = (s.derivation, s.yield)
-
-pub one-sentence : (source : List ℕ) (t u : Tree) (sort : Sort) → Sentence source t sort → Sentence source u sort → t ≡ u
-one-sentence source t u sort a b =
-    let same = one-cut source a.items b.items a.cut b.cut a.tokens in
-    one-derivation sort (map token_of (Significant b.items)) t u
-    (a.derivation, a.yield ∙ ap (λ (items : List Item). map token_of (Significant items)) same) (b.derivation, b.yield)
 
 pub first-sentence : (source : List ℕ) (t : Tree) (sort : Sort) → FirstSentence source t sort → Sentence source t sort
 first-sentence source t sort s =

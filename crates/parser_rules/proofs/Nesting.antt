@@ -10,16 +10,16 @@ use Rattle.document_grammar.specs.Numbers.{number}
 use Rattle.document_grammar.specs.Forests.{Forest, count, join}
 use Rattle.document_grammar.specs.Forests as built
 use Rattle.document_grammar.specs.Builds.{Building, Open, nothing, start, add_leaf, finish, close, wrap, built_count, open_count}
-use Rattle.document_grammar.specs.Joins.{count-join}
+use Rattle.document_grammar.proofs.Joins.{count-join}
 use Rattle.document_grammar.specs.Numbered.{numbered, tree_of}
 use Rattle.document_grammar.specs.Pattern.{member}
 use Rattle.document_grammar.specs.Tree as tree
 use Rattle.document_grammar.specs.Tree.{◌▸◌, root}
 use Rattle.document_grammar.specs.Derivation.{counts, below, belows, nest}
-use Rattle.document_grammar.specs.Machine.{◌and◌, ◌or◌}
-use Rattle.document_grammar.proofs.Basics.{false-true, and-l, and-r, and-i, not-c}
+use Rattle.document_grammar.specs.Booleans.{◌and◌, ◌or◌}
+use Rattle.document_grammar.proofs.Booleans.{false-true, and-l, and-r, and-i, not-c}
 use Rattle.document_grammar.proofs.Built.{belows-append, numbered-join, count-close}
-use Rattle.document_grammar.proofs.Depth.{cond-zero}
+use Rattle.document_grammar.proofs.Booleans.{cond-zero}
 use Rattle.parser_rules.specs.State.{State, Lexeme, Part, ignored, bad, met, wait, read_on, add_all, flush, opened, closed, wrapped_from, moved, bump, found_at, at_limit, noted, note, enter, leave, deepened, limited_at, too_deep, fresh, begun, finished}
 use Rattle.parser_rules.specs.Open.{IsRoot}
 use Rattle.parser_rules.specs.Rule.{Document, Operation, ShortQuery, OperationType, SelectionSet, Field, Alias, Name, FragmentSpread, InlineFragment, FragmentDefinition, FragmentName, NameForFragment, TypeCondition, Arguments, Argument, Directives, Directive, VariableDefinitions, VariableDefinition, Variable, DefaultValue, IntValue, FloatValue, StringValue, BooleanValue, NullValue, EnumValue, NameForEnum, ListValue, ObjectValue, ObjectField, NamedType, ListType}

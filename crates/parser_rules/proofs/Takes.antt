@@ -3,8 +3,8 @@ use Rattle.std.proofs.Common.{◌≡◌, ℕ, ◌<◌, Option, Some, None, [], �
 use Rattle.lexical_grammar.specs.declared.TokenKind.{TokenKind}
 use Rattle.lexical_grammar.specs.declared.TokenKind.TheVariants as token
 use Rattle.document_grammar.specs.declared.kind.SyntaxKind.{SyntaxKind}
-use Rattle.document_grammar.specs.Machine.{◌and◌, ◌or◌}
-use Rattle.document_grammar.proofs.Basics.{and-l, and-r, either}
+use Rattle.document_grammar.specs.Booleans.{◌and◌, ◌or◌}
+use Rattle.document_grammar.proofs.Booleans.{and-l, and-r, either}
 use Rattle.parser_rules.specs.State.{State, Lexeme, Found, flush, opened, closed, moved, bump, fault, found_at, noted, note, is_at, is_over, is_deep, enter, leave}
 use Rattle.parser_rules.specs.Rule.{At, Ready, Either, holds, Prim, Bump, Note, TooDeep, step, Node, FragmentName, TypeCondition, Directives, NamedType, kind_of, Part, Definition, Described, Selection, Spread, AliasedName, WordValue, ValueOf, NestedValue, has_item, inside, body, Rule, Skip, Do, Seq, When, Child, Nested, Call, Runs, skip, does, seq, yes, no, done, again, child, deeper, refused, call, plain, wrapped}
 use Rattle.parser_rules.specs.declared.message.Message.{Message}

@@ -7,7 +7,7 @@ use Rattle.lexical_grammar.specs.declared.TokenKind.TheVariants as token
 use Rattle.document_grammar.specs.declared.kind.SyntaxKind.{SyntaxKind}
 use Rattle.document_grammar.specs.declared.kind.SyntaxKind.TheVariants as kind
 use Rattle.document_grammar.specs.Kinds as kinds
-use Rattle.document_grammar.specs.Symbols as symbols
+use Rattle.grammar_machine.specs.Symbols as symbols
 use Rattle.document_grammar.specs.Builds.{built_count}
 use Rattle.parser_rules.specs.declared.message.Message.{Message}
 use Rattle.parser_rules.specs.declared.message.Message.TheVariants as message

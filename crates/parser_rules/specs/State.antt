@@ -10,7 +10,7 @@ use Rattle.document_grammar.specs.declared.kind.SyntaxKind.{SyntaxKind}
 use Rattle.document_grammar.specs.declared.kind.SyntaxKind.TheVariants as kind
 use Rattle.document_grammar.specs.Kinds.{words}
 use Rattle.document_grammar.specs.Numbers.{number}
-use Rattle.document_grammar.specs.Machine.{word_class}
+use Rattle.grammar_machine.specs.Machine.{word_class}
 use Rattle.document_grammar.specs.Forests.{Forest}
 use Rattle.document_grammar.specs.Builds.{Building, nothing, start, add_leaf, finish, wrap}
 

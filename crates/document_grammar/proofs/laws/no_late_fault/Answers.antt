@@ -1,9 +1,0 @@
-use Rattle.document_grammar.proofs.Faults.{reached-starts}
-use Rattle.document_grammar.proofs.Beginnings.{reached-begins-text}
-use Rattle.document_grammar.proofs.laws.no_late_fault.Goals as goal
-
-pub returns-clause-tokens : goal.returns-clause-tokens
-returns-clause-tokens c = reached-starts
-
-pub returns-clause-texts : goal.returns-clause-texts
-returns-clause-texts c = reached-begins-text

@@ -1,0 +1,164 @@
+-- Texts that begin a sentence. Where tokens at the front of a text, and further tokens with the texts that are listed for the leaves, are
+-- those of a derivation, the text of the first goes on to a sentence: by a line feed, and then by the further tokens.
+use Rattle.std.proofs.Common.{◌≡◌, ℕ, zero, suc, ◌<◌, Bool, true, false, cond, eqb, List, [], ◌∷◌, ◌++◌, length, get_or, map, Some, None, IsUtf8, refl, sym, ap, ap₂, ◌∙◌, subst, inl, inr, eqb-true, ltb-true, append_assoc, arith}
+use Rattle.std.proofs.lemmas.Bool.{eqb-false}
+use Rattle.std.proofs.lemmas.Str.{IsUtf8-from_ascii}
+use Rattle.std.proofs.Math.Seq.{take-length}
+use Rattle.lexical_grammar.specs.declared.TokenKind.{TokenKind}
+use Rattle.lexical_grammar.specs.declared.TokenKind.TheVariants as kind
+use Rattle.lexical_grammar.specs.Tokens.{Tok}
+use Rattle.lexical_grammar.specs.Cut.{Item, Word, Cut, texts, is_significant_kind, Significant}
+use Rattle.lexical_grammar.specs.Begins.{IsWord, AreWords, are_tokens, spaced, ends_in_whitespace, feed}
+use Rattle.lexical_grammar.specs.Reads.{token_at}
+use Rattle.lexical_grammar.proofs.Sound.{sound}
+use Rattle.lexical_grammar.proofs.Cuts.{goes_on_by_words}
+use Rattle.lexical_grammar.proofs.Texts.{words_follow_text}
+use Rattle.document_grammar.specs.Tree.{Token, Tree, leaf}
+use Rattle.grammar_machine.specs.Table.{firsts, spellings}
+use Rattle.document_grammar.specs.Derivation.{document, Spells}
+use Rattle.document_grammar.specs.Booleans.{◌and◌, ◌or◌}
+use Rattle.grammar_machine.specs.Machine.{holds, is_leaf, entries, fires, class, token, Ok, Frame, Reached}
+use Rattle.document_grammar.specs.Sentence.{leaf_number, token_of, Begins}
+use Rattle.document_grammar.proofs.Booleans.{false-true, or-c, either}
+use Rattle.grammar_machine.proofs.TableLemmas.{head-same, tail-same}
+use Rattle.grammar_machine.proofs.Endings.{spell}
+use Rattle.grammar_machine.proofs.Sound.{AllSpelt}
+use Rattle.grammar_machine.proofs.Worked.{all_ascii, is-ascii}
+use Rattle.grammar_machine.proofs.Faults.{reached-begins}
+
+-- The kind of the tokens that become a leaf.
+kinds_by_leaf : List TokenKind
+kinds_by_leaf =
+    kind.Whitespace
+    ∷ kind.Comment
+    ∷ kind.Comma
+    ∷ kind.Eof
+    ∷ kind.Bang
+    ∷ kind.Dollar
+    ∷ kind.Amp
+    ∷ kind.Spread
+    ∷ kind.Colon
+    ∷ kind.Eq
+    ∷ kind.At
+    ∷ kind.LParen
+    ∷ kind.RParen
+    ∷ kind.LBracket
+    ∷ kind.RBracket
+    ∷ kind.LCurly
+    ∷ kind.RCurly
+    ∷ kind.Pipe
+    ∷ kind.Name
+    ∷ kind.Int
+    ∷ kind.Float
+    ∷ kind.StringValue
+    ∷ []
+
+kind_of : ℕ → TokenKind
+unfolding token
+kind_of l = get_or kinds_by_leaf (token l []).0 kind.Eof
+
+-- Two leaves have no tokens: WHITESPACE, and ERROR. (COMMENT and COMMA have the numbers of two sorts of names here.)
+wordless : ℕ → Bool
+wordless l = eqb l 0 or eqb l 3
+
+-- For each leaf a test by computing.
+abbrev down : ℕ → List ℕ
+down zero = []
+down (suc n) = n ∷ down n
+
+less : (n m : ℕ) → n < suc m → (n ≡ m → ⊥) → n < m
+less n m h i = omega arith
+
+at-each : {A : Type 0} (f g : ℕ → A) (m n : ℕ) → n < m → map f (down m) ≡ map g (down m) → f n ≡ g n
+at-each f g zero n h e = absurd (omega arith)
+at-each f g (suc m) n h e = elim (either (eqb n m)) [
+  | inl p ↦ subst (λ k. f k ≡ g k) (sym (eqb-true n m p)) (head-same e)
+  | inr p ↦ at-each f g m n (less n m h (eqb-false n m p)) (tail-same e)
+]
+
+readings : map (λ l. token_at (spell l)) (down 60) ≡ map (λ l. cond (wordless l) None (Some (kind_of l, length (spell l)))) (down 60)
+unfolding spellings holds token kind_of kinds_by_leaf wordless ◌or◌
+readings = refl
+
+leaves : map (λ l. leaf_number (kind_of l)) (down 60) ≡ map (λ l. (token l []).0) (down 60)
+unfolding holds token kind_of kinds_by_leaf
+leaves = refl
+
+significant : map (λ l. is_significant_kind (kind_of l)) (down 60) ≡ map (λ l. cond (wordless l) false true) (down 60)
+unfolding holds token kind_of kinds_by_leaf wordless ◌or◌
+significant = refl
+
+ascii : map (λ l. all_ascii (spell l)) (down 60) ≡ map (λ l. true) (down 60)
+unfolding spellings ◌and◌
+ascii = refl
+
+no-word : (l a : ℕ) → wordless l ≡ true → fires l a 0 ≡ false
+unfolding fires entries firsts wordless
+no-word l a h = elim (or-c _ _ h) [
+  | inl p ↦ subst (λ (k : ℕ). fires k a 0 ≡ false) (sym (eqb-true l 0 p)) refl
+  | inr p ↦ subst (λ (k : ℕ). fires k a 0 ≡ false) (sym (eqb-true l 3 p)) refl
+]
+
+-- The word of a leaf.
+leaf-word : (l : ℕ) → Ok (leaf l (spell l)) → (w : Word) × IsWord w × (token_of w ≡ token l (spell l))
+unfolding is_leaf token
+leaf-word l ok =
+    let b : l < 60 = ltb-true l 60 ok.0 in
+    let some : wordless l ≡ false = elim (either (wordless l)) [ inl p ↦ false-true (no-word l (class (token l (spell l))) p) ok.1 | inr p ↦ p ] in
+    let test : token_at (spell l) ≡ cond (wordless l) None (Some (kind_of l, length (spell l))) =
+    at-each (λ (k : ℕ). token_at (spell k)) (λ (k : ℕ). cond (wordless k) None (Some (kind_of k, length (spell k)))) 60 l b readings in
+    let reading : token_at (spell l) ≡ Some (kind_of l, length (spell l)) = rw some at test in
+    let signs : is_significant_kind (kind_of l) ≡ cond (wordless l) false true =
+    at-each (λ (k : ℕ). is_significant_kind (kind_of k)) (λ (k : ℕ). cond (wordless k) false true) 60 l b significant in
+    let plain : all_ascii (spell l) ≡ true = at-each (λ (k : ℕ). all_ascii (spell k)) (λ (k : ℕ). true) 60 l b ascii in
+    let number : leaf_number (kind_of l) ≡ (token l []).0 = at-each (λ (k : ℕ). leaf_number (kind_of k)) (λ (k : ℕ). (token k []).0) 60 l b leaves in (
+      record { kind = kind_of l; text = spell l },
+      record {
+        characters = IsUtf8-from_ascii (spell l) (is-ascii (spell l) plain);
+        token = subst (λ (x : List ℕ). Tok (kind_of l) x) (take-length (spell l)) (sound (spell l) (kind_of l) (length (spell l)) reading).stands.token;
+        significant = rw some at signs;
+      },
+      ap (λ (n : ℕ). (n, spell l)) number,
+    )
+
+listed-words : (v : List Token) → AllSpelt v → (words : List Word) × AreWords words × (map token_of words ≡ v)
+listed-words [] h = ([], tt, refl)
+listed-words (a ∷ v) h =
+    let one = leaf-word h.0.0 h.0.1 in
+    let more = listed-words v h.1 in
+    (one.0 ∷ more.0, (one.1, more.1), ap₂ (λ (x : Token) (y : List Token). x ∷ y) (one.2 ∙ sym h.0.2) more.2)
+
+map-append : (v w : List Word) → map token_of (v ++ w) ≡ map token_of v ++ map token_of w
+map-append [] w = refl
+map-append (a ∷ v) w = ap (λ (l : List Token). token_of a ∷ l) (map-append v w)
+
+pub begins-text : (source : List ℕ) (before : List Item) (item : Item) (more : List Item) (t : Tree) (v : List Token) → IsUtf8 source
+    → Cut source (before ++ item ∷ more) → are_tokens before ≡ true
+    → Spells (map token_of (Significant before) ++ v) t document → AllSpelt v → Begins (texts before)
+begins-text source before item more t v u cut h s spelt =
+    let w = listed-words v spelt in
+    let may = goes_on_by_words source before item more w.0 cut h w.1 in
+    let utf : IsUtf8 (texts before ++ feed (ends_in_whitespace before) ++ spaced w.0) = words_follow_text source before item more w.0 cut w.1 u in
+    let e : texts before ++ feed (ends_in_whitespace before) ++ spaced w.0 ≡ texts before ++ (feed (ends_in_whitespace before) ++ spaced w.0) = append_assoc (texts before) (feed (ends_in_whitespace before)) (spaced w.0) in
+    let y : map token_of (Significant (before ++ may.rest)) ≡ map token_of (Significant before) ++ v =
+    ap (λ (l : List Word). map token_of l) may.significant ∙ map-append (Significant before) w.0 ∙ ap (λ (l : List Token). map token_of (Significant before) ++ l) w.2 in
+    record {
+      rest = feed (ends_in_whitespace before) ++ spaced w.0;
+      tree = t;
+      characters = subst IsUtf8 e utf;
+      sentence = record {
+        items = before ++ may.rest;
+        cut = subst (λ (x : List ℕ). Cut x (before ++ may.rest)) e may.cut;
+        tokens = may.tokens;
+        derivation = s.0;
+        yield = s.1 ∙ sym y;
+      };
+    }
+
+-- Wherever the machine comes in the tokens of a text, the text before begins a sentence.
+pub reached-begins-text : (source : List ℕ) (before : List Item) (item : Item) (more : List Item) (rest : List Token) (fs : List Frame)
+    → IsUtf8 source → Cut source (before ++ item ∷ more) → are_tokens before ≡ true
+    → Reached document (map token_of (Significant before)) rest fs → Begins (texts before)
+reached-begins-text source before item more rest fs u cut h c =
+    let k = reached-begins document (map token_of (Significant before)) rest fs c in
+    begins-text source before item more k.0 k.1 u cut h k.2 k.3

@@ -1,0 +1,132 @@
+-- The tables' tests, each answered by computing.
+use Rattle.std.proofs.Common.{◌≡◌, ℕ, zero, suc, ◌+◌, ◌-◌, Bool, true, false, cond, not, eqb, List, [], ◌∷◌, get_or, bit_and, bit_or, refl}
+use Rattle.grammar_machine.specs.Table.{State, state, Entry, entry, rows, firsts, follows}
+use Rattle.document_grammar.specs.Booleans.{◌and◌, ◌or◌}
+use Rattle.grammar_machine.specs.Machine.{holds, is_leaf, at, ends, exit, arcs, entries, dead, state_arcs, state_ends, state_exit}
+
+abbrev pub subset : ℕ → ℕ → Bool
+subset a b = eqb (bit_and a b) a
+
+abbrev pub disjoint : ℕ → ℕ → Bool
+disjoint a b = eqb (bit_and a b) 0
+
+-- The classes that can begin an entry, an arc, or what follows a state.
+abbrev pub entries_mask : List Entry → ℕ
+entries_mask [] = 0
+entries_mask (entry x y alone ∷ more) = bit_or x (entries_mask more)
+
+unfoldable pub arcs_mask : List (ℕ × ℕ) → ℕ
+arcs_mask [] = 0
+arcs_mask (a ∷ more) = bit_or (entries_mask (entries a.0)) (arcs_mask more)
+
+unfoldable pub follow : ℕ → ℕ → ℕ
+follow k x = let p = get_or follows k (0, 0) in cond (eqb x 0) p.0 p.1
+
+unfoldable pub row_of : ℕ → List State
+row_of k = get_or rows (k - 60) []
+
+abbrev pub all_ends : List State → (ℕ → Bool) → Bool
+all_ends [] t = true
+all_ends (state e x a ∷ more) t = (not e or t x) and all_ends more t
+
+-- A test for each thing that a symbol can leave behind.
+unfoldable pub exits : ℕ → (ℕ → Bool) → Bool
+unfolding row_of
+exits k t = cond (is_leaf k) (t 0) (all_ends (row_of k) t)
+
+abbrev pub all_arcs : List (ℕ × ℕ) → (ℕ → ℕ → Bool) → Bool
+all_arcs [] t = true
+all_arcs (a ∷ more) t = t a.0 a.1 and all_arcs more t
+
+abbrev pub all_entries : List Entry → (ℕ → ℕ → Bool → Bool) → Bool
+all_entries [] t = true
+all_entries (entry x y alone ∷ more) t = t x y alone and all_entries more t
+
+abbrev pub any_entries : List Entry → (ℕ → ℕ → Bool → Bool) → Bool
+any_entries [] t = false
+any_entries (entry x y alone ∷ more) t = t x y alone or any_entries more t
+
+abbrev pub all_states : List State → (State → Bool) → Bool
+all_states [] t = true
+all_states (s ∷ more) t = t s and all_states more t
+
+abbrev pub all_below : ℕ → (ℕ → Bool) → Bool
+all_below zero t = true
+all_below (suc n) t = t n and all_below n t
+
+abbrev pub all_rows : ℕ → List (List State) → (ℕ → State → Bool) → Bool
+all_rows s [] t = true
+all_rows s (r ∷ more) t = all_states r (t s) and all_rows (suc s) more t
+
+-- Each state's tests.
+abbrev pub state_begins : State → ℕ
+state_begins v = arcs_mask (state_arcs v)
+
+-- A node that may follow `k` after which the row of `s` stands in the state `v`.
+abbrev pub follow_test : ℕ → State → Bool
+follow_test s v = all_arcs (state_arcs v) (λ k q. exits k (λ x. subset (state_begins (at s (q + x))) (follow k x) and (not (ends s (q + x)) or subset (follow s (exit s (q + x))) (follow k x))))
+
+abbrev pub close_test : ℕ → State → Bool
+close_test s v = not (state_ends v) or disjoint (state_begins v) (follow s (state_exit v))
+
+abbrev pub clear : ℕ → ℕ → ℕ → ℕ → Bool
+clear s q x y = disjoint y (state_begins (at s (q + x))) and (not (ends s (q + x)) or disjoint y (follow s (exit s (q + x))))
+
+-- Where the symbol `k` leads to the state `q`, the symbol `j` does not begin.
+abbrev pub differ : ℕ → ℕ → ℕ → ℕ → Bool
+differ s k q j = all_entries (entries j) (λ x2 y2 a2. all_entries (entries k) (λ x1 y1 a1. disjoint x1 x2 or (not a2 and disjoint y1 y2 and (not a1 or exits k (λ x. clear s q x y2)))))
+
+abbrev pub choice_arcs : ℕ → List (ℕ × ℕ) → Bool
+choice_arcs s [] = true
+choice_arcs s (a ∷ more) = all_arcs more (λ k q. differ s k q a.0) and choice_arcs s more
+
+abbrev pub choice_test : ℕ → State → Bool
+choice_test s v = choice_arcs s (state_arcs v)
+
+-- An entry of the first child, before the state `q` of its parent, is in an entry of the parent.
+abbrev pub covered : ℕ → ℕ → ℕ → ℕ → ℕ → Bool → Bool
+covered s q x x1 y1 a1 = any_entries (entries s) (λ x2 y2 a2. subset x1 x2 and subset y1 y2 and (not a1 or (subset (state_begins (at s (q + x))) y2 and (not (ends s (q + x)) or a2))))
+
+abbrev pub first_arcs : ℕ → List (ℕ × ℕ) → Bool
+first_arcs s l = all_arcs l (λ k q. exits k (λ x. all_entries (entries k) (covered s q x)))
+
+abbrev pub first_row : ℕ → List State → Bool
+first_row s r = first_arcs s (state_arcs (get_or r 0 dead))
+
+abbrev pub first_rows : ℕ → List (List State) → Bool
+first_rows s [] = true
+first_rows s (r ∷ more) = first_row s r and first_rows (suc s) more
+
+abbrev pub leaf_entry : ℕ → Bool
+leaf_entry l = all_entries (entries l) (λ x y a. a and eqb y 0)
+
+pub follow_checked : all_rows 60 rows follow_test ≡ true
+unfolding ◌and◌ ◌or◌ holds is_leaf at ends exit arcs entries rows firsts follows follow exits arcs_mask
+follow_checked = refl
+
+pub close_checked : all_rows 60 rows close_test ≡ true
+unfolding ◌and◌ ◌or◌ holds is_leaf at ends exit arcs entries rows firsts follows follow exits arcs_mask
+close_checked = refl
+
+pub choice_checked : all_rows 60 rows choice_test ≡ true
+unfolding ◌and◌ ◌or◌ holds is_leaf at ends exit arcs entries rows firsts follows follow exits arcs_mask
+choice_checked = refl
+
+pub first_checked : first_rows 60 rows ≡ true
+unfolding ◌and◌ ◌or◌ holds is_leaf at ends exit arcs entries rows firsts follows follow exits arcs_mask
+first_checked = refl
+
+pub leaf_checked : all_below 60 leaf_entry ≡ true
+unfolding ◌and◌ ◌or◌ holds is_leaf at ends exit arcs entries rows firsts follows follow exits arcs_mask
+leaf_checked = refl
+
+abbrev pub start_row : List State → Bool
+start_row r = not (state_ends (get_or r 0 dead))
+
+abbrev pub start_rows : List (List State) → Bool
+start_rows [] = true
+start_rows (r ∷ more) = start_row r and start_rows more
+
+pub start_checked : start_rows rows ≡ true
+unfolding ◌and◌ ◌or◌ holds is_leaf at ends exit arcs entries rows firsts follows follow exits arcs_mask
+start_checked = refl

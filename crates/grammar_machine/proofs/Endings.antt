@@ -1,0 +1,67 @@
+-- Each state of a row that can be reached has a list of trees that ends it: they are exhibited, and checked by computing.
+use Rattle.std.proofs.Common.{◌≡◌, ℕ, zero, suc, ◌+◌, ◌-◌, ◌^◌, Bool, true, cond, not, eqb, List, [], ◌∷◌, get_or, refl}
+use Rattle.document_grammar.specs.Tree.{Text, Tree, leaf, node, Forest, none, ◌▸◌, root}
+use Rattle.grammar_machine.specs.Table.{State, rows, firsts, name_leaves, name_classes, endings, spellings}
+use Rattle.document_grammar.specs.Booleans.{◌and◌, ◌or◌}
+use Rattle.grammar_machine.specs.Machine.{holds, is_leaf, at, ends, exit, arcs, has, target, entries, fires, class, token, state_arcs, finish, text_eq}
+use Rattle.grammar_machine.proofs.Checks.{subset, exits, all_arcs, all_entries, all_rows, all_below}
+use Rattle.document_grammar.specs.Kinds.{words}
+
+abbrev plant : (ℕ → Tree) → List ℕ → Forest
+plant f [] = none
+plant f (k ∷ ks) = f k ▸ plant f ks
+
+abbrev pub spell : ℕ → Text
+spell l = get_or spellings l []
+
+abbrev sample : ℕ → ℕ → Tree
+sample zero k = leaf k []
+sample (suc n) k = cond (is_leaf k) (leaf k (spell k)) (node k (plant (λ j. sample n j) (get_or (get_or endings (k - 60) []) 0 [])))
+
+unfoldable pub ending : ℕ → ℕ → Forest
+ending s q = plant (λ j. sample 7 j) (get_or (get_or endings (s - 60) []) q [])
+
+abbrev mutual
+  pub okb : Tree → Bool
+  okb (leaf l x) = is_leaf l and fires l (class (token l x)) 0
+  okb (node s f) = not (is_leaf s) and okb_from s 0 f
+
+  pub okb_from : ℕ → ℕ → Forest → Bool
+  okb_from s q none = ends s q
+  okb_from s q (t ▸ f) = has s q (root t) and okb t and okb_from s (target s q (root t) + finish t) f
+
+-- Each leaf has the text that is listed for it.
+abbrev mutual
+  pub spelt : Tree → Bool
+  spelt (leaf l x) = text_eq (spell l) x
+  spelt (node s f) = spelt_all f
+
+  pub spelt_all : Forest → Bool
+  spelt_all none = true
+  spelt_all (t ▸ f) = spelt t and spelt_all f
+
+unfoldable pub fillable : ℕ → ℕ → Bool
+fillable s q = okb_from s q (ending s q) and spelt_all (ending s q)
+
+abbrev pub fill_test : ℕ → State → Bool
+fill_test s v = all_arcs (state_arcs v) (λ k q. (is_leaf k or fillable k 0) and exits k (λ x. fillable s (q + x)))
+
+pub fill_checked : all_rows 60 rows fill_test ≡ true
+unfolding ◌and◌ ◌or◌ holds is_leaf at ends exit arcs has target entries fires class token words rows firsts exits endings spellings ending fillable
+fill_checked = refl
+
+-- The leaves' classes: those of names, or the leaf's own number.
+abbrev pub leaf_test : ℕ → Bool
+leaf_test l = all_entries (entries l) (λ x y a. cond (holds l name_leaves) (subset x name_classes) (eqb x (2 ^ l) and not (holds l name_classes) and not (eqb l 3)))
+
+abbrev pub word_tests : List (ℕ × Text) → Bool
+word_tests [] = true
+word_tests (w ∷ more) = holds w.0 name_classes and word_tests more
+
+pub leaf_classes_checked : all_below 60 leaf_test ≡ true
+unfolding ◌and◌ ◌or◌ holds is_leaf entries firsts
+leaf_classes_checked = refl
+
+pub words_checked : word_tests words ≡ true
+unfolding ◌and◌ ◌or◌ holds words
+words_checked = refl

@@ -1,0 +1,178 @@
+-- A tree of the tables, shown as the tree of syntax kinds, is a derivation.
+use Rattle.std.proofs.Common.{◌≡◌, ℕ, zero, suc, ◌+◌, ◌-◌, Bool, true, false, cond, eqb, List, [], ◌∷◌, get_or, refl, sym, ap, ap₂, subst, ◌⊎◌, inl, inr, true≢false, arith, eqb-true}
+use Rattle.document_grammar.specs.Tree.{Tree, leaf, node, Forest, none, ◌▸◌, root}
+use Rattle.document_grammar.specs.Pattern.{Pattern, any_of, nothing, ◌then◌, ◌or_else◌, many, member, Matches}
+use Rattle.grammar_machine.specs.Table.{State, rows}
+use Rattle.grammar_machine.specs.Labels.{labels}
+use Rattle.document_grammar.specs.Booleans.{◌and◌, ◌or◌}
+use Rattle.grammar_machine.specs.Machine.{is_leaf, at, ends, arcs, has, has_in, target, target_in, dead, state_arcs, state_ends, finish, Ok, OkFrom}
+use Rattle.document_grammar.specs.Derivation.{kinds}
+use Rattle.grammar_machine.proofs.Checks.{exits}
+use Rattle.document_grammar.proofs.Booleans.{false-true, and-l, and-r, or-c, either, eqb-refl}
+use Rattle.grammar_machine.proofs.TableLemmas.{arcs-at, exits-at, node-sum}
+use Rattle.grammar_machine.proofs.Patterns.{nullable, deriv, kinds_eq, pattern_eq, pattern_of, label, shown, all_kinds, any_arcs, constant, begin_kinds, agree_at, agree_states, agree_rows, agree_checked, nullable-from, from-deriv}
+use Rattle.document_grammar.specs.Kinds.{VARIABLE, NAMED_TYPE, LIST_TYPE, NON_NULL_TYPE}
+use Rattle.grammar_machine.specs.Symbols.{TYPE}
+
+-- A type's node stands for its child, or with `!` for a NON_NULL_TYPE.
+abbrev pub type_of : Forest → Tree
+type_of none = node NON_NULL_TYPE none
+type_of (t ▸ none) = t
+type_of (t ▸ (u ▸ f)) = node NON_NULL_TYPE (t ▸ (u ▸ f))
+
+abbrev pub build : ℕ → Forest → Tree
+build s f = cond (eqb s TYPE) (type_of f) (node (label s) f)
+
+abbrev mutual
+  pub show : Tree → Tree
+  show (leaf l x) = leaf (label l) x
+  show (node s f) = build s (shows f)
+
+  pub shows : Forest → Forest
+  shows none = none
+  shows (t ▸ f) = show t ▸ shows f
+
+-- Equal patterns.
+kinds-same : (a b : List ℕ) → kinds_eq a b ≡ true → a ≡ b
+kinds-same [] [] h = refl
+kinds-same [] (b ∷ bs) h = absurd (true≢false (sym h))
+kinds-same (a ∷ more) [] h = absurd (true≢false (sym h))
+kinds-same (a ∷ more) (b ∷ bs) h = ap₂ (λ x y. x ∷ y) (eqb-true a b (and-l _ _ h)) (kinds-same more bs (and-r _ _ h))
+
+pub pattern-same : (p q : Pattern) → pattern_eq p q ≡ true → p ≡ q
+pattern-same (any_of ks) (any_of ls) h = ap any_of (kinds-same ks ls h)
+pattern-same nothing nothing h = refl
+pattern-same (p then q) (r then s) h = ap₂ (λ x y. x then y) (pattern-same p r (and-l _ _ h)) (pattern-same q s (and-r _ _ h))
+pattern-same (p or_else q) (r or_else s) h = ap₂ (λ x y. x or_else y) (pattern-same p r (and-l _ _ h)) (pattern-same q s (and-r _ _ h))
+pattern-same (many p) (many q) h = ap many (pattern-same p q h)
+pattern-same _ _ h = absurd (true≢false (sym h))
+
+-- Live states agree with their patterns.
+abbrev pub Live : State → Type 0
+Live v = (state_ends v ≡ true) ⊎ ((k : ℕ) × (has_in (state_arcs v) k ≡ true))
+
+dead-live : {A : Type 0} → Live dead → A
+dead-live h = elim h [ inl e ↦ absurd (true≢false (sym e)) | inr e ↦ absurd (true≢false (sym e.1)) ]
+
+zero-plus : (q : ℕ) → 0 + q ≡ q
+zero-plus q = omega arith
+
+agree-in : (s q n : ℕ) (l : List State) → agree_states s q l ≡ true → Live (get_or l n dead) → agree_at s (q + n) ≡ true
+agree-in s q n [] h v = dead-live v
+agree-in s q zero (x ∷ more) h v = let e : q + 0 ≡ q = omega arith in rw e (and-l _ _ h)
+agree-in s q (suc n) (x ∷ more) h v = let e : q + suc n ≡ suc q + n = omega arith in rw e (agree-in s (suc q) n more (and-r _ _ h) v)
+
+agree-rows : (s n q : ℕ) (l : List (List State)) → agree_rows s l ≡ true → Live (get_or (get_or l n []) q dead) → agree_at (s + n) q ≡ true
+agree-rows s n q [] h v = dead-live v
+agree-rows s zero q (r ∷ more) h v =
+    let z : s + 0 ≡ s = omega arith in
+    rw z (subst (λ (n : ℕ). agree_at s n ≡ true) (zero-plus q) (agree-in s 0 q r (and-l _ _ h) v))
+agree-rows s (suc n) q (r ∷ more) h v = let z : s + suc n ≡ suc s + n = omega arith in rw z (agree-rows (suc s) n q more (and-r _ _ h) v)
+
+pub agree : (s q : ℕ) → is_leaf s ≡ false → Live (at s q) → agree_at s q ≡ true
+unfolding at
+agree s q l v = subst (λ (n : ℕ). agree_at n q ≡ true) (node-sum s l) (agree-rows 60 (s - 60) q rows agree_checked v)
+
+-- The rows.
+leaf-no-type : (l : ℕ) → is_leaf l ≡ true → eqb l TYPE ≡ false
+unfolding is_leaf
+leaf-no-type l h = elim (either (eqb l TYPE)) [ inl p ↦ false-true refl (rw (eqb-true l TYPE p) at h) | inr p ↦ p ]
+
+pub type-arc : (k : ℕ) → has TYPE 0 k ≡ true → (k ≡ NAMED_TYPE) ⊎ (k ≡ LIST_TYPE)
+unfolding has arcs at rows ◌or◌
+type-arc k h = elim (or-c (eqb NAMED_TYPE k) (eqb LIST_TYPE k or false) h) [
+  | inl p ↦ inl (sym (eqb-true _ _ p))
+  | inr p ↦ elim (or-c (eqb LIST_TYPE k) false p) [ inl q ↦ inr (sym (eqb-true _ _ q)) | inr q ↦ absurd (true≢false (sym q)) ]
+]
+
+pub type-end : ends TYPE 0 ≡ false
+unfolding ends at rows
+type-end = refl
+
+pub show-root : (s : ℕ) (f : Forest) → eqb s TYPE ≡ false → show (node s f) ≡ node (label s) (shows f)
+show-root s f e = rw e refl
+
+label-named_type : label NAMED_TYPE ≡ NAMED_TYPE
+unfolding label labels
+label-named_type = refl
+
+label-list_type : label LIST_TYPE ≡ LIST_TYPE
+unfolding label labels
+label-list_type = refl
+
+pub shown-one : (k : ℕ) → eqb k TYPE ≡ false → member (label k) (shown k) ≡ true
+unfolding shown member
+shown-one k e = rw (e, eqb-refl (label k)) refl
+
+shown-type : (j : ℕ) → (j ≡ NAMED_TYPE) ⊎ (j ≡ LIST_TYPE) ⊎ (j ≡ NON_NULL_TYPE) → member j (shown TYPE) ≡ true
+unfolding shown member
+shown-type j h = elim h [ inl p ↦ rw p refl | inr p ↦ elim p [ inl q ↦ rw q refl | inr q ↦ rw q refl ] ]
+
+pub type-child : (t : Tree) → Ok t → (root t ≡ NAMED_TYPE) ⊎ (root t ≡ LIST_TYPE) → (root (show t) ≡ NAMED_TYPE) ⊎ (root (show t) ≡ LIST_TYPE)
+unfolding is_leaf
+type-child (leaf l x) o h = elim h [ inl p ↦ false-true refl (rw p at o.0) | inr p ↦ false-true refl (rw p at o.0) ]
+type-child (node s f) o h = elim h [
+  | inl p ↦ inl (subst (λ (n : ℕ). root (build n (shows f)) ≡ NAMED_TYPE) (sym p) label-named_type)
+  | inr p ↦ inr (subst (λ (n : ℕ). root (build n (shows f)) ≡ LIST_TYPE) (sym p) label-list_type)
+]
+
+pub type-root : (f : Forest) → OkFrom TYPE 0 f
+    → (root (type_of (shows f)) ≡ NAMED_TYPE) ⊎ (root (type_of (shows f)) ≡ LIST_TYPE) ⊎ (root (type_of (shows f)) ≡ NON_NULL_TYPE)
+type-root none o = false-true type-end o
+type-root (t ▸ none) o = elim (type-child t o.1 (type-arc (root t) o.0)) [ inl p ↦ inl p | inr p ↦ inr (inl p) ]
+type-root (t ▸ (u ▸ f)) o = inr (inr refl)
+
+pub shown-root : (t : Tree) → Ok t → member (root (show t)) (shown (root t)) ≡ true
+shown-root (leaf l x) o = shown-one l (leaf-no-type l o.0)
+shown-root (node s f) o = elim (either (eqb s TYPE)) [
+  | inl p ↦ (let e : s ≡ TYPE = eqb-true s TYPE p in subst (λ (n : ℕ). member (root (build n (shows f))) (shown n) ≡ true) (sym e) (shown-type (root (type_of (shows f))) (type-root f (subst (λ (n : ℕ). OkFrom n 0 f) e o.1))))
+  | inr p ↦ rw p (shown-one s p)
+]
+
+pub kinds-at : (ks : List ℕ) (t : ℕ → Bool) (j : ℕ) → all_kinds ks t ≡ true → member j ks ≡ true → t j ≡ true
+unfolding member
+kinds-at [] t j h m = absurd (true≢false (sym m))
+kinds-at (k ∷ ks) t j h m = elim (either (eqb k j)) [
+  | inl p ↦ subst (λ (n : ℕ). t n ≡ true) (eqb-true k j p) (and-l _ _ h)
+  | inr p ↦ kinds-at ks t j (and-r _ _ h) (rw p at m)
+]
+
+pub has-live : (s q k : ℕ) → has s q k ≡ true → Live (at s q)
+unfolding has arcs
+has-live s q k h = inr (k, h)
+
+pub ends-live : (s q : ℕ) → ends s q ≡ true → Live (at s q)
+unfolding ends
+ends-live s q h = inl h
+
+-- What the agreement says of the end, of an arc, and of a kind.
+agree-end : (s q : ℕ) → agree_at s q ≡ true → ends s q ≡ true → nullable (pattern_of s q) ≡ true
+unfolding agree_at
+agree-end s q a e = elim (either (nullable (pattern_of s q))) [
+  | inl p ↦ p
+  | inr p ↦ (let c = and-l _ _ (and-l _ _ a) in false-true refl (rw (p, e) at c))
+]
+
+pub agree-end-from : (s q : ℕ) → agree_at s q ≡ true → nullable (pattern_of s q) ≡ true → ends s q ≡ true
+unfolding agree_at
+agree-end-from s q a e = (let c = and-l _ _ (and-l _ _ a) in rw e at c)
+
+pub agree-arc : (s q j : ℕ) (u : Tree) → agree_at s q ≡ true → has s q (root u) ≡ true → Ok u → member j (shown (root u)) ≡ true
+    → deriv (pattern_of s q) j ≡ pattern_of s (target s q (root u) + finish u)
+unfolding agree_at has target
+agree-arc s q j u a h o m =
+    let c = arcs-at (arcs s q) (λ k p. all_kinds (shown k) (λ j. exits k (λ x. pattern_eq (deriv (pattern_of s q) j) (pattern_of s (p + x))))) (root u) (and-r _ _ (and-l _ _ a)) h in
+    let d = kinds-at (shown (root u)) (λ j. exits (root u) (λ x. pattern_eq (deriv (pattern_of s q) j) (pattern_of s (target_in (arcs s q) (root u) + x)))) j c m in
+    pattern-same _ _ (exits-at u (λ x. pattern_eq (deriv (pattern_of s q) j) (pattern_of s (target_in (arcs s q) (root u) + x))) d o)
+
+pub agree-kind : (s q j : ℕ) → agree_at s q ≡ true → member j (begin_kinds (pattern_of s q)) ≡ true
+    → ((constant s and eqb j VARIABLE) or any_arcs (arcs s q) (λ k p. member j (shown k))) ≡ true
+unfolding agree_at
+agree-kind s q j a m = kinds-at (begin_kinds (pattern_of s q)) (λ j. (constant s and eqb j VARIABLE) or any_arcs (arcs s q) (λ k p. member j (shown k))) j (and-r _ _ a) m
+
+pub row-shown : (s q : ℕ) (f : Forest) → is_leaf s ≡ false → OkFrom s q f → Matches (pattern_of s q) (kinds (shows f))
+row-shown s q none l o = nullable-from (pattern_of s q) (agree-end s q (agree s q l (ends-live s q o)) o)
+row-shown s q (t ▸ f) l o =
+    let m : Matches (pattern_of s (target s q (root t) + finish t)) (kinds (shows f)) = row-shown s (target s q (root t) + finish t) f l o.2 in
+    let d : deriv (pattern_of s q) (root (show t)) ≡ pattern_of s (target s q (root t) + finish t) = agree-arc s q (root (show t)) t (agree s q l (has-live s q (root t) o.0)) o.0 o.1 (shown-root t o.1) in
+    from-deriv (pattern_of s q) (root (show t)) (kinds (shows f)) (subst (λ (p : Pattern). Matches p (kinds (shows f))) (sym d) m)

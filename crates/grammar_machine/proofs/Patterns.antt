@@ -1,0 +1,279 @@
+-- The patterns' derivatives, and the test that the automata are those of the patterns.
+use Rattle.std.proofs.Common.{◌≡◌, ℕ, suc, ◌+◌, ◌-◌, Bool, true, false, cond, not, eqb, ltb, List, [], ◌∷◌, ◌++◌, get_or, refl, sym, ap, ◌∙◌, subst, ◌⊎◌, inl, inr, true≢false, append_assoc}
+use Rattle.document_grammar.specs.Pattern.{Pattern, any_of, nothing, ◌then◌, ◌or_else◌, many, one, maybe, member, Repeats, stop, again, Matches}
+use Rattle.document_grammar.specs.Rows.{Row, keyword_operation, bare_selections}
+use Rattle.grammar_machine.specs.Table.{State, rows}
+use Rattle.grammar_machine.specs.Labels.{paths, labels}
+use Rattle.document_grammar.specs.Booleans.{◌and◌, ◌or◌}
+use Rattle.grammar_machine.specs.Machine.{is_leaf, at, ends, exit, arcs}
+use Rattle.grammar_machine.proofs.Checks.{all_arcs, exits}
+use Rattle.document_grammar.proofs.Booleans.{and-l, and-r, or-c, or-l, or-r, either}
+use Rattle.grammar_machine.proofs.TableLemmas.{head-same, tail-same, no-cons}
+use Rattle.document_grammar.specs.Kinds.{OPERATION_DEFINITION, SELECTION_SET, VARIABLE, DEFAULT_VALUE, NAMED_TYPE, LIST_TYPE, NON_NULL_TYPE}
+use Rattle.grammar_machine.specs.Symbols.{TYPE, SHORT_QUERY, BARE_SELECTIONS}
+
+abbrev is_never : Pattern → Bool
+is_never (any_of []) = true
+is_never (any_of (k ∷ ks)) = false
+is_never nothing = false
+is_never (p then q) = false
+is_never (p or_else q) = false
+is_never (many p) = false
+
+abbrev alt : Pattern → Pattern → Pattern
+alt p q = cond (is_never p) q (cond (is_never q) p (p or_else q))
+
+abbrev seq : Pattern → Pattern → Pattern
+seq (any_of []) q = any_of []
+seq (any_of (k ∷ ks)) q = any_of (k ∷ ks) then q
+seq nothing q = q
+seq (a then b) q = a then (b then q)
+seq (a or_else b) q = (a or_else b) then q
+seq (many p) q = many p then q
+
+abbrev pub nullable : Pattern → Bool
+nullable (any_of ks) = false
+nullable nothing = true
+nullable (p then q) = nullable p and nullable q
+nullable (p or_else q) = nullable p or nullable q
+nullable (many p) = true
+
+abbrev pub deriv : Pattern → ℕ → Pattern
+deriv (any_of ks) k = cond (member k ks) nothing (any_of [])
+deriv nothing k = any_of []
+deriv (p then q) k = cond (nullable p) (alt (seq (deriv p k) q) (deriv q k)) (seq (deriv p k) q)
+deriv (p or_else q) k = alt (deriv p k) (deriv q k)
+deriv (many p) k = seq (deriv p k) (many p)
+
+abbrev pub kinds_eq : List ℕ → List ℕ → Bool
+kinds_eq [] [] = true
+kinds_eq [] (b ∷ bs) = false
+kinds_eq (a ∷ more) [] = false
+kinds_eq (a ∷ more) (b ∷ bs) = eqb a b and kinds_eq more bs
+
+abbrev pub pattern_eq : Pattern → Pattern → Bool
+pattern_eq (any_of ks) (any_of ls) = kinds_eq ks ls
+pattern_eq nothing nothing = true
+pattern_eq (p then q) (r then s) = pattern_eq p r and pattern_eq q s
+pattern_eq (p or_else q) (r or_else s) = pattern_eq p r and pattern_eq q s
+pattern_eq (many p) (many q) = pattern_eq p q
+pattern_eq _ _ = false
+
+abbrev pub derive_all : Pattern → List ℕ → Pattern
+derive_all p [] = p
+derive_all p (k ∷ ks) = derive_all (deriv p k) ks
+
+abbrev pub begin_kinds : Pattern → List ℕ
+begin_kinds (any_of ks) = ks
+begin_kinds nothing = []
+begin_kinds (p then q) = cond (nullable p) (begin_kinds p ++ begin_kinds q) (begin_kinds p)
+begin_kinds (p or_else q) = begin_kinds p ++ begin_kinds q
+begin_kinds (many p) = begin_kinds p
+
+-- The pattern of a symbol's row, in the kinds as which the symbols are shown.
+unfoldable pub label : ℕ → ℕ
+label k = get_or labels k 0
+
+unfoldable pub symbol_row : ℕ → Pattern
+unfolding label
+symbol_row s = cond (eqb s OPERATION_DEFINITION) keyword_operation (cond (eqb s SHORT_QUERY) (one SELECTION_SET) (cond (eqb s BARE_SELECTIONS) bare_selections (Row (label s))))
+
+-- A type without its node: what the node of NON_NULL_TYPE holds, or the one type.
+abbrev pub type_row : Pattern
+type_row = any_of (NAMED_TYPE ∷ LIST_TYPE ∷ []) then maybe (one 4)
+
+unfoldable pub pattern_of : ℕ → ℕ → Pattern
+unfolding symbol_row
+pattern_of s q = derive_all (cond (eqb s TYPE) type_row (symbol_row s)) (get_or (get_or paths (s - 60) []) q [])
+
+-- The kinds as which a child's symbol is shown: a type is one of three.
+unfoldable pub shown : ℕ → List ℕ
+unfolding label
+shown k = cond (eqb k TYPE) (NAMED_TYPE ∷ LIST_TYPE ∷ NON_NULL_TYPE ∷ []) (label k ∷ [])
+
+abbrev pub all_kinds : List ℕ → (ℕ → Bool) → Bool
+all_kinds [] t = true
+all_kinds (k ∷ ks) t = t k and all_kinds ks t
+
+abbrev pub any_arcs : List (ℕ × ℕ) → (ℕ → ℕ → Bool) → Bool
+any_arcs [] t = false
+any_arcs (a ∷ more) t = t a.0 a.1 or any_arcs more t
+
+-- The symbols of constant places: DEFAULT_VALUE, and the copies below it and below marked DIRECTIVES.
+unfoldable pub constant : ℕ → Bool
+constant s = eqb s DEFAULT_VALUE or (ltb 123 s and ltb s 131)
+
+-- The state `q` of `s` and its pattern agree: on the end, along each arc, and each kind that the pattern may begin with has an arc.
+unfoldable pub agree_at : ℕ → ℕ → Bool
+agree_at s q = cond (nullable (pattern_of s q)) (ends s q) (not (ends s q))
+    and all_arcs (arcs s q) (λ k p. all_kinds (shown k) (λ j. exits k (λ x. pattern_eq (deriv (pattern_of s q) j) (pattern_of s (p + x)))))
+    and all_kinds (begin_kinds (pattern_of s q)) (λ j. (constant s and eqb j VARIABLE) or any_arcs (arcs s q) (λ k p. member j (shown k)))
+
+abbrev pub agree_states : ℕ → ℕ → List State → Bool
+agree_states s q [] = true
+agree_states s q (v ∷ more) = agree_at s q and agree_states s (suc q) more
+
+abbrev pub agree_rows : ℕ → List (List State) → Bool
+agree_rows s [] = true
+agree_rows s (r ∷ more) = agree_states s 0 r and agree_rows (suc s) more
+
+pub agree_checked : agree_rows 60 rows ≡ true
+unfolding agree_at constant shown pattern_of symbol_row label ◌and◌ ◌or◌ is_leaf at ends exit arcs rows exits paths labels Row member
+agree_checked = refl
+
+-- Derivatives.
+never-none : {A : Type 0} (w : List ℕ) → Matches (any_of []) w → A
+unfolding member
+never-none w h = absurd (true≢false (sym h.1))
+
+never-matches : (p : Pattern) (w : List ℕ) → is_never p ≡ true → Matches p w → ⊥
+never-matches (any_of []) w e h = never-none w h
+never-matches (any_of (k ∷ ks)) w e h = true≢false (sym e)
+never-matches nothing w e h = true≢false (sym e)
+never-matches (p then q) w e h = true≢false (sym e)
+never-matches (p or_else q) w e h = true≢false (sym e)
+never-matches (many p) w e h = true≢false (sym e)
+
+alt-to : (p q : Pattern) (w : List ℕ) → Matches p w ⊎ Matches q w → Matches (alt p q) w
+alt-to p q w h = elim (either (is_never p)) [
+  | inl e ↦ (let m : Matches q w = elim h [ inl x ↦ absurd (never-matches p w e x) | inr x ↦ x ] in subst (λ (b : Bool). Matches (cond b q (cond (is_never q) p (p or_else q))) w) (sym e) m)
+  | inr e ↦ subst (λ (b : Bool). Matches (cond b q (cond (is_never q) p (p or_else q))) w) (sym e) (elim (either (is_never q)) [
+    | inl f ↦ (let m : Matches p w = elim h [ inl x ↦ x | inr x ↦ absurd (never-matches q w f x) ] in subst (λ (b : Bool). Matches (cond b p (p or_else q)) w) (sym f) m)
+    | inr f ↦ subst (λ (b : Bool). Matches (cond b p (p or_else q)) w) (sym f) h
+  ])
+]
+
+alt-from : (p q : Pattern) (w : List ℕ) → Matches (alt p q) w → Matches p w ⊎ Matches q w
+alt-from p q w h = elim (either (is_never p)) [
+  | inl e ↦ inr (subst (λ (b : Bool). Matches (cond b q (cond (is_never q) p (p or_else q))) w) e h)
+  | inr e ↦ (let h' : Matches (cond (is_never q) p (p or_else q)) w = subst (λ (b : Bool). Matches (cond b q (cond (is_never q) p (p or_else q))) w) e h in elim (either (is_never q)) [
+    | inl f ↦ inl (subst (λ (b : Bool). Matches (cond b p (p or_else q)) w) f h')
+    | inr f ↦ subst (λ (b : Bool). Matches (cond b p (p or_else q)) w) f h'
+  ])
+]
+
+seq-to : (p q : Pattern) (w : List ℕ) → Matches (p then q) w → Matches (seq p q) w
+seq-to (any_of []) q w h = never-none h.0 h.3
+seq-to (any_of (k ∷ ks)) q w h = h
+seq-to nothing q w h = let e : w ≡ h.1 = h.2 ∙ ap (λ (v : List ℕ). v ++ h.1) h.3 in subst (λ (v : List ℕ). Matches q v) (sym e) h.4
+seq-to (a then b) q w h = (h.3.0, h.3.1 ++ h.1, h.2 ∙ (ap (λ (v : List ℕ). v ++ h.1) h.3.2 ∙ append_assoc h.3.0 h.3.1 h.1), h.3.3, (h.3.1, h.1, refl, h.3.4, h.4))
+seq-to (a or_else b) q w h = h
+seq-to (many p) q w h = h
+
+seq-from : (p q : Pattern) (w : List ℕ) → Matches (seq p q) w → Matches (p then q) w
+seq-from (any_of []) q w h = never-none w h
+seq-from (any_of (k ∷ ks)) q w h = h
+seq-from nothing q w h = ([], w, refl, refl, h)
+seq-from (a then b) q w h = (h.0 ++ h.4.0, h.4.1, h.2 ∙ (ap (λ (v : List ℕ). h.0 ++ v) h.4.2 ∙ sym (append_assoc h.0 h.4.0 h.4.1)), (h.0, h.4.0, refl, h.3, h.4.3), h.4.4)
+seq-from (a or_else b) q w h = h
+seq-from (many p) q w h = h
+
+nil-l : (u v : List ℕ) → [] ≡ u ++ v → (u ≡ []) × (v ≡ [])
+nil-l [] v e = (refl, sym e)
+nil-l (k ∷ u) v e = absurd (cc)
+
+pub nullable-to : (p : Pattern) → Matches p [] → nullable p ≡ true
+unfolding ◌and◌ ◌or◌
+nullable-to (any_of ks) h = absurd (no-nil h.0 h.2)
+  where
+    no-nil : (k : ℕ) → [] ≡ k ∷ [] → ⊥
+    no-nil k e = cc
+nullable-to nothing h = refl
+nullable-to (p then q) h =
+    let e = nil-l h.0 h.1 h.2 in
+    rw (nullable-to p (subst (λ (v : List ℕ). Matches p v) e.0 h.3)) (nullable-to q (subst (λ (v : List ℕ). Matches q v) e.1 h.4))
+nullable-to (p or_else q) h = elim h [ inl x ↦ or-l _ _ (nullable-to p x) | inr x ↦ or-r _ _ (nullable-to q x) ]
+nullable-to (many p) h = refl
+
+pub nullable-from : (p : Pattern) → nullable p ≡ true → Matches p []
+nullable-from (any_of ks) h = absurd (true≢false (sym h))
+nullable-from nothing h = refl
+nullable-from (p then q) h = ([], [], refl, nullable-from p (and-l _ _ h), nullable-from q (and-r _ _ h))
+nullable-from (p or_else q) h = elim (or-c _ _ h) [ inl x ↦ inl (nullable-from p x) | inr x ↦ inr (nullable-from q x) ]
+nullable-from (many p) h = stop
+
+-- The rest of a repetition behind its first child.
+rest-split : (p : Pattern) (k : ℕ) (w u v : List ℕ) → ((v : List ℕ) → Matches p (k ∷ v) → Matches (deriv p k) v) → Matches p u → Repeats (Matches p) v
+    → u ++ v ≡ k ∷ w → (v ≡ k ∷ w → Matches (deriv p k then many p) w) → Matches (deriv p k then many p) w
+rest-split p k w [] v d m r e ih = ih e
+rest-split p k w (a ∷ u) v d m r e ih = (u, v, sym (tail-same e), d u (subst (λ (n : ℕ). Matches p (n ∷ u)) (head-same e) m), r)
+
+rest-of : (p : Pattern) (k : ℕ) (w : List ℕ) (d : (v : List ℕ) → Matches p (k ∷ v) → Matches (deriv p k) v) {x : List ℕ} → Repeats (Matches p) x
+    → x ≡ k ∷ w → Matches (deriv p k then many p) w
+rest-of p k w d stop e = no-cons e
+rest-of p k w d (again {u = u} {v = v} m r f) e = rest-split p k w u v d m r (sym f ∙ e) (λ e'. rest-of p k w d r e')
+
+then-at : (p q : Pattern) (k : ℕ) (w : List ℕ) (b : Bool) → nullable p ≡ b
+    → Matches (cond b (alt (seq (deriv p k) q) (deriv q k)) (seq (deriv p k) q)) w → Matches (deriv (p then q) k) w
+then-at p q k w b e m = subst (λ (z : Bool). Matches (cond z (alt (seq (deriv p k) q) (deriv q k)) (seq (deriv p k) q)) w) (sym e) m
+
+then-to : (p q : Pattern) (k : ℕ) (w u v : List ℕ) → k ∷ w ≡ u ++ v → Matches p u → Matches q v
+    → ((u' : List ℕ) → Matches p (k ∷ u') → Matches (deriv p k) u') → (Matches q (k ∷ w) → Matches (deriv q k) w) → Matches (deriv (p then q) k) w
+then-to p q k w [] v e m n dp dq = then-at p q k w true (nullable-to p m) (alt-to (seq (deriv p k) q) (deriv q k) w (inr (dq (subst (λ (z : List ℕ). Matches q z) (sym e) n))))
+then-to p q k w (a ∷ u) v e m n dp dq =
+    let s : Matches (seq (deriv p k) q) w = seq-to (deriv p k) q w (u, v, tail-same e, dp u (subst (λ (z : ℕ). Matches p (z ∷ u)) (sym (head-same e)) m), n) in
+    elim (either (nullable p)) [
+      | inl b ↦ then-at p q k w true b (alt-to (seq (deriv p k) q) (deriv q k) w (inl s))
+      | inr b ↦ then-at p q k w false b s
+    ]
+
+pub to-deriv : (p : Pattern) (k : ℕ) (w : List ℕ) → Matches p (k ∷ w) → Matches (deriv p k) w
+to-deriv (any_of ks) k w h = subst (λ (b : Bool). Matches (cond b nothing (any_of [])) w) (sym (subst (λ (n : ℕ). member n ks ≡ true) (sym (head-same h.2)) h.1)) (tail-same h.2)
+to-deriv nothing k w h = no-cons (sym h)
+to-deriv (p then q) k w h = then-to p q k w h.0 h.1 h.2 h.3 h.4 (λ u m. to-deriv p k u m) (λ m. to-deriv q k w m)
+to-deriv (p or_else q) k w h = alt-to (deriv p k) (deriv q k) w (elim h [ inl x ↦ inl (to-deriv p k w x) | inr x ↦ inr (to-deriv q k w x) ])
+to-deriv (many p) k w h = seq-to (deriv p k) (many p) w (rest-of p k w (λ v m. to-deriv p k v m) h refl)
+
+pub from-deriv : (p : Pattern) (k : ℕ) (w : List ℕ) → Matches (deriv p k) w → Matches p (k ∷ w)
+from-deriv (any_of ks) k w h = elim (either (member k ks)) [
+  | inl e ↦ (let n : w ≡ [] = subst (λ (b : Bool). Matches (cond b nothing (any_of [])) w) e h in (k, e, ap (λ (v : List ℕ). k ∷ v) n))
+  | inr e ↦ never-none w (subst (λ (b : Bool). Matches (cond b nothing (any_of [])) w) e h)
+]
+from-deriv nothing k w h = never-none w h
+from-deriv (p then q) k w h = then-from (either (nullable p)) (λ u m. from-deriv p k u m) (λ m. from-deriv q k w m)
+  where
+    first-part : Matches (seq (deriv p k) q) w → ((u : List ℕ) → Matches (deriv p k) u → Matches p (k ∷ u)) → Matches (p then q) (k ∷ w)
+    first-part m dp = let s = seq-from (deriv p k) q w m in (k ∷ s.0, s.1, ap (λ (v : List ℕ). k ∷ v) s.2, dp s.0 s.3, s.4)
+
+    then-from : (nullable p ≡ true) ⊎ (nullable p ≡ false) → ((u : List ℕ) → Matches (deriv p k) u → Matches p (k ∷ u))
+        → (Matches (deriv q k) w → Matches q (k ∷ w)) → Matches (p then q) (k ∷ w)
+    then-from (inl e) dp dq =
+        let m : Matches (alt (seq (deriv p k) q) (deriv q k)) w = subst (λ (z : Bool). Matches (cond z (alt (seq (deriv p k) q) (deriv q k)) (seq (deriv p k) q)) w) e h in
+        elim (alt-from (seq (deriv p k) q) (deriv q k) w m) [
+          | inl x ↦ first-part x dp
+          | inr x ↦ ([], k ∷ w, refl, nullable-from p e, dq x)
+        ]
+    then-from (inr e) dp dq = first-part (subst (λ (z : Bool). Matches (cond z (alt (seq (deriv p k) q) (deriv q k)) (seq (deriv p k) q)) w) e h) dp
+from-deriv (p or_else q) k w h = elim (alt-from (deriv p k) (deriv q k) w h) [ inl x ↦ inl (from-deriv p k w x) | inr x ↦ inr (from-deriv q k w x) ]
+from-deriv (many p) k w h = let s = seq-from (deriv p k) (many p) w h in again (from-deriv p k s.0 s.3) s.4 (ap (λ (v : List ℕ). k ∷ v) s.2)
+
+-- A first kind is one of the first kinds.
+member-l : (k : ℕ) (ks ls : List ℕ) → member k ks ≡ true → member k (ks ++ ls) ≡ true
+unfolding member
+member-l k [] ls h = absurd (true≢false (sym h))
+member-l k (a ∷ ks) ls h = elim (either (eqb a k)) [ inl p ↦ rw p refl | inr p ↦ rw p (member-l k ks ls (rw p at h)) ]
+
+member-r : (k : ℕ) (ks ls : List ℕ) → member k ls ≡ true → member k (ks ++ ls) ≡ true
+unfolding member
+member-r k [] ls h = h
+member-r k (a ∷ ks) ls h = elim (either (eqb a k)) [ inl p ↦ rw p refl | inr p ↦ rw p (member-r k ks ls h) ]
+
+pub first-kind : (p : Pattern) (k : ℕ) (w : List ℕ) → Matches (deriv p k) w → member k (begin_kinds p) ≡ true
+first-kind (any_of ks) k w h = elim (either (member k ks)) [ inl e ↦ e | inr e ↦ never-none w (subst (λ (b : Bool). Matches (cond b nothing (any_of [])) w) e h) ]
+first-kind nothing k w h = never-none w h
+first-kind (p then q) k w h = then-first (either (nullable p)) (λ u m. first-kind p k u m) (λ m. first-kind q k w m)
+  where
+    then-first : (nullable p ≡ true) ⊎ (nullable p ≡ false) → ((u : List ℕ) → Matches (deriv p k) u → member k (begin_kinds p) ≡ true)
+        → (Matches (deriv q k) w → member k (begin_kinds q) ≡ true)
+        → member k (cond (nullable p) (begin_kinds p ++ begin_kinds q) (begin_kinds p)) ≡ true
+    then-first (inl e) dp dq =
+        let m : Matches (alt (seq (deriv p k) q) (deriv q k)) w = subst (λ (z : Bool). Matches (cond z (alt (seq (deriv p k) q) (deriv q k)) (seq (deriv p k) q)) w) e h in
+        rw e (elim (alt-from (seq (deriv p k) q) (deriv q k) w m) [
+          | inl x ↦ (let s = seq-from (deriv p k) q w x in member-l k (begin_kinds p) (begin_kinds q) (dp s.0 s.3))
+          | inr x ↦ member-r k (begin_kinds p) (begin_kinds q) (dq x)
+        ])
+    then-first (inr e) dp dq =
+        let s = seq-from (deriv p k) q w (subst (λ (z : Bool). Matches (cond z (alt (seq (deriv p k) q) (deriv q k)) (seq (deriv p k) q)) w) e h) in
+        rw e (dp s.0 s.3)
+first-kind (p or_else q) k w h = elim (alt-from (deriv p k) (deriv q k) w h) [ inl x ↦ member-l k (begin_kinds p) (begin_kinds q) (first-kind p k w x) | inr x ↦ member-r k (begin_kinds p) (begin_kinds q) (first-kind q k w x) ]
+first-kind (many p) k w h = let s = seq-from (deriv p k) (many p) w h in first-kind p k s.0 s.3

@@ -1,0 +1,209 @@
+-- A tree of the tables keeps the rules on leaves and names.
+use Rattle.std.proofs.Common.{◌≡◌, ◌≢◌, ℕ, zero, suc, ◌+◌, ◌-◌, ◌<◌, ◌^◌, Bool, true, false, cond, not, eqb, ltb, List, [], ◌∷◌, ◌++◌, get_or, refl, sym, ap, ap₂, ◌∙◌, subst, inl, inr, true≢false, append-nil, arith, eqb-true, lt-ltb}
+use Rattle.std.proofs.lemmas.Bool.{eqb-false}
+use Rattle.document_grammar.specs.Tree.{Text, Tree, leaf, node, Forest, none, ◌▸◌, root}
+use Rattle.document_grammar.specs.Pattern.{Pattern, any_of, one, Matches}
+use Rattle.document_grammar.specs.Rows.{Row, keyword_operation, bare_selections}
+use Rattle.grammar_machine.specs.Table.{rows, firsts, name_leaves}
+use Rattle.grammar_machine.specs.Labels.{paths, labels}
+use Rattle.document_grammar.specs.Booleans.{◌and◌, ◌or◌}
+use Rattle.grammar_machine.specs.Machine.{holds, is_leaf, at, arcs, has, entries, fires, class, word_class, text_eq, token, Ok, OkFrom}
+use Rattle.document_grammar.specs.Derivation.{kinds, text, texts, Listed, LeafRule, NameRule, on_text, true_text, false_text, null_text}
+use Rattle.grammar_machine.proofs.Checks.{all_entries, all_below}
+use Rattle.document_grammar.proofs.Booleans.{false-true, and-l, and-r, or-c, either, implies}
+use Rattle.grammar_machine.proofs.TableLemmas.{tail-same, no-cons, below-at}
+use Rattle.grammar_machine.proofs.Sound.{fired, holds-one, leaf-lt}
+use Rattle.grammar_machine.proofs.Patterns.{derive_all, pattern_of, symbol_row, label}
+use Rattle.grammar_machine.proofs.FromMachineTree.{show, shows, row-shown, show-root}
+use Rattle.document_grammar.specs.Kinds.{words, OPERATION_DEFINITION, SELECTION_SET, NAME, FRAGMENT_NAME, ENUM_VALUE}
+use Rattle.grammar_machine.specs.Symbols.{TYPE, SHORT_QUERY, NAME_FOR_FRAGMENT, NAME_FOR_ENUM, BARE_SELECTIONS}
+
+-- Tests over the labels and the leaves.
+abbrev pub all_at : List ℕ → ℕ → (ℕ → ℕ → Bool) → Bool
+all_at [] n t = true
+all_at (v ∷ more) n t = t n v and all_at more (suc n) t
+
+pub at-label : (l : List ℕ) (n i : ℕ) (t : ℕ → ℕ → Bool) → all_at l n t ≡ true → t (n + i) 0 ≡ true → t (n + i) (get_or l i 0) ≡ true
+at-label [] n i t h d = d
+at-label (v ∷ more) n zero t h d = let e : n + 0 ≡ n = omega arith in rw e (and-l _ _ h)
+at-label (v ∷ more) n (suc i) t h d = let e : n + suc i ≡ suc n + i = omega arith in rw e (at-label more (suc n) i t (and-r _ _ h) (rw e at d))
+
+pub zero-plus : (q : ℕ) → 0 + q ≡ q
+zero-plus q = omega arith
+
+-- Where one symbol alone has the label.
+abbrev alone : ℕ → ℕ → ℕ → Bool
+alone j i v = not (eqb v j) or eqb i j
+
+pub label-alone : (j s : ℕ) → all_at labels 0 (alone j) ≡ true → eqb 0 j ≡ false → label s ≡ j → s ≡ j
+unfolding label ◌or◌
+label-alone j s h z e =
+    let c : alone j s (get_or labels s 0) ≡ true = subst (λ (n : ℕ). alone j n (get_or labels s 0) ≡ true) (zero-plus s) (at-label labels 0 s (alone j) h (rw z refl)) in
+    let q : eqb (get_or labels s 0) j ≡ true = rw e (eqb-self j) in
+    eqb-true s j (implies _ _ c q)
+  where
+    eqb-self : (k : ℕ) → eqb k k ≡ true
+    eqb-self k = elim (either (eqb k k)) [ inl p ↦ p | inr p ↦ absurd (eqb-false k k p refl) ]
+
+pub label-fragment_name : (s : ℕ) → label s ≡ FRAGMENT_NAME → s ≡ FRAGMENT_NAME
+unfolding labels ◌and◌ ◌or◌
+label-fragment_name s e = label-alone FRAGMENT_NAME s refl refl e
+
+pub label-enum_value : (s : ℕ) → label s ≡ ENUM_VALUE → s ≡ ENUM_VALUE
+unfolding labels ◌and◌ ◌or◌
+label-enum_value s e = label-alone ENUM_VALUE s refl refl e
+
+-- The row of a symbol.
+abbrev first_empty : List (List (List ℕ)) → Bool
+first_empty [] = true
+first_empty ([] ∷ more) = first_empty more
+first_empty (([] ∷ r) ∷ more) = first_empty more
+first_empty (((a ∷ v) ∷ r) ∷ more) = false
+
+first-path : (l : List (List (List ℕ))) (n : ℕ) → first_empty l ≡ true → get_or (get_or l n []) 0 [] ≡ []
+first-path [] n h = refl
+first-path ([] ∷ more) zero h = refl
+first-path (([] ∷ r) ∷ more) zero h = refl
+first-path (((a ∷ v) ∷ r) ∷ more) n h = absurd (true≢false (sym h))
+first-path ([] ∷ more) (suc n) h = first-path more n h
+first-path (([] ∷ r) ∷ more) (suc n) h = first-path more n h
+
+paths-start : first_empty paths ≡ true
+unfolding paths
+paths-start = refl
+
+pub start-pattern : (s : ℕ) → eqb s TYPE ≡ false → pattern_of s 0 ≡ symbol_row s
+unfolding pattern_of
+start-pattern s e = rw e (ap (derive_all (symbol_row s)) (first-path paths (s - 60) paths-start))
+
+pub symbol-row : (s : ℕ) (w : List ℕ) → eqb s BARE_SELECTIONS ≡ false → Matches (symbol_row s) w → Matches (Row (label s)) w
+unfolding symbol_row label labels Row
+symbol-row s w e h = elim (either (eqb s OPERATION_DEFINITION)) [
+  | inl p ↦ (let m : Matches keyword_operation w = rw p at h in let n : s ≡ OPERATION_DEFINITION = eqb-true s OPERATION_DEFINITION p in subst (λ (k : ℕ). Matches (Row (get_or labels k 0)) w) (sym n) (inr m))
+  | inr p ↦ (let h' : Matches (cond (eqb s SHORT_QUERY) (one SELECTION_SET) (cond (eqb s BARE_SELECTIONS) bare_selections (Row (get_or labels s 0)))) w = rw p at h in
+      elim (either (eqb s SHORT_QUERY)) [
+        | inl q ↦ (let m : Matches (one SELECTION_SET) w = rw q at h' in let n : s ≡ SHORT_QUERY = eqb-true s SHORT_QUERY q in subst (λ (k : ℕ). Matches (Row (get_or labels k 0)) w) (sym n) (inl m))
+        | inr q ↦ rw (q, e) at h'
+      ])
+]
+
+-- Leaves.
+pub text-same : (a b : Text) → text_eq a b ≡ true → a ≡ b
+text-same [] [] h = refl
+text-same [] (b ∷ bs) h = absurd (true≢false (sym h))
+text-same (a ∷ x) [] h = absurd (true≢false (sym h))
+text-same (a ∷ x) (b ∷ y) h = ap₂ (λ u v. u ∷ v) (eqb-true a b (and-l _ _ h)) (text-same x y (and-r _ _ h))
+
+pub listed : (ws : List (ℕ × Text)) (l : ℕ) (x : Text) → word_class ws x ≡ l → (l ≡ 18 → ⊥) → Listed ws l x
+listed [] l x e n = absurd (n (sym e))
+listed (w ∷ more) l x e n = elim (either (text_eq w.1 x)) [
+  | inl p ↦ inl (rw p at e, text-same w.1 x p)
+  | inr p ↦ inr (listed more l x (rw p at e) n)
+]
+
+abbrev keyword_test : ℕ → Bool
+keyword_test l = not (ltb 21 (label l)) or (eqb (label l) l and holds l name_leaves and all_entries (entries l) (λ x y a. eqb x (2 ^ l)))
+
+keywords-checked : all_below 60 keyword_test ≡ true
+unfolding ◌and◌ ◌or◌ holds label labels entries firsts
+keywords-checked = refl
+
+pub keyword-class : (l : ℕ) (x : Text) → holds l name_leaves ≡ true → class (token l x) ≡ word_class words x
+unfolding class token
+keyword-class l x h = rw h refl
+
+above-string : (l : ℕ) → 21 < l → l ≡ 18 → ⊥
+above-string l h e = omega arith
+
+pub leaf-rule : (l : ℕ) (x : Text) → Ok (leaf l x) → LeafRule (label l) x
+unfolding fires
+leaf-rule l x o h =
+    let c = implies _ _ (below-at keyword_test 60 l (leaf-lt l o.0) keywords-checked) (lt-ltb _ _ h) in
+    let e : label l ≡ l = eqb-true _ _ (and-l _ _ (and-l _ _ c)) in
+    let d = fired (entries l) (λ x. eqb x (2 ^ l)) (class (token l x)) 0 (and-r _ _ c) o.1 in
+    let k : class (token l x) ≡ l = holds-one (class (token l x)) l (rw (eqb-true _ _ d.1) at d.2) in
+    let w : word_class words x ≡ label l = sym (keyword-class l x (and-r _ _ (and-l _ _ c))) ∙ (k ∙ sym e) in
+    listed words (label l) x w (above-string (label l) h)
+
+-- Names.
+pub one-tree : (f : Forest) (k : ℕ) → kinds (shows f) ≡ k ∷ [] → (t : Tree) × (f ≡ t ▸ none)
+one-tree none k e = no-cons e
+one-tree (t ▸ none) k e = (t, refl)
+one-tree (t ▸ (u ▸ f)) k e = no-cons (sym (tail-same e))
+
+-- A node whose row is one child of one kind has one child.
+pub single : (s k : ℕ) (f : Forest) → is_leaf s ≡ false → eqb s TYPE ≡ false → pattern_of s 0 ≡ any_of (k ∷ []) → OkFrom s 0 f
+    → (t : Tree) × (f ≡ t ▸ none)
+single s k f l e p o = let m : Matches (any_of (k ∷ [])) (kinds (shows f)) = subst (λ (q : Pattern). Matches q (kinds (shows f))) p (row-shown s 0 f l o) in one-tree f m.0 m.2
+
+-- A node of the symbol `s` whose row is the symbol `j` alone.
+pub only-arc : (s j k : ℕ) → arcs s 0 ≡ (j, 1) ∷ [] → has s 0 k ≡ true → k ≡ j
+unfolding has ◌or◌
+only-arc s j k e h = elim (or-c (eqb j k) false (rw e at h)) [ inl p ↦ sym (eqb-true j k p) | inr p ↦ absurd (true≢false (sym p)) ]
+
+no-leaf-root : {A : Type 0} (l j : ℕ) → is_leaf l ≡ true → l ≡ j → is_leaf j ≡ false → A
+no-leaf-root l j i e f = false-true f (rw e at i)
+
+NameLeaf : ℕ → Text → Type 0
+NameLeaf i y = (x : Text) × (y ≡ x) × (fires i (class (token i x)) 0 ≡ true)
+
+leaf-text : (i : ℕ) (u : Tree) → root u ≡ i → is_leaf i ≡ true → Ok u → NameLeaf i (text (show u))
+unfolding NameLeaf
+leaf-text i (leaf l x) e li o = (x, refl, rw e at o.1)
+leaf-text i (node s f) e li o = false-true o.0 (rw (sym e) at li)
+
+trim : (i : ℕ) (y : Text) → NameLeaf i y → NameLeaf i (y ++ [])
+unfolding NameLeaf
+trim i y h = (h.0, append-nil y ∙ h.1, h.2)
+
+inner-text : (j i : ℕ) (t : Tree) → root t ≡ j → is_leaf j ≡ false → eqb j TYPE ≡ false → pattern_of j 0 ≡ any_of (18 ∷ []) → arcs j 0 ≡ (i, 1) ∷ []
+    → is_leaf i ≡ true → Ok t → NameLeaf i (text (show t))
+inner-text j i (leaf l x) e lj ej pj aj li o = no-leaf-root l j o.0 e lj
+inner-text j i (node s g) e lj ej pj aj li o =
+    let g' : OkFrom j 0 g = subst (λ (n : ℕ). OkFrom n 0 g) e o.1 in
+    let c = single j 18 g lj ej pj g' in
+    let h : OkFrom j 0 (c.0 ▸ none) = subst (λ (z : Forest). OkFrom j 0 z) c.1 g' in
+    let n : NameLeaf i (text (show c.0) ++ []) = trim i (text (show c.0)) (leaf-text i c.0 (only-arc j i (root c.0) aj h.0) li h.1) in
+    subst (λ (z : Tree). NameLeaf i (text z)) (sym (show-root s g (subst (λ (z : ℕ). eqb z TYPE ≡ false) (sym e) ej)))
+    (subst (λ (z : Forest). NameLeaf i (texts (shows z))) (sym c.1) n)
+
+-- The text of a name node: its leaf is of the symbol `i`.
+name-leaf : (s j i : ℕ) (f : Forest) → is_leaf s ≡ false → eqb s TYPE ≡ false → pattern_of s 0 ≡ any_of (NAME ∷ []) → arcs s 0 ≡ (j, 1) ∷ []
+    → is_leaf j ≡ false → eqb j TYPE ≡ false → pattern_of j 0 ≡ any_of (18 ∷ []) → arcs j 0 ≡ (i, 1) ∷ [] → is_leaf i ≡ true → OkFrom s 0 f
+    → NameLeaf i (texts (shows f))
+name-leaf s j i f ls es ps as' lj ej pj aj li o =
+    let c = single s NAME f ls es ps o in
+    let h : OkFrom s 0 (c.0 ▸ none) = subst (λ (z : Forest). OkFrom s 0 z) c.1 o in
+    subst (λ (z : Forest). NameLeaf i (texts (shows z))) (sym c.1) (trim i (text (show c.0)) (inner-text j i c.0 (only-arc s j (root c.0) as' h.0) lj ej pj aj li h.1))
+
+on-refused : (x : Text) → fires 1 (class (token 1 x)) 0 ≡ true → x ≢ on_text
+unfolding fires class token entries firsts holds words ◌or◌ ◌and◌
+on-refused x h e = true≢false (sym (rw e at h))
+
+true-refused : (x : Text) → fires 2 (class (token 2 x)) 0 ≡ true → x ≢ true_text
+unfolding fires class token entries firsts holds words ◌or◌ ◌and◌
+true-refused x h e = true≢false (sym (rw e at h))
+
+false-refused : (x : Text) → fires 2 (class (token 2 x)) 0 ≡ true → x ≢ false_text
+unfolding fires class token entries firsts holds words ◌or◌ ◌and◌
+false-refused x h e = true≢false (sym (rw e at h))
+
+null-refused : (x : Text) → fires 2 (class (token 2 x)) 0 ≡ true → x ≢ null_text
+unfolding fires class token entries firsts holds words ◌or◌ ◌and◌
+null-refused x h e = true≢false (sym (rw e at h))
+
+fragment-leaf : (f : Forest) → OkFrom FRAGMENT_NAME 0 f → NameLeaf 1 (texts (shows f))
+unfolding is_leaf pattern_of symbol_row label labels Row paths arcs at rows
+fragment-leaf f o = name-leaf FRAGMENT_NAME NAME_FOR_FRAGMENT 1 f refl refl refl refl refl refl refl refl refl o
+
+enum-leaf : (f : Forest) → OkFrom ENUM_VALUE 0 f → NameLeaf 2 (texts (shows f))
+unfolding is_leaf pattern_of symbol_row label labels Row paths arcs at rows
+enum-leaf f o = name-leaf ENUM_VALUE NAME_FOR_ENUM 2 f refl refl refl refl refl refl refl refl refl o
+
+pub name-rule : (s : ℕ) (f : Forest) → OkFrom s 0 f → NameRule (label s) (shows f)
+unfolding NameLeaf
+name-rule s f o = (
+  (λ e t. let c = fragment-leaf f (subst (λ (n : ℕ). OkFrom n 0 f) (label-fragment_name s e) o) in on-refused c.0 c.2 (sym c.1 ∙ t)),
+  (λ e. let c = enum-leaf f (subst (λ (n : ℕ). OkFrom n 0 f) (label-enum_value s e) o) in
+      ((λ t. true-refused c.0 c.2 (sym c.1 ∙ t)), (λ t. false-refused c.0 c.2 (sym c.1 ∙ t)), (λ t. null-refused c.0 c.2 (sym c.1 ∙ t)))),
+)

@@ -1,0 +1,154 @@
+-- The theorems on sentences, for each sort of them.
+use Rattle.std.proofs.Common.{◌≡◌, ℕ, true, false, ◌+◌, ◌<◌, ◌≤◌, List, [], ◌∷◌, ◌++◌, map, sym, ap, ◌∙◌, subst, arith}
+use Rattle.document_grammar.specs.Sentence.{token_of, Sentence}
+use Rattle.document_grammar.proofs.Texts.{one-cut}
+use Rattle.lexical_grammar.specs.Cut.{Item, Significant}
+use Rattle.document_grammar.specs.Tree.{Token, Tree, node, Forest, none}
+use Rattle.grammar_machine.specs.Machine.{holds, is_leaf, first, second, yield, yields, opening, close, Frame, frame, Reach}
+use Rattle.document_grammar.specs.Derivation.{AllFit, Sort, Spells, Yield, nest, Starts, StartsWithin}
+use Rattle.grammar_machine.proofs.Run.{next, Left}
+use Rattle.grammar_machine.proofs.FromMachineTree.{show, shows}
+use Rattle.grammar_machine.proofs.Constants.{path-fits, show-yield, parse-sentence}
+use Rattle.grammar_machine.proofs.ToMachineTree.{derivation-read}
+use Rattle.grammar_machine.proofs.MachineTheorems.{Parse, one_tree, done, done-all, Fault, no_fault, no-leaf, can-end, on-the-way}
+use Rattle.grammar_machine.proofs.Sound.{any, Sound, reach-sound, AllSpelt, viable, spent, reach-spent}
+use Rattle.grammar_machine.proofs.Steps.{goes}
+use Rattle.grammar_machine.proofs.Starts.{opens, opens-by, first-same, read, next_one, next_two, after-one, after-two}
+use Rattle.grammar_machine.proofs.OneTokenLookahead.{Firm, firm-open, firm-left}
+use Rattle.grammar_machine.proofs.Peak.{peak, peak-end}
+use Rattle.grammar_machine.proofs.Depth.{count_in, depth_above, depth, left-depth, nest-show, nesting_all}
+
+-- The start symbol for the tokens.
+abbrev pub start_symbol : Sort → List Token → ℕ
+start_symbol sort w = opening sort (first w)
+
+-- A fault at the tokens `r` of `w`.
+abbrev pub FaultIn : Sort → List Token → List Token → Type 0
+FaultIn sort w r = Fault (start_symbol sort w) (opens sort (first w)) w r
+
+-- The machine has ended the root's node, with the children `f`, before the tokens `r`.
+abbrev pub Ended : Sort → List Token → Forest → List Token → Type 0
+Ended sort w f r = (q : ℕ) × Reach (start_symbol sort w) w (frame (start_symbol sort w) q f ∷ []) r × (next (start_symbol sort w) q r ≡ close)
+
+-- A sentence's tree is shown by a tree of the tables.
+abbrev Shown : Sort → List Token → Tree → Type 0
+Shown sort w t = (u : Tree) × Parse (start_symbol sort w) u w × (show u ≡ t)
+
+pub sentence-parse : (sort : Sort) (w : List Token) (t : Tree) → Spells w t sort → Shown sort w t
+sentence-parse sort w t h =
+    let d = derivation-read sort t h.0 in
+    let r = d.2 in
+    let y : yield r.0 ≡ w = sym (show-yield r.0 r.1) ∙ (ap Yield r.3 ∙ h.1) in
+    (r.0, (r.1, r.2 ∙ opens-by sort d.0 r.0 w d.1 (r.1, r.2, y), y), r.3)
+
+-- One derivation.
+pub one-derivation : (sort : Sort) (w : List Token) (t u : Tree) → Spells w t sort → Spells w u sort → t ≡ u
+one-derivation sort w t u h k =
+    let a = sentence-parse sort w t h in
+    let b = sentence-parse sort w u k in
+    sym a.2 ∙ (ap show (one_tree (start_symbol sort w) (opens sort (first w)) a.0 b.0 w a.1 b.1) ∙ b.2)
+
+-- Soundness: where the root's node ends, it is shown as a derivation of the tokens before.
+pub sound : (sort : Sort) (w : List Token) (f : Forest) (r : List Token) → Ended sort w f r
+    → (w ≡ yields f ++ r) × Spells (yields f) (show (node (start_symbol sort w) f)) sort
+sound sort w f r e =
+    let d = done (start_symbol sort w) (opens sort (first w)) w e.0 f r e.1 e.2 in
+    (d.0, parse-sentence sort (first w) (yields f) (node (start_symbol sort w) f) d.1.0 d.1.1 d.1.2)
+
+-- Over a sentence it ends behind all tokens, with the sentence's tree.
+pub sound-all : (sort : Sort) (w : List Token) (t : Tree) (f : Forest) (r : List Token) → Spells w t sort → Ended sort w f r
+    → (r ≡ []) × (show (node (start_symbol sort w) f) ≡ t)
+sound-all sort w t f r h e =
+    let a = sentence-parse sort w t h in
+    let d = done-all (start_symbol sort w) (opens sort (first w)) a.0 w e.0 f r a.1 e.1 e.2 in
+    (d.0, ap show d.1 ∙ a.2)
+
+-- Acceptance: a fault in the tokens of a sentence is none.
+pub accepts : (sort : Sort) (w r : List Token) (t : Tree) → Spells w t sort → FaultIn sort w r → ⊥
+accepts sort w r t h k = let a = sentence-parse sort w t h in no_fault (start_symbol sort w) (opens sort (first w)) a.0 w r a.1 k
+
+-- No late fault: the tokens before the fault begin a sentence, which goes on with listed tokens.
+pub begins : (sort : Sort) (w r : List Token) (k : FaultIn sort w r) → (t : Tree) × (v : List Token) × Spells (k.before ++ v) t sort × AllSpelt v
+begins sort w r k = let h = k.not_late in (show h.0, h.1, parse-sentence sort (first w) (k.before ++ h.1) h.0 h.2 h.3 h.4, h.5)
+
+-- The same wherever the machine comes.
+pub begins-at : (sort : Sort) (w : List Token) (fs : List Frame) (r : List Token) → Reach (start_symbol sort w) w fs r
+    → (b : List Token) × (w ≡ b ++ r) × ((t : Tree) × (v : List Token) × Spells (b ++ v) t sort × AllSpelt v)
+begins-at sort w fs r c =
+    let s = start_symbol sort w in
+    let o = opens sort (first w) in
+    let h = viable (no-leaf s o) (can-end s o) c in
+    (spent fs, reach-spent c, (show h.0, h.1, parse-sentence sort (first w) (spent fs ++ h.1) h.0 h.2 h.3 h.4, h.5))
+
+-- Another list with the same beginning has the same start symbol.
+same-start : (sort : Sort) (w b r v : List Token) (u : Tree) → w ≡ b ++ r → first r ≡ first v → Parse (start_symbol sort (b ++ v)) u (b ++ v)
+    → Parse (start_symbol sort w) u (b ++ v)
+same-start sort w b r v u e f p = subst (λ (n : ℕ). Parse (opening sort n) u (b ++ v)) (sym (ap first e ∙ first-same b r v f)) p
+
+-- No early fault: no sentence begins with them and goes on with the next two.
+pub not-early : (sort : Sort) (w r : List Token) (k : FaultIn sort w r) (v : List Token) (t : Tree) → Spells (k.before ++ v) t sort
+    → first r ≡ first v → second r ≡ second v → ⊥
+not-early sort w r k v t h e e' =
+    let a = sentence-parse sort (k.before ++ v) t h in
+    k.not_early a.0 v (same-start sort w k.before r v a.0 k.split e a.1) e e'
+
+-- The same as a statement on beginnings of sentences.
+pub not-starts : (sort : Sort) (w r : List Token) (k : FaultIn sort w r) → Starts sort (read k.before ++ next_two r) → ⊥
+not-starts sort w r k h =
+    let a = after-two k.before r h.0 h.2 h.4 in
+    not-early sort w r k a.0 h.1 (subst (λ (z : List Token). Spells z h.1 sort) a.1 h.3) a.2 a.3
+
+-- No early limit: where more than `n` counted nodes are open, no sentence of a nesting of at most `n` goes on with the next token.
+too-deep : (n a b c : ℕ) → n < a → a ≤ b → c ≡ b → c ≤ n → ⊥
+too-deep n a b c h i e j = omega arith
+
+pub not-within : (sort : Sort) (n : ℕ) (w : List Token) (fs : List Frame) (r : List Token) (c : Firm (start_symbol sort w) w fs r) → n < depth fs
+    → StartsWithin sort n (read c.before ++ next_one r) → ⊥
+not-within sort n w fs r c d h =
+    let a = after-one c.before r h.0 h.2 h.4 in
+    let p = sentence-parse sort (c.before ++ a.0) h.1 (subst (λ (z : List Token). Spells z h.1 sort) a.1 h.3) in
+    let q = same-start sort w c.before r a.0 p.0 c.split a.2 p.1 in
+    let l : Left fs a.0 p.0 = firm-left (start_symbol sort w) (opens sort (first w)) w fs r c a.0 p.0 q a.2 in
+    too-deep n (depth fs) _ (nest h.1) d (left-depth fs a.0 p.0 l) (ap nest (sym p.2) ∙ nest-show p.0 q.0) h.5
+
+-- Over a sentence never more counted nodes are open than its derivation nests: so no limit that it keeps is met.
+pub depth-within : (sort : Sort) (w : List Token) (t : Tree) (fs : List Frame) (r : List Token) → Spells w t sort → Reach (start_symbol sort w) w fs r
+    → depth fs ≤ nest t
+depth-within sort w t fs r h c =
+    let p = sentence-parse sort w t h in
+    let l : Left fs r p.0 = on-the-way (start_symbol sort w) (opens sort (first w)) p.0 w fs r p.1 c in
+    let d : depth fs ≤ nesting_all p.0 = left-depth fs r p.0 l in
+    subst (λ (n : ℕ). depth fs ≤ n) (sym (nest-show p.0 p.1.0) ∙ ap nest p.2) d
+
+-- The same where a counted node of the symbol `k` begins with the next token.
+pub at-limit : (sort : Sort) (n : ℕ) (w : List Token) (s q x k : ℕ) (f : Forest) (fs : List Frame) (r : List Token) (c : Firm (start_symbol sort w) w (frame s q f ∷ fs) r)
+    → goes s q x any k ≡ true → is_leaf k ≡ false → holds (first r) x ≡ true → n < depth_above fs s + count_in s k
+    → StartsWithin sort n (read c.before ++ next_one r) → ⊥
+unfolding firm-open
+at-limit sort n w s q x k f fs r c t i h d = not-within sort n w (frame k 0 none ∷ frame s q f ∷ fs) r (firm-open x k c t i h) d
+
+-- The closed nodes fit their rows, whatever follows.
+abbrev pub ClosedFit : List Frame → Type 0
+ClosedFit [] = Unit {0}
+ClosedFit (frame s q f ∷ fs) = AllFit (shows f) × ClosedFit fs
+
+sound-fit : (s0 : ℕ) (fs : List Frame) → Sound s0 fs → ClosedFit fs
+sound-fit s0 [] h = tt
+sound-fit s0 (frame s q f ∷ fs) h = (path-fits s 0 q f h.0 h.1, sound-fit s0 fs h.3)
+
+pub closed-fit : (sort : Sort) (w : List Token) (fs : List Frame) (r : List Token) → Reach (start_symbol sort w) w fs r → ClosedFit fs
+closed-fit sort w fs r c = sound-fit (start_symbol sort w) fs (reach-sound (no-leaf (start_symbol sort w) (opens sort (first w))) c)
+
+-- The greatest depth that was met is the nesting of the derivation.
+pub peak-nest : (sort : Sort) (w : List Token) (f : Forest) (r : List Token) (e : Ended sort w f r)
+    → peak (frame (start_symbol sort w) e.0 f ∷ []) ≡ nest (show (node (start_symbol sort w) f))
+peak-nest sort w f r e =
+    let d = done (start_symbol sort w) (opens sort (first w)) w e.0 f r e.1 e.2 in
+    peak-end (start_symbol sort w) e.0 f ∙ sym (nest-show (node (start_symbol sort w) f) d.1.0)
+
+-- A text has one derivation, since it has one cut without bad text.
+pub one-sentence : (source : List ℕ) (t u : Tree) (sort : Sort) → Sentence source t sort → Sentence source u sort → t ≡ u
+one-sentence source t u sort a b =
+    let same = one-cut source a.items b.items a.cut b.cut a.tokens in
+    one-derivation sort (map token_of (Significant b.items)) t u
+    (a.derivation, a.yield ∙ ap (λ (items : List Item). map token_of (Significant items)) same) (b.derivation, b.yield)

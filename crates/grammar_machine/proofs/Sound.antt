@@ -1,0 +1,329 @@
+-- What the machine has read fits the rows, and can be completed.
+use Rattle.std.proofs.Common.{◌≡◌, ℕ, ◌+◌, ◌^◌, ◌<◌, Bool, true, false, cond, not, eqb, List, [], ◌∷◌, ◌++◌, refl, sym, ap, ◌∙◌, subst, ◌⊎◌, inl, inr, true≢false, append_assoc, append-nil, arith, add-zero, eqb-true, ltb-true, ◌≢◌, ap₂}
+use Rattle.std.proofs.lemmas.Bool.{eqb-false}
+use Rattle.std.specs.Int.{bit_at}
+use Rattle.std.proofs.lemmas.Nat.Bits.{bit_at-pow_other}
+use Rattle.document_grammar.specs.Tree.{Text, Token, Tree, leaf, node, Forest, none, ◌▸◌, ◌+++◌, root}
+use Rattle.grammar_machine.specs.Table.{Entry, entry, name_leaves, name_classes, token_kinds}
+use Rattle.document_grammar.specs.Booleans.{◌and◌, ◌or◌}
+use Rattle.grammar_machine.specs.Machine.{holds, is_leaf, ends, exit, arcs, has, target, entries, fires, fires_in, has_in, choose, go, close, move, class, word_class, text_eq, first, second, token, yield, yields, finish, walk, Ok, OkFrom, Path, Frame, frame, Reach, start, shift, open', closed}
+use Rattle.grammar_machine.proofs.Checks.{subset, exits, all_arcs, all_entries, leaf_checked, leaf_entry}
+use Rattle.document_grammar.proofs.Booleans.{false-true, and-l, and-r, and-i, or-c, or-l, or-r, not-c, either, eqb-refl}
+use Rattle.grammar_machine.proofs.TableLemmas.{holds-subset, holds-disjoint, arcs-at, row-test, exits-at, below-at}
+use Rattle.grammar_machine.proofs.Run.{go-close, go-stuck, close-stuck, go-inj}
+use Rattle.document_grammar.proofs.Built.{forest-none}
+use Rattle.grammar_machine.proofs.Endings.{ending, okb, okb_from, fillable, fill_test, fill_checked, leaf_test, leaf_classes_checked, word_tests, words_checked, spell, spelt, spelt_all}
+use Rattle.document_grammar.specs.Kinds.{words}
+
+-- What a move says of the row.
+pub choose-has : (l : List (ℕ × ℕ)) (e : Bool) (a b k : ℕ) → choose l e a b ≡ go k → (has_in l k ≡ true) × (fires k a b ≡ true)
+choose-has [] true a b k h = go-close (sym h)
+choose-has [] false a b k h = go-stuck (sym h)
+choose-has (c ∷ more) e a b k h = elim (either (fires c.0 a b)) [
+  | inl p ↦ (let n : c.0 ≡ k = go-inj (rw p at h) in (or-l _ _ (rw n (eqb-refl k)), rw (← n) p))
+  | inr p ↦ (let r = choose-has more e a b k (rw p at h) in (or-r _ _ r.0, r.1))
+]
+
+pub choose-ends : (l : List (ℕ × ℕ)) (e : Bool) (a b : ℕ) → choose l e a b ≡ close → e ≡ true
+choose-ends [] true a b h = refl
+choose-ends [] false a b h = close-stuck (sym h)
+choose-ends (c ∷ more) e a b h = elim (either (fires c.0 a b)) [
+  | inl p ↦ go-close (rw p at h)
+  | inr p ↦ choose-ends more e a b (rw p at h)
+]
+
+pub move-has : (s q a b k : ℕ) → move s q a b ≡ go k → has s q k ≡ true
+unfolding move has
+move-has s q a b k h = (choose-has (arcs s q) (ends s q) a b k h).0
+
+pub move-fires : (s q a b k : ℕ) → move s q a b ≡ go k → fires k a b ≡ true
+unfolding move
+move-fires s q a b k h = (choose-has (arcs s q) (ends s q) a b k h).1
+
+pub move-ends : (s q a b : ℕ) → move s q a b ≡ close → ends s q ≡ true
+unfolding move
+move-ends s q a b h = choose-ends (arcs s q) (ends s q) a b h
+
+-- The token of a leaf.
+pub leaf-lt : (l : ℕ) → is_leaf l ≡ true → l < 60
+unfolding is_leaf
+leaf-lt l h = ltb-true _ _ h
+
+pub word-name : (ws : List (ℕ × Text)) (x : Text) → word_tests ws ≡ true → holds (word_class ws x) name_classes ≡ true
+unfolding holds
+word-name [] x h = refl
+word-name (w ∷ more) x h = elim (either (text_eq w.1 x)) [
+  | inl p ↦ rw p (and-l _ _ h)
+  | inr p ↦ rw p (word-name more x (and-r _ _ h))
+]
+
+token-kind-no-name : (k : ℕ) → holds k token_kinds ≡ true → holds k name_classes ≡ false
+unfolding holds
+token-kind-no-name k h = holds-disjoint k token_kinds name_classes refl h
+
+three-no-name : holds 3 name_classes ≡ false
+unfolding holds
+three-no-name = refl
+
+-- The class of a token is a name's exactly where the token is a name; else it is the token's kind, or 3.
+pub class-cases : (a : Token)
+    → ((a.0 ≡ 18) × (holds (class a) name_classes ≡ true)) ⊎ ((holds (class a) name_classes ≡ false) × ((class a ≡ a.0) ⊎ (class a ≡ 3)))
+unfolding class
+class-cases a = elim (either (eqb a.0 18)) [
+  | inl p ↦ inl (eqb-true _ _ p, rw p (word-name words a.1 words_checked))
+  | inr p ↦ elim (either (holds a.0 token_kinds)) [
+    | inl q ↦ inr (rw (p, q) (token-kind-no-name a.0 q), inl (rw (p, q) refl))
+    | inr q ↦ inr (rw (p, q) three-no-name, inr (rw (p, q) refl))
+  ]
+]
+
+-- A leaf's entry that holds the class.
+pub fired : (es : List Entry) (t : ℕ → Bool) (a b : ℕ) → all_entries es (λ x y alone. t x) ≡ true → fires_in es a b ≡ true
+    → (x : ℕ) × (t x ≡ true) × (holds a x ≡ true)
+fired [] t a b h f = absurd (true≢false (sym f))
+fired (entry x y alone ∷ more) t a b h f = elim (or-c _ _ f) [
+  | inl p ↦ (x, and-l _ _ h, and-l _ _ p)
+  | inr p ↦ fired more t a b (and-r _ _ h) p
+]
+
+pub holds-one : (a l : ℕ) → holds a (2 ^ l) ≡ true → a ≡ l
+unfolding holds
+holds-one a l h = elim (either (eqb a l)) [
+  | inl p ↦ eqb-true a l p
+  | inr p ↦ (let ne : a ≢ l = eqb-false a l p in let z : bit_at (2 ^ l) a ≡ 0 = bit_at-pow_other l a ne in let o : bit_at (2 ^ l) a ≡ 1 = eqb-true _ _ h in absurd (omega arith))
+]
+
+leaf-kind : (l : ℕ) (a : Token) (b : Bool) (x : ℕ) → holds l name_leaves ≡ b
+    → cond b (subset x name_classes) (eqb x (2 ^ l) and not (holds l name_classes) and not (eqb l 3)) ≡ true → holds (class a) x ≡ true
+    → cond b 18 l ≡ a.0
+leaf-kind l a true x n t h = elim (class-cases a) [
+  | inl p ↦ sym p.0
+  | inr p ↦ false-true p.0 (holds-subset (class a) x name_classes t h)
+]
+leaf-kind l a false x n t h =
+    let e : class a ≡ l = holds-one (class a) l (rw (eqb-true _ _ (and-l _ _ (and-l _ _ t))) at h) in
+    let nn : holds l name_classes ≡ false = not-c _ (and-r _ _ (and-l _ _ t)) in
+    elim (class-cases a) [
+      | inl p ↦ false-true nn (rw e at p.1)
+      | inr p ↦ elim p.1 [ inl q ↦ sym e ∙ q | inr q ↦ absurd (eqb-false l 3 (not-c _ (and-r _ _ t)) (sym e ∙ q)) ]
+    ]
+
+pub leaf-token : (l b : ℕ) (a : Token) → is_leaf l ≡ true → fires l (class a) b ≡ true → token l a.1 ≡ a
+unfolding token fires
+leaf-token l b a i f =
+    let c = fired (entries l) (λ x. cond (holds l name_leaves) (subset x name_classes) (eqb x (2 ^ l) and not (holds l name_classes) and not (eqb l 3))) (class a) b (below-at leaf_test 60 l (leaf-lt l i) leaf_classes_checked) f in
+    ap (λ (n : ℕ). (n, a.1)) (leaf-kind l a (holds l name_leaves) c.0 refl c.1 c.2)
+
+-- A leaf's entries don't ask for a second token.
+fires-alone : (es : List Entry) (a b b' : ℕ) → all_entries es (λ x y a. a and eqb y 0) ≡ true → fires_in es a b ≡ true → fires_in es a b' ≡ true
+fires-alone [] a b b' t h = h
+fires-alone (entry x y alone ∷ more) a b b' t h = elim (or-c _ _ h) [
+  | inl p ↦ or-l _ _ (and-i (and-l _ _ p) (or-l _ _ (and-l _ _ (and-l _ _ t))))
+  | inr p ↦ or-r _ _ (fires-alone more a b b' (and-r _ _ t) p)
+]
+
+pub leaf-ok : (l b : ℕ) (a : Token) → is_leaf l ≡ true → fires l (class a) b ≡ true → Ok (leaf l a.1)
+unfolding fires
+leaf-ok l b a i f = (i, rw (leaf-token l b a i f) (fires-alone (entries l) (class a) b 0 (below-at leaf_entry 60 l (leaf-lt l i) leaf_checked) f))
+
+-- Paths.
+pub path-snoc : (s p q : ℕ) (f : Forest) (t : Tree) → Path s p f q → has s q (root t) ≡ true → Ok t
+    → Path s p (f +++ (t ▸ none)) (target s q (root t) + finish t)
+path-snoc s p q none t e h o = (rw e h, o, ap (λ (n : ℕ). target s n (root t) + finish t) e)
+path-snoc s p q (u ▸ f) t e h o = (e.0, e.1, path-snoc s (target s p (root u) + finish u) q f t e.2 h o)
+
+pub path-join : (s p q : ℕ) (f g : Forest) → Path s p f q → OkFrom s q g → OkFrom s p (f +++ g)
+path-join s p q none g e o = rw e o
+path-join s p q (u ▸ f) g e o = (e.0, e.1, path-join s (target s p (root u) + finish u) q f g e.2 o)
+
+pub path-ok : (s p q : ℕ) (f : Forest) → Path s p f q → ends s q ≡ true → OkFrom s p f
+path-ok s p q f e h = rw (forest-none f) at (path-join s p q f none e h)
+
+pub path-walk : (s p q : ℕ) (f : Forest) → Path s p f q → walk s p f ≡ q
+path-walk s p q none e = e
+path-walk s p q (u ▸ f) e = path-walk s (target s p (root u) + finish u) q f e.2
+
+pub yields-append : (f g : Forest) → yields (f +++ g) ≡ yields f ++ yields g
+yields-append none g = refl
+yields-append (t ▸ f) g = ap (λ (v : List Token). yield t ++ v) (yields-append f g) ∙ sym (append_assoc (yield t) (yields f) (yields g))
+
+-- The open nodes' children fit their rows, each open node is a symbol of the row below it, and the lowest is `s0`.
+abbrev pub Held : ℕ → ℕ → List Frame → Type 0
+Held s0 s [] = s ≡ s0
+Held s0 s (frame s1 q1 f1 ∷ fs) = has s1 q1 s ≡ true
+
+abbrev pub Sound : ℕ → List Frame → Type 0
+Sound s0 [] = Unit {0}
+Sound s0 (frame s q f ∷ fs) = (is_leaf s ≡ false) × Path s 0 f q × Held s0 s fs × Sound s0 fs
+
+pub reach-sound : {s0 : ℕ} {w : List Token} {fs : List Frame} {r : List Token} → is_leaf s0 ≡ false → Reach s0 w fs r → Sound s0 fs
+unfolding first
+reach-sound i start = (i, refl, refl, tt)
+reach-sound {s0} i (shift {s = s} {q = q} {l = l} {f = f} {fs = fs} {a = a} {r = r} c m j) =
+    let h = reach-sound i c in
+    let o : Ok (leaf l a.1) = leaf-ok l (second (a ∷ r)) a j (move-fires s q (first (a ∷ r)) (second (a ∷ r)) l m) in
+    (h.0, subst (λ (n : ℕ). Path s 0 (f +++ (leaf l a.1 ▸ none)) n) (add-zero (target s q l)) (path-snoc s 0 q f (leaf l a.1) h.1 (move-has s q _ _ l m) o), h.2, h.3)
+reach-sound {s0} i (open' {s = s} {q = q} {k = k} {f = f} {fs = fs} {r = r} c m j) = (j, refl, move-has s q _ _ k m, reach-sound i c)
+reach-sound {s0} i (closed {s = s} {q = q} {k = k} {p = p} {f = f} {g = g} {fs = fs} {r = r} c m) =
+    let h = reach-sound i c in
+    let o : Ok (node k g) = (h.0, path-ok k 0 p g h.1 (move-ends k p _ _ m)) in
+    (h.3.0, subst (λ (n : ℕ). Path s 0 (f +++ (node k g ▸ none)) (target s q k + exit k n)) (path-walk k 0 p g h.1) (path-snoc s 0 q f (node k g) h.3.1 h.2 o), h.3.2, h.3.3)
+
+-- The tokens that the open nodes hold.
+abbrev pub spent : List Frame → List Token
+spent [] = []
+spent (frame s q f ∷ fs) = spent fs ++ yields f
+
+pub snoc-spent : (fs : List Frame) (f : Forest) (t : Tree) (r : List Token)
+    → (spent fs ++ yields (f +++ (t ▸ none))) ++ r ≡ (spent fs ++ yields f) ++ (yield t ++ r)
+snoc-spent fs f t r =
+    ap (λ (v : List Token). (spent fs ++ v) ++ r) (yields-append f (t ▸ none) ∙ ap (λ (v : List Token). yields f ++ v) (append-nil (yield t)))
+    ∙ (append_assoc (spent fs) (yields f ++ yield t) r ∙ (ap (λ (v : List Token). spent fs ++ v) (append_assoc (yields f) (yield t) r) ∙ sym (append_assoc (spent fs) (yields f) (yield t ++ r))))
+
+pub reach-spent : {s0 : ℕ} {w : List Token} {fs : List Frame} {r : List Token} → Reach s0 w fs r → w ≡ spent fs ++ r
+unfolding first
+reach-spent start = refl
+reach-spent (shift {s = s} {q = q} {l = l} {f = f} {fs = fs} {a = a} {r = r} c m j) =
+    let e : token l a.1 ≡ a = leaf-token l (second (a ∷ r)) a j (move-fires s q (first (a ∷ r)) (second (a ∷ r)) l m) in
+    reach-spent c ∙ (ap (λ (b : Token). (spent fs ++ yields f) ++ (b ∷ r)) (sym e) ∙ sym (snoc-spent fs f (leaf l a.1) r))
+reach-spent (open' {s = s} {q = q} {k = k} {f = f} {fs = fs} {r = r} c m j) = reach-spent c ∙ ap (λ (v : List Token). v ++ r) (sym (append-nil (spent fs ++ yields f)))
+reach-spent (closed {s = s} {q = q} {k = k} {p = p} {f = f} {g = g} {fs = fs} {r = r} c m) =
+    reach-spent c ∙ (append_assoc (spent fs ++ yields f) (yields g) r ∙ sym (snoc-spent fs f (node k g) r))
+
+-- Completion.
+mutual
+  unfolding ◌and◌
+
+  pub okb-ok : (t : Tree) → okb t ≡ true → Ok t
+  okb-ok (leaf l x) h = (and-l _ _ h, and-r _ _ h)
+  okb-ok (node s f) h = (not-c _ (and-l (not (is_leaf s)) (okb_from s 0 f) h), okb_from-ok s 0 f (and-r (not (is_leaf s)) (okb_from s 0 f) h))
+
+  pub okb_from-ok : (s q : ℕ) (f : Forest) → okb_from s q f ≡ true → OkFrom s q f
+  okb_from-ok s q none h = h
+  okb_from-ok s q (t ▸ f) h =
+      let l = and-l (has s q (root t) and okb t) (okb_from s (target s q (root t) + finish t) f) h in
+      (and-l (has s q (root t)) (okb t) l, okb-ok t (and-r (has s q (root t)) (okb t) l), okb_from-ok s (target s q (root t) + finish t) f (and-r (has s q (root t) and okb t) (okb_from s (target s q (root t) + finish t) f) h))
+
+fill-arcs : (s q : ℕ) → is_leaf s ≡ false → all_arcs (arcs s q) (λ k q. (is_leaf k or fillable k 0) and exits k (λ x. fillable s (q + x))) ≡ true
+unfolding arcs
+fill-arcs s q l = row-test fill_test fill_checked (λ k. refl) s q l
+
+fill-arc : (s q k : ℕ) → is_leaf s ≡ false → has s q k ≡ true → (is_leaf k or fillable k 0) and exits k (λ x. fillable s (target s q k + x)) ≡ true
+unfolding has target
+fill-arc s q k l h = arcs-at (arcs s q) (λ k q. (is_leaf k or fillable k 0) and exits k (λ x. fillable s (q + x))) k (fill-arcs s q l) h
+
+pub fill-after : (s q : ℕ) (t : Tree) → is_leaf s ≡ false → has s q (root t) ≡ true → Ok t → fillable s (target s q (root t) + finish t) ≡ true
+fill-after s q t l h o = exits-at t (λ x. fillable s (target s q (root t) + x)) (and-r _ _ (fill-arc s q (root t) l h)) o
+
+pub fill-start : (s q k : ℕ) → is_leaf s ≡ false → has s q k ≡ true → is_leaf k ≡ false → fillable k 0 ≡ true
+fill-start s q k l h i = elim (or-c _ _ (and-l _ _ (fill-arc s q k l h))) [ inl p ↦ false-true i p | inr p ↦ p ]
+
+pub fillable-ok : (s q : ℕ) → fillable s q ≡ true → OkFrom s q (ending s q)
+unfolding fillable
+fillable-ok s q h = okb_from-ok s q (ending s q) (and-l _ _ h)
+
+-- The tokens that are added to complete a sentence: each is a leaf's, with the text listed for it.
+abbrev pub Spelt : Token → Type 0
+Spelt a = (l : ℕ) × Ok (leaf l (spell l)) × (a ≡ token l (spell l))
+
+abbrev pub AllSpelt : List Token → Type 0
+AllSpelt [] = Unit {0}
+AllSpelt (a ∷ w) = Spelt a × AllSpelt w
+
+all-append : (u v : List Token) → AllSpelt u → AllSpelt v → AllSpelt (u ++ v)
+all-append [] v h k = k
+all-append (a ∷ u) v h k = (h.0, all-append u v h.1 k)
+
+same-text : (a b : Text) → text_eq a b ≡ true → a ≡ b
+same-text [] [] h = refl
+same-text [] (b ∷ bs) h = absurd (true≢false (sym h))
+same-text (a ∷ x) [] h = absurd (true≢false (sym h))
+same-text (a ∷ x) (b ∷ y) h = ap₂ (λ u v. u ∷ v) (eqb-true a b (and-l _ _ h)) (same-text x y (and-r _ _ h))
+
+mutual
+  spelt-yield : (t : Tree) → Ok t → spelt t ≡ true → AllSpelt (yield t)
+  spelt-yield (leaf l x) o h =
+      let e : spell l ≡ x = same-text (spell l) x h in
+      ((l, subst (λ (y : Text). Ok (leaf l y)) (sym e) o, ap (λ (y : Text). token l y) (sym e)), tt)
+  spelt-yield (node s f) o h = spelt-yields s 0 f o.1 h
+
+  spelt-yields : (s q : ℕ) (f : Forest) → OkFrom s q f → spelt_all f ≡ true → AllSpelt (yields f)
+  spelt-yields s q none o h = tt
+  spelt-yields s q (t ▸ f) o h = all-append (yield t) (yields f) (spelt-yield t o.1 (and-l _ _ h)) (spelt-yields s (target s q (root t) + finish t) f o.2 (and-r _ _ h))
+
+fillable-spelt : (s q : ℕ) → fillable s q ≡ true → AllSpelt (yields (ending s q))
+unfolding fillable
+fillable-spelt s q h = spelt-yields s q (ending s q) (okb_from-ok s q (ending s q) (and-l _ _ h)) (and-r _ _ h)
+
+-- A state on the way is the first, or one after an arc.
+path-fillable : (s p q : ℕ) (f : Forest) → is_leaf s ≡ false → Path s p f q → fillable s p ≡ true → fillable s q ≡ true
+path-fillable s p q none l e h = rw e at h
+path-fillable s p q (t ▸ f) l e h = path-fillable s (target s p (root t) + finish t) q f l e.2 (fill-after s p t l e.0 e.1)
+
+held-fillable : (s0 s : ℕ) (fs : List Frame) → is_leaf s ≡ false → Held s0 s fs → Sound s0 fs → fillable s0 0 ≡ true → fillable s 0 ≡ true
+held-fillable s0 s [] l h c b = rw h b
+held-fillable s0 s (frame s1 q1 f1 ∷ fs) l h c b = fill-start s1 q1 s c.0 h l
+
+abbrev pub Whole : ℕ → List Token → Type 0
+Whole s0 u = (t : Tree) × (v : List Token) × Ok t × (root t ≡ s0) × (yield t ≡ u ++ v) × AllSpelt v
+
+lift : (s0 s : ℕ) (fs : List Frame) (x : Tree) → Ok x → root x ≡ s → Held s0 s fs → Sound s0 fs → Whole s0 (spent fs ++ yield x)
+lift s0 s [] x o e h c = (x, [], o, e ∙ h, sym (append-nil (yield x)), tt)
+lift s0 s (frame s1 q1 f1 ∷ fs) x o e h c =
+    let hx : has s1 q1 (root x) ≡ true = rw e h in
+    let g = ending s1 (target s1 q1 (root x) + finish x) in
+    let fa : fillable s1 (target s1 q1 (root x) + finish x) ≡ true = fill-after s1 q1 x c.0 hx o in
+    let og : OkFrom s1 (target s1 q1 (root x) + finish x) g = fillable-ok s1 (target s1 q1 (root x) + finish x) fa in
+    let w = lift s0 s1 fs (node s1 (f1 +++ (x ▸ g))) (c.0, path-join s1 0 q1 f1 (x ▸ g) c.1 (hx, o, og)) refl c.2 c.3 in
+    (w.0, yields g ++ w.1, w.2, w.3, w.4 ∙ shuffle g w.1, all-append (yields g) w.1 (fillable-spelt s1 (target s1 q1 (root x) + finish x) fa) w.5)
+  where
+    shuffle : (g : Forest) (v : List Token) → (spent fs ++ yields (f1 +++ (x ▸ g))) ++ v ≡ ((spent fs ++ yields f1) ++ yield x) ++ (yields g ++ v)
+    shuffle g v = rw (yields-append f1 (x ▸ g)) (simp append_assoc)
+
+reach-nonempty : {s0 : ℕ} {w : List Token} {fs : List Frame} {r : List Token} → Reach s0 w fs r → (fs ≡ []) → ⊥
+reach-nonempty start e = cc
+reach-nonempty (shift c m i) e = cc
+reach-nonempty (open' c m i) e = cc
+reach-nonempty (closed c m) e = cc
+
+-- No late fault: what the machine has read begins a sentence.
+pub viable : {s0 : ℕ} {w : List Token} {fs : List Frame} {r : List Token} → is_leaf s0 ≡ false → fillable s0 0 ≡ true → Reach s0 w fs r
+    → Whole s0 (spent fs)
+viable {s0} {w} {fs} {r} i b c = on fs (reach-sound i c) (reach-nonempty c)
+  where
+    on : (fs : List Frame) → Sound s0 fs → (fs ≡ [] → ⊥) → Whole s0 (spent fs)
+    on [] c n = absurd (n refl)
+    on (frame s q f ∷ fs) c n =
+        let g = ending s q in
+        let fa : fillable s q ≡ true = path-fillable s 0 q f c.0 c.1 (held-fillable s0 s fs c.0 c.2 c.3 b) in
+        let og : OkFrom s q g = fillable-ok s q fa in
+        let w = lift s0 s fs (node s (f +++ g)) (c.0, path-join s 0 q f g c.1 og) refl c.2 c.3 in
+        (w.0, yields g ++ w.1, w.2, w.3, w.4 ∙ (rw (yields-append f g) (simp append_assoc)), all-append (yields g) w.1 (fillable-spelt s q fa) w.5)
+
+-- Each class is below 60.
+abbrev pub any : ℕ
+any = 1152921504606846975
+
+three-any : holds 3 any ≡ true
+unfolding holds
+three-any = refl
+
+pub class-any : (a : Token) → holds (class a) any ≡ true
+unfolding class
+class-any a = elim (either (eqb a.0 18)) [
+  | inl p ↦ rw p (holds-subset (word_class words a.1) name_classes any refl (word-name words a.1 words_checked))
+  | inr p ↦ elim (either (holds a.0 token_kinds)) [
+    | inl q ↦ rw (p, q) (holds-subset a.0 token_kinds any refl q)
+    | inr q ↦ rw (p, q) three-any
+  ]
+]
+
+pub first-any : (r : List Token) → holds (first r) any ≡ true
+unfolding first holds
+first-any [] = refl
+first-any (a ∷ r) = class-any a
+
+pub second-any : (r : List Token) → holds (second r) any ≡ true
+unfolding second holds
+second-any [] = refl
+second-any (a ∷ r) = first-any r

@@ -1,0 +1,4 @@
+pub mod Symbols
+pub mod Table
+pub mod Labels
+pub mod Machine

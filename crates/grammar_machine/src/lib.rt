@@ -1,0 +1,5 @@
+// The machine that reads tokens by the rows of the document grammar, with two tokens of lookahead: it makes exactly the derivations, so that a
+// text has one derivation; it never reads on where no sentence does; and it is stuck only where no sentence goes on.
+#![tactic(auto)]
+
+pub mod laws;
