@@ -8,7 +8,7 @@ use Rattle.apollo_tree.specs.Sound.{Fits, FitsInnermost, CanFinish}
 use Rattle.apollo_tree.specs.Open.{IsComplete, one_node}
 use Rattle.parser_rules.specs.State.{State, Part, add_all, finished}
 use Rattle.parser_rules.specs.Open.{is_free, is_free_in, IsOpen, IsRoot}
-use Rattle.parser_rules.proofs.Kept.{add_all_above}
+use Rattle.parser_rules.proofs.runs.Frame.{add_all_above}
 use Rattle.apollo_grammar.specs.Roots.{root_kind}
 
 fits_free : (k : SyntaxKind) (kids : Forest) → is_free k ≡ true → Fits k kids

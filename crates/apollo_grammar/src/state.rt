@@ -364,7 +364,7 @@ impl<'i, A: Allocator + Copy> ParserState<'i, A> {
     }
 
     /// The current token, which is a name, becomes a node.
-    #[tactic(auto, using(parser_rules::proofs::Then::leaf_run), unfolding(parser_rules::specs::Rule::inside, parser_rules::specs::Rule::holds))]
+    #[tactic(auto, using(parser_rules::proofs::runs::Forms::leaf_run), unfolding(parser_rules::specs::Rule::inside, parser_rules::specs::Rule::holds))]
     pub fn name(&mut self) -> Result<(), AllocError>
         requires { true ≡ holds (At token.Name) self.old }
         ensures { OnOk result (Runs (Child Name) self.old self.new) }
@@ -374,7 +374,7 @@ impl<'i, A: Allocator + Copy> ParserState<'i, A> {
     }
 
     /// The current token, which is an integer, becomes a node.
-    #[tactic(auto, using(parser_rules::proofs::Then::leaf_run), unfolding(parser_rules::specs::Rule::inside, parser_rules::specs::Rule::holds))]
+    #[tactic(auto, using(parser_rules::proofs::runs::Forms::leaf_run), unfolding(parser_rules::specs::Rule::inside, parser_rules::specs::Rule::holds))]
     pub fn int_value(&mut self) -> Result<(), AllocError>
         requires { true ≡ holds (At token.Int) self.old }
         ensures { OnOk result (Runs (Child IntValue) self.old self.new) }
@@ -384,7 +384,7 @@ impl<'i, A: Allocator + Copy> ParserState<'i, A> {
     }
 
     /// The current token, which is a string, becomes a node.
-    #[tactic(auto, using(parser_rules::proofs::Then::leaf_run), unfolding(parser_rules::specs::Rule::inside, parser_rules::specs::Rule::holds))]
+    #[tactic(auto, using(parser_rules::proofs::runs::Forms::leaf_run), unfolding(parser_rules::specs::Rule::inside, parser_rules::specs::Rule::holds))]
     pub fn string_value(&mut self) -> Result<(), AllocError>
         requires { true ≡ holds (At token.StringValue) self.old }
         ensures { OnOk result (Runs (Child StringValue) self.old self.new) }

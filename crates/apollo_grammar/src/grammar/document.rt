@@ -1,5 +1,5 @@
 // Documents.
-#![tactic(auto, using(parser_rules::specs::Rule::call, parser_rules::specs::Rule::yes, parser_rules::specs::Rule::no, parser_rules::specs::Rule::begin, parser_rules::specs::Rule::turn, parser_rules::proofs::Then::wanted, parser_rules::proofs::Kept::ended), unfolding(parser_rules::specs::Rule::body))]
+#![tactic(auto, using(parser_rules::specs::Rule::call, parser_rules::specs::Rule::yes, parser_rules::specs::Rule::no, parser_rules::specs::Rule::begin, parser_rules::specs::Rule::turn, parser_rules::proofs::runs::Forms::wanted, parser_rules::proofs::runs::Frame::ended), unfolding(parser_rules::specs::Rule::body))]
 
 ghost use Rattle.std.specs.Prelude.{◌≡◌, true, OnOk};
 ghost use Rattle.parser_rules.specs.Rule as rule;

@@ -1,5 +1,5 @@
 // Fragments.
-#![tactic(auto, using(parser_rules::specs::Rule::child, parser_rules::specs::Rule::call, parser_rules::specs::Rule::seq, parser_rules::specs::Rule::skip, parser_rules::specs::Rule::yes, parser_rules::specs::Rule::no, parser_rules::proofs::Then::chosen, parser_rules::proofs::Then::for_fragment, parser_rules::proofs::Kept::is_open, parser_rules::proofs::Kept::still_open), unfolding(parser_rules::specs::Rule::inside, parser_rules::specs::Rule::body))]
+#![tactic(auto, using(parser_rules::specs::Rule::child, parser_rules::specs::Rule::call, parser_rules::specs::Rule::seq, parser_rules::specs::Rule::skip, parser_rules::specs::Rule::yes, parser_rules::specs::Rule::no, parser_rules::proofs::runs::Forms::chosen, parser_rules::proofs::runs::Forms::for_fragment, parser_rules::proofs::runs::Frame::is_open, parser_rules::proofs::runs::Frame::still_open), unfolding(parser_rules::specs::Rule::inside, parser_rules::specs::Rule::body))]
 
 ghost use Rattle.std.specs.Prelude.{◌≡◌, true, OnOk};
 ghost use Rattle.lexical_grammar.specs.declared.TokenKind.TheVariants as token;

@@ -1,5 +1,5 @@
 // Operations.
-#![tactic(auto, using(parser_rules::specs::Rule::child, parser_rules::specs::Rule::seq, parser_rules::specs::Rule::skip, parser_rules::specs::Rule::yes, parser_rules::specs::Rule::no, parser_rules::proofs::Kept::is_open, parser_rules::proofs::Kept::still_open, parser_rules::proofs::Kept::still_at), unfolding(parser_rules::specs::Rule::inside))]
+#![tactic(auto, using(parser_rules::specs::Rule::child, parser_rules::specs::Rule::seq, parser_rules::specs::Rule::skip, parser_rules::specs::Rule::yes, parser_rules::specs::Rule::no, parser_rules::proofs::runs::Frame::is_open, parser_rules::proofs::runs::Frame::still_open, parser_rules::proofs::runs::Frame::still_at), unfolding(parser_rules::specs::Rule::inside))]
 
 ghost use Rattle.std.specs.Prelude.{◌≡◌, true, OnOk};
 ghost use Rattle.lexical_grammar.specs.declared.TokenKind.TheVariants as token;

@@ -4,8 +4,8 @@ use Rattle.document_grammar.specs.declared.kind.SyntaxKind.TheVariants as kind
 use Rattle.std.proofs.lemmas.Result.{on_ok_weaker}
 use Rattle.parser_rules.specs.Rule.{Spread, body, call, seq, yes, no}
 use Rattle.apollo_grammar.proofs.Looks.{inlines_behind, next_behind, has_behind, some_shown, other_at}
-use Rattle.parser_rules.proofs.Kept.{fewer, turned}
-use Rattle.parser_rules.proofs.Takes.{takes, part_takes, at_there, one_there, taken, opened_takes, entered_left}
+use Rattle.parser_rules.proofs.runs.Frame.{fewer, turned}
+use Rattle.parser_rules.proofs.runs.Progress.{takes, part_takes, at_there, one_there, taken, opened_takes, entered_left}
 use Rattle.apollo_grammar.proofs.grammar.+selection.Goals as goal
 
 pub field::field-selection_set-requires : goal.field::field-selection_set-requires

@@ -1,6 +1,6 @@
 use Rattle.std.proofs.Common.{◌+◌, ◌*◌}
 use Rattle.parser_rules.specs.Rule.{Turns, Call, Selection, selects}
-use Rattle.parser_rules.proofs.Kept.{left}
+use Rattle.parser_rules.proofs.runs.Frame.{left}
 use Rattle.apollo_grammar.proofs.grammar.+selection.Given as goal
 
 abbrev pub decreases-field::field : goal.decreases-field::field

@@ -1,6 +1,6 @@
 use Rattle.lexical_grammar.specs.declared.TokenKind.TheVariants as token
 use Rattle.parser_rules.specs.Rule.{Turns, At, Child, Argument}
-use Rattle.parser_rules.proofs.Kept.{left}
+use Rattle.parser_rules.proofs.runs.Frame.{left}
 use Rattle.apollo_grammar.proofs.grammar.argument.arguments.Given as goal
 
 abbrev pub invariant-loop-p : goal.invariant-loop-p

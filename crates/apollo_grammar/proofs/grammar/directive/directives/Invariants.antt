@@ -1,6 +1,6 @@
 use Rattle.lexical_grammar.specs.declared.TokenKind.TheVariants as token
 use Rattle.parser_rules.specs.Rule.{Turns, At, Child, Directive}
-use Rattle.parser_rules.proofs.Kept.{left}
+use Rattle.parser_rules.proofs.runs.Frame.{left}
 use Rattle.apollo_grammar.proofs.grammar.directive.directives.Given as goal
 
 abbrev pub invariant-loop-p : goal.invariant-loop-p

@@ -1,5 +1,5 @@
 use Rattle.std.proofs.Common.{refl}
-use Rattle.parser_rules.proofs.Takes.{takes, part_takes, ready_there, taken}
+use Rattle.parser_rules.proofs.runs.Progress.{takes, part_takes, ready_there, taken}
 use Rattle.apollo_grammar.proofs.grammar.document.document.Goals as goal
 
 pub loop-p-smaller : goal.loop-p-smaller

@@ -1,5 +1,5 @@
 use Rattle.parser_rules.specs.Rule.{Turns, Call, Ready, Definition}
-use Rattle.parser_rules.proofs.Kept.{left}
+use Rattle.parser_rules.proofs.runs.Frame.{left}
 use Rattle.apollo_grammar.proofs.grammar.document.document.Given as goal
 
 abbrev pub invariant-loop-p : goal.invariant-loop-p

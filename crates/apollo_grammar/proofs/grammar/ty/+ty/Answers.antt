@@ -1,8 +1,8 @@
 use Rattle.std.proofs.Common.{refl, arith}
 use Rattle.lexical_grammar.specs.declared.TokenKind.TheVariants as token
 use Rattle.document_grammar.specs.declared.kind.SyntaxKind.TheVariants as kind
-use Rattle.parser_rules.proofs.Kept.{is_mark, still_mark, still_open, open_wrapped}
-use Rattle.parser_rules.proofs.Takes.{takes, at_there, opened_takes, entered_left, flushed_left}
+use Rattle.parser_rules.proofs.runs.Frame.{is_mark, still_mark, still_open, open_wrapped}
+use Rattle.parser_rules.proofs.runs.Progress.{takes, at_there, opened_takes, entered_left, flushed_left}
 use Rattle.apollo_grammar.proofs.grammar.ty.+ty.Goals as goal
 
 pub ty-nullable_type-requires : goal.ty-nullable_type-requires

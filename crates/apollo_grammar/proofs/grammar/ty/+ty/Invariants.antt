@@ -1,5 +1,5 @@
 use Rattle.std.proofs.Common.{◌+◌, ◌*◌}
-use Rattle.parser_rules.proofs.Kept.{left}
+use Rattle.parser_rules.proofs.runs.Frame.{left}
 use Rattle.apollo_grammar.proofs.grammar.ty.+ty.Given as goal
 
 abbrev pub decreases-ty : goal.decreases-ty

@@ -3,8 +3,8 @@ use Rattle.lexical_grammar.specs.declared.TokenKind.TheVariants as token
 use Rattle.document_grammar.specs.declared.kind.SyntaxKind.TheVariants as kind
 use Rattle.std.proofs.lemmas.Result.{on_ok_weaker}
 use Rattle.parser_rules.specs.Rule.{NestedValue, ListItems, body, step, does, seq, yes, no, call, deeper, skip}
-use Rattle.parser_rules.proofs.Kept.{fewer, turned, ended}
-use Rattle.parser_rules.proofs.Takes.{takes, node_takes, at_there, taken, opened_takes, entered_left, item_taken}
+use Rattle.parser_rules.proofs.runs.Frame.{fewer, turned, ended}
+use Rattle.parser_rules.proofs.runs.Progress.{takes, node_takes, at_there, taken, opened_takes, entered_left, item_taken}
 use Rattle.apollo_grammar.proofs.grammar.value.+value.Goals as goal
 
 pub nested_value-value-requires : goal.nested_value-value-requires

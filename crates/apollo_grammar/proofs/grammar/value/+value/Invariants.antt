@@ -1,7 +1,7 @@
 use Rattle.std.proofs.Common.{◌+◌, ◌*◌}
 use Rattle.lexical_grammar.specs.declared.TokenKind.TheVariants as token
 use Rattle.parser_rules.specs.Rule.{Turns, At, Child, Call, ObjectField, NestedValue, has_item}
-use Rattle.parser_rules.proofs.Kept.{left}
+use Rattle.parser_rules.proofs.runs.Frame.{left}
 use Rattle.apollo_grammar.proofs.grammar.value.+value.Given as goal
 
 abbrev pub decreases-value : goal.decreases-value

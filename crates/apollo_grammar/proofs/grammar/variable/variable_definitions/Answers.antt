@@ -1,6 +1,6 @@
 use Rattle.std.proofs.Common.{refl}
 use Rattle.lexical_grammar.specs.declared.TokenKind.TheVariants as token
-use Rattle.parser_rules.proofs.Takes.{takes, node_takes, at_there, taken}
+use Rattle.parser_rules.proofs.runs.Progress.{takes, node_takes, at_there, taken}
 use Rattle.apollo_grammar.proofs.grammar.variable.variable_definitions.Goals as goal
 
 pub loop-p-smaller : goal.loop-p-smaller

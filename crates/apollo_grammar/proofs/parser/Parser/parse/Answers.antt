@@ -17,7 +17,7 @@ use Rattle.parser_rules.specs.State.{finished}
 use Rattle.parser_rules.specs.Rule.{Runs, Call, Document}
 use Rattle.parser_rules.specs.Leaves.{leaves, OneLeafAnItem}
 use Rattle.parser_rules.specs.Reports.{Reported}
-use Rattle.parser_rules.proofs.Kept.{root_kept, root_stays}
+use Rattle.parser_rules.proofs.runs.Frame.{root_kept, root_stays}
 use Rattle.document_grammar.specs.Numbers.{is_kind}
 use Rattle.apollo_grammar.proofs.Building.{finished_kind}
 use Rattle.apollo_grammar.specs.View.{report_of}

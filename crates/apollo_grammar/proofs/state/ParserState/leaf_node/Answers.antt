@@ -1,6 +1,6 @@
 use Rattle.std.proofs.Common.{◌≡◌, true, sym, ap, subst, ◌∙◌}
 use Rattle.std.proofs.lemmas.Result.{on_ok_weaker}
-use Rattle.parser_rules.proofs.Then.{one_leaf}
+use Rattle.parser_rules.proofs.runs.Forms.{one_leaf}
 use Rattle.parser_rules.specs.State.{State}
 use Rattle.apollo_grammar.specs.Reading.{is_leaf_of}
 use Rattle.apollo_grammar.specs.View.{lexeme_of, current_of}

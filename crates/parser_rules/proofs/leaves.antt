@@ -1,0 +1,3 @@
+pub mod LeafCheck
+pub mod LeafChecked
+pub mod OneLeaf

@@ -1,0 +1,4 @@
+pub mod TokenSets
+pub mod Split
+pub mod FirstSets
+pub mod MachineClasses

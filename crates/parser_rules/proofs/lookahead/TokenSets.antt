@@ -1,0 +1,312 @@
+-- What a test says of the classes of the current token and of the significant one behind it: it passes exactly for the classes of its set.
+use Rattle.std.proofs.Common.{◌≡◌, ℕ, zero, suc, ◌+◌, ◌-◌, ◌^◌, ◌%◌, ◌≤◌, min, Bool, true, false, not, cond, ◌&&◌, eqb, bit_and, List, [], ◌∷◌, Option, Some, None, refl, sym, ap, ◌∙◌, subst, inl, inr, eqb-true, is_some, arith}
+use Rattle.std.specs.Prelude.{⊤}
+use Rattle.std.proofs.lemmas.Bool.{eqb-false}
+use Rattle.std.specs.Int.{bit_at}
+use Rattle.std.specs.Int.Bits.{bit_xor}
+use Rattle.std.proofs.lemmas.Nat.Bits.{bit_at_and, bit_at_xor, bit_at-lt, bit_at-pow_same, bit_at-zero}
+use Rattle.lexical_grammar.specs.declared.TokenKind.{TokenKind}
+use Rattle.lexical_grammar.specs.declared.TokenKind.TheVariants as token
+use Rattle.lexical_grammar.specs.Cut.{Item}
+use Rattle.lexical_grammar.specs.Answers.{Answer, gives, limit_at, is_end}
+use Rattle.document_grammar.specs.declared.kind.SyntaxKind.{SyntaxKind}
+use Rattle.document_grammar.specs.Kinds.{words, COMMENT}
+use Rattle.document_grammar.specs.Numbers.{number}
+use Rattle.document_grammar.specs.Sentence.{leaf_number}
+use Rattle.grammar_machine.specs.Table.{name_classes, token_kinds}
+use Rattle.document_grammar.specs.Tree.{Token}
+use Rattle.document_grammar.specs.Booleans.{◌and◌}
+use Rattle.grammar_machine.specs.Machine.{holds as within, class, word_class}
+use Rattle.grammar_machine.proofs.Checks.{subset}
+use Rattle.grammar_machine.proofs.Classes.{holds-and}
+use Rattle.document_grammar.proofs.Booleans.{either, false-true, and-l, and-r}
+use Rattle.grammar_machine.proofs.TableLemmas.{holds-subset, holds-disjoint}
+use Rattle.grammar_machine.proofs.Sound.{any, class-any, word-name, holds-one}
+use Rattle.grammar_machine.proofs.Endings.{words_checked}
+use Rattle.parser_rules.specs.State.{State, Text, Lexeme, same_kind, ignored, bad, met, wait, lexeme, read_on, second, is_at, is_word, is_over}
+use Rattle.parser_rules.proofs.runs.Frame.{on_kind, on_item}
+
+-- ---- classes of tokens
+
+-- where no token is; no token has this class
+abbrev pub absent : ℕ
+absent = COMMENT
+
+-- the end has class 0
+abbrev pub lexeme_class : TokenKind → Text → ℕ
+lexeme_class k text = cond (is_end k) 0 (class (leaf_number k, text))
+
+abbrev pub class_of : Option Lexeme → ℕ
+class_of None = absent
+class_of (Some t) = lexeme_class t.kind t.text
+
+-- not an ignored token
+abbrev pub Shown : Option Lexeme → Type 0
+Shown None = ⊤
+Shown (Some t) = ignored t.kind ≡ None
+
+abbrev on_ignored : List Answer → Item → TokenKind → Option SyntaxKind → Option Lexeme
+on_ignored rest item k found = elim found [ Some leaf ↦ second rest | None ↦ Some (lexeme k item) ]
+
+abbrev on_found : List Answer → Item → Option TokenKind → Option Lexeme
+on_found rest item found = elim found [ None ↦ second rest | Some k ↦ on_ignored rest item k (ignored k) ]
+
+pub second-shown : (xs : List Answer) → Shown (second xs)
+unfolding second
+second-shown [] = tt
+second-shown (limit_at index ∷ rest) = second-shown rest
+second-shown (gives item ∷ rest) = elim item.kind as (λ found. Shown (on_found rest item found)) [
+  | None ↦ second-shown rest
+  | Some k ↦ (elim (ignored k) as (λ found. ignored k ≡ found → Shown (on_ignored rest item k found)) [ Some leaf ↦ λ e. second-shown rest | None ↦ λ e. e ]) refl
+]
+
+-- reading on comes to the token behind the current one
+pub read-second : (xs : List Answer) (s : State) → (read_on xs s).current ≡ second xs
+unfolding read_on second
+read-second [] s = refl
+read-second (limit_at index ∷ rest) s = read-second rest (met index (record s { items = rest }))
+read-second (gives item ∷ rest) s = elim item.kind as (λ found. (on_item rest s item found).current ≡ on_found rest item found) [
+  | None ↦ read-second rest (bad item.text item.index (record s { items = rest }))
+  | Some k ↦ elim (ignored k) as (λ found. (on_kind rest s item k found).current ≡ on_ignored rest item k found) [
+    | Some leaf ↦ read-second rest (wait leaf item.text (record s { items = rest }))
+    | None ↦ refl
+  ]
+]
+
+-- ---- sets of the tests
+
+-- ignored tokens are never current
+abbrev pub kind_set : TokenKind → ℕ
+kind_set token.Whitespace = 0
+kind_set token.Comment = 0
+kind_set token.Comma = 0
+kind_set token.Eof = 1
+kind_set token.Name = name_classes
+kind_set k = 2 ^ leaf_number k
+
+abbrev pub word_set : SyntaxKind → ℕ
+word_set k = bit_and (2 ^ number k) name_classes
+
+-- all classes but that of no token, and that of the end
+abbrev pub present : ℕ
+present = any - 2 ^ absent
+
+abbrev pub ready : ℕ
+ready = present - 1
+
+at-end : (k : TokenKind) → same_kind token.Eof k ≡ within 0 (kind_set k)
+unfolding same_kind within
+at-end token.Eof = refl
+at-end _ = refl
+
+name-class : (text : Text) → within (class (18, text)) name_classes ≡ true
+unfolding class
+name-class text = word-name words text words_checked
+
+at-name : (k : TokenKind) (text : Text) → same_kind token.Name k ≡ within (class (leaf_number token.Name, text)) (kind_set k)
+unfolding same_kind within
+at-name token.Name text = sym (name-class text)
+at-name k text = sym (holds-disjoint (class (18, text)) name_classes (kind_set k) refl (name-class text))
+
+at-kind : (j k : TokenKind) (text : Text) → is_end j ≡ false → ignored j ≡ None → same_kind j k ≡ within (class (leaf_number j, text)) (kind_set k)
+unfolding same_kind within class
+at-kind token.Name k text e i = at-name k text
+at-kind token.Whitespace k text e i = absurd cc
+at-kind token.Comment k text e i = absurd cc
+at-kind token.Comma k text e i = absurd cc
+at-kind token.Eof k text e i = absurd cc
+at-kind _ token.Name text e i = refl
+at-kind _ _ text e i = refl
+
+-- a class in two sets
+in-both : (a x y : ℕ) → within a (bit_and x y) ≡ true → (within a x ≡ true) × (within a y ≡ true)
+unfolding within
+in-both a x y h =
+    let e : bit_at (bit_and x y) a ≡ 1 = eqb-true _ _ h in
+    let i : bit_at (bit_and x y) a ≡ min (bit_at x a) (bit_at y a) = bit_at_and x y a in
+    let lx = bit_at-lt x a in
+    let ly = bit_at-lt y a in
+    let f : bit_at x a ≡ 1 = omega arith in
+    let g : bit_at y a ≡ 1 = omega arith in
+    (rw f refl, rw g refl)
+
+no-name : (a x : ℕ) → within a name_classes ≡ false → within a (bit_and x name_classes) ≡ false
+no-name a x n = elim (either (within a (bit_and x name_classes))) [ inl p ↦ false-true n (in-both a x name_classes p).1 | inr p ↦ p ]
+
+own-class : (n : ℕ) → within n (2 ^ n) ≡ true
+unfolding within
+own-class n = rw (bit_at-pow_same n) refl
+
+-- a name's class is in a keyword's set exactly where it is the keyword
+word-set : (a n : ℕ) → within a name_classes ≡ true → eqb a n ≡ within a (bit_and (2 ^ n) name_classes)
+word-set a n h = elim (either (eqb a n)) [
+  | inl p ↦ p ∙ sym (holds-and a (2 ^ n) name_classes (subst (λ (k : ℕ). within a (2 ^ k) ≡ true) (eqb-true a n p) (own-class a)) h)
+  | inr p ↦ elim (either (within a (bit_and (2 ^ n) name_classes))) [
+    | inl q ↦ absurd (eqb-false a n p (holds-one a n (in-both a (2 ^ n) name_classes q).0))
+    | inr q ↦ p ∙ sym q
+  ]
+]
+
+at-word : (j : TokenKind) (k : SyntaxKind) (text : Text) → is_end j ≡ false → ignored j ≡ None → same_kind j token.Name && eqb (word_class words text) (number k) ≡ within (class (leaf_number j, text)) (bit_and (2 ^ number k) name_classes)
+unfolding same_kind within class
+at-word token.Name k text e i = word-set (word_class words text) (number k) (word-name words text words_checked)
+at-word token.Whitespace k text e i = absurd cc
+at-word token.Comment k text e i = absurd cc
+at-word token.Comma k text e i = absurd cc
+at-word token.Eof k text e i = absurd cc
+at-word j k text e i = sym (no-name (leaf_number j) (2 ^ number k) refl)
+
+end-word : (k : SyntaxKind) (text : Text) → same_kind token.Eof token.Name && eqb (word_class words text) (number k) ≡ within 0 (bit_and (2 ^ number k) name_classes)
+unfolding same_kind within
+end-word k text = sym (no-name 0 (2 ^ number k) refl)
+
+-- the class of any token
+pub not-zero : (a : Token) → within (class a) ready ≡ true
+unfolding class within
+not-zero a = elim (either (eqb a.0 18)) [
+  | inl p ↦ rw p (holds-subset (word_class words a.1) name_classes ready refl (word-name words a.1 words_checked))
+  | inr p ↦ elim (either (within a.0 token_kinds)) [
+    | inl q ↦ rw (p, q) (holds-subset a.0 token_kinds ready refl q)
+    | inr q ↦ rw (p, q) three
+  ]
+]
+  where
+    three : within 3 ready ≡ true
+    three = refl
+
+at-none : (k : TokenKind) → false ≡ within absent (kind_set k)
+unfolding within
+at-none token.Eof = refl
+at-none _ = refl
+
+end-ready : false ≡ within 0 ready
+unfolding within
+end-ready = refl
+
+none-ready : false ≡ within absent ready
+unfolding within
+none-ready = refl
+
+end-present : true ≡ within 0 present
+unfolding within
+end-present = refl
+
+none-present : false ≡ within absent present
+unfolding within
+none-present = refl
+
+end-any : within 0 any ≡ true
+unfolding within
+end-any = refl
+
+none-any : within absent any ≡ true
+unfolding within
+none-any = refl
+
+-- the end, or any other token
+at-token : (A : TokenKind → ℕ → Type 0) (k : TokenKind) (text : Text) → ignored k ≡ None → A token.Eof 0 → (is_end k ≡ false → A k (class (leaf_number k, text))) → A k (lexeme_class k text)
+at-token A token.Eof text i e h = e
+at-token A k text i e h = h refl
+
+pub at-set : (k : TokenKind) (o : Option Lexeme) → Shown o → is_at k o ≡ within (class_of o) (kind_set k)
+at-set k None w = at-none k
+at-set k (Some t) w = at-token (λ j c. same_kind j k ≡ within c (kind_set k)) t.kind t.text w (at-end k) (λ e. at-kind t.kind k t.text e w)
+
+name-none : within absent name_classes ≡ false
+unfolding within
+name-none = refl
+
+pub word-is : (k : SyntaxKind) (o : Option Lexeme) → Shown o → is_word k o ≡ within (class_of o) (word_set k)
+word-is k None w = sym (no-name absent (2 ^ number k) name-none)
+word-is k (Some t) w = at-token (λ j c. same_kind j token.Name && eqb (word_class words t.text) (number k) ≡ within c (word_set k)) t.kind t.text w (end-word k t.text) (λ e. at-word t.kind k t.text e w)
+
+pub ready-is : (o : Option Lexeme) → Shown o → not (is_over o) ≡ within (class_of o) ready
+ready-is None w = none-ready
+ready-is (Some t) w = at-token (λ j c. not (is_end j) ≡ within c ready) t.kind t.text w end-ready (λ e. ap not e ∙ sym (not-zero (leaf_number t.kind, t.text)))
+
+pub present-is : (o : Option Lexeme) → Shown o → is_some o ≡ within (class_of o) present
+present-is None w = none-present
+present-is (Some t) w = at-token (λ j c. true ≡ within c present) t.kind t.text w end-present (λ e. sym (holds-subset (class (leaf_number t.kind, t.text)) ready present refl (not-zero (leaf_number t.kind, t.text))))
+
+pub of-any : (o : Option Lexeme) → Shown o → within (class_of o) any ≡ true
+of-any None w = none-any
+of-any (Some t) w = at-token (λ j c. within c any ≡ true) t.kind t.text w end-any (λ e. class-any (leaf_number t.kind, t.text))
+
+-- ---- sets of the next two tokens
+
+-- sets that hold the classes of the current token and of the one behind it
+pub record Seen (x y : ℕ) (s : State) : Type 0 where
+  pub near : within (class_of s.current) x ≡ true
+  pub far : within (class_of (second s.items)) y ≡ true
+
+pub seen-any : (s : State) → Shown s.current → Seen any any s
+seen-any s w = record { near = of-any s.current w; far = of-any (second s.items) (second-shown s.items) }
+
+pub seen-more : (x y u v : ℕ) (s : State) → subset x u and subset y v ≡ true → Seen x y s → Seen u v s
+seen-more x y u v s e h = record { near = holds-subset (class_of s.current) x u (and-l _ _ e) h.near; far = holds-subset (class_of (second s.items)) y v (and-r _ _ e) h.far }
+
+pub seen-same : (x y : ℕ) (s t : State) → t.current ≡ s.current → t.items ≡ s.items → Seen x y s → Seen x y t
+seen-same x y s t c i h = record { near = subst (λ o. within (class_of o) x ≡ true) (sym c) h.near; far = subst (λ xs. within (class_of (second xs)) y ≡ true) (sym i) h.far }
+
+-- a set without a part; a branch that cannot be taken is left out
+abbrev pub part : {R : Type 0} → R → ℕ → (ℕ → R) → R
+part e z f = cond (eqb z 0) e (f z)
+
+abbrev pub by_near : {R : Type 0} → (R → R → R) → R → ℕ → ℕ → ℕ → (ℕ → ℕ → R) → (ℕ → ℕ → R) → R
+by_near c e m x y f g = c (part e (bit_and x m) (λ z. f z y)) (part e (bit_xor x (bit_and x m)) (λ z. g z y))
+
+abbrev pub by_far : {R : Type 0} → (R → R → R) → R → ℕ → ℕ → ℕ → (ℕ → ℕ → R) → (ℕ → ℕ → R) → R
+by_far c e m x y f g = c (part e (bit_and y m) (λ z. f x z)) (part e (bit_xor y (bit_and y m)) (λ z. g x z))
+
+-- no token is left but the end
+abbrev pub over : ℕ
+over = 2 ^ absent + 1
+
+no-bit : (n : ℕ) → n ≤ 1 → eqb n 1 ≡ false → n ≡ 0
+no-bit zero l h = refl
+no-bit (suc zero) l h = false-true h refl
+no-bit (suc (suc n)) l h = omega arith
+
+-- a class in a set and not in a second is in the first without what they share
+pub holds-minus : (a x m : ℕ) → within a x ≡ true → within a m ≡ false → within a (bit_xor x (bit_and x m)) ≡ true
+unfolding within
+holds-minus a x m h g =
+    let e : bit_at x a ≡ 1 = eqb-true _ _ h in
+    let lm = bit_at-lt m a in
+    let f : bit_at m a ≡ 0 = no-bit (bit_at m a) (omega arith) g in
+    let i : bit_at (bit_and x m) a ≡ min (bit_at x a) (bit_at m a) = bit_at_and x m a in
+    let k : bit_at (bit_and x m) a ≡ 0 = omega arith in
+    let j : bit_at (bit_xor x (bit_and x m)) a ≡ (bit_at x a + bit_at (bit_and x m) a) % 2 = bit_at_xor x (bit_and x m) a in
+    let l : bit_at (bit_xor x (bit_and x m)) a ≡ 1 = rw (e, k) at j in
+    rw l refl
+
+zero-one : {A : Type 0} {n : ℕ} → n ≡ 0 → n ≡ 1 → A
+zero-one e f = absurd (omega (arith, e, f))
+
+pub holds-none : {A : Type 0} (a : ℕ) → within a 0 ≡ true → A
+unfolding within
+holds-none a h = let z : bit_at 0 a ≡ 0 = bit_at-zero a in let e : bit_at 0 a ≡ 1 = eqb-true _ _ h in zero-one z e
+
+part-live : (a z : ℕ) (f : ℕ → Bool) → part true z f ≡ true → within a z ≡ true → f z ≡ true
+part-live a z f h i = elim (either (eqb z 0)) [ inl p ↦ holds-none a (subst (λ n. within a n ≡ true) (eqb-true _ _ p) i) | inr p ↦ (rw p at h) ]
+
+abbrev pub Branch : (ℕ → ℕ → Bool) → State → Type 0
+Branch f s = (u : ℕ) × (v : ℕ) × (f u v ≡ true) × Seen u v s
+
+abbrev pub pick : Bool → (ℕ → ℕ → Bool) → (ℕ → ℕ → Bool) → ℕ → ℕ → Bool
+pick true f g = f
+pick false f g = g
+
+pub near-at : (b : Bool) (m x y : ℕ) (f g : ℕ → ℕ → Bool) (s : State) → b ≡ within (class_of s.current) m → by_near (λ a b. a and b) true m x y f g ≡ true → Seen x y s → Branch (pick b f g) s
+near-at true m x y f g s e h i = let z = holds-and (class_of s.current) x m i.near (sym e) in (bit_and x m, y, part-live (class_of s.current) (bit_and x m) (λ z. f z y) (and-l _ _ h) z, record { near = z; far = i.far })
+near-at false m x y f g s e h i = let z = holds-minus (class_of s.current) x m i.near (sym e) in (bit_xor x (bit_and x m), y, part-live (class_of s.current) (bit_xor x (bit_and x m)) (λ z. g z y) (and-r _ _ h) z, record { near = z; far = i.far })
+
+pub far-at : (b : Bool) (m x y : ℕ) (f g : ℕ → ℕ → Bool) (s : State) → b ≡ within (class_of (second s.items)) m → by_far (λ a b. a and b) true m x y f g ≡ true → Seen x y s → Branch (pick b f g) s
+far-at true m x y f g s e h i = let c = class_of (second s.items) in let z = holds-and c y m i.far (sym e) in (x, bit_and y m, part-live c (bit_and y m) (λ z. f x z) (and-l _ _ h) z, record { near = i.near; far = z })
+far-at false m x y f g s e h i = let c = class_of (second s.items) in let z = holds-minus c y m i.far (sym e) in (x, bit_xor y (bit_and y m), part-live c (bit_xor y (bit_and y m)) (λ z. g x z) (and-r _ _ h) z, record { near = i.near; far = z })
+
+pub flip : (b v : Bool) → b ≡ not v → not b ≡ v
+flip true true e = sym e
+flip true false e = refl
+flip false true e = refl
+flip false false e = sym e

@@ -1,0 +1,4 @@
+pub mod IgnoredPlaces
+pub mod RowSymbols
+pub mod Popped
+pub mod Recovers

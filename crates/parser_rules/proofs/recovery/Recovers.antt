@@ -1,0 +1,146 @@
+-- Going on after reports: where the tokens that are left at a turn of the document's loop are a sentence's, its children follow, without a report.
+use Rattle.std.proofs.Common.{◌≡◌, ℕ, ◌≤◌, Bool, true, is_some, List, [], ◌∷◌, ◌++◌, Option, Some, None, refl, sym, ap, ap₂, ◌∙◌, subst, ◌⊎◌, inl, inr, append-nil}
+use Rattle.std.specs.Prelude.{⊤}
+use Rattle.lexical_grammar.specs.declared.TokenKind.{TokenKind}
+use Rattle.lexical_grammar.specs.Cut.{Item, Cut}
+use Rattle.lexical_grammar.specs.Answers.{Answer, gives, limit_at, limited}
+use Rattle.document_grammar.proofs.Booleans.{false-true, and-l, and-r}
+use Rattle.parser_rules.specs.Reports.{Reported, no_more, passed}
+use Rattle.parser_rules.proofs.reports.InOrder.{AllUpTo, before_last}
+use Rattle.parser_rules.proofs.reports.AlongItems.{reported_at}
+use Rattle.document_grammar.specs.declared.kind.SyntaxKind.TheVariants as kind
+use Rattle.document_grammar.specs.Kinds.{DOCUMENT}
+use Rattle.document_grammar.specs.Forests as built
+use Rattle.document_grammar.specs.Builds.{Building, Open, start, nothing}
+use Rattle.document_grammar.specs.Numbers.{number}
+use Rattle.document_grammar.proofs.Joins.{join_assoc}
+use Rattle.document_grammar.specs.Tree.{Token, Tree, node, Forest, none}
+use Rattle.document_grammar.specs.Derivation.{document, Spells, nest}
+use Rattle.grammar_machine.specs.Machine.{holds as within, frame, Reach, start as starts}
+use Rattle.grammar_machine.proofs.SentenceTheorems.{sentence-parse, one-derivation}
+use Rattle.grammar_machine.proofs.Patterns.{label}
+use Rattle.grammar_machine.proofs.FromMachineTree.{show, shows}
+use Rattle.grammar_machine.proofs.Sound.{any}
+use Rattle.parser_rules.specs.State.{State, Lexeme, Part, Report, add_all, begun, found_at, second as second_of}
+use Rattle.parser_rules.specs.Rule.{Runs, Rule, Call, While, Ready, Definition, holds, Turns}
+use Rattle.parser_rules.proofs.runs.Frame.{parts_forest, add_all_above, add_all_here}
+use Rattle.parser_rules.proofs.soundness.WithoutIgnored.{stack, strip, layers, all_ignored}
+use Rattle.parser_rules.proofs.reports.NoReport.{answers_tokens, all_tokens, rest, current_tokens, Now, Held}
+use Rattle.parser_rules.proofs.lookahead.TokenSets.{Shown, ready-is, second-shown, of-any, ready}
+use Rattle.parser_rules.proofs.lookahead.Split.{low, loose, spot}
+use Rattle.parser_rules.proofs.soundness.TableCheck.{root_ends, checks_turns}
+use Rattle.parser_rules.proofs.soundness.Checked.{checked_turns}
+use Rattle.parser_rules.proofs.soundness.Plain.{Plain, plain-read}
+use Rattle.parser_rules.proofs.soundness.Simulation.{Fits, Tells, good, link}
+use Rattle.parser_rules.proofs.runs.Anew.{Alike, Same_steps, anew}
+use Rattle.parser_rules.proofs.soundness.Soundness.{document-label, start-level, loops, Turn, from_now, now_words, Silent, root-out, only-unread}
+
+-- the same turn in a tree of its own
+abbrev pub afresh : State → State
+afresh st = record { items = st.items; current = st.current; waiting = st.waiting; tree = start kind.DOCUMENT nothing; errors = []; limit = st.limit; depth = 0; high = 0; accepts = true; asked = st.asked }
+
+alike : (st : State) → Turn st → Alike st (afresh st)
+alike st c = record { current = refl; rest = record { items = refl; waiting = refl; limit = refl; depth = sym c.no_level; accepts = sym c.accepts } }
+
+afresh-fits : (st : State) (c : Turn st) → all_ignored st.waiting ≡ true → Fits document (from_now st c) [] ⊤ st.limit (now_words st c) DOCUMENT (spot 0 low loose) ready any [] (afresh st)
+unfolding holds within
+afresh-fits st c i = record {
+  calm = record {
+    quiet = record { clean = refl; accepts = refl; waits = λ z. i };
+    now = subst (λ (o : Option Lexeme). Now o st.items) (sym c.current) c.now;
+    held = subst (λ (o : Option Lexeme). Held (from_now st c) o st.items) (sym c.current) (record { front = []; split = refl; tokens = refl });
+  };
+  seen = record { near = sym (c.is_ready ∙ ready-is st.current shown_now); far = of-any (second_of st.items) (second-shown st.items) };
+  stands = (
+    record {
+      children = none;
+      place = record { reach = subst (λ (v : List Token). Reach DOCUMENT (now_words st c) (frame DOCUMENT 0 none ∷ []) v) (sym same) starts; leveled = start-level st.limit (from_now st c) (now_words st c); alone = λ e. refl };
+      built = λ z. ap (λ (k : ℕ). (k, none) ∷ ((0, none) ∷ [])) (sym document-label.0);
+    },
+    tt,
+  );
+}
+  where
+    same : rest (afresh st) ≡ now_words st c
+    same = ap (λ (o : Option Lexeme). current_tokens o ++ answers_tokens st.items) c.current
+
+    shown_now : Shown st.current
+    shown_now = subst (λ (o : Option Lexeme). Shown o) (sym c.current) c.now.0
+
+-- A run from a turn on, as one of a document of its own: the first report is right, or there is none and a sentence is built. Both runs add
+-- the same trees and reports.
+pub record From_turn (st s : State) (c : Turn st) : Type 0 where
+  pub own : State
+  pub alike : Alike s own
+  pub steps : Same_steps st s (afresh st) own
+  pub parsed : Tells document (from_now st c) [] ⊤ st.limit (now_words st c) own ⊎ Silent (from_now st c) [] ⊤ st.limit (now_words st c) own
+
+pub from-turn : (st s : State) (c : Turn st) → all_ignored st.waiting ≡ true → Runs loops st s → From_turn st s c
+unfolding checks_turns
+from-turn st s c i run =
+    let a = anew run (afresh st) (alike st c) in
+    record {
+      own = a.0;
+      alike = a.2;
+      steps = a.3;
+      parsed = root-out (from_now st c) [] ⊤ st.limit (now_words st c) a.0
+          (link document (from_now st c) [] ⊤ st.limit (now_words st c) a.1 5 DOCUMENT (spot 0 low loose) ready any [] root_ends
+          (good document (from_now st c) [] ⊤ st.limit (now_words st c) 5 DOCUMENT (spot 0 low loose) ready any (While Ready (Call Definition)) root_ends checked_turns) (afresh-fits st c i));
+    }
+
+-- The root's later children are the derivation's, and nothing more is reported.
+pub record Recovered (st s : State) (t : Tree) : Type 0 where
+  pub later : built.Forest
+  pub children : (add_all s.waiting s.tree).here ≡ built.join st.tree.here later
+  pub derived : node DOCUMENT (strip later) ≡ t
+  pub silent : s.errors ≡ st.errors
+
+head-forest : (a b : ℕ × Forest) (v w : List (ℕ × Forest)) → a ∷ v ≡ b ∷ w → a.1 ≡ b.1
+head-forest a b v w e = ap (λ (l : ℕ × Forest). l.1) (head a b v w e)
+  where
+    head : (a b : ℕ × Forest) (v w : List (ℕ × Forest)) → a ∷ v ≡ b ∷ w → a ≡ b
+    head a b v w e = cc
+
+root-layer : (b : Building) (o : Open) (k : ℕ) (f : Forest) (more : List (ℕ × Forest)) → b.above ≡ o ∷ [] → stack b ≡ (k, f) ∷ more → strip b.here ≡ f
+root-layer b o k f more a e = head-forest (number o.kind, strip b.here) (k, f) _ more (sym (ap (layers b.here) a) ∙ e)
+
+no-reports : (a : List Report) (v w : List Report) → v ≡ a ++ w → w ≡ [] → v ≡ a
+no-reports a v w e h = e ∙ (ap (λ (z : List Report). a ++ z) h ∙ append-nil a)
+
+pub recovers : (st s : State) (c : Turn st) (t : Tree) → all_ignored st.waiting ≡ true → Spells (now_words st c) t document → Plain t → nest t ≤ st.limit → all_tokens (from_now st c) ≡ true → Runs loops st s → Recovered st s t
+recovers st s c t i h p n a run = on (from-turn st s c i run)
+  where
+    on : From_turn st s c → Recovered st s t
+    on f = elim f.parsed [
+      | inl o ↦ (
+          let k = only-unread st.limit (from_now st c) o.report o.taken t h n a o.right in
+          let q = sentence-parse document (now_words st c) t h in
+          absurd (plain-read (from_now st c) st.limit (now_words st c) k.0 q.0 q.1 (subst (λ (z : Tree). Plain z) (sym q.2) p) k.1))
+      | inr o ↦ (
+          let own : State = f.own in
+          let more : built.Forest = f.steps.more in
+          let later : built.Forest = built.join more (parts_forest s.waiting) in
+          let here : (add_all own.waiting own.tree).here ≡ later = add_all_here own.waiting own.tree ∙ ap₂ (λ (x : built.Forest) (w : List Part). built.join x (parts_forest w)) f.steps.here' f.alike.rest.waiting in
+          let bare : strip later ≡ shows o.children = ap strip (sym here) ∙ root-layer (add_all own.waiting own.tree) (record { before = built.none; kind = kind.DOCUMENT }) (label DOCUMENT) (shows o.children) ((0, none) ∷ []) (add_all_above own.waiting own.tree ∙ f.steps.above') (o.built tt) in
+          record {
+            later = later;
+            children = add_all_here s.waiting s.tree ∙ (ap (λ (x : built.Forest). built.join x (parts_forest s.waiting)) f.steps.here ∙ join_assoc st.tree.here more (parts_forest s.waiting));
+            derived = ap₂ (λ (k : ℕ) (g : Forest). node k g) (sym document-label.0) bare ∙ one-derivation document (now_words st c) (show (node DOCUMENT o.children)) t o.spells h;
+            silent = no-reports st.errors s.errors f.steps.reports f.steps.errors (sym f.steps.errors' ∙ o.silent);
+          })
+    ]
+
+-- where all answers are tokens, none has a report of its own
+tokens-silent : (taken : Bool) (xs : List Answer) → all_tokens xs ≡ true → Reported taken xs []
+tokens-silent taken [] h = no_more
+tokens-silent taken (limit_at index ∷ xs) h = false-true refl (and-l _ _ h)
+tokens-silent taken (gives item ∷ xs) h = on item.kind refl (and-l _ _ h) (tokens-silent taken xs (and-r _ _ h))
+  where
+    on : (found : Option TokenKind) → item.kind ≡ found → is_some found ≡ true → Reported taken xs [] → Reported taken (gives item ∷ xs) []
+    on None e g r = false-true refl g
+    on (Some k) e g r = passed e r
+
+-- and no report stands beyond the first token that is left
+pub none-beyond : (r k : ℕ) (source : List ℕ) (items : List Item) (first_rule : Rule) (b st : State) (c : Turn st) → Cut source items → all_tokens (from_now st c) ≡ true → Runs first_rule (begun (limited k items) r kind.DOCUMENT) b → Turns Ready (Call Definition) b st → AllUpTo c.token.index st.errors
+none-beyond r k source items first_rule b st c cut h run turns =
+    before_last k source items st.errors (record { found = found_at c.token; index = c.token.index }) cut (reported_at (limited k items) r kind.DOCUMENT c.token run turns c.current c.accepts (tokens-silent true st.items (and-r _ _ h)))

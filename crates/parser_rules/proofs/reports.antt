@@ -1,0 +1,4 @@
+pub mod NoReport
+pub mod AlongItems
+pub mod Endings
+pub mod InOrder

@@ -1,0 +1,7 @@
+pub mod Steps
+pub mod Frame
+pub mod AtTheEnd
+pub mod Inversion
+pub mod Forms
+pub mod Progress
+pub mod Anew

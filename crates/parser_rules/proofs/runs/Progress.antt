@@ -1,0 +1,242 @@
+-- What surely reads on: rules that take the token that is there.
+use Rattle.std.proofs.Common.{◌≡◌, ℕ, ◌<◌, Option, Some, None, [], ◌∷◌, ◌++◌, refl, sym, ◌∙◌, ap, subst, arith, true, false, Bool, not, ◌&&◌, ◌||◌, if◌then◌else◌, inl, inr, true≢false}
+use Rattle.lexical_grammar.specs.declared.TokenKind.{TokenKind}
+use Rattle.lexical_grammar.specs.declared.TokenKind.TheVariants as token
+use Rattle.document_grammar.specs.declared.kind.SyntaxKind.{SyntaxKind}
+use Rattle.document_grammar.specs.Booleans.{◌and◌, ◌or◌}
+use Rattle.document_grammar.proofs.Booleans.{and-l, and-r, either}
+use Rattle.parser_rules.specs.State.{State, Lexeme, Found, flush, opened, closed, moved, bump, fault, found_at, noted, note, is_at, is_over, is_deep, enter, leave}
+use Rattle.parser_rules.specs.Rule.{At, Ready, Either, holds, Prim, Bump, Note, TooDeep, step, Node, FragmentName, TypeCondition, Directives, NamedType, kind_of, Part, Definition, Described, Selection, Spread, AliasedName, WordValue, ValueOf, NestedValue, has_item, inside, body, Rule, Skip, Do, Seq, When, Child, Nested, Call, Runs, skip, does, seq, yes, no, done, again, child, deeper, refused, call, plain, wrapped}
+use Rattle.parser_rules.specs.declared.message.Message.{Message}
+use Rattle.parser_rules.proofs.runs.Frame.{left, moved_left, fewer}
+
+-- behind the rule the token that was there is still there
+abbrev pub stays : Rule → Bool
+stays Skip = true
+stays (Do (Note m)) = true
+stays _ = false
+
+-- the nodes and the parts that take the token that is there, whatever it is
+unfoldable pub node_takes : Node → Bool
+node_takes FragmentName = false
+node_takes TypeCondition = false
+node_takes (Directives c) = false
+node_takes NamedType = false
+node_takes _ = true
+
+unfoldable pub part_takes : Part → Bool
+part_takes Definition = true
+part_takes Described = true
+part_takes Selection = true
+part_takes Spread = true
+part_takes AliasedName = true
+part_takes WordValue = true
+part_takes (ValueOf c pops) = pops
+part_takes _ = false
+
+-- the rule takes the token that is there
+unfoldable pub takes : Rule → Bool
+takes (Do (Bump leaf)) = true
+takes (Seq a b) = takes a or (stays a and takes b)
+takes (When q a b) = takes a and takes b
+takes (Child n) = node_takes n
+takes (Call p) = part_takes p
+takes _ = false
+
+node_does : (n : Node) → node_takes n ≡ true → takes (inside n) ≡ true
+unfolding takes node_takes part_takes inside ◌and◌ ◌or◌
+node_does FragmentName e = absurd (true≢false (sym e))
+node_does TypeCondition e = absurd (true≢false (sym e))
+node_does (Directives c) e = absurd (true≢false (sym e))
+node_does NamedType e = absurd (true≢false (sym e))
+node_does _ e = refl
+
+part_does : (p : Part) → part_takes p ≡ true → takes (body p) ≡ true
+unfolding takes node_takes part_takes body ◌and◌ ◌or◌
+part_does Definition e = refl
+part_does Described e = refl
+part_does Selection e = refl
+part_does Spread e = refl
+part_does AliasedName e = refl
+part_does WordValue e = refl
+part_does (ValueOf c false) e = absurd (true≢false (sym e))
+part_does (ValueOf true true) e = refl
+part_does (ValueOf false true) e = refl
+part_does _ e = absurd (true≢false (sym e))
+
+-- ---- a token is there
+
+unfoldable pub IsThere : State → Type 0
+IsThere s = (x : Lexeme) × (s.current ≡ Some x)
+
+there : (o : Option Lexeme) (k : TokenKind) → true ≡ is_at k o → (x : Lexeme) × (o ≡ Some x)
+there None k e = absurd cc
+there (Some x) k e = (x, refl)
+
+pub at_there : (k : TokenKind) (s : State) → true ≡ holds (At k) s → IsThere s
+unfolding holds IsThere
+at_there k s e = there s.current k e
+
+pub ready_there : (s : State) → true ≡ holds Ready s → IsThere s
+unfolding holds IsThere
+ready_there s e = elim s.current as (λ o. true ≡ not (is_over o) → (x : Lexeme) × (o ≡ Some x)) [ None ↦ λ y. absurd cc | Some x ↦ λ y. (x, refl) ] e
+
+either_there : (j k : TokenKind) (o : Option Lexeme) → true ≡ is_at j o || is_at k o → (x : Lexeme) × (o ≡ Some x)
+either_there j k None e = absurd cc
+either_there j k (Some x) e = (x, refl)
+
+-- one of two tokens is there
+pub one_there : (j k : TokenKind) (s : State) → true ≡ holds (Either (At j) (At k)) s → IsThere s
+unfolding holds IsThere
+one_there j k s e = either_there j k s.current e
+
+item_here : (o : Option Lexeme) (d : Bool) → true ≡ (not (is_over o) && not (is_at token.RBracket o)) && not d → (x : Lexeme) × (o ≡ Some x)
+item_here None d e = absurd cc
+item_here (Some x) d e = (x, refl)
+
+item_low : (a d : Bool) → true ≡ a && not d → false ≡ d
+item_low true true e = absurd cc
+item_low true false e = refl
+item_low false d e = absurd cc
+
+-- where another item may start, a token is there, and the recursion limit is not reached
+pub item_there : (s : State) → true ≡ holds has_item s → IsThere s
+unfolding holds IsThere
+item_there s e = item_here s.current (is_deep s) e
+
+pub item_not_deep : (s : State) → true ≡ holds has_item s → false ≡ is_deep s
+unfolding holds
+item_not_deep s e = item_low (not (is_over s.current) && not (is_at token.RBracket s.current)) (is_deep s) e
+
+pub opened_there : (k : SyntaxKind) (s : State) {t : State} → t ≡ opened k s → IsThere s → IsThere t
+unfolding opened flush IsThere
+opened_there k s e h = (h.0, ap (λ w. w.current) e ∙ h.1)
+
+pub opened_left : (k : SyntaxKind) (s : State) {t : State} → t ≡ opened k s → left t ≡ left s
+unfolding opened flush left
+opened_left k s e = ap left e
+
+closed_left : (s : State) {t : State} → t ≡ closed s → left t ≡ left s
+unfolding closed left
+closed_left s e = ap left e
+
+-- ---- a report changes nothing that is read
+
+abbrev pub Unread : State → State → Type 0
+Unread s t = (t.current ≡ s.current) × (left t ≡ left s)
+
+fault_unread : (found : Found) (index : ℕ) (s : State) → Unread s (fault found index s)
+unfolding left
+fault_unread found index s = elim s.accepts as (λ b. Unread s (if b then record s { errors = s.errors ++ record { found = found; index = index } ∷ [] } else s)) [ true ↦ (refl, refl) | false ↦ (refl, refl) ]
+
+noted_unread : (o : Option Lexeme) (s : State) → Unread s (noted s o)
+noted_unread None s = (refl, refl)
+noted_unread (Some x) s = fault_unread (found_at x) x.index s
+
+note_unread : (m : Message) (s : State) {t : State} → t ≡ step (Note m) s → Unread s t
+unfolding step note left
+note_unread m s e = subst (λ w. Unread s w) (sym e) (noted_unread s.current s)
+
+pub stayed : {a : Rule} {s t : State} → Runs a s t → stays a ≡ true → Unread s t
+stayed skip e = (refl, refl)
+stayed {s = s} (does {a = Note m} h) e = note_unread m s h
+stayed (does {a = Bump leaf} h) e = absurd (true≢false (sym e))
+stayed (does {a = TooDeep} h) e = absurd (true≢false (sym e))
+stayed (seq h k) e = absurd (true≢false (sym e))
+stayed (yes q h) e = absurd (true≢false (sym e))
+stayed (no q h) e = absurd (true≢false (sym e))
+stayed (done q) e = absurd (true≢false (sym e))
+stayed (again q h k) e = absurd (true≢false (sym e))
+stayed (child a b h) e = absurd (true≢false (sym e))
+stayed (deeper q a b h k) e = absurd (true≢false (sym e))
+stayed (refused q h) e = absurd (true≢false (sym e))
+stayed (call h) e = absurd (true≢false (sym e))
+stayed (plain a h n) e = absurd (true≢false (sym e))
+stayed (wrapped a b c d h q k) e = absurd (true≢false (sym e))
+
+still_there : (s t : State) → t.current ≡ s.current → IsThere s → IsThere t
+unfolding IsThere
+still_there s t e h = (h.0, e ∙ h.1)
+
+-- ---- what takes
+
+bump_takes : (leaf : SyntaxKind) (s : State) {t : State} → t ≡ step (Bump leaf) s → IsThere s → left t < left s
+unfolding step bump flush left IsThere
+bump_takes leaf s e h =
+    let f = moved_left leaf h.0 (flush s) h.1 in
+    let k : left (moved leaf s s.current) ≡ left (moved leaf s (Some h.0)) = ap (λ o. left (moved leaf s o)) h.1 in
+    let l = ap left e in
+    omega (arith, f, k, l)
+
+or-false : (a b : Bool) → a or b ≡ true → a ≡ false → b ≡ true
+unfolding ◌or◌
+or-false true b h e = absurd (true≢false e)
+or-false false b h e = h
+
+pub taken : {a : Rule} {s t : State} → Runs a s t → IsThere s → takes a ≡ true → left t < left s
+unfolding takes
+taken skip h e = absurd (true≢false (sym e))
+taken {s = s} (does {a = Bump leaf} k) h e = bump_takes leaf s k h
+taken (does {a = Note m} k) h e = absurd (true≢false (sym e))
+taken (does {a = TooDeep} k) h e = absurd (true≢false (sym e))
+taken {s = s} (seq {a = a} {b = b} {t = t} k l) h e = elim (either (takes a)) [
+  | inl y ↦ let f = taken k h y in let g = fewer l in omega (arith, f, g)
+  | inr n ↦
+      let later = or-false (takes a) (stays a and takes b) e n in
+      let same = stayed k (and-l (stays a) (takes b) later) in
+      let f = taken l (still_there s t same.0 h) (and-r (stays a) (takes b) later) in
+      let g = same.1 in
+      omega (arith, f, g)
+]
+taken (yes {a = a} {b = b} q k) h e = taken k h (and-l (takes a) (takes b) e)
+taken (no {a = a} {b = b} q k) h e = taken k h (and-r (takes a) (takes b) e)
+taken (done q) h e = absurd (true≢false (sym e))
+taken (again q k l) h e = absurd (true≢false (sym e))
+taken {s = s} (child {n = n} {u = u} a b k) h e =
+    let f = taken k (opened_there (kind_of n) s a h) (node_does n e) in
+    let g = opened_left (kind_of n) s a in
+    let c = closed_left u b in
+    omega (arith, f, g, c)
+taken (deeper q a b k l) h e = absurd (true≢false (sym e))
+taken (refused q k) h e = absurd (true≢false (sym e))
+taken (call {p = p} k) h e = taken k h (part_does p e)
+taken (plain a k n) h e = absurd (true≢false (sym e))
+taken (wrapped a b c d k q l) h e = absurd (true≢false (sym e))
+
+-- ---- what the code's measures ask
+
+pub opened_takes : (k : SyntaxKind) (s : State) {t u : State} {a : Rule} → t ≡ opened k s → Runs a t u → IsThere s → takes a ≡ true → left u < left s
+opened_takes k s o r h e =
+    let f = taken r (opened_there k s o h) e in
+    let l = opened_left k s o in
+    omega (arith, f, l)
+
+pub entered_left : (s : State) {t : State} → t ≡ enter s → left t ≡ left s
+unfolding enter left
+entered_left s e = ap left e
+
+entered_there : (s : State) {t : State} → t ≡ enter s → IsThere s → IsThere t
+unfolding enter IsThere
+entered_there s e h = (h.0, ap (λ w. w.current) e ∙ h.1)
+
+left_left : (s : State) {t : State} → t ≡ leave s → left t ≡ left s
+unfolding leave left
+left_left s e = ap left e
+
+-- a value one level deeper takes a token where the recursion limit is not reached
+deeper_taken : {a b : Rule} {s t : State} → Runs (Nested a b) s t → false ≡ is_deep s → IsThere s → takes a ≡ true → left t < left s
+deeper_taken {s = s} (deeper {u = u} q e v h k) d i w =
+    let f = taken h (entered_there s e i) w in
+    let g = entered_left s e in
+    let l = left_left u v in
+    let m = fewer k in
+    omega (arith, f, g, l, m)
+deeper_taken (refused q e) d i w = absurd (true≢false (q ∙ sym d))
+
+pub item_taken : {c : Bool} {s t : State} → Runs (Call (NestedValue c)) s t → true ≡ holds has_item s → left t < left s
+unfolding body takes part_takes
+item_taken {s = s} (call h) e = deeper_taken h (item_not_deep s e) (item_there s e) refl
+
+pub flushed_left : (s : State) {t : State} → t ≡ flush s → left t ≡ left s
+unfolding flush left
+flushed_left s e = ap left e

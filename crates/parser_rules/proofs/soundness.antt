@@ -1,0 +1,10 @@
+pub mod WithoutIgnored
+pub mod MachineStack
+pub mod Settled
+pub mod TableCheck
+pub mod Checked
+pub mod FirstReport
+pub mod Plain
+pub mod Simulation
+pub mod Soundness
+pub mod OverTexts

@@ -1,0 +1,59 @@
+-- What is said of the first report: the machine is stuck there, or no rule reads what stands there yet, or each tree that goes on nests
+-- deeper than the limit, or an answer is no token.
+use Rattle.std.proofs.Common.{◌≡◌, ℕ, ◌+◌, length, ◌<◌, true, false, List, ◌∷◌, ◌++◌, Some}
+use Rattle.lexical_grammar.specs.Answers.{Answer, is_token}
+use Rattle.document_grammar.specs.Tree.{Token, Tree, Forest}
+use Rattle.grammar_machine.specs.Machine.{holds as within, first, go, Frame, frame, Reach}
+use Rattle.grammar_machine.proofs.Run.{next}
+use Rattle.grammar_machine.proofs.Depth.{nesting_all}
+use Rattle.document_grammar.specs.Derivation.{Sort}
+use Rattle.grammar_machine.proofs.SentenceTheorems.{FaultIn, start_symbol}
+use Rattle.grammar_machine.proofs.MachineTheorems.{Parse}
+use Rattle.parser_rules.specs.State.{Lexeme, Report, at_limit, found_at}
+use Rattle.parser_rules.proofs.reports.NoReport.{answers_tokens, current_tokens, report_of, Passed, Held, Now}
+use Rattle.parser_rules.proofs.lookahead.FirstSets.{unread}
+
+module _ (sort : Sort) (answers : List Answer) (lim : ℕ) (w : List Token) where
+  -- the start symbol
+  abbrev pub top : ℕ
+  top = start_symbol sort w
+
+  -- the machine comes here
+  abbrev pub Viable : List Token → Type 0
+  Viable r = (fs : List Frame) × Reach top w fs r
+
+  -- the machine is stuck here, or the root ends and tokens are left
+  abbrev pub Stuck : List Token → Type 0
+  Stuck r = FaultIn sort w r × Viable r
+
+  -- the machine comes here and begins a node that no rule reads
+  pub record Unread (r : List Token) : Type 0 where
+    pub symbol : ℕ
+    pub state : ℕ
+    pub children : Forest
+    pub above : List Frame
+    pub reached : Reach top w (frame symbol state children ∷ above) r
+    pub child : ℕ
+    pub goes_on : next symbol state r ≡ go child
+    pub class : within (first r) (unread child) ≡ true
+
+  -- each tree of the tokens read and the next one nests deeper than the limit
+  pub record TooMany (r : List Token) : Type 0 where
+    pub before : List Token
+    pub split : w ≡ before ++ r
+    pub comes : Viable r
+    pub deeper : (t : Tree) (v : List Token) → Parse top t (before ++ v) → first r ≡ first v → lim < nesting_all t
+
+  abbrev pub left : Lexeme → List Answer → List Token
+  left t items = current_tokens (Some t) ++ answers_tokens items
+
+  -- so many tokens stand before these
+  abbrev pub Behind : ℕ → List Token → Type 0
+  Behind m r = m + length r ≡ length w
+
+  -- a report, and how many tokens were taken before it
+  pub data Right : Report → ℕ → Type 0 where
+    stuck_here : {t : Lexeme} {items : List Answer} {m : ℕ} → Now (Some t) items → Held answers (Some t) items → Stuck (left t items) → Behind m (left t items) → Right (record { found = found_at t; index = t.index }) m
+    unread_here : {t : Lexeme} {items : List Answer} {m : ℕ} → Now (Some t) items → Held answers (Some t) items → Unread (left t items) → Behind m (left t items) → Right (record { found = found_at t; index = t.index }) m
+    deep_here : {t : Lexeme} {items : List Answer} {m : ℕ} → Now (Some t) items → Held answers (Some t) items → TooMany (left t items) → Behind m (left t items) → Right (record { found = at_limit; index = t.index }) m
+    no_token : {x : Answer} {items : List Answer} {m : ℕ} → Passed answers (x ∷ items) → is_token x ≡ false → Viable (answers_tokens items) → Behind m (answers_tokens items) → Right (report_of x) m

@@ -1,0 +1,175 @@
+-- The open nodes of the builder and those of the machine: the machine's node of a type has none in the builder but that of a NON_NULL_TYPE.
+use Rattle.std.proofs.Common.{◌≡◌, ℕ, suc, ◌+◌, true, false, cond, eqb, List, [], ◌∷◌, refl, sym, ap, ap₂, ◌∙◌, subst, inl, inr, eqb-true, arith}
+use Rattle.document_grammar.specs.declared.kind.SyntaxKind.TheVariants as kind
+use Rattle.document_grammar.specs.Kinds.{BANG, NAMED_TYPE, LIST_TYPE, NON_NULL_TYPE}
+use Rattle.grammar_machine.specs.Labels.{labels}
+use Rattle.grammar_machine.specs.Symbols.{TYPE}
+use Rattle.document_grammar.specs.Numbers.{number}
+use Rattle.document_grammar.specs.Forests as built
+use Rattle.document_grammar.specs.Builds.{Building, Open, built_count, wrap}
+use Rattle.grammar_machine.specs.Table.{rows}
+use Rattle.document_grammar.specs.Tree.{Text, Tree, leaf, node, Forest, none, ◌▸◌, ◌+++◌, root}
+use Rattle.document_grammar.specs.Booleans.{◌and◌, ◌or◌}
+use Rattle.grammar_machine.specs.Machine.{is_leaf, at, arcs, has, target, Frame, frame, Path, finish as leaves_behind}
+use Rattle.document_grammar.proofs.Booleans.{false-true, or-c, either}
+use Rattle.grammar_machine.proofs.TableLemmas.{exits-at}
+use Rattle.document_grammar.proofs.Built.{bares-numbered-join}
+use Rattle.grammar_machine.proofs.Checks.{exits, row_of}
+use Rattle.grammar_machine.proofs.Patterns.{label}
+use Rattle.document_grammar.proofs.Built.{forest-none}
+use Rattle.grammar_machine.proofs.FromMachineTree.{show, shows, type_of}
+use Rattle.parser_rules.proofs.runs.Frame.{wrap_added}
+use Rattle.parser_rules.proofs.soundness.WithoutIgnored.{IsLayered, Stack, stack, layers, strip, put}
+
+-- ---- lists of trees
+
+pub assoc : (f g h : Forest) → (f +++ g) +++ h ≡ f +++ (g +++ h)
+assoc none g h = refl
+assoc (t ▸ f) g h = ap (λ (z : Forest). t ▸ z) (assoc f g h)
+
+rest-same : {t u : Tree} {f g : Forest} → t ▸ f ≡ u ▸ g → f ≡ g
+rest-same e = cc
+
+cancel : (f g h : Forest) → f +++ g ≡ f +++ h → g ≡ h
+cancel none g h e = e
+cancel (t ▸ f) g h e = cancel f g h (rest-same e)
+
+pub shows-snoc : (f : Forest) (t : Tree) → shows (f +++ (t ▸ none)) ≡ shows f +++ (show t ▸ none)
+shows-snoc none t = refl
+shows-snoc (u ▸ f) t = ap (λ (z : Forest). show u ▸ z) (shows-snoc f t)
+
+-- ---- the image
+
+abbrev pub lay : ℕ → Forest → Stack → Stack
+lay s f b = cond (eqb s TYPE) (put f b) ((label s, f) ∷ b)
+
+abbrev pub image : List Frame → Stack
+image [] = (0, none) ∷ []
+image (frame s q f ∷ fs) = lay s (shows f) (image fs)
+
+put-put : (f g : Forest) (b : Stack) → put (f +++ g) b ≡ put g (put f b)
+put-put f g [] = refl
+put-put f g (a ∷ b) = ap (λ (z : Forest). (a.0, z) ∷ b) (sym (assoc a.1 f g))
+
+put-none : (b : Stack) → put none b ≡ b
+put-none [] = refl
+put-none (a ∷ b) = ap (λ (z : Forest). (a.0, z) ∷ b) (forest-none a.1)
+
+lay-put : (s : ℕ) (f g : Forest) (b : Stack) → lay s (f +++ g) b ≡ put g (lay s f b)
+lay-put s f g b = elim (either (eqb s TYPE)) [ inl p ↦ rw p (put-put f g b) | inr p ↦ rw p refl ]
+
+put-some : (f : Forest) (b : Stack) → IsLayered b → IsLayered (put f b)
+put-some f [] h = h
+put-some f (a ∷ b) h = h
+
+pub image-some : (fs : List Frame) → IsLayered (image fs)
+image-some [] = tt
+image-some (frame s q f ∷ fs) = elim (either (eqb s TYPE)) [ inl p ↦ rw p (put-some (shows f) (image fs) (image-some fs)) | inr p ↦ rw p tt ]
+
+-- a tree more
+pub put-image : (s q p : ℕ) (f : Forest) (t : Tree) (fs : List Frame) → put (show t ▸ none) (image (frame s q f ∷ fs)) ≡ image (frame s p (f +++ (t ▸ none)) ∷ fs)
+put-image s q p f t fs = sym (ap (λ (z : Forest). lay s z (image fs)) (shows-snoc f t) ∙ lay-put s (shows f) (show t ▸ none) (image fs))
+
+-- a node that opens
+pub image-open : (j q : ℕ) (fs : List Frame) → eqb j TYPE ≡ false → image (frame j q none ∷ fs) ≡ (label j, none) ∷ image fs
+image-open j q fs e = rw e refl
+
+pub image-type : (q : ℕ) (fs : List Frame) → image (frame TYPE q none ∷ fs) ≡ image fs
+image-type q fs = put-none (image fs)
+
+-- a node that ends
+pub image-node : (j q : ℕ) (g : Forest) (fs : List Frame) → eqb j TYPE ≡ false → image (frame j q g ∷ fs) ≡ (label j, shows g) ∷ image fs
+image-node j q g fs e = rw e refl
+
+pub show-node : (s : ℕ) (f : Forest) → eqb s TYPE ≡ false → show (node s f) ≡ node (label s) (shows f)
+show-node s f p = rw p refl
+
+-- ---- a type
+
+one-more : (n : ℕ) → 0 ≡ suc n → ⊥
+one-more n e = omega arith
+
+type-exits : (exits BANG (λ e. eqb e 0) ≡ true) × (exits NAMED_TYPE (λ e. eqb e 0) ≡ true) × (exits LIST_TYPE (λ e. eqb e 0) ≡ true)
+unfolding exits ◌and◌ ◌or◌ is_leaf row_of rows
+type-exits = (refl, refl, refl)
+
+no-exit : (k : ℕ) (t : Tree) → k ≡ root t → exits k (λ e. eqb e 0) ≡ true → exits (root t) (λ e. eqb e 0) ≡ true
+no-exit k t e h = subst (λ (n : ℕ). exits n (λ e. eqb e 0) ≡ true) e h
+
+no-more : (f : Forest) → Path TYPE 2 f 1 → ⊥
+unfolding has target arcs at rows
+no-more none h = two-one h
+  where
+    two-one : ◌≡◌ {A = ℕ} 2 1 → ⊥
+    two-one e = omega arith
+no-more (t ▸ f) h = false-true refl h.0
+
+type-over : (f : Forest) → Path TYPE 1 f 1 → f ≡ none
+unfolding has target arcs at rows ◌or◌
+type-over none h = refl
+type-over (t ▸ f) h = elim (or-c (eqb BANG (root t)) false h.0) [
+  | inl e ↦ (
+      let k : BANG ≡ root t = eqb-true BANG (root t) e in
+      let z : leaves_behind t ≡ 0 = eqb-true _ _ (exits-at t (λ n. eqb n 0) (no-exit BANG t k type-exits.0) h.1) in
+      absurd (no-more f (subst (λ (n : ℕ). Path TYPE n f 1) (ap₂ (λ (a b : ℕ). target TYPE 1 a + b) (sym k) z) h.2)))
+  | inr e ↦ false-true refl e
+]
+
+-- one tree without `!`
+pub one-type : (f : Forest) → Path TYPE 0 f 1 → (t : Tree) × (f ≡ t ▸ none)
+unfolding has target arcs at rows ◌or◌
+one-type none h = absurd (one-more 0 h)
+one-type (t ▸ f) h = elim (or-c (eqb NAMED_TYPE (root t)) (eqb LIST_TYPE (root t) or false) h.0) [
+  | inl e ↦ (
+      let k : NAMED_TYPE ≡ root t = eqb-true NAMED_TYPE (root t) e in
+      let z : leaves_behind t ≡ 0 = eqb-true _ _ (exits-at t (λ n. eqb n 0) (no-exit NAMED_TYPE t k type-exits.1) h.1) in
+      (t, ap (λ (g : Forest). t ▸ g) (type-over f (subst (λ (n : ℕ). Path TYPE n f 1) (ap₂ (λ (a b : ℕ). target TYPE 0 a + b) (sym k) z) h.2))))
+  | inr i ↦ elim (or-c (eqb LIST_TYPE (root t)) false i) [
+    | inl e ↦ (
+        let k : LIST_TYPE ≡ root t = eqb-true LIST_TYPE (root t) e in
+        let z : leaves_behind t ≡ 0 = eqb-true _ _ (exits-at t (λ n. eqb n 0) (no-exit LIST_TYPE t k type-exits.2) h.1) in
+        (t, ap (λ (g : Forest). t ▸ g) (type-over f (subst (λ (n : ℕ). Path TYPE n f 1) (ap₂ (λ (a b : ℕ). target TYPE 0 a + b) (sym k) z) h.2))))
+    | inr e ↦ false-true refl e
+  ]
+]
+
+-- its tree is that of the type
+pub image-plain : (s q p : ℕ) (f g : Forest) (fs : List Frame) → Path TYPE 0 g 1 → image (frame TYPE 1 g ∷ frame s q f ∷ fs) ≡ put (show (node TYPE g) ▸ none) (image (frame s q f ∷ fs))
+image-plain s q p f g fs h =
+    let o = one-type g h in
+    ap (λ (z : Forest). put z (image (frame s q f ∷ fs))) (ap shows o.1 ∙ sym (ap (λ (z : Forest). show (node TYPE z) ▸ none) o.1))
+
+pub label-bang : label BANG ≡ BANG
+unfolding label labels
+label-bang = refl
+
+pub show-bang : (g : Forest) (x : Text) → Path TYPE 0 g 1 → show (node TYPE (g +++ (leaf BANG x ▸ none))) ≡ node NON_NULL_TYPE (shows g +++ (leaf BANG x ▸ none))
+show-bang g x h =
+    let o = one-type g h in
+    subst (λ (z : Forest). type_of (shows (z +++ (leaf BANG x ▸ none))) ≡ node NON_NULL_TYPE (shows z +++ (leaf BANG x ▸ none))) (sym o.1) (ap (λ (n : ℕ). node NON_NULL_TYPE (show o.0 ▸ (leaf n x ▸ none))) label-bang)
+
+-- ---- what was added since a place
+
+layers-join : (here more : built.Forest) (above : List Open) → layers (built.join here more) above ≡ put (strip more) (layers here above)
+layers-join here more [] = ap (λ (f : Forest). (0, f) ∷ []) (bares-numbered-join here more)
+layers-join here more (o ∷ above) = ap (λ (f : Forest). (number o.kind, f) ∷ layers o.before above) (bares-numbered-join here more)
+
+first-layer : {a c : ℕ × Forest} {b d : Stack} → a ∷ b ≡ c ∷ d → a ≡ c
+first-layer e = cc
+
+layer-same : (k : ℕ) (f g : Forest) (b : Stack) → (k, f) ∷ b ≡ (k, g) ∷ b → f ≡ g
+layer-same k f g b e = ap (λ (l : ℕ × Forest). l.1) (first-layer e)
+
+-- it is what the type's node holds
+added-type : (s q q' : ℕ) (f g : Forest) (fs : List Frame) (t u : Building) (more : built.Forest) → eqb s TYPE ≡ false → u.above ≡ t.above → u.here ≡ built.join t.here more
+    → stack t ≡ image (frame s q f ∷ fs) → stack u ≡ image (frame TYPE q' g ∷ frame s q f ∷ fs) → strip more ≡ shows g
+added-type s q q' f g fs t u more ty a h st su =
+    let n = image-node s q f fs ty in
+    let e : put (strip more) ((label s, shows f) ∷ image fs) ≡ put (shows g) ((label s, shows f) ∷ image fs) =
+    ap (put (strip more)) (sym n) ∙ (ap (put (strip more)) (sym st) ∙ (sym (layers-join t.here more t.above) ∙ (sym (ap₂ layers h a) ∙ (su ∙ ap (put (shows g)) n)))) in
+    cancel (shows f) (strip more) (shows g) (layer-same (label s) (shows f +++ strip more) (shows f +++ shows g) (image fs) e)
+
+pub stack-wrap : (s q q' : ℕ) (f g : Forest) (fs : List Frame) (t u : Building) (more : built.Forest) → eqb s TYPE ≡ false → u.above ≡ t.above → u.here ≡ built.join t.here more
+    → stack t ≡ image (frame s q f ∷ fs) → stack u ≡ image (frame TYPE q' g ∷ frame s q f ∷ fs) → stack (wrap (built_count t) kind.NON_NULL_TYPE u) ≡ (NON_NULL_TYPE, shows g) ∷ image (frame s q f ∷ fs)
+stack-wrap s q q' f g fs t u more ty a h st su =
+    ap stack (wrap_added kind.NON_NULL_TYPE t u more a h) ∙ ap₂ (λ (x : Forest) (b : Stack). (NON_NULL_TYPE, x) ∷ b) (added-type s q q' f g fs t u more ty a h st su) st

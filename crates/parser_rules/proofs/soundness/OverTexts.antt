@@ -1,0 +1,367 @@
+-- A run over a text: a sentence within both limits gets no report, and where the first report stands, the text before begins a sentence.
+use Rattle.document_grammar.specs.declared.kind.SyntaxKind.{SyntaxKind}
+use Rattle.document_grammar.specs.Numbered.{tree_of}
+use Rattle.document_grammar.specs.Places.{bare}
+use Rattle.grammar_machine.proofs.Starts.{read, next_one, next_two}
+use Rattle.grammar_machine.proofs.Faults.{read-map, two-marks}
+use Rattle.std.proofs.Common.{◌≡◌, ℕ, zero, suc, ◌≤◌, length, Bool, true, false, List, [], ◌∷◌, ◌++◌, Option, Some, None, refl, sym, ap, ap₂, ◌∙◌, subst, inl, inr, true≢false, arith, is_some, ◌&&◌, ◌-◌, ◌⊎◌}
+use Rattle.std.specs.Prelude.{map, take}
+use Rattle.std.specs.Str.{IsUtf8}
+use Rattle.std.proofs.lemmas.List.{map-append}
+use Rattle.lexical_grammar.specs.declared.TokenKind.{TokenKind}
+use Rattle.lexical_grammar.specs.Cut.{Item, Cut, texts, Significant, significant_word, is_significant_kind}
+use Rattle.lexical_grammar.specs.Begins.{are_tokens}
+use Rattle.lexical_grammar.specs.Answers.{Answer, gives, limited, is_token, limit_at, limit_index, is_end}
+use Rattle.document_grammar.specs.declared.kind.SyntaxKind.TheVariants as kind
+use Rattle.document_grammar.specs.Derivation.{document, Spells, Mark, word, marks, Yield, Starts, StartsWithin}
+use Rattle.document_grammar.specs.Sentence.{token_of, Sentence, Within, Begins, StartSentence, StartSentenceWithin, leaf_number}
+use Rattle.document_grammar.specs.Tree.{Token, Tree}
+use Rattle.document_grammar.proofs.Booleans.{and-i, and-l, and-r, either}
+use Rattle.grammar_machine.proofs.Beginnings.{begins-text}
+use Rattle.document_grammar.proofs.Texts.{one-cut, sentence-starts, sentence-starts-within}
+use Rattle.grammar_machine.proofs.SentenceTheorems.{one-sentence}
+use Rattle.parser_rules.specs.Open.{IsRoot}
+use Rattle.parser_rules.specs.Rule.{Runs, Call, Document}
+use Rattle.parser_rules.specs.State.{State, Report, begun, Lexeme, found_at, at_limit, at_text, finished, second, ignored, lexeme, add_all}
+use Rattle.parser_rules.proofs.reports.NoReport.{all_tokens, answers_tokens, item_tokens, report_of, given as given_by, Now, choose, EndsWell, kind_tokens, significant, ends, ignored-tokens, ignored-end}
+use Rattle.parser_rules.proofs.reports.Endings.{ends-well}
+use Rattle.document_grammar.specs.Forests as built
+use Rattle.parser_rules.proofs.runs.Frame.{add_all_above}
+use Rattle.parser_rules.proofs.soundness.Settled.{EndedFit, ended-root, settled-parts}
+use Rattle.parser_rules.proofs.soundness.Plain.{Plain}
+use Rattle.parser_rules.proofs.soundness.FirstReport.{Right}
+use Rattle.parser_rules.proofs.soundness.Soundness.{given, Begins_tokens, StartsPlain, Why, fault as w_fault, unread as w_unread, too_deep as w_too_deep, other, why, parsed, accepted_plain, sound}
+
+-- ---- all items are given
+
+and-split : (a b : Bool) → a && b ≡ true → (a ≡ true) × (b ≡ true)
+and-split true b h = (refl, h)
+and-split false b h = absurd (true≢false (sym h))
+
+less : (n k : ℕ) → suc n ≤ suc k → n ≤ k
+less n k h = omega arith
+
+no-room : {A : Type 0} (n : ℕ) → suc n ≤ 0 → A
+no-room n h = absurd (omega (arith, h))
+
+all-given : (k : ℕ) (items : List Item) → length items ≤ k → are_tokens items ≡ true → all_tokens (limited k items) ≡ true
+all-given zero [] c h = refl
+all-given (suc k) [] c h = refl
+all-given zero (item ∷ items) c h = no-room (length items) c
+all-given (suc k) (item ∷ items) c h = let p = and-split (is_some item.kind) (are_tokens items) h in and-i p.0 (all-given k items (less (length items) k c) p.1)
+
+-- ---- the place of an answer in the text
+
+-- the significant tokens of some items
+abbrev pub words_of : List Item → List Token
+words_of items = map token_of (Significant items)
+
+-- the item of a token
+abbrev pub item_of : Lexeme → Item
+item_of t = record { kind = Some t.kind; text = t.text; index = t.index }
+
+-- the token is the end, or behind it a significant token or the end stands before the limit of tokens
+abbrev pub Answered : ℕ → List Item → List Item → Lexeme → Type 0
+Answered k before more t = (is_end t.kind ≡ true) ⊎ (is_some (second (limited (k - suc (length before)) more)) ≡ true)
+
+pub record Before (k : ℕ) (items : List Item) (front : List Answer) (x : Answer) (ys : List Answer) : Type 0 where
+  pub before : List Item
+  pub item : Item
+  pub more : List Item
+  pub split : items ≡ before ++ item ∷ more
+  pub tokens : are_tokens before ≡ true
+  pub words : answers_tokens front ≡ words_of before
+  pub item_is : (i : Item) → x ≡ gives i → i ≡ item
+  pub limit_is : (n : ℕ) → x ≡ limit_at n → n ≡ limit_index item
+  pub next_is : (t : Lexeme) → x ≡ given_by t → Now (Some t) ys → take 1 (marks (words_of (item ∷ more))) ≡ next_one (answers_tokens (given_by t ∷ ys))
+  pub two_are : (t : Lexeme) → x ≡ given_by t → Now (Some t) ys → Answered k before more t → take 2 (marks (words_of (item ∷ more))) ≡ next_two (answers_tokens (given_by t ∷ ys))
+
+nothing-limited : {A : Type 0} (k : ℕ) (front : List Answer) (x : Answer) (ys : List Answer) → limited k [] ≡ front ++ x ∷ ys → A
+nothing-limited zero [] x ys e = absurd (cc)
+nothing-limited zero (f ∷ front) x ys e = absurd (cc)
+nothing-limited (suc k) [] x ys e = absurd (cc)
+nothing-limited (suc k) (f ∷ front) x ys e = absurd (cc)
+
+limit-last : {A : Type 0} (l f x : Answer) (front ys : List Answer) → l ∷ [] ≡ f ∷ (front ++ x ∷ ys) → A
+limit-last l f x [] ys e = absurd (cc)
+limit-last l f x (g ∷ front) ys e = absurd (cc)
+
+head-answer : (a b : Answer) (v w : List Answer) → a ∷ v ≡ b ∷ w → a ≡ b
+head-answer a b v w e = cc
+
+tail-answers : (a b : Answer) (v w : List Answer) → a ∷ v ≡ b ∷ w → v ≡ w
+tail-answers a b v w e = cc
+
+item-words : (found : Option TokenKind) (item : Item) → item_tokens found item.text ≡ map token_of (significant_word found item.text)
+item-words None item = refl
+item-words (Some k) item = on (is_significant_kind k) refl
+  where
+    on : (b : Bool) → is_significant_kind k ≡ b → item_tokens (Some k) item.text ≡ map token_of (significant_word (Some k) item.text)
+    on true e = rw e refl
+    on false e = rw e refl
+
+and-join : {a b : Bool} → a ≡ true → b ≡ true → a && b ≡ true
+and-join {a = true} e f = f
+and-join {a = false} e f = absurd (true≢false (sym e))
+
+given-same : (a b : Item) → gives a ≡ gives b → a ≡ b
+given-same a b e = cc
+
+limit-same : (a b : ℕ) → limit_at a ≡ limit_at b → a ≡ b
+limit-same a b e = cc
+
+given-limit : {A : Type 0} (a : Item) (n : ℕ) → gives a ≡ limit_at n → A
+given-limit a n e = absurd (cc)
+
+none-limited : (k : ℕ) (items : List Item) → limited k items ≡ [] → items ≡ []
+none-limited zero [] e = refl
+none-limited (suc k) [] e = refl
+none-limited zero (item ∷ items) e = absurd (cc)
+none-limited (suc k) (item ∷ items) e = absurd (cc)
+
+one-mark : (v : List Token) → take 1 (marks v) ≡ next_one v
+one-mark [] = refl
+one-mark (a ∷ v) = refl
+
+words-cons : (item : Item) (more : List Item) → words_of (item ∷ more) ≡ item_tokens item.kind item.text ++ words_of more
+words-cons item more = map-append token_of (significant_word item.kind item.text) (Significant more) ∙ ap (λ (v : List Token). v ++ words_of more) (sym (item-words item.kind item))
+
+-- the next token is the text's, wherever the limit of tokens is
+next-one : (k : ℕ) (t : Lexeme) (more : List Item) → Now (Some t) (limited k more) → next_one (kind_tokens t.kind t.text ++ words_of more) ≡ next_one (kind_tokens t.kind t.text ++ answers_tokens (limited k more))
+next-one k t more n = elim (either (is_end t.kind)) [
+  | inl e ↦ (
+      let z : limited k more ≡ [] = subst (λ (b : Bool). choose b (limited k more ≡ []) (EndsWell (limited k more))) e n.1 in
+      let m : more ≡ [] = none-limited k more z in
+      ap (λ (l : List Item). next_one (kind_tokens t.kind t.text ++ words_of l)) m ∙ sym (ap (λ (v : List Answer). next_one (kind_tokens t.kind t.text ++ answers_tokens v)) z))
+  | inr e ↦ (let s = significant t.kind t.text e n.0 in
+      ap (λ (v : List Token). next_one (v ++ words_of more)) s ∙ sym (ap (λ (v : List Token). next_one (v ++ answers_tokens (limited k more))) s))
+]
+
+two-one : (b : Token) (v : List Token) → next_two (b ∷ v) ≡ word b ∷ next_one v
+two-one b [] = refl
+two-one b (a ∷ v) = refl
+
+abbrev on_shown : List Answer → Item → TokenKind → Option SyntaxKind → Option Lexeme
+on_shown xs item k found = elim found [ Some leaf ↦ second xs | None ↦ Some (lexeme k item) ]
+
+abbrev on_kind : List Answer → Item → Option TokenKind → Option Lexeme
+on_kind xs item found = elim found [ None ↦ second xs | Some k ↦ on_shown xs item k (ignored k) ]
+
+abbrev One : List Item → List Answer → Item → Option TokenKind → Type 0
+One more xs item found = next_one (item_tokens found item.text ++ words_of more) ≡ next_one (item_tokens found item.text ++ answers_tokens xs)
+
+-- the first token behind is the text's, where one was answered
+behind-one : (k : ℕ) (more : List Item) → EndsWell (limited k more) → is_some (second (limited k more)) ≡ true → next_one (words_of more) ≡ next_one (answers_tokens (limited k more))
+unfolding second
+behind-one zero [] e h = absurd e
+behind-one (suc k) [] e h = absurd e
+behind-one zero (item ∷ more) e h = absurd (true≢false (sym h))
+behind-one (suc k) (item ∷ more) e h =
+    ap next_one (words-cons item more) ∙ (elim item.kind as (λ found. choose (ends found) (limited k more ≡ []) (EndsWell (limited k more)) → is_some (on_kind (limited k more) item found) ≡ true → One more (limited k more) item found) [
+      | None ↦ λ e' h'. behind-one k more e' h'
+      | Some j ↦ λ e' h'. on (λ e2 h2. behind-one k more e2 h2) j (ignored j) refl e' h'
+    ]) e h
+  where
+    on : (EndsWell (limited k more) → is_some (second (limited k more)) ≡ true → next_one (words_of more) ≡ next_one (answers_tokens (limited k more))) → (j : TokenKind) (found : Option SyntaxKind) → ignored j ≡ found
+        → choose (is_end j) (limited k more ≡ []) (EndsWell (limited k more)) → is_some (on_shown (limited k more) item j found) ≡ true → One more (limited k more) item (Some j)
+    on reads j (Some leaf) i e' h' =
+        let z = ignored-tokens j leaf item.text i in
+        ap (λ (v : List Token). next_one (v ++ words_of more)) z ∙ (reads (subst (λ (b : Bool). choose b (limited k more ≡ []) (EndsWell (limited k more))) (ignored-end j leaf i) e') h' ∙ sym (ap (λ (v : List Token). next_one (v ++ answers_tokens (limited k more))) z))
+    on reads j None i e' h' = next-one k (lexeme j item) more (i, e')
+
+next-two : (k : ℕ) (t : Lexeme) (more : List Item) → Now (Some t) (limited k more) → (is_end t.kind ≡ true) ⊎ (is_some (second (limited k more)) ≡ true)
+    → next_two (kind_tokens t.kind t.text ++ words_of more) ≡ next_two (kind_tokens t.kind t.text ++ answers_tokens (limited k more))
+next-two k t more n a = elim (either (is_end t.kind)) [
+  | inl e ↦ (
+      let z : limited k more ≡ [] = subst (λ (b : Bool). choose b (limited k more ≡ []) (EndsWell (limited k more))) e n.1 in
+      ap (λ (l : List Item). next_two (kind_tokens t.kind t.text ++ words_of l)) (none-limited k more z) ∙ sym (ap (λ (v : List Answer). next_two (kind_tokens t.kind t.text ++ answers_tokens v)) z))
+  | inr e ↦ (
+      let s = significant t.kind t.text e n.0 in
+      let b : Token = (leaf_number t.kind, t.text) in
+      let one = behind-one k more (subst (λ (b : Bool). choose b (limited k more ≡ []) (EndsWell (limited k more))) e n.1) (answered e a) in
+      ap (λ (v : List Token). next_two (v ++ words_of more)) s
+      ∙ (two-one b (words_of more) ∙ (ap (λ (l : List Mark). word b ∷ l) one ∙ (sym (two-one b (answers_tokens (limited k more))) ∙ sym (ap (λ (v : List Token). next_two (v ++ answers_tokens (limited k more))) s)))))
+]
+  where
+    answered : is_end t.kind ≡ false → (is_end t.kind ≡ true) ⊎ (is_some (second (limited k more)) ≡ true) → is_some (second (limited k more)) ≡ true
+    answered e (inl h) = absurd (true≢false (sym h ∙ e))
+    answered e (inr h) = h
+
+one-less : (k : ℕ) → suc k - suc 0 ≡ k
+one-less k = omega arith
+
+both-less : (k n : ℕ) → suc k - suc (suc n) ≡ k - suc n
+both-less k n = omega arith
+
+pub before-at : (k : ℕ) (items : List Item) (front : List Answer) (x : Answer) (ys : List Answer) → limited k items ≡ front ++ x ∷ ys → all_tokens front ≡ true → Before k items front x ys
+before-at k [] front x ys e h = nothing-limited k front x ys e
+before-at zero (item ∷ items) [] x ys e h = record {
+  before = [];
+  item = item;
+  more = items;
+  split = refl;
+  tokens = refl;
+  words = refl;
+  item_is = λ i z. given-limit i (limit_index item) (sym z ∙ sym (head-answer (limit_at (limit_index item)) x _ _ e));
+  limit_is = λ n z. limit-same n (limit_index item) (sym z ∙ sym (head-answer (limit_at (limit_index item)) x _ _ e));
+  next_is = λ t z n. given-limit (item_of t) (limit_index item) (sym z ∙ sym (head-answer (limit_at (limit_index item)) x _ _ e));
+  two_are = λ t z n a. given-limit (item_of t) (limit_index item) (sym z ∙ sym (head-answer (limit_at (limit_index item)) x _ _ e));
+}
+before-at (suc k) (item ∷ items) [] x ys e h = record {
+  before = [];
+  item = item;
+  more = items;
+  split = refl;
+  tokens = refl;
+  words = refl;
+  item_is = λ i z. given-same i item (sym z ∙ sym (head-answer (gives item) x _ _ e));
+  limit_is = λ n z. given-limit item n (head-answer (gives item) x _ _ e ∙ z);
+  next_is = λ t z n.
+      let same : item ≡ item_of t = given-same item (item_of t) (head-answer (gives item) x _ _ e ∙ z) in
+      let rest : limited k items ≡ ys = tail-answers (gives item) x _ _ e in
+      one-mark (words_of (item ∷ items)) ∙ (ap next_one (words-cons item items) ∙ (ap (λ (i : Item). next_one (item_tokens i.kind i.text ++ words_of items)) same
+      ∙ (next-one k t items (subst (λ (l : List Answer). Now (Some t) l) (sym rest) n) ∙ ap (λ (l : List Answer). next_one (kind_tokens t.kind t.text ++ answers_tokens l)) rest)));
+  two_are = λ t z n a.
+      let same : item ≡ item_of t = given-same item (item_of t) (head-answer (gives item) x _ _ e ∙ z) in
+      let rest : limited k items ≡ ys = tail-answers (gives item) x _ _ e in
+      let seen : (is_end t.kind ≡ true) ⊎ (is_some (second (limited k items)) ≡ true) = subst (λ (m : ℕ). (is_end t.kind ≡ true) ⊎ (is_some (second (limited m items)) ≡ true)) (one-less k) a in
+      two-marks (words_of (item ∷ items)) ∙ (ap next_two (words-cons item items) ∙ (ap (λ (i : Item). next_two (item_tokens i.kind i.text ++ words_of items)) same
+      ∙ (next-two k t items (subst (λ (l : List Answer). Now (Some t) l) (sym rest) n) seen ∙ ap (λ (l : List Answer). next_two (kind_tokens t.kind t.text ++ answers_tokens l)) rest)));
+}
+before-at zero (item ∷ items) (f ∷ front) x ys e h = limit-last _ f x front ys e
+before-at (suc k) (item ∷ items) (f ∷ front) x ys e h =
+    let first : gives item ≡ f = head-answer (gives item) f _ _ e in
+    let r = before-at k items front x ys (tail-answers (gives item) f _ _ e) (and-r _ _ h) in
+    record {
+      before = item ∷ r.before;
+      item = r.item;
+      more = r.more;
+      split = ap (λ (l : List Item). item ∷ l) r.split;
+      tokens = and-join (subst (λ (a : Answer). is_token a ≡ true) (sym first) (and-l _ _ h)) r.tokens;
+      words = ap (λ (a : Answer). answers_tokens (a ∷ front)) (sym first) ∙ (ap₂ (λ (v u : List Token). v ++ u) (item-words item.kind item) r.words ∙ sym (map-append token_of (significant_word item.kind item.text) (Significant r.before)));
+      item_is = r.item_is;
+      limit_is = r.limit_is;
+      next_is = r.next_is;
+      two_are = λ t z n a. r.two_are t z n (subst (λ (m : ℕ). (is_end t.kind ≡ true) ⊎ (is_some (second (limited m r.more)) ≡ true)) (both-less k (length r.before)) a);
+    }
+
+first-of : (a b : Report) (v w : List Report) → a ∷ v ≡ b ∷ w → a ≡ b
+first-of a b v w e = cc
+
+none-told : {A : Type 0} (e : Report) (more : List Report) → [] ≡ e ∷ more → A
+none-told e more h = absurd (cc)
+
+-- ---- the headline
+
+-- a sentence without what no rule reads yet starts so
+pub record StartPlain (front : List Mark) : Type 0 where
+  pub source : List ℕ
+  pub tree : Tree
+  pub rest : List Mark
+  pub characters : IsUtf8 source
+  pub sentence : Sentence source tree document
+  pub beginning : marks (Yield tree) ≡ front ++ rest
+  pub plain : Plain tree
+
+-- The first report of a text, at an item: no sentence starts with the tokens before, that of the item, or the end, and the next; each that
+-- starts with them and that of the item nests deeper than the limit; or the item is bad text, or the first that is too many. Where
+-- two tokens count, the second was answered.
+pub data Reason (items : List Item) (r k : ℕ) (before : List Item) (item : Item) (more : List Item) : Report → Type 0 where
+  fault : (t : Lexeme) → item_of t ≡ item → (Answered k before more t → StartSentence (map word (words_of before) ++ take 2 (marks (words_of (item ∷ more)))) → ⊥)
+      → Reason items r k before item more (record { found = found_at t; index = t.index })
+  unread : (t : Lexeme) → item_of t ≡ item → (Answered k before more t → StartPlain (map word (words_of before) ++ take 2 (marks (words_of (item ∷ more)))) → ⊥)
+      → Reason items r k before item more (record { found = found_at t; index = t.index })
+  too_deep : (t : Lexeme) → item_of t ≡ item → (StartSentenceWithin r (map word (words_of before) ++ take 1 (marks (words_of (item ∷ more)))) → ⊥)
+      → Reason items r k before item more (record { found = at_limit; index = t.index })
+  bad_text : item.kind ≡ None → Reason items r k before item more (record { found = at_text item.text; index = item.index })
+  too_many : Reason items r k before item more (record { found = at_limit; index = limit_index item })
+
+-- The first report is right: the text before begins a sentence, and there is a reason at the item.
+pub record IsRight (source : List ℕ) (items : List Item) (r k : ℕ) (e : Report) : Type 0 where
+  pub before : List Item
+  pub item : Item
+  pub more : List Item
+  pub split : items ≡ before ++ item ∷ more
+  pub tokens : are_tokens before ≡ true
+  pub begins : Begins (texts before)
+  pub reason : Reason items r k before item more e
+
+one-at : (front before : List Token) (l m : List Mark) → front ≡ before → l ≡ m → map word before ++ l ≡ read front ++ m
+one-at front before l m e f = ap₂ (λ (l m : List Mark). l ++ m) (read-map before ∙ ap read (sym e)) f
+
+plain-starts : (front : List Mark) → StartPlain front → StartsPlain front
+plain-starts front h =
+    let s = sentence-starts front (record { source = h.source; tree = h.tree; rest = h.rest; characters = h.characters; sentence = h.sentence; beginning = h.beginning }) in
+    (map token_of (Significant h.sentence.items), h.tree, h.rest, (h.sentence.derivation, h.sentence.yield), ap marks (sym h.sentence.yield) ∙ h.beginning, h.plain)
+
+no-kind : (item : Item) → is_token (gives item) ≡ false → item.kind ≡ None
+no-kind item h = on item.kind h
+  where
+    on : (found : Option TokenKind) → is_some found ≡ false → found ≡ None
+    on None h = refl
+    on (Some k) h = absurd (true≢false h)
+
+module _ (r k : ℕ) (source : List ℕ) (items : List Item) (s : State) (cut : Cut source items) (root : IsRoot s.tree) (run : Runs (Call Document) (begun (limited k items) r kind.DOCUMENT) s) where
+  -- Acceptance.
+  pub accepts-text : (t : Tree) → Sentence source t document → Within source t r k → Plain t → s.errors ≡ []
+  accepts-text t h n p =
+      let same : h.items ≡ items = one-cut source h.items items h.cut cut h.tokens in
+      let tokens : are_tokens items ≡ true = subst (λ (l : List Item). are_tokens l ≡ true) same h.tokens in
+      let other : items ≡ n.items = one-cut source items n.items cut n.cut tokens in
+      let count : length items ≤ k = subst (λ (l : List Item). length l ≤ k) (sym other) n.count in
+      let all : all_tokens (limited k items) ≡ true = all-given k items count tokens in
+      let spells : Spells (answers_tokens (limited k items)) t document = (h.derivation, h.yield ∙ (ap (λ (l : List Item). map token_of (Significant l)) same ∙ sym (given k items all).words)) in
+      accepted_plain r (limited k items) s t (ends-well k 0 items cut.each) root run spells p n.nesting all
+
+  -- The tree that is built then is the derivation.
+  pub accepts-tree : (t : Tree) → Sentence source t document → Within source t r k → Plain t → bare (tree_of (finished s)) ≡ t
+  accepts-tree t h n p =
+      let c = sound r k source items s (ends-well k 0 items cut.each) (λ tokens. cut) root (accepts-text t h n p) run in
+      one-sentence source (bare (tree_of (finished s))) t document c.sentence h
+
+  xs : List Answer
+  xs = limited k items
+
+  -- the first report is right, and how many tokens are before
+  abbrev Told_right : Report → ℕ → Type 0
+  Told_right e m = (i : IsRight source items r k e) × (m ≡ length (words_of i.before))
+
+  -- what holds at the place of an answer
+  at-place : IsUtf8 source → (front : List Answer) (x : Answer) (ys : List Answer) (e : Report) (m : ℕ) → m ≡ length (answers_tokens front) → xs ≡ front ++ x ∷ ys → all_tokens front ≡ true → Begins_tokens (answers_tokens front)
+      → ((b : Before k items front x ys) → Reason items r k b.before b.item b.more e) → Told_right e m
+  unfolding xs
+  at-place u front x ys e m c p h begins reason =
+      let b = before-at k items front x ys p h in
+      let d : Cut source (b.before ++ b.item ∷ b.more) = subst (λ (l : List Item). Cut source l) b.split cut in
+      let spells : Spells (words_of b.before ++ begins.1) begins.0 document = subst (λ (v : List Token). Spells (v ++ begins.1) begins.0 document) b.words begins.2 in
+      (record { before = b.before; item = b.item; more = b.more; split = b.split; tokens = b.tokens; begins = begins-text source b.before b.item b.more begins.0 begins.1 u d b.tokens spells begins.3; reason = reason b }, c ∙ ap length b.words)
+
+  other-reason : (front : List Answer) (x : Answer) (ys : List Answer) → is_token x ≡ false → (b : Before k items front x ys) → Reason items r k b.before b.item b.more (report_of x)
+  other-reason front (limit_at n) ys h b = subst (λ (m : ℕ). Reason items r k b.before b.item b.more (record { found = at_limit; index = m })) (sym (b.limit_is n refl)) too_many
+  other-reason front (gives item) ys h b =
+      let same : item ≡ b.item = b.item_is item refl in
+      subst (λ (i : Item). Reason items r k b.before b.item b.more (record { found = at_text i.text; index = i.index })) (sym same) (bad_text (subst (λ (i : Item). i.kind ≡ None) same (no-kind item h)))
+
+  told : IsUtf8 source → (e : Report) (m : ℕ) → Why r xs e m → Told_right e m
+  unfolding xs
+  told u e m (w_fault front ys t c0 now p h b n) = at-place u front (given_by t) ys (record { found = found_at t; index = t.index }) m c0 p h b
+      (λ q. fault t (q.item_is (item_of t) refl) (λ c z. n (subst (λ (l : List Mark). Starts document l) (one-at (answers_tokens front) (words_of q.before) _ _ q.words (q.two_are t refl now c)) (sentence-starts _ z))))
+  told u e m (w_unread front ys t c0 now p h b n) = at-place u front (given_by t) ys (record { found = found_at t; index = t.index }) m c0 p h b
+      (λ q. unread t (q.item_is (item_of t) refl) (λ c z. n (subst (λ (l : List Mark). StartsPlain l) (one-at (answers_tokens front) (words_of q.before) _ _ q.words (q.two_are t refl now c)) (plain-starts _ z))))
+  told u e m (w_too_deep front ys t c0 now p h b n) = at-place u front (given_by t) ys (record { found = at_limit; index = t.index }) m c0 p h b
+      (λ q. too_deep t (q.item_is (item_of t) refl) (λ z. n (subst (λ (l : List Mark). StartsWithin document r l) (one-at (answers_tokens front) (words_of q.before) _ _ q.words (q.next_is t refl now)) (sentence-starts-within r _ z))))
+  told u e m (other front ys x c0 p h b n) = at-place u front x ys (report_of x) m c0 p h b (other-reason front x ys n)
+
+  -- the first report is right, and the nodes that end before its last token fit
+  pub first-told : IsUtf8 source → (e : Report) (more : List Report) → s.errors ≡ e ∷ more → (i : IsRight source items r k e) × EndedFit (length (words_of i.before)) 0 (finished s)
+  unfolding xs
+  first-told u e more h = elim (parsed r (limited k items) s (ends-well k 0 items cut.each) root run) [
+    | inl o ↦ (
+        let i = told u e o.taken (why r (limited k items) e o.taken (subst (λ (z : Report). Right document (limited k items) r (answers_tokens (limited k items)) z o.taken) (first-of o.report e o.more more (sym o.reported ∙ h)) o.right)) in
+        (i.0, subst (λ (n : ℕ). EndedFit n 0 (finished s)) i.1 (ended-root o.taken (add_all s.waiting s.tree) (record { before = built.none; kind = root.0 }) (add_all_above s.waiting s.tree ∙ root.2) (settled-parts o.taken s.waiting s.tree (o.settled tt)))))
+    | inr o ↦ none-told e more (sym o.silent ∙ h)
+  ]
+
+  -- No late fault, with the reason of the first report.
+  pub first-right : IsUtf8 source → (e : Report) (more : List Report) → s.errors ≡ e ∷ more → IsRight source items r k e
+  first-right u e more h = (first-told u e more h).0

@@ -1,0 +1,576 @@
+-- A run of the document's rule over a text: its first report is right; or it reports nothing, and the text is a sentence within both
+-- limits, whose derivation is the tree without its ignored leaves.
+use Rattle.parser_rules.proofs.runs.Steps.{Holds_along, along, turns_along}
+use Rattle.parser_rules.proofs.lookahead.FirstSets.{unread as unread_set}
+use Rattle.std.proofs.Common.{◌≡◌, ℕ, zero, suc, ◌+◌, ◌≤◌, ◌<◌, max, Bool, cond, true, false, List, [], ◌∷◌, ◌++◌, Option, Some, None, if◌then◌else◌, length, refl, sym, ap, ap₂, ◌∙◌, subst, ◌⊎◌, inl, inr, true≢false, eqb-true, append-nil, append_assoc, arith, not}
+use Rattle.std.specs.Prelude.{map, ⊤}
+use Rattle.std.proofs.lemmas.List.{map-append, append_cancel_right, length-append}
+use Rattle.lexical_grammar.specs.declared.TokenKind.{TokenKind}
+use Rattle.lexical_grammar.specs.Cut.{Item, Cut, Significant, significant_word, is_significant_kind}
+use Rattle.lexical_grammar.specs.Begins.{are_tokens}
+use Rattle.lexical_grammar.specs.Answers.{Answer, gives, limit_at, limited, is_token, is_end}
+use Rattle.document_grammar.specs.declared.kind.SyntaxKind.{SyntaxKind}
+use Rattle.document_grammar.specs.declared.kind.SyntaxKind.TheVariants as kind
+use Rattle.document_grammar.specs.Numbers.{number}
+use Rattle.document_grammar.specs.Kinds.{DOCUMENT}
+use Rattle.document_grammar.specs.Forests as built
+use Rattle.document_grammar.specs.Builds.{Building, Open, close, add_leaf}
+use Rattle.document_grammar.specs.Numbered.{tree_of}
+use Rattle.grammar_machine.specs.Labels.{labels}
+use Rattle.document_grammar.specs.Pattern.{member}
+use Rattle.document_grammar.specs.Tree.{Token, Tree, node, Forest, none}
+use Rattle.document_grammar.specs.Derivation.{document, Spells, nest, Starts, StartsWithin, marks, Mark}
+use Rattle.document_grammar.specs.Places.{bare}
+use Rattle.document_grammar.specs.Sentence.{token_of, leaf_number, Sentence, Within}
+use Rattle.document_grammar.specs.Booleans.{◌and◌, ◌or◌}
+use Rattle.grammar_machine.specs.Machine.{holds as within, is_leaf, class, first, second, frame, yields, Reach, start, close as closes_move, Frame, go, move}
+use Rattle.document_grammar.proofs.Booleans.{false-true, and-l, and-r, either}
+use Rattle.grammar_machine.proofs.TableLemmas.{holds-subset, holds-disjoint}
+use Rattle.grammar_machine.proofs.Depth.{count_in, nest-show, nesting_all}
+use Rattle.grammar_machine.proofs.SentenceTheorems.{sentence-parse, sound as ended_sound, not-starts, accepts, begins-at}
+use Rattle.grammar_machine.proofs.Patterns.{label}
+use Rattle.grammar_machine.proofs.Peak.{peak, peak-end, peak-start}
+use Rattle.grammar_machine.proofs.Run.{next, reach-other}
+use Rattle.grammar_machine.proofs.FromMachineTree.{show, shows}
+use Rattle.grammar_machine.proofs.Sound.{any, AllSpelt}
+use Rattle.grammar_machine.proofs.Starts.{read, next_one, next_two, after-one, after-two}
+use Rattle.grammar_machine.proofs.Steps.{closes-move}
+use Rattle.grammar_machine.proofs.MachineTheorems.{Parse, done, document-begins}
+use Rattle.parser_rules.specs.State.{State, Lexeme, Report, at_limit, found_at, add_all, second as second_of, fresh, begun, finished, read_on, met, bad, wait, ignored, flush, closed, enter, leave, wrapped_from, is_over}
+use Rattle.parser_rules.specs.Rule.{Runs, Rule, Call, While, Ready, Definition, Document, holds, Turns}
+use Rattle.parser_rules.specs.Open.{IsRoot}
+use Rattle.parser_rules.proofs.runs.Frame.{read_untouched, add_all_above, on_kind, on_item, turned, begun_nesting}
+use Rattle.parser_rules.proofs.soundness.WithoutIgnored.{stack, strip, layers, stack-flush}
+use Rattle.parser_rules.proofs.reports.NoReport.{answers_tokens, all_tokens, rest, current_tokens, item_tokens, EndsWell, Now, AtEnd, AtToken, standing, given as given_by, report_of, Held, all_tokens-append, Blames, read-on, choose, ends as ends_of, ignored-end}
+use Rattle.parser_rules.proofs.lookahead.TokenSets.{class_of, Shown, ready-is, second-shown, of-any, over, ready, not-zero}
+use Rattle.parser_rules.proofs.lookahead.Split.{Level, low, high, past, loose, spot, lost}
+use Rattle.parser_rules.proofs.lookahead.MachineClasses.{Next}
+use Rattle.parser_rules.proofs.soundness.TableCheck.{raised, own, owed, behind, root_ends, checks_rule, checks_turns}
+use Rattle.parser_rules.proofs.soundness.Checked.{checked_document, checked_turns}
+use Rattle.parser_rules.proofs.soundness.FirstReport.{Viable, Unread, TooMany, left, Right, stuck_here, unread_here, deep_here, no_token}
+use Rattle.parser_rules.proofs.soundness.Plain.{Plain, plain-read}
+use Rattle.parser_rules.proofs.soundness.Simulation.{Leveled, Place, Fits, Out, Tells, Rightly, tell-on, sees-two, shown, good, link, run-grows}
+
+-- ---- what was answered, where all answers are tokens
+
+word-tokens : (k : TokenKind) (text : List ℕ) (b : Bool) → (if b then token_of (record { kind = k; text = text }) ∷ [] else []) ≡ map token_of (if b then record { kind = k; text = text } ∷ [] else [])
+word-tokens k text true = refl
+word-tokens k text false = refl
+
+pub record Given (allowed : ℕ) (items : List Item) : Type 0 where
+  pub tokens : are_tokens items ≡ true
+  pub count : length items ≤ allowed
+  pub words : answers_tokens (limited allowed items) ≡ map token_of (Significant items)
+
+given-more : (allowed : ℕ) (item : Item) (items : List Item) (found : Option TokenKind) → is_token (gives (record { kind = found; text = item.text; index = item.index })) ≡ true → Given allowed items → Given (suc allowed) (record { kind = found; text = item.text; index = item.index } ∷ items)
+given-more allowed item items None h g = absurd (true≢false (sym h))
+given-more allowed item items (Some k) h g = record {
+  tokens = g.tokens;
+  count = let c = g.count in omega (arith, c);
+  words = ap₂ (λ (a b : List Token). a ++ b) (word-tokens k item.text (is_significant_kind k)) g.words ∙ sym (map-append token_of (significant_word (Some k) item.text) (Significant items));
+}
+
+pub given : (allowed : ℕ) (items : List Item) → all_tokens (limited allowed items) ≡ true → Given allowed items
+unfolding ◌and◌
+given zero [] h = record { tokens = refl; count = omega arith; words = refl }
+given (suc allowed) [] h = record { tokens = refl; count = omega arith; words = refl }
+given zero (item ∷ items) h = absurd (true≢false (sym h))
+given (suc allowed) (item ∷ items) h = given-more allowed item items item.kind (and-l _ _ h) (given allowed items (and-r _ _ h))
+
+-- ---- the beginning
+
+pub document-label : (label DOCUMENT ≡ DOCUMENT) × (own DOCUMENT ≡ 0) × (is_leaf DOCUMENT ≡ false) × (count_in DOCUMENT DOCUMENT ≡ 0)
+unfolding label labels own ◌or◌ is_leaf member
+document-label = (refl, refl, refl, refl)
+
+zeros : (o c : ℕ) → o ≡ 0 → c ≡ 0 → 0 + o ≡ c + 0
+zeros o c e f = omega arith
+
+zero-peak : (p c h : ℕ) → p ≡ c → c ≡ 0 → p ≤ h
+zero-peak p c h e f = omega arith
+
+pub start-level : (lim : ℕ) (answers : List Answer) (w : List Token) → Leveled document answers [] ⊤ lim w DOCUMENT 0 low none [] 0 0 lim
+start-level lim answers w = record {
+  level = zeros (own DOCUMENT) (count_in DOCUMENT DOCUMENT) document-label.1 document-label.3;
+  entered = omega arith;
+  most_open = zero-peak _ _ _ (peak-start DOCUMENT) document-label.3;
+  above = omega arith;
+  kept = λ z. omega arith;
+  nested = λ z t p. omega arith;
+  limit = refl;
+}
+
+abbrev pub First : ℕ → List Answer → State → Type 0
+First r xs s = Tells document xs [] ⊤ r (answers_tokens xs) s
+
+start-fits : (r : ℕ) (xs : List Answer) → EndsWell xs → First r xs (begun xs r kind.DOCUMENT) ⊎ Fits document xs [] ⊤ r (answers_tokens xs) DOCUMENT (spot 0 low loose) any any [] (begun xs r kind.DOCUMENT)
+start-fits r xs e =
+    let s : State = fresh xs r kind.DOCUMENT in
+    let b : State = begun xs r kind.DOCUMENT in
+    let w : List Token = answers_tokens xs in
+    elim (read-on xs [] ⊤ (Rightly document xs [] ⊤ r w) 0 xs s (record { clean = refl; accepts = refl; waits = λ z. refl }) e (record { front = []; split = refl; tokens = refl }) blame (λ z. (omega arith, tt, (tt, tt)))) [
+      | inl o ↦ inl o
+      | inr o ↦ inr (record {
+        calm = o.calm;
+        seen = record { near = of-any b.current (shown document xs [] ⊤ r w b o.calm); far = of-any (second_of b.items) (second-shown b.items) };
+        stands = (
+          record {
+            children = none;
+            place = record { reach = subst (λ (z : List Token). Reach DOCUMENT w (frame DOCUMENT 0 none ∷ []) z) (sym o.left) start; leveled = leveled-from; alone = λ e. refl };
+            built = λ z. ap stack (read_untouched xs s).tree ∙ ap (λ (k : ℕ). (k, none) ∷ ((0, none) ∷ [])) (sym document-label.0);
+          },
+          tt,
+        );
+      })
+    ]
+  where
+    none-taken : {a c : ℕ} → a ≡ c → 0 + a ≡ c
+    none-taken e = omega arith
+
+    blame : Blames xs [] ⊤ (Rightly document xs [] ⊤ r (answers_tokens xs)) 0 (answers_tokens xs)
+    blame x ys p n z = no_token p n (frame DOCUMENT 0 none ∷ [], subst (λ (u : List Token). Reach DOCUMENT (answers_tokens xs) (frame DOCUMENT 0 none ∷ []) u) (sym z) start) (none-taken (ap length z))
+
+    leveled-from : Leveled document xs [] ⊤ r (answers_tokens xs) DOCUMENT 0 low none [] (begun xs r kind.DOCUMENT).depth (begun xs r kind.DOCUMENT).high (begun xs r kind.DOCUMENT).limit
+    leveled-from = let still = read_untouched xs (fresh xs r kind.DOCUMENT) in rw (still.depth, still.high, still.limit) (start-level r xs (answers_tokens xs))
+
+-- ---- the end
+
+abbrev Layer : Type 0
+Layer = ℕ × Forest
+
+head-layer : (a b : Layer) (v w : List Layer) → a ∷ v ≡ b ∷ w → a ≡ b
+head-layer a b v w e = cc
+
+same-layer : (a b : Layer) → a ≡ b → node a.0 a.1 ≡ node b.0 b.1
+same-layer a b e = ap (λ (x : Layer). node x.0 x.1) e
+
+root-tree : (k : SyntaxKind) (here : built.Forest) (layer : Layer) (more : List Layer) → layers here (record { before = built.none; kind = k } ∷ []) ≡ layer ∷ more → bare (tree_of (built.node k here built.none)) ≡ node layer.0 layer.1
+root-tree k here layer more e = same-layer (number k, strip here) layer (head-layer (number k, strip here) layer _ more e)
+
+finished-tree : (s : State) (layer : Layer) (more : List Layer) → IsRoot s.tree → stack (add_all s.waiting s.tree) ≡ layer ∷ more → bare (tree_of (finished s)) ≡ node layer.0 layer.1
+finished-tree s layer more root e =
+    let b : Building = add_all s.waiting s.tree in
+    let o : Open = record { before = built.none; kind = root.0 } in
+    let a : b.above ≡ o ∷ [] = add_all_above s.waiting s.tree ∙ root.2 in
+    ap (λ (above : List Open). bare (tree_of (close b.here above).here)) a ∙ root-tree root.0 b.here layer more (sym (ap (layers b.here) a) ∙ e)
+
+-- the class of no token left but the end
+none-over : (t : Lexeme) (items : List Answer) → AtEnd t items ⊎ AtToken t items → within (class_of (Some t)) over ≡ true → current_tokens (Some t) ++ answers_tokens items ≡ []
+none-over t items (inl a) h = a.nothing
+none-over t items (inr a) h =
+    let b : Token = (leaf_number t.kind, t.text) in
+    let i : within (class b) over ≡ true = subst (λ (e : Bool). within (cond e 0 (class b)) over ≡ true) a.is_end h in
+    false-true (holds-disjoint (class b) over ready refl i) (not-zero b)
+
+over-rest : (c : Option Lexeme) (items : List Answer) → Now c items → within (class_of c) over ≡ true → current_tokens c ++ answers_tokens items ≡ []
+over-rest None items n h = absurd n
+over-rest (Some t) items n h = none-over t items (standing t items n) h
+
+-- nothing is left to read: all answers were given
+read-all : (t : Lexeme) (items : List Answer) → AtEnd t items ⊎ AtToken t items → current_tokens (Some t) ++ answers_tokens items ≡ [] → items ≡ []
+read-all t items (inl a) e = a.none
+read-all t items (inr a) e = no-tokens (sym e ∙ a.first)
+  where
+    no-tokens : {A : Type 0} {b : Token} {more : List Token} → [] ≡ b ∷ more → A
+    no-tokens h = absurd (cc)
+
+none-left : (c : Option Lexeme) (items : List Answer) → Now c items → current_tokens c ++ answers_tokens items ≡ [] → items ≡ []
+none-left None items n e = absurd n
+none-left (Some t) items n e = read-all t items (standing t items n) e
+
+-- all answers were tokens
+all-read : (xs : List Answer) (c : Option Lexeme) (items : List Answer) → Now c items → Held xs c items → current_tokens c ++ answers_tokens items ≡ [] → all_tokens xs ≡ true
+unfolding ◌and◌
+all-read xs None items n p e = absurd n
+all-read xs (Some t) items n p e =
+    ap all_tokens (p.split ∙ ap (λ (ys : List Answer). p.front ++ given_by t ∷ ys) (none-left (Some t) items n e)) ∙ all_tokens-append p.front (given_by t ∷ []) p.tokens refl
+
+top-depth : (d o c r : ℕ) → d + o ≡ c + r → o ≡ 0 → c ≡ 0 → r ≡ 0 → d ≡ 0
+top-depth d o c r e f g h = omega arith
+
+owed-none : (l : Level) → raised l ≡ 0 → owed DOCUMENT l ≡ 0
+owed-none low e = document-label.1
+owed-none high e = refl
+owed-none past e = refl
+
+top-peak : (p h d u lim : ℕ) → p ≤ max h (d + u) → d ≡ 0 → u ≡ 0 → h ≤ lim → p ≤ lim
+top-peak p h d u lim e f g i = omega arith
+
+top-high : (h d u p n m : ℕ) → p ≤ max h (d + u) → d ≡ 0 → u ≡ 0 → p ≡ n → m ≡ n → h ≤ n → h ≡ m
+top-high h d u p n m e f g i j k = omega arith
+
+at-most : (a b c : ℕ) → a ≡ b → b ≤ c → a ≤ c
+at-most a b c e f = omega arith
+
+same-words : (w v : List Token) → w ≡ v ++ [] → v ≡ w
+same-words w v e = sym (append-nil v) ∙ sym e
+
+-- What the rule's run comes to: the text's words are spelled by a derivation that nests within the limit.
+pub record Clean (r : ℕ) (xs : List Answer) (s : State) : Type 0 where
+  pub spells : Spells (answers_tokens xs) (bare (tree_of (finished s))) document
+  pub nesting : nest (bare (tree_of (finished s))) ≤ r
+  -- the greatest depth is the nesting
+  pub high : s.high ≡ nest (bare (tree_of (finished s)))
+  pub tokens : all_tokens xs ≡ true
+
+pub record Nothing_told (r : ℕ) (xs : List Answer) (s : State) : Type 0 where
+  pub silent : s.errors ≡ []
+  pub clean : Clean r xs s
+
+-- Nothing is reported: what was to be read is a sentence within the limit, with the tree's children.
+pub record Silent (xs : List Answer) (base : List Report) (Follows : Type 0) (r : ℕ) (w : List Token) (s : State) : Type 0 where
+  pub silent : s.errors ≡ base
+  pub children : Forest
+  pub spells : Spells w (show (node DOCUMENT children)) document
+  pub nesting : Follows → nest (show (node DOCUMENT children)) ≤ r
+  pub high : Follows → s.high ≡ nest (show (node DOCUMENT children))
+  pub built : Follows → stack (add_all s.waiting s.tree) ≡ (label DOCUMENT, shows children) ∷ ((0, none) ∷ [])
+  pub tokens : all_tokens xs ≡ true
+
+pub root-out : (xs : List Answer) (base : List Report) (Follows : Type 0) (r : ℕ) (w : List Token) (s : State) → Out document xs base Follows r w DOCUMENT [] root_ends s → Tells document xs base Follows r w s ⊎ Silent xs base Follows r w s
+unfolding root_ends
+root-out xs base Follows r w s (inl o) = inl o
+root-out xs base Follows r w s (inr (lost, x, y, h, g)) = false-true refl h
+root-out xs base Follows r w s (inr (spot q l d, x, y, h, g)) =
+    let st = g.stands.0 in
+    let f : Forest = st.children in
+    let i : Place document xs base Follows r w DOCUMENT q l f [] s = st.place in
+    let n : Next x y (rest s) = sees-two document xs base Follows r w x y s g.calm g.seen in
+    let none : rest s ≡ [] = over-rest s.current s.items g.calm.now (holds-subset (class_of s.current) x over (and-r _ _ (and-l _ _ h)) g.seen.near) in
+    let m : next DOCUMENT q (rest s) ≡ closes_move = closes-move DOCUMENT q x (behind y) (first (rest s)) (second (rest s)) (and-l _ _ (and-l _ _ h)) n.near n.far in
+    let d = ended_sound document w f (rest s) (q, i.reach, m) in
+    let words : yields f ≡ w = same-words w (yields f) (d.0 ∙ ap (λ (v : List Token). yields f ++ v) none) in
+    let lv = i.leveled in
+    let raised-none : raised l ≡ 0 = eqb-true _ _ (and-r _ _ h) in
+    let depth : s.depth ≡ 0 = top-depth s.depth (own DOCUMENT) (count_in DOCUMENT DOCUMENT) (raised l) lv.level document-label.1 document-label.3 raised-none in
+    let p = (done DOCUMENT document-begins w q f (rest s) i.reach m).1 in
+    inr (record {
+      silent = g.calm.quiet.clean;
+      children = f;
+      spells = subst (λ (v : List Token). Spells v (show (node DOCUMENT f)) document) words d.1;
+      nesting = λ z. at-most (nest (show (node DOCUMENT f))) (peak (frame DOCUMENT q f ∷ [])) r (nest-show (node DOCUMENT f) p.0 ∙ sym (peak-end DOCUMENT q f)) (top-peak _ s.high s.depth (owed DOCUMENT l) r lv.most_open depth (owed-none l raised-none) (lv.kept z));
+      high = λ z. top-high s.high s.depth (owed DOCUMENT l) (peak (frame DOCUMENT q f ∷ [])) (nesting_all (node DOCUMENT f)) (nest (show (node DOCUMENT f))) lv.most_open depth (owed-none l raised-none) (peak-end DOCUMENT q f) (nest-show (node DOCUMENT f) p.0) (lv.nested z (node DOCUMENT f) (p.0, p.1, words));
+      built = λ z. stack-flush s.waiting s.tree (g.calm.quiet.waits z) ∙ st.built z;
+      tokens = all-read xs s.current s.items g.calm.now g.calm.held none;
+    })
+
+clean-root : (r : ℕ) (xs : List Answer) (s : State) → IsRoot s.tree → Silent xs [] ⊤ r (answers_tokens xs) s → Nothing_told r xs s
+clean-root r xs s root o =
+    let f : Forest = o.children in
+    let shown : bare (tree_of (finished s)) ≡ show (node DOCUMENT f) = finished-tree s (label DOCUMENT, shows f) ((0, none) ∷ []) root (o.built tt) in
+    record {
+      silent = o.silent;
+      clean = record {
+        spells = subst (λ (z : Tree). Spells (answers_tokens xs) z document) (sym shown) o.spells;
+        nesting = subst (λ (z : Tree). nest z ≤ r) (sym shown) (o.nesting tt);
+        high = subst (λ (z : Tree). s.high ≡ nest z) (sym shown) (o.high tt);
+        tokens = o.tokens;
+      };
+    }
+
+-- A run of the document's rule.
+pub parsed : (r : ℕ) (xs : List Answer) (s : State) → EndsWell xs → IsRoot s.tree → Runs (Call Document) (begun xs r kind.DOCUMENT) s → First r xs s ⊎ Nothing_told r xs s
+unfolding checks_rule
+parsed r xs s en root run = elim (start-fits r xs en) [
+  | inl o ↦ inl (tell-on document xs [] ⊤ r (answers_tokens xs) (begun xs r kind.DOCUMENT) s (run-grows run) o)
+  | inr b ↦ elim (root-out xs [] ⊤ r (answers_tokens xs) s (link document xs [] ⊤ r (answers_tokens xs) run 5 DOCUMENT (spot 0 low loose) any any [] root_ends
+      (good document xs [] ⊤ r (answers_tokens xs) 5 DOCUMENT (spot 0 low loose) any any (Call Document) root_ends checked_document) b)) [
+        | inl o ↦ inl o
+        | inr o ↦ inr (clean-root r xs s root o)
+      ]
+]
+
+nobody : {A : Type 0} {r : Report} {more : List Report} → [] ≡ [] ++ (r ∷ more) → A
+nobody e = absurd (cc)
+
+pub clean : (r : ℕ) (xs : List Answer) (s : State) → EndsWell xs → IsRoot s.tree → s.errors ≡ [] → Runs (Call Document) (begun xs r kind.DOCUMENT) s → Clean r xs s
+clean r xs s en root e run = elim (parsed r xs s en root run) [ inl o ↦ nobody (sym e ∙ o.reported) | inr o ↦ o.clean ]
+
+-- ---- the first report
+
+answers-append : (xs ys : List Answer) → answers_tokens (xs ++ ys) ≡ answers_tokens xs ++ answers_tokens ys
+answers-append [] ys = refl
+answers-append (limit_at index ∷ xs) ys = answers-append xs ys
+answers-append (gives item ∷ xs) ys = ap (λ (v : List Token). item_tokens item.kind item.text ++ v) (answers-append xs ys) ∙ sym (append_assoc (item_tokens item.kind item.text) (answers_tokens xs) (answers_tokens ys))
+
+no-token-words : (x : Answer) (ys : List Answer) → is_token x ≡ false → answers_tokens (x ∷ ys) ≡ answers_tokens ys
+no-token-words (limit_at index) ys h = refl
+no-token-words (gives item) ys h = on item.kind h
+  where
+    on : (found : Option TokenKind) → is_token (gives (record { kind = found; text = item.text; index = item.index })) ≡ false → item_tokens found item.text ++ answers_tokens ys ≡ answers_tokens ys
+    on None h = refl
+    on (Some k) h = absurd (true≢false h)
+
+-- the tokens before
+words-before : (xs front ys : List Answer) (b : List Token) → xs ≡ front ++ ys → answers_tokens xs ≡ b ++ answers_tokens ys → b ≡ answers_tokens front
+words-before xs front ys b e h = append_cancel_right b (answers_tokens front) (answers_tokens ys) (sym h ∙ (ap answers_tokens e ∙ answers-append front ys))
+
+-- No late fault: the tokens before begin a sentence, which goes on with listed tokens.
+abbrev pub Begins_tokens : List Token → Type 0
+Begins_tokens b = (t : Tree) × (v : List Token) × Spells (b ++ v) t document × AllSpelt v
+
+viable-begins : (r : ℕ) (xs front ys : List Answer) → xs ≡ front ++ ys → Viable document xs r (answers_tokens xs) (answers_tokens ys) → Begins_tokens (answers_tokens front)
+viable-begins r xs front ys e v =
+    let h = begins-at document (answers_tokens xs) v.0 (answers_tokens ys) v.1 in
+    subst (λ (b : List Token). Begins_tokens b) (words-before xs front ys h.0 e h.1) h.2
+
+-- No early limit: no sentence within the limit goes on with the next token.
+over-within : (n a c m : ℕ) → n < a → c ≡ a → c ≤ n → ⊥
+over-within n a c m h e i = omega arith
+
+pub not-within-one : (r : ℕ) (xs : List Answer) (w rest : List Token) (k : TooMany document xs r w rest) → StartsWithin document r (read k.before ++ next_one rest) → ⊥
+not-within-one r xs w rest k h =
+    let a = after-one k.before rest h.0 h.2 h.4 in
+    let p = sentence-parse document (k.before ++ a.0) h.1 (subst (λ (z : List Token). Spells z h.1 document) a.1 h.3) in
+    over-within r (nesting_all p.0) (nest h.1) 0 (k.deeper p.0 a.0 p.1 a.2) (ap nest (sym p.2) ∙ nest-show p.0 p.1.0) h.5
+
+-- a sentence without what no rule reads yet starts so
+abbrev pub StartsPlain : List Mark → Type 0
+StartsPlain l = (w : List Token) × (t : Tree) × (v : List Mark) × Spells w t document × (marks w ≡ l ++ v) × Plain t
+
+-- No such sentence starts with the tokens before, what no rule reads, and the next token.
+not-plain : (r : ℕ) (xs : List Answer) (w rest : List Token) (k : Unread document xs r w rest) → (b : List Token) × (w ≡ b ++ rest) × (StartsPlain (read b ++ next_two rest) → ⊥)
+not-plain r xs w rest k =
+    let o = reach-other k.reached in
+    (o.0, o.1, λ h. on o.0 o.2 h (after-two o.0 rest h.0 h.2 h.4))
+  where
+    fs : List Frame
+    fs = frame k.symbol k.state k.children ∷ k.above
+
+    on : (b : List Token) → ((v : List Token) → first rest ≡ first v → second rest ≡ second v → Reach DOCUMENT (b ++ v) fs v) → (h : StartsPlain (read b ++ next_two rest))
+        → (u : List Token) × (h.0 ≡ b ++ u) × (first rest ≡ first u) × (second rest ≡ second u) → ⊥
+    on b reach h a =
+        let v : List Token = a.0 in
+        let q = sentence-parse document (b ++ v) h.1 (subst (λ (z : List Token). Spells z h.1 document) a.1 h.3) in
+        let m : next k.symbol k.state v ≡ go k.child = ap₂ (λ (x y : ℕ). move k.symbol k.state x y) (sym a.2) (sym a.3) ∙ k.goes_on in
+        plain-read xs r (b ++ v) v q.0 q.1 (subst (λ (z : Tree). Plain z) (sym q.2) h.5) (record {
+          symbol = k.symbol;
+          state = k.state;
+          children = k.children;
+          above = k.above;
+          reached = reach v a.2 a.3;
+          child = k.child;
+          goes_on = m;
+          class = subst (λ (n : ℕ). within n (unread_set k.child) ≡ true) a.2 k.class;
+        })
+
+-- Where the first report stands, and why; and how many tokens are before it.
+pub data Why (r : ℕ) (xs : List Answer) : Report → ℕ → Type 0 where
+  -- no sentence starts with the tokens before, the one there and the next
+  fault : {m : ℕ} (front items : List Answer) (t : Lexeme) → m ≡ length (answers_tokens front) → Now (Some t) items → xs ≡ front ++ given_by t ∷ items → all_tokens front ≡ true → Begins_tokens (answers_tokens front)
+      → (Starts document (read (answers_tokens front) ++ next_two (left document xs r (answers_tokens xs) t items)) → ⊥) → Why r xs (record { found = found_at t; index = t.index }) m
+  -- no rule reads what stands there: no sentence without such parts starts with the tokens before, the one there and the next
+  unread : {m : ℕ} (front items : List Answer) (t : Lexeme) → m ≡ length (answers_tokens front) → Now (Some t) items → xs ≡ front ++ given_by t ∷ items → all_tokens front ≡ true → Begins_tokens (answers_tokens front)
+      → (StartsPlain (read (answers_tokens front) ++ next_two (left document xs r (answers_tokens xs) t items)) → ⊥) → Why r xs (record { found = found_at t; index = t.index }) m
+  -- each sentence that starts so nests deeper than the limit
+  too_deep : {m : ℕ} (front items : List Answer) (t : Lexeme) → m ≡ length (answers_tokens front) → Now (Some t) items → xs ≡ front ++ given_by t ∷ items → all_tokens front ≡ true → Begins_tokens (answers_tokens front)
+      → (StartsWithin document r (read (answers_tokens front) ++ next_one (left document xs r (answers_tokens xs) t items)) → ⊥) → Why r xs (record { found = at_limit; index = t.index }) m
+  -- the answer is no token: bad text, or the token limit
+  other : {m : ℕ} (front items : List Answer) (x : Answer) → m ≡ length (answers_tokens front) → xs ≡ front ++ x ∷ items → all_tokens front ≡ true → Begins_tokens (answers_tokens front) → is_token x ≡ false → Why r xs (report_of x) m
+
+front-taken : (xs front ys : List Answer) (m : ℕ) → xs ≡ front ++ ys → m + length (answers_tokens ys) ≡ length (answers_tokens xs) → m ≡ length (answers_tokens front)
+front-taken xs front ys m e h = taken m (length (answers_tokens front)) (length (answers_tokens ys)) _ h (ap length (ap answers_tokens e ∙ answers-append front ys) ∙ length-append (answers_tokens front) (answers_tokens ys))
+  where
+    taken : (m a c n : ℕ) → m + c ≡ n → n ≡ a + c → m ≡ a
+    taken m a c n h g = omega arith
+
+pub why : (r : ℕ) (xs : List Answer) (e : Report) (m : ℕ) → Right document xs r (answers_tokens xs) e m → Why r xs e m
+why r xs e m (stuck_here {t = t} {items = items} now p k c) =
+    let ys : List Answer = given_by t ∷ items in
+    let b = words-before xs p.front ys k.0.before p.split k.0.split in
+    fault p.front items t (front-taken xs p.front ys m p.split c) now p.split p.tokens (viable-begins r xs p.front ys p.split k.1) (λ h. not-starts document (answers_tokens xs) (answers_tokens ys) k.0 (subst (λ (u : List Token). Starts document (read u ++ next_two (answers_tokens ys))) (sym b) h))
+why r xs e m (unread_here {t = t} {items = items} now p k c) =
+    let ys : List Answer = given_by t ∷ items in
+    let n = not-plain r xs (answers_tokens xs) (answers_tokens ys) k in
+    let b = words-before xs p.front ys n.0 p.split n.1 in
+    unread p.front items t (front-taken xs p.front ys m p.split c) now p.split p.tokens (viable-begins r xs p.front ys p.split (frame k.symbol k.state k.children ∷ k.above, k.reached))
+    (λ h. n.2 (subst (λ (u : List Token). StartsPlain (read u ++ next_two (answers_tokens ys))) (sym b) h))
+why r xs e m (deep_here {t = t} {items = items} now p k c) =
+    let ys : List Answer = given_by t ∷ items in
+    let b = words-before xs p.front ys k.before p.split k.split in
+    too_deep p.front items t (front-taken xs p.front ys m p.split c) now p.split p.tokens (viable-begins r xs p.front ys p.split k.comes) (λ h. not-within-one r xs (answers_tokens xs) (answers_tokens ys) k (subst (λ (u : List Token). StartsWithin document r (read u ++ next_one (answers_tokens ys))) (sym b) h))
+why r xs e m (no_token {x = x} {items = items} p n v c) =
+    other p.front items x (front-taken xs p.front (x ∷ items) m p.split (ap (λ (v : List Token). m + length v) (no-token-words x items n) ∙ c)) p.split p.tokens (viable-begins r xs p.front (x ∷ items) p.split (subst (λ (u : List Token). Viable document xs r (answers_tokens xs) u) (sym (no-token-words x items n)) v)) n
+
+-- ---- going on after reports
+
+abbrev pub loops : Rule
+loops = While Ready (Call Definition)
+
+-- A turn of the document's loop: the current token, which is not the end, no level, and the grammar's reports are taken.
+pub record Turn (st : State) : Type 0 where
+  pub token : Lexeme
+  pub current : st.current ≡ Some token
+  pub now : Now (Some token) st.items
+  pub is_ready : true ≡ holds Ready st
+  pub accepts : st.accepts ≡ true
+  pub no_level : st.depth ≡ 0
+
+-- the answers from the current token on
+abbrev pub from_now : (st : State) → Turn st → List Answer
+from_now st c = given_by c.token ∷ st.items
+
+on-level : (answers : List Answer) (base : List Report) (w : List Token) (d h lim : ℕ) → d ≡ 0 → Leveled document answers base ⊥ lim w DOCUMENT 0 low none [] d h lim
+on-level answers base w d h lim e = record {
+  level = rw e (zeros (own DOCUMENT) (count_in DOCUMENT DOCUMENT) document-label.1 document-label.3);
+  entered = omega arith;
+  most_open = zero-peak _ _ _ (peak-start DOCUMENT) document-label.3;
+  above = rw e (omega arith);
+  kept = λ z. absurd z;
+  nested = λ z. absurd z;
+  limit = refl;
+}
+
+abbrev pub now_words : (st : State) → Turn st → List Token
+now_words st c = answers_tokens (from_now st c)
+
+turn-fits : (st : State) (c : Turn st) → Fits document (from_now st c) st.errors ⊥ st.limit (now_words st c) DOCUMENT (spot 0 low loose) ready any [] st
+unfolding holds within
+turn-fits st c = record {
+  calm = record {
+    quiet = record { clean = refl; accepts = c.accepts; waits = λ z. absurd z };
+    now = subst (λ (o : Option Lexeme). Now o st.items) (sym c.current) c.now;
+    held = subst (λ (o : Option Lexeme). Held (from_now st c) o st.items) (sym c.current) (record { front = []; split = refl; tokens = refl });
+  };
+  seen = record { near = sym (c.is_ready ∙ ready-is st.current shown_now); far = of-any (second_of st.items) (second-shown st.items) };
+  stands = (
+    record {
+      children = none;
+      place = record { reach = subst (λ (v : List Token). Reach DOCUMENT (now_words st c) (frame DOCUMENT 0 none ∷ []) v) (sym same) start; leveled = on-level (from_now st c) st.errors (now_words st c) st.depth st.high st.limit c.no_level; alone = λ e. refl };
+      built = λ z. absurd z;
+    },
+    tt,
+  );
+}
+  where
+    same : rest st ≡ now_words st c
+    same = ap (λ (o : Option Lexeme). current_tokens o ++ answers_tokens st.items) c.current
+
+    shown_now : Shown st.current
+    shown_now = subst (λ (o : Option Lexeme). Shown o) (sym c.current) c.now.0
+
+-- From any turn of the document's loop on: the next report is right for the answers that are left there, as a document of its own; or there is
+-- none, and what is left is a sentence.
+pub record Next_told (st s : State) (c : Turn st) : Type 0 where
+  pub report : Report
+  pub more : List Report
+  pub reported : s.errors ≡ st.errors ++ (report ∷ more)
+  pub taken : ℕ
+  pub reason : Why st.limit (from_now st c) report taken
+
+pub parsed-on : (st s : State) (c : Turn st) → Runs loops st s → Next_told st s c ⊎ Silent (from_now st c) st.errors ⊥ st.limit (now_words st c) s
+unfolding checks_turns
+parsed-on st s c run =
+    elim (root-out (from_now st c) st.errors ⊥ st.limit (now_words st c) s
+    (link document (from_now st c) st.errors ⊥ st.limit (now_words st c) run 5 DOCUMENT (spot 0 low loose) ready any [] root_ends
+    (good document (from_now st c) st.errors ⊥ st.limit (now_words st c) 5 DOCUMENT (spot 0 low loose) ready any (While Ready (Call Definition)) root_ends checked_turns) (turn-fits st c))) [
+      | inl o ↦ inl (record { report = o.report; more = o.more; reported = o.reported; taken = o.taken; reason = why st.limit (from_now st c) o.report o.taken o.right })
+      | inr o ↦ inr o
+    ]
+
+-- what stands at each state of a run: the current token is shown, and what follows it comes to an end
+abbrev pub Stood : Option Lexeme → List Answer → Type 0
+Stood None items = ⊤
+Stood (Some t) items = Now (Some t) items
+
+pub stood-read : (xs : List Answer) (s : State) → EndsWell xs → Stood (read_on xs s).current (read_on xs s).items
+unfolding read_on
+stood-read [] s e = absurd e
+stood-read (limit_at index ∷ xs) s e = subst (λ (ys : List Answer). Stood (read_on ys (met index (record s { items = xs }))).current (read_on ys (met index (record s { items = xs }))).items) (sym e) tt
+stood-read (gives item ∷ xs) s e = (elim item.kind as (λ found. choose (ends_of found) (xs ≡ []) (EndsWell xs) → Stood (on_item xs s item found).current (on_item xs s item found).items) [
+  | None ↦ λ e'. stood-read xs (bad item.text item.index (record s { items = xs })) e'
+  | Some k ↦ λ e'. on (λ t e2. stood-read xs t e2) k (ignored k) refl e'
+]) e
+  where
+    on : ((t : State) → EndsWell xs → Stood (read_on xs t).current (read_on xs t).items) → (k : TokenKind) (found : Option SyntaxKind) → ignored k ≡ found → choose (is_end k) (xs ≡ []) (EndsWell xs) → Stood (on_kind xs s item k found).current (on_kind xs s item k found).items
+    on reads k None i e' = (i, e')
+    on reads k (Some leaf) i e' = reads (wait leaf item.text (record s { items = xs })) (subst (λ (b : Bool). choose b (xs ≡ []) (EndsWell xs)) (ignored-end k leaf i) e')
+
+abbrev pub Stands_still : State → State → Type 0
+Stands_still s t = Stood s.current s.items → Stood t.current t.items
+
+stood-moves : (x : Lexeme) (s u : State) → u.items ≡ s.items → Now (Some x) s.items → Stood (read_on s.items u).current (read_on s.items u).items
+unfolding read_on
+stood-moves x s u i n = elim (either (is_end x.kind)) [
+  | inl e ↦ (let z : s.items ≡ [] = subst (λ (b : Bool). choose b (s.items ≡ []) (EndsWell s.items)) e n.1 in
+      subst (λ (ys : List Answer). Stood (read_on ys u).current (read_on ys u).items) (sym z) tt)
+  | inr e ↦ stood-read s.items u (subst (λ (b : Bool). choose b (s.items ≡ []) (EndsWell s.items)) e n.1)
+]
+
+pub stands-along : Holds_along Stands_still
+unfolding flush closed enter leave wrapped_from
+stands-along = record {
+  same = λ s h. h;
+  next = λ s t u h k e. k (h e);
+  flushes = λ s h. h;
+  moves = λ leaf x s e w h. stood-moves x s (record s { tree = add_leaf leaf x.text s.tree }) refl (subst (λ (o : Option Lexeme). Stood o s.items) e h);
+  reports = λ x s c a h. h;
+  limits = λ x s c a h. h;
+  asks = λ s h. h;
+  nodes = λ k s u h e. h e;
+  levels = λ s u q h e. h e;
+  wraps = λ k t u w h l e. l (h e);
+}
+
+-- a turn of the document's loop over a text, while the grammar's reports are taken
+pub turn-of : (r : ℕ) (xs : List Answer) (first_rule : Rule) (b st : State) → EndsWell xs → Runs first_rule (begun xs r kind.DOCUMENT) b → Turns Ready (Call Definition) b st → true ≡ holds Ready st → st.accepts ≡ true → Turn st
+unfolding holds
+turn-of r xs first_rule b st en run turns rd ac = at st.current refl stood rd
+  where
+    stood : Stood st.current st.items
+    stood = turns_along stands-along turns (along stands-along run (stood-read xs (fresh xs r kind.DOCUMENT) en))
+
+    depth : st.depth ≡ 0
+    depth = (turned turns).depth ∙ (begun_nesting xs r kind.DOCUMENT run).0
+
+    at : (o : Option Lexeme) → st.current ≡ o → Stood o st.items → true ≡ not (is_over o) → Turn st
+    at None e h g = absurd (true≢false g)
+    at (Some t) e h g = record { token = t; current = e; now = h; is_ready = rd; accepts = ac; no_level = depth }
+
+-- ---- acceptance
+
+token-of-all : (front items : List Answer) (x : Answer) → all_tokens (front ++ x ∷ items) ≡ true → is_token x ≡ true
+token-of-all [] items x h = and-l _ _ h
+token-of-all (y ∷ front) items x h = token-of-all front items x (and-r _ _ h)
+
+lt-le : (n a c : ℕ) → n < a → c ≡ a → c ≤ n → ⊥
+lt-le n a c h e i = omega arith
+
+-- over a sentence within the limits the first report is at most one of what no rule reads
+pub only-unread : (r : ℕ) (xs : List Answer) (e : Report) (m : ℕ) (t : Tree) → Spells (answers_tokens xs) t document → nest t ≤ r → all_tokens xs ≡ true → Right document xs r (answers_tokens xs) e m
+    → (u : List Token) × Unread document xs r (answers_tokens xs) u
+only-unread r xs e m t h n a (stuck_here {t = lexeme} {items = items} now p k c) = absurd (accepts document (answers_tokens xs) (answers_tokens (given_by lexeme ∷ items)) t h k.0)
+only-unread r xs e m t h n a (unread_here {t = lexeme} {items = items} now p k c) = (answers_tokens (given_by lexeme ∷ items), k)
+only-unread r xs e m t h n a (deep_here {t = lexeme} {items = items} now p k c) =
+    let q = sentence-parse document (answers_tokens xs) t h in
+    let d = k.deeper q.0 (answers_tokens (given_by lexeme ∷ items)) (subst (λ (z : List Token). Parse DOCUMENT q.0 z) k.split q.1) refl in
+    absurd (lt-le r (nesting_all q.0) (nest t) d (ap nest (sym q.2) ∙ nest-show q.0 q.1.0) n)
+only-unread r xs e m t h n a (no_token {x = x} {items = items} p other_one v c) = false-true other_one (token-of-all p.front items x (subst (λ (z : List Answer). all_tokens z ≡ true) p.split a))
+
+pub accepted : (r : ℕ) (xs : List Answer) (s : State) (t : Tree) → EndsWell xs → IsRoot s.tree → Runs (Call Document) (begun xs r kind.DOCUMENT) s → Spells (answers_tokens xs) t document → nest t ≤ r → all_tokens xs ≡ true
+    → (s.errors ≡ []) ⊎ ((u : List Token) × Unread document xs r (answers_tokens xs) u)
+accepted r xs s t en root run h n a = elim (parsed r xs s en root run) [
+  | inl o ↦ inr (only-unread r xs o.report o.taken t h n a o.right)
+  | inr o ↦ inl o.silent
+]
+
+-- Acceptance: a sentence within the limits, without what no rule reads yet, gets no report.
+pub accepted_plain : (r : ℕ) (xs : List Answer) (s : State) (t : Tree) → EndsWell xs → IsRoot s.tree → Runs (Call Document) (begun xs r kind.DOCUMENT) s → Spells (answers_tokens xs) t document → Plain t → nest t ≤ r → all_tokens xs ≡ true → s.errors ≡ []
+accepted_plain r xs s t en root run h p n a = elim (accepted r xs s t en root run h n a) [
+  | inl e ↦ e
+  | inr k ↦ (let q = sentence-parse document (answers_tokens xs) t h in absurd (plain-read xs r (answers_tokens xs) k.0 q.0 q.1 (subst (λ (z : Tree). Plain z) (sym q.2) p) k.1))
+]
+
+-- The text is a sentence within both limits.
+pub record IsClean (source : List ℕ) (t : Tree) (r k : ℕ) : Type 0 where
+  pub sentence : Sentence source t document
+  pub within : Within source t r k
+
+pub sound : (r k : ℕ) (source : List ℕ) (items : List Item) (s : State) → EndsWell (limited k items) → (are_tokens items ≡ true → Cut source items) → IsRoot s.tree → s.errors ≡ [] → Runs (Call Document) (begun (limited k items) r kind.DOCUMENT) s → IsClean source (bare (tree_of (finished s))) r k
+sound r k source items s en cut root e run =
+    let c = clean r (limited k items) s en root e run in
+    let g = given k items c.tokens in
+    record {
+      sentence = record { items = items; cut = cut g.tokens; tokens = g.tokens; derivation = c.spells.0; yield = c.spells.1 ∙ g.words };
+      within = record { nesting = c.nesting; items = items; cut = cut g.tokens; count = g.count };
+    }
