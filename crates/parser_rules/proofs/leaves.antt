@@ -1,3 +1,2 @@
 pub mod LeafCheck
-pub mod LeafChecked
 pub mod OneLeaf

@@ -1,1 +1,2 @@
+pub mod LevelCheck
 pub mod Nesting

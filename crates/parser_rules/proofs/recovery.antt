@@ -1,3 +1,4 @@
+pub mod RecoveryCheck
 pub mod IgnoredPlaces
 pub mod RowSymbols
 pub mod Popped

@@ -2,7 +2,6 @@ pub mod WithoutIgnored
 pub mod MachineStack
 pub mod Settled
 pub mod TableCheck
-pub mod Checked
 pub mod FirstReport
 pub mod Plain
 pub mod Simulation

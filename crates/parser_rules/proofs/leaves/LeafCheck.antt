@@ -27,24 +27,24 @@ belongs x own = (disjoint x over and is_leaf (number own)) and (eqb (label (numb
 abbrev pub bump_to : ℕ → ℕ → SyntaxKind → (ℕ → ℕ → Bool) → Bool
 bump_to x y own k = cond (is_error own) (k any any) (belongs x own and k y any)
 
-unfoldable pub checks : ℕ → ℕ → ℕ → Rule → (ℕ → ℕ → Bool) → Bool
-checks n x y Skip k = k x y
-checks n x y (Do (Bump own)) k = bump_to x y own k
-checks n x y (Do (Note m)) k = k x y
-checks n x y (Do TooDeep) k = k x y
-checks n x y (Seq a b) k = checks n x y a (λ u v. checks n u v b k)
-checks n x y (When t a b) k = split (λ a' b'. a' and b') true t x y (λ u v. checks n u v a k) (λ u v. checks n u v b k)
-checks n x y (While t a) k = split (λ a' b'. a' and b') true t any any (λ u v. checks n u v a (λ u' v'. true)) k
-checks zero x y (Child c) k = false
-checks (suc n) x y (Child c) k = cond (inlined c) (checks n x y (inside c) k) ((subset x (near_in c) and subset y (far_of c)) and k any any)
-checks n x y (Nested a b) k = k x y and checks n x y a (λ u v. checks n u v b k)
-checks zero x y (Call p) k = false
-checks (suc n) x y (Call p) k = checks n x y (body p) k
-checks n x y (Typed a) k = checks n x y a (λ u v. split (λ a' b'. a' and b') true (At token.Bang) u v (λ u' v'. bump_to u' v' kind.BANG k) k)
+unfoldable pub leaf_kinds : ℕ → ℕ → ℕ → Rule → (ℕ → ℕ → Bool) → Bool
+leaf_kinds n x y Skip k = k x y
+leaf_kinds n x y (Do (Bump own)) k = bump_to x y own k
+leaf_kinds n x y (Do (Note m)) k = k x y
+leaf_kinds n x y (Do TooDeep) k = k x y
+leaf_kinds n x y (Seq a b) k = leaf_kinds n x y a (λ u v. leaf_kinds n u v b k)
+leaf_kinds n x y (When t a b) k = split (λ a' b'. a' and b') true t x y (λ u v. leaf_kinds n u v a k) (λ u v. leaf_kinds n u v b k)
+leaf_kinds n x y (While t a) k = split (λ a' b'. a' and b') true t any any (λ u v. leaf_kinds n u v a (λ u' v'. true)) k
+leaf_kinds zero x y (Child c) k = false
+leaf_kinds (suc n) x y (Child c) k = cond (inlined c) (leaf_kinds n x y (inside c) k) ((subset x (near_in c) and subset y (far_of c)) and k any any)
+leaf_kinds n x y (Nested a b) k = k x y and leaf_kinds n x y a (λ u v. leaf_kinds n u v b k)
+leaf_kinds zero x y (Call p) k = false
+leaf_kinds (suc n) x y (Call p) k = leaf_kinds n x y (body p) k
+leaf_kinds n x y (Typed a) k = leaf_kinds n x y a (λ u v. split (λ a' b'. a' and b') true (At token.Bang) u v (λ u' v'. bump_to u' v' kind.BANG k) k)
 
 abbrev pub fine : ℕ → ℕ → Bool
 fine u v = true
 
 -- the check of one kind of node
-unfoldable pub node_checks : Node → Bool
-node_checks c = checks 5 (near_in c) (far_of c) (inside c) fine
+unfoldable pub leaves_belong : Node → Bool
+leaves_belong c = leaf_kinds 5 (near_in c) (far_of c) (inside c) fine

@@ -36,8 +36,8 @@ use Rattle.parser_rules.proofs.runs.AtTheEnd.{EndNow, ends, read_ends}
 use Rattle.parser_rules.proofs.lookahead.TokenSets.{absent, over, class_of, Shown, second-shown, read-second, of-any, Seen, seen-any, seen-more, seen-same, Branch}
 use Rattle.parser_rules.proofs.lookahead.Split.{split, split-at}
 use Rattle.parser_rules.proofs.lookahead.FirstSets.{near_in, far_of, inlined}
-use Rattle.parser_rules.proofs.leaves.LeafCheck.{is_error, belongs, bump_to, checks, fine, node_checks}
-use Rattle.parser_rules.proofs.leaves.LeafChecked.{leaf_checked, document_checked}
+use Rattle.parser_rules.proofs.leaves.LeafCheck.{is_error, belongs, bump_to, leaf_kinds, fine, leaves_belong}
+use Rattle.parser_rules.proofs.NodeChecks.{node_passes, document_leaves as document_fits}
 
 -- ---- the leaves of what is built
 
@@ -367,28 +367,28 @@ behind k s t e h b = (h, (b.0, b.1, b.2, seen-same b.0 b.1 s t e.0 e.1 b.3))
 onward : (k : ℕ → ℕ → Bool) (s t u : State) → Kept s t → Walked k t u → Walked k s u
 onward k s t u h w = (next s t u h w.0, w.1)
 
-nested-parts : (n x y : ℕ) (a b : Rule) (k : ℕ → ℕ → Bool) → checks n x y (Nested a b) k ≡ true → (k x y ≡ true) × (checks n x y a (λ u v. checks n u v b k) ≡ true)
-unfolding checks
+nested-parts : (n x y : ℕ) (a b : Rule) (k : ℕ → ℕ → Bool) → leaf_kinds n x y (Nested a b) k ≡ true → (k x y ≡ true) × (leaf_kinds n x y a (λ u v. leaf_kinds n u v b k) ≡ true)
+unfolding leaf_kinds
 nested-parts n x y a b k h = (and-l _ _ h, and-r _ _ h)
 
-fits : {a : Rule} {s t : State} → Runs a s t → (n x y : ℕ) (k : ℕ → ℕ → Bool) → Shown s.current → checks n x y a k ≡ true → Seen x y s → Walked k s t
-unfolding checks node_checks step
+fits : {a : Rule} {s t : State} → Runs a s t → (n x y : ℕ) (k : ℕ → ℕ → Bool) → Shown s.current → leaf_kinds n x y a k ≡ true → Seen x y s → Walked k s t
+unfolding leaf_kinds leaves_belong step
 fits {s = s} skip n x y k w h i = (same s, (x, y, h, i))
 fits {s = s} (does {a = Bump own} e) n x y k w h i = subst (Walked k s) (sym e) (bumped x y own k s w h i)
 fits {s = s} (does {a = Note m} e) n x y k w h i = subst (Walked k s) (sym e) (behind k s (step (Note m) s) (note-same s) (noted_kept m s) (x, y, h, i))
 fits {s = s} (does {a = TooDeep} e) n x y k w h i = subst (Walked k s) (sym e) (behind k s (step TooDeep s) (deep-same s) (deepened_kept s) (x, y, h, i))
 fits {s = s} {t = u} (seq {a = a} {b = b} {t = t} h1 h2) n x y k w h i =
-    let r = fits h1 n x y (λ u v. checks n u v b k) w h i in
+    let r = fits h1 n x y (λ u v. leaf_kinds n u v b k) w h i in
     onward k s t u r.0 (fits h2 n r.1.0 r.1.1 k (shown-on s t r.0 w) r.1.2 r.1.3)
 fits {s = s} (yes {q = q} {a = a} {b = b} e h1) n x y k w h i =
-    let r = split-at q true x y (λ u v. checks n u v a k) (λ u v. checks n u v b k) s w e h i in
+    let r = split-at q true x y (λ u v. leaf_kinds n u v a k) (λ u v. leaf_kinds n u v b k) s w e h i in
     fits h1 n r.0 r.1 k w r.2 r.3
 fits {s = s} (no {q = q} {a = a} {b = b} e h1) n x y k w h i =
-    let r = split-at q false x y (λ u v. checks n u v a k) (λ u v. checks n u v b k) s w e h i in
+    let r = split-at q false x y (λ u v. leaf_kinds n u v a k) (λ u v. leaf_kinds n u v b k) s w e h i in
     fits h1 n r.0 r.1 k w r.2 r.3
-fits {s = s} (done {q = q} {a = a} e) n x y k w h i = (same s, split-at q false any any (λ u v. checks n u v a fine) k s w e h (seen-any s w))
+fits {s = s} (done {q = q} {a = a} e) n x y k w h i = (same s, split-at q false any any (λ u v. leaf_kinds n u v a fine) k s w e h (seen-any s w))
 fits {s = s} {t = u} (again {q = q} {a = a} {t = t} e h1 h2) n x y k w h i =
-    let r = split-at q true any any (λ u v. checks n u v a fine) k s w e h (seen-any s w) in
+    let r = split-at q true any any (λ u v. leaf_kinds n u v a fine) k s w e h (seen-any s w) in
     let g = fits h1 n r.0 r.1 fine w r.2 r.3 in
     onward k s t u g.0 (fits h2 n any any k (shown-on s t g.0 w) h (seen-any t (shown-on s t g.0 w)))
 fits (child o c h1) zero x y k w h i = false-true refl h
@@ -399,19 +399,19 @@ fits {s = s} {t = v} (child {n = c} {t = t} {u = u} o e h1) (suc n) x y k w h i 
     let it = seen-same x y s t (opened-same (kind_of c) s t o).0 (opened-same (kind_of c) s t o).1 i in
     elim (either (inlined c)) [
       | inl p ↦ (
-          let r = fits h1 n x y k wt (subst (λ b. cond b (checks n x y (inside c) k) ((subset x (near_in c) and subset y (far_of c)) and k any any) ≡ true) p h) it in
+          let r = fits h1 n x y k wt (subst (λ b. cond b (leaf_kinds n x y (inside c) k) ((subset x (near_in c) and subset y (far_of c)) and k any any) ≡ true) p h) it in
           onward k s t v starting (onward k t u v r.0 (behind k u v (closed-same u v e) closing r.1)))
       | inr p ↦ (
-          let g = subst (λ b. cond b (checks n x y (inside c) k) ((subset x (near_in c) and subset y (far_of c)) and k any any) ≡ true) p h in
-          let r = fits h1 5 (near_in c) (far_of c) fine wt (leaf_checked c) (seen-more x y (near_in c) (far_of c) t (and-l _ _ g) it) in
+          let g = subst (λ b. cond b (leaf_kinds n x y (inside c) k) ((subset x (near_in c) and subset y (far_of c)) and k any any) ≡ true) p h in
+          let r = fits h1 5 (near_in c) (far_of c) fine wt (node_passes c).leaves (seen-more x y (near_in c) (far_of c) t (and-l _ _ g) it) in
           let kept : Kept s v = next s t v starting (next t u v r.0 closing) in
           (kept, (any, any, and-r _ _ g, seen-any v (shown-on s v kept w))))
     ]
 fits {s = s} {t = w'} (deeper {a = a} {b = b} {t = t} {u = u} {v = v} d o e h1 h2) n x y k w h i =
     let enters : Kept s t = subst (Kept s) (sym o) (entering s) in
     let leaves_it : Kept u v = subst (Kept u) (sym e) (leaving u) in
-    let r = fits h1 n x y (λ u v. checks n u v b k) (shown-on s t enters w) (nested-parts n x y a b k h).1 (seen-same x y s t (entered-same s t o).0 (entered-same s t o).1 i) in
-    let m = behind (λ u v. checks n u v b k) u v (left-same u v e) leaves_it r.1 in
+    let r = fits h1 n x y (λ u v. leaf_kinds n u v b k) (shown-on s t enters w) (nested-parts n x y a b k h).1 (seen-same x y s t (entered-same s t o).0 (entered-same s t o).1 i) in
+    let m = behind (λ u v. leaf_kinds n u v b k) u v (left-same u v e) leaves_it r.1 in
     let kept : Kept s v = next s t v enters (next t u v r.0 leaves_it) in
     onward k s v w' kept (fits h2 n m.1.0 m.1.1 k (shown-on s v kept w) m.1.2 m.1.3)
 fits {s = s} (refused {a = a} {b = b} d e) n x y k w h i = subst (Walked k s) (sym e) (behind k s (too_deep s) (deep-same s) (deepens s) (x, y, (nested-parts n x y a b k h).0, i))
@@ -464,7 +464,7 @@ unfolding Reads
 begun_shown items limit k = (read_fits items (fresh items limit k) refl).0
 
 -- a run of the grammar's rules that ends where no token is left
-pub one_leaf : {a : Rule} {t : State} (items : List Answer) (limit : ℕ) (k : SyntaxKind) → is_free k ≡ true → checks 5 any any a fine ≡ true → AreAnswers items
+pub one_leaf : {a : Rule} {t : State} (items : List Answer) (limit : ℕ) (k : SyntaxKind) → is_free k ≡ true → leaf_kinds 5 any any a fine ≡ true → AreAnswers items
     → Runs a (begun items limit k) t → is_over t.current ≡ true → OneLeafAnItem items (leaves (finished t))
 unfolding Kept Fits Reads
 one_leaf {t = t} items limit k free checked are h over =
@@ -491,7 +491,7 @@ document_over {t = t} h = elim (parts (parts h)) [
 
 -- the leaves of a document's tree are one for one the items that were answered
 pub document_leaves : {t : State} (items : List Answer) (limit : ℕ) → AreAnswers items → Runs (Call rule.Document) (begun items limit kind.DOCUMENT) t → OneLeafAnItem items (leaves (finished t))
-document_leaves items limit are h = one_leaf items limit kind.DOCUMENT refl document_checked are h (document_over h)
+document_leaves items limit are h = one_leaf items limit kind.DOCUMENT refl document_fits are h (document_over h)
 
 -- ---- their text
 

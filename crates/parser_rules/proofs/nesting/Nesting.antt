@@ -1,5 +1,5 @@
 -- The greatest depth that was asked for covers what every tree nests, whatever is reported.
-use Rattle.std.proofs.Common.{◌≡◌, ℕ, zero, suc, ◌+◌, ◌-◌, ◌<◌, ◌≤◌, max, min, Bool, true, false, not, if◌then◌else◌, cond, eqb, leb, List, [], ◌∷◌, ◌++◌, Option, Some, None, refl, sym, ap, ap₂, ◌∙◌, subst, eqb-true, leb-true, arith}
+use Rattle.std.proofs.Common.{◌≡◌, ℕ, zero, suc, ◌+◌, ◌-◌, ◌<◌, ◌≤◌, max, min, Bool, true, false, if◌then◌else◌, cond, eqb, leb, List, [], ◌∷◌, ◌++◌, Option, Some, None, refl, sym, ap, ap₂, ◌∙◌, subst, eqb-true, leb-true, arith}
 use Rattle.lexical_grammar.specs.declared.TokenKind.{TokenKind}
 use Rattle.lexical_grammar.specs.declared.TokenKind.TheVariants as token
 use Rattle.lexical_grammar.specs.Answers.{Answer, gives, limit_at}
@@ -15,31 +15,19 @@ use Rattle.document_grammar.specs.Numbered.{numbered, tree_of}
 use Rattle.document_grammar.specs.Pattern.{member}
 use Rattle.document_grammar.specs.Tree as tree
 use Rattle.document_grammar.specs.Tree.{◌▸◌, root}
-use Rattle.document_grammar.specs.Derivation.{counts, below, belows, nest}
+use Rattle.document_grammar.specs.Derivation.{below, belows, nest}
 use Rattle.document_grammar.specs.Booleans.{◌and◌, ◌or◌}
 use Rattle.document_grammar.proofs.Booleans.{false-true, and-l, and-r, and-i, not-c}
 use Rattle.document_grammar.proofs.Built.{belows-append, numbered-join, count-close}
 use Rattle.document_grammar.proofs.Booleans.{cond-zero}
 use Rattle.parser_rules.specs.State.{State, Lexeme, Part, ignored, bad, met, wait, read_on, add_all, flush, opened, closed, wrapped_from, moved, bump, found_at, at_limit, noted, note, enter, leave, deepened, limited_at, too_deep, fresh, begun, finished}
 use Rattle.parser_rules.specs.Open.{IsRoot}
-use Rattle.parser_rules.specs.Rule.{Document, Operation, ShortQuery, OperationType, SelectionSet, Field, Alias, Name, FragmentSpread, InlineFragment, FragmentDefinition, FragmentName, NameForFragment, TypeCondition, Arguments, Argument, Directives, Directive, VariableDefinitions, VariableDefinition, Variable, DefaultValue, IntValue, FloatValue, StringValue, BooleanValue, NullValue, EnumValue, NameForEnum, ListValue, ObjectValue, ObjectField, NamedType, ListType}
-use Rattle.parser_rules.specs.Rule.{Prim, Bump, Note, TooDeep, step, Node, kind_of, inside, body, Rule, Skip, Do, Seq, When, While, Child, Nested, Call, Typed, Runs, skip, does, seq, yes, no, done, again, child, deeper, refused, call, plain, wrapped}
+use Rattle.parser_rules.specs.Rule.{Document}
+use Rattle.parser_rules.specs.Rule.{Prim, Bump, Note, TooDeep, step, Node, kind_of, inside, Rule, Do, Child, Nested, Call, Runs, skip, does, seq, yes, no, done, again, child, deeper, refused, call, plain, wrapped}
 use Rattle.parser_rules.proofs.runs.Frame.{on_kind, on_item, read_untouched, add_all_above, Adds, adds, Keeps, keeps, root_kept, wrap_added}
 use Rattle.parser_rules.proofs.soundness.TableCheck.{own}
-
--- ---- what counts
-
--- a kind that is counted nowhere
-abbrev pub uncounted : ℕ → Bool
-uncounted k = not (member k (SELECTION_SET ∷ LIST_TYPE ∷ [])) and not (member k Values)
-
--- a kind below which values are not counted
-abbrev pub is_bare : ℕ → Bool
-is_bare p = not (member p (LIST_VALUE ∷ OBJECT_FIELD ∷ []))
-
--- as `counts`, but it stays as written
-unfoldable pub weight : ℕ → ℕ → ℕ
-weight p k = counts p k
+use Rattle.parser_rules.proofs.nesting.LevelCheck.{uncounted, is_bare, weight, plain_leaf, walks, settled, levels_hold}
+use Rattle.parser_rules.proofs.NodeChecks.{node_passes, document_levels}
 
 weight-none : (p k : ℕ) → uncounted k ≡ true → weight p k ≡ 0
 unfolding weight
@@ -235,86 +223,11 @@ deep-level : (s : State) → all_uncounted s.waiting ≡ true → Level_with s (
 unfolding too_deep
 deep-level s h = let l = limited-level (deepened s) s.current h in record { high = l.high; waits = l.waits }
 
--- the leaves of a step are counted nowhere
-abbrev pub plain_leaf : Prim → Bool
-plain_leaf (Bump leaf) = uncounted (number leaf)
-plain_leaf (Note m) = true
-plain_leaf TooDeep = true
-
 step-level : (a : Prim) (s : State) → plain_leaf a ≡ true → all_uncounted s.waiting ≡ true → Level_with s (step a s)
 unfolding step bump note
 step-level (Bump leaf) s u h = moved-level leaf s s.current u h
 step-level (Note m) s u h = noted-level s s.current h
 step-level TooDeep s u h = deep-level s h
-
--- ---- the walk
-
--- Each rule is walked with two numbers: 1 where a level is entered in the open node, and 1 where the node still owes its own.
-unfoldable pub walks : ℕ → ℕ → ℕ → ℕ → Rule → (ℕ → ℕ → Bool) → Bool
-walks n p r o Skip k = k r o
-walks n p r o (Do a) k = plain_leaf a and k r o
-walks n p r o (Seq a b) k = walks n p r o a (λ r' o'. walks n p r' o' b k)
-walks n p r o (When t a b) k = walks n p r o a k and walks n p r o b k
-walks n p r o (While t a) k = walks n p r o a (λ r' o'. eqb r' r and eqb o' o) and k r o
-walks n p r o (Child c) k = (eqb (r + own (number (kind_of c))) (own p + weight p (number (kind_of c))) and eqb o 0) and k r o
-walks n p r o (Nested a b) k = ((eqb r 0 and leb o 1) and k r 0) and walks n p 1 0 a (λ r' o'. (eqb r' 1 and eqb o' 0) and walks n p 0 0 b k)
-walks zero p r o (Call q) k = false
-walks (suc n) p r o (Call q) k = walks n p r o (body q) k
-walks n p r o (Typed a) k = is_bare p and walks n p r o a k
-
-abbrev pub settled : ℕ → ℕ → Bool
-settled r o = eqb r 0 and eqb o 0
-
--- the walk of one kind of node
-unfoldable pub node_walks : Node → Bool
-node_walks c = walks 5 (number (kind_of c)) 0 (own (number (kind_of c))) (inside c) settled
-
-walked : (c : Node) → node_walks c ≡ true
-unfolding ◌and◌ ◌or◌ member weight own inside body walks node_walks
-walked Operation = refl
-walked ShortQuery = refl
-walked OperationType = refl
-walked SelectionSet = refl
-walked Field = refl
-walked Alias = refl
-walked Name = refl
-walked FragmentSpread = refl
-walked InlineFragment = refl
-walked FragmentDefinition = refl
-walked FragmentName = refl
-walked NameForFragment = refl
-walked TypeCondition = refl
-walked (Arguments true) = refl
-walked (Arguments false) = refl
-walked (Argument true) = refl
-walked (Argument false) = refl
-walked (Directives true) = refl
-walked (Directives false) = refl
-walked (Directive true) = refl
-walked (Directive false) = refl
-walked VariableDefinitions = refl
-walked VariableDefinition = refl
-walked Variable = refl
-walked DefaultValue = refl
-walked IntValue = refl
-walked FloatValue = refl
-walked StringValue = refl
-walked BooleanValue = refl
-walked NullValue = refl
-walked EnumValue = refl
-walked NameForEnum = refl
-walked (ListValue true) = refl
-walked (ListValue false) = refl
-walked (ObjectValue true) = refl
-walked (ObjectValue false) = refl
-walked (ObjectField true) = refl
-walked (ObjectField false) = refl
-walked NamedType = refl
-walked ListType = refl
-
-walked_document : walks 5 DOCUMENT 0 (own DOCUMENT) (Call Document) settled ≡ true
-unfolding ◌and◌ ◌or◌ member weight own inside body walks
-walked_document = refl
 
 -- ---- runs
 
@@ -592,8 +505,8 @@ unfolding walks
 child-parts n p r o c k h = let d = and-l _ _ h in (eqb-true _ _ (and-l _ _ d), eqb-true _ _ (and-r _ _ d), and-r _ _ h)
 
 node-walked : (c : Node) → walks 5 (number (kind_of c)) 0 (own (number (kind_of c))) (inside c) settled ≡ true
-unfolding node_walks
-node-walked c = walked c
+unfolding levels_hold
+node-walked c = (node_passes c).levels
 
 -- a node that is walked
 node-held : (p r o : ℕ) (c : Node) (k : ℕ → ℕ → Bool) (s u v : State) → k r o ≡ true → Keeps s v → v ≡ closed u → (w : Open) (above : List Open) → u.tree.above ≡ w ∷ above → Held p r o s → Kept_in (number (kind_of c)) settled u → Kept_in p k v
@@ -726,5 +639,5 @@ nesting items limit s run c =
     let b : Building = add_all s.waiting s.tree in
     let last : IsRoot b = (root.0, root.1, add_all_above s.waiting s.tree ∙ root.2) in
     let bound : built_count s.tree ≤ cap = count-bound (built_count s.tree) (built_count b) (count (finished s)) (count-all s.waiting s.tree) (root-count b last) c in
-    let (r, o, g, h) = nested run 5 DOCUMENT 0 (own DOCUMENT) settled walked_document bound (begun-held items limit) in
+    let (r, o, g, h) = nested run 5 DOCUMENT 0 (own DOCUMENT) settled document_levels bound (begun-held items limit) in
     end-high (nest (tree_of (finished s))) (height s.tree) s.high s.depth o (root-height b last ∙ height-all s.waiting s.tree h.waits) h.peak (eqb-true _ _ (and-r _ _ g)) h.deep

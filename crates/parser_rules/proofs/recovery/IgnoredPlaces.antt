@@ -1,6 +1,6 @@
 -- Where ignored leaves stand: no node but the root begins or ends with one, whatever is reported; and in a tree without reports each is
 -- where the text fixes it.
-use Rattle.std.proofs.Common.{◌≡◌, ◌≢◌, ℕ, Bool, true, false, not, cond, eqb, ltb, if◌then◌else◌, List, [], ◌∷◌, ◌++◌, Option, Some, None, refl, sym, ap, ◌∙◌, subst, inl, inr, true≢false}
+use Rattle.std.proofs.Common.{◌≡◌, ◌≢◌, ℕ, zero, suc, Bool, true, false, not, cond, eqb, ltb, if◌then◌else◌, List, [], ◌∷◌, ◌++◌, Option, Some, None, refl, sym, ap, ◌∙◌, subst, inl, inr, true≢false}
 use Rattle.lexical_grammar.specs.Answers.{Answer}
 use Rattle.document_grammar.specs.declared.kind.SyntaxKind.{SyntaxKind}
 use Rattle.document_grammar.specs.declared.kind.SyntaxKind.TheVariants as kind
@@ -16,11 +16,13 @@ use Rattle.document_grammar.specs.Rows.{Row, row_in, children}
 use Rattle.document_grammar.specs.Derivation.{kinds, spelled, Yield, Yields, Fits, AllFit}
 use Rattle.document_grammar.specs.Places.{ignored, bare, bares, Placed}
 use Rattle.document_grammar.specs.Booleans.{◌and◌, ◌or◌}
-use Rattle.document_grammar.proofs.Booleans.{and-i, and-l, and-r, not-c, either}
+use Rattle.document_grammar.proofs.Booleans.{false-true, and-i, and-l, and-r, not-c, either}
 use Rattle.document_grammar.proofs.Places.{Starts, Ends, AllTrim, placed as trim_placed}
 use Rattle.parser_rules.specs.State.{State, Lexeme, Part, Found, at_limit, found_at, read_on, add_all, flush, opened, closed, wrapped_from, moved, bump, fault, noted, note, deepened, limited_at, too_deep, enter, leave, fresh, begun, finished}
-use Rattle.parser_rules.specs.Rule.{Prim, Bump, Note, TooDeep, step, Node, Name, kind_of, Part as RulePart, ValueOf, Document, inside, body, Rule, Skip, Do, Seq, When, While, Child, Nested, Call, Typed, Runs, skip, does, seq, yes, no, done, again, child, deeper, refused, call, plain, wrapped}
+use Rattle.parser_rules.specs.Rule.{Prim, Bump, Note, TooDeep, step, kind_of, Document, inside, body, Rule, Do, Call, Runs, skip, does, seq, yes, no, done, again, child, deeper, refused, call, plain, wrapped}
 use Rattle.parser_rules.specs.Open.{IsRoot}
+use Rattle.parser_rules.proofs.recovery.RecoveryCheck.{builds, tidy}
+use Rattle.parser_rules.proofs.NodeChecks.{node_passes, document_tidy}
 use Rattle.parser_rules.proofs.runs.Frame.{read_untouched, parts_forest, add_all_above, add_all_here, closed_here, wrap_added}
 use Rattle.parser_rules.proofs.reports.NoReport.{EndsWell}
 use Rattle.parser_rules.proofs.soundness.Settled.{fit-tail}
@@ -203,44 +205,11 @@ wraps k a b s u w h l =
 
 -- ---- the check of the rules
 
--- the rule surely adds a node
-abbrev pub builds : Rule → Bool
-builds (Child n) = true
-builds (When q a b) = builds a and builds b
-builds _ = false
-
--- no token becomes an ignored leaf, and what is typed is a node
-unfoldable pub tidy : Rule → Bool
-tidy Skip = true
-tidy (Do (Bump own)) = not (ig own)
-tidy (Do (Note m)) = true
-tidy (Do TooDeep) = true
-tidy (Seq a b) = tidy a and tidy b
-tidy (When q a b) = tidy a and tidy b
-tidy (While q a) = tidy a
-tidy (Child n) = true
-tidy (Nested a b) = tidy a and tidy b
-tidy (Call p) = true
-tidy (Typed a) = builds a and tidy a
-
-node_tidy : (n : Node) → tidy (inside n) ≡ true
-unfolding tidy inside ◌and◌
-node_tidy Name = refl
-node_tidy _ = refl
-
-part_tidy : (p : RulePart) → tidy (body p) ≡ true
-unfolding tidy body ◌and◌
-part_tidy (ValueOf true true) = refl
-part_tidy (ValueOf true false) = refl
-part_tidy (ValueOf false true) = refl
-part_tidy (ValueOf false false) = refl
-part_tidy _ = refl
-
-steps : (a : Prim) (s : State) → tidy (Do a) ≡ true → Builds false s (step a s)
+steps : (n : ℕ) (a : Prim) (s : State) → tidy n (Do a) ≡ true → Builds false s (step a s)
 unfolding step note tidy
-steps (Bump own) s h = bumps own s (not-c _ h)
-steps (Note m) s h = same s (note s) (noted-same s.current s)
-steps TooDeep s h = same s (too_deep s) (deep-same s)
+steps n (Bump own) s h = bumps own s (not-c _ h)
+steps n (Note m) s h = same s (note s) (noted-same s.current s)
+steps n TooDeep s h = same s (too_deep s) (deep-same s)
 
 of-two : (a b : Bool) {s t : State} {c : Bool} → (c ≡ true → a ≡ true) → Builds a s t → Builds c s t
 of-two a b f h = record { above = h.above; more = h.more; here = h.here; inner = h.inner; starts = h.starts; idle = h.idle; ends = h.ends; some = λ z. h.some (f z) }
@@ -252,24 +221,25 @@ levelled b s t u v e k h = subst (λ (z : State). Builds b s z) (sym k) (inner (
     inner : Builds b (enter s) u → Builds b s (leave u)
     inner i = record { above = i.above; more = i.more; here = i.here; inner = i.inner; starts = i.starts; idle = i.idle; ends = i.ends; some = i.some }
 
-pub built_by : {r : Rule} {s t : State} → Runs r s t → tidy r ≡ true → Builds (builds r) s t
+pub built_by : {r : Rule} {s t : State} → Runs r s t → (n : ℕ) → tidy n r ≡ true → Builds (builds r) s t
 unfolding tidy ◌and◌
-built_by {s = s} skip h = same s s (refl, refl)
-built_by {s = s} (does {a = a} e) h = subst (λ (z : State). Builds false s z) (sym e) (steps a s h)
-built_by {s = s} (seq {t = t} {u = u} j k) h = then_on _ _ s t u (built_by j (and-l _ _ h)) (built_by k (and-r _ _ h))
-built_by {s = s} {t = t} (yes {a = a} {b = b} q j) h = of-two (builds a) (builds b) (λ z. and-l _ _ z) (built_by j (and-l _ _ h))
-built_by {s = s} {t = t} (no {a = a} {b = b} q j) h = of-two (builds b) (builds a) (λ z. and-r _ _ z) (built_by j (and-r _ _ h))
-built_by {s = s} (done q) h = same s s (refl, refl)
-built_by {s = s} (again {t = t} {u = u} q j k) h = then_on _ _ s t u (built_by j h) (built_by k h)
-built_by {s = s} (child {n = n} {t = t} {u = u} e k j) h = subst (λ (z : State). Builds true s z) (sym k) (nodes (kind_of n) (builds (inside n)) s u (subst (λ (z : State). Builds (builds (inside n)) z u) e (built_by j (node_tidy n))))
-built_by {s = s} {t = w} (deeper {a = a} {b = b} {t = t} {u = u} {v = v} q e k j i) h =
-    then_on (builds a) (builds b) s v w (levelled (builds a) s t u v e k (built_by j (and-l _ _ h))) (built_by i (and-r _ _ h))
-built_by {s = s} (refused q e) h = subst (λ (z : State). Builds false s z) (sym e) (same s (too_deep s) (deep-same s))
-built_by {s = s} {t = t} (call {p = p} j) h = weaken (builds (body p)) s t (built_by j (part_tidy p))
-built_by {s = s} {t = u} (plain {a = a} {t = t} e j n) h = weaken true s u (typed s u (subst (λ (b : Bool). Builds b (flush s) u) (and-l _ _ h) (subst (λ (z : State). Builds (builds a) z u) e (built_by j (and-r _ _ h)))))
-built_by {s = s} (wrapped {a = a} {t = t} {u = u} {v = v} {w = w} e p i c j y l) h =
+built_by {s = s} skip n h = same s s (refl, refl)
+built_by {s = s} (does {a = a} e) n h = subst (λ (z : State). Builds false s z) (sym e) (steps n a s h)
+built_by {s = s} (seq {t = t} {u = u} j k) n h = then_on _ _ s t u (built_by j n (and-l _ _ h)) (built_by k n (and-r _ _ h))
+built_by {s = s} {t = t} (yes {a = a} {b = b} q j) n h = of-two (builds a) (builds b) (λ z. and-l _ _ z) (built_by j n (and-l _ _ h))
+built_by {s = s} {t = t} (no {a = a} {b = b} q j) n h = of-two (builds b) (builds a) (λ z. and-r _ _ z) (built_by j n (and-r _ _ h))
+built_by {s = s} (done q) n h = same s s (refl, refl)
+built_by {s = s} (again {t = t} {u = u} q j k) n h = then_on _ _ s t u (built_by j n h) (built_by k n h)
+built_by {s = s} (child {n = c} {t = t} {u = u} e k j) n h = subst (λ (z : State). Builds true s z) (sym k) (nodes (kind_of c) (builds (inside c)) s u (subst (λ (z : State). Builds (builds (inside c)) z u) e (built_by j 5 (node_passes c).ignored)))
+built_by {s = s} {t = w} (deeper {a = a} {b = b} {t = t} {u = u} {v = v} q e k j i) n h =
+    then_on (builds a) (builds b) s v w (levelled (builds a) s t u v e k (built_by j n (and-l _ _ h))) (built_by i n (and-r _ _ h))
+built_by {s = s} (refused q e) n h = subst (λ (z : State). Builds false s z) (sym e) (same s (too_deep s) (deep-same s))
+built_by (call j) zero h = false-true refl h
+built_by {s = s} {t = t} (call {p = p} j) (suc n) h = weaken (builds (body p)) s t (built_by j n h)
+built_by {s = s} {t = u} (plain {a = a} {t = t} e j m) n h = weaken true s u (typed s u (subst (λ (b : Bool). Builds b (flush s) u) (and-l _ _ h) (subst (λ (z : State). Builds (builds a) z u) e (built_by j n (and-r _ _ h)))))
+built_by {s = s} (wrapped {a = a} {t = t} {u = u} {v = v} {w = w} e p i c j y l) n h =
     let place : v ≡ wrapped_from (built_count (flush s).tree) kind.NON_NULL_TYPE u = i ∙ ap (λ (n : ℕ). wrapped_from n kind.NON_NULL_TYPE u) (p ∙ ap (λ (z : State). built_count z.tree) e) in
-    subst (λ (z : State). Builds false s z) (sym c) (weaken true s (closed w) (wraps kind.NON_NULL_TYPE (builds a) false s u w (subst (λ (z : State). Builds (builds a) z u) e (built_by j (and-r _ _ h))) (subst (λ (z : State). Builds false z w) place (built_by l refl))))
+    subst (λ (z : State). Builds false s z) (sym c) (weaken true s (closed w) (wraps kind.NON_NULL_TYPE (builds a) false s u w (subst (λ (z : State). Builds (builds a) z u) e (built_by j n (and-r _ _ h))) (subst (λ (z : State). Builds false z w) place (built_by l n refl))))
 
 -- ---- what is left out
 
@@ -374,7 +344,7 @@ trims (built.node k kids rest) h a =
 pub trimmed : (r : ℕ) (xs : List Answer) (s : State) → Runs (Call Document) (begun xs r kind.DOCUMENT) s → trim (add_all s.waiting s.tree).here ≡ true
 unfolding tidy
 trimmed r xs s run =
-    let h = built_by run refl in
+    let h = built_by run 5 document_tidy in
     let b : (begun xs r kind.DOCUMENT).tree.here ≡ built.none = ap (λ (b : Building). b.here) (read_untouched xs (fresh xs r kind.DOCUMENT)).tree in
     let e : s.tree.here ≡ h.more = h.here ∙ ap (λ (f : built.Forest). built.join f h.more) b in
     subst (λ (f : built.Forest). trim f ≡ true) (sym (add_all_here s.waiting s.tree ∙ ap (λ (f : built.Forest). built.join f (parts_forest s.waiting)) e)) (trim-join h.more (parts_forest s.waiting) h.inner (trim-parts s.waiting))

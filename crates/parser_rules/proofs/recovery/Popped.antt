@@ -14,8 +14,9 @@ use Rattle.document_grammar.proofs.Joins.{join-none, join_assoc}
 use Rattle.document_grammar.specs.Booleans.{◌and◌, ◌or◌}
 use Rattle.document_grammar.proofs.Booleans.{false-true, and-i, and-l, and-r, or-c, not-c, either}
 use Rattle.parser_rules.specs.State.{State, Lexeme, Part, Report, Text, at_limit, at_text, found_at, ignored, met, wait, bad, lexeme, read_on, second, add_all, flush, opened, closed, wrapped_from, moved, bump, noted, note, deepened, limited_at, too_deep, enter, leave, is_at, fresh, begun}
-use Rattle.parser_rules.specs.Rule as rule
-use Rattle.parser_rules.specs.Rule.{Test, At, HasNext, Not, Both, holds, Prim, Bump, Note, TooDeep, step, Node, kind_of, Document, inside, body, Rule, Skip, Do, Seq, When, While, Child, Nested, Call, Typed, Runs, skip, does, seq, yes, no, done, again, child, deeper, refused, call, plain, wrapped}
+use Rattle.parser_rules.specs.Rule.{Test, At, HasNext, Not, Both, holds, Prim, Bump, Note, TooDeep, step, Node, kind_of, Document, inside, Rule, Do, Call, Runs, skip, does, seq, yes, no, done, again, child, deeper, refused, call, plain, wrapped}
+use Rattle.parser_rules.proofs.recovery.RecoveryCheck.{is_list, is_note, excludes, asks_next, pops, few, told_first, spares, recovers_well}
+use Rattle.parser_rules.proofs.NodeChecks.{node_passes, document_told}
 use Rattle.parser_rules.proofs.runs.Frame.{read_untouched, on_kind, on_item, parts_forest, add_all_above, add_all_here, closed_here, wrap_added}
 use Rattle.parser_rules.proofs.reports.NoReport.{Now, EndsWell, choose, ignored-end, read-grows}
 use Rattle.parser_rules.proofs.runs.Steps.{Holds_along, along}
@@ -142,10 +143,6 @@ abbrev pub Reported_at : List Report → Option Lexeme → Type 0
 Reported_at errors None = ⊤
 Reported_at errors (Some x) = Has errors (record { found = found_at x; index = x.index })
 
-abbrev is_list : SyntaxKind → Bool
-is_list kind.LIST_VALUE = true
-is_list _ = false
-
 abbrev pub Allowed : SyntaxKind → Marked → Type 0
 Allowed k kids = choose (is_list k) (NoBracket kids) (pops_of kids ≤ 1)
 
@@ -193,98 +190,6 @@ bracket-append (node k kids rest) g a b = bracket-append rest g a b
 bracket-aside : (parts : List Part) → NoBracket (aside parts)
 bracket-aside [] = tt
 bracket-aside (p ∷ parts) = ((λ z. false-true refl z), bracket-aside parts)
-
--- ---- the check
-
-abbrev is_note : Rule → Bool
-is_note (Do (Note m)) = true
-is_note _ = false
-
--- where the test passes, the current token is no `]`
-abbrev excludes : Test → Bool
-excludes (Not (At token.RBracket)) = true
-excludes (Both p q) = excludes p or excludes q
-excludes _ = false
-
--- where the test fails, no significant token is behind the current one
-abbrev asks_next : Test → Bool
-asks_next HasNext = true
-asks_next _ = false
-
--- How many tokens are popped, at most, where it is at most one; but for one at which the token limit cuts the text off, as `c` says.
-unfoldable pub pops : ℕ → Bool → Rule → ℕ
-pops n c Skip = 0
-pops n c (Do (Bump own)) = cond (is_error own and not c) 1 0
-pops n c (Do (Note m)) = 0
-pops n c (Do TooDeep) = 0
-pops n c (Seq a b) = pops n c a + pops n (is_note a and c) b
-pops n c (When q a b) = max (pops n c a) (pops n (asks_next q or c) b)
-pops n c (While q a) = cond (eqb (pops n false a) 0) 0 2
-pops n c (Child k) = 0
-pops n c (Nested a b) = pops n c a + pops n false b
-pops zero c (Call p) = 2
-pops (suc n) c (Call p) = pops n c (body p)
-pops n c (Typed a) = pops n false a
-
-abbrev few : ℕ → Bool
-few zero = true
-few (suc zero) = true
-few _ = false
-
--- A token is popped only behind a report at it: `w` says that one was made.
-unfoldable pub told_first : ℕ → Bool → Rule → Bool
-told_first n w Skip = true
-told_first n w (Do (Bump own)) = not (is_error own) or w
-told_first n w (Do (Note m)) = true
-told_first n w (Do TooDeep) = true
-told_first n w (Seq a b) = told_first n w a and told_first n (is_note a) b
-told_first n w (When q a b) = told_first n w a and told_first n w b
-told_first n w (While q a) = told_first n false a
-told_first n w (Child c) = true
-told_first n w (Nested a b) = told_first n w a and told_first n false b
-told_first zero w (Call p) = false
-told_first (suc n) w (Call p) = told_first n w (body p)
-told_first n w (Typed a) = told_first n false a and few (pops n false a)
-
--- No `]` is popped: `d` says that the current token is none.
-unfoldable pub spares : ℕ → Bool → Rule → Bool
-spares n d Skip = true
-spares n d (Do (Bump own)) = not (is_error own) or d
-spares n d (Do (Note m)) = true
-spares n d (Do TooDeep) = true
-spares n d (Seq a b) = spares n d a and spares n (is_note a and d) b
-spares n d (When q a b) = spares n d a and spares n d b
-spares n d (While q a) = spares n (excludes q) a
-spares n d (Child c) = true
-spares n d (Nested a b) = spares n d a and spares n false b
-spares zero d (Call p) = false
-spares (suc n) d (Call p) = spares n d (body p)
-spares n d (Typed a) = spares n false a
-
-unfoldable pub node_recovers : Node → Bool
-node_recovers c = told_first 5 false (inside c) and cond (is_list (kind_of c)) (spares 5 false (inside c)) (few (pops 5 false (inside c)))
-
-pub node_checked : (c : Node) → node_recovers c ≡ true
-unfolding node_recovers told_first pops spares inside body ◌and◌ ◌or◌
-node_checked (rule.Arguments true) = refl
-node_checked (rule.Arguments false) = refl
-node_checked (rule.Argument true) = refl
-node_checked (rule.Argument false) = refl
-node_checked (rule.Directives true) = refl
-node_checked (rule.Directives false) = refl
-node_checked (rule.Directive true) = refl
-node_checked (rule.Directive false) = refl
-node_checked (rule.ListValue true) = refl
-node_checked (rule.ListValue false) = refl
-node_checked (rule.ObjectValue true) = refl
-node_checked (rule.ObjectValue false) = refl
-node_checked (rule.ObjectField true) = refl
-node_checked (rule.ObjectField false) = refl
-node_checked _ = refl
-
-pub document_checked : told_first 5 false (Call Document) ≡ true
-unfolding told_first pops body ◌and◌ ◌or◌
-document_checked = refl
 
 -- ---- runs
 
@@ -668,8 +573,8 @@ twice : (b : Bool) → b ≡ true → b and b ≡ true
 twice b h = and-i h h
 
 node_ok : (c : Node) → (told_first 5 false (inside c) ≡ true) × (cond (is_list (kind_of c)) (spares 5 false (inside c)) (few (pops 5 false (inside c))) ≡ true)
-unfolding node_recovers
-node_ok c = (and-l _ _ (node_checked c), and-r _ _ (node_checked c))
+unfolding recovers_well
+node_ok c = (and-l _ _ ((node_passes c).errors), and-r _ _ ((node_passes c).errors))
 
 stood-flush : (s t : State) → t ≡ flush s → Stood s.current s.items → Stood t.current t.items
 unfolding flush
@@ -775,7 +680,7 @@ pub document_recovers : (r : ℕ) (xs : List Answer) (s : State) → EndsWell xs
 document_recovers r xs s en run none-limited =
     let b : State = begun xs r kind.DOCUMENT in
     let f : State = fresh xs r kind.DOCUMENT in
-    let h = ran run 5 false false false document_checked (unknown b) in
+    let h = ran run 5 false false false document_told (unknown b) in
     let e : b.tree.here ≡ built.none = ap (λ (b : Building). b.here) (read_untouched xs f).tree in
     let g = h.fine (stood-read xs f en) (accepted (along goes-along run (read-goes xs f (taken refl)))) in
     record {

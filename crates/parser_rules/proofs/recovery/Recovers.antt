@@ -28,8 +28,8 @@ use Rattle.parser_rules.proofs.soundness.WithoutIgnored.{stack, strip, layers, a
 use Rattle.parser_rules.proofs.reports.NoReport.{answers_tokens, all_tokens, rest, current_tokens, Now, Held}
 use Rattle.parser_rules.proofs.lookahead.TokenSets.{Shown, ready-is, second-shown, of-any, ready}
 use Rattle.parser_rules.proofs.lookahead.Split.{low, loose, spot}
-use Rattle.parser_rules.proofs.soundness.TableCheck.{root_ends, checks_turns}
-use Rattle.parser_rules.proofs.soundness.Checked.{checked_turns}
+use Rattle.parser_rules.proofs.soundness.TableCheck.{root_ends, turns_follow}
+use Rattle.parser_rules.proofs.NodeChecks.{turns_followed}
 use Rattle.parser_rules.proofs.soundness.Plain.{Plain, plain-read}
 use Rattle.parser_rules.proofs.soundness.Simulation.{Fits, Tells, good, link}
 use Rattle.parser_rules.proofs.runs.Anew.{Alike, Same_steps, anew}
@@ -76,7 +76,7 @@ pub record From_turn (st s : State) (c : Turn st) : Type 0 where
   pub parsed : Tells document (from_now st c) [] ⊤ st.limit (now_words st c) own ⊎ Silent (from_now st c) [] ⊤ st.limit (now_words st c) own
 
 pub from-turn : (st s : State) (c : Turn st) → all_ignored st.waiting ≡ true → Runs loops st s → From_turn st s c
-unfolding checks_turns
+unfolding turns_follow
 from-turn st s c i run =
     let a = anew run (afresh st) (alike st c) in
     record {
@@ -85,7 +85,7 @@ from-turn st s c i run =
       steps = a.3;
       parsed = root-out (from_now st c) [] ⊤ st.limit (now_words st c) a.0
           (link document (from_now st c) [] ⊤ st.limit (now_words st c) a.1 5 DOCUMENT (spot 0 low loose) ready any [] root_ends
-          (good document (from_now st c) [] ⊤ st.limit (now_words st c) 5 DOCUMENT (spot 0 low loose) ready any (While Ready (Call Definition)) root_ends checked_turns) (afresh-fits st c i));
+          (good document (from_now st c) [] ⊤ st.limit (now_words st c) 5 DOCUMENT (spot 0 low loose) ready any (While Ready (Call Definition)) root_ends turns_followed) (afresh-fits st c i));
     }
 
 -- The root's later children are the derivation's, and nothing more is reported.

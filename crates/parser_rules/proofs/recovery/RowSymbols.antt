@@ -5,34 +5,19 @@ use Rattle.lexical_grammar.specs.Answers.{Answer, gives, limit_at}
 use Rattle.document_grammar.specs.declared.kind.SyntaxKind.{SyntaxKind}
 use Rattle.document_grammar.specs.declared.kind.SyntaxKind.TheVariants as kind
 use Rattle.document_grammar.specs.Numbers.{number}
-use Rattle.document_grammar.specs.Kinds.{ERROR, SPREAD}
+use Rattle.document_grammar.specs.Kinds.{ERROR}
 use Rattle.document_grammar.specs.Forests as built
 use Rattle.document_grammar.specs.Builds.{Building, add_leaf, built_count}
 use Rattle.document_grammar.proofs.Joins.{join-none, join_assoc}
-use Rattle.document_grammar.specs.Pattern.{Pattern, any_of, nothing, ◌then◌, ◌or_else◌, many, member}
-use Rattle.document_grammar.specs.Rows.{Row}
+use Rattle.document_grammar.specs.Pattern.{◌then◌}
 use Rattle.document_grammar.specs.Booleans.{◌and◌, ◌or◌}
 use Rattle.document_grammar.proofs.Booleans.{false-true, and-i, and-l, and-r}
 use Rattle.parser_rules.specs.State.{State, Lexeme, Part, Found, at_limit, found_at, ignored, met, wait, bad, read_on, add_all, flush, opened, closed, wrapped_from, moved, bump, fault, noted, note, deepened, limited_at, too_deep, enter, leave, fresh, begun}
-use Rattle.parser_rules.specs.Rule.{Prim, Bump, Note, TooDeep, step, Node, Arguments, Argument, Directives, Directive, ListValue, ObjectValue, ObjectField, kind_of, Document, inside, body, Rule, Skip, Do, Seq, When, While, Child, Nested, Call, Typed, Runs, skip, does, seq, yes, no, done, again, child, deeper, refused, call, plain, wrapped}
+use Rattle.parser_rules.specs.Rule.{Prim, Bump, Note, TooDeep, step, kind_of, Document, Rule, Do, Call, Runs, skip, does, seq, yes, no, done, again, child, deeper, refused, call, plain, wrapped}
 use Rattle.parser_rules.proofs.reports.NoReport.{ignored-leaf}
+use Rattle.parser_rules.proofs.recovery.RecoveryCheck.{of_row, leaf_of_row, fits_in, keeps_row}
+use Rattle.parser_rules.proofs.NodeChecks.{node_passes, document_row}
 use Rattle.parser_rules.proofs.runs.Frame.{read_untouched, on_kind, on_item, parts_forest, add_all_above, add_all_here, closed_here, wrap_added}
-
--- the symbols of a pattern
-abbrev pub symbols : Pattern → List ℕ
-symbols (any_of ks) = ks
-symbols nothing = []
-symbols (p then q) = symbols p ++ symbols q
-symbols (p or_else q) = symbols p ++ symbols q
-symbols (many p) = symbols p
-
--- a symbol of the kind's row
-unfoldable pub of_row : SyntaxKind → SyntaxKind → Bool
-of_row k j = member (number j) (symbols (Row (number k)))
-
--- an ignored leaf, an ERROR or a SPREAD, or a symbol of the row
-unfoldable pub leaf_of_row : SyntaxKind → SyntaxKind → Bool
-leaf_of_row k j = (ltb (number j) ERROR or eqb (number j) ERROR) or (eqb (number j) SPREAD or of_row k j)
 
 -- the children of a node of the kind, and those below
 abbrev pub rowed : SyntaxKind → built.Forest → Bool
@@ -44,45 +29,6 @@ rowed k (built.node j kids rest) = (of_row k j and rowed j kids) and rowed k res
 abbrev pub aside : List Part → Bool
 aside [] = true
 aside (p ∷ parts) = (ltb (number p.kind) ERROR or eqb (number p.kind) ERROR) and aside parts
-
--- ---- the check
-
--- the rule adds to a node of the kind only what may stand there
-unfoldable pub fits_in : ℕ → SyntaxKind → Rule → Bool
-fits_in n k Skip = true
-fits_in n k (Do (Bump own)) = leaf_of_row k own
-fits_in n k (Do (Note m)) = true
-fits_in n k (Do TooDeep) = true
-fits_in n k (Seq a b) = fits_in n k a and fits_in n k b
-fits_in n k (When q a b) = fits_in n k a and fits_in n k b
-fits_in n k (While q a) = fits_in n k a
-fits_in n k (Child c) = of_row k (kind_of c)
-fits_in n k (Nested a b) = fits_in n k a and fits_in n k b
-fits_in zero k (Call p) = false
-fits_in (suc n) k (Call p) = fits_in n k (body p)
-fits_in n k (Typed a) = (fits_in n k a and fits_in n kind.NON_NULL_TYPE a) and (of_row k kind.NON_NULL_TYPE and leaf_of_row kind.NON_NULL_TYPE kind.BANG)
-
-pub node_fits : (c : Node) → fits_in 5 (kind_of c) (inside c) ≡ true
-unfolding ◌and◌ ◌or◌ inside body fits_in leaf_of_row of_row member Row
-node_fits (Arguments true) = refl
-node_fits (Arguments false) = refl
-node_fits (Argument true) = refl
-node_fits (Argument false) = refl
-node_fits (Directives true) = refl
-node_fits (Directives false) = refl
-node_fits (Directive true) = refl
-node_fits (Directive false) = refl
-node_fits (ListValue true) = refl
-node_fits (ListValue false) = refl
-node_fits (ObjectValue true) = refl
-node_fits (ObjectValue false) = refl
-node_fits (ObjectField true) = refl
-node_fits (ObjectField false) = refl
-node_fits _ = refl
-
-pub document_fits : fits_in 5 kind.DOCUMENT (Call Document) ≡ true
-unfolding ◌and◌ ◌or◌ inside body fits_in leaf_of_row of_row member Row
-document_fits = refl
 
 -- ---- what a run builds
 
@@ -217,7 +163,7 @@ levelled k s t u v e l h = subst (λ (z : State). Adds_rowed k s z) (sym l) (inn
     inner i = record { above = i.above; more = i.more; here = i.here; fits = i.fits }
 
 pub rowed_by : {r : Rule} {s t : State} → Runs r s t → (n : ℕ) (k : SyntaxKind) → fits_in n k r ≡ true → Adds_rowed k s t
-unfolding fits_in
+unfolding fits_in keeps_row
 rowed_by {s = s} skip n k h = same k s s (refl, refl)
 rowed_by {s = s} (does {a = a} e) n k h = subst (λ (z : State). Adds_rowed k s z) (sym e) (steps n k a s h)
 rowed_by {s = s} (seq {t = t} {u = u} i j) n k h = then_on k s t u (rowed_by i n k (and-l _ _ h)) (rowed_by j n k (and-r _ _ h))
@@ -225,7 +171,7 @@ rowed_by (yes q i) n k h = rowed_by i n k (and-l _ _ h)
 rowed_by (no q i) n k h = rowed_by i n k (and-r _ _ h)
 rowed_by {s = s} (done q) n k h = same k s s (refl, refl)
 rowed_by {s = s} (again {t = t} {u = u} q i j) n k h = then_on k s t u (rowed_by i n k h) (rowed_by j n k h)
-rowed_by {s = s} (child {n = c} {t = t} {u = u} e l i) n k h = subst (λ (z : State). Adds_rowed k s z) (sym l) (nodes k (kind_of c) s u h (subst (λ (z : State). Adds_rowed (kind_of c) z u) e (rowed_by i 5 (kind_of c) (node_fits c))))
+rowed_by {s = s} (child {n = c} {t = t} {u = u} e l i) n k h = subst (λ (z : State). Adds_rowed k s z) (sym l) (nodes k (kind_of c) s u h (subst (λ (z : State). Adds_rowed (kind_of c) z u) e (rowed_by i 5 (kind_of c) (node_passes c).row)))
 rowed_by {s = s} {t = w} (deeper {t = t} {u = u} {v = v} q e l i j) n k h = then_on k s v w (levelled k s t u v e l (rowed_by i n k (and-l _ _ h))) (rowed_by j n k (and-r _ _ h))
 rowed_by {s = s} (refused q e) n k h = subst (λ (z : State). Adds_rowed k s z) (sym e) (same k s (too_deep s) (deep-same s))
 rowed_by (call i) zero k h = false-true refl h
@@ -239,7 +185,7 @@ rowed_by {s = s} (wrapped {t = t} {u = u} {v = v} {w = w} e p i c j y l) n k h =
 -- In each tree of the document's rule, also with reports, a node's children are symbols of its row, but for ignored, ERROR and SPREAD leaves.
 pub document_rowed : (r : ℕ) (xs : List Answer) (s : State) → Runs (Call Document) (begun xs r kind.DOCUMENT) s → rowed kind.DOCUMENT (add_all s.waiting s.tree).here ≡ true
 document_rowed r xs s run =
-    let h = rowed_by run 5 kind.DOCUMENT document_fits in
+    let h = rowed_by run 5 kind.DOCUMENT document_row in
     let b : (begun xs r kind.DOCUMENT).tree.here ≡ built.none = ap (λ (b : Building). b.here) (read_untouched xs (fresh xs r kind.DOCUMENT)).tree in
     let e : s.tree.here ≡ h.more = h.here ∙ ap (λ (f : built.Forest). built.join f h.more) b in
     let f = h.fits (read-aside xs (fresh xs r kind.DOCUMENT) refl) in

@@ -43,8 +43,8 @@ use Rattle.parser_rules.proofs.lookahead.TokenSets.{class_of, Shown, second-show
 use Rattle.parser_rules.proofs.lookahead.FirstSets.{near_of, far_of, inlined, unread}
 use Rattle.parser_rules.proofs.soundness.MachineStack.{image, image-some, shows-snoc, label-bang, put-image, image-open, image-type, image-node, image-plain, show-node, show-bang, stack-wrap}
 use Rattle.parser_rules.proofs.soundness.Settled.{Settled, Fitting, fitting-image, fitting-path, settled-at, settled-leaf, settled-parts, settled-start, settled-finish, settled-wrap}
-use Rattle.parser_rules.proofs.soundness.TableCheck.{Mark, Then, behind, without, raised, own, owed, same_level, same_sure, is_firm, weak, same_spot, covered, all_marks, levels, leaf_of, loses, is_high, lowered, heads, takes, ends_at, after, closing, losing, child_goes, child_sticks, child_at, counted, limits_at, nests, typed, type_at, unread_arcs, reports, is_node, ok, ends_well, checks, whole, no_brace, leaves_well}
-use Rattle.parser_rules.proofs.soundness.Checked.{checked}
+use Rattle.parser_rules.proofs.soundness.TableCheck.{Mark, Then, behind, without, raised, own, owed, same_level, same_sure, is_firm, weak, same_spot, covered, all_marks, levels, leaf_of, loses, is_high, lowered, heads, takes, ends_at, after, closing, losing, child_goes, child_sticks, child_at, counted, limits_at, nests, typed, type_at, unread_arcs, reports, is_node, ok, ends_well, follows_table, whole, no_brace, leaves_well}
+use Rattle.parser_rules.proofs.NodeChecks.{node_passes}
 
 zero-one : within 0 1 ≡ true
 unfolding within
@@ -1222,12 +1222,12 @@ module _ (sort : Sort) (answers : List Answer) (base : List Report) (Follows : T
   good n s p x y (Typed a) k h = h
 
   node-is : (c : Node) → is_node c ≡ true
-  unfolding checks
-  node-is c = and-l _ _ (checked c)
+  unfolding follows_table
+  node-is c = and-l _ _ (node_passes c).table
 
   node-ok : (c : Node) → ok 5 (symbol c) (spot 0 low loose) (near_of c) (far_of c) (inside c) (ends_well c) ≡ true
-  unfolding checks
-  node-ok c = and-r _ _ (checked c)
+  unfolding follows_table
+  node-ok c = and-r _ _ (node_passes c).table
 
   do-out : (a : Prim) (n s : ℕ) (p : Spot) (x y : ℕ) (fs : List Frame) (k : Then) (st : State) → ok n s p x y (Do a) k ≡ true → Fits s p x y fs st → Out s fs k (step a st)
   unfolding ok step

@@ -45,8 +45,8 @@ use Rattle.parser_rules.proofs.reports.NoReport.{answers_tokens, all_tokens, res
 use Rattle.parser_rules.proofs.lookahead.TokenSets.{class_of, Shown, ready-is, second-shown, of-any, over, ready, not-zero}
 use Rattle.parser_rules.proofs.lookahead.Split.{Level, low, high, past, loose, spot, lost}
 use Rattle.parser_rules.proofs.lookahead.MachineClasses.{Next}
-use Rattle.parser_rules.proofs.soundness.TableCheck.{raised, own, owed, behind, root_ends, checks_rule, checks_turns}
-use Rattle.parser_rules.proofs.soundness.Checked.{checked_document, checked_turns}
+use Rattle.parser_rules.proofs.soundness.TableCheck.{raised, own, owed, behind, root_ends, document_follows, turns_follow}
+use Rattle.parser_rules.proofs.NodeChecks.{document_followed, turns_followed}
 use Rattle.parser_rules.proofs.soundness.FirstReport.{Viable, Unread, TooMany, left, Right, stuck_here, unread_here, deep_here, no_token}
 use Rattle.parser_rules.proofs.soundness.Plain.{Plain, plain-read}
 use Rattle.parser_rules.proofs.soundness.Simulation.{Leveled, Place, Fits, Out, Tells, Rightly, tell-on, sees-two, shown, good, link, run-grows}
@@ -270,11 +270,11 @@ clean-root r xs s root o =
 
 -- A run of the document's rule.
 pub parsed : (r : ℕ) (xs : List Answer) (s : State) → EndsWell xs → IsRoot s.tree → Runs (Call Document) (begun xs r kind.DOCUMENT) s → First r xs s ⊎ Nothing_told r xs s
-unfolding checks_rule
+unfolding document_follows
 parsed r xs s en root run = elim (start-fits r xs en) [
   | inl o ↦ inl (tell-on document xs [] ⊤ r (answers_tokens xs) (begun xs r kind.DOCUMENT) s (run-grows run) o)
   | inr b ↦ elim (root-out xs [] ⊤ r (answers_tokens xs) s (link document xs [] ⊤ r (answers_tokens xs) run 5 DOCUMENT (spot 0 low loose) any any [] root_ends
-      (good document xs [] ⊤ r (answers_tokens xs) 5 DOCUMENT (spot 0 low loose) any any (Call Document) root_ends checked_document) b)) [
+      (good document xs [] ⊤ r (answers_tokens xs) 5 DOCUMENT (spot 0 low loose) any any (Call Document) root_ends document_followed) b)) [
         | inl o ↦ inl o
         | inr o ↦ inr (clean-root r xs s root o)
       ]
@@ -459,11 +459,11 @@ pub record Next_told (st s : State) (c : Turn st) : Type 0 where
   pub reason : Why st.limit (from_now st c) report taken
 
 pub parsed-on : (st s : State) (c : Turn st) → Runs loops st s → Next_told st s c ⊎ Silent (from_now st c) st.errors ⊥ st.limit (now_words st c) s
-unfolding checks_turns
+unfolding turns_follow
 parsed-on st s c run =
     elim (root-out (from_now st c) st.errors ⊥ st.limit (now_words st c) s
     (link document (from_now st c) st.errors ⊥ st.limit (now_words st c) run 5 DOCUMENT (spot 0 low loose) ready any [] root_ends
-    (good document (from_now st c) st.errors ⊥ st.limit (now_words st c) 5 DOCUMENT (spot 0 low loose) ready any (While Ready (Call Definition)) root_ends checked_turns) (turn-fits st c))) [
+    (good document (from_now st c) st.errors ⊥ st.limit (now_words st c) 5 DOCUMENT (spot 0 low loose) ready any (While Ready (Call Definition)) root_ends turns_followed) (turn-fits st c))) [
       | inl o ↦ inl (record { report = o.report; more = o.more; reported = o.reported; taken = o.taken; reason = why st.limit (from_now st c) o.report o.taken o.right })
       | inr o ↦ inr o
     ]

@@ -268,17 +268,17 @@ ends_well c (spot q l d) x y = (ends_at (symbol c) q l d x and leaves_well (symb
 ends_well c lost x y = loses c and subset x over
 
 -- the check of one kind of node
-unfoldable pub checks : Node → Bool
-checks c = is_node c and ok 5 (symbol c) (spot 0 low loose) (near_of c) (far_of c) (inside c) (ends_well c)
+unfoldable pub follows_table : Node → Bool
+follows_table c = is_node c and ok 5 (symbol c) (spot 0 low loose) (near_of c) (far_of c) (inside c) (ends_well c)
 
 unfoldable pub root_ends : Spot → ℕ → ℕ → Bool
 root_ends (spot q l d) x y = (closes DOCUMENT q x (behind y) and subset x over) and eqb (raised l) 0
 root_ends lost x y = false
 
 -- the check of the whole
-unfoldable pub checks_rule : Rule → Bool
-checks_rule r = ok 5 DOCUMENT (spot 0 low loose) any any r root_ends
+unfoldable pub document_follows : Rule → Bool
+document_follows r = ok 5 DOCUMENT (spot 0 low loose) any any r root_ends
 
 -- the check of the document's loop, from any turn on
-unfoldable pub checks_turns : Rule → Bool
-checks_turns r = ok 5 DOCUMENT (spot 0 low loose) ready any r root_ends
+unfoldable pub turns_follow : Rule → Bool
+turns_follow r = ok 5 DOCUMENT (spot 0 low loose) ready any r root_ends

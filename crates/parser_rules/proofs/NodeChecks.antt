@@ -1,0 +1,130 @@
+-- Each node's rule, checked by computing: the one place where a wrong rule fails. What is refused there is named with its node.
+use Rattle.std.proofs.Common.{◌≡◌, Bool, true, false, cond, List, [], ◌∷◌, refl}
+use Rattle.document_grammar.specs.declared.kind.SyntaxKind.TheVariants as kind
+use Rattle.document_grammar.specs.Kinds.{DOCUMENT}
+use Rattle.document_grammar.specs.Pattern.{member}
+use Rattle.document_grammar.specs.Rows.{Row}
+use Rattle.document_grammar.specs.Booleans.{◌and◌, ◌or◌}
+use Rattle.grammar_machine.specs.Labels.{labels}
+use Rattle.grammar_machine.specs.Table.{rows, firsts}
+use Rattle.grammar_machine.specs.Machine.{is_leaf, at, ends, exit, arcs, target, entries}
+use Rattle.grammar_machine.proofs.Checks.{exits, row_of}
+use Rattle.grammar_machine.proofs.Steps.{goes, closes, sticks}
+use Rattle.grammar_machine.proofs.Sound.{any}
+use Rattle.grammar_machine.proofs.Patterns.{label}
+use Rattle.parser_rules.specs.Rule.{Node, Arguments, Argument, Directives, Directive, ListValue, ObjectValue, ObjectField, symbol, inside, body, Document, Definition, While, Ready, Call}
+use Rattle.parser_rules.proofs.lookahead.Split.{split, divide}
+use Rattle.parser_rules.proofs.lookahead.FirstSets.{near_of, near_in, far_of, inlined, unread}
+use Rattle.parser_rules.proofs.soundness.TableCheck.{own, covered, all_marks, levels, leaf_of, loses, whole, leaves_well, post, heads, takes, ends_at, closing, child_goes, child_sticks, child_at, limits_at, nests, typed, type_at, reports, is_node, ok, ends_well, follows_table, root_ends, document_follows, turns_follow}
+use Rattle.parser_rules.proofs.leaves.LeafCheck.{belongs, leaf_kinds, fine, leaves_belong}
+use Rattle.parser_rules.proofs.nesting.LevelCheck.{weight, walks, settled, levels_hold}
+use Rattle.parser_rules.proofs.recovery.RecoveryCheck.{told_first, pops, spares, recovers_well, of_row, leaf_of_row, fits_in, keeps_row, tidy}
+
+-- what can be wrong with a rule
+data Fault : Type 0 where
+  -- it takes or reports a token where the machine does otherwise
+  AgainstTheTable : Fault
+  -- a token becomes a leaf of another kind
+  WrongLeaf : Fault
+  -- a level of nesting is not entered, or not left
+  WrongLevel : Fault
+  -- it makes an ERROR leaf of a token without a report, or of too many
+  WrongErrorLeaf : Fault
+  -- a symbol that is not of the node's row
+  ForeignSymbol : Fault
+  -- a token becomes an ignored leaf
+  IgnoredToken : Fault
+
+abbrev unless : Bool → Fault → List Fault → List Fault
+unless b fault more = cond b more (fault ∷ more)
+
+unfoldable faults : Node → List Fault
+faults c =
+    unless (follows_table c) AgainstTheTable
+    (unless (leaves_belong c) WrongLeaf
+    (unless (levels_hold c) WrongLevel
+    (unless (recovers_well c) WrongErrorLeaf
+    (unless (keeps_row c) ForeignSymbol
+    (unless (tidy 5 (inside c)) IgnoredToken [])))))
+
+-- all that the checks compute with
+unfoldable pub computing : Unit {0}
+unfolding ◌and◌ ◌or◌ is_leaf at ends exit arcs target entries rows firsts goes closes sticks label labels member Row symbol inside body split divide near_of near_in far_of inlined unread own covered all_marks levels leaf_of loses whole leaves_well exits row_of post heads takes ends_at closing child_goes child_sticks child_at limits_at nests typed type_at reports is_node ok ends_well root_ends belongs leaf_kinds weight walks told_first pops spares of_row leaf_of_row fits_in tidy follows_table leaves_belong levels_hold recovers_well keeps_row document_follows turns_follow
+computing = tt
+
+-- No node's rule is at fault. A node with a place is looked at in both.
+no_faults : (c : Node) → faults c ≡ []
+unfolding computing faults
+no_faults (Arguments true) = refl
+no_faults (Arguments false) = refl
+no_faults (Argument true) = refl
+no_faults (Argument false) = refl
+no_faults (Directives true) = refl
+no_faults (Directives false) = refl
+no_faults (Directive true) = refl
+no_faults (Directive false) = refl
+no_faults (ListValue true) = refl
+no_faults (ListValue false) = refl
+no_faults (ObjectValue true) = refl
+no_faults (ObjectValue false) = refl
+no_faults (ObjectField true) = refl
+no_faults (ObjectField false) = refl
+no_faults _ = refl
+
+-- ---- what that says, check by check
+
+this : (b : Bool) (fault : Fault) (more : List Fault) → unless b fault more ≡ [] → b ≡ true
+this true fault more h = refl
+this false fault more h = absurd (cc)
+
+others : (b : Bool) (fault : Fault) (more : List Fault) → unless b fault more ≡ [] → more ≡ []
+others true fault more h = h
+others false fault more h = absurd (cc)
+
+pub record SoundRule (c : Node) : Type 0 where
+  pub table : follows_table c ≡ true
+  pub leaves : leaves_belong c ≡ true
+  pub levels : levels_hold c ≡ true
+  pub errors : recovers_well c ≡ true
+  pub row : keeps_row c ≡ true
+  pub ignored : tidy 5 (inside c) ≡ true
+
+pub node_passes : (c : Node) → SoundRule c
+unfolding faults
+node_passes c =
+    let a = others _ _ _ (no_faults c) in
+    let b = others _ _ _ a in
+    let d = others _ _ _ b in
+    let e = others _ _ _ d in
+    let f = others _ _ _ e in
+    record { table = this _ _ _ (no_faults c); leaves = this _ _ _ a; levels = this _ _ _ b; errors = this _ _ _ d; row = this _ _ _ e; ignored = this _ _ _ f }
+
+-- ---- the document's rule
+
+pub document_followed : document_follows (Call Document) ≡ true
+unfolding computing
+document_followed = refl
+
+pub turns_followed : turns_follow (While Ready (Call Definition)) ≡ true
+unfolding computing
+turns_followed = refl
+
+pub document_leaves : leaf_kinds 5 any any (Call Document) fine ≡ true
+unfolding computing
+document_leaves = refl
+
+pub document_levels : walks 5 DOCUMENT 0 (own DOCUMENT) (Call Document) settled ≡ true
+unfolding computing
+document_levels = refl
+
+pub document_told : told_first 5 false (Call Document) ≡ true
+unfolding computing
+document_told = refl
+
+pub document_row : fits_in 5 kind.DOCUMENT (Call Document) ≡ true
+unfolding computing
+document_row = refl
+
+pub document_tidy : tidy 5 (Call Document) ≡ true
+unfolding computing
+document_tidy = refl
