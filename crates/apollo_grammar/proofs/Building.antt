@@ -2,14 +2,13 @@
 use Rattle.std.proofs.Common.{◌≡◌, ◌∙◌, ap, sym, subst, true, List, [], ◌∷◌}
 use Rattle.document_grammar.specs.declared.kind.SyntaxKind.{SyntaxKind}
 use Rattle.document_grammar.specs.declared.kind.SyntaxKind.TheVariants as kind
-use Rattle.document_grammar.specs.Forests.{Forest, none}
+use Rattle.document_grammar.specs.Forests.{Forest, none, node}
 use Rattle.document_grammar.specs.Builds.{Building, Open, finish, close}
 use Rattle.apollo_tree.specs.Sound.{Fits, FitsInnermost, CanFinish}
 use Rattle.apollo_tree.specs.Open.{IsComplete, one_node}
 use Rattle.parser_rules.specs.State.{State, Part, add_all, finished}
 use Rattle.parser_rules.specs.Open.{is_free, is_free_in, IsOpen, IsRoot}
 use Rattle.parser_rules.proofs.runs.Frame.{add_all_above}
-use Rattle.apollo_grammar.specs.Roots.{root_kind}
 
 fits_free : (k : SyntaxKind) (kids : Forest) → is_free k ≡ true → Fits k kids
 fits_free kind.NAME kids e = absurd cc
@@ -36,6 +35,6 @@ pub root_is_open : (b : Building) → IsRoot b → IsOpen b
 unfolding IsOpen
 root_is_open b h = subst (λ above. is_free_in above ≡ true) (sym h.2) h.1
 
--- the finished tree's root has the kind of the node that was open first
-pub finished_kind : (s : State) (k : SyntaxKind) → s.tree.above ≡ record { before = none; kind = k } ∷ [] → root_kind (finished s) ≡ k
-finished_kind s k e = ap (λ above. root_kind (close (add_all s.waiting s.tree).here above).here) (add_all_above s.waiting s.tree ∙ e)
+-- the finished tree is one node, of the kind of the node that was open first
+pub finished_node : (s : State) (k : SyntaxKind) → s.tree.above ≡ record { before = none; kind = k } ∷ [] → finished s ≡ node k (add_all s.waiting s.tree).here none
+finished_node s k e = ap (λ above. (close (add_all s.waiting s.tree).here above).here) (add_all_above s.waiting s.tree ∙ e)

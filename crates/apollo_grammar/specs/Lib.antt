@@ -4,3 +4,4 @@ pub mod Reading
 pub mod Keywords
 pub mod Looks
 pub mod Roots
+pub mod ByRules

@@ -6,15 +6,14 @@ ghost use Rattle.lexical_grammar.specs.Cut.{Cut, texts};
 ghost use Rattle.lexical_grammar.specs.Reads.{items_of};
 ghost use Rattle.apollo_lexer.specs.Answers.{answers_left};
 ghost use Rattle.document_grammar.specs.declared.kind.SyntaxKind.TheVariants as kind;
-ghost use Rattle.document_grammar.specs.Forests.{text};
+ghost use Rattle.document_grammar.specs.Forests.{Forest, none, node, text};
 ghost use Rattle.document_grammar.specs.Derivation.{document as document_sort, nest};
 ghost use Rattle.document_grammar.specs.Sentence.{Sentence, Within};
 ghost use Rattle.document_grammar.specs.Places.{bare};
 ghost use Rattle.document_grammar.specs.Numbered.{tree_of};
-ghost use Rattle.parser_rules.specs.State.{State, begun, finished};
-ghost use Rattle.parser_rules.specs.Rule.{Runs, Call, Document};
 ghost use Rattle.parser_rules.specs.Leaves.{leaves, OneLeafAnItem};
 ghost use Rattle.parser_rules.specs.Reports.{Reported};
+ghost use Rattle.apollo_grammar.specs.ByRules.{ByRules};
 ghost use Rattle.apollo_grammar.specs.View.{report_of};
 
 use crate::grammar::document::document;
@@ -77,14 +76,38 @@ impl<'i> Parser<'i> {
         Lexer::new(self.source).with_limit(self.token_limit)
     }
 
-    /// Parses a document (GraphQL October 2021, section 2.2, "Document"). A text that is no document has a tree too: what cannot be read
-    /// stands in it as ERROR leaves, and the errors tell of it.
+    // The parse, as a run of the document's rule over the items of the text.
+    fn run_document<A: Allocator + Copy>(
+        self,
+        alloc: A,
+    ) -> Result<SyntaxTree<DocumentRoot, A>, AllocError>
+        ensures { IfOk result (ByRules self.entry.source.now self.entry.recursion_limit self.entry.token_limit) }
+    {
+        let mut p = ParserState::new(
+            alloc,
+            self.lexer(),
+            self.recursion_limit,
+            SyntaxKind::DOCUMENT,
+        )?;
+        document(&mut p)?;
+        let tree = p.finish(self.token_limit)?;
+        Ok(tree)
+    }
+
+    /// Parses a document (GraphQL October 2021, section 2.2, "Document").
+    ///
+    /// A text that is no document has a tree too: what cannot be read is in it as ERROR leaves, and the errors say why. It fails only where memory
+    /// is refused.
     pub fn parse<A: Allocator + Copy>(
         self,
         alloc: A,
     ) -> Result<SyntaxTree<DocumentRoot, A>, AllocError>
+        // the items of which the other clauses speak are a cut of the source
+        ensures cut { IfOk result (λ t. Cut self.entry.source.now (items_of self.entry.source.now)) }
         // the tree's text is the source, or its first items where the token limit is met
         ensures lossless { IfOk result (λ t. text t.tree ≡ texts (take self.entry.token_limit (items_of self.entry.source.now))) }
+        // the tree is one DOCUMENT, also where there are errors
+        ensures one_document { IfOk result (λ t. (kids : Forest) × (t.tree ≡ node kind.DOCUMENT kids none)) }
         ensures one_leaf { IfOk result (λ t. OneLeafAnItem (limited self.entry.token_limit (items_of self.entry.source.now)) (leaves t.tree)) }
         ensures recursion { IfOk result (λ t. (t.recursion_limit.current ≡ 0) × (t.recursion_limit.limit ≡ self.entry.recursion_limit) × (t.recursion_limit.high ≤ self.entry.recursion_limit + 1)) }
         // the greatest depth that was asked for covers what the tree nests, also where there are errors
@@ -96,17 +119,7 @@ impl<'i> Parser<'i> {
         ensures in_order { IfOk result (λ t. IsNonDecreasing (map (λ e. e.index) t.errors)) }
         // without errors, the tree without its ignored leaves is the derivation of the text, which is a sentence within both limits
         ensures sound { IfOk result (λ t. t.errors ≡ [] → Sentence self.entry.source.now (bare (tree_of t.tree)) document_sort × Within self.entry.source.now (bare (tree_of t.tree)) self.entry.recursion_limit self.entry.token_limit) }
-        // what the tree, the errors and the limits come from
-        ensures runs { IfOk result (λ t. (s : State) × Runs (Call Document) (begun (limited self.entry.token_limit (items_of self.entry.source.now)) self.entry.recursion_limit kind.DOCUMENT) s
-            × (t.tree ≡ finished s) × (map report_of t.errors ≡ s.errors) × (t.recursion_limit ≡ record { current = s.depth; high = s.high; limit = s.limit })) }
     {
-        let mut p = ParserState::new(
-            alloc,
-            self.lexer(),
-            self.recursion_limit,
-            SyntaxKind::DOCUMENT,
-        )?;
-        document(&mut p)?;
-        p.finish(self.token_limit)
+        self.run_document(alloc)
     }
 }

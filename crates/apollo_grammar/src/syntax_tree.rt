@@ -53,12 +53,14 @@ impl<R: Root, A: Allocator> SyntaxTree<R, A> {
     ghost use Rattle.std.specs.Prelude.{◌≡◌};
     ghost use Rattle.std.specs.Slice.Iter.{iter_rest};
     ghost use Rattle.std.specs.Prelude.{length};
-    ghost use Rattle.apollo_tree.specs.Order.{order};
+    ghost use Rattle.document_grammar.specs.Forests.{text};
+    ghost use Rattle.apollo_tree.specs.Order.{order, text_at};
     ghost use Rattle.apollo_tree.specs.References.{node_place};
 
     /// The root, which holds all of the text.
     pub fn root(&self) -> SyntaxNode<'_>
-        ensures { node_place result ≡ record { whole = self.now.tree; index = 0 } }
+        ensures place { node_place result ≡ record { whole = self.now.tree; index = 0 } }
+        ensures text { text_at (node_place result) ≡ text self.now.tree }
     {
         self.tree.root()
     }

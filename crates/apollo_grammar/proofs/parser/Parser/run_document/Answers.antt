@@ -1,0 +1,41 @@
+use Rattle.std.proofs.Common.{◌≡◌, List, refl, ap, ◌∙◌, subst}
+use Rattle.lexical_grammar.specs.Answers.{Answer}
+use Rattle.document_grammar.specs.declared.kind.SyntaxKind.TheVariants as kind
+use Rattle.document_grammar.specs.Numbers.{is_kind}
+use Rattle.apollo_lexer.specs.Answers.{answers_left}
+use Rattle.parser_rules.specs.State.{State, begun}
+use Rattle.parser_rules.specs.Rule.{Runs, Call, Document}
+use Rattle.parser_rules.proofs.runs.Frame.{root_kept, root_stays}
+use Rattle.apollo_grammar.specs.Roots.{root_kind}
+use Rattle.apollo_grammar.proofs.Building.{finished_node}
+use Rattle.apollo_grammar.proofs.Parses.{answers, run_read}
+use Rattle.apollo_grammar.proofs.parser.Parser.run_document.Goals as goal
+
+pub finish-requires : goal.finish-requires
+finish-requires g c =
+    let xs = answers_left c.lexer.result in
+    let r = c.args.self.recursion_limit in
+    let run = subst (λ s. Runs (Call Document) s c.document.new.p) c.in_ok-p.ensures c.in_ok-document.ensures in
+    record {
+      open_root = root_kept xs r kind.DOCUMENT refl run;
+      kind = ap (λ f. is_kind kind.DOCUMENT (root_kind f)) (finished_node c.document.new.p kind.DOCUMENT (root_stays xs r kind.DOCUMENT run))
+    }
+
+pub returns : goal.returns
+returns g c =
+    let k = c.args.self.token_limit in
+    let r = c.args.self.recursion_limit in
+    let source = c.args.self.source.now in
+    let s = c.document.new.p in
+    let run =
+        subst (λ xs. Runs (Call Document) (begun xs r kind.DOCUMENT) s) c.lexer.ensures.answers (subst (λ b. Runs (Call Document) b s) c.in_ok-p.ensures c.in_ok-document.ensures) in
+    record {
+      last = s;
+      cut = c.lexer.ensures.cut;
+      run = run;
+      tree = c.in_ok-tree.ensures.tree;
+      counted = c.in_ok-tree.ensures.counted;
+      errors = c.in_ok-tree.ensures.errors;
+      recursion_limit = c.in_ok-tree.ensures.recursion_limit;
+      token_limit = c.in_ok-tree.ensures.token_limit (run_read k r source s c.lexer.ensures.cut run)
+    }
