@@ -12,9 +12,10 @@ use Rattle.grammar_machine.proofs.Checks.{exits, row_of}
 use Rattle.grammar_machine.proofs.Steps.{goes, closes, sticks}
 use Rattle.grammar_machine.proofs.Sound.{any}
 use Rattle.grammar_machine.proofs.Patterns.{label}
-use Rattle.parser_rules.specs.Rule.{Node, Arguments, Argument, Directives, Directive, ListValue, ObjectValue, ObjectField, symbol, inside, body, Document, Definition, While, Ready, Call}
+use Rattle.parser_rules.specs.Rule.{Node, Arguments, Argument, Directives, Directive, ListValue, ObjectValue, ObjectField, symbol, inside, Document, Definition, While, Ready, Call}
+use Rattle.parser_rules.proofs.runs.Progress.{consuming}
 use Rattle.parser_rules.proofs.lookahead.Split.{split, divide}
-use Rattle.parser_rules.proofs.lookahead.FirstSets.{near_of, near_in, far_of, inlined, unread}
+use Rattle.parser_rules.proofs.lookahead.FirstSets.{first_of, first_in, second_of, inlined, unread}
 use Rattle.parser_rules.proofs.soundness.TableCheck.{own, covered, all_marks, levels, leaf_of, loses, whole, leaves_well, post, heads, takes, ends_at, closing, child_goes, child_sticks, child_at, limits_at, nests, typed, type_at, reports, is_node, ok, ends_well, follows_table, root_ends, document_follows, turns_follow}
 use Rattle.parser_rules.proofs.leaves.LeafCheck.{belongs, leaf_kinds, fine, leaves_belong}
 use Rattle.parser_rules.proofs.nesting.LevelCheck.{weight, walks, settled, levels_hold}
@@ -49,7 +50,7 @@ faults c =
 
 -- all that the checks compute with
 unfoldable pub computing : Unit {0}
-unfolding ◌and◌ ◌or◌ is_leaf at ends exit arcs target entries rows firsts goes closes sticks label labels member Row symbol inside body split divide near_of near_in far_of inlined unread own covered all_marks levels leaf_of loses whole leaves_well exits row_of post heads takes ends_at closing child_goes child_sticks child_at limits_at nests typed type_at reports is_node ok ends_well root_ends belongs leaf_kinds weight walks told_first pops spares of_row leaf_of_row fits_in tidy follows_table leaves_belong levels_hold recovers_well keeps_row document_follows turns_follow
+unfolding ◌and◌ ◌or◌ is_leaf at ends exit arcs target entries rows firsts goes closes sticks label labels member Row symbol consuming split divide first_of first_in second_of inlined unread own covered all_marks levels leaf_of loses whole leaves_well exits row_of post heads takes ends_at closing child_goes child_sticks child_at limits_at nests typed type_at reports is_node ok ends_well root_ends belongs leaf_kinds weight walks told_first pops spares of_row leaf_of_row fits_in tidy follows_table leaves_belong levels_hold recovers_well keeps_row document_follows turns_follow
 computing = tt
 
 -- No node's rule is at fault. A node with a place is looked at in both.

@@ -13,7 +13,7 @@ use Rattle.grammar_machine.proofs.Steps.{hits}
 use Rattle.parser_rules.specs.Rule.{At, Bump, Note, TooDeep, Node, inside, body, Rule, Skip, Do, Seq, When, While, Child, Nested, Call, Typed}
 use Rattle.parser_rules.proofs.lookahead.TokenSets.{over}
 use Rattle.parser_rules.proofs.lookahead.Split.{split}
-use Rattle.parser_rules.proofs.lookahead.FirstSets.{near_in, far_of, inlined}
+use Rattle.parser_rules.proofs.lookahead.FirstSets.{first_in, second_of, inlined}
 
 abbrev pub is_error : SyntaxKind → Bool
 is_error kind.ERROR = true
@@ -36,7 +36,7 @@ leaf_kinds n x y (Seq a b) k = leaf_kinds n x y a (λ u v. leaf_kinds n u v b k)
 leaf_kinds n x y (When t a b) k = split (λ a' b'. a' and b') true t x y (λ u v. leaf_kinds n u v a k) (λ u v. leaf_kinds n u v b k)
 leaf_kinds n x y (While t a) k = split (λ a' b'. a' and b') true t any any (λ u v. leaf_kinds n u v a (λ u' v'. true)) k
 leaf_kinds zero x y (Child c) k = false
-leaf_kinds (suc n) x y (Child c) k = cond (inlined c) (leaf_kinds n x y (inside c) k) ((subset x (near_in c) and subset y (far_of c)) and k any any)
+leaf_kinds (suc n) x y (Child c) k = cond (inlined c) (leaf_kinds n x y (inside c) k) ((subset x (first_in c) and subset y (second_of c)) and k any any)
 leaf_kinds n x y (Nested a b) k = k x y and leaf_kinds n x y a (λ u v. leaf_kinds n u v b k)
 leaf_kinds zero x y (Call p) k = false
 leaf_kinds (suc n) x y (Call p) k = leaf_kinds n x y (body p) k
@@ -47,4 +47,4 @@ fine u v = true
 
 -- the check of one kind of node
 unfoldable pub leaves_belong : Node → Bool
-leaves_belong c = leaf_kinds 5 (near_in c) (far_of c) (inside c) fine
+leaves_belong c = leaf_kinds 5 (first_in c) (second_of c) (inside c) fine

@@ -35,7 +35,7 @@ use Rattle.parser_rules.proofs.runs.Inversion.{Parts, parts}
 use Rattle.parser_rules.proofs.runs.AtTheEnd.{EndNow, ends, read_ends}
 use Rattle.parser_rules.proofs.lookahead.TokenSets.{absent, over, class_of, Shown, second-shown, read-second, of-any, Seen, seen-any, seen-more, seen-same, Branch}
 use Rattle.parser_rules.proofs.lookahead.Split.{split, split-at}
-use Rattle.parser_rules.proofs.lookahead.FirstSets.{near_in, far_of, inlined}
+use Rattle.parser_rules.proofs.lookahead.FirstSets.{first_in, second_of, inlined}
 use Rattle.parser_rules.proofs.leaves.LeafCheck.{is_error, belongs, bump_to, leaf_kinds, fine, leaves_belong}
 use Rattle.parser_rules.proofs.NodeChecks.{node_passes, document_leaves as document_fits}
 
@@ -399,11 +399,11 @@ fits {s = s} {t = v} (child {n = c} {t = t} {u = u} o e h1) (suc n) x y k w h i 
     let it = seen-same x y s t (opened-same (kind_of c) s t o).0 (opened-same (kind_of c) s t o).1 i in
     elim (either (inlined c)) [
       | inl p ↦ (
-          let r = fits h1 n x y k wt (subst (λ b. cond b (leaf_kinds n x y (inside c) k) ((subset x (near_in c) and subset y (far_of c)) and k any any) ≡ true) p h) it in
+          let r = fits h1 n x y k wt (subst (λ b. cond b (leaf_kinds n x y (inside c) k) ((subset x (first_in c) and subset y (second_of c)) and k any any) ≡ true) p h) it in
           onward k s t v starting (onward k t u v r.0 (behind k u v (closed-same u v e) closing r.1)))
       | inr p ↦ (
-          let g = subst (λ b. cond b (leaf_kinds n x y (inside c) k) ((subset x (near_in c) and subset y (far_of c)) and k any any) ≡ true) p h in
-          let r = fits h1 5 (near_in c) (far_of c) fine wt (node_passes c).leaves (seen-more x y (near_in c) (far_of c) t (and-l _ _ g) it) in
+          let g = subst (λ b. cond b (leaf_kinds n x y (inside c) k) ((subset x (first_in c) and subset y (second_of c)) and k any any) ≡ true) p h in
+          let r = fits h1 5 (first_in c) (second_of c) fine wt (node_passes c).leaves (seen-more x y (first_in c) (second_of c) t (and-l _ _ g) it) in
           let kept : Kept s v = next s t v starting (next t u v r.0 closing) in
           (kept, (any, any, and-r _ _ g, seen-any v (shown-on s v kept w))))
     ]

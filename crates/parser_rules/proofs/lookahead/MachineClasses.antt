@@ -14,7 +14,8 @@ use Rattle.grammar_machine.proofs.TableLemmas.{holds-disjoint, holds-or}
 use Rattle.parser_rules.specs.State.{State, Lexeme, ignored, lexeme, second}
 use Rattle.parser_rules.proofs.lookahead.TokenSets.{absent, class_of, ready, not-zero, holds-minus, Seen}
 use Rattle.parser_rules.proofs.reports.NoReport.{ends, choose, EndsWell, Now, rest, answers_tokens, current_tokens, kind_tokens, item_tokens, ignored-tokens, ignored-end, end-kind, significant, AtEnd, AtToken, standing}
-use Rattle.parser_rules.proofs.soundness.TableCheck.{behind, without}
+use Rattle.parser_rules.proofs.lookahead.FirstSets.{without}
+use Rattle.parser_rules.proofs.soundness.TableCheck.{behind}
 
 -- ---- the end stands where no token is
 

@@ -1,12 +1,12 @@
 -- What surely reads on: rules that take the token that is there.
-use Rattle.std.proofs.Common.{◌≡◌, ℕ, ◌<◌, Option, Some, None, [], ◌∷◌, ◌++◌, refl, sym, ◌∙◌, ap, subst, arith, true, false, Bool, not, ◌&&◌, ◌||◌, if◌then◌else◌, inl, inr, true≢false}
+use Rattle.std.proofs.Common.{◌≡◌, ℕ, suc, ◌<◌, Option, Some, None, [], ◌∷◌, ◌++◌, refl, sym, ◌∙◌, ap, subst, arith, true, false, Bool, not, ◌&&◌, ◌||◌, if◌then◌else◌, inl, inr, true≢false}
 use Rattle.lexical_grammar.specs.declared.TokenKind.{TokenKind}
 use Rattle.lexical_grammar.specs.declared.TokenKind.TheVariants as token
 use Rattle.document_grammar.specs.declared.kind.SyntaxKind.{SyntaxKind}
 use Rattle.document_grammar.specs.Booleans.{◌and◌, ◌or◌}
 use Rattle.document_grammar.proofs.Booleans.{and-l, and-r, either}
 use Rattle.parser_rules.specs.State.{State, Lexeme, Found, flush, opened, closed, moved, bump, fault, found_at, noted, note, is_at, is_over, is_deep, enter, leave}
-use Rattle.parser_rules.specs.Rule.{At, Ready, Either, holds, Prim, Bump, Note, TooDeep, step, Node, FragmentName, TypeCondition, Directives, NamedType, kind_of, Part, Definition, Described, Selection, Spread, AliasedName, WordValue, ValueOf, NestedValue, has_item, inside, body, Rule, Skip, Do, Seq, When, Child, Nested, Call, Runs, skip, does, seq, yes, no, done, again, child, deeper, refused, call, plain, wrapped}
+use Rattle.parser_rules.specs.Rule.{At, Ready, Either, holds, Prim, Bump, Note, step, kind_of, ValueOf, NestedValue, has_item, inside, body, Rule, Skip, Do, Seq, When, Child, Nested, Call, Runs, skip, does, seq, yes, no, child, deeper, refused, call}
 use Rattle.parser_rules.specs.declared.message.Message.{Message}
 use Rattle.parser_rules.proofs.runs.Frame.{left, moved_left, fewer}
 
@@ -16,53 +16,19 @@ stays Skip = true
 stays (Do (Note m)) = true
 stays _ = false
 
--- the nodes and the parts that take the token that is there, whatever it is
-unfoldable pub node_takes : Node → Bool
-node_takes FragmentName = false
-node_takes TypeCondition = false
-node_takes (Directives c) = false
-node_takes NamedType = false
-node_takes _ = true
+-- the rule takes the token that is there, whatever it is
+unfoldable pub consumes : ℕ → Rule → Bool
+consumes n (Do (Bump leaf)) = true
+consumes n (Seq a b) = consumes n a or (stays a and consumes n b)
+consumes n (When q a b) = consumes n a and consumes n b
+consumes (suc n) (Child c) = consumes n (inside c)
+consumes (suc n) (Call p) = consumes n (body p)
+consumes n _ = false
 
-unfoldable pub part_takes : Part → Bool
-part_takes Definition = true
-part_takes Described = true
-part_takes Selection = true
-part_takes Spread = true
-part_takes AliasedName = true
-part_takes WordValue = true
-part_takes (ValueOf c pops) = pops
-part_takes _ = false
-
--- the rule takes the token that is there
-unfoldable pub takes : Rule → Bool
-takes (Do (Bump leaf)) = true
-takes (Seq a b) = takes a or (stays a and takes b)
-takes (When q a b) = takes a and takes b
-takes (Child n) = node_takes n
-takes (Call p) = part_takes p
-takes _ = false
-
-node_does : (n : Node) → node_takes n ≡ true → takes (inside n) ≡ true
-unfolding takes node_takes part_takes inside ◌and◌ ◌or◌
-node_does FragmentName e = absurd (true≢false (sym e))
-node_does TypeCondition e = absurd (true≢false (sym e))
-node_does (Directives c) e = absurd (true≢false (sym e))
-node_does NamedType e = absurd (true≢false (sym e))
-node_does _ e = refl
-
-part_does : (p : Part) → part_takes p ≡ true → takes (body p) ≡ true
-unfolding takes node_takes part_takes body ◌and◌ ◌or◌
-part_does Definition e = refl
-part_does Described e = refl
-part_does Selection e = refl
-part_does Spread e = refl
-part_does AliasedName e = refl
-part_does WordValue e = refl
-part_does (ValueOf c false) e = absurd (true≢false (sym e))
-part_does (ValueOf true true) e = refl
-part_does (ValueOf false true) e = refl
-part_does _ e = absurd (true≢false (sym e))
+-- all that this test computes with
+unfoldable pub consuming : Unit {0}
+unfolding consumes inside body ◌and◌ ◌or◌
+consuming = tt
 
 -- ---- a token is there
 
@@ -140,19 +106,7 @@ note_unread m s e = subst (λ w. Unread s w) (sym e) (noted_unread s.current s)
 pub stayed : {a : Rule} {s t : State} → Runs a s t → stays a ≡ true → Unread s t
 stayed skip e = (refl, refl)
 stayed {s = s} (does {a = Note m} h) e = note_unread m s h
-stayed (does {a = Bump leaf} h) e = absurd (true≢false (sym e))
-stayed (does {a = TooDeep} h) e = absurd (true≢false (sym e))
-stayed (seq h k) e = absurd (true≢false (sym e))
-stayed (yes q h) e = absurd (true≢false (sym e))
-stayed (no q h) e = absurd (true≢false (sym e))
-stayed (done q) e = absurd (true≢false (sym e))
-stayed (again q h k) e = absurd (true≢false (sym e))
-stayed (child a b h) e = absurd (true≢false (sym e))
-stayed (deeper q a b h k) e = absurd (true≢false (sym e))
-stayed (refused q h) e = absurd (true≢false (sym e))
-stayed (call h) e = absurd (true≢false (sym e))
-stayed (plain a h n) e = absurd (true≢false (sym e))
-stayed (wrapped a b c d h q k) e = absurd (true≢false (sym e))
+stayed _ e = absurd (true≢false (sym e))
 
 still_there : (s t : State) → t.current ≡ s.current → IsThere s → IsThere t
 unfolding IsThere
@@ -173,39 +127,34 @@ unfolding ◌or◌
 or-false true b h e = absurd (true≢false e)
 or-false false b h e = h
 
-pub taken : {a : Rule} {s t : State} → Runs a s t → IsThere s → takes a ≡ true → left t < left s
-unfolding takes
-taken skip h e = absurd (true≢false (sym e))
-taken {s = s} (does {a = Bump leaf} k) h e = bump_takes leaf s k h
-taken (does {a = Note m} k) h e = absurd (true≢false (sym e))
-taken (does {a = TooDeep} k) h e = absurd (true≢false (sym e))
-taken {s = s} (seq {a = a} {b = b} {t = t} k l) h e = elim (either (takes a)) [
-  | inl y ↦ let f = taken k h y in let g = fewer l in omega (arith, f, g)
-  | inr n ↦
-      let later = or-false (takes a) (stays a and takes b) e n in
-      let same = stayed k (and-l (stays a) (takes b) later) in
-      let f = taken l (still_there s t same.0 h) (and-r (stays a) (takes b) later) in
+taken-by : {a : Rule} {s t : State} → Runs a s t → (n : ℕ) → IsThere s → consumes n a ≡ true → left t < left s
+unfolding consumes
+taken-by {s = s} (does {a = Bump leaf} k) n h e = bump_takes leaf s k h
+taken-by {s = s} (seq {a = a} {b = b} {t = t} k l) n h e = elim (either (consumes n a)) [
+  | inl y ↦ let f = taken-by k n h y in let g = fewer l in omega (arith, f, g)
+  | inr no_first ↦
+      let later = or-false (consumes n a) (stays a and consumes n b) e no_first in
+      let same = stayed k (and-l (stays a) (consumes n b) later) in
+      let f = taken-by l n (still_there s t same.0 h) (and-r (stays a) (consumes n b) later) in
       let g = same.1 in
       omega (arith, f, g)
 ]
-taken (yes {a = a} {b = b} q k) h e = taken k h (and-l (takes a) (takes b) e)
-taken (no {a = a} {b = b} q k) h e = taken k h (and-r (takes a) (takes b) e)
-taken (done q) h e = absurd (true≢false (sym e))
-taken (again q k l) h e = absurd (true≢false (sym e))
-taken {s = s} (child {n = n} {u = u} a b k) h e =
-    let f = taken k (opened_there (kind_of n) s a h) (node_does n e) in
-    let g = opened_left (kind_of n) s a in
-    let c = closed_left u b in
-    omega (arith, f, g, c)
-taken (deeper q a b k l) h e = absurd (true≢false (sym e))
-taken (refused q k) h e = absurd (true≢false (sym e))
-taken (call {p = p} k) h e = taken k h (part_does p e)
-taken (plain a k n) h e = absurd (true≢false (sym e))
-taken (wrapped a b c d k q l) h e = absurd (true≢false (sym e))
+taken-by (yes {a = a} {b = b} q k) n h e = taken-by k n h (and-l (consumes n a) (consumes n b) e)
+taken-by (no {a = a} {b = b} q k) n h e = taken-by k n h (and-r (consumes n a) (consumes n b) e)
+taken-by {s = s} (child {n = c} {u = u} a b k) (suc n) h e =
+    let f = taken-by k n (opened_there (kind_of c) s a h) e in
+    let g = opened_left (kind_of c) s a in
+    let d = closed_left u b in
+    omega (arith, f, g, d)
+taken-by (call k) (suc n) h e = taken-by k n h e
+taken-by _ n h e = absurd (true≢false (sym e))
+
+pub taken : {a : Rule} {s t : State} → Runs a s t → IsThere s → consumes 5 a ≡ true → left t < left s
+taken r h e = taken-by r 5 h e
 
 -- ---- what the code's measures ask
 
-pub opened_takes : (k : SyntaxKind) (s : State) {t u : State} {a : Rule} → t ≡ opened k s → Runs a t u → IsThere s → takes a ≡ true → left u < left s
+pub opened_takes : (k : SyntaxKind) (s : State) {t u : State} {a : Rule} → t ≡ opened k s → Runs a t u → IsThere s → consumes 5 a ≡ true → left u < left s
 opened_takes k s o r h e =
     let f = taken r (opened_there k s o h) e in
     let l = opened_left k s o in
@@ -224,7 +173,7 @@ unfolding leave left
 left_left s e = ap left e
 
 -- a value one level deeper takes a token where the recursion limit is not reached
-deeper_taken : {a b : Rule} {s t : State} → Runs (Nested a b) s t → false ≡ is_deep s → IsThere s → takes a ≡ true → left t < left s
+deeper_taken : {a b : Rule} {s t : State} → Runs (Nested a b) s t → false ≡ is_deep s → IsThere s → consumes 5 a ≡ true → left t < left s
 deeper_taken {s = s} (deeper {u = u} q e v h k) d i w =
     let f = taken h (entered_there s e i) w in
     let g = entered_left s e in
@@ -233,9 +182,14 @@ deeper_taken {s = s} (deeper {u = u} q e v h k) d i w =
     omega (arith, f, g, l, m)
 deeper_taken (refused q e) d i w = absurd (true≢false (q ∙ sym d))
 
+value_consumes : (c : Bool) → consumes 5 (Call (ValueOf c true)) ≡ true
+unfolding consuming
+value_consumes true = refl
+value_consumes false = refl
+
 pub item_taken : {c : Bool} {s t : State} → Runs (Call (NestedValue c)) s t → true ≡ holds has_item s → left t < left s
-unfolding body takes part_takes
-item_taken {s = s} (call h) e = deeper_taken h (item_not_deep s e) (item_there s e) refl
+unfolding body
+item_taken {c = c} {s = s} (call h) e = deeper_taken h (item_not_deep s e) (item_there s e) (value_consumes c)
 
 pub flushed_left : (s : State) {t : State} → t ≡ flush s → left t ≡ left s
 unfolding flush left

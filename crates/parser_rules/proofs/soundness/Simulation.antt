@@ -40,10 +40,10 @@ use Rattle.parser_rules.proofs.soundness.FirstReport.{Stuck, Unread, TooMany, le
 use Rattle.parser_rules.proofs.lookahead.MachineClasses.{Next, sees-next}
 use Rattle.parser_rules.proofs.lookahead.Split.{Level, low, high, past, Sure, loose, firm, full, Spot, spot, lost, fill, filled_up, divide, divide-at}
 use Rattle.parser_rules.proofs.lookahead.TokenSets.{class_of, Shown, second-shown, read-second, of-any, kind_set, at-set, over, Seen, seen-any, seen-more, seen-same, near-at, holds-minus}
-use Rattle.parser_rules.proofs.lookahead.FirstSets.{near_of, far_of, inlined, unread}
+use Rattle.parser_rules.proofs.lookahead.FirstSets.{without, first_of, second_of, inlined, unread}
 use Rattle.parser_rules.proofs.soundness.MachineStack.{image, image-some, shows-snoc, label-bang, put-image, image-open, image-type, image-node, image-plain, show-node, show-bang, stack-wrap}
 use Rattle.parser_rules.proofs.soundness.Settled.{Settled, Fitting, fitting-image, fitting-path, settled-at, settled-leaf, settled-parts, settled-start, settled-finish, settled-wrap}
-use Rattle.parser_rules.proofs.soundness.TableCheck.{Mark, Then, behind, without, raised, own, owed, same_level, same_sure, is_firm, weak, same_spot, covered, all_marks, levels, leaf_of, loses, is_high, lowered, heads, takes, ends_at, after, closing, losing, child_goes, child_sticks, child_at, counted, limits_at, nests, typed, type_at, unread_arcs, reports, is_node, ok, ends_well, follows_table, whole, no_brace, leaves_well}
+use Rattle.parser_rules.proofs.soundness.TableCheck.{Mark, Then, behind, raised, own, owed, same_level, same_sure, is_firm, weak, same_spot, covered, all_marks, levels, leaf_of, loses, is_high, lowered, heads, takes, ends_at, after, closing, losing, child_goes, child_sticks, child_at, counted, limits_at, nests, typed, type_at, unread_arcs, reports, is_node, ok, ends_well, follows_table, whole, no_brace, leaves_well}
 use Rattle.parser_rules.proofs.NodeChecks.{node_passes}
 
 zero-one : within 0 1 ≡ true
@@ -1225,7 +1225,7 @@ module _ (sort : Sort) (answers : List Answer) (base : List Report) (Follows : T
   unfolding follows_table
   node-is c = and-l _ _ (node_passes c).table
 
-  node-ok : (c : Node) → ok 5 (symbol c) (spot 0 low loose) (near_of c) (far_of c) (inside c) (ends_well c) ≡ true
+  node-ok : (c : Node) → ok 5 (symbol c) (spot 0 low loose) (first_of c) (second_of c) (inside c) (ends_well c) ≡ true
   unfolding follows_table
   node-ok c = and-r _ _ (node_passes c).table
 
@@ -1241,11 +1241,11 @@ module _ (sort : Sort) (answers : List Answer) (base : List Report) (Follows : T
 
   -- a node's rule is walked at its place, or by the check of its kind
   node-kind : (n s q : ℕ) (l : Level) (x y : ℕ) (c : Node) (fs : List Frame) (k : Then) (st t u : State) (c0 : Stands s q l fs st) → levels s l (symbol c) ≡ true → Fits (symbol c) (spot 0 low loose) x y (frame s q c0.children ∷ fs) t → (b : Bool)
-      → cond b (ok n (symbol c) (spot 0 low loose) x y (inside c) (closing (symbol c) (spot (target s q (symbol c)) l firm) k)) ((subset x (near_of c) and subset y (far_of c)) and after (spot (target s q (symbol c)) l firm) c k) ≡ true
+      → cond b (ok n (symbol c) (spot 0 low loose) x y (inside c) (closing (symbol c) (spot (target s q (symbol c)) l firm) k)) ((subset x (first_of c) and subset y (second_of c)) and after (spot (target s q (symbol c)) l firm) c k) ≡ true
       → (ok n (symbol c) (spot 0 low loose) x y (inside c) (closing (symbol c) (spot (target s q (symbol c)) l firm) k) ≡ true → Out (symbol c) (frame s q c0.children ∷ fs) (closing (symbol c) (spot (target s q (symbol c)) l firm) k) u)
-      → (Fits (symbol c) (spot 0 low loose) (near_of c) (far_of c) (frame s q c0.children ∷ fs) t → Out (symbol c) (frame s q c0.children ∷ fs) (ends_well c) u) → Out s fs k (closed u)
+      → (Fits (symbol c) (spot 0 low loose) (first_of c) (second_of c) (frame s q c0.children ∷ fs) t → Out (symbol c) (frame s q c0.children ∷ fs) (ends_well c) u) → Out s fs k (closed u)
   node-kind n s q l x y c fs k st t u c0 h b true m walk check = walked-out s q l c fs k st u c0 (node-is c) h (walk m)
-  node-kind n s q l x y c fs k st t u c0 h b false m walk check = node-out s q l c fs k st u c0 (node-is c) h (and-r _ _ m) (check (narrow (symbol c) (spot 0 low loose) x y (near_of c) (far_of c) (frame s q c0.children ∷ fs) t b (seen-more x y (near_of c) (far_of c) t (and-l _ _ m) b.seen)))
+  node-kind n s q l x y c fs k st t u c0 h b false m walk check = node-out s q l c fs k st u c0 (node-is c) h (and-r _ _ m) (check (narrow (symbol c) (spot 0 low loose) x y (first_of c) (second_of c) (frame s q c0.children ∷ fs) t b (seen-more x y (first_of c) (second_of c) t (and-l _ _ m) b.seen)))
 
   -- the run of what stands in the node, from any mark that its check holds at
   abbrev Walks : Node → State → State → Type 0
@@ -1262,7 +1262,7 @@ module _ (sort : Sort) (answers : List Answer) (base : List Report) (Follows : T
       let b : Fits j (spot 0 low loose) x y (frame s q c0.children ∷ fs) t = subst (λ (z : State). Fits j (spot 0 low loose) x y (frame s q c0.children ∷ fs) z) (sym e) (begun-in s q l x y c fs st c0 g.calm g.seen (node-is c) m lv) in
       node-kind n s q l x y c fs k st t u c0 lv b (inlined c) (and-r _ _ h)
       (λ o. walk n j (spot 0 low loose) x y (frame s q c0.children ∷ fs) (closing j (spot (target s q j) l firm) k) o b)
-      (λ b'. walk 5 j (spot 0 low loose) (near_of c) (far_of c) (frame s q c0.children ∷ fs) (ends_well c) (node-ok c) b')
+      (λ b'. walk 5 j (spot 0 low loose) (first_of c) (second_of c) (frame s q c0.children ∷ fs) (ends_well c) (node-ok c) b')
 
   sticks-in : (n s x y : ℕ) (c : Node) (fs : List Frame) (k : Then) (st t u : State) → t ≡ opened (kind_of c) st → Walks c t u → ok n s lost x y (inside c) (losing k) ≡ true → Still_calm st → Seen x y st → Lost st → Out s fs k (closed u)
   sticks-in n s x y c fs k st t u e walk h cl i f =
@@ -1274,12 +1274,12 @@ module _ (sort : Sort) (answers : List Answer) (base : List Report) (Follows : T
   child-in n s (spot q l d) x y c fs k st t u e walk h g =
       let f : ℕ → ℕ → Bool = λ u v. child_goes s q l u v c k (λ u v k'. ok n (symbol c) (spot 0 low loose) u v (inside c) k') in
       let f' : ℕ → ℕ → Bool = λ u v. child_sticks s q u v (λ u v. ok n s lost u v (inside c) (losing k)) in
-      elim (either (within (class_of st.current) (near_of c))) [
+      elim (either (within (class_of st.current) (first_of c))) [
         | inl i ↦ (
-            let r = near-at true (near_of c) x y f f' st (sym i) h g.seen in
+            let r = near-at true (first_of c) x y f f' st (sym i) h g.seen in
             goes-in n s q l d r.0 r.1 c fs k st t u e walk r.2 (narrow s (spot q l d) x y r.0 r.1 fs st g r.3))
         | inr i ↦ (
-            let r = near-at false (near_of c) x y f f' st (sym i) h g.seen in
+            let r = near-at false (first_of c) x y f f' st (sym i) h g.seen in
             let c0 : Stands s q l fs st = g.stands.0 in
             sticks-in n s r.0 r.1 c fs k st t u e walk (and-r _ _ r.2) g.calm r.3 (stuck-here s q r.0 r.1 c0.children fs (rest st) c0.place.reach (and-l _ _ r.2) (sees-two r.0 r.1 st g.calm r.3), stands-taken s q l fs st c0))
       ]

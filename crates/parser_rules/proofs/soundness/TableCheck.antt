@@ -17,7 +17,7 @@ use Rattle.grammar_machine.proofs.Depth.{count_in}
 use Rattle.parser_rules.specs.Rule.{Prim, Bump, Note, TooDeep, Test, At, Node, Argument, VariableDefinition, DefaultValue, ListValue, ObjectField, symbol, kind_of, inside, body, Rule, Skip, Do, Seq, When, While, Child, Nested, Call, Typed}
 use Rattle.parser_rules.proofs.lookahead.TokenSets.{absent, over, ready, by_near, kind_set}
 use Rattle.parser_rules.proofs.lookahead.Split.{Level, low, high, past, Sure, loose, firm, full, Spot, spot, lost, fill, divide}
-use Rattle.parser_rules.proofs.lookahead.FirstSets.{near_of, far_of, inlined, unread}
+use Rattle.parser_rules.proofs.lookahead.FirstSets.{without, first_of, second_of, inlined, unread}
 
 -- a spot, and sets that hold the classes of the next two tokens
 pub record Mark : Type 0 where
@@ -31,9 +31,6 @@ Then = Spot → ℕ → ℕ → Bool
 -- the machine's classes of the second token: it sees the end where no token is
 abbrev pub behind : ℕ → ℕ
 behind y = cond (disjoint y (2 ^ absent)) y (bit_or (bit_xor y (bit_and y (2 ^ absent))) 1)
-
-abbrev pub without : ℕ → ℕ → ℕ
-without x m = bit_xor x (bit_and x m)
 
 abbrev pub raised : Level → ℕ
 raised low = 0
@@ -197,14 +194,14 @@ losing k p x y = is_lost p and k lost x y
 unfoldable pub child_goes : ℕ → ℕ → Level → ℕ → ℕ → Node → Then → (ℕ → ℕ → Then → Bool) → Bool
 child_goes s q l x y c k walk =
     let p : Spot = spot (target s q (symbol c)) l firm in
-    (goes s q x (behind y) (symbol c) and levels s l (symbol c)) and cond (inlined c) (walk x y (closing (symbol c) p k)) ((subset x (near_of c) and subset y (far_of c)) and after p c k)
+    (goes s q x (behind y) (symbol c) and levels s l (symbol c)) and cond (inlined c) (walk x y (closing (symbol c) p k)) ((subset x (first_of c) and subset y (second_of c)) and after p c k)
 
 -- the machine is stuck before it
 unfoldable pub child_sticks : ℕ → ℕ → ℕ → ℕ → (ℕ → ℕ → Bool) → Bool
 child_sticks s q x y lose = sticks s q x (behind y) and lose x y
 
 unfoldable pub child_at : ℕ → Spot → ℕ → ℕ → Node → Then → (ℕ → ℕ → Then → Bool) → (ℕ → ℕ → Bool) → Bool
-child_at s (spot q l d) x y c k walk lose = by_near (λ a b. a and b) true (near_of c) x y (λ u v. child_goes s q l u v c k walk) (λ u v. child_sticks s q u v lose)
+child_at s (spot q l d) x y c k walk lose = by_near (λ a b. a and b) true (first_of c) x y (λ u v. child_goes s q l u v c k walk) (λ u v. child_sticks s q u v lose)
 child_at s lost x y c k walk lose = lose x y
 
 -- where each symbol that can come is counted
@@ -269,7 +266,7 @@ ends_well c lost x y = loses c and subset x over
 
 -- the check of one kind of node
 unfoldable pub follows_table : Node → Bool
-follows_table c = is_node c and ok 5 (symbol c) (spot 0 low loose) (near_of c) (far_of c) (inside c) (ends_well c)
+follows_table c = is_node c and ok 5 (symbol c) (spot 0 low loose) (first_of c) (second_of c) (inside c) (ends_well c)
 
 unfoldable pub root_ends : Spot → ℕ → ℕ → Bool
 root_ends (spot q l d) x y = (closes DOCUMENT q x (behind y) and subset x over) and eqb (raised l) 0

@@ -5,11 +5,11 @@ use Rattle.std.proofs.lemmas.Result.{on_ok_weaker}
 use Rattle.parser_rules.specs.Rule.{Spread, body, call, seq, yes, no}
 use Rattle.apollo_grammar.proofs.Looks.{inlines_behind, next_behind, has_behind, some_shown, other_at}
 use Rattle.parser_rules.proofs.runs.Frame.{fewer, turned}
-use Rattle.parser_rules.proofs.runs.Progress.{takes, part_takes, at_there, one_there, taken, opened_takes, entered_left}
+use Rattle.parser_rules.proofs.runs.Progress.{consuming, at_there, one_there, taken, opened_takes, entered_left}
 use Rattle.apollo_grammar.proofs.grammar.+selection.Goals as goal
 
 pub field::field-selection_set-requires : goal.field::field-selection_set-requires
-unfolding takes part_takes
+unfolding consuming
 field::field-selection_set-requires g t c =
     let h = opened_takes kind.FIELD _ c.in_ok-start_node.ensures c.in_ok-aliased_name.ensures (at_there token.Name _ c.requires) refl in
     let k = fewer c.in_ok-arguments.ensures in
@@ -17,7 +17,7 @@ field::field-selection_set-requires g t c =
     λ κs w. (omega (arith, h, k, l, c.decreases), (w, c.if-at.ensures))
 
 pub fragment::inline_fragment-selection_set-requires : goal.fragment::inline_fragment-selection_set-requires
-unfolding takes
+unfolding consuming
 fragment::inline_fragment-selection_set-requires g t c =
     let h = opened_takes kind.INLINE_FRAGMENT _ c.in_ok-start_node.ensures c.in_ok-bump.ensures (at_there token.Spread _ c.requires) refl in
     let k = fewer c.in_ok-maybe_type_condition.ensures in
@@ -25,7 +25,7 @@ fragment::inline_fragment-selection_set-requires g t c =
     λ κs w. (omega (arith, h, k, l, c.decreases), (w, c.if-at.ensures))
 
 pub selection::selection_set-selections-requires : goal.selection::selection_set-selections-requires
-unfolding takes
+unfolding consuming
 selection::selection_set-selections-requires g t c =
     let h = opened_takes kind.SELECTION_SET _ c.in_ok-start_node.ensures c.in_ok-bump.ensures (at_there token.LCurly _ c.requires) refl in
     let k = entered_left _ c.enter.ensures in
@@ -38,7 +38,7 @@ selection::selections-selection-requires g t c =
     λ κs w. (omega (arith, h, k, c.decreases), (w, c.loop-p-test.ensures))
 
 pub selection::selections-loop-p-smaller : goal.selection::selections-loop-p-smaller
-unfolding takes part_takes
+unfolding consuming
 selection::selections-loop-p-smaller g t c = taken c.in_ok-selection.ensures (one_there token.Name token.Spread _ c.loop-p-test.ensures) refl
 
 pub selection::selection-spread-requires : goal.selection::selection-spread-requires

@@ -4,7 +4,7 @@ use Rattle.document_grammar.specs.declared.kind.SyntaxKind.TheVariants as kind
 use Rattle.std.proofs.lemmas.Result.{on_ok_weaker}
 use Rattle.parser_rules.specs.Rule.{NestedValue, ListItems, body, step, does, seq, yes, no, call, deeper, skip}
 use Rattle.parser_rules.proofs.runs.Frame.{fewer, turned, ended}
-use Rattle.parser_rules.proofs.runs.Progress.{takes, node_takes, at_there, taken, opened_takes, entered_left, item_taken}
+use Rattle.parser_rules.proofs.runs.Progress.{consuming, at_there, taken, opened_takes, entered_left, item_taken}
 use Rattle.apollo_grammar.proofs.grammar.value.+value.Goals as goal
 
 pub nested_value-value-requires : goal.nested_value-value-requires
@@ -13,7 +13,7 @@ nested_value-value-requires g t c =
     λ κs w. (omega (arith, k, c.decreases), w)
 
 pub list_value-list_items-requires : goal.list_value-list_items-requires
-unfolding takes
+unfolding consuming
 list_value-list_items-requires g t c =
     let h = opened_takes kind.LIST_VALUE _ c.in_ok-start_node.ensures c.in_ok-bump.ensures (at_there token.LBracket _ c.requires) refl in
     λ κs w. (omega (arith, h, c.decreases), w)
@@ -27,18 +27,18 @@ pub list_items-loop-p-smaller : goal.list_items-loop-p-smaller
 list_items-loop-p-smaller g t c = item_taken c.in_ok-nested_value.ensures c.loop-p-test.ensures
 
 pub object_value-object_field-requires : goal.object_value-object_field-requires
-unfolding takes
+unfolding consuming
 object_value-object_field-requires g t c =
     let h = opened_takes kind.OBJECT_VALUE _ c.in_ok-start_node.ensures c.in_ok-bump.ensures (at_there token.LCurly _ c.requires) refl in
     let k = (turned c.loop-p.invariant).fewer in
     λ κs w. (omega (arith, h, k, c.decreases), (w, c.loop-p-test.ensures))
 
 pub object_value-loop-p-smaller : goal.object_value-loop-p-smaller
-unfolding takes node_takes
+unfolding consuming
 object_value-loop-p-smaller g t c = taken c.in_ok-object_field.ensures (at_there token.Name _ c.loop-p-test.ensures) refl
 
 pub object_field-nested_value-requires : goal.object_field-nested_value-requires
-unfolding takes node_takes
+unfolding consuming
 object_field-nested_value-requires g t c =
     let h = opened_takes kind.OBJECT_FIELD _ c.in_ok-start_node.ensures c.in_ok-name.ensures (at_there token.Name _ c.requires) refl in
     let k = fewer c.in_ok-bump.ensures in
