@@ -1,4 +1,5 @@
 pub mod Steps
+pub mod Reporting
 pub mod Frame
 pub mod AtTheEnd
 pub mod Inversion

@@ -1,5 +1,5 @@
 -- Each item becomes one leaf: runs of the grammar's rules give each token a leaf of its own kind, or an ERROR.
-use Rattle.std.proofs.Common.{◌≡◌, ℕ, zero, suc, ◌-◌, Option, Some, None, List, [], ◌∷◌, ◌++◌, refl, sym, ◌∙◌, ap, ap₂, subst, true, false, Bool, if◌then◌else◌, cond, eqb, append_assoc, append-nil, not, inl, inr, eqb-true}
+use Rattle.std.proofs.Common.{◌≡◌, ℕ, zero, suc, ◌-◌, Option, Some, None, List, [], ◌∷◌, ◌++◌, refl, sym, ◌∙◌, ap, ap₂, subst, true, false, Bool, cond, eqb, append_assoc, append-nil, not, inl, inr, eqb-true}
 use Rattle.lexical_grammar.specs.declared.TokenKind.{TokenKind}
 use Rattle.lexical_grammar.specs.declared.TokenKind.TheVariants as token
 use Rattle.lexical_grammar.specs.Cut.{Item}
@@ -24,7 +24,7 @@ use Rattle.grammar_machine.proofs.Patterns.{label}
 use Rattle.grammar_machine.proofs.Rules.{leaf-rule}
 use Rattle.grammar_machine.proofs.Sound.{any, leaf-lt, leaf-ok, leaf-token}
 use Rattle.grammar_machine.proofs.Steps.{hits-fires}
-use Rattle.parser_rules.specs.State.{State, Text, Lexeme, Part, Found, ignored, bad, met, wait, read_on, second, add_all, flush, opened, closed, wrapped_from, moved, bump, found_at, fault, noted, note, is_over, enter, leave, deepened, limited_at, too_deep, at_limit, fresh, begun, finished}
+use Rattle.parser_rules.specs.State.{State, Text, Lexeme, Part, ignored, bad, met, wait, read_on, second, add_all, flush, opened, closed, wrapped_from, moved, bump, note, is_over, enter, leave, deepened, too_deep, fresh, begun, finished}
 use Rattle.parser_rules.specs.Open.{is_free, IsRoot}
 use Rattle.parser_rules.specs.Leaves.{leaves, IsLeafOf, IsLeafOfToken, OneLeafAnItem, nothing, one, the_end, the_limit}
 use Rattle.parser_rules.specs.Rule as rule
@@ -38,6 +38,7 @@ use Rattle.parser_rules.proofs.lookahead.Split.{split, split-at}
 use Rattle.parser_rules.proofs.lookahead.FirstSets.{first_in, second_of, inlined}
 use Rattle.parser_rules.proofs.leaves.LeafCheck.{is_error, belongs, bump_to, leaf_kinds, fine, leaves_belong}
 use Rattle.parser_rules.proofs.NodeChecks.{node_passes, document_leaves as document_fits}
+use Rattle.parser_rules.proofs.runs.Reporting.{after_note, after_too_deep}
 
 -- ---- the leaves of what is built
 
@@ -179,23 +180,11 @@ closes : (s : State) → Kept s (closed s)
 unfolding closed
 closes s = calm s (closed s) (ap (λ l. l ++ s.waiting) (leaves_finish s.tree)) refl refl
 
-faults : (found : Found) (index : ℕ) (s : State) → Kept s (fault found index s)
-faults found index s = elim s.accepts as (λ b. Kept s (if b then record s { errors = s.errors ++ record { found = found; index = index } ∷ [] } else s)) [
-  | true ↦ calm s (record s { errors = s.errors ++ record { found = found; index = index } ∷ [] }) refl refl refl
-  | false ↦ same s
-]
-
-notes : (s : State) (o : Option Lexeme) → Kept s (noted s o)
-notes s None = same s
-notes s (Some x) = faults (found_at x) x.index s
-
-limited : (s : State) (o : Option Lexeme) → Kept s (limited_at s o)
-limited s None = same s
-limited s (Some x) = next s (fault at_limit x.index s) (limited_at s (Some x)) (faults at_limit x.index s) (calm (fault at_limit x.index s) (limited_at s (Some x)) refl refl refl)
+notes : (s : State) → Kept s (note s)
+notes s = after_note (Kept s) s (λ errors. calm s (record s { errors = errors }) refl refl refl)
 
 deepens : (s : State) → Kept s (too_deep s)
-unfolding too_deep
-deepens s = next s (deepened s) (too_deep s) (calm s (deepened s) refl refl refl) (limited (deepened s) s.current)
+deepens s = after_too_deep (Kept s) s (λ errors accepts. calm s (record (deepened s) { errors = errors; accepts = accepts }) refl refl refl)
 
 -- ---- the tokens that are there
 
@@ -203,24 +192,11 @@ deepens s = next s (deepened s) (too_deep s) (calm s (deepened s) refl refl refl
 abbrev Same : State → State → Type 0
 Same s t = (t.current ≡ s.current) × (t.items ≡ s.items)
 
-fault-same : (found : Found) (index : ℕ) (s : State) → Same s (fault found index s)
-fault-same found index s = elim s.accepts as (λ b. Same s (if b then record s { errors = s.errors ++ record { found = found; index = index } ∷ [] } else s)) [ true ↦ (refl, refl) | false ↦ (refl, refl) ]
-
-noted-same : (s : State) (o : Option Lexeme) → Same s (noted s o)
-noted-same s None = (refl, refl)
-noted-same s (Some x) = fault-same (found_at x) x.index s
-
 note-same : (s : State) → Same s (note s)
-unfolding note
-note-same s = noted-same s s.current
-
-limited-same : (s : State) (o : Option Lexeme) → Same s (limited_at s o)
-limited-same s None = (refl, refl)
-limited-same s (Some x) = fault-same at_limit x.index s
+note-same s = after_note (Same s) s (λ errors. (refl, refl))
 
 deep-same : (s : State) → Same s (too_deep s)
-unfolding too_deep
-deep-same s = limited-same (deepened s) s.current
+deep-same s = after_too_deep (Same s) s (λ errors accepts. (refl, refl))
 
 opened-same : (k : SyntaxKind) (s t : State) → t ≡ opened k s → Same s t
 unfolding opened flush
@@ -339,7 +315,7 @@ bumped x y own k s w h i = elim (either (is_error own)) [
 
 noted_kept : (m : Message) (s : State) → Kept s (step (Note m) s)
 unfolding step note
-noted_kept m s = notes s s.current
+noted_kept m s = notes s
 
 deepened_kept : (s : State) → Kept s (step TooDeep s)
 unfolding step

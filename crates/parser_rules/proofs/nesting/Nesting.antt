@@ -1,5 +1,5 @@
 -- The greatest depth that was asked for covers what every tree nests, whatever is reported.
-use Rattle.std.proofs.Common.{◌≡◌, ℕ, zero, suc, ◌+◌, ◌-◌, ◌<◌, ◌≤◌, max, min, Bool, true, false, if◌then◌else◌, cond, eqb, leb, List, [], ◌∷◌, ◌++◌, Option, Some, None, refl, sym, ap, ap₂, ◌∙◌, subst, eqb-true, leb-true, arith}
+use Rattle.std.proofs.Common.{◌≡◌, ℕ, zero, suc, ◌+◌, ◌-◌, ◌<◌, ◌≤◌, max, min, Bool, true, false, cond, eqb, leb, List, [], ◌∷◌, ◌++◌, Option, Some, None, refl, sym, ap, ap₂, ◌∙◌, subst, eqb-true, leb-true, arith}
 use Rattle.lexical_grammar.specs.declared.TokenKind.{TokenKind}
 use Rattle.lexical_grammar.specs.declared.TokenKind.TheVariants as token
 use Rattle.lexical_grammar.specs.Answers.{Answer, gives, limit_at}
@@ -20,7 +20,7 @@ use Rattle.document_grammar.specs.Booleans.{◌and◌, ◌or◌}
 use Rattle.document_grammar.proofs.Booleans.{false-true, and-l, and-r, and-i, not-c}
 use Rattle.document_grammar.proofs.Built.{belows-append, numbered-join, count-close}
 use Rattle.document_grammar.proofs.Booleans.{cond-zero}
-use Rattle.parser_rules.specs.State.{State, Lexeme, Part, ignored, bad, met, wait, read_on, add_all, flush, opened, closed, wrapped_from, moved, bump, found_at, at_limit, noted, note, enter, leave, deepened, limited_at, too_deep, fresh, begun, finished}
+use Rattle.parser_rules.specs.State.{State, Lexeme, Part, ignored, bad, met, wait, read_on, add_all, flush, opened, closed, wrapped_from, moved, bump, note, enter, leave, too_deep, fresh, begun, finished}
 use Rattle.parser_rules.specs.Open.{IsRoot}
 use Rattle.parser_rules.specs.Rule.{Document}
 use Rattle.parser_rules.specs.Rule.{Prim, Bump, Note, TooDeep, step, Node, kind_of, inside, Rule, Do, Child, Nested, Call, Runs, skip, does, seq, yes, no, done, again, child, deeper, refused, call, plain, wrapped}
@@ -28,6 +28,7 @@ use Rattle.parser_rules.proofs.runs.Frame.{on_kind, on_item, read_untouched, add
 use Rattle.parser_rules.proofs.soundness.TableCheck.{own}
 use Rattle.parser_rules.proofs.nesting.LevelCheck.{uncounted, is_bare, weight, plain_leaf, walks, settled, levels_hold}
 use Rattle.parser_rules.proofs.NodeChecks.{node_passes, document_levels}
+use Rattle.parser_rules.proofs.runs.Reporting.{after_note, after_too_deep}
 
 weight-none : (p k : ℕ) → uncounted k ≡ true → weight p k ≡ 0
 unfolding weight
@@ -211,22 +212,16 @@ moved-level own s (Some x) u h =
     let f : State = record (flush s) { tree = add_leaf own x.text (flush s).tree } in
     record { high = ap height (read_untouched s.items f).tree ∙ (height-leaf own x.text (add_all s.waiting s.tree) u ∙ height-all s.waiting s.tree h); waits = read-waits s.items f refl }
 
-noted-level : (s : State) (o : Option Lexeme) → all_uncounted s.waiting ≡ true → Level_with s (noted s o)
-noted-level s None h = record { high = refl; waits = h }
-noted-level s (Some x) h = (elim s.accepts as (λ b. Level_with s (if b then record s { errors = s.errors ++ record { found = found_at x; index = x.index } ∷ [] } else s)) [ true ↦ record { high = refl; waits = h } | false ↦ record { high = refl; waits = h } ])
-
-limited-level : (s : State) (o : Option Lexeme) → all_uncounted s.waiting ≡ true → Level_with s (limited_at s o)
-limited-level s None h = record { high = refl; waits = h }
-limited-level s (Some x) h = (elim s.accepts as (λ b. Level_with s (record (if b then record s { errors = s.errors ++ record { found = at_limit; index = x.index } ∷ [] } else s) { accepts = false })) [ true ↦ record { high = refl; waits = h } | false ↦ record { high = refl; waits = h } ])
+note-level : (s : State) → all_uncounted s.waiting ≡ true → Level_with s (note s)
+note-level s h = after_note (Level_with s) s (λ errors. record { high = refl; waits = h })
 
 deep-level : (s : State) → all_uncounted s.waiting ≡ true → Level_with s (too_deep s)
-unfolding too_deep
-deep-level s h = let l = limited-level (deepened s) s.current h in record { high = l.high; waits = l.waits }
+deep-level s h = after_too_deep (Level_with s) s (λ errors accepts. record { high = refl; waits = h })
 
 step-level : (a : Prim) (s : State) → plain_leaf a ≡ true → all_uncounted s.waiting ≡ true → Level_with s (step a s)
-unfolding step bump note
+unfolding step bump
 step-level (Bump leaf) s u h = moved-level leaf s s.current u h
-step-level (Note m) s u h = noted-level s s.current h
+step-level (Note m) s u h = note-level s h
 step-level TooDeep s u h = deep-level s h
 
 -- ---- runs
@@ -384,13 +379,8 @@ left-held p s h = record {
 }
 
 -- the level that is refused is asked for
-asked-high : (s : State) (o : Option Lexeme) → (limited_at (deepened s) o).high ≡ max s.high (min (s.depth + 1) cap)
-asked-high s None = refl
-asked-high s (Some x) = elim s.accepts as (λ b. (if b then record (deepened s) { errors = s.errors ++ record { found = at_limit; index = x.index } ∷ [] } else deepened s).high ≡ max s.high (min (s.depth + 1) cap)) [ true ↦ refl | false ↦ refl ]
-
 refuse-high : (s : State) → (too_deep s).high ≡ max s.high (min (s.depth + 1) cap)
-unfolding too_deep
-refuse-high s = asked-high s s.current
+refuse-high s = after_too_deep (λ (t : State). t.high ≡ max s.high (min (s.depth + 1) cap)) s (λ errors accepts. refl)
 
 refuse-peak : (n n' h h' d d' o c : ℕ) → n ≤ max h (d + o) → o ≤ 1 → n' ≡ n → h' ≡ max h (min (d + 1) c) → d' ≡ d → d + 1 ≤ c → n' ≤ max h' (d' + 0)
 refuse-peak n n' h h' d d' o c a b e f g i = omega arith

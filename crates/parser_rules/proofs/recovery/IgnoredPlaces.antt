@@ -18,7 +18,7 @@ use Rattle.document_grammar.specs.Places.{ignored, bare, bares, Placed}
 use Rattle.document_grammar.specs.Booleans.{◌and◌, ◌or◌}
 use Rattle.document_grammar.proofs.Booleans.{false-true, and-i, and-l, and-r, not-c, either}
 use Rattle.document_grammar.proofs.Places.{Starts, Ends, AllTrim, placed as trim_placed}
-use Rattle.parser_rules.specs.State.{State, Lexeme, Part, Found, at_limit, found_at, read_on, add_all, flush, opened, closed, wrapped_from, moved, bump, fault, noted, note, deepened, limited_at, too_deep, enter, leave, fresh, begun, finished}
+use Rattle.parser_rules.specs.State.{State, Lexeme, Part, read_on, add_all, flush, opened, closed, wrapped_from, moved, bump, note, deepened, too_deep, enter, leave, fresh, begun, finished}
 use Rattle.parser_rules.specs.Rule.{Prim, Bump, Note, TooDeep, step, kind_of, Document, inside, body, Rule, Do, Call, Runs, skip, does, seq, yes, no, done, again, child, deeper, refused, call, plain, wrapped}
 use Rattle.parser_rules.specs.Open.{IsRoot}
 use Rattle.parser_rules.proofs.recovery.RecoveryCheck.{builds, tidy}
@@ -27,6 +27,7 @@ use Rattle.parser_rules.proofs.runs.Frame.{read_untouched, parts_forest, add_all
 use Rattle.parser_rules.proofs.reports.NoReport.{EndsWell}
 use Rattle.parser_rules.proofs.soundness.Settled.{fit-tail}
 use Rattle.parser_rules.proofs.soundness.Soundness.{clean}
+use Rattle.parser_rules.proofs.runs.Reporting.{after_note, after_too_deep}
 
 -- ---- lists of trees
 
@@ -148,21 +149,6 @@ bumps k s i = at s.current
         let e = (read_untouched s.items u).tree in
         weaken true s (read_on s.items u) (one-more s (read_on s.items u) (built.leaf k t.text built.none) (ap (λ (b : Building). b.above) e ∙ add_all_above s.waiting s.tree) (ap (λ (b : Building). b.here) e) refl (rw i refl) (λ b. rw i refl) (no-leaf k t.text))
 
-fault-same : (found : Found) (index : ℕ) (s : State) → Same s (fault found index s)
-fault-same found index s = elim s.accepts as (λ b. Same s (if b then record s { errors = s.errors ++ record { found = found; index = index } ∷ [] } else s)) [ true ↦ (refl, refl) | false ↦ (refl, refl) ]
-
-noted-same : (o : Option Lexeme) (s : State) → Same s (noted s o)
-noted-same None s = (refl, refl)
-noted-same (Some x) s = fault-same (found_at x) x.index s
-
-limited-same : (o : Option Lexeme) (s : State) → Same s (limited_at s o)
-limited-same None s = (refl, refl)
-limited-same (Some x) s = let h = fault-same at_limit x.index s in (h.0, h.1)
-
-deep-same : (s : State) → Same s (too_deep s)
-unfolding too_deep
-deep-same s = let h = limited-same s.current (deepened s) in (h.0, h.1)
-
 -- a node around what is built in it
 nodes : (k : SyntaxKind) (b : Bool) (s u : State) → Builds b (opened k s) u → Builds true s (closed u)
 unfolding opened closed flush
@@ -205,11 +191,17 @@ wraps k a b s u w h l =
 
 -- ---- the check of the rules
 
+notes : (s : State) → Builds false s (note s)
+notes s = after_note (Builds false s) s (λ errors. same s (record s { errors = errors }) (refl, refl))
+
+deepens : (s : State) → Builds false s (too_deep s)
+deepens s = after_too_deep (Builds false s) s (λ errors accepts. same s (record (deepened s) { errors = errors; accepts = accepts }) (refl, refl))
+
 steps : (n : ℕ) (a : Prim) (s : State) → tidy n (Do a) ≡ true → Builds false s (step a s)
-unfolding step note tidy
+unfolding step tidy
 steps n (Bump own) s h = bumps own s (not-c _ h)
-steps n (Note m) s h = same s (note s) (noted-same s.current s)
-steps n TooDeep s h = same s (too_deep s) (deep-same s)
+steps n (Note m) s h = notes s
+steps n TooDeep s h = deepens s
 
 of-two : (a b : Bool) {s t : State} {c : Bool} → (c ≡ true → a ≡ true) → Builds a s t → Builds c s t
 of-two a b f h = record { above = h.above; more = h.more; here = h.here; inner = h.inner; starts = h.starts; idle = h.idle; ends = h.ends; some = λ z. h.some (f z) }
@@ -233,7 +225,7 @@ built_by {s = s} (again {t = t} {u = u} q j k) n h = then_on _ _ s t u (built_by
 built_by {s = s} (child {n = c} {t = t} {u = u} e k j) n h = subst (λ (z : State). Builds true s z) (sym k) (nodes (kind_of c) (builds (inside c)) s u (subst (λ (z : State). Builds (builds (inside c)) z u) e (built_by j 5 (node_passes c).ignored)))
 built_by {s = s} {t = w} (deeper {a = a} {b = b} {t = t} {u = u} {v = v} q e k j i) n h =
     then_on (builds a) (builds b) s v w (levelled (builds a) s t u v e k (built_by j n (and-l _ _ h))) (built_by i n (and-r _ _ h))
-built_by {s = s} (refused q e) n h = subst (λ (z : State). Builds false s z) (sym e) (same s (too_deep s) (deep-same s))
+built_by {s = s} (refused q e) n h = subst (λ (z : State). Builds false s z) (sym e) (deepens s)
 built_by (call j) zero h = false-true refl h
 built_by {s = s} {t = t} (call {p = p} j) (suc n) h = weaken (builds (body p)) s t (built_by j n h)
 built_by {s = s} {t = u} (plain {a = a} {t = t} e j m) n h = weaken true s u (typed s u (subst (λ (b : Bool). Builds b (flush s) u) (and-l _ _ h) (subst (λ (z : State). Builds (builds a) z u) e (built_by j n (and-r _ _ h)))))

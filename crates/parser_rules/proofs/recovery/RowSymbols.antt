@@ -1,5 +1,5 @@
 -- Whatever is reported, a node's children are symbols of its row, but for ignored, ERROR and SPREAD leaves: a computed check of the rules.
-use Rattle.std.proofs.Common.{◌≡◌, ℕ, zero, suc, Bool, true, false, eqb, ltb, if◌then◌else◌, List, [], ◌∷◌, ◌++◌, Option, Some, None, refl, sym, ap, ◌∙◌, subst}
+use Rattle.std.proofs.Common.{◌≡◌, ℕ, zero, suc, Bool, true, eqb, ltb, List, [], ◌∷◌, ◌++◌, Option, Some, None, refl, sym, ap, ◌∙◌, subst}
 use Rattle.lexical_grammar.specs.declared.TokenKind.{TokenKind}
 use Rattle.lexical_grammar.specs.Answers.{Answer, gives, limit_at}
 use Rattle.document_grammar.specs.declared.kind.SyntaxKind.{SyntaxKind}
@@ -9,15 +9,15 @@ use Rattle.document_grammar.specs.Kinds.{ERROR}
 use Rattle.document_grammar.specs.Forests as built
 use Rattle.document_grammar.specs.Builds.{Building, add_leaf, built_count}
 use Rattle.document_grammar.proofs.Joins.{join-none, join_assoc}
-use Rattle.document_grammar.specs.Pattern.{◌then◌}
 use Rattle.document_grammar.specs.Booleans.{◌and◌, ◌or◌}
 use Rattle.document_grammar.proofs.Booleans.{false-true, and-i, and-l, and-r}
-use Rattle.parser_rules.specs.State.{State, Lexeme, Part, Found, at_limit, found_at, ignored, met, wait, bad, read_on, add_all, flush, opened, closed, wrapped_from, moved, bump, fault, noted, note, deepened, limited_at, too_deep, enter, leave, fresh, begun}
+use Rattle.parser_rules.specs.State.{State, Lexeme, Part, ignored, met, wait, bad, read_on, add_all, flush, opened, closed, wrapped_from, moved, bump, note, deepened, too_deep, enter, leave, fresh, begun}
 use Rattle.parser_rules.specs.Rule.{Prim, Bump, Note, TooDeep, step, kind_of, Document, Rule, Do, Call, Runs, skip, does, seq, yes, no, done, again, child, deeper, refused, call, plain, wrapped}
 use Rattle.parser_rules.proofs.reports.NoReport.{ignored-leaf}
 use Rattle.parser_rules.proofs.recovery.RecoveryCheck.{of_row, leaf_of_row, fits_in, keeps_row}
 use Rattle.parser_rules.proofs.NodeChecks.{node_passes, document_row}
 use Rattle.parser_rules.proofs.runs.Frame.{read_untouched, on_kind, on_item, parts_forest, add_all_above, add_all_here, closed_here, wrap_added}
+use Rattle.parser_rules.proofs.runs.Reporting.{after_note, after_too_deep}
 
 -- the children of a node of the kind, and those below
 abbrev pub rowed : SyntaxKind → built.Forest → Bool
@@ -110,21 +110,6 @@ bumps k own s i = at s.current
         let e = (read_untouched s.items u).tree in
         one-more k s (read_on s.items u) (built.leaf own t.text built.none) (ap (λ (b : Building). b.above) e ∙ add_all_above s.waiting s.tree) (ap (λ (b : Building). b.here) e) (λ z. (and-i i refl, read-aside s.items u refl))
 
-fault-same : (found : Found) (index : ℕ) (s : State) → Same s (fault found index s)
-fault-same found index s = elim s.accepts as (λ b. Same s (if b then record s { errors = s.errors ++ record { found = found; index = index } ∷ [] } else s)) [ true ↦ (refl, refl) | false ↦ (refl, refl) ]
-
-noted-same : (o : Option Lexeme) (s : State) → Same s (noted s o)
-noted-same None s = (refl, refl)
-noted-same (Some x) s = fault-same (found_at x) x.index s
-
-limited-same : (o : Option Lexeme) (s : State) → Same s (limited_at s o)
-limited-same None s = (refl, refl)
-limited-same (Some x) s = let h = fault-same at_limit x.index s in (h.0, h.1)
-
-deep-same : (s : State) → Same s (too_deep s)
-unfolding too_deep
-deep-same s = let h = limited-same s.current (deepened s) in (h.0, h.1)
-
 nodes : (k j : SyntaxKind) (s u : State) → of_row k j ≡ true → Adds_rowed j (opened j s) u → Adds_rowed k s (closed u)
 unfolding opened closed flush
 nodes k j s u i h =
@@ -149,11 +134,17 @@ wraps k j s u w i h l =
     one-more k s (closed w) (built.node j (built.join h.more l.more) built.none) (ap (λ (b : Building). b.above) f ∙ add_all_above s.waiting s.tree) (ap (λ (b : Building). b.here) f ∙ ap (λ (g : built.Forest). built.join t.here (built.node j g built.none)) kids)
     (λ z. let a = h.fits refl in let b = l.fits a.1 in (and-i (and-i i (rowed-join j h.more l.more a.0 b.0)) refl, b.1))
 
+notes : (k : SyntaxKind) (s : State) → Adds_rowed k s (note s)
+notes k s = after_note (Adds_rowed k s) s (λ errors. same k s (record s { errors = errors }) (refl, refl))
+
+deepens : (k : SyntaxKind) (s : State) → Adds_rowed k s (too_deep s)
+deepens k s = after_too_deep (Adds_rowed k s) s (λ errors accepts. same k s (record (deepened s) { errors = errors; accepts = accepts }) (refl, refl))
+
 steps : (n : ℕ) (k : SyntaxKind) (a : Prim) (s : State) → fits_in n k (Do a) ≡ true → Adds_rowed k s (step a s)
-unfolding step note fits_in
+unfolding step fits_in
 steps n k (Bump own) s h = bumps k own s h
-steps n k (Note m) s h = same k s (note s) (noted-same s.current s)
-steps n k TooDeep s h = same k s (too_deep s) (deep-same s)
+steps n k (Note m) s h = notes k s
+steps n k TooDeep s h = deepens k s
 
 levelled : (k : SyntaxKind) (s t u v : State) → t ≡ enter s → v ≡ leave u → Adds_rowed k t u → Adds_rowed k s v
 unfolding enter leave
@@ -173,7 +164,7 @@ rowed_by {s = s} (done q) n k h = same k s s (refl, refl)
 rowed_by {s = s} (again {t = t} {u = u} q i j) n k h = then_on k s t u (rowed_by i n k h) (rowed_by j n k h)
 rowed_by {s = s} (child {n = c} {t = t} {u = u} e l i) n k h = subst (λ (z : State). Adds_rowed k s z) (sym l) (nodes k (kind_of c) s u h (subst (λ (z : State). Adds_rowed (kind_of c) z u) e (rowed_by i 5 (kind_of c) (node_passes c).row)))
 rowed_by {s = s} {t = w} (deeper {t = t} {u = u} {v = v} q e l i j) n k h = then_on k s v w (levelled k s t u v e l (rowed_by i n k (and-l _ _ h))) (rowed_by j n k (and-r _ _ h))
-rowed_by {s = s} (refused q e) n k h = subst (λ (z : State). Adds_rowed k s z) (sym e) (same k s (too_deep s) (deep-same s))
+rowed_by {s = s} (refused q e) n k h = subst (λ (z : State). Adds_rowed k s z) (sym e) (deepens k s)
 rowed_by (call i) zero k h = false-true refl h
 rowed_by (call i) (suc n) k h = rowed_by i n k h
 rowed_by {s = s} {t = u} (plain {t = t} e i m) n k h = then_on k s t u (subst (λ (z : State). Adds_rowed k s z) (sym e) (flushed k s)) (rowed_by i n k (and-l _ _ (and-l _ _ h)))

@@ -1,14 +1,15 @@
 -- What surely reads on: rules that take the token that is there.
-use Rattle.std.proofs.Common.{◌≡◌, ℕ, suc, ◌<◌, Option, Some, None, [], ◌∷◌, ◌++◌, refl, sym, ◌∙◌, ap, subst, arith, true, false, Bool, not, ◌&&◌, ◌||◌, if◌then◌else◌, inl, inr, true≢false}
+use Rattle.std.proofs.Common.{◌≡◌, ℕ, suc, ◌<◌, Option, Some, None, refl, sym, ◌∙◌, ap, subst, arith, true, false, Bool, not, ◌&&◌, ◌||◌, inl, inr, true≢false}
 use Rattle.lexical_grammar.specs.declared.TokenKind.{TokenKind}
 use Rattle.lexical_grammar.specs.declared.TokenKind.TheVariants as token
 use Rattle.document_grammar.specs.declared.kind.SyntaxKind.{SyntaxKind}
 use Rattle.document_grammar.specs.Booleans.{◌and◌, ◌or◌}
 use Rattle.document_grammar.proofs.Booleans.{and-l, and-r, either}
-use Rattle.parser_rules.specs.State.{State, Lexeme, Found, flush, opened, closed, moved, bump, fault, found_at, noted, note, is_at, is_over, is_deep, enter, leave}
+use Rattle.parser_rules.specs.State.{State, Lexeme, flush, opened, closed, moved, bump, is_at, is_over, is_deep, enter, leave}
 use Rattle.parser_rules.specs.Rule.{At, Ready, Either, holds, Prim, Bump, Note, step, kind_of, ValueOf, NestedValue, has_item, inside, body, Rule, Skip, Do, Seq, When, Child, Nested, Call, Runs, skip, does, seq, yes, no, child, deeper, refused, call}
 use Rattle.parser_rules.specs.declared.message.Message.{Message}
 use Rattle.parser_rules.proofs.runs.Frame.{left, moved_left, fewer}
+use Rattle.parser_rules.proofs.runs.Reporting.{after_note}
 
 -- behind the rule the token that was there is still there
 abbrev pub stays : Rule → Bool
@@ -91,17 +92,9 @@ closed_left s e = ap left e
 abbrev pub Unread : State → State → Type 0
 Unread s t = (t.current ≡ s.current) × (left t ≡ left s)
 
-fault_unread : (found : Found) (index : ℕ) (s : State) → Unread s (fault found index s)
-unfolding left
-fault_unread found index s = elim s.accepts as (λ b. Unread s (if b then record s { errors = s.errors ++ record { found = found; index = index } ∷ [] } else s)) [ true ↦ (refl, refl) | false ↦ (refl, refl) ]
-
-noted_unread : (o : Option Lexeme) (s : State) → Unread s (noted s o)
-noted_unread None s = (refl, refl)
-noted_unread (Some x) s = fault_unread (found_at x) x.index s
-
 note_unread : (m : Message) (s : State) {t : State} → t ≡ step (Note m) s → Unread s t
-unfolding step note left
-note_unread m s e = subst (λ w. Unread s w) (sym e) (noted_unread s.current s)
+unfolding step left
+note_unread m s e = subst (λ w. Unread s w) (sym e) (after_note (Unread s) s (λ errors. (refl, refl)))
 
 pub stayed : {a : Rule} {s t : State} → Runs a s t → stays a ≡ true → Unread s t
 stayed skip e = (refl, refl)
