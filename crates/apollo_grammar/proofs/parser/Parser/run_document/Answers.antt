@@ -18,7 +18,7 @@ finish-requires g c =
     let run = subst (λ s. Runs (Call Document) s c.document.new.p) c.in_ok-p.ensures c.in_ok-document.ensures in
     record {
       open_root = root_kept xs r kind.DOCUMENT refl run;
-      kind = ap (λ f. is_kind kind.DOCUMENT (root_kind f)) (finished_node c.document.new.p kind.DOCUMENT (root_stays xs r kind.DOCUMENT run))
+      kind = ap (λ f. is_kind kind.DOCUMENT (root_kind f)) (finished_node c.document.new.p kind.DOCUMENT (root_stays xs r kind.DOCUMENT run));
     }
 
 pub returns : goal.returns
@@ -28,7 +28,7 @@ returns g c =
     let source = c.args.self.source.now in
     let s = c.document.new.p in
     let run =
-        subst (λ xs. Runs (Call Document) (begun xs r kind.DOCUMENT) s) c.lexer.ensures.answers (subst (λ b. Runs (Call Document) b s) c.in_ok-p.ensures c.in_ok-document.ensures) in
+    subst (λ xs. Runs (Call Document) (begun xs r kind.DOCUMENT) s) c.lexer.ensures.answers (subst (λ b. Runs (Call Document) b s) c.in_ok-p.ensures c.in_ok-document.ensures) in
     record {
       last = s;
       cut = c.lexer.ensures.cut;
@@ -37,5 +37,5 @@ returns g c =
       counted = c.in_ok-tree.ensures.counted;
       errors = c.in_ok-tree.ensures.errors;
       recursion_limit = c.in_ok-tree.ensures.recursion_limit;
-      token_limit = c.in_ok-tree.ensures.token_limit (run_read k r source s c.lexer.ensures.cut run)
+      token_limit = c.in_ok-tree.ensures.token_limit (run_read k r source s c.lexer.ensures.cut run);
     }
