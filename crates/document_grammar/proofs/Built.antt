@@ -164,9 +164,6 @@ back-join built.none g = refl
 back-join (built.leaf k s rest) g = back-join rest g
 back-join (built.node k kids rest) g = ap (λ (n : ℕ). back n (built.join rest g)) (less_first (built.count kids) (built.count rest)) ∙ back-join rest g
 
-pub bares-front_back : (n : ℕ) (f : built.Forest) → bares (numbered f) ≡ bares (numbered (front n f)) +++ bares (numbered (back n f))
-bares-front_back n f = ap (λ (g : built.Forest). bares (numbered g)) (sym (join-front_back n f)) ∙ bares-numbered-join (front n f) (back n f)
-
 -- A node that is closed is an element as it was when it was open.
 closed_count : (o b i j : ℕ) → j ≡ b + suc (i + 0) → o + j ≡ (o + suc b) + i
 closed_count o b i j e = omega arith

@@ -1,8 +1,8 @@
 -- The numbers of the kinds: each is the number under the kind's name, and no two kinds have the same.
-use Rattle.std.proofs.Common.{◌≡◌, ℕ, List, [], ◌∷◌, get_or, map, refl, sym, ap, ◌∙◌, true, eqb-true}
+use Rattle.std.proofs.Common.{◌≡◌, ℕ, List, [], ◌∷◌, get_or, map, refl, sym, ap, ◌∙◌}
 use Rattle.document_grammar.specs.declared.kind.SyntaxKind.{SyntaxKind}
 use Rattle.document_grammar.specs.declared.kind.SyntaxKind.TheVariants as kind
-use Rattle.document_grammar.specs.Numbers.{number, is_kind}
+use Rattle.document_grammar.specs.Numbers.{number}
 use Rattle.document_grammar.specs.Kinds.{WHITESPACE, COMMENT, COMMA, ERROR, BANG, DOLLAR, AMP, SPREAD, COLON, EQ, AT, L_PAREN, R_PAREN, L_BRACK, R_BRACK, L_CURLY, R_CURLY, PIPE, IDENT, INT, FLOAT, STRING, query_KW, mutation_KW, subscription_KW, fragment_KW, on_KW, true_KW, false_KW, null_KW, extend_KW, schema_KW, scalar_KW, type_KW, interface_KW, union_KW, enum_KW, input_KW, directive_KW, implements_KW, repeatable_KW, QUERY_KW, MUTATION_KW, SUBSCRIPTION_KW, FIELD_KW, FRAGMENT_DEFINITION_KW, FRAGMENT_SPREAD_KW, INLINE_FRAGMENT_KW, VARIABLE_DEFINITION_KW, SCHEMA_KW, SCALAR_KW, OBJECT_KW, FIELD_DEFINITION_KW, ARGUMENT_DEFINITION_KW, INTERFACE_KW, UNION_KW, ENUM_KW, ENUM_VALUE_KW, INPUT_OBJECT_KW, INPUT_FIELD_DEFINITION_KW, DOCUMENT, OPERATION_DEFINITION, OPERATION_TYPE, SELECTION_SET, FIELD, ALIAS, NAME, FRAGMENT_SPREAD, INLINE_FRAGMENT, FRAGMENT_DEFINITION, FRAGMENT_NAME, TYPE_CONDITION, ARGUMENTS, ARGUMENT, DIRECTIVES, DIRECTIVE, VARIABLE_DEFINITIONS, VARIABLE_DEFINITION, VARIABLE, DEFAULT_VALUE, INT_VALUE, FLOAT_VALUE, STRING_VALUE, BOOLEAN_VALUE, NULL_VALUE, ENUM_VALUE, LIST_VALUE, OBJECT_VALUE, OBJECT_FIELD, NAMED_TYPE, LIST_TYPE, NON_NULL_TYPE, DESCRIPTION, SCHEMA_DEFINITION, ROOT_OPERATION_TYPE_DEFINITION, SCALAR_TYPE_DEFINITION, OBJECT_TYPE_DEFINITION, IMPLEMENTS_INTERFACES, FIELDS_DEFINITION, FIELD_DEFINITION, ARGUMENTS_DEFINITION, INPUT_VALUE_DEFINITION, INTERFACE_TYPE_DEFINITION, UNION_TYPE_DEFINITION, UNION_MEMBER_TYPES, ENUM_TYPE_DEFINITION, ENUM_VALUES_DEFINITION, ENUM_VALUE_DEFINITION, INPUT_OBJECT_TYPE_DEFINITION, INPUT_FIELDS_DEFINITION, DIRECTIVE_DEFINITION, DIRECTIVE_LOCATIONS, DIRECTIVE_LOCATION, SCHEMA_EXTENSION, SCALAR_TYPE_EXTENSION, OBJECT_TYPE_EXTENSION, INTERFACE_TYPE_EXTENSION, UNION_TYPE_EXTENSION, ENUM_TYPE_EXTENSION, INPUT_OBJECT_TYPE_EXTENSION}
 use Rattle.std.specs.Prelude.{Bool, false, ◌||◌, if◌then◌else◌}
 use Rattle.document_grammar.specs.Pattern.{Pattern, any_of, nothing, ◌then◌, ◌or_else◌, many, member}
@@ -294,6 +294,3 @@ kind_of-number _ = refl
 
 pub number-same : (k l : SyntaxKind) → number k ≡ number l → k ≡ l
 number-same k l e = sym (kind_of-number k) ∙ ap kind_of e ∙ kind_of-number l
-
-pub is_kind-same : (k l : SyntaxKind) → is_kind k l ≡ true → l ≡ k
-is_kind-same k l e = number-same l k (eqb-true (number l) (number k) e)

@@ -1,14 +1,14 @@
 -- A text has at most one cut without bad text, so a sentence has one derivation. And what is said of texts, said of their tokens.
-use Rattle.std.proofs.Common.{◌≡◌, ℕ, true, List, [], ◌∷◌, map, refl, sym, ap, ap₂, ◌∙◌, inl, inr, true≢false}
+use Rattle.std.proofs.Common.{◌≡◌, ℕ, true, List, [], ◌∷◌, refl, sym, ap, ap₂, ◌∙◌, inl, inr, true≢false}
 use Rattle.std.proofs.lemmas.Bool.{and_parts}
 use Rattle.std.specs.Prelude.{is_some}
-use Rattle.lexical_grammar.specs.Cut.{Item, Cut, Significant}
+use Rattle.lexical_grammar.specs.Cut.{Item, Cut}
 use Rattle.lexical_grammar.specs.Begins.{are_tokens}
 use Rattle.lexical_grammar.specs.Agreement.{Agree}
 use Rattle.lexical_grammar.proofs.Agree.{agree}
 use Rattle.document_grammar.specs.Tree.{Tree}
-use Rattle.document_grammar.specs.Derivation.{Sort, document, Spells, Yield, Mark, Starts, StartsWithin}
-use Rattle.document_grammar.specs.Sentence.{token_of, Sentence, FirstSentence, StartSentence, StartSentenceWithin}
+use Rattle.document_grammar.specs.Derivation.{Sort, document, Yield, Mark, Starts, StartsWithin}
+use Rattle.document_grammar.specs.Sentence.{Sentence, FirstSentence, StartSentence, StartSentenceWithin}
 use Rattle.document_grammar.proofs.FirstProfile.{derivation-kept}
 
 agree-same : (items others : List Item) → Agree items others → are_tokens items ≡ true → items ≡ others
@@ -24,9 +24,6 @@ agree-same (item ∷ items) (other ∷ others) a h =
 
 pub one-cut : (source : List ℕ) (items others : List Item) → Cut source items → Cut source others → are_tokens items ≡ true → items ≡ others
 one-cut source items others c d h = agree-same items others (agree items others 0 c.each d.each (c.joined ∙ sym d.joined)) h
-
-pub sentence-spells : (source : List ℕ) (t : Tree) (sort : Sort) (s : Sentence source t sort) → Spells (map token_of (Significant s.items)) t sort
-sentence-spells source t sort s = (s.derivation, s.yield)
 
 pub first-sentence : (source : List ℕ) (t : Tree) (sort : Sort) → FirstSentence source t sort → Sentence source t sort
 first-sentence source t sort s =

@@ -85,12 +85,6 @@ label-type = refl
 abbrev pub Part : ℕ → Tree → Type 0
 Part j t = weight j (root (show t)) + below (show t) ≡ weight j (label (root t)) + nesting t
 
-part-max : (a b c d e f : ℕ) → a + b ≡ c + d → e ≡ f → max (a + b) e ≡ max (c + d) f
-part-max a b c d e f p q = omega arith
-
-type-one : (j w m n v : ℕ) → j ≡ w → w + m ≡ v + n → j + m ≡ 0 + max (v + n) 0
-type-one j w m n v e p = omega arith
-
 type-part : (j : ℕ) (f : Forest) → OkFrom TYPE 0 f → belows NAMED_TYPE (shows f) ≡ nestings TYPE f
     → weight j (root (type_of (shows f))) + below (type_of (shows f)) ≡ weight j NAMED_TYPE + nestings TYPE f
 unfolding weight

@@ -2,7 +2,7 @@
 -- second token. For the recursion limit: each tree whose tokens begin with those read and the next one has these nodes open there.
 use Rattle.std.proofs.Common.{◌≡◌, ℕ, ◌+◌, true, List, [], ◌∷◌, ◌++◌, refl, sym, ◌∙◌, subst, IsTrue, IsFalse, append_assoc}
 use Rattle.document_grammar.specs.Tree.{Token, Tree, leaf, node, Forest, none, ◌▸◌, ◌+++◌}
-use Rattle.grammar_machine.specs.Machine.{holds, is_leaf, exit, target, go, move, first, second, Frame, frame, Reach, start, shift, open', closed}
+use Rattle.grammar_machine.specs.Machine.{holds, is_leaf, exit, target, go, move, first, second, Frame, frame, Reach, shift, open', closed}
 use Rattle.grammar_machine.proofs.Run.{Left, reach-other}
 use Rattle.grammar_machine.proofs.Sound.{any, second-any}
 use Rattle.grammar_machine.proofs.Steps.{goes, closes, goes-move, closes-move}
@@ -12,9 +12,6 @@ pub record Firm (s0 : ℕ) (w : List Token) (fs : List Frame) (r : List Token) :
   pub before : List Token
   pub split : w ≡ before ++ r
   pub firm : (v : List Token) → first r ≡ first v → Reach s0 (before ++ v) fs v
-
-pub firm-start : (s0 : ℕ) (w : List Token) → Firm s0 w (frame s0 0 none ∷ []) w
-firm-start s0 w = record { before = []; split = refl; firm = λ v e. start }
 
 pub firm-shift : {s0 : ℕ} {w : List Token} {s q l : ℕ} {f : Forest} {fs : List Frame} {a : Token} {r : List Token}
     → Reach s0 w (frame s q f ∷ fs) (a ∷ r) → move s q (first (a ∷ r)) (second (a ∷ r)) ≡ go l → IsTrue (is_leaf l)
@@ -46,9 +43,6 @@ firm-close {k = k} {p = p} {r = r} x c t h = record {
   split = c.split;
   firm = λ v e. closed (c.firm v e) (closes-move k p x any (first v) (second v) t (rw e at h) (second-any v));
 }
-
-pub firm-reach : {s0 : ℕ} {w : List Token} {fs : List Frame} {r : List Token} → Firm s0 w fs r → Reach s0 w fs r
-firm-reach {s0} {fs = fs} {r = r} c = subst (λ (z : List Token). Reach s0 z fs r) (sym c.split) (c.firm r refl)
 
 -- Each tree whose tokens begin with those read and the next one has the open nodes as its left part.
 pub firm-left : (s0 : ℕ) (b : begins_parse s0 ≡ true) (w : List Token) (fs : List Frame) (r : List Token) (c : Firm s0 w fs r) (v : List Token) (t : Tree)

@@ -1,22 +1,18 @@
 -- The theorems on sentences, for each sort of them.
-use Rattle.std.proofs.Common.{◌≡◌, ℕ, true, false, ◌+◌, ◌<◌, ◌≤◌, List, [], ◌∷◌, ◌++◌, map, sym, ap, ◌∙◌, subst, arith}
+use Rattle.std.proofs.Common.{◌≡◌, ℕ, List, [], ◌∷◌, ◌++◌, map, sym, ap, ◌∙◌, subst}
 use Rattle.document_grammar.specs.Sentence.{token_of, Sentence}
 use Rattle.document_grammar.proofs.Texts.{one-cut}
 use Rattle.lexical_grammar.specs.Cut.{Item, Significant}
-use Rattle.document_grammar.specs.Tree.{Token, Tree, node, Forest, none}
-use Rattle.grammar_machine.specs.Machine.{holds, is_leaf, first, second, yield, yields, opening, close, Frame, frame, Reach}
-use Rattle.document_grammar.specs.Derivation.{AllFit, Sort, Spells, Yield, nest, Starts, StartsWithin}
-use Rattle.grammar_machine.proofs.Run.{next, Left}
-use Rattle.grammar_machine.proofs.FromMachineTree.{show, shows}
-use Rattle.grammar_machine.proofs.Constants.{path-fits, show-yield, parse-sentence}
+use Rattle.document_grammar.specs.Tree.{Token, Tree, node, Forest}
+use Rattle.grammar_machine.specs.Machine.{first, second, yield, yields, opening, close, Frame, frame, Reach}
+use Rattle.document_grammar.specs.Derivation.{Sort, Spells, Yield, Starts}
+use Rattle.grammar_machine.proofs.Run.{next}
+use Rattle.grammar_machine.proofs.FromMachineTree.{show}
+use Rattle.grammar_machine.proofs.Constants.{show-yield, parse-sentence}
 use Rattle.grammar_machine.proofs.ToMachineTree.{derivation-read}
-use Rattle.grammar_machine.proofs.MachineTheorems.{Parse, one_tree, done, done-all, Fault, no_fault, no-leaf, can-end, on-the-way}
-use Rattle.grammar_machine.proofs.Sound.{any, Sound, reach-sound, AllSpelt, viable, spent, reach-spent}
-use Rattle.grammar_machine.proofs.Steps.{goes}
-use Rattle.grammar_machine.proofs.Starts.{opens, opens-by, first-same, read, next_one, next_two, after-one, after-two}
-use Rattle.grammar_machine.proofs.OneTokenLookahead.{Firm, firm-open, firm-left}
-use Rattle.grammar_machine.proofs.Peak.{peak, peak-end}
-use Rattle.grammar_machine.proofs.Depth.{count_in, depth_above, depth, left-depth, nest-show, nesting_all}
+use Rattle.grammar_machine.proofs.MachineTheorems.{Parse, one_tree, done, done-all, Fault, no_fault, no-leaf, can-end}
+use Rattle.grammar_machine.proofs.Sound.{AllSpelt, viable, spent, reach-spent}
+use Rattle.grammar_machine.proofs.Starts.{opens, opens-by, first-same, read, next_two, after-two}
 
 -- The start symbol for the tokens.
 abbrev pub start_symbol : Sort → List Token → ℕ
@@ -97,54 +93,6 @@ pub not-starts : (sort : Sort) (w r : List Token) (k : FaultIn sort w r) → Sta
 not-starts sort w r k h =
     let a = after-two k.before r h.0 h.2 h.4 in
     not-early sort w r k a.0 h.1 (subst (λ (z : List Token). Spells z h.1 sort) a.1 h.3) a.2 a.3
-
--- No early limit: where more than `n` counted nodes are open, no sentence of a nesting of at most `n` goes on with the next token.
-too-deep : (n a b c : ℕ) → n < a → a ≤ b → c ≡ b → c ≤ n → ⊥
-too-deep n a b c h i e j = omega arith
-
-pub not-within : (sort : Sort) (n : ℕ) (w : List Token) (fs : List Frame) (r : List Token) (c : Firm (start_symbol sort w) w fs r) → n < depth fs
-    → StartsWithin sort n (read c.before ++ next_one r) → ⊥
-not-within sort n w fs r c d h =
-    let a = after-one c.before r h.0 h.2 h.4 in
-    let p = sentence-parse sort (c.before ++ a.0) h.1 (subst (λ (z : List Token). Spells z h.1 sort) a.1 h.3) in
-    let q = same-start sort w c.before r a.0 p.0 c.split a.2 p.1 in
-    let l : Left fs a.0 p.0 = firm-left (start_symbol sort w) (opens sort (first w)) w fs r c a.0 p.0 q a.2 in
-    too-deep n (depth fs) _ (nest h.1) d (left-depth fs a.0 p.0 l) (ap nest (sym p.2) ∙ nest-show p.0 q.0) h.5
-
--- Over a sentence never more counted nodes are open than its derivation nests: so no limit that it keeps is met.
-pub depth-within : (sort : Sort) (w : List Token) (t : Tree) (fs : List Frame) (r : List Token) → Spells w t sort → Reach (start_symbol sort w) w fs r
-    → depth fs ≤ nest t
-depth-within sort w t fs r h c =
-    let p = sentence-parse sort w t h in
-    let l : Left fs r p.0 = on-the-way (start_symbol sort w) (opens sort (first w)) p.0 w fs r p.1 c in
-    let d : depth fs ≤ nesting_all p.0 = left-depth fs r p.0 l in
-    subst (λ (n : ℕ). depth fs ≤ n) (sym (nest-show p.0 p.1.0) ∙ ap nest p.2) d
-
--- The same where a counted node of the symbol `k` begins with the next token.
-pub at-limit : (sort : Sort) (n : ℕ) (w : List Token) (s q x k : ℕ) (f : Forest) (fs : List Frame) (r : List Token) (c : Firm (start_symbol sort w) w (frame s q f ∷ fs) r)
-    → goes s q x any k ≡ true → is_leaf k ≡ false → holds (first r) x ≡ true → n < depth_above fs s + count_in s k
-    → StartsWithin sort n (read c.before ++ next_one r) → ⊥
-unfolding firm-open
-at-limit sort n w s q x k f fs r c t i h d = not-within sort n w (frame k 0 none ∷ frame s q f ∷ fs) r (firm-open x k c t i h) d
-
--- The closed nodes fit their rows, whatever follows.
-abbrev pub ClosedFit : List Frame → Type 0
-ClosedFit [] = Unit {0}
-ClosedFit (frame s q f ∷ fs) = AllFit (shows f) × ClosedFit fs
-
-sound-fit : (s0 : ℕ) (fs : List Frame) → Sound s0 fs → ClosedFit fs
-sound-fit s0 [] h = tt
-sound-fit s0 (frame s q f ∷ fs) h = (path-fits s 0 q f h.0 h.1, sound-fit s0 fs h.3)
-
-pub closed-fit : (sort : Sort) (w : List Token) (fs : List Frame) (r : List Token) → Reach (start_symbol sort w) w fs r → ClosedFit fs
-closed-fit sort w fs r c = sound-fit (start_symbol sort w) fs (reach-sound (no-leaf (start_symbol sort w) (opens sort (first w))) c)
-
--- The greatest depth that was met is the nesting of the derivation.
-pub peak-nest : (sort : Sort) (w : List Token) (f : Forest) (r : List Token) (e : Ended sort w f r)
-    → peak (frame (start_symbol sort w) e.0 f ∷ []) ≡ nest (show (node (start_symbol sort w) f))
-peak-nest sort w f r e =
-    let d = done (start_symbol sort w) (opens sort (first w)) w e.0 f r e.1 e.2 in
-    peak-end (start_symbol sort w) e.0 f ∙ sym (nest-show (node (start_symbol sort w) f) d.1.0)
 
 -- A text has one derivation, since it has one cut without bad text.
 pub one-sentence : (source : List ℕ) (t u : Tree) (sort : Sort) → Sentence source t sort → Sentence source u sort → t ≡ u

@@ -32,10 +32,6 @@ tail-same e = cc
 pub no-cons : {A B : Type 0} {a : B} {w : List B} → [] ≡ a ∷ w → A
 no-cons e = absurd (cc)
 
--- Sets of classes.
-bit_min : (a b : ℕ) → b ≡ 1 → a ≡ min b a → a ≡ 1 → 1 ≤ a
-bit_min a b e f g = omega arith
-
 pub holds-subset : (a x y : ℕ) → subset x y ≡ true → holds a x ≡ true → holds a y ≡ true
 unfolding holds
 holds-subset a x y s h =

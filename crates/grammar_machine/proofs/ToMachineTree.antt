@@ -656,9 +656,6 @@ label-60-same = refl
 type-above : (j : ℕ) → ((j ≡ NAMED_TYPE) ⊎ (j ≡ LIST_TYPE)) ⊎ (j ≡ NON_NULL_TYPE) → 59 < j
 type-above j h = elim h [ inl p ↦ elim p [ inl q ↦ omega arith | inr q ↦ omega arith ] | inr p ↦ omega arith ]
 
-brace-first : (t : Tree) (f : Forest) → BraceRule (t ▸ f) → NotBefore t f
-brace-first t f b = b.0
-
 pick-node : (k j : ℕ) (f : Forest) → Fits (node j f) → Cond k (node j f)
     → ((s q : ℕ) → is_leaf s ≡ false → eqb s DOCUMENT ≡ false → Matches (pattern_of s q) (kinds f) → agree_at s q ≡ true → Kids s f → ReadFrom s q f)
     → ((q : ℕ) → InDocument q → (q ≡ 2 → FirstNoQuery f) → BraceRule f → Matches (pattern_of DOCUMENT q) (kinds f) → agree_at DOCUMENT q ≡ true → ReadFrom DOCUMENT q f)

@@ -27,10 +27,6 @@ zero-one : within 0 1 ≡ true
 unfolding within
 zero-one = refl
 
-no-ready : within absent ready ≡ false
-unfolding within
-no-ready = refl
-
 pub behind-none : (y : ℕ) → within absent y ≡ true → within 0 (behind y) ≡ true
 behind-none y h = elim (either (disjoint y (2 ^ absent))) [
   | inl d ↦ false-true (holds-disjoint absent y (2 ^ absent) d h) own-absent

@@ -93,9 +93,6 @@ over (o ∷ above) = max (path above + inner (top above) o.before) (over above)
 abbrev pub height : Building → ℕ
 height b = max (path b.above + inner (top b.above) b.here) (over b.above)
 
-same-max : (a b c : ℕ) → b ≡ c → max a b ≡ max a c
-same-max a b c e = ap (max a) e
-
 leaf-sum : (p i w v o : ℕ) → w ≡ 0 → v ≡ max (w + 0) 0 → max (p + max i v) o ≡ max (p + i) o
 leaf-sum p i w v o e f = omega arith
 

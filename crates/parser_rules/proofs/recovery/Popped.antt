@@ -347,10 +347,6 @@ unfolding ◌or◌
 or-true true b h e = h
 or-true false b h e = false-true refl e
 
-one-or-none : (b : Bool) → cond b 1 0 + 0 ≤ 1
-one-or-none true = omega arith
-one-or-none false = omega arith
-
 bumps : (n : ℕ) (w c d : Bool) (own : SyntaxKind) (s : State) → told_first n w (Do (Bump own)) ≡ true → Known w c d s → Ran s (bump own s) (pops n c (Do (Bump own))) (spares n d (Do (Bump own)))
 unfolding bump flush told_first pops spares ◌and◌
 bumps n w c d own s h k = at s.current refl
