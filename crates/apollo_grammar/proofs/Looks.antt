@@ -3,7 +3,8 @@ use Rattle.std.proofs.Common.{◌≡◌, Bool, true, false, Option, Some, None, 
 use Rattle.lexical_grammar.specs.declared.TokenKind.{TokenKind}
 use Rattle.apollo_lexer.specs.declared.token.Token.{Token}
 use Rattle.parser_rules.specs.State.{State, Lexeme, second, is_at}
-use Rattle.parser_rules.specs.Rule.{At, Next, HasNext, Either, holds, operates_next, inlines_next}
+use Rattle.parser_rules.specs.RuleLanguage.{At, Next, HasNext, Either, holds}
+use Rattle.parser_rules.specs.Rules.{operates_next, inlines_next}
 use Rattle.apollo_grammar.specs.View.{current_of}
 use Rattle.apollo_grammar.specs.Looks.{operates_at, inlines_at}
 

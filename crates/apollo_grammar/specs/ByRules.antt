@@ -6,7 +6,9 @@ use Rattle.lexical_grammar.specs.Reads.{items_of}
 use Rattle.document_grammar.specs.declared.kind.SyntaxKind.TheVariants as kind
 use Rattle.document_grammar.specs.Forests.{count}
 use Rattle.parser_rules.specs.State.{State, begun, finished}
-use Rattle.parser_rules.specs.Rule.{Runs, Call, Document}
+use Rattle.parser_rules.specs.Nodes.{Document}
+use Rattle.parser_rules.specs.RuleLanguage.{Call}
+use Rattle.parser_rules.specs.Runs.{Runs}
 use Rattle.apollo_grammar.specs.Parsed.{Parsed}
 use Rattle.apollo_grammar.specs.View.{report_of}
 

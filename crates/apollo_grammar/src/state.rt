@@ -1,5 +1,5 @@
 // The state of a parser, and its steps. Each is a step of the parser's rules.
-#![tactic(auto, using(parser_rules::specs::Rule::does), unfolding(parser_rules::specs::State::same_kind, parser_rules::specs::Rule::holds, parser_rules::specs::Rule::step, parser_rules::specs::State::flush, parser_rules::specs::State::opened, parser_rules::specs::State::closed, parser_rules::specs::State::bump, parser_rules::specs::State::note, parser_rules::specs::State::is_deep, parser_rules::specs::State::enter, parser_rules::specs::State::leave, parser_rules::specs::State::too_deep, parser_rules::specs::State::wrapped_from, parser_rules::specs::Open::IsInside, parser_rules::specs::Open::IsMark))]
+#![tactic(auto, using(parser_rules::specs::Runs::does), unfolding(parser_rules::specs::State::same_kind, parser_rules::specs::RuleLanguage::holds, parser_rules::specs::RuleLanguage::step, parser_rules::specs::State::flush, parser_rules::specs::State::opened, parser_rules::specs::State::closed, parser_rules::specs::State::bump, parser_rules::specs::State::note, parser_rules::specs::State::is_deep, parser_rules::specs::State::enter, parser_rules::specs::State::leave, parser_rules::specs::State::too_deep, parser_rules::specs::State::wrapped_from, parser_rules::specs::Open::IsInside, parser_rules::specs::Open::IsMark))]
 
 ghost use Rattle.std.specs.Prelude.{◌≡◌, ◌<◌, ◌^◌, true, false, [], map, OnOk, IfOk, option_map};
 ghost use Rattle.lexical_grammar.specs.declared.TokenKind.TheVariants as token;
@@ -10,7 +10,9 @@ ghost use Rattle.document_grammar.specs.Builds.{built_count};
 ghost use Rattle.apollo_tree.specs.Sound.{Fits};
 ghost use Rattle.apollo_lexer.specs.Answers.{answer_of, answers_left};
 ghost use Rattle.parser_rules.specs.State as state;
-ghost use Rattle.parser_rules.specs.Rule.{At, Word, Ready, Next, Either, holds, Bump, Note, TooDeep, Runs, Do, Child, Name, IntValue, StringValue, BooleanValue, want, expect, expect_word, refuse};
+ghost use Rattle.parser_rules.specs.Nodes.{Name, IntValue, StringValue, BooleanValue};
+ghost use Rattle.parser_rules.specs.RuleLanguage.{At, Word, Ready, Next, Either, holds, Bump, Note, TooDeep, Do, Child, want, expect, expect_word, refuse};
+ghost use Rattle.parser_rules.specs.Runs.{Runs};
 ghost use Rattle.parser_rules.specs.Open.{IsOpen, IsMark, IsInside, IsRoot};
 ghost use Rattle.apollo_grammar.specs.Keywords as keywords;
 ghost use Rattle.apollo_grammar.specs.Reading as reading;
@@ -364,7 +366,7 @@ impl<'i, A: Allocator + Copy> ParserState<'i, A> {
     }
 
     /// The current token, which is a name, becomes a node.
-    #[tactic(auto, using(parser_rules::proofs::runs::Forms::leaf_run), unfolding(parser_rules::specs::Rule::inside, parser_rules::specs::Rule::holds))]
+    #[tactic(auto, using(parser_rules::proofs::runs::Forms::leaf_run), unfolding(parser_rules::specs::Rules::inside, parser_rules::specs::RuleLanguage::holds))]
     pub fn name(&mut self) -> Result<(), AllocError>
         requires { true ≡ holds (At token.Name) self.old }
         ensures { OnOk result (Runs (Child Name) self.old self.new) }
@@ -374,7 +376,7 @@ impl<'i, A: Allocator + Copy> ParserState<'i, A> {
     }
 
     /// The current token, which is an integer, becomes a node.
-    #[tactic(auto, using(parser_rules::proofs::runs::Forms::leaf_run), unfolding(parser_rules::specs::Rule::inside, parser_rules::specs::Rule::holds))]
+    #[tactic(auto, using(parser_rules::proofs::runs::Forms::leaf_run), unfolding(parser_rules::specs::Rules::inside, parser_rules::specs::RuleLanguage::holds))]
     pub fn int_value(&mut self) -> Result<(), AllocError>
         requires { true ≡ holds (At token.Int) self.old }
         ensures { OnOk result (Runs (Child IntValue) self.old self.new) }
@@ -384,7 +386,7 @@ impl<'i, A: Allocator + Copy> ParserState<'i, A> {
     }
 
     /// The current token, which is a string, becomes a node.
-    #[tactic(auto, using(parser_rules::proofs::runs::Forms::leaf_run), unfolding(parser_rules::specs::Rule::inside, parser_rules::specs::Rule::holds))]
+    #[tactic(auto, using(parser_rules::proofs::runs::Forms::leaf_run), unfolding(parser_rules::specs::Rules::inside, parser_rules::specs::RuleLanguage::holds))]
     pub fn string_value(&mut self) -> Result<(), AllocError>
         requires { true ≡ holds (At token.StringValue) self.old }
         ensures { OnOk result (Runs (Child StringValue) self.old self.new) }
@@ -456,7 +458,7 @@ impl<'i, A: Allocator + Copy> ParserState<'i, A> {
     }
 
     /// Reports an error at the current token, and pops it: it becomes an ERROR leaf.
-    #[tactic(auto, using(parser_rules::specs::Rule::skip, parser_rules::specs::Rule::seq, parser_rules::specs::Rule::yes, parser_rules::specs::Rule::no))]
+    #[tactic(auto, using(parser_rules::specs::Runs::skip, parser_rules::specs::Runs::seq, parser_rules::specs::Runs::yes, parser_rules::specs::Runs::no))]
     pub fn err_and_pop(&mut self, message: Message) -> Result<(), AllocError>
         ensures { OnOk result (Runs (refuse message) self.old self.new) }
     {
@@ -465,7 +467,7 @@ impl<'i, A: Allocator + Copy> ParserState<'i, A> {
     }
 
     /// The punctuator becomes a leaf, or an error reports that it is missing.
-    #[tactic(auto, using(parser_rules::specs::Rule::skip, parser_rules::specs::Rule::seq, parser_rules::specs::Rule::yes, parser_rules::specs::Rule::no))]
+    #[tactic(auto, using(parser_rules::specs::Runs::skip, parser_rules::specs::Runs::seq, parser_rules::specs::Runs::yes, parser_rules::specs::Runs::no))]
     pub fn expect(&mut self, token: TokenKind, kind: SyntaxKind) -> Result<(), AllocError>
         ensures { OnOk result (Runs (expect token kind) self.old self.new) }
     {
@@ -477,7 +479,7 @@ impl<'i, A: Allocator + Copy> ParserState<'i, A> {
     }
 
     /// The keyword becomes a leaf, or an error reports that it is missing.
-    #[tactic(auto, using(parser_rules::specs::Rule::skip, parser_rules::specs::Rule::seq, parser_rules::specs::Rule::yes, parser_rules::specs::Rule::no))]
+    #[tactic(auto, using(parser_rules::specs::Runs::skip, parser_rules::specs::Runs::seq, parser_rules::specs::Runs::yes, parser_rules::specs::Runs::no))]
     pub fn expect_word(&mut self, keyword: SyntaxKind, message: Message) -> Result<(), AllocError>
         requires { keywords.is_asked keyword ≡ true }
         ensures { OnOk result (Runs (expect_word keyword message) self.old self.new) }
@@ -490,7 +492,7 @@ impl<'i, A: Allocator + Copy> ParserState<'i, A> {
     }
 
     /// Reports an error where the current token is not of the kind.
-    #[tactic(auto, using(parser_rules::specs::Rule::skip, parser_rules::specs::Rule::seq, parser_rules::specs::Rule::yes, parser_rules::specs::Rule::no))]
+    #[tactic(auto, using(parser_rules::specs::Runs::skip, parser_rules::specs::Runs::seq, parser_rules::specs::Runs::yes, parser_rules::specs::Runs::no))]
     pub fn want(&mut self, kind: TokenKind, message: Message) -> Result<(), AllocError>
         ensures { OnOk result (Runs (want (At kind) message) self.old self.new) }
     {
@@ -501,7 +503,7 @@ impl<'i, A: Allocator + Copy> ParserState<'i, A> {
     }
 
     /// Reports an error where no token is left.
-    #[tactic(auto, using(parser_rules::specs::Rule::skip, parser_rules::specs::Rule::seq, parser_rules::specs::Rule::yes, parser_rules::specs::Rule::no))]
+    #[tactic(auto, using(parser_rules::specs::Runs::skip, parser_rules::specs::Runs::seq, parser_rules::specs::Runs::yes, parser_rules::specs::Runs::no))]
     pub fn want_ready(&mut self, message: Message) -> Result<(), AllocError>
         ensures { OnOk result (Runs (want Ready message) self.old self.new) }
     {

@@ -12,7 +12,9 @@ use Rattle.grammar_machine.proofs.Checks.{exits, row_of}
 use Rattle.grammar_machine.proofs.Steps.{goes, closes, sticks}
 use Rattle.grammar_machine.proofs.Sound.{any}
 use Rattle.grammar_machine.proofs.Patterns.{label}
-use Rattle.parser_rules.specs.Rule.{Node, Arguments, Argument, Directives, Directive, ListValue, ObjectValue, ObjectField, symbol, inside, Document, Definition, While, Ready, Call}
+use Rattle.parser_rules.specs.Nodes.{Node, Arguments, Argument, Directives, Directive, ListValue, ObjectValue, ObjectField, symbol, Document, Definition}
+use Rattle.parser_rules.specs.RuleLanguage.{While, Ready, Call}
+use Rattle.parser_rules.specs.Rules.{inside}
 use Rattle.parser_rules.proofs.runs.Progress.{consuming}
 use Rattle.parser_rules.proofs.lookahead.Split.{split, divide}
 use Rattle.parser_rules.proofs.lookahead.FirstSets.{first_of, first_in, second_of, inlined, unread}

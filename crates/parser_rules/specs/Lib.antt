@@ -1,5 +1,8 @@
 pub mod State
-pub mod Rule
+pub mod Nodes
+pub mod RuleLanguage
+pub mod Rules
+pub mod Runs
 pub mod Open
 pub mod Leaves
 pub mod Reports

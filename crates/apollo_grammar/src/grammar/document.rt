@@ -1,9 +1,11 @@
 // Documents.
-#![tactic(auto, using(parser_rules::specs::Rule::call, parser_rules::specs::Rule::yes, parser_rules::specs::Rule::no, parser_rules::specs::Rule::begin, parser_rules::specs::Rule::turn, parser_rules::proofs::runs::Forms::wanted, parser_rules::proofs::runs::Frame::ended), unfolding(parser_rules::specs::Rule::body))]
+#![tactic(auto, using(parser_rules::specs::Runs::call, parser_rules::specs::Runs::yes, parser_rules::specs::Runs::no, parser_rules::specs::Runs::begin, parser_rules::specs::Runs::turn, parser_rules::proofs::runs::Forms::wanted, parser_rules::proofs::runs::Frame::ended), unfolding(parser_rules::specs::Rules::body))]
 
 ghost use Rattle.std.specs.Prelude.{◌≡◌, true, OnOk};
-ghost use Rattle.parser_rules.specs.Rule as rule;
-ghost use Rattle.parser_rules.specs.Rule.{holds, Runs, Call};
+ghost use Rattle.parser_rules.specs.Nodes as rule;
+ghost use Rattle.parser_rules.specs.Rules as rules;
+ghost use Rattle.parser_rules.specs.RuleLanguage.{holds, Call};
+ghost use Rattle.parser_rules.specs.Runs.{Runs};
 ghost use Rattle.apollo_grammar.specs.View.{current_of};
 ghost use Rattle.apollo_grammar.specs.Looks.{operates_at};
 
@@ -50,9 +52,9 @@ fn definition<A: Allocator + Copy>(p: &mut ParserState<'_, A>) -> Result<(), All
 }
 
 // Whether an operation with its type starts here.
-#[tactic(auto, unfolding(parser_rules::specs::Rule::holds))]
+#[tactic(auto, unfolding(parser_rules::specs::RuleLanguage::holds))]
 fn starts_operation<A: Allocator + Copy>(p: &ParserState<'_, A>) -> bool
-    ensures { result ≡ holds rule.operates p.now }
+    ensures { result ≡ holds rules.operates p.now }
 {
     p.at_word(SyntaxKind::query_KW)
         || p.at_word(SyntaxKind::mutation_KW)

@@ -1,10 +1,11 @@
 // Fields.
-#![tactic(auto, using(parser_rules::specs::Rule::child, parser_rules::specs::Rule::seq, parser_rules::specs::Rule::skip, parser_rules::specs::Rule::yes, parser_rules::specs::Rule::no, parser_rules::proofs::runs::Frame::is_open, parser_rules::proofs::runs::Frame::still_open, parser_rules::proofs::runs::Frame::still_at), unfolding(parser_rules::specs::Rule::inside))]
+#![tactic(auto, using(parser_rules::specs::Runs::child, parser_rules::specs::Runs::seq, parser_rules::specs::Runs::skip, parser_rules::specs::Runs::yes, parser_rules::specs::Runs::no, parser_rules::proofs::runs::Frame::is_open, parser_rules::proofs::runs::Frame::still_open, parser_rules::proofs::runs::Frame::still_at), unfolding(parser_rules::specs::Rules::inside))]
 
 ghost use Rattle.std.specs.Prelude.{◌≡◌, true, OnOk};
 ghost use Rattle.lexical_grammar.specs.declared.TokenKind.TheVariants as token;
-ghost use Rattle.parser_rules.specs.Rule as rule;
-ghost use Rattle.parser_rules.specs.Rule.{At, holds, Runs, Child};
+ghost use Rattle.parser_rules.specs.Nodes as rule;
+ghost use Rattle.parser_rules.specs.RuleLanguage.{At, holds, Child};
+ghost use Rattle.parser_rules.specs.Runs.{Runs};
 
 use super::argument::arguments;
 use super::directive::directives;

@@ -1,10 +1,12 @@
 // Operations.
-#![tactic(auto, using(parser_rules::specs::Rule::child, parser_rules::specs::Rule::seq, parser_rules::specs::Rule::skip, parser_rules::specs::Rule::yes, parser_rules::specs::Rule::no, parser_rules::proofs::runs::Frame::is_open, parser_rules::proofs::runs::Frame::still_open, parser_rules::proofs::runs::Frame::still_at), unfolding(parser_rules::specs::Rule::inside))]
+#![tactic(auto, using(parser_rules::specs::Runs::child, parser_rules::specs::Runs::seq, parser_rules::specs::Runs::skip, parser_rules::specs::Runs::yes, parser_rules::specs::Runs::no, parser_rules::proofs::runs::Frame::is_open, parser_rules::proofs::runs::Frame::still_open, parser_rules::proofs::runs::Frame::still_at), unfolding(parser_rules::specs::Rules::inside))]
 
 ghost use Rattle.std.specs.Prelude.{◌≡◌, true, OnOk};
 ghost use Rattle.lexical_grammar.specs.declared.TokenKind.TheVariants as token;
-ghost use Rattle.parser_rules.specs.Rule as rule;
-ghost use Rattle.parser_rules.specs.Rule.{At, holds, Runs, Child};
+ghost use Rattle.parser_rules.specs.Nodes as rule;
+ghost use Rattle.parser_rules.specs.Rules as rules;
+ghost use Rattle.parser_rules.specs.RuleLanguage.{At, holds, Child};
+ghost use Rattle.parser_rules.specs.Runs.{Runs};
 
 use super::directive::directives;
 use super::name::maybe_name;
@@ -57,7 +59,7 @@ fn operation_type<A: Allocator + Copy>(p: &mut ParserState<'_, A>) -> Result<(),
 }
 
 fn operation_word<A: Allocator + Copy>(p: &mut ParserState<'_, A>) -> Result<(), AllocError>
-    ensures { OnOk result (Runs rule.operation_word p.old p.new) }
+    ensures { OnOk result (Runs rules.operation_word p.old p.new) }
 {
     if p.at_word(SyntaxKind::query_KW) {
         return p.bump(SyntaxKind::query_KW);

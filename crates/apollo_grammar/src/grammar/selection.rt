@@ -1,11 +1,13 @@
 // Selection sets.
-#![tactic(auto, using(parser_rules::specs::Rule::child, parser_rules::specs::Rule::call, parser_rules::specs::Rule::deeper, parser_rules::specs::Rule::refused, parser_rules::specs::Rule::seq, parser_rules::specs::Rule::skip, parser_rules::specs::Rule::yes, parser_rules::specs::Rule::no, parser_rules::specs::Rule::begin, parser_rules::specs::Rule::turn, parser_rules::proofs::runs::Forms::wanted, parser_rules::proofs::runs::Frame::ended, parser_rules::proofs::runs::Frame::is_open, parser_rules::proofs::runs::Frame::still_open, parser_rules::proofs::runs::Frame::open_too_deep, parser_rules::proofs::runs::Frame::open_inside, parser_rules::proofs::runs::Frame::open_outside, parser_rules::proofs::runs::Frame::is_inside, parser_rules::proofs::runs::Frame::still_inside), unfolding(parser_rules::specs::Rule::inside, parser_rules::specs::Rule::body))]
+#![tactic(auto, using(parser_rules::specs::Runs::child, parser_rules::specs::Runs::call, parser_rules::specs::Runs::deeper, parser_rules::specs::Runs::refused, parser_rules::specs::Runs::seq, parser_rules::specs::Runs::skip, parser_rules::specs::Runs::yes, parser_rules::specs::Runs::no, parser_rules::specs::Runs::begin, parser_rules::specs::Runs::turn, parser_rules::proofs::runs::Forms::wanted, parser_rules::proofs::runs::Frame::ended, parser_rules::proofs::runs::Frame::is_open, parser_rules::proofs::runs::Frame::still_open, parser_rules::proofs::runs::Frame::open_too_deep, parser_rules::proofs::runs::Frame::open_inside, parser_rules::proofs::runs::Frame::open_outside, parser_rules::proofs::runs::Frame::is_inside, parser_rules::proofs::runs::Frame::still_inside), unfolding(parser_rules::specs::Rules::inside, parser_rules::specs::Rules::body))]
 
 ghost use Rattle.std.specs.Prelude.{◌≡◌, true, OnOk};
 ghost use Rattle.lexical_grammar.specs.declared.TokenKind.TheVariants as token;
-ghost use Rattle.parser_rules.specs.Rule as rule;
+ghost use Rattle.parser_rules.specs.Nodes as rule;
+ghost use Rattle.parser_rules.specs.Rules as rules;
 ghost use Rattle.parser_rules.specs.declared.message.Message.TheVariants as message;
-ghost use Rattle.parser_rules.specs.Rule.{At, holds, want, Runs, Child, Call};
+ghost use Rattle.parser_rules.specs.RuleLanguage.{At, holds, want, Child, Call};
+ghost use Rattle.parser_rules.specs.Runs.{Runs};
 ghost use Rattle.apollo_grammar.specs.View.{current_of};
 ghost use Rattle.apollo_grammar.specs.Looks.{inlines_at};
 
@@ -52,16 +54,16 @@ fn selections<A: Allocator + Copy>(p: &mut ParserState<'_, A>) -> Result<(), All
 }
 
 // Whether a selection starts here.
-#[tactic(auto, unfolding(parser_rules::specs::Rule::holds))]
+#[tactic(auto, unfolding(parser_rules::specs::RuleLanguage::holds))]
 fn starts_selection<A: Allocator + Copy>(p: &ParserState<'_, A>) -> bool
-    ensures { result ≡ holds rule.selects p.now }
+    ensures { result ≡ holds rules.selects p.now }
 {
     p.at(TokenKind::Name) || p.at(TokenKind::Spread)
 }
 
 // Reports an error where no selection starts.
 fn want_selection<A: Allocator + Copy>(p: &mut ParserState<'_, A>) -> Result<(), AllocError>
-    ensures { OnOk result (Runs (want rule.selects message.ExpectedSelection) p.old p.new) }
+    ensures { OnOk result (Runs (want rules.selects message.ExpectedSelection) p.old p.new) }
 {
     if starts_selection(p) {
         return Ok(());
@@ -71,7 +73,7 @@ fn want_selection<A: Allocator + Copy>(p: &mut ParserState<'_, A>) -> Result<(),
 
 #[cycle(selection)]
 fn selection<A: Allocator + Copy>(p: &mut ParserState<'_, A>) -> Result<(), AllocError>
-    requires { true ≡ holds rule.selects p.old }
+    requires { true ≡ holds rules.selects p.old }
     ensures { OnOk result (Runs (Call rule.Selection) p.old p.new) }
 {
     if p.at(TokenKind::Name) {

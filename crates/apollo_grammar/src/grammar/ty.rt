@@ -1,10 +1,12 @@
 // Types.
-#![tactic(auto, using(parser_rules::specs::Rule::child, parser_rules::specs::Rule::call, parser_rules::specs::Rule::plain, parser_rules::specs::Rule::wrapped, parser_rules::specs::Rule::deeper, parser_rules::specs::Rule::refused, parser_rules::specs::Rule::seq, parser_rules::specs::Rule::skip, parser_rules::specs::Rule::yes, parser_rules::specs::Rule::no, parser_rules::proofs::runs::Frame::is_open, parser_rules::proofs::runs::Frame::still_open, parser_rules::proofs::runs::Frame::open_too_deep, parser_rules::proofs::runs::Frame::open_inside, parser_rules::proofs::runs::Frame::open_outside, parser_rules::proofs::runs::Frame::is_inside, parser_rules::proofs::runs::Frame::still_inside), unfolding(parser_rules::specs::Rule::inside, parser_rules::specs::Rule::body))]
+#![tactic(auto, using(parser_rules::specs::Runs::child, parser_rules::specs::Runs::call, parser_rules::specs::Runs::plain, parser_rules::specs::Runs::wrapped, parser_rules::specs::Runs::deeper, parser_rules::specs::Runs::refused, parser_rules::specs::Runs::seq, parser_rules::specs::Runs::skip, parser_rules::specs::Runs::yes, parser_rules::specs::Runs::no, parser_rules::proofs::runs::Frame::is_open, parser_rules::proofs::runs::Frame::still_open, parser_rules::proofs::runs::Frame::open_too_deep, parser_rules::proofs::runs::Frame::open_inside, parser_rules::proofs::runs::Frame::open_outside, parser_rules::proofs::runs::Frame::is_inside, parser_rules::proofs::runs::Frame::still_inside), unfolding(parser_rules::specs::Rules::inside, parser_rules::specs::Rules::body))]
 
 ghost use Rattle.std.specs.Prelude.{◌≡◌, true, OnOk};
 ghost use Rattle.lexical_grammar.specs.declared.TokenKind.TheVariants as token;
-ghost use Rattle.parser_rules.specs.Rule as rule;
-ghost use Rattle.parser_rules.specs.Rule.{At, holds, Runs, Child, Call};
+ghost use Rattle.parser_rules.specs.Nodes as rule;
+ghost use Rattle.parser_rules.specs.Rules as rules;
+ghost use Rattle.parser_rules.specs.RuleLanguage.{At, holds, Child, Call};
+ghost use Rattle.parser_rules.specs.Runs.{Runs};
 
 use super::name::name;
 use crate::state::ParserState;
@@ -14,9 +16,9 @@ use parser_rules::Message;
 use std::alloc::{AllocError, Allocator};
 
 /// Whether a type starts here.
-#[tactic(auto, unfolding(parser_rules::specs::Rule::holds))]
+#[tactic(auto, unfolding(parser_rules::specs::RuleLanguage::holds))]
 pub fn starts_type<A: Allocator + Copy>(p: &ParserState<'_, A>) -> bool
-    ensures { result ≡ holds rule.types p.now }
+    ensures { result ≡ holds rules.types p.now }
 {
     p.at(TokenKind::Name) || p.at(TokenKind::LBracket)
 }
@@ -38,7 +40,7 @@ pub fn ty<A: Allocator + Copy>(p: &mut ParserState<'_, A>) -> Result<(), AllocEr
 
 #[cycle(ty)]
 fn nullable_type<A: Allocator + Copy>(p: &mut ParserState<'_, A>) -> Result<(), AllocError>
-    ensures { OnOk result (Runs rule.nullable_type p.old p.new) }
+    ensures { OnOk result (Runs rules.nullable_type p.old p.new) }
 {
     if p.at(TokenKind::LBracket) {
         return list_type(p);

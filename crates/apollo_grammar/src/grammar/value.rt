@@ -1,10 +1,12 @@
 // Values.
-#![tactic(auto, using(parser_rules::specs::Rule::child, parser_rules::specs::Rule::call, parser_rules::specs::Rule::deeper, parser_rules::specs::Rule::refused, parser_rules::specs::Rule::does, parser_rules::specs::Rule::seq, parser_rules::specs::Rule::skip, parser_rules::specs::Rule::yes, parser_rules::specs::Rule::no, parser_rules::specs::Rule::begin, parser_rules::specs::Rule::turn, parser_rules::proofs::runs::Forms::for_enum, parser_rules::proofs::runs::Frame::ended, parser_rules::proofs::runs::Frame::is_open, parser_rules::proofs::runs::Frame::still_open, parser_rules::proofs::runs::Frame::open_in_loop, parser_rules::proofs::runs::Frame::still_at, parser_rules::proofs::runs::Frame::is_inside, parser_rules::proofs::runs::Frame::still_inside), unfolding(parser_rules::specs::Rule::inside, parser_rules::specs::Rule::body))]
+#![tactic(auto, using(parser_rules::specs::Runs::child, parser_rules::specs::Runs::call, parser_rules::specs::Runs::deeper, parser_rules::specs::Runs::refused, parser_rules::specs::Runs::does, parser_rules::specs::Runs::seq, parser_rules::specs::Runs::skip, parser_rules::specs::Runs::yes, parser_rules::specs::Runs::no, parser_rules::specs::Runs::begin, parser_rules::specs::Runs::turn, parser_rules::proofs::runs::Forms::for_enum, parser_rules::proofs::runs::Frame::ended, parser_rules::proofs::runs::Frame::is_open, parser_rules::proofs::runs::Frame::still_open, parser_rules::proofs::runs::Frame::open_in_loop, parser_rules::proofs::runs::Frame::still_at, parser_rules::proofs::runs::Frame::is_inside, parser_rules::proofs::runs::Frame::still_inside), unfolding(parser_rules::specs::Rules::inside, parser_rules::specs::Rules::body))]
 
 ghost use Rattle.std.specs.Prelude.{◌≡◌, true, OnOk};
 ghost use Rattle.lexical_grammar.specs.declared.TokenKind.TheVariants as token;
-ghost use Rattle.parser_rules.specs.Rule as rule;
-ghost use Rattle.parser_rules.specs.Rule.{At, holds, Runs, Child, Call};
+ghost use Rattle.parser_rules.specs.Nodes as rule;
+ghost use Rattle.parser_rules.specs.Rules as rules;
+ghost use Rattle.parser_rules.specs.RuleLanguage.{At, holds, Child, Call};
+ghost use Rattle.parser_rules.specs.Runs.{Runs};
 
 use super::variable::variable;
 use crate::state::ParserState;
@@ -51,7 +53,7 @@ fn variable_value<A: Allocator + Copy>(
     p: &mut ParserState<'_, A>,
     is_constant: bool,
 ) -> Result<(), AllocError>
-    ensures { OnOk result (Runs (rule.variable_of is_constant) p.old p.new) }
+    ensures { OnOk result (Runs (rules.variable_of is_constant) p.old p.new) }
 {
     if !is_constant {
         return variable(p);
@@ -64,7 +66,7 @@ fn no_value<A: Allocator + Copy>(
     p: &mut ParserState<'_, A>,
     pop_on_error: bool,
 ) -> Result<(), AllocError>
-    ensures { OnOk result (Runs (rule.no_value pop_on_error) p.old p.new) }
+    ensures { OnOk result (Runs (rules.no_value pop_on_error) p.old p.new) }
 {
     if pop_on_error {
         return p.err_and_pop(Message::ExpectedValue);
@@ -168,9 +170,9 @@ fn list_items<A: Allocator + Copy>(
 }
 
 // Whether another item of a list value may start here.
-#[tactic(auto, unfolding(parser_rules::specs::Rule::holds))]
+#[tactic(auto, unfolding(parser_rules::specs::RuleLanguage::holds))]
 fn has_item<A: Allocator + Copy>(p: &ParserState<'_, A>) -> bool
-    ensures { result ≡ holds rule.has_item p.now }
+    ensures { result ≡ holds rules.has_item p.now }
 {
     p.is_ready() && !p.at(TokenKind::RBracket) && !p.is_too_deep()
 }

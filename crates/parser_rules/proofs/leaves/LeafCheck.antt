@@ -10,7 +10,9 @@ use Rattle.grammar_machine.proofs.Checks.{subset, disjoint}
 use Rattle.grammar_machine.proofs.Patterns.{label}
 use Rattle.grammar_machine.proofs.Sound.{any}
 use Rattle.grammar_machine.proofs.Steps.{hits}
-use Rattle.parser_rules.specs.Rule.{At, Bump, Note, TooDeep, Node, inside, body, Rule, Skip, Do, Seq, When, While, Child, Nested, Call, Typed}
+use Rattle.parser_rules.specs.Nodes.{Node}
+use Rattle.parser_rules.specs.RuleLanguage.{At, Bump, Note, TooDeep, Rule, Skip, Do, Seq, When, While, Child, Nested, Call, Typed}
+use Rattle.parser_rules.specs.Rules.{inside, body}
 use Rattle.parser_rules.proofs.lookahead.TokenSets.{over}
 use Rattle.parser_rules.proofs.lookahead.Split.{split}
 use Rattle.parser_rules.proofs.lookahead.FirstSets.{first_in, second_of, inlined}

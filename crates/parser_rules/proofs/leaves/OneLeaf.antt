@@ -27,9 +27,12 @@ use Rattle.grammar_machine.proofs.Steps.{hits-fires}
 use Rattle.parser_rules.specs.State.{State, Text, Lexeme, Part, ignored, bad, met, wait, read_on, second, add_all, flush, opened, closed, wrapped_from, moved, bump, note, is_over, enter, leave, deepened, too_deep, fresh, begun, finished}
 use Rattle.parser_rules.specs.Open.{is_free, IsRoot}
 use Rattle.parser_rules.specs.Leaves.{leaves, IsLeafOf, IsLeafOfToken, OneLeafAnItem, nothing, one, the_end, the_limit}
-use Rattle.parser_rules.specs.Rule as rule
+use Rattle.parser_rules.specs.Nodes as rule
 use Rattle.parser_rules.specs.declared.message.Message.{Message}
-use Rattle.parser_rules.specs.Rule.{At, holds, Prim, Bump, Note, TooDeep, step, Node, kind_of, inside, body, Rule, Skip, Do, Seq, When, While, Child, Nested, Call, Typed, Runs, skip, does, seq, yes, no, done, again, child, deeper, refused, call, plain, wrapped}
+use Rattle.parser_rules.specs.Nodes.{Node, kind_of}
+use Rattle.parser_rules.specs.RuleLanguage.{At, holds, Prim, Bump, Note, TooDeep, step, Rule, Nested, Call}
+use Rattle.parser_rules.specs.Rules.{inside, body}
+use Rattle.parser_rules.specs.Runs.{Runs, skip, does, seq, yes, no, done, again, child, deeper, refused, call, plain, wrapped}
 use Rattle.parser_rules.proofs.runs.Frame.{on_kind, on_item, add_all_above, root_kept}
 use Rattle.parser_rules.proofs.runs.Inversion.{Parts, parts}
 use Rattle.parser_rules.proofs.runs.AtTheEnd.{EndNow, ends, read_ends}

@@ -8,7 +8,8 @@ use Rattle.grammar_machine.specs.Machine.{entries}
 use Rattle.grammar_machine.proofs.Checks.{entries_mask}
 use Rattle.std.specs.Int.Bits.{bit_xor}
 use Rattle.grammar_machine.proofs.Sound.{any}
-use Rattle.parser_rules.specs.Rule.{Node, Name, symbol, inside}
+use Rattle.parser_rules.specs.Nodes.{Node, Name, symbol}
+use Rattle.parser_rules.specs.Rules.{inside}
 use Rattle.parser_rules.proofs.lookahead.TokenSets.{kind_set}
 use Rattle.parser_rules.proofs.runs.Progress.{consumes}
 

@@ -5,7 +5,9 @@ use Rattle.document_grammar.specs.Numbers.{number}
 use Rattle.document_grammar.specs.Pattern.{member}
 use Rattle.document_grammar.specs.Derivation.{counts}
 use Rattle.document_grammar.specs.Booleans.{◌and◌}
-use Rattle.parser_rules.specs.Rule.{Prim, Bump, Note, TooDeep, Node, kind_of, inside, body, Rule, Skip, Do, Seq, When, While, Child, Nested, Call, Typed}
+use Rattle.parser_rules.specs.Nodes.{Node, kind_of}
+use Rattle.parser_rules.specs.RuleLanguage.{Prim, Bump, Note, TooDeep, Rule, Skip, Do, Seq, When, While, Child, Nested, Call, Typed}
+use Rattle.parser_rules.specs.Rules.{inside, body}
 use Rattle.parser_rules.proofs.soundness.TableCheck.{own}
 
 -- a kind that is counted nowhere

@@ -22,8 +22,11 @@ use Rattle.document_grammar.proofs.Built.{belows-append, numbered-join, count-cl
 use Rattle.document_grammar.proofs.Booleans.{cond-zero}
 use Rattle.parser_rules.specs.State.{State, Lexeme, Part, ignored, bad, met, wait, read_on, add_all, flush, opened, closed, wrapped_from, moved, bump, note, enter, leave, too_deep, fresh, begun, finished}
 use Rattle.parser_rules.specs.Open.{IsRoot}
-use Rattle.parser_rules.specs.Rule.{Document}
-use Rattle.parser_rules.specs.Rule.{Prim, Bump, Note, TooDeep, step, Node, kind_of, inside, Rule, Do, Child, Nested, Call, Runs, skip, does, seq, yes, no, done, again, child, deeper, refused, call, plain, wrapped}
+use Rattle.parser_rules.specs.Nodes.{Document}
+use Rattle.parser_rules.specs.Nodes.{Node, kind_of}
+use Rattle.parser_rules.specs.RuleLanguage.{Prim, Bump, Note, TooDeep, step, Rule, Do, Child, Nested, Call}
+use Rattle.parser_rules.specs.Rules.{inside}
+use Rattle.parser_rules.specs.Runs.{Runs, skip, does, seq, yes, no, done, again, child, deeper, refused, call, plain, wrapped}
 use Rattle.parser_rules.proofs.runs.Frame.{on_kind, on_item, read_untouched, add_all_above, Adds, adds, Keeps, keeps, root_kept, wrap_added}
 use Rattle.parser_rules.proofs.soundness.TableCheck.{own}
 use Rattle.parser_rules.proofs.nesting.LevelCheck.{uncounted, is_bare, weight, plain_leaf, walks, settled, levels_hold}

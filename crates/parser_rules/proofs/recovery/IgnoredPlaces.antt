@@ -19,7 +19,10 @@ use Rattle.document_grammar.specs.Booleans.{◌and◌, ◌or◌}
 use Rattle.document_grammar.proofs.Booleans.{false-true, and-i, and-l, and-r, not-c, either}
 use Rattle.document_grammar.proofs.Places.{Starts, Ends, AllTrim, placed as trim_placed}
 use Rattle.parser_rules.specs.State.{State, Lexeme, Part, read_on, add_all, flush, opened, closed, wrapped_from, moved, bump, note, deepened, too_deep, enter, leave, fresh, begun, finished}
-use Rattle.parser_rules.specs.Rule.{Prim, Bump, Note, TooDeep, step, kind_of, Document, inside, body, Rule, Do, Call, Runs, skip, does, seq, yes, no, done, again, child, deeper, refused, call, plain, wrapped}
+use Rattle.parser_rules.specs.Nodes.{kind_of, Document}
+use Rattle.parser_rules.specs.RuleLanguage.{Prim, Bump, Note, TooDeep, step, Rule, Do, Call}
+use Rattle.parser_rules.specs.Rules.{inside, body}
+use Rattle.parser_rules.specs.Runs.{Runs, skip, does, seq, yes, no, done, again, child, deeper, refused, call, plain, wrapped}
 use Rattle.parser_rules.specs.Open.{IsRoot}
 use Rattle.parser_rules.proofs.recovery.RecoveryCheck.{builds, tidy}
 use Rattle.parser_rules.proofs.NodeChecks.{node_passes, document_tidy}

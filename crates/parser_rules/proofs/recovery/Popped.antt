@@ -14,7 +14,10 @@ use Rattle.document_grammar.proofs.Joins.{join-none, join_assoc}
 use Rattle.document_grammar.specs.Booleans.{◌and◌, ◌or◌}
 use Rattle.document_grammar.proofs.Booleans.{false-true, and-i, and-l, and-r, or-c, not-c, either}
 use Rattle.parser_rules.specs.State.{State, Lexeme, Part, Report, Text, at_limit, at_text, found_at, ignored, met, wait, bad, lexeme, read_on, second, add_all, flush, opened, closed, wrapped_from, moved, bump, noted, note, deepened, limited_at, too_deep, enter, leave, is_at, fresh, begun}
-use Rattle.parser_rules.specs.Rule.{Test, At, HasNext, Not, Both, holds, Prim, Bump, Note, TooDeep, step, Node, kind_of, Document, inside, Rule, Do, Call, Runs, skip, does, seq, yes, no, done, again, child, deeper, refused, call, plain, wrapped}
+use Rattle.parser_rules.specs.Nodes.{Node, kind_of, Document}
+use Rattle.parser_rules.specs.RuleLanguage.{Test, At, HasNext, Not, Both, holds, Prim, Bump, Note, TooDeep, step, Rule, Do, Call}
+use Rattle.parser_rules.specs.Rules.{inside}
+use Rattle.parser_rules.specs.Runs.{Runs, skip, does, seq, yes, no, done, again, child, deeper, refused, call, plain, wrapped}
 use Rattle.parser_rules.proofs.recovery.RecoveryCheck.{is_list, is_note, excludes, asks_next, pops, few, told_first, spares, recovers_well}
 use Rattle.parser_rules.proofs.NodeChecks.{node_passes, document_told}
 use Rattle.parser_rules.proofs.runs.Frame.{read_untouched, on_kind, on_item, parts_forest, add_all_above, add_all_here, closed_here, wrap_added}

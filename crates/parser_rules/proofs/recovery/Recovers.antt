@@ -22,7 +22,9 @@ use Rattle.grammar_machine.proofs.Patterns.{label}
 use Rattle.grammar_machine.proofs.FromMachineTree.{show, shows}
 use Rattle.grammar_machine.proofs.Sound.{any}
 use Rattle.parser_rules.specs.State.{State, Lexeme, Part, Report, add_all, begun, found_at, second as second_of}
-use Rattle.parser_rules.specs.Rule.{Runs, Rule, Call, While, Ready, Definition, holds, Turns}
+use Rattle.parser_rules.specs.Nodes.{Definition}
+use Rattle.parser_rules.specs.RuleLanguage.{Rule, Call, While, Ready, holds}
+use Rattle.parser_rules.specs.Runs.{Runs, Turns}
 use Rattle.parser_rules.proofs.runs.Frame.{parts_forest, add_all_above, add_all_here}
 use Rattle.parser_rules.proofs.soundness.WithoutIgnored.{stack, strip, layers, all_ignored}
 use Rattle.parser_rules.proofs.reports.NoReport.{answers_tokens, all_tokens, rest, current_tokens, Now, Held}

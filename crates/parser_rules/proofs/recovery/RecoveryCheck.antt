@@ -9,7 +9,9 @@ use Rattle.document_grammar.specs.Kinds.{ERROR, SPREAD}
 use Rattle.document_grammar.specs.Pattern.{Pattern, any_of, nothing, ◌then◌, ◌or_else◌, many, member}
 use Rattle.document_grammar.specs.Rows.{Row}
 use Rattle.document_grammar.specs.Booleans.{◌and◌, ◌or◌}
-use Rattle.parser_rules.specs.Rule.{Test, At, HasNext, Not, Both, Bump, Note, TooDeep, Node, kind_of, inside, body, Rule, Skip, Do, Seq, When, While, Child, Nested, Call, Typed}
+use Rattle.parser_rules.specs.Nodes.{Node, kind_of}
+use Rattle.parser_rules.specs.RuleLanguage.{Test, At, HasNext, Not, Both, Bump, Note, TooDeep, Rule, Skip, Do, Seq, When, While, Child, Nested, Call, Typed}
+use Rattle.parser_rules.specs.Rules.{inside, body}
 use Rattle.parser_rules.proofs.leaves.LeafCheck.{is_error}
 
 -- ---- popped tokens

@@ -12,7 +12,9 @@ use Rattle.document_grammar.proofs.Joins.{join-none, join_assoc}
 use Rattle.document_grammar.specs.Booleans.{◌and◌, ◌or◌}
 use Rattle.document_grammar.proofs.Booleans.{false-true, and-i, and-l, and-r}
 use Rattle.parser_rules.specs.State.{State, Lexeme, Part, ignored, met, wait, bad, read_on, add_all, flush, opened, closed, wrapped_from, moved, bump, note, deepened, too_deep, enter, leave, fresh, begun}
-use Rattle.parser_rules.specs.Rule.{Prim, Bump, Note, TooDeep, step, kind_of, Document, Rule, Do, Call, Runs, skip, does, seq, yes, no, done, again, child, deeper, refused, call, plain, wrapped}
+use Rattle.parser_rules.specs.Nodes.{kind_of, Document}
+use Rattle.parser_rules.specs.RuleLanguage.{Prim, Bump, Note, TooDeep, step, Rule, Do, Call}
+use Rattle.parser_rules.specs.Runs.{Runs, skip, does, seq, yes, no, done, again, child, deeper, refused, call, plain, wrapped}
 use Rattle.parser_rules.proofs.reports.NoReport.{ignored-leaf}
 use Rattle.parser_rules.proofs.recovery.RecoveryCheck.{of_row, leaf_of_row, fits_in, keeps_row}
 use Rattle.parser_rules.proofs.NodeChecks.{node_passes, document_row}

@@ -7,7 +7,8 @@ use Rattle.lexical_grammar.specs.Answers.{Answer, gives, limit_at}
 use Rattle.document_grammar.specs.declared.kind.SyntaxKind.{SyntaxKind}
 use Rattle.document_grammar.specs.Builds.{add_leaf}
 use Rattle.parser_rules.specs.State.{State, Lexeme, Report, at_text, at_limit, found_at, ignored, bad, met, wait, lexeme, read_on, flush, closed, wrapped_from, enter, leave, fresh, begun}
-use Rattle.parser_rules.specs.Rule.{Test, Rule, Runs, Turns}
+use Rattle.parser_rules.specs.RuleLanguage.{Test, Rule}
+use Rattle.parser_rules.specs.Runs.{Runs, Turns}
 use Rattle.parser_rules.specs.Reports.{Reported, no_more, bad_text, token_limit, fault, recursion_limit, passed}
 use Rattle.parser_rules.proofs.runs.Frame.{on_kind, on_item}
 use Rattle.parser_rules.proofs.runs.Steps.{Holds_along, along, turns_along}

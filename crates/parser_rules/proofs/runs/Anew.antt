@@ -10,7 +10,9 @@ use Rattle.document_grammar.specs.Forests as built
 use Rattle.document_grammar.specs.Builds.{Building, add_leaf, built_count}
 use Rattle.document_grammar.proofs.Joins.{join-none, join_assoc}
 use Rattle.parser_rules.specs.State.{State, Lexeme, Part, Report, at_limit, at_text, found_at, ignored, met, wait, bad, lexeme, read_on, second, add_all, flush, opened, closed, wrapped_from, moved, bump, noted, note, is_deep, deepened, limited_at, too_deep, enter, leave, is_at, is_word, is_over}
-use Rattle.parser_rules.specs.Rule.{Test, At, Word, Ready, Next, NextWord, HasNext, Deep, Not, Both, Either, holds, Prim, Bump, Note, TooDeep, step, kind_of, Rule, Runs, skip, does, seq, yes, no, done, again, child, deeper, refused, call, plain, wrapped}
+use Rattle.parser_rules.specs.Nodes.{kind_of}
+use Rattle.parser_rules.specs.RuleLanguage.{Test, At, Word, Ready, Next, NextWord, HasNext, Deep, Not, Both, Either, holds, Prim, Bump, Note, TooDeep, step, Rule}
+use Rattle.parser_rules.specs.Runs.{Runs, skip, does, seq, yes, no, done, again, child, deeper, refused, call, plain, wrapped}
 use Rattle.parser_rules.proofs.runs.Frame.{on_kind, on_item, parts_forest, add_all_above, add_all_here, closed_here, wrap_added}
 
 -- All but the current token, and what is built and reported, is the same.

@@ -3,7 +3,8 @@ use Rattle.std.proofs.Common.{◌≡◌, Option, Some, None, List, [], ◌∷◌
 use Rattle.lexical_grammar.specs.Answers.{Answer, gives, limit_at, is_end, IsLast, AreAnswers}
 use Rattle.document_grammar.specs.Builds.{start, add_leaf, built_count}
 use Rattle.parser_rules.specs.State.{State, Lexeme, ignored, bad, met, wait, found_at, at_limit, read_on, flush, closed, wrapped_from, enter, leave, deepened}
-use Rattle.parser_rules.specs.Rule.{Rule, Runs}
+use Rattle.parser_rules.specs.RuleLanguage.{Rule}
+use Rattle.parser_rules.specs.Runs.{Runs}
 use Rattle.parser_rules.proofs.runs.Steps.{Holds_along, along}
 use Rattle.parser_rules.proofs.runs.Frame.{on_kind, on_item}
 

@@ -4,7 +4,10 @@ use Rattle.document_grammar.specs.declared.kind.SyntaxKind.{SyntaxKind}
 use Rattle.parser_rules.specs.declared.message.Message.{Message}
 use Rattle.document_grammar.specs.Builds.{start, add_leaf, finish}
 use Rattle.parser_rules.specs.State.{State, Text, Lexeme, read_on, flush, opened, closed, moved, bump}
-use Rattle.parser_rules.specs.Rule.{Test, Prim, Bump, Note, step, Node, Name, NameForFragment, NameForEnum, kind_of, inside, Rule, Do, Seq, When, Child, want, Runs, skip, does, seq, yes, no, child}
+use Rattle.parser_rules.specs.Nodes.{Node, Name, NameForFragment, NameForEnum, kind_of}
+use Rattle.parser_rules.specs.RuleLanguage.{Test, Prim, Bump, Note, step, Rule, Do, Seq, When, Child, want}
+use Rattle.parser_rules.specs.Rules.{inside}
+use Rattle.parser_rules.specs.Runs.{Runs, skip, does, seq, yes, no, child}
 use Rattle.parser_rules.proofs.runs.Frame.{read_closed}
 
 -- a report where the test fails, and what follows

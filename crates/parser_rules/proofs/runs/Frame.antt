@@ -12,7 +12,8 @@ use Rattle.document_grammar.proofs.Joins.{join-none, join_assoc}
 use Rattle.document_grammar.proofs.Built.{front-join, back-join}
 use Rattle.parser_rules.specs.State.{State, Lexeme, Part, ignored, bad, met, wait, lexeme, read_on, add_all, flush, opened, closed, wrapped_from, found_at, at_limit, is_at, is_deep, enter, leave, deepened, too_deep, fresh, begun}
 use Rattle.parser_rules.specs.Open.{is_free, is_free_in, IsOpen, IsMark, IsInside, IsRoot}
-use Rattle.parser_rules.specs.Rule.{Test, At, holds, Rule, Skip, While, Runs, done, again, refused, Turns, begin, turn}
+use Rattle.parser_rules.specs.RuleLanguage.{Test, At, holds, Rule, Skip, While}
+use Rattle.parser_rules.specs.Runs.{Runs, done, again, refused, Turns, begin, turn}
 use Rattle.parser_rules.proofs.runs.Steps.{Holds_along, along, turns_along}
 
 -- ---- reading on

@@ -4,7 +4,10 @@ use Rattle.parser_rules.specs.State.{State, flush, opened, closed, wrapped_from,
 use Rattle.lexical_grammar.specs.declared.TokenKind.TheVariants as token
 use Rattle.document_grammar.specs.declared.kind.SyntaxKind.TheVariants as kind
 use Rattle.document_grammar.specs.Builds.{built_count}
-use Rattle.parser_rules.specs.Rule.{At, Bump, holds, step, kind_of, inside, body, Rule, Skip, Do, Seq, When, While, Child, Nested, Call, Typed, Runs, skip, does, seq, yes, no, done, again, child, deeper, refused, call, plain, wrapped}
+use Rattle.parser_rules.specs.Nodes.{kind_of}
+use Rattle.parser_rules.specs.RuleLanguage.{At, Bump, holds, step, Rule, Skip, Do, Seq, When, While, Child, Nested, Call, Typed}
+use Rattle.parser_rules.specs.Rules.{inside, body}
+use Rattle.parser_rules.specs.Runs.{Runs, skip, does, seq, yes, no, done, again, child, deeper, refused, call, plain, wrapped}
 
 unfoldable pub Parts : Rule → State → State → Type 0
 Parts Skip s t = t ≡ s

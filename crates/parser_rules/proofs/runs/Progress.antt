@@ -6,7 +6,10 @@ use Rattle.document_grammar.specs.declared.kind.SyntaxKind.{SyntaxKind}
 use Rattle.document_grammar.specs.Booleans.{◌and◌, ◌or◌}
 use Rattle.document_grammar.proofs.Booleans.{and-l, and-r, either}
 use Rattle.parser_rules.specs.State.{State, Lexeme, flush, opened, closed, moved, bump, is_at, is_over, is_deep, enter, leave}
-use Rattle.parser_rules.specs.Rule.{At, Ready, Either, holds, Prim, Bump, Note, step, kind_of, ValueOf, NestedValue, has_item, inside, body, Rule, Skip, Do, Seq, When, Child, Nested, Call, Runs, skip, does, seq, yes, no, child, deeper, refused, call}
+use Rattle.parser_rules.specs.Nodes.{kind_of, ValueOf, NestedValue}
+use Rattle.parser_rules.specs.RuleLanguage.{At, Ready, Either, holds, Prim, Bump, Note, step, Rule, Skip, Do, Seq, When, Child, Nested, Call}
+use Rattle.parser_rules.specs.Rules.{has_item, inside, body}
+use Rattle.parser_rules.specs.Runs.{Runs, skip, does, seq, yes, no, child, deeper, refused, call}
 use Rattle.parser_rules.specs.declared.message.Message.{Message}
 use Rattle.parser_rules.proofs.runs.Frame.{left, moved_left, fewer}
 use Rattle.parser_rules.proofs.runs.Reporting.{after_note}

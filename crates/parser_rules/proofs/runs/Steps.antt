@@ -4,7 +4,9 @@ use Rattle.document_grammar.specs.declared.kind.SyntaxKind.{SyntaxKind}
 use Rattle.document_grammar.specs.declared.kind.SyntaxKind.TheVariants as kind
 use Rattle.document_grammar.specs.Builds.{start, add_leaf, built_count}
 use Rattle.parser_rules.specs.State.{State, Lexeme, read_on, flush, opened, closed, wrapped_from, moved, bump, found_at, noted, note, is_deep, enter, leave, deepened, limited_at, too_deep, at_limit}
-use Rattle.parser_rules.specs.Rule.{Test, Prim, Bump, Note, TooDeep, step, kind_of, Rule, Runs, skip, does, seq, yes, no, done, again, child, deeper, refused, call, plain, wrapped, Turns, begin, turn}
+use Rattle.parser_rules.specs.Nodes.{kind_of}
+use Rattle.parser_rules.specs.RuleLanguage.{Test, Prim, Bump, Note, TooDeep, step, Rule}
+use Rattle.parser_rules.specs.Runs.{Runs, skip, does, seq, yes, no, done, again, child, deeper, refused, call, plain, wrapped, Turns, begin, turn}
 
 pub record Holds_along (R : State → State → Type 0) : Type 0 where
   pub same : (s : State) → R s s

@@ -21,7 +21,9 @@ use Rattle.grammar_machine.proofs.Beginnings.{begins-text}
 use Rattle.document_grammar.proofs.Texts.{one-cut, sentence-starts, sentence-starts-within}
 use Rattle.grammar_machine.proofs.SentenceTheorems.{one-sentence}
 use Rattle.parser_rules.specs.Open.{IsRoot}
-use Rattle.parser_rules.specs.Rule.{Runs, Call, Document}
+use Rattle.parser_rules.specs.Nodes.{Document}
+use Rattle.parser_rules.specs.RuleLanguage.{Call}
+use Rattle.parser_rules.specs.Runs.{Runs}
 use Rattle.parser_rules.specs.State.{State, Report, begun, Lexeme, found_at, at_limit, at_text, finished, second, ignored, lexeme, add_all}
 use Rattle.parser_rules.proofs.reports.NoReport.{all_tokens, answers_tokens, item_tokens, report_of, given as given_by, Now, choose, EndsWell, kind_tokens, significant, ends, ignored-tokens, ignored-end}
 use Rattle.parser_rules.proofs.reports.Endings.{ends-well}

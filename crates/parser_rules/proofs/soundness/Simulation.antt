@@ -31,7 +31,10 @@ use Rattle.grammar_machine.proofs.SentenceTheorems.{start_symbol}
 use Rattle.std.proofs.lemmas.List.{append_cancel_right, length-append}
 use Rattle.grammar_machine.proofs.Steps.{goes, closes, sticks, goes-move, closes-move, sticks-move, misses-fires}
 use Rattle.parser_rules.specs.State.{State, Lexeme, Report, at_limit, found_at, noted, note, second, flush, opened, closed, wrapped_from, moved, bump, is_deep, enter, leave, deepened, limited_at, too_deep, add_all, read_on}
-use Rattle.parser_rules.specs.Rule.{Test, At, holds, Prim, Bump, Note, TooDeep, step, Node, symbol, kind_of, inside, body, Rule, Skip, Do, Seq, When, While, Child, Nested, Call, Typed, Runs, skip, does, seq, yes, no, done, again, child, deeper, refused, call, plain, wrapped}
+use Rattle.parser_rules.specs.Nodes.{Node, symbol, kind_of}
+use Rattle.parser_rules.specs.RuleLanguage.{Test, At, holds, Prim, Bump, Note, TooDeep, step, Rule, Skip, Do, Seq, When, While, Child, Nested, Call, Typed}
+use Rattle.parser_rules.specs.Rules.{inside, body}
+use Rattle.parser_rules.specs.Runs.{Runs, skip, does, seq, yes, no, done, again, child, deeper, refused, call, plain, wrapped}
 use Rattle.parser_rules.proofs.runs.Steps.{Holds_along, along}
 use Rattle.parser_rules.proofs.runs.Frame.{Untouched, read_untouched, Adds, adds}
 use Rattle.parser_rules.proofs.soundness.WithoutIgnored.{Stack, stack, put, stack-leaf, stack-finish, stack-flush}

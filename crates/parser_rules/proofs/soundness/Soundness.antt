@@ -37,7 +37,9 @@ use Rattle.grammar_machine.proofs.Starts.{read, next_one, next_two, after-one, a
 use Rattle.grammar_machine.proofs.Steps.{closes-move}
 use Rattle.grammar_machine.proofs.MachineTheorems.{Parse, done, document-begins}
 use Rattle.parser_rules.specs.State.{State, Lexeme, Report, at_limit, found_at, add_all, second as second_of, fresh, begun, finished, read_on, met, bad, wait, ignored, flush, closed, enter, leave, wrapped_from, is_over}
-use Rattle.parser_rules.specs.Rule.{Runs, Rule, Call, While, Ready, Definition, Document, holds, Turns}
+use Rattle.parser_rules.specs.Nodes.{Definition, Document}
+use Rattle.parser_rules.specs.RuleLanguage.{Rule, Call, While, Ready, holds}
+use Rattle.parser_rules.specs.Runs.{Runs, Turns}
 use Rattle.parser_rules.specs.Open.{IsRoot}
 use Rattle.parser_rules.proofs.runs.Frame.{read_untouched, add_all_above, on_kind, on_item, turned, begun_nesting}
 use Rattle.parser_rules.proofs.soundness.WithoutIgnored.{stack, strip, layers, stack-flush}

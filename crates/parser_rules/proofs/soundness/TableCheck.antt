@@ -14,7 +14,9 @@ use Rattle.grammar_machine.proofs.Steps.{goes, closes, sticks, misses}
 use Rattle.grammar_machine.proofs.Patterns.{label}
 use Rattle.grammar_machine.proofs.Sound.{any}
 use Rattle.grammar_machine.proofs.Depth.{count_in}
-use Rattle.parser_rules.specs.Rule.{Prim, Bump, Note, TooDeep, Test, At, Node, Argument, VariableDefinition, DefaultValue, ListValue, ObjectField, symbol, kind_of, inside, body, Rule, Skip, Do, Seq, When, While, Child, Nested, Call, Typed}
+use Rattle.parser_rules.specs.Nodes.{Node, Argument, VariableDefinition, DefaultValue, ListValue, ObjectField, symbol, kind_of}
+use Rattle.parser_rules.specs.RuleLanguage.{Prim, Bump, Note, TooDeep, Test, At, Rule, Skip, Do, Seq, When, While, Child, Nested, Call, Typed}
+use Rattle.parser_rules.specs.Rules.{inside, body}
 use Rattle.parser_rules.proofs.lookahead.TokenSets.{absent, over, ready, by_near, kind_set}
 use Rattle.parser_rules.proofs.lookahead.Split.{Level, low, high, past, Sure, loose, firm, full, Spot, spot, lost, fill, divide}
 use Rattle.parser_rules.proofs.lookahead.FirstSets.{without, first_of, second_of, inlined, unread}

@@ -2,7 +2,9 @@ use Rattle.std.proofs.Common.{refl, sym, ◌∙◌, arith}
 use Rattle.lexical_grammar.specs.declared.TokenKind.TheVariants as token
 use Rattle.document_grammar.specs.declared.kind.SyntaxKind.TheVariants as kind
 use Rattle.std.proofs.lemmas.Result.{on_ok_weaker}
-use Rattle.parser_rules.specs.Rule.{Spread, body, call, seq, yes, no}
+use Rattle.parser_rules.specs.Nodes.{Spread}
+use Rattle.parser_rules.specs.Rules.{body}
+use Rattle.parser_rules.specs.Runs.{call, seq, yes, no}
 use Rattle.apollo_grammar.proofs.Looks.{inlines_behind, next_behind, has_behind, some_shown, other_at}
 use Rattle.parser_rules.proofs.runs.Frame.{fewer, turned}
 use Rattle.parser_rules.proofs.runs.Progress.{consuming, at_there, one_there, taken, opened_takes, entered_left}

@@ -1,5 +1,8 @@
 use Rattle.std.proofs.Common.{◌+◌, ◌*◌}
-use Rattle.parser_rules.specs.Rule.{Turns, Call, Selection, selects}
+use Rattle.parser_rules.specs.Nodes.{Selection}
+use Rattle.parser_rules.specs.RuleLanguage.{Call}
+use Rattle.parser_rules.specs.Rules.{selects}
+use Rattle.parser_rules.specs.Runs.{Turns}
 use Rattle.parser_rules.proofs.runs.Frame.{left}
 use Rattle.apollo_grammar.proofs.grammar.+selection.Given as goal
 

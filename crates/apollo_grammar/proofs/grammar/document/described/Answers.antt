@@ -1,6 +1,8 @@
 use Rattle.std.proofs.Common.{◌∙◌}
 use Rattle.std.proofs.lemmas.Result.{on_ok_weaker}
-use Rattle.parser_rules.specs.Rule.{Described, body, call, yes, no}
+use Rattle.parser_rules.specs.Nodes.{Described}
+use Rattle.parser_rules.specs.Rules.{body}
+use Rattle.parser_rules.specs.Runs.{call, yes, no}
 use Rattle.apollo_grammar.proofs.Looks.{operates_behind, has_behind, some_shown}
 use Rattle.apollo_grammar.proofs.grammar.document.described.Goals as goal
 

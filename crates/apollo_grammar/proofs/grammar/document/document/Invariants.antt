@@ -1,4 +1,6 @@
-use Rattle.parser_rules.specs.Rule.{Turns, Call, Ready, Definition}
+use Rattle.parser_rules.specs.Nodes.{Definition}
+use Rattle.parser_rules.specs.RuleLanguage.{Call, Ready}
+use Rattle.parser_rules.specs.Runs.{Turns}
 use Rattle.parser_rules.proofs.runs.Frame.{left}
 use Rattle.apollo_grammar.proofs.grammar.document.document.Given as goal
 

@@ -2,7 +2,10 @@ use Rattle.std.proofs.Common.{refl, arith}
 use Rattle.lexical_grammar.specs.declared.TokenKind.TheVariants as token
 use Rattle.document_grammar.specs.declared.kind.SyntaxKind.TheVariants as kind
 use Rattle.std.proofs.lemmas.Result.{on_ok_weaker}
-use Rattle.parser_rules.specs.Rule.{NestedValue, ListItems, body, step, does, seq, yes, no, call, deeper, skip}
+use Rattle.parser_rules.specs.Nodes.{NestedValue, ListItems}
+use Rattle.parser_rules.specs.RuleLanguage.{step}
+use Rattle.parser_rules.specs.Rules.{body}
+use Rattle.parser_rules.specs.Runs.{does, seq, yes, no, call, deeper, skip}
 use Rattle.parser_rules.proofs.runs.Frame.{fewer, turned, ended}
 use Rattle.parser_rules.proofs.runs.Progress.{consuming, at_there, taken, opened_takes, entered_left, item_taken}
 use Rattle.apollo_grammar.proofs.grammar.value.+value.Goals as goal

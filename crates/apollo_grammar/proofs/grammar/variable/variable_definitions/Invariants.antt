@@ -1,5 +1,7 @@
 use Rattle.lexical_grammar.specs.declared.TokenKind.TheVariants as token
-use Rattle.parser_rules.specs.Rule.{Turns, At, Child, VariableDefinition}
+use Rattle.parser_rules.specs.Nodes.{VariableDefinition}
+use Rattle.parser_rules.specs.RuleLanguage.{At, Child}
+use Rattle.parser_rules.specs.Runs.{Turns}
 use Rattle.parser_rules.proofs.runs.Frame.{left}
 use Rattle.apollo_grammar.proofs.grammar.variable.variable_definitions.Given as goal
 

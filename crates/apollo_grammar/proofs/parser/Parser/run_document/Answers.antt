@@ -1,14 +1,15 @@
-use Rattle.std.proofs.Common.{◌≡◌, List, refl, ap, ◌∙◌, subst}
-use Rattle.lexical_grammar.specs.Answers.{Answer}
+use Rattle.std.proofs.Common.{refl, ap, subst}
 use Rattle.document_grammar.specs.declared.kind.SyntaxKind.TheVariants as kind
 use Rattle.document_grammar.specs.Numbers.{is_kind}
 use Rattle.apollo_lexer.specs.Answers.{answers_left}
-use Rattle.parser_rules.specs.State.{State, begun}
-use Rattle.parser_rules.specs.Rule.{Runs, Call, Document}
+use Rattle.parser_rules.specs.State.{begun}
+use Rattle.parser_rules.specs.Nodes.{Document}
+use Rattle.parser_rules.specs.RuleLanguage.{Call}
+use Rattle.parser_rules.specs.Runs.{Runs}
 use Rattle.parser_rules.proofs.runs.Frame.{root_kept, root_stays}
 use Rattle.apollo_grammar.specs.Roots.{root_kind}
 use Rattle.apollo_grammar.proofs.Building.{finished_node}
-use Rattle.apollo_grammar.proofs.Parses.{answers, run_read}
+use Rattle.apollo_grammar.proofs.Parses.{run_read}
 use Rattle.apollo_grammar.proofs.parser.Parser.run_document.Goals as goal
 
 pub finish-requires : goal.finish-requires
