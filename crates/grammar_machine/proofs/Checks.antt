@@ -3,6 +3,7 @@ use Rattle.std.proofs.Common.{◌≡◌, ℕ, zero, suc, ◌+◌, ◌-◌, Bool,
 use Rattle.grammar_machine.specs.Table.{State, state, Entry, entry, rows, firsts, follows}
 use Rattle.document_grammar.specs.Booleans.{◌and◌, ◌or◌}
 use Rattle.grammar_machine.specs.Machine.{holds, is_leaf, at, ends, exit, arcs, entries, dead, state_arcs, state_ends, state_exit}
+use Rattle.document_grammar.specs.Kinds.{DOCUMENT}
 
 abbrev pub subset : ℕ → ℕ → Bool
 subset a b = eqb (bit_and a b) a
@@ -23,7 +24,7 @@ unfoldable pub follow : ℕ → ℕ → ℕ
 follow k x = let p = get_or follows k (0, 0) in cond (eqb x 0) p.0 p.1
 
 unfoldable pub row_of : ℕ → List State
-row_of k = get_or rows (k - 60) []
+row_of k = get_or rows (k - DOCUMENT) []
 
 abbrev pub all_ends : List State → (ℕ → Bool) → Bool
 all_ends [] t = true
@@ -100,23 +101,23 @@ first_rows s (r ∷ more) = first_row s r and first_rows (suc s) more
 abbrev pub leaf_entry : ℕ → Bool
 leaf_entry l = all_entries (entries l) (λ x y a. a and eqb y 0)
 
-pub follow_checked : all_rows 60 rows follow_test ≡ true
+pub follow_checked : all_rows DOCUMENT rows follow_test ≡ true
 unfolding ◌and◌ ◌or◌ holds is_leaf at ends exit arcs entries rows firsts follows follow exits arcs_mask
 follow_checked = refl
 
-pub close_checked : all_rows 60 rows close_test ≡ true
+pub close_checked : all_rows DOCUMENT rows close_test ≡ true
 unfolding ◌and◌ ◌or◌ holds is_leaf at ends exit arcs entries rows firsts follows follow exits arcs_mask
 close_checked = refl
 
-pub choice_checked : all_rows 60 rows choice_test ≡ true
+pub choice_checked : all_rows DOCUMENT rows choice_test ≡ true
 unfolding ◌and◌ ◌or◌ holds is_leaf at ends exit arcs entries rows firsts follows follow exits arcs_mask
 choice_checked = refl
 
-pub first_checked : first_rows 60 rows ≡ true
+pub first_checked : first_rows DOCUMENT rows ≡ true
 unfolding ◌and◌ ◌or◌ holds is_leaf at ends exit arcs entries rows firsts follows follow exits arcs_mask
 first_checked = refl
 
-pub leaf_checked : all_below 60 leaf_entry ≡ true
+pub leaf_checked : all_below DOCUMENT leaf_entry ≡ true
 unfolding ◌and◌ ◌or◌ holds is_leaf at ends exit arcs entries rows firsts follows follow exits arcs_mask
 leaf_checked = refl
 

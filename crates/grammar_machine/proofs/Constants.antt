@@ -4,7 +4,7 @@ use Rattle.std.proofs.lemmas.Bool.{eqb-false}
 use Rattle.document_grammar.specs.Tree.{Text, Token, Tree, leaf, node, Forest, none, ◌▸◌, root}
 use Rattle.document_grammar.specs.Pattern.{Pattern, member, Matches}
 use Rattle.document_grammar.specs.Rows.{Row, bare_selections}
-use Rattle.document_grammar.specs.Kinds.{Types, DOCUMENT, OPERATION_DEFINITION, SELECTION_SET, FRAGMENT_NAME, DIRECTIVES, VARIABLE, DEFAULT_VALUE, ENUM_VALUE, NAMED_TYPE, LIST_TYPE, NON_NULL_TYPE, OBJECT_TYPE_DEFINITION, FIELDS_DEFINITION, INTERFACE_TYPE_DEFINITION, ENUM_TYPE_DEFINITION, ENUM_VALUES_DEFINITION, INPUT_OBJECT_TYPE_DEFINITION, INPUT_FIELDS_DEFINITION, OBJECT_TYPE_EXTENSION, INTERFACE_TYPE_EXTENSION, ENUM_TYPE_EXTENSION, INPUT_OBJECT_TYPE_EXTENSION, FIELD, FRAGMENT_SPREAD, INLINE_FRAGMENT, FRAGMENT_DEFINITION, ARGUMENTS, ARGUMENT, DIRECTIVE, VARIABLE_DEFINITIONS, VARIABLE_DEFINITION, LIST_VALUE, OBJECT_VALUE, OBJECT_FIELD, L_CURLY}
+use Rattle.document_grammar.specs.Kinds.{Types, DOCUMENT, OPERATION_DEFINITION, SELECTION_SET, FRAGMENT_NAME, DIRECTIVES, VARIABLE, DEFAULT_VALUE, ENUM_VALUE, NAMED_TYPE, LIST_TYPE, NON_NULL_TYPE, OBJECT_TYPE_DEFINITION, FIELDS_DEFINITION, INTERFACE_TYPE_DEFINITION, ENUM_TYPE_DEFINITION, ENUM_VALUES_DEFINITION, INPUT_OBJECT_TYPE_DEFINITION, INPUT_FIELDS_DEFINITION, OBJECT_TYPE_EXTENSION, INTERFACE_TYPE_EXTENSION, ENUM_TYPE_EXTENSION, INPUT_OBJECT_TYPE_EXTENSION, FIELD, FRAGMENT_SPREAD, INLINE_FRAGMENT, FRAGMENT_DEFINITION, ARGUMENTS, ARGUMENT, DIRECTIVE, VARIABLE_DEFINITIONS, VARIABLE_DEFINITION, LIST_VALUE, OBJECT_VALUE, OBJECT_FIELD, L_CURLY, IDENT, STRING}
 use Rattle.grammar_machine.specs.Table.{State, rows, firsts, name_leaves}
 use Rattle.grammar_machine.specs.Labels.{paths, labels}
 use Rattle.document_grammar.specs.Booleans.{◌and◌, ◌or◌}
@@ -33,15 +33,15 @@ marked_test s v = not (member (label s) Marked) or all_arcs (state_arcs v) (λ k
 abbrev inner_test : ℕ → State → Bool
 inner_test s v = all_arcs (state_arcs v) (λ k q. not (eqb k BARE_SELECTIONS))
 
-pure-checked : all_rows 60 rows pure_test ≡ true
+pure-checked : all_rows DOCUMENT rows pure_test ≡ true
 unfolding pure member ◌and◌ ◌or◌ rows
 pure-checked = refl
 
-marked-checked : all_rows 60 rows marked_test ≡ true
+marked-checked : all_rows DOCUMENT rows marked_test ≡ true
 unfolding pure member ◌and◌ ◌or◌ rows label labels shown
 marked-checked = refl
 
-inner-checked : all_rows 60 rows inner_test ≡ true
+inner-checked : all_rows DOCUMENT rows inner_test ≡ true
 unfolding ◌and◌ ◌or◌ rows
 inner-checked = refl
 
@@ -67,7 +67,7 @@ label-default_value s e = label-alone DEFAULT_VALUE s refl refl e
 
 label-document : (s : ℕ) → label s ≡ DOCUMENT → s ≡ DOCUMENT
 unfolding labels ◌and◌ ◌or◌
-label-document s e = label-alone 60 s refl refl e
+label-document s e = label-alone DOCUMENT s refl refl e
 
 pure-variable : pure VARIABLE ≡ false
 unfolding pure member
@@ -163,7 +163,7 @@ lacks-finish (node s f) o e h =
 abbrev document_test : ℕ → State → Bool
 document_test s v = not (eqb s DOCUMENT) or all_arcs (state_arcs v) (λ k q. not (eqb k TYPE) and eqb q 1)
 
-document-checked : all_rows 60 rows document_test ≡ true
+document-checked : all_rows DOCUMENT rows document_test ≡ true
 unfolding ◌and◌ ◌or◌ rows
 document-checked = refl
 
@@ -286,7 +286,7 @@ type-rest u f q e o =
 no-eq : (a b : ℕ) → eqb a b ≡ false → a ≡ b → ⊥
 no-eq a b h e = eqb-false a b h e
 
-rules-non_null_type : (f : Forest) → NameRule NON_NULL_TYPE f × ConstantRule NON_NULL_TYPE f × (◌≡◌ {A = ℕ} NON_NULL_TYPE 60 → BraceRule f)
+rules-non_null_type : (f : Forest) → NameRule NON_NULL_TYPE f × ConstantRule NON_NULL_TYPE f × (◌≡◌ {A = ℕ} NON_NULL_TYPE DOCUMENT → BraceRule f)
 unfolding member
 rules-non_null_type f = (((λ e. absurd (no-eq NON_NULL_TYPE FRAGMENT_NAME refl e)), (λ e. absurd (no-eq NON_NULL_TYPE ENUM_VALUE refl e))), ((λ e. absurd (no-eq NON_NULL_TYPE DEFAULT_VALUE refl e)), (λ e. absurd (true≢false (sym e)))), (λ e. absurd (no-eq NON_NULL_TYPE DOCUMENT refl e)))
 
@@ -327,9 +327,9 @@ path-fits s p q (t ▸ f) l o = (ok-fits t o.1 (inner-arc s p (root t) l o.0), p
 
 -- The tokens of the shown tree are those of the tree.
 abbrev token_test : ℕ → Bool
-token_test l = eqb l 0 or (eqb (cond (ltb 21 (label l)) 18 (label l)) (cond (holds l name_leaves) 18 l) and not (ltb (label l) 3))
+token_test l = eqb l 0 or (eqb (cond (ltb STRING (label l)) IDENT (label l)) (cond (holds l name_leaves) IDENT l) and not (ltb (label l) 3))
 
-tokens-checked : all_below 60 token_test ≡ true
+tokens-checked : all_below DOCUMENT token_test ≡ true
 unfolding label labels holds ◌and◌ ◌or◌
 tokens-checked = refl
 
@@ -340,7 +340,7 @@ no-zero l b h e = true≢false (sym (rw e at h))
 
 leaf-yield : (l : ℕ) (x : Text) → Ok (leaf l x) → Yield (leaf (label l) x) ≡ token l x ∷ []
 unfolding token
-leaf-yield l x o = elim (or-c _ _ (below-at token_test 60 l (leaf-lt l o.0) tokens-checked)) [
+leaf-yield l x o = elim (or-c _ _ (below-at token_test DOCUMENT l (leaf-lt l o.0) tokens-checked)) [
   | inl p ↦ absurd (no-zero l (class (token l x)) o.1 (eqb-true l 0 p))
   | inr p ↦ rw (not-c _ (and-r _ _ p)) (ap (λ (n : ℕ). (n, x) ∷ []) (eqb-true _ _ (and-l _ _ p)))
 ]

@@ -1,12 +1,11 @@
 -- The nesting of the open nodes is at most that of each tree of which they are the left part.
 use Rattle.std.proofs.Common.{◌≡◌, ℕ, ◌+◌, ◌≤◌, max, List, [], ◌∷◌, ap, arith, refl, sym, ap₂, ◌∙◌, subst, ◌⊎◌, inl, inr, eqb, eqb-true}
-use Rattle.document_grammar.proofs.Booleans.{cond-zero}
+use Rattle.document_grammar.proofs.Booleans.{cond-zero, either}
 use Rattle.document_grammar.specs.Tree.{Token, Tree, leaf, node, Forest, none, ◌▸◌, ◌+++◌, root}
 use Rattle.document_grammar.specs.Pattern.{member}
 use Rattle.document_grammar.specs.Kinds.{LIST_VALUE, OBJECT_FIELD, DOCUMENT, NAMED_TYPE, LIST_TYPE, NON_NULL_TYPE}
 use Rattle.grammar_machine.specs.Machine.{Frame, frame, Ok, OkFrom, target, finish}
 use Rattle.document_grammar.specs.Derivation.{nest, below, belows, counts}
-use Rattle.document_grammar.proofs.Booleans.{either}
 use Rattle.grammar_machine.proofs.Run.{Left, Upper}
 use Rattle.grammar_machine.specs.Labels.{labels}
 use Rattle.grammar_machine.proofs.Patterns.{label}

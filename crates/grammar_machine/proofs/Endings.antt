@@ -5,7 +5,7 @@ use Rattle.grammar_machine.specs.Table.{State, rows, firsts, name_leaves, name_c
 use Rattle.document_grammar.specs.Booleans.{◌and◌, ◌or◌}
 use Rattle.grammar_machine.specs.Machine.{holds, is_leaf, at, ends, exit, arcs, has, target, entries, fires, class, token, state_arcs, finish, text_eq}
 use Rattle.grammar_machine.proofs.Checks.{subset, exits, all_arcs, all_entries, all_rows, all_below}
-use Rattle.document_grammar.specs.Kinds.{words}
+use Rattle.document_grammar.specs.Kinds.{words, DOCUMENT}
 
 abbrev plant : (ℕ → Tree) → List ℕ → Forest
 plant f [] = none
@@ -16,10 +16,10 @@ spell l = get_or spellings l []
 
 abbrev sample : ℕ → ℕ → Tree
 sample zero k = leaf k []
-sample (suc n) k = cond (is_leaf k) (leaf k (spell k)) (node k (plant (λ j. sample n j) (get_or (get_or endings (k - 60) []) 0 [])))
+sample (suc n) k = cond (is_leaf k) (leaf k (spell k)) (node k (plant (λ j. sample n j) (get_or (get_or endings (k - DOCUMENT) []) 0 [])))
 
 unfoldable pub ending : ℕ → ℕ → Forest
-ending s q = plant (λ j. sample 7 j) (get_or (get_or endings (s - 60) []) q [])
+ending s q = plant (λ j. sample 7 j) (get_or (get_or endings (s - DOCUMENT) []) q [])
 
 abbrev mutual
   pub okb : Tree → Bool
@@ -46,7 +46,7 @@ fillable s q = okb_from s q (ending s q) and spelt_all (ending s q)
 abbrev pub fill_test : ℕ → State → Bool
 fill_test s v = all_arcs (state_arcs v) (λ k q. (is_leaf k or fillable k 0) and exits k (λ x. fillable s (q + x)))
 
-pub fill_checked : all_rows 60 rows fill_test ≡ true
+pub fill_checked : all_rows DOCUMENT rows fill_test ≡ true
 unfolding ◌and◌ ◌or◌ holds is_leaf at ends exit arcs has target entries fires class token words rows firsts exits endings spellings ending fillable
 fill_checked = refl
 
@@ -58,7 +58,7 @@ abbrev pub word_tests : List (ℕ × Text) → Bool
 word_tests [] = true
 word_tests (w ∷ more) = holds w.0 name_classes and word_tests more
 
-pub leaf_classes_checked : all_below 60 leaf_test ≡ true
+pub leaf_classes_checked : all_below DOCUMENT leaf_test ≡ true
 unfolding ◌and◌ ◌or◌ holds is_leaf entries firsts
 leaf_classes_checked = refl
 

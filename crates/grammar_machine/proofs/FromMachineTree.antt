@@ -11,7 +11,7 @@ use Rattle.grammar_machine.proofs.Checks.{exits}
 use Rattle.document_grammar.proofs.Booleans.{false-true, and-l, and-r, or-c, either, eqb-refl}
 use Rattle.grammar_machine.proofs.TableLemmas.{arcs-at, exits-at, node-sum}
 use Rattle.grammar_machine.proofs.Patterns.{nullable, deriv, kinds_eq, pattern_eq, pattern_of, label, shown, all_kinds, any_arcs, constant, begin_kinds, agree_at, agree_states, agree_rows, agree_checked, nullable-from, from-deriv}
-use Rattle.document_grammar.specs.Kinds.{VARIABLE, NAMED_TYPE, LIST_TYPE, NON_NULL_TYPE}
+use Rattle.document_grammar.specs.Kinds.{VARIABLE, NAMED_TYPE, LIST_TYPE, NON_NULL_TYPE, DOCUMENT}
 use Rattle.grammar_machine.specs.Symbols.{TYPE}
 
 -- A type's node stands for its child, or with `!` for a NON_NULL_TYPE.
@@ -71,7 +71,7 @@ agree-rows s (suc n) q (r ∷ more) h v = let z : s + suc n ≡ suc s + n = omeg
 
 pub agree : (s q : ℕ) → is_leaf s ≡ false → Live (at s q) → agree_at s q ≡ true
 unfolding at
-agree s q l v = subst (λ (n : ℕ). agree_at n q ≡ true) (node-sum s l) (agree-rows 60 (s - 60) q rows agree_checked v)
+agree s q l v = subst (λ (n : ℕ). agree_at n q ≡ true) (node-sum s l) (agree-rows DOCUMENT (s - DOCUMENT) q rows agree_checked v)
 
 -- The rows.
 leaf-no-type : (l : ℕ) → is_leaf l ≡ true → eqb l TYPE ≡ false

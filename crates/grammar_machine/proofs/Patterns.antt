@@ -9,8 +9,8 @@ use Rattle.grammar_machine.specs.Machine.{is_leaf, at, ends, exit, arcs}
 use Rattle.grammar_machine.proofs.Checks.{all_arcs, exits}
 use Rattle.document_grammar.proofs.Booleans.{and-l, and-r, or-c, or-l, or-r, either}
 use Rattle.grammar_machine.proofs.TableLemmas.{head-same, tail-same, no-cons}
-use Rattle.document_grammar.specs.Kinds.{OPERATION_DEFINITION, SELECTION_SET, VARIABLE, DEFAULT_VALUE, NAMED_TYPE, LIST_TYPE, NON_NULL_TYPE}
-use Rattle.grammar_machine.specs.Symbols.{TYPE, SHORT_QUERY, BARE_SELECTIONS}
+use Rattle.document_grammar.specs.Kinds.{OPERATION_DEFINITION, SELECTION_SET, VARIABLE, DEFAULT_VALUE, NAMED_TYPE, LIST_TYPE, NON_NULL_TYPE, DOCUMENT}
+use Rattle.grammar_machine.specs.Symbols.{TYPE, SHORT_QUERY, BARE_SELECTIONS, NAME_FOR_ENUM}
 
 abbrev is_never : Pattern → Bool
 is_never (any_of []) = true
@@ -84,7 +84,7 @@ type_row = any_of (NAMED_TYPE ∷ LIST_TYPE ∷ []) then maybe (one 4)
 
 unfoldable pub pattern_of : ℕ → ℕ → Pattern
 unfolding symbol_row
-pattern_of s q = derive_all (cond (eqb s TYPE) type_row (symbol_row s)) (get_or (get_or paths (s - 60) []) q [])
+pattern_of s q = derive_all (cond (eqb s TYPE) type_row (symbol_row s)) (get_or (get_or paths (s - DOCUMENT) []) q [])
 
 -- The kinds as which a child's symbol is shown: a type is one of three.
 unfoldable pub shown : ℕ → List ℕ
@@ -101,7 +101,7 @@ any_arcs (a ∷ more) t = t a.0 a.1 or any_arcs more t
 
 -- The symbols of constant places: DEFAULT_VALUE, and the copies below it and below marked DIRECTIVES.
 unfoldable pub constant : ℕ → Bool
-constant s = eqb s DEFAULT_VALUE or (ltb 123 s and ltb s 131)
+constant s = eqb s DEFAULT_VALUE or (ltb NAME_FOR_ENUM s and ltb s BARE_SELECTIONS)
 
 -- The state `q` of `s` and its pattern agree: on the end, along each arc, and each kind that the pattern may begin with has an arc.
 unfoldable pub agree_at : ℕ → ℕ → Bool
@@ -117,7 +117,7 @@ abbrev pub agree_rows : ℕ → List (List State) → Bool
 agree_rows s [] = true
 agree_rows s (r ∷ more) = agree_states s 0 r and agree_rows (suc s) more
 
-pub agree_checked : agree_rows 60 rows ≡ true
+pub agree_checked : agree_rows DOCUMENT rows ≡ true
 unfolding agree_at constant shown pattern_of symbol_row label ◌and◌ ◌or◌ is_leaf at ends exit arcs rows exits paths labels Row member
 agree_checked = refl
 

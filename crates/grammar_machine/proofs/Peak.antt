@@ -7,11 +7,10 @@ use Rattle.document_grammar.specs.Pattern.{member}
 use Rattle.document_grammar.specs.Booleans.{◌and◌}
 use Rattle.grammar_machine.specs.Machine.{is_leaf, Frame, frame}
 use Rattle.document_grammar.specs.Kinds.{DOCUMENT, SELECTION_SET, LIST_TYPE, LIST_VALUE, OBJECT_FIELD, Values}
-use Rattle.document_grammar.proofs.Booleans.{and-l, and-r, not-c}
+use Rattle.document_grammar.proofs.Booleans.{and-l, and-r, not-c, cond-zero}
 use Rattle.grammar_machine.proofs.TableLemmas.{below-at}
 use Rattle.grammar_machine.proofs.Sound.{leaf-lt}
 use Rattle.grammar_machine.proofs.Patterns.{label}
-use Rattle.document_grammar.proofs.Booleans.{cond-zero}
 use Rattle.grammar_machine.proofs.Depth.{count_in, nesting, nestings, nesting_all, depth_above}
 use Rattle.grammar_machine.proofs.Checks.{all_below}
 
@@ -72,13 +71,13 @@ peak-close s q p k o f g fs =
 abbrev leaf_count : ℕ → Bool
 leaf_count l = not (member (label l) (SELECTION_SET ∷ LIST_TYPE ∷ [])) and not (member (label l) Values)
 
-leaf-counts-checked : all_below 60 leaf_count ≡ true
+leaf-counts-checked : all_below DOCUMENT leaf_count ≡ true
 unfolding ◌and◌ label labels member
 leaf-counts-checked = refl
 
 leaf-counts-none : (s l : ℕ) → is_leaf l ≡ true → count_in s l ≡ 0
 leaf-counts-none s l i =
-    let c = below-at leaf_count 60 l (leaf-lt l i) leaf-counts-checked in
+    let c = below-at leaf_count DOCUMENT l (leaf-lt l i) leaf-counts-checked in
     rw (not-c _ (and-l _ _ c), not-c _ (and-r _ _ c)) (cond-zero (member (label s) (LIST_VALUE ∷ OBJECT_FIELD ∷ [])))
 
 pub peak-shift : (s q p l : ℕ) (x : Text) (f : Forest) (fs : List Frame) → is_leaf l ≡ true

@@ -15,7 +15,7 @@ use Rattle.grammar_machine.proofs.TableLemmas.{tail-same, no-cons, below-at}
 use Rattle.grammar_machine.proofs.Sound.{fired, holds-one, leaf-lt}
 use Rattle.grammar_machine.proofs.Patterns.{derive_all, pattern_of, symbol_row, label}
 use Rattle.grammar_machine.proofs.FromMachineTree.{show, shows, row-shown, show-root}
-use Rattle.document_grammar.specs.Kinds.{words, OPERATION_DEFINITION, SELECTION_SET, NAME, FRAGMENT_NAME, ENUM_VALUE}
+use Rattle.document_grammar.specs.Kinds.{words, OPERATION_DEFINITION, SELECTION_SET, NAME, FRAGMENT_NAME, ENUM_VALUE, DOCUMENT, IDENT, STRING}
 use Rattle.grammar_machine.specs.Symbols.{TYPE, SHORT_QUERY, NAME_FOR_FRAGMENT, NAME_FOR_ENUM, BARE_SELECTIONS}
 
 -- Tests over the labels and the leaves.
@@ -74,7 +74,7 @@ paths-start = refl
 
 pub start-pattern : (s : ℕ) → eqb s TYPE ≡ false → pattern_of s 0 ≡ symbol_row s
 unfolding pattern_of
-start-pattern s e = rw e (ap (derive_all (symbol_row s)) (first-path paths (s - 60) paths-start))
+start-pattern s e = rw e (ap (derive_all (symbol_row s)) (first-path paths (s - DOCUMENT) paths-start))
 
 pub symbol-row : (s : ℕ) (w : List ℕ) → eqb s BARE_SELECTIONS ≡ false → Matches (symbol_row s) w → Matches (Row (label s)) w
 unfolding symbol_row label labels Row
@@ -94,7 +94,7 @@ text-same [] (b ∷ bs) h = absurd (true≢false (sym h))
 text-same (a ∷ x) [] h = absurd (true≢false (sym h))
 text-same (a ∷ x) (b ∷ y) h = ap₂ (λ u v. u ∷ v) (eqb-true a b (and-l _ _ h)) (text-same x y (and-r _ _ h))
 
-pub listed : (ws : List (ℕ × Text)) (l : ℕ) (x : Text) → word_class ws x ≡ l → (l ≡ 18 → ⊥) → Listed ws l x
+pub listed : (ws : List (ℕ × Text)) (l : ℕ) (x : Text) → word_class ws x ≡ l → (l ≡ IDENT → ⊥) → Listed ws l x
 listed [] l x e n = absurd (n (sym e))
 listed (w ∷ more) l x e n = elim (either (text_eq w.1 x)) [
   | inl p ↦ inl (rw p at e, text-same w.1 x p)
@@ -102,9 +102,9 @@ listed (w ∷ more) l x e n = elim (either (text_eq w.1 x)) [
 ]
 
 abbrev keyword_test : ℕ → Bool
-keyword_test l = not (ltb 21 (label l)) or (eqb (label l) l and holds l name_leaves and all_entries (entries l) (λ x y a. eqb x (2 ^ l)))
+keyword_test l = not (ltb STRING (label l)) or (eqb (label l) l and holds l name_leaves and all_entries (entries l) (λ x y a. eqb x (2 ^ l)))
 
-keywords-checked : all_below 60 keyword_test ≡ true
+keywords-checked : all_below DOCUMENT keyword_test ≡ true
 unfolding ◌and◌ ◌or◌ holds label labels entries firsts
 keywords-checked = refl
 
@@ -112,13 +112,13 @@ pub keyword-class : (l : ℕ) (x : Text) → holds l name_leaves ≡ true → cl
 unfolding class token
 keyword-class l x h = rw h refl
 
-above-string : (l : ℕ) → 21 < l → l ≡ 18 → ⊥
+above-string : (l : ℕ) → STRING < l → l ≡ IDENT → ⊥
 above-string l h e = omega arith
 
 pub leaf-rule : (l : ℕ) (x : Text) → Ok (leaf l x) → LeafRule (label l) x
 unfolding fires
 leaf-rule l x o h =
-    let c = implies _ _ (below-at keyword_test 60 l (leaf-lt l o.0) keywords-checked) (lt-ltb _ _ h) in
+    let c = implies _ _ (below-at keyword_test DOCUMENT l (leaf-lt l o.0) keywords-checked) (lt-ltb _ _ h) in
     let e : label l ≡ l = eqb-true _ _ (and-l _ _ (and-l _ _ c)) in
     let d = fired (entries l) (λ x. eqb x (2 ^ l)) (class (token l x)) 0 (and-r _ _ c) o.1 in
     let k : class (token l x) ≡ l = holds-one (class (token l x)) l (rw (eqb-true _ _ d.1) at d.2) in
@@ -156,12 +156,12 @@ trim : (i : ℕ) (y : Text) → NameLeaf i y → NameLeaf i (y ++ [])
 unfolding NameLeaf
 trim i y h = (h.0, append-nil y ∙ h.1, h.2)
 
-inner-text : (j i : ℕ) (t : Tree) → root t ≡ j → is_leaf j ≡ false → eqb j TYPE ≡ false → pattern_of j 0 ≡ any_of (18 ∷ []) → arcs j 0 ≡ (i, 1) ∷ []
+inner-text : (j i : ℕ) (t : Tree) → root t ≡ j → is_leaf j ≡ false → eqb j TYPE ≡ false → pattern_of j 0 ≡ any_of (IDENT ∷ []) → arcs j 0 ≡ (i, 1) ∷ []
     → is_leaf i ≡ true → Ok t → NameLeaf i (text (show t))
 inner-text j i (leaf l x) e lj ej pj aj li o = no-leaf-root l j o.0 e lj
 inner-text j i (node s g) e lj ej pj aj li o =
     let g' : OkFrom j 0 g = subst (λ (n : ℕ). OkFrom n 0 g) e o.1 in
-    let c = single j 18 g lj ej pj g' in
+    let c = single j IDENT g lj ej pj g' in
     let h : OkFrom j 0 (c.0 ▸ none) = subst (λ (z : Forest). OkFrom j 0 z) c.1 g' in
     let n : NameLeaf i (text (show c.0) ++ []) = trim i (text (show c.0)) (leaf-text i c.0 (only-arc j i (root c.0) aj h.0) li h.1) in
     subst (λ (z : Tree). NameLeaf i (text z)) (sym (show-root s g (subst (λ (z : ℕ). eqb z TYPE ≡ false) (sym e) ej)))
@@ -169,7 +169,7 @@ inner-text j i (node s g) e lj ej pj aj li o =
 
 -- The text of a name node: its leaf is of the symbol `i`.
 name-leaf : (s j i : ℕ) (f : Forest) → is_leaf s ≡ false → eqb s TYPE ≡ false → pattern_of s 0 ≡ any_of (NAME ∷ []) → arcs s 0 ≡ (j, 1) ∷ []
-    → is_leaf j ≡ false → eqb j TYPE ≡ false → pattern_of j 0 ≡ any_of (18 ∷ []) → arcs j 0 ≡ (i, 1) ∷ [] → is_leaf i ≡ true → OkFrom s 0 f
+    → is_leaf j ≡ false → eqb j TYPE ≡ false → pattern_of j 0 ≡ any_of (IDENT ∷ []) → arcs j 0 ≡ (i, 1) ∷ [] → is_leaf i ≡ true → OkFrom s 0 f
     → NameLeaf i (texts (shows f))
 name-leaf s j i f ls es ps as' lj ej pj aj li o =
     let c = single s NAME f ls es ps o in

@@ -13,7 +13,7 @@ use Rattle.grammar_machine.proofs.TableLemmas.{holds-subset, holds-disjoint, arc
 use Rattle.grammar_machine.proofs.Run.{go-close, go-stuck, close-stuck, go-inj}
 use Rattle.document_grammar.proofs.Built.{forest-none}
 use Rattle.grammar_machine.proofs.Endings.{ending, okb, okb_from, fillable, fill_test, fill_checked, leaf_test, leaf_classes_checked, word_tests, words_checked, spell, spelt, spelt_all}
-use Rattle.document_grammar.specs.Kinds.{words}
+use Rattle.document_grammar.specs.Kinds.{words, DOCUMENT, IDENT}
 
 -- What a move says of the row.
 pub choose-has : (l : List (ℕ × ℕ)) (e : Bool) (a b k : ℕ) → choose l e a b ≡ go k → (has_in l k ≡ true) × (fires k a b ≡ true)
@@ -45,7 +45,7 @@ unfolding move
 move-ends s q a b h = choose-ends (arcs s q) (ends s q) a b h
 
 -- The token of a leaf.
-pub leaf-lt : (l : ℕ) → is_leaf l ≡ true → l < 60
+pub leaf-lt : (l : ℕ) → is_leaf l ≡ true → l < DOCUMENT
 unfolding is_leaf
 leaf-lt l h = ltb-true _ _ h
 
@@ -67,9 +67,9 @@ three-no-name = refl
 
 -- The class of a token is a name's exactly where the token is a name; else it is the token's kind, or 3.
 pub class-cases : (a : Token)
-    → ((a.0 ≡ 18) × (holds (class a) name_classes ≡ true)) ⊎ ((holds (class a) name_classes ≡ false) × ((class a ≡ a.0) ⊎ (class a ≡ 3)))
+    → ((a.0 ≡ IDENT) × (holds (class a) name_classes ≡ true)) ⊎ ((holds (class a) name_classes ≡ false) × ((class a ≡ a.0) ⊎ (class a ≡ 3)))
 unfolding class
-class-cases a = elim (either (eqb a.0 18)) [
+class-cases a = elim (either (eqb a.0 IDENT)) [
   | inl p ↦ inl (eqb-true _ _ p, rw p (word-name words a.1 words_checked))
   | inr p ↦ elim (either (holds a.0 token_kinds)) [
     | inl q ↦ inr (rw (p, q) (token-kind-no-name a.0 q), inl (rw (p, q) refl))
@@ -95,7 +95,7 @@ holds-one a l h = elim (either (eqb a l)) [
 
 leaf-kind : (l : ℕ) (a : Token) (b : Bool) (x : ℕ) → holds l name_leaves ≡ b
     → cond b (subset x name_classes) (eqb x (2 ^ l) and not (holds l name_classes) and not (eqb l 3)) ≡ true → holds (class a) x ≡ true
-    → cond b 18 l ≡ a.0
+    → cond b IDENT l ≡ a.0
 leaf-kind l a true x n t h = elim (class-cases a) [
   | inl p ↦ sym p.0
   | inr p ↦ false-true p.0 (holds-subset (class a) x name_classes t h)
@@ -111,7 +111,7 @@ leaf-kind l a false x n t h =
 pub leaf-token : (l b : ℕ) (a : Token) → is_leaf l ≡ true → fires l (class a) b ≡ true → token l a.1 ≡ a
 unfolding token fires
 leaf-token l b a i f =
-    let c = fired (entries l) (λ x. cond (holds l name_leaves) (subset x name_classes) (eqb x (2 ^ l) and not (holds l name_classes) and not (eqb l 3))) (class a) b (below-at leaf_test 60 l (leaf-lt l i) leaf_classes_checked) f in
+    let c = fired (entries l) (λ x. cond (holds l name_leaves) (subset x name_classes) (eqb x (2 ^ l) and not (holds l name_classes) and not (eqb l 3))) (class a) b (below-at leaf_test DOCUMENT l (leaf-lt l i) leaf_classes_checked) f in
     ap (λ (n : ℕ). (n, a.1)) (leaf-kind l a (holds l name_leaves) c.0 refl c.1 c.2)
 
 -- A leaf's entries don't ask for a second token.
@@ -124,7 +124,7 @@ fires-alone (entry x y alone ∷ more) a b b' t h = elim (or-c _ _ h) [
 
 pub leaf-ok : (l b : ℕ) (a : Token) → is_leaf l ≡ true → fires l (class a) b ≡ true → Ok (leaf l a.1)
 unfolding fires
-leaf-ok l b a i f = (i, rw (leaf-token l b a i f) (fires-alone (entries l) (class a) b 0 (below-at leaf_entry 60 l (leaf-lt l i) leaf_checked) f))
+leaf-ok l b a i f = (i, rw (leaf-token l b a i f) (fires-alone (entries l) (class a) b 0 (below-at leaf_entry DOCUMENT l (leaf-lt l i) leaf_checked) f))
 
 -- Paths.
 pub path-snoc : (s p q : ℕ) (f : Forest) (t : Tree) → Path s p f q → has s q (root t) ≡ true → Ok t
@@ -310,7 +310,7 @@ three-any = refl
 
 pub class-any : (a : Token) → holds (class a) any ≡ true
 unfolding class
-class-any a = elim (either (eqb a.0 18)) [
+class-any a = elim (either (eqb a.0 IDENT)) [
   | inl p ↦ rw p (holds-subset (word_class words a.1) name_classes any refl (word-name words a.1 words_checked))
   | inr p ↦ elim (either (holds a.0 token_kinds)) [
     | inl q ↦ rw (p, q) (holds-subset a.0 token_kinds any refl q)

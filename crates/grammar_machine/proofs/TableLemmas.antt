@@ -7,9 +7,9 @@ use Rattle.document_grammar.specs.Booleans.{◌or◌}
 use Rattle.document_grammar.proofs.Booleans.{and-l, and-r, implies, either}
 use Rattle.document_grammar.specs.Tree.{Tree, leaf, node, Forest, none, ◌▸◌, root}
 use Rattle.grammar_machine.specs.Table.{State, state, rows}
-use Rattle.document_grammar.specs.Booleans.{◌or◌}
 use Rattle.grammar_machine.specs.Machine.{holds, is_leaf, at, ends, exit, target, dead, state_ends, state_exit, has_in, target_in, finish, walk, Ok, OkFrom}
 use Rattle.grammar_machine.proofs.Checks.{subset, disjoint, row_of, all_ends, exits, all_arcs, all_states, all_rows, all_below}
+use Rattle.document_grammar.specs.Kinds.{DOCUMENT}
 
 -- A test that holds of each number below n.
 pub below-at : (t : ℕ → Bool) (n l : ℕ) → l < n → all_below n t ≡ true → t l ≡ true
@@ -87,13 +87,13 @@ rows-at s [] t n q h d = d (s + n)
 rows-at s (r ∷ more) t zero q h d = let e : s + 0 ≡ s = omega arith in rw e (states-at r (t s) q (and-l _ _ h) (d s))
 rows-at s (r ∷ more) t (suc n) q h d = let e : s + suc n ≡ suc s + n = omega arith in rw e (rows-at (suc s) more t n q (and-r (all_states r (t s)) _ h) d)
 
-pub node-sum : (s : ℕ) → is_leaf s ≡ false → 60 + (s - 60) ≡ s
+pub node-sum : (s : ℕ) → is_leaf s ≡ false → DOCUMENT + (s - DOCUMENT) ≡ s
 unfolding is_leaf
-node-sum s h = let l : 60 ≤ s = ltb-false _ _ h in omega arith
+node-sum s h = let l : DOCUMENT ≤ s = ltb-false _ _ h in omega arith
 
-pub row-test : (t : ℕ → State → Bool) → all_rows 60 rows t ≡ true → ((k : ℕ) → t k dead ≡ true) → (s q : ℕ) → is_leaf s ≡ false → t s (at s q) ≡ true
+pub row-test : (t : ℕ → State → Bool) → all_rows DOCUMENT rows t ≡ true → ((k : ℕ) → t k dead ≡ true) → (s q : ℕ) → is_leaf s ≡ false → t s (at s q) ≡ true
 unfolding at
-row-test t h d s q l = subst (λ (n : ℕ). t n (get_or (get_or rows (s - 60) []) q dead) ≡ true) (node-sum s l) (rows-at 60 rows t (s - 60) q h d)
+row-test t h d s q l = subst (λ (n : ℕ). t n (get_or (get_or rows (s - DOCUMENT) []) q dead) ≡ true) (node-sum s l) (rows-at DOCUMENT rows t (s - DOCUMENT) q h d)
 
 -- What a tree leaves behind.
 ends-at : (l : List State) (t : ℕ → Bool) (q : ℕ) → all_ends l t ≡ true → state_ends (get_or l q dead) ≡ true
@@ -108,7 +108,7 @@ walk-ends s q (t ▸ f) h = walk-ends s (target s q (root t) + finish t) f h.2
 
 ends-exit : (s q : ℕ) (t : ℕ → Bool) → all_ends (row_of s) t ≡ true → ends s q ≡ true → t (exit s q) ≡ true
 unfolding ends exit at row_of
-ends-exit s q t h e = ends-at (get_or rows (s - 60) []) t q h e
+ends-exit s q t h e = ends-at (get_or rows (s - DOCUMENT) []) t q h e
 
 pub exits-at : (u : Tree) (t : ℕ → Bool) → exits (root u) t ≡ true → Ok u → t (finish u) ≡ true
 unfolding exits

@@ -5,7 +5,7 @@ use Rattle.document_grammar.proofs.Words.{all_words, listed-at}
 use Rattle.document_grammar.specs.Tree.{Text, Tree, leaf, node, Forest, none, ◌▸◌, root}
 use Rattle.document_grammar.specs.Pattern.{Pattern, any_of, one, member, Matches}
 use Rattle.document_grammar.specs.Rows.{Row, row_in, children, keyword_operation, bare_selections}
-use Rattle.document_grammar.specs.Kinds.{Types, words, DOCUMENT, OPERATION_DEFINITION, SELECTION_SET, NAME, FRAGMENT_NAME, DIRECTIVES, VARIABLE, DEFAULT_VALUE, ENUM_VALUE, NAMED_TYPE, LIST_TYPE, NON_NULL_TYPE, OBJECT_TYPE_DEFINITION, INTERFACE_TYPE_DEFINITION, ENUM_TYPE_DEFINITION, INPUT_OBJECT_TYPE_DEFINITION, OBJECT_TYPE_EXTENSION, INTERFACE_TYPE_EXTENSION, ENUM_TYPE_EXTENSION, INPUT_OBJECT_TYPE_EXTENSION}
+use Rattle.document_grammar.specs.Kinds.{Types, words, DOCUMENT, OPERATION_DEFINITION, SELECTION_SET, NAME, FRAGMENT_NAME, DIRECTIVES, VARIABLE, DEFAULT_VALUE, ENUM_VALUE, NAMED_TYPE, LIST_TYPE, NON_NULL_TYPE, OBJECT_TYPE_DEFINITION, INTERFACE_TYPE_DEFINITION, ENUM_TYPE_DEFINITION, INPUT_OBJECT_TYPE_DEFINITION, OBJECT_TYPE_EXTENSION, INTERFACE_TYPE_EXTENSION, ENUM_TYPE_EXTENSION, INPUT_OBJECT_TYPE_EXTENSION, IDENT, STRING, false_KW, null_KW, on_KW, true_KW}
 use Rattle.grammar_machine.specs.Table.{State, rows, firsts, name_leaves, token_kinds, endings, spellings}
 use Rattle.grammar_machine.specs.Labels.{paths, labels}
 use Rattle.document_grammar.specs.Booleans.{◌and◌, ◌or◌}
@@ -23,7 +23,7 @@ use Rattle.grammar_machine.proofs.Rules.{listed, text-same, start-pattern, keywo
 use Rattle.grammar_machine.specs.Symbols.{TYPE, SHORT_QUERY, NAME_FOR_FRAGMENT, NAME_FOR_ENUM, DIRECTIVES_CONST, BARE_SELECTIONS}
 
 abbrev inconst : ℕ → Bool
-inconst k = ltb 123 k and ltb k 131
+inconst k = ltb NAME_FOR_ENUM k and ltb k BARE_SELECTIONS
 
 abbrev fname : ℕ → Bool
 fname k = eqb k NAME_FOR_FRAGMENT or eqb k 1
@@ -63,7 +63,7 @@ child_test s v = all_arcs (state_arcs v) (λ k q.
     (not (inconst k) or (constant s or (member (label s) Marked and eqb k DIRECTIVES_CONST)))
     and (not (fname k) or fparent s) and (not (ename k) or eparent s) and (not (eqb k OPERATION_DEFINITION or eqb k SHORT_QUERY) or eqb s DOCUMENT) and not (eqb k 0 or eqb k 3 or ltb 130 k))
 
-child-checked : all_rows 60 rows child_test ≡ true
+child-checked : all_rows DOCUMENT rows child_test ≡ true
 unfolding ◌and◌ ◌or◌ rows label labels constant member
 child-checked = refl
 
@@ -108,8 +108,8 @@ all-words (t ▸ (u ▸ f)) x e h = no-cons (sym (tail-same e))
 name-pattern : (s : ℕ) → fparent s or eparent s ≡ true → (x : ℕ) × (pattern_of s 0 ≡ any_of (x ∷ []))
 unfolding pattern_of symbol_row label labels Row paths
 name-pattern s h = elim (or-c _ _ h) [
-  | inl p ↦ elim (or-c _ _ p) [ inl q ↦ (NAME, rw (eqb-true _ _ q) refl) | inr q ↦ (18, rw (eqb-true _ _ q) refl) ]
-  | inr p ↦ elim (or-c _ _ p) [ inl q ↦ (NAME, rw (eqb-true _ _ q) refl) | inr q ↦ (18, rw (eqb-true _ _ q) refl) ]
+  | inl p ↦ elim (or-c _ _ p) [ inl q ↦ (NAME, rw (eqb-true _ _ q) refl) | inr q ↦ (IDENT, rw (eqb-true _ _ q) refl) ]
+  | inr p ↦ elim (or-c _ _ p) [ inl q ↦ (NAME, rw (eqb-true _ _ q) refl) | inr q ↦ (IDENT, rw (eqb-true _ _ q) refl) ]
 ]
 
 one-kind : (s : ℕ) (f : Forest) → fparent s or eparent s ≡ true → Matches (pattern_of s 0) (kinds f) → (x : ℕ) × (kinds f ≡ x ∷ [])
@@ -132,7 +132,7 @@ cond-kids s j f e m n c d = (
 )
 
 -- Leaves.
-word-at : (ws : List (ℕ × Text)) (t : ℕ → Bool) (x : Text) → all_words ws (λ k y. t k) ≡ true → t 18 ≡ true → t (word_class ws x) ≡ true
+word-at : (ws : List (ℕ × Text)) (t : ℕ → Bool) (x : Text) → all_words ws (λ k y. t k) ≡ true → t IDENT ≡ true → t (word_class ws x) ≡ true
 word-at [] t x h d = d
 word-at (w ∷ more) t x h d = elim (either (text_eq w.1 x)) [
   | inl p ↦ rw p (and-l _ _ h)
@@ -140,9 +140,9 @@ word-at (w ∷ more) t x h d = elim (either (text_eq w.1 x)) [
 ]
 
 abbrev leaf_read : ℕ → Bool
-leaf_read k = eqb k 0 or eqb k 3 or cond (holds k name_leaves) ((ltb 21 k and fires k k 0 and eqb (label k) k) or (eqb k 18 or (eqb k 1 or eqb k 2))) (not (eqb k 18) and holds k token_kinds and fires k k 0)
+leaf_read k = eqb k 0 or eqb k 3 or cond (holds k name_leaves) ((ltb STRING k and fires k k 0 and eqb (label k) k) or (eqb k IDENT or (eqb k 1 or eqb k 2))) (not (eqb k IDENT) and holds k token_kinds and fires k k 0)
 
-leaf-reads-checked : all_below 60 leaf_read ≡ true
+leaf-reads-checked : all_below DOCUMENT leaf_read ≡ true
 unfolding ◌and◌ ◌or◌ holds label labels fires entries firsts
 leaf-reads-checked = refl
 
@@ -150,46 +150,46 @@ keywords-checked : all_words words (λ k y. eqb (word_class words y) k) ≡ true
 unfolding ◌and◌ words
 keywords-checked = refl
 
-word-texts-checked : all_words words (λ k y. (not (eqb k 26) or text_eq y on_text) and (not (eqb k 27) or text_eq y true_text) and (not (eqb k 28) or text_eq y false_text) and (not (eqb k 29) or text_eq y null_text)) ≡ true
+word-texts-checked : all_words words (λ k y. (not (eqb k on_KW) or text_eq y on_text) and (not (eqb k true_KW) or text_eq y true_text) and (not (eqb k false_KW) or text_eq y false_text) and (not (eqb k null_KW) or text_eq y null_text)) ≡ true
 unfolding ◌and◌ ◌or◌ words
 word-texts-checked = refl
 
-fires-18-checked : all_words words (λ k y. fires 18 k 0) ≡ true
+fires-18-checked : all_words words (λ k y. fires IDENT k 0) ≡ true
 unfolding ◌and◌ ◌or◌ words fires entries firsts holds
 fires-18-checked = refl
 
-fires-1-checked : all_words words (λ k y. eqb k 26 or fires 1 k 0) ≡ true
+fires-1-checked : all_words words (λ k y. eqb k on_KW or fires 1 k 0) ≡ true
 unfolding ◌and◌ ◌or◌ words fires entries firsts holds
 fires-1-checked = refl
 
-fires-2-checked : all_words words (λ k y. (eqb k 27 or (eqb k 28 or eqb k 29)) or fires 2 k 0) ≡ true
+fires-2-checked : all_words words (λ k y. (eqb k true_KW or (eqb k false_KW or eqb k null_KW)) or fires 2 k 0) ≡ true
 unfolding ◌and◌ ◌or◌ words fires entries firsts holds
 fires-2-checked = refl
 
-fires-ident : (fires 18 18 0 ≡ true) × (fires 1 18 0 ≡ true) × (fires 2 18 0 ≡ true)
+fires-ident : (fires IDENT IDENT 0 ≡ true) × (fires 1 IDENT 0 ≡ true) × (fires 2 IDENT 0 ≡ true)
 unfolding ◌and◌ ◌or◌ fires entries firsts holds
 fires-ident = (refl, refl, refl)
 
-word-is : (x : Text) (k : ℕ) → word_class words x ≡ k → (k ≡ 18 → ⊥)
-    → (not (eqb k 26) or text_eq x on_text) and (not (eqb k 27) or text_eq x true_text) and (not (eqb k 28) or text_eq x false_text) and (not (eqb k 29) or text_eq x null_text) ≡ true
-word-is x k e n = listed-at words (λ k y. (not (eqb k 26) or text_eq y on_text) and (not (eqb k 27) or text_eq y true_text) and (not (eqb k 28) or text_eq y false_text) and (not (eqb k 29) or text_eq y null_text)) k x word-texts-checked (listed words k x e n)
+word-is : (x : Text) (k : ℕ) → word_class words x ≡ k → (k ≡ IDENT → ⊥)
+    → (not (eqb k on_KW) or text_eq x on_text) and (not (eqb k true_KW) or text_eq x true_text) and (not (eqb k false_KW) or text_eq x false_text) and (not (eqb k null_KW) or text_eq x null_text) ≡ true
+word-is x k e n = listed-at words (λ k y. (not (eqb k on_KW) or text_eq y on_text) and (not (eqb k true_KW) or text_eq y true_text) and (not (eqb k false_KW) or text_eq y false_text) and (not (eqb k null_KW) or text_eq y null_text)) k x word-texts-checked (listed words k x e n)
 
 num : (a b : ℕ) → eqb a b ≡ false → a ≡ b → ⊥
 num a b h = eqb-false a b h
 
 fires-fname : (x : Text) → x ≢ on_text → fires 1 (word_class words x) 0 ≡ true
-fires-fname x n = elim (or-c _ _ (word-at words (λ k. eqb k 26 or fires 1 k 0) x fires-1-checked (or-r _ _ fires-ident.1))) [
-  | inl p ↦ (let c = word-is x 26 (eqb-true _ _ p) (num 26 18 refl) in absurd (n (text-same x on_text (implies _ _ (and-l _ _ (and-l _ _ (and-l _ _ c))) refl))))
+fires-fname x n = elim (or-c _ _ (word-at words (λ k. eqb k on_KW or fires 1 k 0) x fires-1-checked (or-r _ _ fires-ident.1))) [
+  | inl p ↦ (let c = word-is x on_KW (eqb-true _ _ p) (num on_KW IDENT refl) in absurd (n (text-same x on_text (implies _ _ (and-l _ _ (and-l _ _ (and-l _ _ c))) refl))))
   | inr p ↦ p
 ]
 
 fires-ename : (x : Text) → NoWord x → fires 2 (word_class words x) 0 ≡ true
-fires-ename x n = elim (or-c _ _ (word-at words (λ k. (eqb k 27 or (eqb k 28 or eqb k 29)) or fires 2 k 0) x fires-2-checked (or-r _ _ fires-ident.2))) [
+fires-ename x n = elim (or-c _ _ (word-at words (λ k. (eqb k true_KW or (eqb k false_KW or eqb k null_KW)) or fires 2 k 0) x fires-2-checked (or-r _ _ fires-ident.2))) [
   | inl p ↦ elim (or-c _ _ p) [
-    | inl q ↦ (let c = word-is x 27 (eqb-true _ _ q) (num 27 18 refl) in absurd (n.0 (text-same x true_text (implies _ _ (and-r _ _ (and-l _ _ (and-l _ _ c))) refl))))
+    | inl q ↦ (let c = word-is x true_KW (eqb-true _ _ q) (num true_KW IDENT refl) in absurd (n.0 (text-same x true_text (implies _ _ (and-r _ _ (and-l _ _ (and-l _ _ c))) refl))))
     | inr q ↦ elim (or-c _ _ q) [
-      | inl r ↦ (let c = word-is x 28 (eqb-true _ _ r) (num 28 18 refl) in absurd (n.1 (text-same x false_text (implies _ _ (and-r _ _ (and-l _ _ c)) refl))))
-      | inr r ↦ (let c = word-is x 29 (eqb-true _ _ r) (num 29 18 refl) in absurd (n.2 (text-same x null_text (implies _ _ (and-r _ _ c) refl))))
+      | inl r ↦ (let c = word-is x false_KW (eqb-true _ _ r) (num false_KW IDENT refl) in absurd (n.1 (text-same x false_text (implies _ _ (and-r _ _ (and-l _ _ c)) refl))))
+      | inr r ↦ (let c = word-is x null_KW (eqb-true _ _ r) (num null_KW IDENT refl) in absurd (n.2 (text-same x null_text (implies _ _ (and-r _ _ c) refl))))
     ]
   ]
   | inr p ↦ p
@@ -205,36 +205,36 @@ unfolding ◌or◌
 or-false-r true b h = absurd (true≢false h)
 or-false-r false b h = h
 
-own-class : (k : ℕ) (x : Text) → holds k name_leaves ≡ false → eqb k 18 ≡ false → holds k token_kinds ≡ true → class (token k x) ≡ k
+own-class : (k : ℕ) (x : Text) → holds k name_leaves ≡ false → eqb k IDENT ≡ false → holds k token_kinds ≡ true → class (token k x) ≡ k
 unfolding class token
 own-class k x h n t = rw (h, n, t) refl
 
-keyword-fires : (k : ℕ) (x : Text) → LeafRule (label k) x → ltb 21 k and fires k k 0 and eqb (label k) k ≡ true
+keyword-fires : (k : ℕ) (x : Text) → LeafRule (label k) x → ltb STRING k and fires k k 0 and eqb (label k) k ≡ true
     → fires k (word_class words x) 0 ≡ true
 keyword-fires k x r p =
     let e : label k ≡ k = eqb-true _ _ (and-r _ _ p) in
-    let b : 21 < k = ltb-true _ _ (and-l _ _ (and-l _ _ p)) in
-    let i : Listed words k x = subst (λ (n : ℕ). Listed words n x) e (r (subst (λ (n : ℕ). 21 < n) (sym e) b)) in
+    let b : STRING < k = ltb-true _ _ (and-l _ _ (and-l _ _ p)) in
+    let i : Listed words k x = subst (λ (n : ℕ). Listed words n x) e (r (subst (λ (n : ℕ). STRING < n) (sym e) b)) in
     let w : word_class words x ≡ k = eqb-true _ _ (listed-at words (λ k y. eqb (word_class words y) k) k x keywords-checked i) in
     subst (λ (n : ℕ). fires k n 0 ≡ true) (sym w) (and-r _ _ (and-l _ _ p))
 
 leaf-fires : (k : ℕ) (x : Text) → is_leaf k ≡ true → (eqb k 0 or eqb k 3) ≡ false → LeafRule (label k) x → (fname k ≡ true → x ≢ on_text)
     → (ename k ≡ true → NoWord x) → fires k (class (token k x)) 0 ≡ true
-leaf-fires k x l n r fn en = elim (or-c _ _ (below-at leaf_read 60 k (leaf-lt k l) leaf-reads-checked)) [
+leaf-fires k x l n r fn en = elim (or-c _ _ (below-at leaf_read DOCUMENT k (leaf-lt k l) leaf-reads-checked)) [
   | inl p ↦ false-true n p
   | inr c ↦ elim (either (holds k name_leaves)) [
-    | inl h ↦ (let c' : (ltb 21 k and fires k k 0 and eqb (label k) k) or (eqb k 18 or (eqb k 1 or eqb k 2)) ≡ true = rw h at c in
+    | inl h ↦ (let c' : (ltb STRING k and fires k k 0 and eqb (label k) k) or (eqb k IDENT or (eqb k 1 or eqb k 2)) ≡ true = rw h at c in
         subst (λ (n : ℕ). fires k n 0 ≡ true) (sym (keyword-class k x h)) (elim (or-c _ _ c') [
           | inl p ↦ keyword-fires k x r p
           | inr p ↦ elim (or-c _ _ p) [
-            | inl q ↦ subst (λ (n : ℕ). fires n (word_class words x) 0 ≡ true) (sym (eqb-true k 18 q)) (word-at words (λ k. fires 18 k 0) x fires-18-checked fires-ident.0)
+            | inl q ↦ subst (λ (n : ℕ). fires n (word_class words x) 0 ≡ true) (sym (eqb-true k IDENT q)) (word-at words (λ k. fires IDENT k 0) x fires-18-checked fires-ident.0)
             | inr q ↦ elim (or-c _ _ q) [
               | inl e ↦ subst (λ (n : ℕ). fires n (word_class words x) 0 ≡ true) (sym (eqb-true k 1 e)) (fires-fname x (fn (or-r _ _ e)))
               | inr e ↦ subst (λ (n : ℕ). fires n (word_class words x) 0 ≡ true) (sym (eqb-true k 2 e)) (fires-ename x (en (or-r _ _ e)))
             ]
           ]
         ]))
-    | inr h ↦ (let c' : not (eqb k 18) and holds k token_kinds and fires k k 0 ≡ true = rw h at c in
+    | inr h ↦ (let c' : not (eqb k IDENT) and holds k token_kinds and fires k k 0 ≡ true = rw h at c in
         subst (λ (n : ℕ). fires k n 0 ≡ true) (sym (own-class k x h (not-c _ (and-l _ _ (and-l _ _ c'))) (and-r _ _ (and-l _ _ c')))) (and-r _ _ c'))
   ]
 ]
@@ -277,12 +277,12 @@ ok-live s q (t ▸ g) h = has-live s q (root t) h.0
 fill-live : (s q : ℕ) → fillable s q ≡ true → Live (at s q)
 fill-live s q h = ok-live s q (ending s q) (fillable-ok s q h)
 
-words-below : all_words words (λ k y. ltb k 60) ≡ true
+words-below : all_words words (λ k y. ltb k DOCUMENT) ≡ true
 unfolding ◌and◌ words
 words-below = refl
 
 leaf-below : (j : ℕ) (x : Text) → LeafRule j x → 59 < j → ⊥
-leaf-below j x r h = let b : 21 < j = omega arith in let l : j < 60 = ltb-true _ _ (listed-at words (λ k y. ltb k 60) j x words-below (r b)) in omega arith
+leaf-below j x r h = let b : STRING < j = omega arith in let l : j < DOCUMENT = ltb-true _ _ (listed-at words (λ k y. ltb k DOCUMENT) j x words-below (r b)) in omega arith
 
 no-variable : (t : Tree) → Fits t → NoVariable t → root t ≡ VARIABLE → ⊥
 no-variable (leaf j x) h n e = leaf-below j x h (omega arith)
@@ -318,26 +318,26 @@ read-end s q a m = (none, agree-end-from s q a (nullable-to (pattern_of s q) m),
 
 -- Numbers of symbols and kinds.
 abbrev number_test : ℕ → Bool
-number_test n = cond (is_leaf n) (ltb (label n) 60) (ltb 59 (label n))
+number_test n = cond (is_leaf n) (ltb (label n) DOCUMENT) (ltb 59 (label n))
 
-numbers-checked : all_below 131 number_test ≡ true
+numbers-checked : all_below BARE_SELECTIONS number_test ≡ true
 unfolding ◌and◌ label labels is_leaf
 numbers-checked = refl
 
-below-bare_selections : (k : ℕ) → eqb k 0 or eqb k 3 or ltb 130 k ≡ false → k < 131
+below-bare_selections : (k : ℕ) → eqb k 0 or eqb k 3 or ltb 130 k ≡ false → k < BARE_SELECTIONS
 below-bare_selections k h = let e : ltb 130 k ≡ false = or-false-r _ _ h in let l : k ≤ 130 = ltb-false 130 k e in omega arith
 
-label-node : (k : ℕ) → k < 131 → is_leaf k ≡ false → 59 < label k
-label-node k h l = ltb-true _ _ (rw l at (below-at number_test 131 k h numbers-checked))
+label-node : (k : ℕ) → k < BARE_SELECTIONS → is_leaf k ≡ false → 59 < label k
+label-node k h l = ltb-true _ _ (rw l at (below-at number_test BARE_SELECTIONS k h numbers-checked))
 
-label-leaf : (k : ℕ) → k < 131 → is_leaf k ≡ true → label k < 60
-label-leaf k h l = ltb-true _ _ (rw l at (below-at number_test 131 k h numbers-checked))
+label-leaf : (k : ℕ) → k < BARE_SELECTIONS → is_leaf k ≡ true → label k < DOCUMENT
+label-leaf k h l = ltb-true _ _ (rw l at (below-at number_test BARE_SELECTIONS k h numbers-checked))
 
 abbrev all_nodes : List (ℕ × Pattern) → Bool
 all_nodes [] = true
 all_nodes (row ∷ more) = ltb 59 row.0 and all_nodes more
 
-no-row-in : (l : List (ℕ × Pattern)) (j : ℕ) → j < 60 → all_nodes l ≡ true → row_in l j ≡ any_of []
+no-row-in : (l : List (ℕ × Pattern)) (j : ℕ) → j < DOCUMENT → all_nodes l ≡ true → row_in l j ≡ any_of []
 no-row-in [] j h c = refl
 no-row-in (row ∷ more) j h c = elim (either (eqb row.0 j)) [
   | inl p ↦ (let e : row.0 ≡ j = eqb-true row.0 j p in let l : 59 < row.0 = ltb-true 59 row.0 (and-l _ _ c) in absurd (omega arith))
@@ -348,7 +348,7 @@ children-nodes : all_nodes children ≡ true
 unfolding ◌and◌
 children-nodes = refl
 
-no-row : {A : Type 0} (j : ℕ) (w : List ℕ) → j < 60 → Matches (Row j) w → A
+no-row : {A : Type 0} (j : ℕ) (w : List ℕ) → j < DOCUMENT → Matches (Row j) w → A
 unfolding Row member
 no-row j w h m = let m' : Matches (any_of []) w = subst (λ (p : Pattern). Matches p w) (no-row-in children j h children-nodes) m in absurd (true≢false (sym m'.1))
 
@@ -371,7 +371,7 @@ no-query : (f : Forest) → Matches (one SELECTION_SET) (kinds f) → StartsWith
 no-query none m = no-cons m.2
 no-query (t ▸ f) m = head-same m.2 ∙ member-one m.0 SELECTION_SET m.1
 
-symbol-row-from : (k j : ℕ) (f : Forest) → label k ≡ j → eqb k TYPE ≡ false → k < 131 → (k ≡ OPERATION_DEFINITION → IsQuery (node j f) → ⊥)
+symbol-row-from : (k j : ℕ) (f : Forest) → label k ≡ j → eqb k TYPE ≡ false → k < BARE_SELECTIONS → (k ≡ OPERATION_DEFINITION → IsQuery (node j f) → ⊥)
     → (k ≡ SHORT_QUERY → IsQuery (node j f)) → Matches (Row j) (kinds f) → Matches (symbol_row k) (kinds f)
 unfolding symbol_row label labels Row
 symbol-row-from k j f e n b q1 q2 m = elim (either (eqb k OPERATION_DEFINITION)) [
@@ -388,7 +388,7 @@ symbol-row-from k j f e n b q1 q2 m = elim (either (eqb k OPERATION_DEFINITION))
   ]
 ]
   where
-    not-bare_selections : (k : ℕ) → k < 131 → eqb k BARE_SELECTIONS ≡ false
+    not-bare_selections : (k : ℕ) → k < BARE_SELECTIONS → eqb k BARE_SELECTIONS ≡ false
     not-bare_selections k b = elim (either (eqb k BARE_SELECTIONS)) [ inl p ↦ (let x : k ≡ BARE_SELECTIONS = eqb-true k BARE_SELECTIONS p in absurd (omega arith)) | inr p ↦ p ]
 
 -- A document: a definition is read as the symbol of its kind; a query without a keyword as its own symbol.
@@ -402,7 +402,7 @@ abbrev shut_row : ℕ → State → Bool
 shut_row s v = (not (eqb (state_exit v) 1) or member s Braced)
     and (not (member s Braced) or all_arcs (state_arcs v) (λ k p. all_kinds (shown k) (λ j. not (member j block_marks) or exits k (λ x. member (p + x) (shut s)))))
 
-shut-checked : all_rows 60 rows shut_row ≡ true
+shut-checked : all_rows DOCUMENT rows shut_row ≡ true
 unfolding ◌and◌ ◌or◌ rows member arcs at exit exits is_leaf shown label labels
 shut-checked = refl
 
@@ -496,7 +496,7 @@ document-cond q k t h m q1 q2 =
 abbrev finish_test : ℕ → State → Bool
 finish_test s v = not (eqb s DOCUMENT) or all_arcs (state_arcs v) (λ k q. exits k (λ x. eqb x 0 or eqb x 1))
 
-finish-checked : all_rows 60 rows finish_test ≡ true
+finish-checked : all_rows DOCUMENT rows finish_test ≡ true
 unfolding ◌and◌ ◌or◌ rows exits is_leaf
 finish-checked = refl
 
@@ -621,7 +621,7 @@ node-read k j f l n n' h c rf =
     (node k g.0, (l, g.1), refl, show-root k g.0 n ∙ ap₂ node e g.2)
 
 type-plain : (j : ℕ) → (j ≡ NAMED_TYPE) ⊎ (j ≡ LIST_TYPE)
-    → (is_leaf j ≡ false) × (eqb j TYPE ≡ false) × (eqb j 60 ≡ false) × (member j (shown j) ≡ true) × (inconst j ≡ false) × (fname j ≡ false) × (ename j ≡ false) × ((eqb j 0 or eqb j 3 or ltb 130 j) ≡ false) × (fillable j 0 ≡ true)
+    → (is_leaf j ≡ false) × (eqb j TYPE ≡ false) × (eqb j DOCUMENT ≡ false) × (member j (shown j) ≡ true) × (inconst j ≡ false) × (fname j ≡ false) × (ename j ≡ false) × ((eqb j 0 or eqb j 3 or ltb 130 j) ≡ false) × (fillable j 0 ≡ true)
 unfolding is_leaf constant label labels shown member ◌or◌ ◌and◌ ends at rows fillable ending endings spellings has target arcs exit fires entries firsts holds class token words
 type-plain j h = elim h [ inl p ↦ rw p (refl, refl, refl, refl, refl, refl, refl, refl, refl) | inr p ↦ rw p (refl, refl, refl, refl, refl, refl, refl, refl, refl) ]
 
@@ -661,11 +661,11 @@ pick-node : (k j : ℕ) (f : Forest) → Fits (node j f) → Cond k (node j f)
     → ((q : ℕ) → InDocument q → (q ≡ 2 → FirstNoQuery f) → BraceRule f → Matches (pattern_of DOCUMENT q) (kinds f) → agree_at DOCUMENT q ≡ true → ReadFrom DOCUMENT q f)
     → Read k (node j f)
 pick-node k j f h c rf rd = elim (either (is_leaf k)) [
-  | inl l ↦ (let e : label k ≡ j = shown-label j k (leaf-is-no-type k l) c.0 in no-row j (kinds f) (subst (λ (n : ℕ). n < 60) e (label-leaf k (below-bare_selections k c.6) l)) h.0)
+  | inl l ↦ (let e : label k ≡ j = shown-label j k (leaf-is-no-type k l) c.0 in no-row j (kinds f) (subst (λ (n : ℕ). n < DOCUMENT) e (label-leaf k (below-bare_selections k c.6) l)) h.0)
   | inr l ↦ elim (either (eqb k TYPE)) [
     | inl n ↦ (let x : k ≡ TYPE = eqb-true k TYPE n in subst (λ (z : ℕ). Read z (node j f)) (sym x) (type-read j f h (subst (λ (z : ℕ). member j (shown z) ≡ true) x c.0) rf))
     | inr n ↦ elim (either (eqb k DOCUMENT)) [
-      | inl d ↦ (let x : k ≡ DOCUMENT = eqb-true k 60 d in
+      | inl d ↦ (let x : k ≡ DOCUMENT = eqb-true k DOCUMENT d in
           let e : label k ≡ j = shown-label j k n c.0 in
           let ej : j ≡ DOCUMENT = sym e ∙ label-of k DOCUMENT d label-60-same in
           let m : Matches (symbol_row k) (kinds f) = symbol-row-from k j f e n (below-bare_selections k c.6) c.4 c.5 h.0 in
@@ -759,7 +759,7 @@ Opens type k = k ≡ TYPE
 
 -- Each derivation is shown by a tree of the tables.
 pub derivation-read : (sort : Sort) (t : Tree) → Derivation t sort → (k : ℕ) × Opens sort k × Read k t
-derivation-read document t h = (60, refl, read-tree t DOCUMENT h.1 (plain-cond DOCUMENT t starts-plain.0 (subst (λ (n : ℕ). member n (shown DOCUMENT) ≡ true) (sym h.0) shown-start.0)))
+derivation-read document t h = (DOCUMENT, refl, read-tree t DOCUMENT h.1 (plain-cond DOCUMENT t starts-plain.0 (subst (λ (n : ℕ). member n (shown DOCUMENT) ≡ true) (sym h.0) shown-start.0)))
 derivation-read selections t h = elim h.1 [
   | inl f ↦ (SELECTION_SET, inl refl, read-tree t SELECTION_SET f (plain-cond SELECTION_SET t starts-plain.1 (subst (λ (n : ℕ). member n (shown SELECTION_SET) ≡ true) (sym h.0) shown-start.1)))
   | inr b ↦ (BARE_SELECTIONS, inr refl, bare-read t h.0 b)

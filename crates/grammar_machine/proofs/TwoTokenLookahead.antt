@@ -7,6 +7,7 @@ use Rattle.grammar_machine.specs.Machine.{holds, is_leaf, at, ends, exit, arcs, 
 use Rattle.grammar_machine.proofs.Checks.{subset, disjoint, entries_mask, arcs_mask, follow, exits, all_arcs, all_entries, any_entries, state_begins, follow_test, close_test, clear, differ, choice_arcs, choice_test, covered, first_arcs, first_row, first_rows, leaf_entry, follow_checked, close_checked, choice_checked, first_checked, leaf_checked, start_row, start_rows, start_checked}
 use Rattle.document_grammar.proofs.Booleans.{false-true, and-l, and-r, and-i, or-c, or-l, or-r, implies, not-c, either}
 use Rattle.grammar_machine.proofs.TableLemmas.{holds-subset, holds-disjoint, holds-or, arcs-at, row-test, exits-at, node-sum, below-at}
+use Rattle.document_grammar.specs.Kinds.{DOCUMENT}
 
 -- The second token of a list fits an entry.
 abbrev second_fits : Bool → ℕ → List Token → Bool
@@ -82,11 +83,11 @@ start-rows-at (suc n) (r ∷ more) h = start-rows-at n more (and-r _ _ h)
 
 first-test : (s : ℕ) → is_leaf s ≡ false → first_arcs s (arcs s 0) ≡ true
 unfolding arcs at
-first-test s l = subst (λ (n : ℕ). first_row n (get_or rows (s - 60) []) ≡ true) (node-sum s l) (first-rows-at 60 (s - 60) rows first_checked)
+first-test s l = subst (λ (n : ℕ). first_row n (get_or rows (s - DOCUMENT) []) ≡ true) (node-sum s l) (first-rows-at DOCUMENT (s - DOCUMENT) rows first_checked)
 
 start-test : (s : ℕ) → ends s 0 ≡ false
 unfolding ends at
-start-test s = not-c _ (start-rows-at (s - 60) rows start_checked)
+start-test s = not-c _ (start-rows-at (s - DOCUMENT) rows start_checked)
 
 -- What the tokens of a tree begin with.
 abbrev Begun : Tree → Type 0
@@ -94,7 +95,7 @@ Begun t = (a : Token) × (y : List Token) × (yield t ≡ a ∷ y) × (starts_in
 
 leaf-begun : (l : ℕ) (x : Text) → Ok (leaf l x) → Begun (leaf l x)
 unfolding fires is_leaf
-leaf-begun l x o = (token l x, [], refl, leaf-starts (entries l) (class (token l x)) 0 (below-at leaf_entry 60 l (ltb-true _ _ o.0) leaf_checked) o.1)
+leaf-begun l x o = (token l x, [], refl, leaf-starts (entries l) (class (token l x)) 0 (below-at leaf_entry DOCUMENT l (ltb-true _ _ o.0) leaf_checked) o.1)
 
 node-begun : (s : ℕ) (t : Tree) (g : Forest) → is_leaf s ≡ false → has s 0 (root t) ≡ true → Ok t → Begun t
     → TailOk s (target s 0 (root t) + finish t) (yields g) → Begun (node s (t ▸ g))

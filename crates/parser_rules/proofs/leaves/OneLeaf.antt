@@ -6,7 +6,7 @@ use Rattle.lexical_grammar.specs.Cut.{Item}
 use Rattle.lexical_grammar.specs.Answers.{Answer, gives, limit_at, is_end, AreAnswers, answers_text, IsItemText}
 use Rattle.document_grammar.specs.declared.kind.SyntaxKind.{SyntaxKind}
 use Rattle.document_grammar.specs.declared.kind.SyntaxKind.TheVariants as kind
-use Rattle.document_grammar.specs.Kinds.{IDENT, is_keyword}
+use Rattle.document_grammar.specs.Kinds.{IDENT, is_keyword, DOCUMENT}
 use Rattle.grammar_machine.specs.Labels.{labels}
 use Rattle.document_grammar.specs.Numbers.{number}
 use Rattle.document_grammar.specs.Forests.{Forest, none, leaf, node, text, join}
@@ -237,7 +237,7 @@ error_fits x own i e = subst (λ found. IsLeafOfToken x.kind found (record { kin
 abbrev spell_test : ℕ → Bool
 spell_test l = not (eqb (label l) l) or eqb (cond (is_keyword l) IDENT l) (cond (within l name_leaves) IDENT l)
 
-spell-checked : all_below 60 spell_test ≡ true
+spell-checked : all_below DOCUMENT spell_test ≡ true
 unfolding ◌and◌ ◌or◌ within label labels
 spell-checked = refl
 
@@ -256,7 +256,7 @@ absent-one = refl
 token-belongs : (l : ℕ) (k : TokenKind) (t : Text) → is_leaf l ≡ true → eqb (label l) l ≡ true → fires l (class (leaf_number k, t)) 0 ≡ true → (spelled l t ≡ (leaf_number k, t)) × LeafRule l t
 unfolding token_of_leaf
 token-belongs l k t i e f =
-    let s = eqb-true _ _ (implies _ _ (below-at spell_test 60 l (leaf-lt l i) spell-checked) e) in (
+    let s = eqb-true _ _ (implies _ _ (below-at spell_test DOCUMENT l (leaf-lt l i) spell-checked) e) in (
       ap (λ n. (n, t)) s ∙ leaf-token l 0 (leaf_number k, t) i f,
       subst (λ n. LeafRule n t) (eqb-true _ _ e) (leaf-rule l t (leaf-ok l 0 (leaf_number k, t) i f)),
     )

@@ -3,10 +3,9 @@ use Rattle.std.specs.Prelude.{⊤}
 use Rattle.std.proofs.Common.{◌≡◌, ℕ, Bool, true, false, not, ◌&&◌, ◌||◌, sym, ap, ◌∙◌, subst, inl, inr}
 use Rattle.document_grammar.specs.Booleans.{◌and◌}
 use Rattle.document_grammar.proofs.Booleans.{either, and-l, and-r}
-use Rattle.parser_rules.specs.State.{State, is_deep}
+use Rattle.parser_rules.specs.State.{State, is_deep, second}
 use Rattle.parser_rules.specs.RuleLanguage.{Test, At, Word, Ready, Next, NextWord, HasNext, Deep, Not, Both, Either, holds}
 use Rattle.parser_rules.proofs.lookahead.TokenSets.{Shown, kind_set, word_set, ready, present, at-set, word-is, ready-is, present-is, second-shown, Seen, Branch, pick, by_near, by_far, near-at, far-at, flip}
-use Rattle.parser_rules.specs.State.{second}
 
 -- Within a node: no level was entered in it, a level is entered, or one was entered and left.
 pub data Level : Type 0 where

@@ -10,7 +10,7 @@ use Rattle.lexical_grammar.specs.declared.TokenKind.TheVariants as token
 use Rattle.lexical_grammar.specs.Cut.{Item}
 use Rattle.lexical_grammar.specs.Answers.{Answer, gives, limit_at, is_end}
 use Rattle.document_grammar.specs.declared.kind.SyntaxKind.{SyntaxKind}
-use Rattle.document_grammar.specs.Kinds.{words, COMMENT}
+use Rattle.document_grammar.specs.Kinds.{words, COMMENT, IDENT}
 use Rattle.document_grammar.specs.Numbers.{number}
 use Rattle.document_grammar.specs.Sentence.{leaf_number}
 use Rattle.grammar_machine.specs.Table.{name_classes, token_kinds}
@@ -99,14 +99,14 @@ unfolding same_kind within
 at-end token.Eof = refl
 at-end _ = refl
 
-name-class : (text : Text) → within (class (18, text)) name_classes ≡ true
+name-class : (text : Text) → within (class (IDENT, text)) name_classes ≡ true
 unfolding class
 name-class text = word-name words text words_checked
 
 at-name : (k : TokenKind) (text : Text) → same_kind token.Name k ≡ within (class (leaf_number token.Name, text)) (kind_set k)
 unfolding same_kind within
 at-name token.Name text = sym (name-class text)
-at-name k text = sym (holds-disjoint (class (18, text)) name_classes (kind_set k) refl (name-class text))
+at-name k text = sym (holds-disjoint (class (IDENT, text)) name_classes (kind_set k) refl (name-class text))
 
 at-kind : (j k : TokenKind) (text : Text) → is_end j ≡ false → ignored j ≡ None → same_kind j k ≡ within (class (leaf_number j, text)) (kind_set k)
 unfolding same_kind within class
@@ -163,7 +163,7 @@ end-word k text = sym (no-name 0 (2 ^ number k) refl)
 -- the class of any token
 pub not-zero : (a : Token) → within (class a) ready ≡ true
 unfolding class within
-not-zero a = elim (either (eqb a.0 18)) [
+not-zero a = elim (either (eqb a.0 IDENT)) [
   | inl p ↦ rw p (holds-subset (word_class words a.1) name_classes ready refl (word-name words a.1 words_checked))
   | inr p ↦ elim (either (within a.0 token_kinds)) [
     | inl q ↦ rw (p, q) (holds-subset a.0 token_kinds ready refl q)

@@ -17,13 +17,11 @@ use Rattle.document_grammar.specs.Tree as tree
 use Rattle.document_grammar.specs.Tree.{◌▸◌, root}
 use Rattle.document_grammar.specs.Derivation.{below, belows, nest}
 use Rattle.document_grammar.specs.Booleans.{◌and◌, ◌or◌}
-use Rattle.document_grammar.proofs.Booleans.{false-true, and-l, and-r, and-i, not-c}
+use Rattle.document_grammar.proofs.Booleans.{false-true, and-l, and-r, and-i, not-c, cond-zero}
 use Rattle.document_grammar.proofs.Built.{belows-append, numbered-join, count-close}
-use Rattle.document_grammar.proofs.Booleans.{cond-zero}
 use Rattle.parser_rules.specs.State.{State, Lexeme, Part, ignored, bad, met, wait, read_on, add_all, flush, opened, closed, wrapped_from, moved, bump, note, enter, leave, too_deep, fresh, begun, finished}
 use Rattle.parser_rules.specs.Open.{IsRoot}
-use Rattle.parser_rules.specs.Nodes.{Document}
-use Rattle.parser_rules.specs.Nodes.{Node, kind_of}
+use Rattle.parser_rules.specs.Nodes.{Document, Node, kind_of}
 use Rattle.parser_rules.specs.RuleLanguage.{Prim, Bump, Note, TooDeep, step, Rule, Do, Child, Nested, Call}
 use Rattle.parser_rules.specs.Rules.{inside}
 use Rattle.parser_rules.specs.Runs.{Runs, skip, does, seq, yes, no, done, again, child, deeper, refused, call, plain, wrapped}

@@ -13,10 +13,9 @@ use Rattle.document_grammar.specs.Booleans.{◌and◌, ◌or◌}
 use Rattle.grammar_machine.specs.Machine.{is_leaf, at, arcs, has, target, Frame, frame, Path, finish as leaves_behind}
 use Rattle.document_grammar.proofs.Booleans.{false-true, or-c, either}
 use Rattle.grammar_machine.proofs.TableLemmas.{exits-at}
-use Rattle.document_grammar.proofs.Built.{bares-numbered-join}
+use Rattle.document_grammar.proofs.Built.{bares-numbered-join, forest-none}
 use Rattle.grammar_machine.proofs.Checks.{exits, row_of}
 use Rattle.grammar_machine.proofs.Patterns.{label}
-use Rattle.document_grammar.proofs.Built.{forest-none}
 use Rattle.grammar_machine.proofs.FromMachineTree.{show, shows, type_of}
 use Rattle.parser_rules.proofs.runs.Frame.{wrap_added}
 use Rattle.parser_rules.proofs.soundness.WithoutIgnored.{IsLayered, Stack, stack, layers, strip, put}

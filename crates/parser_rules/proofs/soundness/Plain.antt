@@ -84,7 +84,7 @@ blocked k = eqb (unread k) 0 or (not (is_leaf k) and (member (label k) unread_ki
 unfoldable blocked_arcs : ℕ → State → Bool
 blocked_arcs s v = all_arcs (state_arcs v) (λ k q. blocked k)
 
-blocked_rows : all_rows 60 rows blocked_arcs ≡ true
+blocked_rows : all_rows DOCUMENT rows blocked_arcs ≡ true
 unfolding ◌and◌ ◌or◌ is_leaf at ends arcs entries rows firsts goes label labels member unread blocked blocked_arcs
 blocked_rows = refl
 
