@@ -1,3 +1,8 @@
+mod casts;
+mod definitions;
+mod executable;
+mod literals;
+
 use crate::Parser;
 use crate::cst::{Definition, Document, Field, OperationDefinition, Selection, Value};
 use std::alloc::{AllocError, Global};
