@@ -7,7 +7,7 @@ ghost use Rattle.apollo_tree.specs.Order.{text_at};
 ghost use Rattle.apollo_tree.specs.References.{node_place};
 ghost use Rattle.apollo_tree.specs.Sound.{Fits};
 
-use super::first_operation;
+use super::{first_field, first_operation};
 use crate::cst::{CstNode, Definition, Document, Name, Selection};
 use crate::{Parser, Subtree, SyntaxKind};
 use apollo_tree::TreeBuilder;
@@ -164,38 +164,85 @@ fn named(alloc: Global, kind: SyntaxKind, name: Name<'_>) -> Result<Subtree<Glob
     Ok(builder.finish())
 }
 
-// The kind and the name of the definition, and whether it is an extension. None of these is executable.
-fn check_definition(rt: &impl Abort, tree: &Subtree<Global>, kind: &str, name: Option<&str>) {
-    let definition = first_definition(tree).expect(rt, "a definition");
-    assert_eq!(rt; definition.kind(), kind);
-    let found = definition.name().map(|name| name.text().as_str());
-    assert!(rt; found == name, "{kind}");
+// Builds such a definition, and compares what its calls give. None of these is executable.
+fn check_definition(
+    rt: &impl Abort,
+    alloc: Global,
+    kind: SyntaxKind,
+    name: Name<'_>,
+    word: &str,
+) -> Result<(), AllocError>
+    requires { (children : Forest) → Fits kind children }
+{
+    let tree = named(alloc, kind, name)?;
+    let definition = first_definition(&tree).expect(rt, "a definition");
+    assert_eq!(rt; definition.kind(), word);
+    match definition.name() {
+        Some(found) => assert_eq!(rt; found.text().as_str(), name.text().as_str()),
+        None => assert!(rt; word.starts_with("Schema")),
+    }
     assert!(rt; !definition.is_executable_definition());
-    assert_eq!(rt;
-        definition.is_extension_definition(),
-        kind.ends_with("Extension")
-    );
+    assert!(rt; definition.is_extension_definition() == word.ends_with("Extension"));
+    Ok(())
 }
 
 #[test]
 fn names_and_kinds_of_definitions(rt: HostRuntime) -> Result<(), Fail> {
     let alloc = rt.alloc();
     let query = Parser::new("{ UUID }").parse(alloc)?;
-    let names = names(alloc, query.document())?;
-    assert_eq!(rt; names.len(), 1);
-    let name = names[0];
-    let tree = named(alloc, SyntaxKind::DIRECTIVE_DEFINITION, name)?;
-    check_definition(&rt, &tree, "DirectiveDefinition", Some("UUID"));
-    let tree = named(alloc, SyntaxKind::SCHEMA_DEFINITION, name)?;
-    check_definition(&rt, &tree, "SchemaDefinition", None);
-    let tree = named(alloc, SyntaxKind::SCALAR_TYPE_DEFINITION, name)?;
-    check_definition(&rt, &tree, "ScalarTypeDefinition", Some("UUID"));
-    let tree = named(alloc, SyntaxKind::SCHEMA_EXTENSION, name)?;
-    check_definition(&rt, &tree, "SchemaExtension", None);
-    let tree = named(alloc, SyntaxKind::SCALAR_TYPE_EXTENSION, name)?;
-    check_definition(&rt, &tree, "ScalarTypeExtension", Some("UUID"));
-    let tree = named(alloc, SyntaxKind::INPUT_OBJECT_TYPE_EXTENSION, name)?;
-    check_definition(&rt, &tree, "InputObjectTypeExtension", Some("UUID"));
+    let field = first_field(query.document()).expect(&rt, "a field");
+    let name = field.name().expect(&rt, "a name");
+    check_definition(
+        &rt,
+        alloc,
+        SyntaxKind::DIRECTIVE_DEFINITION,
+        name,
+        "DirectiveDefinition",
+    )?;
+    check_definition(
+        &rt,
+        alloc,
+        SyntaxKind::SCHEMA_DEFINITION,
+        name,
+        "SchemaDefinition",
+    )?;
+    check_definition(
+        &rt,
+        alloc,
+        SyntaxKind::SCALAR_TYPE_DEFINITION,
+        name,
+        "ScalarTypeDefinition",
+    )?;
+    Ok(())
+}
+
+#[test]
+fn names_and_kinds_of_extensions(rt: HostRuntime) -> Result<(), Fail> {
+    let alloc = rt.alloc();
+    let query = Parser::new("{ UUID }").parse(alloc)?;
+    let field = first_field(query.document()).expect(&rt, "a field");
+    let name = field.name().expect(&rt, "a name");
+    check_definition(
+        &rt,
+        alloc,
+        SyntaxKind::SCHEMA_EXTENSION,
+        name,
+        "SchemaExtension",
+    )?;
+    check_definition(
+        &rt,
+        alloc,
+        SyntaxKind::SCALAR_TYPE_EXTENSION,
+        name,
+        "ScalarTypeExtension",
+    )?;
+    check_definition(
+        &rt,
+        alloc,
+        SyntaxKind::UNION_TYPE_EXTENSION,
+        name,
+        "UnionTypeExtension",
+    )?;
     Ok(())
 }
 
