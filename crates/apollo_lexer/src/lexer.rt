@@ -106,6 +106,7 @@ impl<'a> Lexer<'a> {
     ghost use Rattle.apollo_lexer.specs.Answers.{answers_left, answer_of, final_high, cut_count};
 
     // Where the next item begins, or at the last byte where that is the end of a text with some.
+    #[cold]
     fn limit_error(&self) -> LexError<'a>
         ensures is_limit { result.is_limit ≡ true }
         ensures index { result.index ≡ (if length self.now.rest.now == 0 then self.now.index - 1 else self.now.index) }
@@ -123,6 +124,7 @@ impl<'a> Lexer<'a> {
     }
 
     /// Answers as `next`, and counts one step where an item was cut.
+    #[inline(always)]
     #[tactic(auto, unfolding(crate::specs::Answers::answers_left))]
     pub fn next_counted(&mut self, steps: &mut Steps) -> Option<Result<Token<'a>, LexError<'a>>>
         ensures answers { YieldsFirstBy answer_of answers_left self.old result self.new }

@@ -1,25 +1,16 @@
 // Which item stands at the front of a text, and how far it goes.
-ghost use Rattle.std.specs.Prelude.{◌≡◌, ◌+◌, ◌≤◌, ◌<◌, ◌==◌, ◌||◌, length, take, drop};
+ghost use Rattle.std.specs.Prelude.{◌≡◌, ◌+◌, ◌≤◌, ◌<◌, ◌==◌, ◌||◌, [], ◌∷◌, if◌then◌else◌, length, take, drop, Some, None, option_map};
 ghost use Rattle.std.specs.List.{prefix_len};
 ghost use Rattle.lexical_grammar.specs.Characters.{is_name_start, is_name_continue, is_comment_character, is_digit};
+ghost use Rattle.lexical_grammar.specs.declared.TokenKind.TheVariants as token;
+ghost use Rattle.lexical_grammar.specs.Strings.{begins};
 ghost use Rattle.lexical_grammar.specs.Reads.{blank_len, blanks_len, punctuator, character_len, token_at, bad_len, first_item};
 
+use crate::bytes::{Start, is_blank_byte, is_name_continue, start_of};
 use crate::numbers::{number_at, number_len};
 use crate::strings::{bad_string_len, string_at};
 use lexical_grammar::TokenKind;
 use memchr::memchr2;
-
-fn is_name_start(b: u8) -> bool
-    ensures { result ≡ is_name_start b }
-{
-    b.is_ascii_alphabetic() || b == b'_'
-}
-
-fn is_name_continue(b: u8) -> bool
-    ensures { result ≡ is_name_continue b }
-{
-    b.is_ascii_alphanumeric() || b == b'_'
-}
 
 fn is_number_start(b: u8) -> bool
     ensures { result ≡ (is_digit b || b == 45) }
@@ -27,6 +18,7 @@ fn is_number_start(b: u8) -> bool
     b.is_ascii_digit() || b == b'-'
 }
 
+#[inline(always)]
 fn name_len(bytes: &[u8]) -> usize
     ensures value { result ≡ prefix_len is_name_continue bytes.now }
     ensures within { result ≤ length bytes.now }
@@ -35,6 +27,7 @@ fn name_len(bytes: &[u8]) -> usize
 }
 
 // A comment ends before a line terminator, or with the text.
+#[inline(never)]
 fn comment_len(bytes: &[u8]) -> usize
     ensures value { result ≡ prefix_len is_comment_character bytes.now }
     ensures within { result ≤ length bytes.now }
@@ -45,6 +38,7 @@ fn comment_len(bytes: &[u8]) -> usize
     }
 }
 
+#[inline(always)]
 fn punctuator(b: u8) -> Option<TokenKind>
     ensures { result ≡ punctuator b }
 {
@@ -67,16 +61,35 @@ fn punctuator(b: u8) -> Option<TokenKind>
     }
 }
 
+#[cold]
+#[inline(never)]
+fn byte_order_mark_len(bytes: &[u8]) -> usize
+    ensures { result ≡ (if begins (239 ∷ 187 ∷ 191 ∷ []) bytes.now then 3 else 0) }
+{
+    if bytes.starts_with(&[0xEF, 0xBB, 0xBF]) {
+        3
+    } else {
+        0
+    }
+}
+
+#[inline(always)]
 fn blank_len(bytes: &[u8]) -> usize
     ensures { result ≡ blank_len bytes.now }
 {
     match bytes {
-        [b'\t' | b' ' | b'\n' | b'\r', ..] => 1,
-        [0xEF, 0xBB, 0xBF, ..] => 3,
-        _ => 0,
+        [b, ..] => if is_blank_byte(*b) {
+            1
+        } else if *b == 0xEF {
+            byte_order_mark_len(bytes)
+        } else {
+            0
+        },
+        [] => 0,
     }
 }
 
+#[inline(always)]
 fn blanks_len(bytes: &[u8]) -> usize
     ensures { result ≡ blanks_len 0 bytes.now }
 {
@@ -90,30 +103,53 @@ fn blanks_len(bytes: &[u8]) -> usize
     }
 }
 
+// The spread at the front, behind whose first dot this stands.
+fn spread_at(others: &[u8]) -> Option<(TokenKind, usize)>
+    ensures { result ≡ (if begins (46 ∷ 46 ∷ []) others.now then Some (token.Spread, 3) else None) }
+{
+    if others.starts_with(b"..") {
+        Some((TokenKind::Spread, 3))
+    } else {
+        None
+    }
+}
+
+// The blank characters at the front of a text that a byte order mark begins.
+#[cold]
+#[inline(never)]
+fn marked_len(bytes: &[u8]) -> usize
+    ensures { result ≡ blanks_len 0 bytes.now }
+{
+    blanks_len(bytes)
+}
+
+// The punctuator at the front, or what a byte order mark begins.
+#[inline(always)]
+fn other_at(first: u8, bytes: &[u8]) -> Option<(TokenKind, usize)>
+    ensures { result ≡ (if blank_len bytes.now == 0 then option_map (λ kind. (kind, 1)) (punctuator first) else Some (token.Whitespace, blanks_len 0 bytes.now)) }
+{
+    if blank_len(bytes) == 0 {
+        let kind = punctuator(first)?;
+        Some((kind, 1))
+    } else {
+        Some((TokenKind::Whitespace, marked_len(bytes)))
+    }
+}
+
 // The token at the front, and its length in bytes.
+#[inline(always)]
 fn token_at(bytes: &[u8]) -> Option<(TokenKind, usize)>
     ensures { result ≡ token_at bytes.now }
 {
     let (first, others) = bytes.split_first()?;
-    if is_name_start(*first) {
-        Some((TokenKind::Name, 1 + name_len(others)))
-    } else if is_number_start(*first) {
-        number_at(bytes)
-    } else if *first == b'"' {
-        string_at(bytes)
-    } else if *first == b'#' {
-        Some((TokenKind::Comment, 1 + comment_len(others)))
-    } else if *first == b'.' {
-        if others.starts_with(b"..") {
-            Some((TokenKind::Spread, 3))
-        } else {
-            None
-        }
-    } else if blank_len(bytes) == 0 {
-        let kind = punctuator(*first)?;
-        Some((kind, 1))
-    } else {
-        Some((TokenKind::Whitespace, blanks_len(bytes)))
+    match start_of(*first) {
+        Start::Name => Some((TokenKind::Name, 1 + name_len(others))),
+        Start::Number => number_at(bytes),
+        Start::Quote => string_at(bytes),
+        Start::NumberSign => Some((TokenKind::Comment, 1 + comment_len(others))),
+        Start::Dot => spread_at(others),
+        Start::Blank => Some((TokenKind::Whitespace, blanks_len(bytes))),
+        Start::Other => other_at(*first, bytes),
     }
 }
 
@@ -129,6 +165,8 @@ fn character_len(source: &str) -> usize
 }
 
 // The bytes of the bad text at the front, where no token stands.
+#[cold]
+#[inline(never)]
 fn bad_len(source: &str) -> usize
     ensures { result ≡ bad_len source.now }
 {
@@ -151,6 +189,7 @@ fn bad_len(source: &str) -> usize
 }
 
 /// The first item of a text that isn't empty: its kind, which bad text has none of, its text, and what follows.
+#[inline(always)]
 pub fn cut(source: &str) -> (Option<TokenKind>, &str, &str)
     requires { 0 < length source.now }
     ensures kind { result.0 ≡ (first_item source.now).0 }

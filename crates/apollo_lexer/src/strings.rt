@@ -126,6 +126,7 @@ pub fn bad_string_len(bytes: &[u8]) -> usize
 }
 
 /// The string that stands at the front, where a quote does, and its length in bytes.
+#[inline(never)]
 pub fn string_at(bytes: &[u8]) -> Option<(TokenKind, usize)>
     requires { 0 < length bytes.now }
     ensures { result ≡ string_at bytes.now }

@@ -1,0 +1,53 @@
+-- What the first byte of an item tells of it.
+use Rattle.std.proofs.Common.{◌≡◌, ℕ, ◌+◌, ◌||◌, ◌==◌, if◌then◌else◌, List, [], ◌∷◌, Option, Some, None, option_map, false, refl, sym, ap, ◌∙◌, inl, inr}
+use Rattle.std.proofs.lemmas.Bool.{cases_Bool}
+use Rattle.std.specs.List.{prefix_len}
+use Rattle.lexical_grammar.specs.declared.TokenKind.{TokenKind}
+use Rattle.lexical_grammar.specs.declared.TokenKind.TheVariants as token
+use Rattle.lexical_grammar.specs.Characters.{is_name_start, is_name_continue, is_comment_character, is_digit, is_white_space, is_line_terminator}
+use Rattle.lexical_grammar.specs.Strings.{begins}
+use Rattle.lexical_grammar.specs.Reads.{blank_len, blanks_len, punctuator, number_at, string_at, token_at}
+use Rattle.apollo_lexer.specs.declared.bytes.Start.{Start}
+use Rattle.apollo_lexer.specs.declared.bytes.Start.TheVariants.{Name, Number, Quote, NumberSign, Dot, Blank, Other}
+use Rattle.apollo_lexer.specs.Starts.{start_of}
+
+-- the token at the front
+abbrev pub token_from : Start → ℕ → List ℕ → Option (TokenKind × ℕ)
+token_from Name b bs = Some (token.Name, 1 + prefix_len is_name_continue bs)
+token_from Number b bs = number_at (b ∷ bs)
+token_from Quote b bs = string_at (b ∷ bs)
+token_from NumberSign b bs = Some (token.Comment, 1 + prefix_len is_comment_character bs)
+token_from Dot b bs = if begins (46 ∷ 46 ∷ []) bs then Some (token.Spread, 3) else None
+token_from Blank b bs = Some (token.Whitespace, blanks_len 0 (b ∷ bs))
+token_from Other b bs = if blank_len (b ∷ bs) == 0 then option_map (λ kind. (kind, 1)) (punctuator b) else Some (token.Whitespace, blanks_len 0 (b ∷ bs))
+
+by_start : (b : ℕ) (bs : List ℕ) → token_from (start_of b) b bs ≡ token_at (b ∷ bs)
+by_start b bs = elim (cases_Bool (is_name_start b)) [
+  | inl e ↦ rw e refl
+  | inr name ↦ elim (cases_Bool (is_digit b || b == 45)) [
+    | inl e ↦ rw (name, e) refl
+    | inr number ↦ elim (cases_Bool (b == 34)) [
+      | inl e ↦ rw (name, number, e) refl
+      | inr quote ↦ elim (cases_Bool (b == 35)) [
+        | inl e ↦ rw (name, number, quote, e) refl
+        | inr sign ↦ elim (cases_Bool (b == 46)) [
+          | inl e ↦ rw (name, number, quote, sign, e) refl
+          | inr dot ↦ elim (cases_Bool (is_white_space b || is_line_terminator b)) [
+            | inl e ↦
+                let start : start_of b ≡ Blank = rw (name, number, quote, sign, dot, e) refl in
+                let some : (blank_len (b ∷ bs) == 0) ≡ false = rw e refl in
+                let here : token_at (b ∷ bs) ≡ token_from Blank b bs = rw (name, number, quote, sign, dot, some) refl in
+                ap (λ s. token_from s b bs) start ∙ sym here
+            | inr blank ↦
+                let start : start_of b ≡ Other = rw (name, number, quote, sign, dot, blank) refl in
+                let here : token_at (b ∷ bs) ≡ token_from Other b bs = rw (name, number, quote, sign, dot) refl in
+                ap (λ s. token_from s b bs) start ∙ sym here
+          ]
+        ]
+      ]
+    ]
+  ]
+]
+
+pub token_by_start : (s : Start) (b : ℕ) (bs bytes : List ℕ) → bytes ≡ b ∷ bs → s ≡ start_of b → token_from s b bs ≡ token_at bytes
+token_by_start s b bs bytes is start = ap (λ t. token_from t b bs) start ∙ by_start b bs ∙ ap token_at (sym is)
