@@ -14,7 +14,7 @@ pub fn read_to_end<A: Allocator, R: Source>(alloc: A, reader: &mut R) -> Result<
     ensures err { IfErr result (λ fault. (input : List ℕ) × EndsReading fault (moved (R.account reader.old) input) (R.account reader.new)) }
 {
     let mut bytes = Vec::new(alloc);
-    let mut buffer = [0u8; 8192];
+    let mut buffer = [0u8; 65536];
     loop {
         match reader.read(&mut buffer) {
             Ok(0) => return Ok(bytes),

@@ -15,8 +15,9 @@ fn report<A: Allocator + Copy>(alloc: A, errors: &[Error<A>]) -> Result<String<A
     ensures { IfOk result (λ text. IsReport errors.now (string_bytes text)) }
 {
     let mut text = String::new(alloc);
+    let mut form = String::new(alloc);
     for error in errors {
-        push_line(alloc, &mut text, error)?;
+        push_line(&mut text, &mut form, error)?;
     }
     let count = errors.len();
     writeln!(text, "errors: {count}")?;

@@ -3,17 +3,18 @@ ghost use Rattle.std.specs.Prelude.{◌≡◌, ◌++◌, List, ℕ, OnOk, string
 ghost use Rattle.gqlcst.specs.Lines.{line, IsForm};
 
 use std::alloc::{AllocError, Allocator};
-use std::fmt::Display;
+use std::fmt::{Display, Write};
 
-/// Puts a value's printed form and a line feed at the end.
-pub fn push_line<A: Allocator + Copy, T: Display>(
-    alloc: A,
+/// Puts a value's printed form and a line feed at the end. The form is made in `form`, whatever that holds, so that lines share its memory.
+pub fn push_line<A: Allocator, T: Display>(
     text: &mut String<A>,
+    form: &mut String<A>,
     value: &T,
 ) -> Result<(), AllocError>
     ensures { OnOk result ((form : List ℕ) × IsForm (T.output value.now) form × (string_bytes text.new ≡ string_bytes text.old ++ line form)) }
 {
-    let form = value.to_string(alloc)?;
+    form.clear();
+    write!(form, "{value}")?;
     text.push_str(form.as_str())?;
     text.push_str("\n")
 }

@@ -16,12 +16,13 @@ pub fn tokens<A: Allocator + Copy>(
     ensures { IfOk result (λ it. IsTokens limit source.now it.1 (string_bytes it.0)) }
 {
     let mut text = String::new(alloc);
+    let mut form = String::new(alloc);
     let mut errors = 0;
     for item in Lexer::new(source).with_limit(limit) {
         match item {
-            Ok(token) => push_line(alloc, &mut text, &token)?,
+            Ok(token) => push_line(&mut text, &mut form, &token)?,
             Err(error) => {
-                push_line(alloc, &mut text, &error.to_error(alloc)?)?;
+                push_line(&mut text, &mut form, &error.to_error(alloc)?)?;
                 errors += 1;
             }
         }
