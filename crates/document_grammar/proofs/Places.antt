@@ -26,11 +26,11 @@ abbrev mutual
   AllTrim none = Unit {0}
   AllTrim (t ▸ f) = Trim t × AllTrim f
 
-nil-left : (v w : List Token) → v ++ w ≡ [] → v ≡ []
+pub nil-left : (v w : List Token) → v ++ w ≡ [] → v ≡ []
 nil-left [] w e = refl
 nil-left (a ∷ v) w e = absurd (cc)
 
-nil-right : (v w : List Token) → v ++ w ≡ [] → w ≡ []
+pub nil-right : (v w : List Token) → v ++ w ≡ [] → w ≡ []
 nil-right [] w e = e
 nil-right (a ∷ v) w e = absurd (cc)
 

@@ -25,6 +25,7 @@ use Rattle.grammar_machine.proofs.Endings.{spell}
 use Rattle.grammar_machine.proofs.Sound.{AllSpelt}
 use Rattle.grammar_machine.proofs.Worked.{all_ascii, is-ascii}
 use Rattle.grammar_machine.proofs.Faults.{reached-begins}
+use Rattle.std.proofs.lemmas.List.{map-append}
 
 -- The kind of the tokens that become a leaf.
 kinds_by_leaf : List TokenKind
@@ -128,10 +129,6 @@ listed-words (a ∷ v) h =
     let more = listed-words v h.1 in
     (one.0 ∷ more.0, (one.1, more.1), ap₂ (λ (x : Token) (y : List Token). x ∷ y) (one.2 ∙ sym h.0.2) more.2)
 
-map-append : (v w : List Word) → map token_of (v ++ w) ≡ map token_of v ++ map token_of w
-map-append [] w = refl
-map-append (a ∷ v) w = ap (λ (l : List Token). token_of a ∷ l) (map-append v w)
-
 pub begins-text : (source : List ℕ) (before : List Item) (item : Item) (more : List Item) (t : Tree) (v : List Token) → IsUtf8 source
     → Cut source (before ++ item ∷ more) → are_tokens before ≡ true
     → Spells (map token_of (Significant before) ++ v) t document → AllSpelt v → Begins (texts before)
@@ -141,7 +138,7 @@ begins-text source before item more t v u cut h s spelt =
     let utf : IsUtf8 (texts before ++ feed (ends_in_whitespace before) ++ spaced w.0) = words_follow_text source before item more w.0 cut w.1 u in
     let e : texts before ++ feed (ends_in_whitespace before) ++ spaced w.0 ≡ texts before ++ (feed (ends_in_whitespace before) ++ spaced w.0) = append_assoc (texts before) (feed (ends_in_whitespace before)) (spaced w.0) in
     let y : map token_of (Significant (before ++ may.rest)) ≡ map token_of (Significant before) ++ v =
-    ap (λ (l : List Word). map token_of l) may.significant ∙ map-append (Significant before) w.0 ∙ ap (λ (l : List Token). map token_of (Significant before) ++ l) w.2 in
+    ap (λ (l : List Word). map token_of l) may.significant ∙ map-append token_of (Significant before) w.0 ∙ ap (λ (l : List Token). map token_of (Significant before) ++ l) w.2 in
     record {
       rest = feed (ends_in_whitespace before) ++ spaced w.0;
       tree = t;

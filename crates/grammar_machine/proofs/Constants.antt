@@ -16,8 +16,9 @@ use Rattle.grammar_machine.proofs.TableLemmas.{arcs-at, exits-at, row-test, belo
 use Rattle.grammar_machine.proofs.Sound.{leaf-lt}
 use Rattle.grammar_machine.proofs.Patterns.{all_kinds, label, shown, pattern_of, symbol_row}
 use Rattle.grammar_machine.proofs.FromMachineTree.{kinds-at, type-arc, type-child, type-root, type-end, show, shows, build, type_of, row-shown, show-root, shown-root}
-use Rattle.grammar_machine.proofs.Rules.{at-label, zero-plus, label-alone, name-rule, leaf-rule, start-pattern, symbol-row}
+use Rattle.grammar_machine.proofs.Rules.{at-label, label-alone, name-rule, leaf-rule, start-pattern, symbol-row}
 use Rattle.grammar_machine.specs.Symbols.{TYPE, SHORT_QUERY, BARE_SELECTIONS}
+use Rattle.grammar_machine.proofs.FromMachineTree.{zero-plus}
 
 -- The symbols below which no VARIABLE can stand.
 unfoldable pub pure : ℕ → Bool

@@ -54,7 +54,7 @@ Live v = (state_ends v ≡ true) ⊎ ((k : ℕ) × (has_in (state_arcs v) k ≡ 
 dead-live : {A : Type 0} → Live dead → A
 dead-live h = elim h [ inl e ↦ absurd (true≢false (sym e)) | inr e ↦ absurd (true≢false (sym e.1)) ]
 
-zero-plus : (q : ℕ) → 0 + q ≡ q
+pub zero-plus : (q : ℕ) → 0 + q ≡ q
 zero-plus q = omega arith
 
 agree-in : (s q n : ℕ) (l : List State) → agree_states s q l ≡ true → Live (get_or l n dead) → agree_at s (q + n) ≡ true

@@ -14,7 +14,7 @@ use Rattle.document_grammar.proofs.Booleans.{false-true, and-l, and-r, or-c, eit
 use Rattle.grammar_machine.proofs.TableLemmas.{tail-same, no-cons, below-at}
 use Rattle.grammar_machine.proofs.Sound.{fired, holds-one, leaf-lt}
 use Rattle.grammar_machine.proofs.Patterns.{derive_all, pattern_of, symbol_row, label}
-use Rattle.grammar_machine.proofs.FromMachineTree.{show, shows, row-shown, show-root}
+use Rattle.grammar_machine.proofs.FromMachineTree.{zero-plus, show, shows, row-shown, show-root}
 use Rattle.document_grammar.specs.Kinds.{words, OPERATION_DEFINITION, SELECTION_SET, NAME, FRAGMENT_NAME, ENUM_VALUE, DOCUMENT, IDENT, STRING}
 use Rattle.grammar_machine.specs.Symbols.{TYPE, SHORT_QUERY, NAME_FOR_FRAGMENT, NAME_FOR_ENUM, BARE_SELECTIONS}
 
@@ -27,9 +27,6 @@ pub at-label : (l : List ℕ) (n i : ℕ) (t : ℕ → ℕ → Bool) → all_at 
 at-label [] n i t h d = d
 at-label (v ∷ more) n zero t h d = let e : n + 0 ≡ n = omega arith in rw e (and-l _ _ h)
 at-label (v ∷ more) n (suc i) t h d = let e : n + suc i ≡ suc n + i = omega arith in rw e (at-label more (suc n) i t (and-r _ _ h) (rw e at d))
-
-pub zero-plus : (q : ℕ) → 0 + q ≡ q
-zero-plus q = omega arith
 
 -- Where one symbol alone has the label.
 abbrev alone : ℕ → ℕ → ℕ → Bool

@@ -23,7 +23,7 @@ own-absent : within absent (2 ^ absent) ≡ true
 unfolding within
 own-absent = refl
 
-zero-one : within 0 1 ≡ true
+pub zero-one : within 0 1 ≡ true
 unfolding within
 zero-one = refl
 

@@ -1,5 +1,5 @@
 -- The greatest depth that was asked for covers what every tree nests, whatever is reported.
-use Rattle.std.proofs.Common.{◌≡◌, ℕ, zero, suc, ◌+◌, ◌-◌, ◌<◌, ◌≤◌, max, min, Bool, true, false, cond, eqb, leb, List, [], ◌∷◌, ◌++◌, Option, Some, None, refl, sym, ap, ap₂, ◌∙◌, subst, eqb-true, leb-true, arith}
+use Rattle.std.proofs.Common.{◌≡◌, ℕ, zero, suc, ◌+◌, ◌<◌, ◌≤◌, max, min, Bool, true, false, cond, eqb, leb, List, [], ◌∷◌, ◌++◌, Option, Some, None, refl, sym, ap, ap₂, ◌∙◌, subst, eqb-true, leb-true, arith}
 use Rattle.lexical_grammar.specs.declared.TokenKind.{TokenKind}
 use Rattle.lexical_grammar.specs.declared.TokenKind.TheVariants as token
 use Rattle.lexical_grammar.specs.Answers.{Answer, gives, limit_at}
@@ -30,6 +30,7 @@ use Rattle.parser_rules.proofs.soundness.TableCheck.{own}
 use Rattle.parser_rules.proofs.nesting.LevelCheck.{uncounted, is_bare, weight, plain_leaf, walks, settled, levels_hold}
 use Rattle.parser_rules.proofs.NodeChecks.{node_passes, document_levels}
 use Rattle.parser_rules.proofs.runs.Reporting.{after_note, after_too_deep}
+use Rattle.parser_rules.proofs.nesting.Levels.{enter-level, enter-peak, enter-above, leave-level, leave-peak, leave-above, begin-level, begin-peak}
 
 weight-none : (p k : ℕ) → uncounted k ≡ true → weight p k ≡ 0
 unfolding weight
@@ -275,12 +276,6 @@ unfolding flush
 flush-held p r o s h = held-on p r o s (flush s) (add_all_above s.waiting s.tree) refl (omega arith) (record { high = height-all s.waiting s.tree h.waits; waits = refl }) h
 
 -- a node begins
-begin-level : (d o a r j c : ℕ) → d + o ≡ a + r → r + j ≡ o + c → d + j ≡ (a + c) + 0
-begin-level d o a r j c e f = omega arith
-
-begin-peak : (n n' h d o a r j c u : ℕ) → n ≤ max h (d + u) → u ≡ 0 → d ≤ h → n' ≡ max n (a + c) → d + o ≡ a + r → r + j ≡ o + c → n' ≤ max h (d + j)
-begin-peak n n' h d o a r j c u e f g i k l = omega arith
-
 begin-rooted : (a n w c : ℕ) → a < n → w ≤ 1 → a + w < n + suc c
 begin-rooted a n w c e f = omega arith
 
@@ -334,35 +329,17 @@ closed-held p r o q s u v a d e f l h i = record {
     le-both d d' h h' a b c = omega arith
 
 -- a level is entered and left
-enter-level : (d o a r : ℕ) → d + o ≡ a + r → r ≡ 0 → (d + 1) + o ≡ a + 1
-enter-level d o a r e f = omega arith
-
-enter-peak : (n h d o : ℕ) → n ≤ max h (d + o) → o ≤ 1 → n ≤ max (max h (d + 1)) ((d + 1) + 0)
-enter-peak n h d o e f = omega arith
-
-enter-deep : (h d : ℕ) → d + 1 ≤ max h (d + 1)
-enter-deep h d = omega arith
-
 entered-held : (p r o : ℕ) (s : State) → r ≡ 0 → o ≤ 1 → Held p r o s → Held p 1 0 (enter s)
 unfolding enter
 entered-held p r o s e f h = record {
   kind = h.kind;
   level = enter-level s.depth (own p) (path s.tree.above) r h.level e;
   peak = enter-peak (height s.tree) s.high s.depth o h.peak f;
-  deep = enter-deep s.high s.depth;
+  deep = enter-above s.high s.depth;
   entered = omega arith;
   rooted = h.rooted;
   waits = h.waits;
 }
-
-leave-level : (d o a : ℕ) → d + o ≡ a + 1 → 1 ≤ d → (d - 1) + o ≡ a + 0
-leave-level d o a e f = omega arith
-
-leave-peak : (n h d : ℕ) → n ≤ max h (d + 0) → d ≤ h → n ≤ max h ((d - 1) + 0)
-leave-peak n h d e f = omega arith
-
-leave-deep : (d h : ℕ) → d ≤ h → d - 1 ≤ h
-leave-deep d h e = omega arith
 
 left-held : (p : ℕ) (s : State) → Held p 1 0 s → Held p 0 0 (leave s)
 unfolding leave
@@ -370,7 +347,7 @@ left-held p s h = record {
   kind = h.kind;
   level = leave-level s.depth (own p) (path s.tree.above) h.level h.entered;
   peak = leave-peak (height s.tree) s.high s.depth h.peak h.deep;
-  deep = leave-deep s.depth s.high h.deep;
+  deep = leave-above s.depth s.high h.deep;
   entered = omega arith;
   rooted = h.rooted;
   waits = h.waits;

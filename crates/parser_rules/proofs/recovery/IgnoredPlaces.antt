@@ -10,14 +10,14 @@ use Rattle.document_grammar.specs.Forests as built
 use Rattle.document_grammar.specs.Builds.{Building, Open, add_leaf, finish, close, built_count}
 use Rattle.document_grammar.proofs.Joins.{join-none, join_assoc}
 use Rattle.document_grammar.specs.Numbered.{numbered, tree_of}
-use Rattle.document_grammar.specs.Tree.{Token, Tree, leaf, node, Forest, none, ◌▸◌}
+use Rattle.document_grammar.specs.Tree.{Tree, leaf, node, Forest, none, ◌▸◌}
 use Rattle.document_grammar.specs.Pattern.{Pattern, any_of, nothing, ◌then◌, ◌or_else◌, many, Matches}
 use Rattle.document_grammar.specs.Rows.{Row, row_in, children}
 use Rattle.document_grammar.specs.Derivation.{kinds, spelled, Yield, Yields, Fits, AllFit}
 use Rattle.document_grammar.specs.Places.{ignored, bare, bares, Placed}
 use Rattle.document_grammar.specs.Booleans.{◌and◌, ◌or◌}
 use Rattle.document_grammar.proofs.Booleans.{false-true, and-i, and-l, and-r, not-c, either}
-use Rattle.document_grammar.proofs.Places.{Starts, Ends, AllTrim, placed as trim_placed}
+use Rattle.document_grammar.proofs.Places.{nil-left, nil-right, Starts, Ends, AllTrim, placed as trim_placed}
 use Rattle.parser_rules.specs.State.{State, Lexeme, Part, read_on, add_all, flush, opened, closed, wrapped_from, moved, bump, note, deepened, too_deep, enter, leave, fresh, begun, finished}
 use Rattle.parser_rules.specs.Nodes.{kind_of, Document}
 use Rattle.parser_rules.specs.RuleLanguage.{Prim, Bump, Note, TooDeep, step, Rule, Do, Call}
@@ -237,14 +237,6 @@ built_by {s = s} (wrapped {a = a} {t = t} {u = u} {v = v} {w = w} e p i c j y l)
     subst (λ (z : State). Builds false s z) (sym c) (weaken true s (closed w) (wraps kind.NON_NULL_TYPE (builds a) false s u w (subst (λ (z : State). Builds (builds a) z u) e (built_by j n (and-r _ _ h))) (subst (λ (z : State). Builds false z w) place (built_by l n refl))))
 
 -- ---- what is left out
-
-nil-left : (v w : List Token) → v ++ w ≡ [] → v ≡ []
-nil-left [] w e = refl
-nil-left (a ∷ v) w e = absurd (cc)
-
-nil-right : (v w : List Token) → v ++ w ≡ [] → w ≡ []
-nil-right [] w e = e
-nil-right (a ∷ v) w e = absurd (cc)
 
 none-left : (v w : List ℕ) → [] ≡ v ++ w → (v ≡ []) × (w ≡ [])
 none-left [] w e = (refl, sym e)

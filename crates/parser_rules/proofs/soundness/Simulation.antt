@@ -48,10 +48,8 @@ use Rattle.parser_rules.proofs.soundness.MachineStack.{image, image-some, shows-
 use Rattle.parser_rules.proofs.soundness.Settled.{Settled, Fitting, fitting-image, fitting-path, settled-at, settled-leaf, settled-parts, settled-start, settled-finish, settled-wrap}
 use Rattle.parser_rules.proofs.soundness.TableCheck.{Mark, Then, behind, raised, own, owed, same_level, same_sure, is_firm, weak, same_spot, covered, all_marks, levels, leaf_of, loses, is_high, lowered, heads, takes, ends_at, after, closing, losing, child_goes, child_sticks, child_at, counted, limits_at, nests, typed, type_at, unread_arcs, reports, is_node, ok, ends_well, follows_table, whole, no_brace, leaves_well}
 use Rattle.parser_rules.proofs.NodeChecks.{node_passes}
-
-zero-one : within 0 1 ≡ true
-unfolding within
-zero-one = refl
+use Rattle.parser_rules.proofs.nesting.Levels.{enter-level, enter-peak, enter-above, leave-level, leave-peak, leave-above, begin-level, begin-peak}
+use Rattle.parser_rules.proofs.lookahead.MachineClasses.{zero-one}
 
 -- ---- levels, on plain numbers
 
@@ -68,35 +66,11 @@ owed-le s low = own-le s
 owed-le s high = omega arith
 owed-le s past = omega arith
 
-enter-level : (d o a r : ℕ) → d + o ≡ a + r → r ≡ 0 → (d + 1) + o ≡ a + 1
-enter-level d o a r e f = omega arith
-
-enter-peak : (p h d u : ℕ) → p ≤ max h (d + u) → u ≤ 1 → p ≤ max (max h (d + 1)) ((d + 1) + 0)
-enter-peak p h d u e f = omega arith
-
-enter-above : (h d : ℕ) → d + 1 ≤ max h (d + 1)
-enter-above h d = omega arith
-
 enter-within : (h d m lim : ℕ) → h ≤ lim → m ≡ lim → suc d ≤ m → max h (d + 1) ≤ lim
 enter-within h d m lim e f g = omega arith
 
 enter-nested : (h d n : ℕ) → h ≤ n → d < n → max h (d + 1) ≤ n
 enter-nested h d n e f = omega arith
-
-leave-level : (d o a : ℕ) → d + o ≡ a + 1 → 1 ≤ d → (d - 1) + o ≡ a + 0
-leave-level d o a e f = omega arith
-
-leave-peak : (p h d : ℕ) → p ≤ max h (d + 0) → d ≤ h → p ≤ max h ((d - 1) + 0)
-leave-peak p h d e f = omega arith
-
-leave-above : (d h : ℕ) → d ≤ h → d - 1 ≤ h
-leave-above d h e = omega arith
-
-begin-level : (d o a r j c : ℕ) → d + o ≡ a + r → r + j ≡ o + c → d + j ≡ (a + c) + 0
-begin-level d o a r j c e f = omega arith
-
-begin-peak : (p' p h d o a r j c u : ℕ) → p' ≡ max p (a + c) → p ≤ max h (d + u) → u ≡ 0 → d ≤ h → d + o ≡ a + r → r + j ≡ o + c → p' ≤ max h (d + j)
-begin-peak p' p h d o a r j c u e f g i k l = omega arith
 
 same-depth : (d d' o a r j c m : ℕ) → d + o ≡ a + r → r + j ≡ o + c → d' + j ≡ (a + c) + m → m ≡ 0 → d' ≡ d
 same-depth d d' o a r j c m e f g h = omega arith
@@ -500,7 +474,7 @@ module _ (sort : Sort) (answers : List Answer) (base : List Report) (Follows : T
   leveled-begin s q j l f fs d h m e v = record {
     level = begin-level d (own s) (depth_above fs s) (raised l) (own j) (count_in s j) v.level (eqb-true _ _ (and-l _ _ e));
     entered = omega arith;
-    most_open = begin-peak _ (peak (frame s q f ∷ fs)) h d (own s) (depth_above fs s) (raised l) (own j) (count_in s j) (owed s l) (peak-open s q j f fs) v.most_open (eqb-true _ _ (and-r _ _ e)) v.above v.level (eqb-true _ _ (and-l _ _ e));
+    most_open = begin-peak (peak (frame s q f ∷ fs)) _ h d (own s) (depth_above fs s) (raised l) (own j) (count_in s j) (owed s l) v.most_open (eqb-true _ _ (and-r _ _ e)) v.above (peak-open s q j f fs) v.level (eqb-true _ _ (and-l _ _ e));
     above = v.above;
     kept = v.kept;
     nested = v.nested;
