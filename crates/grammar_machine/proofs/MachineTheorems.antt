@@ -65,7 +65,7 @@ module _ (s0 : ℕ) (b : begins_parse s0 ≡ true) where
       let h = reach-sound no-leaf c in
       (reach-spent c, ((h.0, path-ok s0 0 q f h.1 (move-ends s0 q _ _ m)), refl, refl))
 
-  -- Over the tokens of a tree it ends behind all of them, and is that tree.
+  -- Over the tokens of a tree it ends after all of them, and is that tree.
   pub done-all : (t : Tree) (w : List Token) (q : ℕ) (f : Forest) (r : List Token) → Parse s0 t w → Reach s0 w (frame s0 q f ∷ []) r
       → next s0 q r ≡ close → (r ≡ []) × (node s0 f ≡ t)
   done-all t w q f r p c m = left-done s0 q f r t (on-the-way t w (frame s0 q f ∷ []) r p c) m

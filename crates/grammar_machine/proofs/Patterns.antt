@@ -192,7 +192,7 @@ nullable-from (p then q) h = ([], [], refl, nullable-from p (and-l _ _ h), nulla
 nullable-from (p or_else q) h = elim (or-c _ _ h) [ inl x ↦ inl (nullable-from p x) | inr x ↦ inr (nullable-from q x) ]
 nullable-from (many p) h = stop
 
--- The rest of a repetition behind its first child.
+-- The rest of a repetition after its first child.
 rest-split : (p : Pattern) (k : ℕ) (w u v : List ℕ) → ((v : List ℕ) → Matches p (k ∷ v) → Matches (deriv p k) v) → Matches p u → Repeats (Matches p) v
     → u ++ v ≡ k ∷ w → (v ≡ k ∷ w → Matches (deriv p k then many p) w) → Matches (deriv p k then many p) w
 rest-split p k w [] v d m r e ih = ih e

@@ -51,7 +51,7 @@ sound sort w f r e =
     let d = done (start_symbol sort w) (opens sort (first w)) w e.0 f r e.1 e.2 in
     (d.0, parse-sentence sort (first w) (yields f) (node (start_symbol sort w) f) d.1.0 d.1.1 d.1.2)
 
--- Over a sentence it ends behind all tokens, with the sentence's tree.
+-- Over a sentence it ends after all tokens, with the sentence's tree.
 pub sound-all : (sort : Sort) (w : List Token) (t : Tree) (f : Forest) (r : List Token) → Spells w t sort → Ended sort w f r
     → (r ≡ []) × (show (node (start_symbol sort w) f) ≡ t)
 sound-all sort w t f r h e =

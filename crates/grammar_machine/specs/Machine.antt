@@ -173,7 +173,7 @@ abbrev mutual
 pub data Frame : Type 0 where
   frame : ℕ → ℕ → Forest → Frame
 
--- `Reach s w fs r`: from the symbol `s` before the tokens `w`, the machine comes to the open nodes `fs` before the tokens `r`.
+-- `Reach s w fs r`: from the symbol `s` before the tokens `w`, the machine reaches the open nodes `fs` before the tokens `r`.
 pub data Reach (s0 : ℕ) (w : List Token) : List Frame → List Token → Type 0 where
   start : Reach s0 w (frame s0 0 none ∷ []) w
   shift : {s q l : ℕ} {f : Forest} {fs : List Frame} {a : Token} {r : List Token}

@@ -108,7 +108,7 @@ pub data Part : Type 0 where
   MaybeArguments : Bool → Part
   MaybeDirectives : Bool → Part
   MaybeVariableDefinitions : Part
-  -- what stands behind a variable's `:`
+  -- what follows a variable's `:`
   VariableType : Part
   MaybeDefaultValue : Part
   MaybeTypeCondition : Part

@@ -93,17 +93,17 @@ inside FragmentName =
 inside NameForFragment = Do (Bump kind.IDENT)
 -- TypeCondition (2.8.1) : `on` NamedType
 inside TypeCondition = expect_word kind.on_KW message.ExpectedOn > When (At token.Name) (Child NamedType) (Do (Note message.ExpectedConditionName))
--- Arguments (2.6) : ( Argument+ ), where Argument is constant in a constant place
+-- Arguments[Const] (2.6) : ( Argument[?Const]+ )
 inside (Arguments c) =
     Do (Bump kind.L_PAREN)
     > want (At token.Name) message.ExpectedArgument
     > While (At token.Name) (Child (Argument c))
     > expect token.RParen kind.R_PAREN
--- Argument (2.6) : Name : Value
+-- Argument[Const] (2.6) : Name : Value[?Const]
 inside (Argument c) = Child Name > When (At token.Colon) (Do (Bump kind.COLON) > Call (ValueOf c false)) (Do (Note (message.Expected token.Colon)))
--- Directives (2.12) : Directive+
+-- Directives[Const] (2.12) : Directive[?Const]+
 inside (Directives c) = While (At token.At) (Child (Directive c))
--- Directive (2.12) : @ Name Arguments?
+-- Directive[Const] (2.12) : @ Name Arguments[?Const]?
 inside (Directive c) = Do (Bump kind.AT) > Call Named > Call (MaybeArguments c)
 -- VariableDefinitions (2.10) : ( VariableDefinition+ )
 inside VariableDefinitions =
@@ -130,11 +130,11 @@ inside NullValue = Do (Bump kind.null_KW)
 -- EnumValue (2.9.6) : Name but not `true`, `false` or `null`
 inside EnumValue = Child NameForEnum
 inside NameForEnum = Do (Bump kind.IDENT)
--- ListValue (2.9.7) : [ ], or [ Value+ ]
+-- ListValue[Const] (2.9.7) : [ ], or [ Value[?Const]+ ]
 inside (ListValue c) = Do (Bump kind.L_BRACK) > Call (ListItems c)
--- ObjectValue (2.9.8) : { }, or { ObjectField+ }
+-- ObjectValue[Const] (2.9.8) : { }, or { ObjectField[?Const]+ }
 inside (ObjectValue c) = Do (Bump kind.L_CURLY) > While (At token.Name) (Child (ObjectField c)) > expect token.RCurly kind.R_CURLY
--- ObjectField (2.9.8) : Name : Value
+-- ObjectField[Const] (2.9.8) : Name : Value[?Const]
 inside (ObjectField c) = Child Name > When (At token.Colon) (Do (Bump kind.COLON) > Call (NestedValue c)) (Do (Note (message.Expected token.Colon)))
 -- NamedType (2.11) : Name
 inside NamedType = Call Named
@@ -179,8 +179,8 @@ body MaybeVariableDefinitions = maybe token.LParen VariableDefinitions
 body VariableType = When types (Call TypeOf > Call MaybeDefaultValue > Call (MaybeDirectives true)) (Do (Note message.ExpectedType))
 body MaybeDefaultValue = maybe token.Eq DefaultValue
 body MaybeTypeCondition = maybe token.Name TypeCondition
--- Value (2.9) : Variable, IntValue, FloatValue, StringValue, BooleanValue, NullValue, EnumValue, ListValue, or ObjectValue; no Variable in a
--- constant place
+-- Value[Const] (2.9) : [if not Const] Variable, IntValue, FloatValue, StringValue, BooleanValue, NullValue, EnumValue, ListValue[?Const], or
+-- ObjectValue[?Const]
 body (ValueOf c pops) =
     When (At token.Dollar) (variable_of c)
     (When (At token.Int) (Child IntValue)
@@ -197,7 +197,7 @@ body WordValue =
     (Child EnumValue))
 -- Value (2.9), one level deeper
 body (NestedValue c) = Nested (Call (ValueOf c true)) Skip
--- Value+ ], the rest of a ListValue (2.9.7)
+-- Value[?Const]+ ], the rest of a ListValue (2.9.7)
 body (ListItems c) =
     While has_item (Call (NestedValue c))
     > When (At token.RBracket) (Do (Bump kind.R_BRACK))

@@ -96,7 +96,7 @@ read_on (gives item ∷ rest) s = elim item.kind [
   ]
 ]
 
--- the significant token behind the current one, as a copy of the reader finds it
+-- the significant token after the current one, as a copy of the reader finds it
 unfoldable pub second : List Answer → Option Lexeme
 second [] = None
 second (limit_at index ∷ rest) = second rest
@@ -128,7 +128,7 @@ closed s = record s { tree = finish s.tree }
 unfoldable pub wrapped_from : ℕ → SyntaxKind → State → State
 wrapped_from place k s = record s { tree = wrap place k s.tree }
 
--- moves the current token into the tree behind what waits, and reads on; where there is none, nothing happens
+-- moves the current token into the tree after what waits, and reads on; where there is none, nothing happens
 abbrev pub moved : SyntaxKind → State → Option Lexeme → State
 moved leaf s None = s
 moved leaf s (Some t) = let f = flush s in read_on f.items (record f { tree = add_leaf leaf t.text f.tree })

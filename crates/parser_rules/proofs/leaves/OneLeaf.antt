@@ -89,7 +89,7 @@ abbrev to_come : Option Lexeme → List Answer → List Answer
 to_come None xs = xs
 to_come (Some x) xs = gives (record { kind = Some x.kind; text = x.text; index = x.index }) ∷ xs
 
--- where what is to come behind the second state has its leaves, what is to come behind the first one has
+-- where what is to come after the second state has its leaves, what is to come behind the first one has
 Fits : State → State → Type 0
 Fits s t = (ls : List Part) → OneLeafAnItem (to_come t.current t.items) ls → (ms : List Part) × (stock t ++ ls ≡ stock s ++ ms) × OneLeafAnItem (to_come s.current s.items) ms
 

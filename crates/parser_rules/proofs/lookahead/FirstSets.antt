@@ -56,7 +56,7 @@ second_of c = seconds (entries (symbol c))
 unfoldable pub first_in : Node → ℕ
 first_in c = cond (consumes 5 (inside c)) (first_of c) any
 
--- the nodes whose rules are walked at each place where they stand, so that what is known of the second token is kept
+-- the nodes whose rules are walked at each of their places, so that what is known of the second token is kept
 unfoldable pub inlined : Node → Bool
 inlined Name = true
 inlined _ = false

@@ -1,4 +1,4 @@
--- The machine's classes of the next two tokens, where the rules' sets hold the current one and the one behind it.
+-- The machine's classes of the next two tokens, where the rules' sets hold the current one and the one after it.
 use Rattle.std.proofs.Common.{◌≡◌, ℕ, ◌^◌, Bool, true, false, cond, List, [], ◌∷◌, ◌++◌, Option, Some, None, refl, sym, subst, ◌⊎◌, inl, inr}
 use Rattle.lexical_grammar.specs.declared.TokenKind.{TokenKind}
 use Rattle.lexical_grammar.specs.declared.TokenKind.TheVariants as token
@@ -17,7 +17,7 @@ use Rattle.parser_rules.proofs.reports.NoReport.{ends, choose, EndsWell, Now, re
 use Rattle.parser_rules.proofs.lookahead.FirstSets.{without}
 use Rattle.parser_rules.proofs.soundness.TableCheck.{behind}
 
--- ---- the end stands where no token is
+-- ---- the end, where no token is
 
 own-absent : within absent (2 ^ absent) ≡ true
 unfolding within

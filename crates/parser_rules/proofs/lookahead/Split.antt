@@ -1,4 +1,4 @@
--- Where a rule stands in its node, and what a test says of the next two tokens and of the recursion limit there.
+-- Where a rule is in its node, and what a test says of the next two tokens and of the recursion limit there.
 use Rattle.std.specs.Prelude.{⊤}
 use Rattle.std.proofs.Common.{◌≡◌, ℕ, Bool, true, false, not, ◌&&◌, ◌||◌, sym, ap, ◌∙◌, subst, inl, inr}
 use Rattle.document_grammar.specs.Booleans.{◌and◌}
@@ -13,7 +13,7 @@ pub data Level : Type 0 where
   high : Level
   past : Level
 
--- What is known of the open nodes: nothing more, that they are open whatever comes behind the next token, and then that the recursion
+-- What is known of the open nodes: nothing more, that they are open whatever follows the next token, and then that the recursion
 -- limit is reached.
 pub data Sure : Type 0 where
   loose : Sure

@@ -1,4 +1,4 @@
--- What a test says of the classes of the current token and of the significant one behind it: it passes exactly for the classes of its set.
+-- What a test says of the classes of the current token and of the next significant one: it passes exactly for the classes of its set.
 use Rattle.std.proofs.Common.{◌≡◌, ℕ, zero, suc, ◌+◌, ◌-◌, ◌^◌, ◌%◌, ◌≤◌, min, Bool, true, false, not, cond, ◌&&◌, eqb, bit_and, List, [], ◌∷◌, Option, Some, None, refl, sym, ap, ◌∙◌, subst, inl, inr, eqb-true, is_some, arith}
 use Rattle.std.specs.Prelude.{⊤}
 use Rattle.std.proofs.lemmas.Bool.{eqb-false}
@@ -60,7 +60,7 @@ second-shown (gives item ∷ rest) = elim item.kind as (λ found. Shown (on_foun
   | Some k ↦ (elim (ignored k) as (λ found. ignored k ≡ found → Shown (on_ignored rest item k found)) [ Some leaf ↦ λ e. second-shown rest | None ↦ λ e. e ]) refl
 ]
 
--- reading on comes to the token behind the current one
+-- reading on reaches the token after the current one
 pub read-second : (xs : List Answer) (s : State) → (read_on xs s).current ≡ second xs
 unfolding read_on second
 read-second [] s = refl
@@ -234,7 +234,7 @@ of-any (Some t) w = at-token (λ j c. within c any ≡ true) t.kind t.text w end
 
 -- ---- sets of the next two tokens
 
--- sets that hold the classes of the current token and of the one behind it
+-- sets that hold the classes of the current token and of the one after it
 pub record Seen (x y : ℕ) (s : State) : Type 0 where
   pub near : within (class_of s.current) x ≡ true
   pub far : within (class_of (second s.items)) y ≡ true

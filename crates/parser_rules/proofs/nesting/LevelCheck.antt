@@ -10,7 +10,7 @@ use Rattle.parser_rules.specs.RuleLanguage.{Prim, Bump, Note, TooDeep, Rule, Ski
 use Rattle.parser_rules.specs.Rules.{inside, body}
 use Rattle.parser_rules.proofs.soundness.TableCheck.{own}
 
--- a kind that is counted nowhere
+-- a kind that is never counted
 abbrev pub uncounted : ℕ → Bool
 uncounted k = not (member k (SELECTION_SET ∷ LIST_TYPE ∷ [])) and not (member k Values)
 

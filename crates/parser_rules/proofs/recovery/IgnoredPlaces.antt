@@ -119,7 +119,7 @@ then_on a b s t u h k = record {
   some = λ z. absurd (true≢false (sym z));
 }
 
--- a tree behind what waited
+-- a tree after what waited
 one-more : (s t : State) (f : built.Forest) → t.tree.above ≡ s.tree.above → t.tree.here ≡ built.join (add_all s.waiting s.tree).here f → trim f ≡ true → starts_well f ≡ true → ((b : Bool) → ends_with b f ≡ true) → (f ≡ built.none → ⊥) → Builds true s t
 one-more s t f a h i b e n = record {
   above = a;

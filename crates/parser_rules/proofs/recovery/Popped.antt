@@ -321,7 +321,7 @@ cut-off (gives item ∷ rest) s e h a = (elim item.kind as (λ found. choose (en
 
 -- ---- steps
 
--- a tree behind what waited
+-- a tree after what waited
 behind : (s t : State) (n : ℕ) (b : Bool) (f : Marked) → t.tree.above ≡ s.tree.above → t.tree.here ≡ built.join (add_all s.waiting s.tree).here (erase f) → flat f ++ pending t ≡ now_of s.current ++ sources s.items → (reports : List Report) → t.errors ≡ s.errors ++ reports → (t.accepts ≡ true → s.accepts ≡ true)
     → (Stood s.current s.items → t.accepts ≡ true → Recovers t.errors f × (n ≤ 1 → pops_of f ≤ n) × (b ≡ true → NoBracket f)) → Ran s t n b
 behind s t n b f a h o rs e k i = record {
@@ -415,7 +415,7 @@ limits s = at s.current
         let h = faults (record { found = at_limit; index = x.index }) (deepened s) in
         record { tree = h.tree; waiting = h.waiting; current = h.current; items = h.items; reports = h.reports; errors = h.errors; keeps = λ z. false-true refl z }
 
--- what is known behind a report
+-- what is known after a report
 note-known : (w c d : Bool) (s : State) → Known w c d s → Known true c d (note s)
 note-known w c d s k =
     let h = notes s in

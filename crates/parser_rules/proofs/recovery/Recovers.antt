@@ -142,7 +142,7 @@ tokens-silent taken (gives item ∷ xs) h = on item.kind refl (and-l _ _ h) (tok
     on None e g r = false-true refl g
     on (Some k) e g r = passed e r
 
--- and no report stands beyond the first token that is left
+-- and no report is beyond the first token that is left
 pub none-beyond : (r k : ℕ) (source : List ℕ) (items : List Item) (first_rule : Rule) (b st : State) (c : Turn st) → Cut source items → all_tokens (from_now st c) ≡ true → Runs first_rule (begun (limited k items) r kind.DOCUMENT) b → Turns Ready (Call Definition) b st → AllUpTo c.token.index st.errors
 none-beyond r k source items first_rule b st c cut h run turns =
     before_last k source items st.errors (record { found = found_at c.token; index = c.token.index }) cut (reported_at (limited k items) r kind.DOCUMENT c.token run turns c.current c.accepts (tokens-silent true st.items (and-r _ _ h)))

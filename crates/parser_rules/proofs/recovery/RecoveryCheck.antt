@@ -26,7 +26,7 @@ excludes (Not (At token.RBracket)) = true
 excludes (Both p q) = excludes p or excludes q
 excludes _ = false
 
--- where the test fails, no significant token is behind the current one
+-- where the test fails, no significant token follows the current one
 abbrev pub asks_next : Test → Bool
 asks_next HasNext = true
 asks_next _ = false
@@ -51,7 +51,7 @@ few zero = true
 few (suc zero) = true
 few _ = false
 
--- A token is popped only behind a report at it: `w` says that one was made.
+-- A token is popped only after a report at it: `w` says that one was made.
 unfoldable pub told_first : ℕ → Bool → Rule → Bool
 told_first n w Skip = true
 told_first n w (Do (Bump own)) = not (is_error own) or w

@@ -92,7 +92,7 @@ then_on k s t u h l = record {
   fits = λ z. let a = h.fits z in let b = l.fits a.1 in (rowed-join k h.more l.more a.0 b.0, b.1);
 }
 
--- a tree behind what waited
+-- a tree after what waited
 one-more : (k : SyntaxKind) (s t : State) (f : built.Forest) → t.tree.above ≡ s.tree.above → t.tree.here ≡ built.join (add_all s.waiting s.tree).here f → (aside s.waiting ≡ true → (rowed k f ≡ true) × (aside t.waiting ≡ true)) → Adds_rowed k s t
 one-more k s t f a h i = record {
   above = a;

@@ -47,7 +47,7 @@ abbrev pub ends : Option TokenKind → Bool
 ends None = false
 ends (Some k) = is_end k
 
--- the answers come to an end: behind the end nothing follows
+-- the answers come to an end: nothing follows the end
 abbrev pub EndsWell : List Answer → Type 0
 EndsWell [] = ⊥
 EndsWell (limit_at index ∷ rest) = rest ≡ []

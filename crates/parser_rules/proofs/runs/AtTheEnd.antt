@@ -1,4 +1,4 @@
--- Nothing comes behind the end, and the text of the end is empty.
+-- Nothing follows the end, and the text of the end is empty.
 use Rattle.std.proofs.Common.{◌≡◌, Option, Some, None, List, [], ◌∷◌, ◌++◌, refl, sym, subst, true, false}
 use Rattle.lexical_grammar.specs.Answers.{Answer, gives, limit_at, is_end, IsLast, AreAnswers}
 use Rattle.document_grammar.specs.Builds.{start, add_leaf, built_count}

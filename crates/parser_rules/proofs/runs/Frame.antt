@@ -218,7 +218,7 @@ adds_waiting s = record { above = add_all_above s.waiting s.tree; more = parts_f
 adds_leaf : (k : SyntaxKind) (x : Lexeme) (s : State) → Adds s (read_on s.items (record s { tree = add_leaf k x.text s.tree }))
 adds_leaf k x s = let e = (read_untouched s.items (record s { tree = add_leaf k x.text s.tree })).tree in record { above = ap (λ b. b.above) e; more = built.leaf k x.text built.none; here = ap (λ b. b.here) e }
 
--- a node that was opened behind the trees `before` is closed
+-- a node that was opened after the trees `before` is closed
 pub closed_here : (before : Forest) (k : SyntaxKind) (above : List Open) (w : Building) → w.above ≡ record { before = before; kind = k } ∷ above → finish w ≡ record { here = join before (built.node k w.here built.none); above = above }
 closed_here before k above w e = ap (close w.here) e
 
@@ -300,7 +300,7 @@ open_wrapped k place s free e = subst (λ w. is_free_in w.tree.above ≡ true) (
 mark_seam : (f : Forest) → IsSeam (count f) f
 mark_seam f = ap count (ap (front (count f)) (sym (join-none f)) ∙ front-join f built.none)
 
--- the place behind all that is built
+-- the place after all that is built
 pub is_mark : (s : State) (place : ℕ) → place ≡ built_count s.tree → IsMark place s.tree
 unfolding IsMark
 is_mark s place e = subst (λ n. IsPlace n s.tree) (sym e) (record { inside = omega arith; seam = subst (λ n. IsSeam n s.tree.here) (sym (place_left (open_count s.tree.above) (count s.tree.here))) (mark_seam s.tree.here) })

@@ -1,4 +1,4 @@
--- What surely reads on: rules that take the token that is there.
+-- Rules that surely take the token that is there: so loops end.
 use Rattle.std.proofs.Common.{◌≡◌, ℕ, suc, ◌<◌, Option, Some, None, refl, sym, ◌∙◌, ap, subst, arith, true, false, Bool, not, ◌&&◌, ◌||◌, inl, inr, true≢false}
 use Rattle.lexical_grammar.specs.declared.TokenKind.{TokenKind}
 use Rattle.lexical_grammar.specs.declared.TokenKind.TheVariants as token
@@ -14,7 +14,7 @@ use Rattle.parser_rules.specs.declared.message.Message.{Message}
 use Rattle.parser_rules.proofs.runs.Frame.{left, moved_left, fewer}
 use Rattle.parser_rules.proofs.runs.Reporting.{after_note}
 
--- behind the rule the token that was there is still there
+-- after the rule the token that was there is still there
 abbrev pub stays : Rule → Bool
 stays Skip = true
 stays (Do (Note m)) = true

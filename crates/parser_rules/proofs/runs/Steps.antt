@@ -13,7 +13,7 @@ pub record Holds_along (R : State → State → Type 0) : Type 0 where
   pub next : (s t u : State) → R s t → R t u → R s u
   -- what waits goes into the tree
   pub flushes : (s : State) → R s (flush s)
-  -- the current token goes into the tree behind what waited, and the next one is read
+  -- the current token goes into the tree after what waited, and the next one is read
   pub moves : (leaf : SyntaxKind) (x : Lexeme) (s : State) → s.current ≡ Some x → s.waiting ≡ [] → R s (read_on s.items (record s { tree = add_leaf leaf x.text s.tree }))
   -- a report of the grammar at the current token, and that of the recursion limit, after which none is taken
   pub reports : (x : Lexeme) (s : State) → s.current ≡ Some x → s.accepts ≡ true → R s (record s { errors = s.errors ++ record { found = found_at x; index = x.index } ∷ [] })

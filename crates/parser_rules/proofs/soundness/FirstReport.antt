@@ -1,4 +1,4 @@
--- What is said of the first report: the machine is stuck there, or no rule reads what stands there yet, or each tree that goes on nests
+-- What is said of the first report: the machine is stuck there, or no rule reads yet what is there, or each tree that goes on nests
 -- deeper than the limit, or an answer is no token.
 use Rattle.std.proofs.Common.{◌≡◌, ℕ, ◌+◌, length, ◌<◌, true, false, List, ◌∷◌, ◌++◌, Some}
 use Rattle.lexical_grammar.specs.Answers.{Answer, is_token}
@@ -47,7 +47,7 @@ module _ (sort : Sort) (answers : List Answer) (lim : ℕ) (w : List Token) wher
   abbrev pub left : Lexeme → List Answer → List Token
   left t items = current_tokens (Some t) ++ answers_tokens items
 
-  -- so many tokens stand before these
+  -- so many tokens are before these
   abbrev pub Behind : ℕ → List Token → Type 0
   Behind m r = m + length r ≡ length w
 

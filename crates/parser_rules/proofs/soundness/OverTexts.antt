@@ -1,4 +1,4 @@
--- A run over a text: a sentence within both limits gets no report, and where the first report stands, the text before begins a sentence.
+-- A run over a text: a sentence within both limits gets no report, and where the first report is, the text before begins a sentence.
 use Rattle.document_grammar.specs.declared.kind.SyntaxKind.{SyntaxKind}
 use Rattle.document_grammar.specs.Numbered.{tree_of}
 use Rattle.document_grammar.specs.Places.{bare}
@@ -62,7 +62,7 @@ words_of items = map token_of (Significant items)
 abbrev pub item_of : Lexeme → Item
 item_of t = record { kind = Some t.kind; text = t.text; index = t.index }
 
--- the token is the end, or behind it a significant token or the end stands before the limit of tokens
+-- the token is the end, or a significant token or the end follows it within the token limit
 abbrev pub Answered : ℕ → List Item → List Item → Lexeme → Type 0
 Answered k before more t = (is_end t.kind ≡ true) ⊎ (is_some (second (limited (k - suc (length before)) more)) ≡ true)
 
@@ -152,7 +152,7 @@ on_kind xs item found = elim found [ None ↦ second xs | Some k ↦ on_shown xs
 abbrev One : List Item → List Answer → Item → Option TokenKind → Type 0
 One more xs item found = next_one (item_tokens found item.text ++ words_of more) ≡ next_one (item_tokens found item.text ++ answers_tokens xs)
 
--- the first token behind is the text's, where one was answered
+-- the first token after it is the text's, where one was answered
 behind-one : (k : ℕ) (more : List Item) → EndsWell (limited k more) → is_some (second (limited k more)) ≡ true → next_one (words_of more) ≡ next_one (answers_tokens (limited k more))
 unfolding second
 behind-one zero [] e h = absurd e

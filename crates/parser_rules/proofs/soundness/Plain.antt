@@ -119,7 +119,7 @@ not-plain (node k f) r v h a e run p = elim (or-c _ _ h) [
     described none e run p n = go-close (sym n ∙ (ap (λ (z : List Token). next k 0 z) e ∙ run))
     described (y ▸ f) e run p n = no-description y (yields f ++ v) run.1 (go-inj (sym run.0 ∙ (ap (λ (z : List Token). next k 0 z) (sym e) ∙ n))) p.0
 
--- where no rule reads what the machine goes on with, no such sentence stands
+-- where no rule reads what the machine goes on with, there is no such sentence
 pub plain-read : (answers : List Answer) (lim : ℕ) (w r : List Token) (t : Tree) → Parse DOCUMENT t w → Plain (show t) → Unread document answers lim w r → ⊥
 plain-read answers lim w r t p h k = on l.0 l.1 l.2 l.3 (upper-plain k.above (node k.symbol (k.children +++ l.0)) l.1 t l.4 (plain-by t h)).1
   where

@@ -1,4 +1,4 @@
--- The link: each run of a rule that keeps to the machine goes along it, or its first report is right.
+-- The simulation: each run of a rule that keeps to the machine follows it, or its first report is right.
 use Rattle.std.proofs.Common.{◌≡◌, ℕ, zero, suc, ◌+◌, ◌-◌, ◌≤◌, ◌<◌, max, Bool, true, false, cond, eqb, ltb, not, if◌then◌else◌, List, [], ◌∷◌, ◌++◌, length, Option, Some, None, refl, sym, ap, ap₂, ◌∙◌, subst, ◌⊎◌, inl, inr, eqb-true, arith, add-zero, leb-false, leb-true}
 use Rattle.std.specs.Prelude.{⊤}
 use Rattle.lexical_grammar.specs.declared.TokenKind.TheVariants as token
@@ -139,7 +139,7 @@ module _ (sort : Sort) (answers : List Answer) (base : List Report) (Follows : T
     pub nested : Follows → (t : Tree) → Parse top t w → most ≤ nesting_all t
     pub limit : bound ≡ lim
 
-  -- The machine comes to the open nodes before the tokens that are left.
+  -- The machine reaches the open nodes before the tokens that are left.
   pub record Place (s q : ℕ) (l : Level) (f : Forest) (fs : List Frame) (st : State) : Type 0 where
     pub reach : Reach top w (frame s q f ∷ fs) (rest st)
     pub leveled : Leveled s q l f fs st.depth st.high st.limit
@@ -522,7 +522,7 @@ module _ (sort : Sort) (answers : List Answer) (base : List Report) (Follows : T
   class-token : (t : Lexeme) (x : ℕ) → is_end t.kind ≡ false → within (class_of (Some t)) x ≡ true → within (class (leaf_number t.kind, t.text)) x ≡ true
   class-token t x e h = subst (λ b. within (cond b 0 (class (leaf_number t.kind, t.text))) x ≡ true) e h
 
-  -- A report of an answer behind the leaf would be right: so many tokens are taken then, and all trees fit.
+  -- A report of an answer after the leaf would be right: so many tokens are taken then, and all trees fit.
   record Blame (own : SyntaxKind) (x : Text) (st : State) (r : List Token) : Type 0 where
     count : ℕ
     blames : Blames answers base Follows Rightly count r
@@ -643,7 +643,7 @@ module _ (sort : Sort) (answers : List Answer) (base : List Report) (Follows : T
 
   -- ---- a node begins and ends
 
-  -- the same tokens are left, and all that is told is the same
+  -- the same tokens are left, and all reports are the same
   record Alike (st v : State) : Type 0 where
     current : v.current ≡ st.current
     items : v.items ≡ st.items
@@ -732,7 +732,7 @@ module _ (sort : Sort) (answers : List Answer) (base : List Report) (Follows : T
   closed-built s q p j o f g fs v ty e =
       stack-finish v.tree (label j, shows g) (image (frame s q f ∷ fs)) (image-some (frame s q f ∷ fs)) (e ∙ image-node j p g (frame s q f ∷ fs) ty) ∙ (ap (λ (t : Tree). put (t ▸ none) (image (frame s q f ∷ fs))) (sym (show-node j g ty)) ∙ put-image s q o f (node j g) fs)
 
-  -- the machine ends the node, whatever comes behind the next token
+  -- the machine ends the node, whatever follows the next token
   record Closes (j p : ℕ) (m : Level) (g : Forest) (fs : List Frame) (u : State) : Type 0 where
     low_again : raised m ≡ 0
     nothing_owed : owed j m ≡ 0
@@ -891,7 +891,7 @@ module _ (sort : Sort) (answers : List Answer) (base : List Report) (Follows : T
   type-path : (s q : ℕ) (m : Level) (fs : List Frame) (u : State) (i : Stands TYPE q m fs u) → Path TYPE 0 i.children q
   type-path s q m fs u i = (reach-sound (start-no-leaf top start_good) i.place.reach).1
 
-  -- a type that stands before no `!`
+  -- a type that no `!` follows
   type-plain : (s q : ℕ) (l m : Level) (fs : List Frame) (st u : State) (c0 : Stands s q l fs st) → levels s l TYPE ≡ true → raised m ≡ 0 → owed TYPE m ≡ 0 → (i : Stands TYPE 1 m (frame s q c0.children ∷ fs) u) → next TYPE 1 (rest u) ≡ close → Stands s (target s q TYPE) l fs u
   type-plain s q l m fs st u c0 h r o i n = record {
     children = c0.children +++ (node TYPE i.children ▸ none);
@@ -960,7 +960,7 @@ module _ (sort : Sort) (answers : List Answer) (base : List Report) (Follows : T
   Nothing : Spot → Type 0
   Nothing p = ⊤
 
-  -- what the check asks behind a type
+  -- what the check asks after a type
   record Typed_at (m : Level) (d : Sure) (q' : ℕ) : Type 0 where
     at_one : q' ≡ 1
     low_again : raised m ≡ 0
@@ -1011,7 +1011,7 @@ module _ (sort : Sort) (answers : List Answer) (base : List Report) (Follows : T
   bang-facts : (disjoint (kind_set token.Bang) 1 ≡ true) × (ltb (number kind.BANG) ERROR ≡ false)
   bang-facts = (refl, refl)
 
-  -- what stands in the NON_NULL_TYPE fits
+  -- the children of the NON_NULL_TYPE fit
   bang-fits : (s q : ℕ) (l m : Level) (fs : List Frame) (st u : State) (c0 : Stands s q l fs st) → eqb s TYPE ≡ false → Still_calm st → Adds (flush st) u → (i : Stands TYPE 1 m (frame s q c0.children ∷ fs) u) → Follows → (b : Token) (r : List Token)
       → Reach top w (frame TYPE (target TYPE 1 BANG) (i.children +++ (leaf BANG b.1 ▸ none)) ∷ frame s q c0.children ∷ fs) r
       → (k : Stack) × (put (leaf BANG b.1 ▸ none) (stack (wrapped_from (built_count (flush st).tree) kind.NON_NULL_TYPE u).tree) ≡ k) × Fitting (length (spent (frame TYPE (target TYPE 1 BANG) (i.children +++ (leaf BANG b.1 ▸ none)) ∷ frame s q c0.children ∷ fs))) k
@@ -1224,7 +1224,7 @@ module _ (sort : Sort) (answers : List Answer) (base : List Report) (Follows : T
   node-kind n s q l x y c fs k st t u c0 h b true m walk check = walked-out s q l c fs k st u c0 (node-is c) h (walk m)
   node-kind n s q l x y c fs k st t u c0 h b false m walk check = node-out s q l c fs k st u c0 (node-is c) h (and-r _ _ m) (check (narrow (symbol c) (spot 0 low loose) x y (first_of c) (second_of c) (frame s q c0.children ∷ fs) t b (seen-more x y (first_of c) (second_of c) t (and-l _ _ m) b.seen)))
 
-  -- the run of what stands in the node, from any mark that its check holds at
+  -- the run of the node's rule, from any mark that its check holds at
   abbrev Walks : Node → State → State → Type 0
   Walks c t u = (n s : ℕ) (p : Spot) (x y : ℕ) (fs : List Frame) (k : Then) → ok n s p x y (inside c) k ≡ true → Fits s p x y fs t → Out s fs k u
 

@@ -207,7 +207,7 @@ at-most a b c e f = omega arith
 same-words : (w v : List Token) → w ≡ v ++ [] → v ≡ w
 same-words w v e = sym (append-nil v) ∙ sym e
 
--- What the rule's run comes to: the text's words are spelled by a derivation that nests within the limit.
+-- What a run of the rule gives: the text's words are spelled by a derivation that nests within the limit.
 pub record Clean (r : ℕ) (xs : List Answer) (s : State) : Type 0 where
   pub spells : Spells (answers_tokens xs) (bare (tree_of (finished s))) document
   pub nesting : nest (bare (tree_of (finished s))) ≤ r
@@ -356,12 +356,12 @@ not-plain r xs w rest k =
           class = subst (λ (n : ℕ). within n (unread_set k.child) ≡ true) a.2 k.class;
         })
 
--- Where the first report stands, and why; and how many tokens are before it.
+-- Where the first report is, and why; and how many tokens are before it.
 pub data Why (r : ℕ) (xs : List Answer) : Report → ℕ → Type 0 where
   -- no sentence starts with the tokens before, the one there and the next
   fault : {m : ℕ} (front items : List Answer) (t : Lexeme) → m ≡ length (answers_tokens front) → Now (Some t) items → xs ≡ front ++ given_by t ∷ items → all_tokens front ≡ true → Begins_tokens (answers_tokens front)
       → (Starts document (read (answers_tokens front) ++ next_two (left document xs r (answers_tokens xs) t items)) → ⊥) → Why r xs (record { found = found_at t; index = t.index }) m
-  -- no rule reads what stands there: no sentence without such parts starts with the tokens before, the one there and the next
+  -- no rule reads what is there: no sentence without such parts starts with the tokens before, the one there and the next
   unread : {m : ℕ} (front items : List Answer) (t : Lexeme) → m ≡ length (answers_tokens front) → Now (Some t) items → xs ≡ front ++ given_by t ∷ items → all_tokens front ≡ true → Begins_tokens (answers_tokens front)
       → (StartsPlain (read (answers_tokens front) ++ next_two (left document xs r (answers_tokens xs) t items)) → ⊥) → Why r xs (record { found = found_at t; index = t.index }) m
   -- each sentence that starts so nests deeper than the limit
@@ -470,7 +470,7 @@ parsed-on st s c run =
       | inr o ↦ inr o
     ]
 
--- what stands at each state of a run: the current token is shown, and what follows it comes to an end
+-- what holds at each state of a run: the current token is shown, and what follows it comes to an end
 abbrev pub Stood : Option Lexeme → List Answer → Type 0
 Stood None items = ⊤
 Stood (Some t) items = Now (Some t) items

@@ -1,5 +1,5 @@
 -- The check of the rules against the grammar's machine: each rule is walked along the rows, with sets of classes of the next two tokens.
--- A token that is taken and a node that begins must be the machine's move for all of them; a report must stand where the machine is
+-- A token that is taken and a node that begins must be the machine's move for all of them; a report must be where the machine is
 -- stuck, or where the root ends and tokens are left.
 use Rattle.std.proofs.Common.{ℕ, zero, suc, ◌+◌, ◌^◌, Bool, true, false, not, eqb, ltb, List, [], ◌∷◌, ◌++◌, cond, bit_and, bit_or}
 use Rattle.std.specs.Int.Bits.{bit_xor}
@@ -61,7 +61,7 @@ same_sure firm firm = true
 same_sure full full = true
 same_sure _ _ = false
 
--- whatever comes behind the next token
+-- whatever follows the next token
 abbrev pub is_firm : Sure → Bool
 is_firm loose = false
 is_firm firm = true
@@ -103,7 +103,7 @@ shift_to s lost k = lost
 unfoldable pub leaf_of : ℕ → ℕ → ℕ
 leaf_of s n = cond (eqb s NAME_FOR_FRAGMENT) IDENT_FOR_FRAGMENT (cond (eqb s NAME_FOR_ENUM) IDENT_FOR_ENUM n)
 
--- the nodes that the end of the text may break off without a report: who holds them reports it
+-- nodes that may be left incomplete at the end of the text without a report: their parent reports it instead
 unfoldable pub loses : Node → Bool
 loses (Argument c) = true
 loses VariableDefinition = true
@@ -141,7 +141,7 @@ whole k = exits k (λ e. eqb e 0)
 abbrev pub no_brace : ℕ
 no_brace = without any (kind_set token.LCurly)
 
--- guesses of the heads of a loop; nothing rests on them
+-- candidate loop invariants; they need no proof, since `ok` checks them
 unfoldable pub post : ℕ → ℕ → Spot → ℕ → ℕ → Rule → (Spot → ℕ → ℕ → List Mark) → List Mark
 post n s p x y Skip k = k p x y
 post n s p x y (Do (Bump leaf)) k = k (shift_to s p (leaf_of s (number leaf))) y any
@@ -171,7 +171,7 @@ unfoldable pub takes : ℕ → Spot → ℕ → ℕ → ℕ → ℕ → (Spot �
 takes s (spot q l d) x y n k g = ((disjoint x 1 and is_leaf k) and (eqb (label k) n and not (ltb n ERROR))) and (goes s q x (behind y) k and g (spot (target s q k) l firm))
 takes s lost x y n k g = false
 
--- the machine ends the node, at the level where it began, whatever comes behind the next token
+-- the machine ends the node, at the level where it began, whatever follows the next token
 unfoldable pub ends_at : ℕ → ℕ → Level → Sure → ℕ → Bool
 ends_at s q l d x = ((eqb (raised l) 0 and eqb (owed s l) 0) and is_firm d) and closes s q x any
 
