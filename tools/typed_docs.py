@@ -359,7 +359,10 @@ PUNCTUATORS = {
 }
 
 # The accessors that the rule of `accessor_doc` does not describe well.
+BRACES = "`None` only if the parse reported errors, or read a selection set alone that has no braces."
 SPECIAL = {
+    ("SELECTION_SET", "L_CURLY"): f"The `{{`. {BRACES}",
+    ("SELECTION_SET", "R_CURLY"): f"The `}}`. {BRACES}",
     ("OPERATION_DEFINITION", "OPERATION_TYPE"): "The operation type, or `None` when the query is a selection set alone.",
     ("NON_NULL_TYPE", "NAMED_TYPE"): "The named type, or `None` when it is a list type.",
     ("NON_NULL_TYPE", "LIST_TYPE"): "The list type, or `None` when it is a named type.",
