@@ -1,5 +1,8 @@
 #!/usr/bin/env python3
-"""Prints a GraphQL document of about N bytes (5,000,000 unless told): types with descriptions, operations, comments, strings and numbers."""
+"""Prints a GraphQL document of about N bytes, by default 5,000,000: types with descriptions, operations, comments, strings and numbers.
+
+    text.py [--queries] [N]     with --queries: operations alone, with many arguments and strings
+"""
 import sys
 
 PARTS = '''# What is sold, number %(i)d.
@@ -24,12 +27,29 @@ query Basket_%(i)d($first: Int = 20, $after: String, $with: [ID!] = ["a1", "b2"]
 
 '''
 
+QUERIES = '''# What is ordered, number %(i)d.
+mutation Order_%(i)d($first: Int = 20, $note: String) {
+  order(items: [{ sku: "a-%(i)d", count: 2 }, { sku: "b\\u0020%(i)d", count: 1 }], note: $note) @traced(by: "shop \\"north\\"") {
+    id
+    lines(first: $first, after: "Y3Vyc29y") { edges { node { ...on Product { name, total: price(factor: -1.5, in: EUR) } } } }
+    message(text: """
+      Thank you.
+
+        It comes on Monday.
+      """)
+  }
+}
+
+'''
+
 
 def main():
-    size = int(sys.argv[1]) if len(sys.argv) > 1 else 5_000_000
+    part_of = QUERIES if "--queries" in sys.argv else PARTS
+    sizes = [word for word in sys.argv[1:] if word != "--queries"]
+    size = int(sizes[0]) if sizes else 5_000_000
     written, i = 0, 0
     while written < size:
-        part = PARTS % {"i": i}
+        part = part_of % {"i": i}
         sys.stdout.write(part)
         written += len(part)
         i += 1
