@@ -7,7 +7,7 @@ set -eu
 top=$(cd "$(dirname "$0")/.." && pwd)
 work=$(mktemp -d)
 trap 'rm -rf "$work"' EXIT
-python3 "$top/bench/text.py" --queries > "$work/text.graphql"
+python3 "$top/bench/text.py" orders > "$work/text.graphql"
 
 cp -r "$1" "$work/original"
 cp "$top/bench/original_walk.rs" "$work/original/src/main.rs"
