@@ -436,19 +436,8 @@ step-known (Note m) w c d s k = note-known w c d s k
 step-known TooDeep w c d s k = unknown (step TooDeep s)
 
 known-on : {a : Rule} {s t : State} → Runs a s t → (w c d : Bool) → Known w c d s → Known (is_note a) (is_note a and c) (is_note a and d) t
-known-on {t = t} skip w c d k = none-known c d t
 known-on {s = s} (does {a = p} e) w c d k = subst (λ (z : State). Known (is_note (Do p)) (is_note (Do p) and c) (is_note (Do p) and d) z) (sym e) (step-known p w c d s k)
-known-on {t = t} (seq h i) w c d k = none-known c d t
-known-on {t = t} (yes q h) w c d k = none-known c d t
-known-on {t = t} (no q h) w c d k = none-known c d t
-known-on {t = t} (done q) w c d k = none-known c d t
-known-on {t = t} (again q h i) w c d k = none-known c d t
-known-on {t = t} (child e f h) w c d k = none-known c d t
-known-on {t = t} (deeper q e f h i) w c d k = none-known c d t
-known-on {t = t} (refused q e) w c d k = none-known c d t
-known-on {t = t} (call h) w c d k = none-known c d t
-known-on {t = t} (plain e h n) w c d k = none-known c d t
-known-on {t = t} (wrapped e p i f h y l) w c d k = none-known c d t
+known-on {t = t} _ w c d k = none-known c d t
 
 -- ---- tests
 

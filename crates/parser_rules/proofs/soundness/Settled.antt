@@ -198,9 +198,6 @@ path-yields : (s p q : ℕ) (f : Forest) → Path s p f q → Yields (shows f) �
 path-yields s p q none o = refl
 path-yields s p q (t ▸ f) o = ap₂ (λ (x y : List Token). x ++ y) (show-yield t o.1) (path-yields s (target s p (root t) + leaves_behind t) q f o.2)
 
-add-last : (a b c m : ℕ) → b ≡ m → c ≡ a → b + c ≡ m + a
-add-last a b c m e f = omega arith
-
 add-within : (a b c d m : ℕ) → b + c ≡ m → d ≡ c + a → b + d ≡ m + a
 add-within a b c d m e f = omega arith
 

@@ -32,7 +32,7 @@ use Rattle.std.proofs.lemmas.List.{append_cancel_right, length-append}
 use Rattle.grammar_machine.proofs.Steps.{goes, closes, sticks, goes-move, closes-move, sticks-move, misses-fires}
 use Rattle.parser_rules.specs.State.{State, Lexeme, Report, at_limit, found_at, noted, note, second, flush, opened, closed, wrapped_from, moved, bump, is_deep, enter, leave, deepened, limited_at, too_deep, add_all, read_on}
 use Rattle.parser_rules.specs.Nodes.{Node, symbol, kind_of}
-use Rattle.parser_rules.specs.RuleLanguage.{Test, At, holds, Prim, Bump, Note, TooDeep, step, Rule, Skip, Do, Seq, When, While, Child, Nested, Call, Typed}
+use Rattle.parser_rules.specs.RuleLanguage.{Test, At, holds, Prim, Bump, Note, TooDeep, step, Rule, Do, While}
 use Rattle.parser_rules.specs.Rules.{inside, body}
 use Rattle.parser_rules.specs.Runs.{Runs, skip, does, seq, yes, no, done, again, child, deeper, refused, call, plain, wrapped}
 use Rattle.parser_rules.proofs.runs.Steps.{Holds_along, along}
@@ -1177,26 +1177,12 @@ module _ (sort : Sort) (answers : List Answer) (base : List Report) (Follows : T
   -- What is asked of a rule: its check, and for a loop some marks that hold its heads.
   pub Good : ℕ → ℕ → Spot → ℕ → ℕ → Rule → Then → Type 0
   Good n s p x y (While t a) k = (h : List Mark) × (covered p x y h ≡ true) × (all_marks h (turned n s t a k h) ≡ true)
-  Good n s p x y Skip k = ok n s p x y Skip k ≡ true
-  Good n s p x y (Do a) k = ok n s p x y (Do a) k ≡ true
-  Good n s p x y (Seq a b) k = ok n s p x y (Seq a b) k ≡ true
-  Good n s p x y (When t a b) k = ok n s p x y (When t a b) k ≡ true
-  Good n s p x y (Child c) k = ok n s p x y (Child c) k ≡ true
-  Good n s p x y (Nested a b) k = ok n s p x y (Nested a b) k ≡ true
-  Good n s p x y (Call q) k = ok n s p x y (Call q) k ≡ true
-  Good n s p x y (Typed a) k = ok n s p x y (Typed a) k ≡ true
+  Good n s p x y r k = ok n s p x y r k ≡ true
 
   pub good : (n s : ℕ) (p : Spot) (x y : ℕ) (r : Rule) (k : Then) → ok n s p x y r k ≡ true → Good n s p x y r k
   unfolding Good ok
   good n s p x y (While t a) k h = (heads n s p x y t a, and-l _ _ h, and-r _ _ h)
-  good n s p x y Skip k h = h
-  good n s p x y (Do a) k h = h
-  good n s p x y (Seq a b) k h = h
-  good n s p x y (When t a b) k h = h
-  good n s p x y (Child c) k h = h
-  good n s p x y (Nested a b) k h = h
-  good n s p x y (Call q) k h = h
-  good n s p x y (Typed a) k h = h
+  good n s p x y _ k h = h
 
   node-is : (c : Node) → is_node c ≡ true
   unfolding follows_table
