@@ -4,3 +4,4 @@ pub mod Parses
 pub mod Keywords
 pub mod Leaves
 pub mod Looks
+pub mod Errors

@@ -1,10 +1,11 @@
 -- The tests of what stands behind the current token, by the token that a look finds there.
-use Rattle.std.proofs.Common.{◌≡◌, Bool, true, false, Option, Some, None, is_some, ◌||◌, refl, ◌∙◌, ap}
+use Rattle.std.proofs.Common.{◌≡◌, Bool, true, false, Option, Some, None, is_some, not, ◌&&◌, ◌||◌, refl, ◌∙◌, ap}
 use Rattle.lexical_grammar.specs.declared.TokenKind.{TokenKind}
+use Rattle.lexical_grammar.specs.declared.TokenKind.TheVariants as token
 use Rattle.apollo_lexer.specs.declared.token.Token.{Token}
-use Rattle.parser_rules.specs.State.{State, Lexeme, second, is_at}
-use Rattle.parser_rules.specs.RuleLanguage.{At, Next, HasNext, Either, holds}
-use Rattle.parser_rules.specs.Rules.{operates_next, inlines_next}
+use Rattle.parser_rules.specs.State.{State, Lexeme, second, is_at, is_over, is_deep}
+use Rattle.parser_rules.specs.RuleLanguage.{At, Ready, Next, HasNext, Either, holds}
+use Rattle.parser_rules.specs.Rules.{operates_next, inlines_next, has_item}
 use Rattle.apollo_grammar.specs.View.{current_of}
 use Rattle.apollo_grammar.specs.Looks.{operates_at, inlines_at}
 
@@ -37,3 +38,14 @@ other false b e f = e
 pub other_at : (j k : TokenKind) (s : State) → true ≡ holds (Either (At j) (At k)) s → false ≡ holds (At j) s → true ≡ holds (At k) s
 unfolding holds
 other_at j k s e f = other (is_at j s.current) (is_at k s.current) e f
+
+-- where no item of a list follows, though neither `]` nor the end is there, the recursion limit is reached
+pub deep_there : (s : State) → false ≡ holds has_item s → false ≡ holds (At token.RBracket) s → true ≡ holds Ready s → true ≡ is_deep s
+unfolding holds
+deep_there s h a r = only (not (is_over s.current)) (is_at token.RBracket s.current) (is_deep s) h a r
+  where
+    only : (r a d : Bool) → false ≡ (r && not a) && not d → false ≡ a → true ≡ r → true ≡ d
+    only true false true h e f = refl
+    only true false false h e f = absurd cc
+    only true true d h e f = absurd cc
+    only false a d h e f = absurd cc

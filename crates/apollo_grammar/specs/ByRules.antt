@@ -1,5 +1,6 @@
 -- What the tree of a parse comes from: the parser's own rules. No public call promises it; the promises are theorems on such runs.
-use Rattle.std.specs.Prelude.{◌≡◌, ◌<◌, ◌^◌, ℕ, List, map}
+use Rattle.std.specs.Prelude.{◌≡◌, ◌<◌, ◌^◌, ℕ, List}
+use Rattle.std.specs.List.{AllZip}
 use Rattle.lexical_grammar.specs.Answers.{limited}
 use Rattle.lexical_grammar.specs.Cut.{Cut}
 use Rattle.lexical_grammar.specs.Reads.{items_of}
@@ -10,7 +11,7 @@ use Rattle.parser_rules.specs.Nodes.{Document}
 use Rattle.parser_rules.specs.RuleLanguage.{Call}
 use Rattle.parser_rules.specs.Runs.{Runs}
 use Rattle.apollo_grammar.specs.Parsed.{Parsed}
-use Rattle.apollo_grammar.specs.View.{report_of}
+use Rattle.apollo_grammar.specs.Errors.{IsErrorOf}
 
 -- the document's rule ran over the items of the text, of which k are allowed, with the recursion limit r
 pub record ByRules (source : List ℕ) (r k : ℕ) (t : Parsed) : Type 0 where
@@ -19,6 +20,6 @@ pub record ByRules (source : List ℕ) (r k : ℕ) (t : Parsed) : Type 0 where
   pub run : Runs (Call Document) (begun (limited k (items_of source)) r kind.DOCUMENT) last
   pub tree : t.tree ≡ finished last
   pub counted : count t.tree < 2 ^ 64
-  pub errors : map report_of t.errors ≡ last.errors
+  pub errors : AllZip IsErrorOf last.errors t.errors
   pub recursion_limit : t.recursion_limit ≡ record { current = last.depth; high = last.high; limit = last.limit }
   pub token_limit : t.token_limit ≡ record { current = 0; high = last.asked; limit = k }

@@ -1,4 +1,5 @@
 pub mod View
+pub mod Errors
 pub mod Parsed
 pub mod Reading
 pub mod Keywords

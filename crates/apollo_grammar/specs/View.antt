@@ -1,9 +1,11 @@
--- What a parser shows of its tokens and errors.
-use Rattle.std.specs.Prelude.{Option, Some, None}
+-- What a parser shows of its tokens and reports.
+use Rattle.std.specs.Prelude.{ℕ, Bool, true, false, Option, Some, None}
 use Rattle.apollo_lexer.specs.declared.token.Token.{Token}
-use Rattle.apollo_lexer.specs.Diagnostics.{Subject, of_text, of_end, of_limit, Diagnostic}
 use Rattle.apollo_grammar.specs.declared.state.PendingToken.{PendingToken}
-use Rattle.parser_rules.specs.State.{Lexeme, Part, Found, at_text, at_end, at_limit, Report}
+use Rattle.apollo_grammar.specs.declared.report.Report.{Report}
+use Rattle.apollo_grammar.specs.declared.report.Report.TheVariants.{Lexer, Fault, RecursionLimit}
+use Rattle.parser_rules.specs.State.{Text, Lexeme, Part, bad_report, token_limit_report, recursion_limit_report, fault_report}
+use Rattle.parser_rules.specs.State as state
 
 abbrev pub lexeme_of : Token → Lexeme
 lexeme_of t = record { kind = t.kind; text = t.text.now; index = t.index }
@@ -15,11 +17,12 @@ current_of (Some t) = Some (lexeme_of t)
 abbrev pub part_of : PendingToken → Part
 part_of t = record { kind = t.kind; text = t.text.now }
 
-abbrev pub found_of : Subject → Found
-found_of (of_text text) = at_text text
-found_of of_end = at_end
-found_of of_limit = at_limit
+-- what the lexer finds wrong: the token limit, or bad text
+abbrev pub lexer_report : Bool → Text → ℕ → state.Report
+lexer_report true text index = token_limit_report index
+lexer_report false text index = bad_report text index
 
--- an error, without its message
-abbrev pub report_of : Diagnostic → Report
-report_of d = record { found = found_of d.subject; index = d.index }
+abbrev pub report_of : Report → state.Report
+report_of (Lexer e) = lexer_report e.is_limit e.text.now e.index
+report_of (Fault m t) = fault_report m (lexeme_of t)
+report_of (RecursionLimit t) = recursion_limit_report (lexeme_of t)

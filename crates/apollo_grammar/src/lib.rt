@@ -2,8 +2,8 @@
 #![tactic(auto)]
 
 mod grammar;
-mod message;
 mod parser;
+mod report;
 mod state;
 mod syntax_tree;
 

@@ -1,5 +1,7 @@
 // The whole parse.
 ghost use Rattle.std.specs.Prelude.{◌≡◌, ◌≤◌, ◌+◌, ◌^◌, ◌-◌, true, [], IfOk, length, min, take, map};
+ghost use Rattle.std.specs.Str.{IsAscii};
+ghost use Rattle.std.specs.List.{Any, All};
 ghost use Rattle.std.specs.List.Sorted.{IsNonDecreasing};
 ghost use Rattle.lexical_grammar.specs.Answers.{limited};
 ghost use Rattle.lexical_grammar.specs.Cut.{Cut, texts};
@@ -12,9 +14,8 @@ ghost use Rattle.document_grammar.specs.Sentence.{Sentence, Within};
 ghost use Rattle.document_grammar.specs.Places.{bare};
 ghost use Rattle.document_grammar.specs.Numbered.{tree_of};
 ghost use Rattle.parser_rules.specs.Leaves.{leaves, OneLeafAnItem};
-ghost use Rattle.parser_rules.specs.Reports.{Reported};
 ghost use Rattle.apollo_grammar.specs.ByRules.{ByRules};
-ghost use Rattle.apollo_grammar.specs.View.{report_of};
+ghost use Rattle.apollo_grammar.specs.Errors.{ErrorsOf, IsRecursionLimit};
 
 use crate::grammar::document::document;
 use crate::state::ParserState;
@@ -110,12 +111,15 @@ impl<'i> Parser<'i> {
         ensures one_document { IfOk result (λ t. (kids : Forest) × (t.tree ≡ node kind.DOCUMENT kids none)) }
         ensures one_leaf { IfOk result (λ t. OneLeafAnItem (limited self.entry.token_limit (items_of self.entry.source.now)) (leaves t.tree)) }
         ensures recursion { IfOk result (λ t. (t.recursion_limit.current ≡ 0) × (t.recursion_limit.limit ≡ self.entry.recursion_limit) × (t.recursion_limit.high ≤ self.entry.recursion_limit + 1)) }
+        // with the recursion limit's error, more than the limit was asked for; by one, as long as that is a usize
+        ensures limit_met { IfOk result (λ t. Any IsRecursionLimit t.errors → min (self.entry.recursion_limit + 1) (2 ^ 64 - 1) ≤ t.recursion_limit.high) }
         // the greatest depth that was asked for covers what the tree nests, also where there are errors
         ensures nesting { IfOk result (λ t. nest (tree_of t.tree) ≤ t.recursion_limit.high) }
         ensures tokens { IfOk result (λ t. (t.token_limit.limit ≡ self.entry.token_limit) × (t.token_limit.high ≡ min (length (items_of self.entry.source.now)) (self.entry.token_limit + 1))) }
-        // the errors go along the items: one for each bad text and for the token limit; the grammar's at significant tokens or the end, and
-        // none of these after a limit error
-        ensures errors { IfOk result (λ t. Reported true (limited self.entry.token_limit (items_of self.entry.source.now)) (map report_of t.errors)) }
+        // the errors go along the items: one for each bad text and for the token limit, in the lexer's words; the grammar's and the recursion
+        // limit's, word by word, at significant tokens or the end, and none of these after a limit error
+        ensures errors { IfOk result (λ t. ErrorsOf (limited self.entry.token_limit (items_of self.entry.source.now)) t.errors) }
+        ensures ascii { IfOk result (λ t. IsAscii self.entry.source.now → All (λ e. IsAscii e.message) t.errors) }
         ensures in_order { IfOk result (λ t. IsNonDecreasing (map (λ e. e.index) t.errors)) }
         // without errors, the tree without its ignored leaves is the derivation of the text, which is a sentence within both limits
         ensures sound { IfOk result (λ t. t.errors ≡ [] → Sentence self.entry.source.now (bare (tree_of t.tree)) document_sort × Within self.entry.source.now (bare (tree_of t.tree)) self.entry.recursion_limit self.entry.token_limit) }

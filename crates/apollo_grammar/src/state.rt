@@ -2,6 +2,7 @@
 #![tactic(auto, using(parser_rules::specs::Runs::does), unfolding(parser_rules::specs::State::same_kind, parser_rules::specs::RuleLanguage::holds, parser_rules::specs::RuleLanguage::step, parser_rules::specs::State::flush, parser_rules::specs::State::opened, parser_rules::specs::State::closed, parser_rules::specs::State::bump, parser_rules::specs::State::note, parser_rules::specs::State::is_deep, parser_rules::specs::State::enter, parser_rules::specs::State::leave, parser_rules::specs::State::too_deep, parser_rules::specs::State::wrapped_from, parser_rules::specs::Open::IsInside, parser_rules::specs::Open::IsMark))]
 
 ghost use Rattle.std.specs.Prelude.{◌≡◌, ◌<◌, ◌^◌, true, false, [], map, OnOk, IfOk, option_map};
+ghost use Rattle.std.specs.List.{AllZip};
 ghost use Rattle.lexical_grammar.specs.declared.TokenKind.TheVariants as token;
 ghost use Rattle.lexical_grammar.specs.Answers.{is_end};
 ghost use Rattle.document_grammar.specs.declared.kind.SyntaxKind.TheVariants as kind;
@@ -17,9 +18,10 @@ ghost use Rattle.parser_rules.specs.Open.{IsOpen, IsMark, IsInside, IsRoot};
 ghost use Rattle.apollo_grammar.specs.Keywords as keywords;
 ghost use Rattle.apollo_grammar.specs.Reading as reading;
 ghost use Rattle.apollo_grammar.specs.Roots.{root_kind};
-ghost use Rattle.apollo_grammar.specs.View.{lexeme_of, current_of, part_of, report_of};
+ghost use Rattle.apollo_grammar.specs.Errors.{IsErrorOf};
+ghost use Rattle.apollo_grammar.specs.View.{current_of, part_of, report_of};
 
-use crate::message::message_text;
+use crate::report::Report;
 use crate::syntax_tree::{Root, SyntaxTree};
 use apollo_lexer::{Error, LexError, Lexer, LimitTracker, Steps, Token};
 use apollo_tree::{Checkpoint, TreeBuilder};
@@ -44,7 +46,7 @@ pub struct ParserState<'i, A: Allocator> {
     current_token: Option<Token<'i>>,
     builder: TreeBuilder<A>,
     pending: Vec<PendingToken<'i>, A>,
-    errors: Vec<Error<A>, A>,
+    reports: Vec<Report<'i>, A>,
     recursion_limit: LimitTracker,
     accept_errors: bool,
 }
@@ -68,7 +70,7 @@ impl<'i, A: Allocator> Model for ParserState<'i, A> {
       current = current_of p.current_token;
       waiting = map part_of p.pending.items;
       tree = p.builder;
-      errors = map report_of p.errors.items;
+      errors = map report_of p.reports.items;
       limit = p.recursion_limit.limit;
       depth = p.recursion_limit.current;
       high = p.recursion_limit.high;
@@ -85,7 +87,8 @@ fn is_same(a: TokenKind, b: TokenKind) -> bool
     a == b
 }
 
-fn is_eof(kind: TokenKind) -> bool
+/// Whether the token is the end.
+pub fn is_eof(kind: TokenKind) -> bool
     ensures { result ≡ is_end kind }
 {
     matches!(kind, TokenKind::Eof)
@@ -167,6 +170,20 @@ fn push_all<A: Allocator + Copy>(
     Ok(())
 }
 
+// An error for each report.
+fn errors_of<A: Allocator + Copy>(
+    alloc: A,
+    reports: &[Report<'_>],
+) -> Result<Vec<Error<A>, A>, AllocError>
+    ensures { IfOk result (λ errors. AllZip IsErrorOf (map report_of reports.now) errors.items) }
+{
+    let mut errors = Vec::new(alloc);
+    for report in reports {
+        errors.push(report.to_error(alloc)?)?;
+    }
+    Ok(errors)
+}
+
 impl<'i, A: Allocator + Copy> ParserState<'i, A> {
     /// Opens the root, and reads the first token.
     pub fn new(
@@ -186,7 +203,7 @@ impl<'i, A: Allocator + Copy> ParserState<'i, A> {
             current_token: None,
             builder,
             pending: Vec::new(alloc),
-            errors: Vec::new(alloc),
+            reports: Vec::new(alloc),
             recursion_limit: LimitTracker::new(recursion_limit),
             accept_errors: true,
         };
@@ -251,7 +268,7 @@ impl<'i, A: Allocator + Copy> ParserState<'i, A> {
     fn push_lex_error(&mut self, error: LexError<'i>) -> Result<(), AllocError>
         ensures { OnOk result (self.new ≡ reading.refused error.entry.is_limit error.entry.text.now error.entry.index self.old) }
     {
-        self.errors.push(error.to_error(self.alloc)?)?;
+        self.reports.push(Report::Lexer(error))?;
         if error.is_limit() {
             self.accept_errors = false;
             return Ok(());
@@ -425,23 +442,12 @@ impl<'i, A: Allocator + Copy> ParserState<'i, A> {
         self.builder.wrap(checkpoint, kind)
     }
 
-    fn error_at(&self, message: Message, token: Token<'i>) -> Result<Error<A>, AllocError>
-        ensures { IfOk result (λ e. report_of e ≡ record { found = state.found_at (lexeme_of token.entry); index = token.entry.index }) }
-    {
-        let text = message_text(self.alloc, message, token)?;
-        if is_eof(token.kind()) {
-            return Ok(Error::eof(text, token.index()));
-        }
-        let found = String::from_str(self.alloc, token.data())?;
-        Ok(Error::with_loc(text, found, token.index()))
-    }
-
-    // After a limit error no more errors are taken.
-    fn push_err(&mut self, error: Error<A>) -> Result<(), AllocError>
-        ensures { OnOk result (self.new ≡ state.fault (report_of error).found (report_of error).index self.old) }
+    // After a limit error no more is reported.
+    fn push_report(&mut self, report: Report<'i>) -> Result<(), AllocError>
+        ensures { OnOk result (self.new ≡ state.reported (report_of report.entry) self.old) }
     {
         if self.accept_errors {
-            self.errors.push(error)?;
+            self.reports.push(report)?;
         }
         Ok(())
     }
@@ -451,8 +457,7 @@ impl<'i, A: Allocator + Copy> ParserState<'i, A> {
         ensures { OnOk result (Runs (Do (Note message)) self.old self.new) }
     {
         if let Some(token) = self.current_token {
-            let error = self.error_at(message, token)?;
-            self.push_err(error)?;
+            self.push_report(Report::Fault(message, token))?;
         }
         Ok(())
     }
@@ -468,13 +473,18 @@ impl<'i, A: Allocator + Copy> ParserState<'i, A> {
 
     /// The punctuator becomes a leaf, or an error reports that it is missing.
     #[tactic(auto, using(parser_rules::specs::Runs::skip, parser_rules::specs::Runs::seq, parser_rules::specs::Runs::yes, parser_rules::specs::Runs::no))]
-    pub fn expect(&mut self, token: TokenKind, kind: SyntaxKind) -> Result<(), AllocError>
-        ensures { OnOk result (Runs (expect token kind) self.old self.new) }
+    pub fn expect(
+        &mut self,
+        token: TokenKind,
+        kind: SyntaxKind,
+        message: Message,
+    ) -> Result<(), AllocError>
+        ensures { OnOk result (Runs (expect token kind message) self.old self.new) }
     {
         if self.at(token) {
             self.bump(kind)
         } else {
-            self.err(Message::Expected(token))
+            self.err(message)
         }
     }
 
@@ -543,8 +553,7 @@ impl<'i, A: Allocator + Copy> ParserState<'i, A> {
         ensures { OnOk result (self.new ≡ state.limited_at self.old self.old.current) }
     {
         if let Some(token) = self.current_token {
-            let message = String::from_str(self.alloc, "parser recursion limit reached")?;
-            self.push_err(Error::limit(message, token.index()))?;
+            self.push_report(Report::RecursionLimit(token))?;
             self.accept_errors = false;
         }
         Ok(())
@@ -565,7 +574,7 @@ impl<'i, A: Allocator + Copy> ParserState<'i, A> {
         requires kind { R.roots (root_kind (state.finished self)) ≡ true }
         ensures tree { IfOk result (λ t. t.tree ≡ state.finished self.entry) }
         ensures counted { IfOk result (λ t. count t.tree < 2 ^ 64) }
-        ensures errors { IfOk result (λ t. map report_of t.errors ≡ self.entry.errors) }
+        ensures errors { IfOk result (λ t. AllZip IsErrorOf self.entry.errors t.errors) }
         ensures recursion_limit { IfOk result (λ t. t.recursion_limit ≡ record { current = self.entry.depth; high = self.entry.high; limit = self.entry.limit }) }
         ensures token_limit { self.entry.items ≡ [] → IfOk result (λ t. t.token_limit ≡ record { current = 0; high = self.entry.asked; limit = token_limit }) }
     {
@@ -573,7 +582,8 @@ impl<'i, A: Allocator + Copy> ParserState<'i, A> {
             lexer,
             pending,
             mut builder,
-            errors,
+            reports,
+            alloc,
             recursion_limit,
             ..
         } = self;
@@ -583,7 +593,7 @@ impl<'i, A: Allocator + Copy> ParserState<'i, A> {
         tokens.high = lexer.limit_tracker().high;
         Ok(SyntaxTree {
             tree: builder.finish(),
-            errors,
+            errors: errors_of(alloc, &reports)?,
             recursion_limit,
             token_limit: tokens,
             root: PhantomData,

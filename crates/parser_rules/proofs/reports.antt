@@ -2,3 +2,4 @@ pub mod NoReport
 pub mod AlongItems
 pub mod Endings
 pub mod InOrder
+pub mod AtTheLimit

@@ -4,8 +4,7 @@ use Rattle.lexical_grammar.specs.declared.TokenKind.{TokenKind}
 use Rattle.document_grammar.specs.declared.kind.SyntaxKind.{SyntaxKind}
 use Rattle.document_grammar.specs.declared.kind.SyntaxKind.TheVariants as kind
 use Rattle.parser_rules.specs.declared.message.Message.{Message}
-use Rattle.parser_rules.specs.declared.message.Message.TheVariants as message
-use Rattle.parser_rules.specs.State.{State, second, bump, note, is_deep, too_deep, is_at, is_word, is_over}
+use Rattle.parser_rules.specs.State.{State, second, bump, note, is_deep, is_at, is_word, is_over}
 use Rattle.parser_rules.specs.Nodes.{Node, Part}
 
 pub data Test : Type 0 where
@@ -44,13 +43,10 @@ pub data Prim : Type 0 where
   Bump : SyntaxKind → Prim
   -- a report at the current token
   Note : Message → Prim
-  -- the report that the recursion limit is reached
-  TooDeep : Prim
 
 unfoldable pub step : Prim → State → State
 step (Bump leaf) s = bump leaf s
-step (Note message) s = note s
-step TooDeep s = too_deep s
+step (Note message) s = note message s
 
 pub data Rule : Type 0 where
   Skip : Rule
@@ -60,6 +56,8 @@ pub data Rule : Type 0 where
   While : Test → Rule → Rule
   -- a node, with what stands in it
   Child : Node → Rule
+  -- the report that the recursion limit is reached, in a place where it is
+  TooDeep : Rule
   -- the first rule one level deeper, and then the second; or the report that the recursion limit is reached
   Nested : Rule → Rule → Rule
   Call : Part → Rule
@@ -75,13 +73,14 @@ Seq a b > c = Seq a (b > c)
 When q a b > c = When q (a > c) (b > c)
 While q a > c = Seq (While q a) c
 Child n > c = Seq (Child n) c
+TooDeep > c = Seq TooDeep c
 Nested a b > c = Nested a (b > c)
 Call p > c = Seq (Call p) c
 Typed a > c = Seq (Typed a) c
 
 -- the punctuator, or a report that it is missing
-abbrev pub expect : TokenKind → SyntaxKind → Rule
-expect k leaf = When (At k) (Do (Bump leaf)) (Do (Note (message.Expected k)))
+abbrev pub expect : TokenKind → SyntaxKind → Message → Rule
+expect k leaf m = When (At k) (Do (Bump leaf)) (Do (Note m))
 
 -- a report where the test fails
 abbrev pub want : Test → Message → Rule

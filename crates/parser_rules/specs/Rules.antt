@@ -64,7 +64,7 @@ inside ShortQuery = Child SelectionSet
 -- OperationType (2.3) : one of `query` `mutation` `subscription`
 inside OperationType = operation_word
 -- SelectionSet (2.4) : { Selection+ }
-inside SelectionSet = Do (Bump kind.L_CURLY) > Nested (Call Selections) (expect token.RCurly kind.R_CURLY)
+inside SelectionSet = Do (Bump kind.L_CURLY) > Nested (Call Selections) (expect token.RCurly kind.R_CURLY message.ExpectedRCurly)
 -- Field (2.5) : Alias? Name Arguments? Directives? SelectionSet?
 inside Field = Call AliasedName > Call (MaybeArguments false) > Call (MaybeDirectives false) > maybe token.LCurly SelectionSet
 -- Alias (2.7) : Name :
@@ -98,9 +98,9 @@ inside (Arguments c) =
     Do (Bump kind.L_PAREN)
     > want (At token.Name) message.ExpectedArgument
     > While (At token.Name) (Child (Argument c))
-    > expect token.RParen kind.R_PAREN
+    > expect token.RParen kind.R_PAREN message.ExpectedRParen
 -- Argument[Const] (2.6) : Name : Value[?Const]
-inside (Argument c) = Child Name > When (At token.Colon) (Do (Bump kind.COLON) > Call (ValueOf c false)) (Do (Note (message.Expected token.Colon)))
+inside (Argument c) = Child Name > When (At token.Colon) (Do (Bump kind.COLON) > Call (ValueOf c false)) (Do (Note message.ExpectedColon))
 -- Directives[Const] (2.12) : Directive[?Const]+
 inside (Directives c) = While (At token.At) (Child (Directive c))
 -- Directive[Const] (2.12) : @ Name Arguments[?Const]?
@@ -110,7 +110,7 @@ inside VariableDefinitions =
     Do (Bump kind.L_PAREN)
     > want (At token.Dollar) message.ExpectedVariableDefinition
     > While (At token.Dollar) (Child VariableDefinition)
-    > expect token.RParen kind.R_PAREN
+    > expect token.RParen kind.R_PAREN message.ExpectedRParen
 -- VariableDefinition (2.10) : Variable : Type DefaultValue? Directives[Const]?
 inside VariableDefinition = Child Variable > When (At token.Colon) (Do (Bump kind.COLON) > Call VariableType) (Do (Note message.ExpectedName))
 -- Variable (2.10) : $ Name
@@ -133,13 +133,13 @@ inside NameForEnum = Do (Bump kind.IDENT)
 -- ListValue[Const] (2.9.7) : [ ], or [ Value[?Const]+ ]
 inside (ListValue c) = Do (Bump kind.L_BRACK) > Call (ListItems c)
 -- ObjectValue[Const] (2.9.8) : { }, or { ObjectField[?Const]+ }
-inside (ObjectValue c) = Do (Bump kind.L_CURLY) > While (At token.Name) (Child (ObjectField c)) > expect token.RCurly kind.R_CURLY
+inside (ObjectValue c) = Do (Bump kind.L_CURLY) > While (At token.Name) (Child (ObjectField c)) > expect token.RCurly kind.R_CURLY message.ExpectedRCurly
 -- ObjectField[Const] (2.9.8) : Name : Value[?Const]
-inside (ObjectField c) = Child Name > When (At token.Colon) (Do (Bump kind.COLON) > Call (NestedValue c)) (Do (Note (message.Expected token.Colon)))
+inside (ObjectField c) = Child Name > When (At token.Colon) (Do (Bump kind.COLON) > Call (NestedValue c)) (Do (Note message.ExpectedColon))
 -- NamedType (2.11) : Name
 inside NamedType = Call Named
 -- ListType (2.11) : [ Type ]
-inside ListType = Do (Bump kind.L_BRACK) > Nested (Call ItemType) (expect token.RBracket kind.R_BRACK)
+inside ListType = Do (Bump kind.L_BRACK) > Nested (Call ItemType) (expect token.RBracket kind.R_BRACK message.ExpectedRBracket)
 
 unfoldable pub body : Part → Rule
 -- Document (2.2) : Definition+
@@ -201,7 +201,7 @@ body (NestedValue c) = Nested (Call (ValueOf c true)) Skip
 body (ListItems c) =
     While has_item (Call (NestedValue c))
     > When (At token.RBracket) (Do (Bump kind.R_BRACK))
-    (When Ready (Do TooDeep) Skip)
+    (When Ready TooDeep Skip)
 -- Type (2.11) : NamedType, ListType, or NonNullType; NonNullType : NamedType !, or ListType !
 body TypeOf = Typed nullable_type
 -- Type (2.11), inside a ListType

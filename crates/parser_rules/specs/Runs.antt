@@ -5,7 +5,7 @@ use Rattle.document_grammar.specs.declared.kind.SyntaxKind.TheVariants as kind
 use Rattle.document_grammar.specs.Builds.{built_count}
 use Rattle.parser_rules.specs.State.{State, flush, opened, closed, wrapped_from, is_deep, enter, leave, too_deep}
 use Rattle.parser_rules.specs.Nodes.{Node, Part, kind_of}
-use Rattle.parser_rules.specs.RuleLanguage.{Test, At, holds, Prim, Bump, step, Rule, Skip, Do, Seq, When, While, Child, Nested, Call, Typed}
+use Rattle.parser_rules.specs.RuleLanguage.{Test, At, holds, Prim, Bump, step, Rule, Skip, Do, Seq, When, While, Child, TooDeep, Nested, Call, Typed}
 use Rattle.parser_rules.specs.Rules.{inside, body}
 
 -- a run of a rule, from one state to another
@@ -19,6 +19,7 @@ pub data Runs : Rule → State → State → Type 0 where
   again : {q : Test} {a : Rule} {s t u : State} → true ≡ holds q s → Runs a s t → Runs (While q a) t u → Runs (While q a) s u
   child : {n : Node} {s t u v : State} → t ≡ opened (kind_of n) s → v ≡ closed u → Runs (inside n) t u → Runs (Child n) s v
   deeper : {a b : Rule} {s t u v w : State} → false ≡ is_deep s → t ≡ enter s → v ≡ leave u → Runs a t u → Runs b v w → Runs (Nested a b) s w
+  limited : {s t : State} → true ≡ is_deep s → t ≡ too_deep s → Runs TooDeep s t
   refused : {a b : Rule} {s t : State} → true ≡ is_deep s → t ≡ too_deep s → Runs (Nested a b) s t
   call : {p : Part} {s t : State} → Runs (body p) s t → Runs (Call p) s t
   plain : {a : Rule} {s t u : State} → t ≡ flush s → Runs a t u → false ≡ holds (At token.Bang) u → Runs (Typed a) s u

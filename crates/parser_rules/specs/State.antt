@@ -1,5 +1,5 @@
 -- What a parser has read and built, and its steps.
-use Rattle.std.specs.Prelude.{ℕ, ◌+◌, ◌-◌, max, min, Bool, true, false, nat_le, ◌&&◌, eqb, if◌then◌else◌, List, [], ◌∷◌, ◌++◌, length, Option, Some, None, ⊤}
+use Rattle.std.specs.Prelude.{ℕ, ◌+◌, ◌-◌, ◌^◌, max, min, Bool, true, false, nat_le, ◌&&◌, eqb, if◌then◌else◌, List, [], ◌∷◌, ◌++◌, length, Option, Some, None, ⊤}
 use denote.Enum.Bare.{sameb}
 use Rattle.lexical_grammar.specs.contracts.TokenKind.{the_type}
 use Rattle.lexical_grammar.specs.declared.TokenKind.{TokenKind}
@@ -13,9 +13,9 @@ use Rattle.document_grammar.specs.Numbers.{number}
 use Rattle.grammar_machine.specs.Machine.{word_class}
 use Rattle.document_grammar.specs.Forests.{Forest}
 use Rattle.document_grammar.specs.Builds.{Building, nothing, start, add_leaf, finish, wrap}
-
-abbrev pub Text : Type 0
-Text = List ℕ
+use Rattle.parser_rules.specs.declared.message.Message.{Message}
+pub use Rattle.parser_rules.specs.Messages.{Text, Found, at_text, at_end, at_limit}
+use Rattle.parser_rules.specs.Messages.{message_text, recursion_limit_message}
 
 -- a significant token, or the end
 pub record Lexeme : Type 0 where
@@ -28,15 +28,32 @@ pub record Part : Type 0 where
   pub kind : SyntaxKind
   pub text : Text
 
--- what a report is about: a text, the end of the text, or a limit
-pub data Found : Type 0 where
-  at_text : Text → Found
-  at_end : Found
-  at_limit : Found
-
+-- what is found wrong, the byte where it begins, and the report's message; the lexer words bad text and the token limit itself
 pub record Report : Type 0 where
   pub found : Found
   pub index : ℕ
+  pub message : Option Text
+
+-- ---- the reports
+
+-- of bad text
+abbrev pub bad_report : Text → ℕ → Report
+bad_report text index = record { found = at_text text; index = index; message = None }
+
+-- of the token limit
+abbrev pub token_limit_report : ℕ → Report
+token_limit_report index = record { found = at_limit; index = index; message = None }
+
+-- of the recursion limit, at this token
+abbrev pub recursion_limit_report : Lexeme → Report
+recursion_limit_report t = record { found = at_limit; index = t.index; message = Some recursion_limit_message }
+
+abbrev pub found_at : Lexeme → Found
+found_at t = if is_end t.kind then at_end else at_text t.text
+
+-- of the grammar, at this token
+abbrev pub fault_report : Message → Lexeme → Report
+fault_report m t = record { found = found_at t; index = t.index; message = Some (message_text m (found_at t)) }
 
 -- the answers that are left, the current token, what waits, what is built, the reports, the recursion limit with its count and the
 -- greatest count that was asked for, whether the grammar's reports are still taken, and how many answers there are in all
@@ -75,11 +92,11 @@ wait k text s = record s { waiting = s.waiting ++ record { kind = k; text = text
 
 -- bad text, which waits for the next leaf
 abbrev pub bad : Text → ℕ → State → State
-bad text index s = wait kind.ERROR text (record s { errors = s.errors ++ record { found = at_text text; index = index } ∷ [] })
+bad text index s = wait kind.ERROR text (record s { errors = s.errors ++ bad_report text index ∷ [] })
 
 -- the token limit
 abbrev pub met : ℕ → State → State
-met index s = record s { errors = s.errors ++ record { found = at_limit; index = index } ∷ []; accepts = false }
+met index s = record s { errors = s.errors ++ token_limit_report index ∷ []; accepts = false }
 
 abbrev pub lexeme : TokenKind → Item → Lexeme
 lexeme k item = record { kind = k; text = item.text; index = item.index }
@@ -138,20 +155,17 @@ bump leaf s = moved leaf s s.current
 
 -- ---- reporting
 
-abbrev pub found_at : Lexeme → Found
-found_at t = if is_end t.kind then at_end else at_text t.text
+-- a report is added, but none after a limit error
+abbrev pub reported : Report → State → State
+reported r s = if s.accepts then record s { errors = s.errors ++ r ∷ [] } else s
 
--- a report of the grammar
-abbrev pub fault : Found → ℕ → State → State
-fault found index s = if s.accepts then record s { errors = s.errors ++ record { found = found; index = index } ∷ [] } else s
-
-abbrev pub noted : State → Option Lexeme → State
-noted s None = s
-noted s (Some t) = fault (found_at t) t.index s
+abbrev pub noted : Message → State → Option Lexeme → State
+noted m s None = s
+noted m s (Some t) = reported (fault_report m t) s
 
 -- a report at the current token
-unfoldable pub note : State → State
-note s = noted s s.current
+unfoldable pub note : Message → State → State
+note m s = noted m s s.current
 
 -- ---- nesting
 
@@ -165,13 +179,17 @@ enter s = record s { depth = s.depth + 1; high = max s.high (s.depth + 1) }
 unfoldable pub leave : State → State
 leave s = record s { depth = s.depth - 1 }
 
+-- the greatest number of the target
+abbrev pub usize_max : ℕ
+usize_max = 2 ^ 64 - 1
+
 -- one level more was asked for
 abbrev pub deepened : State → State
-deepened s = record s { high = max s.high (min (s.depth + 1) 18446744073709551615) }
+deepened s = record s { high = max s.high (min (s.depth + 1) usize_max) }
 
 abbrev pub limited_at : State → Option Lexeme → State
 limited_at s None = s
-limited_at s (Some t) = record (fault at_limit t.index s) { accepts = false }
+limited_at s (Some t) = record (reported (recursion_limit_report t) s) { accepts = false }
 
 -- the report of the recursion limit at the current token; the grammar's later reports are dropped
 unfoldable pub too_deep : State → State

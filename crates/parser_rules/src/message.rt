@@ -1,5 +1,6 @@
-// What the parser finds fault with.
-use lexical_grammar::TokenKind;
+// What the parser finds fault with, and the words that say it.
+ghost use Rattle.std.specs.Prelude.{◌≡◌};
+ghost use Rattle.parser_rules.specs.Messages.{description, names_found};
 
 /// What a report says.
 #[derive(Clone, Copy, Debug, PartialEq, Eq)]
@@ -10,7 +11,7 @@ pub enum Message {
     ExpectedDefinitionStart,
     /// No definition starts with this word, or with this string.
     ExpectedDefinition,
-    /// No token is read behind a string in the place of a definition.
+    /// No token is read after a string in the place of a definition.
     ExpectedDefinitionAfterString,
     /// A string before an operation.
     ExpectedOperation,
@@ -46,6 +47,63 @@ pub enum Message {
     ExpectedValue,
     /// A variable in a constant place.
     VariableInConst,
-    /// Another token in the place of this punctuator.
-    Expected(TokenKind),
+    /// Another token in the place of `:`.
+    ExpectedColon,
+    /// Another token in the place of `)`.
+    ExpectedRParen,
+    /// Another token in the place of `]`.
+    ExpectedRBracket,
+    /// Another token in the place of `}`.
+    ExpectedRCurly,
+}
+
+impl Message {
+    /// What is wrong, in words.
+    pub fn description(self) -> &'static str
+        ensures { result.now ≡ description self }
+    {
+        match self {
+            Message::UnexpectedEof => "Unexpected <EOF>.",
+            Message::ExpectedDefinitionStart =>
+                "expected a StringValue, Name or OperationDefinition",
+            Message::ExpectedDefinition => "expected definition",
+            Message::ExpectedDefinitionAfterString =>
+                "expected a definition after this StringValue",
+            Message::ExpectedOperation => "expected an Operation Type or a Selection Set",
+            Message::ExpectedOperationType =>
+                "expected either a 'mutation', a 'query', or a 'subscription'",
+            Message::ExpectedSelectionSet => "expected a Selection Set",
+            Message::ExpectedInlineSelectionSet => "expected Selection Set",
+            Message::ExpectedSelection => "expected at least one Selection in Selection Set",
+            Message::ExpectedFragment => "expected an Inline Fragment or a Fragment Spread",
+            Message::FragmentNamedOn => "Fragment Name cannot be 'on'",
+            Message::ExpectedFragmentName => "expected Fragment Name",
+            Message::ExpectedOn => "expected 'on'",
+            Message::ExpectedConditionName => "expected a Name in Type Condition",
+            Message::ExpectedName => "expected a Name",
+            Message::ExpectedArgument => "expected an Argument",
+            Message::ExpectedVariableDefinition => "expected a Variable Definition",
+            Message::ExpectedType => "expected a Type",
+            Message::ExpectedItemType => "expected item type",
+            Message::ExpectedValue => "expected a valid Value",
+            Message::VariableInConst => "unexpected variable value in a Const context",
+            Message::ExpectedColon => "expected COLON",
+            Message::ExpectedRParen => "expected R_PAREN",
+            Message::ExpectedRBracket => "expected R_BRACK",
+            Message::ExpectedRCurly => "expected R_CURLY",
+        }
+    }
+
+    /// Whether the words go on with what was found.
+    pub fn names_found(self) -> bool
+        ensures { result ≡ names_found self }
+    {
+        matches!(
+            self,
+            Message::ExpectedColon
+                | Message::ExpectedRParen
+                | Message::ExpectedRBracket
+                | Message::ExpectedRCurly
+        )
+    }
 }

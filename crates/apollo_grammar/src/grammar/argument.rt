@@ -30,7 +30,11 @@ pub fn arguments<A: Allocator + Copy>(
     while p.at(TokenKind::Name) {
         argument(p, is_constant)?;
     }
-    p.expect(TokenKind::RParen, SyntaxKind::R_PAREN)?;
+    p.expect(
+        TokenKind::RParen,
+        SyntaxKind::R_PAREN,
+        Message::ExpectedRParen,
+    )?;
     p.finish_node();
     Ok(())
 }
@@ -48,7 +52,7 @@ fn argument<A: Allocator + Copy>(
         p.bump(SyntaxKind::COLON)?;
         value(p, is_constant, false)?;
     } else {
-        p.err(Message::Expected(TokenKind::Colon))?;
+        p.err(Message::ExpectedColon)?;
     }
     p.finish_node();
     Ok(())

@@ -36,7 +36,11 @@ pub fn selection_set<A: Allocator + Copy>(p: &mut ParserState<'_, A>) -> Result<
     p.enter();
     selections(p)?;
     p.leave();
-    p.expect(TokenKind::RCurly, SyntaxKind::R_CURLY)?;
+    p.expect(
+        TokenKind::RCurly,
+        SyntaxKind::R_CURLY,
+        Message::ExpectedRCurly,
+    )?;
     p.finish_node();
     Ok(())
 }

@@ -63,7 +63,11 @@ fn list_type<A: Allocator + Copy>(p: &mut ParserState<'_, A>) -> Result<(), Allo
     p.enter();
     item_type(p)?;
     p.leave();
-    p.expect(TokenKind::RBracket, SyntaxKind::R_BRACK)?;
+    p.expect(
+        TokenKind::RBracket,
+        SyntaxKind::R_BRACK,
+        Message::ExpectedRBracket,
+    )?;
     p.finish_node();
     Ok(())
 }

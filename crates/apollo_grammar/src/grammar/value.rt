@@ -191,7 +191,11 @@ fn object_value<A: Allocator + Copy>(
     while p.at(TokenKind::Name) {
         object_field(p, is_constant)?;
     }
-    p.expect(TokenKind::RCurly, SyntaxKind::R_CURLY)?;
+    p.expect(
+        TokenKind::RCurly,
+        SyntaxKind::R_CURLY,
+        Message::ExpectedRCurly,
+    )?;
     p.finish_node();
     Ok(())
 }
@@ -210,7 +214,7 @@ fn object_field<A: Allocator + Copy>(
         p.bump(SyntaxKind::COLON)?;
         nested_value(p, is_constant)?;
     } else {
-        p.err(Message::Expected(TokenKind::Colon))?;
+        p.err(Message::ExpectedColon)?;
     }
     p.finish_node();
     Ok(())

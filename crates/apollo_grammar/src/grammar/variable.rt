@@ -31,7 +31,11 @@ pub fn variable_definitions<A: Allocator + Copy>(
     while p.at(TokenKind::Dollar) {
         variable_definition(p)?;
     }
-    p.expect(TokenKind::RParen, SyntaxKind::R_PAREN)?;
+    p.expect(
+        TokenKind::RParen,
+        SyntaxKind::R_PAREN,
+        Message::ExpectedRParen,
+    )?;
     p.finish_node();
     Ok(())
 }

@@ -11,7 +11,7 @@ use Rattle.grammar_machine.proofs.Patterns.{label}
 use Rattle.grammar_machine.proofs.Sound.{any}
 use Rattle.grammar_machine.proofs.Steps.{hits}
 use Rattle.parser_rules.specs.Nodes.{Node}
-use Rattle.parser_rules.specs.RuleLanguage.{At, Bump, Note, TooDeep, Rule, Skip, Do, Seq, When, While, Child, Nested, Call, Typed}
+use Rattle.parser_rules.specs.RuleLanguage.{At, Bump, Note, Rule, Skip, Do, Seq, When, While, Child, TooDeep, Nested, Call, Typed}
 use Rattle.parser_rules.specs.Rules.{inside, body}
 use Rattle.parser_rules.proofs.lookahead.TokenSets.{over}
 use Rattle.parser_rules.proofs.lookahead.Split.{split}
@@ -33,7 +33,7 @@ unfoldable pub leaf_kinds : ℕ → ℕ → ℕ → Rule → (ℕ → ℕ → Bo
 leaf_kinds n x y Skip k = k x y
 leaf_kinds n x y (Do (Bump own)) k = bump_to x y own k
 leaf_kinds n x y (Do (Note m)) k = k x y
-leaf_kinds n x y (Do TooDeep) k = k x y
+leaf_kinds n x y TooDeep k = k x y
 leaf_kinds n x y (Seq a b) k = leaf_kinds n x y a (λ u v. leaf_kinds n u v b k)
 leaf_kinds n x y (When t a b) k = split (λ a' b'. a' and b') true t x y (λ u v. leaf_kinds n u v a k) (λ u v. leaf_kinds n u v b k)
 leaf_kinds n x y (While t a) k = split (λ a' b'. a' and b') true t any any (λ u v. leaf_kinds n u v a (λ u' v'. true)) k

@@ -30,9 +30,9 @@ use Rattle.parser_rules.specs.Leaves.{leaves, IsLeafOf, IsLeafOfToken, OneLeafAn
 use Rattle.parser_rules.specs.Nodes as rule
 use Rattle.parser_rules.specs.declared.message.Message.{Message}
 use Rattle.parser_rules.specs.Nodes.{Node, kind_of}
-use Rattle.parser_rules.specs.RuleLanguage.{At, holds, Prim, Bump, Note, TooDeep, step, Rule, Nested, Call}
+use Rattle.parser_rules.specs.RuleLanguage.{At, holds, Prim, Bump, Note, step, Rule, Nested, Call}
 use Rattle.parser_rules.specs.Rules.{inside, body}
-use Rattle.parser_rules.specs.Runs.{Runs, skip, does, seq, yes, no, done, again, child, deeper, refused, call, plain, wrapped}
+use Rattle.parser_rules.specs.Runs.{Runs, skip, does, seq, yes, no, done, again, child, limited, deeper, refused, call, plain, wrapped}
 use Rattle.parser_rules.proofs.runs.Frame.{on_kind, on_item, add_all_above, root_kept}
 use Rattle.parser_rules.proofs.runs.Inversion.{Parts, parts}
 use Rattle.parser_rules.proofs.runs.AtTheEnd.{EndNow, ends, read_ends}
@@ -183,8 +183,8 @@ closes : (s : State) → Kept s (closed s)
 unfolding closed
 closes s = calm s (closed s) (ap (λ l. l ++ s.waiting) (leaves_finish s.tree)) refl refl
 
-notes : (s : State) → Kept s (note s)
-notes s = after_note (Kept s) s (λ errors. calm s (record s { errors = errors }) refl refl refl)
+notes : (m : Message) (s : State) → Kept s (note m s)
+notes m s = after_note (Kept s) m s (λ errors. calm s (record s { errors = errors }) refl refl refl)
 
 deepens : (s : State) → Kept s (too_deep s)
 deepens s = after_too_deep (Kept s) s (λ errors accepts. calm s (record (deepened s) { errors = errors; accepts = accepts }) refl refl refl)
@@ -195,8 +195,8 @@ deepens s = after_too_deep (Kept s) s (λ errors accepts. calm s (record (deepen
 abbrev Same : State → State → Type 0
 Same s t = (t.current ≡ s.current) × (t.items ≡ s.items)
 
-note-same : (s : State) → Same s (note s)
-note-same s = after_note (Same s) s (λ errors. (refl, refl))
+note-same : (m : Message) (s : State) → Same s (note m s)
+note-same m s = after_note (Same s) m s (λ errors. (refl, refl))
 
 deep-same : (s : State) → Same s (too_deep s)
 deep-same s = after_too_deep (Same s) s (λ errors accepts. (refl, refl))
@@ -318,11 +318,7 @@ bumped x y own k s w h i = elim (either (is_error own)) [
 
 noted_kept : (m : Message) (s : State) → Kept s (step (Note m) s)
 unfolding step note
-noted_kept m s = notes s
-
-deepened_kept : (s : State) → Kept s (step TooDeep s)
-unfolding step
-deepened_kept s = deepens s
+noted_kept m s = notes m s
 
 wraps_kept : (place : ℕ) (k : SyntaxKind) (s : State) → Kept s (wrapped_from place k s)
 unfolding wrapped_from
@@ -354,8 +350,8 @@ fits : {a : Rule} {s t : State} → Runs a s t → (n x y : ℕ) (k : ℕ → �
 unfolding leaf_kinds leaves_belong step
 fits {s = s} skip n x y k w h i = (same s, (x, y, h, i))
 fits {s = s} (does {a = Bump own} e) n x y k w h i = subst (Walked k s) (sym e) (bumped x y own k s w h i)
-fits {s = s} (does {a = Note m} e) n x y k w h i = subst (Walked k s) (sym e) (behind k s (step (Note m) s) (note-same s) (noted_kept m s) (x, y, h, i))
-fits {s = s} (does {a = TooDeep} e) n x y k w h i = subst (Walked k s) (sym e) (behind k s (step TooDeep s) (deep-same s) (deepened_kept s) (x, y, h, i))
+fits {s = s} (does {a = Note m} e) n x y k w h i = subst (Walked k s) (sym e) (behind k s (step (Note m) s) (note-same m s) (noted_kept m s) (x, y, h, i))
+fits {s = s} (limited d e) n x y k w h i = subst (Walked k s) (sym e) (behind k s (too_deep s) (deep-same s) (deepens s) (x, y, h, i))
 fits {s = s} {t = u} (seq {a = a} {b = b} {t = t} h1 h2) n x y k w h i =
     let r = fits h1 n x y (λ u v. leaf_kinds n u v b k) w h i in
     onward k s t u r.0 (fits h2 n r.1.0 r.1.1 k (shown-on s t r.0 w) r.1.2 r.1.3)

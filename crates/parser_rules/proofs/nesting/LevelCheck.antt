@@ -6,7 +6,7 @@ use Rattle.document_grammar.specs.Pattern.{member}
 use Rattle.document_grammar.specs.Derivation.{counts}
 use Rattle.document_grammar.specs.Booleans.{◌and◌}
 use Rattle.parser_rules.specs.Nodes.{Node, kind_of}
-use Rattle.parser_rules.specs.RuleLanguage.{Prim, Bump, Note, TooDeep, Rule, Skip, Do, Seq, When, While, Child, Nested, Call, Typed}
+use Rattle.parser_rules.specs.RuleLanguage.{Prim, Bump, Note, Rule, Skip, Do, Seq, When, While, Child, TooDeep, Nested, Call, Typed}
 use Rattle.parser_rules.specs.Rules.{inside, body}
 use Rattle.parser_rules.proofs.soundness.TableCheck.{own}
 
@@ -26,7 +26,6 @@ weight p k = counts p k
 abbrev pub plain_leaf : Prim → Bool
 plain_leaf (Bump leaf) = uncounted (number leaf)
 plain_leaf (Note m) = true
-plain_leaf TooDeep = true
 
 -- Each rule is walked with two numbers: 1 where a level is entered in the open node, and 1 where the node still owes its own.
 unfoldable pub walks : ℕ → ℕ → ℕ → ℕ → Rule → (ℕ → ℕ → Bool) → Bool
@@ -36,6 +35,7 @@ walks n p r o (Seq a b) k = walks n p r o a (λ r' o'. walks n p r' o' b k)
 walks n p r o (When t a b) k = walks n p r o a k and walks n p r o b k
 walks n p r o (While t a) k = walks n p r o a (λ r' o'. eqb r' r and eqb o' o) and k r o
 walks n p r o (Child c) k = (eqb (r + own (number (kind_of c))) (own p + weight p (number (kind_of c))) and eqb o 0) and k r o
+walks n p r o TooDeep k = k r o
 walks n p r o (Nested a b) k = ((eqb r 0 and leb o 1) and k r 0) and walks n p 1 0 a (λ r' o'. (eqb r' 1 and eqb o' 0) and walks n p 0 0 b k)
 walks zero p r o (Call q) k = false
 walks (suc n) p r o (Call q) k = walks n p r o (body q) k

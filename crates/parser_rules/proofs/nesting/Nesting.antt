@@ -19,12 +19,13 @@ use Rattle.document_grammar.specs.Derivation.{below, belows, nest}
 use Rattle.document_grammar.specs.Booleans.{◌and◌, ◌or◌}
 use Rattle.document_grammar.proofs.Booleans.{false-true, and-l, and-r, and-i, not-c, cond-zero}
 use Rattle.document_grammar.proofs.Built.{belows-append, numbered-join, count-close}
-use Rattle.parser_rules.specs.State.{State, Lexeme, Part, ignored, bad, met, wait, read_on, add_all, flush, opened, closed, wrapped_from, moved, bump, note, enter, leave, too_deep, fresh, begun, finished}
+use Rattle.parser_rules.specs.declared.message.Message.{Message}
+use Rattle.parser_rules.specs.State.{State, Lexeme, Part, ignored, bad, met, wait, read_on, add_all, flush, opened, closed, wrapped_from, moved, bump, note, enter, leave, too_deep, fresh, begun, finished, is_deep, usize_max}
 use Rattle.parser_rules.specs.Open.{IsRoot}
 use Rattle.parser_rules.specs.Nodes.{Document, Node, kind_of}
-use Rattle.parser_rules.specs.RuleLanguage.{Prim, Bump, Note, TooDeep, step, Rule, Do, Child, Nested, Call}
+use Rattle.parser_rules.specs.RuleLanguage.{Prim, Bump, Note, step, Rule, Do, Child, TooDeep, Nested, Call}
 use Rattle.parser_rules.specs.Rules.{inside}
-use Rattle.parser_rules.specs.Runs.{Runs, skip, does, seq, yes, no, done, again, child, deeper, refused, call, plain, wrapped}
+use Rattle.parser_rules.specs.Runs.{Runs, skip, does, seq, yes, no, done, again, child, limited, deeper, refused, call, plain, wrapped}
 use Rattle.parser_rules.proofs.runs.Frame.{on_kind, on_item, read_untouched, add_all_above, Adds, adds, Keeps, keeps, root_kept, wrap_added}
 use Rattle.parser_rules.proofs.soundness.TableCheck.{own}
 use Rattle.parser_rules.proofs.nesting.LevelCheck.{uncounted, is_bare, weight, plain_leaf, walks, settled, levels_hold}
@@ -211,8 +212,8 @@ moved-level own s (Some x) u h =
     let f : State = record (flush s) { tree = add_leaf own x.text (flush s).tree } in
     record { high = ap height (read_untouched s.items f).tree ∙ (height-leaf own x.text (add_all s.waiting s.tree) u ∙ height-all s.waiting s.tree h); waits = read-waits s.items f refl }
 
-note-level : (s : State) → all_uncounted s.waiting ≡ true → Level_with s (note s)
-note-level s h = after_note (Level_with s) s (λ errors. record { high = refl; waits = h })
+note-level : (m : Message) (s : State) → all_uncounted s.waiting ≡ true → Level_with s (note m s)
+note-level m s h = after_note (Level_with s) m s (λ errors. record { high = refl; waits = h })
 
 deep-level : (s : State) → all_uncounted s.waiting ≡ true → Level_with s (too_deep s)
 deep-level s h = after_too_deep (Level_with s) s (λ errors accepts. record { high = refl; waits = h })
@@ -220,14 +221,13 @@ deep-level s h = after_too_deep (Level_with s) s (λ errors accepts. record { hi
 step-level : (a : Prim) (s : State) → plain_leaf a ≡ true → all_uncounted s.waiting ≡ true → Level_with s (step a s)
 unfolding step bump
 step-level (Bump leaf) s u h = moved-level leaf s s.current u h
-step-level (Note m) s u h = note-level s h
-step-level TooDeep s u h = deep-level s h
+step-level (Note m) s u h = note-level m s h
 
 -- ---- runs
 
 -- the greatest number that is counted to
 abbrev pub cap : ℕ
-cap = 18446744073709551615
+cap = usize_max
 
 -- In a node of the kind `p`, the depth agrees with the open nodes; the greatest depth covers what they nest, but for what the node owes.
 record Held (p r o : ℕ) (s : State) : Type 0 where
@@ -265,6 +265,11 @@ held-on p r o s t a d u l h = record {
   rooted = subst (λ as'. path as' < open_count as') (sym a) h.rooted;
   waits = l.waits;
 }
+
+deep-held : (p r o : ℕ) (s : State) → true ≡ is_deep s → Held p r o s → Held p r o (too_deep s)
+deep-held p r o s q h =
+    let k : Keeps s (too_deep s) = keeps (limited q refl) in
+    held-on p r o s (too_deep s) k.above k.depth k.higher (deep-level s h.waits) h
 
 step-held : (p r o : ℕ) (a : Prim) (s : State) → plain_leaf a ≡ true → Held p r o s → Held p r o (step a s)
 step-held p r o a s u h =
@@ -366,14 +371,10 @@ depth-bound d o a r b e f g h = omega arith
 path-count : (s t : State) → t.tree.above ≡ s.tree.above → path s.tree.above < open_count s.tree.above → path s.tree.above < built_count t.tree
 path-count s t a h = let e = ap open_count a in omega (arith, h, e)
 
-deep-is : (s : State) → too_deep s ≡ step TooDeep s
-unfolding step
-deep-is s = refl
-
-refused-held : (p r o : ℕ) (s : State) → r ≡ 0 → o ≤ 1 → built_count (too_deep s).tree ≤ cap → Held p r o s → Held p r 0 (too_deep s)
-refused-held p r o s e f b h =
+refused-held : (p r o : ℕ) (s : State) → true ≡ is_deep s → r ≡ 0 → o ≤ 1 → built_count (too_deep s).tree ≤ cap → Held p r o s → Held p r 0 (too_deep s)
+refused-held p r o s q e f b h =
     let t : State = too_deep s in
-    let k : Keeps s t = keeps (does {a = TooDeep} (deep-is s)) in
+    let k : Keeps s t = keeps (limited q refl) in
     let l = deep-level s h.waits in
     record {
       kind = ap top k.above ∙ h.kind;
@@ -518,9 +519,10 @@ nested {s = s} {t = z} (deeper {a = a} {b = c} {t = t} {u = u} {v = v} d e f h1 
     let g = nested h1 n p 1 0 (λ r' o'. (eqb r' 1 and eqb o' 0) and walks n p 0 0 c k) m.3 (le-bound (built_count u.tree) (built_count z.tree) less b) inside in
     let l = left-on n p c k u v f g in
     nested h2 n p 0 0 k l.0 b l.1
+nested {s = s} (limited q e) n p r o k h b i = (r, o, h, subst (Held p r o) (sym e) (deep-held p r o s q i))
 nested {s = s} {t = t} (refused {a = a} {b = c} d e) n p r o k h b i =
     let m = nested-parts n p r o a c k h in
-    (r, 0, m.2, subst (Held p r 0) (sym e) (refused-held p r o s m.0 m.1 (subst (λ y. built_count y.tree ≤ cap) e b) i))
+    (r, 0, m.2, subst (Held p r 0) (sym e) (refused-held p r o s d m.0 m.1 (subst (λ y. built_count y.tree ≤ cap) e b) i))
 nested (call h1) zero p r o k h b i = false-true refl h
 nested (call h1) (suc n) p r o k h b i = nested h1 n p r o k h b i
 nested {s = s} (plain {t = t} e h1 f) n p r o k h b i = nested h1 n p r o k (and-r _ _ h) b (subst (Held p r o) (sym e) (flush-held p r o s i))

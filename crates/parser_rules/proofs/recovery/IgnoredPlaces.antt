@@ -18,11 +18,12 @@ use Rattle.document_grammar.specs.Places.{ignored, bare, bares, Placed}
 use Rattle.document_grammar.specs.Booleans.{◌and◌, ◌or◌}
 use Rattle.document_grammar.proofs.Booleans.{false-true, and-i, and-l, and-r, not-c, either}
 use Rattle.document_grammar.proofs.Places.{nil-left, nil-right, Starts, Ends, AllTrim, placed as trim_placed}
+use Rattle.parser_rules.specs.declared.message.Message.{Message}
 use Rattle.parser_rules.specs.State.{State, Lexeme, Part, read_on, add_all, flush, opened, closed, wrapped_from, moved, bump, note, deepened, too_deep, enter, leave, fresh, begun, finished}
 use Rattle.parser_rules.specs.Nodes.{kind_of, Document}
-use Rattle.parser_rules.specs.RuleLanguage.{Prim, Bump, Note, TooDeep, step, Rule, Do, Call}
+use Rattle.parser_rules.specs.RuleLanguage.{Prim, Bump, Note, step, Rule, Do, Call}
 use Rattle.parser_rules.specs.Rules.{inside, body}
-use Rattle.parser_rules.specs.Runs.{Runs, skip, does, seq, yes, no, done, again, child, deeper, refused, call, plain, wrapped}
+use Rattle.parser_rules.specs.Runs.{Runs, skip, does, seq, yes, no, done, again, child, limited, deeper, refused, call, plain, wrapped}
 use Rattle.parser_rules.specs.Open.{IsRoot}
 use Rattle.parser_rules.proofs.recovery.RecoveryCheck.{builds, tidy}
 use Rattle.parser_rules.proofs.NodeChecks.{node_passes, document_tidy}
@@ -194,8 +195,8 @@ wraps k a b s u w h l =
 
 -- ---- the check of the rules
 
-notes : (s : State) → Builds false s (note s)
-notes s = after_note (Builds false s) s (λ errors. same s (record s { errors = errors }) (refl, refl))
+notes : (m : Message) (s : State) → Builds false s (note m s)
+notes m s = after_note (Builds false s) m s (λ errors. same s (record s { errors = errors }) (refl, refl))
 
 deepens : (s : State) → Builds false s (too_deep s)
 deepens s = after_too_deep (Builds false s) s (λ errors accepts. same s (record (deepened s) { errors = errors; accepts = accepts }) (refl, refl))
@@ -203,8 +204,7 @@ deepens s = after_too_deep (Builds false s) s (λ errors accepts. same s (record
 steps : (n : ℕ) (a : Prim) (s : State) → tidy n (Do a) ≡ true → Builds false s (step a s)
 unfolding step tidy
 steps n (Bump own) s h = bumps own s (not-c _ h)
-steps n (Note m) s h = notes s
-steps n TooDeep s h = deepens s
+steps n (Note m) s h = notes m s
 
 of-two : (a b : Bool) {s t : State} {c : Bool} → (c ≡ true → a ≡ true) → Builds a s t → Builds c s t
 of-two a b f h = record { above = h.above; more = h.more; here = h.here; inner = h.inner; starts = h.starts; idle = h.idle; ends = h.ends; some = λ z. h.some (f z) }
@@ -228,6 +228,7 @@ built_by {s = s} (again {t = t} {u = u} q j k) n h = then_on _ _ s t u (built_by
 built_by {s = s} (child {n = c} {t = t} {u = u} e k j) n h = subst (λ (z : State). Builds true s z) (sym k) (nodes (kind_of c) (builds (inside c)) s u (subst (λ (z : State). Builds (builds (inside c)) z u) e (built_by j 5 (node_passes c).ignored)))
 built_by {s = s} {t = w} (deeper {a = a} {b = b} {t = t} {u = u} {v = v} q e k j i) n h =
     then_on (builds a) (builds b) s v w (levelled (builds a) s t u v e k (built_by j n (and-l _ _ h))) (built_by i n (and-r _ _ h))
+built_by {s = s} (limited q e) n h = subst (λ (z : State). Builds false s z) (sym e) (deepens s)
 built_by {s = s} (refused q e) n h = subst (λ (z : State). Builds false s z) (sym e) (deepens s)
 built_by (call j) zero h = false-true refl h
 built_by {s = s} {t = t} (call {p = p} j) (suc n) h = weaken (builds (body p)) s t (built_by j n h)

@@ -13,11 +13,13 @@ use Rattle.document_grammar.specs.Builds.{Building, start, add_leaf, built_count
 use Rattle.document_grammar.proofs.Joins.{join-none, join_assoc}
 use Rattle.document_grammar.specs.Booleans.{◌and◌, ◌or◌}
 use Rattle.document_grammar.proofs.Booleans.{false-true, and-i, and-l, and-r, or-c, not-c, either}
-use Rattle.parser_rules.specs.State.{State, Lexeme, Part, Report, Text, at_limit, at_text, found_at, ignored, met, wait, bad, lexeme, read_on, second, add_all, flush, opened, closed, wrapped_from, moved, bump, noted, note, deepened, limited_at, too_deep, enter, leave, is_at, fresh, begun}
+use Rattle.parser_rules.specs.declared.message.Message.{Message}
+use Rattle.parser_rules.specs.Messages.{at_limit}
+use Rattle.parser_rules.specs.State.{State, Lexeme, Part, Report, Text, bad_report, token_limit_report, recursion_limit_report, fault_report, ignored, met, wait, bad, lexeme, read_on, second, add_all, flush, opened, closed, wrapped_from, moved, bump, noted, note, deepened, limited_at, too_deep, enter, leave, is_at, fresh, begun}
 use Rattle.parser_rules.specs.Nodes.{Node, kind_of, Document}
-use Rattle.parser_rules.specs.RuleLanguage.{Test, At, HasNext, Not, Both, holds, Prim, Bump, Note, TooDeep, step, Rule, Do, Call}
+use Rattle.parser_rules.specs.RuleLanguage.{Test, At, HasNext, Not, Both, holds, Prim, Bump, Note, step, Rule, Do, Call}
 use Rattle.parser_rules.specs.Rules.{inside}
-use Rattle.parser_rules.specs.Runs.{Runs, skip, does, seq, yes, no, done, again, child, deeper, refused, call, plain, wrapped}
+use Rattle.parser_rules.specs.Runs.{Runs, skip, does, seq, yes, no, done, again, child, limited, deeper, refused, call, plain, wrapped}
 use Rattle.parser_rules.proofs.recovery.RecoveryCheck.{is_list, is_note, excludes, asks_next, pops, few, told_first, spares, recovers_well}
 use Rattle.parser_rules.proofs.NodeChecks.{node_passes, document_told}
 use Rattle.parser_rules.proofs.runs.Frame.{read_untouched, on_kind, on_item, parts_forest, add_all_above, add_all_here, closed_here, wrap_added}
@@ -141,10 +143,10 @@ pub record Has (errors : List Report) (r : Report) : Type 0 where
   pub after : List Report
   pub split : errors ≡ before ++ (r ∷ after)
 
--- the token has a report with its text and index
+-- the token has a report
 abbrev pub Reported_at : List Report → Option Lexeme → Type 0
 Reported_at errors None = ⊤
-Reported_at errors (Some x) = Has errors (record { found = found_at x; index = x.index })
+Reported_at errors (Some x) = (m : Message) × Has errors (fault_report m x)
 
 abbrev pub Allowed : SyntaxKind → Marked → Type 0
 Allowed k kids = choose (is_list k) (NoBracket kids) (pops_of kids ≤ 1)
@@ -160,7 +162,7 @@ has-more errors more r h = record { before = h.before; after = h.after ++ more; 
 
 reported-more : (errors more : List Report) (o : Option Lexeme) → Reported_at errors o → Reported_at (errors ++ more) o
 reported-more errors more None h = tt
-reported-more errors more (Some x) h = has-more errors more (record { found = found_at x; index = x.index }) h
+reported-more errors more (Some x) h = (h.0, has-more errors more (fault_report h.0 x) h.1)
 
 recovers-more : (errors more : List Report) (f : Marked) → Recovers errors f → Recovers (errors ++ more) f
 recovers-more errors more none h = tt
@@ -389,21 +391,21 @@ faults r s = at s.accepts
     at true = record { tree = refl; waiting = refl; current = refl; items = refl; reports = r ∷ []; errors = refl; keeps = λ z. z }
     at false = unchanged s
 
-notes : (s : State) → Same s (note s)
+notes : (m : Message) (s : State) → Same s (note m s)
 unfolding note
-notes s = at s.current
+notes m s = at s.current
   where
-    at : (o : Option Lexeme) → Same s (noted s o)
+    at : (o : Option Lexeme) → Same s (noted m s o)
     at None = unchanged s
-    at (Some x) = faults (record { found = found_at x; index = x.index }) s
+    at (Some x) = faults (fault_report m x) s
 
-noted-at : (s : State) → s.accepts ≡ true → Reported_at (note s).errors s.current
+noted-at : (m : Message) (s : State) → s.accepts ≡ true → Reported_at (note m s).errors s.current
 unfolding note
-noted-at s a = at s.current
+noted-at m s a = at s.current
   where
-    at : (o : Option Lexeme) → Reported_at (noted s o).errors o
+    at : (o : Option Lexeme) → Reported_at (noted m s o).errors o
     at None = tt
-    at (Some x) = subst (λ (b : Bool). Has (faulted b s (record { found = found_at x; index = x.index })).errors (record { found = found_at x; index = x.index })) (sym a) (record { before = s.errors; after = []; split = refl })
+    at (Some x) = (m, subst (λ (b : Bool). Has (faulted b s (fault_report m x)).errors (fault_report m x)) (sym a) (record { before = s.errors; after = []; split = refl }))
 
 limits : (s : State) → Same s (too_deep s)
 unfolding too_deep
@@ -412,15 +414,15 @@ limits s = at s.current
     at : (o : Option Lexeme) → Same s (limited_at (deepened s) o)
     at None = record { tree = refl; waiting = refl; current = refl; items = refl; reports = []; errors = sym (append-nil s.errors); keeps = λ z. z }
     at (Some x) =
-        let h = faults (record { found = at_limit; index = x.index }) (deepened s) in
+        let h = faults (recursion_limit_report x) (deepened s) in
         record { tree = h.tree; waiting = h.waiting; current = h.current; items = h.items; reports = h.reports; errors = h.errors; keeps = λ z. false-true refl z }
 
 -- what is known after a report
-note-known : (w c d : Bool) (s : State) → Known w c d s → Known true c d (note s)
-note-known w c d s k =
-    let h = notes s in
+note-known : (m : Message) (w c d : Bool) (s : State) → Known w c d s → Known true c d (note m s)
+note-known m w c d s k =
+    let h = notes m s in
     record {
-      reported = λ z a. subst (λ (o : Option Lexeme). Reported_at (note s).errors o) (sym h.current) (noted-at s (h.keeps a));
+      reported = λ z a. subst (λ (o : Option Lexeme). Reported_at (note m s).errors o) (sym h.current) (noted-at m s (h.keeps a));
       cut = λ z. ap second h.items ∙ k.cut z;
       spared = λ z. ap (is_at token.RBracket) h.current ∙ k.spared z;
     }
@@ -432,8 +434,7 @@ none-known c d t = unknown t
 step-known : (a : Prim) (w c d : Bool) (s : State) → Known w c d s → Known (is_note (Do a)) (is_note (Do a) and c) (is_note (Do a) and d) (step a s)
 unfolding step ◌and◌
 step-known (Bump own) w c d s k = unknown (step (Bump own) s)
-step-known (Note m) w c d s k = note-known w c d s k
-step-known TooDeep w c d s k = unknown (step TooDeep s)
+step-known (Note m) w c d s k = note-known m w c d s k
 
 known-on : {a : Rule} {s t : State} → Runs a s t → (w c d : Bool) → Known w c d s → Known (is_note a) (is_note a and c) (is_note a and d) t
 known-on {s = s} (does {a = p} e) w c d k = subst (λ (z : State). Known (is_note (Do p)) (is_note (Do p) and c) (is_note (Do p) and d) z) (sym e) (step-known p w c d s k)
@@ -540,8 +541,7 @@ stood-left s t u v e k h z = subst (λ (y : State). Stood y.current y.items) (sy
 steps : (a : Prim) (n : ℕ) (w c d : Bool) (s : State) → told_first n w (Do a) ≡ true → Known w c d s → Ran s (step a s) (pops n c (Do a)) (spares n d (Do a))
 unfolding step
 steps (Bump own) n w c d s h k = bumps n w c d own s h k
-steps (Note m) n w c d s h k = same s (note s) _ _ (notes s)
-steps TooDeep n w c d s h k = same s (too_deep s) _ _ (limits s)
+steps (Note m) n w c d s h k = same s (note m s) _ _ (notes m s)
 
 max-first : (a b : ℕ) → max a b ≤ 1 → (a ≤ 1) × (a ≤ max a b)
 max-first a b h = (omega (arith, h), omega arith)
@@ -595,6 +595,7 @@ ran {s = s} (child {n = x} {t = t} {u = u} e f i) n w c d h k =
     subst (λ (z : State). Ran s z 0 true) (sym f) (nodes (kind_of x) s u (pops 5 false (inside x)) 0 (spares 5 false (inside x)) true ok.1 (subst (λ (z : State). Ran z u (pops 5 false (inside x)) (spares 5 false (inside x))) e (ran i 5 false false false ok.0 (unknown t))))
 ran {s = s} {t = z} (deeper {a = a} {b = b} {t = t} {u = u} {v = v} q e f i j) n w c d h k =
     next s v z (pops n c a) (pops n false b) (spares n d a) (spares n false b) (stood-left s t u v e f i) (levelled s t u v (pops n c a) (spares n d a) e f (ran i n w c d (and-l _ _ h) (entered w c d s t e k))) (ran j n false false false (and-r _ _ h) (unknown v))
+ran {s = s} (limited q e) n w c d h k = subst (λ (z : State). Ran s z 0 true) (sym e) (same s (too_deep s) _ _ (limits s))
 ran {s = s} (refused {a = a} {b = b} q e) n w c d h k = subst (λ (z : State). Ran s z (pops n c a + pops n false b) (spares n d a and spares n false b)) (sym e) (same s (too_deep s) _ _ (limits s))
 ran (call i) zero w c d h k = false-true refl h
 ran (call i) (suc n) w c d h k = ran i n w c d h k
@@ -611,21 +612,21 @@ ran {s = s} (wrapped {a = a} {t = t} {u = u} {v = v} {w = y} e p i f j x l) n w 
 -- the grammar's reports are still taken, or a limit was reported
 data Goes_on : State → Type 0 where
   taken : {s : State} → s.accepts ≡ true → Goes_on s
-  limited : {s : State} → (index : ℕ) → Has s.errors (record { found = at_limit; index = index }) → Goes_on s
+  at_a_limit : {s : State} → (r : Report) → r.found ≡ at_limit → Has s.errors r → Goes_on s
 
 goes-on : (s t : State) → t.accepts ≡ s.accepts → (more : List Report) → t.errors ≡ s.errors ++ more → Goes_on s → Goes_on t
 goes-on s t a more e (taken h) = taken (a ∙ h)
-goes-on s t a more e (limited index h) = limited index (subst (λ (z : List Report). Has z (record { found = at_limit; index = index })) (sym e) (has-more s.errors more (record { found = at_limit; index = index }) h))
+goes-on s t a more e (at_a_limit r i h) = at_a_limit r i (subst (λ (z : List Report). Has z r) (sym e) (has-more s.errors more r h))
 
-goes-limited : (s t : State) (index : ℕ) → t.errors ≡ s.errors ++ record { found = at_limit; index = index } ∷ [] → Goes_on t
-goes-limited s t index e = limited index (record { before = s.errors; after = []; split = e })
+goes-limited : (s t : State) (r : Report) → r.found ≡ at_limit → t.errors ≡ s.errors ++ r ∷ [] → Goes_on t
+goes-limited s t r i e = at_a_limit r i (record { before = s.errors; after = []; split = e })
 
 read-goes : (xs : List Answer) (s : State) → Goes_on s → Goes_on (read_on xs s)
 unfolding read_on
 read-goes [] s g = goes-on s (record s { current = None }) refl [] (sym (append-nil s.errors)) g
-read-goes (limit_at index ∷ rest) s g = read-goes rest (met index (record s { items = rest })) (goes-limited s (met index (record s { items = rest })) index refl)
+read-goes (limit_at index ∷ rest) s g = read-goes rest (met index (record s { items = rest })) (goes-limited s (met index (record s { items = rest })) (token_limit_report index) refl refl)
 read-goes (gives item ∷ rest) s g = elim item.kind as (λ found. Goes_on (on_item rest s item found)) [
-  | None ↦ (let t : State = bad item.text item.index (record s { items = rest }) in read-goes rest t (goes-on s t refl (record { found = at_text item.text; index = item.index } ∷ []) refl g))
+  | None ↦ (let t : State = bad item.text item.index (record s { items = rest }) in read-goes rest t (goes-on s t refl (bad_report item.text item.index ∷ []) refl g))
   | Some k ↦ elim (ignored k) as (λ found. Goes_on (on_kind rest s item k found)) [
     | Some own ↦ (let t : State = wait own item.text (record s { items = rest }) in read-goes rest t (goes-on s t refl [] (sym (append-nil s.errors)) g))
     | None ↦ goes-on s (record s { items = rest; current = Some (lexeme k item) }) refl [] (sym (append-nil s.errors)) g
@@ -645,8 +646,8 @@ goes-along = record {
   next = λ s t u h k g. k (h g);
   flushes = λ s g. quietly s (flush s) refl refl g;
   moves = λ own x s e w g. let u : State = record s { tree = add_leaf own x.text s.tree } in read-goes s.items u (quietly s u refl refl g);
-  reports = λ x s c a g. taken a;
-  limits = λ x s c a g. goes-limited s (record s { errors = s.errors ++ record { found = at_limit; index = x.index } ∷ []; accepts = false }) x.index refl;
+  reports = λ m x s c a g. taken a;
+  limits = λ x s c a d g. goes-limited s (record s { errors = s.errors ++ recursion_limit_report x ∷ []; accepts = false }) (recursion_limit_report x) refl refl;
   asks = λ s g. quietly s (deepened s) refl refl g;
   nodes = λ k s u h g. quietly u (closed u) refl refl (h (quietly s (record s { tree = start k s.tree }) refl refl g));
   levels = λ s u q h g. quietly u (leave u) refl refl (h (quietly s (enter s) refl refl g));
@@ -664,7 +665,7 @@ pub record Recovery (xs : List Answer) (s : State) : Type 0 where
 
 -- Where no limit is reported, each popped token has a report with its text and index, and is a child of the root, or of a LIST_VALUE and not
 -- `]`, or its node's only popped token.
-pub document_recovers : (r : ℕ) (xs : List Answer) (s : State) → EndsWell xs → Runs (Call Document) (begun xs r kind.DOCUMENT) s → ((index : ℕ) → Has s.errors (record { found = at_limit; index = index }) → ⊥) → Recovery xs s
+pub document_recovers : (r : ℕ) (xs : List Answer) (s : State) → EndsWell xs → Runs (Call Document) (begun xs r kind.DOCUMENT) s → ((r : Report) → r.found ≡ at_limit → Has s.errors r → ⊥) → Recovery xs s
 document_recovers r xs s en run none-limited =
     let b : State = begun xs r kind.DOCUMENT in
     let f : State = fresh xs r kind.DOCUMENT in
@@ -681,4 +682,4 @@ document_recovers r xs s en run none-limited =
   where
     accepted : Goes_on s → s.accepts ≡ true
     accepted (taken h) = h
-    accepted (limited index h) = absurd (none-limited index h)
+    accepted (at_a_limit r i h) = absurd (none-limited r i h)

@@ -21,7 +21,8 @@ use Rattle.grammar_machine.proofs.SentenceTheorems.{sentence-parse, one-derivati
 use Rattle.grammar_machine.proofs.Patterns.{label}
 use Rattle.grammar_machine.proofs.FromMachineTree.{show, shows}
 use Rattle.grammar_machine.proofs.Sound.{any}
-use Rattle.parser_rules.specs.State.{State, Lexeme, Part, Report, add_all, begun, found_at, second as second_of}
+use Rattle.parser_rules.specs.declared.message.Message.TheVariants as message
+use Rattle.parser_rules.specs.State.{State, Lexeme, Part, Report, add_all, begun, fault_report, second as second_of}
 use Rattle.parser_rules.specs.Nodes.{Definition}
 use Rattle.parser_rules.specs.RuleLanguage.{Rule, Call, While, Ready, holds}
 use Rattle.parser_rules.specs.Runs.{Runs, Turns}
@@ -145,4 +146,4 @@ tokens-silent taken (gives item ∷ xs) h = on item.kind refl (and-l _ _ h) (tok
 -- and no report is beyond the first token that is left
 pub none-beyond : (r k : ℕ) (source : List ℕ) (items : List Item) (first_rule : Rule) (b st : State) (c : Turn st) → Cut source items → all_tokens (from_now st c) ≡ true → Runs first_rule (begun (limited k items) r kind.DOCUMENT) b → Turns Ready (Call Definition) b st → AllUpTo c.token.index st.errors
 none-beyond r k source items first_rule b st c cut h run turns =
-    before_last k source items st.errors (record { found = found_at c.token; index = c.token.index }) cut (reported_at (limited k items) r kind.DOCUMENT c.token run turns c.current c.accepts (tokens-silent true st.items (and-r _ _ h)))
+    before_last k source items st.errors (fault_report message.UnexpectedEof c.token) cut (reported_at (limited k items) r kind.DOCUMENT message.UnexpectedEof c.token run turns c.current c.accepts (tokens-silent true st.items (and-r _ _ h)))

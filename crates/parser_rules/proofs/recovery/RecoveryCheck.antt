@@ -10,7 +10,7 @@ use Rattle.document_grammar.specs.Pattern.{Pattern, any_of, nothing, ◌then◌,
 use Rattle.document_grammar.specs.Rows.{Row}
 use Rattle.document_grammar.specs.Booleans.{◌and◌, ◌or◌}
 use Rattle.parser_rules.specs.Nodes.{Node, kind_of}
-use Rattle.parser_rules.specs.RuleLanguage.{Test, At, HasNext, Not, Both, Bump, Note, TooDeep, Rule, Skip, Do, Seq, When, While, Child, Nested, Call, Typed}
+use Rattle.parser_rules.specs.RuleLanguage.{Test, At, HasNext, Not, Both, Bump, Note, Rule, Skip, Do, Seq, When, While, Child, TooDeep, Nested, Call, Typed}
 use Rattle.parser_rules.specs.Rules.{inside, body}
 use Rattle.parser_rules.proofs.leaves.LeafCheck.{is_error}
 
@@ -36,7 +36,7 @@ unfoldable pub pops : ℕ → Bool → Rule → ℕ
 pops n c Skip = 0
 pops n c (Do (Bump own)) = cond (is_error own and not c) 1 0
 pops n c (Do (Note m)) = 0
-pops n c (Do TooDeep) = 0
+pops n c TooDeep = 0
 pops n c (Seq a b) = pops n c a + pops n (is_note a and c) b
 pops n c (When q a b) = max (pops n c a) (pops n (asks_next q or c) b)
 pops n c (While q a) = cond (eqb (pops n false a) 0) 0 2
@@ -56,7 +56,7 @@ unfoldable pub told_first : ℕ → Bool → Rule → Bool
 told_first n w Skip = true
 told_first n w (Do (Bump own)) = not (is_error own) or w
 told_first n w (Do (Note m)) = true
-told_first n w (Do TooDeep) = true
+told_first n w TooDeep = true
 told_first n w (Seq a b) = told_first n w a and told_first n (is_note a) b
 told_first n w (When q a b) = told_first n w a and told_first n w b
 told_first n w (While q a) = told_first n false a
@@ -71,7 +71,7 @@ unfoldable pub spares : ℕ → Bool → Rule → Bool
 spares n d Skip = true
 spares n d (Do (Bump own)) = not (is_error own) or d
 spares n d (Do (Note m)) = true
-spares n d (Do TooDeep) = true
+spares n d TooDeep = true
 spares n d (Seq a b) = spares n d a and spares n (is_note a and d) b
 spares n d (When q a b) = spares n d a and spares n d b
 spares n d (While q a) = spares n (excludes q) a
@@ -112,7 +112,7 @@ unfoldable pub fits_in : ℕ → SyntaxKind → Rule → Bool
 fits_in n k Skip = true
 fits_in n k (Do (Bump own)) = leaf_of_row k own
 fits_in n k (Do (Note m)) = true
-fits_in n k (Do TooDeep) = true
+fits_in n k TooDeep = true
 fits_in n k (Seq a b) = fits_in n k a and fits_in n k b
 fits_in n k (When q a b) = fits_in n k a and fits_in n k b
 fits_in n k (While q a) = fits_in n k a
@@ -139,7 +139,7 @@ unfoldable pub tidy : ℕ → Rule → Bool
 tidy n Skip = true
 tidy n (Do (Bump own)) = not (ltb (number own) ERROR)
 tidy n (Do (Note m)) = true
-tidy n (Do TooDeep) = true
+tidy n TooDeep = true
 tidy n (Seq a b) = tidy n a and tidy n b
 tidy n (When q a b) = tidy n a and tidy n b
 tidy n (While q a) = tidy n a

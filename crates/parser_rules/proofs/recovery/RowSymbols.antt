@@ -11,10 +11,11 @@ use Rattle.document_grammar.specs.Builds.{Building, add_leaf, built_count}
 use Rattle.document_grammar.proofs.Joins.{join-none, join_assoc}
 use Rattle.document_grammar.specs.Booleans.{◌and◌, ◌or◌}
 use Rattle.document_grammar.proofs.Booleans.{false-true, and-i, and-l, and-r}
+use Rattle.parser_rules.specs.declared.message.Message.{Message}
 use Rattle.parser_rules.specs.State.{State, Lexeme, Part, ignored, met, wait, bad, read_on, add_all, flush, opened, closed, wrapped_from, moved, bump, note, deepened, too_deep, enter, leave, fresh, begun}
 use Rattle.parser_rules.specs.Nodes.{kind_of, Document}
-use Rattle.parser_rules.specs.RuleLanguage.{Prim, Bump, Note, TooDeep, step, Rule, Do, Call}
-use Rattle.parser_rules.specs.Runs.{Runs, skip, does, seq, yes, no, done, again, child, deeper, refused, call, plain, wrapped}
+use Rattle.parser_rules.specs.RuleLanguage.{Prim, Bump, Note, step, Rule, Do, Call}
+use Rattle.parser_rules.specs.Runs.{Runs, skip, does, seq, yes, no, done, again, child, limited, deeper, refused, call, plain, wrapped}
 use Rattle.parser_rules.proofs.reports.NoReport.{ignored-leaf}
 use Rattle.parser_rules.proofs.recovery.RecoveryCheck.{of_row, leaf_of_row, fits_in, keeps_row}
 use Rattle.parser_rules.proofs.NodeChecks.{node_passes, document_row}
@@ -136,8 +137,8 @@ wraps k j s u w i h l =
     one-more k s (closed w) (built.node j (built.join h.more l.more) built.none) (ap (λ (b : Building). b.above) f ∙ add_all_above s.waiting s.tree) (ap (λ (b : Building). b.here) f ∙ ap (λ (g : built.Forest). built.join t.here (built.node j g built.none)) kids)
     (λ z. let a = h.fits refl in let b = l.fits a.1 in (and-i (and-i i (rowed-join j h.more l.more a.0 b.0)) refl, b.1))
 
-notes : (k : SyntaxKind) (s : State) → Adds_rowed k s (note s)
-notes k s = after_note (Adds_rowed k s) s (λ errors. same k s (record s { errors = errors }) (refl, refl))
+notes : (k : SyntaxKind) (m : Message) (s : State) → Adds_rowed k s (note m s)
+notes k m s = after_note (Adds_rowed k s) m s (λ errors. same k s (record s { errors = errors }) (refl, refl))
 
 deepens : (k : SyntaxKind) (s : State) → Adds_rowed k s (too_deep s)
 deepens k s = after_too_deep (Adds_rowed k s) s (λ errors accepts. same k s (record (deepened s) { errors = errors; accepts = accepts }) (refl, refl))
@@ -145,8 +146,7 @@ deepens k s = after_too_deep (Adds_rowed k s) s (λ errors accepts. same k s (re
 steps : (n : ℕ) (k : SyntaxKind) (a : Prim) (s : State) → fits_in n k (Do a) ≡ true → Adds_rowed k s (step a s)
 unfolding step fits_in
 steps n k (Bump own) s h = bumps k own s h
-steps n k (Note m) s h = notes k s
-steps n k TooDeep s h = deepens k s
+steps n k (Note m) s h = notes k m s
 
 levelled : (k : SyntaxKind) (s t u v : State) → t ≡ enter s → v ≡ leave u → Adds_rowed k t u → Adds_rowed k s v
 unfolding enter leave
@@ -166,6 +166,7 @@ rowed_by {s = s} (done q) n k h = same k s s (refl, refl)
 rowed_by {s = s} (again {t = t} {u = u} q i j) n k h = then_on k s t u (rowed_by i n k h) (rowed_by j n k h)
 rowed_by {s = s} (child {n = c} {t = t} {u = u} e l i) n k h = subst (λ (z : State). Adds_rowed k s z) (sym l) (nodes k (kind_of c) s u h (subst (λ (z : State). Adds_rowed (kind_of c) z u) e (rowed_by i 5 (kind_of c) (node_passes c).row)))
 rowed_by {s = s} {t = w} (deeper {t = t} {u = u} {v = v} q e l i j) n k h = then_on k s v w (levelled k s t u v e l (rowed_by i n k (and-l _ _ h))) (rowed_by j n k (and-r _ _ h))
+rowed_by {s = s} (limited q e) n k h = subst (λ (z : State). Adds_rowed k s z) (sym e) (deepens k s)
 rowed_by {s = s} (refused q e) n k h = subst (λ (z : State). Adds_rowed k s z) (sym e) (deepens k s)
 rowed_by (call i) zero k h = false-true refl h
 rowed_by (call i) (suc n) k h = rowed_by i n k h

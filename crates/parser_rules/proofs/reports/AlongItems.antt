@@ -6,7 +6,8 @@ use Rattle.lexical_grammar.specs.Cut.{Item}
 use Rattle.lexical_grammar.specs.Answers.{Answer, gives, limit_at}
 use Rattle.document_grammar.specs.declared.kind.SyntaxKind.{SyntaxKind}
 use Rattle.document_grammar.specs.Builds.{add_leaf}
-use Rattle.parser_rules.specs.State.{State, Lexeme, Report, at_text, at_limit, found_at, ignored, bad, met, wait, lexeme, read_on, flush, closed, wrapped_from, enter, leave, fresh, begun}
+use Rattle.parser_rules.specs.State.{State, Lexeme, Report, bad_report, token_limit_report, recursion_limit_report, fault_report, ignored, bad, met, wait, lexeme, read_on, flush, closed, wrapped_from, enter, leave, fresh, begun}
+use Rattle.parser_rules.specs.declared.message.Message.{Message}
 use Rattle.parser_rules.specs.RuleLanguage.{Test, Rule}
 use Rattle.parser_rules.specs.Runs.{Runs, Turns}
 use Rattle.parser_rules.specs.Reports.{Reported, no_more, bad_text, token_limit, fault, recursion_limit, passed}
@@ -62,9 +63,9 @@ pub read_onward : (xs : List Answer) (s : State) → s.items ≡ xs → Onward s
 unfolding read_on
 read_onward [] s e = record { more = []; are = sym (append-nil s.errors); onward = λ later l. subst (λ xs. Reported s.accepts xs later) e l; shown = tt }
 read_onward (limit_at index ∷ rest) s e =
-    reports_one (record { found = at_limit; index = index }) (λ later l. token_limit l) (read_onward rest (met index (record s { items = rest })) refl)
+    reports_one (token_limit_report index) (λ later l. token_limit l) (read_onward rest (met index (record s { items = rest })) refl)
 read_onward (gives item ∷ rest) s e = (elim item.kind as (λ found. item.kind ≡ found → Onward s.accepts (gives item ∷ rest) s.errors (on_item rest s item found)) [
-  | None ↦ λ n. reports_one (record { found = at_text item.text; index = item.index }) (λ later l. bad_text n l) (read_onward rest (bad item.text item.index (record s { items = rest })) refl)
+  | None ↦ λ n. reports_one (bad_report item.text item.index) (λ later l. bad_text n l) (read_onward rest (bad item.text item.index (record s { items = rest })) refl)
   | Some k ↦ λ n. (elim (ignored k) as (λ found. ignored k ≡ found → Onward s.accepts (gives item ∷ rest) s.errors (on_kind rest s item k found)) [
     | Some leaf ↦ λ i. reports_none (λ later l. passed n l) (read_onward rest (wait leaf item.text (record s { items = rest })) refl)
     | None ↦ λ i. reports_none (λ later l. subst (λ (x : Item). Reported s.accepts (gives x ∷ rest) later) (item-eta item k n) l) (stands (record s { items = rest; current = Some (lexeme k item) }) i)
@@ -101,26 +102,26 @@ moves leaf x s e =
     at-current s (read_on s.items (record s { tree = add_leaf leaf x.text s.tree })) x e
     (λ i. reports_none (λ later l. passed refl l) (read_onward s.items (record s { tree = add_leaf leaf x.text s.tree }) refl))
 
-told : (s : State) (x : Lexeme) → s.current ≡ Some x → s.accepts ≡ true → Tells s (record s { errors = s.errors ++ record { found = found_at x; index = x.index } ∷ [] })
-told s x e a =
-    at-current s (record s { errors = s.errors ++ record { found = found_at x; index = x.index } ∷ [] }) x e
+told : (m : Message) (s : State) (x : Lexeme) → s.current ≡ Some x → s.accepts ≡ true → Tells s (record s { errors = s.errors ++ fault_report m x ∷ [] })
+told m s x e a =
+    at-current s (record s { errors = s.errors ++ fault_report m x ∷ [] }) x e
     (λ i. record {
-      more = record { found = found_at x; index = x.index } ∷ [];
+      more = fault_report m x ∷ [];
       are = refl;
       onward = λ later l.
           let here : Reported true (gives (item_of x) ∷ s.items) later = subst (λ b. Reported b (gives (item_of x) ∷ s.items) later) a (subst (λ o. Reported s.accepts (ahead_of o s.items) later) e l) in
-          subst (λ b. Reported b (gives (item_of x) ∷ s.items) (record { found = found_at x; index = x.index } ∷ later)) (sym a) (fault {item = item_of x} refl (shown-at s x e i) here);
+          subst (λ b. Reported b (gives (item_of x) ∷ s.items) (fault_report m x ∷ later)) (sym a) (fault m {item = item_of x} refl (shown-at s x e i) here);
       shown = i;
     })
 
-limits : (s : State) (x : Lexeme) → s.current ≡ Some x → s.accepts ≡ true → Tells s (record s { errors = s.errors ++ record { found = at_limit; index = x.index } ∷ []; accepts = false })
+limits : (s : State) (x : Lexeme) → s.current ≡ Some x → s.accepts ≡ true → Tells s (record s { errors = s.errors ++ recursion_limit_report x ∷ []; accepts = false })
 limits s x e a =
-    at-current s (record s { errors = s.errors ++ record { found = at_limit; index = x.index } ∷ []; accepts = false }) x e
+    at-current s (record s { errors = s.errors ++ recursion_limit_report x ∷ []; accepts = false }) x e
     (λ i. record {
-      more = record { found = at_limit; index = x.index } ∷ [];
+      more = recursion_limit_report x ∷ [];
       are = refl;
       onward = λ later l.
-          subst (λ b. Reported b (gives (item_of x) ∷ s.items) (record { found = at_limit; index = x.index } ∷ later)) (sym a)
+          subst (λ b. Reported b (gives (item_of x) ∷ s.items) (recursion_limit_report x ∷ later)) (sym a)
           (recursion_limit {item = item_of x} refl (shown-at s x e i) (subst (λ o. Reported false (ahead_of o s.items) later) e l));
       shown = i;
     })
@@ -132,8 +133,8 @@ tells-along = record {
   next = tells-on;
   flushes = λ s i. let h = stands s i in record { more = h.more; are = h.are; onward = h.onward; shown = h.shown };
   moves = λ leaf x s e w. moves leaf x s e;
-  reports = λ x s e a. told s x e a;
-  limits = λ x s e a. limits s x e a;
+  reports = λ m x s e a. told m s x e a;
+  limits = λ x s e a d. limits s x e a;
   asks = λ s i. let h = stands s i in record { more = h.more; are = h.are; onward = h.onward; shown = h.shown };
   nodes = λ k s u tells i. let h = tells i in record { more = h.more; are = h.are; onward = h.onward; shown = h.shown };
   levels = λ s u q tells i. let h = tells i in record { more = h.more; are = h.are; onward = h.onward; shown = h.shown };
@@ -158,15 +159,15 @@ reported {t = t} items limit k run none =
     ends-here taken (Some x) = passed refl no_more
 
 -- at a turn of a loop the reports so far are those of the answers, and a report at the current token could follow, where no later answer has one
-pub reported_at : {r a : Rule} {q : Test} {b s : State} (items : List Answer) (limit : ℕ) (k : SyntaxKind) (x : Lexeme) → Runs r (begun items limit k) b → Turns q a b s → s.current ≡ Some x → s.accepts ≡ true → Reported true s.items []
-    → Reported true items (s.errors ++ record { found = found_at x; index = x.index } ∷ [])
+pub reported_at : {r a : Rule} {q : Test} {b s : State} (items : List Answer) (limit : ℕ) (k : SyntaxKind) (m : Message) (x : Lexeme) → Runs r (begun items limit k) b → Turns q a b s → s.current ≡ Some x → s.accepts ≡ true → Reported true s.items []
+    → Reported true items (s.errors ++ fault_report m x ∷ [])
 unfolding Tells
-reported_at {b = b} {s = s} items limit k x run turns e ac none =
-    let one : Report = record { found = found_at x; index = x.index } in
+reported_at {b = b} {s = s} items limit k m x run turns e ac none =
+    let one : Report = fault_report m x in
     let first : Onward true items [] (begun items limit k) = read_onward items (fresh items limit k) refl in
     let h : Onward (begun items limit k).accepts (ahead (begun items limit k)) (begun items limit k).errors s = tells-on (begun items limit k) b s (along tells-along run) (turns_along tells-along turns) first.shown in
     let shown : ignored x.kind ≡ None = subst (λ (o : Option Lexeme). IsShown o) e h.shown in
     let last : Reported s.accepts (ahead s) (one ∷ []) =
-    subst (λ (o : Option Lexeme). Reported s.accepts (ahead_of o s.items) (one ∷ [])) (sym e) (subst (λ (b : Bool). Reported b (gives (item_of x) ∷ s.items) (one ∷ [])) (sym ac) (fault refl shown (passed refl none))) in
+    subst (λ (o : Option Lexeme). Reported s.accepts (ahead_of o s.items) (one ∷ [])) (sym e) (subst (λ (b : Bool). Reported b (gives (item_of x) ∷ s.items) (one ∷ [])) (sym ac) (fault m refl shown (passed refl none))) in
     let all : s.errors ++ one ∷ [] ≡ first.more ++ (h.more ++ one ∷ []) = ap (λ reports. reports ++ one ∷ []) (h.are ∙ ap (λ reports. reports ++ h.more) first.are) ∙ append_assoc first.more h.more (one ∷ []) in
     subst (λ reports. Reported true items reports) (sym all) (first.onward (h.more ++ one ∷ []) (h.onward (one ∷ []) last))

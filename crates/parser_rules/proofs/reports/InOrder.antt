@@ -39,7 +39,7 @@ reports_rise : {taken : Bool} {answers : List Answer} {reports : List Report} (l
 reports_rise low no_more rise = tt
 reports_rise low (bad_text {item = item} e h) rise = (rise.0, reports_rise item.index h rise.1)
 reports_rise low (token_limit {index = index} h) rise = (rise.0, reports_rise index h rise.1)
-reports_rise low (fault {item = item} e i h) rise = (rise.0, reports_rise item.index h (same_place item.index, rise.1))
+reports_rise low (fault m {item = item} e i h) rise = (rise.0, reports_rise item.index h (same_place item.index, rise.1))
 reports_rise low (recursion_limit {item = item} e i h) rise = (rise.0, reports_rise item.index h (same_place item.index, rise.1))
 reports_rise low (passed {item = item} {answers = answers} e h) rise = reports_rise low h (from_lower low item.index (places answers) rise.0 rise.1)
 

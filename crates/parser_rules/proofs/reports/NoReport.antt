@@ -12,7 +12,7 @@ use Rattle.document_grammar.specs.Tree.{Token}
 use Rattle.document_grammar.specs.Sentence.{token_of, leaf_number}
 use Rattle.document_grammar.proofs.Booleans.{either, false-true, and-i, and-l, and-r}
 use Rattle.document_grammar.specs.Booleans.{◌and◌}
-use Rattle.parser_rules.specs.State.{State, Text, Lexeme, Part, Report, at_text, at_limit, ignored, wait, bad, met, lexeme, read_on}
+use Rattle.parser_rules.specs.State.{State, Text, Lexeme, Part, Report, bad_report, token_limit_report, ignored, wait, bad, met, lexeme, read_on}
 use Rattle.parser_rules.proofs.runs.Frame.{on_kind, on_item}
 use Rattle.document_grammar.specs.Builds.{Building}
 use Rattle.parser_rules.proofs.soundness.WithoutIgnored.{all_ignored}
@@ -89,11 +89,11 @@ pub read-grows : (xs : List Answer) (s : State) → Grows s (read_on xs s)
 unfolding read_on
 read-grows [] s = same-errors s (record s { current = None }) refl (λ m z. z)
 read-grows (limit_at index ∷ xs) s =
-    let r : Report = record { found = at_limit; index = index } in
+    let r : Report = token_limit_report index in
     grows-on s (met index (record s { items = xs })) _ (record { more = r ∷ []; errors = refl; stays = λ m z. z }) (read-grows xs (met index (record s { items = xs })))
 read-grows (gives item ∷ xs) s = elim item.kind as (λ found. Grows s (on_item xs s item found)) [
   | None ↦ (
-      let r : Report = record { found = at_text item.text; index = item.index } in
+      let r : Report = bad_report item.text item.index in
       grows-on s (bad item.text item.index (record s { items = xs })) _ (record { more = r ∷ []; errors = refl; stays = λ m z. z }) (read-grows xs (bad item.text item.index (record s { items = xs }))))
   | Some k ↦ elim (ignored k) as (λ found. Grows s (on_kind xs s item k found)) [
     | Some leaf ↦ (
@@ -171,8 +171,8 @@ given t = gives (record { kind = Some t.kind; text = t.text; index = t.index })
 
 -- what is reported of an answer that is no token
 abbrev pub report_of : Answer → Report
-report_of (limit_at index) = record { found = at_limit; index = index }
-report_of (gives item) = record { found = at_text item.text; index = item.index }
+report_of (limit_at index) = token_limit_report index
+report_of (gives item) = bad_report item.text item.index
 
 module _ (answers : List Answer) where
   -- all answers before these were tokens
@@ -239,13 +239,13 @@ module _ (answers : List Answer) (base : List Report) (Follows : Type 0) (Right 
   read-on m [] s q e p b f = absurd e
   read-on m (limit_at index ∷ xs) s q e p b f =
       let t : State = met index (record s { items = xs }) in
-      let r : Report = record { found = at_limit; index = index } in
+      let r : Report = token_limit_report index in
       inl (told-on t (read_on xs t) (read-grows xs t) (told-bad m r t (ap (λ (z : List Report). z ++ r ∷ []) q.clean) (b (limit_at index) xs p refl refl) f))
   read-on m (gives item ∷ xs) s q e p b f = elim item.kind as (λ found. choose (ends found) (xs ≡ []) (EndsWell xs) → Passed answers (gives (record { kind = found; text = item.text; index = item.index }) ∷ xs)
       → Blames m (item_tokens found item.text ++ answers_tokens xs) → Read (gives (record { kind = found; text = item.text; index = item.index }) ∷ xs) s (on_item xs s item found)) [
         | None ↦ λ e' p' b'. (
             let t : State = bad item.text item.index (record s { items = xs }) in
-            let r : Report = record { found = at_text item.text; index = item.index } in
+            let r : Report = bad_report item.text item.index in
             inl (told-on t (read_on xs t) (read-grows xs t) (told-bad m r t (ap (λ (z : List Report). z ++ r ∷ []) q.clean) (b' (gives (record { kind = None; text = item.text; index = item.index })) xs p' refl refl) f)))
         | Some k ↦ λ e' p' b'. on_ignored (λ t same q' e2 p2 b2. read-on m xs t q' e2 p2 b2 (λ z. subst (λ (x : Building). Settled m x) (sym same) (f z))) k (ignored k) refl e' p' b'
       ] e p b

@@ -9,10 +9,11 @@ use Rattle.document_grammar.specs.declared.kind.SyntaxKind.TheVariants as kind
 use Rattle.document_grammar.specs.Forests as built
 use Rattle.document_grammar.specs.Builds.{Building, add_leaf, built_count}
 use Rattle.document_grammar.proofs.Joins.{join-none, join_assoc}
-use Rattle.parser_rules.specs.State.{State, Lexeme, Part, Report, at_limit, at_text, found_at, ignored, met, wait, bad, lexeme, read_on, second, add_all, flush, opened, closed, wrapped_from, moved, bump, noted, note, is_deep, deepened, limited_at, too_deep, enter, leave, is_at, is_word, is_over}
+use Rattle.parser_rules.specs.declared.message.Message.{Message}
+use Rattle.parser_rules.specs.State.{State, Lexeme, Part, Report, bad_report, token_limit_report, recursion_limit_report, fault_report, ignored, met, wait, bad, lexeme, read_on, second, add_all, flush, opened, closed, wrapped_from, moved, bump, noted, note, is_deep, deepened, limited_at, too_deep, enter, leave, is_at, is_word, is_over}
 use Rattle.parser_rules.specs.Nodes.{kind_of}
-use Rattle.parser_rules.specs.RuleLanguage.{Test, At, Word, Ready, Next, NextWord, HasNext, Deep, Not, Both, Either, holds, Prim, Bump, Note, TooDeep, step, Rule}
-use Rattle.parser_rules.specs.Runs.{Runs, skip, does, seq, yes, no, done, again, child, deeper, refused, call, plain, wrapped}
+use Rattle.parser_rules.specs.RuleLanguage.{Test, At, Word, Ready, Next, NextWord, HasNext, Deep, Not, Both, Either, holds, Prim, Bump, Note, step, Rule}
+use Rattle.parser_rules.specs.Runs.{Runs, skip, does, seq, yes, no, done, again, child, limited, deeper, refused, call, plain, wrapped}
 use Rattle.parser_rules.proofs.runs.Frame.{on_kind, on_item, parts_forest, add_all_above, add_all_here, closed_here, wrap_added}
 
 -- All but the current token, and what is built and reported, is the same.
@@ -93,12 +94,12 @@ reading [] s s' a = (record { current = refl; rest = record { items = a.items; w
 reading (limit_at index ∷ rest) s s' a =
     let t : State = met index (record s { items = rest }) in
     let t' : State = met index (record s' { items = rest }) in
-    after_one s t (read_on rest t) s' t' (read_on rest t') (told s t s' t' (record { found = at_limit; index = index }) refl refl refl refl) (reading rest t t' (record { items = refl; waiting = a.waiting; limit = a.limit; depth = a.depth; accepts = refl }))
+    after_one s t (read_on rest t) s' t' (read_on rest t') (told s t s' t' (token_limit_report index) refl refl refl refl) (reading rest t t' (record { items = refl; waiting = a.waiting; limit = a.limit; depth = a.depth; accepts = refl }))
 reading (gives item ∷ rest) s s' a = elim item.kind as (λ found. Steps_alike s (on_item rest s item found) s' (on_item rest s' item found)) [
   | None ↦ (
       let t : State = bad item.text item.index (record s { items = rest }) in
       let t' : State = bad item.text item.index (record s' { items = rest }) in
-      after_one s t (read_on rest t) s' t' (read_on rest t') (told s t s' t' (record { found = at_text item.text; index = item.index }) refl refl refl refl)
+      after_one s t (read_on rest t) s' t' (read_on rest t') (told s t s' t' (bad_report item.text item.index) refl refl refl refl)
       (reading rest t t' (record { items = refl; waiting = ap (λ (w : List Part). w ++ record { kind = kind.ERROR; text = item.text } ∷ []) a.waiting; limit = a.limit; depth = a.depth; accepts = a.accepts })))
   | Some k ↦ elim (ignored k) as (λ found. Steps_alike s (on_kind rest s item k found) s' (on_kind rest s' item k found)) [
     | Some own ↦ (
@@ -159,13 +160,13 @@ faulting r s s' a = subst (λ (b : Bool). Steps_alike s (faulted s.accepts s r) 
     )
     at false = (a, still s s s' s' refl refl refl refl)
 
-noting : (s s' : State) → Alike s s' → Steps_alike s (note s) s' (note s')
+noting : (m : Message) (s s' : State) → Alike s s' → Steps_alike s (note m s) s' (note m s')
 unfolding note
-noting s s' a = subst (λ (o : Option Lexeme). Steps_alike s (note s) s' (noted s' o)) (sym a.current) (at s.current)
+noting m s s' a = subst (λ (o : Option Lexeme). Steps_alike s (note m s) s' (noted m s' o)) (sym a.current) (at s.current)
   where
-    at : (o : Option Lexeme) → Steps_alike s (noted s o) s' (noted s' o)
+    at : (o : Option Lexeme) → Steps_alike s (noted m s o) s' (noted m s' o)
     at None = (a, still s s s' s' refl refl refl refl)
-    at (Some x) = faulting (record { found = found_at x; index = x.index }) s s' a
+    at (Some x) = faulting (fault_report m x) s s' a
 
 limiting : (s s' : State) → Alike s s' → Steps_alike s (too_deep s) s' (too_deep s')
 unfolding too_deep
@@ -177,7 +178,7 @@ limiting s s' a = subst (λ (o : Option Lexeme). Steps_alike s (too_deep s) s' (
     at : (o : Option Lexeme) → Steps_alike s (limited_at (deepened s) o) s' (limited_at (deepened s') o)
     at None = (d, still s (deepened s) s' (deepened s') refl refl refl refl)
     at (Some x) =
-        let h = faulting (record { found = at_limit; index = x.index }) (deepened s) (deepened s') d in (
+        let h = faulting (recursion_limit_report x) (deepened s) (deepened s') d in (
           record { current = h.0.current; rest = record { items = h.0.rest.items; waiting = h.0.rest.waiting; limit = h.0.rest.limit; depth = h.0.rest.depth; accepts = refl } },
           record { more = h.1.more; above = h.1.above; here = h.1.here; above' = h.1.above'; here' = h.1.here'; reports = h.1.reports; errors = h.1.errors; errors' = h.1.errors' },
         )
@@ -185,8 +186,7 @@ limiting s s' a = subst (λ (o : Option Lexeme). Steps_alike s (too_deep s) s' (
 stepping : (p : Prim) (s s' : State) → Alike s s' → Steps_alike s (step p s) s' (step p s')
 unfolding step
 stepping (Bump own) s s' a = bumping own s s' a
-stepping (Note m) s s' a = noting s s' a
-stepping TooDeep s s' a = limiting s s' a
+stepping (Note m) s s' a = noting m s s' a
 
 -- ---- nodes and levels
 
@@ -310,6 +310,7 @@ anew {s = s} {t = w} (deeper {t = t} {u = u} {v = v} q e k h l) s' a =
     let c = subst (λ (z : State). Steps_alike s z s' (leave i.0)) (sym k) (leaving s s' u i.0 (i.2, subst (λ (z : State). Same_steps z u o i.0) e i.3)) in
     let j = anew l (leave i.0) c.0 in
     (j.0, deeper (q ∙ sym (deep-same s s' a)) refl refl i.1 j.1, j.2, then_on s v w s' (leave i.0) j.0 c.1 j.3)
+anew {s = s} (limited q e) s' a = let i = subst (λ (z : State). Steps_alike s z s' (too_deep s')) (sym e) (limiting s s' a) in (too_deep s', limited (q ∙ sym (deep-same s s' a)) refl, i.0, i.1)
 anew {s = s} (refused q e) s' a = let i = subst (λ (z : State). Steps_alike s z s' (too_deep s')) (sym e) (limiting s s' a) in (too_deep s', refused (q ∙ sym (deep-same s s' a)) refl, i.0, i.1)
 anew (call h) s' a = let i = anew h s' a in (i.0, call i.1, i.2, i.3)
 anew {s = s} {t = u} (plain {t = t} e h n) s' a =

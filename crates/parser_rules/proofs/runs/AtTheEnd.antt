@@ -2,7 +2,7 @@
 use Rattle.std.proofs.Common.{◌≡◌, Option, Some, None, List, [], ◌∷◌, ◌++◌, refl, sym, subst, true, false}
 use Rattle.lexical_grammar.specs.Answers.{Answer, gives, limit_at, is_end, IsLast, AreAnswers}
 use Rattle.document_grammar.specs.Builds.{start, add_leaf, built_count}
-use Rattle.parser_rules.specs.State.{State, Lexeme, ignored, bad, met, wait, found_at, at_limit, read_on, flush, closed, wrapped_from, enter, leave, deepened}
+use Rattle.parser_rules.specs.State.{State, Lexeme, ignored, bad, met, wait, fault_report, recursion_limit_report, read_on, flush, closed, wrapped_from, enter, leave, deepened}
 use Rattle.parser_rules.specs.RuleLanguage.{Rule}
 use Rattle.parser_rules.specs.Runs.{Runs}
 use Rattle.parser_rules.proofs.runs.Steps.{Holds_along, along}
@@ -41,8 +41,8 @@ kept_along = record {
   next = λ s t u h k e. k (h e);
   flushes = λ s. same_reading s (flush s) refl refl;
   moves = λ leaf x s e w h. read_ends s.items (record s { tree = add_leaf leaf x.text s.tree }) refl h.answers;
-  reports = λ x s c a. same_reading s (record s { errors = s.errors ++ record { found = found_at x; index = x.index } ∷ [] }) refl refl;
-  limits = λ x s c a. same_reading s (record s { errors = s.errors ++ record { found = at_limit; index = x.index } ∷ []; accepts = false }) refl refl;
+  reports = λ m x s c a. same_reading s (record s { errors = s.errors ++ fault_report m x ∷ [] }) refl refl;
+  limits = λ x s c a d. same_reading s (record s { errors = s.errors ++ recursion_limit_report x ∷ []; accepts = false }) refl refl;
   asks = λ s. same_reading s (deepened s) refl refl;
   nodes = λ k s u h e. same_reading u (closed u) refl refl (h (same_reading s (record s { tree = start k s.tree }) refl refl e));
   levels = λ s u q h e. same_reading u (leave u) refl refl (h (same_reading s (enter s) refl refl e));

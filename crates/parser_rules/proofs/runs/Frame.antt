@@ -10,7 +10,7 @@ use Rattle.document_grammar.specs.Forests.{none, Forest, count, join}
 use Rattle.document_grammar.specs.Forests as built
 use Rattle.document_grammar.proofs.Joins.{join-none, join_assoc}
 use Rattle.document_grammar.proofs.Built.{front-join, back-join}
-use Rattle.parser_rules.specs.State.{State, Lexeme, Part, ignored, bad, met, wait, lexeme, read_on, add_all, flush, opened, closed, wrapped_from, found_at, at_limit, is_at, is_deep, enter, leave, deepened, too_deep, fresh, begun}
+use Rattle.parser_rules.specs.State.{State, Lexeme, Part, ignored, bad, met, wait, lexeme, read_on, add_all, flush, opened, closed, wrapped_from, fault_report, recursion_limit_report, is_at, is_deep, enter, leave, deepened, too_deep, fresh, begun}
 use Rattle.parser_rules.specs.Open.{is_free, is_free_in, IsOpen, IsMark, IsInside, IsRoot}
 use Rattle.parser_rules.specs.RuleLanguage.{Test, At, holds, Rule, Skip, While}
 use Rattle.parser_rules.specs.Runs.{Runs, done, again, refused, Turns, begin, turn}
@@ -171,8 +171,8 @@ keeps_along = record {
   next = next;
   flushes = flushes;
   moves = λ leaf x s e w. moves leaf x s e;
-  reports = λ x s c a. calm s (record s { errors = s.errors ++ record { found = found_at x; index = x.index } ∷ [] }) refl (omega arith) refl refl refl refl;
-  limits = λ x s c a. calm s (record s { errors = s.errors ++ record { found = at_limit; index = x.index } ∷ []; accepts = false }) refl (omega arith) refl refl refl refl;
+  reports = λ m x s c a. calm s (record s { errors = s.errors ++ fault_report m x ∷ [] }) refl (omega arith) refl refl refl refl;
+  limits = λ x s c a d. calm s (record s { errors = s.errors ++ recursion_limit_report x ∷ []; accepts = false }) refl (omega arith) refl refl refl refl;
   asks = asks;
   nodes = nodes;
   levels = levels;
@@ -249,8 +249,8 @@ adds_along = record {
   next = adds_next;
   flushes = adds_waiting;
   moves = λ leaf x s e w. adds_leaf leaf x s;
-  reports = λ x s c a. adds_none s (record s { errors = s.errors ++ record { found = found_at x; index = x.index } ∷ [] }) refl;
-  limits = λ x s c a. adds_none s (record s { errors = s.errors ++ record { found = at_limit; index = x.index } ∷ []; accepts = false }) refl;
+  reports = λ m x s c a. adds_none s (record s { errors = s.errors ++ fault_report m x ∷ [] }) refl;
+  limits = λ x s c a d. adds_none s (record s { errors = s.errors ++ recursion_limit_report x ∷ []; accepts = false }) refl;
   asks = λ s. adds_none s (deepened s) refl;
   nodes = λ k s u h. adds_node s (record s { tree = start k s.tree }) u s.tree.here k refl refl h.above;
   levels = λ s u d h. record { above = h.above; more = h.more; here = h.here };

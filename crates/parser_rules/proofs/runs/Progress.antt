@@ -97,7 +97,7 @@ Unread s t = (t.current ≡ s.current) × (left t ≡ left s)
 
 note_unread : (m : Message) (s : State) {t : State} → t ≡ step (Note m) s → Unread s t
 unfolding step left
-note_unread m s e = subst (λ w. Unread s w) (sym e) (after_note (Unread s) s (λ errors. (refl, refl)))
+note_unread m s e = subst (λ w. Unread s w) (sym e) (after_note (Unread s) m s (λ errors. (refl, refl)))
 
 pub stayed : {a : Rule} {s t : State} → Runs a s t → stays a ≡ true → Unread s t
 stayed skip e = (refl, refl)

@@ -1,23 +1,24 @@
 -- What a report changes: the errors, and at the recursion limit also the greatest depth and whether more errors are taken. So what holds
 -- whatever these are, holds after a report.
 use Rattle.std.proofs.Common.{Bool, true, false, if◌then◌else◌, List, [], ◌∷◌, ◌++◌, Option, Some, None}
-use Rattle.parser_rules.specs.State.{State, Lexeme, Report, found_at, at_limit, noted, note, deepened, limited_at, too_deep}
+use Rattle.parser_rules.specs.declared.message.Message.{Message}
+use Rattle.parser_rules.specs.State.{State, Lexeme, Report, fault_report, recursion_limit_report, noted, note, deepened, limited_at, too_deep}
 
 with_report : (P : State → Type 0) (s : State) (r : Report) (b : Bool) → ((errors : List Report) → P (record s { errors = errors }))
     → P (if b then record s { errors = s.errors ++ r ∷ [] } else s)
 with_report P s r true h = h (s.errors ++ r ∷ [])
 with_report P s r false h = h s.errors
 
-pub after_note : (P : State → Type 0) (s : State) → ((errors : List Report) → P (record s { errors = errors })) → P (note s)
+pub after_note : (P : State → Type 0) (m : Message) (s : State) → ((errors : List Report) → P (record s { errors = errors })) → P (note m s)
 unfolding note
-after_note P s h = elim s.current as (λ (o : Option Lexeme). P (noted s o)) [
+after_note P m s h = elim s.current as (λ (o : Option Lexeme). P (noted m s o)) [
   | None ↦ h s.errors
-  | Some x ↦ with_report P s (record { found = found_at x; index = x.index }) s.accepts h
+  | Some x ↦ with_report P s (fault_report m x) s.accepts h
 ]
 
 pub after_too_deep : (P : State → Type 0) (s : State) → ((errors : List Report) (accepts : Bool) → P (record (deepened s) { errors = errors; accepts = accepts })) → P (too_deep s)
 unfolding too_deep
 after_too_deep P s h = elim s.current as (λ (o : Option Lexeme). P (limited_at (deepened s) o)) [
   | None ↦ h s.errors s.accepts
-  | Some x ↦ with_report (λ (t : State). P (record t { accepts = false })) (deepened s) (record { found = at_limit; index = x.index }) s.accepts (λ errors. h errors false)
+  | Some x ↦ with_report (λ (t : State). P (record t { accepts = false })) (deepened s) (recursion_limit_report x) s.accepts (λ errors. h errors false)
 ]

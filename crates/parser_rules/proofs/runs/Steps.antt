@@ -1,12 +1,22 @@
 -- A relation between states that holds along each step holds along each run.
-use Rattle.std.proofs.Common.{◌≡◌, refl, sym, subst, true, false, if◌then◌else◌, Option, Some, None, [], ◌∷◌, ◌++◌}
+use Rattle.std.proofs.Common.{◌≡◌, refl, sym, subst, true, false, if◌then◌else◌, Option, Some, None, [], ◌∷◌, ◌++◌, ℕ, ◌+◌, ◌≤◌, min, arith}
+use Rattle.std.proofs.lemmas.Bool.{leb-true}
 use Rattle.document_grammar.specs.declared.kind.SyntaxKind.{SyntaxKind}
 use Rattle.document_grammar.specs.declared.kind.SyntaxKind.TheVariants as kind
 use Rattle.document_grammar.specs.Builds.{start, add_leaf, built_count}
-use Rattle.parser_rules.specs.State.{State, Lexeme, read_on, flush, opened, closed, wrapped_from, moved, bump, found_at, noted, note, is_deep, enter, leave, deepened, limited_at, too_deep, at_limit}
+use Rattle.parser_rules.specs.State.{State, Lexeme, read_on, flush, opened, closed, wrapped_from, moved, bump, noted, note, fault_report, recursion_limit_report, is_deep, enter, leave, deepened, limited_at, too_deep, usize_max}
+use Rattle.parser_rules.specs.declared.message.Message.{Message}
 use Rattle.parser_rules.specs.Nodes.{kind_of}
-use Rattle.parser_rules.specs.RuleLanguage.{Test, Prim, Bump, Note, TooDeep, step, Rule}
-use Rattle.parser_rules.specs.Runs.{Runs, skip, does, seq, yes, no, done, again, child, deeper, refused, call, plain, wrapped, Turns, begin, turn}
+use Rattle.parser_rules.specs.RuleLanguage.{Test, Prim, Bump, Note, step, Rule}
+use Rattle.parser_rules.specs.Runs.{Runs, skip, does, seq, yes, no, done, again, child, limited, deeper, refused, call, plain, wrapped, Turns, begin, turn}
+
+-- one level more than the limit was asked for
+abbrev pub PastLimit : State → Type 0
+PastLimit s = min (s.limit + 1) usize_max ≤ s.high
+
+pub past_limit : (s : State) → true ≡ is_deep s → PastLimit (deepened s)
+unfolding is_deep
+past_limit s q = let d = leb-true s.limit s.depth (sym q) in omega (arith, d)
 
 pub record Holds_along (R : State → State → Type 0) : Type 0 where
   pub same : (s : State) → R s s
@@ -15,9 +25,9 @@ pub record Holds_along (R : State → State → Type 0) : Type 0 where
   pub flushes : (s : State) → R s (flush s)
   -- the current token goes into the tree after what waited, and the next one is read
   pub moves : (leaf : SyntaxKind) (x : Lexeme) (s : State) → s.current ≡ Some x → s.waiting ≡ [] → R s (read_on s.items (record s { tree = add_leaf leaf x.text s.tree }))
-  -- a report of the grammar at the current token, and that of the recursion limit, after which none is taken
-  pub reports : (x : Lexeme) (s : State) → s.current ≡ Some x → s.accepts ≡ true → R s (record s { errors = s.errors ++ record { found = found_at x; index = x.index } ∷ [] })
-  pub limits : (x : Lexeme) (s : State) → s.current ≡ Some x → s.accepts ≡ true → R s (record s { errors = s.errors ++ record { found = at_limit; index = x.index } ∷ []; accepts = false })
+  -- a report of the grammar at the current token, and that of the recursion limit, after which none is taken; more than the limit was asked for
+  pub reports : (m : Message) (x : Lexeme) (s : State) → s.current ≡ Some x → s.accepts ≡ true → R s (record s { errors = s.errors ++ fault_report m x ∷ [] })
+  pub limits : (x : Lexeme) (s : State) → s.current ≡ Some x → s.accepts ≡ true → PastLimit s → R s (record s { errors = s.errors ++ recursion_limit_report x ∷ []; accepts = false })
   pub asks : (s : State) → R s (deepened s)
   pub nodes : (k : SyntaxKind) (s u : State) → R (record s { tree = start k s.tree }) u → R s (closed u)
   pub levels : (s u : State) → false ≡ is_deep s → R (enter s) u → R s (leave u)
@@ -29,29 +39,28 @@ module _ {R : State → State → Type 0} (r : Holds_along R) where
   moved_along leaf s None e = r.same s
   moved_along leaf s (Some x) e = r.next s (flush s) (moved leaf s (Some x)) (r.flushes s) (r.moves leaf x (flush s) e refl)
 
-  noted_along : (s : State) (o : Option Lexeme) → s.current ≡ o → R s (noted s o)
-  noted_along s None e = r.same s
-  noted_along s (Some x) e = (elim s.accepts as (λ b. s.accepts ≡ b → R s (if b then record s { errors = s.errors ++ record { found = found_at x; index = x.index } ∷ [] } else s)) [
-    | true ↦ λ a. r.reports x s e a
+  noted_along : (m : Message) (s : State) (o : Option Lexeme) → s.current ≡ o → R s (noted m s o)
+  noted_along m s None e = r.same s
+  noted_along m s (Some x) e = (elim s.accepts as (λ b. s.accepts ≡ b → R s (if b then record s { errors = s.errors ++ fault_report m x ∷ [] } else s)) [
+    | true ↦ λ a. r.reports m x s e a
     | false ↦ λ a. r.same s
   ]) refl
 
-  limited_along : (s : State) (o : Option Lexeme) → s.current ≡ o → R s (limited_at s o)
-  limited_along s None e = r.same s
-  limited_along s (Some x) e = (elim s.accepts as (λ b. s.accepts ≡ b → R s (record (if b then record s { errors = s.errors ++ record { found = at_limit; index = x.index } ∷ [] } else s) { accepts = false })) [
-    | true ↦ λ a. r.limits x s e a
+  limited_along : (s : State) (o : Option Lexeme) → s.current ≡ o → PastLimit s → R s (limited_at s o)
+  limited_along s None e h = r.same s
+  limited_along s (Some x) e h = (elim s.accepts as (λ b. s.accepts ≡ b → R s (record (if b then record s { errors = s.errors ++ recursion_limit_report x ∷ [] } else s) { accepts = false })) [
+    | true ↦ λ a. r.limits x s e a h
     | false ↦ λ a. subst (λ b. R s (record s { accepts = b })) a (r.same s)
   ]) refl
 
-  too_deep_along : (s : State) → R s (too_deep s)
+  too_deep_along : (s : State) → true ≡ is_deep s → R s (too_deep s)
   unfolding too_deep
-  too_deep_along s = r.next s (deepened s) (too_deep s) (r.asks s) (limited_along (deepened s) s.current refl)
+  too_deep_along s q = r.next s (deepened s) (too_deep s) (r.asks s) (limited_along (deepened s) s.current refl (past_limit s q))
 
   step_along : (a : Prim) (s : State) → R s (step a s)
   unfolding step bump note
   step_along (Bump leaf) s = moved_along leaf s s.current refl
-  step_along (Note m) s = noted_along s s.current refl
-  step_along TooDeep s = too_deep_along s
+  step_along (Note m) s = noted_along m s s.current refl
 
   node_along : (k : SyntaxKind) (s u : State) → R (opened k s) u → R s (closed u)
   unfolding opened
@@ -67,7 +76,8 @@ module _ {R : State → State → Type 0} (r : Holds_along R) where
   along {s = s} (again {t = t} {u = u} q h k) = r.next s t u (along h) (along k)
   along {s = s} (child {n = n} {t = t} {u = u} e k h) = subst (R s) (sym k) (node_along (kind_of n) s u (subst (λ w. R w u) e (along h)))
   along {s = s} (deeper {t = t} {u = u} {v = v} {w = w} q e k h i) = r.next s v w (subst (R s) (sym k) (r.levels s u q (subst (λ x. R x u) e (along h)))) (along i)
-  along {s = s} (refused q e) = subst (R s) (sym e) (too_deep_along s)
+  along {s = s} (limited q e) = subst (R s) (sym e) (too_deep_along s q)
+  along {s = s} (refused q e) = subst (R s) (sym e) (too_deep_along s q)
   along (call h) = along h
   along {s = s} {t = u} (plain {t = t} e h n) = r.next s t u (subst (R s) (sym e) (r.flushes s)) (along h)
   along {s = s} (wrapped {t = t} {u = u} {v = v} {w = w} {x = x} e p i c h y l) =

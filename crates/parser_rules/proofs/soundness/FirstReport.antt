@@ -9,7 +9,8 @@ use Rattle.grammar_machine.proofs.Depth.{nesting_all}
 use Rattle.document_grammar.specs.Derivation.{Sort}
 use Rattle.grammar_machine.proofs.SentenceTheorems.{FaultIn, start_symbol}
 use Rattle.grammar_machine.proofs.MachineTheorems.{Parse}
-use Rattle.parser_rules.specs.State.{Lexeme, Report, at_limit, found_at}
+use Rattle.parser_rules.specs.declared.message.Message.{Message}
+use Rattle.parser_rules.specs.State.{Lexeme, Report, fault_report, recursion_limit_report}
 use Rattle.parser_rules.proofs.reports.NoReport.{answers_tokens, current_tokens, report_of, Passed, Held, Now}
 use Rattle.parser_rules.proofs.lookahead.FirstSets.{unread}
 
@@ -53,7 +54,7 @@ module _ (sort : Sort) (answers : List Answer) (lim : ℕ) (w : List Token) wher
 
   -- a report, and how many tokens were taken before it
   pub data Right : Report → ℕ → Type 0 where
-    stuck_here : {t : Lexeme} {items : List Answer} {m : ℕ} → Now (Some t) items → Held answers (Some t) items → Stuck (left t items) → Behind m (left t items) → Right (record { found = found_at t; index = t.index }) m
-    unread_here : {t : Lexeme} {items : List Answer} {m : ℕ} → Now (Some t) items → Held answers (Some t) items → Unread (left t items) → Behind m (left t items) → Right (record { found = found_at t; index = t.index }) m
-    deep_here : {t : Lexeme} {items : List Answer} {m : ℕ} → Now (Some t) items → Held answers (Some t) items → TooMany (left t items) → Behind m (left t items) → Right (record { found = at_limit; index = t.index }) m
+    stuck_here : (said : Message) {t : Lexeme} {items : List Answer} {m : ℕ} → Now (Some t) items → Held answers (Some t) items → Stuck (left t items) → Behind m (left t items) → Right (fault_report said t) m
+    unread_here : (said : Message) {t : Lexeme} {items : List Answer} {m : ℕ} → Now (Some t) items → Held answers (Some t) items → Unread (left t items) → Behind m (left t items) → Right (fault_report said t) m
+    deep_here : {t : Lexeme} {items : List Answer} {m : ℕ} → Now (Some t) items → Held answers (Some t) items → TooMany (left t items) → Behind m (left t items) → Right (recursion_limit_report t) m
     no_token : {x : Answer} {items : List Answer} {m : ℕ} → Passed answers (x ∷ items) → is_token x ≡ false → Viable (answers_tokens items) → Behind m (answers_tokens items) → Right (report_of x) m

@@ -24,7 +24,8 @@ use Rattle.parser_rules.specs.Open.{IsRoot}
 use Rattle.parser_rules.specs.Nodes.{Document}
 use Rattle.parser_rules.specs.RuleLanguage.{Call}
 use Rattle.parser_rules.specs.Runs.{Runs}
-use Rattle.parser_rules.specs.State.{State, Report, begun, Lexeme, found_at, at_limit, at_text, finished, second, ignored, lexeme, add_all}
+use Rattle.parser_rules.specs.declared.message.Message.{Message}
+use Rattle.parser_rules.specs.State.{State, Report, begun, Lexeme, fault_report, recursion_limit_report, token_limit_report, bad_report, finished, second, ignored, lexeme, add_all}
 use Rattle.parser_rules.proofs.reports.NoReport.{all_tokens, answers_tokens, item_tokens, report_of, given as given_by, Now, choose, EndsWell, kind_tokens, significant, ends, ignored-tokens, ignored-end}
 use Rattle.parser_rules.proofs.reports.Endings.{ends-well}
 use Rattle.document_grammar.specs.Forests as built
@@ -269,14 +270,14 @@ pub record StartPlain (front : List Mark) : Type 0 where
 -- starts with them and that of the item nests deeper than the limit; or the item is bad text, or the first that is too many. Where
 -- two tokens count, the second was answered.
 pub data Reason (items : List Item) (r k : ℕ) (before : List Item) (item : Item) (more : List Item) : Report → Type 0 where
-  fault : (t : Lexeme) → item_of t ≡ item → (Answered k before more t → StartSentence (map word (words_of before) ++ take 2 (marks (words_of (item ∷ more)))) → ⊥)
-      → Reason items r k before item more (record { found = found_at t; index = t.index })
-  unread : (t : Lexeme) → item_of t ≡ item → (Answered k before more t → StartPlain (map word (words_of before) ++ take 2 (marks (words_of (item ∷ more)))) → ⊥)
-      → Reason items r k before item more (record { found = found_at t; index = t.index })
+  fault : (said : Message) (t : Lexeme) → item_of t ≡ item → (Answered k before more t → StartSentence (map word (words_of before) ++ take 2 (marks (words_of (item ∷ more)))) → ⊥)
+      → Reason items r k before item more (fault_report said t)
+  unread : (said : Message) (t : Lexeme) → item_of t ≡ item → (Answered k before more t → StartPlain (map word (words_of before) ++ take 2 (marks (words_of (item ∷ more)))) → ⊥)
+      → Reason items r k before item more (fault_report said t)
   too_deep : (t : Lexeme) → item_of t ≡ item → (StartSentenceWithin r (map word (words_of before) ++ take 1 (marks (words_of (item ∷ more)))) → ⊥)
-      → Reason items r k before item more (record { found = at_limit; index = t.index })
-  bad_text : item.kind ≡ None → Reason items r k before item more (record { found = at_text item.text; index = item.index })
-  too_many : Reason items r k before item more (record { found = at_limit; index = limit_index item })
+      → Reason items r k before item more (recursion_limit_report t)
+  bad_text : item.kind ≡ None → Reason items r k before item more (bad_report item.text item.index)
+  too_many : Reason items r k before item more (token_limit_report (limit_index item))
 
 -- The first report is right: the text before begins a sentence, and there is a reason at the item.
 pub record IsRight (source : List ℕ) (items : List Item) (r k : ℕ) (e : Report) : Type 0 where
@@ -339,18 +340,18 @@ module _ (r k : ℕ) (source : List ℕ) (items : List Item) (s : State) (cut : 
       (record { before = b.before; item = b.item; more = b.more; split = b.split; tokens = b.tokens; begins = begins-text source b.before b.item b.more begins.0 begins.1 u d b.tokens spells begins.3; reason = reason b }, c ∙ ap length b.words)
 
   other-reason : (front : List Answer) (x : Answer) (ys : List Answer) → is_token x ≡ false → (b : Before k items front x ys) → Reason items r k b.before b.item b.more (report_of x)
-  other-reason front (limit_at n) ys h b = subst (λ (m : ℕ). Reason items r k b.before b.item b.more (record { found = at_limit; index = m })) (sym (b.limit_is n refl)) too_many
+  other-reason front (limit_at n) ys h b = subst (λ (m : ℕ). Reason items r k b.before b.item b.more (token_limit_report m)) (sym (b.limit_is n refl)) too_many
   other-reason front (gives item) ys h b =
       let same : item ≡ b.item = b.item_is item refl in
-      subst (λ (i : Item). Reason items r k b.before b.item b.more (record { found = at_text i.text; index = i.index })) (sym same) (bad_text (subst (λ (i : Item). i.kind ≡ None) same (no-kind item h)))
+      subst (λ (i : Item). Reason items r k b.before b.item b.more (bad_report i.text i.index)) (sym same) (bad_text (subst (λ (i : Item). i.kind ≡ None) same (no-kind item h)))
 
   told : IsUtf8 source → (e : Report) (m : ℕ) → Why r xs e m → Told_right e m
   unfolding xs
-  told u e m (w_fault front ys t c0 now p h b n) = at-place u front (given_by t) ys (record { found = found_at t; index = t.index }) m c0 p h b
-      (λ q. fault t (q.item_is (item_of t) refl) (λ c z. n (subst (λ (l : List Mark). Starts document l) (one-at (answers_tokens front) (words_of q.before) _ _ q.words (q.two_are t refl now c)) (sentence-starts _ z))))
-  told u e m (w_unread front ys t c0 now p h b n) = at-place u front (given_by t) ys (record { found = found_at t; index = t.index }) m c0 p h b
-      (λ q. unread t (q.item_is (item_of t) refl) (λ c z. n (subst (λ (l : List Mark). StartsPlain l) (one-at (answers_tokens front) (words_of q.before) _ _ q.words (q.two_are t refl now c)) (plain-starts _ z))))
-  told u e m (w_too_deep front ys t c0 now p h b n) = at-place u front (given_by t) ys (record { found = at_limit; index = t.index }) m c0 p h b
+  told u e m (w_fault said front ys t c0 now p h b n) = at-place u front (given_by t) ys (fault_report said t) m c0 p h b
+      (λ q. fault said t (q.item_is (item_of t) refl) (λ c z. n (subst (λ (l : List Mark). Starts document l) (one-at (answers_tokens front) (words_of q.before) _ _ q.words (q.two_are t refl now c)) (sentence-starts _ z))))
+  told u e m (w_unread said front ys t c0 now p h b n) = at-place u front (given_by t) ys (fault_report said t) m c0 p h b
+      (λ q. unread said t (q.item_is (item_of t) refl) (λ c z. n (subst (λ (l : List Mark). StartsPlain l) (one-at (answers_tokens front) (words_of q.before) _ _ q.words (q.two_are t refl now c)) (plain-starts _ z))))
+  told u e m (w_too_deep front ys t c0 now p h b n) = at-place u front (given_by t) ys (recursion_limit_report t) m c0 p h b
       (λ q. too_deep t (q.item_is (item_of t) refl) (λ z. n (subst (λ (l : List Mark). StartsWithin document r l) (one-at (answers_tokens front) (words_of q.before) _ _ q.words (q.next_is t refl now)) (sentence-starts-within r _ z))))
   told u e m (other front ys x c0 p h b n) = at-place u front x ys (report_of x) m c0 p h b (other-reason front x ys n)
 

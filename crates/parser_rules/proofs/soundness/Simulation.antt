@@ -30,11 +30,12 @@ use Rattle.document_grammar.specs.Derivation.{Sort}
 use Rattle.grammar_machine.proofs.SentenceTheorems.{start_symbol}
 use Rattle.std.proofs.lemmas.List.{append_cancel_right, length-append}
 use Rattle.grammar_machine.proofs.Steps.{goes, closes, sticks, goes-move, closes-move, sticks-move, misses-fires}
-use Rattle.parser_rules.specs.State.{State, Lexeme, Report, at_limit, found_at, noted, note, second, flush, opened, closed, wrapped_from, moved, bump, is_deep, enter, leave, deepened, limited_at, too_deep, add_all, read_on}
+use Rattle.parser_rules.specs.declared.message.Message.{Message}
+use Rattle.parser_rules.specs.State.{State, Lexeme, Report, fault_report, recursion_limit_report, noted, note, second, flush, opened, closed, wrapped_from, moved, bump, is_deep, enter, leave, deepened, limited_at, too_deep, add_all, read_on}
 use Rattle.parser_rules.specs.Nodes.{Node, symbol, kind_of}
-use Rattle.parser_rules.specs.RuleLanguage.{Test, At, holds, Prim, Bump, Note, TooDeep, step, Rule, Do, While}
+use Rattle.parser_rules.specs.RuleLanguage.{Test, At, holds, Prim, Bump, Note, step, Rule, Do, While}
 use Rattle.parser_rules.specs.Rules.{inside, body}
-use Rattle.parser_rules.specs.Runs.{Runs, skip, does, seq, yes, no, done, again, child, deeper, refused, call, plain, wrapped}
+use Rattle.parser_rules.specs.Runs.{Runs, skip, does, seq, yes, no, done, again, child, limited, deeper, refused, call, plain, wrapped}
 use Rattle.parser_rules.proofs.runs.Steps.{Holds_along, along}
 use Rattle.parser_rules.proofs.runs.Frame.{Untouched, read_untouched, Adds, adds}
 use Rattle.parser_rules.proofs.soundness.WithoutIgnored.{Stack, stack, put, stack-leaf, stack-finish, stack-flush}
@@ -93,8 +94,8 @@ grows-along = record {
   next = grows-on;
   flushes = λ s. same-errors s (flush s) refl (λ m z. settled-parts m s.waiting s.tree z);
   moves = λ k x s e w. moved-grows k x s;
-  reports = λ x s c a. record { more = record { found = found_at x; index = x.index } ∷ []; errors = refl; stays = λ m z. z };
-  limits = λ x s c a. record { more = record { found = at_limit; index = x.index } ∷ []; errors = refl; stays = λ m z. z };
+  reports = λ m x s c a. record { more = fault_report m x ∷ []; errors = refl; stays = λ m z. z };
+  limits = λ x s c a d. record { more = recursion_limit_report x ∷ []; errors = refl; stays = λ m z. z };
   asks = λ s. same-errors s (deepened s) refl (λ m z. z);
   nodes = λ k s u g. record { more = g.more; errors = g.errors; stays = λ m z. settled-finish m u.tree (g.stays m (settled-start m k s.tree z)) };
   levels = λ s u d g. record { more = g.more; errors = g.errors; stays = g.stays };
@@ -233,17 +234,17 @@ module _ (sort : Sort) (answers : List Answer) (base : List Report) (Follows : T
   abbrev Blamed : List Token → Type 0
   Blamed r = Stuck sort answers lim w r ⊎ Unread sort answers lim w r
 
-  note-told : (st : State) → Still_calm st → Blamed (rest st) → Taken (rest st) st.tree → Tells (note st)
+  note-told : (m : Message) (st : State) → Still_calm st → Blamed (rest st) → Taken (rest st) st.tree → Tells (note m st)
   unfolding note
-  note-told st c b k = at st.current c.now c.held b k.behind
+  note-told m st c b k = at st.current c.now c.held b k.behind
     where
-      right : (t : Lexeme) → Now (Some t) st.items → Held answers (Some t) st.items → Blamed (left sort answers lim w t st.items) → Behind sort answers lim w k.count (left sort answers lim w t st.items) → Rightly (record { found = found_at t; index = t.index }) k.count
-      right t n h (inl a) e = stuck_here n h a e
-      right t n h (inr a) e = unread_here n h a e
+      right : (t : Lexeme) → Now (Some t) st.items → Held answers (Some t) st.items → Blamed (left sort answers lim w t st.items) → Behind sort answers lim w k.count (left sort answers lim w t st.items) → Rightly (fault_report m t) k.count
+      right t n h (inl a) e = stuck_here m n h a e
+      right t n h (inr a) e = unread_here m n h a e
 
-      at : (o : Option Lexeme) → Now o st.items → Held answers o st.items → Blamed (current_tokens o ++ answers_tokens st.items) → Behind sort answers lim w k.count (current_tokens o ++ answers_tokens st.items) → Tells (noted st o)
+      at : (o : Option Lexeme) → Now o st.items → Held answers o st.items → Blamed (current_tokens o ++ answers_tokens st.items) → Behind sort answers lim w k.count (current_tokens o ++ answers_tokens st.items) → Tells (noted m st o)
       at None n h b e = absurd n
-      at (Some t) n h b e = fault-told k.count (record { found = found_at t; index = t.index }) st c.quiet (right t n h b e) k.settled
+      at (Some t) n h b e = fault-told k.count (fault_report m t) st c.quiet (right t n h b e) k.settled
 
   deep-told : (st : State) → Still_calm st → TooMany sort answers lim w (rest st) → Taken (rest st) st.tree → Tells (too_deep st)
   unfolding too_deep
@@ -253,7 +254,7 @@ module _ (sort : Sort) (answers : List Answer) (base : List Report) (Follows : T
       at None n h b e = absurd n
       at (Some t) n h b e =
           let d : State = deepened st in
-          let h = fault-told k.count (record { found = at_limit; index = t.index }) d (record { clean = c.quiet.clean; accepts = c.quiet.accepts; waits = c.quiet.waits }) (deep_here n h b e) k.settled in
+          let h = fault-told k.count (recursion_limit_report t) d (record { clean = c.quiet.clean; accepts = c.quiet.accepts; waits = c.quiet.waits }) (deep_here n h b e) k.settled in
           record { report = h.report; more = h.more; reported = h.reported; taken = h.taken; right = h.right; settled = h.settled }
 
   -- ---- what is taken
@@ -1195,8 +1196,7 @@ module _ (sort : Sort) (answers : List Answer) (base : List Report) (Follows : T
   do-out : (a : Prim) (n s : ℕ) (p : Spot) (x y : ℕ) (fs : List Frame) (k : Then) (st : State) → ok n s p x y (Do a) k ≡ true → Fits s p x y fs st → Out s fs k (step a st)
   unfolding ok step
   do-out (Bump kind) n s p x y fs k st h g = bump-out s p x y kind fs k st h g
-  do-out (Note m) n s p x y fs k st h g = inl (note-told st g.calm (note-right s p x y fs st h g) (taken-at s p fs st g.stands))
-  do-out TooDeep n s p x y fs k st h g = inl (deep-told st g.calm (too-many s p x y fs st h g) (taken-at s p fs st g.stands))
+  do-out (Note m) n s p x y fs k st h g = inl (note-told m st g.calm (note-right s p x y fs st h g) (taken-at s p fs st g.stands))
 
   bang-step : (v w' : State) → Runs (Do (Bump kind.BANG)) v w' → w' ≡ bump kind.BANG v
   unfolding step
@@ -1306,6 +1306,7 @@ module _ (sort : Sort) (answers : List Answer) (base : List Report) (Follows : T
         | inl o ↦ inl (tell-on u z (grows-on u v z (leave-grows u v j) (run-grows h2)) o)
         | inr o ↦ after-level n s fs k b u v z j (λ p' x' y' g' f'. link h2 n s p' x' y' fs k (good n s p' x' y' b k g') f') o
       ]
+  link {st = st} (limited d e) n s p x y fs k h g = subst (λ (z : State). Out s fs k z) (sym e) (inl (deep-told st g.calm (too-many s p x y fs st h g) (taken-at s p fs st g.stands)))
   link {st = st} (refused d e) n s p x y fs k h g = subst (λ (z : State). Out s fs k z) (sym e) (inl (deep-told st g.calm (too-many s (fill p) x y fs st (and-l _ _ h) (filled s p x y fs st d g)) (taken-at s p fs st g.stands)))
   link (call h1) zero s p x y fs k h g = false-true refl h
   link (call {p = q} h1) (suc n) s p x y fs k h g = link h1 n s p x y fs k (good n s p x y (body q) k h) g

@@ -36,7 +36,8 @@ use Rattle.grammar_machine.proofs.Sound.{any, AllSpelt}
 use Rattle.grammar_machine.proofs.Starts.{read, next_one, next_two, after-one, after-two}
 use Rattle.grammar_machine.proofs.Steps.{closes-move}
 use Rattle.grammar_machine.proofs.MachineTheorems.{Parse, done, document-begins}
-use Rattle.parser_rules.specs.State.{State, Lexeme, Report, at_limit, found_at, add_all, second as second_of, fresh, begun, finished, read_on, met, bad, wait, ignored, flush, closed, enter, leave, wrapped_from, is_over}
+use Rattle.parser_rules.specs.declared.message.Message.{Message}
+use Rattle.parser_rules.specs.State.{State, Lexeme, Report, fault_report, recursion_limit_report, add_all, second as second_of, fresh, begun, finished, read_on, met, bad, wait, ignored, flush, closed, enter, leave, wrapped_from, is_over}
 use Rattle.parser_rules.specs.Nodes.{Definition, Document}
 use Rattle.parser_rules.specs.RuleLanguage.{Rule, Call, While, Ready, holds}
 use Rattle.parser_rules.specs.Runs.{Runs, Turns}
@@ -359,14 +360,14 @@ not-plain r xs w rest k =
 -- Where the first report is, and why; and how many tokens are before it.
 pub data Why (r : ℕ) (xs : List Answer) : Report → ℕ → Type 0 where
   -- no sentence starts with the tokens before, the one there and the next
-  fault : {m : ℕ} (front items : List Answer) (t : Lexeme) → m ≡ length (answers_tokens front) → Now (Some t) items → xs ≡ front ++ given_by t ∷ items → all_tokens front ≡ true → Begins_tokens (answers_tokens front)
-      → (Starts document (read (answers_tokens front) ++ next_two (left document xs r (answers_tokens xs) t items)) → ⊥) → Why r xs (record { found = found_at t; index = t.index }) m
+  fault : (said : Message) {m : ℕ} (front items : List Answer) (t : Lexeme) → m ≡ length (answers_tokens front) → Now (Some t) items → xs ≡ front ++ given_by t ∷ items → all_tokens front ≡ true → Begins_tokens (answers_tokens front)
+      → (Starts document (read (answers_tokens front) ++ next_two (left document xs r (answers_tokens xs) t items)) → ⊥) → Why r xs (fault_report said t) m
   -- no rule reads what is there: no sentence without such parts starts with the tokens before, the one there and the next
-  unread : {m : ℕ} (front items : List Answer) (t : Lexeme) → m ≡ length (answers_tokens front) → Now (Some t) items → xs ≡ front ++ given_by t ∷ items → all_tokens front ≡ true → Begins_tokens (answers_tokens front)
-      → (StartsPlain (read (answers_tokens front) ++ next_two (left document xs r (answers_tokens xs) t items)) → ⊥) → Why r xs (record { found = found_at t; index = t.index }) m
+  unread : (said : Message) {m : ℕ} (front items : List Answer) (t : Lexeme) → m ≡ length (answers_tokens front) → Now (Some t) items → xs ≡ front ++ given_by t ∷ items → all_tokens front ≡ true → Begins_tokens (answers_tokens front)
+      → (StartsPlain (read (answers_tokens front) ++ next_two (left document xs r (answers_tokens xs) t items)) → ⊥) → Why r xs (fault_report said t) m
   -- each sentence that starts so nests deeper than the limit
   too_deep : {m : ℕ} (front items : List Answer) (t : Lexeme) → m ≡ length (answers_tokens front) → Now (Some t) items → xs ≡ front ++ given_by t ∷ items → all_tokens front ≡ true → Begins_tokens (answers_tokens front)
-      → (StartsWithin document r (read (answers_tokens front) ++ next_one (left document xs r (answers_tokens xs) t items)) → ⊥) → Why r xs (record { found = at_limit; index = t.index }) m
+      → (StartsWithin document r (read (answers_tokens front) ++ next_one (left document xs r (answers_tokens xs) t items)) → ⊥) → Why r xs (recursion_limit_report t) m
   -- the answer is no token: bad text, or the token limit
   other : {m : ℕ} (front items : List Answer) (x : Answer) → m ≡ length (answers_tokens front) → xs ≡ front ++ x ∷ items → all_tokens front ≡ true → Begins_tokens (answers_tokens front) → is_token x ≡ false → Why r xs (report_of x) m
 
@@ -377,15 +378,15 @@ front-taken xs front ys m e h = taken m (length (answers_tokens front)) (length 
     taken m a c n h g = omega arith
 
 pub why : (r : ℕ) (xs : List Answer) (e : Report) (m : ℕ) → Right document xs r (answers_tokens xs) e m → Why r xs e m
-why r xs e m (stuck_here {t = t} {items = items} now p k c) =
+why r xs e m (stuck_here said {t = t} {items = items} now p k c) =
     let ys : List Answer = given_by t ∷ items in
     let b = words-before xs p.front ys k.0.before p.split k.0.split in
-    fault p.front items t (front-taken xs p.front ys m p.split c) now p.split p.tokens (viable-begins r xs p.front ys p.split k.1) (λ h. not-starts document (answers_tokens xs) (answers_tokens ys) k.0 (subst (λ (u : List Token). Starts document (read u ++ next_two (answers_tokens ys))) (sym b) h))
-why r xs e m (unread_here {t = t} {items = items} now p k c) =
+    fault said p.front items t (front-taken xs p.front ys m p.split c) now p.split p.tokens (viable-begins r xs p.front ys p.split k.1) (λ h. not-starts document (answers_tokens xs) (answers_tokens ys) k.0 (subst (λ (u : List Token). Starts document (read u ++ next_two (answers_tokens ys))) (sym b) h))
+why r xs e m (unread_here said {t = t} {items = items} now p k c) =
     let ys : List Answer = given_by t ∷ items in
     let n = not-plain r xs (answers_tokens xs) (answers_tokens ys) k in
     let b = words-before xs p.front ys n.0 p.split n.1 in
-    unread p.front items t (front-taken xs p.front ys m p.split c) now p.split p.tokens (viable-begins r xs p.front ys p.split (frame k.symbol k.state k.children ∷ k.above, k.reached))
+    unread said p.front items t (front-taken xs p.front ys m p.split c) now p.split p.tokens (viable-begins r xs p.front ys p.split (frame k.symbol k.state k.children ∷ k.above, k.reached))
     (λ h. n.2 (subst (λ (u : List Token). StartsPlain (read u ++ next_two (answers_tokens ys))) (sym b) h))
 why r xs e m (deep_here {t = t} {items = items} now p k c) =
     let ys : List Answer = given_by t ∷ items in
@@ -506,8 +507,8 @@ stands-along = record {
   next = λ s t u h k e. k (h e);
   flushes = λ s h. h;
   moves = λ leaf x s e w h. stood-moves x s (record s { tree = add_leaf leaf x.text s.tree }) refl (subst (λ (o : Option Lexeme). Stood o s.items) e h);
-  reports = λ x s c a h. h;
-  limits = λ x s c a h. h;
+  reports = λ m x s c a h. h;
+  limits = λ x s c a d h. h;
   asks = λ s h. h;
   nodes = λ k s u h e. h e;
   levels = λ s u q h e. h e;
@@ -541,8 +542,8 @@ lt-le n a c h e i = omega arith
 -- over a sentence within the limits the first report is at most one of what no rule reads
 pub only-unread : (r : ℕ) (xs : List Answer) (e : Report) (m : ℕ) (t : Tree) → Spells (answers_tokens xs) t document → nest t ≤ r → all_tokens xs ≡ true → Right document xs r (answers_tokens xs) e m
     → (u : List Token) × Unread document xs r (answers_tokens xs) u
-only-unread r xs e m t h n a (stuck_here {t = lexeme} {items = items} now p k c) = absurd (accepts document (answers_tokens xs) (answers_tokens (given_by lexeme ∷ items)) t h k.0)
-only-unread r xs e m t h n a (unread_here {t = lexeme} {items = items} now p k c) = (answers_tokens (given_by lexeme ∷ items), k)
+only-unread r xs e m t h n a (stuck_here said {t = lexeme} {items = items} now p k c) = absurd (accepts document (answers_tokens xs) (answers_tokens (given_by lexeme ∷ items)) t h k.0)
+only-unread r xs e m t h n a (unread_here said {t = lexeme} {items = items} now p k c) = (answers_tokens (given_by lexeme ∷ items), k)
 only-unread r xs e m t h n a (deep_here {t = lexeme} {items = items} now p k c) =
     let q = sentence-parse document (answers_tokens xs) t h in
     let d = k.deeper q.0 (answers_tokens (given_by lexeme ∷ items)) (subst (λ (z : List Token). Parse DOCUMENT q.0 z) k.split q.1) refl in

@@ -15,7 +15,7 @@ use Rattle.grammar_machine.proofs.Patterns.{label}
 use Rattle.grammar_machine.proofs.Sound.{any}
 use Rattle.grammar_machine.proofs.Depth.{count_in}
 use Rattle.parser_rules.specs.Nodes.{Node, Argument, VariableDefinition, DefaultValue, ListValue, ObjectField, symbol, kind_of}
-use Rattle.parser_rules.specs.RuleLanguage.{Prim, Bump, Note, TooDeep, Test, At, Rule, Skip, Do, Seq, When, While, Child, Nested, Call, Typed}
+use Rattle.parser_rules.specs.RuleLanguage.{Prim, Bump, Note, Test, At, Rule, Skip, Do, Seq, When, While, Child, TooDeep, Nested, Call, Typed}
 use Rattle.parser_rules.specs.Rules.{inside, body}
 use Rattle.parser_rules.proofs.lookahead.TokenSets.{absent, over, ready, by_near, kind_set}
 use Rattle.parser_rules.proofs.lookahead.Split.{Level, low, high, past, Sure, loose, firm, full, Spot, spot, lost, fill, divide}
@@ -146,7 +146,7 @@ unfoldable pub post : ℕ → ℕ → Spot → ℕ → ℕ → Rule → (Spot �
 post n s p x y Skip k = k p x y
 post n s p x y (Do (Bump leaf)) k = k (shift_to s p (leaf_of s (number leaf))) y any
 post n s p x y (Do (Note m)) k = []
-post n s p x y (Do TooDeep) k = []
+post n s p x y TooDeep k = []
 post n s p x y (Seq a b) k = post n s p x y a (λ p' u v. post n s p' u v b k)
 post n s p x y (When t a b) k = divide (λ a' b'. a' ++ b') [] t p x y (λ p' u v. post n s p' u v a k) (λ p' u v. post n s p' u v b k)
 post n s p x y (While t a) k = k p x y
@@ -248,7 +248,7 @@ unfoldable pub ok : ℕ → ℕ → Spot → ℕ → ℕ → Rule → Then → B
 ok n s p x y Skip k = k p x y
 ok n s p x y (Do (Bump leaf)) k = takes s p x y (number leaf) (leaf_of s (number leaf)) (λ p'. k p' y any)
 ok n s p x y (Do (Note m)) k = reports s p x y
-ok n s p x y (Do TooDeep) k = limits_at s p x
+ok n s p x y TooDeep k = limits_at s p x
 ok n s p x y (Seq a b) k = ok n s p x y a (λ p' u v. ok n s p' u v b k)
 ok n s p x y (When t a b) k = divide (λ a' b'. a' and b') true t p x y (λ p' u v. ok n s p' u v a k) (λ p' u v. ok n s p' u v b k)
 ok n s p x y (While t a) k =

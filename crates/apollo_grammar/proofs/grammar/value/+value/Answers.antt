@@ -3,9 +3,9 @@ use Rattle.lexical_grammar.specs.declared.TokenKind.TheVariants as token
 use Rattle.document_grammar.specs.declared.kind.SyntaxKind.TheVariants as kind
 use Rattle.std.proofs.lemmas.Result.{on_ok_weaker}
 use Rattle.parser_rules.specs.Nodes.{NestedValue, ListItems}
-use Rattle.parser_rules.specs.RuleLanguage.{step}
 use Rattle.parser_rules.specs.Rules.{body}
-use Rattle.parser_rules.specs.Runs.{does, seq, yes, no, call, deeper, skip}
+use Rattle.parser_rules.specs.Runs.{seq, yes, no, call, deeper, limited, skip}
+use Rattle.apollo_grammar.proofs.Looks.{deep_there}
 use Rattle.parser_rules.proofs.runs.Frame.{fewer, turned, ended}
 use Rattle.parser_rules.proofs.runs.Progress.{consuming, at_there, taken, opened_takes, entered_left, item_taken}
 use Rattle.apollo_grammar.proofs.grammar.value.+value.Goals as goal
@@ -52,6 +52,6 @@ unfolding body
 nested_value-returns g t c = call {p = NestedValue _} (deeper c.if-is_too_deep.ensures c.enter.ensures c.leave.ensures c.in_ok-value.ensures skip)
 
 pub list_items-returns-then-is_ready : goal.list_items-returns-then-is_ready
-unfolding body step
+unfolding body
 list_items-returns-then-is_ready g t c =
-    on_ok_weaker c.too_deep.result (λ e. call {p = ListItems _} (seq (ended c.loop-p.invariant c.loop-p-test.ensures) (no c.if-at.ensures (yes c.if-is_ready.ensures (does e))))) c.too_deep.ensures
+    on_ok_weaker c.too_deep.result (λ e. call {p = ListItems _} (seq (ended c.loop-p.invariant c.loop-p-test.ensures) (no c.if-at.ensures (yes c.if-is_ready.ensures (limited (deep_there _ c.loop-p-test.ensures c.if-at.ensures c.if-is_ready.ensures) e))))) c.too_deep.ensures

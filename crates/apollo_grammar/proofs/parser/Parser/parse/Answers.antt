@@ -1,5 +1,5 @@
 use Rattle.std.proofs.lemmas.Result.{IfOk-weaker}
-use Rattle.apollo_grammar.proofs.Parses.{lossless, one_document, one_leaf, recursion, nested, tokens, errors, ordered, sound_tree}
+use Rattle.apollo_grammar.proofs.Parses.{lossless, one_document, one_leaf, recursion, nested, tokens, errors, ascii_messages, limit_met, ordered, sound_tree}
 use Rattle.apollo_grammar.proofs.parser.Parser.parse.Goals as goal
 
 pub returns-clause-cut : goal.returns-clause-cut
@@ -25,6 +25,12 @@ returns-clause-tokens g c = IfOk-weaker c.run_document.result _ _ (λ t p. token
 
 pub returns-clause-errors : goal.returns-clause-errors
 returns-clause-errors g c = IfOk-weaker c.run_document.result _ _ (λ t p. errors p) c.run_document.ensures
+
+pub returns-clause-ascii : goal.returns-clause-ascii
+returns-clause-ascii g c = IfOk-weaker c.run_document.result _ _ (λ t p. ascii_messages p) c.run_document.ensures
+
+pub returns-clause-limit_met : goal.returns-clause-limit_met
+returns-clause-limit_met g c = IfOk-weaker c.run_document.result _ _ (λ t p. limit_met p) c.run_document.ensures
 
 pub returns-clause-in_order : goal.returns-clause-in_order
 returns-clause-in_order g c = IfOk-weaker c.run_document.result _ _ (λ t p. ordered p) c.run_document.ensures
