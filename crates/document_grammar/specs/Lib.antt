@@ -1,10 +1,12 @@
 pub mod Tree
 pub mod Kinds
+pub mod Choices
 pub mod Pattern
 pub mod Rows
 pub mod Derivation
 pub mod Places
 pub mod Sentence
+pub mod Numbering
 pub mod Numbers
 pub mod Forests
 pub mod Builds

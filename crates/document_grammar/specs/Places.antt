@@ -2,7 +2,7 @@
 -- is this project's own rule.
 use Rattle.std.specs.Prelude.{◌≢◌, Bool, false, cond, List, [], ◌++◌, IsTrue}
 use Rattle.document_grammar.specs.Tree.{Token, Tree, leaf, node, Forest, none, ◌▸◌}
-use Rattle.document_grammar.specs.Kinds.{is_ignored}
+use Rattle.document_grammar.specs.Choices.{is_ignored}
 use Rattle.document_grammar.specs.Derivation.{Yield, Yields}
 
 -- A leaf of an ignored token.

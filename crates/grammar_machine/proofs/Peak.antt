@@ -6,7 +6,8 @@ use Rattle.grammar_machine.specs.Labels.{labels}
 use Rattle.document_grammar.specs.Pattern.{member}
 use Rattle.document_grammar.specs.Booleans.{◌and◌}
 use Rattle.grammar_machine.specs.Machine.{is_leaf, Frame, frame}
-use Rattle.document_grammar.specs.Kinds.{DOCUMENT, SELECTION_SET, LIST_TYPE, LIST_VALUE, OBJECT_FIELD, Values}
+use Rattle.document_grammar.specs.Kinds.{DOCUMENT, SELECTION_SET, LIST_TYPE, LIST_VALUE, OBJECT_FIELD}
+use Rattle.document_grammar.specs.Choices.{Values}
 use Rattle.document_grammar.proofs.Booleans.{and-l, and-r, not-c, cond-zero}
 use Rattle.grammar_machine.proofs.TableLemmas.{below-at}
 use Rattle.grammar_machine.proofs.Sound.{leaf-lt}

@@ -6,7 +6,8 @@ use Rattle.lexical_grammar.specs.Cut.{Item}
 use Rattle.lexical_grammar.specs.Answers.{Answer, gives, limit_at, is_end, AreAnswers, answers_text, IsItemText}
 use Rattle.document_grammar.specs.declared.kind.SyntaxKind.{SyntaxKind}
 use Rattle.document_grammar.specs.declared.kind.SyntaxKind.TheVariants as kind
-use Rattle.document_grammar.specs.Kinds.{IDENT, is_keyword, DOCUMENT}
+use Rattle.document_grammar.specs.Kinds.{IDENT, DOCUMENT}
+use Rattle.document_grammar.specs.Choices.{is_keyword}
 use Rattle.grammar_machine.specs.Labels.{labels}
 use Rattle.document_grammar.specs.Numbers.{number}
 use Rattle.document_grammar.specs.Forests.{Forest, none, leaf, node, text, join}

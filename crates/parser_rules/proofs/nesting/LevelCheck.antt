@@ -1,6 +1,7 @@
 -- The levels of nesting that a rule enters, walked along the rule: the computed check of one rule.
 use Rattle.std.proofs.Common.{ℕ, zero, suc, ◌+◌, Bool, true, false, not, eqb, leb, [], ◌∷◌}
-use Rattle.document_grammar.specs.Kinds.{SELECTION_SET, LIST_TYPE, LIST_VALUE, OBJECT_FIELD, Values}
+use Rattle.document_grammar.specs.Kinds.{SELECTION_SET, LIST_TYPE, LIST_VALUE, OBJECT_FIELD}
+use Rattle.document_grammar.specs.Choices.{Values}
 use Rattle.document_grammar.specs.Numbers.{number}
 use Rattle.document_grammar.specs.Pattern.{member}
 use Rattle.document_grammar.specs.Derivation.{counts}

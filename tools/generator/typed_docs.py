@@ -1,4 +1,4 @@
-"""The words of the documentation that tools/typed.py writes: what each node is, its production, and what its parts are called."""
+"""The words of the documentation of the typed nodes: what each node is, its production, and what its parts are called."""
 
 # For each kind of node: what it is, the section of the standard, and the forms of its production. Terminals are in backquotes.
 # A production whose forms hold characters, and not tokens, is written with `::`, as in the standard.

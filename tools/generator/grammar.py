@@ -1,0 +1,70 @@
+"""What the generator reads: the list of kinds, the choices of kinds, the rows, and two lists of the rules on derivations.
+
+Kinds are given by their names. Their numbers are their places in the list.
+"""
+
+import re
+
+from .layout import CRATES
+from .patterns import Reader, definitions
+
+FOLDER = CRATES / "document_grammar"
+SOURCES = "crates/document_grammar"
+
+
+class Grammar:
+    """`kinds` in the order of their numbers, `number` of each, `lists` by their names, and `rows`, the pattern of each kind of node."""
+
+    def __init__(self):
+        self.kinds = read_kinds()
+        self.number = {kind: number for number, kind in enumerate(self.kinds)}
+        self.lists = {}
+        self.add_lists("Choices")
+        self.patterns = definitions((FOLDER / "specs/Rows.antt").read_text())
+        self.rows = Reader(self.patterns["children"][1], self.lists, self.patterns).rows()
+        self.add_lists("Derivation")
+        self.check()
+
+    def add_lists(self, name):
+        """Adds the lists of kinds that a file of definitions has."""
+        for listed, (_, body) in definitions((FOLDER / f"specs/{name}.antt").read_text()).items():
+            words = re.findall(r"\w+", body)
+            if words and body.rstrip().endswith("[]") and all(word in self.number for word in words):
+                self.lists[listed] = words
+
+    def check(self):
+        """The rows are those of the kinds of nodes, which come last, in order."""
+        if self.kinds[self.number["DOCUMENT"] :] != list(self.rows):
+            raise SystemExit("Rows.antt: the rows are not those of the kinds from DOCUMENT on, in the order of kind.rt")
+
+    def pattern(self, name):
+        """A pattern of Rows.antt by its name."""
+        return Reader(self.patterns[name][1], self.lists, self.patterns).pattern()
+
+    @property
+    def leaves(self):
+        return self.kinds[: self.number["DOCUMENT"]]
+
+    @property
+    def nodes(self):
+        return list(self.rows)
+
+    @property
+    def keywords(self):
+        """The kinds of keywords: the leaves after STRING."""
+        return self.leaves[self.number["STRING"] + 1 :]
+
+    def is_leaf(self, kind):
+        return self.number[kind] < self.number["DOCUMENT"]
+
+
+def read_kinds():
+    """The variants of the enum, in order."""
+    text = (FOLDER / "src/kind.rt").read_text()
+    body = re.search(r"pub enum SyntaxKind \{\n(.*?)\n\}", text, re.S).group(1)
+    return re.findall(r"^    (\w+),$", body, re.M)
+
+
+def word(keyword):
+    """The word of a keyword's kind."""
+    return keyword.removesuffix("_KW")

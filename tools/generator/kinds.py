@@ -1,0 +1,106 @@
+"""The lists of kinds of the crate document_grammar, one entry for each kind."""
+
+from .grammar import FOLDER, word
+from .layout import long_list, mark, use
+
+SOURCE = "the enum of src/kind.rt"
+VARIANTS = "document_grammar.specs.declared.kind.SyntaxKind"
+
+
+def lookup(grammar):
+    """src/kind/lookup.rt: the kind of a number."""
+    arms = "".join(f"            {number} => SyntaxKind::{kind},\n" for number, kind in enumerate(grammar.kinds))
+    return (
+        mark("//", SOURCE)
+        + f"""
+ghost use Rattle.std.specs.Prelude.{{◌≡◌, ℕ, ◌<◌, ◌≤◌, ◌↔◌, ◌⊎◌, IsTrue, MatchOption}};
+ghost use Rattle.document_grammar.specs.Numbers.{{number}};
+
+use crate::kind::SyntaxKind;
+
+impl SyntaxKind {{
+    /// The kind with the number `of`, or None from {len(grammar.kinds)} on.
+    pub fn from_u16(of: u16) -> Option<SyntaxKind>
+        ensures {{ MatchOption result ({len(grammar.kinds)} ≤ of) (λ k. number k ≡ of) }}
+    {{
+        let kind = match of {{
+{arms}            _ => return None,
+        }};
+        Some(kind)
+    }}
+}}
+"""
+    )
+
+
+def names(grammar):
+    """specs/Kinds.antt: the numbers under the kinds' names, and the words of keywords."""
+    constants = "".join(f"abbrev pub {kind} : ℕ\n{kind} = {number}\n\n" for number, kind in enumerate(grammar.kinds))
+    words = long_list(f'({keyword}, codes "{word(keyword)}")' for keyword in grammar.keywords)
+    return (
+        mark("--", SOURCE)
+        + """-- The numbers of the syntax kinds under their names, and the words of keyword leaves (GraphQL October 2021, sections 2 and 3). Leaves
+-- come first: those of ignored tokens, ERROR, those of the other tokens, those of keywords; nodes begin with DOCUMENT. The numbers are
+-- this project's own.
+use Rattle.std.specs.Prelude.{ℕ, List, [], ◌∷◌, codes}
+use Rattle.document_grammar.specs.Tree.{Text}
+
+"""
+        + constants
+        + f"""-- The word of each keyword leaf. Each is a Name for the lexical grammar.
+unfoldable pub words : List (ℕ × Text)
+words =
+{words}"""
+    )
+
+
+def numbering(grammar):
+    """specs/Numbering.antt: the number of each kind."""
+    clauses = "".join(f"number {kind} = {number}\n" for number, kind in enumerate(grammar.kinds))
+    return (
+        mark("--", SOURCE)
+        + """-- The number of each syntax kind; `Kinds` has the same numbers under the kinds' names.
+use Rattle.std.specs.Prelude.{ℕ}
+"""
+        + use(VARIANTS, ["SyntaxKind"])
+        + use(f"{VARIANTS}.TheVariants", grammar.kinds)
+        + f"""
+abbrev pub number : SyntaxKind → ℕ
+{clauses}"""
+    )
+
+
+def lists(grammar):
+    """proofs/generated/KindLists.antt: all kinds, and their numbers under their names."""
+    kinds, leaves, nodes = (
+        long_list(items) for items in ([f"kind.{kind}" for kind in grammar.kinds], grammar.leaves, grammar.nodes)
+    )
+    return (
+        mark("--", SOURCE)
+        + """-- All kinds, and the numbers of those of leaves and of nodes, each in the order of the numbers.
+use Rattle.std.specs.Prelude.{ℕ, List, [], ◌∷◌}
+"""
+        + use(VARIANTS, ["SyntaxKind"])
+        + f"use Rattle.{VARIANTS}.TheVariants as kind\n"
+        + use("document_grammar.specs.Kinds", grammar.kinds)
+        + f"""
+unfoldable pub all_kinds : List SyntaxKind
+all_kinds =
+{kinds}
+abbrev pub leaf_kinds : List ℕ
+leaf_kinds =
+{leaves}
+abbrev pub node_kinds : List ℕ
+node_kinds =
+{nodes}"""
+    )
+
+
+def outputs(grammar):
+    """The text of each file, by its path."""
+    return {
+        FOLDER / "src/kind/lookup.rt": lookup(grammar),
+        FOLDER / "specs/Kinds.antt": names(grammar),
+        FOLDER / "specs/Numbering.antt": numbering(grammar),
+        FOLDER / "proofs/generated/KindLists.antt": lists(grammar),
+    }

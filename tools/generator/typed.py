@@ -1,0 +1,293 @@
+"""The text of the typed nodes: a struct for each kind of node, with its casts and accessors; and the types of leaves.
+
+The names of structs and accessors are those of accessors.py, and the words of their documentation those of typed_docs.py.
+"""
+
+import re
+import textwrap
+
+from . import typed_docs
+from .accessors import CRATES, ENUMS, LEAVES, accessors, check_places, home, type_case
+from .layout import CRATES as FOLDER
+from .layout import long_list, mark, use
+
+SOURCE = "the rows of the grammar"
+VARIANTS = "Rattle.document_grammar.specs.declared.kind.SyntaxKind.TheVariants"
+
+
+def struct_text(kind, row):
+    """The struct of a kind, with its impls."""
+    name = type_case(kind)
+    return f"""
+{typed_docs.struct_doc(kind)}#[derive(Clone, Copy)]
+pub struct {name}<'t> {{
+    syntax: SyntaxNode<'t>,
+    ghost of_kind: {{ is_kind {kind} (node_kind syntax) ≡ true }},
+}}
+{cast_text("Node", name, kind)}}}
+
+impl<'t> {name}<'t> {{
+{accessors_text(kind, row)}}}
+"""
+
+
+def cast_text(of, name, kind, ghost="node", variable="n"):
+    """The impl of the casts of a struct of a node or a leaf, without its closing brace."""
+    return f"""
+impl<'t> Cst{of}<'t> for {name}<'t> {{
+    ghost casts = {{ is_kind {kind} }};
+
+    ghost {ghost} = {{ λ {variable}. {variable}.syntax }};
+
+    fn can_cast(kind: SyntaxKind) -> bool
+        ensures {{ result ≡ is_kind {kind} kind }}
+    {{
+        kind.is(SyntaxKind::{kind})
+    }}
+
+    fn cast(syntax: Syntax{of}<'t>) -> Option<Self> {{
+        if Self::can_cast(syntax.kind()) {{
+            Some({name} {{ syntax }})
+        }} else {{
+            None
+        }}
+    }}
+
+    fn syntax(&self) -> &Syntax{of}<'t> {{
+        &self.syntax
+    }}
+"""
+
+
+def accessors_text(kind, row):
+    """The accessors of a struct, and before them what their clauses cite."""
+    chosen = sorted({accessor.target for accessor in row if accessor.target in ENUMS and not accessor.gives_all})
+    cited = "".join(f"    ghost use Rattle.{home(enum)[0]}.specs.{enum}.{{{enum.lower()}_node}};\n" for enum in chosen)
+    return "\n".join(([cited] if cited else []) + [accessor_text(kind, accessor) for accessor in row])
+
+
+def accessor_text(kind, accessor):
+    doc = f"    /// {typed_docs.accessor_doc(kind, accessor)}\n"
+    target, wanted = accessor.target, accessor.kinds[0]
+    if target is None:
+        clause = f"GivesLeaf {wanted} self.now.syntax result"
+        return doc + method(accessor.name, "Option<SyntaxToken<'t>>", clause, f"token(&self.syntax, SyntaxKind::{wanted})")
+    if target in ENUMS:
+        casts, node = f"(one_of {ENUMS[target][0]})", f"{target.lower()}_node"
+    else:
+        casts, node = f"(is_kind {wanted})", "(λ n. n.syntax)"
+    if accessor.gives_all:
+        clause = f"GivesAll {casts} self.now.syntax (rest_cast {casts} result)"
+        return doc + method(accessor.name, f"CstChildren<'t, {target}<'t>>", clause, "children(&self.syntax)")
+    clause = f"GivesFirst {casts} {node} self.now.syntax result"
+    return doc + method(accessor.name, f"Option<{target}<'t>>", clause, "child(&self.syntax)")
+
+
+def method(name, answer, clause, body):
+    return f"""{signature(name, answer)}
+        ensures {{ {clause} }}
+    {{
+        {body}
+    }}
+"""
+
+
+def signature(name, answer):
+    line = f"    pub fn {name}(&self) -> {answer}"
+    return line if len(line) <= 100 else f"    pub fn {name}(\n        &self,\n    ) -> {answer}"
+
+
+def leaf_text(kind):
+    """The struct of a kind of leaf."""
+    name = type_case(kind) + "Token"
+    return f"""
+/// {typed_docs.LEAVES[kind]}.
+#[derive(Clone, Copy)]
+pub struct {name}<'t> {{
+    syntax: SyntaxToken<'t>,
+}}
+{cast_text("Token", name, kind, "leaf", "t")}
+    fn text(&self) -> &'t str {{
+        self.syntax.text()
+    }}
+}}
+"""
+
+
+def leaves_text():
+    """The module of the types of leaves."""
+    return (
+        mark("//", SOURCE)
+        + f"""
+ghost use Rattle.std.specs.Prelude.{{◌≡◌}};
+ghost use {VARIANTS}.{{{', '.join(LEAVES)}}};
+ghost use Rattle.document_grammar.specs.Numbers.{{is_kind}};
+
+use crate::typed::CstToken;
+use apollo_tree::{{SyntaxKind, SyntaxToken}};
+"""
+        + "".join(map(leaf_text, LEAVES))
+    )
+
+
+def enum_text(enum, kinds, crate):
+    """An enum of nodes, with its casts."""
+    name, listed = enum.lower(), ENUMS[enum][0]
+    types = [type_case(kind) for kind in kinds]
+    variants = "".join(f"    {variant}({variant}<'t>),\n" for variant in types)
+    nodes = "".join(f"            {enum}::{variant}(node) => node.syntax(),\n" for variant in types)
+    return f"""
+{typed_docs.enum_doc(enum)}#[derive(Clone, Copy)]
+pub enum {enum}<'t> {{
+{variants}}}
+
+impl<'t> CstNode<'t> for {enum}<'t> {{
+    ghost use Rattle.{crate}.specs.{enum}.{{{name}_node}};
+
+    ghost casts = {{ one_of {listed} }};
+
+    ghost node = {{ {name}_node }};
+
+    fn can_cast(kind: SyntaxKind) -> bool
+        ensures {{ result ≡ one_of {listed} kind }}
+    {{
+        {any_cast(types)}
+    }}
+
+    fn cast(syntax: SyntaxNode<'t>) -> Option<Self> {{
+{tried_casts(enum, types)}        None
+    }}
+
+    fn syntax(&self) -> &SyntaxNode<'t> {{
+        match self {{
+{nodes}        }}
+    }}
+}}
+"""
+
+
+def any_cast(types):
+    """Whether one of the structs has the kind."""
+    tests = [f"{name}::can_cast(kind)" for name in types]
+    flat = " || ".join(tests)
+    return flat if len(flat) <= 92 else "\n            || ".join(tests)
+
+
+def tried_casts(enum, types):
+    """Each struct's cast in turn."""
+    return "".join(
+        f"""        if let Some(node) = {name}::cast(syntax) {{
+            return Some({enum}::{name}(node));
+        }}
+"""
+        for name in types
+    )
+
+
+def enum_spec(enum, kinds):
+    """The file of definitions that has the node of an enum's value."""
+    name = enum.lower()
+    crate, module = home(enum)
+    variants = ", ".join(map(type_case, kinds))
+    clauses = "".join(f"{name}_node ({type_case(kind)} n) = n.syntax\n" for kind in kinds)
+    return f"""{mark("--", SOURCE)}-- The node of a value of `{enum}`.
+use Rattle.apollo_tree.specs.declared.node.SyntaxNode.{{SyntaxNode}}
+use Rattle.{crate}.specs.declared.{module}.{enum}.{{{enum}}}
+use Rattle.{crate}.specs.declared.{module}.{enum}.TheVariants.{{{variants}}}
+
+abbrev pub {name}_node : {enum} → SyntaxNode
+{clauses}"""
+
+
+def use_line(path, names):
+    """A `use` line in the layout of `rt fmt`, which breaks lines after 100 columns."""
+    if len(names) == 1:
+        return f"use {path}::{names[0]};\n"
+    line = f"use {path}::{{{', '.join(names)}}};\n"
+    if len(line) <= 101:
+        return line
+    rows = textwrap.wrap(", ".join(names) + ",", 96)
+    return f"use {path}::{{\n" + "".join(f"    {row}\n" for row in rows) + "};\n"
+
+
+def module_text(crate, module, grammar):
+    """A module of structs, and of enums after them."""
+    kinds, enums = CRATES[crate][module]
+    body = "".join(struct_text(kind, accessors(grammar, grammar.rows[kind])) for kind in kinds)
+    body += "".join(enum_text(enum, grammar.lists[ENUMS[enum][0]], crate) for enum in enums)
+    here = {*map(type_case, kinds), *enums}
+    return mark("//", SOURCE) + "\n" + ghost_uses(body, grammar) + "\n" + rust_uses(body, crate, here, grammar) + body
+
+
+def ghost_uses(body, grammar):
+    """What the clauses of a module cite."""
+    clauses = " ".join(re.findall(r"(?:ensures|ghost \w+[:=]? ?=?) \{(.*)\}", body))
+    cited = lambda names: [name for name in names if re.search(rf"\b{name}\b", clauses)]
+    lines = [
+        ("Rattle.std.specs.Prelude", ["◌≡◌", "true"]),
+        (VARIANTS, cited(grammar.kinds)),
+        ("Rattle.document_grammar.specs.Choices", [listed for listed, _, _ in ENUMS.values() if f"one_of {listed}" in body]),
+        ("Rattle.document_grammar.specs.Numbers", ["is_kind"]),
+        ("Rattle.apollo_cst_core.specs.Cast", cited(["GivesAll", "GivesFirst", "GivesLeaf", "node_kind", "one_of"])),
+        ("Rattle.apollo_cst_core.specs.Children", cited(["rest_cast"])),
+    ]
+    return "".join(f"ghost use {path}.{{{', '.join(names)}}};\n" for path, names in lines if names)
+
+
+def rust_uses(body, crate, here, grammar):
+    """What the code of a module calls: of this crate, of the crate of casts, of other crates, and of the tree's."""
+    names = set(re.findall(r"\b[A-Z]\w*", body))
+    core = [name for name in ["CstChildren", "CstNode"] if name in names]
+    core += [name for name in ["child", "children", "token"] if re.search(rf"\b{name}\(&self", body)]
+    tree = [name for name in ["SyntaxKind", "SyntaxNode", "SyntaxToken"] if name in names]
+    imports = {}
+    for target in sorted((names & {*map(type_case, grammar.nodes), *ENUMS}) - here):
+        other, module = home(target)
+        imports.setdefault(f"crate::{module}" if other == crate else other, []).append(target)
+    lines = [use_line(path, targets) for path, targets in sorted(imports.items()) if path.startswith("crate")]
+    lines.append(f"use apollo_cst_core::{{{', '.join(core)}}};\n")
+    lines += [use_line(path, targets) for path, targets in sorted(imports.items()) if not path.startswith("crate")]
+    return "".join(lines) + f"use apollo_tree::{{{', '.join(tree)}}};\n"
+
+
+def accessors_spec(grammar):
+    """The accessors of all rows, as the list that the law on reading back goes through."""
+    listed = {tuple(grammar.lists[name]): name for name, _, _ in ENUMS.values()}
+    used, items = set(), []
+    for kind, pattern in grammar.rows.items():
+        used.add(kind)
+        for accessor in accessors(grammar, pattern):
+            name = listed.get(tuple(accessor.kinds), accessor.kinds[0])
+            used.add(name)
+            one = name if accessor.target is None or name in listed.values() else f"({name} ∷ [])"
+            items.append(f"{'leaf' if accessor.target is None else 'nodes'} {kind} {one} {accessor.number}")
+    return f"""{mark("--", SOURCE)}-- The accessors of all kinds of nodes, in the order of the rows. A choice that is no enum has an accessor for each of its kinds.
+use Rattle.std.specs.Prelude.{{List, [], ◌∷◌}}
+{use("document_grammar.specs.Kinds", [kind for kind in grammar.kinds if kind in used])}{use("document_grammar.specs.Choices", sorted(set(listed.values()) & used))}use Rattle.apollo_cst_core.specs.ReadingBack.{{Accessor, nodes, leaf, exactly_one, at_most_one, at_least_one, any_number}}
+
+unfoldable pub accessors : List Accessor
+accessors =
+{long_list(items)}"""
+
+
+def outputs(grammar):
+    """The text of each file, by its path."""
+    check_places(grammar)
+    core = FOLDER / "apollo_cst_core"
+    files = {core / "src/tokens.rt": leaves_text(), core / "specs/Accessors.antt": accessors_spec(grammar)}
+    for crate, modules in CRATES.items():
+        for module, (_, enums) in modules.items():
+            files[FOLDER / crate / "src" / f"{module}.rt"] = module_text(crate, module, grammar)
+            for enum in enums:
+                files[FOLDER / crate / "specs" / f"{enum}.antt"] = enum_spec(enum, grammar.lists[ENUMS[enum][0]])
+    return files
+
+
+def print_accessors(grammar):
+    """Each kind of node with its accessors."""
+    total = 0
+    for kind, pattern in grammar.rows.items():
+        row = accessors(grammar, pattern)
+        total += len(row)
+        print(grammar.number[kind], type_case(kind) + ":", ", ".join(f"{accessor.name} ({accessor.number})" for accessor in row))
+    print(total, "accessors")
