@@ -14,7 +14,8 @@ use Rattle.lexical_grammar.proofs.Sound.{sound}
 use Rattle.lexical_grammar.proofs.Cuts.{goes_on_by_words}
 use Rattle.lexical_grammar.proofs.Texts.{words_follow_text}
 use Rattle.document_grammar.specs.Tree.{Token, Tree, leaf}
-use Rattle.grammar_machine.specs.Table.{firsts, spellings}
+use Rattle.grammar_machine.specs.Table.{firsts}
+use Rattle.grammar_machine.proofs.generated.Samples.{spellings}
 use Rattle.document_grammar.specs.Derivation.{document, Spells}
 use Rattle.document_grammar.specs.Booleans.{◌and◌, ◌or◌}
 use Rattle.grammar_machine.specs.Machine.{holds, is_leaf, entries, fires, class, token, Ok, Frame, Reached}

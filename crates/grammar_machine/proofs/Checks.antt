@@ -1,6 +1,7 @@
 -- The tables' tests, each answered by computing.
 use Rattle.std.proofs.Common.{◌≡◌, ℕ, zero, suc, ◌+◌, ◌-◌, Bool, true, false, cond, not, eqb, List, [], ◌∷◌, get_or, bit_and, bit_or, refl}
-use Rattle.grammar_machine.specs.Table.{State, state, Entry, entry, rows, firsts, follows}
+use Rattle.grammar_machine.specs.Table.{State, state, Entry, entry, rows, firsts}
+use Rattle.grammar_machine.proofs.generated.Follows.{follows}
 use Rattle.document_grammar.specs.Booleans.{◌and◌, ◌or◌}
 use Rattle.grammar_machine.specs.Machine.{holds, is_leaf, at, ends, exit, arcs, entries, dead, state_arcs, state_ends, state_exit}
 use Rattle.document_grammar.specs.Kinds.{DOCUMENT}

@@ -7,7 +7,7 @@ use Rattle.document_grammar.specs.Kinds.{LIST_VALUE, OBJECT_FIELD, DOCUMENT, NAM
 use Rattle.grammar_machine.specs.Machine.{Frame, frame, Ok, OkFrom, target, finish}
 use Rattle.document_grammar.specs.Derivation.{nest, below, belows, counts}
 use Rattle.grammar_machine.proofs.Run.{Left, Upper}
-use Rattle.grammar_machine.specs.Labels.{labels}
+use Rattle.grammar_machine.proofs.generated.Labels.{labels}
 use Rattle.grammar_machine.proofs.Patterns.{label}
 use Rattle.grammar_machine.proofs.FromMachineTree.{show, shows, type_of, show-root, type-child, type-arc}
 use Rattle.grammar_machine.specs.Symbols.{TYPE}

@@ -1,7 +1,9 @@
 -- Each state of a row that can be reached has a list of trees that ends it: they are exhibited, and checked by computing.
 use Rattle.std.proofs.Common.{◌≡◌, ℕ, zero, suc, ◌+◌, ◌-◌, ◌^◌, Bool, true, cond, not, eqb, List, [], ◌∷◌, get_or, refl}
 use Rattle.document_grammar.specs.Tree.{Text, Tree, leaf, node, Forest, none, ◌▸◌, root}
-use Rattle.grammar_machine.specs.Table.{State, rows, firsts, name_leaves, name_classes, endings, spellings}
+use Rattle.grammar_machine.specs.Table.{State, rows, firsts, name_leaves}
+use Rattle.grammar_machine.proofs.generated.Follows.{name_classes}
+use Rattle.grammar_machine.proofs.generated.Samples.{endings, spellings}
 use Rattle.document_grammar.specs.Booleans.{◌and◌, ◌or◌}
 use Rattle.grammar_machine.specs.Machine.{holds, is_leaf, at, ends, exit, arcs, has, target, entries, fires, class, token, state_arcs, finish, text_eq}
 use Rattle.grammar_machine.proofs.Checks.{subset, exits, all_arcs, all_entries, all_rows, all_below}

@@ -3,7 +3,7 @@ use Rattle.std.proofs.Common.{◌≡◌, ℕ, zero, suc, ◌+◌, ◌-◌, Bool,
 use Rattle.document_grammar.specs.Tree.{Tree, leaf, node, Forest, none, ◌▸◌, root}
 use Rattle.document_grammar.specs.Pattern.{Pattern, any_of, nothing, ◌then◌, ◌or_else◌, many, member, Matches}
 use Rattle.grammar_machine.specs.Table.{State, rows}
-use Rattle.grammar_machine.specs.Labels.{labels}
+use Rattle.grammar_machine.proofs.generated.Labels.{labels}
 use Rattle.document_grammar.specs.Booleans.{◌and◌, ◌or◌}
 use Rattle.grammar_machine.specs.Machine.{is_leaf, at, ends, arcs, has, has_in, target, target_in, dead, state_arcs, state_ends, finish, Ok, OkFrom}
 use Rattle.document_grammar.specs.Derivation.{kinds}

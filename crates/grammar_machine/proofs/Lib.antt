@@ -1,3 +1,4 @@
+pub mod generated
 pub mod Checks
 pub mod TableLemmas
 pub mod Run

@@ -2,7 +2,9 @@
 use Rattle.std.proofs.Common.{◌≡◌, ℕ, Bool, true, false, not, List, [], ◌∷◌, ◌++◌, refl, sym, ◌∙◌, subst, append-nil}
 use Rattle.std.proofs.lemmas.List.{append_cancel_right}
 use Rattle.document_grammar.specs.Tree.{Token, Tree, leaf, node, Forest, root}
-use Rattle.grammar_machine.specs.Table.{rows, firsts, follows, endings, spellings}
+use Rattle.grammar_machine.specs.Table.{rows, firsts}
+use Rattle.grammar_machine.proofs.generated.Follows.{follows}
+use Rattle.grammar_machine.proofs.generated.Samples.{endings, spellings}
 use Rattle.document_grammar.specs.Booleans.{◌and◌, ◌or◌}
 use Rattle.grammar_machine.specs.Machine.{holds, is_leaf, at, ends, exit, arcs, has, target, entries, fires, close, stuck, class, first, second, token, yield, yields, Ok, Run, Frame, frame, Reach}
 use Rattle.grammar_machine.proofs.Checks.{exits, follow}

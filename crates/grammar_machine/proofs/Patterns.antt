@@ -3,7 +3,7 @@ use Rattle.std.proofs.Common.{◌≡◌, ℕ, suc, ◌+◌, ◌-◌, Bool, true,
 use Rattle.document_grammar.specs.Pattern.{Pattern, any_of, nothing, ◌then◌, ◌or_else◌, many, one, maybe, member, Repeats, stop, again, Matches}
 use Rattle.document_grammar.specs.Rows.{Row, keyword_operation, bare_selections}
 use Rattle.grammar_machine.specs.Table.{State, rows}
-use Rattle.grammar_machine.specs.Labels.{paths, labels}
+use Rattle.grammar_machine.proofs.generated.Labels.{paths, labels}
 use Rattle.document_grammar.specs.Booleans.{◌and◌, ◌or◌}
 use Rattle.grammar_machine.specs.Machine.{is_leaf, at, ends, exit, arcs}
 use Rattle.grammar_machine.proofs.Checks.{all_arcs, exits}

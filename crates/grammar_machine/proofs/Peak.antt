@@ -2,7 +2,7 @@
 -- to the depth at each node that it opens holds it.
 use Rattle.std.proofs.Common.{◌≡◌, ℕ, ◌+◌, max, Bool, true, not, List, [], ◌∷◌, refl, sym, ap, ◌∙◌, arith}
 use Rattle.document_grammar.specs.Tree.{Text, Tree, leaf, node, Forest, none, ◌▸◌, ◌+++◌, root}
-use Rattle.grammar_machine.specs.Labels.{labels}
+use Rattle.grammar_machine.proofs.generated.Labels.{labels}
 use Rattle.document_grammar.specs.Pattern.{member}
 use Rattle.document_grammar.specs.Booleans.{◌and◌}
 use Rattle.grammar_machine.specs.Machine.{is_leaf, Frame, frame}

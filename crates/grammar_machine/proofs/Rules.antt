@@ -5,7 +5,7 @@ use Rattle.document_grammar.specs.Tree.{Text, Tree, leaf, node, Forest, none, �
 use Rattle.document_grammar.specs.Pattern.{Pattern, any_of, one, Matches}
 use Rattle.document_grammar.specs.Rows.{Row, keyword_operation, bare_selections}
 use Rattle.grammar_machine.specs.Table.{rows, firsts, name_leaves}
-use Rattle.grammar_machine.specs.Labels.{paths, labels}
+use Rattle.grammar_machine.proofs.generated.Labels.{paths, labels}
 use Rattle.document_grammar.specs.Booleans.{◌and◌, ◌or◌}
 use Rattle.grammar_machine.specs.Machine.{holds, is_leaf, at, arcs, has, entries, fires, class, word_class, text_eq, token, Ok, OkFrom}
 use Rattle.document_grammar.specs.Derivation.{kinds, text, texts, Listed, LeafRule, NameRule, on_text, true_text, false_text, null_text}

@@ -6,8 +6,9 @@ use Rattle.lexical_grammar.specs.Reads.{items_from}
 use Rattle.document_grammar.specs.Tree.{Token, leaf, node, none, ◌▸◌}
 use Rattle.document_grammar.specs.Kinds.{L_PAREN, R_PAREN, L_CURLY, R_CURLY, IDENT, STRING, query_KW, fragment_KW, on_KW, extend_KW, type_KW, words, DOCUMENT, OPERATION_DEFINITION, SELECTION_SET, FIELD, NAME, UNION_TYPE_DEFINITION, union_KW, NON_NULL_TYPE, LIST_TYPE, NAMED_TYPE, L_BRACK, R_BRACK, BANG}
 use Rattle.document_grammar.specs.Pattern.{member}
-use Rattle.grammar_machine.specs.Table.{rows, firsts, spellings}
-use Rattle.grammar_machine.specs.Labels.{labels}
+use Rattle.grammar_machine.specs.Table.{rows, firsts}
+use Rattle.grammar_machine.proofs.generated.Samples.{spellings}
+use Rattle.grammar_machine.proofs.generated.Labels.{labels}
 use Rattle.document_grammar.specs.Derivation.{document, selections, type, Starts, word, end}
 use Rattle.document_grammar.specs.Booleans.{◌and◌, ◌or◌}
 use Rattle.grammar_machine.specs.Machine.{holds, is_leaf, at, ends, exit, arcs, has, target, entries, fires, move, class, first, second}

@@ -4,7 +4,8 @@ use Rattle.std.proofs.lemmas.Bool.{eqb-false}
 use Rattle.std.specs.Int.{bit_at}
 use Rattle.std.proofs.lemmas.Nat.Bits.{bit_at-pow_other}
 use Rattle.document_grammar.specs.Tree.{Text, Token, Tree, leaf, node, Forest, none, ◌▸◌, ◌+++◌, root}
-use Rattle.grammar_machine.specs.Table.{Entry, entry, name_leaves, name_classes, token_kinds}
+use Rattle.grammar_machine.specs.Table.{Entry, entry, name_leaves, token_kinds}
+use Rattle.grammar_machine.proofs.generated.Follows.{name_classes}
 use Rattle.document_grammar.specs.Booleans.{◌and◌, ◌or◌}
 use Rattle.grammar_machine.specs.Machine.{holds, is_leaf, ends, exit, arcs, has, target, entries, fires, fires_in, has_in, choose, go, close, move, class, word_class, text_eq, first, second, token, yield, yields, finish, walk, Ok, OkFrom, Path, Frame, frame, Reach, start, shift, open', closed}
 use Rattle.grammar_machine.proofs.Checks.{subset, exits, all_arcs, all_entries, leaf_checked, leaf_entry}

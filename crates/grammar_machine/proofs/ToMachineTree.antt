@@ -7,8 +7,9 @@ use Rattle.document_grammar.specs.Pattern.{Pattern, any_of, one, member, Matches
 use Rattle.document_grammar.specs.Rows.{Row, row_in, children, keyword_operation, bare_selections}
 use Rattle.document_grammar.specs.Kinds.{words, DOCUMENT, OPERATION_DEFINITION, SELECTION_SET, NAME, FRAGMENT_NAME, DIRECTIVES, VARIABLE, DEFAULT_VALUE, ENUM_VALUE, NAMED_TYPE, LIST_TYPE, NON_NULL_TYPE, OBJECT_TYPE_DEFINITION, INTERFACE_TYPE_DEFINITION, ENUM_TYPE_DEFINITION, INPUT_OBJECT_TYPE_DEFINITION, OBJECT_TYPE_EXTENSION, INTERFACE_TYPE_EXTENSION, ENUM_TYPE_EXTENSION, INPUT_OBJECT_TYPE_EXTENSION, IDENT, STRING, false_KW, null_KW, on_KW, true_KW}
 use Rattle.document_grammar.specs.Choices.{Types}
-use Rattle.grammar_machine.specs.Table.{State, rows, firsts, name_leaves, token_kinds, endings, spellings}
-use Rattle.grammar_machine.specs.Labels.{paths, labels}
+use Rattle.grammar_machine.specs.Table.{State, rows, firsts, name_leaves, token_kinds}
+use Rattle.grammar_machine.proofs.generated.Samples.{endings, spellings}
+use Rattle.grammar_machine.proofs.generated.Labels.{paths, labels}
 use Rattle.document_grammar.specs.Booleans.{◌and◌, ◌or◌}
 use Rattle.grammar_machine.specs.Machine.{holds, is_leaf, at, ends, exit, arcs, has, has_in, target, target_in, entries, fires, class, word_class, text_eq, token, dead, state_arcs, state_exit, finish, walk, Ok, OkFrom}
 use Rattle.document_grammar.specs.Derivation.{kinds, text, texts, Listed, LeafRule, NameRule, on_text, true_text, false_text, null_text, NoVariable, NoVariables, Marked, ConstantDirectives, ConstantRule, Braced, NoBlock, LacksBlock, StartsWithSelections, NotBefore, BraceRule, IsQuery, Fits, AllFit, BareBy, Sort, document, selections, type, Derivation}

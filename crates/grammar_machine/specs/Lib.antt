@@ -1,4 +1,3 @@
 pub mod Symbols
 pub mod Table
-pub mod Labels
 pub mod Machine

@@ -5,7 +5,7 @@ use Rattle.document_grammar.specs.Kinds.{DOCUMENT}
 use Rattle.document_grammar.specs.Pattern.{member}
 use Rattle.document_grammar.specs.Rows.{Row}
 use Rattle.document_grammar.specs.Booleans.{◌and◌, ◌or◌}
-use Rattle.grammar_machine.specs.Labels.{labels}
+use Rattle.grammar_machine.proofs.generated.Labels.{labels}
 use Rattle.grammar_machine.specs.Table.{rows, firsts}
 use Rattle.grammar_machine.specs.Machine.{is_leaf, at, ends, exit, arcs, target, entries}
 use Rattle.grammar_machine.proofs.Checks.{exits, row_of}

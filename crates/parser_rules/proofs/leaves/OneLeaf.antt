@@ -8,7 +8,7 @@ use Rattle.document_grammar.specs.declared.kind.SyntaxKind.{SyntaxKind}
 use Rattle.document_grammar.specs.declared.kind.SyntaxKind.TheVariants as kind
 use Rattle.document_grammar.specs.Kinds.{IDENT, DOCUMENT}
 use Rattle.document_grammar.specs.Choices.{is_keyword}
-use Rattle.grammar_machine.specs.Labels.{labels}
+use Rattle.grammar_machine.proofs.generated.Labels.{labels}
 use Rattle.document_grammar.specs.Numbers.{number}
 use Rattle.document_grammar.specs.Forests.{Forest, none, leaf, node, text, join}
 use Rattle.document_grammar.specs.Builds.{Building, Open, start, add_leaf, finish, close, front, back, wrap, open_count}

@@ -13,7 +13,8 @@ use Rattle.document_grammar.specs.declared.kind.SyntaxKind.{SyntaxKind}
 use Rattle.document_grammar.specs.Kinds.{words, COMMENT, IDENT}
 use Rattle.document_grammar.specs.Numbers.{number}
 use Rattle.document_grammar.specs.Sentence.{leaf_number}
-use Rattle.grammar_machine.specs.Table.{name_classes, token_kinds}
+use Rattle.grammar_machine.specs.Table.{token_kinds}
+use Rattle.grammar_machine.proofs.generated.Follows.{name_classes}
 use Rattle.document_grammar.specs.Tree.{Token}
 use Rattle.document_grammar.specs.Booleans.{◌and◌}
 use Rattle.grammar_machine.specs.Machine.{holds as within, class, word_class}

@@ -2,7 +2,7 @@
 use Rattle.std.proofs.Common.{◌≡◌, ℕ, suc, ◌+◌, true, false, cond, eqb, List, [], ◌∷◌, refl, sym, ap, ap₂, ◌∙◌, subst, inl, inr, eqb-true, arith}
 use Rattle.document_grammar.specs.declared.kind.SyntaxKind.TheVariants as kind
 use Rattle.document_grammar.specs.Kinds.{BANG, NAMED_TYPE, LIST_TYPE, NON_NULL_TYPE}
-use Rattle.grammar_machine.specs.Labels.{labels}
+use Rattle.grammar_machine.proofs.generated.Labels.{labels}
 use Rattle.grammar_machine.specs.Symbols.{TYPE}
 use Rattle.document_grammar.specs.Numbers.{number}
 use Rattle.document_grammar.specs.Forests as built

@@ -4,7 +4,7 @@ use Rattle.lexical_grammar.specs.Answers.{Answer}
 use Rattle.document_grammar.specs.Derivation.{document}
 use Rattle.document_grammar.specs.Kinds.{DOCUMENT, DESCRIPTION}
 use Rattle.grammar_machine.specs.Symbols.{TYPE}
-use Rattle.grammar_machine.specs.Labels.{labels}
+use Rattle.grammar_machine.proofs.generated.Labels.{labels}
 use Rattle.document_grammar.specs.Pattern.{member}
 use Rattle.grammar_machine.specs.Table.{State, rows, firsts}
 use Rattle.document_grammar.specs.Tree.{Token, Tree, leaf, node, Forest, none, ◌▸◌, ◌+++◌, root}

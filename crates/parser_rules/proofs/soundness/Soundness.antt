@@ -16,7 +16,7 @@ use Rattle.document_grammar.specs.Kinds.{DOCUMENT}
 use Rattle.document_grammar.specs.Forests as built
 use Rattle.document_grammar.specs.Builds.{Building, Open, close, add_leaf}
 use Rattle.document_grammar.specs.Numbered.{tree_of}
-use Rattle.grammar_machine.specs.Labels.{labels}
+use Rattle.grammar_machine.proofs.generated.Labels.{labels}
 use Rattle.document_grammar.specs.Pattern.{member}
 use Rattle.document_grammar.specs.Tree.{Token, Tree, node, Forest, none}
 use Rattle.document_grammar.specs.Derivation.{document, Spells, nest, Starts, StartsWithin, marks, Mark}

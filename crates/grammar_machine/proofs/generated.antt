@@ -1,0 +1,3 @@
+pub mod Follows
+pub mod Samples
+pub mod Labels

@@ -1,0 +1,70 @@
+"""The row of each symbol as an automaton: its states are the patterns of what may still come, the fewest that tell rows apart."""
+
+from dataclasses import dataclass
+
+from .patterns import NEVER, derivative, nullable, symbols
+
+# What opens the block of a definition: the nodes of the blocks, and the brace of a schema's extension, whose block is no node.
+BLOCKS = ("FIELDS_DEFINITION", "ENUM_VALUES_DEFINITION", "INPUT_FIELDS_DEFINITION", "L_CURLY")
+
+
+@dataclass
+class State:
+    """Whether the row may end here, what the node then leaves behind for its parent, and the arcs: each a symbol and the state after it."""
+
+    ends: bool
+    exit: int
+    arcs: list
+
+
+def automaton(pattern):
+    """Pairs of `ends` and `arcs` for each state; the first is the one in which a row begins."""
+    alphabet = symbols(pattern)
+    patterns, arcs = [pattern], []
+    while len(arcs) < len(patterns):
+        here = []
+        for symbol in alphabet:
+            after = derivative(patterns[len(arcs)], symbol)
+            if after == NEVER:
+                continue
+            if after not in patterns:
+                patterns.append(after)
+            here.append((symbol, patterns.index(after)))
+        arcs.append(here)
+    return fewest([nullable(pattern) for pattern in patterns], arcs)
+
+
+def fewest(ends, arcs):
+    """The same automaton with states that nothing tells apart made one, in the order in which they are first reached."""
+    groups = [int(end) for end in ends]
+    while True:
+        seen = [(groups[place], [(symbol, groups[target]) for symbol, target in here]) for place, here in enumerate(arcs)]
+        finer = [seen.index(one) for one in seen]
+        if len(set(finer)) == len(set(groups)):
+            break
+        groups = finer
+    order = sorted(set(finer))
+    return [(ends[place], [(symbol, order.index(finer[target])) for symbol, target in arcs[place]]) for place in order]
+
+
+def document(states):
+    """The brace rule: after a definition that lacks its block, in a third state, no query comes that is a selection set alone."""
+    start, more = states
+    return [start, more, (True, [arc for arc in more[1] if arc[0] != "SHORT_QUERY"])]
+
+
+def rows(table):
+    """The states of each symbol that has a row."""
+    braced = table.grammar.lists["Braced"]
+    found = {}
+    for name, pattern in table.pattern.items():
+        states = automaton(pattern)
+        if name == "DOCUMENT":
+            states = document(states)
+        found[name] = [State(ends, lacks_block(name in braced, ends, arcs), arcs) for ends, arcs in states]
+    return found
+
+
+def lacks_block(braced, ends, arcs):
+    """1 where a definition that may have a block ends before it, else 0."""
+    return int(braced and ends and any(symbol in BLOCKS for symbol, _ in arcs))

@@ -1,0 +1,140 @@
+"""What each symbol begins with, what may follow it, and how each row can be brought to its end.
+
+A class is the number of a leaf: a Name that is a keyword has the class of the keyword. The end of the tokens has class 0.
+"""
+
+import heapq
+from functools import cached_property
+
+from .automata import rows
+
+# In place of the class of a second token, where the symbol has no second token.
+ALONE = None
+END = 0
+# The symbols that a parse begins with, and after which the tokens may end.
+STARTS = ("DOCUMENT", "TYPE", "BARE_SELECTIONS", "SELECTION_SET")
+# The nodes that are told apart by two tokens: an alias from a name, and a fragment's spread from an inline fragment.
+BY_TWO = ("ALIAS", "FRAGMENT_SPREAD", "INLINE_FRAGMENT")
+
+
+class Lookahead:
+    """What the table says beside the rows. Sets of classes are sets of numbers."""
+
+    def __init__(self, symbols):
+        self.symbols = symbols
+        self.number = symbols.number
+        self.rows = rows(symbols)
+        self.classes = set(range(self.number["DOCUMENT"]))
+        self.names = {self.number[name] for name in ["IDENT", *symbols.grammar.keywords]}
+        self.pairs = {leaf: {(a, ALONE) for a in self.accepted(leaf)} for leaf in symbols.leaves}
+        self.close_pairs()
+
+    def accepted(self, leaf):
+        """The classes of tokens that the leaf reads."""
+        without = {
+            "IDENT": (),
+            "IDENT_FOR_FRAGMENT": ("on_KW",),
+            "IDENT_FOR_ENUM": ("true_KW", "false_KW", "null_KW"),
+        }
+        if leaf not in without:
+            return {self.number[leaf]}
+        return self.names - {self.number[keyword] for keyword in without[leaf]}
+
+    def close_pairs(self):
+        """The classes of the first two tokens of each node, from those of its children, until nothing changes."""
+        self.pairs |= {name: set() for name in self.rows}
+        changed = True
+        while changed:
+            changed = False
+            for name, states in self.rows.items():
+                new = {pair for arc in states[0].arcs for pair in self.pairs_along(states, arc)}
+                changed |= not new <= self.pairs[name]
+                self.pairs[name] |= new
+
+    def pairs_along(self, states, arc):
+        """The pairs with which a row begins whose first child is that of the arc."""
+        symbol, target = arc
+        seconds = self.begins(states[target]) | ({ALONE} if states[target].ends else set())
+        for first, second in self.pairs[symbol]:
+            if second is ALONE:
+                yield from ((first, following) for following in seconds)
+            else:
+                yield first, second
+
+    def begins(self, state):
+        """The classes of the first token of what may come in the state."""
+        return {first for symbol, _ in state.arcs for first, _ in self.pairs[symbol]}
+
+    def entries(self, name):
+        """Triples: classes of the first token, classes of the second, and whether the first may be all. Where the first token alone tells
+        the symbol from others, the second may be of any class."""
+        seconds = {}
+        for first, second in self.pairs.get(name, ()):
+            seconds.setdefault(first, set()).add(second)
+        found = {}
+        for first in sorted(seconds):
+            second = frozenset(seconds[first])
+            if second != {ALONE} and not self.by_two(name, first):
+                second = frozenset(self.classes | {ALONE})
+            found.setdefault(second, set()).add(first)
+        return [(firsts, set(second - {ALONE}), ALONE in second) for second, firsts in found.items()]
+
+    def by_two(self, name, first):
+        """Whether the second token counts: also where a definition begins with a description or `extend`."""
+        definitions = self.symbols.label
+        shared = (self.number["STRING"], self.number["extend_KW"])
+        return name in BY_TWO or (first in shared and definitions[name] in self.symbols.grammar.lists["Definitions"])
+
+    def exits(self, name):
+        """What the symbol can leave behind."""
+        return sorted({state.exit for state in self.rows[name] if state.ends}) if name in self.rows else [0]
+
+    @cached_property
+    def follow(self):
+        """The classes that may follow a symbol, by the symbol and what it leaves behind."""
+        found = {(name, exit): set() for name in self.symbols.names for exit in (0, 1)}
+        for name in STARTS:
+            found[name, 0].add(END)
+        changed = True
+        while changed:
+            changed = False
+            for name, states in self.rows.items():
+                for symbol, exit, after in self.children(name, states):
+                    new = self.begins(after) | (found[name, after.exit] if after.ends else set())
+                    changed |= not new <= found[symbol, exit]
+                    found[symbol, exit] |= new
+        return found
+
+    def children(self, name, states):
+        """Each symbol that may be a child, with what it leaves behind, and the state after it."""
+        for state in states:
+            for symbol, target in state.arcs:
+                for exit in self.exits(symbol):
+                    yield symbol, exit, states[target + (exit if name == "DOCUMENT" else 0)]
+
+    @cached_property
+    def endings(self):
+        """For each state of a row symbols that end it: those of the least height, and then the fewest."""
+        height = {leaf: 0 for leaf in self.symbols.leaves}
+        changed = True
+        while changed:
+            changed = False
+            for name, states in self.rows.items():
+                best = self.ending(states, 0, height)
+                if best and height.get(name, best[0] + 2) > best[0] + 1:
+                    height[name] = best[0] + 1
+                    changed = True
+        return {name: [self.ending(states, place, height)[1] for place in range(len(states))] for name, states in self.rows.items()}
+
+    def ending(self, states, start, height):
+        """The least height of symbols that end the row from the state, and those symbols; None where no heights are known yet."""
+        heap = [(0, 0, (), (), start)]
+        while heap:
+            highest, length, numbers, word, place = heapq.heappop(heap)
+            if states[place].ends:
+                return highest, word
+            for symbol, target in states[place].arcs:
+                if symbol in height and length < len(states):
+                    longer = (*numbers, self.number[symbol])
+                    heapq.heappush(heap, (max(highest, height[symbol]), length + 1, longer, (*word, symbol), target))
+        return None
