@@ -8,12 +8,14 @@ VARIANTS = "document_grammar.specs.declared.kind.SyntaxKind"
 
 
 def lookup(grammar):
-    """src/kind/lookup.rt: the kind of a number."""
+    """src/kind/lookup.rt: the kind of a number, and the word of a keyword's kind."""
+    words = "".join(f'            SyntaxKind::{keyword} => Some("{word(keyword)}"),\n' for keyword in grammar.keywords)
     arms = "".join(f"            {number} => SyntaxKind::{kind},\n" for number, kind in enumerate(grammar.kinds))
     return (
         mark("//", SOURCE)
         + f"""
-ghost use Rattle.std.specs.Prelude.{{◌≡◌, ℕ, ◌<◌, ◌≤◌, ◌↔◌, ◌⊎◌, IsTrue, MatchOption}};
+ghost use Rattle.std.specs.Prelude.{{◌≡◌, ℕ, ◌<◌, ◌≤◌, ◌↔◌, ◌⊎◌, IsTrue, None, Some, MatchOption}};
+ghost use Rattle.document_grammar.specs.Choices.{{keyword_word}};
 ghost use Rattle.document_grammar.specs.Numbers.{{number}};
 
 use crate::kind::SyntaxKind;
@@ -27,6 +29,16 @@ impl SyntaxKind {{
 {arms}            _ => return None,
         }};
         Some(kind)
+    }}
+
+    /// The word of a keyword's kind, or None for other kinds.
+    #[tactic(auto, unfolding(crate::specs::Choices::keyword_word, crate::specs::Kinds::words))]
+    pub fn keyword(self) -> Option<&'static str>
+        ensures {{ MatchOption result (keyword_word (number self) ≡ None) (λ text. keyword_word (number self) ≡ Some text.now) }}
+    {{
+        match self {{
+{words}            _ => None,
+        }}
     }}
 }}
 """

@@ -171,6 +171,13 @@ mod tests {
     }
 
     #[test]
+    fn keywords(rt: HostRuntime) {
+        assert_eq!(rt; SyntaxKind::query_KW.keyword(), Some("query"));
+        assert_eq!(rt; SyntaxKind::QUERY_KW.keyword(), Some("QUERY"));
+        assert_eq!(rt; SyntaxKind::NAME.keyword(), None);
+    }
+
+    #[test]
     fn trivia(rt: HostRuntime) {
         for number in 0..120 {
             let trivia = SyntaxKind::from_u16(number).map(|kind| kind.is_trivia());
