@@ -32,7 +32,7 @@ ascii-cut : (source : List ℕ) → all_ascii source ≡ true → Cut source (it
 ascii-cut source h = is_cut source (IsUtf8-from_ascii source (is-ascii source h))
 
 -- The text is a sentence, and its derivation nests this deep.
-abbrev pub Worked : Sort → String → ℕ → Type 0
+abbrev Worked : Sort → String → ℕ → Type 0
 Worked sort text high = (t : Tree) × Sentence (codes text) t sort × (nest t ≡ high)
 
 unfoldable pub works : Sort → ℕ → List ℕ → Bool
@@ -50,19 +50,31 @@ is-sentence sort n source h =
       yield = s.1;
     }
 
-pub worked : (sort : Sort) (n : ℕ) (text : String) (high : ℕ)
-    → works sort n (codes text) and eqb (nest (tree_read sort n (tokens_in (codes text)))) high ≡ true → Worked sort text high
-worked sort n text high h =
-    (tree_read sort n (tokens_in (codes text)), is-sentence sort n (codes text) (and-l _ _ h), eqb-true _ _ (and-r _ _ h))
+-- The same of each text of a list, with its nesting.
+abbrev pub AllWorked : Sort → List (String × ℕ) → Type 0
+AllWorked sort [] = Unit {0}
+AllWorked sort (e ∷ more) = Worked sort e.0 e.1 × AllWorked sort more
+
+unfoldable pub all_work : Sort → List (String × ℕ) → Bool
+all_work sort [] = true
+all_work sort (e ∷ more) =
+    works sort 150 (codes e.0) and eqb (nest (tree_read sort 150 (tokens_in (codes e.0)))) e.1 and all_work sort more
+
+pub all-worked : (sort : Sort) (l : List (String × ℕ)) → all_work sort l ≡ true → AllWorked sort l
+unfolding all_work
+all-worked sort [] h = tt
+all-worked sort (e ∷ more) h =
+    let w = and-l _ _ h in
+    ((tree_read sort 150 (tokens_in (codes e.0)), is-sentence sort 150 (codes e.0) (and-l _ _ w), eqb-true _ _ (and-r _ _ w)), all-worked sort more (and-r _ _ h))
 
 -- The text is no sentence: it has bad text, or its tokens are refused.
-abbrev pub NoSentence : Sort → String → Type 0
+abbrev NoSentence : Sort → String → Type 0
 NoSentence sort text = (t : Tree) → Sentence (codes text) t sort → ⊥
 
 unfoldable pub fails : Sort → ℕ → List ℕ → Bool
 fails sort n source = all_ascii source and (not (are_tokens (items_of source)) or is_refused sort n (tokens_in source))
 
-pub no-sentence : (sort : Sort) (n : ℕ) (text : String) → fails sort n (codes text) ≡ true → NoSentence sort text
+no-sentence : (sort : Sort) (n : ℕ) (text : String) → fails sort n (codes text) ≡ true → NoSentence sort text
 unfolding fails
 no-sentence sort n text h t s =
     let same : s.items ≡ items_of (codes text) = one-cut (codes text) s.items (items_of (codes text)) s.cut (ascii-cut (codes text) (and-l _ _ h)) s.tokens in
@@ -70,3 +82,17 @@ no-sentence sort n text h t s =
       | inl bad ↦ false-true (not-c _ bad) (subst (λ (items : List Item). are_tokens items ≡ true) same s.tokens)
       | inr p ↦ none-spelled sort n (tokens_in (codes text)) p t (s.derivation, s.yield ∙ ap (λ (items : List Item). map token_of (Significant items)) same)
     ]
+
+-- The same of each text of a list.
+abbrev pub NoSentences : Sort → List String → Type 0
+NoSentences sort [] = Unit {0}
+NoSentences sort (text ∷ more) = NoSentence sort text × NoSentences sort more
+
+unfoldable pub all_fail : Sort → List String → Bool
+all_fail sort [] = true
+all_fail sort (text ∷ more) = fails sort 60 (codes text) and all_fail sort more
+
+pub no-sentences : (sort : Sort) (l : List String) → all_fail sort l ≡ true → NoSentences sort l
+unfolding all_fail
+no-sentences sort [] h = tt
+no-sentences sort (text ∷ more) h = (no-sentence sort 60 text (and-l _ _ h), no-sentences sort more (and-r _ _ h))
