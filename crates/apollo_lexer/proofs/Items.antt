@@ -81,21 +81,24 @@ end_comes count limit place source more none =
     ap (limited (limit - count)) (end_then place source none) ∙ limited_some (limit - count) (end_at place) [] (omega arith)
     ∙ ap (λ l. gives (end_at place) ∷ l) (limited_end (limit - count - 1))
 
--- an item comes
-pub item_comes : (count limit place : ℕ) (source text after : List ℕ) (kind : Option TokenKind) → count + 1 ≤ limit → 0 < length source
+-- an item is given, and those of the text after it are left
+pub items_next : (place : ℕ) (source text after : List ℕ) (kind : Option TokenKind) → 0 < length source
     → kind ≡ (first_item source).0 → text ≡ take (first_item source).1 source → after ≡ drop (first_item source).1 source
     → 0 < (first_item source).1 → (first_item source).1 + length after ≡ length source
-    → limited (limit - count) (items_from place 0 source)
-    ≡ gives (record { kind = kind; text = text; index = place }) ∷ limited (limit - (count + 1)) (items_from (place + length text) 0 after)
-item_comes count limit place source text after kind more some k t a one within =
+    → items_from place 0 source ≡ record { kind = kind; text = text; index = place } ∷ items_from (place + length text) 0 after
+items_next place source text after kind some k t a one within =
     let n = (first_item source).1 in
     let len : length text ≡ n = ap (λ (l : List ℕ). length l) t ∙ length-take-le n source (omega arith) in
-    let less : limit - count - 1 ≡ limit - (count + 1) = omega arith in
-    let item : Item = record { kind = (first_item source).0; text = take n source; index = place } in
-    let rest : List Item = items_from (place + n) 0 (drop n source) in
-    ap (limited (limit - count)) (first_then place source some one (omega arith))
-    ∙ limited_some (limit - count) item rest (omega arith)
-    ∙ (λ i. gives (record { kind = sym k i; text = sym t i; index = place }) ∷ limited (less i) (items_from (place + sym len i) 0 (sym a i)))
+    first_then place source some one (omega arith)
+    ∙ (λ i. record { kind = sym k i; text = sym t i; index = place } ∷ items_from (place + sym len i) 0 (sym a i))
+
+-- an item comes
+pub item_comes : (limit count next_limit next_count : ℕ) (item : Item) (items rest left : List Item) → count + 1 ≤ limit → next_limit ≡ limit → next_count ≡ count + 1
+    → items ≡ item ∷ rest → left ≡ drop 1 items → limited (limit - count) items ≡ gives item ∷ limited (next_limit - next_count) left
+item_comes limit count next_limit next_count item items rest left more same one first others =
+    let less : limit - count - 1 ≡ next_limit - next_count = omega arith in
+    let left_is : left ≡ rest = others ∙ ap (drop 1) first in
+    ap (limited (limit - count)) first ∙ limited_some (limit - count) item rest (omega arith) ∙ (λ i. gives item ∷ limited (less i) (sym left_is i))
 
 -- one more was asked for, and an answer less is left
 pub high_kept : (high next count : ℕ) (answer : Answer) (old new : List Answer) → old ≡ answer ∷ new → high ≡ count → next ≡ max high (count + 1) → next + length new ≡ high + length old

@@ -1,12 +1,12 @@
 -- The law of answers, and how many there are.
 use Rattle.std.proofs.Common.{◌≡◌, ℕ, zero, suc, ◌+◌, ◌-◌, Bool, true, false, List, [], ◌∷◌, length, take, Option, Some, None, refl, sym, arith}
-use Rattle.std.specs.Prelude.{min}
+use Rattle.std.specs.Prelude.{min, if◌then◌else◌}
 use Rattle.std.proofs.lemmas.Bool.Decides.{nat_tests}
 use Rattle.lexical_grammar.specs.declared.TokenKind.{TokenKind}
 use Rattle.lexical_grammar.specs.Cut.{Item}
 use Rattle.lexical_grammar.specs.Reads.{token_at, item_of_token, first_item, items_from}
 use Rattle.lexical_grammar.proofs.Limited.{token_text, not_last}
-use Rattle.apollo_lexer.specs.Answers.{left_unless, answers_left}
+use Rattle.apollo_lexer.specs.Answers.{answers_left, items_left}
 use Rattle.lexical_grammar.specs.Answers.{Answer, limited}
 use Rattle.lexical_grammar.specs.Answers.{IsItemText, IsLast, AreAnswers}
 use Rattle.apollo_lexer.specs.declared.lexer.Lexer.{Lexer}
@@ -30,12 +30,15 @@ limited_are zero place zero (b ∷ bs) = refl
 limited_are (suc n) place zero (b ∷ bs) =
     (item_text (b ∷ bs) (token_at (b ∷ bs)) refl, item_last (b ∷ bs) (token_at (b ∷ bs)) _ refl, limited_are n (1 + place) ((first_item (b ∷ bs)).1 - 1) bs)
 
-unless_are : (done : Bool) (allowed place : ℕ) (source : List ℕ) → AreAnswers (left_unless done allowed (items_from place 0 source))
-unless_are true allowed place source = tt
+unless_are : (done : Bool) (allowed place : ℕ) (source : List ℕ) → AreAnswers (limited allowed (if done then [] else items_from place 0 source))
+unless_are true allowed place source = none_are allowed where
+  none_are : (allowed : ℕ) → AreAnswers (limited allowed [])
+  none_are zero = tt
+  none_are (suc n) = tt
 unless_are false allowed place source = limited_are allowed place 0 source
 
 pub answers_are : (l : Lexer) → AreAnswers (answers_left l)
-unfolding answers_left
+unfolding answers_left items_left
 answers_are l = unless_are l.is_finished (l.limit_tracker.limit - l.limit_tracker.current) l.index l.rest.now
 
 -- ---- how many there are

@@ -30,18 +30,16 @@ pub struct Lexer<'a> {
 impl<'a> Lexer<'a> {
     ghost use Rattle.lexical_grammar.specs.Cut.{Cut};
     ghost use Rattle.lexical_grammar.specs.Reads.{items_from};
-    ghost use Rattle.apollo_lexer.specs.Answers.{answers_left, left_unless};
+    ghost use Rattle.apollo_lexer.specs.Answers.{answers_left, items_left};
     ghost use Rattle.lexical_grammar.specs.Answers.{limited};
 
     /// A lexer of the text, which has no limit.
-    #[tactic(auto, unfolding(crate::specs::Answers::answers_left))]
+    #[tactic(auto, unfolding(crate::specs::Answers::answers_left, crate::specs::Answers::items_left))]
     pub fn new(input: &'a str) -> Self
         ensures answers { answers_left result ≡ limited (2 ^ 64 - 1) (items_from 0 0 input.now) }
         ensures cut { Cut input.now (items_from 0 0 input.now) }
-        ensures open { result.is_finished ≡ false }
+        ensures items { items_left result ≡ items_from 0 0 input.now }
         ensures tracker { result.limit_tracker ≡ record { current = 0; high = 0; limit = 2 ^ 64 - 1 } }
-        ensures index { result.index ≡ 0 }
-        ensures rest { result.rest.now ≡ input.now }
     {
         Lexer {
             rest: input,
@@ -51,10 +49,12 @@ impl<'a> Lexer<'a> {
         }
     }
 
-    /// Sets the token limit: the number of items, bad text and the end among them, that are given from here on.
-    #[tactic(auto, unfolding(crate::specs::Answers::answers_left))]
+    /// Sets the token limit: the number of items, bad text and the end among them, that are given from here on. It counts from the next
+    /// item on, whatever the limit was before. After the end, and after a limit error, nothing more is given.
+    #[tactic(auto, unfolding(crate::specs::Answers::answers_left, crate::specs::Answers::items_left))]
     pub fn with_limit(self, limit: usize) -> Self
-        ensures answers { answers_left result ≡ left_unless self.entry.is_finished limit (items_from self.entry.index 0 self.entry.rest.now) }
+        ensures answers { answers_left result ≡ limited limit (items_left self.entry) }
+        ensures items { items_left result ≡ items_left self.entry }
         ensures tracker { result.limit_tracker ≡ record { current = 0; high = 0; limit = limit } }
     {
         Lexer {
@@ -103,7 +103,7 @@ impl<'a> Lexer<'a> {
 
 impl<'a> Lexer<'a> {
     ghost use Rattle.std.specs.Iterator.{YieldsFirstBy};
-    ghost use Rattle.apollo_lexer.specs.Answers.{answers_left, answer_of, final_high, cut_count};
+    ghost use Rattle.apollo_lexer.specs.Answers.{answers_left, answer_of, items_left, items_after, final_high, cut_count};
 
     // Where the next item begins, or at the last byte where that is the end of a text with some.
     #[cold]
@@ -125,9 +125,10 @@ impl<'a> Lexer<'a> {
 
     /// Answers as `next`, and counts one step where an item was cut.
     #[inline(always)]
-    #[tactic(auto, unfolding(crate::specs::Answers::answers_left))]
+    #[tactic(auto, unfolding(crate::specs::Answers::answers_left, crate::specs::Answers::items_left))]
     pub fn next_counted(&mut self, steps: &mut Steps) -> Option<Result<Token<'a>, LexError<'a>>>
         ensures answers { YieldsFirstBy answer_of answers_left self.old result self.new }
+        ensures items { items_left self.new ≡ items_after result (items_left self.old) }
         ensures count { steps.new.count ≡ steps.old.count + cut_count result }
         ensures high { final_high self.new ≡ final_high self.old }
         ensures limit { self.new.limit_tracker.limit ≡ self.old.limit_tracker.limit }
@@ -166,10 +167,10 @@ impl<'a> Lexer<'a> {
 impl<'a> Iterator for Lexer<'a> {
     type Item = Result<Token<'a>, LexError<'a>>;
 
-    ghost use Rattle.std.specs.Iterator.{YieldsFirstBy, item_count};
-    ghost use Rattle.apollo_lexer.specs.Answers.{answers_left, answer_of};
+    ghost use Rattle.std.specs.Iterator.{item_count};
+    ghost use Rattle.apollo_lexer.specs.Answers.{answers_left, Advances};
 
-    ghost next_gives = { YieldsFirstBy answer_of answers_left };
+    ghost next_gives = { Advances };
 
     ghost remaining = { item_count answers_left };
 

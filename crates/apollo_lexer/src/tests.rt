@@ -80,6 +80,37 @@ fn limit_is_told(rt: HostRuntime) -> Result<(), Fail> {
     Ok(())
 }
 
+// A limit counts from the next item on, whatever the limit was before. After the limit error nothing more is given.
+#[test]
+fn limit_is_set_later(rt: HostRuntime) -> Result<(), Fail> {
+    let mut lexer = Lexer::new("a b c").with_limit(1);
+    let mut steps = Steps::new();
+    assert!(rt; lexer.next_counted(&mut steps).is_some());
+    let rows = [
+        (0, "ERROR@1:1 \"token limit reached, aborting lexing\" \n"),
+        (
+            2,
+            "WHITESPACE@1:2 \" \"\nNAME@2:3 \"b\"\nERROR@3:3 \"token limit reached, aborting lexing\" \n",
+        ),
+        (
+            5,
+            "WHITESPACE@1:2 \" \"\nNAME@2:3 \"b\"\nWHITESPACE@3:4 \" \"\nNAME@4:5 \"c\"\nEOF@5:5\n",
+        ),
+    ];
+    for (limit, lines) in rows {
+        let text = printed(rt.alloc(), lexer.with_limit(limit))?;
+        assert_eq!(rt; text.as_str(), lines);
+    }
+    assert!(rt;
+        lexer
+            .next()
+            .is_some_and(|item| item.is_err_and(|e| e.is_limit()))
+    );
+    let text = printed(rt.alloc(), lexer.with_limit(5))?;
+    assert_eq!(rt; text.as_str(), "");
+    Ok(())
+}
+
 #[test]
 fn lists_of_tokens_and_errors(rt: HostRuntime) -> Result<(), Fail> {
     for (limit, count, index) in [(10, 10, Some(17)), (26, 26, None), (25, 25, Some(31))] {

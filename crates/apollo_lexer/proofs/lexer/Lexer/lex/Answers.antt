@@ -6,7 +6,7 @@ pub loop-item-preserved : goal.loop-item-preserved
 loop-item-preserved g c =
     let e = c.in-Err.error in
     let told = c.in_ok-to_error-in-Err.ensures in
-    let comes = rw c.in-Err.is at c.in-Some.ensures.steps in
+    let comes = rw c.in-Err.is at c.in-Some.ensures.steps.answers in
     record {
       tokens_so_far = tokens_kept _ e.is_limit e.text.now e.index _ _ _ comes c.loop-item.invariant.tokens_so_far;
       errors_so_far = rw c.in_ok-push-in-Err.ensures.items (errors_more _ _ c.in_ok-to_error-in-Err.field-0 e.is_limit e.text.now e.index _ _ comes (told_tells e.is_limit e.text.now e.index _ told.subject told.index told.message) c.loop-item.invariant.errors_so_far);
@@ -15,5 +15,5 @@ loop-item-preserved g c =
 -- nothing is left
 pub returns-clause-errors : goal.returns-clause-errors
 returns-clause-errors g c =
-    let left = c.in-None.ensures.steps.0 in
+    let left = c.in-None.ensures.steps.answers.0 in
     told_all _ _ (rw left at c.loop-item.invariant.errors_so_far)

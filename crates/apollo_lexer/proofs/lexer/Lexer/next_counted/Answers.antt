@@ -1,14 +1,13 @@
-use Rattle.std.proofs.Common.{◌≡◌, ◌∙◌, ◌+◌, ◌-◌, ap, sym, arith, length, false, nat_lt, eqb-true, ◌∷◌, [], Some, None}
+use Rattle.std.proofs.Common.{◌≡◌, ◌∙◌, ◌+◌, ◌-◌, ap, sym, arith, length, drop, false, nat_lt, eqb-true, ◌∷◌, [], Some, None}
 use Rattle.std.proofs.lemmas.Bool.{ltb-true, ltb-false, eqb-false, cond-false}
-use Rattle.apollo_lexer.specs.Answers.{answers_left}
-use Rattle.lexical_grammar.specs.Answers.{limited, limit_at, gives}
-use Rattle.lexical_grammar.specs.Reads.{items_from}
-use Rattle.apollo_lexer.proofs.Items.{limit_met_at, end_comes, item_comes, high_kept}
+use Rattle.apollo_lexer.specs.Answers.{answers_left, items_left}
+use Rattle.lexical_grammar.specs.Answers.{limit_at}
+use Rattle.apollo_lexer.proofs.Items.{end_then, limit_met_at, end_comes, items_next, item_comes, high_kept}
 use Rattle.apollo_lexer.proofs.lexer.Lexer.next_counted.Goals as goal
 
 -- the token limit
 pub returns-then-check_and_increment-clause-answers : goal.returns-then-check_and_increment-clause-answers
-unfolding answers_left
+unfolding answers_left items_left
 returns-then-check_and_increment-clause-answers c =
     let l = c.args.self.now in
     let open_yet : l.is_finished ≡ false = c.if-self.false in
@@ -17,7 +16,7 @@ returns-then-check_and_increment-clause-answers c =
 
 -- the end
 pub returns-then-is_empty-clause-answers : goal.returns-then-is_empty-clause-answers
-unfolding answers_left
+unfolding answers_left items_left
 returns-then-is_empty-clause-answers c =
     let l = c.args.self.now in
     let open_yet : l.is_finished ≡ false = c.if-self.false in
@@ -25,9 +24,36 @@ returns-then-is_empty-clause-answers c =
     let empty = eqb-true (length l.rest.now) 0 (sym c.is_empty.ensures ∙ c.if-is_empty.true) in
     rw open_yet (end_comes l.limit_tracker.current l.limit_tracker.limit l.index l.rest.now more empty)
 
+-- the items that are left: none after the end, and after an item those of the text after it
+pub returns-then-is_empty-clause-items : goal.returns-then-is_empty-clause-items
+unfolding items_left
+returns-then-is_empty-clause-items c =
+    let l = c.args.self.now in
+    let open_yet : l.is_finished ≡ false = c.if-self.false in
+    let empty = eqb-true (length l.rest.now) 0 (sym c.is_empty.ensures ∙ c.if-is_empty.true) in
+    rw open_yet (sym (ap (drop 1) (end_then l.index l.rest.now empty)))
+
+pub returns-in-Some-clause-items : goal.returns-in-Some-clause-items
+unfolding items_left
+returns-in-Some-clause-items c =
+    let l = c.args.self.now in
+    let open_yet : l.is_finished ≡ false = c.if-self.false in
+    let some = eqb-false (length l.rest.now) 0 (sym c.is_empty.ensures ∙ c.if-is_empty.false) in
+    let cut = c.cut-kind.ensures in
+    rw open_yet (sym (ap (drop 1) (items_next l.index l.rest.now c.cut-kind.result.1.now c.cut-kind.result.2.now (Some c.in-Some.kind) (omega arith) (sym c.in-Some.is ∙ cut.kind) cut.text cut.after cut.some cut.within)))
+
+pub returns-in-None-clause-items : goal.returns-in-None-clause-items
+unfolding items_left
+returns-in-None-clause-items c =
+    let l = c.args.self.now in
+    let open_yet : l.is_finished ≡ false = c.if-self.false in
+    let some = eqb-false (length l.rest.now) 0 (sym c.is_empty.ensures ∙ c.if-is_empty.false) in
+    let cut = c.cut-kind.ensures in
+    rw open_yet (sym (ap (drop 1) (items_next l.index l.rest.now c.cut-kind.result.1.now c.cut-kind.result.2.now None (omega arith) (sym c.in-None.is ∙ cut.kind) cut.text cut.after cut.some cut.within)))
+
 -- a token
 pub returns-in-Some-clause-answers : goal.returns-in-Some-clause-answers
-unfolding answers_left
+unfolding answers_left items_left
 returns-in-Some-clause-answers c =
     let l = c.args.self.now in
     let open_yet : l.is_finished ≡ false = c.if-self.false in
@@ -35,15 +61,15 @@ returns-in-Some-clause-answers c =
     let more = ltb-false l.limit_tracker.limit (l.limit_tracker.current + 1) refused in
     let some = eqb-false (length l.rest.now) 0 (sym c.is_empty.ensures ∙ c.if-is_empty.false) in
     let cut = c.cut-kind.ensures in
-    let comes = item_comes l.limit_tracker.current l.limit_tracker.limit l.index l.rest.now c.cut-kind.result.1.now c.cut-kind.result.2.now (Some c.in-Some.kind) more (omega arith) (sym c.in-Some.is ∙ cut.kind) cut.text cut.after cut.some cut.within in
+    let next = items_next l.index l.rest.now c.cut-kind.result.1.now c.cut-kind.result.2.now (Some c.in-Some.kind) (omega arith) (sym c.in-Some.is ∙ cut.kind) cut.text cut.after cut.some cut.within in
+    let left = rw open_yet at (returns-in-Some-clause-items c) in
     let limit = c.check_and_increment.ensures.limit in
     let count = c.check_and_increment.ensures.count ∙ cond-false (nat_lt l.limit_tracker.limit (l.limit_tracker.current + 1)) l.limit_tracker.current (l.limit_tracker.current + 1) refused in
-    let same : l.limit_tracker.limit - (l.limit_tracker.current + 1) ≡ c.check_and_increment.new.self.limit - c.check_and_increment.new.self.current = omega (arith, limit, count) in
-    rw open_yet (comes ∙ ap (λ m. gives (record { kind = (Some c.in-Some.kind); text = c.cut-kind.result.1.now; index = l.index }) ∷ limited m (items_from (l.index + length c.cut-kind.result.1.now) 0 c.cut-kind.result.2.now)) same)
+    rw open_yet (item_comes l.limit_tracker.limit l.limit_tracker.current _ _ _ _ _ _ more limit count next left)
 
 -- bad text
 pub returns-in-None-clause-answers : goal.returns-in-None-clause-answers
-unfolding answers_left
+unfolding answers_left items_left
 returns-in-None-clause-answers c =
     let l = c.args.self.now in
     let open_yet : l.is_finished ≡ false = c.if-self.false in
@@ -51,11 +77,11 @@ returns-in-None-clause-answers c =
     let more = ltb-false l.limit_tracker.limit (l.limit_tracker.current + 1) refused in
     let some = eqb-false (length l.rest.now) 0 (sym c.is_empty.ensures ∙ c.if-is_empty.false) in
     let cut = c.cut-kind.ensures in
-    let comes = item_comes l.limit_tracker.current l.limit_tracker.limit l.index l.rest.now c.cut-kind.result.1.now c.cut-kind.result.2.now None more (omega arith) (sym c.in-None.is ∙ cut.kind) cut.text cut.after cut.some cut.within in
+    let next = items_next l.index l.rest.now c.cut-kind.result.1.now c.cut-kind.result.2.now None (omega arith) (sym c.in-None.is ∙ cut.kind) cut.text cut.after cut.some cut.within in
+    let left = rw open_yet at (returns-in-None-clause-items c) in
     let limit = c.check_and_increment.ensures.limit in
     let count = c.check_and_increment.ensures.count ∙ cond-false (nat_lt l.limit_tracker.limit (l.limit_tracker.current + 1)) l.limit_tracker.current (l.limit_tracker.current + 1) refused in
-    let same : l.limit_tracker.limit - (l.limit_tracker.current + 1) ≡ c.check_and_increment.new.self.limit - c.check_and_increment.new.self.current = omega (arith, limit, count) in
-    rw open_yet (comes ∙ ap (λ m. gives (record { kind = None; text = c.cut-kind.result.1.now; index = l.index }) ∷ limited m (items_from (l.index + length c.cut-kind.result.1.now) 0 c.cut-kind.result.2.now)) same)
+    rw open_yet (item_comes l.limit_tracker.limit l.limit_tracker.current _ _ _ _ _ _ more limit count next left)
 
 -- each answer raises the tracker's `high` by one
 pub returns-then-check_and_increment-clause-high : goal.returns-then-check_and_increment-clause-high

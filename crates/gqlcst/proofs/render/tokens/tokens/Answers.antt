@@ -9,7 +9,7 @@ loop-item-init g c = rw c.new-text.ensures.bytes (printed_none (answers_left c.i
 -- a token is printed
 pub loop-item-preserved-in_ok-push_line-in-Ok : goal.loop-item-preserved-in_ok-push_line-in-Ok
 loop-item-preserved-in_ok-push_line-in-Ok g c =
-    let comes = rw c.in-Ok.is at c.in-Some.ensures.steps in
+    let comes = rw c.in-Ok.is at c.in-Some.ensures.steps.answers in
     let pushed = c.in_ok-push_line-in-Ok.ensures in
     printed_next _ _ _ _ _ pushed.0 _ c.loop-item.errors 0 c.loop-item.errors c.loop-item.invariant comes pushed.1 pushed.2 refl (omega arith) (omega arith)
 
@@ -22,7 +22,7 @@ pub loop-item-preserved : goal.loop-item-preserved
 loop-item-preserved g c =
     let e = c.in-Err.error in
     let made = c.in_ok-to_error-in-Err.ensures in
-    let comes = rw c.in-Err.is at c.in-Some.ensures.steps in
+    let comes = rw c.in-Err.is at c.in-Some.ensures.steps.answers in
     let pushed = c.in_ok-push_line-in-Err.ensures in
     printed_next _ _ _ _ _ pushed.0 _ c.loop-item.errors 1 (c.loop-item.errors + 1) c.loop-item.invariant comes
     (error_form e.is_limit e.text.now pushed.0 e.index c.in_ok-to_error-in-Err.field-0 made.subject made.index made.message pushed.1) pushed.2 (error_counts e.is_limit e.text.now e.index) (omega arith) refl
@@ -30,5 +30,5 @@ loop-item-preserved g c =
 -- nothing is left
 pub returns : goal.returns
 returns g c =
-    let fresh = rw (c.new.ensures.open, c.new.ensures.index, c.new.ensures.rest) at c.with_limit-item-items.ensures.answers in
-    tokens_printed _ _ _ _ _ _ _ _ c.new.ensures.cut (ap answers_left c.into_iter-item-iterator.ensures.into_iter_gives ∙ fresh) c.in-None.ensures.steps.0 c.loop-item.invariant c.outcome_of.ensures
+    let fresh = rw c.new.ensures.items at c.with_limit-item-items.ensures.answers in
+    tokens_printed _ _ _ _ _ _ _ _ c.new.ensures.cut (ap answers_left c.into_iter-item-iterator.ensures.into_iter_gives ∙ fresh) c.in-None.ensures.steps.answers.0 c.loop-item.invariant c.outcome_of.ensures
