@@ -2,9 +2,9 @@
 ghost use Rattle.std.specs.Prelude.{◌≡◌, ◌≤◌, ◌<◌, IfOk, IfSome, IsAscii, length, slice_index, string_bytes};
 ghost use Rattle.apollo_lexer.specs.Faults.{words, fault_message, number_fault};
 
-use crate::escapes::{escape_len, hex_digits_len};
+use crate::escapes::escape_len;
 use crate::numbers::number_len;
-use lexical_grammar::NumberState;
+use lexical_grammar::{NumberState, hex_digits_len};
 use memchr::memchr2;
 use std::alloc::{AllocError, Allocator};
 

@@ -8,4 +8,5 @@ pub mod Values
 pub mod NumberStates
 pub mod Reads
 pub mod Agreement
+pub mod Escapes
 pub mod Answers

@@ -1,4 +1,4 @@
-use Rattle.std.proofs.Common.{◌≡◌, ◌∙◌, ◌+◌, ◌-◌, ap, sym, arith, length, drop, false, nat_lt, eqb-true, ◌∷◌, [], Some, None}
+use Rattle.std.proofs.Common.{◌≡◌, ◌∙◌, ◌+◌, ap, sym, arith, length, drop, false, nat_lt, eqb-true, ◌∷◌, [], Some, None}
 use Rattle.std.proofs.lemmas.Bool.{ltb-true, ltb-false, eqb-false, cond-false}
 use Rattle.apollo_lexer.specs.Answers.{answers_left, items_left}
 use Rattle.lexical_grammar.specs.Answers.{limit_at}

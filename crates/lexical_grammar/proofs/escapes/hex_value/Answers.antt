@@ -1,6 +1,6 @@
 use Rattle.std.proofs.Common.{arith}
-use Rattle.apollo_lexer.proofs.EscapeReads.{hex_more}
-use Rattle.apollo_lexer.proofs.escapes.hex_value.Goals as goal
+use Rattle.lexical_grammar.proofs.HexReads.{hex_more}
+use Rattle.lexical_grammar.proofs.escapes.hex_value.Goals as goal
 
 pub loop-b-preserved : goal.loop-b-preserved
 loop-b-preserved c = record {

@@ -1,0 +1,215 @@
+-- An escape at the front of a text, form by form: how long it is, and what it stands for.
+use Rattle.std.proofs.Common.{◌≡◌, ℕ, ◌+◌, ◌-◌, ◌<◌, ◌≤◌, Bool, true, false, cond, List, [], ◌∷◌, length, take, drop, min, nat_lt, Some, None, refl, sym, ap, ◌∙◌, subst, inl, inr, true≢false, arith, length-append}
+use Rattle.std.specs.Prelude.{slice_index, is_some, ◌&&◌, encode_utf8}
+use Rattle.std.specs.Option.{option_to_list}
+use Rattle.std.specs.Char.{IsScalar}
+use Rattle.std.specs.Char.Utf16.{is_high_surrogate, is_low_surrogate, surrogate_pair_char}
+use Rattle.std.specs.List.{list_all, prefix_len}
+use lib.Utf8.{scalar}
+use Rattle.std.proofs.lemmas.Bool.{cases_Bool, and_parts, cases_lt, lt-ltb, false_from_ne_true}
+use Rattle.std.proofs.lemmas.Bool.Decides.{nat_tests}
+use Rattle.std.proofs.lemmas.List.{take_rest}
+use Rattle.std.proofs.lemmas.Str.{encode_ascii}
+use Rattle.lexical_grammar.specs.Characters.{is_hex_digit}
+use Rattle.lexical_grammar.specs.Strings.{hex_value, begins, escaped_character}
+use Rattle.lexical_grammar.specs.Reads.{begins_fixed_escape, fixed_value, begins_braced_escape, braced_digits_len, string_character_len, string_character_value}
+use Rattle.lexical_grammar.specs.Escapes.{IsFixedValue, IsEscape}
+use Rattle.lexical_grammar.proofs.Runs.{run_passes}
+use Rattle.lexical_grammar.proofs.HexReads.{rest_digits, scalar_least, second_fails}
+use Rattle.lexical_grammar.proofs.StringReads.{no_brace}
+use Rattle.lexical_grammar.proofs.StringSound.{begins_is, fixed_front, character_sound}
+
+-- a text that begins with a backslash
+slashed : (P : List ℕ → Type 0) (text : List ℕ) → slice_index text 0 ≡ 92 → ((bs : List ℕ) → P (92 ∷ bs)) → P text
+slashed P [] e h = absurd (omega arith)
+slashed P (b ∷ bs) e h = subst (λ (c : ℕ). P (c ∷ bs)) (sym e) (h bs)
+
+-- a string character of so many bytes that stands for this text
+record IsRead (text : List ℕ) (n : ℕ) (said : List ℕ) : Type 0 where
+  pub len : n ≡ string_character_len text
+  pub value : said ≡ string_character_value text
+
+pub read_within : (text : List ℕ) → string_character_len text ≤ length text
+read_within [] = omega arith
+read_within (b ∷ bs) = elim (cases_lt 0 (string_character_len (b ∷ bs))) [
+  | inl some ↦ (let f = character_sound b bs some in omega (arith, f.len, ap (λ (l : List ℕ). length l) f.joined, length-append f.text f.rest))
+  | inr none ↦ omega arith
+]
+
+escape_of : (text said : List ℕ) (c n : ℕ) → IsRead text n said → encode_utf8 c ≡ said → 0 < n → IsEscape text c n
+escape_of text said c n r e some = record { value = e ∙ r.value; bytes = r.len; some = some; within = omega (arith, r.len, read_within text) }
+
+no_brace_there : (text : List ℕ) → begins_fixed_escape text ≡ true → begins_braced_escape text ≡ false
+no_brace_there text h =
+    let f = fixed_front text h in
+    ap begins_braced_escape f.joined ∙ no_brace f.digits (drop 6 text) f.escape.four f.escape.hex
+
+second_byte : (bs : List ℕ) → begins (92 ∷ 117 ∷ []) (92 ∷ bs) ≡ true → slice_index bs 0 ≡ 117
+second_byte bs h = ap (λ l. slice_index l 1) (begins_is (92 ∷ 117 ∷ []) (92 ∷ bs) h)
+
+no_other : (bs : List ℕ) → begins (92 ∷ 117 ∷ []) (92 ∷ bs) ≡ true → is_some (escaped_character (slice_index bs 0)) ≡ false
+no_other bs h = ap (λ (c : ℕ). is_some (escaped_character c)) (second_byte bs h)
+
+-- ---- a fixed escape
+
+fixed_at : (bs : List ℕ) → begins_fixed_escape (92 ∷ bs) ≡ true → scalar (fixed_value (92 ∷ bs)) ≡ true → IsRead (92 ∷ bs) 6 (encode_utf8 (fixed_value (92 ∷ bs)))
+fixed_at bs h s = record { len = rw (h, s) refl; value = rw (h, s) refl }
+
+pub one_escape : (text : List ℕ) (v c : ℕ) → slice_index text 0 ≡ 92 → IsFixedValue text (Some v) → scalar v ≡ true → c ≡ v → IsEscape text c 6
+one_escape text v c e f s is =
+    slashed (λ t. IsFixedValue t (Some v) → IsEscape t c 6) text e
+    (λ bs g. escape_of (92 ∷ bs) _ c 6 (fixed_at bs g.0 (ap scalar (sym g.1) ∙ s)) (ap encode_utf8 (is ∙ g.1)) (omega arith)) f
+
+-- two that are a surrogate pair, or no pair
+pair_at : (bs : List ℕ) → begins_fixed_escape (92 ∷ bs) ≡ true → scalar (fixed_value (92 ∷ bs)) ≡ false → is_high_surrogate (fixed_value (92 ∷ bs)) ≡ true
+    → begins_fixed_escape (drop 6 (92 ∷ bs)) ≡ true → is_low_surrogate (fixed_value (drop 6 (92 ∷ bs))) ≡ true
+    → IsRead (92 ∷ bs) 12 (encode_utf8 (surrogate_pair_char (fixed_value (92 ∷ bs)) (fixed_value (drop 6 (92 ∷ bs)))))
+pair_at bs h s high next low =
+    let brace = no_brace_there (92 ∷ bs) h in
+    record { len = rw (h, s, brace, high, next, low) refl; value = rw (h, s, brace, high, next, low) refl }
+
+no_pair_at : (bs : List ℕ) → begins_fixed_escape (92 ∷ bs) ≡ true → scalar (fixed_value (92 ∷ bs)) ≡ false
+    → (is_high_surrogate (fixed_value (92 ∷ bs)) && (begins_fixed_escape (drop 6 (92 ∷ bs)) && is_low_surrogate (fixed_value (drop 6 (92 ∷ bs))))) ≡ false
+    → string_character_len (92 ∷ bs) ≡ 0
+no_pair_at bs h s none =
+    let brace = no_brace_there (92 ∷ bs) h in
+    let other = no_other bs (and_parts _ _ h).0 in
+    rw (h, s, brace, other) (ap (λ p. cond p 12 0) none)
+
+no_scalar : (text : List ℕ) (v : ℕ) → IsFixedValue text (Some v) → (IsScalar v → ⊥) → scalar (fixed_value text) ≡ false
+no_scalar text v f none = false_from_ne_true _ (λ t. none (ap scalar f.1 ∙ t))
+
+-- what is left of the text
+abbrev Next : List ℕ → List ℕ
+Next text = take (length text - 6) (drop 6 text)
+
+pub pair_escape : (text : List ℕ) (v low c : ℕ) → slice_index text 0 ≡ 92 → IsFixedValue text (Some v) → (IsScalar v → ⊥) → IsFixedValue (Next text) (Some low)
+    → (is_high_surrogate v && is_low_surrogate low) ≡ true → c ≡ surrogate_pair_char v low → IsEscape text c 12
+pair_escape text v low c e f none g both is =
+    slashed (λ t. IsFixedValue t (Some v) → IsFixedValue (drop 6 t) (Some low) → IsEscape t c 12) text e
+    (λ bs f g.
+    let p = and_parts (is_high_surrogate v) (is_low_surrogate low) both in
+    escape_of (92 ∷ bs) _ c 12
+    (pair_at bs f.0 (no_scalar (92 ∷ bs) v f none) (ap is_high_surrogate (sym f.1) ∙ p.0) g.0 (ap is_low_surrogate (sym g.1) ∙ p.1))
+    (ap encode_utf8 (is ∙ (λ i. surrogate_pair_char (f.1 i) (g.1 i)))) (omega arith))
+    f (subst (λ t. IsFixedValue t (Some low)) (take_rest text 6) g)
+
+pub lone_escape : (text : List ℕ) (v : ℕ) → slice_index text 0 ≡ 92 → IsFixedValue text (Some v) → (IsScalar v → ⊥) → IsFixedValue (Next text) None
+    → string_character_len text ≡ 0
+lone_escape text v e f none g =
+    slashed (λ t. IsFixedValue t (Some v) → IsFixedValue (drop 6 t) None → string_character_len t ≡ 0) text e
+    (λ bs f g. no_pair_at bs f.0 (no_scalar (92 ∷ bs) v f none)
+    (second_fails (is_high_surrogate (fixed_value (92 ∷ bs))) (begins_fixed_escape (drop 6 (92 ∷ bs))) (is_low_surrogate (fixed_value (drop 6 (92 ∷ bs)))) g))
+    f (subst (λ t. IsFixedValue t None) (take_rest text 6) g)
+
+both_fail : (a b c : Bool) → (a && c) ≡ false → b ≡ true → (a && (b && c)) ≡ false
+both_fail a b c e f = rw f e
+
+pub no_pair_escape : (text : List ℕ) (v low : ℕ) → slice_index text 0 ≡ 92 → IsFixedValue text (Some v) → (IsScalar v → ⊥) → IsFixedValue (Next text) (Some low)
+    → (is_high_surrogate v && is_low_surrogate low) ≡ false → string_character_len text ≡ 0
+no_pair_escape text v low e f none g both =
+    slashed (λ t. IsFixedValue t (Some v) → IsFixedValue (drop 6 t) (Some low) → string_character_len t ≡ 0) text e
+    (λ bs f g. no_pair_at bs f.0 (no_scalar (92 ∷ bs) v f none)
+    (both_fail (is_high_surrogate (fixed_value (92 ∷ bs))) (begins_fixed_escape (drop 6 (92 ∷ bs))) (is_low_surrogate (fixed_value (drop 6 (92 ∷ bs))))
+    ((λ i. is_high_surrogate (sym f.1 i) && is_low_surrogate (sym g.1 i)) ∙ both) g.0))
+    f (subst (λ t. IsFixedValue t (Some low)) (take_rest text 6) g)
+
+-- ---- a braced escape
+
+pub no_digits : (text : List ℕ) (n : ℕ) → n ≡ prefix_len is_hex_digit (take (length text - 3) (drop 3 text)) → n ≡ 0 → begins_braced_escape text ≡ false
+no_digits text n e none = second_fails (begins (92 ∷ 117 ∷ 123 ∷ []) text) _ _ (ap (nat_lt 0) (sym (rest_digits text n e) ∙ none))
+
+pub no_close : (text : List ℕ) (n : ℕ) → n ≡ prefix_len is_hex_digit (take (length text - 3) (drop 3 text))
+    → begins (125 ∷ []) (take (length text - (3 + n)) (drop (3 + n) text)) ≡ false → begins_braced_escape text ≡ false
+no_close text n e none =
+    let is : begins (125 ∷ []) (drop (3 + braced_digits_len text) text) ≡ false =
+    ap (λ m. begins (125 ∷ []) (drop (3 + m) text)) (sym (rest_digits text n e)) ∙ ap (begins (125 ∷ [])) (sym (take_rest text (3 + n))) ∙ none in
+    close_fails (begins (92 ∷ 117 ∷ 123 ∷ []) text) (nat_lt 0 (braced_digits_len text)) _ _ is where
+      close_fails : (a b c d : Bool) → c ≡ false → (a && (b && (c && d))) ≡ false
+      close_fails true true c d e = rw e refl
+      close_fails true false c d e = refl
+      close_fails false b c d e = refl
+
+pub no_braced : (text : List ℕ) → begins (92 ∷ 117 ∷ 123 ∷ []) text ≡ false → begins_braced_escape text ≡ false
+no_braced text h = rw h refl
+
+-- the digits between the braces, and the number that was read
+pub record IsBraced (text : List ℕ) (n v : ℕ) : Type 0 where
+  pub len : n ≡ braced_digits_len text
+  pub names : begins_braced_escape text ≡ scalar v
+  pub value : scalar v ≡ true → v ≡ hex_value (take (braced_digits_len text) (drop 3 text))
+
+scalar_small : (v : ℕ) → scalar v ≡ true → v < 1114112
+scalar_small v h = grind (arith, nat_tests)
+
+pub braced_by : (text : List ℕ) (n v : ℕ) → begins (92 ∷ 117 ∷ 123 ∷ []) text ≡ true → n ≡ prefix_len is_hex_digit (take (length text - 3) (drop 3 text)) → 0 < n
+    → begins (125 ∷ []) (take (length text - (3 + n)) (drop (3 + n) text)) ≡ true
+    → (list_all is_hex_digit (take (3 + n - 3) (drop 3 text)) ≡ true → v ≡ min (hex_value (take (3 + n - 3) (drop 3 text))) 1114112) → IsBraced text n v
+braced_by text n v front e some close value =
+    let same = rest_digits text n e in
+    let less : 3 + n - 3 ≡ n = omega arith in
+    let ds : take (3 + n - 3) (drop 3 text) ≡ take (braced_digits_len text) (drop 3 text) = ap (λ (m : ℕ). take m (drop 3 text)) (less ∙ same) in
+    let all = subst (λ l. list_all is_hex_digit l ≡ true) (sym ds) (run_passes is_hex_digit (drop 3 text)) in
+    let closes : begins (125 ∷ []) (drop (3 + braced_digits_len text) text) ≡ true =
+    ap (λ m. begins (125 ∷ []) (drop (3 + m) text)) (sym same) ∙ ap (begins (125 ∷ [])) (sym (take_rest text (3 + n))) ∙ close in
+    let is : v ≡ min (hex_value (take (braced_digits_len text) (drop 3 text))) 1114112 = value all ∙ ap (λ l. min (hex_value l) 1114112) ds in
+    let names : scalar (hex_value (take (braced_digits_len text) (drop 3 text))) ≡ scalar v = sym (scalar_least (hex_value (take (braced_digits_len text) (drop 3 text)))) ∙ ap scalar (sym is) in
+    let digits : nat_lt 0 (braced_digits_len text) ≡ true = ap (nat_lt 0) (sym same) ∙ lt-ltb 0 n some in
+    record { len = same; names = rw (front, digits, closes) names; value = λ s. omega (arith, is, scalar_small v s) }
+
+braced_at : (bs : List ℕ) → begins_fixed_escape (92 ∷ bs) ≡ false → begins_braced_escape (92 ∷ bs) ≡ true
+    → IsRead (92 ∷ bs) (4 + braced_digits_len (92 ∷ bs)) (encode_utf8 (hex_value (take (braced_digits_len (92 ∷ bs)) (drop 3 (92 ∷ bs)))))
+braced_at bs h b = record { len = rw (h, b) refl; value = rw (h, b) refl }
+
+pub braced_escape : (text : List ℕ) (n v c : ℕ) → slice_index text 0 ≡ 92 → begins_fixed_escape text ≡ false → IsBraced text n v → scalar v ≡ true → c ≡ v → IsEscape text c (4 + n)
+braced_escape text n v c e h b s is =
+    slashed (λ t. begins_fixed_escape t ≡ false → IsBraced t n v → IsEscape t c (4 + n)) text e
+    (λ bs h b. subst (λ (m : ℕ). IsEscape (92 ∷ bs) c (4 + m)) (sym b.len)
+    (escape_of (92 ∷ bs) _ c _ (braced_at bs h (b.names ∙ s)) (ap encode_utf8 (is ∙ b.value s)) (omega arith))) h b
+
+unbraced_at : (bs : List ℕ) → begins (92 ∷ 117 ∷ []) (92 ∷ bs) ≡ true → begins_fixed_escape (92 ∷ bs) ≡ false → begins_braced_escape (92 ∷ bs) ≡ false
+    → string_character_len (92 ∷ bs) ≡ 0
+unbraced_at bs front h b = rw (h, b, no_other bs front) refl
+
+pub no_braced_escape : (text : List ℕ) → slice_index text 0 ≡ 92 → begins (92 ∷ 117 ∷ []) text ≡ true → begins_fixed_escape text ≡ false → begins_braced_escape text ≡ false
+    → string_character_len text ≡ 0
+no_braced_escape text e front h b =
+    slashed (λ t. begins (92 ∷ 117 ∷ []) t ≡ true → begins_fixed_escape t ≡ false → begins_braced_escape t ≡ false → string_character_len t ≡ 0) text e unbraced_at front h b
+
+pub no_number : (text : List ℕ) (n v : ℕ) → IsBraced text n v → (IsScalar v → ⊥) → begins_braced_escape text ≡ false
+no_number text n v b none = b.names ∙ false_from_ne_true _ none
+
+-- ---- one character after the backslash
+
+not_both : (text : List ℕ) → begins (92 ∷ 117 ∷ []) text ≡ false → begins (92 ∷ 117 ∷ 123 ∷ []) text ≡ true → ⊥
+not_both text h b =
+    let e : begins (92 ∷ 117 ∷ []) text ≡ true = ap (begins (92 ∷ 117 ∷ [])) (begins_is (92 ∷ 117 ∷ 123 ∷ []) text b) in
+    true≢false (sym e ∙ h)
+
+unbraced : (bs : List ℕ) → begins (92 ∷ 117 ∷ []) (92 ∷ bs) ≡ false → begins_braced_escape (92 ∷ bs) ≡ false
+unbraced bs h = elim (cases_Bool (begins (92 ∷ 117 ∷ 123 ∷ []) (92 ∷ bs))) [
+  | inl b ↦ absurd (not_both (92 ∷ bs) h b)
+  | inr n ↦ (rw n refl)
+]
+
+unfixed : (bs : List ℕ) → begins (92 ∷ 117 ∷ []) (92 ∷ bs) ≡ false → begins_fixed_escape (92 ∷ bs) ≡ false
+unfixed bs h = rw h refl
+
+other_at : (bs : List ℕ) → begins (92 ∷ 117 ∷ []) (92 ∷ bs) ≡ false → is_some (escaped_character (slice_index bs 0)) ≡ true
+    → IsRead (92 ∷ bs) 2 (option_to_list (escaped_character (slice_index bs 0)))
+other_at bs h is = record { len = rw (unfixed bs h, unbraced bs h, is) refl; value = rw (unfixed bs h, unbraced bs h) refl }
+
+small_value : (e c : ℕ) → escaped_character e ≡ Some c → c < 128
+small_value e c h = grind (arith, nat_tests)
+
+pub other_escape : (text : List ℕ) (c : ℕ) → slice_index text 0 ≡ 92 → begins (92 ∷ 117 ∷ []) text ≡ false → escaped_character (slice_index text 1) ≡ Some c → IsEscape text c 2
+other_escape text c e h is =
+    slashed (λ t. begins (92 ∷ 117 ∷ []) t ≡ false → escaped_character (slice_index t 1) ≡ Some c → IsEscape t c 2) text e
+    (λ bs h is. escape_of (92 ∷ bs) _ c 2 (other_at bs h (ap is_some is)) (encode_ascii c (small_value (slice_index bs 0) c is) ∙ ap option_to_list (sym is)) (omega arith)) h is
+
+other_none_at : (bs : List ℕ) → begins (92 ∷ 117 ∷ []) (92 ∷ bs) ≡ false → is_some (escaped_character (slice_index bs 0)) ≡ false → string_character_len (92 ∷ bs) ≡ 0
+other_none_at bs h is = rw (unfixed bs h, unbraced bs h, is) refl
+
+pub no_other_escape : (text : List ℕ) → slice_index text 0 ≡ 92 → begins (92 ∷ 117 ∷ []) text ≡ false → escaped_character (slice_index text 1) ≡ None → string_character_len text ≡ 0
+no_other_escape text e h is =
+    slashed (λ t. begins (92 ∷ 117 ∷ []) t ≡ false → is_some (escaped_character (slice_index t 1)) ≡ false → string_character_len t ≡ 0) text e other_none_at h (ap is_some is)
