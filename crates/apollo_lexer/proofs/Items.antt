@@ -7,8 +7,7 @@ use Rattle.lexical_grammar.specs.Tokens.{Tok}
 use Rattle.std.proofs.Common.{Option, subst, cond, eqb, false}
 use Rattle.std.proofs.Common.{length-take-le}
 use Rattle.lexical_grammar.proofs.Sound.{sound}
-use Rattle.std.specs.Iterator.{MakesProgress, YieldsFirstBy, item_count}
-use Rattle.std.specs.Prelude.{⊤, max}
+use Rattle.std.specs.Prelude.{max}
 use Rattle.std.proofs.lemmas.Bool.Decides.{nat_tests}
 use Rattle.lexical_grammar.specs.Reads.{token_at, item_of_token, first_item, items_from}
 use Rattle.lexical_grammar.proofs.Limited.{limited_end}
@@ -103,11 +102,3 @@ item_comes limit count next_limit next_count item items rest left more same one 
 -- one more was asked for, and an answer less is left
 pub high_kept : (high next count : ℕ) (answer : Answer) (old new : List Answer) → old ≡ answer ∷ new → high ≡ count → next ≡ max high (count + 1) → next + length new ≡ high + length old
 high_kept high next count answer old new e same asked = omega (arith, ap (λ (l : List Answer). length l) e, max_next high)
-
--- an answer less is left
-pub progress : (S A B : Type 0) (view : A → B) (rest : S → List B) (s : S) (r : Option A) (t : S) → YieldsFirstBy view rest s r t
-    → MakesProgress (λ _. ⊤) (item_count rest) s r t
-progress S A B view rest s None t h = record { on = λ _. tt; keeps = tt; rests = λ f. f }
-progress S A B view rest s (Some x) t h =
-    let len = ap (λ (l : List B). length l) h in
-    record { on = λ f. (tt, f, omega arith); keeps = tt; rests = λ _. tt }

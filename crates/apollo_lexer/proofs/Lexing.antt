@@ -35,13 +35,6 @@ told_all all [] h = subst (λ l. AreTold l []) (sym h) tt
 told_all [] (d ∷ ds) h = absurd h
 told_all (a ∷ all) (d ∷ ds) h = (h.0, told_all all ds h.1)
 
--- a token leaves the errors as they are
-pub errors_kept : (all : List Answer) (ds : List Diagnostic) (answer : Answer) (old rest : List Answer) → is_token answer ≡ true → old ≡ answer ∷ rest
-    → Telling all ds (filter (λ a. not (is_token a)) old) → Telling all ds (filter (λ a. not (is_token a)) rest)
-errors_kept all ds answer old rest is e h =
-    let kept = rw e at h in
-    rw is at kept
-
 -- and an error is one more
 pub errors_more : (all : List Answer) (ds : List Diagnostic) (d : Diagnostic) (limit : Bool) (text : List ℕ) (index : ℕ) (old rest : List Answer)
     → old ≡ error_answer limit text index ∷ rest → Tells (error_answer limit text index) d
