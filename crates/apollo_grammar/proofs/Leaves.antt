@@ -7,15 +7,16 @@ use Rattle.lexical_grammar.specs.declared.TokenKind.TheVariants as token
 use Rattle.lexical_grammar.specs.Answers.{IsTokenText}
 use Rattle.document_grammar.specs.declared.kind.SyntaxKind.{SyntaxKind}
 use Rattle.document_grammar.specs.declared.kind.SyntaxKind.TheVariants as kind
+use Rattle.std.specs.Prelude.{codes}
 use Rattle.document_grammar.specs.Kinds.{words}
+use Rattle.document_grammar.specs.Choices.{keyword_word}
 use Rattle.document_grammar.specs.Numbers.{number}
 use Rattle.grammar_machine.specs.Machine.{word_class}
 use Rattle.document_grammar.specs.Forests.{none, leaf}
 use Rattle.apollo_tree.specs.Sound.{Fits}
 use Rattle.parser_rules.specs.State.{Text, Lexeme, IsNow, same_kind, is_at, is_word}
-use Rattle.apollo_grammar.specs.Keywords.{word_of, is_asked}
 use Rattle.apollo_grammar.specs.Reading.{is_leaf_of}
-use Rattle.apollo_grammar.proofs.Keywords.{asked, equal_bytes}
+use Rattle.apollo_grammar.proofs.Keywords.{word_is}
 
 kind_is : (a b : TokenKind) → true ≡ same_kind a b → a ≡ b
 unfolding same_kind
@@ -25,20 +26,13 @@ kind_is a b e = same_true the_type (search rules) a b (sym e)
 text_is : (k : TokenKind) (x : Lexeme) → IsNow (Some x) → true ≡ is_at k (Some x) → IsTokenText k x.text
 text_is k x n e = subst (λ j. IsTokenText j x.text) (kind_is x.kind k e) n
 
--- a keyword's text
-last : (a b : Bool) → true ≡ a && b → b ≡ true
-last true b e = sym e
-last false b e = absurd cc
-
-word_is : (k : SyntaxKind) (x : Lexeme) → is_asked k ≡ true → true ≡ is_word k (Some x) → x.text ≡ word_of k
-word_is k x h e = equal_bytes x.text (word_of k) (asked k h x.text ∙ last (same_kind x.kind token.Name) (eqb (word_class words x.text) (number k)) e)
-
 -- the text of the current token is the one leaf of such a node
 abbrev pub FitsNow : SyntaxKind → SyntaxKind → Option Lexeme → Type 0
 FitsNow node l None = ⊥
 FitsNow node l (Some x) = Fits node (leaf l x.text none)
 
 pub fits_now : (node l : SyntaxKind) (o : Option Lexeme) → IsNow o → true ≡ is_leaf_of node l o → FitsNow node l o
+unfolding keyword_word words
 fits_now kind.NAME kind.IDENT None n e = absurd cc
 fits_now kind.NAME kind.IDENT (Some x) n e = (kind.IDENT, x.text, refl, (refl, text_is token.Name x n e))
 fits_now kind.INT_VALUE kind.INT None n e = absurd cc
@@ -46,9 +40,9 @@ fits_now kind.INT_VALUE kind.INT (Some x) n e = (kind.INT, x.text, refl, (refl, 
 fits_now kind.STRING_VALUE kind.STRING None n e = absurd cc
 fits_now kind.STRING_VALUE kind.STRING (Some x) n e = (kind.STRING, x.text, refl, (refl, text_is token.StringValue x n e))
 fits_now kind.BOOLEAN_VALUE kind.true_KW None n e = absurd cc
-fits_now kind.BOOLEAN_VALUE kind.true_KW (Some x) n e = (kind.true_KW, x.text, refl, inl (refl, word_is kind.true_KW x refl e))
+fits_now kind.BOOLEAN_VALUE kind.true_KW (Some x) n e = (kind.true_KW, x.text, refl, inl (refl, word_is kind.true_KW x (codes "true") refl refl e))
 fits_now kind.BOOLEAN_VALUE kind.false_KW None n e = absurd cc
-fits_now kind.BOOLEAN_VALUE kind.false_KW (Some x) n e = (kind.false_KW, x.text, refl, inr (refl, word_is kind.false_KW x refl e))
+fits_now kind.BOOLEAN_VALUE kind.false_KW (Some x) n e = (kind.false_KW, x.text, refl, inr (refl, word_is kind.false_KW x (codes "false") refl refl e))
 fits_now _ _ o n e = absurd cc
 
 pub fits_text : (node l : SyntaxKind) (o : Option Lexeme) (x : Lexeme) (text : Text) → o ≡ Some x → text ≡ x.text → IsNow o → true ≡ is_leaf_of node l o → Fits node (leaf l text none)

@@ -1,30 +1,25 @@
--- The tests of what stands behind the current token, by the token that a look finds there.
+-- Tests of the current token and of the next one, by the tokens that are looked at.
 use Rattle.std.proofs.Common.{◌≡◌, Bool, true, false, Option, Some, None, is_some, not, ◌&&◌, ◌||◌, refl, ◌∙◌, ap}
 use Rattle.lexical_grammar.specs.declared.TokenKind.{TokenKind}
 use Rattle.lexical_grammar.specs.declared.TokenKind.TheVariants as token
 use Rattle.apollo_lexer.specs.declared.token.Token.{Token}
 use Rattle.parser_rules.specs.State.{State, Lexeme, second, is_at, is_over, is_deep}
-use Rattle.parser_rules.specs.RuleLanguage.{At, Ready, Next, HasNext, Either, holds}
-use Rattle.parser_rules.specs.Rules.{operates_next, inlines_next, has_item}
+use Rattle.parser_rules.specs.RuleLanguage.{TokenTest, Kind, Or, fits, Here, At, Ready, Next, HasNext, holds}
+use Rattle.parser_rules.specs.Rules.{has_item}
 use Rattle.apollo_grammar.specs.View.{current_of}
-use Rattle.apollo_grammar.specs.Looks.{operates_at, inlines_at}
 
-module _ (s : State) (o : Option Lexeme) (e : o ≡ second s.items) where
-  pub operates_behind : (b : Bool) → b ≡ operates_at o → b ≡ holds operates_next s
-  unfolding holds
-  operates_behind b h = h ∙ ap operates_at e
+-- a test of the token that a look finds is a test of the next token
+pub next_fits : (q : TokenTest) (s : State) (o : Option Lexeme) → o ≡ second s.items → (b : Bool) → b ≡ fits q o → b ≡ holds (Next q) s
+unfolding holds
+next_fits q s o e b h = h ∙ ap (fits q) e
 
-  pub inlines_behind : (b : Bool) → b ≡ inlines_at o → b ≡ holds inlines_next s
-  unfolding holds
-  inlines_behind b h = h ∙ ap inlines_at e
+pub here_fits : (q : TokenTest) (s : State) (o : Option Lexeme) → o ≡ s.current → (b : Bool) → b ≡ fits q o → b ≡ holds (Here q) s
+unfolding holds
+here_fits q s o e b h = h ∙ ap (fits q) e
 
-  pub next_behind : (k : TokenKind) (b : Bool) → b ≡ is_at k o → b ≡ holds (Next k) s
-  unfolding holds
-  next_behind k b h = h ∙ ap (is_at k) e
-
-  pub has_behind : (b : Bool) → b ≡ is_some o → b ≡ holds HasNext s
-  unfolding holds
-  has_behind b h = h ∙ ap is_some e
+pub has_next : (s : State) (o : Option Lexeme) → o ≡ second s.items → (b : Bool) → b ≡ is_some o → b ≡ holds HasNext s
+unfolding holds
+has_next s o e b h = h ∙ ap is_some e
 
 pub some_shown : (o : Option Token) → is_some o ≡ is_some (current_of o)
 some_shown None = refl
@@ -35,7 +30,7 @@ other true b e f = absurd cc
 other false b e f = e
 
 -- one of two tokens is there, and not the first
-pub other_at : (j k : TokenKind) (s : State) → true ≡ holds (Either (At j) (At k)) s → false ≡ holds (At j) s → true ≡ holds (At k) s
+pub other_at : (j k : TokenKind) (s : State) → true ≡ holds (Here (Or (Kind j) (Kind k))) s → false ≡ holds (At j) s → true ≡ holds (At k) s
 unfolding holds
 other_at j k s e f = other (is_at j s.current) (is_at k s.current) e f
 

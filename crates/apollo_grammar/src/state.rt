@@ -12,10 +12,12 @@ ghost use Rattle.apollo_tree.specs.Sound.{Fits};
 ghost use Rattle.apollo_lexer.specs.Answers.{answer_of, answers_left};
 ghost use Rattle.parser_rules.specs.State as state;
 ghost use Rattle.parser_rules.specs.Nodes.{Name, IntValue, StringValue, BooleanValue};
-ghost use Rattle.parser_rules.specs.RuleLanguage.{At, Word, Ready, Next, Either, holds, Bump, Note, TooDeep, Do, Child, want, expect, expect_word, refuse};
+ghost use Rattle.parser_rules.specs.RuleLanguage.{Kind, fits, Here, At, Word, Ready, Next, holds, Bump, Note, Do, Child, want, expect, expect_word, refuse};
 ghost use Rattle.parser_rules.specs.Runs.{Runs};
 ghost use Rattle.parser_rules.specs.Open.{IsOpen, IsMark, IsInside, IsRoot};
-ghost use Rattle.apollo_grammar.specs.Keywords as keywords;
+ghost use Rattle.document_grammar.specs.Choices.{is_keyword};
+ghost use Rattle.document_grammar.specs.Numbers.{number};
+ghost use Rattle.parser_rules.specs.Rules as rules;
 ghost use Rattle.apollo_grammar.specs.Reading as reading;
 ghost use Rattle.apollo_grammar.specs.Roots.{root_kind};
 ghost use Rattle.apollo_grammar.specs.Errors.{IsErrorOf};
@@ -115,32 +117,25 @@ pub fn is_kind(token: Option<Token<'_>>, kind: TokenKind) -> bool
     }
 }
 
-// The word of a keyword that the parser asks for.
-fn word_of(keyword: SyntaxKind) -> &'static str
-    ensures { result.now ≡ keywords.word_of keyword }
+/// Whether the token is the keyword.
+pub fn is_word(token: Option<Token<'_>>, keyword: SyntaxKind) -> bool
+    requires { is_keyword (number keyword) ≡ true }
+    ensures { result ≡ state.is_word keyword (current_of token.entry) }
 {
-    match keyword {
-        SyntaxKind::query_KW => "query",
-        SyntaxKind::mutation_KW => "mutation",
-        SyntaxKind::subscription_KW => "subscription",
-        SyntaxKind::fragment_KW => "fragment",
-        SyntaxKind::on_KW => "on",
-        SyntaxKind::true_KW => "true",
-        SyntaxKind::false_KW => "false",
-        SyntaxKind::null_KW => "null",
-        _ => "",
+    let Some(word) = keyword.keyword() else {
+        return false;
+    };
+    match token {
+        Some(token) => is_same(token.kind(), TokenKind::Name) && token.data() == word,
+        None => false,
     }
 }
 
-/// Whether the token is the keyword.
-pub fn is_word(token: Option<Token<'_>>, keyword: SyntaxKind) -> bool
-    requires { keywords.is_asked keyword ≡ true }
-    ensures { result ≡ state.is_word keyword (current_of token.entry) }
+/// Whether the token is `true` or `false`.
+fn is_boolean(token: Option<Token<'_>>) -> bool
+    ensures { result ≡ fits rules.boolean (current_of token.entry) }
 {
-    match token {
-        Some(token) => is_same(token.kind(), TokenKind::Name) && token.data() == word_of(keyword),
-        None => false,
-    }
+    is_word(token, SyntaxKind::true_KW) || is_word(token, SyntaxKind::false_KW)
 }
 
 // The next significant token that the lexer gives.
@@ -211,6 +206,13 @@ impl<'i, A: Allocator + Copy> ParserState<'i, A> {
         Ok(p)
     }
 
+    /// The current token: the next significant one, or the end, or none where nothing is left.
+    pub fn current(&self) -> Option<Token<'i>>
+        ensures { current_of result ≡ self.now.current }
+    {
+        self.current_token
+    }
+
     /// Whether the current token is of the kind.
     pub fn at(&self, kind: TokenKind) -> bool
         ensures { result ≡ holds (At kind) self.now }
@@ -220,7 +222,7 @@ impl<'i, A: Allocator + Copy> ParserState<'i, A> {
 
     /// Whether the current token is the keyword.
     pub fn at_word(&self, keyword: SyntaxKind) -> bool
-        requires { keywords.is_asked keyword ≡ true }
+        requires { is_keyword (number keyword) ≡ true }
         ensures { result ≡ holds (Word keyword) self.now }
     {
         is_word(self.current_token, keyword)
@@ -228,9 +230,9 @@ impl<'i, A: Allocator + Copy> ParserState<'i, A> {
 
     /// Whether the current token is `true` or `false`.
     pub fn at_boolean(&self) -> bool
-        ensures { result ≡ holds (Either (Word kind.true_KW) (Word kind.false_KW)) self.now }
+        ensures { result ≡ holds (Here rules.boolean) self.now }
     {
-        self.at_word(SyntaxKind::true_KW) || self.at_word(SyntaxKind::false_KW)
+        is_boolean(self.current())
     }
 
     /// The significant token behind the current one, or the end. A copy of the lexer looks for it.
@@ -242,7 +244,7 @@ impl<'i, A: Allocator + Copy> ParserState<'i, A> {
 
     /// Whether the significant token behind the current one is of the kind.
     pub fn next_is(&self, kind: TokenKind) -> bool
-        ensures { result ≡ holds (Next kind) self.now }
+        ensures { result ≡ holds (Next (Kind kind)) self.now }
     {
         is_kind(self.peek(), kind)
     }
@@ -414,7 +416,7 @@ impl<'i, A: Allocator + Copy> ParserState<'i, A> {
 
     /// The current token, which is `true` or `false`, becomes a node.
     pub fn boolean_value(&mut self) -> Result<(), AllocError>
-        requires { true ≡ holds (Either (Word kind.true_KW) (Word kind.false_KW)) self.old }
+        requires { true ≡ holds (Here rules.boolean) self.old }
         ensures { OnOk result (Runs (Child BooleanValue) self.old self.new) }
     {
         if self.at_word(SyntaxKind::true_KW) {
@@ -463,7 +465,7 @@ impl<'i, A: Allocator + Copy> ParserState<'i, A> {
     }
 
     /// Reports an error at the current token, and pops it: it becomes an ERROR leaf.
-    #[tactic(auto, using(parser_rules::specs::Runs::skip, parser_rules::specs::Runs::seq, parser_rules::specs::Runs::yes, parser_rules::specs::Runs::no))]
+    #[tactic(auto, using(parser_rules::proofs::runs::Running::sequence))]
     pub fn err_and_pop(&mut self, message: Message) -> Result<(), AllocError>
         ensures { OnOk result (Runs (refuse message) self.old self.new) }
     {
@@ -472,7 +474,7 @@ impl<'i, A: Allocator + Copy> ParserState<'i, A> {
     }
 
     /// The punctuator becomes a leaf, or an error reports that it is missing.
-    #[tactic(auto, using(parser_rules::specs::Runs::skip, parser_rules::specs::Runs::seq, parser_rules::specs::Runs::yes, parser_rules::specs::Runs::no))]
+    #[tactic(auto, using(parser_rules::proofs::runs::Running::sequence))]
     pub fn expect(
         &mut self,
         token: TokenKind,
@@ -489,9 +491,9 @@ impl<'i, A: Allocator + Copy> ParserState<'i, A> {
     }
 
     /// The keyword becomes a leaf, or an error reports that it is missing.
-    #[tactic(auto, using(parser_rules::specs::Runs::skip, parser_rules::specs::Runs::seq, parser_rules::specs::Runs::yes, parser_rules::specs::Runs::no))]
+    #[tactic(auto, using(parser_rules::proofs::runs::Running::sequence))]
     pub fn expect_word(&mut self, keyword: SyntaxKind, message: Message) -> Result<(), AllocError>
-        requires { keywords.is_asked keyword ≡ true }
+        requires { is_keyword (number keyword) ≡ true }
         ensures { OnOk result (Runs (expect_word keyword message) self.old self.new) }
     {
         if self.at_word(keyword) {
@@ -502,7 +504,7 @@ impl<'i, A: Allocator + Copy> ParserState<'i, A> {
     }
 
     /// Reports an error where the current token is not of the kind.
-    #[tactic(auto, using(parser_rules::specs::Runs::skip, parser_rules::specs::Runs::seq, parser_rules::specs::Runs::yes, parser_rules::specs::Runs::no))]
+    #[tactic(auto, using(parser_rules::proofs::runs::Running::sequence))]
     pub fn want(&mut self, kind: TokenKind, message: Message) -> Result<(), AllocError>
         ensures { OnOk result (Runs (want (At kind) message) self.old self.new) }
     {
@@ -513,7 +515,7 @@ impl<'i, A: Allocator + Copy> ParserState<'i, A> {
     }
 
     /// Reports an error where no token is left.
-    #[tactic(auto, using(parser_rules::specs::Runs::skip, parser_rules::specs::Runs::seq, parser_rules::specs::Runs::yes, parser_rules::specs::Runs::no))]
+    #[tactic(auto, using(parser_rules::proofs::runs::Running::sequence))]
     pub fn want_ready(&mut self, message: Message) -> Result<(), AllocError>
         ensures { OnOk result (Runs (want Ready message) self.old self.new) }
     {

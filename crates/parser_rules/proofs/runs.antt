@@ -6,3 +6,4 @@ pub mod Inversion
 pub mod Forms
 pub mod Progress
 pub mod Anew
+pub mod Running

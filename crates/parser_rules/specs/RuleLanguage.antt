@@ -1,42 +1,51 @@
 -- The language of the parser's rules: what a rule may ask, and what it may do.
-use Rattle.std.specs.Prelude.{Bool, not, ◌&&◌, ◌||◌, is_some}
+use Rattle.std.specs.Prelude.{Option, Bool, not, ◌&&◌, ◌||◌, is_some}
 use Rattle.lexical_grammar.specs.declared.TokenKind.{TokenKind}
 use Rattle.document_grammar.specs.declared.kind.SyntaxKind.{SyntaxKind}
 use Rattle.document_grammar.specs.declared.kind.SyntaxKind.TheVariants as kind
 use Rattle.parser_rules.specs.declared.message.Message.{Message}
-use Rattle.parser_rules.specs.State.{State, second, bump, note, is_deep, is_at, is_word, is_over}
+use Rattle.parser_rules.specs.State.{State, Lexeme, second, bump, note, is_deep, is_at, is_word, is_over}
 use Rattle.parser_rules.specs.Nodes.{Node, Part}
 
+-- a question about one token: whether it is of the kind, is the keyword, or one of the two
+pub data TokenTest : Type 0 where
+  Kind : TokenKind → TokenTest
+  Keyword : SyntaxKind → TokenTest
+  Or : TokenTest → TokenTest → TokenTest
+
+abbrev pub fits : TokenTest → Option Lexeme → Bool
+fits (Kind k) o = is_at k o
+fits (Keyword k) o = is_word k o
+fits (Or p q) o = fits p o || fits q o
+
 pub data Test : Type 0 where
-  -- the current token is of the kind
-  At : TokenKind → Test
-  -- the current token is the keyword
-  Word : SyntaxKind → Test
+  -- the current token fits
+  Here : TokenTest → Test
+  -- the next significant token after the current one fits
+  Next : TokenTest → Test
   -- a token is left besides the end
   Ready : Test
-  -- the next significant token after the current one is of the kind
-  Next : TokenKind → Test
-  -- the next significant token after the current one is the keyword
-  NextWord : SyntaxKind → Test
   -- a significant token or the end follows the current one; else the token limit cuts the text off
   HasNext : Test
   -- the recursion limit is reached
   Deep : Test
   Not : Test → Test
   Both : Test → Test → Test
-  Either : Test → Test → Test
 
 unfoldable pub holds : Test → State → Bool
-holds (At k) s = is_at k s.current
-holds (Word k) s = is_word k s.current
+holds (Here q) s = fits q s.current
+holds (Next q) s = fits q (second s.items)
 holds Ready s = not (is_over s.current)
-holds (Next k) s = is_at k (second s.items)
-holds (NextWord k) s = is_word k (second s.items)
 holds HasNext s = is_some (second s.items)
 holds Deep s = is_deep s
 holds (Not q) s = not (holds q s)
 holds (Both p q) s = holds p s && holds q s
-holds (Either p q) s = holds p s || holds q s
+
+abbrev pub At : TokenKind → Test
+At k = Here (Kind k)
+
+abbrev pub Word : SyntaxKind → Test
+Word k = Here (Keyword k)
 
 pub data Prim : Type 0 where
   -- the current token becomes a leaf of the kind

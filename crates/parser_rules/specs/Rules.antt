@@ -4,32 +4,36 @@ use Rattle.std.specs.Prelude.{Bool, true, false}
 use Rattle.lexical_grammar.specs.declared.TokenKind.TheVariants as token
 use Rattle.document_grammar.specs.declared.kind.SyntaxKind.TheVariants as kind
 use Rattle.parser_rules.specs.declared.message.Message.TheVariants as message
-use Rattle.parser_rules.specs.RuleLanguage.{Test, At, Word, Ready, Next, NextWord, HasNext, Deep, Not, Both, Either, Bump, Note, TooDeep, Rule, Skip, Do, When, While, Child, Nested, Call, Typed, ◌>◌, expect, want, refuse, expect_word, maybe}
+use Rattle.parser_rules.specs.RuleLanguage.{TokenTest, Kind, Keyword, Or, Test, Here, At, Word, Next, Ready, HasNext, Deep, Not, Both, Bump, Note, TooDeep, Rule, Skip, Do, When, While, Child, Nested, Call, Typed, ◌>◌, expect, want, refuse, expect_word, maybe}
 use Rattle.parser_rules.specs.Nodes.{Node, Operation, ShortQuery, OperationType, SelectionSet, Field, Alias, Name, FragmentSpread, InlineFragment, FragmentDefinition, FragmentName, NameForFragment, TypeCondition, Arguments, Argument, Directives, Directive, VariableDefinitions, VariableDefinition, Variable, DefaultValue, IntValue, FloatValue, StringValue, BooleanValue, NullValue, EnumValue, NameForEnum, ListValue, ObjectValue, ObjectField, NamedType, ListType, Part, Document, Definition, Described, MaybeName, Selections, Selection, Spread, AliasedName, Named, MaybeArguments, MaybeDirectives, MaybeVariableDefinitions, VariableType, MaybeDefaultValue, MaybeTypeCondition, ValueOf, WordValue, NestedValue, ListItems, TypeOf, ItemType}
 
--- a selection starts here
-abbrev pub selects : Test
-selects = Either (At token.Name) (At token.Spread)
+-- a selection starts with the token
+abbrev pub selection_start : TokenTest
+selection_start = Or (Kind token.Name) (Kind token.Spread)
 
--- a type starts here
-abbrev pub types : Test
-types = Either (At token.Name) (At token.LBracket)
+-- a type starts with it
+abbrev pub type_start : TokenTest
+type_start = Or (Kind token.Name) (Kind token.LBracket)
+
+-- an operation with its type starts with it
+abbrev pub operation_type : TokenTest
+operation_type = Or (Keyword kind.query_KW) (Or (Keyword kind.mutation_KW) (Keyword kind.subscription_KW))
+
+-- an operation starts with it
+abbrev pub operation_start : TokenTest
+operation_start = Or (Kind token.LCurly) operation_type
+
+-- after `...` it makes an inline fragment
+abbrev pub inline_fragment : TokenTest
+inline_fragment = Or (Keyword kind.on_KW) (Or (Kind token.At) (Kind token.LCurly))
+
+-- it is a boolean value
+abbrev pub boolean : TokenTest
+boolean = Or (Keyword kind.true_KW) (Keyword kind.false_KW)
 
 -- another item of a list value may start here
 abbrev pub has_item : Test
 has_item = Both (Both Ready (Not (At token.RBracket))) (Not Deep)
-
--- an operation with its type starts here
-abbrev pub operates : Test
-operates = Either (Word kind.query_KW) (Either (Word kind.mutation_KW) (Word kind.subscription_KW))
-
--- an operation starts after the current token
-abbrev pub operates_next : Test
-operates_next = Either (Next token.LCurly) (Either (NextWord kind.query_KW) (Either (NextWord kind.mutation_KW) (NextWord kind.subscription_KW)))
-
--- what follows the current token makes an inline fragment
-abbrev pub inlines_next : Test
-inlines_next = Either (NextWord kind.on_KW) (Either (Next token.At) (Next token.LCurly))
 
 -- a variable is read in a constant place too, but reported
 abbrev pub variable_of : Bool → Rule
@@ -146,7 +150,7 @@ unfoldable pub body : Part → Rule
 body Document = want Ready message.UnexpectedEof > While Ready (Call Definition)
 -- ExecutableDefinition (2.2) : OperationDefinition, or FragmentDefinition
 body Definition =
-    When operates (Child Operation)
+    When (Here operation_type) (Child Operation)
     (When (Word kind.fragment_KW) (Child FragmentDefinition)
     (When (At token.LCurly) (Child ShortQuery)
     (When (At token.Name) (refuse message.ExpectedDefinition)
@@ -154,29 +158,29 @@ body Definition =
     (refuse message.ExpectedDefinitionStart)))))
 -- a string before a definition: its description, which no rule reads yet
 body Described =
-    When operates_next (refuse message.ExpectedOperation)
+    When (Next operation_start) (refuse message.ExpectedOperation)
     (When HasNext (refuse message.ExpectedDefinition)
     (refuse message.ExpectedDefinitionAfterString))
 body MaybeName = maybe token.Name Name
 -- Selection+, the inside of a SelectionSet (2.4)
-body Selections = want selects message.ExpectedSelection > While selects (Call Selection)
+body Selections = want (Here selection_start) message.ExpectedSelection > While (Here selection_start) (Call Selection)
 -- Selection (2.4) : Field, FragmentSpread, or InlineFragment
 body Selection = When (At token.Name) (Child Field) (Call Spread)
 -- FragmentSpread (2.8), or InlineFragment (2.8.2): the token after `...` says which
 body Spread =
-    When inlines_next (Child InlineFragment)
-    (When (Next token.Name) (Child FragmentSpread)
+    When (Next inline_fragment) (Child InlineFragment)
+    (When (Next (Kind token.Name)) (Child FragmentSpread)
     (When HasNext (Do (Note message.ExpectedFragment) > Do (Bump kind.SPREAD))
     (refuse message.ExpectedFragment)))
 -- Alias? Name, the beginning of a Field (2.5)
-body AliasedName = When (Next token.Colon) (Child Alias > Call Named) (Child Name)
+body AliasedName = When (Next (Kind token.Colon)) (Child Alias > Call Named) (Child Name)
 -- Name (2.1.9), or a report that it is missing
 body Named = When (At token.Name) (Child Name) (Do (Note message.ExpectedName))
 body (MaybeArguments c) = maybe token.LParen (Arguments c)
 body (MaybeDirectives c) = maybe token.At (Directives c)
 body MaybeVariableDefinitions = maybe token.LParen VariableDefinitions
 -- Type DefaultValue? Directives[Const]?, the rest of a VariableDefinition (2.10)
-body VariableType = When types (Call TypeOf > Call MaybeDefaultValue > Call (MaybeDirectives true)) (Do (Note message.ExpectedType))
+body VariableType = When (Here type_start) (Call TypeOf > Call MaybeDefaultValue > Call (MaybeDirectives true)) (Do (Note message.ExpectedType))
 body MaybeDefaultValue = maybe token.Eq DefaultValue
 body MaybeTypeCondition = maybe token.Name TypeCondition
 -- Value[Const] (2.9) : [if not Const] Variable, IntValue, FloatValue, StringValue, BooleanValue, NullValue, EnumValue, ListValue[?Const], or
@@ -192,7 +196,7 @@ body (ValueOf c pops) =
     (no_value pops)))))))
 -- BooleanValue (2.9.3), NullValue (2.9.5), or EnumValue (2.9.6)
 body WordValue =
-    When (Either (Word kind.true_KW) (Word kind.false_KW)) (Child BooleanValue)
+    When (Here boolean) (Child BooleanValue)
     (When (Word kind.null_KW) (Child NullValue)
     (Child EnumValue))
 -- Value (2.9), one level deeper
@@ -205,4 +209,4 @@ body (ListItems c) =
 -- Type (2.11) : NamedType, ListType, or NonNullType; NonNullType : NamedType !, or ListType !
 body TypeOf = Typed nullable_type
 -- Type (2.11), inside a ListType
-body ItemType = When types (Call TypeOf) (refuse message.ExpectedItemType)
+body ItemType = When (Here type_start) (Call TypeOf) (refuse message.ExpectedItemType)

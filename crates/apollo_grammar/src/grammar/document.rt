@@ -1,13 +1,12 @@
 // Documents.
-#![tactic(auto, using(parser_rules::specs::Runs::call, parser_rules::specs::Runs::yes, parser_rules::specs::Runs::no, parser_rules::specs::Runs::begin, parser_rules::specs::Runs::turn, parser_rules::proofs::runs::Forms::wanted, parser_rules::proofs::runs::Frame::ended), unfolding(parser_rules::specs::Rules::body))]
+#![tactic(auto, using(parser_rules::proofs::runs::Running::looping), unfolding(parser_rules::specs::Rules::inside, parser_rules::specs::Rules::body))]
 
 ghost use Rattle.std.specs.Prelude.{◌≡◌, true, OnOk};
 ghost use Rattle.parser_rules.specs.Nodes as rule;
 ghost use Rattle.parser_rules.specs.Rules as rules;
-ghost use Rattle.parser_rules.specs.RuleLanguage.{holds, Call};
+ghost use Rattle.parser_rules.specs.RuleLanguage.{fits, Here, holds, Call};
 ghost use Rattle.parser_rules.specs.Runs.{Runs};
 ghost use Rattle.apollo_grammar.specs.View.{current_of};
-ghost use Rattle.apollo_grammar.specs.Looks.{operates_at};
 
 use super::fragment::fragment_definition;
 use super::operation::{operation_definition, query_shorthand};
@@ -51,27 +50,31 @@ fn definition<A: Allocator + Copy>(p: &mut ParserState<'_, A>) -> Result<(), All
     p.err_and_pop(Message::ExpectedDefinitionStart)
 }
 
+// Whether an operation with its type starts with the token.
+fn is_operation_type(token: Option<Token<'_>>) -> bool
+    ensures { result ≡ fits rules.operation_type (current_of token.entry) }
+{
+    is_word(token, SyntaxKind::query_KW)
+        || is_word(token, SyntaxKind::mutation_KW)
+        || is_word(token, SyntaxKind::subscription_KW)
+}
+
 // Whether an operation with its type starts here.
 #[tactic(auto, unfolding(parser_rules::specs::RuleLanguage::holds))]
 fn starts_operation<A: Allocator + Copy>(p: &ParserState<'_, A>) -> bool
-    ensures { result ≡ holds rules.operates p.now }
+    ensures { result ≡ holds (Here rules.operation_type) p.now }
 {
-    p.at_word(SyntaxKind::query_KW)
-        || p.at_word(SyntaxKind::mutation_KW)
-        || p.at_word(SyntaxKind::subscription_KW)
+    is_operation_type(p.current())
 }
 
 // Whether an operation starts with the token.
-fn is_operation(next: Option<Token<'_>>) -> bool
-    ensures { result ≡ operates_at (current_of next.entry) }
+fn is_operation(token: Option<Token<'_>>) -> bool
+    ensures { result ≡ fits rules.operation_start (current_of token.entry) }
 {
-    is_kind(next, TokenKind::LCurly)
-        || is_word(next, SyntaxKind::query_KW)
-        || is_word(next, SyntaxKind::mutation_KW)
-        || is_word(next, SyntaxKind::subscription_KW)
+    is_kind(token, TokenKind::LCurly) || is_operation_type(token)
 }
 
-// A string in the place of a definition is popped. The token behind it tells what was expected.
+// A string in the place of a definition is popped. The token after it says what was expected.
 fn described<A: Allocator + Copy>(p: &mut ParserState<'_, A>) -> Result<(), AllocError>
     ensures { OnOk result (Runs (Call rule.Described) p.old p.new) }
 {

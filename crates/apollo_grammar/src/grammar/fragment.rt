@@ -1,5 +1,5 @@
 // Fragments.
-#![tactic(auto, using(parser_rules::specs::Runs::child, parser_rules::specs::Runs::call, parser_rules::specs::Runs::seq, parser_rules::specs::Runs::skip, parser_rules::specs::Runs::yes, parser_rules::specs::Runs::no, parser_rules::proofs::runs::Forms::chosen, parser_rules::proofs::runs::Forms::for_fragment, parser_rules::proofs::runs::Frame::is_open, parser_rules::proofs::runs::Frame::still_open), unfolding(parser_rules::specs::Rules::inside, parser_rules::specs::Rules::body))]
+#![tactic(auto, using(parser_rules::proofs::runs::Running::running), unfolding(parser_rules::specs::Rules::inside, parser_rules::specs::Rules::body))]
 
 ghost use Rattle.std.specs.Prelude.{◌≡◌, true, OnOk};
 ghost use Rattle.lexical_grammar.specs.declared.TokenKind.TheVariants as token;

@@ -1,15 +1,14 @@
 // Selection sets.
-#![tactic(auto, using(parser_rules::specs::Runs::child, parser_rules::specs::Runs::call, parser_rules::specs::Runs::deeper, parser_rules::specs::Runs::refused, parser_rules::specs::Runs::seq, parser_rules::specs::Runs::skip, parser_rules::specs::Runs::yes, parser_rules::specs::Runs::no, parser_rules::specs::Runs::begin, parser_rules::specs::Runs::turn, parser_rules::proofs::runs::Forms::wanted, parser_rules::proofs::runs::Frame::ended, parser_rules::proofs::runs::Frame::is_open, parser_rules::proofs::runs::Frame::still_open, parser_rules::proofs::runs::Frame::open_too_deep, parser_rules::proofs::runs::Frame::open_inside, parser_rules::proofs::runs::Frame::open_outside, parser_rules::proofs::runs::Frame::is_inside, parser_rules::proofs::runs::Frame::still_inside), unfolding(parser_rules::specs::Rules::inside, parser_rules::specs::Rules::body))]
+#![tactic(auto, using(parser_rules::proofs::runs::Running::nesting), unfolding(parser_rules::specs::Rules::inside, parser_rules::specs::Rules::body))]
 
 ghost use Rattle.std.specs.Prelude.{◌≡◌, true, OnOk};
 ghost use Rattle.lexical_grammar.specs.declared.TokenKind.TheVariants as token;
 ghost use Rattle.parser_rules.specs.Nodes as rule;
 ghost use Rattle.parser_rules.specs.Rules as rules;
 ghost use Rattle.parser_rules.specs.declared.message.Message.TheVariants as message;
-ghost use Rattle.parser_rules.specs.RuleLanguage.{At, holds, want, Child, Call};
+ghost use Rattle.parser_rules.specs.RuleLanguage.{fits, Here, At, holds, want, Child, Call};
 ghost use Rattle.parser_rules.specs.Runs.{Runs};
 ghost use Rattle.apollo_grammar.specs.View.{current_of};
-ghost use Rattle.apollo_grammar.specs.Looks.{inlines_at};
 
 use super::field::field;
 use super::fragment::{fragment_spread, inline_fragment};
@@ -60,14 +59,14 @@ fn selections<A: Allocator + Copy>(p: &mut ParserState<'_, A>) -> Result<(), All
 // Whether a selection starts here.
 #[tactic(auto, unfolding(parser_rules::specs::RuleLanguage::holds))]
 fn starts_selection<A: Allocator + Copy>(p: &ParserState<'_, A>) -> bool
-    ensures { result ≡ holds rules.selects p.now }
+    ensures { result ≡ holds (Here rules.selection_start) p.now }
 {
     p.at(TokenKind::Name) || p.at(TokenKind::Spread)
 }
 
 // Reports an error where no selection starts.
 fn want_selection<A: Allocator + Copy>(p: &mut ParserState<'_, A>) -> Result<(), AllocError>
-    ensures { OnOk result (Runs (want rules.selects message.ExpectedSelection) p.old p.new) }
+    ensures { OnOk result (Runs (want (Here rules.selection_start) message.ExpectedSelection) p.old p.new) }
 {
     if starts_selection(p) {
         return Ok(());
@@ -77,7 +76,7 @@ fn want_selection<A: Allocator + Copy>(p: &mut ParserState<'_, A>) -> Result<(),
 
 #[cycle(selection)]
 fn selection<A: Allocator + Copy>(p: &mut ParserState<'_, A>) -> Result<(), AllocError>
-    requires { true ≡ holds rules.selects p.old }
+    requires { true ≡ holds (Here rules.selection_start) p.old }
     ensures { OnOk result (Runs (Call rule.Selection) p.old p.new) }
 {
     if p.at(TokenKind::Name) {
@@ -88,14 +87,14 @@ fn selection<A: Allocator + Copy>(p: &mut ParserState<'_, A>) -> Result<(), Allo
 
 // Whether a spread before the token is an inline fragment.
 fn is_inline(next: Option<Token<'_>>) -> bool
-    ensures { result ≡ inlines_at (current_of next.entry) }
+    ensures { result ≡ fits rules.inline_fragment (current_of next.entry) }
 {
     is_word(next, SyntaxKind::on_KW)
         || is_kind(next, TokenKind::At)
         || is_kind(next, TokenKind::LCurly)
 }
 
-// What starts with `...`: the token behind it tells which fragment it is. Where there is none, the `...` is popped.
+// What starts with `...`: the token after it says which fragment it is. Where there is none, the `...` is popped.
 #[cycle(selection)]
 fn spread<A: Allocator + Copy>(p: &mut ParserState<'_, A>) -> Result<(), AllocError>
     requires { true ≡ holds (At token.Spread) p.old }

@@ -1,11 +1,11 @@
 // Types.
-#![tactic(auto, using(parser_rules::specs::Runs::child, parser_rules::specs::Runs::call, parser_rules::specs::Runs::plain, parser_rules::specs::Runs::wrapped, parser_rules::specs::Runs::deeper, parser_rules::specs::Runs::refused, parser_rules::specs::Runs::seq, parser_rules::specs::Runs::skip, parser_rules::specs::Runs::yes, parser_rules::specs::Runs::no, parser_rules::proofs::runs::Frame::is_open, parser_rules::proofs::runs::Frame::still_open, parser_rules::proofs::runs::Frame::open_too_deep, parser_rules::proofs::runs::Frame::open_inside, parser_rules::proofs::runs::Frame::open_outside, parser_rules::proofs::runs::Frame::is_inside, parser_rules::proofs::runs::Frame::still_inside), unfolding(parser_rules::specs::Rules::inside, parser_rules::specs::Rules::body))]
+#![tactic(auto, using(parser_rules::proofs::runs::Running::nesting), unfolding(parser_rules::specs::Rules::inside, parser_rules::specs::Rules::body))]
 
 ghost use Rattle.std.specs.Prelude.{◌≡◌, true, OnOk};
 ghost use Rattle.lexical_grammar.specs.declared.TokenKind.TheVariants as token;
 ghost use Rattle.parser_rules.specs.Nodes as rule;
 ghost use Rattle.parser_rules.specs.Rules as rules;
-ghost use Rattle.parser_rules.specs.RuleLanguage.{At, holds, Child, Call};
+ghost use Rattle.parser_rules.specs.RuleLanguage.{Here, At, holds, Child, Call};
 ghost use Rattle.parser_rules.specs.Runs.{Runs};
 
 use super::name::name;
@@ -18,7 +18,7 @@ use std::alloc::{AllocError, Allocator};
 /// Whether a type starts here.
 #[tactic(auto, unfolding(parser_rules::specs::RuleLanguage::holds))]
 pub fn starts_type<A: Allocator + Copy>(p: &ParserState<'_, A>) -> bool
-    ensures { result ≡ holds rules.types p.now }
+    ensures { result ≡ holds (Here rules.type_start) p.now }
 {
     p.at(TokenKind::Name) || p.at(TokenKind::LBracket)
 }

@@ -1,5 +1,5 @@
 // Values.
-#![tactic(auto, using(parser_rules::specs::Runs::child, parser_rules::specs::Runs::call, parser_rules::specs::Runs::deeper, parser_rules::specs::Runs::refused, parser_rules::specs::Runs::does, parser_rules::specs::Runs::seq, parser_rules::specs::Runs::skip, parser_rules::specs::Runs::yes, parser_rules::specs::Runs::no, parser_rules::specs::Runs::begin, parser_rules::specs::Runs::turn, parser_rules::proofs::runs::Forms::for_enum, parser_rules::proofs::runs::Frame::ended, parser_rules::proofs::runs::Frame::is_open, parser_rules::proofs::runs::Frame::still_open, parser_rules::proofs::runs::Frame::open_in_loop, parser_rules::proofs::runs::Frame::still_at, parser_rules::proofs::runs::Frame::is_inside, parser_rules::proofs::runs::Frame::still_inside), unfolding(parser_rules::specs::Rules::inside, parser_rules::specs::Rules::body))]
+#![tactic(auto, using(parser_rules::proofs::runs::Running::nesting), unfolding(parser_rules::specs::Rules::inside, parser_rules::specs::Rules::body))]
 
 ghost use Rattle.std.specs.Prelude.{◌≡◌, true, OnOk};
 ghost use Rattle.lexical_grammar.specs.declared.TokenKind.TheVariants as token;

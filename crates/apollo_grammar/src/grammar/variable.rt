@@ -1,5 +1,5 @@
 // Variables.
-#![tactic(auto, using(parser_rules::specs::Runs::child, parser_rules::specs::Runs::call, parser_rules::specs::Runs::seq, parser_rules::specs::Runs::skip, parser_rules::specs::Runs::yes, parser_rules::specs::Runs::no, parser_rules::specs::Runs::begin, parser_rules::specs::Runs::turn, parser_rules::proofs::runs::Forms::wanted, parser_rules::proofs::runs::Frame::ended, parser_rules::proofs::runs::Frame::is_open, parser_rules::proofs::runs::Frame::still_open), unfolding(parser_rules::specs::Rules::inside, parser_rules::specs::Rules::body))]
+#![tactic(auto, using(parser_rules::proofs::runs::Running::looping), unfolding(parser_rules::specs::Rules::inside, parser_rules::specs::Rules::body))]
 
 ghost use Rattle.std.specs.Prelude.{◌≡◌, true, OnOk};
 ghost use Rattle.parser_rules.specs.Nodes as rule;

@@ -4,8 +4,8 @@ use Rattle.std.proofs.Common.{◌≡◌, ℕ, Bool, true, false, not, ◌&&◌, 
 use Rattle.document_grammar.specs.Booleans.{◌and◌}
 use Rattle.document_grammar.proofs.Booleans.{either, and-l, and-r}
 use Rattle.parser_rules.specs.State.{State, is_deep, second}
-use Rattle.parser_rules.specs.RuleLanguage.{Test, At, Word, Ready, Next, NextWord, HasNext, Deep, Not, Both, Either, holds}
-use Rattle.parser_rules.proofs.lookahead.TokenSets.{Shown, kind_set, word_set, ready, present, at-set, word-is, ready-is, present-is, second-shown, Seen, Branch, pick, by_near, by_far, near-at, far-at, flip}
+use Rattle.parser_rules.specs.RuleLanguage.{Test, Here, Next, Ready, HasNext, Deep, Not, Both, holds}
+use Rattle.parser_rules.proofs.lookahead.TokenSets.{set_of, fits-set, Shown, kind_set, word_set, ready, present, at-set, word-is, ready-is, present-is, second-shown, Seen, Branch, pick, by_near, by_far, near-at, far-at, flip}
 
 -- Within a node: no level was entered in it, a level is entered, or one was entered and left.
 pub data Level : Type 0 where
@@ -36,16 +36,13 @@ fill lost = lost
 
 -- the places and sets where a test passes go to `f`, those where it fails to `g`
 unfoldable pub divide : {R : Type 0} → (R → R → R) → R → Test → Spot → ℕ → ℕ → (Spot → ℕ → ℕ → R) → (Spot → ℕ → ℕ → R) → R
-divide c e (At k) p x y f g = by_near c e (kind_set k) x y (f p) (g p)
-divide c e (Word k) p x y f g = by_near c e (word_set k) x y (f p) (g p)
+divide c e (Here q) p x y f g = by_near c e (set_of q) x y (f p) (g p)
+divide c e (Next q) p x y f g = by_far c e (set_of q) x y (f p) (g p)
 divide c e Ready p x y f g = by_near c e ready x y (f p) (g p)
-divide c e (Next k) p x y f g = by_far c e (kind_set k) x y (f p) (g p)
-divide c e (NextWord k) p x y f g = by_far c e (word_set k) x y (f p) (g p)
 divide c e HasNext p x y f g = by_far c e present x y (f p) (g p)
 divide c e Deep p x y f g = c (f (fill p) x y) (g p x y)
 divide c e (Not t) p x y f g = divide c e t p x y g f
 divide c e (Both a b) p x y f g = divide c e a p x y (λ p' u v. divide c e b p' u v f g) g
-divide c e (Either a b) p x y f g = divide c e a p x y f (λ p' u v. divide c e b p' u v f g)
 
 -- the branch that is taken was checked; `A` is what is known at a place
 module _ (s : State) (A : Spot → Type 0) (fills : (p : Spot) → is_deep s ≡ true → A p → A (fill p)) where
@@ -70,11 +67,9 @@ module _ (s : State) (A : Spot → Type 0) (fills : (p : Spot) → is_deep s ≡
 
   pub divide-at : (t : Test) (b : Bool) (p : Spot) (x y : ℕ) (f g : Spot → ℕ → ℕ → Bool) → Shown s.current → b ≡ holds t s → divide (λ a b. a and b) true t p x y f g ≡ true → Seen x y s → A p → Way (choice b f g)
   unfolding divide holds
-  divide-at (At k) b p x y f g w e h i a = placed b p f g a (near-at b (kind_set k) x y (f p) (g p) s (e ∙ at-set k s.current w) h i)
-  divide-at (Word k) b p x y f g w e h i a = placed b p f g a (near-at b (word_set k) x y (f p) (g p) s (e ∙ word-is k s.current w) h i)
+  divide-at (Here q) b p x y f g w e h i a = placed b p f g a (near-at b (set_of q) x y (f p) (g p) s (e ∙ fits-set q s.current w) h i)
+  divide-at (Next q) b p x y f g w e h i a = placed b p f g a (far-at b (set_of q) x y (f p) (g p) s (e ∙ fits-set q (second s.items) (second-shown s.items)) h i)
   divide-at Ready b p x y f g w e h i a = placed b p f g a (near-at b ready x y (f p) (g p) s (e ∙ ready-is s.current w) h i)
-  divide-at (Next k) b p x y f g w e h i a = placed b p f g a (far-at b (kind_set k) x y (f p) (g p) s (e ∙ at-set k (second s.items) (second-shown s.items)) h i)
-  divide-at (NextWord k) b p x y f g w e h i a = placed b p f g a (far-at b (word_set k) x y (f p) (g p) s (e ∙ word-is k (second s.items) (second-shown s.items)) h i)
   divide-at HasNext b p x y f g w e h i a = placed b p f g a (far-at b present x y (f p) (g p) s (e ∙ present-is (second s.items) (second-shown s.items)) h i)
   divide-at Deep b p x y f g w e h i a = blind b p x y f g e h i a
   divide-at (Not t) b p x y f g w e h i a = turned b f g (divide-at t (not b) p x y g f w (flip b (holds t s) e) h i a)
@@ -83,12 +78,6 @@ module _ (s : State) (A : Spot → Type 0) (fills : (p : Spot) → is_deep s ≡
       elim (either (holds t s)) [
         | inl y' ↦ (let r = divide-at t true p x y k g w (sym y') h i a in divide-at q b r.0 r.1 r.2 f g w (e ∙ ap (λ z. z && holds q s) y') r.3 r.4 r.5)
         | inr n ↦ subst (λ z. Way (choice z f g)) (sym (e ∙ ap (λ z. z && holds q s) n)) (divide-at t false p x y k g w (sym n) h i a)
-      ]
-  divide-at (Either t q) b p x y f g w e h i a =
-      let k : Spot → ℕ → ℕ → Bool = λ p' u v. divide (λ a b. a and b) true q p' u v f g in
-      elim (either (holds t s)) [
-        | inl y' ↦ subst (λ z. Way (choice z f g)) (sym (e ∙ ap (λ z. z || holds q s) y')) (divide-at t true p x y f k w (sym y') h i a)
-        | inr n ↦ (let r = divide-at t false p x y f k w (sym n) h i a in divide-at q b r.0 r.1 r.2 f g w (e ∙ ap (λ z. z || holds q s) n) r.3 r.4 r.5)
       ]
 
 -- ---- where no place is followed

@@ -1,10 +1,11 @@
 -- What a test says of the classes of the current token and of the next significant one: it passes exactly for the classes of its set.
-use Rattle.std.proofs.Common.{◌≡◌, ℕ, zero, suc, ◌+◌, ◌-◌, ◌^◌, ◌%◌, ◌≤◌, min, Bool, true, false, not, cond, ◌&&◌, eqb, bit_and, List, [], ◌∷◌, Option, Some, None, refl, sym, ap, ◌∙◌, subst, inl, inr, eqb-true, is_some, arith}
+use Rattle.std.proofs.Common.{◌≡◌, ℕ, zero, suc, ◌+◌, ◌-◌, ◌^◌, ◌%◌, ◌≤◌, ◌<◌, ◌||◌, ap₂, max, min, Bool, true, false, not, cond, ◌&&◌, eqb, bit_and, List, [], ◌∷◌, Option, Some, None, refl, sym, ap, ◌∙◌, subst, inl, inr, eqb-true, is_some, arith}
 use Rattle.std.specs.Prelude.{⊤}
 use Rattle.std.proofs.lemmas.Bool.{eqb-false}
 use Rattle.std.specs.Int.{bit_at}
-use Rattle.std.specs.Int.Bits.{bit_xor}
-use Rattle.std.proofs.lemmas.Nat.Bits.{bit_at_and, bit_at_xor, bit_at-lt, bit_at-pow_same, bit_at-zero}
+use Rattle.std.specs.Int.Bits.{bit_xor, bit_or}
+use Rattle.parser_rules.specs.RuleLanguage.{TokenTest, Kind, Keyword, Or, fits}
+use Rattle.std.proofs.lemmas.Nat.Bits.{bit_at_and, bit_at_or, bit_at_xor, bit_at-lt, bit_at-pow_same, bit_at-zero}
 use Rattle.lexical_grammar.specs.declared.TokenKind.{TokenKind}
 use Rattle.lexical_grammar.specs.declared.TokenKind.TheVariants as token
 use Rattle.lexical_grammar.specs.Cut.{Item}
@@ -87,6 +88,11 @@ kind_set k = 2 ^ leaf_number k
 
 abbrev pub word_set : SyntaxKind → ℕ
 word_set k = bit_and (2 ^ number k) name_classes
+
+abbrev pub set_of : TokenTest → ℕ
+set_of (Kind k) = kind_set k
+set_of (Keyword k) = word_set k
+set_of (Or p q) = bit_or (set_of p) (set_of q)
 
 -- all classes but that of no token, and that of the end
 abbrev pub present : ℕ
@@ -220,6 +226,24 @@ name-none = refl
 pub word-is : (k : SyntaxKind) (o : Option Lexeme) → Shown o → is_word k o ≡ within (class_of o) (word_set k)
 word-is k None w = sym (no-name absent (2 ^ number k) name-none)
 word-is k (Some t) w = at-token (λ j c. same_kind j token.Name && eqb (word_class words t.text) (number k) ≡ within c (word_set k)) t.kind t.text w (end-word k t.text) (λ e. at-word t.kind k t.text e w)
+
+in-either : (a x y : ℕ) → within a x || within a y ≡ within a (bit_or x y)
+unfolding within
+in-either a x y = rw (bit_at_or x y a) (one-of (bit_at x a) (bit_at y a) (bit_at-lt x a) (bit_at-lt y a))
+  where
+    one-of : (m n : ℕ) → m < 2 → n < 2 → eqb m 1 || eqb n 1 ≡ eqb (max m n) 1
+    one-of zero zero l h = refl
+    one-of zero (suc zero) l h = refl
+    one-of zero (suc (suc n)) l h = absurd (omega (arith, h))
+    one-of (suc zero) zero l h = refl
+    one-of (suc zero) (suc zero) l h = refl
+    one-of (suc zero) (suc (suc n)) l h = absurd (omega (arith, h))
+    one-of (suc (suc m)) n l h = absurd (omega (arith, l))
+
+pub fits-set : (q : TokenTest) (o : Option Lexeme) → Shown o → fits q o ≡ within (class_of o) (set_of q)
+fits-set (Kind k) o w = at-set k o w
+fits-set (Keyword k) o w = word-is k o w
+fits-set (Or p q) o w = ap₂ (λ (a b : Bool). a || b) (fits-set p o w) (fits-set q o w) ∙ in-either (class_of o) (set_of p) (set_of q)
 
 pub ready-is : (o : Option Lexeme) → Shown o → not (is_over o) ≡ within (class_of o) ready
 ready-is None w = none-ready

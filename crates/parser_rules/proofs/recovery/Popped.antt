@@ -17,7 +17,7 @@ use Rattle.parser_rules.specs.declared.message.Message.{Message}
 use Rattle.parser_rules.specs.Messages.{at_limit}
 use Rattle.parser_rules.specs.State.{State, Lexeme, Part, Report, Text, bad_report, token_limit_report, recursion_limit_report, fault_report, ignored, met, wait, bad, lexeme, read_on, second, add_all, flush, opened, closed, wrapped_from, moved, bump, noted, note, deepened, limited_at, too_deep, enter, leave, is_at, fresh, begun}
 use Rattle.parser_rules.specs.Nodes.{Node, kind_of, Document}
-use Rattle.parser_rules.specs.RuleLanguage.{Test, At, HasNext, Not, Both, holds, Prim, Bump, Note, step, Rule, Do, Call}
+use Rattle.parser_rules.specs.RuleLanguage.{Kind, Test, Here, HasNext, Not, Both, holds, Prim, Bump, Note, step, Rule, Do, Call}
 use Rattle.parser_rules.specs.Rules.{inside}
 use Rattle.parser_rules.specs.Runs.{Runs, skip, does, seq, yes, no, done, again, child, limited, deeper, refused, call, plain, wrapped}
 use Rattle.parser_rules.proofs.recovery.RecoveryCheck.{is_list, is_note, excludes, asks_next, pops, few, told_first, spares, recovers_well}
@@ -456,7 +456,7 @@ not-false false e = refl
 
 no-bracket : (q : Test) (s : State) → excludes q ≡ true → true ≡ holds q s → is_at token.RBracket s.current ≡ false
 unfolding holds ◌or◌
-no-bracket (Not (At token.RBracket)) s e h = not-false (is_at token.RBracket s.current) h
+no-bracket (Not (Here (Kind token.RBracket))) s e h = not-false (is_at token.RBracket s.current) h
 no-bracket (Both p q) s e h = let b = and-both (holds p s) (holds q s) h in elim (or-c _ _ e) [ inl i ↦ no-bracket p s i b.0 | inr i ↦ no-bracket q s i b.1 ]
 no-bracket _ s e h = false-true refl e
 

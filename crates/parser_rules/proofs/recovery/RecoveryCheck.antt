@@ -10,7 +10,7 @@ use Rattle.document_grammar.specs.Pattern.{Pattern, any_of, nothing, ◌then◌,
 use Rattle.document_grammar.specs.Rows.{Row}
 use Rattle.document_grammar.specs.Booleans.{◌and◌, ◌or◌}
 use Rattle.parser_rules.specs.Nodes.{Node, kind_of}
-use Rattle.parser_rules.specs.RuleLanguage.{Test, At, HasNext, Not, Both, Bump, Note, Rule, Skip, Do, Seq, When, While, Child, TooDeep, Nested, Call, Typed}
+use Rattle.parser_rules.specs.RuleLanguage.{Kind, Test, Here, HasNext, Not, Both, Bump, Note, Rule, Skip, Do, Seq, When, While, Child, TooDeep, Nested, Call, Typed}
 use Rattle.parser_rules.specs.Rules.{inside, body}
 use Rattle.parser_rules.proofs.leaves.LeafCheck.{is_error}
 
@@ -22,7 +22,7 @@ is_note _ = false
 
 -- where the test passes, the current token is no `]`
 abbrev pub excludes : Test → Bool
-excludes (Not (At token.RBracket)) = true
+excludes (Not (Here (Kind token.RBracket))) = true
 excludes (Both p q) = excludes p or excludes q
 excludes _ = false
 

@@ -12,7 +12,7 @@ use Rattle.document_grammar.proofs.Joins.{join-none, join_assoc}
 use Rattle.parser_rules.specs.declared.message.Message.{Message}
 use Rattle.parser_rules.specs.State.{State, Lexeme, Part, Report, bad_report, token_limit_report, recursion_limit_report, fault_report, ignored, met, wait, bad, lexeme, read_on, second, add_all, flush, opened, closed, wrapped_from, moved, bump, noted, note, is_deep, deepened, limited_at, too_deep, enter, leave, is_at, is_word, is_over}
 use Rattle.parser_rules.specs.Nodes.{kind_of}
-use Rattle.parser_rules.specs.RuleLanguage.{Test, At, Word, Ready, Next, NextWord, HasNext, Deep, Not, Both, Either, holds, Prim, Bump, Note, step, Rule}
+use Rattle.parser_rules.specs.RuleLanguage.{Test, Here, Next, At, Ready, HasNext, Deep, Not, Both, fits, holds, Prim, Bump, Note, step, Rule}
 use Rattle.parser_rules.specs.Runs.{Runs, skip, does, seq, yes, no, done, again, child, limited, deeper, refused, call, plain, wrapped}
 use Rattle.parser_rules.proofs.runs.Frame.{on_kind, on_item, parts_forest, add_all_above, add_all_here, closed_here, wrap_added}
 
@@ -226,16 +226,13 @@ deep-same s s' a = ap₂ (λ (l d : ℕ). nat_le l d) a.rest.limit a.rest.depth
 
 test-same : (q : Test) (s s' : State) → Alike s s' → holds q s' ≡ holds q s
 unfolding holds
-test-same (At k) s s' a = ap (is_at k) a.current
-test-same (Word k) s s' a = ap (is_word k) a.current
+test-same (Here q) s s' a = ap (fits q) a.current
+test-same (Next q) s s' a = ap (λ (xs : List Answer). fits q (second xs)) a.rest.items
 test-same Ready s s' a = ap (λ (o : Option Lexeme). not (is_over o)) a.current
-test-same (Next k) s s' a = ap (λ (xs : List Answer). is_at k (second xs)) a.rest.items
-test-same (NextWord k) s s' a = ap (λ (xs : List Answer). is_word k (second xs)) a.rest.items
 test-same HasNext s s' a = ap (λ (xs : List Answer). is_some (second xs)) a.rest.items
 test-same Deep s s' a = deep-same s s' a
 test-same (Not q) s s' a = ap not (test-same q s s' a)
 test-same (Both p q) s s' a = ap₂ (λ (x y : Bool). x && y) (test-same p s s' a) (test-same q s s' a)
-test-same (Either p q) s s' a = ap₂ (λ (x y : Bool). x || y) (test-same p s s' a) (test-same q s s' a)
 
 wrapping : (k : SyntaxKind) (s s' u u' w w' : State) → Same_steps s (flush s) s' (flush s') → Same_steps (flush s) u (flush s') u' → Same_steps (wrapped_from (built_count (flush s).tree) k u) w (wrapped_from (built_count (flush s').tree) k u') w' → Same_steps s (closed w) s' (closed w')
 unfolding wrapped_from closed

@@ -1,5 +1,5 @@
 -- Rules that surely take the token that is there: so loops end.
-use Rattle.std.proofs.Common.{◌≡◌, ℕ, suc, ◌<◌, Option, Some, None, refl, sym, ◌∙◌, ap, subst, arith, true, false, Bool, not, ◌&&◌, ◌||◌, inl, inr, true≢false}
+use Rattle.std.proofs.Common.{◌≡◌, ℕ, suc, ◌<◌, Option, Some, None, refl, sym, ◌∙◌, ap, ap₂, subst, arith, true, false, Bool, not, ◌&&◌, ◌||◌, inl, inr, true≢false}
 use Rattle.lexical_grammar.specs.declared.TokenKind.{TokenKind}
 use Rattle.lexical_grammar.specs.declared.TokenKind.TheVariants as token
 use Rattle.document_grammar.specs.declared.kind.SyntaxKind.{SyntaxKind}
@@ -7,7 +7,7 @@ use Rattle.document_grammar.specs.Booleans.{◌and◌, ◌or◌}
 use Rattle.document_grammar.proofs.Booleans.{and-l, and-r, either}
 use Rattle.parser_rules.specs.State.{State, Lexeme, flush, opened, closed, moved, bump, is_at, is_over, is_deep, enter, leave}
 use Rattle.parser_rules.specs.Nodes.{kind_of, ValueOf, NestedValue}
-use Rattle.parser_rules.specs.RuleLanguage.{At, Ready, Either, holds, Prim, Bump, Note, step, Rule, Skip, Do, Seq, When, Child, Nested, Call}
+use Rattle.parser_rules.specs.RuleLanguage.{TokenTest, Kind, Keyword, Or, fits, Here, Ready, holds, Prim, Bump, Note, step, Rule, Skip, Do, Seq, When, Child, Nested, Call}
 use Rattle.parser_rules.specs.Rules.{has_item, inside, body}
 use Rattle.parser_rules.specs.Runs.{Runs, skip, does, seq, yes, no, child, deeper, refused, call}
 use Rattle.parser_rules.specs.declared.message.Message.{Message}
@@ -39,26 +39,23 @@ consuming = tt
 unfoldable pub IsThere : State → Type 0
 IsThere s = (x : Lexeme) × (s.current ≡ Some x)
 
-there : (o : Option Lexeme) (k : TokenKind) → true ≡ is_at k o → (x : Lexeme) × (o ≡ Some x)
-there None k e = absurd cc
-there (Some x) k e = (x, refl)
+none-fits : (q : TokenTest) → fits q None ≡ false
+none-fits (Kind k) = refl
+none-fits (Keyword k) = refl
+none-fits (Or p q) = ap₂ (λ (a b : Bool). a || b) (none-fits p) (none-fits q)
 
-pub at_there : (k : TokenKind) (s : State) → true ≡ holds (At k) s → IsThere s
+there : (o : Option Lexeme) (q : TokenTest) → true ≡ fits q o → (x : Lexeme) × (o ≡ Some x)
+there None q e = absurd (true≢false (e ∙ none-fits q))
+there (Some x) q e = (x, refl)
+
+-- where the current token fits, it is there
+pub here_there : (q : TokenTest) (s : State) → true ≡ holds (Here q) s → IsThere s
 unfolding holds IsThere
-at_there k s e = there s.current k e
+here_there q s e = there s.current q e
 
 pub ready_there : (s : State) → true ≡ holds Ready s → IsThere s
 unfolding holds IsThere
 ready_there s e = elim s.current as (λ o. true ≡ not (is_over o) → (x : Lexeme) × (o ≡ Some x)) [ None ↦ λ y. absurd cc | Some x ↦ λ y. (x, refl) ] e
-
-either_there : (j k : TokenKind) (o : Option Lexeme) → true ≡ is_at j o || is_at k o → (x : Lexeme) × (o ≡ Some x)
-either_there j k None e = absurd cc
-either_there j k (Some x) e = (x, refl)
-
--- one of two tokens is there
-pub one_there : (j k : TokenKind) (s : State) → true ≡ holds (Either (At j) (At k)) s → IsThere s
-unfolding holds IsThere
-one_there j k s e = either_there j k s.current e
 
 item_here : (o : Option Lexeme) (d : Bool) → true ≡ (not (is_over o) && not (is_at token.RBracket o)) && not d → (x : Lexeme) × (o ≡ Some x)
 item_here None d e = absurd cc

@@ -1,7 +1,7 @@
 use Rattle.std.proofs.Common.{◌+◌, ◌*◌}
 use Rattle.parser_rules.specs.Nodes.{Selection}
-use Rattle.parser_rules.specs.RuleLanguage.{Call}
-use Rattle.parser_rules.specs.Rules.{selects}
+use Rattle.parser_rules.specs.RuleLanguage.{Here, Call}
+use Rattle.parser_rules.specs.Rules.{selection_start}
 use Rattle.parser_rules.specs.Runs.{Turns}
 use Rattle.parser_rules.proofs.runs.Frame.{left}
 use Rattle.apollo_grammar.proofs.grammar.+selection.Given as goal
@@ -25,7 +25,7 @@ abbrev pub decreases-selection::spread : goal.decreases-selection::spread
 decreases-selection::spread g l = 5 * left l.p.now + 2
 
 abbrev pub invariant-selection::selections-loop-p : goal.invariant-selection::selections-loop-p
-invariant-selection::selections-loop-p g l = Turns selects (Call Selection) l.initial.p l.p
+invariant-selection::selections-loop-p g l = Turns (Here selection_start) (Call Selection) l.initial.p l.p
 
 abbrev pub decreases-selection::selections-loop-p : goal.decreases-selection::selections-loop-p
 decreases-selection::selections-loop-p g l = left l.p

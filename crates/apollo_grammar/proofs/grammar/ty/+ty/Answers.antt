@@ -1,8 +1,9 @@
 use Rattle.std.proofs.Common.{refl, arith}
 use Rattle.lexical_grammar.specs.declared.TokenKind.TheVariants as token
 use Rattle.document_grammar.specs.declared.kind.SyntaxKind.TheVariants as kind
+use Rattle.parser_rules.specs.RuleLanguage.{Kind}
 use Rattle.parser_rules.proofs.runs.Frame.{is_mark, still_mark, still_open, open_wrapped}
-use Rattle.parser_rules.proofs.runs.Progress.{consuming, at_there, opened_takes, entered_left, flushed_left}
+use Rattle.parser_rules.proofs.runs.Progress.{consuming, here_there, opened_takes, entered_left, flushed_left}
 use Rattle.apollo_grammar.proofs.grammar.ty.+ty.Goals as goal
 
 pub ty-nullable_type-requires : goal.ty-nullable_type-requires
@@ -13,7 +14,7 @@ ty-nullable_type-requires g t c =
 pub list_type-item_type-requires : goal.list_type-item_type-requires
 unfolding consuming
 list_type-item_type-requires g t c =
-    let h = opened_takes kind.LIST_TYPE _ c.in_ok-start_node.ensures c.in_ok-bump.ensures (at_there token.LBracket _ c.requires) refl in
+    let h = opened_takes kind.LIST_TYPE _ c.in_ok-start_node.ensures c.in_ok-bump.ensures (here_there (Kind token.LBracket) _ c.requires) refl in
     let k = entered_left _ c.enter.ensures in
     λ κs w. (omega (arith, h, k, c.decreases), w)
 

@@ -2,12 +2,13 @@ use Rattle.std.proofs.Common.{refl, arith}
 use Rattle.lexical_grammar.specs.declared.TokenKind.TheVariants as token
 use Rattle.document_grammar.specs.declared.kind.SyntaxKind.TheVariants as kind
 use Rattle.std.proofs.lemmas.Result.{on_ok_weaker}
+use Rattle.parser_rules.specs.RuleLanguage.{Kind}
 use Rattle.parser_rules.specs.Nodes.{NestedValue, ListItems}
 use Rattle.parser_rules.specs.Rules.{body}
 use Rattle.parser_rules.specs.Runs.{seq, yes, no, call, deeper, limited, skip}
 use Rattle.apollo_grammar.proofs.Looks.{deep_there}
 use Rattle.parser_rules.proofs.runs.Frame.{fewer, turned, ended}
-use Rattle.parser_rules.proofs.runs.Progress.{consuming, at_there, taken, opened_takes, entered_left, item_taken}
+use Rattle.parser_rules.proofs.runs.Progress.{consuming, here_there, taken, opened_takes, entered_left, item_taken}
 use Rattle.apollo_grammar.proofs.grammar.value.+value.Goals as goal
 
 pub nested_value-value-requires : goal.nested_value-value-requires
@@ -18,7 +19,7 @@ nested_value-value-requires g t c =
 pub list_value-list_items-requires : goal.list_value-list_items-requires
 unfolding consuming
 list_value-list_items-requires g t c =
-    let h = opened_takes kind.LIST_VALUE _ c.in_ok-start_node.ensures c.in_ok-bump.ensures (at_there token.LBracket _ c.requires) refl in
+    let h = opened_takes kind.LIST_VALUE _ c.in_ok-start_node.ensures c.in_ok-bump.ensures (here_there (Kind token.LBracket) _ c.requires) refl in
     λ κs w. (omega (arith, h, c.decreases), w)
 
 pub list_items-nested_value-requires : goal.list_items-nested_value-requires
@@ -32,18 +33,18 @@ list_items-loop-p-smaller g t c = item_taken c.in_ok-nested_value.ensures c.loop
 pub object_value-object_field-requires : goal.object_value-object_field-requires
 unfolding consuming
 object_value-object_field-requires g t c =
-    let h = opened_takes kind.OBJECT_VALUE _ c.in_ok-start_node.ensures c.in_ok-bump.ensures (at_there token.LCurly _ c.requires) refl in
+    let h = opened_takes kind.OBJECT_VALUE _ c.in_ok-start_node.ensures c.in_ok-bump.ensures (here_there (Kind token.LCurly) _ c.requires) refl in
     let k = (turned c.loop-p.invariant).fewer in
     λ κs w. (omega (arith, h, k, c.decreases), (w, c.loop-p-test.ensures))
 
 pub object_value-loop-p-smaller : goal.object_value-loop-p-smaller
 unfolding consuming
-object_value-loop-p-smaller g t c = taken c.in_ok-object_field.ensures (at_there token.Name _ c.loop-p-test.ensures) refl
+object_value-loop-p-smaller g t c = taken c.in_ok-object_field.ensures (here_there (Kind token.Name) _ c.loop-p-test.ensures) refl
 
 pub object_field-nested_value-requires : goal.object_field-nested_value-requires
 unfolding consuming
 object_field-nested_value-requires g t c =
-    let h = opened_takes kind.OBJECT_FIELD _ c.in_ok-start_node.ensures c.in_ok-name.ensures (at_there token.Name _ c.requires) refl in
+    let h = opened_takes kind.OBJECT_FIELD _ c.in_ok-start_node.ensures c.in_ok-name.ensures (here_there (Kind token.Name) _ c.requires) refl in
     let k = fewer c.in_ok-bump.ensures in
     λ κs w. (omega (arith, h, k, c.decreases), w)
 

@@ -1,0 +1,16 @@
+-- What the functions of a parser are proved by: the forms of a run, and that nodes and levels stay open.
+use Rattle.parser_rules.specs.Runs.{skip, does, seq, yes, no, child, deeper, refused, call, plain, wrapped, begin, turn}
+use Rattle.parser_rules.proofs.runs.Forms.{wanted, chosen, for_fragment, for_enum}
+use Rattle.parser_rules.proofs.runs.Frame.{ended, is_open, still_open, open_in_loop, open_too_deep, open_inside, open_outside, is_inside, still_inside, still_at}
+
+-- a step, and one rule after the other
+pub ruleset sequence = (skip, seq, yes, no)
+
+-- a function of the grammar
+pub ruleset running = (sequence, child, call, wanted, chosen, for_fragment, for_enum, is_open, still_open, still_at)
+
+-- the same, with a loop
+pub ruleset looping = (running, begin, turn, ended, open_in_loop)
+
+-- the same, one level deeper
+pub ruleset nesting = (looping, deeper, refused, plain, wrapped, open_too_deep, open_inside, open_outside, is_inside, still_inside)
