@@ -1,15 +1,13 @@
 -- An escape at the front of a text, form by form: how long it is, and what it stands for.
-use Rattle.std.proofs.Common.{◌≡◌, ℕ, ◌+◌, ◌-◌, ◌<◌, ◌≤◌, Bool, true, false, cond, List, [], ◌∷◌, length, take, drop, min, nat_lt, Some, None, refl, sym, ap, ◌∙◌, subst, inl, inr, true≢false, arith, length-append}
+use Rattle.std.proofs.Common.{◌≡◌, ℕ, ◌+◌, ◌-◌, ◌<◌, ◌≤◌, Bool, true, false, cond, List, [], ◌∷◌, length, take, drop, min, nat_lt, Some, None, refl, sym, ap, ◌∙◌, subst, inl, inr, arith, length-append}
 use Rattle.std.specs.Prelude.{slice_index, is_some, ◌&&◌, encode_utf8}
-use Rattle.std.specs.Option.{option_to_list}
 use Rattle.std.specs.Char.{IsScalar}
 use Rattle.std.specs.Char.Utf16.{is_high_surrogate, is_low_surrogate, surrogate_pair_char}
 use Rattle.std.specs.List.{list_all, prefix_len}
 use lib.Utf8.{scalar}
-use Rattle.std.proofs.lemmas.Bool.{cases_Bool, and_parts, cases_lt, lt-ltb, false_from_ne_true}
+use Rattle.std.proofs.lemmas.Bool.{and_parts, cases_lt, lt-ltb, false_from_ne_true}
 use Rattle.std.proofs.lemmas.Bool.Decides.{nat_tests}
 use Rattle.std.proofs.lemmas.List.{take_rest}
-use Rattle.std.proofs.lemmas.Str.{encode_ascii}
 use Rattle.lexical_grammar.specs.Characters.{is_hex_digit}
 use Rattle.lexical_grammar.specs.Strings.{hex_value, begins, escaped_character}
 use Rattle.lexical_grammar.specs.Reads.{begins_fixed_escape, fixed_value, begins_braced_escape, braced_digits_len, string_character_len, string_character_value}
@@ -50,17 +48,8 @@ second_byte bs h = ap (λ l. slice_index l 1) (begins_is (92 ∷ 117 ∷ []) (92
 no_other : (bs : List ℕ) → begins (92 ∷ 117 ∷ []) (92 ∷ bs) ≡ true → is_some (escaped_character (slice_index bs 0)) ≡ false
 no_other bs h = ap (λ (c : ℕ). is_some (escaped_character c)) (second_byte bs h)
 
--- ---- a fixed escape
+-- ---- two fixed escapes: a surrogate pair, or no pair
 
-fixed_at : (bs : List ℕ) → begins_fixed_escape (92 ∷ bs) ≡ true → scalar (fixed_value (92 ∷ bs)) ≡ true → IsRead (92 ∷ bs) 6 (encode_utf8 (fixed_value (92 ∷ bs)))
-fixed_at bs h s = record { len = rw (h, s) refl; value = rw (h, s) refl }
-
-pub one_escape : (text : List ℕ) (v c : ℕ) → slice_index text 0 ≡ 92 → IsFixedValue text (Some v) → scalar v ≡ true → c ≡ v → IsEscape text c 6
-one_escape text v c e f s is =
-    slashed (λ t. IsFixedValue t (Some v) → IsEscape t c 6) text e
-    (λ bs g. escape_of (92 ∷ bs) _ c 6 (fixed_at bs g.0 (ap scalar (sym g.1) ∙ s)) (ap encode_utf8 (is ∙ g.1)) (omega arith)) f
-
--- two that are a surrogate pair, or no pair
 pair_at : (bs : List ℕ) → begins_fixed_escape (92 ∷ bs) ≡ true → scalar (fixed_value (92 ∷ bs)) ≡ false → is_high_surrogate (fixed_value (92 ∷ bs)) ≡ true
     → begins_fixed_escape (drop 6 (92 ∷ bs)) ≡ true → is_low_surrogate (fixed_value (drop 6 (92 ∷ bs))) ≡ true
     → IsRead (92 ∷ bs) 12 (encode_utf8 (surrogate_pair_char (fixed_value (92 ∷ bs)) (fixed_value (drop 6 (92 ∷ bs)))))
@@ -178,38 +167,3 @@ no_braced_escape text e front h b =
 
 pub no_number : (text : List ℕ) (n v : ℕ) → IsBraced text n v → (IsScalar v → ⊥) → begins_braced_escape text ≡ false
 no_number text n v b none = b.names ∙ false_from_ne_true _ none
-
--- ---- one character after the backslash
-
-not_both : (text : List ℕ) → begins (92 ∷ 117 ∷ []) text ≡ false → begins (92 ∷ 117 ∷ 123 ∷ []) text ≡ true → ⊥
-not_both text h b =
-    let e : begins (92 ∷ 117 ∷ []) text ≡ true = ap (begins (92 ∷ 117 ∷ [])) (begins_is (92 ∷ 117 ∷ 123 ∷ []) text b) in
-    true≢false (sym e ∙ h)
-
-unbraced : (bs : List ℕ) → begins (92 ∷ 117 ∷ []) (92 ∷ bs) ≡ false → begins_braced_escape (92 ∷ bs) ≡ false
-unbraced bs h = elim (cases_Bool (begins (92 ∷ 117 ∷ 123 ∷ []) (92 ∷ bs))) [
-  | inl b ↦ absurd (not_both (92 ∷ bs) h b)
-  | inr n ↦ (rw n refl)
-]
-
-unfixed : (bs : List ℕ) → begins (92 ∷ 117 ∷ []) (92 ∷ bs) ≡ false → begins_fixed_escape (92 ∷ bs) ≡ false
-unfixed bs h = rw h refl
-
-other_at : (bs : List ℕ) → begins (92 ∷ 117 ∷ []) (92 ∷ bs) ≡ false → is_some (escaped_character (slice_index bs 0)) ≡ true
-    → IsRead (92 ∷ bs) 2 (option_to_list (escaped_character (slice_index bs 0)))
-other_at bs h is = record { len = rw (unfixed bs h, unbraced bs h, is) refl; value = rw (unfixed bs h, unbraced bs h) refl }
-
-small_value : (e c : ℕ) → escaped_character e ≡ Some c → c < 128
-small_value e c h = grind (arith, nat_tests)
-
-pub other_escape : (text : List ℕ) (c : ℕ) → slice_index text 0 ≡ 92 → begins (92 ∷ 117 ∷ []) text ≡ false → escaped_character (slice_index text 1) ≡ Some c → IsEscape text c 2
-other_escape text c e h is =
-    slashed (λ t. begins (92 ∷ 117 ∷ []) t ≡ false → escaped_character (slice_index t 1) ≡ Some c → IsEscape t c 2) text e
-    (λ bs h is. escape_of (92 ∷ bs) _ c 2 (other_at bs h (ap is_some is)) (encode_ascii c (small_value (slice_index bs 0) c is) ∙ ap option_to_list (sym is)) (omega arith)) h is
-
-other_none_at : (bs : List ℕ) → begins (92 ∷ 117 ∷ []) (92 ∷ bs) ≡ false → is_some (escaped_character (slice_index bs 0)) ≡ false → string_character_len (92 ∷ bs) ≡ 0
-other_none_at bs h is = rw (unfixed bs h, unbraced bs h, is) refl
-
-pub no_other_escape : (text : List ℕ) → slice_index text 0 ≡ 92 → begins (92 ∷ 117 ∷ []) text ≡ false → escaped_character (slice_index text 1) ≡ None → string_character_len text ≡ 0
-no_other_escape text e h is =
-    slashed (λ t. begins (92 ∷ 117 ∷ []) t ≡ false → is_some (escaped_character (slice_index t 1)) ≡ false → string_character_len t ≡ 0) text e other_none_at h (ap is_some is)
