@@ -55,3 +55,44 @@ eqb-refl k = elim (either (eqb k k)) [ inl p ↦ p | inr p ↦ absurd (eqb-false
 pub cond-zero : (b : Bool) → ◌≡◌ {A = ℕ} (cond b 0 0) 0
 cond-zero true = refl
 cond-zero false = refl
+
+pub or-false : {a b : Bool} → a ≡ false → b ≡ false → a or b ≡ false
+unfolding ◌or◌
+or-false {a} {b} e f = rw (e, f) refl
+
+pub or-false-l : (a b : Bool) → a or b ≡ false → a ≡ false
+unfolding ◌or◌
+or-false-l true b h = h
+or-false-l false b h = refl
+
+pub or-false-r : (a b : Bool) → a or b ≡ false → b ≡ false
+unfolding ◌or◌
+or-false-r true b h = absurd (true≢false h)
+or-false-r false b h = h
+
+pub or-assoc : (a b c : Bool) → (a or b) or c ≡ a or (b or c)
+unfolding ◌or◌
+or-assoc true b c = refl
+or-assoc false b c = refl
+
+pub or-none : (a : Bool) → a or false ≡ a
+unfolding ◌or◌
+or-none true = refl
+or-none false = refl
+
+pub and-false-r : (a : Bool) {b : Bool} → b ≡ false → a and b ≡ false
+unfolding ◌and◌
+and-false-r true e = e
+and-false-r false e = refl
+
+pub and-false-l : (a b : Bool) → a ≡ false → a and b ≡ false
+unfolding ◌and◌
+and-false-l a b e = rw e refl
+
+-- Two tests that agree.
+abbrev pub same : Bool → Bool → Bool
+same a b = cond a b (not b)
+
+pub same-bool : (a b : Bool) → same a b ≡ true → a ≡ b
+same-bool true b h = sym h
+same-bool false b h = sym (not-c b h)

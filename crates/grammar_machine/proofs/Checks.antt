@@ -48,25 +48,31 @@ abbrev pub any_entries : List Entry → (ℕ → ℕ → Bool → Bool) → Bool
 any_entries [] t = false
 any_entries (entry x y alone ∷ more) t = t x y alone or any_entries more t
 
-abbrev pub all_states : List State → (State → Bool) → Bool
-all_states [] t = true
-all_states (s ∷ more) t = t s and all_states more t
-
 abbrev pub all_below : ℕ → (ℕ → Bool) → Bool
 all_below zero t = true
 all_below (suc n) t = t n and all_below n t
 
+-- A test of each element of a list and its place; of each state and its symbol; of each symbol, state and arc.
+abbrev pub all_from : {A : Type 0} → ℕ → List A → (ℕ → A → Bool) → Bool
+all_from n [] t = true
+all_from n (x ∷ more) t = t n x and all_from (suc n) more t
+
+abbrev pub every_state : (ℕ → ℕ → State → Bool) → Bool
+every_state t = all_from DOCUMENT rows (λ s r. all_from 0 r (t s))
+
 abbrev pub all_rows : ℕ → List (List State) → (ℕ → State → Bool) → Bool
-all_rows s [] t = true
-all_rows s (r ∷ more) t = all_states r (t s) and all_rows (suc s) more t
+all_rows n l t = all_from n l (λ s r. all_from 0 r (λ q v. t s v))
+
+abbrev pub every_arc : (ℕ → ℕ → ℕ → Bool) → Bool
+every_arc t = every_state (λ s q v. all_arcs (state_arcs v) (t s))
 
 -- Each state's tests.
 abbrev pub state_begins : State → ℕ
 state_begins v = arcs_mask (state_arcs v)
 
 -- A node that may follow `k` after which the row of `s` stands in the state `v`.
-abbrev pub follow_test : ℕ → State → Bool
-follow_test s v = all_arcs (state_arcs v) (λ k q. exits k (λ x. subset (state_begins (at s (q + x))) (follow k x) and (not (ends s (q + x)) or subset (follow s (exit s (q + x))) (follow k x))))
+abbrev pub follow_test : ℕ → ℕ → ℕ → Bool
+follow_test s k q = exits k (λ x. subset (state_begins (at s (q + x))) (follow k x) and (not (ends s (q + x)) or subset (follow s (exit s (q + x))) (follow k x)))
 
 abbrev pub close_test : ℕ → State → Bool
 close_test s v = not (state_ends v) or disjoint (state_begins v) (follow s (state_exit v))
@@ -89,20 +95,17 @@ choice_test s v = choice_arcs s (state_arcs v)
 abbrev pub covered : ℕ → ℕ → ℕ → ℕ → ℕ → Bool → Bool
 covered s q x x1 y1 a1 = any_entries (entries s) (λ x2 y2 a2. subset x1 x2 and subset y1 y2 and (not a1 or (subset (state_begins (at s (q + x))) y2 and (not (ends s (q + x)) or a2))))
 
-abbrev pub first_arcs : ℕ → List (ℕ × ℕ) → Bool
-first_arcs s l = all_arcs l (λ k q. exits k (λ x. all_entries (entries k) (covered s q x)))
+-- The test of the first state of a row, which does not end there.
+abbrev pub first_arc : ℕ → ℕ → ℕ → Bool
+first_arc s k q = exits k (λ x. all_entries (entries k) (covered s q x))
 
-abbrev pub first_row : ℕ → List State → Bool
-first_row s r = first_arcs s (state_arcs (get_or r 0 dead))
-
-abbrev pub first_rows : ℕ → List (List State) → Bool
-first_rows s [] = true
-first_rows s (r ∷ more) = first_row s r and first_rows (suc s) more
+abbrev pub first_test : ℕ → ℕ → State → Bool
+first_test s q v = not (eqb q 0) or (all_arcs (state_arcs v) (first_arc s) and not (state_ends v))
 
 abbrev pub leaf_entry : ℕ → Bool
 leaf_entry l = all_entries (entries l) (λ x y a. a and eqb y 0)
 
-pub follow_checked : all_rows DOCUMENT rows follow_test ≡ true
+pub follow_checked : every_arc follow_test ≡ true
 unfolding ◌and◌ ◌or◌ holds is_leaf at ends exit arcs entries rows firsts follows follow exits arcs_mask
 follow_checked = refl
 
@@ -114,21 +117,10 @@ pub choice_checked : all_rows DOCUMENT rows choice_test ≡ true
 unfolding ◌and◌ ◌or◌ holds is_leaf at ends exit arcs entries rows firsts follows follow exits arcs_mask
 choice_checked = refl
 
-pub first_checked : first_rows DOCUMENT rows ≡ true
+pub first_checked : every_state first_test ≡ true
 unfolding ◌and◌ ◌or◌ holds is_leaf at ends exit arcs entries rows firsts follows follow exits arcs_mask
 first_checked = refl
 
 pub leaf_checked : all_below DOCUMENT leaf_entry ≡ true
 unfolding ◌and◌ ◌or◌ holds is_leaf at ends exit arcs entries rows firsts follows follow exits arcs_mask
 leaf_checked = refl
-
-abbrev pub start_row : List State → Bool
-start_row r = not (state_ends (get_or r 0 dead))
-
-abbrev pub start_rows : List (List State) → Bool
-start_rows [] = true
-start_rows (r ∷ more) = start_row r and start_rows more
-
-pub start_checked : start_rows rows ≡ true
-unfolding ◌and◌ ◌or◌ holds is_leaf at ends exit arcs entries rows firsts follows follow exits arcs_mask
-start_checked = refl

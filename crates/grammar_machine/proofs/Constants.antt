@@ -1,86 +1,50 @@
 -- A tree of the tables keeps the rules on constants and braces; so it is shown as a derivation.
-use Rattle.std.proofs.Common.{◌≡◌, ◌≢◌, ℕ, ◌+◌, Bool, true, false, cond, not, eqb, ltb, List, [], ◌∷◌, ◌++◌, get_or, refl, sym, ap, ap₂, ◌∙◌, subst, ◌⊎◌, inl, inr, true≢false, arith, eqb-true, append-nil}
+use Rattle.std.proofs.Common.{◌≡◌, ◌≢◌, ℕ, ◌+◌, ◌<◌, Bool, true, false, cond, not, eqb, ltb, List, [], ◌∷◌, ◌++◌, get_or, refl, sym, ap, ap₂, ◌∙◌, subst, ◌⊎◌, inl, inr, true≢false, arith, eqb-true, ltb-true, append-nil}
 use Rattle.std.proofs.lemmas.Bool.{eqb-false}
 use Rattle.document_grammar.specs.Tree.{Text, Token, Tree, leaf, node, Forest, none, ◌▸◌, root}
 use Rattle.document_grammar.specs.Pattern.{Pattern, member, Matches}
 use Rattle.document_grammar.specs.Rows.{Row, bare_selections}
-use Rattle.document_grammar.specs.Kinds.{DOCUMENT, OPERATION_DEFINITION, SELECTION_SET, FRAGMENT_NAME, DIRECTIVES, VARIABLE, DEFAULT_VALUE, ENUM_VALUE, NAMED_TYPE, LIST_TYPE, NON_NULL_TYPE, OBJECT_TYPE_DEFINITION, FIELDS_DEFINITION, INTERFACE_TYPE_DEFINITION, ENUM_TYPE_DEFINITION, ENUM_VALUES_DEFINITION, INPUT_OBJECT_TYPE_DEFINITION, INPUT_FIELDS_DEFINITION, OBJECT_TYPE_EXTENSION, INTERFACE_TYPE_EXTENSION, ENUM_TYPE_EXTENSION, INPUT_OBJECT_TYPE_EXTENSION, FIELD, FRAGMENT_SPREAD, INLINE_FRAGMENT, FRAGMENT_DEFINITION, ARGUMENTS, ARGUMENT, DIRECTIVE, VARIABLE_DEFINITIONS, VARIABLE_DEFINITION, LIST_VALUE, OBJECT_VALUE, OBJECT_FIELD, L_CURLY, IDENT, STRING}
+use Rattle.document_grammar.specs.Kinds.{DOCUMENT, OPERATION_DEFINITION, SELECTION_SET, FRAGMENT_NAME, DIRECTIVES, VARIABLE, DEFAULT_VALUE, ENUM_VALUE, NAMED_TYPE, LIST_TYPE, NON_NULL_TYPE, OBJECT_TYPE_DEFINITION, FIELDS_DEFINITION, INTERFACE_TYPE_DEFINITION, ENUM_TYPE_DEFINITION, ENUM_VALUES_DEFINITION, INPUT_OBJECT_TYPE_DEFINITION, INPUT_FIELDS_DEFINITION, OBJECT_TYPE_EXTENSION, INTERFACE_TYPE_EXTENSION, ENUM_TYPE_EXTENSION, INPUT_OBJECT_TYPE_EXTENSION, FIELD, FRAGMENT_SPREAD, INLINE_FRAGMENT, FRAGMENT_DEFINITION, ARGUMENTS, ARGUMENT, DIRECTIVE, VARIABLE_DEFINITIONS, VARIABLE_DEFINITION, LIST_VALUE, OBJECT_VALUE, OBJECT_FIELD, BANG, L_CURLY, IDENT, STRING}
 use Rattle.document_grammar.specs.Choices.{Types}
 use Rattle.grammar_machine.specs.Table.{State, rows, firsts, name_leaves}
 use Rattle.grammar_machine.proofs.generated.Labels.{paths, labels}
 use Rattle.document_grammar.specs.Booleans.{◌and◌, ◌or◌}
-use Rattle.grammar_machine.specs.Machine.{holds, is_leaf, at, ends, exit, arcs, has, target, target_in, state_arcs, opening, entries, fires, class, yield, yields, token, finish, walk, Ok, OkFrom, Path}
+use Rattle.grammar_machine.specs.Machine.{holds, is_leaf, at, ends, exit, arcs, has, target, target_in, state_arcs, state_ends, state_exit, opening, entries, fires, class, yield, yields, token, finish, walk, Ok, OkFrom, Path}
 use Rattle.document_grammar.specs.Derivation.{kinds, NameRule, NoVariable, NoVariables, Marked, ConstantDirectives, ConstantRule, Braced, NoBlock, LacksBlock, StartsWithSelections, IsQuery, BraceRule, Fits, AllFit, BareBy, Sort, document, selections, type, Derivation, Spells, Yield, Yields}
-use Rattle.grammar_machine.proofs.Checks.{all_arcs, all_rows, exits, all_below}
-use Rattle.document_grammar.proofs.Booleans.{false-true, and-l, and-r, or-c, or-r, not-c, either, implies}
-use Rattle.grammar_machine.proofs.TableLemmas.{arcs-at, exits-at, row-test, below-at}
+use Rattle.grammar_machine.proofs.Checks.{all_arcs, every_state, every_arc, exits, all_below}
+use Rattle.document_grammar.proofs.Booleans.{false-true, and-l, and-r, and-i, or-c, or-r, or-false, or-false-l, or-false-r, or-assoc, or-none, same, same-bool, not-c, either, implies}
+use Rattle.grammar_machine.proofs.TableLemmas.{arcs-at, arc-test, exits-at, state-test, below-at}
 use Rattle.grammar_machine.proofs.Sound.{leaf-lt}
 use Rattle.grammar_machine.proofs.Patterns.{all_kinds, label, shown, pattern_of, symbol_row}
 use Rattle.grammar_machine.proofs.FromMachineTree.{kinds-at, type-arc, type-child, type-root, type-end, show, shows, build, type_of, row-shown, show-root, shown-root}
-use Rattle.grammar_machine.proofs.Rules.{at-label, label-alone, name-rule, leaf-rule, start-pattern, symbol-row}
+use Rattle.grammar_machine.proofs.Rules.{label-test, labels-alone, name-rule, leaf-rule, start-pattern, symbol-row}
 use Rattle.grammar_machine.specs.Symbols.{TYPE, SHORT_QUERY, BARE_SELECTIONS}
-use Rattle.grammar_machine.proofs.FromMachineTree.{zero-plus}
 
 -- The symbols below which no VARIABLE can stand.
 unfoldable pub pure : ℕ → Bool
 pure s = not (member s (DOCUMENT ∷ OPERATION_DEFINITION ∷ SELECTION_SET ∷ FIELD ∷ FRAGMENT_SPREAD ∷ INLINE_FRAGMENT ∷ FRAGMENT_DEFINITION ∷ ARGUMENTS ∷ ARGUMENT ∷ DIRECTIVES ∷ DIRECTIVE ∷ VARIABLE_DEFINITIONS ∷ VARIABLE_DEFINITION ∷ VARIABLE ∷ LIST_VALUE ∷ OBJECT_VALUE ∷ OBJECT_FIELD ∷ SHORT_QUERY ∷ BARE_SELECTIONS ∷ []))
 
-abbrev pure_test : ℕ → State → Bool
-pure_test s v = not (pure s) or all_arcs (state_arcs v) (λ k q. pure k)
+-- Along an arc: below a pure symbol all are pure, below one whose DIRECTIVES are constant these are; and no node has the selections without
+-- braces below it.
+abbrev arc_test : ℕ → ℕ → ℕ → Bool
+arc_test s k q = (not (pure s) or pure k) and (not (member (label s) Marked and member DIRECTIVES (shown k)) or pure k) and not (eqb k BARE_SELECTIONS)
 
-abbrev marked_test : ℕ → State → Bool
-marked_test s v = not (member (label s) Marked) or all_arcs (state_arcs v) (λ k q. not (member DIRECTIVES (shown k)) or pure k)
-
--- No node has the symbol of the selections without braces below it.
-abbrev inner_test : ℕ → State → Bool
-inner_test s v = all_arcs (state_arcs v) (λ k q. not (eqb k BARE_SELECTIONS))
-
-pure-checked : all_rows DOCUMENT rows pure_test ≡ true
-unfolding pure member ◌and◌ ◌or◌ rows
-pure-checked = refl
-
-marked-checked : all_rows DOCUMENT rows marked_test ≡ true
+arcs-checked : every_arc arc_test ≡ true
 unfolding pure member ◌and◌ ◌or◌ rows label labels shown
-marked-checked = refl
+arcs-checked = refl
 
-inner-checked : all_rows DOCUMENT rows inner_test ≡ true
-unfolding ◌and◌ ◌or◌ rows
-inner-checked = refl
+along : (s q k : ℕ) → is_leaf s ≡ false → has s q k ≡ true → (pure s ≡ true → pure k ≡ true)
+    × (member (label s) Marked ≡ true → member DIRECTIVES (shown k) ≡ true → pure k ≡ true) × (eqb k BARE_SELECTIONS ≡ false)
+along s q k l h =
+    let c = arc-test arc_test arcs-checked s q k l h in
+    (implies _ _ (and-l _ _ (and-l _ _ c)), (λ m n. implies _ _ (and-r _ _ (and-l _ _ c)) (and-i m n)), not-c _ (and-r _ _ c))
 
-pure-arc : (s q k : ℕ) → is_leaf s ≡ false → pure s ≡ true → has s q k ≡ true → pure k ≡ true
-unfolding has arcs
-pure-arc s q k l p h = arcs-at (arcs s q) (λ k q. pure k) k (implies _ _ (row-test pure_test pure-checked (λ k. or-r _ _ refl) s q l) p) h
-
-marked-arc : (s q k : ℕ) → is_leaf s ≡ false → member (label s) Marked ≡ true → has s q k ≡ true → member DIRECTIVES (shown k) ≡ true → pure k ≡ true
-unfolding has arcs
-marked-arc s q k l m h n = implies _ _ (arcs-at (arcs s q) (λ k q. not (member DIRECTIVES (shown k)) or pure k) k (implies _ _ (row-test marked_test marked-checked (λ k. or-r _ _ refl) s q l) m) h) n
-
-pub inner-arc : (s q k : ℕ) → is_leaf s ≡ false → has s q k ≡ true → eqb k BARE_SELECTIONS ≡ false
-unfolding has arcs
-inner-arc s q k l h = not-c _ (arcs-at (arcs s q) (λ k q. not (eqb k BARE_SELECTIONS)) k (row-test inner_test inner-checked (λ k. refl) s q l) h)
-
-label-variable : (s : ℕ) → label s ≡ VARIABLE → s ≡ VARIABLE
-unfolding labels ◌and◌ ◌or◌
-label-variable s e = label-alone VARIABLE s refl refl e
-
-label-default_value : (s : ℕ) → label s ≡ DEFAULT_VALUE → s ≡ DEFAULT_VALUE
-unfolding labels ◌and◌ ◌or◌
-label-default_value s e = label-alone DEFAULT_VALUE s refl refl e
-
-label-document : (s : ℕ) → label s ≡ DOCUMENT → s ≡ DOCUMENT
-unfolding labels ◌and◌ ◌or◌
-label-document s e = label-alone DOCUMENT s refl refl e
-
-pure-variable : pure VARIABLE ≡ false
+pure-kinds : (pure VARIABLE ≡ false) × (pure DEFAULT_VALUE ≡ true)
 unfolding pure member
-pure-variable = refl
-
-pure-default_value : pure DEFAULT_VALUE ≡ true
-unfolding pure member
-pure-default_value = refl
+pure-kinds = (refl, refl)
 
 pure-is_no_variable : (s : ℕ) → pure s ≡ true → label s ≢ VARIABLE
-pure-is_no_variable s p e = false-true pure-variable (rw (label-variable s e) at p)
+pure-is_no_variable s p e = false-true pure-kinds.0 (rw ((labels-alone s).0 e) at p)
 
 non_null-is_no_variable : ◌≢◌ {A = ℕ} NON_NULL_TYPE VARIABLE
 non_null-is_no_variable e = omega arith
@@ -103,85 +67,126 @@ mutual
 
   pub pure-forest : (s q : ℕ) (f : Forest) → is_leaf s ≡ false → pure s ≡ true → OkFrom s q f → NoVariables (shows f)
   pure-forest s q none l p o = tt
-  pure-forest s q (t ▸ f) l p o = (pure-tree t o.1 (pure-arc s q (root t) l p o.0), pure-forest s (target s q (root t) + finish t) f l p o.2)
+  pure-forest s q (t ▸ f) l p o = (pure-tree t o.1 ((along s q (root t) l o.0).0 p), pure-forest s (target s q (root t) + finish t) f l p o.2)
 
 constant-directives : (s q : ℕ) (f : Forest) → is_leaf s ≡ false → member (label s) Marked ≡ true → OkFrom s q f → ConstantDirectives (shows f)
 constant-directives s q none l m o = tt
 constant-directives s q (t ▸ f) l m o = (
-  (λ e. pure-tree t o.1 (marked-arc s q (root t) l m o.0 (subst (λ (n : ℕ). member n (shown (root t)) ≡ true) e (shown-root t o.1)))),
+  (λ e. pure-tree t o.1 ((along s q (root t) l o.0).1 m (subst (λ (n : ℕ). member n (shown (root t)) ≡ true) e (shown-root t o.1)))),
   constant-directives s (target s q (root t) + finish t) f l m o.2,
 )
 
 pub constant-rule : (s : ℕ) (f : Forest) → is_leaf s ≡ false → OkFrom s 0 f → ConstantRule (label s) (shows f)
 constant-rule s f l o = (
-  (λ e. let n : s ≡ DEFAULT_VALUE = label-default_value s e in pure-forest s 0 f l (rw n pure-default_value) o),
+  (λ e. let n : s ≡ DEFAULT_VALUE = (labels-alone s).1 e in pure-forest s 0 f l (rw n pure-kinds.1) o),
   (λ m. constant-directives s 0 f l m o),
 )
 
--- Braces.
-abbrev pub block_marks : List ℕ
-block_marks = FIELDS_DEFINITION ∷ ENUM_VALUES_DEFINITION ∷ INPUT_FIELDS_DEFINITION ∷ 15 ∷ []
+-- Braces: what opens the block of a definition, and whether a list of trees has one.
+abbrev block_marks : List ℕ
+block_marks = FIELDS_DEFINITION ∷ ENUM_VALUES_DEFINITION ∷ INPUT_FIELDS_DEFINITION ∷ L_CURLY ∷ []
 
--- For each kind that may have a block, the states before it.
-unfoldable open_states : ℕ → List ℕ
-open_states s = cond (member s (OBJECT_TYPE_DEFINITION ∷ INTERFACE_TYPE_DEFINITION ∷ OBJECT_TYPE_EXTENSION ∷ INTERFACE_TYPE_EXTENSION ∷ [])) (0 ∷ 1 ∷ 2 ∷ 3 ∷ 4 ∷ 5 ∷ []) (cond (member s (ENUM_TYPE_DEFINITION ∷ INPUT_OBJECT_TYPE_DEFINITION ∷ ENUM_TYPE_EXTENSION ∷ INPUT_OBJECT_TYPE_EXTENSION ∷ [])) (0 ∷ 1 ∷ 2 ∷ 3 ∷ 4 ∷ []) (0 ∷ 1 ∷ 2 ∷ 3 ∷ []))
+abbrev has_block : Forest → Bool
+has_block none = false
+has_block (t ▸ f) = member (root t) block_marks or has_block f
 
-abbrev block_at : ℕ → ℕ → Bool
-block_at s q = all_arcs (arcs s q) (λ k p. all_kinds (shown k) (λ j. member j block_marks) or exits k (λ x. member (p + x) (open_states s))) and (not (ends s q) or eqb (exit s q) 1)
+block-none : (f : Forest) → NoBlock f → has_block f ≡ false
+block-none none h = refl
+block-none (t ▸ f) h = or-false h.0 (block-none f h.1)
 
-abbrev block_kind : ℕ → Bool
-block_kind s = all_kinds (open_states s) (λ q. block_at s q) and member 0 (open_states s)
+none-block : (f : Forest) → has_block f ≡ false → NoBlock f
+none-block none h = tt
+none-block (t ▸ f) h = (or-false-l _ _ h, none-block f (or-false-r _ _ h))
 
-blocks-checked : all_kinds Braced (λ s. block_kind s) ≡ true
-unfolding open_states ◌and◌ ◌or◌ is_leaf rows label labels shown member arcs ends exit exits at
+-- In the row of a definition that may have a block, the states after it.
+unfoldable after_block : ℕ → ℕ → Bool
+after_block s q = ltb (cond (member s (OBJECT_TYPE_DEFINITION ∷ INTERFACE_TYPE_DEFINITION ∷ OBJECT_TYPE_EXTENSION ∷ INTERFACE_TYPE_EXTENSION ∷ [])) 5 (cond (member s (ENUM_TYPE_DEFINITION ∷ INPUT_OBJECT_TYPE_DEFINITION ∷ ENUM_TYPE_EXTENSION ∷ INPUT_OBJECT_TYPE_EXTENSION ∷ [])) 4 3)) q
+
+abbrev block_arc : ℕ → ℕ → ℕ → ℕ → Bool
+block_arc s q k p = all_kinds (shown k) (λ j. exits k (λ x. same (after_block s (p + x)) (after_block s q or member j block_marks)))
+
+-- Only such definitions end without their block; a child leads past the block where it is one.
+abbrev block_test : ℕ → ℕ → State → Bool
+block_test s q v = (not (eqb (state_exit v) 1) or member s Braced)
+    and (not (member s Braced) or (all_arcs (state_arcs v) (block_arc s q) and (not (state_ends v) or eqb (state_exit v) (cond (after_block s q) 0 1))))
+
+blocks-checked : every_state block_test ≡ true
+unfolding after_block ◌and◌ ◌or◌ is_leaf rows label labels shown member exits
 blocks-checked = refl
 
-block-walk : (s q : ℕ) (f : Forest) → all_kinds (open_states s) (λ q. block_at s q) ≡ true → member q (open_states s) ≡ true → OkFrom s q f
-    → NoBlock (shows f) → exit s (walk s q f) ≡ 1
-unfolding has target
-block-walk s q none b m o n = eqb-true _ _ (implies _ _ (and-r _ _ (kinds-at (open_states s) (λ q. block_at s q) q b m)) o)
-block-walk s q (t ▸ f) b m o n =
-    let a = arcs-at (arcs s q) (λ k p. all_kinds (shown k) (λ j. member j block_marks) or exits k (λ x. member (p + x) (open_states s))) (root t) (and-l _ _ (kinds-at (open_states s) (λ q. block_at s q) q b m)) o.0 in
-    elim (or-c _ _ a) [
-      | inl p ↦ false-true n.0 (kinds-at (shown (root t)) (λ j. member j block_marks) (root (show t)) p (shown-root t o.1))
-      | inr p ↦ block-walk s (target_in (arcs s q) (root t) + finish t) f b (exits-at t (λ x. member (target_in (arcs s q) (root t) + x) (open_states s)) p o.1) o.2 n.1
-    ]
+block-state : (s q : ℕ) → is_leaf s ≡ false → block_test s q (at s q) ≡ true
+unfolding ◌and◌ ◌or◌
+block-state s q l = state-test block_test blocks-checked (λ s q. or-r _ _ refl) s q l
+
+braced-checked : all_kinds Braced (λ s. eqb (label s) s and not (after_block s 0)) ≡ true
+unfolding after_block label labels member ◌and◌
+braced-checked = refl
+
+block-walk : (s q : ℕ) (f : Forest) → is_leaf s ≡ false → member s Braced ≡ true → OkFrom s q f
+    → exit s (walk s q f) ≡ cond (after_block s q or has_block (shows f)) 0 1
+unfolding ends exit has target arcs
+block-walk s q none l b o =
+    let c = and-r _ _ (implies _ _ (and-r _ _ (block-state s q l)) b) in
+    rw (or-none (after_block s q)) (eqb-true _ _ (implies _ _ c o))
+block-walk s q (t ▸ f) l b o =
+    let c = and-l _ _ (implies _ _ (and-r _ _ (block-state s q l)) b) in
+    let p : ℕ = target_in (arcs s q) (root t) in
+    let a = kinds-at (shown (root t)) _ (root (show t)) (arcs-at (arcs s q) (block_arc s q) (root t) c o.0) (shown-root t o.1) in
+    let e : after_block s (p + finish t) ≡ after_block s q or member (root (show t)) block_marks = same-bool _ _ (exits-at t (λ x. same (after_block s (p + x)) (after_block s q or member (root (show t)) block_marks)) a o.1) in
+    block-walk s (p + finish t) f l b o.2 ∙ ap (λ (z : Bool). cond z 0 1) (ap (λ (z : Bool). z or has_block (shows f)) e ∙ or-assoc _ _ _)
+
+braced-finish : (s : ℕ) (f : Forest) → Ok (node s f) → member s Braced ≡ true → finish (node s f) ≡ cond (has_block (shows f)) 0 1
+unfolding ◌or◌
+braced-finish s f o b =
+    let c : after_block s 0 ≡ false = not-c _ (and-r _ _ (kinds-at Braced (λ s. eqb (label s) s and not (after_block s 0)) s braced-checked b)) in
+    block-walk s 0 f o.0 b o.1 ∙ ap (λ (z : Bool). cond (z or has_block (shows f)) 0 1) c
 
 braced-label : (s : ℕ) → member (label s) Braced ≡ true → label s ≡ s
-unfolding label labels ◌and◌ ◌or◌ member
-braced-label s m =
-    let c : not (member (get_or labels s 0) Braced) or eqb (get_or labels s 0) s ≡ true = subst (λ (n : ℕ). not (member (get_or labels s 0) Braced) or eqb (get_or labels s 0) n ≡ true) (zero-plus s) (at-label labels 0 s (λ i v. not (member v Braced) or eqb v i) refl refl) in
-    eqb-true _ _ (implies (member (get_or labels s 0) Braced) _ c m)
+unfolding labels ◌and◌ ◌or◌ member
+braced-label s m = eqb-true _ _ (implies _ _ (label-test (λ i v. not (member v Braced) or eqb v i) refl s refl) m)
 
 lacks-finish : (t : Tree) → Ok t → eqb (root t) TYPE ≡ false → LacksBlock (show t) → finish t ≡ 1
 lacks-finish (leaf l x) o e h = absurd h
 lacks-finish (node s f) o e h =
     let h' : LacksBlock (node (label s) (shows f)) = subst (λ (z : Tree). LacksBlock z) (show-root s f e) h in
-    let n : label s ≡ s = braced-label s h'.0 in
-    let m : member s Braced ≡ true = subst (λ (z : ℕ). member z Braced ≡ true) n h'.0 in
-    let c : block_kind s ≡ true = kinds-at Braced (λ s. block_kind s) s blocks-checked m in
-    block-walk s 0 f (and-l _ _ c) (and-r _ _ c) o.1 h'.1
+    let m : member s Braced ≡ true = subst (λ (z : ℕ). member z Braced ≡ true) (braced-label s h'.0) h'.0 in
+    braced-finish s f o m ∙ ap (λ (z : Bool). cond z 0 1) (block-none (shows f) h'.1)
 
-abbrev document_test : ℕ → State → Bool
-document_test s v = not (eqb s DOCUMENT) or all_arcs (state_arcs v) (λ k q. not (eqb k TYPE) and eqb q 1)
+no-unit : (b : Bool) → ◌≡◌ {A = ℕ} (cond b 0 1) 1 → b ≡ false
+no-unit true e = absurd (omega arith)
+no-unit false e = refl
 
-document-checked : all_rows DOCUMENT rows document_test ≡ true
-unfolding ◌and◌ ◌or◌ rows
+pub finish-lacks : (u : Tree) → Ok u → eqb (root u) TYPE ≡ false → finish u ≡ 1 → LacksBlock (show u)
+unfolding exit
+finish-lacks (leaf l x) o e h = absurd (omega arith)
+finish-lacks (node s f) o e h =
+    let b : member s Braced ≡ true = implies _ _ (and-l _ _ (block-state s (walk s 0 f) o.0)) (rw h refl) in
+    let n : label s ≡ s = eqb-true _ _ (and-l _ _ (kinds-at Braced (λ s. eqb (label s) s and not (after_block s 0)) s braced-checked b)) in
+    subst (λ (z : Tree). LacksBlock z) (sym (show-root s f e)) (rw n b, none-block (shows f) (no-unit _ (sym (braced-finish s f o b) ∙ h)))
+
+-- A definition leads to the second state of a document, or to the third where it lacks its block.
+abbrev document_test : ℕ → ℕ → ℕ → Bool
+document_test s k q = not (eqb s DOCUMENT) or (not (eqb k TYPE) and eqb q 1 and exits k (λ x. ltb x 2))
+
+document-checked : every_arc document_test ≡ true
+unfolding ◌and◌ ◌or◌ rows exits is_leaf
 document-checked = refl
 
-node-document : is_leaf DOCUMENT ≡ false
+pub node-document : is_leaf DOCUMENT ≡ false
 unfolding is_leaf
 node-document = refl
 
-pub document-arc : (q k : ℕ) → has DOCUMENT q k ≡ true → not (eqb k TYPE) and eqb (target DOCUMENT q k) 1 ≡ true
-unfolding has target arcs
-document-arc q k h = arcs-at (arcs DOCUMENT q) (λ k q. not (eqb k TYPE) and eqb q 1) k (implies _ _ (row-test document_test document-checked (λ k. or-r _ _ refl) DOCUMENT q node-document) refl) h
+pub document-arc : (q : ℕ) (u : Tree) → has DOCUMENT q (root u) ≡ true → Ok u
+    → (eqb (root u) TYPE ≡ false) × (target DOCUMENT q (root u) ≡ 1) × (finish u < 2)
+document-arc q u h o =
+    let c = implies _ _ (arc-test document_test document-checked DOCUMENT q (root u) node-document h) refl in
+    (not-c _ (and-l _ _ (and-l _ _ c)), eqb-true _ _ (and-r _ _ (and-l _ _ c)), ltb-true _ _ (exits-at u (λ x. ltb x 2) (and-r _ _ c) o))
 
 query-symbols : (s : ℕ) → label s ≡ OPERATION_DEFINITION → (s ≡ OPERATION_DEFINITION) ⊎ (s ≡ SHORT_QUERY)
-unfolding label labels ◌and◌ ◌or◌
+unfolding labels ◌and◌ ◌or◌
 query-symbols s e =
-    let c : not (eqb (get_or labels s 0) OPERATION_DEFINITION) or (eqb s OPERATION_DEFINITION or eqb s SHORT_QUERY) ≡ true = subst (λ (n : ℕ). not (eqb (get_or labels s 0) OPERATION_DEFINITION) or (eqb n OPERATION_DEFINITION or eqb n SHORT_QUERY) ≡ true) (zero-plus s) (at-label labels 0 s (λ i v. not (eqb v OPERATION_DEFINITION) or (eqb i OPERATION_DEFINITION or eqb i SHORT_QUERY)) refl refl) in
-    let q : eqb (get_or labels s 0) OPERATION_DEFINITION ≡ true = rw e refl in
+    let c = label-test (λ i v. not (eqb v OPERATION_DEFINITION) or (eqb i OPERATION_DEFINITION or eqb i SHORT_QUERY)) refl s refl in
+    let q : eqb (label s) OPERATION_DEFINITION ≡ true = rw e refl in
     elim (or-c _ _ (implies _ _ c q)) [ inl p ↦ inl (eqb-true _ _ p) | inr p ↦ inr (eqb-true _ _ p) ]
 
 no-short_query : has DOCUMENT 2 SHORT_QUERY ≡ false
@@ -209,25 +214,21 @@ not-query (node s f) o e h i =
       | inr p ↦ false-true no-short_query (rw p at h)
     ]
 
-two : 1 + 1 ≡ 2
-two = refl
-
 pub brace-rule : (q : ℕ) (f : Forest) → OkFrom DOCUMENT q f → BraceRule (shows f)
 brace-rule q none o = tt
 brace-rule q (t ▸ none) o = (tt, tt)
 brace-rule q (t ▸ (u ▸ f)) o = (
   (λ h i.
-      let a = document-arc q (root t) o.0 in
-      let b = document-arc (target DOCUMENT q (root t) + finish t) (root u) o.2.0 in
-      let g : finish t ≡ 1 = lacks-finish t o.1 (not-c _ (and-l _ _ a)) h in
-      let d : target DOCUMENT q (root t) ≡ 1 = eqb-true _ _ (and-r _ _ a) in
-      let k : has DOCUMENT 2 (root u) ≡ true = subst (λ (n : ℕ). has DOCUMENT n (root u) ≡ true) (ap₂ (λ (x y : ℕ). x + y) d g) o.2.0 in
-      not-query u o.2.1 (not-c _ (and-l _ _ b)) k i),
+      let a = document-arc q t o.0 o.1 in
+      let b = document-arc (target DOCUMENT q (root t) + finish t) u o.2.0 o.2.1 in
+      let g : finish t ≡ 1 = lacks-finish t o.1 a.0 h in
+      let d : target DOCUMENT q (root t) + finish t ≡ 2 = omega arith in
+      not-query u o.2.1 b.0 (rw d at o.2.0) i),
   brace-rule (target DOCUMENT q (root t) + finish t) (u ▸ f) o.2,
 )
 
 -- Types.
-type-arcs-1 : arcs TYPE 1 ≡ (4, 2) ∷ []
+type-arcs-1 : arcs TYPE 1 ≡ (BANG, 2) ∷ []
 unfolding arcs at rows
 type-arcs-1 = refl
 
@@ -256,28 +257,28 @@ no-arc : {A : Type 0} (s q k : ℕ) → arcs s q ≡ [] → has s q k ≡ true �
 unfolding has
 no-arc s q k e h = absurd (true≢false (sym (rw e at h)))
 
-type-target-1 : target TYPE 1 4 ≡ 2
+type-target-1 : target TYPE 1 BANG ≡ 2
 unfolding target arcs at rows
 type-target-1 = refl
 
-type-row : (a : ℕ) → (a ≡ NAMED_TYPE) ⊎ (a ≡ LIST_TYPE) → Matches (Row NON_NULL_TYPE) (a ∷ 4 ∷ [])
+type-row : (a : ℕ) → (a ≡ NAMED_TYPE) ⊎ (a ≡ LIST_TYPE) → Matches (Row NON_NULL_TYPE) (a ∷ BANG ∷ [])
 unfolding Row member
-type-row a h = (a ∷ [], 4 ∷ [], refl, (a, elim h [ inl p ↦ rw p refl | inr p ↦ rw p refl ], refl), (4, refl, refl))
+type-row a h = (a ∷ [], BANG ∷ [], refl, (a, elim h [ inl p ↦ rw p refl | inr p ↦ rw p refl ], refl), (BANG, refl, refl))
 
-label-bang : label 4 ≡ 4
+label-bang : label BANG ≡ BANG
 unfolding label labels
 label-bang = refl
 
 -- The second child of a type is its `!`, and the last.
-type-bang : (u : Tree) → root u ≡ 4 → Ok u → (root (show u) ≡ 4) × (target TYPE 1 (root u) + finish u ≡ 2)
+type-bang : (u : Tree) → root u ≡ BANG → Ok u → (root (show u) ≡ BANG) × (target TYPE 1 (root u) + finish u ≡ 2)
 unfolding is_leaf
 type-bang (leaf l x) e o = (ap label e ∙ label-bang, rw e (ap (λ (z : ℕ). z + 0) type-target-1))
 type-bang (node s f) e o = false-true (rw e at o.0) refl
 
-type-rest : (u : Tree) (f : Forest) (q : ℕ) → q ≡ 1 → OkFrom TYPE q (u ▸ f) → (root (show u) ≡ 4) × (f ≡ none)
+type-rest : (u : Tree) (f : Forest) (q : ℕ) → q ≡ 1 → OkFrom TYPE q (u ▸ f) → (root (show u) ≡ BANG) × (f ≡ none)
 type-rest u f q e o =
     let o' : OkFrom TYPE 1 (u ▸ f) = subst (λ (n : ℕ). OkFrom TYPE n (u ▸ f)) e o in
-    let k : root u ≡ 4 = arc-of TYPE 1 4 2 (root u) type-arcs-1 o'.0 in
+    let k : root u ≡ BANG = arc-of TYPE 1 BANG 2 (root u) type-arcs-1 o'.0 in
     let b = type-bang u k o'.1 in
     (b.0, last f (subst (λ (n : ℕ). OkFrom TYPE n f) b.1 o'.2))
   where
@@ -309,7 +310,7 @@ node-fits s f o n h = elim (either (eqb s TYPE)) [
     symbol-row s (kinds (shows f)) n (subst (λ (p : Pattern). Matches p (kinds (shows f))) (start-pattern s e) (row-shown s 0 f o.0 o.1)),
     name-rule s f o.1,
     constant-rule s f o.0 o.1,
-    (λ i. brace-rule 0 f (subst (λ (z : ℕ). OkFrom z 0 f) (label-document s i) o.1)),
+    (λ i. brace-rule 0 f (subst (λ (z : ℕ). OkFrom z 0 f) ((labels-alone s).2 i) o.1)),
     h,
   )
 ]
@@ -321,11 +322,11 @@ mutual
 
   pub ok-all-fit : (s q : ℕ) (f : Forest) → is_leaf s ≡ false → OkFrom s q f → AllFit (shows f)
   ok-all-fit s q none l o = tt
-  ok-all-fit s q (t ▸ f) l o = (ok-fits t o.1 (inner-arc s q (root t) l o.0), ok-all-fit s (target s q (root t) + finish t) f l o.2)
+  ok-all-fit s q (t ▸ f) l o = (ok-fits t o.1 (along s q (root t) l o.0).2, ok-all-fit s (target s q (root t) + finish t) f l o.2)
 
 pub path-fits : (s p q : ℕ) (f : Forest) → is_leaf s ≡ false → Path s p f q → AllFit (shows f)
 path-fits s p q none l o = tt
-path-fits s p q (t ▸ f) l o = (ok-fits t o.1 (inner-arc s p (root t) l o.0), path-fits s (target s p (root t) + finish t) q f l o.2)
+path-fits s p q (t ▸ f) l o = (ok-fits t o.1 (along s p (root t) l o.0).2, path-fits s (target s p (root t) + finish t) q f l o.2)
 
 -- The tokens of the shown tree are those of the tree.
 abbrev token_test : ℕ → Bool

@@ -1,12 +1,12 @@
 -- Each state of a row that can be reached has a list of trees that ends it: they are exhibited, and checked by computing.
 use Rattle.std.proofs.Common.{◌≡◌, ℕ, zero, suc, ◌+◌, ◌-◌, ◌^◌, Bool, true, cond, not, eqb, List, [], ◌∷◌, get_or, refl}
 use Rattle.document_grammar.specs.Tree.{Text, Tree, leaf, node, Forest, none, ◌▸◌, root}
-use Rattle.grammar_machine.specs.Table.{State, rows, firsts, name_leaves}
+use Rattle.grammar_machine.specs.Table.{rows, firsts, name_leaves}
 use Rattle.grammar_machine.proofs.generated.Follows.{name_classes}
 use Rattle.grammar_machine.proofs.generated.Samples.{endings, spellings}
 use Rattle.document_grammar.specs.Booleans.{◌and◌, ◌or◌}
-use Rattle.grammar_machine.specs.Machine.{holds, is_leaf, at, ends, exit, arcs, has, target, entries, fires, class, token, state_arcs, finish, text_eq}
-use Rattle.grammar_machine.proofs.Checks.{subset, exits, all_arcs, all_entries, all_rows, all_below}
+use Rattle.grammar_machine.specs.Machine.{holds, is_leaf, at, ends, exit, arcs, has, target, entries, fires, class, token, finish, text_eq}
+use Rattle.grammar_machine.proofs.Checks.{subset, exits, all_entries, every_arc, all_below}
 use Rattle.document_grammar.specs.Kinds.{words, DOCUMENT}
 
 abbrev plant : (ℕ → Tree) → List ℕ → Forest
@@ -45,10 +45,10 @@ abbrev mutual
 unfoldable pub fillable : ℕ → ℕ → Bool
 fillable s q = okb_from s q (ending s q) and spelt_all (ending s q)
 
-abbrev pub fill_test : ℕ → State → Bool
-fill_test s v = all_arcs (state_arcs v) (λ k q. (is_leaf k or fillable k 0) and exits k (λ x. fillable s (q + x)))
+abbrev pub fill_test : ℕ → ℕ → ℕ → Bool
+fill_test s k q = (is_leaf k or fillable k 0) and exits k (λ x. fillable s (q + x))
 
-pub fill_checked : all_rows DOCUMENT rows fill_test ≡ true
+pub fill_checked : every_arc fill_test ≡ true
 unfolding ◌and◌ ◌or◌ holds is_leaf at ends exit arcs has target entries fires class token words rows firsts exits endings spellings ending fillable
 fill_checked = refl
 

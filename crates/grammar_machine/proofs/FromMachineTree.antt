@@ -1,5 +1,5 @@
 -- A tree of the tables, shown as the tree of syntax kinds, is a derivation.
-use Rattle.std.proofs.Common.{◌≡◌, ℕ, zero, suc, ◌+◌, ◌-◌, Bool, true, false, cond, eqb, List, [], ◌∷◌, get_or, refl, sym, ap, ap₂, subst, ◌⊎◌, inl, inr, true≢false, arith, eqb-true}
+use Rattle.std.proofs.Common.{◌≡◌, ℕ, zero, suc, ◌+◌, ◌-◌, Bool, true, false, cond, not, eqb, List, [], ◌∷◌, get_or, refl, sym, ap, ap₂, subst, ◌⊎◌, inl, inr, true≢false, arith, eqb-true}
 use Rattle.document_grammar.specs.Tree.{Tree, leaf, node, Forest, none, ◌▸◌, root}
 use Rattle.document_grammar.specs.Pattern.{Pattern, any_of, nothing, ◌then◌, ◌or_else◌, many, member, Matches}
 use Rattle.grammar_machine.specs.Table.{State, rows}
@@ -8,9 +8,9 @@ use Rattle.document_grammar.specs.Booleans.{◌and◌, ◌or◌}
 use Rattle.grammar_machine.specs.Machine.{is_leaf, at, ends, arcs, has, has_in, target, target_in, dead, state_arcs, state_ends, finish, Ok, OkFrom}
 use Rattle.document_grammar.specs.Derivation.{kinds}
 use Rattle.grammar_machine.proofs.Checks.{exits}
-use Rattle.document_grammar.proofs.Booleans.{false-true, and-l, and-r, or-c, either, eqb-refl}
-use Rattle.grammar_machine.proofs.TableLemmas.{arcs-at, exits-at, node-sum}
-use Rattle.grammar_machine.proofs.Patterns.{nullable, deriv, kinds_eq, pattern_eq, pattern_of, label, shown, all_kinds, any_arcs, constant, begin_kinds, agree_at, agree_states, agree_rows, agree_checked, nullable-from, from-deriv}
+use Rattle.document_grammar.proofs.Booleans.{false-true, and-l, and-r, or-c, or-l, or-r, implies, either, eqb-refl}
+use Rattle.grammar_machine.proofs.TableLemmas.{arcs-at, exits-at, state-test}
+use Rattle.grammar_machine.proofs.Patterns.{nullable, deriv, kinds_eq, pattern_eq, pattern_of, label, shown, all_kinds, any_arcs, constant, begin_kinds, no_arc, is_live, agree_at, agree_checked, nullable-from, from-deriv}
 use Rattle.document_grammar.specs.Kinds.{VARIABLE, NAMED_TYPE, LIST_TYPE, NON_NULL_TYPE, DOCUMENT}
 use Rattle.grammar_machine.specs.Symbols.{TYPE}
 
@@ -47,31 +47,13 @@ pattern-same (p or_else q) (r or_else s) h = ap₂ (λ x y. x or_else y) (patter
 pattern-same (many p) (many q) h = ap many (pattern-same p q h)
 pattern-same _ _ h = absurd (true≢false (sym h))
 
--- Live states agree with their patterns.
+-- Live states, which end a row or have an arc, agree with their patterns.
 abbrev pub Live : State → Type 0
-Live v = (state_ends v ≡ true) ⊎ ((k : ℕ) × (has_in (state_arcs v) k ≡ true))
-
-dead-live : {A : Type 0} → Live dead → A
-dead-live h = elim h [ inl e ↦ absurd (true≢false (sym e)) | inr e ↦ absurd (true≢false (sym e.1)) ]
-
-pub zero-plus : (q : ℕ) → 0 + q ≡ q
-zero-plus q = omega arith
-
-agree-in : (s q n : ℕ) (l : List State) → agree_states s q l ≡ true → Live (get_or l n dead) → agree_at s (q + n) ≡ true
-agree-in s q n [] h v = dead-live v
-agree-in s q zero (x ∷ more) h v = let e : q + 0 ≡ q = omega arith in rw e (and-l _ _ h)
-agree-in s q (suc n) (x ∷ more) h v = let e : q + suc n ≡ suc q + n = omega arith in rw e (agree-in s (suc q) n more (and-r _ _ h) v)
-
-agree-rows : (s n q : ℕ) (l : List (List State)) → agree_rows s l ≡ true → Live (get_or (get_or l n []) q dead) → agree_at (s + n) q ≡ true
-agree-rows s n q [] h v = dead-live v
-agree-rows s zero q (r ∷ more) h v =
-    let z : s + 0 ≡ s = omega arith in
-    rw z (subst (λ (n : ℕ). agree_at s n ≡ true) (zero-plus q) (agree-in s 0 q r (and-l _ _ h) v))
-agree-rows s (suc n) q (r ∷ more) h v = let z : s + suc n ≡ suc s + n = omega arith in rw z (agree-rows (suc s) n q more (and-r _ _ h) v)
+Live v = is_live v ≡ true
 
 pub agree : (s q : ℕ) → is_leaf s ≡ false → Live (at s q) → agree_at s q ≡ true
-unfolding at
-agree s q l v = subst (λ (n : ℕ). agree_at n q ≡ true) (node-sum s l) (agree-rows DOCUMENT (s - DOCUMENT) q rows agree_checked v)
+unfolding ◌or◌
+agree s q l v = implies _ _ (state-test (λ s q v. not (is_live v) or agree_at s q) agree_checked (λ s q. refl) s q l) v
 
 -- The rows.
 leaf-no-type : (l : ℕ) → is_leaf l ≡ true → eqb l TYPE ≡ false
@@ -139,11 +121,15 @@ kinds-at (k ∷ ks) t j h m = elim (either (eqb k j)) [
 
 pub has-live : (s q k : ℕ) → has s q k ≡ true → Live (at s q)
 unfolding has arcs
-has-live s q k h = inr (k, h)
+has-live s q k h = or-r _ _ (has-arc (state_arcs (at s q)) h)
+  where
+    has-arc : (l : List (ℕ × ℕ)) → has_in l k ≡ true → not (no_arc l) ≡ true
+    has-arc [] i = absurd (true≢false (sym i))
+    has-arc (a ∷ more) i = refl
 
 pub ends-live : (s q : ℕ) → ends s q ≡ true → Live (at s q)
 unfolding ends
-ends-live s q h = inl h
+ends-live s q h = or-l _ _ h
 
 -- What the agreement says of the end, of an arc, and of a kind.
 agree-end : (s q : ℕ) → agree_at s q ≡ true → ends s q ≡ true → nullable (pattern_of s q) ≡ true

@@ -5,23 +5,18 @@ use Rattle.document_grammar.specs.Rows.{Row, keyword_operation, bare_selections}
 use Rattle.grammar_machine.specs.Table.{State, rows}
 use Rattle.grammar_machine.proofs.generated.Labels.{paths, labels}
 use Rattle.document_grammar.specs.Booleans.{◌and◌, ◌or◌}
-use Rattle.grammar_machine.specs.Machine.{is_leaf, at, ends, exit, arcs}
-use Rattle.grammar_machine.proofs.Checks.{all_arcs, exits}
+use Rattle.grammar_machine.specs.Machine.{is_leaf, at, ends, exit, arcs, state_arcs, state_ends}
+use Rattle.grammar_machine.proofs.Checks.{all_arcs, every_state, exits}
 use Rattle.document_grammar.proofs.Booleans.{and-l, and-r, or-c, or-l, or-r, either}
 use Rattle.grammar_machine.proofs.TableLemmas.{head-same, tail-same, no-cons}
 use Rattle.document_grammar.specs.Kinds.{OPERATION_DEFINITION, SELECTION_SET, VARIABLE, DEFAULT_VALUE, NAMED_TYPE, LIST_TYPE, NON_NULL_TYPE, DOCUMENT}
 use Rattle.grammar_machine.specs.Symbols.{TYPE, SHORT_QUERY, BARE_SELECTIONS, NAME_FOR_ENUM}
 
-abbrev is_never : Pattern → Bool
-is_never (any_of []) = true
-is_never (any_of (k ∷ ks)) = false
-is_never nothing = false
-is_never (p then q) = false
-is_never (p or_else q) = false
-is_never (many p) = false
-
+-- One of two patterns; where nothing fits the one, the other.
 abbrev alt : Pattern → Pattern → Pattern
-alt p q = cond (is_never p) q (cond (is_never q) p (p or_else q))
+alt (any_of []) q = q
+alt p (any_of []) = p
+alt p q = p or_else q
 
 abbrev seq : Pattern → Pattern → Pattern
 seq (any_of []) q = any_of []
@@ -41,7 +36,7 @@ nullable (many p) = true
 abbrev pub deriv : Pattern → ℕ → Pattern
 deriv (any_of ks) k = cond (member k ks) nothing (any_of [])
 deriv nothing k = any_of []
-deriv (p then q) k = cond (nullable p) (alt (seq (deriv p k) q) (deriv q k)) (seq (deriv p k) q)
+deriv (p then q) k = alt (seq (deriv p k) q) (cond (nullable p) (deriv q k) (any_of []))
 deriv (p or_else q) k = alt (deriv p k) (deriv q k)
 deriv (many p) k = seq (deriv p k) (many p)
 
@@ -109,15 +104,14 @@ agree_at s q = cond (nullable (pattern_of s q)) (ends s q) (not (ends s q))
     and all_arcs (arcs s q) (λ k p. all_kinds (shown k) (λ j. exits k (λ x. pattern_eq (deriv (pattern_of s q) j) (pattern_of s (p + x)))))
     and all_kinds (begin_kinds (pattern_of s q)) (λ j. (constant s and eqb j VARIABLE) or any_arcs (arcs s q) (λ k p. member j (shown k)))
 
-abbrev pub agree_states : ℕ → ℕ → List State → Bool
-agree_states s q [] = true
-agree_states s q (v ∷ more) = agree_at s q and agree_states s (suc q) more
+abbrev pub no_arc : List (ℕ × ℕ) → Bool
+no_arc [] = true
+no_arc (a ∷ more) = false
 
-abbrev pub agree_rows : ℕ → List (List State) → Bool
-agree_rows s [] = true
-agree_rows s (r ∷ more) = agree_states s 0 r and agree_rows (suc s) more
+abbrev pub is_live : State → Bool
+is_live v = state_ends v or not (no_arc (state_arcs v))
 
-pub agree_checked : agree_rows DOCUMENT rows ≡ true
+pub agree_checked : every_state (λ s q v. not (is_live v) or agree_at s q) ≡ true
 unfolding agree_at constant shown pattern_of symbol_row label ◌and◌ ◌or◌ is_leaf at ends exit arcs rows exits paths labels Row member
 agree_checked = refl
 
@@ -126,31 +120,15 @@ never-none : {A : Type 0} (w : List ℕ) → Matches (any_of []) w → A
 unfolding member
 never-none w h = absurd (true≢false (sym h.1))
 
-never-matches : (p : Pattern) (w : List ℕ) → is_never p ≡ true → Matches p w → ⊥
-never-matches (any_of []) w e h = never-none w h
-never-matches (any_of (k ∷ ks)) w e h = true≢false (sym e)
-never-matches nothing w e h = true≢false (sym e)
-never-matches (p then q) w e h = true≢false (sym e)
-never-matches (p or_else q) w e h = true≢false (sym e)
-never-matches (many p) w e h = true≢false (sym e)
-
 alt-to : (p q : Pattern) (w : List ℕ) → Matches p w ⊎ Matches q w → Matches (alt p q) w
-alt-to p q w h = elim (either (is_never p)) [
-  | inl e ↦ (let m : Matches q w = elim h [ inl x ↦ absurd (never-matches p w e x) | inr x ↦ x ] in subst (λ (b : Bool). Matches (cond b q (cond (is_never q) p (p or_else q))) w) (sym e) m)
-  | inr e ↦ subst (λ (b : Bool). Matches (cond b q (cond (is_never q) p (p or_else q))) w) (sym e) (elim (either (is_never q)) [
-    | inl f ↦ (let m : Matches p w = elim h [ inl x ↦ x | inr x ↦ absurd (never-matches q w f x) ] in subst (λ (b : Bool). Matches (cond b p (p or_else q)) w) (sym f) m)
-    | inr f ↦ subst (λ (b : Bool). Matches (cond b p (p or_else q)) w) (sym f) h
-  ])
-]
+alt-to (any_of []) q w h = elim h [ inl x ↦ never-none w x | inr x ↦ x ]
+alt-to _ (any_of []) w h = elim h [ inl x ↦ x | inr x ↦ never-none w x ]
+alt-to _ _ w h = h
 
 alt-from : (p q : Pattern) (w : List ℕ) → Matches (alt p q) w → Matches p w ⊎ Matches q w
-alt-from p q w h = elim (either (is_never p)) [
-  | inl e ↦ inr (subst (λ (b : Bool). Matches (cond b q (cond (is_never q) p (p or_else q))) w) e h)
-  | inr e ↦ (let h' : Matches (cond (is_never q) p (p or_else q)) w = subst (λ (b : Bool). Matches (cond b q (cond (is_never q) p (p or_else q))) w) e h in elim (either (is_never q)) [
-    | inl f ↦ inl (subst (λ (b : Bool). Matches (cond b p (p or_else q)) w) f h')
-    | inr f ↦ subst (λ (b : Bool). Matches (cond b p (p or_else q)) w) f h'
-  ])
-]
+alt-from (any_of []) q w h = inr h
+alt-from _ (any_of []) w h = inl h
+alt-from _ _ w h = h
 
 seq-to : (p q : Pattern) (w : List ℕ) → Matches (p then q) w → Matches (seq p q) w
 seq-to (any_of []) q w h = never-none h.0 h.3
@@ -203,19 +181,19 @@ rest-of : (p : Pattern) (k : ℕ) (w : List ℕ) (d : (v : List ℕ) → Matches
 rest-of p k w d stop e = no-cons e
 rest-of p k w d (again {u = u} {v = v} m r f) e = rest-split p k w u v d m r (sym f ∙ e) (λ e'. rest-of p k w d r e')
 
-then-at : (p q : Pattern) (k : ℕ) (w : List ℕ) (b : Bool) → nullable p ≡ b
-    → Matches (cond b (alt (seq (deriv p k) q) (deriv q k)) (seq (deriv p k) q)) w → Matches (deriv (p then q) k) w
-then-at p q k w b e m = subst (λ (z : Bool). Matches (cond z (alt (seq (deriv p k) q) (deriv q k)) (seq (deriv p k) q)) w) (sym e) m
-
 then-to : (p q : Pattern) (k : ℕ) (w u v : List ℕ) → k ∷ w ≡ u ++ v → Matches p u → Matches q v
     → ((u' : List ℕ) → Matches p (k ∷ u') → Matches (deriv p k) u') → (Matches q (k ∷ w) → Matches (deriv q k) w) → Matches (deriv (p then q) k) w
-then-to p q k w [] v e m n dp dq = then-at p q k w true (nullable-to p m) (alt-to (seq (deriv p k) q) (deriv q k) w (inr (dq (subst (λ (z : List ℕ). Matches q z) (sym e) n))))
+then-to p q k w [] v e m n dp dq = alt-to (seq (deriv p k) q) _ w (inr (rw (nullable-to p m) (dq (subst (λ (z : List ℕ). Matches q z) (sym e) n))))
 then-to p q k w (a ∷ u) v e m n dp dq =
-    let s : Matches (seq (deriv p k) q) w = seq-to (deriv p k) q w (u, v, tail-same e, dp u (subst (λ (z : ℕ). Matches p (z ∷ u)) (sym (head-same e)) m), n) in
-    elim (either (nullable p)) [
-      | inl b ↦ then-at p q k w true b (alt-to (seq (deriv p k) q) (deriv q k) w (inl s))
-      | inr b ↦ then-at p q k w false b s
-    ]
+    alt-to (seq (deriv p k) q) _ w (inl (seq-to (deriv p k) q w (u, v, tail-same e, dp u (subst (λ (z : ℕ). Matches p (z ∷ u)) (sym (head-same e)) m), n)))
+
+-- What is left after the first kind of one pattern and then another: the rest of the one, or, where it may be empty, of the other.
+then-from : {C : Type 0} (p q : Pattern) (k : ℕ) (w : List ℕ) → Matches (deriv (p then q) k) w → (Matches (deriv p k then q) w → C)
+    → (nullable p ≡ true → Matches (deriv q k) w → C) → C
+then-from p q k w m one two = elim (alt-from (seq (deriv p k) q) (cond (nullable p) (deriv q k) (any_of [])) w m) [
+  | inl x ↦ one (seq-from (deriv p k) q w x)
+  | inr x ↦ elim (either (nullable p)) [ inl e ↦ two e (rw e at x) | inr e ↦ never-none w (rw e at x) ]
+]
 
 pub to-deriv : (p : Pattern) (k : ℕ) (w : List ℕ) → Matches p (k ∷ w) → Matches (deriv p k) w
 to-deriv (any_of ks) k w h = subst (λ (b : Bool). Matches (cond b nothing (any_of [])) w) (sym (subst (λ (n : ℕ). member n ks ≡ true) (sym (head-same h.2)) h.1)) (tail-same h.2)
@@ -230,20 +208,9 @@ from-deriv (any_of ks) k w h = elim (either (member k ks)) [
   | inr e ↦ never-none w (subst (λ (b : Bool). Matches (cond b nothing (any_of [])) w) e h)
 ]
 from-deriv nothing k w h = never-none w h
-from-deriv (p then q) k w h = then-from (either (nullable p)) (λ u m. from-deriv p k u m) (λ m. from-deriv q k w m)
-  where
-    first-part : Matches (seq (deriv p k) q) w → ((u : List ℕ) → Matches (deriv p k) u → Matches p (k ∷ u)) → Matches (p then q) (k ∷ w)
-    first-part m dp = let s = seq-from (deriv p k) q w m in (k ∷ s.0, s.1, ap (λ (v : List ℕ). k ∷ v) s.2, dp s.0 s.3, s.4)
-
-    then-from : (nullable p ≡ true) ⊎ (nullable p ≡ false) → ((u : List ℕ) → Matches (deriv p k) u → Matches p (k ∷ u))
-        → (Matches (deriv q k) w → Matches q (k ∷ w)) → Matches (p then q) (k ∷ w)
-    then-from (inl e) dp dq =
-        let m : Matches (alt (seq (deriv p k) q) (deriv q k)) w = subst (λ (z : Bool). Matches (cond z (alt (seq (deriv p k) q) (deriv q k)) (seq (deriv p k) q)) w) e h in
-        elim (alt-from (seq (deriv p k) q) (deriv q k) w m) [
-          | inl x ↦ first-part x dp
-          | inr x ↦ ([], k ∷ w, refl, nullable-from p e, dq x)
-        ]
-    then-from (inr e) dp dq = first-part (subst (λ (z : Bool). Matches (cond z (alt (seq (deriv p k) q) (deriv q k)) (seq (deriv p k) q)) w) e h) dp
+from-deriv (p then q) k w h = then-from p q k w h
+    (λ s. (k ∷ s.0, s.1, ap (λ (v : List ℕ). k ∷ v) s.2, from-deriv p k s.0 s.3, s.4))
+    (λ e x. ([], k ∷ w, refl, nullable-from p e, from-deriv q k w x))
 from-deriv (p or_else q) k w h = elim (alt-from (deriv p k) (deriv q k) w h) [ inl x ↦ inl (from-deriv p k w x) | inr x ↦ inr (from-deriv q k w x) ]
 from-deriv (many p) k w h = let s = seq-from (deriv p k) (many p) w h in again (from-deriv p k s.0 s.3) s.4 (ap (λ (v : List ℕ). k ∷ v) s.2)
 
@@ -261,19 +228,8 @@ member-r k (a ∷ ks) ls h = elim (either (eqb a k)) [ inl p ↦ rw p refl | inr
 pub first-kind : (p : Pattern) (k : ℕ) (w : List ℕ) → Matches (deriv p k) w → member k (begin_kinds p) ≡ true
 first-kind (any_of ks) k w h = elim (either (member k ks)) [ inl e ↦ e | inr e ↦ never-none w (subst (λ (b : Bool). Matches (cond b nothing (any_of [])) w) e h) ]
 first-kind nothing k w h = never-none w h
-first-kind (p then q) k w h = then-first (either (nullable p)) (λ u m. first-kind p k u m) (λ m. first-kind q k w m)
-  where
-    then-first : (nullable p ≡ true) ⊎ (nullable p ≡ false) → ((u : List ℕ) → Matches (deriv p k) u → member k (begin_kinds p) ≡ true)
-        → (Matches (deriv q k) w → member k (begin_kinds q) ≡ true)
-        → member k (cond (nullable p) (begin_kinds p ++ begin_kinds q) (begin_kinds p)) ≡ true
-    then-first (inl e) dp dq =
-        let m : Matches (alt (seq (deriv p k) q) (deriv q k)) w = subst (λ (z : Bool). Matches (cond z (alt (seq (deriv p k) q) (deriv q k)) (seq (deriv p k) q)) w) e h in
-        rw e (elim (alt-from (seq (deriv p k) q) (deriv q k) w m) [
-          | inl x ↦ (let s = seq-from (deriv p k) q w x in member-l k (begin_kinds p) (begin_kinds q) (dp s.0 s.3))
-          | inr x ↦ member-r k (begin_kinds p) (begin_kinds q) (dq x)
-        ])
-    then-first (inr e) dp dq =
-        let s = seq-from (deriv p k) q w (subst (λ (z : Bool). Matches (cond z (alt (seq (deriv p k) q) (deriv q k)) (seq (deriv p k) q)) w) e h) in
-        rw e (dp s.0 s.3)
+first-kind (p then q) k w h = then-from p q k w h
+    (λ s. elim (either (nullable p)) [ inl e ↦ rw e (member-l k (begin_kinds p) (begin_kinds q) (first-kind p k s.0 s.3)) | inr e ↦ rw e (first-kind p k s.0 s.3) ])
+    (λ e x. rw e (member-r k (begin_kinds p) (begin_kinds q) (first-kind q k w x)))
 first-kind (p or_else q) k w h = elim (alt-from (deriv p k) (deriv q k) w h) [ inl x ↦ member-l k (begin_kinds p) (begin_kinds q) (first-kind p k w x) | inr x ↦ member-r k (begin_kinds p) (begin_kinds q) (first-kind q k w x) ]
 first-kind (many p) k w h = let s = seq-from (deriv p k) (many p) w h in first-kind p k s.0 s.3

@@ -9,46 +9,36 @@ use Rattle.grammar_machine.proofs.generated.Labels.{paths, labels}
 use Rattle.document_grammar.specs.Booleans.{◌and◌, ◌or◌}
 use Rattle.grammar_machine.specs.Machine.{holds, is_leaf, at, arcs, has, entries, fires, class, word_class, text_eq, token, Ok, OkFrom}
 use Rattle.document_grammar.specs.Derivation.{kinds, text, texts, Listed, LeafRule, NameRule, on_text, true_text, false_text, null_text}
-use Rattle.grammar_machine.proofs.Checks.{all_entries, all_below}
-use Rattle.document_grammar.proofs.Booleans.{false-true, and-l, and-r, or-c, either, implies}
-use Rattle.grammar_machine.proofs.TableLemmas.{tail-same, no-cons, below-at}
+use Rattle.grammar_machine.proofs.Checks.{all_entries, all_below, all_from}
+use Rattle.document_grammar.proofs.Booleans.{false-true, and-l, and-r, or-c, either, implies, eqb-refl}
+use Rattle.grammar_machine.proofs.TableLemmas.{zero-plus, all-from-at, text-same, tail-same, no-cons, below-at}
 use Rattle.grammar_machine.proofs.Sound.{fired, holds-one, leaf-lt}
 use Rattle.grammar_machine.proofs.Patterns.{derive_all, pattern_of, symbol_row, label}
-use Rattle.grammar_machine.proofs.FromMachineTree.{zero-plus, show, shows, row-shown, show-root}
-use Rattle.document_grammar.specs.Kinds.{words, OPERATION_DEFINITION, SELECTION_SET, NAME, FRAGMENT_NAME, ENUM_VALUE, DOCUMENT, IDENT, STRING}
+use Rattle.grammar_machine.proofs.FromMachineTree.{show, shows, row-shown, show-root}
+use Rattle.document_grammar.specs.Kinds.{words, OPERATION_DEFINITION, SELECTION_SET, NAME, FRAGMENT_NAME, ENUM_VALUE, VARIABLE, DEFAULT_VALUE, DOCUMENT, IDENT, STRING}
 use Rattle.grammar_machine.specs.Symbols.{TYPE, SHORT_QUERY, NAME_FOR_FRAGMENT, NAME_FOR_ENUM, BARE_SELECTIONS}
 
--- Tests over the labels and the leaves.
-abbrev pub all_at : List ℕ → ℕ → (ℕ → ℕ → Bool) → Bool
-all_at [] n t = true
-all_at (v ∷ more) n t = t n v and all_at more (suc n) t
-
-pub at-label : (l : List ℕ) (n i : ℕ) (t : ℕ → ℕ → Bool) → all_at l n t ≡ true → t (n + i) 0 ≡ true → t (n + i) (get_or l i 0) ≡ true
-at-label [] n i t h d = d
-at-label (v ∷ more) n zero t h d = let e : n + 0 ≡ n = omega arith in rw e (and-l _ _ h)
-at-label (v ∷ more) n (suc i) t h d = let e : n + suc i ≡ suc n + i = omega arith in rw e (at-label more (suc n) i t (and-r _ _ h) (rw e at d))
+-- A test of each symbol and its label.
+pub label-test : (t : ℕ → ℕ → Bool) → all_from 0 labels t ≡ true → (s : ℕ) → t s 0 ≡ true → t s (label s) ≡ true
+unfolding label
+label-test t h s d = subst (λ (n : ℕ). t n (get_or labels s 0) ≡ true) (zero-plus s) (all-from-at labels 0 s t 0 h (rw (zero-plus s) d))
 
 -- Where one symbol alone has the label.
 abbrev alone : ℕ → ℕ → ℕ → Bool
 alone j i v = not (eqb v j) or eqb i j
 
-pub label-alone : (j s : ℕ) → all_at labels 0 (alone j) ≡ true → eqb 0 j ≡ false → label s ≡ j → s ≡ j
-unfolding label ◌or◌
+pub label-alone : (j s : ℕ) → all_from 0 labels (alone j) ≡ true → eqb 0 j ≡ false → label s ≡ j → s ≡ j
+unfolding ◌or◌
 label-alone j s h z e =
-    let c : alone j s (get_or labels s 0) ≡ true = subst (λ (n : ℕ). alone j n (get_or labels s 0) ≡ true) (zero-plus s) (at-label labels 0 s (alone j) h (rw z refl)) in
-    let q : eqb (get_or labels s 0) j ≡ true = rw e (eqb-self j) in
+    let c = label-test (alone j) h s (rw z refl) in
+    let q : eqb (label s) j ≡ true = rw e (eqb-refl j) in
     eqb-true s j (implies _ _ c q)
-  where
-    eqb-self : (k : ℕ) → eqb k k ≡ true
-    eqb-self k = elim (either (eqb k k)) [ inl p ↦ p | inr p ↦ absurd (eqb-false k k p refl) ]
 
-pub label-fragment_name : (s : ℕ) → label s ≡ FRAGMENT_NAME → s ≡ FRAGMENT_NAME
+pub labels-alone : (s : ℕ) → (label s ≡ VARIABLE → s ≡ VARIABLE) × (label s ≡ DEFAULT_VALUE → s ≡ DEFAULT_VALUE) × (label s ≡ DOCUMENT → s ≡ DOCUMENT)
+    × (label s ≡ FRAGMENT_NAME → s ≡ FRAGMENT_NAME) × (label s ≡ ENUM_VALUE → s ≡ ENUM_VALUE)
 unfolding labels ◌and◌ ◌or◌
-label-fragment_name s e = label-alone FRAGMENT_NAME s refl refl e
-
-pub label-enum_value : (s : ℕ) → label s ≡ ENUM_VALUE → s ≡ ENUM_VALUE
-unfolding labels ◌and◌ ◌or◌
-label-enum_value s e = label-alone ENUM_VALUE s refl refl e
+labels-alone s =
+    (label-alone VARIABLE s refl refl, label-alone DEFAULT_VALUE s refl refl, label-alone DOCUMENT s refl refl, label-alone FRAGMENT_NAME s refl refl, label-alone ENUM_VALUE s refl refl)
 
 -- The row of a symbol.
 abbrev first_empty : List (List (List ℕ)) → Bool
@@ -85,12 +75,6 @@ symbol-row s w e h = elim (either (eqb s OPERATION_DEFINITION)) [
 ]
 
 -- Leaves.
-pub text-same : (a b : Text) → text_eq a b ≡ true → a ≡ b
-text-same [] [] h = refl
-text-same [] (b ∷ bs) h = absurd (true≢false (sym h))
-text-same (a ∷ x) [] h = absurd (true≢false (sym h))
-text-same (a ∷ x) (b ∷ y) h = ap₂ (λ u v. u ∷ v) (eqb-true a b (and-l _ _ h)) (text-same x y (and-r _ _ h))
-
 pub listed : (ws : List (ℕ × Text)) (l : ℕ) (x : Text) → word_class ws x ≡ l → (l ≡ IDENT → ⊥) → Listed ws l x
 listed [] l x e n = absurd (n (sym e))
 listed (w ∷ more) l x e n = elim (either (text_eq w.1 x)) [
@@ -200,7 +184,7 @@ enum-leaf f o = name-leaf ENUM_VALUE NAME_FOR_ENUM 2 f refl refl refl refl refl 
 pub name-rule : (s : ℕ) (f : Forest) → OkFrom s 0 f → NameRule (label s) (shows f)
 unfolding NameLeaf
 name-rule s f o = (
-  (λ e t. let c = fragment-leaf f (subst (λ (n : ℕ). OkFrom n 0 f) (label-fragment_name s e) o) in on-refused c.0 c.2 (sym c.1 ∙ t)),
-  (λ e. let c = enum-leaf f (subst (λ (n : ℕ). OkFrom n 0 f) (label-enum_value s e) o) in
+  (λ e t. let c = fragment-leaf f (subst (λ (n : ℕ). OkFrom n 0 f) ((labels-alone s).3 e) o) in on-refused c.0 c.2 (sym c.1 ∙ t)),
+  (λ e. let c = enum-leaf f (subst (λ (n : ℕ). OkFrom n 0 f) ((labels-alone s).4 e) o) in
       ((λ t. true-refused c.0 c.2 (sym c.1 ∙ t)), (λ t. false-refused c.0 c.2 (sym c.1 ∙ t)), (λ t. null-refused c.0 c.2 (sym c.1 ∙ t)))),
 )

@@ -10,7 +10,7 @@ use Rattle.document_grammar.specs.Booleans.{◌and◌, ◌or◌}
 use Rattle.grammar_machine.specs.Machine.{holds, is_leaf, ends, exit, arcs, has, target, entries, fires, fires_in, has_in, choose, go, close, move, class, word_class, text_eq, first, second, token, yield, yields, finish, walk, Ok, OkFrom, Path, Frame, frame, Reach, start, shift, open', closed}
 use Rattle.grammar_machine.proofs.Checks.{subset, exits, all_arcs, all_entries, leaf_checked, leaf_entry}
 use Rattle.document_grammar.proofs.Booleans.{false-true, and-l, and-r, and-i, or-c, or-l, or-r, not-c, either, eqb-refl}
-use Rattle.grammar_machine.proofs.TableLemmas.{holds-subset, holds-disjoint, arcs-at, row-test, exits-at, below-at}
+use Rattle.grammar_machine.proofs.TableLemmas.{any-with, any-entry, any-more, begun_by, fires-any, text-same, holds-subset, holds-disjoint, arc-test, exits-at, below-at}
 use Rattle.grammar_machine.proofs.Run.{go-close, go-stuck, close-stuck, go-inj}
 use Rattle.document_grammar.proofs.Built.{forest-none}
 use Rattle.grammar_machine.proofs.Endings.{ending, okb, okb_from, fillable, fill_test, fill_checked, leaf_test, leaf_classes_checked, word_tests, words_checked, spell, spelt, spelt_all}
@@ -81,11 +81,7 @@ class-cases a = elim (either (eqb a.0 IDENT)) [
 -- A leaf's entry that holds the class.
 pub fired : (es : List Entry) (t : ℕ → Bool) (a b : ℕ) → all_entries es (λ x y alone. t x) ≡ true → fires_in es a b ≡ true
     → (x : ℕ) × (t x ≡ true) × (holds a x ≡ true)
-fired [] t a b h f = absurd (true≢false (sym f))
-fired (entry x y alone ∷ more) t a b h f = elim (or-c _ _ f) [
-  | inl p ↦ (x, and-l _ _ h, and-l _ _ p)
-  | inr p ↦ fired more t a b (and-r _ _ h) p
-]
+fired es t a b h f = any-entry es _ (any-with es (λ x y alone. t x) (begun_by a b) h (rw fires-any at f)) (λ x y alone p. (x, and-l _ _ p, and-l _ _ (and-r _ _ p)))
 
 pub holds-one : (a l : ℕ) → holds a (2 ^ l) ≡ true → a ≡ l
 unfolding holds
@@ -117,11 +113,8 @@ leaf-token l b a i f =
 
 -- A leaf's entries don't ask for a second token.
 fires-alone : (es : List Entry) (a b b' : ℕ) → all_entries es (λ x y a. a and eqb y 0) ≡ true → fires_in es a b ≡ true → fires_in es a b' ≡ true
-fires-alone [] a b b' t h = h
-fires-alone (entry x y alone ∷ more) a b b' t h = elim (or-c _ _ h) [
-  | inl p ↦ or-l _ _ (and-i (and-l _ _ p) (or-l _ _ (and-l _ _ (and-l _ _ t))))
-  | inr p ↦ or-r _ _ (fires-alone more a b b' (and-r _ _ t) p)
-]
+fires-alone es a b b' t h = rw fires-any (any-more es _ (begun_by a b') (any-with es (λ x y a. a and eqb y 0) (begun_by a b) t (rw fires-any at h))
+    (λ x y alone p. and-i (and-l _ _ (and-r _ _ p)) (or-l _ _ (and-l _ _ (and-l _ _ p)))))
 
 pub leaf-ok : (l b : ℕ) (a : Token) → is_leaf l ≡ true → fires l (class a) b ≡ true → Ok (leaf l a.1)
 unfolding fires
@@ -205,13 +198,8 @@ mutual
       let l = and-l (has s q (root t) and okb t) (okb_from s (target s q (root t) + finish t) f) h in
       (and-l (has s q (root t)) (okb t) l, okb-ok t (and-r (has s q (root t)) (okb t) l), okb_from-ok s (target s q (root t) + finish t) f (and-r (has s q (root t) and okb t) (okb_from s (target s q (root t) + finish t) f) h))
 
-fill-arcs : (s q : ℕ) → is_leaf s ≡ false → all_arcs (arcs s q) (λ k q. (is_leaf k or fillable k 0) and exits k (λ x. fillable s (q + x))) ≡ true
-unfolding arcs
-fill-arcs s q l = row-test fill_test fill_checked (λ k. refl) s q l
-
 fill-arc : (s q k : ℕ) → is_leaf s ≡ false → has s q k ≡ true → (is_leaf k or fillable k 0) and exits k (λ x. fillable s (target s q k + x)) ≡ true
-unfolding has target
-fill-arc s q k l h = arcs-at (arcs s q) (λ k q. (is_leaf k or fillable k 0) and exits k (λ x. fillable s (q + x))) k (fill-arcs s q l) h
+fill-arc = arc-test fill_test fill_checked
 
 pub fill-after : (s q : ℕ) (t : Tree) → is_leaf s ≡ false → has s q (root t) ≡ true → Ok t → fillable s (target s q (root t) + finish t) ≡ true
 fill-after s q t l h o = exits-at t (λ x. fillable s (target s q (root t) + x)) (and-r _ _ (fill-arc s q (root t) l h)) o
@@ -235,16 +223,10 @@ all-append : (u v : List Token) → AllSpelt u → AllSpelt v → AllSpelt (u ++
 all-append [] v h k = k
 all-append (a ∷ u) v h k = (h.0, all-append u v h.1 k)
 
-same-text : (a b : Text) → text_eq a b ≡ true → a ≡ b
-same-text [] [] h = refl
-same-text [] (b ∷ bs) h = absurd (true≢false (sym h))
-same-text (a ∷ x) [] h = absurd (true≢false (sym h))
-same-text (a ∷ x) (b ∷ y) h = ap₂ (λ u v. u ∷ v) (eqb-true a b (and-l _ _ h)) (same-text x y (and-r _ _ h))
-
 mutual
   spelt-yield : (t : Tree) → Ok t → spelt t ≡ true → AllSpelt (yield t)
   spelt-yield (leaf l x) o h =
-      let e : spell l ≡ x = same-text (spell l) x h in
+      let e : spell l ≡ x = text-same (spell l) x h in
       ((l, subst (λ (y : Text). Ok (leaf l y)) (sym e) o, ap (λ (y : Text). token l y) (sym e)), tt)
   spelt-yield (node s f) o h = spelt-yields s 0 f o.1 h
 

@@ -1,13 +1,12 @@
 -- Each move has one test that computes, over the symbol of the node that is being read, the state of its row, and sets of classes that
 -- hold the next token and the one after it.
 use Rattle.std.proofs.Common.{◌≡◌, ℕ, Bool, true, false, cond, not, eqb, List, [], ◌∷◌, refl, sym, ◌∙◌, inl, inr, true≢false, eqb-true}
-use Rattle.grammar_machine.specs.Table.{Entry, entry}
+use Rattle.grammar_machine.specs.Table.{Entry}
 use Rattle.document_grammar.specs.Booleans.{◌and◌, ◌or◌}
 use Rattle.grammar_machine.specs.Machine.{holds, ends, arcs, entries, fires, fires_in, choose, go, close, stuck, move}
 use Rattle.grammar_machine.proofs.Checks.{subset, disjoint, all_entries, any_entries}
-use Rattle.document_grammar.proofs.Booleans.{and-l, and-r, and-i, or-c, or-l, or-r, not-c, either}
-use Rattle.grammar_machine.proofs.TableLemmas.{holds-subset, holds-disjoint}
-use Rattle.grammar_machine.proofs.TwoTokenLookahead.{or-false, and-false-r, and-false-l}
+use Rattle.document_grammar.proofs.Booleans.{and-l, and-r, and-i, or-c, or-l, or-r, or-false, and-false-l, and-false-r, not-c, either}
+use Rattle.grammar_machine.proofs.TableLemmas.{any-more, no-entry, begun_by, fires-any, holds-subset, holds-disjoint}
 
 -- No token pair of the sets begins `k`.
 abbrev pub misses : ℕ → ℕ → ℕ → Bool
@@ -37,21 +36,15 @@ sticks s q x y = no_arcs (arcs s q) x y and not (ends s q)
 
 pub misses-fires : (es : List Entry) (x y a b : ℕ) → all_entries es (λ x1 y1 alone. disjoint x x1 or (not alone and disjoint y y1)) ≡ true
     → holds a x ≡ true → holds b y ≡ true → fires_in es a b ≡ false
-misses-fires [] x y a b t ha hb = refl
-misses-fires (entry x1 y1 alone ∷ more) x y a b t ha hb =
-    or-false (elim (or-c _ _ (and-l _ _ t)) [
-      | inl p ↦ and-false-l _ _ (holds-disjoint a x x1 p ha)
-      | inr p ↦ and-false-r (holds a x1) (or-false (not-c _ (and-l _ _ p)) (holds-disjoint b y y1 (and-r _ _ p) hb))
-    ])
-    (misses-fires more x y a b (and-r _ _ t) ha hb)
+misses-fires es x y a b t ha hb = rw fires-any (no-entry es _ (begun_by a b) t (λ x1 y1 alone p. elim (or-c _ _ p) [
+  | inl q ↦ and-false-l _ _ (holds-disjoint a x x1 q ha)
+  | inr q ↦ and-false-r (holds a x1) (or-false (not-c _ (and-l _ _ q)) (holds-disjoint b y y1 (and-r _ _ q) hb))
+]))
 
 pub hits-fires : (es : List Entry) (x y a b : ℕ) → any_entries es (λ x1 y1 alone. subset x x1 and (alone or subset y y1)) ≡ true → holds a x ≡ true
     → holds b y ≡ true → fires_in es a b ≡ true
-hits-fires [] x y a b t ha hb = t
-hits-fires (entry x1 y1 alone ∷ more) x y a b t ha hb = elim (or-c _ _ t) [
-  | inl p ↦ or-l _ _ (and-i (holds-subset a x x1 (and-l _ _ p) ha) (elim (or-c _ _ (and-r _ _ p)) [ inl q ↦ or-l _ _ q | inr q ↦ or-r _ _ (holds-subset b y y1 q hb) ]))
-  | inr p ↦ or-r _ _ (hits-fires more x y a b p ha hb)
-]
+hits-fires es x y a b t ha hb = rw fires-any (any-more es _ (begun_by a b) t (λ x1 y1 alone p.
+    and-i (holds-subset a x x1 (and-l _ _ p) ha) (elim (or-c _ _ (and-r _ _ p)) [ inl q ↦ or-l _ _ q | inr q ↦ or-r _ _ (holds-subset b y y1 q hb) ])))
 
 go-choose : (l : List (ℕ × ℕ)) (e : Bool) (x y a b k : ℕ) → go_arcs l x y k ≡ true → holds a x ≡ true → holds b y ≡ true → choose l e a b ≡ go k
 unfolding fires

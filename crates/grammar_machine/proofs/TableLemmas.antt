@@ -1,14 +1,14 @@
 -- What the tests say, for each state and symbol.
-use Rattle.std.proofs.Common.{◌≡◌, ℕ, zero, suc, ◌+◌, ◌-◌, ◌≤◌, ◌<◌, min, max, Bool, true, false, cond, not, eqb, List, [], ◌∷◌, get_or, bit_and, bit_or, refl, sym, subst, ◌⊎◌, inl, inr, true≢false, eqb-true, ltb-false, arith}
+use Rattle.std.proofs.Common.{◌≡◌, ℕ, zero, suc, ◌+◌, ◌-◌, ◌≤◌, ◌<◌, min, max, Bool, true, false, cond, not, eqb, List, [], ◌∷◌, get_or, bit_and, bit_or, refl, sym, ap, ap₂, subst, ◌⊎◌, inl, inr, true≢false, eqb-true, ltb-false, arith}
 use Rattle.std.proofs.lemmas.Bool.{eqb-false}
 use Rattle.std.specs.Int.{bit_at}
 use Rattle.std.proofs.lemmas.Nat.Bits.{bit_at_and, bit_at_or, bit_at-lt, bit_at-zero}
-use Rattle.document_grammar.specs.Booleans.{◌or◌}
-use Rattle.document_grammar.proofs.Booleans.{and-l, and-r, implies, either}
-use Rattle.document_grammar.specs.Tree.{Tree, leaf, node, Forest, none, ◌▸◌, root}
-use Rattle.grammar_machine.specs.Table.{State, state, rows}
-use Rattle.grammar_machine.specs.Machine.{holds, is_leaf, at, ends, exit, target, dead, state_ends, state_exit, has_in, target_in, finish, walk, Ok, OkFrom}
-use Rattle.grammar_machine.proofs.Checks.{subset, disjoint, row_of, all_ends, exits, all_arcs, all_states, all_rows, all_below}
+use Rattle.document_grammar.specs.Booleans.{◌and◌, ◌or◌}
+use Rattle.document_grammar.proofs.Booleans.{and-l, and-r, and-i, or-c, or-l, or-r, or-false, implies, either}
+use Rattle.document_grammar.specs.Tree.{Text, Tree, leaf, node, Forest, none, ◌▸◌, root}
+use Rattle.grammar_machine.specs.Table.{State, state, Entry, entry, rows}
+use Rattle.grammar_machine.specs.Machine.{holds, fires_in, text_eq, is_leaf, at, ends, exit, arcs, has, target, dead, state_arcs, state_ends, state_exit, has_in, target_in, finish, walk, Ok, OkFrom}
+use Rattle.grammar_machine.proofs.Checks.{subset, disjoint, entries_mask, all_entries, any_entries, row_of, all_ends, exits, all_arcs, all_from, all_rows, every_state, every_arc, all_below}
 use Rattle.document_grammar.specs.Kinds.{DOCUMENT}
 
 -- A test that holds of each number below n.
@@ -31,6 +31,12 @@ tail-same e = cc
 
 pub no-cons : {A B : Type 0} {a : B} {w : List B} → [] ≡ a ∷ w → A
 no-cons e = absurd (cc)
+
+pub text-same : (a b : Text) → text_eq a b ≡ true → a ≡ b
+text-same [] [] h = refl
+text-same [] (b ∷ bs) h = absurd (true≢false (sym h))
+text-same (a ∷ x) [] h = absurd (true≢false (sym h))
+text-same (a ∷ x) (b ∷ y) h = ap₂ (λ u v. u ∷ v) (eqb-true a b (and-l _ _ h)) (text-same x y (and-r _ _ h))
 
 pub holds-subset : (a x y : ℕ) → subset x y ≡ true → holds a x ≡ true → holds a y ≡ true
 unfolding holds
@@ -64,6 +70,39 @@ holds-or a x y h =
       | inr p ↦ (let f : bit_at y a ≡ 1 = eqb-true _ _ p in let k : bit_at (bit_or x y) a ≡ 1 = omega arith in rw k refl)
     ]
 
+-- Entries: where a test holds of one, and another of each, both hold of one; what follows from a test; where none holds.
+pub any-with : (es : List Entry) (t u : ℕ → ℕ → Bool → Bool) → all_entries es t ≡ true → any_entries es u ≡ true
+    → any_entries es (λ x y alone. t x y alone and u x y alone) ≡ true
+any-with [] t u h i = i
+any-with (entry x y alone ∷ more) t u h i = elim (or-c _ _ i) [ inl p ↦ or-l _ _ (and-i (and-l _ _ h) p) | inr p ↦ or-r _ _ (any-with more t u (and-r _ _ h) p) ]
+
+pub any-entry : {C : Type 0} (es : List Entry) (t : ℕ → ℕ → Bool → Bool) → any_entries es t ≡ true
+    → ((x y : ℕ) (alone : Bool) → t x y alone ≡ true → C) → C
+any-entry [] t i f = absurd (true≢false (sym i))
+any-entry (entry x y alone ∷ more) t i f = elim (or-c _ _ i) [ inl p ↦ f x y alone p | inr p ↦ any-entry more t p f ]
+
+pub any-more : (es : List Entry) (t u : ℕ → ℕ → Bool → Bool) → any_entries es t ≡ true
+    → ((x y : ℕ) (alone : Bool) → t x y alone ≡ true → u x y alone ≡ true) → any_entries es u ≡ true
+any-more [] t u i f = i
+any-more (entry x y alone ∷ more) t u i f = elim (or-c _ _ i) [ inl p ↦ or-l _ _ (f x y alone p) | inr p ↦ or-r _ _ (any-more more t u p f) ]
+
+pub no-entry : (es : List Entry) (t u : ℕ → ℕ → Bool → Bool) → all_entries es t ≡ true
+    → ((x y : ℕ) (alone : Bool) → t x y alone ≡ true → u x y alone ≡ false) → any_entries es u ≡ false
+no-entry [] t u h f = refl
+no-entry (entry x y alone ∷ more) t u h f = or-false (f x y alone (and-l _ _ h)) (no-entry more t u (and-r _ _ h) f)
+
+-- The entries of a symbol that begin with two classes.
+abbrev pub begun_by : ℕ → ℕ → ℕ → ℕ → Bool → Bool
+begun_by a b x y alone = holds a x and (alone or holds b y)
+
+pub fires-any : (es : List Entry) (a b : ℕ) → fires_in es a b ≡ any_entries es (begun_by a b)
+fires-any [] a b = refl
+fires-any (entry x y alone ∷ more) a b = ap (λ (c : Bool). begun_by a b x y alone or c) (fires-any more a b)
+
+pub holds-mask : (es : List Entry) (a : ℕ) → any_entries es (λ x y alone. holds a x) ≡ true → holds a (entries_mask es) ≡ true
+holds-mask [] a h = absurd (true≢false (sym h))
+holds-mask (entry x y alone ∷ more) a h = holds-or a x (entries_mask more) (elim (or-c _ _ h) [ inl p ↦ inl p | inr p ↦ inr (holds-mask more a p) ])
+
 -- Arcs.
 arc-step : (a : ℕ × ℕ) (more : List (ℕ × ℕ)) (t : ℕ → ℕ → Bool) (k : ℕ) (b : Bool) → eqb a.0 k ≡ b → t a.0 a.1 ≡ true
     → (has_in more k ≡ true → t k (target_in more k) ≡ true) → b or has_in more k ≡ true → t k (cond b a.1 (target_in more k)) ≡ true
@@ -76,24 +115,32 @@ arcs-at [] t k h i = absurd (true≢false (sym i))
 arcs-at (a ∷ more) t k h i = arc-step a more t k (eqb a.0 k) refl (and-l _ _ h) (arcs-at more t k (and-r (t a.0 a.1) _ h)) i
 
 -- Rows.
-states-at : (l : List State) (t : State → Bool) (q : ℕ) → all_states l t ≡ true → t dead ≡ true → t (get_or l q dead) ≡ true
-states-at [] t q h d = d
-states-at (v ∷ more) t zero h d = and-l _ _ h
-states-at (v ∷ more) t (suc q) h d = states-at more t q (and-r (t v) _ h) d
+pub zero-plus : (q : ℕ) → 0 + q ≡ q
+zero-plus q = omega arith
 
-rows-at : (s : ℕ) (l : List (List State)) (t : ℕ → State → Bool) (n q : ℕ) → all_rows s l t ≡ true → ((k : ℕ) → t k dead ≡ true)
-    → t (s + n) (get_or (get_or l n []) q dead) ≡ true
-rows-at s [] t n q h d = d (s + n)
-rows-at s (r ∷ more) t zero q h d = let e : s + 0 ≡ s = omega arith in rw e (states-at r (t s) q (and-l _ _ h) (d s))
-rows-at s (r ∷ more) t (suc n) q h d = let e : s + suc n ≡ suc s + n = omega arith in rw e (rows-at (suc s) more t n q (and-r (all_states r (t s)) _ h) d)
+pub all-from-at : {A : Type 0} (l : List A) (n i : ℕ) (t : ℕ → A → Bool) (d : A) → all_from n l t ≡ true → t (n + i) d ≡ true
+    → t (n + i) (get_or l i d) ≡ true
+all-from-at [] n i t d h e = e
+all-from-at (x ∷ more) n zero t d h e = let z : n + 0 ≡ n = omega arith in rw z (and-l _ _ h)
+all-from-at (x ∷ more) n (suc i) t d h e = let z : n + suc i ≡ suc n + i = omega arith in rw z (all-from-at more (suc n) i t d (and-r _ _ h) (rw z at e))
 
-pub node-sum : (s : ℕ) → is_leaf s ≡ false → DOCUMENT + (s - DOCUMENT) ≡ s
+node-sum : (s : ℕ) → is_leaf s ≡ false → DOCUMENT + (s - DOCUMENT) ≡ s
 unfolding is_leaf
 node-sum s h = let l : DOCUMENT ≤ s = ltb-false _ _ h in omega arith
 
-pub row-test : (t : ℕ → State → Bool) → all_rows DOCUMENT rows t ≡ true → ((k : ℕ) → t k dead ≡ true) → (s q : ℕ) → is_leaf s ≡ false → t s (at s q) ≡ true
+pub state-test : (t : ℕ → ℕ → State → Bool) → every_state t ≡ true → ((s q : ℕ) → t s q dead ≡ true) → (s q : ℕ) → is_leaf s ≡ false → t s q (at s q) ≡ true
 unfolding at
-row-test t h d s q l = subst (λ (n : ℕ). t n (get_or (get_or rows (s - DOCUMENT) []) q dead) ≡ true) (node-sum s l) (rows-at DOCUMENT rows t (s - DOCUMENT) q h d)
+state-test t h d s q l =
+    let row : List State = get_or rows (s - DOCUMENT) [] in
+    let r : all_from 0 row (t s) ≡ true = subst (λ (n : ℕ). all_from 0 row (t n) ≡ true) (node-sum s l) (all-from-at rows DOCUMENT (s - DOCUMENT) (λ s r. all_from 0 r (t s)) [] h refl) in
+    subst (λ (n : ℕ). t s n (get_or row q dead) ≡ true) (zero-plus q) (all-from-at row 0 q (t s) dead r (d s (0 + q)))
+
+pub row-test : (t : ℕ → State → Bool) → all_rows DOCUMENT rows t ≡ true → ((k : ℕ) → t k dead ≡ true) → (s q : ℕ) → is_leaf s ≡ false → t s (at s q) ≡ true
+row-test t h d s q l = state-test (λ s q v. t s v) h (λ s q. d s) s q l
+
+pub arc-test : (t : ℕ → ℕ → ℕ → Bool) → every_arc t ≡ true → (s q k : ℕ) → is_leaf s ≡ false → has s q k ≡ true → t s k (target s q k) ≡ true
+unfolding has target arcs
+arc-test t h s q k l i = arcs-at (arcs s q) (t s) k (state-test (λ s q v. all_arcs (state_arcs v) (t s)) h (λ s q. refl) s q l) i
 
 -- What a tree leaves behind.
 ends-at : (l : List State) (t : ℕ → Bool) (q : ℕ) → all_ends l t ≡ true → state_ends (get_or l q dead) ≡ true

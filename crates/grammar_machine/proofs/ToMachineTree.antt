@@ -5,7 +5,7 @@ use Rattle.document_grammar.proofs.Words.{all_words, listed-at}
 use Rattle.document_grammar.specs.Tree.{Text, Tree, leaf, node, Forest, none, ◌▸◌, root}
 use Rattle.document_grammar.specs.Pattern.{Pattern, any_of, one, member, Matches}
 use Rattle.document_grammar.specs.Rows.{Row, row_in, children, keyword_operation, bare_selections}
-use Rattle.document_grammar.specs.Kinds.{words, DOCUMENT, OPERATION_DEFINITION, SELECTION_SET, NAME, FRAGMENT_NAME, DIRECTIVES, VARIABLE, DEFAULT_VALUE, ENUM_VALUE, NAMED_TYPE, LIST_TYPE, NON_NULL_TYPE, OBJECT_TYPE_DEFINITION, INTERFACE_TYPE_DEFINITION, ENUM_TYPE_DEFINITION, INPUT_OBJECT_TYPE_DEFINITION, OBJECT_TYPE_EXTENSION, INTERFACE_TYPE_EXTENSION, ENUM_TYPE_EXTENSION, INPUT_OBJECT_TYPE_EXTENSION, IDENT, STRING, false_KW, null_KW, on_KW, true_KW}
+use Rattle.document_grammar.specs.Kinds.{words, WHITESPACE, ERROR, DOCUMENT, OPERATION_DEFINITION, SELECTION_SET, NAME, FRAGMENT_NAME, DIRECTIVES, VARIABLE, DEFAULT_VALUE, ENUM_VALUE, NAMED_TYPE, LIST_TYPE, NON_NULL_TYPE, OBJECT_TYPE_DEFINITION, INTERFACE_TYPE_DEFINITION, ENUM_TYPE_DEFINITION, INPUT_OBJECT_TYPE_DEFINITION, OBJECT_TYPE_EXTENSION, INTERFACE_TYPE_EXTENSION, ENUM_TYPE_EXTENSION, INPUT_OBJECT_TYPE_EXTENSION, IDENT, STRING, false_KW, null_KW, on_KW, true_KW}
 use Rattle.document_grammar.specs.Choices.{Types}
 use Rattle.grammar_machine.specs.Table.{State, rows, firsts, name_leaves, token_kinds}
 use Rattle.grammar_machine.proofs.generated.Samples.{endings, spellings}
@@ -13,25 +13,29 @@ use Rattle.grammar_machine.proofs.generated.Labels.{paths, labels}
 use Rattle.document_grammar.specs.Booleans.{◌and◌, ◌or◌}
 use Rattle.grammar_machine.specs.Machine.{holds, is_leaf, at, ends, exit, arcs, has, has_in, target, target_in, entries, fires, class, word_class, text_eq, token, dead, state_arcs, state_exit, finish, walk, Ok, OkFrom}
 use Rattle.document_grammar.specs.Derivation.{kinds, text, texts, Listed, LeafRule, NameRule, on_text, true_text, false_text, null_text, NoVariable, NoVariables, Marked, ConstantDirectives, ConstantRule, Braced, NoBlock, LacksBlock, StartsWithSelections, NotBefore, BraceRule, IsQuery, Fits, AllFit, BareBy, Sort, document, selections, type, Derivation}
-use Rattle.grammar_machine.proofs.Checks.{all_arcs, all_rows, exits, all_below}
-use Rattle.document_grammar.proofs.Booleans.{false-true, and-l, and-r, or-c, or-l, or-r, not-c, either, implies, eqb-refl}
-use Rattle.grammar_machine.proofs.TableLemmas.{arcs-at, exits-at, row-test, head-same, tail-same, no-cons, below-at}
+use Rattle.grammar_machine.proofs.Checks.{every_arc, exits, all_below}
+use Rattle.document_grammar.proofs.Booleans.{false-true, and-l, and-r, or-c, or-l, or-r, or-false, or-false-l, or-false-r, not-c, either, implies, eqb-refl}
+use Rattle.grammar_machine.proofs.TableLemmas.{text-same, exits-at, arc-test, head-same, tail-same, no-cons, below-at}
 use Rattle.grammar_machine.proofs.Endings.{ending, fillable}
 use Rattle.grammar_machine.proofs.Sound.{leaf-lt, fill-after, fill-start, fillable-ok}
 use Rattle.grammar_machine.proofs.Patterns.{deriv, pattern_of, symbol_row, type_row, label, shown, all_kinds, any_arcs, constant, begin_kinds, agree_at, nullable-to, to-deriv, first-kind}
 use Rattle.grammar_machine.proofs.FromMachineTree.{shown-root, show, shows, type_of, show-root, Live, agree, agree-end-from, agree-arc, agree-kind, kinds-at, has-live, ends-live}
-use Rattle.grammar_machine.proofs.Constants.{type-first, document-arc, block_marks}
-use Rattle.grammar_machine.proofs.Rules.{listed, text-same, start-pattern, keyword-class}
-use Rattle.grammar_machine.specs.Symbols.{TYPE, SHORT_QUERY, NAME_FOR_FRAGMENT, NAME_FOR_ENUM, DIRECTIVES_CONST, BARE_SELECTIONS}
+use Rattle.grammar_machine.proofs.Constants.{type-first, node-document, document-arc, finish-lacks}
+use Rattle.grammar_machine.proofs.Rules.{listed, start-pattern, keyword-class}
+use Rattle.grammar_machine.specs.Symbols.{TYPE, SHORT_QUERY, IDENT_FOR_FRAGMENT, IDENT_FOR_ENUM, NAME_FOR_FRAGMENT, NAME_FOR_ENUM, DIRECTIVES_CONST, OBJECT_FIELD_CONST, BARE_SELECTIONS}
 
 abbrev inconst : ℕ → Bool
 inconst k = ltb NAME_FOR_ENUM k and ltb k BARE_SELECTIONS
 
 abbrev fname : ℕ → Bool
-fname k = eqb k NAME_FOR_FRAGMENT or eqb k 1
+fname k = eqb k NAME_FOR_FRAGMENT or eqb k IDENT_FOR_FRAGMENT
 
 abbrev ename : ℕ → Bool
-ename k = eqb k NAME_FOR_ENUM or eqb k 2
+ename k = eqb k NAME_FOR_ENUM or eqb k IDENT_FOR_ENUM
+
+-- The symbols that are no children: two leaves that are not read, and the selections without braces.
+abbrev no_child : ℕ → Bool
+no_child k = eqb k WHITESPACE or eqb k ERROR or ltb OBJECT_FIELD_CONST k
 
 abbrev fparent : ℕ → Bool
 fparent s = eqb s FRAGMENT_NAME or eqb s NAME_FOR_FRAGMENT
@@ -55,46 +59,87 @@ abbrev Kids : ℕ → Forest → Type 0
 Kids s f = (constant s ≡ true → NoVariables f) × (member (label s) Marked ≡ true → ConstantDirectives f) × (fparent s ≡ true → AllOn f) × (eparent s ≡ true → AllWords f)
 
 abbrev Cond : ℕ → Tree → Type 0
-Cond k t = (member (root t) (shown k) ≡ true) × (inconst k ≡ true → NoVariable t) × (fname k ≡ true → text t ≢ on_text) × (ename k ≡ true → NoWord (text t)) × (k ≡ OPERATION_DEFINITION → IsQuery t → ⊥) × (k ≡ SHORT_QUERY → IsQuery t) × (eqb k 0 or eqb k 3 or ltb 130 k ≡ false) × (is_leaf k ≡ false → fillable k 0 ≡ true)
+Cond k t = (member (root t) (shown k) ≡ true) × (inconst k ≡ true → NoVariable t) × (fname k ≡ true → text t ≢ on_text) × (ename k ≡ true → NoWord (text t)) × (k ≡ OPERATION_DEFINITION → IsQuery t → ⊥) × (k ≡ SHORT_QUERY → IsQuery t) × (no_child k ≡ false) × (is_leaf k ≡ false → fillable k 0 ≡ true)
 
 kids-tail : (s : ℕ) (t : Tree) (f : Forest) → Kids s (t ▸ f) → Kids s f
 kids-tail s t f h = ((λ e. (h.0 e).1), (λ e. (h.1 e).1), (λ e. (h.2 e).1), (λ e. (h.3 e).1))
 
-abbrev child_test : ℕ → State → Bool
-child_test s v = all_arcs (state_arcs v) (λ k q.
+abbrev child_test : ℕ → ℕ → ℕ → Bool
+child_test s k q =
     (not (inconst k) or (constant s or (member (label s) Marked and eqb k DIRECTIVES_CONST)))
-    and (not (fname k) or fparent s) and (not (ename k) or eparent s) and (not (eqb k OPERATION_DEFINITION or eqb k SHORT_QUERY) or eqb s DOCUMENT) and not (eqb k 0 or eqb k 3 or ltb 130 k))
+    and (not (fname k) or fparent s) and (not (ename k) or eparent s) and (not (eqb k OPERATION_DEFINITION or eqb k SHORT_QUERY) or eqb s DOCUMENT) and not (no_child k)
 
-child-checked : all_rows DOCUMENT rows child_test ≡ true
+child-checked : every_arc child_test ≡ true
 unfolding ◌and◌ ◌or◌ rows label labels constant member
 child-checked = refl
-
-child-arc : (s q k : ℕ) → is_leaf s ≡ false → has s q k ≡ true
-    → (not (inconst k) or (constant s or (member (label s) Marked and eqb k DIRECTIVES_CONST))) and (not (fname k) or fparent s) and (not (ename k) or eparent s) and (not (eqb k OPERATION_DEFINITION or eqb k SHORT_QUERY) or eqb s DOCUMENT) and not (eqb k 0 or eqb k 3 or ltb 130 k) ≡ true
-unfolding has arcs
-child-arc s q k l h = arcs-at (arcs s q) (λ k q. (not (inconst k) or (constant s or (member (label s) Marked and eqb k DIRECTIVES_CONST))) and (not (fname k) or fparent s) and (not (ename k) or eparent s) and (not (eqb k OPERATION_DEFINITION or eqb k SHORT_QUERY) or eqb s DOCUMENT) and not (eqb k 0 or eqb k 3 or ltb 130 k)) k (row-test child_test child-checked (λ k. refl) s q l) h
 
 shown-directives : (j k : ℕ) → eqb k DIRECTIVES_CONST ≡ true → member j (shown k) ≡ true → j ≡ DIRECTIVES
 unfolding shown label labels member
 shown-directives j k e m = let m' : member j (shown DIRECTIVES_CONST) ≡ true = rw (eqb-true k DIRECTIVES_CONST e) at m in elim (either (eqb DIRECTIVES j)) [ inl p ↦ sym (eqb-true DIRECTIVES j p) | inr p ↦ absurd (true≢false (sym (rw p at m'))) ]
 
-kids-cond : (s q k : ℕ) (t : Tree) (f : Forest) → is_leaf s ≡ false → eqb s DOCUMENT ≡ false → has s q k ≡ true → member (root t) (shown k) ≡ true
-    → Kids s (t ▸ f) → Cond k t
-kids-cond s q k t f l n h m d =
-    let c = child-arc s q k l h in
-    let c3 = and-l _ _ c in
-    let c2 = and-l _ _ c3 in
-    let c1 = and-l _ _ c2 in
-    let no : (eqb k OPERATION_DEFINITION or eqb k SHORT_QUERY) ≡ true → ⊥ = λ e. true≢false (sym (sym n ∙ implies _ _ (and-r _ _ c3) e)) in (
+kid-cond : (s q k : ℕ) (t : Tree) (f : Forest) → is_leaf s ≡ false → has s q k ≡ true → member (root t) (shown k) ≡ true
+    → (k ≡ OPERATION_DEFINITION → IsQuery t → ⊥) → (k ≡ SHORT_QUERY → IsQuery t) → Kids s (t ▸ f) → Cond k t
+kid-cond s q k t f l h m q1 q2 d =
+    let c = arc-test child_test child-checked s q k l h in
+    let c2 = and-l _ _ (and-l _ _ c) in
+    let c1 = and-l _ _ c2 in (
       m,
       (λ e. elim (or-c _ _ (implies _ _ (and-l _ _ c1) e)) [ inl p ↦ (d.0 p).0 | inr p ↦ (d.1 (and-l _ _ p)).0 (shown-directives (root t) k (and-r _ _ p) m) ]),
       (λ e. (d.2 (implies _ _ (and-r _ _ c1) e)).0),
       (λ e. (d.3 (implies _ _ (and-r _ _ c2) e)).0),
-      (λ e i. no (or-l _ _ (rw e (eqb-refl OPERATION_DEFINITION)))),
-      (λ e. absurd (no (or-r _ _ (rw e (eqb-refl SHORT_QUERY))))),
+      q1,
+      q2,
       not-c _ (and-r _ _ c),
       (λ i. fill-start s q k l h i),
     )
+
+kids-cond : (s q k : ℕ) (t : Tree) (f : Forest) → is_leaf s ≡ false → eqb s DOCUMENT ≡ false → has s q k ≡ true → member (root t) (shown k) ≡ true
+    → Kids s (t ▸ f) → Cond k t
+kids-cond s q k t f l n h m d =
+    let c = and-r _ _ (and-l _ _ (arc-test child_test child-checked s q k l h)) in
+    let no : (eqb k OPERATION_DEFINITION or eqb k SHORT_QUERY) ≡ true → ⊥ = λ e. true≢false (sym (sym n ∙ implies _ _ c e)) in
+    kid-cond s q k t f l h m (λ e i. no (or-l _ _ (rw e (eqb-refl OPERATION_DEFINITION)))) (λ e. absurd (no (or-r _ _ (rw e (eqb-refl SHORT_QUERY))))) d
+
+num : (a b : ℕ) → eqb a b ≡ false → a ≡ b → ⊥
+num a b h = eqb-false a b h
+
+-- A node that asks nothing of its children, and a symbol that asks nothing of its tree but the kind.
+unfoldable asks_nothing : ℕ → Bool
+asks_nothing s = not (constant s) and not (member (label s) Marked) and not (fparent s) and not (eparent s)
+
+plain-kids : (s : ℕ) (f : Forest) → asks_nothing s ≡ true → Kids s f
+unfolding asks_nothing
+plain-kids s f h =
+    let c = and-l _ _ h in
+    ((λ e. false-true (not-c _ (and-l _ _ (and-l _ _ c))) e), (λ e. false-true (not-c _ (and-r _ _ (and-l _ _ c))) e), (λ e. false-true (not-c _ (and-r _ _ c)) e), (λ e. false-true (not-c _ (and-r _ _ h)) e))
+
+unfoldable plain : ℕ → Bool
+plain k = not (inconst k) and not (fname k) and not (ename k) and not (eqb k OPERATION_DEFINITION) and not (eqb k SHORT_QUERY) and not (no_child k) and fillable k 0
+
+plain-cond : (k : ℕ) (t : Tree) → plain k ≡ true → member (root t) (shown k) ≡ true → Cond k t
+unfolding plain
+plain-cond k t p m =
+    let c6 = and-l _ _ p in
+    let c5 = and-l _ _ c6 in
+    let c4 = and-l _ _ c5 in
+    let c3 = and-l _ _ c4 in
+    let c2 = and-l _ _ c3 in (
+      m,
+      (λ e. false-true (not-c _ (and-l _ _ c2)) e),
+      (λ e. false-true (not-c _ (and-r _ _ c2)) e),
+      (λ e. false-true (not-c _ (and-r _ _ c3)) e),
+      (λ e i. num k OPERATION_DEFINITION (not-c _ (and-r _ _ c4)) e),
+      (λ e. absurd (num k SHORT_QUERY (not-c _ (and-r _ _ c5)) e)),
+      not-c _ (and-r _ _ c6),
+      (λ i. and-r _ _ p),
+    )
+
+-- What computing says of single symbols.
+symbols-checked : (asks_nothing DOCUMENT ≡ true) × (asks_nothing TYPE ≡ true) × (asks_nothing BARE_SELECTIONS ≡ true)
+    × (plain DOCUMENT ≡ true) × (plain SELECTION_SET ≡ true) × (plain TYPE ≡ true) × (plain NAMED_TYPE ≡ true) × (plain LIST_TYPE ≡ true)
+    × (fillable BARE_SELECTIONS 0 ≡ true) × (fillable TYPE 0 ≡ true) × (ends TYPE 1 ≡ true) × (constant DOCUMENT ≡ false)
+unfolding asks_nothing plain constant label labels member is_leaf ◌or◌ ◌and◌ ends at rows fillable ending endings spellings has target arcs exit fires entries firsts holds class token words
+symbols-checked = (refl, refl, refl, refl, refl, refl, refl, refl, refl, refl, refl, refl)
 
 -- The children's rules, from the node's.
 all-on : (f : Forest) (x : ℕ) → kinds f ≡ x ∷ [] → texts f ≢ on_text → AllOn f
@@ -120,9 +165,9 @@ one-kind s f h m = let c = name-pattern s h in let n : Matches (any_of (c.0 ∷ 
 label-of : (s k : ℕ) → eqb s k ≡ true → label k ≡ k → label s ≡ k
 label-of s k e h = rw (eqb-true s k e) h
 
-labels-same : (label DEFAULT_VALUE ≡ DEFAULT_VALUE) × (label FRAGMENT_NAME ≡ FRAGMENT_NAME) × (label ENUM_VALUE ≡ ENUM_VALUE)
+labels-same : (label DEFAULT_VALUE ≡ DEFAULT_VALUE) × (label FRAGMENT_NAME ≡ FRAGMENT_NAME) × (label ENUM_VALUE ≡ ENUM_VALUE) × (label DOCUMENT ≡ DOCUMENT)
 unfolding label labels
-labels-same = (refl, refl, refl)
+labels-same = (refl, refl, refl, refl)
 
 cond-kids : (s j : ℕ) (f : Forest) → label s ≡ j → Matches (pattern_of s 0) (kinds f) → NameRule j f → ConstantRule j f → Cond s (node j f) → Kids s f
 unfolding constant
@@ -134,15 +179,17 @@ cond-kids s j f e m n c d = (
 )
 
 -- Leaves.
-word-at : (ws : List (ℕ × Text)) (t : ℕ → Bool) (x : Text) → all_words ws (λ k y. t k) ≡ true → t IDENT ≡ true → t (word_class ws x) ≡ true
-word-at [] t x h d = d
-word-at (w ∷ more) t x h d = elim (either (text_eq w.1 x)) [
-  | inl p ↦ rw p (and-l _ _ h)
-  | inr p ↦ rw p (word-at more t x (and-r _ _ h) d)
+-- A test of the class of a Name, which holds of each word but of those that the Name is not.
+word-read : (ws : List (ℕ × Text)) (t : ℕ → Bool) (bad : Text → Bool) (x : Text) → all_words ws (λ k y. t k or bad y) ≡ true → t IDENT ≡ true → bad x ≡ false
+    → t (word_class ws x) ≡ true
+word-read [] t bad x h d n = d
+word-read (w ∷ more) t bad x h d n = elim (either (text_eq w.1 x)) [
+  | inl p ↦ rw p (elim (or-c _ _ (and-l _ _ h)) [ inl q ↦ q | inr q ↦ false-true n (subst (λ (y : Text). bad y ≡ true) (text-same w.1 x p) q) ])
+  | inr p ↦ rw p (word-read more t bad x (and-r _ _ h) d n)
 ]
 
 abbrev leaf_read : ℕ → Bool
-leaf_read k = eqb k 0 or eqb k 3 or cond (holds k name_leaves) ((ltb STRING k and fires k k 0 and eqb (label k) k) or (eqb k IDENT or (eqb k 1 or eqb k 2))) (not (eqb k IDENT) and holds k token_kinds and fires k k 0)
+leaf_read k = eqb k WHITESPACE or eqb k ERROR or cond (holds k name_leaves) ((ltb STRING k and fires k k 0 and eqb (label k) k) or (eqb k IDENT or (eqb k IDENT_FOR_FRAGMENT or eqb k IDENT_FOR_ENUM))) (not (eqb k IDENT) and holds k token_kinds and fires k k 0)
 
 leaf-reads-checked : all_below DOCUMENT leaf_read ≡ true
 unfolding ◌and◌ ◌or◌ holds label labels fires entries firsts
@@ -152,60 +199,27 @@ keywords-checked : all_words words (λ k y. eqb (word_class words y) k) ≡ true
 unfolding ◌and◌ words
 keywords-checked = refl
 
-word-texts-checked : all_words words (λ k y. (not (eqb k on_KW) or text_eq y on_text) and (not (eqb k true_KW) or text_eq y true_text) and (not (eqb k false_KW) or text_eq y false_text) and (not (eqb k null_KW) or text_eq y null_text)) ≡ true
-unfolding ◌and◌ ◌or◌ words
-word-texts-checked = refl
+abbrev on : Text → Bool
+on y = text_eq y on_text
 
-fires-18-checked : all_words words (λ k y. fires IDENT k 0) ≡ true
+abbrev enum_word : Text → Bool
+enum_word y = text_eq y true_text or text_eq y false_text or text_eq y null_text
+
+names-checked : (all_words words (λ k y. fires IDENT k 0 or false) ≡ true) × (all_words words (λ k y. fires IDENT_FOR_FRAGMENT k 0 or on y) ≡ true)
+    × (all_words words (λ k y. fires IDENT_FOR_ENUM k 0 or enum_word y) ≡ true)
+    × (fires IDENT IDENT 0 ≡ true) × (fires IDENT_FOR_FRAGMENT IDENT 0 ≡ true) × (fires IDENT_FOR_ENUM IDENT 0 ≡ true)
 unfolding ◌and◌ ◌or◌ words fires entries firsts holds
-fires-18-checked = refl
+names-checked = (refl, refl, refl, refl, refl, refl)
 
-fires-1-checked : all_words words (λ k y. eqb k on_KW or fires 1 k 0) ≡ true
-unfolding ◌and◌ ◌or◌ words fires entries firsts holds
-fires-1-checked = refl
+unequal : (x y : Text) → x ≢ y → text_eq x y ≡ false
+unequal x y n = elim (either (text_eq x y)) [ inl p ↦ absurd (n (text-same x y p)) | inr p ↦ p ]
 
-fires-2-checked : all_words words (λ k y. (eqb k true_KW or (eqb k false_KW or eqb k null_KW)) or fires 2 k 0) ≡ true
-unfolding ◌and◌ ◌or◌ words fires entries firsts holds
-fires-2-checked = refl
+fires-fname : (x : Text) → x ≢ on_text → fires IDENT_FOR_FRAGMENT (word_class words x) 0 ≡ true
+fires-fname x n = word-read words (λ k. fires IDENT_FOR_FRAGMENT k 0) on x names-checked.1 names-checked.4 (unequal x on_text n)
 
-fires-ident : (fires IDENT IDENT 0 ≡ true) × (fires 1 IDENT 0 ≡ true) × (fires 2 IDENT 0 ≡ true)
-unfolding ◌and◌ ◌or◌ fires entries firsts holds
-fires-ident = (refl, refl, refl)
-
-word-is : (x : Text) (k : ℕ) → word_class words x ≡ k → (k ≡ IDENT → ⊥)
-    → (not (eqb k on_KW) or text_eq x on_text) and (not (eqb k true_KW) or text_eq x true_text) and (not (eqb k false_KW) or text_eq x false_text) and (not (eqb k null_KW) or text_eq x null_text) ≡ true
-word-is x k e n = listed-at words (λ k y. (not (eqb k on_KW) or text_eq y on_text) and (not (eqb k true_KW) or text_eq y true_text) and (not (eqb k false_KW) or text_eq y false_text) and (not (eqb k null_KW) or text_eq y null_text)) k x word-texts-checked (listed words k x e n)
-
-num : (a b : ℕ) → eqb a b ≡ false → a ≡ b → ⊥
-num a b h = eqb-false a b h
-
-fires-fname : (x : Text) → x ≢ on_text → fires 1 (word_class words x) 0 ≡ true
-fires-fname x n = elim (or-c _ _ (word-at words (λ k. eqb k on_KW or fires 1 k 0) x fires-1-checked (or-r _ _ fires-ident.1))) [
-  | inl p ↦ (let c = word-is x on_KW (eqb-true _ _ p) (num on_KW IDENT refl) in absurd (n (text-same x on_text (implies _ _ (and-l _ _ (and-l _ _ (and-l _ _ c))) refl))))
-  | inr p ↦ p
-]
-
-fires-ename : (x : Text) → NoWord x → fires 2 (word_class words x) 0 ≡ true
-fires-ename x n = elim (or-c _ _ (word-at words (λ k. (eqb k true_KW or (eqb k false_KW or eqb k null_KW)) or fires 2 k 0) x fires-2-checked (or-r _ _ fires-ident.2))) [
-  | inl p ↦ elim (or-c _ _ p) [
-    | inl q ↦ (let c = word-is x true_KW (eqb-true _ _ q) (num true_KW IDENT refl) in absurd (n.0 (text-same x true_text (implies _ _ (and-r _ _ (and-l _ _ (and-l _ _ c))) refl))))
-    | inr q ↦ elim (or-c _ _ q) [
-      | inl r ↦ (let c = word-is x false_KW (eqb-true _ _ r) (num false_KW IDENT refl) in absurd (n.1 (text-same x false_text (implies _ _ (and-r _ _ (and-l _ _ c)) refl))))
-      | inr r ↦ (let c = word-is x null_KW (eqb-true _ _ r) (num null_KW IDENT refl) in absurd (n.2 (text-same x null_text (implies _ _ (and-r _ _ c) refl))))
-    ]
-  ]
-  | inr p ↦ p
-]
-
-or-false-l : (a b : Bool) → a or b ≡ false → a ≡ false
-unfolding ◌or◌
-or-false-l true b h = h
-or-false-l false b h = refl
-
-or-false-r : (a b : Bool) → a or b ≡ false → b ≡ false
-unfolding ◌or◌
-or-false-r true b h = absurd (true≢false h)
-or-false-r false b h = h
+fires-ename : (x : Text) → NoWord x → fires IDENT_FOR_ENUM (word_class words x) 0 ≡ true
+fires-ename x n = word-read words (λ k. fires IDENT_FOR_ENUM k 0) enum_word x names-checked.2 names-checked.5
+    (or-false (or-false (unequal x true_text n.0) (unequal x false_text n.1)) (unequal x null_text n.2))
 
 own-class : (k : ℕ) (x : Text) → holds k name_leaves ≡ false → eqb k IDENT ≡ false → holds k token_kinds ≡ true → class (token k x) ≡ k
 unfolding class token
@@ -220,19 +234,19 @@ keyword-fires k x r p =
     let w : word_class words x ≡ k = eqb-true _ _ (listed-at words (λ k y. eqb (word_class words y) k) k x keywords-checked i) in
     subst (λ (n : ℕ). fires k n 0 ≡ true) (sym w) (and-r _ _ (and-l _ _ p))
 
-leaf-fires : (k : ℕ) (x : Text) → is_leaf k ≡ true → (eqb k 0 or eqb k 3) ≡ false → LeafRule (label k) x → (fname k ≡ true → x ≢ on_text)
+leaf-fires : (k : ℕ) (x : Text) → is_leaf k ≡ true → (eqb k WHITESPACE or eqb k ERROR) ≡ false → LeafRule (label k) x → (fname k ≡ true → x ≢ on_text)
     → (ename k ≡ true → NoWord x) → fires k (class (token k x)) 0 ≡ true
 leaf-fires k x l n r fn en = elim (or-c _ _ (below-at leaf_read DOCUMENT k (leaf-lt k l) leaf-reads-checked)) [
   | inl p ↦ false-true n p
   | inr c ↦ elim (either (holds k name_leaves)) [
-    | inl h ↦ (let c' : (ltb STRING k and fires k k 0 and eqb (label k) k) or (eqb k IDENT or (eqb k 1 or eqb k 2)) ≡ true = rw h at c in
+    | inl h ↦ (let c' : (ltb STRING k and fires k k 0 and eqb (label k) k) or (eqb k IDENT or (eqb k IDENT_FOR_FRAGMENT or eqb k IDENT_FOR_ENUM)) ≡ true = rw h at c in
         subst (λ (n : ℕ). fires k n 0 ≡ true) (sym (keyword-class k x h)) (elim (or-c _ _ c') [
           | inl p ↦ keyword-fires k x r p
           | inr p ↦ elim (or-c _ _ p) [
-            | inl q ↦ subst (λ (n : ℕ). fires n (word_class words x) 0 ≡ true) (sym (eqb-true k IDENT q)) (word-at words (λ k. fires IDENT k 0) x fires-18-checked fires-ident.0)
+            | inl q ↦ subst (λ (n : ℕ). fires n (word_class words x) 0 ≡ true) (sym (eqb-true k IDENT q)) (word-read words (λ k. fires IDENT k 0) (λ y. false) x names-checked.0 names-checked.3 refl)
             | inr q ↦ elim (or-c _ _ q) [
-              | inl e ↦ subst (λ (n : ℕ). fires n (word_class words x) 0 ≡ true) (sym (eqb-true k 1 e)) (fires-fname x (fn (or-r _ _ e)))
-              | inr e ↦ subst (λ (n : ℕ). fires n (word_class words x) 0 ≡ true) (sym (eqb-true k 2 e)) (fires-ename x (en (or-r _ _ e)))
+              | inl e ↦ subst (λ (n : ℕ). fires n (word_class words x) 0 ≡ true) (sym (eqb-true k IDENT_FOR_FRAGMENT e)) (fires-fname x (fn (or-r _ _ e)))
+              | inr e ↦ subst (λ (n : ℕ). fires n (word_class words x) 0 ≡ true) (sym (eqb-true k IDENT_FOR_ENUM e)) (fires-ename x (en (or-r _ _ e)))
             ]
           ]
         ]))
@@ -283,7 +297,7 @@ words-below : all_words words (λ k y. ltb k DOCUMENT) ≡ true
 unfolding ◌and◌ words
 words-below = refl
 
-leaf-below : (j : ℕ) (x : Text) → LeafRule j x → 59 < j → ⊥
+leaf-below : (j : ℕ) (x : Text) → LeafRule j x → DOCUMENT ≤ j → ⊥
 leaf-below j x r h = let b : STRING < j = omega arith in let l : j < DOCUMENT = ltb-true _ _ (listed-at words (λ k y. ltb k DOCUMENT) j x words-below (r b)) in omega arith
 
 no-variable : (t : Tree) → Fits t → NoVariable t → root t ≡ VARIABLE → ⊥
@@ -294,15 +308,15 @@ no-variables : (t : Tree) (f : Forest) → NoVariables (t ▸ f) → NoVariable 
 no-variables t f n = n.0
 
 build-forest : (s q k : ℕ) (t : Tree) (f : Forest) → is_leaf s ≡ false → agree_at s q ≡ true → has s q k ≡ true → member (root t) (shown k) ≡ true
-    → Matches (deriv (pattern_of s q) (root t)) (kinds f) → Read k t
-    → ((p : ℕ) → Matches (pattern_of s p) (kinds f) → agree_at s p ≡ true → ReadFrom s p f) → ReadFrom s q (t ▸ f)
+    → Matches (deriv (pattern_of s q) (root t)) (kinds f) → (r : Read k t)
+    → (Matches (pattern_of s (target s q (root r.0) + finish r.0)) (kinds f) → agree_at s (target s q (root r.0) + finish r.0) ≡ true
+        → ReadFrom s (target s q (root r.0) + finish r.0) f) → ReadFrom s q (t ▸ f)
 build-forest s q k t f l a h m d r rf =
     let hu : has s q (root r.0) ≡ true = subst (λ (n : ℕ). has s q n ≡ true) (sym r.2) h in
     let mu : member (root t) (shown (root r.0)) ≡ true = subst (λ (n : ℕ). member (root t) (shown n) ≡ true) (sym r.2) m in
-    let p : ℕ = target s q (root r.0) + finish r.0 in
     let e : deriv (pattern_of s q) (root t) ≡ pattern_of s (target s q (root r.0) + finish r.0) = agree-arc s q (root t) r.0 a hu r.1 mu in
     let v : Live (at s (target s q (root r.0) + finish r.0)) = fill-live s (target s q (root r.0) + finish r.0) (fill-after s q r.0 l hu r.1) in
-    let g = rf (target s q (root r.0) + finish r.0) (subst (λ (z : Pattern). Matches z (kinds f)) e d) (agree s (target s q (root r.0) + finish r.0) l v) in
+    let g = rf (subst (λ (z : Pattern). Matches z (kinds f)) e d) (agree s (target s q (root r.0) + finish r.0) l v) in
     (r.0 ▸ g.0, (hu, r.1, g.1), ap₂ (λ x y. x ▸ y) r.3 g.2)
 
 read-step : (s q : ℕ) (t : Tree) (f : Forest) → is_leaf s ≡ false → eqb s DOCUMENT ≡ false → Matches (pattern_of s q) (root t ∷ kinds f)
@@ -312,7 +326,7 @@ read-step s q t f l n m a d h rt rf =
     let dm : Matches (deriv (pattern_of s q) (root t)) (kinds f) = to-deriv (pattern_of s q) (root t) (kinds f) m in
     elim (or-c _ _ (agree-kind s q (root t) a (first-kind (pattern_of s q) (root t) (kinds f) dm))) [
       | inl p ↦ absurd (no-variable t h (no-variables t f (d.0 (and-l _ _ p))) (eqb-true _ _ (and-r _ _ p)))
-      | inr p ↦ (let k = arc-for s q (root t) p in build-forest s q k.0 t f l a k.1 k.2 dm (rt k.0 (kids-cond s q k.0 t f l n k.1 k.2 d)) rf)
+      | inr p ↦ (let k = arc-for s q (root t) p in build-forest s q k.0 t f l a k.1 k.2 dm (rt k.0 (kids-cond s q k.0 t f l n k.1 k.2 d)) (rf _))
     ]
 
 read-end : (s q : ℕ) → agree_at s q ≡ true → Matches (pattern_of s q) [] → ReadFrom s q none
@@ -320,29 +334,29 @@ read-end s q a m = (none, agree-end-from s q a (nullable-to (pattern_of s q) m),
 
 -- Numbers of symbols and kinds.
 abbrev number_test : ℕ → Bool
-number_test n = cond (is_leaf n) (ltb (label n) DOCUMENT) (ltb 59 (label n))
+number_test n = cond (is_leaf n) (ltb (label n) DOCUMENT) (not (ltb (label n) DOCUMENT))
 
 numbers-checked : all_below BARE_SELECTIONS number_test ≡ true
 unfolding ◌and◌ label labels is_leaf
 numbers-checked = refl
 
-below-bare_selections : (k : ℕ) → eqb k 0 or eqb k 3 or ltb 130 k ≡ false → k < BARE_SELECTIONS
-below-bare_selections k h = let e : ltb 130 k ≡ false = or-false-r _ _ h in let l : k ≤ 130 = ltb-false 130 k e in omega arith
+below-bare_selections : (k : ℕ) → no_child k ≡ false → k < BARE_SELECTIONS
+below-bare_selections k h = let e : ltb OBJECT_FIELD_CONST k ≡ false = or-false-r _ _ h in let l : k ≤ OBJECT_FIELD_CONST = ltb-false OBJECT_FIELD_CONST k e in omega arith
 
-label-node : (k : ℕ) → k < BARE_SELECTIONS → is_leaf k ≡ false → 59 < label k
-label-node k h l = ltb-true _ _ (rw l at (below-at number_test BARE_SELECTIONS k h numbers-checked))
+label-node : (k : ℕ) → k < BARE_SELECTIONS → is_leaf k ≡ false → DOCUMENT ≤ label k
+label-node k h l = ltb-false _ _ (not-c _ (rw l at (below-at number_test BARE_SELECTIONS k h numbers-checked)))
 
 label-leaf : (k : ℕ) → k < BARE_SELECTIONS → is_leaf k ≡ true → label k < DOCUMENT
 label-leaf k h l = ltb-true _ _ (rw l at (below-at number_test BARE_SELECTIONS k h numbers-checked))
 
 abbrev all_nodes : List (ℕ × Pattern) → Bool
 all_nodes [] = true
-all_nodes (row ∷ more) = ltb 59 row.0 and all_nodes more
+all_nodes (row ∷ more) = not (ltb row.0 DOCUMENT) and all_nodes more
 
 no-row-in : (l : List (ℕ × Pattern)) (j : ℕ) → j < DOCUMENT → all_nodes l ≡ true → row_in l j ≡ any_of []
 no-row-in [] j h c = refl
 no-row-in (row ∷ more) j h c = elim (either (eqb row.0 j)) [
-  | inl p ↦ (let e : row.0 ≡ j = eqb-true row.0 j p in let l : 59 < row.0 = ltb-true 59 row.0 (and-l _ _ c) in absurd (omega arith))
+  | inl p ↦ (let e : row.0 ≡ j = eqb-true row.0 j p in let l : DOCUMENT ≤ row.0 = ltb-false row.0 DOCUMENT (not-c _ (and-l _ _ c)) in absurd (omega arith))
   | inr p ↦ rw p (no-row-in more j h (and-r _ _ c))
 ]
 
@@ -394,147 +408,46 @@ symbol-row-from k j f e n b q1 q2 m = elim (either (eqb k OPERATION_DEFINITION))
     not-bare_selections k b = elim (either (eqb k BARE_SELECTIONS)) [ inl p ↦ (let x : k ≡ BARE_SELECTIONS = eqb-true k BARE_SELECTIONS p in absurd (omega arith)) | inr p ↦ p ]
 
 -- A document: a definition is read as the symbol of its kind; a query without a keyword as its own symbol.
-abbrev shut : ℕ → List ℕ
-shut s = cond (member s (OBJECT_TYPE_DEFINITION ∷ INTERFACE_TYPE_DEFINITION ∷ OBJECT_TYPE_EXTENSION ∷ INTERFACE_TYPE_EXTENSION ∷ [])) (6 ∷ []) (cond (member s (ENUM_TYPE_DEFINITION ∷ INPUT_OBJECT_TYPE_DEFINITION ∷ ENUM_TYPE_EXTENSION ∷ INPUT_OBJECT_TYPE_EXTENSION ∷ [])) (5 ∷ []) (4 ∷ 5 ∷ 6 ∷ []))
-
-abbrev shut_at : ℕ → ℕ → Bool
-shut_at s q = all_arcs (arcs s q) (λ k p. exits k (λ x. member (p + x) (shut s))) and eqb (exit s q) 0
-
-abbrev shut_row : ℕ → State → Bool
-shut_row s v = (not (eqb (state_exit v) 1) or member s Braced)
-    and (not (member s Braced) or all_arcs (state_arcs v) (λ k p. all_kinds (shown k) (λ j. not (member j block_marks) or exits k (λ x. member (p + x) (shut s)))))
-
-shut-checked : all_rows DOCUMENT rows shut_row ≡ true
-unfolding ◌and◌ ◌or◌ rows member arcs at exit exits is_leaf shown label labels
-shut-checked = refl
-
-shut-dead : (k : ℕ) → shut_row k dead ≡ true
-unfolding ◌and◌ ◌or◌
-shut-dead k = or-r _ _ refl
-
-shut-kinds-checked : all_kinds Braced (λ s. all_kinds (shut s) (λ q. shut_at s q)) ≡ true
-unfolding ◌and◌ ◌or◌ rows member arcs at exit exits is_leaf
-shut-kinds-checked = refl
-
-shut-walk : (s q : ℕ) (f : Forest) → all_kinds (shut s) (λ q. shut_at s q) ≡ true → member q (shut s) ≡ true → OkFrom s q f → exit s (walk s q f) ≡ 0
-unfolding has target
-shut-walk s q none b m o = eqb-true _ _ (and-r _ _ (kinds-at (shut s) (λ q. shut_at s q) q b m))
-shut-walk s q (t ▸ f) b m o =
-    let a = arcs-at (arcs s q) (λ k p. exits k (λ x. member (p + x) (shut s))) (root t) (and-l _ _ (kinds-at (shut s) (λ q. shut_at s q) q b m)) o.0 in
-    shut-walk s (target_in (arcs s q) (root t) + finish t) f b (exits-at t (λ x. member (target_in (arcs s q) (root t) + x) (shut s)) a o.1) o.2
-
-open-walk : (s q : ℕ) (f : Forest) → is_leaf s ≡ false → member s Braced ≡ true → OkFrom s q f → exit s (walk s q f) ≡ 1 → NoBlock (shows f)
-unfolding has target arcs
-open-walk s q none l b o e = tt
-open-walk s q (t ▸ f) l b o e =
-    let c = implies _ _ (and-r _ _ (row-test shut_row shut-checked shut-dead s q l)) b in
-    let a = kinds-at (shown (root t)) (λ j. not (member j block_marks) or exits (root t) (λ x. member (target_in (arcs s q) (root t) + x) (shut s))) (root (show t)) (arcs-at (arcs s q) (λ k p. all_kinds (shown k) (λ j. not (member j block_marks) or exits k (λ x. member (p + x) (shut s)))) (root t) c o.0) (shown-root t o.1) in (
-      elim (either (member (root (show t)) block_marks)) [
-        | inl p ↦ (let z : exit s (walk s (target_in (arcs s q) (root t) + finish t) f) ≡ 0 = shut-walk s (target_in (arcs s q) (root t) + finish t) f (kinds-at Braced (λ s. all_kinds (shut s) (λ q. shut_at s q)) s shut-kinds-checked b) (exits-at t (λ x. member (target_in (arcs s q) (root t) + x) (shut s)) (implies _ _ a p) o.1) o.2 in absurd (num 0 1 refl (sym z ∙ e)))
-        | inr p ↦ p
-      ],
-      open-walk s (target_in (arcs s q) (root t) + finish t) f l b o.2 e,
-    )
-
-braced-labels-checked : all_kinds Braced (λ s. eqb (label s) s) ≡ true
-unfolding ◌and◌ label labels
-braced-labels-checked = refl
-
-braced-self : (s : ℕ) → member s Braced ≡ true → label s ≡ s
-braced-self s m = eqb-true _ _ (kinds-at Braced (λ s. eqb (label s) s) s braced-labels-checked m)
-
-finish-lacks : (u : Tree) → Ok u → eqb (root u) TYPE ≡ false → finish u ≡ 1 → LacksBlock (show u)
-unfolding exit
-finish-lacks (leaf l x) o e h = num 0 1 refl h
-finish-lacks (node s f) o e h =
-    let c : member s Braced ≡ true = implies _ _ (and-l _ _ (row-test shut_row shut-checked shut-dead s (walk s 0 f) o.0)) (rw h refl) in
-    let n : NoBlock (shows f) = open-walk s 0 f o.0 c o.1 h in
-    subst (λ (z : Tree). LacksBlock z) (sym (show-root s f e)) (subst (λ (z : ℕ). member z Braced ≡ true) (sym (braced-self s c)) c, n)
-
-abbrev InDocument : ℕ → Type 0
-InDocument q = (q ≡ 0) ⊎ ((q ≡ 1) ⊎ (q ≡ 2))
-
 abbrev FirstNoQuery : Forest → Type 0
 FirstNoQuery none = Unit {0}
 FirstNoQuery (t ▸ f) = IsQuery t → ⊥
 
-document-operation : (q : ℕ) → InDocument q → has DOCUMENT q OPERATION_DEFINITION ≡ true
-unfolding has arcs at rows ◌or◌
-document-operation q h = elim h [ inl e ↦ rw e refl | inr e ↦ elim e [ inl e' ↦ rw e' refl | inr e' ↦ rw e' refl ] ]
+abbrev takes_queries : ℕ → Bool
+takes_queries q = has DOCUMENT q OPERATION_DEFINITION and (eqb q 2 or has DOCUMENT q SHORT_QUERY)
 
-document-short_query : (q : ℕ) → InDocument q → (q ≡ 2 → ⊥) → has DOCUMENT q SHORT_QUERY ≡ true
-unfolding has arcs at rows ◌or◌
-document-short_query q h n = elim h [ inl e ↦ rw e refl | inr e ↦ elim e [ inl e' ↦ rw e' refl | inr e' ↦ absurd (n e') ] ]
+queries-checked : all_below 3 takes_queries ≡ true
+unfolding has arcs at rows ◌or◌ ◌and◌
+queries-checked = refl
+
+document-operation : (q : ℕ) → q < 3 → has DOCUMENT q OPERATION_DEFINITION ≡ true
+document-operation q h = and-l _ _ (below-at takes_queries 3 q h queries-checked)
+
+document-short_query : (q : ℕ) → q < 3 → (q ≡ 2 → ⊥) → has DOCUMENT q SHORT_QUERY ≡ true
+document-short_query q h n = elim (or-c _ _ (and-r _ _ (below-at takes_queries 3 q h queries-checked))) [ inl p ↦ absurd (n (eqb-true _ _ p)) | inr p ↦ p ]
 
 shown-short_query : (j : ℕ) → j ≡ OPERATION_DEFINITION → (member j (shown SHORT_QUERY) ≡ true) × (member j (shown OPERATION_DEFINITION) ≡ true)
 unfolding shown label labels member
 shown-short_query j e = (rw e refl, rw e refl)
 
-document-plain : (constant DOCUMENT ≡ false) × (member (label DOCUMENT) Marked ≡ false) × (fparent DOCUMENT ≡ false) × (eparent DOCUMENT ≡ false)
-unfolding constant label labels member ◌or◌ ◌and◌
-document-plain = (refl, refl, refl, refl)
-
-node-document : is_leaf DOCUMENT ≡ false
-unfolding is_leaf
-node-document = refl
-
 document-cond : (q k : ℕ) (t : Tree) → has DOCUMENT q k ≡ true → member (root t) (shown k) ≡ true → (k ≡ OPERATION_DEFINITION → IsQuery t → ⊥)
     → (k ≡ SHORT_QUERY → IsQuery t) → Cond k t
-document-cond q k t h m q1 q2 =
-    let c = child-arc DOCUMENT q k node-document h in
-    let c3 = and-l _ _ c in
-    let c2 = and-l _ _ c3 in
-    let c1 = and-l _ _ c2 in (
-      m,
-      (λ e. elim (or-c _ _ (implies _ _ (and-l _ _ c1) e)) [ inl p ↦ false-true document-plain.0 p | inr p ↦ false-true document-plain.1 (and-l _ _ p) ]),
-      (λ e. false-true document-plain.2 (implies _ _ (and-r _ _ c1) e)),
-      (λ e. false-true document-plain.3 (implies _ _ (and-r _ _ c2) e)),
-      q1,
-      q2,
-      not-c _ (and-r _ _ c),
-      (λ i. fill-start DOCUMENT q k node-document h i),
-    )
-
-abbrev finish_test : ℕ → State → Bool
-finish_test s v = not (eqb s DOCUMENT) or all_arcs (state_arcs v) (λ k q. exits k (λ x. eqb x 0 or eqb x 1))
-
-finish-checked : all_rows DOCUMENT rows finish_test ≡ true
-unfolding ◌and◌ ◌or◌ rows exits is_leaf
-finish-checked = refl
-
-document-finish : (q : ℕ) (u : Tree) → has DOCUMENT q (root u) ≡ true → Ok u → (finish u ≡ 0) ⊎ (finish u ≡ 1)
-unfolding has arcs
-document-finish q u h o =
-    let c = implies _ _ (row-test finish_test finish-checked (λ k. or-r _ _ refl) DOCUMENT q node-document) refl in
-    elim (or-c _ _ (exits-at u (λ x. eqb x 0 or eqb x 1) (arcs-at (arcs DOCUMENT q) (λ k q. exits k (λ x. eqb x 0 or eqb x 1)) (root u) c h) o)) [ inl p ↦ inl (eqb-true _ _ p) | inr p ↦ inr (eqb-true _ _ p) ]
+document-cond q k t h m q1 q2 = kid-cond DOCUMENT q k t none node-document h m q1 q2 (plain-kids DOCUMENT (t ▸ none) symbols-checked.0)
 
 not-before : (t : Tree) (f : Forest) → NotBefore t f → LacksBlock t → FirstNoQuery f
 not-before t none n l = tt
 not-before t (u ▸ f) n l = n l
 
-sum-is : (a b c d : ℕ) → a ≡ c → b ≡ d → a + b ≡ c + d
-sum-is a b c d e f = ap₂ (λ (x y : ℕ). x + y) e f
-
 document-build : (q k : ℕ) (t : Tree) (f : Forest) → agree_at DOCUMENT q ≡ true → has DOCUMENT q k ≡ true → member (root t) (shown k) ≡ true
     → Matches (deriv (pattern_of DOCUMENT q) (root t)) (kinds f) → NotBefore t f → Read k t
-    → ((p : ℕ) → InDocument p → (p ≡ 2 → FirstNoQuery f) → Matches (pattern_of DOCUMENT p) (kinds f) → agree_at DOCUMENT p ≡ true → ReadFrom DOCUMENT p f)
+    → ((p : ℕ) → p < 3 → (p ≡ 2 → FirstNoQuery f) → Matches (pattern_of DOCUMENT p) (kinds f) → agree_at DOCUMENT p ≡ true → ReadFrom DOCUMENT p f)
     → ReadFrom DOCUMENT q (t ▸ f)
 document-build q k t f a h m d nb r rf =
-    let hu : has DOCUMENT q (root r.0) ≡ true = subst (λ (n : ℕ). has DOCUMENT q n ≡ true) (sym r.2) h in
-    let mu : member (root t) (shown (root r.0)) ≡ true = subst (λ (n : ℕ). member (root t) (shown n) ≡ true) (sym r.2) m in
-    let e : deriv (pattern_of DOCUMENT q) (root t) ≡ pattern_of DOCUMENT (target DOCUMENT q (root r.0) + finish r.0) = agree-arc DOCUMENT q (root t) r.0 a hu r.1 mu in
-    let v : Live (at DOCUMENT (target DOCUMENT q (root r.0) + finish r.0)) = fill-live DOCUMENT (target DOCUMENT q (root r.0) + finish r.0) (fill-after DOCUMENT q r.0 node-document hu r.1) in
-    let ar = document-arc q (root r.0) hu in
-    let g1 : target DOCUMENT q (root r.0) ≡ 1 = eqb-true _ _ (and-r _ _ ar) in
-    let n120 : eqb (root r.0) TYPE ≡ false = not-c _ (and-l _ _ ar) in
-    let fin : (finish r.0 ≡ 0) ⊎ (finish r.0 ≡ 1) = document-finish q r.0 hu r.1 in
-    let ip : InDocument (target DOCUMENT q (root r.0) + finish r.0) = elim fin [ inl z ↦ inr (inl (sum-is _ _ 1 0 g1 z)) | inr z ↦ inr (inr (sum-is _ _ 1 1 g1 z)) ] in
-    let fq : target DOCUMENT q (root r.0) + finish r.0 ≡ 2 → FirstNoQuery f = λ w. elim fin [
-      | inl z ↦ absurd (num 1 2 refl (sym (sum-is _ _ 1 0 g1 z) ∙ w))
-      | inr z ↦ not-before t f nb (subst (λ (y : Tree). LacksBlock y) r.3 (finish-lacks r.0 r.1 n120 z))
-    ] in
-    let g = rf (target DOCUMENT q (root r.0) + finish r.0) ip fq (subst (λ (z : Pattern). Matches z (kinds f)) e d) (agree DOCUMENT (target DOCUMENT q (root r.0) + finish r.0) node-document v) in
-    (r.0 ▸ g.0, (hu, r.1, g.1), ap₂ (λ x y. x ▸ y) r.3 g.2)
+    let ar = document-arc q r.0 (subst (λ (n : ℕ). has DOCUMENT q n ≡ true) (sym r.2) h) r.1 in
+    let e : target DOCUMENT q (root r.0) ≡ 1 = ar.1 in
+    let l : finish r.0 < 2 = ar.2 in
+    let first : target DOCUMENT q (root r.0) + finish r.0 ≡ 2 → FirstNoQuery f = λ w. (
+      let z : finish r.0 ≡ 1 = omega arith in not-before t f nb (subst (λ (y : Tree). LacksBlock y) r.3 (finish-lacks r.0 r.1 ar.0 z))) in
+    build-forest DOCUMENT q k t f node-document a h m d r (rf (target DOCUMENT q (root r.0) + finish r.0) (omega arith) first)
 
 dec-query : (t : Tree) → IsQuery t ⊎ (IsQuery t → ⊥)
 dec-query (leaf j x) = inr (λ h. h)
@@ -548,9 +461,9 @@ shown-operation : (j k : ℕ) → (k ≡ OPERATION_DEFINITION) ⊎ (k ≡ SHORT_
 unfolding shown label labels
 shown-operation j k h m = elim h [ inl e ↦ (let m' : member j (OPERATION_DEFINITION ∷ []) ≡ true = rw e at m in member-one j OPERATION_DEFINITION m') | inr e ↦ (let m' : member j (OPERATION_DEFINITION ∷ []) ≡ true = rw e at m in member-one j OPERATION_DEFINITION m') ]
 
-document-step : (q : ℕ) (t : Tree) (f : Forest) → InDocument q → (q ≡ 2 → IsQuery t → ⊥) → Matches (pattern_of DOCUMENT q) (root t ∷ kinds f)
+document-step : (q : ℕ) (t : Tree) (f : Forest) → q < 3 → (q ≡ 2 → IsQuery t → ⊥) → Matches (pattern_of DOCUMENT q) (root t ∷ kinds f)
     → agree_at DOCUMENT q ≡ true → NotBefore t f → ((k : ℕ) → Cond k t → Read k t)
-    → ((p : ℕ) → InDocument p → (p ≡ 2 → FirstNoQuery f) → Matches (pattern_of DOCUMENT p) (kinds f) → agree_at DOCUMENT p ≡ true → ReadFrom DOCUMENT p f)
+    → ((p : ℕ) → p < 3 → (p ≡ 2 → FirstNoQuery f) → Matches (pattern_of DOCUMENT p) (kinds f) → agree_at DOCUMENT p ≡ true → ReadFrom DOCUMENT p f)
     → ReadFrom DOCUMENT q (t ▸ f)
 document-step q t f i n m a nb rt rf =
     let dm : Matches (deriv (pattern_of DOCUMENT q) (root t)) (kinds f) = to-deriv (pattern_of DOCUMENT q) (root t) (kinds f) m in
@@ -562,7 +475,7 @@ document-step q t f i n m a nb rt rf =
             document-build q OPERATION_DEFINITION t f a h (shown-short_query (root t) e).1 dm nb (rt OPERATION_DEFINITION (document-cond q OPERATION_DEFINITION t h (shown-short_query (root t) e).1 (λ z. w) (λ z. absurd (num OPERATION_DEFINITION SHORT_QUERY refl z)))) rf)
       ])
       | inr p ↦ elim (or-c _ _ (agree-kind DOCUMENT q (root t) a (first-kind (pattern_of DOCUMENT q) (root t) (kinds f) dm))) [
-        | inl c ↦ false-true document-plain.0 (and-l _ _ c)
+        | inl c ↦ false-true symbols-checked.11 (and-l _ _ c)
         | inr c ↦ (let k = arc-for DOCUMENT q (root t) c in
             document-build q k.0 t f a k.1 k.2 dm nb (rt k.0 (document-cond q k.0 t k.1 k.2 (λ z w. eqb-false _ _ p (shown-operation (root t) k.0 (inl z) k.2)) (λ z. absurd (eqb-false _ _ p (shown-operation (root t) k.0 (inr z) k.2))))) rf)
       ]
@@ -574,13 +487,9 @@ type-two none a b e = no-cons e
 type-two (t ▸ none) a b e = no-cons (tail-same e)
 type-two (t ▸ (u ▸ f)) a b e = refl
 
-type-facts : (is_leaf TYPE ≡ false) × (constant TYPE ≡ false) × (member (label TYPE) Marked ≡ false) × (fparent TYPE ≡ false) × (eparent TYPE ≡ false) × (ends TYPE 1 ≡ true) × (fillable TYPE 0 ≡ true)
-unfolding is_leaf constant label labels member ◌or◌ ◌and◌ ends at rows fillable ending endings spellings has target arcs exit fires entries firsts holds class token words
-type-facts = (refl, refl, refl, refl, refl, refl, refl)
-
--- A node that asks nothing of its children.
-plain-kids : (s : ℕ) (f : Forest) → constant s ≡ false → member (label s) Marked ≡ false → fparent s ≡ false → eparent s ≡ false → Kids s f
-plain-kids s f c m p q = ((λ e. false-true c e), (λ e. false-true m e), (λ e. false-true p e), (λ e. false-true q e))
+node-symbols : (is_leaf TYPE ≡ false) × (is_leaf BARE_SELECTIONS ≡ false) × (label BARE_SELECTIONS ≡ SELECTION_SET)
+unfolding is_leaf label labels
+node-symbols = (refl, refl, refl)
 
 type-pattern : pattern_of TYPE 0 ≡ type_row
 unfolding pattern_of symbol_row label labels Row paths
@@ -607,60 +516,41 @@ has-type j h = elim h [ inl p ↦ rw p refl | inr p ↦ rw p refl ]
 wrap : (j : ℕ) (t : Tree) → (j ≡ NAMED_TYPE) ⊎ (j ≡ LIST_TYPE) → Read j t → Read TYPE t
 wrap j t h r =
     let hu : has TYPE 0 (root r.0) ≡ true = subst (λ (n : ℕ). has TYPE 0 n ≡ true) (sym r.2) (has-type j h) in
-    let en : ends TYPE (target TYPE 0 (root r.0) + finish r.0) ≡ true = subst (λ (n : ℕ). ends TYPE n ≡ true) (sym (type-first r.0 hu r.1)) type-facts.5 in
-    (node TYPE (r.0 ▸ none), (type-facts.0, (hu, r.1, en)), refl, r.3)
+    let en : ends TYPE (target TYPE 0 (root r.0) + finish r.0) ≡ true = subst (λ (n : ℕ). ends TYPE n ≡ true) (sym (type-first r.0 hu r.1)) symbols-checked.10 in
+    (node TYPE (r.0 ▸ none), (node-symbols.0, (hu, r.1, en)), refl, r.3)
 
--- A node, but for a type or a document, from the reading of its children.
-node-read : (k j : ℕ) (f : Forest) → is_leaf k ≡ false → eqb k TYPE ≡ false → eqb k DOCUMENT ≡ false → Fits (node j f) → Cond k (node j f)
-    → ((s q : ℕ) → is_leaf s ≡ false → eqb s DOCUMENT ≡ false → Matches (pattern_of s q) (kinds f) → agree_at s q ≡ true → Kids s f → ReadFrom s q f)
-    → Read k (node j f)
-node-read k j f l n n' h c rf =
+-- A node, but for a type, from the reading of its children.
+node-read : (k j : ℕ) (f : Forest) → is_leaf k ≡ false → eqb k TYPE ≡ false → Fits (node j f) → Cond k (node j f)
+    → (Matches (pattern_of k 0) (kinds f) → agree_at k 0 ≡ true → Kids k f → ReadFrom k 0 f) → Read k (node j f)
+node-read k j f l n h c rf =
     let e : label k ≡ j = shown-label j k n c.0 in
     let m : Matches (symbol_row k) (kinds f) = symbol-row-from k j f e n (below-bare_selections k c.6) c.4 c.5 h.0 in
     let m' : Matches (pattern_of k 0) (kinds f) = subst (λ (p : Pattern). Matches p (kinds f)) (sym (start-pattern k n)) m in
-    let a : agree_at k 0 ≡ true = agree k 0 l (fill-live k 0 (c.7 l)) in
-    let g = rf k 0 l n' m' a (cond-kids k j f e m' h.1 h.2 c) in
+    let g = rf m' (agree k 0 l (fill-live k 0 (c.7 l))) (cond-kids k j f e m' h.1 h.2 c) in
     (node k g.0, (l, g.1), refl, show-root k g.0 n ∙ ap₂ node e g.2)
 
 type-plain : (j : ℕ) → (j ≡ NAMED_TYPE) ⊎ (j ≡ LIST_TYPE)
-    → (is_leaf j ≡ false) × (eqb j TYPE ≡ false) × (eqb j DOCUMENT ≡ false) × (member j (shown j) ≡ true) × (inconst j ≡ false) × (fname j ≡ false) × (ename j ≡ false) × ((eqb j 0 or eqb j 3 or ltb 130 j) ≡ false) × (fillable j 0 ≡ true)
-unfolding is_leaf constant label labels shown member ◌or◌ ◌and◌ ends at rows fillable ending endings spellings has target arcs exit fires entries firsts holds class token words
-type-plain j h = elim h [ inl p ↦ rw p (refl, refl, refl, refl, refl, refl, refl, refl, refl) | inr p ↦ rw p (refl, refl, refl, refl, refl, refl, refl, refl, refl) ]
-
-type-cond : (j : ℕ) (f : Forest) → (j ≡ NAMED_TYPE) ⊎ (j ≡ LIST_TYPE) → Cond j (node j f)
-type-cond j f h =
-    let p = type-plain j h in (
-      p.3,
-      (λ e. false-true p.4 e),
-      (λ e. false-true p.5 e),
-      (λ e. false-true p.6 e),
-      (λ e i. elim h [ inl x ↦ num NAMED_TYPE OPERATION_DEFINITION refl (sym x ∙ e) | inr x ↦ num LIST_TYPE OPERATION_DEFINITION refl (sym x ∙ e) ]),
-      (λ e. elim h [ inl x ↦ absurd (num NAMED_TYPE SHORT_QUERY refl (sym x ∙ e)) | inr x ↦ absurd (num LIST_TYPE SHORT_QUERY refl (sym x ∙ e)) ]),
-      p.7,
-      (λ i. p.8),
-    )
+    → (is_leaf j ≡ false) × (eqb j TYPE ≡ false) × (eqb j DOCUMENT ≡ false) × (member j (shown j) ≡ true) × (plain j ≡ true)
+unfolding is_leaf shown label labels member
+type-plain j h = elim h [ inl p ↦ rw p (refl, refl, refl, refl, symbols-checked.6) | inr p ↦ rw p (refl, refl, refl, refl, symbols-checked.7) ]
 
 type-read : (j : ℕ) (f : Forest) → Fits (node j f) → member j (shown TYPE) ≡ true
     → ((s q : ℕ) → is_leaf s ≡ false → eqb s DOCUMENT ≡ false → Matches (pattern_of s q) (kinds f) → agree_at s q ≡ true → Kids s f → ReadFrom s q f)
     → Read TYPE (node j f)
 type-read j f h m rf = elim (shown-types j m) [
-  | inl x ↦ (let p = type-plain j x in wrap j (node j f) x (node-read j j f p.0 p.1 p.2 h (type-cond j f x) rf))
+  | inl x ↦ (let p = type-plain j x in wrap j (node j f) x (node-read j j f p.0 p.1 h (plain-cond j (node j f) p.4 p.3) (λ m a d. rf j 0 p.0 p.2 m a d)))
   | inr x ↦ (let r = row-non_null_type (kinds f) (subst (λ (n : ℕ). Matches (Row n) (kinds f)) x h.0) in
       let m' : Matches (pattern_of TYPE 0) (kinds f) = subst (λ (p : Pattern). Matches p (kinds f)) (sym type-pattern) r.0 in
-      let g = rf TYPE 0 type-facts.0 refl m' (agree TYPE 0 type-facts.0 (fill-live TYPE 0 type-facts.6)) (plain-kids TYPE f type-facts.1 type-facts.2 type-facts.3 type-facts.4) in
-      (node TYPE g.0, (type-facts.0, g.1), refl, ap type_of g.2 ∙ (type-two f r.1.0 r.1.1 r.1.2 ∙ ap (λ (n : ℕ). node n f) (sym x))))
+      let g = rf TYPE 0 node-symbols.0 refl m' (agree TYPE 0 node-symbols.0 (fill-live TYPE 0 symbols-checked.9)) (plain-kids TYPE f symbols-checked.1) in
+      (node TYPE g.0, (node-symbols.0, g.1), refl, ap type_of g.2 ∙ (type-two f r.1.0 r.1.1 r.1.2 ∙ ap (λ (n : ℕ). node n f) (sym x))))
 ]
 
-label-60-same : label DOCUMENT ≡ DOCUMENT
-unfolding label labels
-label-60-same = refl
-
-type-above : (j : ℕ) → ((j ≡ NAMED_TYPE) ⊎ (j ≡ LIST_TYPE)) ⊎ (j ≡ NON_NULL_TYPE) → 59 < j
+type-above : (j : ℕ) → ((j ≡ NAMED_TYPE) ⊎ (j ≡ LIST_TYPE)) ⊎ (j ≡ NON_NULL_TYPE) → DOCUMENT ≤ j
 type-above j h = elim h [ inl p ↦ elim p [ inl q ↦ omega arith | inr q ↦ omega arith ] | inr p ↦ omega arith ]
 
 pick-node : (k j : ℕ) (f : Forest) → Fits (node j f) → Cond k (node j f)
     → ((s q : ℕ) → is_leaf s ≡ false → eqb s DOCUMENT ≡ false → Matches (pattern_of s q) (kinds f) → agree_at s q ≡ true → Kids s f → ReadFrom s q f)
-    → ((q : ℕ) → InDocument q → (q ≡ 2 → FirstNoQuery f) → BraceRule f → Matches (pattern_of DOCUMENT q) (kinds f) → agree_at DOCUMENT q ≡ true → ReadFrom DOCUMENT q f)
+    → ((q : ℕ) → q < 3 → (q ≡ 2 → FirstNoQuery f) → BraceRule f → Matches (pattern_of DOCUMENT q) (kinds f) → agree_at DOCUMENT q ≡ true → ReadFrom DOCUMENT q f)
     → Read k (node j f)
 pick-node k j f h c rf rd = elim (either (is_leaf k)) [
   | inl l ↦ (let e : label k ≡ j = shown-label j k (leaf-is-no-type k l) c.0 in no-row j (kinds f) (subst (λ (n : ℕ). n < DOCUMENT) e (label-leaf k (below-bare_selections k c.6) l)) h.0)
@@ -668,14 +558,10 @@ pick-node k j f h c rf rd = elim (either (is_leaf k)) [
     | inl n ↦ (let x : k ≡ TYPE = eqb-true k TYPE n in subst (λ (z : ℕ). Read z (node j f)) (sym x) (type-read j f h (subst (λ (z : ℕ). member j (shown z) ≡ true) x c.0) rf))
     | inr n ↦ elim (either (eqb k DOCUMENT)) [
       | inl d ↦ (let x : k ≡ DOCUMENT = eqb-true k DOCUMENT d in
-          let e : label k ≡ j = shown-label j k n c.0 in
-          let ej : j ≡ DOCUMENT = sym e ∙ label-of k DOCUMENT d label-60-same in
-          let m : Matches (symbol_row k) (kinds f) = symbol-row-from k j f e n (below-bare_selections k c.6) c.4 c.5 h.0 in
-          let m' : Matches (pattern_of k 0) (kinds f) = subst (λ (p : Pattern). Matches p (kinds f)) (sym (start-pattern k n)) m in
-          let a : agree_at k 0 ≡ true = agree k 0 l (fill-live k 0 (c.7 l)) in
-          let g : ReadFrom k 0 f = subst (λ (z : ℕ). ReadFrom z 0 f) (sym x) (rd 0 (inl refl) (λ z. absurd (num 0 2 refl z)) (h.3 ej) (subst (λ (z : ℕ). Matches (pattern_of z 0) (kinds f)) x m') (subst (λ (z : ℕ). agree_at z 0 ≡ true) x a)) in
-          (node k g.0, (l, g.1), refl, show-root k g.0 n ∙ ap₂ node e g.2))
-      | inr d ↦ node-read k j f l n d h c rf
+          let ej : j ≡ DOCUMENT = sym (shown-label j k n c.0) ∙ (ap label x ∙ labels-same.3) in
+          node-read k j f l n h c (λ m a y. subst (λ (z : ℕ). ReadFrom z 0 f) (sym x)
+              (rd 0 (omega arith) (λ z. absurd (num 0 2 refl z)) (h.3 ej) (subst (λ (z : ℕ). Matches (pattern_of z 0) (kinds f)) x m) (subst (λ (z : ℕ). agree_at z 0 ≡ true) x a))))
+      | inr d ↦ node-read k j f l n h c (λ m a y. rf k 0 l d m a y)
     ]
   ]
 ]
@@ -685,7 +571,7 @@ leaf-any k j x r c = elim (either (is_leaf k)) [
   | inl l ↦ read-leaf k j x l r c
   | inr l ↦ elim (either (eqb k TYPE)) [
     | inl n ↦ (let m : member j (shown TYPE) ≡ true = subst (λ (z : ℕ). member j (shown z) ≡ true) (eqb-true k TYPE n) c.0 in absurd (leaf-below j x r (type-above j (shown-types j m))))
-    | inr n ↦ (let e : label k ≡ j = shown-label j k n c.0 in absurd (leaf-below j x r (subst (λ (z : ℕ). 59 < z) e (label-node k (below-bare_selections k c.6) l))))
+    | inr n ↦ (let e : label k ≡ j = shown-label j k n c.0 in absurd (leaf-below j x r (subst (λ (z : ℕ). DOCUMENT ≤ z) e (label-node k (below-bare_selections k c.6) l))))
   ]
 ]
 
@@ -699,35 +585,10 @@ mutual
   read-forest none s q l n m a d h = read-end s q a m
   read-forest (t ▸ f) s q l n m a d h = read-step s q t f l n m a d h.0 (λ k c. read-tree t k h.0 c) (λ p m' a'. read-forest f s p l n m' a' (kids-tail s t f d) h.1)
 
-  pub read-document : (f : Forest) (q : ℕ) → InDocument q → (q ≡ 2 → FirstNoQuery f) → BraceRule f → Matches (pattern_of DOCUMENT q) (kinds f)
+  pub read-document : (f : Forest) (q : ℕ) → q < 3 → (q ≡ 2 → FirstNoQuery f) → BraceRule f → Matches (pattern_of DOCUMENT q) (kinds f)
       → agree_at DOCUMENT q ≡ true → AllFit f → ReadFrom DOCUMENT q f
   read-document none q i n b m a h = read-end DOCUMENT q a m
   read-document (t ▸ f) q i n b m a h = document-step q t f i n m a b.0 (λ k c. read-tree t k h.0 c) (λ p i' n' m' a'. read-document f p i' n' b.1 m' a' h.1)
-
--- The start symbols ask nothing more of a tree than that it is of their kind.
-abbrev plain : ℕ → Bool
-plain k = not (inconst k) and not (fname k) and not (ename k) and not (eqb k OPERATION_DEFINITION) and not (eqb k SHORT_QUERY) and not (eqb k 0 or eqb k 3 or ltb 130 k) and fillable k 0
-
-starts-plain : (plain DOCUMENT ≡ true) × (plain SELECTION_SET ≡ true) × (plain TYPE ≡ true)
-unfolding ◌or◌ ◌and◌ is_leaf ends at rows fillable ending endings spellings has target arcs exit fires entries firsts holds class token words
-starts-plain = (refl, refl, refl)
-
-plain-cond : (k : ℕ) (t : Tree) → plain k ≡ true → member (root t) (shown k) ≡ true → Cond k t
-plain-cond k t p m =
-    let c6 = and-l _ _ p in
-    let c5 = and-l _ _ c6 in
-    let c4 = and-l _ _ c5 in
-    let c3 = and-l _ _ c4 in
-    let c2 = and-l _ _ c3 in (
-      m,
-      (λ e. false-true (not-c _ (and-l _ _ c2)) e),
-      (λ e. false-true (not-c _ (and-r _ _ c2)) e),
-      (λ e. false-true (not-c _ (and-r _ _ c3)) e),
-      (λ e i. num k OPERATION_DEFINITION (not-c _ (and-r _ _ c4)) e),
-      (λ e. absurd (num k SHORT_QUERY (not-c _ (and-r _ _ c5)) e)),
-      not-c _ (and-r _ _ c6),
-      (λ i. and-r _ _ p),
-    )
 
 shown-start : (member DOCUMENT (shown DOCUMENT) ≡ true) × (member SELECTION_SET (shown SELECTION_SET) ≡ true)
 unfolding shown label labels member
@@ -738,10 +599,6 @@ unfolding shown member
 types-shown j m = m
 
 -- A selection set without braces.
-bare-facts : (is_leaf BARE_SELECTIONS ≡ false) × (constant BARE_SELECTIONS ≡ false) × (member (label BARE_SELECTIONS) Marked ≡ false) × (fparent BARE_SELECTIONS ≡ false) × (eparent BARE_SELECTIONS ≡ false) × (fillable BARE_SELECTIONS 0 ≡ true) × (label BARE_SELECTIONS ≡ SELECTION_SET)
-unfolding is_leaf constant label labels member ◌or◌ ◌and◌ ends at rows fillable ending endings spellings has target arcs exit fires entries firsts holds class token words
-bare-facts = (refl, refl, refl, refl, refl, refl, refl)
-
 bare-start : pattern_of BARE_SELECTIONS 0 ≡ bare_selections
 unfolding pattern_of symbol_row label labels Row paths
 bare-start = refl
@@ -750,8 +607,8 @@ bare-read : (t : Tree) → root t ≡ SELECTION_SET → BareBy Row t → Read BA
 bare-read (leaf j x) e h = absurd h
 bare-read (node j f) e h =
     let m : Matches (pattern_of BARE_SELECTIONS 0) (kinds f) = subst (λ (p : Pattern). Matches p (kinds f)) (sym bare-start) h.0 in
-    let g = read-forest f BARE_SELECTIONS 0 bare-facts.0 refl m (agree BARE_SELECTIONS 0 bare-facts.0 (fill-live BARE_SELECTIONS 0 bare-facts.5)) (plain-kids BARE_SELECTIONS f bare-facts.1 bare-facts.2 bare-facts.3 bare-facts.4) h.1 in
-    (node BARE_SELECTIONS g.0, (bare-facts.0, g.1), refl, show-root BARE_SELECTIONS g.0 refl ∙ ap₂ node (bare-facts.6 ∙ sym e) g.2)
+    let g = read-forest f BARE_SELECTIONS 0 node-symbols.1 refl m (agree BARE_SELECTIONS 0 node-symbols.1 (fill-live BARE_SELECTIONS 0 symbols-checked.8)) (plain-kids BARE_SELECTIONS f symbols-checked.2) h.1 in
+    (node BARE_SELECTIONS g.0, (node-symbols.1, g.1), refl, show-root BARE_SELECTIONS g.0 refl ∙ ap₂ node (node-symbols.2 ∙ sym e) g.2)
 
 -- The symbols as which a derivation of the sort may be read.
 abbrev pub Opens : Sort → ℕ → Type 0
@@ -761,9 +618,9 @@ Opens type k = k ≡ TYPE
 
 -- Each derivation is shown by a tree of the tables.
 pub derivation-read : (sort : Sort) (t : Tree) → Derivation t sort → (k : ℕ) × Opens sort k × Read k t
-derivation-read document t h = (DOCUMENT, refl, read-tree t DOCUMENT h.1 (plain-cond DOCUMENT t starts-plain.0 (subst (λ (n : ℕ). member n (shown DOCUMENT) ≡ true) (sym h.0) shown-start.0)))
+derivation-read document t h = (DOCUMENT, refl, read-tree t DOCUMENT h.1 (plain-cond DOCUMENT t symbols-checked.3 (subst (λ (n : ℕ). member n (shown DOCUMENT) ≡ true) (sym h.0) shown-start.0)))
 derivation-read selections t h = elim h.1 [
-  | inl f ↦ (SELECTION_SET, inl refl, read-tree t SELECTION_SET f (plain-cond SELECTION_SET t starts-plain.1 (subst (λ (n : ℕ). member n (shown SELECTION_SET) ≡ true) (sym h.0) shown-start.1)))
+  | inl f ↦ (SELECTION_SET, inl refl, read-tree t SELECTION_SET f (plain-cond SELECTION_SET t symbols-checked.4 (subst (λ (n : ℕ). member n (shown SELECTION_SET) ≡ true) (sym h.0) shown-start.1)))
   | inr b ↦ (BARE_SELECTIONS, inr refl, bare-read t h.0 b)
 ]
-derivation-read type t h = (TYPE, refl, read-tree t TYPE h.1 (plain-cond TYPE t starts-plain.2 (types-shown (root t) h.0)))
+derivation-read type t h = (TYPE, refl, read-tree t TYPE h.1 (plain-cond TYPE t symbols-checked.5 (types-shown (root t) h.0)))

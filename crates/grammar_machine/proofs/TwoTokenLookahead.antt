@@ -4,9 +4,9 @@ use Rattle.document_grammar.specs.Tree.{Text, Token, Tree, leaf, node, Forest, n
 use Rattle.grammar_machine.specs.Table.{State, Entry, entry, rows}
 use Rattle.document_grammar.specs.Booleans.{◌and◌, ◌or◌}
 use Rattle.grammar_machine.specs.Machine.{holds, is_leaf, at, ends, exit, arcs, has, target, entries, fires, fires_in, has_in, target_in, choose, go, close, move, class, first, second, token, yield, yields, finish, walk, Ok, OkFrom, Run, RunFrom}
-use Rattle.grammar_machine.proofs.Checks.{subset, disjoint, entries_mask, arcs_mask, follow, exits, all_arcs, all_entries, any_entries, state_begins, follow_test, close_test, clear, differ, choice_arcs, choice_test, covered, first_arcs, first_row, first_rows, leaf_entry, follow_checked, close_checked, choice_checked, first_checked, leaf_checked, start_row, start_rows, start_checked}
-use Rattle.document_grammar.proofs.Booleans.{false-true, and-l, and-r, and-i, or-c, or-l, or-r, implies, not-c, either}
-use Rattle.grammar_machine.proofs.TableLemmas.{holds-subset, holds-disjoint, holds-or, arcs-at, row-test, exits-at, node-sum, below-at}
+use Rattle.grammar_machine.proofs.Checks.{subset, disjoint, entries_mask, arcs_mask, follow, exits, all_arcs, all_entries, any_entries, state_begins, follow_test, close_test, clear, differ, choice_arcs, choice_test, covered, first_arc, first_test, leaf_entry, follow_checked, close_checked, choice_checked, first_checked, leaf_checked}
+use Rattle.document_grammar.proofs.Booleans.{false-true, and-l, and-r, and-i, or-c, or-l, or-r, or-false, and-false-l, and-false-r, implies, not-c, either}
+use Rattle.grammar_machine.proofs.TableLemmas.{any-with, any-entry, any-more, no-entry, begun_by, fires-any, holds-mask, holds-subset, holds-disjoint, holds-or, arcs-at, row-test, state-test, arc-test, exits-at, below-at}
 use Rattle.document_grammar.specs.Kinds.{DOCUMENT}
 
 -- The second token of a list fits an entry.
@@ -15,15 +15,10 @@ second_fits alone y [] = alone
 second_fits alone y (b ∷ r) = holds (class b) y
 
 abbrev starts_in : List Entry → ℕ → List Token → Bool
-starts_in [] a r = false
-starts_in (entry x y alone ∷ more) a r = (holds a x and second_fits alone y r) or starts_in more a r
+starts_in es a r = any_entries es (λ x y alone. holds a x and second_fits alone y r)
 
 starts-begins : (es : List Entry) (a : ℕ) (r : List Token) → starts_in es a r ≡ true → holds a (entries_mask es) ≡ true
-starts-begins [] a r h = absurd (true≢false (sym h))
-starts-begins (entry x y alone ∷ more) a r h = elim (or-c (holds a x and second_fits alone y r) (starts_in more a r) h) [
-  | inl p ↦ holds-or a x (entries_mask more) (inl (and-l _ _ p))
-  | inr p ↦ holds-or a x (entries_mask more) (inr (starts-begins more a r p))
-]
+starts-begins es a r h = holds-mask es a (any-more es _ (λ x y alone. holds a x) h (λ x y alone p. and-l _ _ p))
 
 arc-begins : (l : List (ℕ × ℕ)) (k a : ℕ) → has_in l k ≡ true → holds a (entries_mask (entries k)) ≡ true → holds a (arcs_mask l) ≡ true
 unfolding arcs_mask
@@ -35,11 +30,8 @@ arc-begins (c ∷ more) k a h i = elim (or-c (eqb c.0 k) (has_in more k) h) [
 
 -- Leaves.
 leaf-starts : (es : List Entry) (a b : ℕ) → all_entries es (λ x y a. a and eqb y 0) ≡ true → fires_in es a b ≡ true → starts_in es a [] ≡ true
-leaf-starts [] a b t h = h
-leaf-starts (entry x y alone ∷ more) a b t h = elim (or-c (holds a x and (alone or holds b y)) (fires_in more a b) h) [
-  | inl p ↦ or-l _ _ (and-i (and-l _ _ p) (and-l _ _ (and-l _ _ t)))
-  | inr p ↦ or-r (holds a x and alone) _ (leaf-starts more a b (and-r (alone and eqb y 0) _ t) p)
-]
+leaf-starts es a b t h = any-more es _ (λ x y alone. holds a x and alone) (any-with es (λ x y a. a and eqb y 0) (begun_by a b) t (rw fires-any at h))
+    (λ x y alone p. and-i (and-l _ _ (and-r _ _ p)) (and-l _ _ (and-l _ _ p)))
 
 -- Nodes.
 abbrev TailOk : ℕ → ℕ → List Token → Type 0
@@ -53,41 +45,17 @@ second-covered s q [] [] y1 y2 a1 a2 u c o h = implies (ends s q) a2 (and-r (sub
 second-covered s q [] (b ∷ z) y1 y2 a1 a2 u c o h = holds-subset (class b) (state_begins (at s q)) y2 (and-l _ _ (c h)) o
 second-covered s q (b ∷ y) z y1 y2 a1 a2 u c o h = holds-subset (class b) y1 y2 u h
 
-entry-covered : (es : List Entry) (s q x a : ℕ) (y z : List Token) (x1 y1 : ℕ) (a1 : Bool)
-    → any_entries es (λ x2 y2 a2. subset x1 x2 and subset y1 y2 and (not a1 or (subset (state_begins (at s (q + x))) y2 and (not (ends s (q + x)) or a2)))) ≡ true
-    → TailOk s (q + x) z → holds a x1 ≡ true → second_fits a1 y1 y ≡ true → starts_in es a (y ++ z) ≡ true
-entry-covered [] s q x a y z x1 y1 a1 t o h h' = t
-entry-covered (entry x2 y2 a2 ∷ more) s q x a y z x1 y1 a1 t o h h' = elim (or-c (subset x1 x2 and subset y1 y2 and (not a1 or (subset (state_begins (at s (q + x))) y2 and (not (ends s (q + x)) or a2)))) _ t) [
-  | inl p ↦ or-l _ _ (and-i (holds-subset a x1 x2 (and-l _ _ (and-l _ _ p)) h) (second-covered s (q + x) y z y1 y2 a1 a2 (and-r (subset x1 x2) _ (and-l _ _ p)) (implies a1 _ (and-r (subset x1 x2 and subset y1 y2) _ p)) o h'))
-  | inr p ↦ or-r (holds a x2 and second_fits a2 y2 (y ++ z)) _ (entry-covered more s q x a y z x1 y1 a1 p o h h')
-]
-
 all-covered : (es fs : List Entry) (s q x a : ℕ) (y z : List Token)
     → all_entries es (λ x1 y1 a1. any_entries fs (λ x2 y2 a2. subset x1 x2 and subset y1 y2 and (not a1 or (subset (state_begins (at s (q + x))) y2 and (not (ends s (q + x)) or a2))))) ≡ true
     → TailOk s (q + x) z → starts_in es a y ≡ true → starts_in fs a (y ++ z) ≡ true
-all-covered [] fs s q x a y z t o h = absurd (true≢false (sym h))
-all-covered (entry x1 y1 a1 ∷ more) fs s q x a y z t o h = elim (or-c (holds a x1 and second_fits a1 y1 y) (starts_in more a y) h) [
-  | inl p ↦ entry-covered fs s q x a y z x1 y1 a1 (and-l _ _ t) o (and-l _ _ p) (and-r _ _ p)
-  | inr p ↦ all-covered more fs s q x a y z (and-r _ _ t) o p
-]
+all-covered es fs s q x a y z t o h = any-entry es _ (any-with es _ (λ x y1 alone. holds a x and second_fits alone y1 y) t h) (λ x1 y1 a1 p.
+    any-more fs _ (λ x2 y2 a2. holds a x2 and second_fits a2 y2 (y ++ z)) (and-l _ _ p) (λ x2 y2 a2 c.
+        and-i (holds-subset a x1 x2 (and-l _ _ (and-l _ _ c)) (and-l _ _ (and-r _ _ p)))
+        (second-covered s (q + x) y z y1 y2 a1 a2 (and-r _ _ (and-l _ _ c)) (implies a1 _ (and-r _ _ c)) o (and-r _ _ (and-r _ _ p)))))
 
-first-rows-at : (s n : ℕ) (l : List (List State)) → first_rows s l ≡ true → first_row (s + n) (get_or l n []) ≡ true
-first-rows-at s n [] h = refl
-first-rows-at s zero (r ∷ more) h = let e : s + 0 ≡ s = omega arith in rw e (and-l _ _ h)
-first-rows-at s (suc n) (r ∷ more) h = let e : s + suc n ≡ suc s + n = omega arith in rw e (first-rows-at (suc s) n more (and-r _ _ h))
-
-start-rows-at : (n : ℕ) (l : List (List State)) → start_rows l ≡ true → start_row (get_or l n []) ≡ true
-start-rows-at n [] h = refl
-start-rows-at zero (r ∷ more) h = and-l _ _ h
-start-rows-at (suc n) (r ∷ more) h = start-rows-at n more (and-r _ _ h)
-
-first-test : (s : ℕ) → is_leaf s ≡ false → first_arcs s (arcs s 0) ≡ true
-unfolding arcs at
-first-test s l = subst (λ (n : ℕ). first_row n (get_or rows (s - DOCUMENT) []) ≡ true) (node-sum s l) (first-rows-at DOCUMENT (s - DOCUMENT) rows first_checked)
-
-start-test : (s : ℕ) → ends s 0 ≡ false
-unfolding ends at
-start-test s = not-c _ (start-rows-at (s - DOCUMENT) rows start_checked)
+row-start : (s : ℕ) → is_leaf s ≡ false → all_arcs (arcs s 0) (first_arc s) and not (ends s 0) ≡ true
+unfolding arcs ends
+row-start s l = implies _ _ (state-test first_test first_checked (λ s q. or-r _ _ (and-i refl refl)) s 0 l) refl
 
 -- What the tokens of a tree begin with.
 abbrev Begun : Tree → Type 0
@@ -101,7 +69,7 @@ node-begun : (s : ℕ) (t : Tree) (g : Forest) → is_leaf s ≡ false → has s
     → TailOk s (target s 0 (root t) + finish t) (yields g) → Begun (node s (t ▸ g))
 unfolding has target
 node-begun s t g l h o b z =
-    let c = exits-at t (λ x. all_entries (entries (root t)) (covered s (target s 0 (root t)) x)) (arcs-at (arcs s 0) (λ k q. exits k (λ x. all_entries (entries k) (covered s q x))) (root t) (first-test s l) h) o in
+    let c = exits-at t (λ x. all_entries (entries (root t)) (covered s (target s 0 (root t)) x)) (arcs-at (arcs s 0) (first_arc s) (root t) (and-l _ _ (row-start s l)) h) o in
     (b.0, b.1 ++ yields g, ap (λ (v : List Token). v ++ yields g) b.2, all-covered (entries (root t)) (entries s) s (target s 0 (root t)) (finish t) (class b.0) b.1 (yields g) c z b.3)
 
 tail-begun : (s q : ℕ) (t : Tree) (g : Forest) → has s q (root t) ≡ true → Begun t → TailOk s q (yields (t ▸ g))
@@ -111,7 +79,7 @@ tail-begun s q t g h b = subst (λ (v : List Token). TailOk s q (v ++ yields g))
 mutual
   pub tree-first : (t : Tree) → Ok t → Begun t
   tree-first (leaf l x) o = leaf-begun l x o
-  tree-first (node s none) o = false-true (start-test s) o.1
+  tree-first (node s none) o = false-true (not-c _ (and-r _ _ (row-start s o.0))) o.1
   tree-first (node s (t ▸ g)) o = node-begun s t g o.0 o.1.0 o.1.1 (tree-first t o.1.1) (forest-first s (target s 0 (root t) + finish t) g o.1.2)
 
   pub forest-first : (s q : ℕ) (f : Forest) → OkFrom s q f → TailOk s q (yields f)
@@ -137,16 +105,10 @@ next-ok s q (t ▸ g) r o h = let b = tree-first t o.1 in inl (rw (begun-first t
 
 -- The close: nothing that may go on begins here.
 no-fire : (es : List Entry) (a b : ℕ) → holds a (entries_mask es) ≡ false → fires_in es a b ≡ false
-unfolding ◌or◌ ◌and◌
-no-fire [] a b h = refl
-no-fire (entry x y alone ∷ more) a b h = elim (either (holds a x)) [
-  | inl p ↦ false-true h (holds-or a x (entries_mask more) (inl p))
-  | inr p ↦ rw p (no-fire more a b (not-holds (either (holds a (entries_mask more)))))
+no-fire es a b h = elim (either (fires_in es a b)) [
+  | inl p ↦ false-true h (holds-mask es a (any-more es (begun_by a b) (λ x y alone. holds a x) (rw fires-any at p) (λ x y alone q. and-l _ _ q)))
+  | inr p ↦ p
 ]
-  where
-    not-holds : (holds a (entries_mask more) ≡ true) ⊎ (holds a (entries_mask more) ≡ false) → holds a (entries_mask more) ≡ false
-    not-holds (inl q) = false-true h (holds-or a x (entries_mask more) (inr q))
-    not-holds (inr q) = q
 
 choose-close : (l : List (ℕ × ℕ)) (e : Bool) (a b : ℕ) → e ≡ true → holds a (arcs_mask l) ≡ false → choose l e a b ≡ close
 unfolding arcs_mask fires
@@ -174,15 +136,11 @@ move-close s q r l e h = choose-close (arcs s q) (ends s q) (first r) (second r)
 -- A child: no symbol before it begins here.
 starts-fires : (es : List Entry) (a : ℕ) (y z : List Token) → starts_in es a y ≡ true → fires_in es a (first (y ++ z)) ≡ true
 unfolding first
-starts-fires [] a y z h = h
-starts-fires (entry x1 y1 a1 ∷ more) a y z h = elim (or-c _ _ h) [
-  | inl p ↦ or-l _ _ (and-i (and-l _ _ p) (fits y (and-r _ _ p)))
-  | inr p ↦ or-r _ _ (starts-fires more a y z p)
-]
+starts-fires es a y z h = rw fires-any (any-more es _ (begun_by a (first (y ++ z))) h (λ x1 y1 a1 p. and-i (and-l _ _ p) (fits y1 a1 y (and-r _ _ p))))
   where
-    fits : (y : List Token) → second_fits a1 y1 y ≡ true → a1 or holds (first (y ++ z)) y1 ≡ true
-    fits [] g = or-l _ _ g
-    fits (b ∷ y) g = or-r _ _ g
+    fits : (y1 : ℕ) (a1 : Bool) (y : List Token) → second_fits a1 y1 y ≡ true → a1 or holds (first (y ++ z)) y1 ≡ true
+    fits y1 a1 [] g = or-l _ _ g
+    fits y1 a1 (b ∷ y) g = or-r _ _ g
 
 choose-go : (l : List (ℕ × ℕ)) (s k q a b : ℕ) (e : Bool) → choice_arcs s l ≡ true → has_in l k ≡ true → target_in l k ≡ q → fires k a b ≡ true
     → ((j : ℕ) → differ s k q j ≡ true → fires j a b ≡ false) → choose l e a b ≡ go k
@@ -195,55 +153,27 @@ choose-go (arc ∷ more) s k q a b e c h t f d = elim (either (eqb arc.0 k)) [
       rw (d arc.0 d') (choose-go more s k q a b e (and-r _ _ c) h' t' f d))
 ]
 
-follow-arcs : (s q : ℕ) → is_leaf s ≡ false
-    → all_arcs (arcs s q) (λ k q. exits k (λ x. subset (state_begins (at s (q + x))) (follow k x) and (not (ends s (q + x)) or subset (follow s (exit s (q + x))) (follow k x)))) ≡ true
-unfolding arcs
-follow-arcs s q l = row-test follow_test follow_checked (λ k. refl) s q l
-
 child-follow : (s q : ℕ) (t : Tree) (r : List Token) → is_leaf s ≡ false → has s q (root t) ≡ true → Ok t
     → NextOk s (target s q (root t) + finish t) r → holds (first r) (follow (root t) (finish t)) ≡ true
 unfolding has target
 child-follow s q t r l h o n =
-    let c = exits-at t (λ x. subset (state_begins (at s (target s q (root t) + x))) (follow (root t) x) and (not (ends s (target s q (root t) + x)) or subset (follow s (exit s (target s q (root t) + x))) (follow (root t) x))) (arcs-at (arcs s q) (λ k q. exits k (λ x. subset (state_begins (at s (q + x))) (follow k x) and (not (ends s (q + x)) or subset (follow s (exit s (q + x))) (follow k x)))) (root t) (follow-arcs s q l) h) o in
+    let c = exits-at t (λ x. subset (state_begins (at s (target_in (arcs s q) (root t) + x))) (follow (root t) x) and (not (ends s (target_in (arcs s q) (root t) + x)) or subset (follow s (exit s (target_in (arcs s q) (root t) + x))) (follow (root t) x))) (arc-test follow_test follow_checked s q (root t) l h) o in
     elim n [ inl p ↦ holds-subset (first r) _ _ (and-l _ _ c) p | inr p ↦ holds-subset (first r) _ _ (implies _ _ (and-r _ _ c) p.0) p.1 ]
-
-pub or-false : {a b : Bool} → a ≡ false → b ≡ false → a or b ≡ false
-unfolding ◌or◌
-or-false {a} {b} e f = rw (e, f) refl
-
-pub and-false-r : (a : Bool) {b : Bool} → b ≡ false → a and b ≡ false
-unfolding ◌and◌
-and-false-r true e = e
-and-false-r false e = refl
-
-pub and-false-l : (a b : Bool) → a ≡ false → a and b ≡ false
-unfolding ◌and◌
-and-false-l a b e = rw e refl
-
-unfire-one : (ks : List Entry) (s k q a : ℕ) (y z : List Token) (x2 y2 : ℕ) (a2 : Bool)
-    → all_entries ks (λ x1 y1 a1. disjoint x1 x2 or (not a2 and disjoint y1 y2 and (not a1 or exits k (λ x. clear s q x y2)))) ≡ true
-    → starts_in ks a y ≡ true → ((m : ℕ) → exits k (λ x. clear s q x m) ≡ true → holds (first z) m ≡ false)
-    → (holds a x2 and (a2 or holds (first (y ++ z)) y2)) ≡ false
-unfolding first
-unfire-one [] s k q a y z x2 y2 a2 t h g = absurd (true≢false (sym h))
-unfire-one (entry x1 y1 a1 ∷ more) s k q a y z x2 y2 a2 t h g = elim (or-c _ _ h) [
-  | inl p ↦ elim (or-c _ _ (and-l _ _ t)) [
-    | inl d ↦ and-false-l _ _ (holds-disjoint a x1 x2 d (and-l _ _ p))
-    | inr d ↦ and-false-r (holds a x2) (or-false (not-c _ (and-l _ _ (and-l _ _ d))) (miss y (and-r _ _ p) (and-r _ _ (and-l _ _ d)) (and-r _ _ d)))
-  ]
-  | inr p ↦ unfire-one more s k q a y z x2 y2 a2 (and-r _ _ t) p g
-]
-  where
-    miss : (y : List Token) → second_fits a1 y1 y ≡ true → disjoint y1 y2 ≡ true → not a1 or exits k (λ x. clear s q x y2) ≡ true
-        → holds (first (y ++ z)) y2 ≡ false
-    miss [] f d e = g y2 (implies _ _ e f)
-    miss (b ∷ y) f d e = holds-disjoint (class b) y1 y2 d f
 
 unfires : (es ks : List Entry) (s k q a : ℕ) (y z : List Token)
     → all_entries es (λ x2 y2 a2. all_entries ks (λ x1 y1 a1. disjoint x1 x2 or (not a2 and disjoint y1 y2 and (not a1 or exits k (λ x. clear s q x y2))))) ≡ true
     → starts_in ks a y ≡ true → ((m : ℕ) → exits k (λ x. clear s q x m) ≡ true → holds (first z) m ≡ false) → fires_in es a (first (y ++ z)) ≡ false
-unfires [] ks s k q a y z t h g = refl
-unfires (entry x2 y2 a2 ∷ more) ks s k q a y z t h g = or-false (unfire-one ks s k q a y z x2 y2 a2 (and-l _ _ t) h g) (unfires more ks s k q a y z (and-r _ _ t) h g)
+unfolding first
+unfires es ks s k q a y z t h g = rw fires-any (no-entry es _ (begun_by a (first (y ++ z))) t (λ x2 y2 a2 c.
+    any-entry ks _ (any-with ks _ (λ x y1 alone. holds a x and second_fits alone y1 y) c h) (λ x1 y1 a1 p. elim (or-c _ _ (and-l _ _ p)) [
+      | inl d ↦ and-false-l _ _ (holds-disjoint a x1 x2 d (and-l _ _ (and-r _ _ p)))
+      | inr d ↦ and-false-r (holds a x2) (or-false (not-c _ (and-l _ _ (and-l _ _ d))) (miss y1 y2 a1 y (and-r _ _ (and-r _ _ p)) (and-r _ _ (and-l _ _ d)) (and-r _ _ d)))
+    ])))
+  where
+    miss : (y1 y2 : ℕ) (a1 : Bool) (y : List Token) → second_fits a1 y1 y ≡ true → disjoint y1 y2 ≡ true → not a1 or exits k (λ x. clear s q x y2) ≡ true
+        → holds (first (y ++ z)) y2 ≡ false
+    miss y1 y2 a1 [] f d e = g y2 (implies _ _ e f)
+    miss y1 y2 a1 (b ∷ y) f d e = holds-disjoint (class b) y1 y2 d f
 
 next-clear : (s q x : ℕ) (z : List Token) (m : ℕ) → NextOk s (q + x) z → clear s q x m ≡ true → holds (first z) m ≡ false
 next-clear s q x z m n c = elim n [
