@@ -25,7 +25,7 @@ use Rattle.grammar_machine.proofs.TableLemmas.{head-same, tail-same}
 use Rattle.grammar_machine.proofs.Endings.{spell}
 use Rattle.grammar_machine.proofs.Sound.{AllSpelt}
 use Rattle.grammar_machine.proofs.Worked.{all_ascii, is-ascii}
-use Rattle.grammar_machine.proofs.Faults.{reached-begins}
+use Rattle.grammar_machine.proofs.SentenceTheorems.{reached-begins}
 use Rattle.std.proofs.lemmas.List.{map-append}
 
 -- The kind of the tokens that become a leaf.

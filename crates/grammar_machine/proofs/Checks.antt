@@ -3,7 +3,7 @@ use Rattle.std.proofs.Common.{◌≡◌, ℕ, zero, suc, ◌+◌, ◌-◌, Bool,
 use Rattle.grammar_machine.specs.Table.{State, state, Entry, entry, rows, firsts}
 use Rattle.grammar_machine.proofs.generated.Follows.{follows}
 use Rattle.document_grammar.specs.Booleans.{◌and◌, ◌or◌}
-use Rattle.grammar_machine.specs.Machine.{holds, is_leaf, at, ends, exit, arcs, entries, dead, state_arcs, state_ends, state_exit}
+use Rattle.grammar_machine.specs.Machine.{holds, is_leaf, at, ends, exit, arcs, entries, state_arcs, state_ends, state_exit}
 use Rattle.document_grammar.specs.Kinds.{DOCUMENT}
 
 abbrev pub subset : ℕ → ℕ → Bool

@@ -1,17 +1,17 @@
 -- A tree of the tables, shown as the tree of syntax kinds, is a derivation.
-use Rattle.std.proofs.Common.{◌≡◌, ℕ, zero, suc, ◌+◌, ◌-◌, Bool, true, false, cond, not, eqb, List, [], ◌∷◌, get_or, refl, sym, ap, ap₂, subst, ◌⊎◌, inl, inr, true≢false, arith, eqb-true}
+use Rattle.std.proofs.Common.{◌≡◌, ℕ, ◌+◌, ◌-◌, Bool, true, false, cond, not, eqb, List, [], ◌∷◌, refl, sym, ap, ap₂, subst, ◌⊎◌, inl, inr, true≢false, eqb-true}
 use Rattle.document_grammar.specs.Tree.{Tree, leaf, node, Forest, none, ◌▸◌, root}
 use Rattle.document_grammar.specs.Pattern.{Pattern, any_of, nothing, ◌then◌, ◌or_else◌, many, member, Matches}
 use Rattle.grammar_machine.specs.Table.{State, rows}
 use Rattle.grammar_machine.proofs.generated.Labels.{labels}
 use Rattle.document_grammar.specs.Booleans.{◌and◌, ◌or◌}
-use Rattle.grammar_machine.specs.Machine.{is_leaf, at, ends, arcs, has, has_in, target, target_in, dead, state_arcs, state_ends, finish, Ok, OkFrom}
+use Rattle.grammar_machine.specs.Machine.{is_leaf, at, ends, arcs, has, has_in, target, target_in, state_arcs, finish, Ok, OkFrom}
 use Rattle.document_grammar.specs.Derivation.{kinds}
 use Rattle.grammar_machine.proofs.Checks.{exits}
 use Rattle.document_grammar.proofs.Booleans.{false-true, and-l, and-r, or-c, or-l, or-r, implies, either, eqb-refl}
 use Rattle.grammar_machine.proofs.TableLemmas.{arcs-at, exits-at, state-test}
 use Rattle.grammar_machine.proofs.Patterns.{nullable, deriv, kinds_eq, pattern_eq, pattern_of, label, shown, all_kinds, any_arcs, constant, begin_kinds, no_arc, is_live, agree_at, agree_checked, nullable-from, from-deriv}
-use Rattle.document_grammar.specs.Kinds.{VARIABLE, NAMED_TYPE, LIST_TYPE, NON_NULL_TYPE, DOCUMENT}
+use Rattle.document_grammar.specs.Kinds.{VARIABLE, NAMED_TYPE, LIST_TYPE, NON_NULL_TYPE}
 use Rattle.grammar_machine.specs.Symbols.{TYPE}
 
 -- A type's node stands for its child, or with `!` for a NON_NULL_TYPE.
@@ -35,9 +35,8 @@ abbrev mutual
 -- Equal patterns.
 kinds-same : (a b : List ℕ) → kinds_eq a b ≡ true → a ≡ b
 kinds-same [] [] h = refl
-kinds-same [] (b ∷ bs) h = absurd (true≢false (sym h))
-kinds-same (a ∷ more) [] h = absurd (true≢false (sym h))
 kinds-same (a ∷ more) (b ∷ bs) h = ap₂ (λ x y. x ∷ y) (eqb-true a b (and-l _ _ h)) (kinds-same more bs (and-r _ _ h))
+kinds-same _ _ h = absurd (true≢false (sym h))
 
 pub pattern-same : (p q : Pattern) → pattern_eq p q ≡ true → p ≡ q
 pattern-same (any_of ks) (any_of ls) h = ap any_of (kinds-same ks ls h)

@@ -16,10 +16,7 @@ pub mod Classes
 pub mod Starts
 pub mod OneTokenLookahead
 pub mod Depth
-pub mod Peak
 pub mod SentenceTheorems
-pub mod Faults
-pub mod Walk
 pub mod Worked
 pub mod Beginnings
 pub mod Sentences

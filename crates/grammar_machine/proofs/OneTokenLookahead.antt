@@ -1,12 +1,11 @@
 -- Configurations that depend on the tokens read and the next one alone: those after a leaf, and after moves that don't ask for the
 -- second token. For the recursion limit: each tree whose tokens begin with those read and the next one has these nodes open there.
-use Rattle.std.proofs.Common.{◌≡◌, ℕ, ◌+◌, true, List, [], ◌∷◌, ◌++◌, refl, sym, ◌∙◌, subst, IsTrue, IsFalse, append_assoc}
-use Rattle.document_grammar.specs.Tree.{Token, Tree, leaf, node, Forest, none, ◌▸◌, ◌+++◌}
-use Rattle.grammar_machine.specs.Machine.{holds, is_leaf, exit, target, go, move, first, second, Frame, frame, Reach, shift, open', closed}
-use Rattle.grammar_machine.proofs.Run.{Left, reach-other}
+use Rattle.std.proofs.Common.{◌≡◌, ℕ, ◌+◌, true, List, [], ◌∷◌, ◌++◌, refl, sym, ◌∙◌, subst, IsTrue, append_assoc}
+use Rattle.document_grammar.specs.Tree.{Token, leaf, node, Forest, none, ◌▸◌, ◌+++◌}
+use Rattle.grammar_machine.specs.Machine.{holds, is_leaf, exit, target, go, move, first, second, Frame, frame, Reach, shift, closed}
+use Rattle.grammar_machine.proofs.Run.{reach-other}
 use Rattle.grammar_machine.proofs.Sound.{any, second-any}
-use Rattle.grammar_machine.proofs.Steps.{goes, closes, goes-move, closes-move}
-use Rattle.grammar_machine.proofs.MachineTheorems.{begins_parse, Parse, on-the-way}
+use Rattle.grammar_machine.proofs.Steps.{closes, closes-move}
 
 pub record Firm (s0 : ℕ) (w : List Token) (fs : List Frame) (r : List Token) : Type 0 where
   pub before : List Token

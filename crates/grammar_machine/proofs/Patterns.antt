@@ -1,5 +1,5 @@
 -- The patterns' derivatives, and the test that the automata are those of the patterns.
-use Rattle.std.proofs.Common.{◌≡◌, ℕ, suc, ◌+◌, ◌-◌, Bool, true, false, cond, not, eqb, ltb, List, [], ◌∷◌, ◌++◌, get_or, refl, sym, ap, ◌∙◌, subst, ◌⊎◌, inl, inr, true≢false, append_assoc}
+use Rattle.std.proofs.Common.{◌≡◌, ℕ, ◌+◌, ◌-◌, Bool, true, false, cond, not, eqb, ltb, List, [], ◌∷◌, ◌++◌, get_or, refl, sym, ap, ◌∙◌, subst, ◌⊎◌, inl, inr, true≢false, append_assoc}
 use Rattle.document_grammar.specs.Pattern.{Pattern, any_of, nothing, ◌then◌, ◌or_else◌, many, one, maybe, member, Repeats, stop, again, Matches}
 use Rattle.document_grammar.specs.Rows.{Row, keyword_operation, bare_selections}
 use Rattle.grammar_machine.specs.Table.{State, rows}
@@ -42,9 +42,8 @@ deriv (many p) k = seq (deriv p k) (many p)
 
 abbrev pub kinds_eq : List ℕ → List ℕ → Bool
 kinds_eq [] [] = true
-kinds_eq [] (b ∷ bs) = false
-kinds_eq (a ∷ more) [] = false
 kinds_eq (a ∷ more) (b ∷ bs) = eqb a b and kinds_eq more bs
+kinds_eq _ _ = false
 
 abbrev pub pattern_eq : Pattern → Pattern → Bool
 pattern_eq (any_of ks) (any_of ls) = kinds_eq ks ls

@@ -1,6 +1,5 @@
 -- A tree of the tables keeps the rules on leaves and names.
-use Rattle.std.proofs.Common.{◌≡◌, ◌≢◌, ℕ, zero, suc, ◌+◌, ◌-◌, ◌<◌, ◌^◌, Bool, true, false, cond, not, eqb, ltb, List, [], ◌∷◌, ◌++◌, get_or, refl, sym, ap, ap₂, ◌∙◌, subst, inl, inr, true≢false, append-nil, arith, eqb-true, lt-ltb}
-use Rattle.std.proofs.lemmas.Bool.{eqb-false}
+use Rattle.std.proofs.Common.{◌≡◌, ◌≢◌, ℕ, zero, suc, ◌+◌, ◌-◌, ◌<◌, ◌^◌, Bool, true, false, cond, not, eqb, ltb, List, [], ◌∷◌, ◌++◌, get_or, refl, sym, ap, ◌∙◌, subst, inl, inr, true≢false, append-nil, arith, eqb-true, lt-ltb}
 use Rattle.document_grammar.specs.Tree.{Text, Tree, leaf, node, Forest, none, ◌▸◌, root}
 use Rattle.document_grammar.specs.Pattern.{Pattern, any_of, one, Matches}
 use Rattle.document_grammar.specs.Rows.{Row, keyword_operation, bare_selections}
@@ -16,7 +15,7 @@ use Rattle.grammar_machine.proofs.Sound.{fired, holds-one, leaf-lt}
 use Rattle.grammar_machine.proofs.Patterns.{derive_all, pattern_of, symbol_row, label}
 use Rattle.grammar_machine.proofs.FromMachineTree.{show, shows, row-shown, show-root}
 use Rattle.document_grammar.specs.Kinds.{words, OPERATION_DEFINITION, SELECTION_SET, NAME, FRAGMENT_NAME, ENUM_VALUE, VARIABLE, DEFAULT_VALUE, DOCUMENT, IDENT, STRING}
-use Rattle.grammar_machine.specs.Symbols.{TYPE, SHORT_QUERY, NAME_FOR_FRAGMENT, NAME_FOR_ENUM, BARE_SELECTIONS}
+use Rattle.grammar_machine.specs.Symbols.{TYPE, SHORT_QUERY, IDENT_FOR_FRAGMENT, IDENT_FOR_ENUM, NAME_FOR_FRAGMENT, NAME_FOR_ENUM, BARE_SELECTIONS}
 
 -- A test of each symbol and its label.
 pub label-test : (t : ℕ → ℕ → Bool) → all_from 0 labels t ≡ true → (s : ℕ) → t s 0 ≡ true → t s (label s) ≡ true
@@ -157,34 +156,23 @@ name-leaf s j i f ls es ps as' lj ej pj aj li o =
     let h : OkFrom s 0 (c.0 ▸ none) = subst (λ (z : Forest). OkFrom s 0 z) c.1 o in
     subst (λ (z : Forest). NameLeaf i (texts (shows z))) (sym c.1) (trim i (text (show c.0)) (inner-text j i c.0 (only-arc s j (root c.0) as' h.0) lj ej pj aj li h.1))
 
-on-refused : (x : Text) → fires 1 (class (token 1 x)) 0 ≡ true → x ≢ on_text
+refused : (x : Text) → (fires IDENT_FOR_FRAGMENT (class (token IDENT_FOR_FRAGMENT x)) 0 ≡ true → x ≢ on_text)
+    × (fires IDENT_FOR_ENUM (class (token IDENT_FOR_ENUM x)) 0 ≡ true → (x ≢ true_text) × (x ≢ false_text) × (x ≢ null_text))
 unfolding fires class token entries firsts holds words ◌or◌ ◌and◌
-on-refused x h e = true≢false (sym (rw e at h))
+refused x = ((λ h e. true≢false (sym (rw e at h))), (λ h. ((λ e. true≢false (sym (rw e at h))), (λ e. true≢false (sym (rw e at h))), (λ e. true≢false (sym (rw e at h))))))
 
-true-refused : (x : Text) → fires 2 (class (token 2 x)) 0 ≡ true → x ≢ true_text
-unfolding fires class token entries firsts holds words ◌or◌ ◌and◌
-true-refused x h e = true≢false (sym (rw e at h))
-
-false-refused : (x : Text) → fires 2 (class (token 2 x)) 0 ≡ true → x ≢ false_text
-unfolding fires class token entries firsts holds words ◌or◌ ◌and◌
-false-refused x h e = true≢false (sym (rw e at h))
-
-null-refused : (x : Text) → fires 2 (class (token 2 x)) 0 ≡ true → x ≢ null_text
-unfolding fires class token entries firsts holds words ◌or◌ ◌and◌
-null-refused x h e = true≢false (sym (rw e at h))
-
-fragment-leaf : (f : Forest) → OkFrom FRAGMENT_NAME 0 f → NameLeaf 1 (texts (shows f))
+fragment-leaf : (f : Forest) → OkFrom FRAGMENT_NAME 0 f → NameLeaf IDENT_FOR_FRAGMENT (texts (shows f))
 unfolding is_leaf pattern_of symbol_row label labels Row paths arcs at rows
-fragment-leaf f o = name-leaf FRAGMENT_NAME NAME_FOR_FRAGMENT 1 f refl refl refl refl refl refl refl refl refl o
+fragment-leaf f o = name-leaf FRAGMENT_NAME NAME_FOR_FRAGMENT IDENT_FOR_FRAGMENT f refl refl refl refl refl refl refl refl refl o
 
-enum-leaf : (f : Forest) → OkFrom ENUM_VALUE 0 f → NameLeaf 2 (texts (shows f))
+enum-leaf : (f : Forest) → OkFrom ENUM_VALUE 0 f → NameLeaf IDENT_FOR_ENUM (texts (shows f))
 unfolding is_leaf pattern_of symbol_row label labels Row paths arcs at rows
-enum-leaf f o = name-leaf ENUM_VALUE NAME_FOR_ENUM 2 f refl refl refl refl refl refl refl refl refl o
+enum-leaf f o = name-leaf ENUM_VALUE NAME_FOR_ENUM IDENT_FOR_ENUM f refl refl refl refl refl refl refl refl refl o
 
 pub name-rule : (s : ℕ) (f : Forest) → OkFrom s 0 f → NameRule (label s) (shows f)
 unfolding NameLeaf
 name-rule s f o = (
-  (λ e t. let c = fragment-leaf f (subst (λ (n : ℕ). OkFrom n 0 f) ((labels-alone s).3 e) o) in on-refused c.0 c.2 (sym c.1 ∙ t)),
+  (λ e t. let c = fragment-leaf f (subst (λ (n : ℕ). OkFrom n 0 f) ((labels-alone s).3 e) o) in (refused c.0).0 c.2 (sym c.1 ∙ t)),
   (λ e. let c = enum-leaf f (subst (λ (n : ℕ). OkFrom n 0 f) ((labels-alone s).4 e) o) in
-      ((λ t. true-refused c.0 c.2 (sym c.1 ∙ t)), (λ t. false-refused c.0 c.2 (sym c.1 ∙ t)), (λ t. null-refused c.0 c.2 (sym c.1 ∙ t)))),
+      let r = (refused c.0).1 c.2 in ((λ t. r.0 (sym c.1 ∙ t)), (λ t. r.1 (sym c.1 ∙ t)), (λ t. r.2 (sym c.1 ∙ t)))),
 )

@@ -16,8 +16,7 @@ use Rattle.grammar_machine.specs.Machine.{holds, is_leaf, at, ends, exit, arcs, 
 use Rattle.document_grammar.specs.Sentence.{Sentence}
 use Rattle.grammar_machine.proofs.Endings.{spell}
 use Rattle.grammar_machine.proofs.Patterns.{label}
-use Rattle.grammar_machine.proofs.Walk.{walked, tree_read, is_read, is_refused, refused}
-use Rattle.grammar_machine.proofs.Worked.{AllWorked, NoSentences, works, fails, all_work, all_fail, is-sentence, all-worked, no-sentences}
+use Rattle.grammar_machine.proofs.Worked.{walked, tree_read, is_read, is_refused, refused, AllWorked, NoSentences, works, fails, all_work, all_fail, is-sentence, all-worked, no-sentences}
 
 -- All that reading computes with, under one name.
 unfoldable running : Unit {0}

@@ -1,14 +1,14 @@
 -- What the machine has read fits the rows, and can be completed.
-use Rattle.std.proofs.Common.{◌≡◌, ℕ, ◌+◌, ◌^◌, ◌<◌, Bool, true, false, cond, not, eqb, List, [], ◌∷◌, ◌++◌, refl, sym, ap, ◌∙◌, subst, ◌⊎◌, inl, inr, true≢false, append_assoc, append-nil, arith, add-zero, eqb-true, ltb-true, ◌≢◌, ap₂}
+use Rattle.std.proofs.Common.{◌≡◌, ℕ, ◌+◌, ◌^◌, ◌<◌, Bool, true, false, cond, not, eqb, List, [], ◌∷◌, ◌++◌, refl, sym, ap, ◌∙◌, subst, ◌⊎◌, inl, inr, append_assoc, append-nil, arith, add-zero, eqb-true, ltb-true, ◌≢◌}
 use Rattle.std.proofs.lemmas.Bool.{eqb-false}
 use Rattle.std.specs.Int.{bit_at}
 use Rattle.std.proofs.lemmas.Nat.Bits.{bit_at-pow_other}
 use Rattle.document_grammar.specs.Tree.{Text, Token, Tree, leaf, node, Forest, none, ◌▸◌, ◌+++◌, root}
-use Rattle.grammar_machine.specs.Table.{Entry, entry, name_leaves, token_kinds}
+use Rattle.grammar_machine.specs.Table.{Entry, name_leaves, token_kinds}
 use Rattle.grammar_machine.proofs.generated.Follows.{name_classes}
 use Rattle.document_grammar.specs.Booleans.{◌and◌, ◌or◌}
 use Rattle.grammar_machine.specs.Machine.{holds, is_leaf, ends, exit, arcs, has, target, entries, fires, fires_in, has_in, choose, go, close, move, class, word_class, text_eq, first, second, token, yield, yields, finish, walk, Ok, OkFrom, Path, Frame, frame, Reach, start, shift, open', closed}
-use Rattle.grammar_machine.proofs.Checks.{subset, exits, all_arcs, all_entries, leaf_checked, leaf_entry}
+use Rattle.grammar_machine.proofs.Checks.{subset, exits, all_entries, leaf_checked, leaf_entry}
 use Rattle.document_grammar.proofs.Booleans.{false-true, and-l, and-r, and-i, or-c, or-l, or-r, not-c, either, eqb-refl}
 use Rattle.grammar_machine.proofs.TableLemmas.{any-with, any-entry, any-more, begun_by, fires-any, text-same, holds-subset, holds-disjoint, arc-test, exits-at, below-at}
 use Rattle.grammar_machine.proofs.Run.{go-close, go-stuck, close-stuck, go-inj}

@@ -1,5 +1,5 @@
 -- What the tests say, for each state and symbol.
-use Rattle.std.proofs.Common.{◌≡◌, ℕ, zero, suc, ◌+◌, ◌-◌, ◌≤◌, ◌<◌, min, max, Bool, true, false, cond, not, eqb, List, [], ◌∷◌, get_or, bit_and, bit_or, refl, sym, ap, ap₂, subst, ◌⊎◌, inl, inr, true≢false, eqb-true, ltb-false, arith}
+use Rattle.std.proofs.Common.{◌≡◌, ℕ, zero, suc, ◌+◌, ◌-◌, ◌≤◌, ◌<◌, min, Bool, true, false, cond, not, eqb, List, [], ◌∷◌, get_or, bit_or, refl, sym, ap, ap₂, subst, ◌⊎◌, inl, inr, true≢false, eqb-true, ltb-false, arith}
 use Rattle.std.proofs.lemmas.Bool.{eqb-false}
 use Rattle.std.specs.Int.{bit_at}
 use Rattle.std.proofs.lemmas.Nat.Bits.{bit_at_and, bit_at_or, bit_at-lt, bit_at-zero}
@@ -34,41 +34,29 @@ no-cons e = absurd (cc)
 
 pub text-same : (a b : Text) → text_eq a b ≡ true → a ≡ b
 text-same [] [] h = refl
-text-same [] (b ∷ bs) h = absurd (true≢false (sym h))
-text-same (a ∷ x) [] h = absurd (true≢false (sym h))
 text-same (a ∷ x) (b ∷ y) h = ap₂ (λ u v. u ∷ v) (eqb-true a b (and-l _ _ h)) (text-same x y (and-r _ _ h))
+text-same _ _ h = absurd (true≢false (sym h))
 
 pub holds-subset : (a x y : ℕ) → subset x y ≡ true → holds a x ≡ true → holds a y ≡ true
 unfolding holds
 holds-subset a x y s h =
-    let e : bit_and x y ≡ x = eqb-true _ _ s in
-    let f : bit_at x a ≡ 1 = eqb-true _ _ h in
-    let m : bit_at (bit_and x y) a ≡ min (bit_at x a) (bit_at y a) = bit_at_and x y a in
-    let m' : bit_at x a ≡ min (bit_at x a) (bit_at y a) = rw e at m in
-    let l : bit_at y a < 2 = bit_at-lt y a in
-    let k : bit_at y a ≡ 1 = omega arith in
+    let m : bit_at x a ≡ min (bit_at x a) (bit_at y a) = rw (eqb-true _ _ s) at (bit_at_and x y a) in
+    let k : bit_at y a ≡ 1 = omega (arith, bit_at-lt y a, eqb-true _ _ h) in
     rw k refl
 
 pub holds-disjoint : (a x y : ℕ) → disjoint x y ≡ true → holds a x ≡ true → holds a y ≡ false
 unfolding holds
 holds-disjoint a x y s h =
-    let e : bit_and x y ≡ 0 = eqb-true _ _ s in
-    let f : bit_at x a ≡ 1 = eqb-true _ _ h in
-    let m : bit_at (bit_and x y) a ≡ min (bit_at x a) (bit_at y a) = bit_at_and x y a in
-    let z : bit_at (bit_and x y) a ≡ 0 = rw e (bit_at-zero a) in
-    let k : bit_at y a ≡ 0 = omega arith in
+    let m : bit_at 0 a ≡ min (bit_at x a) (bit_at y a) = rw (eqb-true _ _ s) at (bit_at_and x y a) in
+    let k : bit_at y a ≡ 0 = omega (arith, bit_at-zero a, eqb-true _ _ h) in
     rw k refl
 
 pub holds-or : (a x y : ℕ) → (holds a x ≡ true) ⊎ (holds a y ≡ true) → holds a (bit_or x y) ≡ true
 unfolding holds
 holds-or a x y h =
-    let m : bit_at (bit_or x y) a ≡ max (bit_at x a) (bit_at y a) = bit_at_or x y a in
-    let lx : bit_at x a < 2 = bit_at-lt x a in
-    let ly : bit_at y a < 2 = bit_at-lt y a in
-    elim h [
-      | inl p ↦ (let f : bit_at x a ≡ 1 = eqb-true _ _ p in let k : bit_at (bit_or x y) a ≡ 1 = omega arith in rw k refl)
-      | inr p ↦ (let f : bit_at y a ≡ 1 = eqb-true _ _ p in let k : bit_at (bit_or x y) a ≡ 1 = omega arith in rw k refl)
-    ]
+    let one : (bit_at x a ≡ 1) ⊎ (bit_at y a ≡ 1) = elim h [ inl p ↦ inl (eqb-true _ _ p) | inr p ↦ inr (eqb-true _ _ p) ] in
+    let k : bit_at (bit_or x y) a ≡ 1 = omega (arith, bit_at_or x y a, bit_at-lt x a, bit_at-lt y a) in
+    rw k refl
 
 -- Entries: where a test holds of one, and another of each, both hold of one; what follows from a test; where none holds.
 pub any-with : (es : List Entry) (t u : ℕ → ℕ → Bool → Bool) → all_entries es t ≡ true → any_entries es u ≡ true

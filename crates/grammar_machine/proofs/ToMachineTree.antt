@@ -5,23 +5,23 @@ use Rattle.document_grammar.proofs.Words.{all_words, listed-at}
 use Rattle.document_grammar.specs.Tree.{Text, Tree, leaf, node, Forest, none, ◌▸◌, root}
 use Rattle.document_grammar.specs.Pattern.{Pattern, any_of, one, member, Matches}
 use Rattle.document_grammar.specs.Rows.{Row, row_in, children, keyword_operation, bare_selections}
-use Rattle.document_grammar.specs.Kinds.{words, WHITESPACE, ERROR, DOCUMENT, OPERATION_DEFINITION, SELECTION_SET, NAME, FRAGMENT_NAME, DIRECTIVES, VARIABLE, DEFAULT_VALUE, ENUM_VALUE, NAMED_TYPE, LIST_TYPE, NON_NULL_TYPE, OBJECT_TYPE_DEFINITION, INTERFACE_TYPE_DEFINITION, ENUM_TYPE_DEFINITION, INPUT_OBJECT_TYPE_DEFINITION, OBJECT_TYPE_EXTENSION, INTERFACE_TYPE_EXTENSION, ENUM_TYPE_EXTENSION, INPUT_OBJECT_TYPE_EXTENSION, IDENT, STRING, false_KW, null_KW, on_KW, true_KW}
+use Rattle.document_grammar.specs.Kinds.{words, WHITESPACE, ERROR, DOCUMENT, OPERATION_DEFINITION, SELECTION_SET, NAME, FRAGMENT_NAME, DIRECTIVES, VARIABLE, DEFAULT_VALUE, ENUM_VALUE, NAMED_TYPE, LIST_TYPE, NON_NULL_TYPE, IDENT, STRING}
 use Rattle.document_grammar.specs.Choices.{Types}
-use Rattle.grammar_machine.specs.Table.{State, rows, firsts, name_leaves, token_kinds}
+use Rattle.grammar_machine.specs.Table.{rows, firsts, name_leaves, token_kinds}
 use Rattle.grammar_machine.proofs.generated.Samples.{endings, spellings}
 use Rattle.grammar_machine.proofs.generated.Labels.{paths, labels}
 use Rattle.document_grammar.specs.Booleans.{◌and◌, ◌or◌}
-use Rattle.grammar_machine.specs.Machine.{holds, is_leaf, at, ends, exit, arcs, has, has_in, target, target_in, entries, fires, class, word_class, text_eq, token, dead, state_arcs, state_exit, finish, walk, Ok, OkFrom}
-use Rattle.document_grammar.specs.Derivation.{kinds, text, texts, Listed, LeafRule, NameRule, on_text, true_text, false_text, null_text, NoVariable, NoVariables, Marked, ConstantDirectives, ConstantRule, Braced, NoBlock, LacksBlock, StartsWithSelections, NotBefore, BraceRule, IsQuery, Fits, AllFit, BareBy, Sort, document, selections, type, Derivation}
-use Rattle.grammar_machine.proofs.Checks.{every_arc, exits, all_below}
+use Rattle.grammar_machine.specs.Machine.{holds, is_leaf, at, ends, exit, arcs, has, has_in, target, entries, fires, class, word_class, text_eq, token, finish, Ok, OkFrom}
+use Rattle.document_grammar.specs.Derivation.{kinds, text, texts, Listed, LeafRule, NameRule, on_text, true_text, false_text, null_text, NoVariable, NoVariables, Marked, ConstantDirectives, ConstantRule, LacksBlock, StartsWithSelections, NotBefore, BraceRule, IsQuery, Fits, AllFit, BareBy, Sort, document, selections, type, Derivation}
+use Rattle.grammar_machine.proofs.Checks.{every_arc, all_below}
 use Rattle.document_grammar.proofs.Booleans.{false-true, and-l, and-r, or-c, or-l, or-r, or-false, or-false-l, or-false-r, not-c, either, implies, eqb-refl}
-use Rattle.grammar_machine.proofs.TableLemmas.{text-same, exits-at, arc-test, head-same, tail-same, no-cons, below-at}
+use Rattle.grammar_machine.proofs.TableLemmas.{text-same, arc-test, head-same, tail-same, no-cons, below-at}
 use Rattle.grammar_machine.proofs.Endings.{ending, fillable}
 use Rattle.grammar_machine.proofs.Sound.{leaf-lt, fill-after, fill-start, fillable-ok}
-use Rattle.grammar_machine.proofs.Patterns.{deriv, pattern_of, symbol_row, type_row, label, shown, all_kinds, any_arcs, constant, begin_kinds, agree_at, nullable-to, to-deriv, first-kind}
-use Rattle.grammar_machine.proofs.FromMachineTree.{shown-root, show, shows, type_of, show-root, Live, agree, agree-end-from, agree-arc, agree-kind, kinds-at, has-live, ends-live}
+use Rattle.grammar_machine.proofs.Patterns.{deriv, pattern_of, symbol_row, type_row, label, shown, any_arcs, constant, begin_kinds, agree_at, nullable-to, to-deriv, first-kind}
+use Rattle.grammar_machine.proofs.FromMachineTree.{show, shows, type_of, show-root, Live, agree, agree-end-from, agree-arc, agree-kind, has-live, ends-live}
 use Rattle.grammar_machine.proofs.Constants.{type-first, node-document, document-arc, finish-lacks}
-use Rattle.grammar_machine.proofs.Rules.{listed, start-pattern, keyword-class}
+use Rattle.grammar_machine.proofs.Rules.{start-pattern, keyword-class}
 use Rattle.grammar_machine.specs.Symbols.{TYPE, SHORT_QUERY, IDENT_FOR_FRAGMENT, IDENT_FOR_ENUM, NAME_FOR_FRAGMENT, NAME_FOR_ENUM, DIRECTIVES_CONST, OBJECT_FIELD_CONST, BARE_SELECTIONS}
 
 abbrev inconst : ℕ → Bool
@@ -310,7 +310,7 @@ no-variables t f n = n.0
 build-forest : (s q k : ℕ) (t : Tree) (f : Forest) → is_leaf s ≡ false → agree_at s q ≡ true → has s q k ≡ true → member (root t) (shown k) ≡ true
     → Matches (deriv (pattern_of s q) (root t)) (kinds f) → (r : Read k t)
     → (Matches (pattern_of s (target s q (root r.0) + finish r.0)) (kinds f) → agree_at s (target s q (root r.0) + finish r.0) ≡ true
-        → ReadFrom s (target s q (root r.0) + finish r.0) f) → ReadFrom s q (t ▸ f)
+    → ReadFrom s (target s q (root r.0) + finish r.0) f) → ReadFrom s q (t ▸ f)
 build-forest s q k t f l a h m d r rf =
     let hu : has s q (root r.0) ≡ true = subst (λ (n : ℕ). has s q n ≡ true) (sym r.2) h in
     let mu : member (root t) (shown (root r.0)) ≡ true = subst (λ (n : ℕ). member (root t) (shown n) ≡ true) (sym r.2) m in
@@ -446,7 +446,7 @@ document-build q k t f a h m d nb r rf =
     let e : target DOCUMENT q (root r.0) ≡ 1 = ar.1 in
     let l : finish r.0 < 2 = ar.2 in
     let first : target DOCUMENT q (root r.0) + finish r.0 ≡ 2 → FirstNoQuery f = λ w. (
-      let z : finish r.0 ≡ 1 = omega arith in not-before t f nb (subst (λ (y : Tree). LacksBlock y) r.3 (finish-lacks r.0 r.1 ar.0 z))) in
+    let z : finish r.0 ≡ 1 = omega arith in not-before t f nb (subst (λ (y : Tree). LacksBlock y) r.3 (finish-lacks r.0 r.1 ar.0 z))) in
     build-forest DOCUMENT q k t f node-document a h m d r (rf (target DOCUMENT q (root r.0) + finish r.0) (omega arith) first)
 
 dec-query : (t : Tree) → IsQuery t ⊎ (IsQuery t → ⊥)
@@ -560,7 +560,7 @@ pick-node k j f h c rf rd = elim (either (is_leaf k)) [
       | inl d ↦ (let x : k ≡ DOCUMENT = eqb-true k DOCUMENT d in
           let ej : j ≡ DOCUMENT = sym (shown-label j k n c.0) ∙ (ap label x ∙ labels-same.3) in
           node-read k j f l n h c (λ m a y. subst (λ (z : ℕ). ReadFrom z 0 f) (sym x)
-              (rd 0 (omega arith) (λ z. absurd (num 0 2 refl z)) (h.3 ej) (subst (λ (z : ℕ). Matches (pattern_of z 0) (kinds f)) x m) (subst (λ (z : ℕ). agree_at z 0 ≡ true) x a))))
+          (rd 0 (omega arith) (λ z. absurd (num 0 2 refl z)) (h.3 ej) (subst (λ (z : ℕ). Matches (pattern_of z 0) (kinds f)) x m) (subst (λ (z : ℕ). agree_at z 0 ≡ true) x a))))
       | inr d ↦ node-read k j f l n h c (λ m a y. rf k 0 l d m a y)
     ]
   ]

@@ -1,7 +1,7 @@
 -- Every tree that fits the rows is made by the machine.
-use Rattle.std.proofs.Common.{◌≡◌, ℕ, zero, suc, ◌+◌, ◌-◌, Bool, true, false, not, eqb, List, [], ◌∷◌, ◌++◌, get_or, refl, sym, ap, ◌∙◌, subst, ◌⊎◌, inl, inr, true≢false, append_assoc, arith, eqb-true, ltb-true}
+use Rattle.std.proofs.Common.{◌≡◌, ℕ, ◌+◌, ◌-◌, Bool, true, false, not, eqb, List, [], ◌∷◌, ◌++◌, refl, sym, ap, ◌∙◌, subst, ◌⊎◌, inl, inr, true≢false, append_assoc, eqb-true, ltb-true}
 use Rattle.document_grammar.specs.Tree.{Text, Token, Tree, leaf, node, Forest, none, ◌▸◌, root}
-use Rattle.grammar_machine.specs.Table.{State, Entry, entry, rows}
+use Rattle.grammar_machine.specs.Table.{Entry}
 use Rattle.document_grammar.specs.Booleans.{◌and◌, ◌or◌}
 use Rattle.grammar_machine.specs.Machine.{holds, is_leaf, at, ends, exit, arcs, has, target, entries, fires, fires_in, has_in, target_in, choose, go, close, move, class, first, second, token, yield, yields, finish, walk, Ok, OkFrom, Run, RunFrom}
 use Rattle.grammar_machine.proofs.Checks.{subset, disjoint, entries_mask, arcs_mask, follow, exits, all_arcs, all_entries, any_entries, state_begins, follow_test, close_test, clear, differ, choice_arcs, choice_test, covered, first_arc, first_test, leaf_entry, follow_checked, close_checked, choice_checked, first_checked, leaf_checked}
@@ -50,8 +50,8 @@ all-covered : (es fs : List Entry) (s q x a : ℕ) (y z : List Token)
     → TailOk s (q + x) z → starts_in es a y ≡ true → starts_in fs a (y ++ z) ≡ true
 all-covered es fs s q x a y z t o h = any-entry es _ (any-with es _ (λ x y1 alone. holds a x and second_fits alone y1 y) t h) (λ x1 y1 a1 p.
     any-more fs _ (λ x2 y2 a2. holds a x2 and second_fits a2 y2 (y ++ z)) (and-l _ _ p) (λ x2 y2 a2 c.
-        and-i (holds-subset a x1 x2 (and-l _ _ (and-l _ _ c)) (and-l _ _ (and-r _ _ p)))
-        (second-covered s (q + x) y z y1 y2 a1 a2 (and-r _ _ (and-l _ _ c)) (implies a1 _ (and-r _ _ c)) o (and-r _ _ (and-r _ _ p)))))
+    and-i (holds-subset a x1 x2 (and-l _ _ (and-l _ _ c)) (and-l _ _ (and-r _ _ p)))
+    (second-covered s (q + x) y z y1 y2 a1 a2 (and-r _ _ (and-l _ _ c)) (implies a1 _ (and-r _ _ c)) o (and-r _ _ (and-r _ _ p)))))
 
 row-start : (s : ℕ) → is_leaf s ≡ false → all_arcs (arcs s 0) (first_arc s) and not (ends s 0) ≡ true
 unfolding arcs ends

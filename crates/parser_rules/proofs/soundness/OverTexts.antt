@@ -3,7 +3,7 @@ use Rattle.document_grammar.specs.declared.kind.SyntaxKind.{SyntaxKind}
 use Rattle.document_grammar.specs.Numbered.{tree_of}
 use Rattle.document_grammar.specs.Places.{bare}
 use Rattle.grammar_machine.proofs.Starts.{read, next_one, next_two}
-use Rattle.grammar_machine.proofs.Faults.{read-map, two-marks}
+use Rattle.grammar_machine.proofs.SentenceTheorems.{read-map, two-marks, one-sentence}
 use Rattle.std.proofs.Common.{◌≡◌, ℕ, zero, suc, ◌≤◌, length, Bool, true, false, List, [], ◌∷◌, ◌++◌, Option, Some, None, refl, sym, ap, ap₂, ◌∙◌, subst, inl, inr, true≢false, arith, is_some, ◌&&◌, ◌-◌, ◌⊎◌}
 use Rattle.std.specs.Prelude.{map, take}
 use Rattle.std.specs.Str.{IsUtf8}
@@ -19,7 +19,6 @@ use Rattle.document_grammar.specs.Tree.{Token, Tree}
 use Rattle.document_grammar.proofs.Booleans.{and-i, and-l, and-r, either}
 use Rattle.grammar_machine.proofs.Beginnings.{begins-text}
 use Rattle.document_grammar.proofs.Texts.{one-cut, sentence-starts, sentence-starts-within}
-use Rattle.grammar_machine.proofs.SentenceTheorems.{one-sentence}
 use Rattle.parser_rules.specs.Open.{IsRoot}
 use Rattle.parser_rules.specs.Nodes.{Document}
 use Rattle.parser_rules.specs.RuleLanguage.{Call}

@@ -17,8 +17,7 @@ use Rattle.grammar_machine.specs.Machine.{holds as within, is_leaf, at, ends, ex
 use Rattle.document_grammar.proofs.Booleans.{either, false-true, and-l, and-r, or-c, not-c}
 use Rattle.grammar_machine.proofs.TableLemmas.{holds-subset, holds-disjoint}
 use Rattle.grammar_machine.proofs.Checks.{subset, disjoint}
-use Rattle.grammar_machine.proofs.Depth.{count_in, depth_above, nesting_all, left-depth}
-use Rattle.grammar_machine.proofs.Peak.{peak, peak-open, peak-close, peak-shift}
+use Rattle.grammar_machine.proofs.Depth.{count_in, depth_above, nesting_all, left-depth, peak, peak-open, peak-close, peak-shift}
 use Rattle.grammar_machine.proofs.Patterns.{label}
 use Rattle.grammar_machine.proofs.FromMachineTree.{shows}
 use Rattle.grammar_machine.proofs.Sound.{any, first-any, second-any, spent, reach-sound, reach-spent, viable, Whole, move-ends}

@@ -26,10 +26,9 @@ use Rattle.document_grammar.specs.Booleans.{◌and◌, ◌or◌}
 use Rattle.grammar_machine.specs.Machine.{holds as within, is_leaf, class, first, second, frame, yields, Reach, start, close as closes_move, Frame, go, move}
 use Rattle.document_grammar.proofs.Booleans.{false-true, and-l, and-r, either}
 use Rattle.grammar_machine.proofs.TableLemmas.{holds-subset, holds-disjoint}
-use Rattle.grammar_machine.proofs.Depth.{count_in, nest-show, nesting_all}
+use Rattle.grammar_machine.proofs.Depth.{count_in, nest-show, nesting_all, peak, peak-end, peak-start}
 use Rattle.grammar_machine.proofs.SentenceTheorems.{sentence-parse, sound as ended_sound, not-starts, accepts, begins-at}
 use Rattle.grammar_machine.proofs.Patterns.{label}
-use Rattle.grammar_machine.proofs.Peak.{peak, peak-end, peak-start}
 use Rattle.grammar_machine.proofs.Run.{next, reach-other}
 use Rattle.grammar_machine.proofs.FromMachineTree.{show, shows}
 use Rattle.grammar_machine.proofs.Sound.{any, AllSpelt}

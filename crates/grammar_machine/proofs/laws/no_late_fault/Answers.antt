@@ -1,4 +1,4 @@
-use Rattle.grammar_machine.proofs.Faults.{reached-starts}
+use Rattle.grammar_machine.proofs.SentenceTheorems.{reached-starts}
 use Rattle.grammar_machine.proofs.Beginnings.{reached-begins-text}
 use Rattle.grammar_machine.proofs.laws.no_late_fault.Goals as goal
 
