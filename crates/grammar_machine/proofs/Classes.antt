@@ -1,5 +1,5 @@
 -- Sets of classes, and which sets hold a class.
-use Rattle.std.proofs.Common.{◌≡◌, ◌≢◌, ℕ, ◌+◌, ◌-◌, ◌^◌, ◌<◌, min, max, true, false, List, [], ◌∷◌, bit_and, bit_or, refl, inl, inr, arith, eqb-true}
+use Rattle.std.proofs.Common.{◌≡◌, ◌≢◌, ℕ, ◌+◌, ◌-◌, ◌^◌, true, false, List, [], ◌∷◌, bit_and, bit_or, refl, inl, inr, arith, eqb-true}
 use Rattle.std.proofs.lemmas.Bool.{eqb-false}
 use Rattle.std.specs.Int.{bit_at}
 use Rattle.std.proofs.lemmas.Nat.Bits.{bit_at_and, bit_at_or, bit_at-lt}
@@ -17,21 +17,16 @@ only (k ∷ ks) = 2 ^ k + only ks
 abbrev pub but : List ℕ → ℕ
 but ks = any - only ks
 
-max-one : (m a b : ℕ) → m ≡ max a b → m ≡ 1 → a < 2 → b < 2 → a ≢ 1 → b ≡ 1
-max-one m a b e f l k n = omega arith
-
-min-one : (m a b : ℕ) → m ≡ min a b → a ≡ 1 → b ≡ 1 → m ≡ 1
-min-one m a b e f g = omega arith
-
 -- A class that is in two sets is in what they share.
 pub holds-and : (a x y : ℕ) → holds a x ≡ true → holds a y ≡ true → holds a (bit_and x y) ≡ true
 unfolding holds
-holds-and a x y h k = let e : bit_at (bit_and x y) a ≡ 1 = min-one _ _ _ (bit_at_and x y a) (eqb-true _ _ h) (eqb-true _ _ k) in rw e refl
+holds-and a x y h k = let e : bit_at (bit_and x y) a ≡ 1 = omega (arith, bit_at_and x y a, eqb-true _ _ h, eqb-true _ _ k) in rw e refl
 
 -- A class that is in one of two sets and not in the first is in the second.
 pub holds-other : (a x y : ℕ) → holds a (bit_or x y) ≡ true → holds a x ≡ false → holds a y ≡ true
 unfolding holds
-holds-other a x y h k = let e : bit_at y a ≡ 1 = max-one _ (bit_at x a) (bit_at y a) (bit_at_or x y a) (eqb-true _ _ h) (bit_at-lt x a) (bit_at-lt y a) (eqb-false _ _ k) in rw e refl
+holds-other a x y h k =
+    let e : bit_at y a ≡ 1 = omega (arith, bit_at_or x y a, bit_at-lt x a, bit_at-lt y a, eqb-true _ _ h, eqb-false _ _ k) in rw e refl
 
 -- Without the classes of `x`, the set `s` is in `y`.
 pub holds-without : (a s x y : ℕ) → holds a s ≡ true → holds a x ≡ false → subset s (bit_or x y) ≡ true → holds a y ≡ true

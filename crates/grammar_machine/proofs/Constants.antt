@@ -4,7 +4,7 @@ use Rattle.std.proofs.lemmas.Bool.{eqb-false}
 use Rattle.document_grammar.specs.Tree.{Text, Token, Tree, leaf, node, Forest, none, ◌▸◌, root}
 use Rattle.document_grammar.specs.Pattern.{Pattern, member, Matches}
 use Rattle.document_grammar.specs.Rows.{Row, bare_selections}
-use Rattle.document_grammar.specs.Kinds.{DOCUMENT, OPERATION_DEFINITION, SELECTION_SET, FRAGMENT_NAME, DIRECTIVES, VARIABLE, DEFAULT_VALUE, ENUM_VALUE, NAMED_TYPE, LIST_TYPE, NON_NULL_TYPE, OBJECT_TYPE_DEFINITION, FIELDS_DEFINITION, INTERFACE_TYPE_DEFINITION, ENUM_TYPE_DEFINITION, ENUM_VALUES_DEFINITION, INPUT_OBJECT_TYPE_DEFINITION, INPUT_FIELDS_DEFINITION, OBJECT_TYPE_EXTENSION, INTERFACE_TYPE_EXTENSION, ENUM_TYPE_EXTENSION, INPUT_OBJECT_TYPE_EXTENSION, FIELD, FRAGMENT_SPREAD, INLINE_FRAGMENT, FRAGMENT_DEFINITION, ARGUMENTS, ARGUMENT, DIRECTIVE, VARIABLE_DEFINITIONS, VARIABLE_DEFINITION, LIST_VALUE, OBJECT_VALUE, OBJECT_FIELD, BANG, L_CURLY, IDENT, STRING}
+use Rattle.document_grammar.specs.Kinds.{DOCUMENT, OPERATION_DEFINITION, SELECTION_SET, FRAGMENT_NAME, DIRECTIVES, VARIABLE, DEFAULT_VALUE, ENUM_VALUE, NAMED_TYPE, LIST_TYPE, NON_NULL_TYPE, OBJECT_TYPE_DEFINITION, FIELDS_DEFINITION, INTERFACE_TYPE_DEFINITION, ENUM_TYPE_DEFINITION, ENUM_VALUES_DEFINITION, INPUT_OBJECT_TYPE_DEFINITION, INPUT_FIELDS_DEFINITION, OBJECT_TYPE_EXTENSION, INTERFACE_TYPE_EXTENSION, ENUM_TYPE_EXTENSION, INPUT_OBJECT_TYPE_EXTENSION, FIELD, FRAGMENT_SPREAD, INLINE_FRAGMENT, FRAGMENT_DEFINITION, ARGUMENTS, ARGUMENT, DIRECTIVE, VARIABLE_DEFINITIONS, VARIABLE_DEFINITION, LIST_VALUE, OBJECT_VALUE, OBJECT_FIELD, L_CURLY, IDENT, STRING}
 use Rattle.document_grammar.specs.Choices.{Types}
 use Rattle.grammar_machine.specs.Table.{State, rows, firsts, name_leaves}
 use Rattle.grammar_machine.proofs.generated.Labels.{paths, labels}
@@ -13,10 +13,10 @@ use Rattle.grammar_machine.specs.Machine.{holds, is_leaf, at, ends, exit, arcs, 
 use Rattle.document_grammar.specs.Derivation.{kinds, NameRule, NoVariable, NoVariables, Marked, ConstantDirectives, ConstantRule, Braced, NoBlock, LacksBlock, StartsWithSelections, IsQuery, BraceRule, Fits, AllFit, BareBy, Sort, document, selections, type, Derivation, Spells, Yield, Yields}
 use Rattle.grammar_machine.proofs.Checks.{all_arcs, every_state, every_arc, exits, all_below}
 use Rattle.document_grammar.proofs.Booleans.{false-true, and-l, and-r, and-i, or-c, or-r, or-false, or-false-l, or-false-r, or-assoc, or-none, same, same-bool, not-c, either, implies}
-use Rattle.grammar_machine.proofs.TableLemmas.{arcs-at, arc-test, exits-at, state-test, below-at}
+use Rattle.grammar_machine.proofs.TableLemmas.{tail-same, no-cons, arcs-at, arc-test, exits-at, state-test, below-at}
 use Rattle.grammar_machine.proofs.Sound.{leaf-lt}
-use Rattle.grammar_machine.proofs.Patterns.{all_kinds, label, shown, pattern_of, symbol_row}
-use Rattle.grammar_machine.proofs.FromMachineTree.{kinds-at, type-arc, type-child, type-root, type-end, show, shows, build, type_of, row-shown, show-root, shown-root}
+use Rattle.grammar_machine.proofs.Patterns.{all_kinds, label, shown, pattern_of, symbol_row, type_row}
+use Rattle.grammar_machine.proofs.FromMachineTree.{kinds-at, type-arc, type-root, type-end, show, shows, build, type_of, row-shown, show-root, shown-root}
 use Rattle.grammar_machine.proofs.Rules.{label-test, labels-alone, name-rule, leaf-rule, start-pattern, symbol-row}
 use Rattle.grammar_machine.specs.Symbols.{TYPE, SHORT_QUERY, BARE_SELECTIONS}
 
@@ -228,14 +228,6 @@ brace-rule q (t ▸ (u ▸ f)) o = (
 )
 
 -- Types.
-type-arcs-1 : arcs TYPE 1 ≡ (BANG, 2) ∷ []
-unfolding arcs at rows
-type-arcs-1 = refl
-
-type-arcs-2 : arcs TYPE 2 ≡ []
-unfolding arcs at rows
-type-arcs-2 = refl
-
 pub type-target : (k : ℕ) → (k ≡ NAMED_TYPE) ⊎ (k ≡ LIST_TYPE) → target TYPE 0 k ≡ 1
 unfolding target arcs at rows
 type-target k h = elim h [ inl p ↦ rw p refl | inr p ↦ rw p refl ]
@@ -249,45 +241,24 @@ type-first t h o =
     let c = type-arc (root t) h in
     ap₂ (λ (x y : ℕ). x + y) (type-target (root t) c) (eqb-true _ _ (exits-at t (λ x. eqb x 0) (type-exit (root t) c) o))
 
-arc-of : (s q j p k : ℕ) → arcs s q ≡ (j, p) ∷ [] → has s q k ≡ true → k ≡ j
-unfolding has ◌or◌
-arc-of s q j p k e h = elim (or-c (eqb j k) false (rw e at h)) [ inl i ↦ sym (eqb-true j k i) | inr i ↦ absurd (true≢false (sym i)) ]
+pub type-pattern : pattern_of TYPE 0 ≡ type_row
+unfolding pattern_of symbol_row label labels Row paths
+type-pattern = refl
 
-no-arc : {A : Type 0} (s q k : ℕ) → arcs s q ≡ [] → has s q k ≡ true → A
-unfolding has
-no-arc s q k e h = absurd (true≢false (sym (rw e at h)))
-
-type-target-1 : target TYPE 1 BANG ≡ 2
-unfolding target arcs at rows
-type-target-1 = refl
-
-type-row : (a : ℕ) → (a ≡ NAMED_TYPE) ⊎ (a ≡ LIST_TYPE) → Matches (Row NON_NULL_TYPE) (a ∷ BANG ∷ [])
-unfolding Row member
-type-row a h = (a ∷ [], BANG ∷ [], refl, (a, elim h [ inl p ↦ rw p refl | inr p ↦ rw p refl ], refl), (BANG, refl, refl))
-
-label-bang : label BANG ≡ BANG
-unfolding label labels
-label-bang = refl
-
--- The second child of a type is its `!`, and the last.
-type-bang : (u : Tree) → root u ≡ BANG → Ok u → (root (show u) ≡ BANG) × (target TYPE 1 (root u) + finish u ≡ 2)
-unfolding is_leaf
-type-bang (leaf l x) e o = (ap label e ∙ label-bang, rw e (ap (λ (z : ℕ). z + 0) type-target-1))
-type-bang (node s f) e o = false-true (rw e at o.0) refl
-
-type-rest : (u : Tree) (f : Forest) (q : ℕ) → q ≡ 1 → OkFrom TYPE q (u ▸ f) → (root (show u) ≡ BANG) × (f ≡ none)
-type-rest u f q e o =
-    let o' : OkFrom TYPE 1 (u ▸ f) = subst (λ (n : ℕ). OkFrom TYPE n (u ▸ f)) e o in
-    let k : root u ≡ BANG = arc-of TYPE 1 BANG 2 (root u) type-arcs-1 o'.0 in
-    let b = type-bang u k o'.1 in
-    (b.0, last f (subst (λ (n : ℕ). OkFrom TYPE n f) b.1 o'.2))
-  where
-    last : (f : Forest) → OkFrom TYPE 2 f → f ≡ none
-    last none h = refl
-    last (t ▸ f) h = no-arc TYPE 2 (root t) type-arcs-2 h.0
+-- A type of two children and more has the row of NON_NULL_TYPE.
+two-children : (a b : ℕ) (w v : List ℕ) → w ≡ a ∷ b ∷ v → Matches type_row w → Matches (Row NON_NULL_TYPE) w
+unfolding Row
+two-children a b w v e m = elim m.4 [
+  | inl x ↦ (m.0, m.1, m.2, m.3, x)
+  | inr x ↦ no-cons (sym (tail-same (sym e ∙ (m.2 ∙ ap₂ (λ (x y : List ℕ). x ++ y) m.3.2 x))))
+]
 
 no-eq : (a b : ℕ) → eqb a b ≡ false → a ≡ b → ⊥
 no-eq a b h e = eqb-false a b h e
+
+node-type : is_leaf TYPE ≡ false
+unfolding is_leaf
+node-type = refl
 
 rules-non_null_type : (f : Forest) → NameRule NON_NULL_TYPE f × ConstantRule NON_NULL_TYPE f × (◌≡◌ {A = ℕ} NON_NULL_TYPE DOCUMENT → BraceRule f)
 unfolding member
@@ -297,9 +268,8 @@ type-fits : (f : Forest) → OkFrom TYPE 0 f → AllFit (shows f) → Fits (type
 type-fits none o h = false-true type-end o
 type-fits (t ▸ none) o h = h.0
 type-fits (t ▸ (u ▸ f)) o h =
-    let c = type-rest u f (target TYPE 0 (root t) + finish t) (type-first t o.0 o.1) o.2 in
-    let a = type-child t o.1 (type-arc (root t) o.0) in
-    let m : Matches (Row NON_NULL_TYPE) (root (show t) ∷ root (show u) ∷ kinds (shows f)) = subst (λ (z : Forest). Matches (Row NON_NULL_TYPE) (root (show t) ∷ root (show u) ∷ kinds (shows z))) (sym c.1) (subst (λ (n : ℕ). Matches (Row NON_NULL_TYPE) (root (show t) ∷ n ∷ [])) (sym c.0) (type-row (root (show t)) a)) in
+    let s : Matches type_row (kinds (shows (t ▸ (u ▸ f)))) = subst (λ (p : Pattern). Matches p (kinds (shows (t ▸ (u ▸ f))))) type-pattern (row-shown TYPE 0 (t ▸ (u ▸ f)) node-type o) in
+    let m : Matches (Row NON_NULL_TYPE) (kinds (shows (t ▸ (u ▸ f)))) = two-children (root (show t)) (root (show u)) _ _ refl s in
     let r = rules-non_null_type (show t ▸ (show u ▸ shows f)) in
     (m, r.0, r.1, r.2, h)
 

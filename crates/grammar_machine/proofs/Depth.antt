@@ -48,11 +48,8 @@ nested-child s (t ▸ f) x g = let h : count_in s (root x) + nesting x ≤ nesti
 abbrev pub nesting_all : Tree → ℕ
 nesting_all t = count_in DOCUMENT (root t) + nesting t
 
-le-of-eq : (a b : ℕ) → a ≡ b → a ≤ b
-le-of-eq a b e = omega arith
-
 upper-depth : (fs : List Frame) (x : Tree) (r : List Token) (t : Tree) → Upper fs x r t → depth_above fs (root x) + nesting x ≤ nesting_all t
-upper-depth [] x r t h = le-of-eq (nesting_all x) (nesting_all t) (ap nesting_all h.0)
+upper-depth [] x r t h = let e : nesting_all x ≡ nesting_all t = ap nesting_all h.0 in omega arith
 upper-depth (frame s q f ∷ fs) x r t h =
     let a : count_in s (root x) + nesting x ≤ nestings s (f +++ (x ▸ h.0)) = nested-child s f x h.0 in
     let b : depth_above fs s + nestings s (f +++ (x ▸ h.0)) ≤ nesting_all t = upper-depth fs (node s (f +++ (x ▸ h.0))) h.1 t h.4 in

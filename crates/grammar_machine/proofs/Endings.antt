@@ -23,27 +23,18 @@ sample (suc n) k = cond (is_leaf k) (leaf k (spell k)) (node k (plant (λ j. sam
 unfoldable pub ending : ℕ → ℕ → Forest
 ending s q = plant (λ j. sample 7 j) (get_or (get_or endings (s - DOCUMENT) []) q [])
 
+-- Trees that fit the rows, and whose leaves have the texts that are listed for them.
 abbrev mutual
   pub okb : Tree → Bool
-  okb (leaf l x) = is_leaf l and fires l (class (token l x)) 0
+  okb (leaf l x) = is_leaf l and fires l (class (token l x)) 0 and text_eq (spell l) x
   okb (node s f) = not (is_leaf s) and okb_from s 0 f
 
   pub okb_from : ℕ → ℕ → Forest → Bool
   okb_from s q none = ends s q
   okb_from s q (t ▸ f) = has s q (root t) and okb t and okb_from s (target s q (root t) + finish t) f
 
--- Each leaf has the text that is listed for it.
-abbrev mutual
-  pub spelt : Tree → Bool
-  spelt (leaf l x) = text_eq (spell l) x
-  spelt (node s f) = spelt_all f
-
-  pub spelt_all : Forest → Bool
-  spelt_all none = true
-  spelt_all (t ▸ f) = spelt t and spelt_all f
-
 unfoldable pub fillable : ℕ → ℕ → Bool
-fillable s q = okb_from s q (ending s q) and spelt_all (ending s q)
+fillable s q = okb_from s q (ending s q)
 
 abbrev pub fill_test : ℕ → ℕ → ℕ → Bool
 fill_test s k q = (is_leaf k or fillable k 0) and exits k (λ x. fillable s (q + x))

@@ -64,11 +64,7 @@ sound-all sort w t f r h e =
 pub accepts : (sort : Sort) (w r : List Token) (t : Tree) → Spells w t sort → FaultIn sort w r → ⊥
 accepts sort w r t h k = let a = sentence-parse sort w t h in no_fault (start_symbol sort w) (opens sort (first w)) a.0 w r a.1 k
 
--- No late fault: the tokens before the fault begin a sentence, which goes on with listed tokens.
-pub begins : (sort : Sort) (w r : List Token) (k : FaultIn sort w r) → (t : Tree) × (v : List Token) × Spells (k.before ++ v) t sort × AllSpelt v
-begins sort w r k = let h = k.not_late in (show h.0, h.1, parse-sentence sort (first w) (k.before ++ h.1) h.0 h.2 h.3 h.4, h.5)
-
--- The same wherever the machine comes.
+-- No late fault: what the machine has read, wherever it comes, begins a sentence, which goes on with listed tokens.
 pub begins-at : (sort : Sort) (w : List Token) (fs : List Frame) (r : List Token) → Reach (start_symbol sort w) w fs r
     → (b : List Token) × (w ≡ b ++ r) × ((t : Tree) × (v : List Token) × Spells (b ++ v) t sort × AllSpelt v)
 begins-at sort w fs r c =

@@ -13,7 +13,7 @@ use Rattle.document_grammar.proofs.Booleans.{false-true, and-l, and-r, and-i, or
 use Rattle.grammar_machine.proofs.TableLemmas.{any-with, any-entry, any-more, begun_by, fires-any, text-same, holds-subset, holds-disjoint, arc-test, exits-at, below-at}
 use Rattle.grammar_machine.proofs.Run.{go-close, go-stuck, close-stuck, go-inj}
 use Rattle.document_grammar.proofs.Built.{forest-none}
-use Rattle.grammar_machine.proofs.Endings.{ending, okb, okb_from, fillable, fill_test, fill_checked, leaf_test, leaf_classes_checked, word_tests, words_checked, spell, spelt, spelt_all}
+use Rattle.grammar_machine.proofs.Endings.{ending, okb, okb_from, fillable, fill_test, fill_checked, leaf_test, leaf_classes_checked, word_tests, words_checked, spell}
 use Rattle.document_grammar.specs.Kinds.{words, DOCUMENT, IDENT}
 
 -- What a move says of the row.
@@ -189,7 +189,7 @@ mutual
   unfolding ◌and◌
 
   pub okb-ok : (t : Tree) → okb t ≡ true → Ok t
-  okb-ok (leaf l x) h = (and-l _ _ h, and-r _ _ h)
+  okb-ok (leaf l x) h = let c = and-l (is_leaf l and fires l (class (token l x)) 0) (text_eq (spell l) x) h in (and-l _ _ c, and-r (is_leaf l) _ c)
   okb-ok (node s f) h = (not-c _ (and-l (not (is_leaf s)) (okb_from s 0 f) h), okb_from-ok s 0 f (and-r (not (is_leaf s)) (okb_from s 0 f) h))
 
   pub okb_from-ok : (s q : ℕ) (f : Forest) → okb_from s q f ≡ true → OkFrom s q f
@@ -209,7 +209,7 @@ fill-start s q k l h i = elim (or-c _ _ (and-l _ _ (fill-arc s q k l h))) [ inl 
 
 pub fillable-ok : (s q : ℕ) → fillable s q ≡ true → OkFrom s q (ending s q)
 unfolding fillable
-fillable-ok s q h = okb_from-ok s q (ending s q) (and-l _ _ h)
+fillable-ok s q h = okb_from-ok s q (ending s q) h
 
 -- The tokens that are added to complete a sentence: each is a leaf's, with the text listed for it.
 abbrev pub Spelt : Token → Type 0
@@ -224,19 +224,19 @@ all-append [] v h k = k
 all-append (a ∷ u) v h k = (h.0, all-append u v h.1 k)
 
 mutual
-  spelt-yield : (t : Tree) → Ok t → spelt t ≡ true → AllSpelt (yield t)
+  spelt-yield : (t : Tree) → Ok t → okb t ≡ true → AllSpelt (yield t)
   spelt-yield (leaf l x) o h =
-      let e : spell l ≡ x = text-same (spell l) x h in
+      let e : spell l ≡ x = text-same (spell l) x (and-r _ _ h) in
       ((l, subst (λ (y : Text). Ok (leaf l y)) (sym e) o, ap (λ (y : Text). token l y) (sym e)), tt)
-  spelt-yield (node s f) o h = spelt-yields s 0 f o.1 h
+  spelt-yield (node s f) o h = spelt-yields s 0 f o.1 (and-r _ _ h)
 
-  spelt-yields : (s q : ℕ) (f : Forest) → OkFrom s q f → spelt_all f ≡ true → AllSpelt (yields f)
+  spelt-yields : (s q : ℕ) (f : Forest) → OkFrom s q f → okb_from s q f ≡ true → AllSpelt (yields f)
   spelt-yields s q none o h = tt
-  spelt-yields s q (t ▸ f) o h = all-append (yield t) (yields f) (spelt-yield t o.1 (and-l _ _ h)) (spelt-yields s (target s q (root t) + finish t) f o.2 (and-r _ _ h))
+  spelt-yields s q (t ▸ f) o h = all-append (yield t) (yields f) (spelt-yield t o.1 (and-r _ _ (and-l _ _ h))) (spelt-yields s (target s q (root t) + finish t) f o.2 (and-r _ _ h))
 
 fillable-spelt : (s q : ℕ) → fillable s q ≡ true → AllSpelt (yields (ending s q))
 unfolding fillable
-fillable-spelt s q h = spelt-yields s q (ending s q) (okb_from-ok s q (ending s q) (and-l _ _ h)) (and-r _ _ h)
+fillable-spelt s q h = spelt-yields s q (ending s q) (okb_from-ok s q (ending s q) h) h
 
 -- A state on the way is the first, or one after an arc.
 path-fillable : (s p q : ℕ) (f : Forest) → is_leaf s ≡ false → Path s p f q → fillable s p ≡ true → fillable s q ≡ true

@@ -20,7 +20,7 @@ use Rattle.grammar_machine.proofs.Endings.{ending, fillable}
 use Rattle.grammar_machine.proofs.Sound.{leaf-lt, fill-after, fill-start, fillable-ok}
 use Rattle.grammar_machine.proofs.Patterns.{deriv, pattern_of, symbol_row, type_row, label, shown, any_arcs, constant, begin_kinds, agree_at, nullable-to, to-deriv, first-kind}
 use Rattle.grammar_machine.proofs.FromMachineTree.{show, shows, type_of, show-root, Live, agree, agree-end-from, agree-arc, agree-kind, has-live, ends-live}
-use Rattle.grammar_machine.proofs.Constants.{type-first, node-document, document-arc, finish-lacks}
+use Rattle.grammar_machine.proofs.Constants.{type-first, type-pattern, node-document, document-arc, finish-lacks}
 use Rattle.grammar_machine.proofs.Rules.{start-pattern, keyword-class}
 use Rattle.grammar_machine.specs.Symbols.{TYPE, SHORT_QUERY, IDENT_FOR_FRAGMENT, IDENT_FOR_ENUM, NAME_FOR_FRAGMENT, NAME_FOR_ENUM, DIRECTIVES_CONST, OBJECT_FIELD_CONST, BARE_SELECTIONS}
 
@@ -46,17 +46,16 @@ eparent s = eqb s ENUM_VALUE or eqb s NAME_FOR_ENUM
 abbrev NoWord : Text → Type 0
 NoWord y = (y ≢ true_text) × (y ≢ false_text) × (y ≢ null_text)
 
-abbrev AllOn : Forest → Type 0
-AllOn none = Unit {0}
-AllOn (t ▸ f) = (text t ≢ on_text) × AllOn f
+abbrev AllTexts : (Text → Type 0) → Forest → Type 0
+AllTexts P none = Unit {0}
+AllTexts P (t ▸ f) = P (text t) × AllTexts P f
 
-abbrev AllWords : Forest → Type 0
-AllWords none = Unit {0}
-AllWords (t ▸ f) = NoWord (text t) × AllWords f
+abbrev NotOn : Text → Type 0
+NotOn y = y ≢ on_text
 
 -- What the rules say of the children of a node that is read as the symbol `s`, and of a tree that is read as `k`.
 abbrev Kids : ℕ → Forest → Type 0
-Kids s f = (constant s ≡ true → NoVariables f) × (member (label s) Marked ≡ true → ConstantDirectives f) × (fparent s ≡ true → AllOn f) × (eparent s ≡ true → AllWords f)
+Kids s f = (constant s ≡ true → NoVariables f) × (member (label s) Marked ≡ true → ConstantDirectives f) × (fparent s ≡ true → AllTexts NotOn f) × (eparent s ≡ true → AllTexts NoWord f)
 
 abbrev Cond : ℕ → Tree → Type 0
 Cond k t = (member (root t) (shown k) ≡ true) × (inconst k ≡ true → NoVariable t) × (fname k ≡ true → text t ≢ on_text) × (ename k ≡ true → NoWord (text t)) × (k ≡ OPERATION_DEFINITION → IsQuery t → ⊥) × (k ≡ SHORT_QUERY → IsQuery t) × (no_child k ≡ false) × (is_leaf k ≡ false → fillable k 0 ≡ true)
@@ -142,15 +141,10 @@ unfolding asks_nothing plain constant label labels member is_leaf ◌or◌ ◌an
 symbols-checked = (refl, refl, refl, refl, refl, refl, refl, refl, refl, refl, refl, refl)
 
 -- The children's rules, from the node's.
-all-on : (f : Forest) (x : ℕ) → kinds f ≡ x ∷ [] → texts f ≢ on_text → AllOn f
-all-on none x e h = tt
-all-on (t ▸ none) x e h = ((λ i. h (append-nil (text t) ∙ i)), tt)
-all-on (t ▸ (u ▸ f)) x e h = no-cons (sym (tail-same e))
-
-all-words : (f : Forest) (x : ℕ) → kinds f ≡ x ∷ [] → NoWord (texts f) → AllWords f
-all-words none x e h = tt
-all-words (t ▸ none) x e h = (((λ i. h.0 (append-nil (text t) ∙ i)), (λ i. h.1 (append-nil (text t) ∙ i)), (λ i. h.2 (append-nil (text t) ∙ i))), tt)
-all-words (t ▸ (u ▸ f)) x e h = no-cons (sym (tail-same e))
+all-texts : (P : Text → Type 0) (f : Forest) (x : ℕ) → kinds f ≡ x ∷ [] → P (texts f) → AllTexts P f
+all-texts P none x e h = tt
+all-texts P (t ▸ none) x e h = (subst P (append-nil (text t)) h, tt)
+all-texts P (t ▸ (u ▸ f)) x e h = no-cons (sym (tail-same e))
 
 name-pattern : (s : ℕ) → fparent s or eparent s ≡ true → (x : ℕ) × (pattern_of s 0 ≡ any_of (x ∷ []))
 unfolding pattern_of symbol_row label labels Row paths
@@ -174,8 +168,8 @@ unfolding constant
 cond-kids s j f e m n c d = (
   (λ h. elim (or-c _ _ h) [ inl p ↦ c.0 (sym e ∙ label-of s DEFAULT_VALUE p labels-same.0) | inr p ↦ (d.1 p).1 ]),
   (λ h. c.1 (rw e at h)),
-  (λ h. let k = one-kind s f (or-l _ _ h) m in all-on f k.0 k.1 (elim (or-c _ _ h) [ inl p ↦ n.0 (sym e ∙ label-of s FRAGMENT_NAME p labels-same.1) | inr p ↦ d.2 (or-l _ _ p) ])),
-  (λ h. let k = one-kind s f (or-r _ _ h) m in all-words f k.0 k.1 (elim (or-c _ _ h) [ inl p ↦ n.1 (sym e ∙ label-of s ENUM_VALUE p labels-same.2) | inr p ↦ d.3 (or-l _ _ p) ])),
+  (λ h. let k = one-kind s f (or-l _ _ h) m in all-texts NotOn f k.0 k.1 (elim (or-c _ _ h) [ inl p ↦ n.0 (sym e ∙ label-of s FRAGMENT_NAME p labels-same.1) | inr p ↦ d.2 (or-l _ _ p) ])),
+  (λ h. let k = one-kind s f (or-r _ _ h) m in all-texts NoWord f k.0 k.1 (elim (or-c _ _ h) [ inl p ↦ n.1 (sym e ∙ label-of s ENUM_VALUE p labels-same.2) | inr p ↦ d.3 (or-l _ _ p) ])),
 )
 
 -- Leaves.
@@ -490,10 +484,6 @@ type-two (t ▸ (u ▸ f)) a b e = refl
 node-symbols : (is_leaf TYPE ≡ false) × (is_leaf BARE_SELECTIONS ≡ false) × (label BARE_SELECTIONS ≡ SELECTION_SET)
 unfolding is_leaf label labels
 node-symbols = (refl, refl, refl)
-
-type-pattern : pattern_of TYPE 0 ≡ type_row
-unfolding pattern_of symbol_row label labels Row paths
-type-pattern = refl
 
 row-non_null_type : (w : List ℕ) → Matches (Row NON_NULL_TYPE) w → (Matches type_row w) × ((a : ℕ) × (b : ℕ) × (w ≡ a ∷ b ∷ []))
 unfolding Row
