@@ -16,7 +16,7 @@ use Rattle.document_grammar.proofs.Booleans.{false-true, and-l, and-r, and-i, or
 use Rattle.grammar_machine.proofs.TableLemmas.{tail-same, no-cons, arcs-at, arc-test, exits-at, state-test, below-at}
 use Rattle.grammar_machine.proofs.Sound.{leaf-lt}
 use Rattle.grammar_machine.proofs.Patterns.{all_kinds, label, shown, pattern_of, symbol_row, type_row}
-use Rattle.grammar_machine.proofs.FromMachineTree.{kinds-at, type-arc, type-root, type-end, show, shows, build, type_of, row-shown, show-root, shown-root}
+use Rattle.grammar_machine.proofs.FromMachineTree.{kinds-at, type-arc, type-root, type-end, show, shows, build, type_of, row-shown, show-root, shown-root, node-symbols, labels-checked}
 use Rattle.grammar_machine.proofs.Rules.{label-test, labels-alone, name-rule, leaf-rule, start-pattern, symbol-row}
 use Rattle.grammar_machine.specs.Symbols.{TYPE, SHORT_QUERY, BARE_SELECTIONS}
 
@@ -172,14 +172,10 @@ document-checked : every_arc document_test ≡ true
 unfolding ◌and◌ ◌or◌ rows exits is_leaf
 document-checked = refl
 
-pub node-document : is_leaf DOCUMENT ≡ false
-unfolding is_leaf
-node-document = refl
-
 pub document-arc : (q : ℕ) (u : Tree) → has DOCUMENT q (root u) ≡ true → Ok u
     → (eqb (root u) TYPE ≡ false) × (target DOCUMENT q (root u) ≡ 1) × (finish u < 2)
 document-arc q u h o =
-    let c = implies _ _ (arc-test document_test document-checked DOCUMENT q (root u) node-document h) refl in
+    let c = implies _ _ (arc-test document_test document-checked DOCUMENT q (root u) node-symbols.0 h) refl in
     (not-c _ (and-l _ _ (and-l _ _ c)), eqb-true _ _ (and-r _ _ (and-l _ _ c)), ltb-true _ _ (exits-at u (λ x. ltb x 2) (and-r _ _ c) o))
 
 query-symbols : (s : ℕ) → label s ≡ OPERATION_DEFINITION → (s ≡ OPERATION_DEFINITION) ⊎ (s ≡ SHORT_QUERY)
@@ -253,22 +249,15 @@ two-children a b w v e m = elim m.4 [
   | inr x ↦ no-cons (sym (tail-same (sym e ∙ (m.2 ∙ ap₂ (λ (x y : List ℕ). x ++ y) m.3.2 x))))
 ]
 
-no-eq : (a b : ℕ) → eqb a b ≡ false → a ≡ b → ⊥
-no-eq a b h e = eqb-false a b h e
-
-node-type : is_leaf TYPE ≡ false
-unfolding is_leaf
-node-type = refl
-
 rules-non_null_type : (f : Forest) → NameRule NON_NULL_TYPE f × ConstantRule NON_NULL_TYPE f × (◌≡◌ {A = ℕ} NON_NULL_TYPE DOCUMENT → BraceRule f)
 unfolding member
-rules-non_null_type f = (((λ e. absurd (no-eq NON_NULL_TYPE FRAGMENT_NAME refl e)), (λ e. absurd (no-eq NON_NULL_TYPE ENUM_VALUE refl e))), ((λ e. absurd (no-eq NON_NULL_TYPE DEFAULT_VALUE refl e)), (λ e. absurd (true≢false (sym e)))), (λ e. absurd (no-eq NON_NULL_TYPE DOCUMENT refl e)))
+rules-non_null_type f = (((λ e. absurd (eqb-false NON_NULL_TYPE FRAGMENT_NAME refl e)), (λ e. absurd (eqb-false NON_NULL_TYPE ENUM_VALUE refl e))), ((λ e. absurd (eqb-false NON_NULL_TYPE DEFAULT_VALUE refl e)), (λ e. absurd (true≢false (sym e)))), (λ e. absurd (eqb-false NON_NULL_TYPE DOCUMENT refl e)))
 
 type-fits : (f : Forest) → OkFrom TYPE 0 f → AllFit (shows f) → Fits (type_of (shows f))
 type-fits none o h = false-true type-end o
 type-fits (t ▸ none) o h = h.0
 type-fits (t ▸ (u ▸ f)) o h =
-    let s : Matches type_row (kinds (shows (t ▸ (u ▸ f)))) = subst (λ (p : Pattern). Matches p (kinds (shows (t ▸ (u ▸ f))))) type-pattern (row-shown TYPE 0 (t ▸ (u ▸ f)) node-type o) in
+    let s : Matches type_row (kinds (shows (t ▸ (u ▸ f)))) = subst (λ (p : Pattern). Matches p (kinds (shows (t ▸ (u ▸ f))))) type-pattern (row-shown TYPE 0 (t ▸ (u ▸ f)) node-symbols.3 o) in
     let m : Matches (Row NON_NULL_TYPE) (kinds (shows (t ▸ (u ▸ f)))) = two-children (root (show t)) (root (show u)) _ _ refl s in
     let r = rules-non_null_type (show t ▸ (show u ▸ shows f)) in
     (m, r.0, r.1, r.2, h)
@@ -336,15 +325,11 @@ mutual
   shows-yields s q (t ▸ f) o = ap₂ (λ (x y : List Token). x ++ y) (show-yield t o.1) (shows-yields s (target s q (root t) + finish t) f o.2)
 
 -- A parse is shown as a derivation of its sort.
-label-roots : (label DOCUMENT ≡ DOCUMENT) × (label SELECTION_SET ≡ SELECTION_SET) × (label BARE_SELECTIONS ≡ SELECTION_SET)
-unfolding label labels
-label-roots = (refl, refl, refl)
-
 root-shown : (s : ℕ) (t : Tree) → is_leaf s ≡ false → eqb s TYPE ≡ false → Ok t → root t ≡ s → root (show t) ≡ label s
 root-shown s (leaf l x) i n o e = false-true i (rw e at o.0)
 root-shown s (node k f) i n o e = ap root (show-root k f (rw (← e) at n)) ∙ ap label e
 
-bare-pattern : pattern_of BARE_SELECTIONS 0 ≡ bare_selections
+pub bare-pattern : pattern_of BARE_SELECTIONS 0 ≡ bare_selections
 unfolding pattern_of symbol_row label labels Row paths
 bare-pattern = refl
 
@@ -366,15 +351,11 @@ unfolding is_leaf
 type-shown (leaf l x) o e = false-true refl (rw e at o.0)
 type-shown (node s f) o e = subst (λ (n : ℕ). member (root (build n (shows f))) Types ≡ true) (sym e) (type-member f (subst (λ (n : ℕ). OkFrom n 0 f) e o.1))
 
-nodes-at_roots : (is_leaf DOCUMENT ≡ false) × (is_leaf SELECTION_SET ≡ false) × (is_leaf BARE_SELECTIONS ≡ false)
-unfolding is_leaf
-nodes-at_roots = (refl, refl, refl)
-
 pub ok-derivation : (sort : Sort) (a : ℕ) (t : Tree) → Ok t → root t ≡ opening sort a → Derivation (show t) sort
-ok-derivation document a t o e = (root-shown DOCUMENT t nodes-at_roots.0 refl o e ∙ label-roots.0, ok-fits t o (rw e refl))
+ok-derivation document a t o e = (root-shown DOCUMENT t node-symbols.0 refl o e ∙ labels-checked.3, ok-fits t o (rw e refl))
 ok-derivation selections a t o e = elim (either (eqb a L_CURLY)) [
-  | inl p ↦ (let e' : root t ≡ SELECTION_SET = rw p at e in (root-shown SELECTION_SET t nodes-at_roots.1 refl o e' ∙ label-roots.1, inl (ok-fits t o (rw e' refl))))
-  | inr p ↦ (let e' : root t ≡ BARE_SELECTIONS = rw p at e in (root-shown BARE_SELECTIONS t nodes-at_roots.2 refl o e' ∙ label-roots.2, inr (bare-fits t o e')))
+  | inl p ↦ (let e' : root t ≡ SELECTION_SET = rw p at e in (root-shown SELECTION_SET t node-symbols.1 refl o e' ∙ labels-checked.4, inl (ok-fits t o (rw e' refl))))
+  | inr p ↦ (let e' : root t ≡ BARE_SELECTIONS = rw p at e in (root-shown BARE_SELECTIONS t node-symbols.2 refl o e' ∙ labels-checked.5, inr (bare-fits t o e')))
 ]
 ok-derivation type a t o e = (type-shown t o e, ok-fits t o (rw e refl))
 

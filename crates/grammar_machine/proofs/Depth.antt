@@ -9,7 +9,7 @@ use Rattle.document_grammar.specs.Derivation.{nest, below, belows, counts}
 use Rattle.grammar_machine.proofs.Run.{Left, Upper}
 use Rattle.grammar_machine.proofs.generated.Labels.{labels}
 use Rattle.grammar_machine.proofs.Patterns.{label}
-use Rattle.grammar_machine.proofs.FromMachineTree.{show, shows, type_of, show-root, type-child, type-arc}
+use Rattle.grammar_machine.proofs.FromMachineTree.{show, shows, type_of, show-root, type-child, type-arc, labels-checked}
 use Rattle.grammar_machine.specs.Symbols.{TYPE}
 use Rattle.document_grammar.specs.Booleans.{◌and◌}
 use Rattle.document_grammar.specs.Choices.{Values}
@@ -78,10 +78,6 @@ unfolding member
 below-non_null_type none = refl
 below-non_null_type (t ▸ f) = ap (λ (n : ℕ). max (counts NAMED_TYPE (root t) + below t) n) (below-non_null_type f)
 
-label-type : label TYPE ≡ NAMED_TYPE
-unfolding label labels
-label-type = refl
-
 -- A child's part, under a parent of the kind `j`.
 abbrev pub Part : ℕ → Tree → Type 0
 Part j t = weight j (root (show t)) + below (show t) ≡ weight j (label (root t)) + nesting t
@@ -107,7 +103,7 @@ part-node j s f o h = elim (either (eqb s TYPE)) [
 ]
   where
     at-type : OkFrom TYPE 0 f → belows (label TYPE) (shows f) ≡ nestings TYPE f → Part j (node TYPE f)
-    at-type o' h' = type-part j f o' (rw label-type at h') ∙ ap (λ (n : ℕ). weight j n + nestings TYPE f) (sym label-type)
+    at-type o' h' = type-part j f o' (rw labels-checked.2 at h') ∙ ap (λ (n : ℕ). weight j n + nestings TYPE f) (sym labels-checked.2)
 
 mutual
   unfolding weight

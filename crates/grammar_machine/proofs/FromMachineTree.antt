@@ -11,8 +11,8 @@ use Rattle.grammar_machine.proofs.Checks.{exits}
 use Rattle.document_grammar.proofs.Booleans.{false-true, and-l, and-r, or-c, or-l, or-r, implies, either, eqb-refl}
 use Rattle.grammar_machine.proofs.TableLemmas.{arcs-at, exits-at, state-test}
 use Rattle.grammar_machine.proofs.Patterns.{nullable, deriv, kinds_eq, pattern_eq, pattern_of, label, shown, all_kinds, any_arcs, constant, begin_kinds, no_arc, is_live, agree_at, agree_checked, nullable-from, from-deriv}
-use Rattle.document_grammar.specs.Kinds.{VARIABLE, NAMED_TYPE, LIST_TYPE, NON_NULL_TYPE}
-use Rattle.grammar_machine.specs.Symbols.{TYPE}
+use Rattle.document_grammar.specs.Kinds.{VARIABLE, NAMED_TYPE, LIST_TYPE, NON_NULL_TYPE, DOCUMENT, SELECTION_SET, DEFAULT_VALUE, FRAGMENT_NAME, ENUM_VALUE}
+use Rattle.grammar_machine.specs.Symbols.{TYPE, BARE_SELECTIONS}
 
 -- A type's node stands for its child, or with `!` for a NON_NULL_TYPE.
 abbrev pub type_of : Forest → Tree
@@ -55,7 +55,7 @@ unfolding ◌or◌
 agree s q l v = implies _ _ (state-test (λ s q v. not (is_live v) or agree_at s q) agree_checked (λ s q. refl) s q l) v
 
 -- The rows.
-leaf-no-type : (l : ℕ) → is_leaf l ≡ true → eqb l TYPE ≡ false
+pub leaf-no-type : (l : ℕ) → is_leaf l ≡ true → eqb l TYPE ≡ false
 unfolding is_leaf
 leaf-no-type l h = elim (either (eqb l TYPE)) [ inl p ↦ false-true refl (rw (eqb-true l TYPE p) at h) | inr p ↦ p ]
 
@@ -73,13 +73,16 @@ type-end = refl
 pub show-root : (s : ℕ) (f : Forest) → eqb s TYPE ≡ false → show (node s f) ≡ node (label s) (shows f)
 show-root s f e = rw e refl
 
-label-named_type : label NAMED_TYPE ≡ NAMED_TYPE
-unfolding label labels
-label-named_type = refl
+-- Symbols that are nodes, and what some symbols are shown as.
+pub node-symbols : (is_leaf DOCUMENT ≡ false) × (is_leaf SELECTION_SET ≡ false) × (is_leaf BARE_SELECTIONS ≡ false) × (is_leaf TYPE ≡ false)
+unfolding is_leaf
+node-symbols = (refl, refl, refl, refl)
 
-label-list_type : label LIST_TYPE ≡ LIST_TYPE
+pub labels-checked : (label NAMED_TYPE ≡ NAMED_TYPE) × (label LIST_TYPE ≡ LIST_TYPE) × (label TYPE ≡ NAMED_TYPE) × (label DOCUMENT ≡ DOCUMENT)
+    × (label SELECTION_SET ≡ SELECTION_SET) × (label BARE_SELECTIONS ≡ SELECTION_SET) × (label DEFAULT_VALUE ≡ DEFAULT_VALUE)
+    × (label FRAGMENT_NAME ≡ FRAGMENT_NAME) × (label ENUM_VALUE ≡ ENUM_VALUE)
 unfolding label labels
-label-list_type = refl
+labels-checked = (refl, refl, refl, refl, refl, refl, refl, refl, refl)
 
 pub shown-one : (k : ℕ) → eqb k TYPE ≡ false → member (label k) (shown k) ≡ true
 unfolding shown member
@@ -93,8 +96,8 @@ pub type-child : (t : Tree) → Ok t → (root t ≡ NAMED_TYPE) ⊎ (root t ≡
 unfolding is_leaf
 type-child (leaf l x) o h = elim h [ inl p ↦ false-true refl (rw p at o.0) | inr p ↦ false-true refl (rw p at o.0) ]
 type-child (node s f) o h = elim h [
-  | inl p ↦ inl (subst (λ (n : ℕ). root (build n (shows f)) ≡ NAMED_TYPE) (sym p) label-named_type)
-  | inr p ↦ inr (subst (λ (n : ℕ). root (build n (shows f)) ≡ LIST_TYPE) (sym p) label-list_type)
+  | inl p ↦ inl (subst (λ (n : ℕ). root (build n (shows f)) ≡ NAMED_TYPE) (sym p) labels-checked.0)
+  | inr p ↦ inr (subst (λ (n : ℕ). root (build n (shows f)) ≡ LIST_TYPE) (sym p) labels-checked.1)
 ]
 
 pub type-root : (f : Forest) → OkFrom TYPE 0 f

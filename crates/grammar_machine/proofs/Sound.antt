@@ -185,19 +185,6 @@ reach-spent (closed {s = s} {q = q} {k = k} {p = p} {f = f} {g = g} {fs = fs} {r
     reach-spent c ∙ (append_assoc (spent fs ++ yields f) (yields g) r ∙ sym (snoc-spent fs f (node k g) r))
 
 -- Completion.
-mutual
-  unfolding ◌and◌
-
-  pub okb-ok : (t : Tree) → okb t ≡ true → Ok t
-  okb-ok (leaf l x) h = let c = and-l (is_leaf l and fires l (class (token l x)) 0) (text_eq (spell l) x) h in (and-l _ _ c, and-r (is_leaf l) _ c)
-  okb-ok (node s f) h = (not-c _ (and-l (not (is_leaf s)) (okb_from s 0 f) h), okb_from-ok s 0 f (and-r (not (is_leaf s)) (okb_from s 0 f) h))
-
-  pub okb_from-ok : (s q : ℕ) (f : Forest) → okb_from s q f ≡ true → OkFrom s q f
-  okb_from-ok s q none h = h
-  okb_from-ok s q (t ▸ f) h =
-      let l = and-l (has s q (root t) and okb t) (okb_from s (target s q (root t) + finish t) f) h in
-      (and-l (has s q (root t)) (okb t) l, okb-ok t (and-r (has s q (root t)) (okb t) l), okb_from-ok s (target s q (root t) + finish t) f (and-r (has s q (root t) and okb t) (okb_from s (target s q (root t) + finish t) f) h))
-
 fill-arc : (s q k : ℕ) → is_leaf s ≡ false → has s q k ≡ true → (is_leaf k or fillable k 0) and exits k (λ x. fillable s (target s q k + x)) ≡ true
 fill-arc = arc-test fill_test fill_checked
 
@@ -206,10 +193,6 @@ fill-after s q t l h o = exits-at t (λ x. fillable s (target s q (root t) + x))
 
 pub fill-start : (s q k : ℕ) → is_leaf s ≡ false → has s q k ≡ true → is_leaf k ≡ false → fillable k 0 ≡ true
 fill-start s q k l h i = elim (or-c _ _ (and-l _ _ (fill-arc s q k l h))) [ inl p ↦ false-true i p | inr p ↦ p ]
-
-pub fillable-ok : (s q : ℕ) → fillable s q ≡ true → OkFrom s q (ending s q)
-unfolding fillable
-fillable-ok s q h = okb_from-ok s q (ending s q) h
 
 -- The tokens that are added to complete a sentence: each is a leaf's, with the text listed for it.
 abbrev pub Spelt : Token → Type 0
@@ -224,19 +207,29 @@ all-append [] v h k = k
 all-append (a ∷ u) v h k = (h.0, all-append u v h.1 k)
 
 mutual
-  spelt-yield : (t : Tree) → Ok t → okb t ≡ true → AllSpelt (yield t)
-  spelt-yield (leaf l x) o h =
+  okb-good : (t : Tree) → okb t ≡ true → Ok t × AllSpelt (yield t)
+  okb-good (leaf l x) h =
+      let c = and-l _ _ h in
+      let o : Ok (leaf l x) = (and-l _ _ c, and-r _ _ c) in
       let e : spell l ≡ x = text-same (spell l) x (and-r _ _ h) in
-      ((l, subst (λ (y : Text). Ok (leaf l y)) (sym e) o, ap (λ (y : Text). token l y) (sym e)), tt)
-  spelt-yield (node s f) o h = spelt-yields s 0 f o.1 (and-r _ _ h)
+      (o, ((l, subst (λ (y : Text). Ok (leaf l y)) (sym e) o, ap (λ (y : Text). token l y) (sym e)), tt))
+  okb-good (node s f) h = let r = okb_from-good s 0 f (and-r _ _ h) in ((not-c _ (and-l _ _ h), r.0), r.1)
 
-  spelt-yields : (s q : ℕ) (f : Forest) → OkFrom s q f → okb_from s q f ≡ true → AllSpelt (yields f)
-  spelt-yields s q none o h = tt
-  spelt-yields s q (t ▸ f) o h = all-append (yield t) (yields f) (spelt-yield t o.1 (and-r _ _ (and-l _ _ h))) (spelt-yields s (target s q (root t) + finish t) f o.2 (and-r _ _ h))
+  okb_from-good : (s q : ℕ) (f : Forest) → okb_from s q f ≡ true → OkFrom s q f × AllSpelt (yields f)
+  okb_from-good s q none h = (h, tt)
+  okb_from-good s q (t ▸ f) h =
+      let c = and-l _ _ h in
+      let a = okb-good t (and-r _ _ c) in
+      let b = okb_from-good s (target s q (root t) + finish t) f (and-r _ _ h) in
+      ((and-l _ _ c, a.0, b.0), all-append (yield t) (yields f) a.1 b.1)
+
+pub fillable-ok : (s q : ℕ) → fillable s q ≡ true → OkFrom s q (ending s q)
+unfolding fillable
+fillable-ok s q h = (okb_from-good s q (ending s q) h).0
 
 fillable-spelt : (s q : ℕ) → fillable s q ≡ true → AllSpelt (yields (ending s q))
 unfolding fillable
-fillable-spelt s q h = spelt-yields s q (ending s q) (okb_from-ok s q (ending s q) h) h
+fillable-spelt s q h = (okb_from-good s q (ending s q) h).1
 
 -- A state on the way is the first, or one after an arc.
 path-fillable : (s p q : ℕ) (f : Forest) → is_leaf s ≡ false → Path s p f q → fillable s p ≡ true → fillable s q ≡ true

@@ -1,11 +1,11 @@
 -- Lists of marks, and the start symbol that the first token chooses.
-use Rattle.std.proofs.Common.{◌≡◌, ℕ, true, false, eqb, List, [], ◌∷◌, ◌++◌, refl, sym, ap, ap₂, subst, inl, inr, eqb-true}
+use Rattle.std.proofs.Common.{◌≡◌, ℕ, true, false, eqb, List, [], ◌∷◌, ◌++◌, refl, ap₂, subst, inl, inr, eqb-true}
 use Rattle.std.proofs.lemmas.Bool.{eqb-false}
 use Rattle.document_grammar.specs.Tree.{Token, Tree, none}
 use Rattle.grammar_machine.specs.Table.{rows, firsts}
 use Rattle.document_grammar.specs.Derivation.{Sort, document, selections, type, Mark, word, end, marks}
 use Rattle.document_grammar.specs.Booleans.{◌and◌, ◌or◌}
-use Rattle.grammar_machine.specs.Machine.{holds, is_leaf, at, ends, arcs, entries, class, first, second, opening, start}
+use Rattle.grammar_machine.specs.Machine.{holds, is_leaf, at, ends, arcs, entries, first, second, opening, start}
 use Rattle.document_grammar.proofs.Booleans.{either}
 use Rattle.grammar_machine.proofs.TableLemmas.{tail-same}
 use Rattle.grammar_machine.proofs.Sound.{any, first-any, second-any}
@@ -68,39 +68,25 @@ abbrev pub next_one : List Token → List Mark
 next_one [] = end ∷ []
 next_one (a ∷ r) = word a ∷ []
 
-no-end : {A : Type 0} {a : Token} {v w : List Mark} → end ∷ v ≡ word a ∷ w → A
-no-end e = absurd (cc)
-
-no-word : {A : Type 0} {a : Token} {v w : List Mark} → word a ∷ v ≡ end ∷ w → A
-no-word e = absurd (cc)
-
-head-mark : {a b : Token} {v w : List Mark} → word a ∷ v ≡ word b ∷ w → a ≡ b
-head-mark e = cc
-
 two-from : (r w : List Token) (v : List Mark) → marks w ≡ next_two r ++ v → (first r ≡ first w) × (second r ≡ second w)
 unfolding first second
 two-from [] [] v e = (refl, refl)
-two-from [] (c ∷ w) v e = no-word e
-two-from (a ∷ []) [] v e = no-end e
-two-from (a ∷ []) (c ∷ []) v e = (ap class (sym (head-mark e)), refl)
-two-from (a ∷ []) (c ∷ (d ∷ w)) v e = no-word (tail-same e)
-two-from (a ∷ (b ∷ r)) [] v e = no-end e
-two-from (a ∷ (b ∷ r)) (c ∷ []) v e = no-end (tail-same e)
-two-from (a ∷ (b ∷ r)) (c ∷ (d ∷ w)) v e = (ap class (sym (head-mark e)), ap class (sym (head-mark (tail-same e))))
+two-from (a ∷ []) (c ∷ []) v e = (cc, refl)
+two-from (a ∷ (b ∷ r)) (c ∷ (d ∷ w)) v e = (cc, cc)
+two-from _ _ v e = absurd (cc)
 
 one-from : (r w : List Token) (v : List Mark) → marks w ≡ next_one r ++ v → first r ≡ first w
 unfolding first
 one-from [] [] v e = refl
-one-from [] (c ∷ w) v e = no-word e
-one-from (a ∷ r) [] v e = no-end e
-one-from (a ∷ r) (c ∷ w) v e = ap class (sym (head-mark e))
+one-from (a ∷ r) (c ∷ w) v e = cc
+one-from _ _ v e = absurd (cc)
 
 -- What begins with the tokens read goes on with the rest.
 pub after-read : (b : List Token) (l : List Mark) (w : List Token) (v : List Mark) → marks w ≡ (read b ++ l) ++ v
     → (u : List Token) × (w ≡ b ++ u) × (marks u ≡ l ++ v)
 after-read [] l w v e = (w, refl, e)
-after-read (a ∷ b) l [] v e = no-end e
-after-read (a ∷ b) l (c ∷ w) v e = let r = after-read b l w v (tail-same e) in (r.0, ap₂ (λ (x : Token) (y : List Token). x ∷ y) (head-mark e) r.1, r.2)
+after-read (a ∷ b) l [] v e = absurd (cc)
+after-read (a ∷ b) l (c ∷ w) v e = let r = after-read b l w v (tail-same e) in let h : c ≡ a = cc in (r.0, ap₂ (λ (x : Token) (y : List Token). x ∷ y) h r.1, r.2)
 
 pub after-two : (b r w : List Token) (v : List Mark) → marks w ≡ (read b ++ next_two r) ++ v
     → (u : List Token) × (w ≡ b ++ u) × (first r ≡ first u) × (second r ≡ second u)

@@ -4,7 +4,7 @@ use Rattle.std.proofs.lemmas.Bool.{eqb-false}
 use Rattle.document_grammar.proofs.Words.{all_words, listed-at}
 use Rattle.document_grammar.specs.Tree.{Text, Tree, leaf, node, Forest, none, ◌▸◌, root}
 use Rattle.document_grammar.specs.Pattern.{Pattern, any_of, one, member, Matches}
-use Rattle.document_grammar.specs.Rows.{Row, row_in, children, keyword_operation, bare_selections}
+use Rattle.document_grammar.specs.Rows.{Row, row_in, children, keyword_operation}
 use Rattle.document_grammar.specs.Kinds.{words, WHITESPACE, ERROR, DOCUMENT, OPERATION_DEFINITION, SELECTION_SET, NAME, FRAGMENT_NAME, DIRECTIVES, VARIABLE, DEFAULT_VALUE, ENUM_VALUE, NAMED_TYPE, LIST_TYPE, NON_NULL_TYPE, IDENT, STRING}
 use Rattle.document_grammar.specs.Choices.{Types}
 use Rattle.grammar_machine.specs.Table.{rows, firsts, name_leaves, token_kinds}
@@ -19,10 +19,10 @@ use Rattle.grammar_machine.proofs.TableLemmas.{text-same, arc-test, head-same, t
 use Rattle.grammar_machine.proofs.Endings.{ending, fillable}
 use Rattle.grammar_machine.proofs.Sound.{leaf-lt, fill-after, fill-start, fillable-ok}
 use Rattle.grammar_machine.proofs.Patterns.{deriv, pattern_of, symbol_row, type_row, label, shown, any_arcs, constant, begin_kinds, agree_at, nullable-to, to-deriv, first-kind}
-use Rattle.grammar_machine.proofs.FromMachineTree.{show, shows, type_of, show-root, Live, agree, agree-end-from, agree-arc, agree-kind, has-live, ends-live}
-use Rattle.grammar_machine.proofs.Constants.{type-first, type-pattern, node-document, document-arc, finish-lacks}
+use Rattle.grammar_machine.proofs.FromMachineTree.{show, shows, type_of, show-root, Live, agree, agree-end-from, agree-arc, agree-kind, has-live, ends-live, leaf-no-type, node-symbols, labels-checked}
+use Rattle.grammar_machine.proofs.Constants.{type-first, type-pattern, bare-pattern, document-arc, finish-lacks}
 use Rattle.grammar_machine.proofs.Rules.{start-pattern, keyword-class}
-use Rattle.grammar_machine.specs.Symbols.{TYPE, SHORT_QUERY, IDENT_FOR_FRAGMENT, IDENT_FOR_ENUM, NAME_FOR_FRAGMENT, NAME_FOR_ENUM, DIRECTIVES_CONST, OBJECT_FIELD_CONST, BARE_SELECTIONS}
+use Rattle.grammar_machine.specs.Symbols.{TYPE, SHORT_QUERY, IDENT_FOR_FRAGMENT, IDENT_FOR_ENUM, NAME_FOR_FRAGMENT, NAME_FOR_ENUM, BARE_SELECTIONS, DIRECTIVES_CONST, OBJECT_FIELD_CONST}
 
 abbrev inconst : ℕ → Bool
 inconst k = ltb NAME_FOR_ENUM k and ltb k BARE_SELECTIONS
@@ -99,9 +99,6 @@ kids-cond s q k t f l n h m d =
     let no : (eqb k OPERATION_DEFINITION or eqb k SHORT_QUERY) ≡ true → ⊥ = λ e. true≢false (sym (sym n ∙ implies _ _ c e)) in
     kid-cond s q k t f l h m (λ e i. no (or-l _ _ (rw e (eqb-refl OPERATION_DEFINITION)))) (λ e. absurd (no (or-r _ _ (rw e (eqb-refl SHORT_QUERY))))) d
 
-num : (a b : ℕ) → eqb a b ≡ false → a ≡ b → ⊥
-num a b h = eqb-false a b h
-
 -- A node that asks nothing of its children, and a symbol that asks nothing of its tree but the kind.
 unfoldable asks_nothing : ℕ → Bool
 asks_nothing s = not (constant s) and not (member (label s) Marked) and not (fparent s) and not (eparent s)
@@ -127,8 +124,8 @@ plain-cond k t p m =
       (λ e. false-true (not-c _ (and-l _ _ c2)) e),
       (λ e. false-true (not-c _ (and-r _ _ c2)) e),
       (λ e. false-true (not-c _ (and-r _ _ c3)) e),
-      (λ e i. num k OPERATION_DEFINITION (not-c _ (and-r _ _ c4)) e),
-      (λ e. absurd (num k SHORT_QUERY (not-c _ (and-r _ _ c5)) e)),
+      (λ e i. eqb-false k OPERATION_DEFINITION (not-c _ (and-r _ _ c4)) e),
+      (λ e. absurd (eqb-false k SHORT_QUERY (not-c _ (and-r _ _ c5)) e)),
       not-c _ (and-r _ _ c6),
       (λ i. and-r _ _ p),
     )
@@ -159,17 +156,13 @@ one-kind s f h m = let c = name-pattern s h in let n : Matches (any_of (c.0 ∷ 
 label-of : (s k : ℕ) → eqb s k ≡ true → label k ≡ k → label s ≡ k
 label-of s k e h = rw (eqb-true s k e) h
 
-labels-same : (label DEFAULT_VALUE ≡ DEFAULT_VALUE) × (label FRAGMENT_NAME ≡ FRAGMENT_NAME) × (label ENUM_VALUE ≡ ENUM_VALUE) × (label DOCUMENT ≡ DOCUMENT)
-unfolding label labels
-labels-same = (refl, refl, refl, refl)
-
 cond-kids : (s j : ℕ) (f : Forest) → label s ≡ j → Matches (pattern_of s 0) (kinds f) → NameRule j f → ConstantRule j f → Cond s (node j f) → Kids s f
 unfolding constant
 cond-kids s j f e m n c d = (
-  (λ h. elim (or-c _ _ h) [ inl p ↦ c.0 (sym e ∙ label-of s DEFAULT_VALUE p labels-same.0) | inr p ↦ (d.1 p).1 ]),
+  (λ h. elim (or-c _ _ h) [ inl p ↦ c.0 (sym e ∙ label-of s DEFAULT_VALUE p labels-checked.6) | inr p ↦ (d.1 p).1 ]),
   (λ h. c.1 (rw e at h)),
-  (λ h. let k = one-kind s f (or-l _ _ h) m in all-texts NotOn f k.0 k.1 (elim (or-c _ _ h) [ inl p ↦ n.0 (sym e ∙ label-of s FRAGMENT_NAME p labels-same.1) | inr p ↦ d.2 (or-l _ _ p) ])),
-  (λ h. let k = one-kind s f (or-r _ _ h) m in all-texts NoWord f k.0 k.1 (elim (or-c _ _ h) [ inl p ↦ n.1 (sym e ∙ label-of s ENUM_VALUE p labels-same.2) | inr p ↦ d.3 (or-l _ _ p) ])),
+  (λ h. let k = one-kind s f (or-l _ _ h) m in all-texts NotOn f k.0 k.1 (elim (or-c _ _ h) [ inl p ↦ n.0 (sym e ∙ label-of s FRAGMENT_NAME p labels-checked.7) | inr p ↦ d.2 (or-l _ _ p) ])),
+  (λ h. let k = one-kind s f (or-r _ _ h) m in all-texts NoWord f k.0 k.1 (elim (or-c _ _ h) [ inl p ↦ n.1 (sym e ∙ label-of s ENUM_VALUE p labels-checked.8) | inr p ↦ d.3 (or-l _ _ p) ])),
 )
 
 -- Leaves.
@@ -260,13 +253,9 @@ shown-label : (j k : ℕ) → eqb k TYPE ≡ false → member j (shown k) ≡ tr
 unfolding shown member
 shown-label j k e m = let m' : member j (label k ∷ []) ≡ true = rw e at m in elim (either (eqb (label k) j)) [ inl p ↦ eqb-true _ _ p | inr p ↦ absurd (true≢false (sym (rw p at m'))) ]
 
-leaf-is-no-type : (l : ℕ) → is_leaf l ≡ true → eqb l TYPE ≡ false
-unfolding is_leaf
-leaf-is-no-type l h = elim (either (eqb l TYPE)) [ inl p ↦ false-true refl (rw (eqb-true l TYPE p) at h) | inr p ↦ p ]
-
 read-leaf : (k j : ℕ) (x : Text) → is_leaf k ≡ true → LeafRule j x → Cond k (leaf j x) → Read k (leaf j x)
 read-leaf k j x l r c =
-    let e : label k ≡ j = shown-label j k (leaf-is-no-type k l) c.0 in
+    let e : label k ≡ j = shown-label j k (leaf-no-type k l) c.0 in
     (leaf k x, (l, leaf-fires k x l (or-false-l _ _ c.6) (subst (λ (n : ℕ). LeafRule n x) (sym e) r) c.2 c.3), refl, ap (λ (n : ℕ). leaf n x) e)
 
 any-arc : (l : List (ℕ × ℕ)) (j : ℕ) → any_arcs l (λ k p. member j (shown k)) ≡ true → (k : ℕ) × (has_in l k ≡ true) × (member j (shown k) ≡ true)
@@ -425,7 +414,7 @@ shown-short_query j e = (rw e refl, rw e refl)
 
 document-cond : (q k : ℕ) (t : Tree) → has DOCUMENT q k ≡ true → member (root t) (shown k) ≡ true → (k ≡ OPERATION_DEFINITION → IsQuery t → ⊥)
     → (k ≡ SHORT_QUERY → IsQuery t) → Cond k t
-document-cond q k t h m q1 q2 = kid-cond DOCUMENT q k t none node-document h m q1 q2 (plain-kids DOCUMENT (t ▸ none) symbols-checked.0)
+document-cond q k t h m q1 q2 = kid-cond DOCUMENT q k t none node-symbols.0 h m q1 q2 (plain-kids DOCUMENT (t ▸ none) symbols-checked.0)
 
 not-before : (t : Tree) (f : Forest) → NotBefore t f → LacksBlock t → FirstNoQuery f
 not-before t none n l = tt
@@ -441,7 +430,7 @@ document-build q k t f a h m d nb r rf =
     let l : finish r.0 < 2 = ar.2 in
     let first : target DOCUMENT q (root r.0) + finish r.0 ≡ 2 → FirstNoQuery f = λ w. (
     let z : finish r.0 ≡ 1 = omega arith in not-before t f nb (subst (λ (y : Tree). LacksBlock y) r.3 (finish-lacks r.0 r.1 ar.0 z))) in
-    build-forest DOCUMENT q k t f node-document a h m d r (rf (target DOCUMENT q (root r.0) + finish r.0) (omega arith) first)
+    build-forest DOCUMENT q k t f node-symbols.0 a h m d r (rf (target DOCUMENT q (root r.0) + finish r.0) (omega arith) first)
 
 dec-query : (t : Tree) → IsQuery t ⊎ (IsQuery t → ⊥)
 dec-query (leaf j x) = inr (λ h. h)
@@ -464,9 +453,9 @@ document-step q t f i n m a nb rt rf =
     elim (either (eqb (root t) OPERATION_DEFINITION)) [
       | inl p ↦ (let e : root t ≡ OPERATION_DEFINITION = eqb-true _ _ p in elim (dec-query t) [
         | inl w ↦ (let h : has DOCUMENT q SHORT_QUERY ≡ true = document-short_query q i (λ z. n z w) in
-            document-build q SHORT_QUERY t f a h (shown-short_query (root t) e).0 dm nb (rt SHORT_QUERY (document-cond q SHORT_QUERY t h (shown-short_query (root t) e).0 (λ z. absurd (num SHORT_QUERY OPERATION_DEFINITION refl z)) (λ z. w))) rf)
+            document-build q SHORT_QUERY t f a h (shown-short_query (root t) e).0 dm nb (rt SHORT_QUERY (document-cond q SHORT_QUERY t h (shown-short_query (root t) e).0 (λ z. absurd (eqb-false SHORT_QUERY OPERATION_DEFINITION refl z)) (λ z. w))) rf)
         | inr w ↦ (let h : has DOCUMENT q OPERATION_DEFINITION ≡ true = document-operation q i in
-            document-build q OPERATION_DEFINITION t f a h (shown-short_query (root t) e).1 dm nb (rt OPERATION_DEFINITION (document-cond q OPERATION_DEFINITION t h (shown-short_query (root t) e).1 (λ z. w) (λ z. absurd (num OPERATION_DEFINITION SHORT_QUERY refl z)))) rf)
+            document-build q OPERATION_DEFINITION t f a h (shown-short_query (root t) e).1 dm nb (rt OPERATION_DEFINITION (document-cond q OPERATION_DEFINITION t h (shown-short_query (root t) e).1 (λ z. w) (λ z. absurd (eqb-false OPERATION_DEFINITION SHORT_QUERY refl z)))) rf)
       ])
       | inr p ↦ elim (or-c _ _ (agree-kind DOCUMENT q (root t) a (first-kind (pattern_of DOCUMENT q) (root t) (kinds f) dm))) [
         | inl c ↦ false-true symbols-checked.11 (and-l _ _ c)
@@ -480,10 +469,6 @@ type-two : (f : Forest) (a b : ℕ) → kinds f ≡ a ∷ b ∷ [] → type_of f
 type-two none a b e = no-cons e
 type-two (t ▸ none) a b e = no-cons (tail-same e)
 type-two (t ▸ (u ▸ f)) a b e = refl
-
-node-symbols : (is_leaf TYPE ≡ false) × (is_leaf BARE_SELECTIONS ≡ false) × (label BARE_SELECTIONS ≡ SELECTION_SET)
-unfolding is_leaf label labels
-node-symbols = (refl, refl, refl)
 
 row-non_null_type : (w : List ℕ) → Matches (Row NON_NULL_TYPE) w → (Matches type_row w) × ((a : ℕ) × (b : ℕ) × (w ≡ a ∷ b ∷ []))
 unfolding Row
@@ -507,7 +492,7 @@ wrap : (j : ℕ) (t : Tree) → (j ≡ NAMED_TYPE) ⊎ (j ≡ LIST_TYPE) → Rea
 wrap j t h r =
     let hu : has TYPE 0 (root r.0) ≡ true = subst (λ (n : ℕ). has TYPE 0 n ≡ true) (sym r.2) (has-type j h) in
     let en : ends TYPE (target TYPE 0 (root r.0) + finish r.0) ≡ true = subst (λ (n : ℕ). ends TYPE n ≡ true) (sym (type-first r.0 hu r.1)) symbols-checked.10 in
-    (node TYPE (r.0 ▸ none), (node-symbols.0, (hu, r.1, en)), refl, r.3)
+    (node TYPE (r.0 ▸ none), (node-symbols.3, (hu, r.1, en)), refl, r.3)
 
 -- A node, but for a type, from the reading of its children.
 node-read : (k j : ℕ) (f : Forest) → is_leaf k ≡ false → eqb k TYPE ≡ false → Fits (node j f) → Cond k (node j f)
@@ -531,8 +516,8 @@ type-read j f h m rf = elim (shown-types j m) [
   | inl x ↦ (let p = type-plain j x in wrap j (node j f) x (node-read j j f p.0 p.1 h (plain-cond j (node j f) p.4 p.3) (λ m a d. rf j 0 p.0 p.2 m a d)))
   | inr x ↦ (let r = row-non_null_type (kinds f) (subst (λ (n : ℕ). Matches (Row n) (kinds f)) x h.0) in
       let m' : Matches (pattern_of TYPE 0) (kinds f) = subst (λ (p : Pattern). Matches p (kinds f)) (sym type-pattern) r.0 in
-      let g = rf TYPE 0 node-symbols.0 refl m' (agree TYPE 0 node-symbols.0 (fill-live TYPE 0 symbols-checked.9)) (plain-kids TYPE f symbols-checked.1) in
-      (node TYPE g.0, (node-symbols.0, g.1), refl, ap type_of g.2 ∙ (type-two f r.1.0 r.1.1 r.1.2 ∙ ap (λ (n : ℕ). node n f) (sym x))))
+      let g = rf TYPE 0 node-symbols.3 refl m' (agree TYPE 0 node-symbols.3 (fill-live TYPE 0 symbols-checked.9)) (plain-kids TYPE f symbols-checked.1) in
+      (node TYPE g.0, (node-symbols.3, g.1), refl, ap type_of g.2 ∙ (type-two f r.1.0 r.1.1 r.1.2 ∙ ap (λ (n : ℕ). node n f) (sym x))))
 ]
 
 type-above : (j : ℕ) → ((j ≡ NAMED_TYPE) ⊎ (j ≡ LIST_TYPE)) ⊎ (j ≡ NON_NULL_TYPE) → DOCUMENT ≤ j
@@ -543,14 +528,14 @@ pick-node : (k j : ℕ) (f : Forest) → Fits (node j f) → Cond k (node j f)
     → ((q : ℕ) → q < 3 → (q ≡ 2 → FirstNoQuery f) → BraceRule f → Matches (pattern_of DOCUMENT q) (kinds f) → agree_at DOCUMENT q ≡ true → ReadFrom DOCUMENT q f)
     → Read k (node j f)
 pick-node k j f h c rf rd = elim (either (is_leaf k)) [
-  | inl l ↦ (let e : label k ≡ j = shown-label j k (leaf-is-no-type k l) c.0 in no-row j (kinds f) (subst (λ (n : ℕ). n < DOCUMENT) e (label-leaf k (below-bare_selections k c.6) l)) h.0)
+  | inl l ↦ (let e : label k ≡ j = shown-label j k (leaf-no-type k l) c.0 in no-row j (kinds f) (subst (λ (n : ℕ). n < DOCUMENT) e (label-leaf k (below-bare_selections k c.6) l)) h.0)
   | inr l ↦ elim (either (eqb k TYPE)) [
     | inl n ↦ (let x : k ≡ TYPE = eqb-true k TYPE n in subst (λ (z : ℕ). Read z (node j f)) (sym x) (type-read j f h (subst (λ (z : ℕ). member j (shown z) ≡ true) x c.0) rf))
     | inr n ↦ elim (either (eqb k DOCUMENT)) [
       | inl d ↦ (let x : k ≡ DOCUMENT = eqb-true k DOCUMENT d in
-          let ej : j ≡ DOCUMENT = sym (shown-label j k n c.0) ∙ (ap label x ∙ labels-same.3) in
+          let ej : j ≡ DOCUMENT = sym (shown-label j k n c.0) ∙ (ap label x ∙ labels-checked.3) in
           node-read k j f l n h c (λ m a y. subst (λ (z : ℕ). ReadFrom z 0 f) (sym x)
-          (rd 0 (omega arith) (λ z. absurd (num 0 2 refl z)) (h.3 ej) (subst (λ (z : ℕ). Matches (pattern_of z 0) (kinds f)) x m) (subst (λ (z : ℕ). agree_at z 0 ≡ true) x a))))
+          (rd 0 (omega arith) (λ z. absurd (eqb-false 0 2 refl z)) (h.3 ej) (subst (λ (z : ℕ). Matches (pattern_of z 0) (kinds f)) x m) (subst (λ (z : ℕ). agree_at z 0 ≡ true) x a))))
       | inr d ↦ node-read k j f l n h c (λ m a y. rf k 0 l d m a y)
     ]
   ]
@@ -589,16 +574,12 @@ unfolding shown member
 types-shown j m = m
 
 -- A selection set without braces.
-bare-start : pattern_of BARE_SELECTIONS 0 ≡ bare_selections
-unfolding pattern_of symbol_row label labels Row paths
-bare-start = refl
-
 bare-read : (t : Tree) → root t ≡ SELECTION_SET → BareBy Row t → Read BARE_SELECTIONS t
 bare-read (leaf j x) e h = absurd h
 bare-read (node j f) e h =
-    let m : Matches (pattern_of BARE_SELECTIONS 0) (kinds f) = subst (λ (p : Pattern). Matches p (kinds f)) (sym bare-start) h.0 in
-    let g = read-forest f BARE_SELECTIONS 0 node-symbols.1 refl m (agree BARE_SELECTIONS 0 node-symbols.1 (fill-live BARE_SELECTIONS 0 symbols-checked.8)) (plain-kids BARE_SELECTIONS f symbols-checked.2) h.1 in
-    (node BARE_SELECTIONS g.0, (node-symbols.1, g.1), refl, show-root BARE_SELECTIONS g.0 refl ∙ ap₂ node (node-symbols.2 ∙ sym e) g.2)
+    let m : Matches (pattern_of BARE_SELECTIONS 0) (kinds f) = subst (λ (p : Pattern). Matches p (kinds f)) (sym bare-pattern) h.0 in
+    let g = read-forest f BARE_SELECTIONS 0 node-symbols.2 refl m (agree BARE_SELECTIONS 0 node-symbols.2 (fill-live BARE_SELECTIONS 0 symbols-checked.8)) (plain-kids BARE_SELECTIONS f symbols-checked.2) h.1 in
+    (node BARE_SELECTIONS g.0, (node-symbols.2, g.1), refl, show-root BARE_SELECTIONS g.0 refl ∙ ap₂ node (labels-checked.5 ∙ sym e) g.2)
 
 -- The symbols as which a derivation of the sort may be read.
 abbrev pub Opens : Sort → ℕ → Type 0
