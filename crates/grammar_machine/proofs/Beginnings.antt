@@ -27,6 +27,7 @@ use Rattle.grammar_machine.proofs.Sound.{AllSpelt}
 use Rattle.grammar_machine.proofs.Worked.{all_ascii, is-ascii}
 use Rattle.grammar_machine.proofs.SentenceTheorems.{reached-begins}
 use Rattle.std.proofs.lemmas.List.{map-append}
+use Rattle.document_grammar.specs.Kinds.{WHITESPACE, ERROR, DOCUMENT}
 
 -- The kind of the tokens that become a leaf.
 kinds_by_leaf : List TokenKind
@@ -61,7 +62,7 @@ kind_of l = get_or kinds_by_leaf (token l []).0 kind.Eof
 
 -- Two leaves have no tokens: WHITESPACE, and ERROR. (COMMENT and COMMA have the numbers of two sorts of names here.)
 wordless : ℕ → Bool
-wordless l = eqb l 0 or eqb l 3
+wordless l = eqb l WHITESPACE or eqb l ERROR
 
 -- For each leaf a test by computing.
 abbrev down : ℕ → List ℕ
@@ -78,42 +79,42 @@ at-each f g (suc m) n h e = elim (either (eqb n m)) [
   | inr p ↦ at-each f g m n (less n m h (eqb-false n m p)) (tail-same e)
 ]
 
-readings : map (λ l. token_at (spell l)) (down 60) ≡ map (λ l. cond (wordless l) None (Some (kind_of l, length (spell l)))) (down 60)
+readings : map (λ l. token_at (spell l)) (down DOCUMENT) ≡ map (λ l. cond (wordless l) None (Some (kind_of l, length (spell l)))) (down DOCUMENT)
 unfolding spellings holds token kind_of kinds_by_leaf wordless ◌or◌
 readings = refl
 
-leaves : map (λ l. leaf_number (kind_of l)) (down 60) ≡ map (λ l. (token l []).0) (down 60)
+leaves : map (λ l. leaf_number (kind_of l)) (down DOCUMENT) ≡ map (λ l. (token l []).0) (down DOCUMENT)
 unfolding holds token kind_of kinds_by_leaf
 leaves = refl
 
-significant : map (λ l. is_significant_kind (kind_of l)) (down 60) ≡ map (λ l. cond (wordless l) false true) (down 60)
+significant : map (λ l. is_significant_kind (kind_of l)) (down DOCUMENT) ≡ map (λ l. cond (wordless l) false true) (down DOCUMENT)
 unfolding holds token kind_of kinds_by_leaf wordless ◌or◌
 significant = refl
 
-ascii : map (λ l. all_ascii (spell l)) (down 60) ≡ map (λ l. true) (down 60)
+ascii : map (λ l. all_ascii (spell l)) (down DOCUMENT) ≡ map (λ l. true) (down DOCUMENT)
 unfolding spellings ◌and◌
 ascii = refl
 
 no-word : (l a : ℕ) → wordless l ≡ true → fires l a 0 ≡ false
 unfolding fires entries firsts wordless
 no-word l a h = elim (or-c _ _ h) [
-  | inl p ↦ subst (λ (k : ℕ). fires k a 0 ≡ false) (sym (eqb-true l 0 p)) refl
-  | inr p ↦ subst (λ (k : ℕ). fires k a 0 ≡ false) (sym (eqb-true l 3 p)) refl
+  | inl p ↦ subst (λ (k : ℕ). fires k a 0 ≡ false) (sym (eqb-true l WHITESPACE p)) refl
+  | inr p ↦ subst (λ (k : ℕ). fires k a 0 ≡ false) (sym (eqb-true l ERROR p)) refl
 ]
 
 -- The word of a leaf.
 leaf-word : (l : ℕ) → Ok (leaf l (spell l)) → (w : Word) × IsWord w × (token_of w ≡ token l (spell l))
 unfolding is_leaf token
 leaf-word l ok =
-    let b : l < 60 = ltb-true l 60 ok.0 in
+    let b : l < DOCUMENT = ltb-true l DOCUMENT ok.0 in
     let some : wordless l ≡ false = elim (either (wordless l)) [ inl p ↦ false-true (no-word l (class (token l (spell l))) p) ok.1 | inr p ↦ p ] in
     let test : token_at (spell l) ≡ cond (wordless l) None (Some (kind_of l, length (spell l))) =
-    at-each (λ (k : ℕ). token_at (spell k)) (λ (k : ℕ). cond (wordless k) None (Some (kind_of k, length (spell k)))) 60 l b readings in
+    at-each (λ (k : ℕ). token_at (spell k)) (λ (k : ℕ). cond (wordless k) None (Some (kind_of k, length (spell k)))) DOCUMENT l b readings in
     let reading : token_at (spell l) ≡ Some (kind_of l, length (spell l)) = rw some at test in
     let signs : is_significant_kind (kind_of l) ≡ cond (wordless l) false true =
-    at-each (λ (k : ℕ). is_significant_kind (kind_of k)) (λ (k : ℕ). cond (wordless k) false true) 60 l b significant in
-    let plain : all_ascii (spell l) ≡ true = at-each (λ (k : ℕ). all_ascii (spell k)) (λ (k : ℕ). true) 60 l b ascii in
-    let number : leaf_number (kind_of l) ≡ (token l []).0 = at-each (λ (k : ℕ). leaf_number (kind_of k)) (λ (k : ℕ). (token k []).0) 60 l b leaves in (
+    at-each (λ (k : ℕ). is_significant_kind (kind_of k)) (λ (k : ℕ). cond (wordless k) false true) DOCUMENT l b significant in
+    let plain : all_ascii (spell l) ≡ true = at-each (λ (k : ℕ). all_ascii (spell k)) (λ (k : ℕ). true) DOCUMENT l b ascii in
+    let number : leaf_number (kind_of l) ≡ (token l []).0 = at-each (λ (k : ℕ). leaf_number (kind_of k)) (λ (k : ℕ). (token k []).0) DOCUMENT l b leaves in (
       record { kind = kind_of l; text = spell l },
       record {
         characters = IsUtf8-from_ascii (spell l) (is-ascii (spell l) plain);

@@ -4,8 +4,8 @@ use Rattle.std.proofs.lemmas.Bool.{eqb-false}
 use Rattle.document_grammar.specs.Tree.{Text, Token, Tree, leaf, node, Forest, none, ◌▸◌, root}
 use Rattle.document_grammar.specs.Pattern.{Pattern, member, Matches}
 use Rattle.document_grammar.specs.Rows.{Row, bare_selections}
-use Rattle.document_grammar.specs.Kinds.{DOCUMENT, OPERATION_DEFINITION, SELECTION_SET, FRAGMENT_NAME, DIRECTIVES, VARIABLE, DEFAULT_VALUE, ENUM_VALUE, NAMED_TYPE, LIST_TYPE, NON_NULL_TYPE, OBJECT_TYPE_DEFINITION, FIELDS_DEFINITION, INTERFACE_TYPE_DEFINITION, ENUM_TYPE_DEFINITION, ENUM_VALUES_DEFINITION, INPUT_OBJECT_TYPE_DEFINITION, INPUT_FIELDS_DEFINITION, OBJECT_TYPE_EXTENSION, INTERFACE_TYPE_EXTENSION, ENUM_TYPE_EXTENSION, INPUT_OBJECT_TYPE_EXTENSION, FIELD, FRAGMENT_SPREAD, INLINE_FRAGMENT, FRAGMENT_DEFINITION, ARGUMENTS, ARGUMENT, DIRECTIVE, VARIABLE_DEFINITIONS, VARIABLE_DEFINITION, LIST_VALUE, OBJECT_VALUE, OBJECT_FIELD, L_CURLY, IDENT, STRING}
-use Rattle.document_grammar.specs.Choices.{Types}
+use Rattle.document_grammar.specs.Kinds.{DOCUMENT, OPERATION_DEFINITION, SELECTION_SET, FRAGMENT_NAME, DIRECTIVES, VARIABLE, DEFAULT_VALUE, ENUM_VALUE, NAMED_TYPE, LIST_TYPE, NON_NULL_TYPE, OBJECT_TYPE_DEFINITION, FIELDS_DEFINITION, INTERFACE_TYPE_DEFINITION, ENUM_TYPE_DEFINITION, ENUM_VALUES_DEFINITION, INPUT_OBJECT_TYPE_DEFINITION, INPUT_FIELDS_DEFINITION, OBJECT_TYPE_EXTENSION, INTERFACE_TYPE_EXTENSION, ENUM_TYPE_EXTENSION, INPUT_OBJECT_TYPE_EXTENSION, FIELD, FRAGMENT_SPREAD, INLINE_FRAGMENT, FRAGMENT_DEFINITION, ARGUMENTS, ARGUMENT, DIRECTIVE, VARIABLE_DEFINITIONS, VARIABLE_DEFINITION, LIST_VALUE, OBJECT_VALUE, OBJECT_FIELD, L_CURLY, IDENT, STRING, WHITESPACE}
+use Rattle.document_grammar.specs.Choices.{Types, is_ignored}
 use Rattle.grammar_machine.specs.Table.{State, rows, firsts, name_leaves}
 use Rattle.grammar_machine.proofs.generated.Labels.{paths, labels}
 use Rattle.document_grammar.specs.Booleans.{◌and◌, ◌or◌}
@@ -289,21 +289,21 @@ path-fits s p q (t ▸ f) l o = (ok-fits t o.1 (along s p (root t) l o.0).2, pat
 
 -- The tokens of the shown tree are those of the tree.
 abbrev token_test : ℕ → Bool
-token_test l = eqb l 0 or (eqb (cond (ltb STRING (label l)) IDENT (label l)) (cond (holds l name_leaves) IDENT l) and not (ltb (label l) 3))
+token_test l = eqb l WHITESPACE or (eqb (cond (ltb STRING (label l)) IDENT (label l)) (cond (holds l name_leaves) IDENT l) and not (is_ignored (label l)))
 
 tokens-checked : all_below DOCUMENT token_test ≡ true
 unfolding label labels holds ◌and◌ ◌or◌
 tokens-checked = refl
 
--- No tree has a leaf of the number 0.
-no-zero : (l : ℕ) (b : ℕ) → fires l b 0 ≡ true → l ≡ 0 → ⊥
+-- No tree has a leaf WHITESPACE.
+no-zero : (l : ℕ) (b : ℕ) → fires l b 0 ≡ true → l ≡ WHITESPACE → ⊥
 unfolding fires entries firsts
 no-zero l b h e = true≢false (sym (rw e at h))
 
 leaf-yield : (l : ℕ) (x : Text) → Ok (leaf l x) → Yield (leaf (label l) x) ≡ token l x ∷ []
 unfolding token
 leaf-yield l x o = elim (or-c _ _ (below-at token_test DOCUMENT l (leaf-lt l o.0) tokens-checked)) [
-  | inl p ↦ absurd (no-zero l (class (token l x)) o.1 (eqb-true l 0 p))
+  | inl p ↦ absurd (no-zero l (class (token l x)) o.1 (eqb-true l WHITESPACE p))
   | inr p ↦ rw (not-c _ (and-r _ _ p)) (ap (λ (n : ℕ). (n, x) ∷ []) (eqb-true _ _ (and-l _ _ p)))
 ]
 

@@ -7,7 +7,7 @@ use Rattle.grammar_machine.proofs.generated.Samples.{endings, spellings}
 use Rattle.document_grammar.specs.Booleans.{◌and◌, ◌or◌}
 use Rattle.grammar_machine.specs.Machine.{holds, is_leaf, at, ends, exit, arcs, has, target, entries, fires, class, token, finish, text_eq}
 use Rattle.grammar_machine.proofs.Checks.{subset, exits, all_entries, every_arc, all_below}
-use Rattle.document_grammar.specs.Kinds.{words, DOCUMENT}
+use Rattle.document_grammar.specs.Kinds.{words, DOCUMENT, ERROR}
 
 abbrev plant : (ℕ → Tree) → List ℕ → Forest
 plant f [] = none
@@ -45,7 +45,7 @@ fill_checked = refl
 
 -- The leaves' classes: those of names, or the leaf's own number.
 abbrev pub leaf_test : ℕ → Bool
-leaf_test l = all_entries (entries l) (λ x y a. cond (holds l name_leaves) (subset x name_classes) (eqb x (2 ^ l) and not (holds l name_classes) and not (eqb l 3)))
+leaf_test l = all_entries (entries l) (λ x y a. cond (holds l name_leaves) (subset x name_classes) (eqb x (2 ^ l) and not (holds l name_classes) and not (eqb l ERROR)))
 
 abbrev pub word_tests : List (ℕ × Text) → Bool
 word_tests [] = true

@@ -9,7 +9,7 @@ use Rattle.grammar_machine.specs.Machine.{is_leaf, at, ends, exit, arcs, state_a
 use Rattle.grammar_machine.proofs.Checks.{all_arcs, every_state, exits}
 use Rattle.document_grammar.proofs.Booleans.{and-l, and-r, or-c, or-l, or-r, either}
 use Rattle.grammar_machine.proofs.TableLemmas.{head-same, tail-same, no-cons}
-use Rattle.document_grammar.specs.Kinds.{OPERATION_DEFINITION, SELECTION_SET, VARIABLE, DEFAULT_VALUE, NAMED_TYPE, LIST_TYPE, NON_NULL_TYPE, DOCUMENT}
+use Rattle.document_grammar.specs.Kinds.{OPERATION_DEFINITION, SELECTION_SET, VARIABLE, DEFAULT_VALUE, NAMED_TYPE, LIST_TYPE, NON_NULL_TYPE, DOCUMENT, BANG}
 use Rattle.grammar_machine.specs.Symbols.{TYPE, SHORT_QUERY, BARE_SELECTIONS, NAME_FOR_ENUM}
 
 -- One of two patterns; where nothing fits the one, the other.
@@ -74,7 +74,7 @@ symbol_row s = cond (eqb s OPERATION_DEFINITION) keyword_operation (cond (eqb s 
 
 -- A type without its node: what the node of NON_NULL_TYPE holds, or the one type.
 abbrev pub type_row : Pattern
-type_row = any_of (NAMED_TYPE ∷ LIST_TYPE ∷ []) then maybe (one 4)
+type_row = any_of (NAMED_TYPE ∷ LIST_TYPE ∷ []) then maybe (one BANG)
 
 unfoldable pub pattern_of : ℕ → ℕ → Pattern
 unfolding symbol_row

@@ -14,7 +14,7 @@ use Rattle.grammar_machine.proofs.TableLemmas.{any-with, any-entry, any-more, be
 use Rattle.grammar_machine.proofs.Run.{go-close, go-stuck, close-stuck, go-inj}
 use Rattle.document_grammar.proofs.Built.{forest-none}
 use Rattle.grammar_machine.proofs.Endings.{ending, okb, okb_from, fillable, fill_test, fill_checked, leaf_test, leaf_classes_checked, word_tests, words_checked, spell}
-use Rattle.document_grammar.specs.Kinds.{words, DOCUMENT, IDENT}
+use Rattle.document_grammar.specs.Kinds.{words, DOCUMENT, IDENT, ERROR}
 
 -- What a move says of the row.
 pub choose-has : (l : List (ℕ × ℕ)) (e : Bool) (a b k : ℕ) → choose l e a b ≡ go k → (has_in l k ≡ true) × (fires k a b ≡ true)
@@ -62,19 +62,19 @@ token-kind-no-name : (k : ℕ) → holds k token_kinds ≡ true → holds k name
 unfolding holds
 token-kind-no-name k h = holds-disjoint k token_kinds name_classes refl h
 
-three-no-name : holds 3 name_classes ≡ false
+error-no-name : holds ERROR name_classes ≡ false
 unfolding holds
-three-no-name = refl
+error-no-name = refl
 
--- The class of a token is a name's exactly where the token is a name; else it is the token's kind, or 3.
+-- The class of a token is a name's exactly where the token is a name; else it is the token's kind, or ERROR.
 pub class-cases : (a : Token)
-    → ((a.0 ≡ IDENT) × (holds (class a) name_classes ≡ true)) ⊎ ((holds (class a) name_classes ≡ false) × ((class a ≡ a.0) ⊎ (class a ≡ 3)))
+    → ((a.0 ≡ IDENT) × (holds (class a) name_classes ≡ true)) ⊎ ((holds (class a) name_classes ≡ false) × ((class a ≡ a.0) ⊎ (class a ≡ ERROR)))
 unfolding class
 class-cases a = elim (either (eqb a.0 IDENT)) [
   | inl p ↦ inl (eqb-true _ _ p, rw p (word-name words a.1 words_checked))
   | inr p ↦ elim (either (holds a.0 token_kinds)) [
     | inl q ↦ inr (rw (p, q) (token-kind-no-name a.0 q), inl (rw (p, q) refl))
-    | inr q ↦ inr (rw (p, q) three-no-name, inr (rw (p, q) refl))
+    | inr q ↦ inr (rw (p, q) error-no-name, inr (rw (p, q) refl))
   ]
 ]
 
@@ -91,7 +91,7 @@ holds-one a l h = elim (either (eqb a l)) [
 ]
 
 leaf-kind : (l : ℕ) (a : Token) (b : Bool) (x : ℕ) → holds l name_leaves ≡ b
-    → cond b (subset x name_classes) (eqb x (2 ^ l) and not (holds l name_classes) and not (eqb l 3)) ≡ true → holds (class a) x ≡ true
+    → cond b (subset x name_classes) (eqb x (2 ^ l) and not (holds l name_classes) and not (eqb l ERROR)) ≡ true → holds (class a) x ≡ true
     → cond b IDENT l ≡ a.0
 leaf-kind l a true x n t h = elim (class-cases a) [
   | inl p ↦ sym p.0
@@ -102,13 +102,13 @@ leaf-kind l a false x n t h =
     let nn : holds l name_classes ≡ false = not-c _ (and-r _ _ (and-l _ _ t)) in
     elim (class-cases a) [
       | inl p ↦ false-true nn (rw e at p.1)
-      | inr p ↦ elim p.1 [ inl q ↦ sym e ∙ q | inr q ↦ absurd (eqb-false l 3 (not-c _ (and-r _ _ t)) (sym e ∙ q)) ]
+      | inr p ↦ elim p.1 [ inl q ↦ sym e ∙ q | inr q ↦ absurd (eqb-false l ERROR (not-c _ (and-r _ _ t)) (sym e ∙ q)) ]
     ]
 
 pub leaf-token : (l b : ℕ) (a : Token) → is_leaf l ≡ true → fires l (class a) b ≡ true → token l a.1 ≡ a
 unfolding token fires
 leaf-token l b a i f =
-    let c = fired (entries l) (λ x. cond (holds l name_leaves) (subset x name_classes) (eqb x (2 ^ l) and not (holds l name_classes) and not (eqb l 3))) (class a) b (below-at leaf_test DOCUMENT l (leaf-lt l i) leaf_classes_checked) f in
+    let c = fired (entries l) (λ x. cond (holds l name_leaves) (subset x name_classes) (eqb x (2 ^ l) and not (holds l name_classes) and not (eqb l ERROR))) (class a) b (below-at leaf_test DOCUMENT l (leaf-lt l i) leaf_classes_checked) f in
     ap (λ (n : ℕ). (n, a.1)) (leaf-kind l a (holds l name_leaves) c.0 refl c.1 c.2)
 
 -- A leaf's entries don't ask for a second token.
@@ -276,13 +276,13 @@ viable {s0} {w} {fs} {r} i b c = on fs (reach-sound i c) (reach-nonempty c)
         let w = lift s0 s fs (node s (f +++ g)) (c.0, path-join s 0 q f g c.1 og) refl c.2 c.3 in
         (w.0, yields g ++ w.1, w.2, w.3, w.4 ∙ (rw (yields-append f g) (simp append_assoc)), all-append (yields g) w.1 (fillable-spelt s q fa) w.5)
 
--- Each class is below 60.
+-- The set of all classes, which are the numbers before DOCUMENT.
 abbrev pub any : ℕ
 any = 1152921504606846975
 
-three-any : holds 3 any ≡ true
+error-any : holds ERROR any ≡ true
 unfolding holds
-three-any = refl
+error-any = refl
 
 pub class-any : (a : Token) → holds (class a) any ≡ true
 unfolding class
@@ -290,7 +290,7 @@ class-any a = elim (either (eqb a.0 IDENT)) [
   | inl p ↦ rw p (holds-subset (word_class words a.1) name_classes any refl (word-name words a.1 words_checked))
   | inr p ↦ elim (either (holds a.0 token_kinds)) [
     | inl q ↦ rw (p, q) (holds-subset a.0 token_kinds any refl q)
-    | inr q ↦ rw (p, q) three-any
+    | inr q ↦ rw (p, q) error-any
   ]
 ]
 
