@@ -9,7 +9,6 @@ from .layout import CRATES
 from .patterns import Reader, definitions
 
 FOLDER = CRATES / "document_grammar"
-SOURCES = "crates/document_grammar"
 
 
 class Grammar:

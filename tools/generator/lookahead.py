@@ -7,6 +7,7 @@ import heapq
 from functools import cached_property
 
 from .automata import rows
+from .grammar import word
 
 # In place of the class of a second token, where the symbol has no second token.
 ALONE = None
@@ -111,6 +112,44 @@ class Lookahead:
             for symbol, target in state.arcs:
                 for exit in self.exits(symbol):
                     yield symbol, exit, states[target + (exit if name == "DOCUMENT" else 0)]
+
+    def check(self):
+        """Two tokens tell which child comes next, and whether the row ends; this says where they do not."""
+        for name, states in self.rows.items():
+            for place, state in enumerate(states):
+                both = self.begins(state) & self.follow[name, state.exit] if state.ends else None
+                if both:
+                    raise SystemExit(f"{name}, state {place}: the row may end, or go on, before {self.class_names(both)}")
+                for later, arc in enumerate(state.arcs):
+                    for other, _ in state.arcs[:later]:
+                        if self.overlap(name, states, arc, other):
+                            raise SystemExit(f"{name}, state {place}: two tokens do not tell {arc[0]} from {other}")
+
+    def overlap(self, name, states, arc, other):
+        """Whether tokens with which the other symbol begins may also begin that of the arc, before what follows it in the row."""
+        symbol, target = arc
+        after = set()
+        for exit in self.exits(symbol):
+            state = states[target + (exit if name == "DOCUMENT" else 0)]
+            after |= self.begins(state) | (self.follow[name, state.exit] if state.ends else set())
+        for first, second, alone in self.entries(symbol):
+            seconds = second | (after if alone else set())
+            for other_first, other_second, other_alone in self.entries(other):
+                if first & other_first and (other_alone or seconds & other_second):
+                    return True
+        return False
+
+    def class_names(self, classes):
+        """A set of classes in words."""
+        if classes >= self.classes:
+            return "anything"
+        kinds = self.symbols.grammar.leaves
+        found = []
+        if len(classes & self.names) > len(self.names) // 2:
+            missing = [word(kinds[a]) for a in sorted(self.names - classes)]
+            found.append("Names but " + " ".join(missing) if missing else "Names")
+            classes = classes - self.names
+        return ", ".join(found + ["the end" if a == END else word(kinds[a]) for a in sorted(classes)]) or "nothing"
 
     @cached_property
     def endings(self):

@@ -67,6 +67,7 @@ class Reader:
         return self.bound.get(word, word)
 
     def atom(self):
+        """A pattern in parentheses, or one of the words for patterns with what it is of."""
         if self.peek() == "(":
             self.take("(")
             pattern = self.pattern()

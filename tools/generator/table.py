@@ -94,19 +94,6 @@ def row(name, lookahead):
     return f"{head}\n{commented_list(zip(state_comments(name, states, lookahead.symbols), texts))}\n"
 
 
-def class_names(classes, lookahead):
-    """A set of classes in words."""
-    if classes >= lookahead.classes:
-        return "anything"
-    names, kinds = lookahead.names, lookahead.symbols.grammar.leaves
-    found = []
-    if len(classes & names) > len(names) // 2:
-        missing = [word(kinds[a]) for a in sorted(names - classes)]
-        found.append("Names but " + " ".join(missing) if missing else "Names")
-        classes = classes - names
-    return ", ".join(found + ["the end" if a == 0 else word(kinds[a]) for a in sorted(classes)]) or "nothing"
-
-
 def first_sets(lookahead):
     """The entries of each symbol, with a comment that names their classes."""
     items = []
@@ -115,7 +102,7 @@ def first_sets(lookahead):
         texts = [f"entry {mask(first)} {mask(second)} {str(alone).lower()}" for first, second, alone in entries]
         words = []
         for first, second, _ in entries:
-            words.append(class_names(first, lookahead) + (", then " + class_names(second, lookahead) if second else ""))
+            words.append(lookahead.class_names(first) + (", then " + lookahead.class_names(second) if second else ""))
         items.append((f"{number}, {name}: {'; '.join(words) or 'nothing'}", in_parentheses(antt_list(texts))))
     return commented_list(items)
 
@@ -148,11 +135,11 @@ pub data Entry : Type 0 where
 unfoldable pub firsts : List (List Entry)
 firsts =
 {first_sets(lookahead)}
--- The leaves that are names: {class_names(lookahead.names, lookahead)}, and the two that are names but some.
+-- The leaves that are names: {lookahead.class_names(lookahead.names)}, and the two that are names but some.
 abbrev pub name_leaves : ℕ
 name_leaves = {mask(lookahead.names | own_leaves)}
 
--- The kinds of tokens that are no names: {class_names(tokens, lookahead)}.
+-- The kinds of tokens that are no names: {lookahead.class_names(tokens)}.
 abbrev pub token_kinds : ℕ
 token_kinds = {mask(tokens)}
 """
@@ -163,7 +150,7 @@ def follows_file(lookahead):
     items = []
     for number, name in enumerate(lookahead.symbols.names):
         closed, lacking = lookahead.follow[name, 0], lookahead.follow[name, 1]
-        words = class_names(closed, lookahead) + ("; " + class_names(lacking, lookahead) if lacking else "")
+        words = lookahead.class_names(closed) + ("; " + lookahead.class_names(lacking) if lacking else "")
         items.append((f"{number}, {name}: {words}", f"({mask(closed)}, {mask(lacking)})"))
     return f"""{mark("--", SOURCE)}-- The classes that may follow each symbol, for each of what it leaves behind, and the classes of names.
 {PRELUDE}
@@ -223,6 +210,7 @@ labels =
 def outputs(grammar):
     """The text of each file, by its path."""
     lookahead = Lookahead(Symbols(grammar))
+    lookahead.check()
     return {
         FOLDER / "specs/Symbols.antt": symbols_file(lookahead.symbols),
         FOLDER / "specs/Table.antt": table_file(lookahead),

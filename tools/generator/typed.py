@@ -67,6 +67,7 @@ def accessors_text(kind, row):
 
 
 def accessor_text(kind, accessor):
+    """A method that gives a leaf, the first node, or all nodes."""
     doc = f"    /// {typed_docs.accessor_doc(kind, accessor)}\n"
     target, wanted = accessor.target, accessor.kinds[0]
     if target is None:
