@@ -1,6 +1,6 @@
 -- Texts that begin a sentence. Where tokens at the front of a text, and further tokens with the texts that are listed for the leaves, are
 -- those of a derivation, the text of the first goes on to a sentence: by a line feed, and then by the further tokens.
-use Rattle.std.proofs.Common.{◌≡◌, ℕ, zero, suc, ◌<◌, Bool, true, false, cond, eqb, List, [], ◌∷◌, ◌++◌, length, get_or, map, Some, None, IsUtf8, refl, sym, ap, ap₂, ◌∙◌, subst, inl, inr, eqb-true, ltb-true, append_assoc, arith}
+use Rattle.std.proofs.Common.{◌≡◌, ℕ, zero, suc, ◌<◌, Bool, true, false, cond, eqb, List, [], ◌∷◌, ◌++◌, length, get_or, map, Option, Some, None, IsUtf8, refl, sym, ap, ap₂, ◌∙◌, subst, inl, inr, eqb-true, ltb-true, append_assoc, arith}
 use Rattle.std.proofs.lemmas.Bool.{eqb-false}
 use Rattle.std.proofs.lemmas.Str.{IsUtf8-from_ascii}
 use Rattle.std.proofs.Math.Seq.{take-length}
@@ -79,21 +79,19 @@ at-each f g (suc m) n h e = elim (either (eqb n m)) [
   | inr p ↦ at-each f g m n (less n m h (eqb-false n m p)) (tail-same e)
 ]
 
-readings : map (λ l. token_at (spell l)) (down DOCUMENT) ≡ map (λ l. cond (wordless l) None (Some (kind_of l, length (spell l)))) (down DOCUMENT)
-unfolding spellings holds token kind_of kinds_by_leaf wordless ◌or◌
-readings = refl
+-- What is known of a leaf's text: the token that it is, its leaf again, whether it is significant, and whether it is ASCII.
+abbrev Facts : Type 0
+Facts = Option (TokenKind × ℕ) × ℕ × Bool × Bool
 
-leaves : map (λ l. leaf_number (kind_of l)) (down DOCUMENT) ≡ map (λ l. (token l []).0) (down DOCUMENT)
-unfolding holds token kind_of kinds_by_leaf
-leaves = refl
+abbrev facts : ℕ → Facts
+facts l = (token_at (spell l), leaf_number (kind_of l), is_significant_kind (kind_of l), all_ascii (spell l))
 
-significant : map (λ l. is_significant_kind (kind_of l)) (down DOCUMENT) ≡ map (λ l. cond (wordless l) false true) (down DOCUMENT)
-unfolding holds token kind_of kinds_by_leaf wordless ◌or◌
-significant = refl
+abbrev wanted : ℕ → Facts
+wanted l = (cond (wordless l) None (Some (kind_of l, length (spell l))), (token l []).0, cond (wordless l) false true, true)
 
-ascii : map (λ l. all_ascii (spell l)) (down DOCUMENT) ≡ map (λ l. true) (down DOCUMENT)
-unfolding spellings ◌and◌
-ascii = refl
+leaves-checked : map facts (down DOCUMENT) ≡ map wanted (down DOCUMENT)
+unfolding spellings holds token kind_of kinds_by_leaf wordless ◌or◌ ◌and◌
+leaves-checked = refl
 
 no-word : (l a : ℕ) → wordless l ≡ true → fires l a 0 ≡ false
 unfolding fires entries firsts wordless
@@ -108,13 +106,11 @@ unfolding is_leaf token
 leaf-word l ok =
     let b : l < DOCUMENT = ltb-true l DOCUMENT ok.0 in
     let some : wordless l ≡ false = elim (either (wordless l)) [ inl p ↦ false-true (no-word l (class (token l (spell l))) p) ok.1 | inr p ↦ p ] in
-    let test : token_at (spell l) ≡ cond (wordless l) None (Some (kind_of l, length (spell l))) =
-    at-each (λ (k : ℕ). token_at (spell k)) (λ (k : ℕ). cond (wordless k) None (Some (kind_of k, length (spell k)))) DOCUMENT l b readings in
-    let reading : token_at (spell l) ≡ Some (kind_of l, length (spell l)) = rw some at test in
-    let signs : is_significant_kind (kind_of l) ≡ cond (wordless l) false true =
-    at-each (λ (k : ℕ). is_significant_kind (kind_of k)) (λ (k : ℕ). cond (wordless k) false true) DOCUMENT l b significant in
-    let plain : all_ascii (spell l) ≡ true = at-each (λ (k : ℕ). all_ascii (spell k)) (λ (k : ℕ). true) DOCUMENT l b ascii in
-    let number : leaf_number (kind_of l) ≡ (token l []).0 = at-each (λ (k : ℕ). leaf_number (kind_of k)) (λ (k : ℕ). (token k []).0) DOCUMENT l b leaves in (
+    let all : facts l ≡ wanted l = at-each facts wanted DOCUMENT l b leaves-checked in
+    let reading : token_at (spell l) ≡ Some (kind_of l, length (spell l)) = rw some at (ap (λ (p : Facts). p.0) all) in
+    let signs : is_significant_kind (kind_of l) ≡ cond (wordless l) false true = ap (λ (p : Facts). p.2) all in
+    let plain : all_ascii (spell l) ≡ true = ap (λ (p : Facts). p.3) all in
+    let number : leaf_number (kind_of l) ≡ (token l []).0 = ap (λ (p : Facts). p.1) all in (
       record { kind = kind_of l; text = spell l },
       record {
         characters = IsUtf8-from_ascii (spell l) (is-ascii (spell l) plain);

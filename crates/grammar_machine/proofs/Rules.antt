@@ -14,7 +14,7 @@ use Rattle.grammar_machine.proofs.TableLemmas.{zero-plus, all-from-at, text-same
 use Rattle.grammar_machine.proofs.Sound.{fired, holds-one, leaf-lt}
 use Rattle.grammar_machine.proofs.Patterns.{derive_all, pattern_of, symbol_row, label}
 use Rattle.grammar_machine.proofs.FromMachineTree.{show, shows, row-shown, show-root}
-use Rattle.document_grammar.specs.Kinds.{words, OPERATION_DEFINITION, SELECTION_SET, NAME, FRAGMENT_NAME, ENUM_VALUE, VARIABLE, DEFAULT_VALUE, DOCUMENT, IDENT, STRING}
+use Rattle.document_grammar.specs.Kinds.{words, OPERATION_DEFINITION, SELECTION_SET, FRAGMENT_NAME, ENUM_VALUE, VARIABLE, DEFAULT_VALUE, DOCUMENT, IDENT, STRING}
 use Rattle.grammar_machine.specs.Symbols.{TYPE, SHORT_QUERY, IDENT_FOR_FRAGMENT, IDENT_FOR_ENUM, NAME_FOR_FRAGMENT, NAME_FOR_ENUM, BARE_SELECTIONS}
 
 -- A test of each symbol and its label.
@@ -105,24 +105,18 @@ leaf-rule l x o h =
     let w : word_class words x ≡ label l = sym (keyword-class l x (and-r _ _ (and-l _ _ c))) ∙ (k ∙ sym e) in
     listed words (label l) x w (above-string (label l) h)
 
--- Names.
-pub one-tree : (f : Forest) (k : ℕ) → kinds (shows f) ≡ k ∷ [] → (t : Tree) × (f ≡ t ▸ none)
-one-tree none k e = no-cons e
-one-tree (t ▸ none) k e = (t, refl)
-one-tree (t ▸ (u ▸ f)) k e = no-cons (sym (tail-same e))
+-- Names. A node whose row is one child, the symbol `j`.
+abbrev HoldsOne : ℕ → ℕ → Type 0
+HoldsOne s j = (is_leaf s ≡ false) × (eqb s TYPE ≡ false) × (pattern_of s 0 ≡ any_of (label j ∷ [])) × (arcs s 0 ≡ (j, 1) ∷ [])
 
--- A node whose row is one child of one kind has one child.
-pub single : (s k : ℕ) (f : Forest) → is_leaf s ≡ false → eqb s TYPE ≡ false → pattern_of s 0 ≡ any_of (k ∷ []) → OkFrom s 0 f
-    → (t : Tree) × (f ≡ t ▸ none)
-single s k f l e p o = let m : Matches (any_of (k ∷ [])) (kinds (shows f)) = subst (λ (q : Pattern). Matches q (kinds (shows f))) p (row-shown s 0 f l o) in one-tree f m.0 m.2
-
--- A node of the symbol `s` whose row is the symbol `j` alone.
-pub only-arc : (s j k : ℕ) → arcs s 0 ≡ (j, 1) ∷ [] → has s 0 k ≡ true → k ≡ j
+only-child : (s j : ℕ) (f : Forest) → HoldsOne s j → OkFrom s 0 f → (t : Tree) × (f ≡ t ▸ none) × (root t ≡ j) × Ok t
 unfolding has ◌or◌
-only-arc s j k e h = elim (or-c (eqb j k) false (rw e at h)) [ inl p ↦ sym (eqb-true j k p) | inr p ↦ absurd (true≢false (sym p)) ]
-
-no-leaf-root : {A : Type 0} (l j : ℕ) → is_leaf l ≡ true → l ≡ j → is_leaf j ≡ false → A
-no-leaf-root l j i e f = false-true f (rw e at i)
+only-child s j f c o = on f o (subst (λ (q : Pattern). Matches q (kinds (shows f))) c.2 (row-shown s 0 f c.0 o))
+  where
+    on : (f : Forest) → OkFrom s 0 f → Matches (any_of (label j ∷ [])) (kinds (shows f)) → (t : Tree) × (f ≡ t ▸ none) × (root t ≡ j) × Ok t
+    on none o m = no-cons m.2
+    on (t ▸ none) o m = (t, refl, elim (or-c (eqb j (root t)) false (rw c.3 at o.0)) [ inl p ↦ sym (eqb-true j (root t) p) | inr p ↦ absurd (true≢false (sym p)) ], o.1)
+    on (t ▸ (u ▸ f)) o m = no-cons (sym (tail-same m.2))
 
 NameLeaf : ℕ → Text → Type 0
 NameLeaf i y = (x : Text) × (y ≡ x) × (fires i (class (token i x)) 0 ≡ true)
@@ -136,25 +130,19 @@ trim : (i : ℕ) (y : Text) → NameLeaf i y → NameLeaf i (y ++ [])
 unfolding NameLeaf
 trim i y h = (h.0, append-nil y ∙ h.1, h.2)
 
-inner-text : (j i : ℕ) (t : Tree) → root t ≡ j → is_leaf j ≡ false → eqb j TYPE ≡ false → pattern_of j 0 ≡ any_of (IDENT ∷ []) → arcs j 0 ≡ (i, 1) ∷ []
-    → is_leaf i ≡ true → Ok t → NameLeaf i (text (show t))
-inner-text j i (leaf l x) e lj ej pj aj li o = no-leaf-root l j o.0 e lj
-inner-text j i (node s g) e lj ej pj aj li o =
-    let g' : OkFrom j 0 g = subst (λ (n : ℕ). OkFrom n 0 g) e o.1 in
-    let c = single j IDENT g lj ej pj g' in
-    let h : OkFrom j 0 (c.0 ▸ none) = subst (λ (z : Forest). OkFrom j 0 z) c.1 g' in
-    let n : NameLeaf i (text (show c.0) ++ []) = trim i (text (show c.0)) (leaf-text i c.0 (only-arc j i (root c.0) aj h.0) li h.1) in
-    subst (λ (z : Tree). NameLeaf i (text z)) (sym (show-root s g (subst (λ (z : ℕ). eqb z TYPE ≡ false) (sym e) ej)))
-    (subst (λ (z : Forest). NameLeaf i (texts (shows z))) (sym c.1) n)
+inner-text : (j i : ℕ) (t : Tree) → root t ≡ j → HoldsOne j i → is_leaf i ≡ true → Ok t → NameLeaf i (text (show t))
+inner-text j i (leaf l x) e c li o = false-true c.0 (rw e at o.0)
+inner-text j i (node s g) e c li o =
+    let a = only-child j i g c (subst (λ (n : ℕ). OkFrom n 0 g) e o.1) in
+    let n : NameLeaf i (text (show a.0) ++ []) = trim i (text (show a.0)) (leaf-text i a.0 a.2 li a.3) in
+    subst (λ (z : Tree). NameLeaf i (text z)) (sym (show-root s g (subst (λ (z : ℕ). eqb z TYPE ≡ false) (sym e) c.1)))
+    (subst (λ (z : Forest). NameLeaf i (texts (shows z))) (sym a.1) n)
 
 -- The text of a name node: its leaf is of the symbol `i`.
-name-leaf : (s j i : ℕ) (f : Forest) → is_leaf s ≡ false → eqb s TYPE ≡ false → pattern_of s 0 ≡ any_of (NAME ∷ []) → arcs s 0 ≡ (j, 1) ∷ []
-    → is_leaf j ≡ false → eqb j TYPE ≡ false → pattern_of j 0 ≡ any_of (IDENT ∷ []) → arcs j 0 ≡ (i, 1) ∷ [] → is_leaf i ≡ true → OkFrom s 0 f
-    → NameLeaf i (texts (shows f))
-name-leaf s j i f ls es ps as' lj ej pj aj li o =
-    let c = single s NAME f ls es ps o in
-    let h : OkFrom s 0 (c.0 ▸ none) = subst (λ (z : Forest). OkFrom s 0 z) c.1 o in
-    subst (λ (z : Forest). NameLeaf i (texts (shows z))) (sym c.1) (trim i (text (show c.0)) (inner-text j i c.0 (only-arc s j (root c.0) as' h.0) lj ej pj aj li h.1))
+name-leaf : (s j i : ℕ) (f : Forest) → HoldsOne s j → HoldsOne j i → is_leaf i ≡ true → OkFrom s 0 f → NameLeaf i (texts (shows f))
+name-leaf s j i f c d li o =
+    let a = only-child s j f c o in
+    subst (λ (z : Forest). NameLeaf i (texts (shows z))) (sym a.1) (trim i (text (show a.0)) (inner-text j i a.0 a.2 d li a.3))
 
 refused : (x : Text) → (fires IDENT_FOR_FRAGMENT (class (token IDENT_FOR_FRAGMENT x)) 0 ≡ true → x ≢ on_text)
     × (fires IDENT_FOR_ENUM (class (token IDENT_FOR_ENUM x)) 0 ≡ true → (x ≢ true_text) × (x ≢ false_text) × (x ≢ null_text))
@@ -163,11 +151,11 @@ refused x = ((λ h e. true≢false (sym (rw e at h))), (λ h. ((λ e. true≢fal
 
 fragment-leaf : (f : Forest) → OkFrom FRAGMENT_NAME 0 f → NameLeaf IDENT_FOR_FRAGMENT (texts (shows f))
 unfolding is_leaf pattern_of symbol_row label labels Row paths arcs at rows
-fragment-leaf f o = name-leaf FRAGMENT_NAME NAME_FOR_FRAGMENT IDENT_FOR_FRAGMENT f refl refl refl refl refl refl refl refl refl o
+fragment-leaf f o = name-leaf FRAGMENT_NAME NAME_FOR_FRAGMENT IDENT_FOR_FRAGMENT f (refl, refl, refl, refl) (refl, refl, refl, refl) refl o
 
 enum-leaf : (f : Forest) → OkFrom ENUM_VALUE 0 f → NameLeaf IDENT_FOR_ENUM (texts (shows f))
 unfolding is_leaf pattern_of symbol_row label labels Row paths arcs at rows
-enum-leaf f o = name-leaf ENUM_VALUE NAME_FOR_ENUM IDENT_FOR_ENUM f refl refl refl refl refl refl refl refl refl o
+enum-leaf f o = name-leaf ENUM_VALUE NAME_FOR_ENUM IDENT_FOR_ENUM f (refl, refl, refl, refl) (refl, refl, refl, refl) refl o
 
 pub name-rule : (s : ℕ) (f : Forest) → OkFrom s 0 f → NameRule (label s) (shows f)
 unfolding NameLeaf
