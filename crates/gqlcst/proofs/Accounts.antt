@@ -3,7 +3,7 @@ use Rattle.std.proofs.Common.{◌≡◌, ℕ, zero, suc, ◌-◌, ◌<◌, ◌�
 use Rattle.std.proofs.lemmas.List.{take-append-drop, append-nil, take_rest}
 use Rattle.std.specs.Prelude.{◌≢◌, Result, Ok}
 use Rattle.gqlcst.specs.Devices.{Account, moved, stopped, failed, after}
-use Rattle.gqlcst.specs.Written.{IsTaken, IsBroken}
+use Rattle.gqlcst.specs.Writing.{IsTaken, IsBroken}
 
 -- nothing went through
 pub moved_nil : (a : Account) → moved a [] ≡ a

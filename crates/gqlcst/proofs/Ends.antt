@@ -8,15 +8,14 @@ use Rattle.gqlcst.specs.declared.outcome.Outcome.{Outcome}
 use Rattle.gqlcst.specs.declared.outcome.Fault.{Fault}
 use Rattle.gqlcst.specs.declared.outcome.Fault.TheVariants.{Read, Utf8, Memory, Write}
 use Rattle.gqlcst.specs.Devices.{Account, moved, stopped}
-use Rattle.gqlcst.specs.Written.{EndsWriting}
-use Rattle.gqlcst.specs.Outputs.{IsOutput}
-use Rattle.gqlcst.specs.Runs.{Reads, Writes}
+use Rattle.gqlcst.specs.Writing.{EndsWriting}
+use Rattle.gqlcst.specs.Program.{IsOutput, Reads, Writes}
 
 cut_off : (fault : Fault) (mode : Mode) (limits : Limits) (input : List ℕ) (outcome : Outcome) (output : List ℕ) (r r' w w' : Account)
     → r' ≡ stopped (moved r input) → IsUtf8 input → IsOutput mode limits input outcome output → EndsWriting fault output w w'
     → Reads (Err fault) input r r' × Writes mode limits (Err fault) input w w'
 cut_off Write mode limits input outcome output r r' w w' read text made broken =
-    (read, (text, outcome, output, made, broken))
+    (read, record { utf8 = text; outcome = outcome; output = output; made = made; broken = broken })
 cut_off Read mode limits input outcome output r r' w w' read text made broken = absurd broken
 cut_off Utf8 mode limits input outcome output r r' w w' read text made broken = absurd broken
 cut_off Memory mode limits input outcome output r r' w w' read text made broken = absurd broken

@@ -1,22 +1,13 @@
 -- Items, printed one after the other.
-use Rattle.std.proofs.Common.{◌≡◌, ℕ, ◌+◌, ◌≤◌, Bool, true, false, List, [], ◌∷◌, ◌++◌, length, length-append, refl, sym, ap, ◌∙◌, subst, append_assoc, arith}
-use Rattle.std.specs.Prelude.{filter, not}
-use Rattle.std.proofs.lemmas.List.Elements.{filter-append}
+use Rattle.std.proofs.Common.{◌≡◌, ℕ, ◌+◌, ◌≤◌, Bool, true, false, List, [], ◌∷◌, ◌++◌, length, length-append, not, cond, refl, sym, ap, ◌∙◌, subst, append_assoc, arith}
+use Rattle.std.proofs.lemmas.List.Sums.{sum_by-append}
 use Rattle.std.proofs.lemmas.List.{append-nil}
-use Rattle.apollo_parser.specs.Cut.{Item, Cut}
-use Rattle.apollo_parser.specs.Answers.{Answer, limited, is_token}
+use Rattle.apollo_parser.specs.Answers.{Answer, is_token}
 use Rattle.apollo_parser.specs.LexerAnswers.{error_answer}
 use Rattle.apollo_parser.specs.Diagnostics.{Diagnostic}
 use Rattle.apollo_parser.specs.Told.{told_subject, IsLexMessage}
-use Rattle.gqlcst.specs.declared.outcome.Outcome.{Outcome}
-use Rattle.gqlcst.specs.Found.{outcome_of}
-use Rattle.gqlcst.specs.Lines.{line, AreLines}
-use Rattle.gqlcst.specs.Outputs.{IsErrorForm, IsAnswerForm, IsTokens}
+use Rattle.gqlcst.specs.Rendering.{line, AreLines, IsErrorForm, IsAnswerForm, error_count}
 use Rattle.gqlcst.proofs.Lines.{lines_none, lines_more}
-
--- the number of errors among the answers
-abbrev pub error_count : List Answer → ℕ
-error_count answers = length (filter (λ answer. not (is_token answer)) answers)
 
 -- The first of all answers are printed, with so many errors among them, and these are left.
 pub record ArePrinted (all left : List Answer) (output : List ℕ) (errors : ℕ) : Type 0 where
@@ -30,9 +21,7 @@ pub printed_none : (all : List Answer) → ArePrinted all all [] 0
 printed_none all = record { printed = []; joined = refl; lines = lines_none IsAnswerForm; counted = refl; within = omega arith }
 
 count_more : (printed : List Answer) (answer : Answer) → error_count (printed ++ answer ∷ []) ≡ error_count printed + error_count (answer ∷ [])
-count_more printed answer =
-    ap length (filter-append (λ (a : Answer). not (is_token a)) printed (answer ∷ []))
-    ∙ length-append (filter (λ (a : Answer). not (is_token a)) printed) (filter (λ (a : Answer). not (is_token a)) (answer ∷ []))
+count_more printed answer = sum_by-append (λ (a : Answer). cond (not (is_token a)) 1 0) printed (answer ∷ [])
 
 -- one more answer is printed
 pub printed_more : (all left : List Answer) (answer : Answer) (output form : List ℕ) (errors more : ℕ) → ArePrinted all (answer ∷ left) output errors → IsAnswerForm answer form
@@ -62,17 +51,13 @@ error_counts false text index = refl
 pub error_form : (limit : Bool) (text form : List ℕ) (index : ℕ) (error : Diagnostic) → error.subject ≡ told_subject limit text → error.index ≡ index → IsLexMessage limit text error.message
     → IsErrorForm error form → IsAnswerForm (error_answer limit text index) form
 error_form true text form index error subject place message one =
-    (error, (λ j. record { message = message j; subject = subject j; index = place j }), one)
-error_form false text form index error subject place message one = (error, (subject, place, message), one)
+    record { error = error; tells = (λ j. record { message = message j; subject = subject j; index = place j }); form = one }
+error_form false text form index error subject place message one =
+    record { error = error; tells = (subject, place, message); form = one }
 
--- all answers are printed
-pub tokens_printed : (limit : ℕ) (text : List ℕ) (items : List Item) (all left : List Answer) (output : List ℕ) (errors : ℕ) (outcome : Outcome) → Cut text items → all ≡ limited limit items → left ≡ []
-    → ArePrinted all left output errors → outcome ≡ outcome_of errors → IsTokens limit text outcome output
-tokens_printed limit text items all left output errors outcome cut are none h found =
+-- where none is left, all answers are printed
+pub all_printed : (wanted all left : List Answer) (output : List ℕ) (errors : ℕ) → all ≡ wanted → left ≡ [] → ArePrinted all left output errors
+    → AreLines IsAnswerForm wanted output × (errors ≡ error_count wanted)
+all_printed wanted all left output errors are none h =
     let whole = sym (append-nil h.printed) ∙ (ap (λ (answers : List Answer). h.printed ++ answers) (sym none) ∙ (sym h.joined ∙ are)) in
-    record {
-      items = items;
-      cut = cut;
-      lines = subst (λ (answers : List Answer). AreLines IsAnswerForm answers output) whole h.lines;
-      found = found ∙ ap outcome_of (h.counted ∙ ap error_count whole);
-    }
+    (subst (λ (answers : List Answer). AreLines IsAnswerForm answers output) whole h.lines, h.counted ∙ ap error_count whole)

@@ -1,6 +1,6 @@
 pub mod Accounts
 pub mod Ends
-pub mod Found
 pub mod Items
 pub mod Lines
 pub mod Numbers
+pub mod Verdicts

@@ -3,7 +3,7 @@ use Rattle.std.proofs.Common.{◌≡◌, ℕ, ◌+◌, ◌<◌, List, [], ◌∷
 use Rattle.std.specs.List.{flat_map, AllZip}
 use Rattle.std.proofs.lemmas.List.{append-nil, take_more}
 use Rattle.std.proofs.lemmas.Grind.{flat_map-append}
-use Rattle.gqlcst.specs.Lines.{line, AreLines}
+use Rattle.gqlcst.specs.Rendering.{line, AreLines}
 
 pub lines_none : {A : Type 0} (R : A → List ℕ → Type 0) → AreLines R [] []
 lines_none R = record { forms = []; each = tt; joined = refl }

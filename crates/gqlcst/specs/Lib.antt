@@ -1,10 +1,8 @@
-pub mod Devices
-pub mod Traces
-pub mod Input
-pub mod Written
-pub mod Lines
-pub mod Found
-pub mod Outputs
-pub mod Runs
 pub mod Command
-pub mod Endings
+pub mod Devices
+pub mod Reading
+pub mod Parsing
+pub mod Rendering
+pub mod Writing
+pub mod Program
+pub mod Ending

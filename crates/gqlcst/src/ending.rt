@@ -1,6 +1,6 @@
 // What the program says at its end.
 ghost use Rattle.std.specs.Prelude.{◌≡◌};
-ghost use Rattle.gqlcst.specs.Endings.{status_of, complaint_of};
+ghost use Rattle.gqlcst.specs.Ending.{status_of, complaint_of};
 
 use crate::outcome::{Fault, Outcome};
 

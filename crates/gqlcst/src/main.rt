@@ -4,16 +4,16 @@
 mod command;
 mod devices;
 mod ending;
-mod input;
 mod outcome;
-mod output;
 mod parsing;
 mod program;
-mod render;
+mod reading;
+mod rendering;
 mod std_devices;
 #[cfg(test)]
 mod tests;
 mod trace;
+mod writing;
 
 use command::{Limits, Mode, options};
 use ending::{USAGE, ending};

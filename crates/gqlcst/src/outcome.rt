@@ -1,6 +1,6 @@
 // How a run of the program ends.
 ghost use Rattle.std.specs.Prelude.{◌≡◌};
-ghost use Rattle.gqlcst.specs.Found.{outcome_of};
+ghost use Rattle.gqlcst.specs.Parsing.{outcome_of};
 ghost use Rattle.gqlcst.specs.declared.outcome.Fault.TheVariants.{Memory};
 
 use std::alloc::AllocError;

@@ -1,11 +1,23 @@
-// Parsing within limits.
-ghost use Rattle.std.specs.Prelude.{◌≡◌, IfOk, length};
-ghost use Rattle.gqlcst.specs.Found.{outcome_of, IsFound};
+// Lexing and parsing within limits.
+ghost use Rattle.std.specs.Prelude.{◌≡◌, IfOk};
+ghost use Rattle.apollo_parser.specs.Cut.{Cut};
+ghost use Rattle.apollo_parser.specs.Answers.{limited};
+ghost use Rattle.apollo_parser.specs.Reads.{items_of};
+ghost use Rattle.apollo_parser.specs.LexerAnswers.{answers_left};
+ghost use Rattle.gqlcst.specs.Parsing.{IsFound};
 
 use crate::command::Limits;
 use crate::outcome::{Outcome, outcome_of};
-use apollo_parser::{DocumentRoot, Parser, SyntaxTree};
+use apollo_parser::{DocumentRoot, Lexer, Parser, SyntaxTree};
 use std::alloc::{AllocError, Allocator};
+
+/// A lexer of the text, with the token limit.
+pub fn lexer(source: &str, limits: Limits) -> Lexer<'_>
+    ensures cut { Cut source.now (items_of source.now) }
+    ensures answers { answers_left result ≡ limited limits.tokens (items_of source.now) }
+{
+    Lexer::new(source).with_limit(limits.tokens)
+}
 
 // A parser of the text, with these limits.
 fn parser(source: &str, limits: Limits) -> Parser<'_>
@@ -18,14 +30,13 @@ fn parser(source: &str, limits: Limits) -> Parser<'_>
         .token_limit(limits.tokens)
 }
 
-/// The tree of a text, and whether the text is a sentence within the limits.
+/// The tree of a text with its errors, and what their number comes to.
 pub fn parse<A: Allocator + Copy>(
     alloc: A,
     source: &str,
     limits: Limits,
 ) -> Result<(SyntaxTree<DocumentRoot, A>, Outcome), AllocError>
-    ensures found { IfOk result (λ it. IsFound limits source.now it.1) }
-    ensures errors { IfOk result (λ it. it.1 ≡ outcome_of (length it.0.errors)) }
+    ensures { IfOk result (λ it. IsFound limits source.now it.0.errors it.1) }
 {
     let tree = parser(source, limits).parse(alloc)?;
     let outcome = outcome_of(tree.errors().len());

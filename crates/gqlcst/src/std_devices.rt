@@ -1,8 +1,7 @@
 // Standard readers and writers as devices of the program.
 ghost use Rattle.std.specs.Prelude.{◌≡◌, ◌<◌, ◌≤◌, length, IfOk};
 ghost use Rattle.std.specs.Io.KnownBytes.{ReadConsumes, WriteAppends};
-ghost use Rattle.gqlcst.specs.Devices.{nothing_moved, after};
-ghost use Rattle.gqlcst.specs.Traces.{account_of};
+ghost use Rattle.gqlcst.specs.Devices.{nothing_moved, after, account_of};
 
 use crate::devices::{DeviceError, Sink, Source};
 use crate::trace::Trace;

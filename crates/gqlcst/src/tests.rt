@@ -39,7 +39,7 @@ struct Pieces<'a> {
 }
 
 impl<'a> Source for Pieces<'a> {
-    ghost use Rattle.gqlcst.specs.Traces.{account_of};
+    ghost use Rattle.gqlcst.specs.Devices.{account_of};
 
     ghost account = { λ pieces. account_of pieces.trace };
 
@@ -69,7 +69,7 @@ struct Page {
 }
 
 impl Sink for Page {
-    ghost use Rattle.gqlcst.specs.Traces.{account_of};
+    ghost use Rattle.gqlcst.specs.Devices.{account_of};
 
     ghost account = { λ page. account_of page.trace };
 

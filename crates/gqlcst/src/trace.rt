@@ -18,8 +18,7 @@ impl Model for Trace {
 }
 
 impl Trace {
-    ghost use Rattle.gqlcst.specs.Devices.{nothing_moved, after};
-    ghost use Rattle.gqlcst.specs.Traces.{account_of};
+    ghost use Rattle.gqlcst.specs.Devices.{nothing_moved, after, account_of};
 
     /// The account of a device that was not called.
     pub fn new() -> Trace

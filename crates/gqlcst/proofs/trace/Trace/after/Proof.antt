@@ -38,8 +38,7 @@ use Rattle.gqlcst.specs.contracts.trace.Trace as trace
 use Rattle.std.specs.contracts.result.Result as Result
 use Rattle.gqlcst.specs.contracts.devices.DeviceError as DeviceError
 use Rattle.gqlcst.specs.declared.trace.Trace.{Trace}
-use Rattle.gqlcst.specs.Devices.{Account, after}
-use Rattle.gqlcst.specs.Traces.{account_of}
+use Rattle.gqlcst.specs.Devices.{Account, after, account_of}
 
 -- what `read` and `write` answer
 abbrev answer_row : RattleType

@@ -1,11 +1,8 @@
-// Mode check.
+// The output of mode check.
 ghost use Rattle.std.specs.Prelude.{IfOk, string_bytes};
-ghost use Rattle.gqlcst.specs.Outputs.{IsReport, IsCheck};
+ghost use Rattle.gqlcst.specs.Rendering.{IsReport, IsVerdict};
 
-use crate::command::Limits;
-use crate::outcome::Outcome;
-use crate::parsing::parse;
-use crate::render::lines::push_line;
+use crate::rendering::lines::push_line;
 use apollo_parser::Error;
 use std::alloc::{AllocError, Allocator};
 
@@ -25,17 +22,16 @@ fn report<A: Allocator + Copy>(alloc: A, errors: &[Error<A>]) -> Result<String<A
 }
 
 /// `clean`, or the errors and their number.
-pub fn check<A: Allocator + Copy>(
+#[tactic(auto, using(crate::proofs::Verdicts::verdict_clean, crate::proofs::Verdicts::verdict_report))]
+pub fn render_errors<A: Allocator + Copy>(
     alloc: A,
-    source: &str,
-    limits: Limits,
-) -> Result<(String<A>, Outcome), AllocError>
-    ensures { IfOk result (λ it. IsCheck limits source.now it.1 (string_bytes it.0)) }
+    errors: &[Error<A>],
+) -> Result<String<A>, AllocError>
+    ensures { IfOk result (λ text. IsVerdict errors.now (string_bytes text)) }
 {
-    let (tree, outcome) = parse(alloc, source, limits)?;
-    let text = match outcome {
-        Outcome::Clean => String::from_str(alloc, "clean\n")?,
-        Outcome::Errors(_) => report(alloc, tree.errors().as_slice())?,
-    };
-    Ok((text, outcome))
+    if errors.is_empty() {
+        String::from_str(alloc, "clean\n")
+    } else {
+        report(alloc, errors)
+    }
 }

@@ -1,5 +1,5 @@
 use Rattle.gqlcst.proofs.Accounts.{taken_call}
-use Rattle.gqlcst.proofs.output.write_all.Goals as goal
+use Rattle.gqlcst.proofs.writing.write_all.Goals as goal
 
 pub loop-rest-preserved : goal.loop-rest-preserved
 loop-rest-preserved g c =

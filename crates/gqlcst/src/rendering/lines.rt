@@ -1,6 +1,6 @@
 // Lines of the output.
 ghost use Rattle.std.specs.Prelude.{◌≡◌, ◌++◌, List, ℕ, OnOk, string_bytes};
-ghost use Rattle.gqlcst.specs.Lines.{line, IsForm};
+ghost use Rattle.gqlcst.specs.Rendering.{line, IsForm};
 
 use std::alloc::{AllocError, Allocator};
 use std::fmt::{Display, Write};

@@ -1,6 +1,6 @@
-use Rattle.gqlcst.specs.Outputs.{IsErrorForm}
+use Rattle.gqlcst.specs.Rendering.{IsErrorForm}
 use Rattle.gqlcst.proofs.Lines.{lines_next}
-use Rattle.gqlcst.proofs.render.check.report.Goals as goal
+use Rattle.gqlcst.proofs.rendering.errors.report.Goals as goal
 
 pub loop-error-preserved : goal.loop-error-preserved
 loop-error-preserved g c =

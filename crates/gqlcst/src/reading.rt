@@ -1,7 +1,7 @@
 // Reading to the end.
 ghost use Rattle.std.specs.Prelude.{◌≡◌, List, ℕ, IfOk, IfErr};
 ghost use Rattle.gqlcst.specs.Devices.{moved, stopped};
-ghost use Rattle.gqlcst.specs.Input.{EndsReading};
+ghost use Rattle.gqlcst.specs.Reading.{EndsReading};
 
 use crate::devices::Source;
 use crate::outcome::Fault;

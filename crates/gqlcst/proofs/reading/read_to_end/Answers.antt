@@ -1,7 +1,7 @@
 use Rattle.std.proofs.Common.{◌++◌, take}
 use Rattle.std.proofs.lemmas.Result.{err_from_is_err_and}
 use Rattle.gqlcst.proofs.Accounts.{gave}
-use Rattle.gqlcst.proofs.input.read_to_end.Goals as goal
+use Rattle.gqlcst.proofs.reading.read_to_end.Goals as goal
 
 -- the bytes that were read before memory was refused, the last of them too
 pub returns-in_err-extend_from_slice-in-Ok-clause-err :

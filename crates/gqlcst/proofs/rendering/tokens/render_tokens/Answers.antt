@@ -1,7 +1,8 @@
 use Rattle.std.proofs.Common.{◌+◌, arith, refl, ap, ◌∙◌}
 use Rattle.apollo_parser.specs.LexerAnswers.{answers_left}
-use Rattle.gqlcst.proofs.Items.{printed_none, printed_next, error_counts, error_form, tokens_printed}
-use Rattle.gqlcst.proofs.render.tokens.tokens.Goals as goal
+use Rattle.gqlcst.specs.Parsing.{outcome_of}
+use Rattle.gqlcst.proofs.Items.{printed_none, printed_next, error_counts, error_form, all_printed}
+use Rattle.gqlcst.proofs.rendering.tokens.render_tokens.Goals as goal
 
 pub loop-item-init : goal.loop-item-init
 loop-item-init g c = rw c.new-text.ensures.bytes (printed_none (answers_left c.into_iter-item-iterator.result))
@@ -30,5 +31,5 @@ loop-item-preserved g c =
 -- nothing is left
 pub returns : goal.returns
 returns g c =
-    let fresh = rw c.new.ensures.items at c.with_limit-item-items.ensures.answers in
-    tokens_printed _ _ _ _ _ _ _ _ c.new.ensures.cut (ap answers_left c.into_iter-item-iterator.ensures.into_iter_gives ∙ fresh) c.in-None.ensures.steps.answers.0 c.loop-item.invariant c.outcome_of.ensures
+    let all = all_printed _ _ _ _ _ (ap answers_left c.into_iter-item-iterator.ensures.into_iter_gives) c.in-None.ensures.steps.answers.0 c.loop-item.invariant in
+    record { lines = all.0; outcome = c.outcome_of.ensures ∙ ap outcome_of all.1 }

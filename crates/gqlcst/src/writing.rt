@@ -1,7 +1,7 @@
 // Writing to the end.
 ghost use Rattle.std.specs.Prelude.{◌≡◌, IfErr, OnOk};
 ghost use Rattle.gqlcst.specs.Devices.{moved};
-ghost use Rattle.gqlcst.specs.Written.{EndsWriting};
+ghost use Rattle.gqlcst.specs.Writing.{EndsWriting};
 
 use crate::devices::Sink;
 use crate::outcome::Fault;

@@ -1,6 +1,6 @@
 use Rattle.std.proofs.Common.{◌≡◌, ◌-◌, ◌^◌, vec_len}
 use Rattle.gqlcst.specs.Devices.{moved}
-use Rattle.gqlcst.proofs.input.read_to_end.Given as goal
+use Rattle.gqlcst.proofs.reading.read_to_end.Given as goal
 
 abbrev pub invariant-loop-bytes : goal.invariant-loop-bytes
 invariant-loop-bytes g l = g.R.Source.account l.reader ≡ moved (g.R.Source.account l.initial.reader) l.bytes.items
