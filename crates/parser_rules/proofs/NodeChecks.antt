@@ -10,18 +10,17 @@ use Rattle.grammar_machine.specs.Table.{rows, firsts}
 use Rattle.grammar_machine.specs.Machine.{is_leaf, at, ends, exit, arcs, target, entries}
 use Rattle.grammar_machine.proofs.Checks.{exits, row_of}
 use Rattle.grammar_machine.proofs.Steps.{goes, closes, sticks}
-use Rattle.grammar_machine.proofs.Sound.{any}
 use Rattle.grammar_machine.proofs.Patterns.{label}
 use Rattle.parser_rules.specs.Nodes.{Node, Arguments, Argument, Directives, Directive, ListValue, ObjectValue, ObjectField, symbol, Document, Definition}
 use Rattle.parser_rules.specs.RuleLanguage.{While, Ready, Call}
-use Rattle.parser_rules.specs.Rules.{inside}
 use Rattle.parser_rules.proofs.runs.Progress.{consuming}
 use Rattle.parser_rules.proofs.lookahead.Split.{split, divide}
 use Rattle.parser_rules.proofs.lookahead.FirstSets.{first_of, first_in, second_of, inlined, unread}
 use Rattle.parser_rules.proofs.soundness.TableCheck.{own, covered, all_marks, levels, leaf_of, loses, whole, leaves_well, post, heads, takes, ends_at, closing, child_goes, child_sticks, child_at, limits_at, nests, typed, type_at, reports, is_node, ok, ends_well, follows_table, root_ends, document_follows, turns_follow}
-use Rattle.parser_rules.proofs.leaves.LeafCheck.{belongs, leaf_kinds, fine, leaves_belong}
-use Rattle.parser_rules.proofs.nesting.LevelCheck.{weight, walks, settled, levels_hold}
-use Rattle.parser_rules.proofs.recovery.RecoveryCheck.{told_first, pops, spares, recovers_well, of_row, leaf_of_row, fits_in, keeps_row, tidy}
+use Rattle.parser_rules.proofs.leaves.LeafCheck.{belongs, anything, leaf_check}
+use Rattle.parser_rules.proofs.nesting.LevelCheck.{weight, at_first, level_check}
+use Rattle.parser_rules.proofs.runs.Walk.{walk, checks, always}
+use Rattle.parser_rules.proofs.recovery.RecoveryCheck.{pop_check, row_check, tidy_check, of_row, leaf_of_row, unknown, any_token}
 
 -- what can be wrong with a rule
 data Fault : Type 0 where
@@ -44,15 +43,15 @@ unless b fault more = cond b more (fault ∷ more)
 unfoldable faults : Node → List Fault
 faults c =
     unless (follows_table c) AgainstTheTable
-    (unless (leaves_belong c) WrongLeaf
-    (unless (levels_hold c) WrongLevel
-    (unless (recovers_well c) WrongErrorLeaf
-    (unless (keeps_row c) ForeignSymbol
-    (unless (tidy 5 (inside c)) IgnoredToken [])))))
+    (unless (checks leaf_check c) WrongLeaf
+    (unless (checks level_check c) WrongLevel
+    (unless (checks pop_check c) WrongErrorLeaf
+    (unless (checks row_check c) ForeignSymbol
+    (unless (checks tidy_check c) IgnoredToken [])))))
 
 -- all that the checks compute with
 unfoldable pub computing : Unit {0}
-unfolding ◌and◌ ◌or◌ is_leaf at ends exit arcs target entries rows firsts goes closes sticks label labels member Row symbol consuming split divide first_of first_in second_of inlined unread own covered all_marks levels leaf_of loses whole leaves_well exits row_of post heads takes ends_at closing child_goes child_sticks child_at limits_at nests typed type_at reports is_node ok ends_well root_ends belongs leaf_kinds weight walks told_first pops spares of_row leaf_of_row fits_in tidy follows_table leaves_belong levels_hold recovers_well keeps_row document_follows turns_follow
+unfolding ◌and◌ ◌or◌ is_leaf at ends exit arcs target entries rows firsts goes closes sticks label labels member Row symbol consuming split divide first_of first_in second_of inlined unread own covered all_marks levels leaf_of loses whole leaves_well exits row_of post heads takes ends_at closing child_goes child_sticks child_at limits_at nests typed type_at reports is_node ok ends_well root_ends belongs leaf_check weight walk pop_check row_check tidy_check of_row leaf_of_row follows_table level_check document_follows turns_follow
 computing = tt
 
 -- No node's rule is at fault. A node with a place is looked at in both.
@@ -86,11 +85,11 @@ others false fault more h = absurd (cc)
 
 pub record SoundRule (c : Node) : Type 0 where
   pub table : follows_table c ≡ true
-  pub leaves : leaves_belong c ≡ true
-  pub levels : levels_hold c ≡ true
-  pub errors : recovers_well c ≡ true
-  pub row : keeps_row c ≡ true
-  pub ignored : tidy 5 (inside c) ≡ true
+  pub leaves : checks leaf_check c ≡ true
+  pub levels : checks level_check c ≡ true
+  pub errors : checks pop_check c ≡ true
+  pub row : checks row_check c ≡ true
+  pub ignored : checks tidy_check c ≡ true
 
 pub node_passes : (c : Node) → SoundRule c
 unfolding faults
@@ -112,22 +111,22 @@ pub turns_followed : turns_follow (While Ready (Call Definition)) ≡ true
 unfolding computing
 turns_followed = refl
 
-pub document_leaves : leaf_kinds 5 any any (Call Document) fine ≡ true
+pub document_leaves : walk leaf_check 5 (Call Document) anything always ≡ true
 unfolding computing
 document_leaves = refl
 
-pub document_levels : walks 5 DOCUMENT 0 (own DOCUMENT) (Call Document) settled ≡ true
+pub document_levels : walk level_check 5 (Call Document) (at_first DOCUMENT) (level_check.ends kind.DOCUMENT) ≡ true
 unfolding computing
 document_levels = refl
 
-pub document_told : told_first 5 false (Call Document) ≡ true
+pub document_told : walk pop_check 5 (Call Document) (unknown any_token) always ≡ true
 unfolding computing
 document_told = refl
 
-pub document_row : fits_in 5 kind.DOCUMENT (Call Document) ≡ true
+pub document_row : walk row_check 5 (Call Document) (record { own = DOCUMENT; later = DOCUMENT }) (row_check.ends kind.DOCUMENT) ≡ true
 unfolding computing
 document_row = refl
 
-pub document_tidy : tidy 5 (Call Document) ≡ true
+pub document_tidy : walk tidy_check 5 (Call Document) false always ≡ true
 unfolding computing
 document_tidy = refl

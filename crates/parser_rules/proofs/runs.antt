@@ -1,6 +1,9 @@
+pub mod Reading
 pub mod Steps
 pub mod Reporting
 pub mod Frame
+pub mod Marked
+pub mod Walk
 pub mod AtTheEnd
 pub mod Inversion
 pub mod Forms

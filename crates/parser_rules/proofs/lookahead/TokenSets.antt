@@ -25,8 +25,8 @@ use Rattle.document_grammar.proofs.Booleans.{either, false-true, and-l, and-r}
 use Rattle.grammar_machine.proofs.TableLemmas.{holds-subset, holds-disjoint}
 use Rattle.grammar_machine.proofs.Sound.{any, class-any, word-name, holds-one}
 use Rattle.grammar_machine.proofs.Endings.{words_checked}
-use Rattle.parser_rules.specs.State.{State, Text, Lexeme, same_kind, ignored, bad, met, wait, lexeme, read_on, second, is_at, is_word, is_over}
-use Rattle.parser_rules.proofs.runs.Frame.{on_kind, on_item}
+use Rattle.parser_rules.specs.State.{State, Text, Lexeme, same_kind, ignored, lexeme, read_on, second, is_at, is_word, is_over}
+use Rattle.parser_rules.proofs.runs.Reading.{reading, reading-second}
 
 -- ---- classes of tokens
 
@@ -64,16 +64,7 @@ second-shown (gives item ∷ rest) = elim item.kind as (λ found. Shown (on_foun
 
 -- reading on reaches the token after the current one
 pub read-second : (xs : List Answer) (s : State) → (read_on xs s).current ≡ second xs
-unfolding read_on second
-read-second [] s = refl
-read-second (limit_at index ∷ rest) s = read-second rest (met index (record s { items = rest }))
-read-second (gives item ∷ rest) s = elim item.kind as (λ found. (on_item rest s item found).current ≡ on_found rest item found) [
-  | None ↦ read-second rest (bad item.text item.index (record s { items = rest }))
-  | Some k ↦ elim (ignored k) as (λ found. (on_kind rest s item k found).current ≡ on_ignored rest item k found) [
-    | Some leaf ↦ read-second rest (wait leaf item.text (record s { items = rest }))
-    | None ↦ refl
-  ]
-]
+read-second xs s = reading-second (reading xs s)
 
 -- ---- sets of the tests
 
@@ -202,7 +193,7 @@ none-present : false ≡ within absent present
 unfolding within
 none-present = refl
 
-end-any : within 0 any ≡ true
+pub end-any : within 0 any ≡ true
 unfolding within
 end-any = refl
 
@@ -260,9 +251,8 @@ of-any (Some t) w = at-token (λ j c. within c any ≡ true) t.kind t.text w end
 -- ---- sets of the next two tokens
 
 -- sets that hold the classes of the current token and of the one after it
-pub record Seen (x y : ℕ) (s : State) : Type 0 where
-  pub near : within (class_of s.current) x ≡ true
-  pub far : within (class_of (second s.items)) y ≡ true
+abbrev pub Seen : ℕ → ℕ → State → Type 0
+Seen x y s = record { near : within (class_of s.current) x ≡ true; far : within (class_of (second s.items)) y ≡ true }
 
 pub seen-any : (s : State) → Shown s.current → Seen any any s
 seen-any s w = record { near = of-any s.current w; far = of-any (second s.items) (second-shown s.items) }
@@ -286,6 +276,14 @@ by_far c e m x y f g = c (part e (bit_and y m) (λ z. f x z)) (part e (bit_xor y
 -- no token is left but the end
 abbrev pub over : ℕ
 over = 2 ^ absent + 1
+
+pub end-over : within 0 over ≡ true
+unfolding within
+end-over = refl
+
+pub absent-over : within absent over ≡ true
+unfolding within
+absent-over = refl
 
 no-bit : (n : ℕ) → n ≤ 1 → eqb n 1 ≡ false → n ≡ 0
 no-bit zero l h = refl

@@ -26,7 +26,7 @@ use Rattle.parser_rules.specs.State.{State, Lexeme, Part, Report, add_all, begun
 use Rattle.parser_rules.specs.Nodes.{Definition}
 use Rattle.parser_rules.specs.RuleLanguage.{Rule, Call, While, Ready, holds}
 use Rattle.parser_rules.specs.Runs.{Runs, Turns}
-use Rattle.parser_rules.proofs.runs.Frame.{parts_forest, add_all_above, add_all_here}
+use Rattle.parser_rules.proofs.runs.Frame.{parts_forest, added-all, add_all_above}
 use Rattle.parser_rules.proofs.soundness.WithoutIgnored.{stack, strip, layers, all_ignored}
 use Rattle.parser_rules.proofs.reports.NoReport.{answers_tokens, all_tokens, rest, current_tokens, Now, Held}
 use Rattle.parser_rules.proofs.lookahead.TokenSets.{Shown, ready-is, second-shown, of-any, ready}
@@ -84,8 +84,8 @@ from-turn st s c i run =
     let a = anew run (afresh st) (alike st c) in
     record {
       own = a.0;
-      alike = a.2;
-      steps = a.3;
+      alike = a.2.alike;
+      steps = a.2.steps;
       parsed = root-out (from_now st c) [] ⊤ st.limit (now_words st c) a.0
           (link document (from_now st c) [] ⊤ st.limit (now_words st c) a.1 5 DOCUMENT (spot 0 low loose) ready any [] root_ends
           (good document (from_now st c) [] ⊤ st.limit (now_words st c) 5 DOCUMENT (spot 0 low loose) ready any (While Ready (Call Definition)) root_ends turns_followed) (afresh-fits st c i));
@@ -123,13 +123,13 @@ recovers st s c t i h p n a run = on (from-turn st s c i run)
           let own : State = f.own in
           let more : built.Forest = f.steps.more in
           let later : built.Forest = built.join more (parts_forest s.waiting) in
-          let here : (add_all own.waiting own.tree).here ≡ later = add_all_here own.waiting own.tree ∙ ap₂ (λ (x : built.Forest) (w : List Part). built.join x (parts_forest w)) f.steps.here' f.alike.rest.waiting in
-          let bare : strip later ≡ shows o.children = ap strip (sym here) ∙ root-layer (add_all own.waiting own.tree) (record { before = built.none; kind = kind.DOCUMENT }) (label DOCUMENT) (shows o.children) ((0, none) ∷ []) (add_all_above own.waiting own.tree ∙ f.steps.above') (o.built tt) in
+          let here : (add_all own.waiting own.tree).here ≡ later = (added-all own.waiting own.tree).here ∙ ap₂ (λ (x : built.Forest) (w : List Part). built.join x (parts_forest w)) f.steps.other.trees.here f.alike.rest.waiting in
+          let bare : strip later ≡ shows o.children = ap strip (sym here) ∙ root-layer (add_all own.waiting own.tree) (record { before = built.none; kind = kind.DOCUMENT }) (label DOCUMENT) (shows o.children) ((0, none) ∷ []) (add_all_above own.waiting own.tree ∙ f.steps.other.trees.above) (o.built tt) in
           record {
             later = later;
-            children = add_all_here s.waiting s.tree ∙ (ap (λ (x : built.Forest). built.join x (parts_forest s.waiting)) f.steps.here ∙ join_assoc st.tree.here more (parts_forest s.waiting));
+            children = (added-all s.waiting s.tree).here ∙ (ap (λ (x : built.Forest). built.join x (parts_forest s.waiting)) f.steps.one.trees.here ∙ join_assoc st.tree.here more (parts_forest s.waiting));
             derived = ap₂ (λ (k : ℕ) (g : Forest). node k g) (sym document-label.0) bare ∙ one-derivation document (now_words st c) (show (node DOCUMENT o.children)) t o.spells h;
-            silent = no-reports st.errors s.errors f.steps.reports f.steps.errors (sym f.steps.errors' ∙ o.silent);
+            silent = no-reports st.errors s.errors f.steps.reports f.steps.one.errors (sym f.steps.other.errors ∙ o.silent);
           })
     ]
 

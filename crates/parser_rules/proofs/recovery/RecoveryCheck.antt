@@ -1,24 +1,20 @@
 -- The computed checks of a rule that hold whatever is reported: which tokens become ERROR leaves, which symbols stand in a node, and that no
 -- token becomes an ignored leaf.
-use Rattle.std.proofs.Common.{ℕ, zero, suc, ◌+◌, max, Bool, true, false, cond, eqb, ltb, not, List, [], ◌++◌}
+use Rattle.std.proofs.Common.{ℕ, Bool, true, false, cond, eqb, ltb, not, List, [], ◌++◌}
 use Rattle.lexical_grammar.specs.declared.TokenKind.TheVariants as token
 use Rattle.document_grammar.specs.declared.kind.SyntaxKind.{SyntaxKind}
 use Rattle.document_grammar.specs.declared.kind.SyntaxKind.TheVariants as kind
 use Rattle.document_grammar.specs.Numbers.{number}
-use Rattle.document_grammar.specs.Kinds.{ERROR, SPREAD}
+use Rattle.document_grammar.specs.Kinds.{ERROR, SPREAD, NON_NULL_TYPE}
 use Rattle.document_grammar.specs.Pattern.{Pattern, any_of, nothing, ◌then◌, ◌or_else◌, many, member}
 use Rattle.document_grammar.specs.Rows.{Row}
 use Rattle.document_grammar.specs.Booleans.{◌and◌, ◌or◌}
-use Rattle.parser_rules.specs.Nodes.{Node, kind_of}
-use Rattle.parser_rules.specs.RuleLanguage.{Kind, Test, Here, HasNext, Not, Both, Bump, Note, Rule, Skip, Do, Seq, When, While, Child, TooDeep, Nested, Call, Typed}
-use Rattle.parser_rules.specs.Rules.{inside, body}
+use Rattle.parser_rules.specs.Nodes.{kind_of}
+use Rattle.parser_rules.specs.RuleLanguage.{Kind, Test, Here, HasNext, Not, Both}
+use Rattle.parser_rules.proofs.runs.Walk.{Domain, as_is, blind, never}
 use Rattle.parser_rules.proofs.leaves.LeafCheck.{is_error}
 
 -- ---- popped tokens
-
-abbrev pub is_note : Rule → Bool
-is_note (Do (Note m)) = true
-is_note _ = false
 
 -- where the test passes, the current token is no `]`
 abbrev pub excludes : Test → Bool
@@ -31,63 +27,69 @@ abbrev pub asks_next : Test → Bool
 asks_next HasNext = true
 asks_next _ = false
 
--- How many tokens are popped, at most, where it is at most one; but for one at which the token limit cuts the text off, as `c` says.
-unfoldable pub pops : ℕ → Bool → Rule → ℕ
-pops n c Skip = 0
-pops n c (Do (Bump own)) = cond (is_error own and not c) 1 0
-pops n c (Do (Note m)) = 0
-pops n c TooDeep = 0
-pops n c (Seq a b) = pops n c a + pops n (is_note a and c) b
-pops n c (When q a b) = max (pops n c a) (pops n (asks_next q or c) b)
-pops n c (While q a) = cond (eqb (pops n false a) 0) 0 2
-pops n c (Child k) = 0
-pops n c (Nested a b) = pops n c a + pops n false b
-pops zero c (Call p) = 2
-pops (suc n) c (Call p) = pops n c (body p)
-pops n c (Typed a) = pops n false a
-
-abbrev pub few : ℕ → Bool
-few zero = true
-few (suc zero) = true
-few _ = false
-
--- A token is popped only after a report at it: `w` says that one was made.
-unfoldable pub told_first : ℕ → Bool → Rule → Bool
-told_first n w Skip = true
-told_first n w (Do (Bump own)) = not (is_error own) or w
-told_first n w (Do (Note m)) = true
-told_first n w TooDeep = true
-told_first n w (Seq a b) = told_first n w a and told_first n (is_note a) b
-told_first n w (When q a b) = told_first n w a and told_first n w b
-told_first n w (While q a) = told_first n false a
-told_first n w (Child c) = true
-told_first n w (Nested a b) = told_first n w a and told_first n false b
-told_first zero w (Call p) = false
-told_first (suc n) w (Call p) = told_first n w (body p)
-told_first n w (Typed a) = told_first n false a and few (pops n false a)
-
--- No `]` is popped: `d` says that the current token is none.
-unfoldable pub spares : ℕ → Bool → Rule → Bool
-spares n d Skip = true
-spares n d (Do (Bump own)) = not (is_error own) or d
-spares n d (Do (Note m)) = true
-spares n d TooDeep = true
-spares n d (Seq a b) = spares n d a and spares n (is_note a and d) b
-spares n d (When q a b) = spares n d a and spares n d b
-spares n d (While q a) = spares n (excludes q) a
-spares n d (Child c) = true
-spares n d (Nested a b) = spares n d a and spares n false b
-spares zero d (Call p) = false
-spares (suc n) d (Call p) = spares n d (body p)
-spares n d (Typed a) = spares n false a
-
 abbrev pub is_list : SyntaxKind → Bool
 is_list kind.LIST_VALUE = true
 is_list _ = false
 
--- a token that becomes an ERROR leaf has a report, and it is the only one of its node, but for those of a LIST_VALUE, which are no `]`
-unfoldable pub recovers_well : Node → Bool
-recovers_well c = told_first 5 false (inside c) and cond (is_list (kind_of c)) (spares 5 false (inside c)) (few (pops 5 false (inside c)))
+-- which tokens may still be popped in a node: any, as in the root; all but `]`, as in a list; one, or none
+pub data Room : Type 0 where
+  any_token : Room
+  no_bracket : Room
+  one_token : Room
+  no_token : Room
+
+abbrev pub same_room : Room → Room → Bool
+same_room any_token any_token = true
+same_room no_bracket no_bracket = true
+same_room one_token one_token = true
+same_room no_token no_token = true
+same_room _ _ = false
+
+-- the room at the end of a node of the kind
+abbrev pub room_of : SyntaxKind → Room → Bool
+room_of j any_token = false
+room_of j no_bracket = is_list j
+room_of j one_token = not (is_list j)
+room_of j no_token = not (is_list j)
+
+-- Of the current token: a report was made at it, the token limit cuts the text off after it, it is no `]`. And the room that is left.
+pub record Popping : Type 0 where
+  pub told : Bool
+  pub cut : Bool
+  pub spared : Bool
+  pub room : Room
+
+abbrev pub unknown : Room → Popping
+unknown r = record { told = false; cut = false; spared = false; room = r }
+
+-- one token more is popped
+abbrev pub pop : Popping → Room → (Popping → Bool) → Bool
+pop a any_token k = k (unknown any_token)
+pop a no_bracket k = a.spared and k (unknown no_bracket)
+pop a one_token k = cond a.cut (k (unknown one_token)) (k (unknown no_token))
+pop a no_token k = a.cut and k (unknown no_token)
+
+-- A token that becomes an ERROR leaf has a report, and it is the only one of its node, but for those of the root, and of a LIST_VALUE, which
+-- are no `]`.
+unfoldable pub pop_check : Domain Popping
+pop_check = record {
+  leaf = λ j a k. cond (is_error j) (a.told and pop a a.room k) (k (unknown a.room));
+  report = λ a. record a { told = true };
+  limit = λ a k. k (unknown a.room);
+  test = λ q a f g. f (record a { spared = a.spared or excludes q }) and g (record a { cut = a.cut or asks_next q });
+  turn = λ a. unknown a.room;
+  keeps = λ a c. same_room a.room c.room;
+  opens = λ n a. true;
+  begins = λ n. unknown (cond (is_list (kind_of n)) no_bracket one_token);
+  ends = λ j a. room_of j a.room;
+  after = λ j a k. k (unknown a.room);
+  inlines = never;
+  enters = as_is;
+  leaves = as_is;
+  types = λ a. unknown one_token;
+  plain = λ a c k. same_room c.room one_token and k (unknown a.room);
+  wraps = as_is;
+}
 
 -- ---- the symbols of a row
 
@@ -99,52 +101,59 @@ symbols (p then q) = symbols p ++ symbols q
 symbols (p or_else q) = symbols p ++ symbols q
 symbols (many p) = symbols p
 
--- a symbol of the kind's row
-unfoldable pub of_row : SyntaxKind → SyntaxKind → Bool
-of_row k j = member (number j) (symbols (Row (number k)))
+-- a symbol of the row of the kind with the number
+unfoldable pub of_row : ℕ → SyntaxKind → Bool
+of_row k j = member (number j) (symbols (Row k))
 
 -- an ignored leaf, an ERROR or a SPREAD, or a symbol of the row
-unfoldable pub leaf_of_row : SyntaxKind → SyntaxKind → Bool
+unfoldable pub leaf_of_row : ℕ → SyntaxKind → Bool
 leaf_of_row k j = (ltb (number j) ERROR or eqb (number j) ERROR) or (eqb (number j) SPREAD or of_row k j)
 
--- the rule adds to a node of the kind only what may stand there
-unfoldable pub fits_in : ℕ → SyntaxKind → Rule → Bool
-fits_in n k Skip = true
-fits_in n k (Do (Bump own)) = leaf_of_row k own
-fits_in n k (Do (Note m)) = true
-fits_in n k TooDeep = true
-fits_in n k (Seq a b) = fits_in n k a and fits_in n k b
-fits_in n k (When q a b) = fits_in n k a and fits_in n k b
-fits_in n k (While q a) = fits_in n k a
-fits_in n k (Child c) = of_row k (kind_of c)
-fits_in n k (Nested a b) = fits_in n k a and fits_in n k b
-fits_in zero k (Call p) = false
-fits_in (suc n) k (Call p) = fits_in n k (body p)
-fits_in n k (Typed a) = (fits_in n k a and fits_in n kind.NON_NULL_TYPE a) and (of_row k kind.NON_NULL_TYPE and leaf_of_row kind.NON_NULL_TYPE kind.BANG)
+-- the row of the open node, and a second one that a type's children fit too: it may be wrapped later
+pub record Two_rows : Type 0 where
+  pub own : ℕ
+  pub later : ℕ
 
--- a node's rule
-unfoldable pub keeps_row : Node → Bool
-keeps_row c = fits_in 5 (kind_of c) (inside c)
+-- only what is of the row is added
+unfoldable pub row_check : Domain Two_rows
+row_check = record {
+  leaf = λ j a k. (leaf_of_row a.own j and leaf_of_row a.later j) and k a;
+  report = λ a. a;
+  limit = as_is;
+  test = blind;
+  turn = λ a. a;
+  keeps = λ a c. eqb a.own c.own and eqb a.later c.later;
+  opens = λ n a. true;
+  begins = λ n. record { own = number (kind_of n); later = number (kind_of n) };
+  ends = λ j a. eqb a.own (number j);
+  after = λ j a k. (of_row a.own j and of_row a.later j) and k a;
+  inlines = never;
+  enters = as_is;
+  leaves = as_is;
+  types = λ a. record a { later = NON_NULL_TYPE };
+  plain = λ a c k. (eqb c.own a.own and eqb a.later a.own) and k a;
+  wraps = λ a k. eqb a.later NON_NULL_TYPE and k (record { own = NON_NULL_TYPE; later = NON_NULL_TYPE });
+}
 
 -- ---- ignored leaves
 
--- the rule surely adds a node
-abbrev pub builds : Rule → Bool
-builds (Child n) = true
-builds (When q a b) = builds a and builds b
-builds _ = false
-
--- no token becomes an ignored leaf, and what is typed is a node
-unfoldable pub tidy : ℕ → Rule → Bool
-tidy n Skip = true
-tidy n (Do (Bump own)) = not (ltb (number own) ERROR)
-tidy n (Do (Note m)) = true
-tidy n TooDeep = true
-tidy n (Seq a b) = tidy n a and tidy n b
-tidy n (When q a b) = tidy n a and tidy n b
-tidy n (While q a) = tidy n a
-tidy n (Child c) = true
-tidy n (Nested a b) = tidy n a and tidy n b
-tidy zero (Call p) = false
-tidy (suc n) (Call p) = tidy n (body p)
-tidy n (Typed a) = builds a and tidy n a
+-- No token becomes an ignored leaf: what is known is whether a node was added.
+unfoldable pub tidy_check : Domain Bool
+tidy_check = record {
+  leaf = λ j a k. not (ltb (number j) ERROR) and k a;
+  report = λ a. a;
+  limit = as_is;
+  test = blind;
+  turn = λ a. false;
+  keeps = λ a c. true;
+  opens = λ n a. true;
+  begins = λ n. false;
+  ends = λ j a. true;
+  after = λ j a k. k true;
+  inlines = never;
+  enters = as_is;
+  leaves = as_is;
+  types = λ a. false;
+  plain = λ a c k. c and k true;
+  wraps = as_is;
+}

@@ -17,7 +17,7 @@ use Rattle.document_grammar.proofs.Built.{bares-numbered-join, forest-none}
 use Rattle.grammar_machine.proofs.Checks.{exits, row_of}
 use Rattle.grammar_machine.proofs.Patterns.{label}
 use Rattle.grammar_machine.proofs.FromMachineTree.{show, shows, type_of}
-use Rattle.parser_rules.proofs.runs.Frame.{wrap_added}
+use Rattle.document_grammar.proofs.Added.{wrap_added}
 use Rattle.parser_rules.proofs.soundness.WithoutIgnored.{IsLayered, Stack, stack, layers, strip, put}
 
 -- ---- lists of trees

@@ -916,7 +916,7 @@ module _ (sort : Sort) (answers : List Answer) (base : List Report) (Follows : T
 
   wrapped-built : (s q : ℕ) (f g : Forest) (fs : List Frame) (t u : State) → eqb s TYPE ≡ false → Adds t u → stack t.tree ≡ image (frame s q f ∷ fs) → stack u.tree ≡ image (frame TYPE 1 g ∷ frame s q f ∷ fs) → stack (wrapped_from (built_count t.tree) kind.NON_NULL_TYPE u).tree ≡ (NON_NULL_TYPE, shows g) ∷ image (frame s q f ∷ fs)
   unfolding wrapped_from
-  wrapped-built s q f g fs t u ty a st su = stack-wrap s q 1 f g fs t.tree u.tree a.more ty a.above a.here st su
+  wrapped-built s q f g fs t u ty a st su = stack-wrap s q 1 f g fs t.tree u.tree a.more ty a.trees.above a.trees.here st su
 
   bang-built : (s q o : ℕ) (f g : Forest) (fs : List Frame) (v w : State) (x : Text) → Path TYPE 0 g 1 → stack v.tree ≡ (NON_NULL_TYPE, shows g) ∷ image (frame s q f ∷ fs) → stack w.tree ≡ put (leaf BANG x ▸ none) (stack v.tree) → stack (closed w).tree ≡ image (frame s o (f +++ (node TYPE (g +++ (leaf BANG x ▸ none)) ▸ none)) ∷ fs)
   unfolding closed

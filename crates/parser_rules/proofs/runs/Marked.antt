@@ -1,0 +1,229 @@
+-- Trees that know which token each leaf is, and what a run adds: its trees, what they are made of, and its reports.
+use Rattle.std.proofs.Common.{◌≡◌, ℕ, true, false, if◌then◌else◌, List, [], ◌∷◌, ◌++◌, Option, Some, None, refl, sym, ap, ap₂, ◌∙◌, subst, append_assoc, append-nil, inl, inr}
+use Rattle.lexical_grammar.specs.declared.TokenKind.{TokenKind}
+use Rattle.lexical_grammar.specs.Cut.{Item}
+use Rattle.lexical_grammar.specs.Answers.{Answer, gives, limit_at}
+use Rattle.document_grammar.specs.declared.kind.SyntaxKind.{SyntaxKind}
+use Rattle.document_grammar.specs.declared.kind.SyntaxKind.TheVariants as kind
+use Rattle.document_grammar.specs.Forests as built
+use Rattle.document_grammar.specs.Builds.{Building, add_leaf, built_count}
+use Rattle.document_grammar.proofs.Booleans.{false-true, either}
+use Rattle.document_grammar.proofs.Added.{Added, added-none, added-then, added-node, added-wrap}
+use Rattle.parser_rules.specs.declared.message.Message.{Message}
+use Rattle.parser_rules.specs.State.{State, Lexeme, Part, Text, Report, at_limit, bad_report, token_limit_report, recursion_limit_report, fault_report, ignored, bad, met, lexeme, read_on, add_all, flush, opened, closed, wrapped_from, noted, note, deepened, limited_at, too_deep, fresh, begun}
+use Rattle.parser_rules.proofs.runs.Reading.{Reading, stops, cuts, bad_text, waits, shows, reading}
+use Rattle.parser_rules.proofs.runs.Frame.{read_untouched, parts_forest, added-all, added-read}
+
+-- what a leaf is: a significant token, or an ignored token or bad text
+pub data Source : Type 0 where
+  token : Lexeme → Source
+  aside : Part → Source
+
+abbrev pub text_of : Source → Text
+text_of (token x) = x.text
+text_of (aside p) = p.text
+
+pub data Marked : Type 0 where
+  none : Marked
+  leaf : Source → SyntaxKind → Marked → Marked
+  node : SyntaxKind → Marked → Marked → Marked
+
+abbrev pub erase : Marked → built.Forest
+erase none = built.none
+erase (leaf o k rest) = built.leaf k (text_of o) (erase rest)
+erase (node k kids rest) = built.node k (erase kids) (erase rest)
+
+abbrev pub append : Marked → Marked → Marked
+append none g = g
+append (leaf o k rest) g = leaf o k (append rest g)
+append (node k kids rest) g = node k kids (append rest g)
+
+pub append-none : (f : Marked) → append f none ≡ f
+append-none none = refl
+append-none (leaf o k rest) = ap (leaf o k) (append-none rest)
+append-none (node k kids rest) = ap (node k kids) (append-none rest)
+
+pub erase-append : (f g : Marked) → erase (append f g) ≡ built.join (erase f) (erase g)
+erase-append none g = refl
+erase-append (leaf o k rest) g = ap (built.leaf k (text_of o)) (erase-append rest g)
+erase-append (node k kids rest) g = ap (built.node k (erase kids)) (erase-append rest g)
+
+-- what the leaves are, in order
+abbrev pub flat : Marked → List Source
+flat none = []
+flat (leaf o k rest) = o ∷ flat rest
+flat (node k kids rest) = flat kids ++ flat rest
+
+pub flat-append : (f g : Marked) → flat (append f g) ≡ flat f ++ flat g
+flat-append none g = refl
+flat-append (leaf o k rest) g = ap (λ (l : List Source). o ∷ l) (flat-append rest g)
+flat-append (node k kids rest) g = ap (λ (l : List Source). flat kids ++ l) (flat-append rest g) ∙ sym (append_assoc (flat kids) (flat rest) (flat g))
+
+-- what waits, as leaves
+abbrev pub set_aside : List Part → Marked
+set_aside [] = none
+set_aside (p ∷ parts) = leaf (aside p) p.kind (set_aside parts)
+
+pub erase-aside : (parts : List Part) → erase (set_aside parts) ≡ parts_forest parts
+erase-aside [] = refl
+erase-aside (p ∷ parts) = ap (built.leaf p.kind p.text) (erase-aside parts)
+
+-- ---- what is to come
+
+abbrev pub now_of : Option Lexeme → List Source
+now_of None = []
+now_of (Some x) = token x ∷ []
+
+abbrev pub source_of : Item → TokenKind → Option SyntaxKind → Source
+source_of item k None = token (lexeme k item)
+source_of item k (Some own) = aside (record { kind = own; text = item.text })
+
+abbrev pub source_at : Item → Option TokenKind → Source
+source_at item None = aside (record { kind = kind.ERROR; text = item.text })
+source_at item (Some k) = source_of item k (ignored k)
+
+-- what the answers are: the significant tokens, and what is between
+abbrev pub sources : List Answer → List Source
+sources [] = []
+sources (limit_at index ∷ rest) = sources rest
+sources (gives item ∷ rest) = source_at item item.kind ∷ sources rest
+
+abbrev pub pending : State → List Source
+pending s = flat (set_aside s.waiting) ++ (now_of s.current ++ sources s.items)
+
+waits-more : (w : List Part) (p : Part) (l : List Source) → flat (set_aside (w ++ p ∷ [])) ++ l ≡ flat (set_aside w) ++ (aside p ∷ l)
+waits-more [] p l = refl
+waits-more (q ∷ w) p l = ap (λ (z : List Source). aside q ∷ z) (waits-more w p l)
+
+pub read-pending : {xs : List Answer} {s t : State} → Reading xs s t → s.items ≡ xs → pending t ≡ flat (set_aside s.waiting) ++ sources xs
+read-pending {s = s} stops e = ap (λ (xs : List Answer). flat (set_aside s.waiting) ++ sources xs) e
+read-pending (cuts h) e = read-pending h refl
+read-pending {s = s} (bad_text {item = item} {xs = xs} i h) e = rw i (read-pending h refl ∙ waits-more s.waiting (record { kind = kind.ERROR; text = item.text }) (sources xs))
+read-pending {s = s} (waits {item = item} {own = own} {xs = xs} i j h) e = rw (i, j) (read-pending h refl ∙ waits-more s.waiting (record { kind = own; text = item.text }) (sources xs))
+read-pending (shows i j) e = rw (i, j) refl
+
+-- ---- what a run adds
+
+pub record Has (errors : List Report) (r : Report) : Type 0 where
+  pub before : List Report
+  pub after : List Report
+  pub split : errors ≡ before ++ (r ∷ after)
+
+pub has-more : (errors more : List Report) (r : Report) → Has errors r → Has (errors ++ more) r
+has-more errors more r h = record { before = h.before; after = h.after ++ more; split = ap (λ (z : List Report). z ++ more) h.split ∙ append_assoc h.before (r ∷ h.after) more }
+
+has-later : (errors more : List Report) (r : Report) → Has more r → Has (errors ++ more) r
+has-later errors more r h = record { before = errors ++ h.before; after = h.after; split = ap (λ (z : List Report). errors ++ z) h.split ∙ sym (append_assoc errors h.before (r ∷ h.after)) }
+
+-- the report of a limit is among these
+abbrev pub Limited : List Report → Type 0
+Limited errors = (r : Report) × (r.found ≡ at_limit) × Has errors r
+
+-- the reports go on, and the grammar's are taken until a limit is reported
+abbrev pub Reports : State → State → Type 0
+Reports s t = record { more : List Report; errors : t.errors ≡ s.errors ++ more; keeps : t.accepts ≡ true → s.accepts ≡ true; limited : s.accepts ≡ true → t.accepts ≡ false → Limited more }
+
+reports-none : (s : State) → Reports s s
+reports-none s = record { more = []; errors = sym (append-nil s.errors); keeps = λ z. z; limited = λ z y. false-true y z }
+
+pub reports-then : (s t u : State) → Reports s t → Reports t u → Reports s u
+reports-then s t u h k = record {
+  more = h.more ++ k.more;
+  errors = k.errors ∙ (ap (λ (z : List Report). z ++ k.more) h.errors ∙ append_assoc s.errors h.more k.more);
+  keeps = λ z. h.keeps (k.keeps z);
+  limited = λ z y. elim (either t.accepts) [ inl a ↦ (let l = k.limited a y in (l.0, l.1, has-later h.more k.more l.0 l.2)) | inr a ↦ (let l = h.limited z a in (l.0, l.1, has-more h.more k.more l.0 l.2)) ];
+}
+
+reports-one : (s t : State) (r : Report) → t.errors ≡ s.errors ++ r ∷ [] → (t.accepts ≡ true → s.accepts ≡ true) → (s.accepts ≡ true → t.accepts ≡ false → Limited (r ∷ [])) → Reports s t
+reports-one s t r e k l = record { more = r ∷ []; errors = e; keeps = k; limited = l }
+
+-- a limit is the last report
+limit-last : (r : Report) → r.found ≡ at_limit → Limited (r ∷ [])
+limit-last r e = (r, e, record { before = []; after = []; split = refl })
+
+pub read-reports : {xs : List Answer} {s t : State} → Reading xs s t → Reports s t
+read-reports {s = s} stops = reports-none s
+read-reports {s = s} {t = t} (cuts {index = index} {xs = xs} h) =
+    reports-then s (met index (record s { items = xs })) t (reports-one s (met index (record s { items = xs })) (token_limit_report index) refl (λ z. false-true refl z) (λ z y. limit-last (token_limit_report index) refl)) (read-reports h)
+read-reports {s = s} {t = t} (bad_text {item = item} {xs = xs} e h) =
+    let u : State = bad item.text item.index (record s { items = xs }) in
+    reports-then s u t (reports-one s u (bad_report item.text item.index) refl (λ z. z) (λ z y. false-true y z)) (read-reports h)
+read-reports (waits e i h) = read-reports h
+read-reports {s = s} (shows e i) = reports-none s
+
+abbrev pub Grown : State → State → Marked → Type 0
+Grown s t f = record { trees : Added (erase f) s.tree t.tree; order : flat f ++ pending t ≡ pending s; reports : Reports s t }
+
+pub grown-none : (s : State) → Grown s s none
+grown-none s = record { trees = added-none s.tree; order = refl; reports = reports-none s }
+
+pub grown-then : (s t u : State) (f g : Marked) → Grown s t f → Grown t u g → Grown s u (append f g)
+grown-then s t u f g h k = record {
+  trees = subst (λ (x : built.Forest). Added x s.tree u.tree) (sym (erase-append f g)) (added-then h.trees k.trees);
+  order = ap (λ (l : List Source). l ++ pending u) (flat-append f g) ∙ (append_assoc (flat f) (flat g) (pending u) ∙ (ap (λ (l : List Source). flat f ++ l) k.order ∙ h.order));
+  reports = reports-then s t u h.reports k.reports;
+}
+
+pub grown-flush : (s : State) → Grown s (flush s) (set_aside s.waiting)
+unfolding flush
+grown-flush s = record { trees = subst (λ (x : built.Forest). Added x s.tree (add_all s.waiting s.tree)) (sym (erase-aside s.waiting)) (added-all s.waiting s.tree); order = refl; reports = reports-none s }
+
+-- the current token is in the tree, and the next one is not read yet
+abbrev pub moved_on : SyntaxKind → Lexeme → State → State
+moved_on own x s = record s { tree = add_leaf own x.text s.tree }
+
+pub grown-leaf : (own : SyntaxKind) (x : Lexeme) (s : State) → s.current ≡ Some x → s.waiting ≡ [] → Grown s (read_on s.items (moved_on own x s)) (leaf (token x) own none)
+grown-leaf own x s c w =
+    let h = reading s.items (moved_on own x s) in
+    record {
+      trees = added-read own x.text s;
+      order = ap (λ (l : List Source). token x ∷ l) (read-pending h refl) ∙ ap (λ (p : List Part). token x ∷ (flat (set_aside p) ++ sources s.items)) w
+          ∙ sym (ap₂ (λ (p : List Part) (o : Option Lexeme). flat (set_aside p) ++ (now_of o ++ sources s.items)) w c);
+      reports = read-reports h;
+    }
+
+pub grown-note : (m : Message) (s : State) → Grown s (note m s) none
+unfolding note
+grown-note m s = on s.current
+  where
+    on : (o : Option Lexeme) → Grown s (noted m s o) none
+    on None = grown-none s
+    on (Some x) = elim s.accepts as (λ b. Grown s (if b then record s { errors = s.errors ++ fault_report m x ∷ [] } else s) none) [
+      | true ↦ record { trees = added-none s.tree; order = refl; reports = record { more = fault_report m x ∷ []; errors = refl; keeps = λ z. z; limited = λ z y. false-true y z } }
+      | false ↦ grown-none s
+    ]
+
+pub grown-deep : (s : State) → Grown s (too_deep s) none
+unfolding too_deep
+grown-deep s = on s.current
+  where
+    on : (o : Option Lexeme) → Grown s (limited_at (deepened s) o) none
+    on None = grown-none s
+    on (Some x) = (elim s.accepts as (λ b. s.accepts ≡ b → Grown s (record (if b then record (deepened s) { errors = s.errors ++ recursion_limit_report x ∷ [] } else deepened s) { accepts = false }) none) [
+      | true ↦ λ e. record { trees = added-none s.tree; order = refl; reports = record { more = recursion_limit_report x ∷ []; errors = refl; keeps = λ z. false-true refl z; limited = λ z y. limit-last (recursion_limit_report x) refl } }
+      | false ↦ λ e. record { trees = added-none s.tree; order = refl; reports = record { more = []; errors = sym (append-nil s.errors); keeps = λ z. false-true refl z; limited = λ z y. false-true e z } }
+    ]) refl
+
+-- a node around what is added in it, after what waited
+pub grown-node : (j : SyntaxKind) (s u : State) (g : Marked) → Grown (opened j s) u g → Grown (flush s) (closed u) (node j g none)
+unfolding opened closed flush
+grown-node j s u g h = record { trees = added-node j h.trees; order = ap (λ (l : List Source). l ++ pending u) (append-nil (flat g)) ∙ h.order; reports = h.reports }
+
+pub grown-wrap : (j : SyntaxKind) (s u : State) (g : Marked) → Grown (flush s) u g → Grown (opened j s) (wrapped_from (built_count (flush s).tree) j u) g
+unfolding opened wrapped_from flush
+grown-wrap j s u g h = record { trees = added-wrap j h.trees; order = h.order; reports = h.reports }
+
+-- what was added from the beginning on is the whole tree, of all that was answered
+pub record Whole (xs : List Answer) (s : State) (f : Marked) : Type 0 where
+  pub tree : erase f ≡ (add_all s.waiting s.tree).here
+  pub order : flat f ++ (now_of s.current ++ sources s.items) ≡ sources xs
+
+pub whole : (xs : List Answer) (r : ℕ) (k : SyntaxKind) (s : State) (f : Marked) → Grown (begun xs r k) s f → Whole xs s (append f (set_aside s.waiting))
+unfolding flush
+whole xs r k s f h =
+    let b : State = begun xs r k in
+    let g = grown-then b s (flush s) f (set_aside s.waiting) h (grown-flush s) in
+    record {
+      tree = sym (g.trees.here ∙ ap (λ (t : Building). built.join t.here (erase (append f (set_aside s.waiting)))) (read_untouched xs (fresh xs r k)).tree);
+      order = g.order ∙ read-pending (reading xs (fresh xs r k)) refl;
+    }
