@@ -65,7 +65,7 @@ def choices(pattern):
 
 
 def bounds(pattern, kinds):
-    """The least and the greatest number of children of these kinds; 2 stands for any greater number too."""
+    """The least and the greatest number of children of these kinds; 2 means any greater number too."""
     if pattern[0] == "any_of":
         return int(all(kind in kinds for kind in pattern[1])), int(any(kind in kinds for kind in pattern[1]))
     if pattern[0] == "nothing":

@@ -192,7 +192,7 @@ def paths(states, symbols):
 
 
 def labels_file(lookahead):
-    """proofs/generated/Labels.antt: the kinds that stand for states and symbols."""
+    """proofs/generated/Labels.antt: kinds that lead to states, and the kinds as which symbols are shown."""
     symbols = lookahead.symbols
     found = [(name, paths(lookahead.rows[name], symbols) if name in lookahead.rows else []) for name in symbols.nodes]
     labels = [(f"{number}, {name}", symbols.label[name]) for number, name in enumerate(symbols.names)]

@@ -214,21 +214,16 @@ from-deriv (p or_else q) k w h = elim (alt-from (deriv p k) (deriv q k) w h) [ i
 from-deriv (many p) k w h = let s = seq-from (deriv p k) (many p) w h in again (from-deriv p k s.0 s.3) s.4 (ap (λ (v : List ℕ). k ∷ v) s.2)
 
 -- A first kind is one of the first kinds.
-member-l : (k : ℕ) (ks ls : List ℕ) → member k ks ≡ true → member k (ks ++ ls) ≡ true
+member-in : (k : ℕ) (ks ls : List ℕ) → (member k ks ≡ true) ⊎ (member k ls ≡ true) → member k (ks ++ ls) ≡ true
 unfolding member
-member-l k [] ls h = absurd (true≢false (sym h))
-member-l k (a ∷ ks) ls h = elim (either (eqb a k)) [ inl p ↦ rw p refl | inr p ↦ rw p (member-l k ks ls (rw p at h)) ]
-
-member-r : (k : ℕ) (ks ls : List ℕ) → member k ls ≡ true → member k (ks ++ ls) ≡ true
-unfolding member
-member-r k [] ls h = h
-member-r k (a ∷ ks) ls h = elim (either (eqb a k)) [ inl p ↦ rw p refl | inr p ↦ rw p (member-r k ks ls h) ]
+member-in k [] ls h = elim h [ inl m ↦ absurd (true≢false (sym m)) | inr m ↦ m ]
+member-in k (a ∷ ks) ls h = elim (either (eqb a k)) [ inl p ↦ rw p refl | inr p ↦ rw p (member-in k ks ls (elim h [ inl m ↦ inl (rw p at m) | inr m ↦ inr m ])) ]
 
 pub first-kind : (p : Pattern) (k : ℕ) (w : List ℕ) → Matches (deriv p k) w → member k (begin_kinds p) ≡ true
 first-kind (any_of ks) k w h = elim (either (member k ks)) [ inl e ↦ e | inr e ↦ never-none w (subst (λ (b : Bool). Matches (cond b nothing (any_of [])) w) e h) ]
 first-kind nothing k w h = never-none w h
 first-kind (p then q) k w h = then-from p q k w h
-    (λ s. elim (either (nullable p)) [ inl e ↦ rw e (member-l k (begin_kinds p) (begin_kinds q) (first-kind p k s.0 s.3)) | inr e ↦ rw e (first-kind p k s.0 s.3) ])
-    (λ e x. rw e (member-r k (begin_kinds p) (begin_kinds q) (first-kind q k w x)))
-first-kind (p or_else q) k w h = elim (alt-from (deriv p k) (deriv q k) w h) [ inl x ↦ member-l k (begin_kinds p) (begin_kinds q) (first-kind p k w x) | inr x ↦ member-r k (begin_kinds p) (begin_kinds q) (first-kind q k w x) ]
+    (λ s. elim (either (nullable p)) [ inl e ↦ rw e (member-in k (begin_kinds p) (begin_kinds q) (inl (first-kind p k s.0 s.3))) | inr e ↦ rw e (first-kind p k s.0 s.3) ])
+    (λ e x. rw e (member-in k (begin_kinds p) (begin_kinds q) (inr (first-kind q k w x))))
+first-kind (p or_else q) k w h = elim (alt-from (deriv p k) (deriv q k) w h) [ inl x ↦ member-in k (begin_kinds p) (begin_kinds q) (inl (first-kind p k w x)) | inr x ↦ member-in k (begin_kinds p) (begin_kinds q) (inr (first-kind q k w x)) ]
 first-kind (many p) k w h = let s = seq-from (deriv p k) (many p) w h in first-kind p k s.0 s.3
