@@ -18,7 +18,8 @@ use Rattle.parser_rules.proofs.lookahead.Split.{split, divide}
 use Rattle.parser_rules.proofs.lookahead.FirstSets.{first_of, first_in, second_of, inlined, unread}
 use Rattle.parser_rules.proofs.soundness.TableCheck.{own, covered, all_marks, levels, leaf_of, loses, whole, leaves_well, post, heads, takes, ends_at, closing, child_goes, child_sticks, child_at, limits_at, nests, typed, type_at, reports, is_node, ok, ends_well, follows_table, root_ends, document_follows, turns_follow}
 use Rattle.parser_rules.proofs.leaves.LeafCheck.{belongs, anything, leaf_check}
-use Rattle.parser_rules.proofs.nesting.LevelCheck.{weight, at_first, level_check}
+use Rattle.parser_rules.proofs.nesting.LevelCheck.{at_first, level_check}
+use Rattle.document_grammar.proofs.Nested.{weight}
 use Rattle.parser_rules.proofs.runs.Walk.{walk, checks, always}
 use Rattle.parser_rules.proofs.recovery.RecoveryCheck.{pop_check, row_check, tidy_check, of_row, leaf_of_row, unknown, any_token}
 

@@ -5,7 +5,6 @@ pub mod Frame
 pub mod Marked
 pub mod Walk
 pub mod AtTheEnd
-pub mod Inversion
 pub mod Forms
 pub mod Progress
 pub mod Anew

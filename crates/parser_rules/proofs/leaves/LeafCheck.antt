@@ -9,7 +9,7 @@ use Rattle.grammar_machine.proofs.Checks.{subset, disjoint}
 use Rattle.grammar_machine.proofs.Patterns.{label}
 use Rattle.grammar_machine.proofs.Sound.{any}
 use Rattle.grammar_machine.proofs.Steps.{hits}
-use Rattle.parser_rules.proofs.runs.Walk.{Domain, as_is}
+use Rattle.parser_rules.proofs.runs.Walk.{Domain, steady}
 use Rattle.parser_rules.proofs.lookahead.TokenSets.{over}
 use Rattle.parser_rules.proofs.lookahead.Split.{split}
 use Rattle.parser_rules.proofs.lookahead.FirstSets.{first_in, second_of, inlined}
@@ -31,21 +31,13 @@ abbrev pub anything : Tokens
 anything = record { near = any; far = any }
 
 unfoldable pub leaf_check : Domain Tokens
-leaf_check = record {
+leaf_check = record (steady anything) {
   leaf = λ own a k. cond (is_error own) (k anything) (belongs a.near own and k (record { near = a.far; far = any }));
-  report = λ a. a;
-  limit = as_is;
   test = λ q a f g. split (λ x y. x and y) true q a.near a.far (λ u v. f (record { near = u; far = v })) (λ u v. g (record { near = u; far = v }));
   turn = λ a. anything;
   keeps = λ a c. subset a.near c.near and subset a.far c.far;
   opens = λ n a. subset a.near (first_in n) and subset a.far (second_of n);
   begins = λ n. record { near = first_in n; far = second_of n };
-  ends = λ j a. true;
   after = λ j a k. k anything;
   inlines = inlined;
-  enters = as_is;
-  leaves = as_is;
-  types = λ a. a;
-  plain = λ a c k. k c;
-  wraps = as_is;
 }

@@ -29,11 +29,10 @@ use Rattle.parser_rules.specs.Open.{IsRoot}
 use Rattle.parser_rules.specs.Leaves.{leaves, IsLeafOf, IsLeafOfToken, OneLeafAnItem, nothing, one, the_end, the_limit}
 use Rattle.parser_rules.specs.Nodes as rule
 use Rattle.parser_rules.specs.Nodes.{kind_of}
-use Rattle.parser_rules.specs.RuleLanguage.{holds, Call}
+use Rattle.parser_rules.specs.RuleLanguage.{Ready, holds, Prim, Rule, Do, Seq, When, While, Call}
 use Rattle.parser_rules.specs.Rules.{body}
-use Rattle.parser_rules.specs.Runs.{Runs}
+use Rattle.parser_rules.specs.Runs.{Runs, seq, yes, no, done, again, call}
 use Rattle.parser_rules.proofs.runs.Frame.{add_all_above, root_kept}
-use Rattle.parser_rules.proofs.runs.Inversion.{Parts, parts}
 use Rattle.parser_rules.proofs.runs.AtTheEnd.{EndNow, ends, read_ends}
 use Rattle.parser_rules.proofs.runs.Reading.{reading, reading-second}
 use Rattle.parser_rules.proofs.runs.Marked as marked
@@ -41,7 +40,7 @@ use Rattle.parser_rules.proofs.runs.Marked.{Source, token, aside, Marked, append
 use Rattle.parser_rules.proofs.runs.Walk.{after_waiting, always, Goes, Sound, walked_whole}
 use Rattle.parser_rules.proofs.runs.Reporting.{after_note, after_too_deep}
 use Rattle.parser_rules.proofs.reports.NoReport.{end-kind}
-use Rattle.parser_rules.proofs.lookahead.TokenSets.{absent, over, class_of, Shown, second-shown, read-second, of-any, Seen, seen-any, seen-more, end-any, end-over, absent-over}
+use Rattle.parser_rules.proofs.lookahead.TokenSets.{absent, over, class_of, Shown, second-shown, read-second, of-any, Seen, seen-any, seen-more, edges, end-over, absent-over}
 use Rattle.parser_rules.proofs.lookahead.Split.{split-at}
 use Rattle.parser_rules.proofs.leaves.LeafCheck.{is_error, belongs, Tokens, anything, leaf_check}
 use Rattle.parser_rules.proofs.NodeChecks.{node_passes, document_leaves as document_fits}
@@ -114,7 +113,7 @@ belongs_fits x own t i b h = elim (either (is_end t.kind)) [
       false-true (holds-disjoint 0 x over (and-l _ _ (and-l _ _ b)) z) end-over)
   | inr e ↦ (
       let z : within (class (leaf_number t.kind, t.text)) x ≡ true = subst (λ b. within (cond b 0 (class (leaf_number t.kind, t.text))) x ≡ true) e h in
-      let f : fires (number own) (class (leaf_number t.kind, t.text)) 0 ≡ true = hits-fires (entries (number own)) x any (class (leaf_number t.kind, t.text)) 0 (and-r _ _ (and-r _ _ b)) z end-any in
+      let f : fires (number own) (class (leaf_number t.kind, t.text)) 0 ≡ true = hits-fires (entries (number own)) x any (class (leaf_number t.kind, t.text)) 0 (and-r _ _ (and-r _ _ b)) z edges.end_any in
       subst (λ found. IsLeafOfToken t.kind found (record { kind = own; text = t.text })) (sym i) (inr (token-belongs (number own) t.kind t.text (and-r _ _ (and-l _ _ b)) (and-l _ _ (and-r _ _ b)) f)))
 ]
 
@@ -237,12 +236,18 @@ not_ready : (b : Bool) → false ≡ not b → b ≡ true
 not_ready true e = refl
 not_ready false e = absurd cc
 
+loop-over : {a : Rule} {s t : State} → Runs (While Ready a) s t → is_over t.current ≡ true
+unfolding holds
+loop-over {t = t} (done q) = not_ready (is_over t.current) q
+loop-over (again q h k) = loop-over k
+
+wanted-over : {a : Rule} {p : Prim} {s t : State} → Runs (When Ready (While Ready a) (Seq (Do p) (While Ready a))) s t → is_over t.current ≡ true
+wanted-over (yes q h) = loop-over h
+wanted-over (no q (seq h k)) = loop-over k
+
 pub document_over : {s t : State} → Runs (Call rule.Document) s t → is_over t.current ≡ true
-unfolding Parts body holds
-document_over {t = t} h = elim (parts (parts h)) [
-  | inl (q, loop) ↦ not_ready (is_over t.current) (parts loop)
-  | inr (q, told) ↦ let (u, note, loop) = parts told in not_ready (is_over t.current) (parts loop)
-]
+unfolding body
+document_over (call h) = wanted-over h
 
 -- the leaves of a document's tree are one for one the items that were answered
 pub document_leaves : {t : State} (items : List Answer) (limit : ℕ) → AreAnswers items → Runs (Call rule.Document) (begun items limit kind.DOCUMENT) t → OneLeafAnItem items (leaves (finished t))

@@ -1,7 +1,8 @@
 -- With which tokens the rules begin a node.
 use Rattle.document_grammar.specs.Pattern.{member}
-use Rattle.std.proofs.Common.{ℕ, Bool, true, false, cond, List, [], ◌∷◌, bit_and, bit_or}
-use Rattle.document_grammar.specs.Kinds.{OPERATION_DEFINITION, FRAGMENT_DEFINITION, VARIABLE_DEFINITION, DIRECTIVE_DEFINITION, SCHEMA_DEFINITION, SCALAR_TYPE_DEFINITION, OBJECT_TYPE_DEFINITION, INTERFACE_TYPE_DEFINITION, UNION_TYPE_DEFINITION, ENUM_TYPE_DEFINITION, INPUT_OBJECT_TYPE_DEFINITION, SCHEMA_EXTENSION, SCALAR_TYPE_EXTENSION, OBJECT_TYPE_EXTENSION, INTERFACE_TYPE_EXTENSION, UNION_TYPE_EXTENSION, ENUM_TYPE_EXTENSION, INPUT_OBJECT_TYPE_EXTENSION}
+use Rattle.std.proofs.Common.{ℕ, Bool, true, false, cond, List, [], ◌∷◌, drop, bit_and, bit_or}
+use Rattle.document_grammar.specs.Kinds.{OPERATION_DEFINITION, FRAGMENT_DEFINITION, VARIABLE_DEFINITION}
+use Rattle.document_grammar.specs.Choices.{Definitions}
 use Rattle.lexical_grammar.specs.declared.TokenKind.TheVariants as token
 use Rattle.grammar_machine.specs.Table.{Entry, entry}
 use Rattle.grammar_machine.specs.Machine.{entries}
@@ -15,23 +16,7 @@ use Rattle.parser_rules.proofs.runs.Progress.{consumes}
 
 -- the definitions and extensions of the type system
 abbrev pub type_system : List ℕ
-type_system =
-    DIRECTIVE_DEFINITION
-    ∷ SCHEMA_DEFINITION
-    ∷ SCALAR_TYPE_DEFINITION
-    ∷ OBJECT_TYPE_DEFINITION
-    ∷ INTERFACE_TYPE_DEFINITION
-    ∷ UNION_TYPE_DEFINITION
-    ∷ ENUM_TYPE_DEFINITION
-    ∷ INPUT_OBJECT_TYPE_DEFINITION
-    ∷ SCHEMA_EXTENSION
-    ∷ SCALAR_TYPE_EXTENSION
-    ∷ OBJECT_TYPE_EXTENSION
-    ∷ INTERFACE_TYPE_EXTENSION
-    ∷ UNION_TYPE_EXTENSION
-    ∷ ENUM_TYPE_EXTENSION
-    ∷ INPUT_OBJECT_TYPE_EXTENSION
-    ∷ []
+type_system = drop 2 Definitions
 
 -- the classes with which a node of the symbol begins where no rule reads it: descriptions of what is executable, and the type system
 unfoldable pub unread : ℕ → ℕ

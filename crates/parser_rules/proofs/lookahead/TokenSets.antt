@@ -177,29 +177,10 @@ unfolding within
 at-none token.Eof = refl
 at-none _ = refl
 
-end-ready : false ≡ within 0 ready
+-- the classes of the end and of no token, in the sets of all tokens
+pub edges : record { end_ready : within 0 ready ≡ false; none_ready : within absent ready ≡ false; end_present : within 0 present ≡ true; none_present : within absent present ≡ false; end_any : within 0 any ≡ true; none_any : within absent any ≡ true }
 unfolding within
-end-ready = refl
-
-none-ready : false ≡ within absent ready
-unfolding within
-none-ready = refl
-
-end-present : true ≡ within 0 present
-unfolding within
-end-present = refl
-
-none-present : false ≡ within absent present
-unfolding within
-none-present = refl
-
-pub end-any : within 0 any ≡ true
-unfolding within
-end-any = refl
-
-none-any : within absent any ≡ true
-unfolding within
-none-any = refl
+edges = record { end_ready = refl; none_ready = refl; end_present = refl; none_present = refl; end_any = refl; none_any = refl }
 
 -- the end, or any other token
 at-token : (A : TokenKind → ℕ → Type 0) (k : TokenKind) (text : Text) → ignored k ≡ None → A token.Eof 0 → (is_end k ≡ false → A k (class (leaf_number k, text))) → A k (lexeme_class k text)
@@ -237,16 +218,16 @@ fits-set (Keyword k) o w = word-is k o w
 fits-set (Or p q) o w = ap₂ (λ (a b : Bool). a || b) (fits-set p o w) (fits-set q o w) ∙ in-either (class_of o) (set_of p) (set_of q)
 
 pub ready-is : (o : Option Lexeme) → Shown o → not (is_over o) ≡ within (class_of o) ready
-ready-is None w = none-ready
-ready-is (Some t) w = at-token (λ j c. not (is_end j) ≡ within c ready) t.kind t.text w end-ready (λ e. ap not e ∙ sym (not-zero (leaf_number t.kind, t.text)))
+ready-is None w = sym edges.none_ready
+ready-is (Some t) w = at-token (λ j c. not (is_end j) ≡ within c ready) t.kind t.text w (sym edges.end_ready) (λ e. ap not e ∙ sym (not-zero (leaf_number t.kind, t.text)))
 
 pub present-is : (o : Option Lexeme) → Shown o → is_some o ≡ within (class_of o) present
-present-is None w = none-present
-present-is (Some t) w = at-token (λ j c. true ≡ within c present) t.kind t.text w end-present (λ e. sym (holds-subset (class (leaf_number t.kind, t.text)) ready present refl (not-zero (leaf_number t.kind, t.text))))
+present-is None w = sym edges.none_present
+present-is (Some t) w = at-token (λ j c. true ≡ within c present) t.kind t.text w (sym edges.end_present) (λ e. sym (holds-subset (class (leaf_number t.kind, t.text)) ready present refl (not-zero (leaf_number t.kind, t.text))))
 
 pub of-any : (o : Option Lexeme) → Shown o → within (class_of o) any ≡ true
-of-any None w = none-any
-of-any (Some t) w = at-token (λ j c. within c any ≡ true) t.kind t.text w end-any (λ e. class-any (leaf_number t.kind, t.text))
+of-any None w = edges.none_any
+of-any (Some t) w = at-token (λ j c. within c any ≡ true) t.kind t.text w edges.end_any (λ e. class-any (leaf_number t.kind, t.text))
 
 -- ---- sets of the next two tokens
 

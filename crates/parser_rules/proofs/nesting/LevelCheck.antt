@@ -1,26 +1,12 @@
 -- The levels of nesting that a rule enters, walked along the rule: the computed check of one rule.
-use Rattle.std.proofs.Common.{ℕ, ◌+◌, ◌-◌, Bool, true, not, eqb, leb, [], ◌∷◌}
-use Rattle.document_grammar.specs.Kinds.{SELECTION_SET, LIST_TYPE, LIST_VALUE, OBJECT_FIELD, NON_NULL_TYPE}
-use Rattle.document_grammar.specs.Choices.{Values}
+use Rattle.std.proofs.Common.{ℕ, ◌+◌, ◌-◌, eqb, leb}
+use Rattle.document_grammar.specs.Kinds.{DOCUMENT, NON_NULL_TYPE}
 use Rattle.document_grammar.specs.Numbers.{number}
-use Rattle.document_grammar.specs.Pattern.{member}
-use Rattle.document_grammar.specs.Derivation.{counts}
 use Rattle.document_grammar.specs.Booleans.{◌and◌}
+use Rattle.document_grammar.proofs.Nested.{uncounted, is_bare, weight}
 use Rattle.parser_rules.specs.Nodes.{kind_of}
-use Rattle.parser_rules.proofs.runs.Walk.{Domain, blind, never}
+use Rattle.parser_rules.proofs.runs.Walk.{Domain, steady}
 use Rattle.parser_rules.proofs.soundness.TableCheck.{own}
-
--- a kind that is never counted
-abbrev pub uncounted : ℕ → Bool
-uncounted k = not (member k (SELECTION_SET ∷ LIST_TYPE ∷ [])) and not (member k Values)
-
--- a kind below which values are not counted
-abbrev pub is_bare : ℕ → Bool
-is_bare p = not (member p (LIST_VALUE ∷ OBJECT_FIELD ∷ []))
-
--- as `counts`, but it stays as written
-unfoldable pub weight : ℕ → ℕ → ℕ
-weight p k = counts p k
 
 -- The kind of the open node; how many more counted nodes are open than levels were entered where it began; how many levels were entered in
 -- it; and 1 where it still owes its own.
@@ -35,18 +21,13 @@ at_first k = record { kind = k; open_nodes = own k; entered = 0; owed = own k }
 
 -- each counted node that a rule leaves open has its level, entered or asked for
 unfoldable pub level_check : Domain Depth
-level_check = record {
+level_check = record (steady (at_first DOCUMENT)) {
   leaf = λ j a k. uncounted (number j) and k a;
-  report = λ a. a;
   limit = λ a k. leb a.owed 1 and k (record a { owed = 0 });
-  test = blind;
-  turn = λ a. a;
   keeps = λ a c. (eqb a.kind c.kind and eqb a.open_nodes c.open_nodes) and (eqb a.entered c.entered and eqb a.owed c.owed);
-  opens = λ n a. true;
   begins = λ n. at_first (number (kind_of n));
   ends = λ j a. (eqb a.kind (number j) and eqb a.open_nodes (own (number j))) and (eqb a.entered 0 and eqb a.owed 0);
   after = λ j a k. (eqb (a.entered + own (number j)) (a.open_nodes + weight a.kind (number j)) and eqb a.owed 0) and k a;
-  inlines = never;
   enters = λ a k. (eqb a.entered 0 and leb a.owed 1) and k (record a { entered = 1; owed = 0 });
   leaves = λ a k. (eqb a.entered 1 and eqb a.owed 0) and k (record a { entered = 0 });
   types = λ a. record a { open_nodes = a.open_nodes - a.entered; entered = 0 };

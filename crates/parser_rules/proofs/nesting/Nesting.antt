@@ -1,96 +1,38 @@
 -- The greatest depth that was asked for covers what every tree nests, whatever is reported.
-use Rattle.std.proofs.Common.{◌≡◌, ℕ, suc, ◌+◌, ◌≤◌, max, min, Bool, true, false, cond, List, [], ◌∷◌, ◌++◌, Option, Some, None, refl, sym, ap, ap₂, ◌∙◌, subst, eqb-true, leb-true, arith}
+use Rattle.std.proofs.Common.{◌≡◌, ℕ, suc, ◌+◌, ◌≤◌, max, min, Bool, true, List, [], ◌∷◌, Some, refl, sym, ap, ◌∙◌, eqb-true, leb-true, arith}
 use Rattle.lexical_grammar.specs.declared.TokenKind.{TokenKind}
-use Rattle.lexical_grammar.specs.declared.TokenKind.TheVariants as token_kind
 use Rattle.lexical_grammar.specs.Answers.{Answer}
 use Rattle.document_grammar.specs.declared.kind.SyntaxKind.{SyntaxKind}
 use Rattle.document_grammar.specs.declared.kind.SyntaxKind.TheVariants as kind
-use Rattle.document_grammar.specs.Kinds.{DOCUMENT, SELECTION_SET, LIST_TYPE, LIST_VALUE, OBJECT_FIELD, NON_NULL_TYPE}
-use Rattle.document_grammar.specs.Choices.{Values}
+use Rattle.document_grammar.specs.Kinds.{DOCUMENT, NON_NULL_TYPE}
 use Rattle.document_grammar.specs.Numbers.{number}
 use Rattle.document_grammar.specs.Forests.{Forest, count, join}
 use Rattle.document_grammar.specs.Forests as built
 use Rattle.document_grammar.specs.Builds.{Open, close}
-use Rattle.document_grammar.specs.Numbered.{numbered, tree_of}
+use Rattle.document_grammar.specs.Numbered.{tree_of}
 use Rattle.document_grammar.specs.Pattern.{member}
-use Rattle.document_grammar.specs.Tree as tree
-use Rattle.document_grammar.specs.Tree.{◌▸◌, root}
-use Rattle.document_grammar.specs.Derivation.{below, belows, nest}
+use Rattle.document_grammar.specs.Derivation.{nest}
 use Rattle.document_grammar.specs.Booleans.{◌and◌, ◌or◌}
-use Rattle.document_grammar.proofs.Booleans.{false-true, and-l, and-r, and-i, not-c, cond-zero}
-use Rattle.document_grammar.proofs.Built.{belows-append, numbered-join}
+use Rattle.document_grammar.proofs.Booleans.{false-true, and-l, and-r}
 use Rattle.parser_rules.specs.State.{usize_max, State, Part, ignored, add_all, flush, opened, closed, wrapped_from, moved, enter, leave, fresh, begun, finished}
+use Rattle.document_grammar.proofs.Nested.{uncounted, is_bare, weight, weight-none, inner, inner-join, inner-none, inner-leaf, inner-node, inner-same, inner-count}
 use Rattle.parser_rules.specs.Nodes.{Document, kind_of}
 use Rattle.parser_rules.specs.RuleLanguage.{Call}
 use Rattle.parser_rules.specs.Runs.{Runs}
 use Rattle.parser_rules.proofs.runs.Frame.{read_untouched, add_all_above, root_stays}
-use Rattle.parser_rules.proofs.runs.Reading.{Reading, stops, cuts, bad_text, waits, shows, reading}
+use Rattle.parser_rules.proofs.runs.Reading.{Reading, reading, all_kinds, ignored-kinds, reading-waits}
 use Rattle.parser_rules.proofs.runs.Marked as marked
 use Rattle.parser_rules.proofs.runs.Marked.{Marked, append, token, erase, erase-append, set_aside, moved_on}
 use Rattle.parser_rules.proofs.runs.Walk.{after_waiting, Sound, walked_whole}
 use Rattle.parser_rules.proofs.runs.Reporting.{after_note, after_too_deep}
 use Rattle.parser_rules.proofs.soundness.TableCheck.{own}
-use Rattle.parser_rules.proofs.nesting.LevelCheck.{uncounted, is_bare, weight, Depth, at_first, level_check}
+use Rattle.parser_rules.proofs.nesting.LevelCheck.{Depth, at_first, level_check}
 use Rattle.parser_rules.proofs.NodeChecks.{node_passes, document_levels}
-
--- ---- what trees nest
-
-weight-none : (p k : ℕ) → uncounted k ≡ true → weight p k ≡ 0
-unfolding weight
-weight-none p k h = rw (not-c _ (and-l _ _ h), not-c _ (and-r _ _ h)) (cond-zero (member p (LIST_VALUE ∷ OBJECT_FIELD ∷ [])))
-
-weight-le : (p k : ℕ) → weight p k ≤ 1
-unfolding weight
-weight-le p k = three (member k (SELECTION_SET ∷ LIST_TYPE ∷ [])) (member p (LIST_VALUE ∷ OBJECT_FIELD ∷ [])) (member k Values)
-  where
-    three : (a b c : Bool) → cond a 1 (cond b (cond c 1 0) 0) ≤ 1
-    three true b c = omega arith
-    three false true true = omega arith
-    three false true false = omega arith
-    three false false c = omega arith
-
--- the nesting of what stands in a node of the kind `p`
-unfoldable pub inner : ℕ → Forest → ℕ
-inner p f = belows p (numbered f)
-
-inner-join : (p : ℕ) (f g : Forest) → inner p (join f g) ≡ max (inner p f) (inner p g)
-unfolding inner
-inner-join p f g = ap (belows p) (numbered-join f g) ∙ belows-append p (numbered f) (numbered g)
-
-inner-none : (p : ℕ) → inner p built.none ≡ 0
-unfolding inner
-inner-none p = refl
-
-inner-leaf : (p : ℕ) (k : SyntaxKind) (x : List ℕ) → inner p (built.leaf k x built.none) ≡ max (weight p (number k) + 0) 0
-unfolding inner weight
-inner-leaf p k x = refl
-
-inner-node : (p : ℕ) (k : SyntaxKind) (kids : Forest) → inner p (built.node k kids built.none) ≡ max (weight p (number k) + inner (number k) kids) 0
-unfolding inner weight
-inner-node p k kids = refl
-
-belows-same : (p q : ℕ) (f : tree.Forest) → is_bare p ≡ true → is_bare q ≡ true → belows p f ≡ belows q f
-belows-same p q tree.none h g = refl
-belows-same p q (t ▸ f) h g =
-    ap₂ (λ (x y : ℕ). max (x + below t) y) (ap (λ b. cond (member (root t) (SELECTION_SET ∷ LIST_TYPE ∷ [])) 1 (cond b (cond (member (root t) Values) 1 0) 0)) (not-c _ h ∙ sym (not-c _ g))) (belows-same p q f h g)
-
--- a node around trees whose place counts no other values
-inner-same : (p q : ℕ) (f : Forest) → is_bare p ≡ true → is_bare q ≡ true → inner p f ≡ inner q f
-unfolding inner
-inner-same p q f h g = belows-same p q (numbered f) h g
-
--- a list nests no more than it has elements
-inner-count : (p : ℕ) (f : Forest) → inner p f ≤ count f
-unfolding inner weight
-inner-count p built.none = omega arith
-inner-count p (built.leaf k x rest) = let w = weight-le p (number k) in let r = inner-count p rest in omega (arith, w, r)
-inner-count p (built.node k kids rest) = let w = weight-le p (number k) in let b = inner-count (number k) kids in let r = inner-count p rest in omega (arith, w, b, r)
 
 -- ---- what waits
 
 abbrev all_uncounted : List Part → Bool
-all_uncounted [] = true
-all_uncounted (part ∷ parts) = uncounted (number part.kind) and all_uncounted parts
+all_uncounted = all_kinds (λ k. uncounted (number k))
 
 inner-aside : (p : ℕ) (parts : List Part) → all_uncounted parts ≡ true → inner p (erase (set_aside parts)) ≡ 0
 inner-aside p [] h = inner-none p
@@ -101,32 +43,16 @@ inner-aside p (part ∷ parts) h =
     let r = inner-aside p parts (and-r _ _ h) in
     omega (arith, j, l, w, r)
 
-all_uncounted-append : (parts : List Part) (part : Part) → all_uncounted parts ≡ true → uncounted (number part.kind) ≡ true → all_uncounted (parts ++ part ∷ []) ≡ true
-unfolding ◌and◌
-all_uncounted-append [] part h g = and-i g refl
-all_uncounted-append (p ∷ parts) part h g = and-i (and-l _ _ h) (all_uncounted-append parts part (and-r _ _ h) g)
-
-abbrev uncounted_in : Option SyntaxKind → Bool
-uncounted_in None = true
-uncounted_in (Some leaf) = uncounted (number leaf)
-
-ignored-uncounted : (k : TokenKind) (leaf : SyntaxKind) → ignored k ≡ Some leaf → uncounted (number leaf) ≡ true
-unfolding ◌and◌ member
-ignored-uncounted token_kind.Whitespace leaf e = subst (λ (o : Option SyntaxKind). uncounted_in o ≡ true) e refl
-ignored-uncounted token_kind.Comment leaf e = subst (λ (o : Option SyntaxKind). uncounted_in o ≡ true) e refl
-ignored-uncounted token_kind.Comma leaf e = subst (λ (o : Option SyntaxKind). uncounted_in o ≡ true) e refl
-ignored-uncounted _ leaf e = absurd cc
-
 error-uncounted : uncounted (number kind.ERROR) ≡ true
 unfolding ◌and◌ member
 error-uncounted = refl
 
+ignored-uncounted : (k : TokenKind) (own : SyntaxKind) → ignored k ≡ Some own → uncounted (number own) ≡ true
+unfolding ◌and◌ member
+ignored-uncounted = ignored-kinds (λ own. uncounted (number own) ≡ true) refl refl refl
+
 read-waits : {xs : List Answer} {s t : State} → Reading xs s t → all_uncounted s.waiting ≡ true → all_uncounted t.waiting ≡ true
-read-waits stops h = h
-read-waits (cuts r) h = read-waits r h
-read-waits {s = s} (bad_text e r) h = read-waits r (all_uncounted-append s.waiting _ h error-uncounted)
-read-waits {s = s} (waits {k = k} {own = leaf} e i r) h = read-waits r (all_uncounted-append s.waiting _ h (ignored-uncounted k leaf i))
-read-waits (shows e i) h = h
+read-waits = reading-waits (λ k. uncounted (number k)) error-uncounted ignored-uncounted
 
 -- ---- runs
 

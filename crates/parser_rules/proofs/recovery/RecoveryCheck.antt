@@ -5,13 +5,13 @@ use Rattle.lexical_grammar.specs.declared.TokenKind.TheVariants as token
 use Rattle.document_grammar.specs.declared.kind.SyntaxKind.{SyntaxKind}
 use Rattle.document_grammar.specs.declared.kind.SyntaxKind.TheVariants as kind
 use Rattle.document_grammar.specs.Numbers.{number}
-use Rattle.document_grammar.specs.Kinds.{ERROR, SPREAD, NON_NULL_TYPE}
+use Rattle.document_grammar.specs.Kinds.{ERROR, SPREAD, NON_NULL_TYPE, DOCUMENT}
 use Rattle.document_grammar.specs.Pattern.{Pattern, any_of, nothing, ◌then◌, ◌or_else◌, many, member}
 use Rattle.document_grammar.specs.Rows.{Row}
 use Rattle.document_grammar.specs.Booleans.{◌and◌, ◌or◌}
 use Rattle.parser_rules.specs.Nodes.{kind_of}
 use Rattle.parser_rules.specs.RuleLanguage.{Kind, Test, Here, HasNext, Not, Both}
-use Rattle.parser_rules.proofs.runs.Walk.{Domain, as_is, blind, never}
+use Rattle.parser_rules.proofs.runs.Walk.{Domain, steady}
 use Rattle.parser_rules.proofs.leaves.LeafCheck.{is_error}
 
 -- ---- popped tokens
@@ -72,23 +72,18 @@ pop a no_token k = a.cut and k (unknown no_token)
 -- A token that becomes an ERROR leaf has a report, and it is the only one of its node, but for those of the root, and of a LIST_VALUE, which
 -- are no `]`.
 unfoldable pub pop_check : Domain Popping
-pop_check = record {
+pop_check = record (steady (unknown any_token)) {
   leaf = λ j a k. cond (is_error j) (a.told and pop a a.room k) (k (unknown a.room));
   report = λ a. record a { told = true };
   limit = λ a k. k (unknown a.room);
   test = λ q a f g. f (record a { spared = a.spared or excludes q }) and g (record a { cut = a.cut or asks_next q });
   turn = λ a. unknown a.room;
   keeps = λ a c. same_room a.room c.room;
-  opens = λ n a. true;
   begins = λ n. unknown (cond (is_list (kind_of n)) no_bracket one_token);
   ends = λ j a. room_of j a.room;
   after = λ j a k. k (unknown a.room);
-  inlines = never;
-  enters = as_is;
-  leaves = as_is;
   types = λ a. unknown one_token;
   plain = λ a c k. same_room c.room one_token and k (unknown a.room);
-  wraps = as_is;
 }
 
 -- ---- the symbols of a row
@@ -116,20 +111,12 @@ pub record Two_rows : Type 0 where
 
 -- only what is of the row is added
 unfoldable pub row_check : Domain Two_rows
-row_check = record {
+row_check = record (steady (record { own = DOCUMENT; later = DOCUMENT })) {
   leaf = λ j a k. (leaf_of_row a.own j and leaf_of_row a.later j) and k a;
-  report = λ a. a;
-  limit = as_is;
-  test = blind;
-  turn = λ a. a;
   keeps = λ a c. eqb a.own c.own and eqb a.later c.later;
-  opens = λ n a. true;
   begins = λ n. record { own = number (kind_of n); later = number (kind_of n) };
   ends = λ j a. eqb a.own (number j);
   after = λ j a k. (of_row a.own j and of_row a.later j) and k a;
-  inlines = never;
-  enters = as_is;
-  leaves = as_is;
   types = λ a. record a { later = NON_NULL_TYPE };
   plain = λ a c k. (eqb c.own a.own and eqb a.later a.own) and k a;
   wraps = λ a k. eqb a.later NON_NULL_TYPE and k (record { own = NON_NULL_TYPE; later = NON_NULL_TYPE });
@@ -139,21 +126,11 @@ row_check = record {
 
 -- No token becomes an ignored leaf: what is known is whether a node was added.
 unfoldable pub tidy_check : Domain Bool
-tidy_check = record {
+tidy_check = record (steady false) {
   leaf = λ j a k. not (ltb (number j) ERROR) and k a;
-  report = λ a. a;
-  limit = as_is;
-  test = blind;
   turn = λ a. false;
   keeps = λ a c. true;
-  opens = λ n a. true;
-  begins = λ n. false;
-  ends = λ j a. true;
   after = λ j a k. k true;
-  inlines = never;
-  enters = as_is;
-  leaves = as_is;
   types = λ a. false;
   plain = λ a c k. c and k true;
-  wraps = as_is;
 }

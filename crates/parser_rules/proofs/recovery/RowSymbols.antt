@@ -1,5 +1,5 @@
 -- Whatever is reported, a node's children are symbols of its row, but for ignored, ERROR and SPREAD leaves: a computed check of the rules.
-use Rattle.std.proofs.Common.{◌≡◌, ℕ, Bool, true, eqb, ltb, List, [], ◌∷◌, ◌++◌, Some, refl, sym, subst, eqb-true, true≢false}
+use Rattle.std.proofs.Common.{◌≡◌, ℕ, Bool, true, eqb, ltb, List, [], ◌∷◌, Some, refl, sym, subst, eqb-true, true≢false}
 use Rattle.lexical_grammar.specs.Answers.{Answer}
 use Rattle.document_grammar.specs.declared.kind.SyntaxKind.{SyntaxKind}
 use Rattle.document_grammar.specs.declared.kind.SyntaxKind.TheVariants as kind
@@ -15,7 +15,7 @@ use Rattle.parser_rules.specs.Runs.{Runs}
 use Rattle.parser_rules.proofs.reports.NoReport.{ignored-leaf}
 use Rattle.parser_rules.proofs.recovery.RecoveryCheck.{of_row, leaf_of_row, Two_rows, row_check}
 use Rattle.parser_rules.proofs.NodeChecks.{node_passes, document_row}
-use Rattle.parser_rules.proofs.runs.Reading.{Reading, stops, cuts, bad_text, waits, shows, reading}
+use Rattle.parser_rules.proofs.runs.Reading.{Reading, reading, all_kinds, reading-waits}
 use Rattle.parser_rules.proofs.runs.Marked.{Marked, none, leaf, node, token, moved_on, append, erase, erase-append, set_aside}
 use Rattle.parser_rules.proofs.runs.Walk.{after_waiting, Sound, walked_whole}
 use Rattle.parser_rules.proofs.runs.Reporting.{after_note, after_too_deep}
@@ -39,26 +39,17 @@ rows-append k f g a b = subst (λ (x : built.Forest). rows k x ≡ true) (sym (e
 
 -- what waits is ignored or bad text
 abbrev all_aside : List Part → Bool
-all_aside [] = true
-all_aside (p ∷ parts) = (ltb (number p.kind) ERROR or eqb (number p.kind) ERROR) and all_aside parts
+all_aside = all_kinds (λ k. ltb (number k) ERROR or eqb (number k) ERROR)
 
 rows-aside : (k : ℕ) (parts : List Part) → all_aside parts ≡ true → rows k (erase (set_aside parts)) ≡ true
 unfolding leaf_of_row
 rows-aside k [] h = refl
 rows-aside k (p ∷ parts) h = and-i (or-l _ _ (and-l _ _ h)) (rows-aside k parts (and-r _ _ h))
 
-aside-more : (parts : List Part) (p : Part) → all_aside parts ≡ true → ltb (number p.kind) ERROR or eqb (number p.kind) ERROR ≡ true → all_aside (parts ++ p ∷ []) ≡ true
-aside-more [] p h g = and-i g refl
-aside-more (q ∷ parts) p h g = and-i (and-l _ _ h) (aside-more parts p (and-r _ _ h) g)
-
 -- reading on sets only such aside
 read-aside : {xs : List Answer} {s t : State} → Reading xs s t → all_aside s.waiting ≡ true → all_aside t.waiting ≡ true
 unfolding ◌or◌
-read-aside stops h = h
-read-aside (cuts r) h = read-aside r h
-read-aside {s = s} (bad_text e r) h = read-aside r (aside-more s.waiting _ h refl)
-read-aside {s = s} (waits {k = k} {own = own} e i r) h = read-aside r (aside-more s.waiting _ h (or-l _ _ (ignored-leaf k own i)))
-read-aside (shows e i) h = h
+read-aside = reading-waits (λ k. ltb (number k) ERROR or eqb (number k) ERROR) refl (λ k own i. or-l _ _ (ignored-leaf k own i))
 
 -- ---- runs
 

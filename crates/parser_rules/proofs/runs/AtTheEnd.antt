@@ -2,18 +2,21 @@
 use Rattle.std.proofs.Common.{◌≡◌, Option, Some, None, List, [], ◌∷◌, refl, sym, subst, true}
 use Rattle.lexical_grammar.specs.Answers.{Answer, gives, is_end, IsLast, AreAnswers}
 use Rattle.document_grammar.specs.Builds.{add_leaf}
-use Rattle.parser_rules.specs.State.{State, Lexeme, read_on, flush, closed, wrapped_from, enter, leave}
+use Rattle.parser_rules.specs.State.{State, Lexeme, read_on}
 use Rattle.parser_rules.specs.RuleLanguage.{Rule}
 use Rattle.parser_rules.specs.Runs.{Runs}
-use Rattle.parser_rules.proofs.runs.Steps.{Holds_along, along}
+use Rattle.parser_rules.proofs.runs.Steps.{along, along_reading}
 use Rattle.parser_rules.proofs.runs.Reading.{Reading, stops, cuts, bad_text, waits, shows, reading}
 
 unfoldable pub EndNow : Option Lexeme → List Answer → Type 0
 EndNow None items = items ≡ []
 EndNow (Some x) items = is_end x.kind ≡ true → items ≡ []
 
+abbrev pub EndsAt : Option Lexeme → List Answer → Type 0
+EndsAt o items = record { answers : AreAnswers items; now : EndNow o items }
+
 abbrev pub Ends : State → Type 0
-Ends s = record { answers : AreAnswers s.items; now : EndNow s.current s.items }
+Ends s = EndsAt s.current s.items
 
 reading-ends : {xs : List Answer} {s t : State} → Reading xs s t → s.items ≡ xs → AreAnswers xs → Ends t
 unfolding EndNow
@@ -26,23 +29,5 @@ reading-ends {xs = gives item ∷ xs} (shows i j) e h = record { answers = h.2; 
 pub read_ends : (xs : List Answer) (s : State) → s.items ≡ xs → AreAnswers xs → Ends (read_on xs s)
 read_ends xs s = reading-ends (reading xs s)
 
-abbrev Kept : State → State → Type 0
-Kept s t = Ends s → Ends t
-
-kept_along : Holds_along Kept
-unfolding flush closed enter leave wrapped_from
-kept_along = record {
-  same = λ s h. h;
-  next = λ s t u h k e. k (h e);
-  flushes = λ s h. h;
-  moves = λ leaf x s e w h. read_ends s.items (record s { tree = add_leaf leaf x.text s.tree }) refl h.answers;
-  reports = λ m x s c a h. h;
-  limits = λ x s c a d h. h;
-  asks = λ s h. h;
-  nodes = λ k s u h e. h e;
-  levels = λ s u q h e. h e;
-  wraps = λ k t u w h l e. l (h e);
-}
-
 pub ends : {r : Rule} {s t : State} → Runs r s t → Ends s → Ends t
-ends h = along kept_along h
+ends h = along (along_reading EndsAt (λ leaf x s e h. read_ends s.items (record s { tree = add_leaf leaf x.text s.tree }) refl h.answers)) h

@@ -1,10 +1,14 @@
 -- Reading on, answer by answer: the one induction for all that is proved of it.
-use Rattle.std.proofs.Common.{◌≡◌, ℕ, Option, Some, None, List, [], ◌∷◌, refl}
+use Rattle.std.proofs.Common.{◌≡◌, ℕ, Bool, true, Option, Some, None, List, [], ◌∷◌, ◌++◌, refl, subst}
 use Rattle.lexical_grammar.specs.declared.TokenKind.{TokenKind}
+use Rattle.lexical_grammar.specs.declared.TokenKind.TheVariants as token_kind
 use Rattle.lexical_grammar.specs.Cut.{Item}
 use Rattle.lexical_grammar.specs.Answers.{Answer, gives, limit_at}
 use Rattle.document_grammar.specs.declared.kind.SyntaxKind.{SyntaxKind}
-use Rattle.parser_rules.specs.State.{State, ignored, bad, met, wait, lexeme, read_on, second}
+use Rattle.document_grammar.specs.declared.kind.SyntaxKind.TheVariants as kind
+use Rattle.document_grammar.specs.Booleans.{◌and◌}
+use Rattle.document_grammar.proofs.Booleans.{and-i, and-l, and-r}
+use Rattle.parser_rules.specs.State.{Part, State, ignored, bad, met, wait, lexeme, read_on, second}
 
 abbrev pub on_kind : List Answer → State → Item → TokenKind → Option SyntaxKind → State
 on_kind rest s item k found = elim found [
@@ -52,3 +56,32 @@ reading-second (cuts h) = reading-second h
 reading-second (bad_text e h) = rw e (reading-second h)
 reading-second (waits e i h) = rw (e, i) (reading-second h)
 reading-second (shows e i) = rw (e, i) refl
+
+-- ---- what waits
+
+abbrev pub all_kinds : (SyntaxKind → Bool) → List Part → Bool
+all_kinds p [] = true
+all_kinds p (part ∷ parts) = p part.kind and all_kinds p parts
+
+kinds-more : (p : SyntaxKind → Bool) (parts : List Part) (part : Part) → all_kinds p parts ≡ true → p part.kind ≡ true → all_kinds p (parts ++ part ∷ []) ≡ true
+kinds-more p [] part h g = and-i g refl
+kinds-more p (q ∷ parts) part h g = and-i (and-l _ _ h) (kinds-more p parts part (and-r _ _ h) g)
+
+abbrev In : (SyntaxKind → Type 0) → SyntaxKind → Option SyntaxKind → Type 0
+In P own None = P own
+In P own (Some other) = P other
+
+-- what is said of the leaf of each ignored token
+pub ignored-kinds : (P : SyntaxKind → Type 0) → P kind.WHITESPACE → P kind.COMMENT → P kind.COMMA → (k : TokenKind) (own : SyntaxKind) → ignored k ≡ Some own → P own
+ignored-kinds P a b c token_kind.Whitespace own e = subst (In P own) e a
+ignored-kinds P a b c token_kind.Comment own e = subst (In P own) e b
+ignored-kinds P a b c token_kind.Comma own e = subst (In P own) e c
+ignored-kinds P a b c _ own e = absurd cc
+
+-- what waits keeps to the kinds, when bad text and ignored tokens are of them
+pub reading-waits : (p : SyntaxKind → Bool) → p kind.ERROR ≡ true → ((k : TokenKind) (own : SyntaxKind) → ignored k ≡ Some own → p own ≡ true) → {xs : List Answer} {s t : State} → Reading xs s t → all_kinds p s.waiting ≡ true → all_kinds p t.waiting ≡ true
+reading-waits p b w stops h = h
+reading-waits p b w (cuts r) h = reading-waits p b w r h
+reading-waits p b w {s = s} (bad_text {item = item} e r) h = reading-waits p b w r (kinds-more p s.waiting (record { kind = kind.ERROR; text = item.text }) h b)
+reading-waits p b w {s = s} (waits {item = item} {k = k} {own = own} e i r) h = reading-waits p b w r (kinds-more p s.waiting (record { kind = own; text = item.text }) h (w k own i))
+reading-waits p b w (shows e i) h = h

@@ -1,6 +1,7 @@
 -- A relation between states that holds along each step holds along each run.
-use Rattle.std.proofs.Common.{◌≡◌, refl, sym, subst, true, false, if◌then◌else◌, Option, Some, None, [], ◌∷◌, ◌++◌, ℕ, ◌+◌, ◌≤◌, min, arith}
+use Rattle.std.proofs.Common.{◌≡◌, refl, sym, subst, true, false, if◌then◌else◌, Option, Some, None, List, [], ◌∷◌, ◌++◌, ◌+◌, ◌≤◌, min, arith}
 use Rattle.std.proofs.lemmas.Bool.{leb-true}
+use Rattle.lexical_grammar.specs.Answers.{Answer}
 use Rattle.document_grammar.specs.declared.kind.SyntaxKind.{SyntaxKind}
 use Rattle.document_grammar.specs.declared.kind.SyntaxKind.TheVariants as kind
 use Rattle.document_grammar.specs.Builds.{start, add_leaf, built_count}
@@ -87,3 +88,22 @@ module _ {R : State → State → Type 0} (r : Holds_along R) where
   pub turns_along : {q : Test} {a : Rule} {s t : State} → Turns q a s t → R s t
   turns_along {s = s} begin = r.same s
   turns_along {s = s} {t = u} (turn {t = t} h q k) = r.next s t u (turns_along h) (along k)
+
+-- what is said of the current token and of the answers that are left holds along each run, when it does while a token is taken
+abbrev pub Keeps_reading : (Option Lexeme → List Answer → Type 0) → State → State → Type 0
+Keeps_reading P s t = P s.current s.items → P t.current t.items
+
+pub along_reading : (P : Option Lexeme → List Answer → Type 0) → ((leaf : SyntaxKind) (x : Lexeme) (s : State) → s.current ≡ Some x → Keeps_reading P s (read_on s.items (record s { tree = add_leaf leaf x.text s.tree }))) → Holds_along (Keeps_reading P)
+unfolding flush closed enter leave wrapped_from
+along_reading P moves = record {
+  same = λ s h. h;
+  next = λ s t u h k e. k (h e);
+  flushes = λ s h. h;
+  moves = λ leaf x s e w. moves leaf x s e;
+  reports = λ m x s c a h. h;
+  limits = λ x s c a d h. h;
+  asks = λ s h. h;
+  nodes = λ k s u h. h;
+  levels = λ s u q h. h;
+  wraps = λ k t u w h l e. l (h e);
+}

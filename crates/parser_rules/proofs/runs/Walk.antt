@@ -39,19 +39,29 @@ pub record Domain (K : Type 0) : Type 0 where
   pub plain : K → K → (K → Bool) → Bool
   pub wraps : K → (K → Bool) → Bool
 
--- a step that changes nothing of what is known
-abbrev pub as_is : {K : Type 0} → K → (K → Bool) → Bool
-as_is a k = k a
-
--- a test that says nothing
-abbrev pub blind : {K : Type 0} → Test → K → (K → Bool) → (K → Bool) → Bool
-blind q a f g = f a and g a
-
-abbrev pub never : Node → Bool
-never n = false
-
 abbrev pub always : {K : Type 0} → K → Bool
 always a = true
+
+-- where no step changes what is known
+abbrev pub steady : {K : Type 0} → K → Domain K
+steady a = record {
+  leaf = λ j b k. k b;
+  report = λ b. b;
+  limit = λ b k. k b;
+  test = λ q b f g. f b and g b;
+  turn = λ b. b;
+  keeps = λ b c. false;
+  opens = λ n b. true;
+  begins = λ n. a;
+  ends = λ j b. true;
+  after = λ j b k. k b;
+  inlines = λ n. false;
+  enters = λ b k. k b;
+  leaves = λ b k. k b;
+  types = λ b. b;
+  plain = λ b c k. k c;
+  wraps = λ b k. k b;
+}
 
 unfoldable pub walk : {K : Type 0} → Domain K → ℕ → Rule → K → (K → Bool) → Bool
 walk d n Skip a k = k a

@@ -1,6 +1,6 @@
 -- A run of the document's rule over a text: its first report is right; or it reports nothing, and the text is a sentence within both
 -- limits, whose derivation is the tree without its ignored leaves.
-use Rattle.parser_rules.proofs.runs.Steps.{Holds_along, along, turns_along}
+use Rattle.parser_rules.proofs.runs.Steps.{Holds_along, along, turns_along, along_reading}
 use Rattle.parser_rules.proofs.lookahead.FirstSets.{unread as unread_set}
 use Rattle.std.proofs.Common.{◌≡◌, ℕ, zero, suc, ◌+◌, ◌≤◌, ◌<◌, max, Bool, cond, true, false, List, [], ◌∷◌, ◌++◌, Option, Some, None, if◌then◌else◌, length, refl, sym, ap, ap₂, ◌∙◌, subst, ◌⊎◌, inl, inr, true≢false, eqb-true, append-nil, append_assoc, arith, not}
 use Rattle.std.specs.Prelude.{map, ⊤}
@@ -36,7 +36,7 @@ use Rattle.grammar_machine.proofs.Starts.{read, next_one, next_two, after-one, a
 use Rattle.grammar_machine.proofs.Steps.{closes-move}
 use Rattle.grammar_machine.proofs.MachineTheorems.{Parse, done, document-begins}
 use Rattle.parser_rules.specs.declared.message.Message.{Message}
-use Rattle.parser_rules.specs.State.{State, Lexeme, Report, fault_report, recursion_limit_report, add_all, second as second_of, fresh, begun, finished, read_on, met, bad, wait, ignored, flush, closed, enter, leave, wrapped_from, is_over}
+use Rattle.parser_rules.specs.State.{State, Lexeme, Report, fault_report, recursion_limit_report, add_all, second as second_of, fresh, begun, finished, read_on, met, bad, wait, ignored, is_over}
 use Rattle.parser_rules.specs.Nodes.{Definition, Document}
 use Rattle.parser_rules.specs.RuleLanguage.{Rule, Call, While, Ready, holds}
 use Rattle.parser_rules.specs.Runs.{Runs, Turns}
@@ -500,19 +500,7 @@ stood-moves x s u i n = elim (either (is_end x.kind)) [
 ]
 
 pub stands-along : Holds_along Stands_still
-unfolding flush closed enter leave wrapped_from
-stands-along = record {
-  same = λ s h. h;
-  next = λ s t u h k e. k (h e);
-  flushes = λ s h. h;
-  moves = λ leaf x s e w h. stood-moves x s (record s { tree = add_leaf leaf x.text s.tree }) refl (subst (λ (o : Option Lexeme). Stood o s.items) e h);
-  reports = λ m x s c a h. h;
-  limits = λ x s c a d h. h;
-  asks = λ s h. h;
-  nodes = λ k s u h e. h e;
-  levels = λ s u q h e. h e;
-  wraps = λ k t u w h l e. l (h e);
-}
+stands-along = along_reading Stood (λ leaf x s e h. stood-moves x s (record s { tree = add_leaf leaf x.text s.tree }) refl (subst (λ (o : Option Lexeme). Stood o s.items) e h))
 
 -- a turn of the document's loop over a text, while the grammar's reports are taken
 pub turn-of : (r : ℕ) (xs : List Answer) (first_rule : Rule) (b st : State) → EndsWell xs → Runs first_rule (begun xs r kind.DOCUMENT) b → Turns Ready (Call Definition) b st → true ≡ holds Ready st → st.accepts ≡ true → Turn st
