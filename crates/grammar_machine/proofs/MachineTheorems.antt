@@ -1,5 +1,5 @@
 -- The theorems on the tables: acceptance, soundness, one tree, no late fault, no early fault.
-use Rattle.std.proofs.Common.{◌≡◌, ℕ, Bool, true, false, not, List, [], ◌∷◌, ◌++◌, refl, sym, ◌∙◌, subst, append-nil}
+use Rattle.std.proofs.Common.{◌≡◌, ℕ, Bool, true, false, not, List, [], ◌∷◌, ◌++◌, refl, sym, ◌∙◌, subst, append-nil, ap}
 use Rattle.std.proofs.lemmas.List.{append_cancel_right}
 use Rattle.document_grammar.specs.Tree.{Token, Tree, leaf, node, Forest, root}
 use Rattle.grammar_machine.specs.Table.{rows, firsts}
@@ -80,17 +80,28 @@ module _ (s0 : ℕ) (b : begins_parse s0 ≡ true) where
     pub not_late : Whole s0 before
     pub not_early : (t : Tree) (v : List Token) → Parse s0 t (before ++ v) → first r ≡ first v → second r ≡ second v → ⊥
 
-  pub fault : (w : List Token) (s q : ℕ) (f : Forest) (fs : List Frame) (r : List Token) → Reach s0 w (frame s q f ∷ fs) r → next s q r ≡ stuck
-      → Fault w r
-  fault w s q f fs r c m =
+  -- a fault wherever no tree goes on so
+  faulty : (w : List Token) (fs : List Frame) (r : List Token) → Reach s0 w fs r
+      → ((t : Tree) (u v : List Token) → Parse s0 t (u ++ v) → Reach s0 (u ++ v) fs v → first r ≡ first v → second r ≡ second v → ⊥) → Fault w r
+  faulty w fs r c none =
       let o = reach-other c in
-      let e : o.0 ≡ spent (frame s q f ∷ fs) = append_cancel_right o.0 (spent (frame s q f ∷ fs)) r (sym o.1 ∙ reach-spent c) in
+      let e : o.0 ≡ spent fs = append_cancel_right o.0 (spent fs) r (sym o.1 ∙ reach-spent c) in
       record {
         before = o.0;
         split = o.1;
         not_late = subst (λ (u : List Token). Whole s0 u) (sym e) (viable no-leaf can-end c);
-        not_early = λ t v p e1 e2. never_stuck t (o.0 ++ v) s q f fs v p (o.2 v e1 e2) (rw (e1, e2) at m);
+        not_early = λ t v p e1 e2. none t o.0 v p (o.2 v e1 e2) e1 e2;
       }
+
+  pub fault : (w : List Token) (s q : ℕ) (f : Forest) (fs : List Frame) (r : List Token) → Reach s0 w (frame s q f ∷ fs) r → next s q r ≡ stuck
+      → Fault w r
+  fault w s q f fs r c m = faulty w (frame s q f ∷ fs) r c (λ t u v p h e1 e2. never_stuck t (u ++ v) s q f fs v p h (rw (e1, e2) at m))
+
+  -- the first symbol's node ends, and tokens are left
+  pub fault_left : (w : List Token) (q : ℕ) (f : Forest) (r : List Token) → Reach s0 w (frame s0 q f ∷ []) r → next s0 q r ≡ close
+      → (first r ≡ 0 → ⊥) → Fault w r
+  unfolding first
+  fault_left w q f r c m left = faulty w (frame s0 q f ∷ []) r c (λ t u v p h e1 e2. left (e1 ∙ ap first (done-all t (u ++ v) q f v p h (rw (e1, e2) at m)).0))
 
   -- So a fault before the end of the tokens of a tree is none.
   pub no_fault : (t : Tree) (w r : List Token) → Parse s0 t w → Fault w r → ⊥

@@ -54,7 +54,7 @@ put-none : (b : Stack) → put none b ≡ b
 put-none [] = refl
 put-none (a ∷ b) = ap (λ (z : Forest). (a.0, z) ∷ b) (forest-none a.1)
 
-lay-put : (s : ℕ) (f g : Forest) (b : Stack) → lay s (f +++ g) b ≡ put g (lay s f b)
+pub lay-put : (s : ℕ) (f g : Forest) (b : Stack) → lay s (f +++ g) b ≡ put g (lay s f b)
 lay-put s f g b = elim (either (eqb s TYPE)) [ inl p ↦ rw p (put-put f g b) | inr p ↦ rw p refl ]
 
 put-some : (f : Forest) (b : Stack) → IsLayered b → IsLayered (put f b)
@@ -138,14 +138,10 @@ image-plain s q p f g fs h =
     let o = one-type g h in
     ap (λ (z : Forest). put z (image (frame s q f ∷ fs))) (ap shows o.1 ∙ sym (ap (λ (z : Forest). show (node TYPE z) ▸ none) o.1))
 
-pub label-bang : label BANG ≡ BANG
-unfolding label labels
-label-bang = refl
-
-pub show-bang : (g : Forest) (x : Text) → Path TYPE 0 g 1 → show (node TYPE (g +++ (leaf BANG x ▸ none))) ≡ node NON_NULL_TYPE (shows g +++ (leaf BANG x ▸ none))
+pub show-bang : (g : Forest) (x : Text) → Path TYPE 0 g 1 → show (node TYPE (g +++ (leaf BANG x ▸ none))) ≡ node NON_NULL_TYPE (shows (g +++ (leaf BANG x ▸ none)))
 show-bang g x h =
     let o = one-type g h in
-    subst (λ (z : Forest). type_of (shows (z +++ (leaf BANG x ▸ none))) ≡ node NON_NULL_TYPE (shows z +++ (leaf BANG x ▸ none))) (sym o.1) (ap (λ (n : ℕ). node NON_NULL_TYPE (show o.0 ▸ (leaf n x ▸ none))) label-bang)
+    subst (λ (z : Forest). type_of (shows (z +++ (leaf BANG x ▸ none))) ≡ node NON_NULL_TYPE (shows (z +++ (leaf BANG x ▸ none)))) (sym o.1) refl
 
 -- ---- what was added since a place
 

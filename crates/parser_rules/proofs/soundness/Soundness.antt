@@ -51,7 +51,7 @@ use Rattle.parser_rules.proofs.soundness.TableCheck.{raised, own, owed, behind, 
 use Rattle.parser_rules.proofs.NodeChecks.{document_followed, turns_followed}
 use Rattle.parser_rules.proofs.soundness.FirstReport.{Viable, Unread, TooMany, left, Right, stuck_here, unread_here, deep_here, no_token}
 use Rattle.parser_rules.proofs.soundness.Plain.{Plain, plain-read}
-use Rattle.parser_rules.proofs.soundness.Simulation.{Leveled, Place, Fits, Out, Tells, Rightly, tell-on, sees-two, shown, good, link, run-grows}
+use Rattle.parser_rules.proofs.soundness.Simulation.{Leveled, Place, Fits, Out, Tells, Rightly, tell-on, fits-next, shown, good, link, run-grows}
 
 -- ---- what was answered, where all answers are tokens
 
@@ -97,9 +97,7 @@ start-level lim answers w = record {
   entered = omega arith;
   most_open = zero-peak _ _ _ (peak-start DOCUMENT) document-label.3;
   above = omega arith;
-  kept = λ z. omega arith;
-  nested = λ z t p. omega arith;
-  limit = refl;
+  bounds = record { kept = λ z. omega arith; nested = λ z t p. omega arith; limit = refl };
 }
 
 abbrev pub First : ℕ → List Answer → State → Type 0
@@ -237,7 +235,7 @@ root-out xs base Follows r w s (inr (spot q l d, x, y, h, g)) =
     let st = g.stands.0 in
     let f : Forest = st.children in
     let i : Place document xs base Follows r w DOCUMENT q l f [] s = st.place in
-    let n : Next x y (rest s) = sees-two document xs base Follows r w x y s g.calm g.seen in
+    let n : Next x y (rest s) = fits-next document xs base Follows r w g in
     let none : rest s ≡ [] = over-rest s.current s.items g.calm.now (holds-subset (class_of s.current) x over (and-r _ _ (and-l _ _ h)) g.seen.near) in
     let m : next DOCUMENT q (rest s) ≡ closes_move = closes-move DOCUMENT q x (behind y) (first (rest s)) (second (rest s)) (and-l _ _ (and-l _ _ h)) n.near n.far in
     let d = ended_sound document w f (rest s) (q, i.reach, m) in
@@ -250,8 +248,8 @@ root-out xs base Follows r w s (inr (spot q l d, x, y, h, g)) =
       silent = g.calm.quiet.clean;
       children = f;
       spells = subst (λ (v : List Token). Spells v (show (node DOCUMENT f)) document) words d.1;
-      nesting = λ z. at-most (nest (show (node DOCUMENT f))) (peak (frame DOCUMENT q f ∷ [])) r (nest-show (node DOCUMENT f) p.0 ∙ sym (peak-end DOCUMENT q f)) (top-peak _ s.high s.depth (owed DOCUMENT l) r lv.most_open depth (owed-none l raised-none) (lv.kept z));
-      high = λ z. top-high s.high s.depth (owed DOCUMENT l) (peak (frame DOCUMENT q f ∷ [])) (nesting_all (node DOCUMENT f)) (nest (show (node DOCUMENT f))) lv.most_open depth (owed-none l raised-none) (peak-end DOCUMENT q f) (nest-show (node DOCUMENT f) p.0) (lv.nested z (node DOCUMENT f) (p.0, p.1, words));
+      nesting = λ z. at-most (nest (show (node DOCUMENT f))) (peak (frame DOCUMENT q f ∷ [])) r (nest-show (node DOCUMENT f) p.0 ∙ sym (peak-end DOCUMENT q f)) (top-peak _ s.high s.depth (owed DOCUMENT l) r lv.most_open depth (owed-none l raised-none) (lv.bounds.kept z));
+      high = λ z. top-high s.high s.depth (owed DOCUMENT l) (peak (frame DOCUMENT q f ∷ [])) (nesting_all (node DOCUMENT f)) (nest (show (node DOCUMENT f))) lv.most_open depth (owed-none l raised-none) (peak-end DOCUMENT q f) (nest-show (node DOCUMENT f) p.0) (lv.bounds.nested z (node DOCUMENT f) (p.0, p.1, words));
       built = λ z. stack-flush s.waiting s.tree (g.calm.quiet.waits z) ∙ st.built z;
       tokens = all-read xs s.current s.items g.calm.now g.calm.held none;
     })
@@ -418,9 +416,7 @@ on-level answers base w d h lim e = record {
   entered = omega arith;
   most_open = zero-peak _ _ _ (peak-start DOCUMENT) document-label.3;
   above = rw e (omega arith);
-  kept = λ z. absurd z;
-  nested = λ z. absurd z;
-  limit = refl;
+  bounds = record { kept = λ z. absurd z; nested = λ z. absurd z; limit = refl };
 }
 
 abbrev pub now_words : (st : State) → Turn st → List Token

@@ -4,12 +4,13 @@
 use Rattle.std.proofs.Common.{ℕ, zero, suc, ◌+◌, ◌^◌, Bool, true, false, not, eqb, ltb, List, [], ◌∷◌, ◌++◌, cond, bit_and, bit_or}
 use Rattle.std.specs.Int.Bits.{bit_xor}
 use Rattle.lexical_grammar.specs.declared.TokenKind.TheVariants as token
-use Rattle.document_grammar.specs.Kinds.{ERROR, SELECTION_SET, LIST_TYPE, DOCUMENT}
+use Rattle.document_grammar.specs.declared.kind.SyntaxKind.TheVariants as kind
+use Rattle.document_grammar.specs.Kinds.{ERROR, SELECTION_SET, LIST_TYPE, DOCUMENT, BANG}
 use Rattle.grammar_machine.specs.Symbols.{TYPE, IDENT_FOR_FRAGMENT, IDENT_FOR_ENUM, NAME_FOR_FRAGMENT, NAME_FOR_ENUM}
 use Rattle.document_grammar.specs.Numbers.{number}
 use Rattle.document_grammar.specs.Booleans.{◌and◌, ◌or◌}
 use Rattle.grammar_machine.specs.Machine.{is_leaf, ends, exit, arcs, target}
-use Rattle.grammar_machine.proofs.Checks.{subset, disjoint, exits}
+use Rattle.grammar_machine.proofs.Checks.{subset, disjoint, exits, all_arcs}
 use Rattle.grammar_machine.proofs.Steps.{goes, closes, sticks, misses}
 use Rattle.grammar_machine.proofs.Patterns.{label}
 use Rattle.grammar_machine.proofs.Sound.{any}
@@ -133,9 +134,9 @@ abbrev pub on_by : Spot → ℕ → Spot
 on_by (spot q l d) n = spot (q + n) l d
 on_by lost n = lost
 
--- the nodes of the symbol leave nothing behind
-unfoldable pub whole : ℕ → Bool
-whole k = exits k (λ e. eqb e 0)
+-- a node of the symbol may leave behind that it lacks its block
+unfoldable pub lacks : ℕ → Bool
+lacks k = not (exits k (λ e. eqb e 0))
 
 -- no `{`
 abbrev pub no_brace : ℕ
@@ -150,7 +151,7 @@ post n s p x y TooDeep k = []
 post n s p x y (Seq a b) k = post n s p x y a (λ p' u v. post n s p' u v b k)
 post n s p x y (When t a b) k = divide (λ a' b'. a' ++ b') [] t p x y (λ p' u v. post n s p' u v a k) (λ p' u v. post n s p' u v b k)
 post n s p x y (While t a) k = k p x y
-post n s p x y (Child c) k = k (on_by (shift_to s p (symbol c)) 0) (cond (inlined c) y any) any ++ (cond (whole (symbol c)) [] (k (on_by (shift_to s p (symbol c)) 1) no_brace any) ++ cond (loses c) (k lost over any) [])
+post n s p x y (Child c) k = k (on_by (shift_to s p (symbol c)) 0) (cond (inlined c) y any) any ++ (cond (lacks (symbol c)) (k (on_by (shift_to s p (symbol c)) 1) no_brace any) [] ++ cond (loses c) (k lost over any) [])
 post n s p x y (Nested a b) k = post n s (risen p) x y a (λ p' u v. post n s (lowered p') u v b k)
 post zero s p x y (Call q) k = []
 post (suc n) s p x y (Call q) k = post n s p x y (body q) k
@@ -177,11 +178,11 @@ ends_at s q l d x = ((eqb (raised l) 0 and eqb (owed s l) 0) and is_firm d) and 
 
 -- the node leaves nothing behind, or that it lacks its block, where no `{` is next
 unfoldable pub leaves_well : ℕ → ℕ → ℕ → Bool
-leaves_well s q x = eqb (exit s q) 0 or (not (whole s) and (eqb (exit s q) 1 and subset x no_brace))
+leaves_well s q x = eqb (exit s q) 0 or (lacks s and (eqb (exit s q) 1 and subset x no_brace))
 
 -- what follows a node
 abbrev pub after : Spot → Node → Then → Bool
-after p c k = (k (on_by p 0) any any and (whole (symbol c) or k (on_by p 1) no_brace any)) and (not (loses c) or k lost over any)
+after p c k = (k (on_by p 0) any any and (not (lacks (symbol c)) or k (on_by p 1) no_brace any)) and (not (loses c) or k lost over any)
 
 -- what follows a node that is walked at its place
 unfoldable pub closing : ℕ → Spot → Then → Spot → ℕ → ℕ → Bool
@@ -208,35 +209,43 @@ child_at s lost x y c k walk lose = lose x y
 
 -- where each symbol that can come is counted
 abbrev pub counted : ℕ → List (ℕ × ℕ) → ℕ → ℕ → Bool
-counted s [] x y = true
-counted s (arc ∷ more) x y = (misses arc.0 x y or (eqb (count_in s arc.0) 1 and not (is_leaf arc.0))) and counted s more x y
+counted s l x y = all_arcs l (λ k q. misses k x y or (eqb (count_in s k) 1 and not (is_leaf k)))
 
--- the limit is reached, and what comes next is one level deeper
+-- what comes next is one level deeper
+abbrev pub deepens : ℕ → ℕ → Level → ℕ → Bool
+deepens s q l x = eqb (raised l) 0 and (eqb (own s) 1 or (eqb (own s) 0 and (counted s (arcs s q) x any and not (ends s q))))
+
+-- the limit is reached there
 unfoldable pub limits_at : ℕ → Spot → ℕ → Bool
-limits_at s (spot q l d) x = (is_full d and eqb (raised l) 0) and (eqb (own s) 1 or (eqb (own s) 0 and (counted s (arcs s q) x any and not (ends s q))))
+limits_at s (spot q l d) x = is_full d and deepens s q l x
 limits_at s lost x = false
 
 unfoldable pub nests : Spot → (Spot → Bool) → Bool
 nests (spot q l d) g = eqb (raised l) 0 and g (spot q high (weak d))
 nests lost g = false
 
--- after a type's node a `!` may come
-unfoldable pub typed : Spot → Then → Spot → ℕ → ℕ → Bool
-typed p k (spot q l d) x y = ((eqb q 1 and eqb (raised l) 0) and (eqb (owed TYPE l) 0 and is_firm d)) and divide (λ a b. a and b) true (At token.Bang) lost x y (λ p' u v. k p v any) (λ p' u v. closes TYPE 1 u any and k p u v)
-typed p k lost x y = false
+-- the first child of a type
+abbrev at_one : Spot → Bool
+at_one (spot q l d) = eqb q 1
+at_one lost = false
+
+-- a `!` ends the type, or what was there before it
+abbrev pub bang_next : Spot → Then → Then
+bang_next p k p' x y = at_one p' and takes TYPE p' x y (number kind.BANG) BANG (λ p''. closing TYPE p k p'' y any)
+
+abbrev pub no_bang : Spot → Then → Then
+no_bang p k p' x y = at_one p' and closing TYPE p k p' x y
+
+unfoldable pub typed : Spot → Then → Then
+typed p k p' x y = divide (λ a b. a and b) true (At token.Bang) p' x y (bang_next p k) (no_bang p k)
 
 unfoldable pub type_at : ℕ → Spot → ℕ → ℕ → Then → (Then → Bool) → Bool
 type_at s (spot q l d) x y k walk = (goes s q x (behind y) TYPE and (levels s l TYPE and not (eqb s TYPE))) and walk (typed (spot (target s q TYPE) l firm) k)
 type_at s lost x y k walk = false
 
--- each child that can come begins with what no rule reads
-abbrev pub unread_arcs : List (ℕ × ℕ) → ℕ → ℕ → Bool
-unread_arcs [] x y = true
-unread_arcs (arc ∷ more) x y = misses arc.0 (without x (unread arc.0)) y and unread_arcs more x y
-
 -- a report is right here: the machine goes on at most with what no rule reads, and the node cannot end, or it is the root and tokens are left
 unfoldable pub reports : ℕ → Spot → ℕ → ℕ → Bool
-reports s (spot q l d) x y = unread_arcs (arcs s q) x (behind y) and (not (ends s q) or (eqb s DOCUMENT and disjoint x 1))
+reports s (spot q l d) x y = all_arcs (arcs s q) (λ k q'. misses k (without x (unread k)) (behind y)) and (not (ends s q) or (eqb s DOCUMENT and disjoint x 1))
 reports s lost x y = true
 
 unfoldable pub is_node : Node → Bool
