@@ -1,5 +1,5 @@
 -- The open nodes of the builder and those of the machine: the machine's node of a type has none in the builder but that of a NON_NULL_TYPE.
-use Rattle.std.proofs.Common.{◌≡◌, ℕ, suc, ◌+◌, true, false, cond, eqb, List, [], ◌∷◌, refl, sym, ap, ap₂, ◌∙◌, subst, inl, inr, eqb-true, arith}
+use Rattle.std.proofs.Common.{◌≡◌, ℕ, suc, ◌+◌, true, false, cond, eqb, List, [], ◌∷◌, refl, sym, ap, ap₂, ◌∙◌, subst, inl, inr, eqb-true, add-zero, arith}
 use Rattle.document_grammar.specs.declared.kind.SyntaxKind.TheVariants as kind
 use Rattle.document_grammar.specs.Kinds.{BANG, NAMED_TYPE, LIST_TYPE, NON_NULL_TYPE}
 use Rattle.grammar_machine.proofs.generated.Labels.{labels}
@@ -12,7 +12,7 @@ use Rattle.document_grammar.specs.Tree.{Text, Tree, leaf, node, Forest, none, �
 use Rattle.document_grammar.specs.Booleans.{◌and◌, ◌or◌}
 use Rattle.grammar_machine.specs.Machine.{is_leaf, at, arcs, has, target, Frame, frame, Path, finish as leaves_behind}
 use Rattle.document_grammar.proofs.Booleans.{false-true, or-c, either}
-use Rattle.grammar_machine.proofs.TableLemmas.{exits-at}
+use Rattle.grammar_machine.proofs.TableLemmas.{exits-at, head-same}
 use Rattle.document_grammar.proofs.Built.{bares-numbered-join, forest-none}
 use Rattle.grammar_machine.proofs.Checks.{exits, row_of}
 use Rattle.grammar_machine.proofs.Patterns.{label}
@@ -26,12 +26,9 @@ pub assoc : (f g h : Forest) → (f +++ g) +++ h ≡ f +++ (g +++ h)
 assoc none g h = refl
 assoc (t ▸ f) g h = ap (λ (z : Forest). t ▸ z) (assoc f g h)
 
-rest-same : {t u : Tree} {f g : Forest} → t ▸ f ≡ u ▸ g → f ≡ g
-rest-same e = cc
-
 cancel : (f g h : Forest) → f +++ g ≡ f +++ h → g ≡ h
 cancel none g h e = e
-cancel (t ▸ f) g h e = cancel f g h (rest-same e)
+cancel (t ▸ f) g h e = let i : f +++ g ≡ f +++ h = cc in cancel f g h i
 
 pub shows-snoc : (f : Forest) (t : Tree) → shows (f +++ (t ▸ none)) ≡ shows f +++ (show t ▸ none)
 shows-snoc none t = refl
@@ -85,49 +82,35 @@ show-node s f p = rw p refl
 
 -- ---- a type
 
-one-more : (n : ℕ) → 0 ≡ suc n → ⊥
-one-more n e = omega arith
-
 type-exits : (exits BANG (λ e. eqb e 0) ≡ true) × (exits NAMED_TYPE (λ e. eqb e 0) ≡ true) × (exits LIST_TYPE (λ e. eqb e 0) ≡ true)
 unfolding exits ◌and◌ ◌or◌ is_leaf row_of rows
 type-exits = (refl, refl, refl)
 
-no-exit : (k : ℕ) (t : Tree) → k ≡ root t → exits k (λ e. eqb e 0) ≡ true → exits (root t) (λ e. eqb e 0) ≡ true
-no-exit k t e h = subst (λ (n : ℕ). exits n (λ e. eqb e 0) ≡ true) e h
-
 no-more : (f : Forest) → Path TYPE 2 f 1 → ⊥
 unfolding has target arcs at rows
-no-more none h = two-one h
-  where
-    two-one : ◌≡◌ {A = ℕ} 2 1 → ⊥
-    two-one e = omega arith
+no-more none h = let e : ◌≡◌ {A = ℕ} 2 1 = h in absurd (omega arith)
 no-more (t ▸ f) h = false-true refl h.0
+
+-- the first child of a type leaves nothing behind
+first-child : (k p : ℕ) (t : Tree) (f : Forest) → eqb k (root t) ≡ true → exits k (λ e. eqb e 0) ≡ true → Path TYPE p (t ▸ f) 1 → Path TYPE (target TYPE p k) f 1
+first-child k p t f e x h =
+    let i : k ≡ root t = eqb-true k (root t) e in
+    let z : leaves_behind t ≡ 0 = eqb-true _ _ (exits-at t (λ n. eqb n 0) (subst (λ (n : ℕ). exits n (λ e. eqb e 0) ≡ true) i x) h.1) in
+    subst (λ (n : ℕ). Path TYPE n f 1) (ap₂ (λ (a b : ℕ). target TYPE p a + b) (sym i) z ∙ add-zero (target TYPE p k)) h.2
 
 type-over : (f : Forest) → Path TYPE 1 f 1 → f ≡ none
 unfolding has target arcs at rows ◌or◌
 type-over none h = refl
-type-over (t ▸ f) h = elim (or-c (eqb BANG (root t)) false h.0) [
-  | inl e ↦ (
-      let k : BANG ≡ root t = eqb-true BANG (root t) e in
-      let z : leaves_behind t ≡ 0 = eqb-true _ _ (exits-at t (λ n. eqb n 0) (no-exit BANG t k type-exits.0) h.1) in
-      absurd (no-more f (subst (λ (n : ℕ). Path TYPE n f 1) (ap₂ (λ (a b : ℕ). target TYPE 1 a + b) (sym k) z) h.2)))
-  | inr e ↦ false-true refl e
-]
+type-over (t ▸ f) h = elim (or-c (eqb BANG (root t)) false h.0) [ inl e ↦ absurd (no-more f (first-child BANG 1 t f e type-exits.0 h)) | inr e ↦ false-true refl e ]
 
 -- one tree without `!`
 pub one-type : (f : Forest) → Path TYPE 0 f 1 → (t : Tree) × (f ≡ t ▸ none)
 unfolding has target arcs at rows ◌or◌
-one-type none h = absurd (one-more 0 h)
+one-type none h = let e : ◌≡◌ {A = ℕ} 0 1 = h in absurd (omega arith)
 one-type (t ▸ f) h = elim (or-c (eqb NAMED_TYPE (root t)) (eqb LIST_TYPE (root t) or false) h.0) [
-  | inl e ↦ (
-      let k : NAMED_TYPE ≡ root t = eqb-true NAMED_TYPE (root t) e in
-      let z : leaves_behind t ≡ 0 = eqb-true _ _ (exits-at t (λ n. eqb n 0) (no-exit NAMED_TYPE t k type-exits.1) h.1) in
-      (t, ap (λ (g : Forest). t ▸ g) (type-over f (subst (λ (n : ℕ). Path TYPE n f 1) (ap₂ (λ (a b : ℕ). target TYPE 0 a + b) (sym k) z) h.2))))
+  | inl e ↦ (t, ap (λ (g : Forest). t ▸ g) (type-over f (first-child NAMED_TYPE 0 t f e type-exits.1 h)))
   | inr i ↦ elim (or-c (eqb LIST_TYPE (root t)) false i) [
-    | inl e ↦ (
-        let k : LIST_TYPE ≡ root t = eqb-true LIST_TYPE (root t) e in
-        let z : leaves_behind t ≡ 0 = eqb-true _ _ (exits-at t (λ n. eqb n 0) (no-exit LIST_TYPE t k type-exits.2) h.1) in
-        (t, ap (λ (g : Forest). t ▸ g) (type-over f (subst (λ (n : ℕ). Path TYPE n f 1) (ap₂ (λ (a b : ℕ). target TYPE 0 a + b) (sym k) z) h.2))))
+    | inl e ↦ (t, ap (λ (g : Forest). t ▸ g) (type-over f (first-child LIST_TYPE 0 t f e type-exits.2 h)))
     | inr e ↦ false-true refl e
   ]
 ]
@@ -149,12 +132,6 @@ layers-join : (here more : built.Forest) (above : List Open) → layers (built.j
 layers-join here more [] = ap (λ (f : Forest). (0, f) ∷ []) (bares-numbered-join here more)
 layers-join here more (o ∷ above) = ap (λ (f : Forest). (number o.kind, f) ∷ layers o.before above) (bares-numbered-join here more)
 
-first-layer : {a c : ℕ × Forest} {b d : Stack} → a ∷ b ≡ c ∷ d → a ≡ c
-first-layer e = cc
-
-layer-same : (k : ℕ) (f g : Forest) (b : Stack) → (k, f) ∷ b ≡ (k, g) ∷ b → f ≡ g
-layer-same k f g b e = ap (λ (l : ℕ × Forest). l.1) (first-layer e)
-
 -- it is what the type's node holds
 added-type : (s q q' : ℕ) (f g : Forest) (fs : List Frame) (t u : Building) (more : built.Forest) → eqb s TYPE ≡ false → u.above ≡ t.above → u.here ≡ built.join t.here more
     → stack t ≡ image (frame s q f ∷ fs) → stack u ≡ image (frame TYPE q' g ∷ frame s q f ∷ fs) → strip more ≡ shows g
@@ -162,7 +139,7 @@ added-type s q q' f g fs t u more ty a h st su =
     let n = image-node s q f fs ty in
     let e : put (strip more) ((label s, shows f) ∷ image fs) ≡ put (shows g) ((label s, shows f) ∷ image fs) =
     ap (put (strip more)) (sym n) ∙ (ap (put (strip more)) (sym st) ∙ (sym (layers-join t.here more t.above) ∙ (sym (ap₂ layers h a) ∙ (su ∙ ap (put (shows g)) n)))) in
-    cancel (shows f) (strip more) (shows g) (layer-same (label s) (shows f +++ strip more) (shows f +++ shows g) (image fs) e)
+    cancel (shows f) (strip more) (shows g) (ap (λ (l : ℕ × Forest). l.1) (head-same e))
 
 pub stack-wrap : (s q q' : ℕ) (f g : Forest) (fs : List Frame) (t u : Building) (more : built.Forest) → eqb s TYPE ≡ false → u.above ≡ t.above → u.here ≡ built.join t.here more
     → stack t ≡ image (frame s q f ∷ fs) → stack u ≡ image (frame TYPE q' g ∷ frame s q f ∷ fs) → stack (wrap (built_count t) kind.NON_NULL_TYPE u) ≡ (NON_NULL_TYPE, shows g) ∷ image (frame s q f ∷ fs)

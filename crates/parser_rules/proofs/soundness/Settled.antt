@@ -40,29 +40,21 @@ EndedFit m n (built.node k kids rest) = (n + tokens kids < m → Fits (node (num
 shift-ended : (m n n' : ℕ) (f : built.Forest) → n ≡ n' → EndedFit m n f → EndedFit m n' f
 shift-ended m n n' f e h = subst (λ (z : ℕ). EndedFit m z f) e h
 
-plus-none : (n : ℕ) → n + 0 ≡ n
-plus-none n = omega arith
-
-plus-left : (n a b : ℕ) → n + (a + b) ≡ (n + a) + b
-plus-left n a b = omega arith
-
 ended-join : (m n : ℕ) (f g : built.Forest) → EndedFit m n f → EndedFit m (n + tokens f) g → EndedFit m n (built.join f g)
-ended-join m n built.none g a b = shift-ended m (n + 0) n g (plus-none n) b
-ended-join m n (built.leaf k x rest) g a b =
-    let c : ℕ = cond (ltb (number k) ERROR) 0 1 in
-    ended-join m (n + c) rest g a (shift-ended m (n + (c + tokens rest)) ((n + c) + tokens rest) g (plus-left n c (tokens rest)) b)
+ended-join m n built.none g a b = shift-ended m (n + 0) n g (omega arith) b
+ended-join m n (built.leaf k x rest) g a b = let c : ℕ = cond (ltb (number k) ERROR) 0 1 in ended-join m (n + c) rest g a (shift-ended m (n + (c + tokens rest)) ((n + c) + tokens rest) g (omega arith) b)
 ended-join m n (built.node k kids rest) g a b =
-    (a.0, a.1, ended-join m (n + tokens kids) rest g a.2 (shift-ended m (n + (tokens kids + tokens rest)) ((n + tokens kids) + tokens rest) g (plus-left n (tokens kids) (tokens rest)) b))
+    (a.0, a.1, ended-join m (n + tokens kids) rest g a.2 (shift-ended m (n + (tokens kids + tokens rest)) ((n + tokens kids) + tokens rest) g (omega arith) b))
 
 ended-parts : (m n : ℕ) (f g : built.Forest) → EndedFit m n (built.join f g) → EndedFit m n f × EndedFit m (n + tokens f) g
-ended-parts m n built.none g a = (tt, shift-ended m n (n + 0) g (sym (plus-none n)) a)
+ended-parts m n built.none g a = (tt, shift-ended m n (n + 0) g (omega arith) a)
 ended-parts m n (built.leaf k x rest) g a =
     let c : ℕ = cond (ltb (number k) ERROR) 0 1 in
     let r = ended-parts m (n + c) rest g a in
-    (r.0, shift-ended m ((n + c) + tokens rest) (n + (c + tokens rest)) g (sym (plus-left n c (tokens rest))) r.1)
+    (r.0, shift-ended m ((n + c) + tokens rest) (n + (c + tokens rest)) g (omega arith) r.1)
 ended-parts m n (built.node k kids rest) g a =
     let r = ended-parts m (n + tokens kids) rest g a.2 in
-    ((a.0, a.1, r.0), shift-ended m ((n + tokens kids) + tokens rest) (n + (tokens kids + tokens rest)) g (sym (plus-left n (tokens kids) (tokens rest))) r.1)
+    ((a.0, a.1, r.0), shift-ended m ((n + tokens kids) + tokens rest) (n + (tokens kids + tokens rest)) g (omega arith) r.1)
 
 tokens-join : (f g : built.Forest) → tokens (built.join f g) ≡ tokens f + tokens g
 tokens-join built.none g = omega arith
@@ -70,10 +62,7 @@ tokens-join (built.leaf k x rest) g = let e = tokens-join rest g in omega (arith
 tokens-join (built.node k kids rest) g = let e = tokens-join rest g in omega (arith, e)
 
 pub fit-tail : (t : Tree) (f : Forest) → AllFit (bares (t ▸ f)) → AllFit (bares f)
-fit-tail t f h = elim (either (ignored t)) [
-  | inl e ↦ subst (λ (b : Bool). AllFit (cond b (bares f) (bare t ▸ bares f)) → AllFit (bares f)) (sym e) (λ x. x) h
-  | inr e ↦ subst (λ (b : Bool). AllFit (cond b (bares f) (bare t ▸ bares f)) → AllFit (bares f)) (sym e) (λ x. x.1) h
-]
+fit-tail t f h = elim (either (ignored t)) [ inl e ↦ (rw e at h) | inr e ↦ (let g : AllFit (bare t ▸ bares f) = rw e at h in g.1) ]
 
 -- where all trees fit, all nodes do
 fit-ended : (m n : ℕ) (f : built.Forest) → AllFit (strip f) → EndedFit m n f
@@ -107,49 +96,40 @@ Opens m (o ∷ above) = EndedFit m (open_tokens above) o.before × Opens m above
 abbrev pub Settled : ℕ → Building → Type 0
 Settled m b = (m ≤ open_tokens b.above + tokens b.here) × EndedFit m (open_tokens b.above) b.here × Opens m b.above
 
-more-tokens : (m o a b : ℕ) → m ≤ o + a → m ≤ o + (a + b)
-more-tokens m o a b h = omega arith
-
 pub settled-leaf : (m : ℕ) (k : SyntaxKind) (x : Text) (b : Building) → Settled m b → Settled m (add_leaf k x b)
 settled-leaf m k x b h =
-    (subst (λ (z : ℕ). m ≤ open_tokens b.above + z) (sym (tokens-join b.here (built.leaf k x built.none))) (more-tokens m (open_tokens b.above) (tokens b.here) (cond (ltb (number k) ERROR) 0 1 + 0) h.0), ended-join m (open_tokens b.above) b.here (built.leaf k x built.none) h.1 tt, h.2)
+    let t : built.Forest = built.leaf k x built.none in
+    let e = tokens-join b.here t in
+    let c = h.0 in
+    (omega (arith, c, e), ended-join m (open_tokens b.above) b.here t h.1 tt, h.2)
 
 pub settled-parts : (m : ℕ) (parts : List Part) (b : Building) → Settled m b → Settled m (add_all parts b)
 settled-parts m [] b h = h
 settled-parts m (p ∷ parts) b h = settled-parts m parts (add_leaf p.kind p.text b) (settled-leaf m p.kind p.text b h)
 
-start-tokens : (m o a : ℕ) → m ≤ o + a → m ≤ (o + a) + 0
-start-tokens m o a h = omega arith
-
 pub settled-start : (m : ℕ) (k : SyntaxKind) (b : Building) → Settled m b → Settled m (start k b)
-settled-start m k b h = (start-tokens m (open_tokens b.above) (tokens b.here) h.0, tt, (h.1, h.2))
-
-close-tokens : (m o a b c : ℕ) → m ≤ (o + a) + b → c ≡ a + (b + 0) → m ≤ o + c
-close-tokens m o a b c h e = omega arith
-
-not-before : {A : Type 0} (m o b : ℕ) → m ≤ o + b → o + b < m → A
-not-before m o b h g = absurd (omega (arith, h, g))
+settled-start m k b h = (let c = h.0 in omega (arith, c), tt, (h.1, h.2))
 
 settled-close : (m : ℕ) (here : built.Forest) (above : List Open) → Settled m (record { here = here; above = above }) → Settled m (close here above)
 settled-close m here [] h = h
-settled-close m here (o ∷ above) h = (
-  close-tokens m (open_tokens above) (tokens o.before) (tokens here) (tokens (built.join o.before (built.node o.kind here built.none))) h.0 (tokens-join o.before (built.node o.kind here built.none)),
-  ended-join m (open_tokens above) o.before (built.node o.kind here built.none) h.2.0 ((λ g. not-before m (open_tokens above + tokens o.before) (tokens here) h.0 g), h.1, tt),
-  h.2.1,
-)
+settled-close m here (o ∷ above) h =
+    let t : built.Forest = built.node o.kind here built.none in
+    let e = tokens-join o.before t in
+    let c = h.0 in
+    (omega (arith, c, e), ended-join m (open_tokens above) o.before t h.2.0 ((λ g. absurd (omega (arith, c, g))), h.1, tt), h.2.1)
 
 pub settled-finish : (m : ℕ) (b : Building) → Settled m b → Settled m (finish b)
 settled-finish m b h = settled-close m b.here b.above h
-
-wrap-tokens : (m o a b c : ℕ) → m ≤ o + c → c ≡ a + b → m ≤ (o + a) + b
-wrap-tokens m o a b c h e = omega arith
 
 pub settled-wrap : (m place : ℕ) (k : SyntaxKind) (b : Building) → Settled m b → Settled m (wrap place k b)
 settled-wrap m place k b h =
     let n : ℕ = place - open_count b.above in
     let e : built.join (front n b.here) (back n b.here) ≡ b.here = join-front_back n b.here in
     let p = ended-parts m (open_tokens b.above) (front n b.here) (back n b.here) (subst (λ (f : built.Forest). EndedFit m (open_tokens b.above) f) (sym e) h.1) in
-    (wrap-tokens m (open_tokens b.above) (tokens (front n b.here)) (tokens (back n b.here)) (tokens b.here) h.0 (ap tokens (sym e) ∙ tokens-join (front n b.here) (back n b.here)), p.1, (p.0, h.2))
+    let j = tokens-join (front n b.here) (back n b.here) in
+    let i : tokens (built.join (front n b.here) (back n b.here)) ≡ tokens b.here = ap tokens e in
+    let c = h.0 in
+    (omega (arith, c, i, j), p.1, (p.0, h.2))
 
 -- the finished tree
 pub ended-root : (m : ℕ) (b : Building) (o : Open) → b.above ≡ o ∷ [] → Settled m b → EndedFit m 0 (finish b).here
@@ -180,13 +160,12 @@ layers-tokens : (here : built.Forest) (above : List Open) → stack_tokens (laye
 layers-tokens here [] = ap (λ (n : ℕ). 0 + n) (tokens-strip here)
 layers-tokens here (o ∷ above) = ap₂ (λ (a b : ℕ). a + b) (layers-tokens o.before above) (tokens-strip here)
 
-all-there : (m n k : ℕ) → n ≡ k → n ≡ m → m ≤ k
-all-there m n k e f = omega arith
-
 pub settled-at : (m : ℕ) (b : Building) (l : Stack) → stack b ≡ l → Fitting m l → Settled m b
 settled-at m b l e h =
     let f = layers-fit m b.here b.above (subst (λ (z : Stack). StackFits z) (sym e) h.fits) in
-    (all-there m (stack_tokens (layers b.here b.above)) (open_tokens b.above + tokens b.here) (layers-tokens b.here b.above) (ap stack_tokens e ∙ h.count), f.0, f.1)
+    let t = layers-tokens b.here b.above in
+    let c : stack_tokens (stack b) ≡ m = ap stack_tokens e ∙ h.count in
+    (omega (arith, t, c), f.0, f.1)
 
 -- ---- the image of the machine's nodes
 
@@ -198,30 +177,27 @@ path-yields : (s p q : ℕ) (f : Forest) → Path s p f q → Yields (shows f) �
 path-yields s p q none o = refl
 path-yields s p q (t ▸ f) o = ap₂ (λ (x y : List Token). x ++ y) (show-yield t o.1) (path-yields s (target s p (root t) + leaves_behind t) q f o.2)
 
-add-within : (a b c d m : ℕ) → b + c ≡ m → d ≡ c + a → b + d ≡ m + a
-add-within a b c d m e f = omega arith
+-- the tokens of the innermost open node come last
+spent-more : (s p q : ℕ) (f : Forest) (fs : List Frame) → Path s p f q → length (spent fs) + length (Yields (shows f)) ≡ length (spent (frame s q f ∷ fs))
+spent-more s p q f fs h = ap (λ (v : List Token). length (spent fs) + length v) (path-yields s p q f h) ∙ sym (length-append (spent fs) (yields f))
 
 -- trees more in the innermost open node
 fitting-put : (m : ℕ) (f : Forest) (b : Stack) → IsLayered b → AllFit f → Fitting m b → Fitting (m + length (Yields f)) (put f b)
 fitting-put m f [] s a h = absurd s
-fitting-put m f (layer ∷ more) s a h = record {
-  fits = (fit-append layer.1 f h.fits.0 a, h.fits.1);
-  count = add-within (length (Yields f)) (stack_tokens more) (length (Yields layer.1)) (length (Yields (layer.1 +++ f))) m h.count (ap length (Yields-append layer.1 f) ∙ length-append (Yields layer.1) (Yields f));
-}
+fitting-put m f (layer ∷ more) s a h =
+    let e : length (Yields (layer.1 +++ f)) ≡ length (Yields layer.1) + length (Yields f) = ap length (Yields-append layer.1 f) ∙ length-append (Yields layer.1) (Yields f) in
+    let c = h.count in
+    record { fits = (fit-append layer.1 f h.fits.0 a, h.fits.1); count = omega (arith, c, e) }
 
-pub fitting-open : (m k : ℕ) (f : Forest) (b : Stack) → AllFit f → Fitting m b → Fitting (m + length (Yields f)) ((k, f) ∷ b)
-fitting-open m k f b a h = record { fits = (a, h.fits); count = ap (λ (n : ℕ). n + length (Yields f)) h.count }
+pub fitting-path : (s p q k : ℕ) (f : Forest) (fs : List Frame) (b : Stack) → is_leaf s ≡ false → Path s p f q → Fitting (length (spent fs)) b → Fitting (length (spent (frame s q f ∷ fs))) ((k, shows f) ∷ b)
+fitting-path s p q k f fs b l h i = subst (λ (n : ℕ). Fitting n ((k, shows f) ∷ b)) (spent-more s p q f fs h) (record { fits = (path-fits s p q f l h, i.fits); count = ap (λ (n : ℕ). n + length (Yields (shows f))) i.count })
 
-pub fitting-path : (m s p q : ℕ) (k : ℕ) (f : Forest) (fs : List Frame) (b : Stack) → is_leaf s ≡ false → Path s p f q → m ≡ length (spent fs) → Fitting m b → Fitting (length (spent (frame s q f ∷ fs))) ((k, shows f) ∷ b)
-fitting-path m s p q k f fs b l h e i =
-    subst (λ (n : ℕ). Fitting n ((k, shows f) ∷ b)) (ap₂ (λ (a c : ℕ). a + c) e (ap length (path-yields s p q f h)) ∙ sym (length-append (spent fs) (yields f))) (fitting-open m k (shows f) b (path-fits s p q f l h) i)
-
-fitting-lay : (m s p q : ℕ) (f : Forest) (fs : List Frame) (b : Stack) → IsLayered b → is_leaf s ≡ false → Path s p f q → m ≡ length (spent fs) → Fitting m b → Fitting (length (spent (frame s q f ∷ fs))) (lay s (shows f) b)
-fitting-lay m s p q f fs b some l h e i = elim (either (eqb s TYPE)) [
-  | inl t ↦ rw t (subst (λ (n : ℕ). Fitting n (put (shows f) b)) (ap₂ (λ (a c : ℕ). a + c) e (ap length (path-yields s p q f h)) ∙ sym (length-append (spent fs) (yields f))) (fitting-put m (shows f) b some (path-fits s p q f l h) i))
-  | inr t ↦ rw t (fitting-path m s p q (label s) f fs b l h e i)
+fitting-lay : (s p q : ℕ) (f : Forest) (fs : List Frame) (b : Stack) → IsLayered b → is_leaf s ≡ false → Path s p f q → Fitting (length (spent fs)) b → Fitting (length (spent (frame s q f ∷ fs))) (lay s (shows f) b)
+fitting-lay s p q f fs b some l h i = elim (either (eqb s TYPE)) [
+  | inl t ↦ rw t (subst (λ (n : ℕ). Fitting n (put (shows f) b)) (spent-more s p q f fs h) (fitting-put (length (spent fs)) (shows f) b some (path-fits s p q f l h) i))
+  | inr t ↦ rw t (fitting-path s p q (label s) f fs b l h i)
 ]
 
 pub fitting-image : (s0 : ℕ) (fs : List Frame) → Sound s0 fs → Fitting (length (spent fs)) (image fs)
 fitting-image s0 [] h = record { fits = (tt, tt); count = refl }
-fitting-image s0 (frame s q f ∷ fs) h = fitting-lay (length (spent fs)) s 0 q f fs (image fs) (image-some fs) h.0 h.1 refl (fitting-image s0 fs h.3)
+fitting-image s0 (frame s q f ∷ fs) h = fitting-lay s 0 q f fs (image fs) (image-some fs) h.0 h.1 (fitting-image s0 fs h.3)

@@ -804,7 +804,7 @@ module _ (sort : Sort) (answers : List Answer) (base : List Report) (Follows : T
       shape f = (NON_NULL_TYPE, f) ∷ image gs
 
       shaped : Shaped TYPE gs shape
-      shaped = record { joins = λ f g. refl; fits = λ q f r o. let h = reach-sound (start-no-leaf top start_good) o in fitting-path (length (spent gs)) TYPE 0 q NON_NULL_TYPE f gs (image gs) h.0 h.1 refl (fitting-image top gs h.3) }
+      shaped = record { joins = λ f g. refl; fits = λ q f r o. let h = reach-sound (start-no-leaf top start_good) o in fitting-path TYPE 0 q NON_NULL_TYPE f gs (image gs) h.0 h.1 (fitting-image top gs h.3) }
 
       before : Follows → stack t.tree ≡ image gs
       before z = ap (λ (z : State). stack z.tree) e ∙ (flushed st g.calm z ∙ g.stands.0.built z)
