@@ -1,24 +1,21 @@
 -- The open nodes of the builder and those of the machine: the machine's node of a type has none in the builder but that of a NON_NULL_TYPE.
-use Rattle.std.proofs.Common.{◌≡◌, ℕ, suc, ◌+◌, true, false, cond, eqb, List, [], ◌∷◌, refl, sym, ap, ap₂, ◌∙◌, subst, inl, inr, eqb-true, add-zero, arith}
+use Rattle.std.proofs.Common.{◌≡◌, ℕ, ◌+◌, true, false, cond, eqb, List, [], ◌∷◌, refl, sym, ap, ap₂, ◌∙◌, subst, inl, inr, eqb-true, add-zero, arith}
 use Rattle.document_grammar.specs.declared.kind.SyntaxKind.TheVariants as kind
 use Rattle.document_grammar.specs.Kinds.{BANG, NAMED_TYPE, LIST_TYPE, NON_NULL_TYPE}
-use Rattle.grammar_machine.proofs.generated.Labels.{labels}
 use Rattle.grammar_machine.specs.Symbols.{TYPE}
-use Rattle.document_grammar.specs.Numbers.{number}
 use Rattle.document_grammar.specs.Forests as built
-use Rattle.document_grammar.specs.Builds.{Building, Open, built_count, wrap}
+use Rattle.document_grammar.specs.Builds.{Building, built_count, wrap}
 use Rattle.grammar_machine.specs.Table.{rows}
 use Rattle.document_grammar.specs.Tree.{Text, Tree, leaf, node, Forest, none, ◌▸◌, ◌+++◌, root}
 use Rattle.document_grammar.specs.Booleans.{◌and◌, ◌or◌}
 use Rattle.grammar_machine.specs.Machine.{is_leaf, at, arcs, has, target, Frame, frame, Path, finish as leaves_behind}
 use Rattle.document_grammar.proofs.Booleans.{false-true, or-c, either}
 use Rattle.grammar_machine.proofs.TableLemmas.{exits-at, head-same}
-use Rattle.document_grammar.proofs.Built.{bares-numbered-join, forest-none}
 use Rattle.grammar_machine.proofs.Checks.{exits, row_of}
 use Rattle.grammar_machine.proofs.Patterns.{label}
 use Rattle.grammar_machine.proofs.FromMachineTree.{show, shows, type_of}
 use Rattle.document_grammar.proofs.Added.{wrap_added}
-use Rattle.parser_rules.proofs.soundness.WithoutIgnored.{IsLayered, Stack, stack, layers, strip, put}
+use Rattle.parser_rules.proofs.soundness.WithoutIgnored.{IsLayered, Stack, stack, layers, layers-join, strip, put, put-none}
 
 -- ---- lists of trees
 
@@ -46,10 +43,6 @@ image (frame s q f ∷ fs) = lay s (shows f) (image fs)
 put-put : (f g : Forest) (b : Stack) → put (f +++ g) b ≡ put g (put f b)
 put-put f g [] = refl
 put-put f g (a ∷ b) = ap (λ (z : Forest). (a.0, z) ∷ b) (sym (assoc a.1 f g))
-
-put-none : (b : Stack) → put none b ≡ b
-put-none [] = refl
-put-none (a ∷ b) = ap (λ (z : Forest). (a.0, z) ∷ b) (forest-none a.1)
 
 pub lay-put : (s : ℕ) (f g : Forest) (b : Stack) → lay s (f +++ g) b ≡ put g (lay s f b)
 lay-put s f g b = elim (either (eqb s TYPE)) [ inl p ↦ rw p (put-put f g b) | inr p ↦ rw p refl ]
@@ -127,10 +120,6 @@ show-bang g x h =
     subst (λ (z : Forest). type_of (shows (z +++ (leaf BANG x ▸ none))) ≡ node NON_NULL_TYPE (shows (z +++ (leaf BANG x ▸ none)))) (sym o.1) refl
 
 -- ---- what was added since a place
-
-layers-join : (here more : built.Forest) (above : List Open) → layers (built.join here more) above ≡ put (strip more) (layers here above)
-layers-join here more [] = ap (λ (f : Forest). (0, f) ∷ []) (bares-numbered-join here more)
-layers-join here more (o ∷ above) = ap (λ (f : Forest). (number o.kind, f) ∷ layers o.before above) (bares-numbered-join here more)
 
 -- it is what the type's node holds
 added-type : (s q q' : ℕ) (f g : Forest) (fs : List Frame) (t u : Building) (more : built.Forest) → eqb s TYPE ≡ false → u.above ≡ t.above → u.here ≡ built.join t.here more

@@ -1,15 +1,16 @@
 -- A run over a text: a sentence within both limits gets no report, and where the first report is, the text before begins a sentence.
+use Rattle.std.proofs.lemmas.Bool.{and_parts, and_from}
+use Rattle.grammar_machine.proofs.TableLemmas.{head-same, tail-same, no-cons}
 use Rattle.document_grammar.specs.declared.kind.SyntaxKind.{SyntaxKind}
 use Rattle.document_grammar.specs.Numbered.{tree_of}
 use Rattle.document_grammar.specs.Places.{bare}
 use Rattle.grammar_machine.proofs.Starts.{read, next_one, next_two}
-use Rattle.grammar_machine.proofs.SentenceTheorems.{read-map, two-marks, one-sentence}
-use Rattle.std.proofs.Common.{◌≡◌, ℕ, zero, suc, ◌≤◌, length, Bool, true, false, List, [], ◌∷◌, ◌++◌, Option, Some, None, refl, sym, ap, ap₂, ◌∙◌, subst, inl, inr, true≢false, arith, is_some, ◌&&◌, ◌-◌, ◌⊎◌}
+use Rattle.std.proofs.Common.{◌≡◌, ℕ, zero, suc, ◌≤◌, length, Bool, true, false, List, [], ◌∷◌, ◌++◌, Option, Some, None, refl, sym, ap, ap₂, ◌∙◌, subst, inl, inr, true≢false, arith, is_some, ◌-◌, ◌⊎◌}
 use Rattle.std.specs.Prelude.{map, take}
 use Rattle.std.specs.Str.{IsUtf8}
 use Rattle.std.proofs.lemmas.List.{map-append}
 use Rattle.lexical_grammar.specs.declared.TokenKind.{TokenKind}
-use Rattle.lexical_grammar.specs.Cut.{Item, Cut, texts, Significant, significant_word, is_significant_kind}
+use Rattle.lexical_grammar.specs.Cut.{Item, Cut, texts, Significant, significant_word}
 use Rattle.lexical_grammar.specs.Begins.{are_tokens}
 use Rattle.lexical_grammar.specs.Answers.{Answer, gives, limited, is_token, limit_at, limit_index, is_end}
 use Rattle.document_grammar.specs.declared.kind.SyntaxKind.TheVariants as kind
@@ -19,6 +20,7 @@ use Rattle.document_grammar.specs.Tree.{Token, Tree}
 use Rattle.document_grammar.proofs.Booleans.{and-i, and-l, and-r, either}
 use Rattle.grammar_machine.proofs.Beginnings.{begins-text}
 use Rattle.document_grammar.proofs.Texts.{one-cut, sentence-starts, sentence-starts-within}
+use Rattle.grammar_machine.proofs.SentenceTheorems.{read-map, two-marks, one-sentence}
 use Rattle.parser_rules.specs.Open.{IsRoot}
 use Rattle.parser_rules.specs.Nodes.{Document}
 use Rattle.parser_rules.specs.RuleLanguage.{Call}
@@ -26,31 +28,21 @@ use Rattle.parser_rules.specs.Runs.{Runs}
 use Rattle.parser_rules.specs.declared.message.Message.{Message}
 use Rattle.parser_rules.specs.State.{State, Report, begun, Lexeme, fault_report, recursion_limit_report, token_limit_report, bad_report, finished, second, ignored, lexeme, add_all}
 use Rattle.parser_rules.proofs.reports.NoReport.{all_tokens, answers_tokens, item_tokens, report_of, given as given_by, Now, choose, EndsWell, kind_tokens, significant, ends, ignored-tokens, ignored-end}
-use Rattle.parser_rules.proofs.reports.Endings.{ends-well}
+use Rattle.parser_rules.proofs.reports.Endings.{ends-well, limited-none}
 use Rattle.document_grammar.specs.Forests as built
 use Rattle.parser_rules.proofs.runs.Frame.{add_all_above}
 use Rattle.parser_rules.proofs.soundness.Settled.{EndedFit, ended-root, settled-parts}
 use Rattle.parser_rules.proofs.soundness.Plain.{Plain}
 use Rattle.parser_rules.proofs.soundness.FirstReport.{Right}
-use Rattle.parser_rules.proofs.soundness.Soundness.{given, Begins_tokens, StartsPlain, Why, fault as w_fault, unread as w_unread, too_deep as w_too_deep, other, why, parsed, accepted_plain, sound}
+use Rattle.parser_rules.proofs.soundness.Soundness.{given, StartsPlain, Why, fault as w_fault, unread as w_unread, too_deep as w_too_deep, other, why, parsed, accepted_plain, sound, item-words, Placed}
 
 -- ---- all items are given
-
-and-split : (a b : Bool) → a && b ≡ true → (a ≡ true) × (b ≡ true)
-and-split true b h = (refl, h)
-and-split false b h = absurd (true≢false (sym h))
-
-less : (n k : ℕ) → suc n ≤ suc k → n ≤ k
-less n k h = omega arith
-
-no-room : {A : Type 0} (n : ℕ) → suc n ≤ 0 → A
-no-room n h = absurd (omega (arith, h))
 
 all-given : (k : ℕ) (items : List Item) → length items ≤ k → are_tokens items ≡ true → all_tokens (limited k items) ≡ true
 all-given zero [] c h = refl
 all-given (suc k) [] c h = refl
-all-given zero (item ∷ items) c h = no-room (length items) c
-all-given (suc k) (item ∷ items) c h = let p = and-split (is_some item.kind) (are_tokens items) h in and-i p.0 (all-given k items (less (length items) k c) p.1)
+all-given zero (item ∷ items) c h = absurd (omega arith)
+all-given (suc k) (item ∷ items) c h = let p = and_parts (is_some item.kind) (are_tokens items) h in and-i p.0 (all-given k items (omega arith) p.1)
 
 -- ---- the place of an answer in the text
 
@@ -75,36 +67,12 @@ pub record Before (k : ℕ) (items : List Item) (front : List Answer) (x : Answe
   pub words : answers_tokens front ≡ words_of before
   pub item_is : (i : Item) → x ≡ gives i → i ≡ item
   pub limit_is : (n : ℕ) → x ≡ limit_at n → n ≡ limit_index item
-  pub next_is : (t : Lexeme) → x ≡ given_by t → Now (Some t) ys → take 1 (marks (words_of (item ∷ more))) ≡ next_one (answers_tokens (given_by t ∷ ys))
-  pub two_are : (t : Lexeme) → x ≡ given_by t → Now (Some t) ys → Answered k before more t → take 2 (marks (words_of (item ∷ more))) ≡ next_two (answers_tokens (given_by t ∷ ys))
+  -- what follows it was answered, up to the token limit
+  pub rest_is : (i : Item) → x ≡ gives i → limited (k - suc (length before)) more ≡ ys
 
-nothing-limited : {A : Type 0} (k : ℕ) (front : List Answer) (x : Answer) (ys : List Answer) → limited k [] ≡ front ++ x ∷ ys → A
-nothing-limited zero [] x ys e = absurd (cc)
-nothing-limited zero (f ∷ front) x ys e = absurd (cc)
-nothing-limited (suc k) [] x ys e = absurd (cc)
-nothing-limited (suc k) (f ∷ front) x ys e = absurd (cc)
-
-limit-last : {A : Type 0} (l f x : Answer) (front ys : List Answer) → l ∷ [] ≡ f ∷ (front ++ x ∷ ys) → A
-limit-last l f x [] ys e = absurd (cc)
-limit-last l f x (g ∷ front) ys e = absurd (cc)
-
-head-answer : (a b : Answer) (v w : List Answer) → a ∷ v ≡ b ∷ w → a ≡ b
-head-answer a b v w e = cc
-
-tail-answers : (a b : Answer) (v w : List Answer) → a ∷ v ≡ b ∷ w → v ≡ w
-tail-answers a b v w e = cc
-
-item-words : (found : Option TokenKind) (item : Item) → item_tokens found item.text ≡ map token_of (significant_word found item.text)
-item-words None item = refl
-item-words (Some k) item = on (is_significant_kind k) refl
-  where
-    on : (b : Bool) → is_significant_kind k ≡ b → item_tokens (Some k) item.text ≡ map token_of (significant_word (Some k) item.text)
-    on true e = rw e refl
-    on false e = rw e refl
-
-and-join : {a b : Bool} → a ≡ true → b ≡ true → a && b ≡ true
-and-join {a = true} e f = f
-and-join {a = false} e f = absurd (true≢false (sym e))
+none-there : {A : Type 0} (x : Answer) (front ys : List Answer) → [] ≡ front ++ x ∷ ys → A
+none-there x [] ys e = no-cons e
+none-there x (f ∷ front) ys e = no-cons e
 
 given-same : (a b : Item) → gives a ≡ gives b → a ≡ b
 given-same a b e = cc
@@ -126,22 +94,17 @@ one-mark [] = refl
 one-mark (a ∷ v) = refl
 
 words-cons : (item : Item) (more : List Item) → words_of (item ∷ more) ≡ item_tokens item.kind item.text ++ words_of more
-words-cons item more = map-append token_of (significant_word item.kind item.text) (Significant more) ∙ ap (λ (v : List Token). v ++ words_of more) (sym (item-words item.kind item))
+words-cons item more = map-append token_of (significant_word item.kind item.text) (Significant more) ∙ ap (λ (v : List Token). v ++ words_of more) (sym (item-words item.kind item.text))
 
--- the next token is the text's, wherever the limit of tokens is
-next-one : (k : ℕ) (t : Lexeme) (more : List Item) → Now (Some t) (limited k more) → next_one (kind_tokens t.kind t.text ++ words_of more) ≡ next_one (kind_tokens t.kind t.text ++ answers_tokens (limited k more))
-next-one k t more n = elim (either (is_end t.kind)) [
+-- the next tokens are the text's, where those after the current one are
+next-marks : (n k : ℕ) (t : Lexeme) (more : List Item) → Now (Some t) (limited k more) → (is_end t.kind ≡ false → take n (marks (words_of more)) ≡ take n (marks (answers_tokens (limited k more))))
+    → take (suc n) (marks (kind_tokens t.kind t.text ++ words_of more)) ≡ take (suc n) (marks (kind_tokens t.kind t.text ++ answers_tokens (limited k more)))
+next-marks n k t more now h = elim (either (is_end t.kind)) [
   | inl e ↦ (
-      let z : limited k more ≡ [] = subst (λ (b : Bool). choose b (limited k more ≡ []) (EndsWell (limited k more))) e n.1 in
-      let m : more ≡ [] = none-limited k more z in
-      ap (λ (l : List Item). next_one (kind_tokens t.kind t.text ++ words_of l)) m ∙ sym (ap (λ (v : List Answer). next_one (kind_tokens t.kind t.text ++ answers_tokens v)) z))
-  | inr e ↦ (let s = significant t.kind t.text e n.0 in
-      ap (λ (v : List Token). next_one (v ++ words_of more)) s ∙ sym (ap (λ (v : List Token). next_one (v ++ answers_tokens (limited k more))) s))
+      let z : limited k more ≡ [] = subst (λ (b : Bool). choose b (limited k more ≡ []) (EndsWell (limited k more))) e now.1 in
+      ap (λ (v : List Token). take (suc n) (marks (kind_tokens t.kind t.text ++ v))) (ap words_of (none-limited k more z) ∙ sym (ap answers_tokens z)))
+  | inr e ↦ subst (λ (v : List Token). take (suc n) (marks (v ++ words_of more)) ≡ take (suc n) (marks (v ++ answers_tokens (limited k more)))) (sym (significant t.kind t.text e now.0)) (ap (λ (l : List Mark). word (leaf_number t.kind, t.text) ∷ l) (h e))
 ]
-
-two-one : (b : Token) (v : List Token) → next_two (b ∷ v) ≡ word b ∷ next_one v
-two-one b [] = refl
-two-one b (a ∷ v) = refl
 
 abbrev on_shown : List Answer → Item → TokenKind → Option SyntaxKind → Option Lexeme
 on_shown xs item k found = elim found [ Some leaf ↦ second xs | None ↦ Some (lexeme k item) ]
@@ -149,109 +112,95 @@ on_shown xs item k found = elim found [ Some leaf ↦ second xs | None ↦ Some 
 abbrev on_kind : List Answer → Item → Option TokenKind → Option Lexeme
 on_kind xs item found = elim found [ None ↦ second xs | Some k ↦ on_shown xs item k (ignored k) ]
 
-abbrev One : List Item → List Answer → Item → Option TokenKind → Type 0
-One more xs item found = next_one (item_tokens found item.text ++ words_of more) ≡ next_one (item_tokens found item.text ++ answers_tokens xs)
+abbrev One : List Item → List Answer → List Token → Type 0
+One more xs v = take 1 (marks (v ++ words_of more)) ≡ take 1 (marks (v ++ answers_tokens xs))
 
 -- the first token after it is the text's, where one was answered
-behind-one : (k : ℕ) (more : List Item) → EndsWell (limited k more) → is_some (second (limited k more)) ≡ true → next_one (words_of more) ≡ next_one (answers_tokens (limited k more))
+behind-one : (k : ℕ) (more : List Item) → EndsWell (limited k more) → is_some (second (limited k more)) ≡ true → One more (limited k more) []
 unfolding second
 behind-one zero [] e h = absurd e
 behind-one (suc k) [] e h = absurd e
 behind-one zero (item ∷ more) e h = absurd (true≢false (sym h))
 behind-one (suc k) (item ∷ more) e h =
-    ap next_one (words-cons item more) ∙ (elim item.kind as (λ found. choose (ends found) (limited k more ≡ []) (EndsWell (limited k more)) → is_some (on_kind (limited k more) item found) ≡ true → One more (limited k more) item found) [
+    ap (λ (v : List Token). take 1 (marks v)) (words-cons item more)
+    ∙ (elim item.kind as (λ found. choose (ends found) (limited k more ≡ []) (EndsWell (limited k more)) → is_some (on_kind (limited k more) item found) ≡ true → One more (limited k more) (item_tokens found item.text)) [
       | None ↦ λ e' h'. behind-one k more e' h'
       | Some j ↦ λ e' h'. on (λ e2 h2. behind-one k more e2 h2) j (ignored j) refl e' h'
     ]) e h
   where
-    on : (EndsWell (limited k more) → is_some (second (limited k more)) ≡ true → next_one (words_of more) ≡ next_one (answers_tokens (limited k more))) → (j : TokenKind) (found : Option SyntaxKind) → ignored j ≡ found
-        → choose (is_end j) (limited k more ≡ []) (EndsWell (limited k more)) → is_some (on_shown (limited k more) item j found) ≡ true → One more (limited k more) item (Some j)
-    on reads j (Some leaf) i e' h' =
-        let z = ignored-tokens j leaf item.text i in
-        ap (λ (v : List Token). next_one (v ++ words_of more)) z ∙ (reads (subst (λ (b : Bool). choose b (limited k more ≡ []) (EndsWell (limited k more))) (ignored-end j leaf i) e') h' ∙ sym (ap (λ (v : List Token). next_one (v ++ answers_tokens (limited k more))) z))
-    on reads j None i e' h' = next-one k (lexeme j item) more (i, e')
-
-next-two : (k : ℕ) (t : Lexeme) (more : List Item) → Now (Some t) (limited k more) → (is_end t.kind ≡ true) ⊎ (is_some (second (limited k more)) ≡ true)
-    → next_two (kind_tokens t.kind t.text ++ words_of more) ≡ next_two (kind_tokens t.kind t.text ++ answers_tokens (limited k more))
-next-two k t more n a = elim (either (is_end t.kind)) [
-  | inl e ↦ (
-      let z : limited k more ≡ [] = subst (λ (b : Bool). choose b (limited k more ≡ []) (EndsWell (limited k more))) e n.1 in
-      ap (λ (l : List Item). next_two (kind_tokens t.kind t.text ++ words_of l)) (none-limited k more z) ∙ sym (ap (λ (v : List Answer). next_two (kind_tokens t.kind t.text ++ answers_tokens v)) z))
-  | inr e ↦ (
-      let s = significant t.kind t.text e n.0 in
-      let b : Token = (leaf_number t.kind, t.text) in
-      let one = behind-one k more (subst (λ (b : Bool). choose b (limited k more ≡ []) (EndsWell (limited k more))) e n.1) (answered e a) in
-      ap (λ (v : List Token). next_two (v ++ words_of more)) s
-      ∙ (two-one b (words_of more) ∙ (ap (λ (l : List Mark). word b ∷ l) one ∙ (sym (two-one b (answers_tokens (limited k more))) ∙ sym (ap (λ (v : List Token). next_two (v ++ answers_tokens (limited k more))) s)))))
-]
-  where
-    answered : is_end t.kind ≡ false → (is_end t.kind ≡ true) ⊎ (is_some (second (limited k more)) ≡ true) → is_some (second (limited k more)) ≡ true
-    answered e (inl h) = absurd (true≢false (sym h ∙ e))
-    answered e (inr h) = h
-
-one-less : (k : ℕ) → suc k - suc 0 ≡ k
-one-less k = omega arith
-
-both-less : (k n : ℕ) → suc k - suc (suc n) ≡ k - suc n
-both-less k n = omega arith
+    on : (EndsWell (limited k more) → is_some (second (limited k more)) ≡ true → One more (limited k more) []) → (j : TokenKind) (found : Option SyntaxKind) → ignored j ≡ found
+        → choose (is_end j) (limited k more ≡ []) (EndsWell (limited k more)) → is_some (on_shown (limited k more) item j found) ≡ true → One more (limited k more) (kind_tokens j item.text)
+    on reads j (Some leaf) i e' h' = subst (One more (limited k more)) (sym (ignored-tokens j leaf item.text i)) (reads (subst (λ (b : Bool). choose b (limited k more ≡ []) (EndsWell (limited k more))) (ignored-end j leaf i) e') h')
+    on reads j None i e' h' = next-marks 0 k (lexeme j item) more (i, e') (λ e. refl)
 
 pub before-at : (k : ℕ) (items : List Item) (front : List Answer) (x : Answer) (ys : List Answer) → limited k items ≡ front ++ x ∷ ys → all_tokens front ≡ true → Before k items front x ys
-before-at k [] front x ys e h = nothing-limited k front x ys e
-before-at zero (item ∷ items) [] x ys e h = record {
-  before = [];
-  item = item;
-  more = items;
-  split = refl;
-  tokens = refl;
-  words = refl;
-  item_is = λ i z. given-limit i (limit_index item) (sym z ∙ sym (head-answer (limit_at (limit_index item)) x _ _ e));
-  limit_is = λ n z. limit-same n (limit_index item) (sym z ∙ sym (head-answer (limit_at (limit_index item)) x _ _ e));
-  next_is = λ t z n. given-limit (item_of t) (limit_index item) (sym z ∙ sym (head-answer (limit_at (limit_index item)) x _ _ e));
-  two_are = λ t z n a. given-limit (item_of t) (limit_index item) (sym z ∙ sym (head-answer (limit_at (limit_index item)) x _ _ e));
-}
-before-at (suc k) (item ∷ items) [] x ys e h = record {
-  before = [];
-  item = item;
-  more = items;
-  split = refl;
-  tokens = refl;
-  words = refl;
-  item_is = λ i z. given-same i item (sym z ∙ sym (head-answer (gives item) x _ _ e));
-  limit_is = λ n z. given-limit item n (head-answer (gives item) x _ _ e ∙ z);
-  next_is = λ t z n.
-      let same : item ≡ item_of t = given-same item (item_of t) (head-answer (gives item) x _ _ e ∙ z) in
-      let rest : limited k items ≡ ys = tail-answers (gives item) x _ _ e in
-      one-mark (words_of (item ∷ items)) ∙ (ap next_one (words-cons item items) ∙ (ap (λ (i : Item). next_one (item_tokens i.kind i.text ++ words_of items)) same
-      ∙ (next-one k t items (subst (λ (l : List Answer). Now (Some t) l) (sym rest) n) ∙ ap (λ (l : List Answer). next_one (kind_tokens t.kind t.text ++ answers_tokens l)) rest)));
-  two_are = λ t z n a.
-      let same : item ≡ item_of t = given-same item (item_of t) (head-answer (gives item) x _ _ e ∙ z) in
-      let rest : limited k items ≡ ys = tail-answers (gives item) x _ _ e in
-      let seen : (is_end t.kind ≡ true) ⊎ (is_some (second (limited k items)) ≡ true) = subst (λ (m : ℕ). (is_end t.kind ≡ true) ⊎ (is_some (second (limited m items)) ≡ true)) (one-less k) a in
-      two-marks (words_of (item ∷ items)) ∙ (ap next_two (words-cons item items) ∙ (ap (λ (i : Item). next_two (item_tokens i.kind i.text ++ words_of items)) same
-      ∙ (next-two k t items (subst (λ (l : List Answer). Now (Some t) l) (sym rest) n) seen ∙ ap (λ (l : List Answer). next_two (kind_tokens t.kind t.text ++ answers_tokens l)) rest)));
-}
-before-at zero (item ∷ items) (f ∷ front) x ys e h = limit-last _ f x front ys e
+before-at k [] front x ys e h = none-there x front ys (sym (limited-none k) ∙ e)
+before-at zero (item ∷ items) [] x ys e h =
+    let same : limit_at (limit_index item) ≡ x = head-same e in
+    record {
+      before = [];
+      item = item;
+      more = items;
+      split = refl;
+      tokens = refl;
+      words = refl;
+      item_is = λ i z. given-limit i (limit_index item) (sym (same ∙ z));
+      limit_is = λ n z. limit-same n (limit_index item) (sym (same ∙ z));
+      rest_is = λ i z. given-limit i (limit_index item) (sym (same ∙ z));
+    }
+before-at (suc k) (item ∷ items) [] x ys e h =
+    let same : gives item ≡ x = head-same e in
+    record {
+      before = [];
+      item = item;
+      more = items;
+      split = refl;
+      tokens = refl;
+      words = refl;
+      item_is = λ i z. given-same i item (sym (same ∙ z));
+      limit_is = λ n z. given-limit item n (same ∙ z);
+      rest_is = λ i z. let n : suc k - suc 0 ≡ k = omega arith in ap (λ (m : ℕ). limited m items) n ∙ tail-same e;
+    }
+before-at zero (item ∷ items) (f ∷ front) x ys e h = none-there x front ys (tail-same e)
 before-at (suc k) (item ∷ items) (f ∷ front) x ys e h =
-    let first : gives item ≡ f = head-answer (gives item) f _ _ e in
-    let r = before-at k items front x ys (tail-answers (gives item) f _ _ e) (and-r _ _ h) in
+    let first : gives item ≡ f = head-same e in
+    let r = before-at k items front x ys (tail-same e) (and-r _ _ h) in
     record {
       before = item ∷ r.before;
       item = r.item;
       more = r.more;
       split = ap (λ (l : List Item). item ∷ l) r.split;
-      tokens = and-join (subst (λ (a : Answer). is_token a ≡ true) (sym first) (and-l _ _ h)) r.tokens;
-      words = ap (λ (a : Answer). answers_tokens (a ∷ front)) (sym first) ∙ (ap₂ (λ (v u : List Token). v ++ u) (item-words item.kind item) r.words ∙ sym (map-append token_of (significant_word item.kind item.text) (Significant r.before)));
+      tokens = and_from _ _ (subst (λ (a : Answer). is_token a ≡ true) (sym first) (and-l _ _ h)) r.tokens;
+      words = ap (λ (a : Answer). answers_tokens (a ∷ front)) (sym first) ∙ (ap₂ (λ (v u : List Token). v ++ u) (item-words item.kind item.text) r.words ∙ sym (map-append token_of (significant_word item.kind item.text) (Significant r.before)));
       item_is = r.item_is;
       limit_is = r.limit_is;
-      next_is = r.next_is;
-      two_are = λ t z n a. r.two_are t z n (subst (λ (m : ℕ). (is_end t.kind ≡ true) ⊎ (is_some (second (limited m r.more)) ≡ true)) (both-less k (length r.before)) a);
+      rest_is = λ i z. let n : suc k - suc (suc (length r.before)) ≡ k - suc (length r.before) = omega arith in ap (λ (m : ℕ). limited m r.more) n ∙ r.rest_is i z;
     }
 
-first-of : (a b : Report) (v w : List Report) → a ∷ v ≡ b ∷ w → a ≡ b
-first-of a b v w e = cc
+-- the tokens there are the text's
+marks-at : {k : ℕ} {items : List Item} {front ys : List Answer} (t : Lexeme) (n : ℕ) (b : Before k items front (given_by t) ys) → Now (Some t) ys → (is_end t.kind ≡ false → take n (marks (words_of b.more)) ≡ take n (marks (answers_tokens (limited (k - suc (length b.before)) b.more))))
+    → take (suc n) (marks (words_of (b.item ∷ b.more))) ≡ take (suc n) (marks (answers_tokens (given_by t ∷ ys)))
+marks-at {k = k} t n b now h =
+    let m : ℕ = k - suc (length b.before) in
+    let same : limited m b.more ≡ _ = b.rest_is (item_of t) refl in
+    ap (λ (v : List Token). take (suc n) (marks v)) (words-cons b.item b.more)
+    ∙ (ap (λ (i : Item). take (suc n) (marks (item_tokens i.kind i.text ++ words_of b.more))) (sym (b.item_is (item_of t) refl))
+    ∙ (next-marks n m t b.more (subst (λ (l : List Answer). Now (Some t) l) (sym same) now) h ∙ ap (λ (l : List Answer). take (suc n) (marks (kind_tokens t.kind t.text ++ answers_tokens l))) same))
 
-none-told : {A : Type 0} (e : Report) (more : List Report) → [] ≡ e ∷ more → A
-none-told e more h = absurd (cc)
+one-at : {k : ℕ} {items : List Item} {front ys : List Answer} (t : Lexeme) (b : Before k items front (given_by t) ys) → Now (Some t) ys → take 1 (marks (words_of (b.item ∷ b.more))) ≡ next_one (answers_tokens (given_by t ∷ ys))
+one-at {ys = ys} t b now = marks-at t 0 b now (λ e. refl) ∙ one-mark (answers_tokens (given_by t ∷ ys))
+
+two-at : {k : ℕ} {items : List Item} {front ys : List Answer} (t : Lexeme) (b : Before k items front (given_by t) ys) → Now (Some t) ys → Answered k b.before b.more t → take 2 (marks (words_of (b.item ∷ b.more))) ≡ next_two (answers_tokens (given_by t ∷ ys))
+two-at {k = k} {ys = ys} t b now a = marks-at t 1 b now behind ∙ two-marks (answers_tokens (given_by t ∷ ys))
+  where
+    m : ℕ
+    m = k - suc (length b.before)
+
+    behind : is_end t.kind ≡ false → One b.more (limited m b.more) []
+    behind e = elim a [
+      | inl i ↦ absurd (true≢false (sym i ∙ e))
+      | inr i ↦ behind-one m b.more (subst (λ (l : List Answer). EndsWell l) (sym (b.rest_is (item_of t) refl)) (subst (λ (b : Bool). choose b (ys ≡ []) (EndsWell ys)) e now.1)) i
+    ]
 
 -- ---- the headline
 
@@ -288,8 +237,8 @@ pub record IsRight (source : List ℕ) (items : List Item) (r k : ℕ) (e : Repo
   pub begins : Begins (texts before)
   pub reason : Reason items r k before item more e
 
-one-at : (front before : List Token) (l m : List Mark) → front ≡ before → l ≡ m → map word before ++ l ≡ read front ++ m
-one-at front before l m e f = ap₂ (λ (l m : List Mark). l ++ m) (read-map before ∙ ap read (sym e)) f
+from-words : (front before : List Token) (l m : List Mark) → front ≡ before → l ≡ m → map word before ++ l ≡ read front ++ m
+from-words front before l m e f = ap₂ (λ (l m : List Mark). l ++ m) (read-map before ∙ ap read (sym e)) f
 
 plain-starts : (front : List Mark) → StartPlain front → StartsPlain front
 plain-starts front h =
@@ -329,14 +278,14 @@ module _ (r k : ℕ) (source : List ℕ) (items : List Item) (s : State) (cut : 
   Told_right e m = (i : IsRight source items r k e) × (m ≡ length (words_of i.before))
 
   -- what holds at the place of an answer
-  at-place : IsUtf8 source → (front : List Answer) (x : Answer) (ys : List Answer) (e : Report) (m : ℕ) → m ≡ length (answers_tokens front) → xs ≡ front ++ x ∷ ys → all_tokens front ≡ true → Begins_tokens (answers_tokens front)
-      → ((b : Before k items front x ys) → Reason items r k b.before b.item b.more e) → Told_right e m
+  at-place : IsUtf8 source → (front : List Answer) (x : Answer) (ys : List Answer) (e : Report) (m : ℕ) → Placed xs m front x ys → ((b : Before k items front x ys) → Reason items r k b.before b.item b.more e) → Told_right e m
   unfolding xs
-  at-place u front x ys e m c p h begins reason =
-      let b = before-at k items front x ys p h in
+  at-place u front x ys e m p reason =
+      let b = before-at k items front x ys p.split p.tokens in
       let d : Cut source (b.before ++ b.item ∷ b.more) = subst (λ (l : List Item). Cut source l) b.split cut in
+      let begins = p.begins in
       let spells : Spells (words_of b.before ++ begins.1) begins.0 document = subst (λ (v : List Token). Spells (v ++ begins.1) begins.0 document) b.words begins.2 in
-      (record { before = b.before; item = b.item; more = b.more; split = b.split; tokens = b.tokens; begins = begins-text source b.before b.item b.more begins.0 begins.1 u d b.tokens spells begins.3; reason = reason b }, c ∙ ap length b.words)
+      (record { before = b.before; item = b.item; more = b.more; split = b.split; tokens = b.tokens; begins = begins-text source b.before b.item b.more begins.0 begins.1 u d b.tokens spells begins.3; reason = reason b }, p.taken ∙ ap length b.words)
 
   other-reason : (front : List Answer) (x : Answer) (ys : List Answer) → is_token x ≡ false → (b : Before k items front x ys) → Reason items r k b.before b.item b.more (report_of x)
   other-reason front (limit_at n) ys h b = subst (λ (m : ℕ). Reason items r k b.before b.item b.more (token_limit_report m)) (sym (b.limit_is n refl)) too_many
@@ -346,22 +295,22 @@ module _ (r k : ℕ) (source : List ℕ) (items : List Item) (s : State) (cut : 
 
   told : IsUtf8 source → (e : Report) (m : ℕ) → Why r xs e m → Told_right e m
   unfolding xs
-  told u e m (w_fault said front ys t c0 now p h b n) = at-place u front (given_by t) ys (fault_report said t) m c0 p h b
-      (λ q. fault said t (q.item_is (item_of t) refl) (λ c z. n (subst (λ (l : List Mark). Starts document l) (one-at (answers_tokens front) (words_of q.before) _ _ q.words (q.two_are t refl now c)) (sentence-starts _ z))))
-  told u e m (w_unread said front ys t c0 now p h b n) = at-place u front (given_by t) ys (fault_report said t) m c0 p h b
-      (λ q. unread said t (q.item_is (item_of t) refl) (λ c z. n (subst (λ (l : List Mark). StartsPlain l) (one-at (answers_tokens front) (words_of q.before) _ _ q.words (q.two_are t refl now c)) (plain-starts _ z))))
-  told u e m (w_too_deep front ys t c0 now p h b n) = at-place u front (given_by t) ys (recursion_limit_report t) m c0 p h b
-      (λ q. too_deep t (q.item_is (item_of t) refl) (λ z. n (subst (λ (l : List Mark). StartsWithin document r l) (one-at (answers_tokens front) (words_of q.before) _ _ q.words (q.next_is t refl now)) (sentence-starts-within r _ z))))
-  told u e m (other front ys x c0 p h b n) = at-place u front x ys (report_of x) m c0 p h b (other-reason front x ys n)
+  told u e m (w_fault said front ys t p now n) = at-place u front (given_by t) ys (fault_report said t) m p
+      (λ q. fault said t (q.item_is (item_of t) refl) (λ c z. n (subst (λ (l : List Mark). Starts document l) (from-words (answers_tokens front) (words_of q.before) _ _ q.words (two-at t q now c)) (sentence-starts _ z))))
+  told u e m (w_unread said front ys t p now n) = at-place u front (given_by t) ys (fault_report said t) m p
+      (λ q. unread said t (q.item_is (item_of t) refl) (λ c z. n (subst (λ (l : List Mark). StartsPlain l) (from-words (answers_tokens front) (words_of q.before) _ _ q.words (two-at t q now c)) (plain-starts _ z))))
+  told u e m (w_too_deep front ys t p now n) = at-place u front (given_by t) ys (recursion_limit_report t) m p
+      (λ q. too_deep t (q.item_is (item_of t) refl) (λ z. n (subst (λ (l : List Mark). StartsWithin document r l) (from-words (answers_tokens front) (words_of q.before) _ _ q.words (one-at t q now)) (sentence-starts-within r _ z))))
+  told u e m (other front ys x p n) = at-place u front x ys (report_of x) m p (other-reason front x ys n)
 
   -- the first report is right, and the nodes that end before its last token fit
   pub first-told : IsUtf8 source → (e : Report) (more : List Report) → s.errors ≡ e ∷ more → (i : IsRight source items r k e) × EndedFit (length (words_of i.before)) 0 (finished s)
   unfolding xs
   first-told u e more h = elim (parsed r (limited k items) s (ends-well k 0 items cut.each) root run) [
     | inl o ↦ (
-        let i = told u e o.taken (why r (limited k items) e o.taken (subst (λ (z : Report). Right document (limited k items) r (answers_tokens (limited k items)) z o.taken) (first-of o.report e o.more more (sym o.reported ∙ h)) o.right)) in
+        let i = told u e o.taken (why r (limited k items) e o.taken (subst (λ (z : Report). Right document (limited k items) r (answers_tokens (limited k items)) z o.taken) (head-same (sym o.reported ∙ h)) o.right)) in
         (i.0, subst (λ (n : ℕ). EndedFit n 0 (finished s)) i.1 (ended-root o.taken (add_all s.waiting s.tree) (record { before = built.none; kind = root.0 }) (add_all_above s.waiting s.tree ∙ root.2) (settled-parts o.taken s.waiting s.tree (o.settled tt)))))
-    | inr o ↦ none-told e more (sym o.silent ∙ h)
+    | inr o ↦ no-cons (sym o.silent ∙ h)
   ]
 
   -- No late fault, with the reason of the first report.

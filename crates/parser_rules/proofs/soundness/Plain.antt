@@ -15,7 +15,7 @@ use Rattle.grammar_machine.proofs.TableLemmas.{arcs-at, row-test}
 use Rattle.grammar_machine.proofs.Checks.{all_rows, all_arcs}
 use Rattle.grammar_machine.proofs.Patterns.{label}
 use Rattle.grammar_machine.proofs.Run.{next, Left, Upper, go-close, go-inj}
-use Rattle.grammar_machine.proofs.FromMachineTree.{show, shows}
+use Rattle.grammar_machine.proofs.FromMachineTree.{show, shows, type_of}
 use Rattle.grammar_machine.proofs.Sound.{any, reach-sound, second-any, move-has}
 use Rattle.grammar_machine.proofs.Steps.{goes, goes-move}
 use Rattle.grammar_machine.proofs.MachineTheorems.{Parse, document-begins, no-leaf, on-the-way}
@@ -37,44 +37,29 @@ abbrev mutual
   Plains none = Unit {0}
   Plains (t ▸ f) = Plain t × Plains f
 
--- the same of a tree of the tables
-abbrev mutual
-  Plain_by : Tree → Type 0
-  Plain_by (leaf k x) = Unit {0}
-  Plain_by (node s f) = IsFalse (member (label s) unread_kinds) × Plains_by f
-
-  Plains_by : Forest → Type 0
-  Plains_by none = Unit {0}
-  Plains_by (t ▸ f) = Plain_by t × Plains_by f
-
 type-plain : IsFalse (member (label TYPE) unread_kinds)
 unfolding label labels member
 type-plain = refl
 
-mutual
-  plain-by : (t : Tree) → Plain (show t) → Plain_by t
-  plain-by (leaf l x) h = tt
-  plain-by (node s f) h = elim (either (eqb s TYPE)) [
-    | inl e ↦ subst (λ (n : ℕ). Plain_by (node n f)) (sym (eqb-true s TYPE e)) (type-plain, type-by f (rw e at h))
-    | inr e ↦ (let g : Plain (node (label s) (shows f)) = rw e at h in (g.0, plains-by f g.1))
-  ]
+type-plains : (f : Forest) → Plain (type_of f) → Plains f
+type-plains none h = tt
+type-plains (t ▸ none) h = (h, tt)
+type-plains (t ▸ (u ▸ f)) h = h.1
 
-  type-by : (f : Forest) → Plain (show (node TYPE f)) → Plains_by f
-  type-by none h = tt
-  type-by (t ▸ none) h = (plain-by t h, tt)
-  type-by (t ▸ (u ▸ f)) h = (plain-by t h.1.0, (plain-by u h.1.1.0, plains-by f h.1.1.1))
+-- what that says of a tree of the tables
+plain-parts : (s : ℕ) (f : Forest) → Plain (show (node s f)) → (member (label s) unread_kinds ≡ false) × Plains (shows f)
+plain-parts s f h = elim (either (eqb s TYPE)) [
+  | inl e ↦ (subst (λ (n : ℕ). member (label n) unread_kinds ≡ false) (sym (eqb-true s TYPE e)) type-plain, type-plains (shows f) (rw e at h))
+  | inr e ↦ (let g : Plain (node (label s) (shows f)) = rw e at h in g)
+]
 
-  plains-by : (f : Forest) → Plains (shows f) → Plains_by f
-  plains-by none h = tt
-  plains-by (t ▸ f) h = (plain-by t h.0, plains-by f h.1)
-
-plains-behind : (f g : Forest) → Plains_by (f +++ g) → Plains_by g
+plains-behind : (f g : Forest) → Plains (shows (f +++ g)) → Plains (shows g)
 plains-behind none g h = h
 plains-behind (t ▸ f) g h = plains-behind f g h.1
 
-upper-plain : (fs : List Frame) (x : Tree) (r : List Token) (t : Tree) → Upper fs x r t → Plain_by t → Plain_by x
-upper-plain [] x r t h p = subst (λ (z : Tree). Plain_by z) (sym h.0) p
-upper-plain (frame s q f ∷ fs) x r t h p = (plains-behind f (x ▸ h.0) (upper-plain fs (node s (f +++ (x ▸ h.0))) h.1 t h.4 p).1).0
+upper-plain : (fs : List Frame) (x : Tree) (r : List Token) (t : Tree) → Upper fs x r t → Plain (show t) → Plain (show x)
+upper-plain [] x r t h p = subst (λ (z : Tree). Plain (show z)) (sym h.0) p
+upper-plain (frame s q f ∷ fs) x r t h p = (plains-behind f (x ▸ h.0) (plain-parts s (f +++ (x ▸ h.0)) (upper-plain fs (node s (f +++ (x ▸ h.0))) h.1 t h.4 p)).1).0
 
 -- ---- what begins with such a class is of such a kind, or has a description
 
@@ -96,12 +81,12 @@ description-node : (is_leaf DESCRIPTION ≡ false) × (member (label DESCRIPTION
 unfolding is_leaf label labels member
 description-node = (refl, refl)
 
-no-description : (y : Tree) (r : List Token) → Run y r → root y ≡ DESCRIPTION → Plain_by y → ⊥
+no-description : (y : Tree) (r : List Token) → Run y r → root y ≡ DESCRIPTION → Plain (show y) → ⊥
 no-description (leaf l x) r h e p = false-true description-node.0 (subst (λ (n : ℕ). is_leaf n ≡ true) e h)
-no-description (node s f) r h e p = false-true (subst (λ (n : ℕ). member (label n) unread_kinds ≡ false) e p.0) description-node.1
+no-description (node s f) r h e p = false-true (subst (λ (n : ℕ). member (label n) unread_kinds ≡ false) e (plain-parts s f p).0) description-node.1
 
 -- a child that begins with such a class
-not-plain : (x : Tree) (r v : List Token) → blocked (root x) ≡ true → within (first r) (unread (root x)) ≡ true → r ≡ yield x ++ v → Run x v → Plain_by x → ⊥
+not-plain : (x : Tree) (r v : List Token) → blocked (root x) ≡ true → within (first r) (unread (root x)) ≡ true → r ≡ yield x ++ v → Run x v → Plain (show x) → ⊥
 unfolding blocked
 not-plain (leaf l y) r v h a e run p = elim (or-c _ _ h) [
   | inl i ↦ holds-none (first r) (subst (λ (n : ℕ). within (first r) n ≡ true) (eqb-true _ _ i) a)
@@ -110,23 +95,23 @@ not-plain (leaf l y) r v h a e run p = elim (or-c _ _ h) [
 not-plain (node k f) r v h a e run p = elim (or-c _ _ h) [
   | inl i ↦ holds-none (first r) (subst (λ (n : ℕ). within (first r) n ≡ true) (eqb-true _ _ i) a)
   | inr i ↦ elim (or-c _ _ (and-r _ _ i)) [
-    | inl j ↦ false-true p.0 j
-    | inr j ↦ described f e run.1 p.1 (goes-move k 0 (unread k) any DESCRIPTION (first r) (second r) j a (second-any r))
+    | inl j ↦ false-true (plain-parts k f p).0 j
+    | inr j ↦ described f e run.1 (plain-parts k f p).1 (goes-move k 0 (unread k) any DESCRIPTION (first r) (second r) j a (second-any r))
   ]
 ]
   where
-    described : (f : Forest) → r ≡ yields f ++ v → RunFrom k 0 f v → Plains_by f → next k 0 r ≡ go DESCRIPTION → ⊥
+    described : (f : Forest) → r ≡ yields f ++ v → RunFrom k 0 f v → Plains (shows f) → next k 0 r ≡ go DESCRIPTION → ⊥
     described none e run p n = go-close (sym n ∙ (ap (λ (z : List Token). next k 0 z) e ∙ run))
     described (y ▸ f) e run p n = no-description y (yields f ++ v) run.1 (go-inj (sym run.0 ∙ (ap (λ (z : List Token). next k 0 z) (sym e) ∙ n))) p.0
 
 -- where no rule reads what the machine goes on with, there is no such sentence
 pub plain-read : (answers : List Answer) (lim : ℕ) (w r : List Token) (t : Tree) → Parse DOCUMENT t w → Plain (show t) → Unread document answers lim w r → ⊥
-plain-read answers lim w r t p h k = on l.0 l.1 l.2 l.3 (upper-plain k.above (node k.symbol (k.children +++ l.0)) l.1 t l.4 (plain-by t h)).1
+plain-read answers lim w r t p h k = on l.0 l.1 l.2 l.3 (plain-parts k.symbol (k.children +++ l.0) (upper-plain k.above (node k.symbol (k.children +++ l.0)) l.1 t l.4 h)).1
   where
     l : Left (frame k.symbol k.state k.children ∷ k.above) r t
     l = on-the-way DOCUMENT document-begins t w (frame k.symbol k.state k.children ∷ k.above) r p k.reached
 
-    on : (g : Forest) (v : List Token) → r ≡ yields g ++ v → RunFrom k.symbol k.state g v → Plains_by (k.children +++ g) → ⊥
+    on : (g : Forest) (v : List Token) → r ≡ yields g ++ v → RunFrom k.symbol k.state g v → Plains (shows (k.children +++ g)) → ⊥
     on none v e run q = go-close (sym k.goes_on ∙ (ap (λ (z : List Token). next k.symbol k.state z) e ∙ run))
     on (x ▸ g) v e run q =
         let m : root x ≡ k.child = go-inj (sym run.0 ∙ (ap (λ (z : List Token). next k.symbol k.state z) (sym e) ∙ k.goes_on)) in

@@ -1,5 +1,5 @@
 -- The simulation: each run of a rule that keeps to the machine follows it, or its first report is right.
-use Rattle.std.proofs.Common.{◌≡◌, ℕ, zero, suc, ◌+◌, ◌-◌, ◌≤◌, ◌<◌, max, Bool, true, false, cond, eqb, ltb, not, if◌then◌else◌, List, [], ◌∷◌, ◌++◌, length, Option, Some, None, refl, sym, ap, ap₂, ◌∙◌, subst, ◌⊎◌, inl, inr, eqb-true, arith, add-zero, leb-false, leb-true}
+use Rattle.std.proofs.Common.{◌≡◌, ℕ, zero, suc, ◌+◌, ◌-◌, ◌≤◌, ◌<◌, max, Bool, true, false, cond, eqb, not, if◌then◌else◌, List, [], ◌∷◌, ◌++◌, length, Option, Some, None, refl, sym, ap, ap₂, ◌∙◌, subst, ◌⊎◌, inl, inr, eqb-true, arith, leb-false, leb-true}
 use Rattle.std.specs.Prelude.{⊤}
 use Rattle.lexical_grammar.specs.declared.TokenKind.TheVariants as token
 use Rattle.lexical_grammar.specs.Answers.{Answer, is_end}
@@ -7,28 +7,27 @@ use Rattle.document_grammar.specs.declared.kind.SyntaxKind.{SyntaxKind}
 use Rattle.document_grammar.specs.declared.kind.SyntaxKind.TheVariants as kind
 use Rattle.document_grammar.specs.Numbers.{number}
 use Rattle.document_grammar.specs.Sentence.{leaf_number}
-use Rattle.document_grammar.specs.Kinds.{ERROR, DOCUMENT, BANG, SELECTION_SET, LIST_TYPE, NON_NULL_TYPE}
+use Rattle.document_grammar.specs.Kinds.{DOCUMENT, BANG, SELECTION_SET, LIST_TYPE, NON_NULL_TYPE}
 use Rattle.grammar_machine.specs.Symbols.{TYPE}
 use Rattle.document_grammar.specs.Builds.{Building, add_leaf, built_count}
-use Rattle.grammar_machine.specs.Table.{rows, firsts}
 use Rattle.document_grammar.specs.Tree.{Text, Token, Tree, leaf, node, Forest, none, ◌▸◌, ◌+++◌}
 use Rattle.document_grammar.specs.Booleans.{◌and◌, ◌or◌}
-use Rattle.grammar_machine.specs.Machine.{holds as within, is_leaf, at, ends, exit, arcs, target, entries, fires, choose as choose_move, Move, move, go, close, stuck, class, first as first_class, second as second_class, Frame, frame, Reach, shift, open', closed as closes_node, Path, yields, RunFrom, has}
-use Rattle.document_grammar.proofs.Booleans.{either, false-true, and-l, and-r, or-c, not-c, implies, and-i}
+use Rattle.grammar_machine.specs.Machine.{holds as within, is_leaf, ends, exit, arcs, target, entries, fires, Move, go, close, stuck, class, first as first_class, Frame, frame, Reach, shift, open', closed as closes_node, Path, has}
+use Rattle.document_grammar.proofs.Booleans.{either, false-true, and-l, and-r, or-c, not-c, implies}
 use Rattle.grammar_machine.proofs.TableLemmas.{holds-subset, holds-disjoint, arcs-at}
 use Rattle.grammar_machine.proofs.Checks.{subset, disjoint}
 use Rattle.grammar_machine.proofs.Depth.{count_in, depth_above, nesting_all, left-depth, peak, peak-open, peak-close, peak-shift}
 use Rattle.grammar_machine.proofs.Patterns.{label}
 use Rattle.grammar_machine.proofs.FromMachineTree.{shows, show}
-use Rattle.grammar_machine.proofs.Sound.{any, first-any, second-any, spent, reach-sound, reach-spent, viable, Whole, move-ends, move-has, move-fires}
-use Rattle.grammar_machine.proofs.Run.{next, Left, Upper, reach-other, go-close, go-stuck, go-inj}
-use Rattle.grammar_machine.proofs.MachineTheorems.{Parse, fault, never_stuck, on-the-way, begins_parse, no-leaf as start-no-leaf, can-end, fault_left}
+use Rattle.grammar_machine.proofs.Sound.{any, second-any, spent, reach-sound, reach-spent, move-ends, move-has, move-fires}
+use Rattle.grammar_machine.proofs.Run.{next}
+use Rattle.grammar_machine.proofs.MachineTheorems.{Parse, fault, never_stuck, on-the-way, begins_parse, no-leaf as start-no-leaf, fault_left}
 use Rattle.grammar_machine.proofs.Starts.{opens}
 use Rattle.grammar_machine.proofs.OneTokenLookahead.{Firm, firm-shift, firm-close}
 use Rattle.document_grammar.specs.Derivation.{Sort}
 use Rattle.grammar_machine.proofs.SentenceTheorems.{start_symbol}
-use Rattle.std.proofs.lemmas.List.{append_cancel_right, length-append}
-use Rattle.grammar_machine.proofs.Steps.{goes, closes, sticks, goes-move, closes-move, sticks-move, misses-fires, misses}
+use Rattle.std.proofs.lemmas.List.{length-append}
+use Rattle.grammar_machine.proofs.Steps.{goes, sticks, goes-move, closes-move, sticks-move, misses-fires, misses}
 use Rattle.parser_rules.specs.declared.message.Message.{Message}
 use Rattle.parser_rules.specs.State.{State, Part, Lexeme, Report, fault_report, recursion_limit_report, noted, note, second, flush, opened, closed, wrapped_from, moved, bump, is_deep, enter, leave, deepened, limited_at, too_deep, add_all, read_on}
 use Rattle.parser_rules.specs.Nodes.{Node, symbol, kind_of}
@@ -38,11 +37,11 @@ use Rattle.parser_rules.specs.Runs.{Runs, skip, does, seq, yes, no, done, again,
 use Rattle.parser_rules.proofs.runs.Steps.{Holds_along, along}
 use Rattle.parser_rules.proofs.runs.Frame.{Untouched, read_untouched, Adds, adds}
 use Rattle.parser_rules.proofs.soundness.WithoutIgnored.{Stack, all_ignored, stack, put, stack-leaf, stack-finish, stack-flush}
-use Rattle.parser_rules.proofs.reports.NoReport.{Now, choose, EndsWell, rest, answers_tokens, current_tokens, AtToken, standing, Grows, same-errors, grows-on, read-grows, given, passed-one, Stays, Held, Told, told-on, Quiet, Calm, Blames, read-on}
-use Rattle.parser_rules.proofs.soundness.FirstReport.{Stuck, Unread, TooMany, left, Behind, Right, stuck_here, unread_here, deep_here, no_token}
+use Rattle.parser_rules.proofs.reports.NoReport.{Now, choose, EndsWell, rest, answers_tokens, current_tokens, AtToken, standing, Grows, same-errors, grows-on, read-grows, given, passed-one, Stays, Held, Told, told-on, Quiet, Calm, read-on}
+use Rattle.parser_rules.proofs.soundness.FirstReport.{Stuck, Unread, TooMany, Behind, Right, stuck_here, unread_here, deep_here, no_token}
 use Rattle.parser_rules.proofs.lookahead.MachineClasses.{Next, sees-next}
-use Rattle.parser_rules.proofs.lookahead.Split.{Level, low, high, past, Sure, loose, firm, full, Spot, spot, lost, fill, filled_up, divide, divide-at, choice}
-use Rattle.parser_rules.proofs.lookahead.TokenSets.{class_of, Shown, second-shown, read-second, of-any, kind_set, at-set, over, Seen, seen-any, seen-more, seen-same, near-at, holds-minus}
+use Rattle.parser_rules.proofs.lookahead.Split.{Level, low, high, past, Sure, loose, firm, full, Spot, spot, lost, fill, divide, divide-at, choice}
+use Rattle.parser_rules.proofs.lookahead.TokenSets.{class_of, Shown, second-shown, read-second, of-any, over, Seen, seen-any, seen-more, seen-same, near-at, holds-minus}
 use Rattle.parser_rules.proofs.lookahead.FirstSets.{without, first_of, second_of, inlined, unread}
 use Rattle.parser_rules.proofs.soundness.MachineStack.{image, image-some, shows-snoc, put-image, image-open, image-type, image-node, image-plain, show-node, show-bang, stack-wrap, lay, lay-put}
 use Rattle.parser_rules.proofs.soundness.Settled.{Settled, Fitting, fitting-image, fitting-path, settled-at, settled-leaf, settled-parts, settled-start, settled-finish, settled-wrap}
@@ -813,7 +812,7 @@ module _ (sort : Sort) (answers : List Answer) (base : List Report) (Follows : T
       on (lost, x, y, t, c) = false-true refl (and-l _ _ t)
       on (spot q' m d, x, y, t', c) =
           let f : Forest = c.stands.0.children in
-          let built : Follows → stack v.tree ≡ shape (shows f) = λ z. ap (λ (z : State). stack z.tree) i ∙ stack-wrap s q q' g.stands.0.children f fs t.tree u.tree added.more none_equal added.above added.here (before z) (c.stands.0.built z) in
+          let built : Follows → stack v.tree ≡ shape (shows f) = λ z. ap (λ (z : State). stack z.tree) i ∙ stack-wrap s q q' g.stands.0.children f fs t.tree u.tree added.more none_equal added.trees.above added.trees.here (before z) (c.stands.0.built z) in
           subst (λ (z : State). Out s fs k (closed z)) (sym j) (elim (token-taken kind.BANG TYPE q' BANG x y m d f gs v shape (λ P. closing TYPE p k P y any) (and-r _ _ t') shaped (place-alike c.stands.0.place al) built (idle-calm al.idle c.calm) (idle-seen al.idle c.seen)) [
             | inl o ↦ inl (tell-closed (bump kind.BANG v) o)
             | inr o ↦ (

@@ -2,7 +2,7 @@
 -- limits, whose derivation is the tree without its ignored leaves.
 use Rattle.parser_rules.proofs.runs.Steps.{Holds_along, along, turns_along, along_reading}
 use Rattle.parser_rules.proofs.lookahead.FirstSets.{unread as unread_set}
-use Rattle.std.proofs.Common.{◌≡◌, ℕ, zero, suc, ◌+◌, ◌≤◌, ◌<◌, max, Bool, cond, true, false, List, [], ◌∷◌, ◌++◌, Option, Some, None, if◌then◌else◌, length, refl, sym, ap, ap₂, ◌∙◌, subst, ◌⊎◌, inl, inr, true≢false, eqb-true, append-nil, append_assoc, arith, not}
+use Rattle.std.proofs.Common.{◌≡◌, ℕ, zero, suc, ◌+◌, ◌≤◌, Bool, cond, true, false, List, [], ◌∷◌, ◌++◌, Option, Some, None, if◌then◌else◌, length, refl, sym, ap, ap₂, ◌∙◌, subst, ◌⊎◌, inl, inr, true≢false, eqb-true, append-nil, append_assoc, arith, not}
 use Rattle.std.specs.Prelude.{map, ⊤}
 use Rattle.std.proofs.lemmas.List.{map-append, append_cancel_right, length-append}
 use Rattle.lexical_grammar.specs.declared.TokenKind.{TokenKind}
@@ -25,8 +25,8 @@ use Rattle.document_grammar.specs.Sentence.{token_of, leaf_number, Sentence, Wit
 use Rattle.document_grammar.specs.Booleans.{◌and◌, ◌or◌}
 use Rattle.grammar_machine.specs.Machine.{holds as within, is_leaf, class, first, second, frame, yields, Reach, start, close as closes_move, Frame, go, move}
 use Rattle.document_grammar.proofs.Booleans.{false-true, and-l, and-r, either}
-use Rattle.grammar_machine.proofs.TableLemmas.{holds-subset, holds-disjoint}
-use Rattle.grammar_machine.proofs.Depth.{count_in, nest-show, nesting_all, peak, peak-end, peak-start}
+use Rattle.grammar_machine.proofs.TableLemmas.{holds-subset, holds-disjoint, head-same, no-cons}
+use Rattle.grammar_machine.proofs.Depth.{count_in, nest-show, nesting_all, peak-end, peak-start}
 use Rattle.grammar_machine.proofs.SentenceTheorems.{sentence-parse, sound as ended_sound, not-starts, accepts, begins-at}
 use Rattle.grammar_machine.proofs.Patterns.{label}
 use Rattle.grammar_machine.proofs.Run.{next, reach-other}
@@ -43,13 +43,13 @@ use Rattle.parser_rules.specs.Runs.{Runs, Turns}
 use Rattle.parser_rules.specs.Open.{IsRoot}
 use Rattle.parser_rules.proofs.runs.Frame.{read_untouched, add_all_above, on_kind, on_item, turned, begun_nesting}
 use Rattle.parser_rules.proofs.soundness.WithoutIgnored.{stack, strip, layers, stack-flush}
-use Rattle.parser_rules.proofs.reports.NoReport.{answers_tokens, all_tokens, rest, current_tokens, item_tokens, EndsWell, Now, AtEnd, AtToken, standing, given as given_by, report_of, Held, all_tokens-append, Blames, read-on, choose, ends as ends_of, ignored-end}
-use Rattle.parser_rules.proofs.lookahead.TokenSets.{class_of, Shown, ready-is, second-shown, of-any, over, ready, not-zero}
+use Rattle.parser_rules.proofs.reports.NoReport.{answers_tokens, all_tokens, rest, current_tokens, item_tokens, EndsWell, Now, standing, given as given_by, report_of, Held, all_tokens-append, Blames, read-on, choose, ends as ends_of, ignored-end, Passed}
+use Rattle.parser_rules.proofs.lookahead.TokenSets.{class_of, second-shown, of-any, over, ready, not-zero}
 use Rattle.parser_rules.proofs.lookahead.Split.{Level, low, high, past, loose, spot, lost}
 use Rattle.parser_rules.proofs.lookahead.MachineClasses.{Next}
-use Rattle.parser_rules.proofs.soundness.TableCheck.{raised, own, owed, behind, root_ends, document_follows, turns_follow}
-use Rattle.parser_rules.proofs.NodeChecks.{document_followed, turns_followed}
-use Rattle.parser_rules.proofs.soundness.FirstReport.{Viable, Unread, TooMany, left, Right, stuck_here, unread_here, deep_here, no_token}
+use Rattle.parser_rules.proofs.soundness.TableCheck.{raised, own, owed, behind, root_ends, document_follows}
+use Rattle.parser_rules.proofs.NodeChecks.{document_followed}
+use Rattle.parser_rules.proofs.soundness.FirstReport.{Viable, Unread, TooMany, Right, stuck_here, unread_here, deep_here, no_token, Behind}
 use Rattle.parser_rules.proofs.soundness.Plain.{Plain, plain-read}
 use Rattle.parser_rules.proofs.soundness.Simulation.{Leveled, Place, Fits, Out, Tells, Rightly, tell-on, fits-next, shown, good, link, run-grows}
 
@@ -58,6 +58,10 @@ use Rattle.parser_rules.proofs.soundness.Simulation.{Leveled, Place, Fits, Out, 
 word-tokens : (k : TokenKind) (text : List ℕ) (b : Bool) → (if b then token_of (record { kind = k; text = text }) ∷ [] else []) ≡ map token_of (if b then record { kind = k; text = text } ∷ [] else [])
 word-tokens k text true = refl
 word-tokens k text false = refl
+
+pub item-words : (found : Option TokenKind) (text : List ℕ) → item_tokens found text ≡ map token_of (significant_word found text)
+item-words None text = refl
+item-words (Some k) text = word-tokens k text (is_significant_kind k)
 
 pub record Given (allowed : ℕ) (items : List Item) : Type 0 where
   pub tokens : are_tokens items ≡ true
@@ -69,7 +73,7 @@ given-more allowed item items None h g = absurd (true≢false (sym h))
 given-more allowed item items (Some k) h g = record {
   tokens = g.tokens;
   count = let c = g.count in omega (arith, c);
-  words = ap₂ (λ (a b : List Token). a ++ b) (word-tokens k item.text (is_significant_kind k)) g.words ∙ sym (map-append token_of (significant_word (Some k) item.text) (Significant items));
+  words = ap₂ (λ (a b : List Token). a ++ b) (item-words (Some k) item.text) g.words ∙ sym (map-append token_of (significant_word (Some k) item.text) (Significant items));
 }
 
 pub given : (allowed : ℕ) (items : List Item) → all_tokens (limited allowed items) ≡ true → Given allowed items
@@ -85,17 +89,11 @@ pub document-label : (label DOCUMENT ≡ DOCUMENT) × (own DOCUMENT ≡ 0) × (i
 unfolding label labels own ◌or◌ is_leaf member
 document-label = (refl, refl, refl, refl)
 
-zeros : (o c : ℕ) → o ≡ 0 → c ≡ 0 → 0 + o ≡ c + 0
-zeros o c e f = omega arith
-
-zero-peak : (p c h : ℕ) → p ≡ c → c ≡ 0 → p ≤ h
-zero-peak p c h e f = omega arith
-
 pub start-level : (lim : ℕ) (answers : List Answer) (w : List Token) → Leveled document answers [] ⊤ lim w DOCUMENT 0 low none [] 0 0 lim
 start-level lim answers w = record {
-  level = zeros (own DOCUMENT) (count_in DOCUMENT DOCUMENT) document-label.1 document-label.3;
+  level = omega (arith, document-label.1, document-label.3);
   entered = omega arith;
-  most_open = zero-peak _ _ _ (peak-start DOCUMENT) document-label.3;
+  most_open = omega (arith, peak-start DOCUMENT, document-label.3);
   above = omega arith;
   bounds = record { kept = λ z. omega arith; nested = λ z t p. omega arith; limit = refl };
 }
@@ -135,48 +133,29 @@ start-fits r xs e =
 
 -- ---- the end
 
-abbrev Layer : Type 0
-Layer = ℕ × Forest
-
-head-layer : (a b : Layer) (v w : List Layer) → a ∷ v ≡ b ∷ w → a ≡ b
-head-layer a b v w e = cc
-
-same-layer : (a b : Layer) → a ≡ b → node a.0 a.1 ≡ node b.0 b.1
-same-layer a b e = ap (λ (x : Layer). node x.0 x.1) e
-
-root-tree : (k : SyntaxKind) (here : built.Forest) (layer : Layer) (more : List Layer) → layers here (record { before = built.none; kind = k } ∷ []) ≡ layer ∷ more → bare (tree_of (built.node k here built.none)) ≡ node layer.0 layer.1
-root-tree k here layer more e = same-layer (number k, strip here) layer (head-layer (number k, strip here) layer _ more e)
-
-finished-tree : (s : State) (layer : Layer) (more : List Layer) → IsRoot s.tree → stack (add_all s.waiting s.tree) ≡ layer ∷ more → bare (tree_of (finished s)) ≡ node layer.0 layer.1
+finished-tree : (s : State) (layer : ℕ × Forest) (more : List (ℕ × Forest)) → IsRoot s.tree → stack (add_all s.waiting s.tree) ≡ layer ∷ more → bare (tree_of (finished s)) ≡ node layer.0 layer.1
 finished-tree s layer more root e =
     let b : Building = add_all s.waiting s.tree in
     let o : Open = record { before = built.none; kind = root.0 } in
     let a : b.above ≡ o ∷ [] = add_all_above s.waiting s.tree ∙ root.2 in
-    ap (λ (above : List Open). bare (tree_of (close b.here above).here)) a ∙ root-tree root.0 b.here layer more (sym (ap (layers b.here) a) ∙ e)
+    let same : (number root.0, strip b.here) ≡ layer = head-same (sym (ap (layers b.here) a) ∙ e) in
+    ap (λ (above : List Open). bare (tree_of (close b.here above).here)) a ∙ ap (λ (l : ℕ × Forest). node l.0 l.1) same
 
 -- the class of no token left but the end
-none-over : (t : Lexeme) (items : List Answer) → AtEnd t items ⊎ AtToken t items → within (class_of (Some t)) over ≡ true → current_tokens (Some t) ++ answers_tokens items ≡ []
-none-over t items (inl a) h = a.nothing
-none-over t items (inr a) h =
-    let b : Token = (leaf_number t.kind, t.text) in
-    let i : within (class b) over ≡ true = subst (λ (e : Bool). within (cond e 0 (class b)) over ≡ true) a.is_end h in
-    false-true (holds-disjoint (class b) over ready refl i) (not-zero b)
-
 over-rest : (c : Option Lexeme) (items : List Answer) → Now c items → within (class_of c) over ≡ true → current_tokens c ++ answers_tokens items ≡ []
 over-rest None items n h = absurd n
-over-rest (Some t) items n h = none-over t items (standing t items n) h
+over-rest (Some t) items n h = elim (standing t items n) [
+  | inl a ↦ a.nothing
+  | inr a ↦ (
+      let b : Token = (leaf_number t.kind, t.text) in
+      let i : within (class b) over ≡ true = subst (λ (e : Bool). within (cond e 0 (class b)) over ≡ true) a.is_end h in
+      false-true (holds-disjoint (class b) over ready refl i) (not-zero b))
+]
 
 -- nothing is left to read: all answers were given
-read-all : (t : Lexeme) (items : List Answer) → AtEnd t items ⊎ AtToken t items → current_tokens (Some t) ++ answers_tokens items ≡ [] → items ≡ []
-read-all t items (inl a) e = a.none
-read-all t items (inr a) e = no-tokens (sym e ∙ a.first)
-  where
-    no-tokens : {A : Type 0} {b : Token} {more : List Token} → [] ≡ b ∷ more → A
-    no-tokens h = absurd (cc)
-
 none-left : (c : Option Lexeme) (items : List Answer) → Now c items → current_tokens c ++ answers_tokens items ≡ [] → items ≡ []
 none-left None items n e = absurd n
-none-left (Some t) items n e = read-all t items (standing t items n) e
+none-left (Some t) items n e = elim (standing t items n) [ inl a ↦ a.none | inr a ↦ no-cons (sym e ∙ a.first) ]
 
 -- all answers were tokens
 all-read : (xs : List Answer) (c : Option Lexeme) (items : List Answer) → Now c items → Held xs c items → current_tokens c ++ answers_tokens items ≡ [] → all_tokens xs ≡ true
@@ -185,25 +164,10 @@ all-read xs None items n p e = absurd n
 all-read xs (Some t) items n p e =
     ap all_tokens (p.split ∙ ap (λ (ys : List Answer). p.front ++ given_by t ∷ ys) (none-left (Some t) items n e)) ∙ all_tokens-append p.front (given_by t ∷ []) p.tokens refl
 
-top-depth : (d o c r : ℕ) → d + o ≡ c + r → o ≡ 0 → c ≡ 0 → r ≡ 0 → d ≡ 0
-top-depth d o c r e f g h = omega arith
-
 owed-none : (l : Level) → raised l ≡ 0 → owed DOCUMENT l ≡ 0
 owed-none low e = document-label.1
 owed-none high e = refl
 owed-none past e = refl
-
-top-peak : (p h d u lim : ℕ) → p ≤ max h (d + u) → d ≡ 0 → u ≡ 0 → h ≤ lim → p ≤ lim
-top-peak p h d u lim e f g i = omega arith
-
-top-high : (h d u p n m : ℕ) → p ≤ max h (d + u) → d ≡ 0 → u ≡ 0 → p ≡ n → m ≡ n → h ≤ n → h ≡ m
-top-high h d u p n m e f g i j k = omega arith
-
-at-most : (a b c : ℕ) → a ≡ b → b ≤ c → a ≤ c
-at-most a b c e f = omega arith
-
-same-words : (w v : List Token) → w ≡ v ++ [] → v ≡ w
-same-words w v e = sym (append-nil v) ∙ sym e
 
 -- What a run of the rule gives: the text's words are spelled by a derivation that nests within the limit.
 pub record Clean (r : ℕ) (xs : List Answer) (s : State) : Type 0 where
@@ -239,17 +203,19 @@ root-out xs base Follows r w s (inr (spot q l d, x, y, h, g)) =
     let none : rest s ≡ [] = over-rest s.current s.items g.calm.now (holds-subset (class_of s.current) x over (and-r _ _ (and-l _ _ h)) g.seen.near) in
     let m : next DOCUMENT q (rest s) ≡ closes_move = closes-move DOCUMENT q x (behind y) (first (rest s)) (second (rest s)) (and-l _ _ (and-l _ _ h)) n.near n.far in
     let d = ended_sound document w f (rest s) (q, i.reach, m) in
-    let words : yields f ≡ w = same-words w (yields f) (d.0 ∙ ap (λ (v : List Token). yields f ++ v) none) in
+    let words : yields f ≡ w = sym (append-nil (yields f)) ∙ sym (d.0 ∙ ap (λ (v : List Token). yields f ++ v) none) in
     let lv = i.leveled in
-    let raised-none : raised l ≡ 0 = eqb-true _ _ (and-r _ _ h) in
-    let depth : s.depth ≡ 0 = top-depth s.depth (own DOCUMENT) (count_in DOCUMENT DOCUMENT) (raised l) lv.level document-label.1 document-label.3 raised-none in
+    let low_again : raised l ≡ 0 = eqb-true _ _ (and-r _ _ h) in
+    let owes = owed-none l low_again in
     let p = (done DOCUMENT document-begins w q f (rest s) i.reach m).1 in
+    let nests = nest-show (node DOCUMENT f) p.0 in
+    let end = peak-end DOCUMENT q f in
     inr (record {
       silent = g.calm.quiet.clean;
       children = f;
       spells = subst (λ (v : List Token). Spells v (show (node DOCUMENT f)) document) words d.1;
-      nesting = λ z. at-most (nest (show (node DOCUMENT f))) (peak (frame DOCUMENT q f ∷ [])) r (nest-show (node DOCUMENT f) p.0 ∙ sym (peak-end DOCUMENT q f)) (top-peak _ s.high s.depth (owed DOCUMENT l) r lv.most_open depth (owed-none l raised-none) (lv.bounds.kept z));
-      high = λ z. top-high s.high s.depth (owed DOCUMENT l) (peak (frame DOCUMENT q f ∷ [])) (nesting_all (node DOCUMENT f)) (nest (show (node DOCUMENT f))) lv.most_open depth (owed-none l raised-none) (peak-end DOCUMENT q f) (nest-show (node DOCUMENT f) p.0) (lv.bounds.nested z (node DOCUMENT f) (p.0, p.1, words));
+      nesting = λ z. omega (arith, document-label.1, document-label.3, lv.level, lv.most_open, low_again, owes, nests, end, lv.bounds.kept z);
+      high = λ z. omega (arith, document-label.1, document-label.3, lv.level, lv.most_open, low_again, owes, nests, end, lv.bounds.nested z (node DOCUMENT f) (p.0, p.1, words));
       built = λ z. stack-flush s.waiting s.tree (g.calm.quiet.waits z) ∙ st.built z;
       tokens = all-read xs s.current s.items g.calm.now g.calm.held none;
     })
@@ -280,11 +246,8 @@ parsed r xs s en root run = elim (start-fits r xs en) [
       ]
 ]
 
-nobody : {A : Type 0} {r : Report} {more : List Report} → [] ≡ [] ++ (r ∷ more) → A
-nobody e = absurd (cc)
-
 pub clean : (r : ℕ) (xs : List Answer) (s : State) → EndsWell xs → IsRoot s.tree → s.errors ≡ [] → Runs (Call Document) (begun xs r kind.DOCUMENT) s → Clean r xs s
-clean r xs s en root e run = elim (parsed r xs s en root run) [ inl o ↦ nobody (sym e ∙ o.reported) | inr o ↦ o.clean ]
+clean r xs s en root e run = elim (parsed r xs s en root run) [ inl o ↦ no-cons (sym e ∙ o.reported) | inr o ↦ o.clean ]
 
 -- ---- the first report
 
@@ -315,14 +278,13 @@ viable-begins r xs front ys e v =
     subst (λ (b : List Token). Begins_tokens b) (words-before xs front ys h.0 e h.1) h.2
 
 -- No early limit: no sentence within the limit goes on with the next token.
-over-within : (n a c m : ℕ) → n < a → c ≡ a → c ≤ n → ⊥
-over-within n a c m h e i = omega arith
-
 pub not-within-one : (r : ℕ) (xs : List Answer) (w rest : List Token) (k : TooMany document xs r w rest) → StartsWithin document r (read k.before ++ next_one rest) → ⊥
 not-within-one r xs w rest k h =
     let a = after-one k.before rest h.0 h.2 h.4 in
     let p = sentence-parse document (k.before ++ a.0) h.1 (subst (λ (z : List Token). Spells z h.1 document) a.1 h.3) in
-    over-within r (nesting_all p.0) (nest h.1) 0 (k.deeper p.0 a.0 p.1 a.2) (ap nest (sym p.2) ∙ nest-show p.0 p.1.0) h.5
+    let deeper = k.deeper p.0 a.0 p.1 a.2 in
+    let nests : nest h.1 ≡ nesting_all p.0 = ap nest (sym p.2) ∙ nest-show p.0 p.1.0 in
+    omega (arith, deeper, nests, h.5)
 
 -- a sentence without what no rule reads yet starts so
 abbrev pub StartsPlain : List Mark → Type 0
@@ -354,43 +316,43 @@ not-plain r xs w rest k =
           class = subst (λ (n : ℕ). within n (unread_set k.child) ≡ true) a.2 k.class;
         })
 
+-- An answer: so many tokens are before it, all answers before it are tokens, and they begin a sentence.
+pub record Placed (xs : List Answer) (m : ℕ) (front : List Answer) (x : Answer) (items : List Answer) : Type 0 where
+  pub taken : m ≡ length (answers_tokens front)
+  pub split : xs ≡ front ++ x ∷ items
+  pub tokens : all_tokens front ≡ true
+  pub begins : Begins_tokens (answers_tokens front)
+
 -- Where the first report is, and why; and how many tokens are before it.
 pub data Why (r : ℕ) (xs : List Answer) : Report → ℕ → Type 0 where
   -- no sentence starts with the tokens before, the one there and the next
-  fault : (said : Message) {m : ℕ} (front items : List Answer) (t : Lexeme) → m ≡ length (answers_tokens front) → Now (Some t) items → xs ≡ front ++ given_by t ∷ items → all_tokens front ≡ true → Begins_tokens (answers_tokens front)
-      → (Starts document (read (answers_tokens front) ++ next_two (left document xs r (answers_tokens xs) t items)) → ⊥) → Why r xs (fault_report said t) m
+  fault : (said : Message) {m : ℕ} (front items : List Answer) (t : Lexeme) → Placed xs m front (given_by t) items → Now (Some t) items → (Starts document (read (answers_tokens front) ++ next_two (answers_tokens (given_by t ∷ items))) → ⊥) → Why r xs (fault_report said t) m
   -- no rule reads what is there: no sentence without such parts starts with the tokens before, the one there and the next
-  unread : (said : Message) {m : ℕ} (front items : List Answer) (t : Lexeme) → m ≡ length (answers_tokens front) → Now (Some t) items → xs ≡ front ++ given_by t ∷ items → all_tokens front ≡ true → Begins_tokens (answers_tokens front)
-      → (StartsPlain (read (answers_tokens front) ++ next_two (left document xs r (answers_tokens xs) t items)) → ⊥) → Why r xs (fault_report said t) m
+  unread : (said : Message) {m : ℕ} (front items : List Answer) (t : Lexeme) → Placed xs m front (given_by t) items → Now (Some t) items → (StartsPlain (read (answers_tokens front) ++ next_two (answers_tokens (given_by t ∷ items))) → ⊥) → Why r xs (fault_report said t) m
   -- each sentence that starts so nests deeper than the limit
-  too_deep : {m : ℕ} (front items : List Answer) (t : Lexeme) → m ≡ length (answers_tokens front) → Now (Some t) items → xs ≡ front ++ given_by t ∷ items → all_tokens front ≡ true → Begins_tokens (answers_tokens front)
-      → (StartsWithin document r (read (answers_tokens front) ++ next_one (left document xs r (answers_tokens xs) t items)) → ⊥) → Why r xs (recursion_limit_report t) m
+  too_deep : {m : ℕ} (front items : List Answer) (t : Lexeme) → Placed xs m front (given_by t) items → Now (Some t) items → (StartsWithin document r (read (answers_tokens front) ++ next_one (answers_tokens (given_by t ∷ items))) → ⊥) → Why r xs (recursion_limit_report t) m
   -- the answer is no token: bad text, or the token limit
-  other : {m : ℕ} (front items : List Answer) (x : Answer) → m ≡ length (answers_tokens front) → xs ≡ front ++ x ∷ items → all_tokens front ≡ true → Begins_tokens (answers_tokens front) → is_token x ≡ false → Why r xs (report_of x) m
+  other : {m : ℕ} (front items : List Answer) (x : Answer) → Placed xs m front x items → is_token x ≡ false → Why r xs (report_of x) m
 
-front-taken : (xs front ys : List Answer) (m : ℕ) → xs ≡ front ++ ys → m + length (answers_tokens ys) ≡ length (answers_tokens xs) → m ≡ length (answers_tokens front)
-front-taken xs front ys m e h = taken m (length (answers_tokens front)) (length (answers_tokens ys)) _ h (ap length (ap answers_tokens e ∙ answers-append front ys) ∙ length-append (answers_tokens front) (answers_tokens ys))
-  where
-    taken : (m a c n : ℕ) → m + c ≡ n → n ≡ a + c → m ≡ a
-    taken m a c n h g = omega arith
+placed-at : (r : ℕ) (xs : List Answer) (m : ℕ) (x : Answer) (items : List Answer) (p : Passed xs (x ∷ items)) → Viable document xs r (answers_tokens xs) (answers_tokens (x ∷ items)) → Behind document xs r (answers_tokens xs) m (answers_tokens (x ∷ items)) → Placed xs m p.front x items
+placed-at r xs m x items p v c =
+    let e : length (answers_tokens xs) ≡ length (answers_tokens p.front) + length (answers_tokens (x ∷ items)) = ap length (ap answers_tokens p.split ∙ answers-append p.front (x ∷ items)) ∙ length-append (answers_tokens p.front) (answers_tokens (x ∷ items)) in
+    record { taken = omega (arith, e, c); split = p.split; tokens = p.tokens; begins = viable-begins r xs p.front (x ∷ items) p.split v }
 
 pub why : (r : ℕ) (xs : List Answer) (e : Report) (m : ℕ) → Right document xs r (answers_tokens xs) e m → Why r xs e m
 why r xs e m (stuck_here said {t = t} {items = items} now p k c) =
     let ys : List Answer = given_by t ∷ items in
-    let b = words-before xs p.front ys k.0.before p.split k.0.split in
-    fault said p.front items t (front-taken xs p.front ys m p.split c) now p.split p.tokens (viable-begins r xs p.front ys p.split k.1) (λ h. not-starts document (answers_tokens xs) (answers_tokens ys) k.0 (subst (λ (u : List Token). Starts document (read u ++ next_two (answers_tokens ys))) (sym b) h))
+    fault said p.front items t (placed-at r xs m (given_by t) items p k.1 c) now (λ h. not-starts document (answers_tokens xs) (answers_tokens ys) k.0 (rw (words-before xs p.front ys k.0.before p.split k.0.split) h))
 why r xs e m (unread_here said {t = t} {items = items} now p k c) =
     let ys : List Answer = given_by t ∷ items in
     let n = not-plain r xs (answers_tokens xs) (answers_tokens ys) k in
-    let b = words-before xs p.front ys n.0 p.split n.1 in
-    unread said p.front items t (front-taken xs p.front ys m p.split c) now p.split p.tokens (viable-begins r xs p.front ys p.split (frame k.symbol k.state k.children ∷ k.above, k.reached))
-    (λ h. n.2 (subst (λ (u : List Token). StartsPlain (read u ++ next_two (answers_tokens ys))) (sym b) h))
+    unread said p.front items t (placed-at r xs m (given_by t) items p (frame k.symbol k.state k.children ∷ k.above, k.reached) c) now (λ h. n.2 (rw (words-before xs p.front ys n.0 p.split n.1) h))
 why r xs e m (deep_here {t = t} {items = items} now p k c) =
     let ys : List Answer = given_by t ∷ items in
-    let b = words-before xs p.front ys k.before p.split k.split in
-    too_deep p.front items t (front-taken xs p.front ys m p.split c) now p.split p.tokens (viable-begins r xs p.front ys p.split k.comes) (λ h. not-within-one r xs (answers_tokens xs) (answers_tokens ys) k (subst (λ (u : List Token). StartsWithin document r (read u ++ next_one (answers_tokens ys))) (sym b) h))
+    too_deep p.front items t (placed-at r xs m (given_by t) items p k.comes c) now (λ h. not-within-one r xs (answers_tokens xs) (answers_tokens ys) k (rw (words-before xs p.front ys k.before p.split k.split) h))
 why r xs e m (no_token {x = x} {items = items} p n v c) =
-    other p.front items x (front-taken xs p.front (x ∷ items) m p.split (ap (λ (v : List Token). m + length v) (no-token-words x items n) ∙ c)) p.split p.tokens (viable-begins r xs p.front (x ∷ items) p.split (subst (λ (u : List Token). Viable document xs r (answers_tokens xs) u) (sym (no-token-words x items n)) v)) n
+    let same = sym (no-token-words x items n) in
+    other p.front items x (placed-at r xs m x items p (subst (λ (u : List Token). Viable document xs r (answers_tokens xs) u) same v) (subst (λ (u : List Token). Behind document xs r (answers_tokens xs) m u) same c)) n
 
 -- ---- going on after reports
 
@@ -410,61 +372,8 @@ pub record Turn (st : State) : Type 0 where
 abbrev pub from_now : (st : State) → Turn st → List Answer
 from_now st c = given_by c.token ∷ st.items
 
-on-level : (answers : List Answer) (base : List Report) (w : List Token) (d h lim : ℕ) → d ≡ 0 → Leveled document answers base ⊥ lim w DOCUMENT 0 low none [] d h lim
-on-level answers base w d h lim e = record {
-  level = rw e (zeros (own DOCUMENT) (count_in DOCUMENT DOCUMENT) document-label.1 document-label.3);
-  entered = omega arith;
-  most_open = zero-peak _ _ _ (peak-start DOCUMENT) document-label.3;
-  above = rw e (omega arith);
-  bounds = record { kept = λ z. absurd z; nested = λ z. absurd z; limit = refl };
-}
-
 abbrev pub now_words : (st : State) → Turn st → List Token
 now_words st c = answers_tokens (from_now st c)
-
-turn-fits : (st : State) (c : Turn st) → Fits document (from_now st c) st.errors ⊥ st.limit (now_words st c) DOCUMENT (spot 0 low loose) ready any [] st
-unfolding holds within
-turn-fits st c = record {
-  calm = record {
-    quiet = record { clean = refl; accepts = c.accepts; waits = λ z. absurd z };
-    now = subst (λ (o : Option Lexeme). Now o st.items) (sym c.current) c.now;
-    held = subst (λ (o : Option Lexeme). Held (from_now st c) o st.items) (sym c.current) (record { front = []; split = refl; tokens = refl });
-  };
-  seen = record { near = sym (c.is_ready ∙ ready-is st.current shown_now); far = of-any (second_of st.items) (second-shown st.items) };
-  stands = (
-    record {
-      children = none;
-      place = record { reach = subst (λ (v : List Token). Reach DOCUMENT (now_words st c) (frame DOCUMENT 0 none ∷ []) v) (sym same) start; leveled = on-level (from_now st c) st.errors (now_words st c) st.depth st.high st.limit c.no_level; alone = λ e. refl };
-      built = λ z. absurd z;
-    },
-    tt,
-  );
-}
-  where
-    same : rest st ≡ now_words st c
-    same = ap (λ (o : Option Lexeme). current_tokens o ++ answers_tokens st.items) c.current
-
-    shown_now : Shown st.current
-    shown_now = subst (λ (o : Option Lexeme). Shown o) (sym c.current) c.now.0
-
--- From any turn of the document's loop on: the next report is right for the answers that are left there, as a document of its own; or there is
--- none, and what is left is a sentence.
-pub record Next_told (st s : State) (c : Turn st) : Type 0 where
-  pub report : Report
-  pub more : List Report
-  pub reported : s.errors ≡ st.errors ++ (report ∷ more)
-  pub taken : ℕ
-  pub reason : Why st.limit (from_now st c) report taken
-
-pub parsed-on : (st s : State) (c : Turn st) → Runs loops st s → Next_told st s c ⊎ Silent (from_now st c) st.errors ⊥ st.limit (now_words st c) s
-unfolding turns_follow
-parsed-on st s c run =
-    elim (root-out (from_now st c) st.errors ⊥ st.limit (now_words st c) s
-    (link document (from_now st c) st.errors ⊥ st.limit (now_words st c) run 5 DOCUMENT (spot 0 low loose) ready any [] root_ends
-    (good document (from_now st c) st.errors ⊥ st.limit (now_words st c) 5 DOCUMENT (spot 0 low loose) ready any (While Ready (Call Definition)) root_ends turns_followed) (turn-fits st c))) [
-      | inl o ↦ inl (record { report = o.report; more = o.more; reported = o.reported; taken = o.taken; reason = why st.limit (from_now st c) o.report o.taken o.right })
-      | inr o ↦ inr o
-    ]
 
 -- what holds at each state of a run: the current token is shown, and what follows it comes to an end
 abbrev pub Stood : Option Lexeme → List Answer → Type 0
@@ -519,9 +428,6 @@ token-of-all : (front items : List Answer) (x : Answer) → all_tokens (front ++
 token-of-all [] items x h = and-l _ _ h
 token-of-all (y ∷ front) items x h = token-of-all front items x (and-r _ _ h)
 
-lt-le : (n a c : ℕ) → n < a → c ≡ a → c ≤ n → ⊥
-lt-le n a c h e i = omega arith
-
 -- over a sentence within the limits the first report is at most one of what no rule reads
 pub only-unread : (r : ℕ) (xs : List Answer) (e : Report) (m : ℕ) (t : Tree) → Spells (answers_tokens xs) t document → nest t ≤ r → all_tokens xs ≡ true → Right document xs r (answers_tokens xs) e m
     → (u : List Token) × Unread document xs r (answers_tokens xs) u
@@ -530,7 +436,8 @@ only-unread r xs e m t h n a (unread_here said {t = lexeme} {items = items} now 
 only-unread r xs e m t h n a (deep_here {t = lexeme} {items = items} now p k c) =
     let q = sentence-parse document (answers_tokens xs) t h in
     let d = k.deeper q.0 (answers_tokens (given_by lexeme ∷ items)) (subst (λ (z : List Token). Parse DOCUMENT q.0 z) k.split q.1) refl in
-    absurd (lt-le r (nesting_all q.0) (nest t) d (ap nest (sym q.2) ∙ nest-show q.0 q.1.0) n)
+    let nests : nest t ≡ nesting_all q.0 = ap nest (sym q.2) ∙ nest-show q.0 q.1.0 in
+    absurd (omega (arith, d, nests, n))
 only-unread r xs e m t h n a (no_token {x = x} {items = items} p other_one v c) = false-true other_one (token-of-all p.front items x (subst (λ (z : List Answer). all_tokens z ≡ true) p.split a))
 
 pub accepted : (r : ℕ) (xs : List Answer) (s : State) (t : Tree) → EndsWell xs → IsRoot s.tree → Runs (Call Document) (begun xs r kind.DOCUMENT) s → Spells (answers_tokens xs) t document → nest t ≤ r → all_tokens xs ≡ true
