@@ -17,7 +17,7 @@ use Rattle.document_grammar.proofs.Joins.{join_assoc}
 use Rattle.document_grammar.specs.Tree.{Token, Tree, node, Forest, none}
 use Rattle.document_grammar.specs.Derivation.{document, Spells, nest}
 use Rattle.grammar_machine.specs.Machine.{holds as within, frame, Reach, start as starts}
-use Rattle.grammar_machine.proofs.SentenceTheorems.{sentence-parse, one-derivation}
+use Rattle.grammar_machine.proofs.SentenceTheorems.{one-derivation}
 use Rattle.grammar_machine.proofs.Patterns.{label}
 use Rattle.grammar_machine.proofs.FromMachineTree.{show, shows}
 use Rattle.grammar_machine.proofs.Sound.{any}
@@ -33,10 +33,10 @@ use Rattle.parser_rules.proofs.lookahead.TokenSets.{Shown, ready-is, second-show
 use Rattle.parser_rules.proofs.lookahead.Split.{low, loose, spot}
 use Rattle.parser_rules.proofs.soundness.TableCheck.{root_ends, turns_follow}
 use Rattle.parser_rules.proofs.NodeChecks.{turns_followed}
-use Rattle.parser_rules.proofs.soundness.Plain.{Plain, plain-read}
+use Rattle.parser_rules.proofs.soundness.Plain.{Plain}
 use Rattle.parser_rules.proofs.soundness.Simulation.{Fits, Tells, good, link}
 use Rattle.parser_rules.proofs.runs.Anew.{Alike, Same_steps, anew}
-use Rattle.parser_rules.proofs.soundness.Soundness.{document-label, start-level, loops, Turn, from_now, now_words, Silent, root-out, only-unread}
+use Rattle.parser_rules.proofs.soundness.Soundness.{document-label, start-level, loops, Turn, from_now, now_words, Silent, root-out, none-right}
 
 -- the same turn in a tree of its own
 abbrev pub afresh : State → State
@@ -115,10 +115,7 @@ recovers st s c t i h p n a run = on (from-turn st s c i run)
   where
     on : From_turn st s c → Recovered st s t
     on f = elim f.parsed [
-      | inl o ↦ (
-          let k = only-unread st.limit (from_now st c) o.report o.taken t h n a o.right in
-          let q = sentence-parse document (now_words st c) t h in
-          absurd (plain-read (from_now st c) st.limit (now_words st c) k.0 q.0 q.1 (subst (λ (z : Tree). Plain z) (sym q.2) p) k.1))
+      | inl o ↦ absurd (none-right st.limit (from_now st c) o.report o.taken t h p n a o.right)
       | inr o ↦ (
           let own : State = f.own in
           let more : built.Forest = f.steps.more in

@@ -74,18 +74,8 @@ none-there : {A : Type 0} (x : Answer) (front ys : List Answer) → [] ≡ front
 none-there x [] ys e = no-cons e
 none-there x (f ∷ front) ys e = no-cons e
 
-given-same : (a b : Item) → gives a ≡ gives b → a ≡ b
-given-same a b e = cc
-
-limit-same : (a b : ℕ) → limit_at a ≡ limit_at b → a ≡ b
-limit-same a b e = cc
-
-given-limit : {A : Type 0} (a : Item) (n : ℕ) → gives a ≡ limit_at n → A
-given-limit a n e = absurd (cc)
-
 none-limited : (k : ℕ) (items : List Item) → limited k items ≡ [] → items ≡ []
-none-limited zero [] e = refl
-none-limited (suc k) [] e = refl
+none-limited k [] e = refl
 none-limited zero (item ∷ items) e = absurd (cc)
 none-limited (suc k) (item ∷ items) e = absurd (cc)
 
@@ -144,9 +134,9 @@ before-at zero (item ∷ items) [] x ys e h =
       split = refl;
       tokens = refl;
       words = refl;
-      item_is = λ i z. given-limit i (limit_index item) (sym (same ∙ z));
-      limit_is = λ n z. limit-same n (limit_index item) (sym (same ∙ z));
-      rest_is = λ i z. given-limit i (limit_index item) (sym (same ∙ z));
+      item_is = λ i z. absurd (cc);
+      limit_is = λ n z. cc;
+      rest_is = λ i z. absurd (cc);
     }
 before-at (suc k) (item ∷ items) [] x ys e h =
     let same : gives item ≡ x = head-same e in
@@ -157,8 +147,8 @@ before-at (suc k) (item ∷ items) [] x ys e h =
       split = refl;
       tokens = refl;
       words = refl;
-      item_is = λ i z. given-same i item (sym (same ∙ z));
-      limit_is = λ n z. given-limit item n (same ∙ z);
+      item_is = λ i z. cc;
+      limit_is = λ n z. absurd (cc);
       rest_is = λ i z. let n : suc k - suc 0 ≡ k = omega arith in ap (λ (m : ℕ). limited m items) n ∙ tail-same e;
     }
 before-at zero (item ∷ items) (f ∷ front) x ys e h = none-there x front ys (tail-same e)
@@ -246,11 +236,7 @@ plain-starts front h =
     (map token_of (Significant h.sentence.items), h.tree, h.rest, (h.sentence.derivation, h.sentence.yield), ap marks (sym h.sentence.yield) ∙ h.beginning, h.plain)
 
 no-kind : (item : Item) → is_token (gives item) ≡ false → item.kind ≡ None
-no-kind item h = on item.kind h
-  where
-    on : (found : Option TokenKind) → is_some found ≡ false → found ≡ None
-    on None h = refl
-    on (Some k) h = absurd (true≢false h)
+no-kind item h = (elim item.kind as (λ found. is_some found ≡ false → found ≡ None) [ None ↦ λ h. refl | Some k ↦ λ h. absurd (true≢false h) ]) h
 
 module _ (r k : ℕ) (source : List ℕ) (items : List Item) (s : State) (cut : Cut source items) (root : IsRoot s.tree) (run : Runs (Call Document) (begun (limited k items) r kind.DOCUMENT) s) where
   -- Acceptance.

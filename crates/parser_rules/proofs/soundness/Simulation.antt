@@ -15,7 +15,7 @@ use Rattle.document_grammar.specs.Booleans.{◌and◌, ◌or◌}
 use Rattle.grammar_machine.specs.Machine.{holds as within, is_leaf, ends, exit, arcs, target, entries, fires, Move, go, close, stuck, class, first as first_class, Frame, frame, Reach, shift, open', closed as closes_node, Path, has}
 use Rattle.document_grammar.proofs.Booleans.{either, false-true, and-l, and-r, or-c, not-c, implies}
 use Rattle.grammar_machine.proofs.TableLemmas.{holds-subset, holds-disjoint, arcs-at}
-use Rattle.grammar_machine.proofs.Checks.{subset, disjoint}
+use Rattle.grammar_machine.proofs.Checks.{subset}
 use Rattle.grammar_machine.proofs.Depth.{count_in, depth_above, nesting_all, left-depth, peak, peak-open, peak-close, peak-shift}
 use Rattle.grammar_machine.proofs.Patterns.{label}
 use Rattle.grammar_machine.proofs.FromMachineTree.{shows, show}
@@ -231,13 +231,10 @@ module _ (sort : Sort) (answers : List Answer) (base : List Report) (Follows : T
   known-firm firm fs st h k = k
   known-firm full fs st h k = k.0
 
-  firm-same : (fs : List Frame) (r v : List Token) → v ≡ r → Firm top w fs r → Firm top w fs v
-  firm-same fs r v e h = subst (λ (z : List Token). Firm top w fs z) (sym e) h
-
   known-weak : (d : Sure) (fs : List Frame) (st v : State) → rest v ≡ rest st → Known d fs st → Known (weak d) fs v
   known-weak loose fs st v e k = tt
-  known-weak firm fs st v e k = firm-same fs (rest st) (rest v) e k
-  known-weak full fs st v e k = firm-same fs (rest st) (rest v) e k.0
+  known-weak firm fs st v e k = rw e k
+  known-weak full fs st v e k = rw e k.0
 
   abbrev start_good : begins_parse top ≡ true
   start_good = opens sort (first_class w)
@@ -258,11 +255,8 @@ module _ (sort : Sort) (answers : List Answer) (base : List Report) (Follows : T
 
   -- ---- reports
 
-  told-one : (m : ℕ) (r : Report) (st : State) → st.errors ≡ base → Rightly r m → (Follows → Settled m st.tree) → Tells (record st { errors = st.errors ++ r ∷ [] })
-  told-one m r st c i f = record { report = r; more = []; reported = ap (λ (z : List Report). z ++ r ∷ []) c; taken = m; right = i; settled = f }
-
   fault-told : (m : ℕ) (r : Report) (st : State) → Quiet answers base Follows Rightly st → Rightly r m → (Follows → Settled m st.tree) → Tells (if st.accepts then record st { errors = st.errors ++ r ∷ [] } else st)
-  fault-told m r st q i f = subst (λ (b : Bool). Tells (if b then record st { errors = st.errors ++ r ∷ [] } else st)) (sym q.accepts) (told-one m r st q.clean i f)
+  fault-told m r st q i f = subst (λ (b : Bool). Tells (if b then record st { errors = st.errors ++ r ∷ [] } else st)) (sym q.accepts) (record { report = r; more = []; reported = ap (λ (z : List Report). z ++ r ∷ []) q.clean; taken = m; right = i; settled = f })
 
   abbrev Blamed : List Token → Type 0
   Blamed r = Stuck sort answers lim w r ⊎ Unread sort answers lim w r
@@ -325,9 +319,6 @@ module _ (sort : Sort) (answers : List Answer) (base : List Report) (Follows : T
       let e : s ≡ top = (reach-sound (start-no-leaf top start_good) alone).2 in
       (fault_left top start_good w q f (rest st) (subst (λ (n : ℕ). Reach top w (frame n q f ∷ []) (rest st)) e alone) (subst (λ (n : ℕ). next n q (rest st) ≡ close) e m) z, (frame s q f ∷ fs, c.reach))
 
-  not-end : (x : ℕ) (r : List Token) → disjoint x 1 ≡ true → within (first_class r) x ≡ true → first_class r ≡ 0 → ⊥
-  not-end x r d h z = false-true (holds-disjoint 0 x 1 d (subst (λ (n : ℕ). within n x ≡ true) z h)) zero-one
-
   note-right : (s : ℕ) (p : Spot) (x y : ℕ) (fs : List Frame) (st : State) → reports s p x y ≡ true → Fits s p x y fs st → Blamed (rest st)
   unfolding reports has fires
   note-right s lost x y fs st h g = inl g.stands.0
@@ -354,7 +345,7 @@ module _ (sort : Sort) (answers : List Answer) (base : List Report) (Follows : T
       on stuck m = inl (fault top start_good w s q f fs (rest st) c.reach m, (frame s q f ∷ fs, c.reach))
       on close m = elim (or-c _ _ (and-r _ _ h)) [
         | inl e ↦ false-true (not-c _ e) (move-ends s q _ _ m)
-        | inr e ↦ inl (root-stuck c (and-l _ _ e) m (not-end x (rest st) (and-r _ _ e) n.near))
+        | inr e ↦ inl (root-stuck c (and-l _ _ e) m (λ z. false-true (holds-disjoint 0 x 1 (and-r _ _ e) (subst (λ (a : ℕ). within a x ≡ true) z n.near)) zero-one))
       ]
 
   -- ---- the limit
@@ -685,18 +676,9 @@ module _ (sort : Sort) (answers : List Answer) (base : List Report) (Follows : T
   then-on s fs f k t u g on (inl o) = inl (tell-on t u g o)
   then-on s fs f k t u g on (inr o) = on o
 
-  do-out : (a : Prim) (n s : ℕ) (p : Spot) (x y : ℕ) (fs : List Frame) (k : Then) (st : State) → ok n s p x y (Do a) k ≡ true → Fits s p x y fs st → Out s fs k (step a st)
-  unfolding ok step
-  do-out (Bump kind) n s p x y fs k st h g = bump-out s p x y kind fs k st h g
-  do-out (Note m) n s p x y fs k st h g = inl (note-told m st g.calm (note-right s p x y fs st h g) (taken-at s p fs st g.stands))
-
   -- a node's rule is walked at its place, or by the check of its kind
-  node-ok : (c : Node) → ok 5 (symbol c) (spot 0 low loose) (first_of c) (second_of c) (inside c) (ends_well c) ≡ true
-  unfolding follows_table
-  node-ok c = and-r _ _ (node_passes c).table
-
   goes-in : (n s q x y : ℕ) (l : Level) (d : Sure) (c : Node) (fs : List Frame) (k : Then) (st t u : State) → t ≡ opened (kind_of c) st → Walks (inside c) t u → child_goes s q l x y c k (λ u v k'. ok n (symbol c) (spot 0 low loose) u v (inside c) k') ≡ true → Fits s (spot q l d) x y fs st → Out s fs k (closed u)
-  unfolding child_goes
+  unfolding child_goes follows_table
   goes-in n s q x y l d c fs k st t u e walk h g = on (inlined c) (and-r _ _ h)
     where
       j : ℕ
@@ -716,7 +698,7 @@ module _ (sort : Sort) (answers : List Answer) (base : List Report) (Follows : T
 
       on : (b : Bool) → cond b (ok n j (spot 0 low loose) x y (inside c) (closing j p k)) ((subset x (first_of c) and subset y (second_of c)) and after p c k) ≡ true → Out s fs k (closed u)
       on true m = walked-out c k u g.stands.0 agree (walked (inside c) walk n j gs (closing j p k) (spot 0 low loose, x, y, m, b))
-      on false m = node-out c k u g.stands.0 agree (and-r _ _ m) (walked (inside c) walk 5 j gs (ends_well c) (spot 0 low loose, first_of c, second_of c, node-ok c, with-sets b (seen-more x y _ _ t (and-l _ _ m) b.seen)))
+      on false m = node-out c k u g.stands.0 agree (and-r _ _ m) (walked (inside c) walk 5 j gs (ends_well c) (spot 0 low loose, first_of c, second_of c, and-r _ _ (node_passes c).table, with-sets b (seen-more x y _ _ t (and-l _ _ m) b.seen)))
 
   sticks-in : (n s x y : ℕ) (c : Node) (fs : List Frame) (k : Then) (st t u : State) → t ≡ opened (kind_of c) st → Walks (inside c) t u → ok n s lost x y (inside c) (losing k) ≡ true → Fits s lost x y fs st → Out s fs k (closed u)
   sticks-in n s x y c fs k st t u e walk h g =
@@ -738,17 +720,13 @@ module _ (sort : Sort) (answers : List Answer) (base : List Report) (Follows : T
 
   -- ---- a type begins and ends
 
-  type-is : (is_leaf TYPE ≡ false) × (eqb TYPE DOCUMENT ≡ false)
-  unfolding is_leaf
-  type-is = (refl, refl)
-
   type-in : (n s q x y : ℕ) (l : Level) (d : Sure) (a : Rule) (fs : List Frame) (k : Then) (st t u : State) → t ≡ flush st → Walks a t u → type_at s (spot q l d) x y k (λ k'. ok n TYPE (spot 0 low loose) x y a k') ≡ true → (g : Fits s (spot q l d) x y fs st)
       → Out TYPE (frame s q g.stands.0.children ∷ fs) (typed (spot (target s q TYPE) l firm) k) u
-  unfolding type_at flush
+  unfolding type_at flush is_leaf
   type-in n s q x y l d a fs k st t u e walk h g =
       let gs : List Frame = frame s q g.stands.0.children ∷ fs in
       let m = and-l _ _ h in
-      let b : Fits TYPE (spot 0 low loose) x y gs (flush st) = begun TYPE g type-is.0 type-is.1 (and-l _ _ m) (and-l _ _ (and-r _ _ m)) (flush-alike st) (λ z i. flushed st g.calm z ∙ (i ∙ sym (image-type 0 gs))) in
+      let b : Fits TYPE (spot 0 low loose) x y gs (flush st) = begun TYPE g refl refl (and-l _ _ m) (and-l _ _ (and-r _ _ m)) (flush-alike st) (λ z i. flushed st g.calm z ∙ (i ∙ sym (image-type 0 gs))) in
       walked a walk n TYPE gs (typed (spot (target s q TYPE) l firm) k) (spot 0 low loose, x, y, and-r _ _ h, rw e b)
 
   -- the children of a type that no `!` ends
@@ -835,9 +813,6 @@ module _ (sort : Sort) (answers : List Answer) (base : List Report) (Follows : T
 
   -- ---- a level is entered and left
 
-  filled : (s : ℕ) (p : Spot) (x y : ℕ) (fs : List Frame) (st : State) → true ≡ is_deep st → Fits s p x y fs st → Fits s (fill p) x y fs st
-  filled s p x y fs st e g = record { calm = g.calm; seen = g.seen; stands = fills s fs st p (sym e) g.stands }
-
   level-in : (n s : ℕ) (p : Spot) (x y : ℕ) (a b : Rule) (fs : List Frame) (k : Then) (st t u v z : State) → false ≡ is_deep st → t ≡ enter st → v ≡ leave u → Walks a t u → Walks b v z → Grows v z → ok n s p x y (Nested a b) k ≡ true → Fits s p x y fs st → Out s fs k z
   unfolding ok nests limits_at is_deep enter leave
   level-in n s lost x y a b fs k st t u v z e i j walk walk' gr h g = false-true refl (and-l _ _ h)
@@ -876,9 +851,10 @@ module _ (sort : Sort) (answers : List Answer) (base : List Report) (Follows : T
   bang-step v w' (does e) = e
 
   pub link : {r : Rule} {st t : State} → Runs r st t → (n s : ℕ) (p : Spot) (x y : ℕ) (fs : List Frame) (k : Then) → Good n s p x y r k → Fits s p x y fs st → Out s fs k t
-  unfolding Good ok
+  unfolding Good ok step
   link skip n s p x y fs k h g = inr (p, x, y, h, g)
-  link {st = st} (does {a = a} e) n s p x y fs k h g = rw e (do-out a n s p x y fs k st h g)
+  link {st = st} (does {a = Bump kind} e) n s p x y fs k h g = rw e (bump-out s p x y kind fs k st h g)
+  link {st = st} (does {a = Note m} e) n s p x y fs k h g = rw e (inl (note-told m st g.calm (note-right s p x y fs st h g) (taken-at s p fs st g.stands)))
   link {t = u} (seq {a = a} {b = b} {t = t} h1 h2) n s p x y fs k h g =
       let f : Then = λ p' u v. ok n s p' u v b k in
       then-on s fs f k t u (run-grows h2) (walked b (link h2) n s fs k) (walked a (link h1) n s fs f (p, x, y, h, g))
@@ -894,7 +870,7 @@ module _ (sort : Sort) (answers : List Answer) (base : List Report) (Follows : T
   link {st = st} (child {n = c} {t = t} {u = u} i j h1) (suc n) s p x y fs k h g = rw j (child-in n s p x y c fs k st t u i (link h1) h g)
   link {st = st} {t = z} (deeper {a = a} {b = b} {t = t} {u = u} {v = v} d i j h1 h2) n s p x y fs k h g = level-in n s p x y a b fs k st t u v z d i j (link h1) (link h2) (run-grows h2) h g
   link {st = st} (limited d e) n s p x y fs k h g = rw e (inl (deep-told st g.calm (too-many s p x y fs st h g) (taken-at s p fs st g.stands)))
-  link {st = st} (refused d e) n s p x y fs k h g = rw e (inl (deep-told st g.calm (too-many s (fill p) x y fs st (and-l _ _ h) (filled s p x y fs st d g)) (taken-at s p fs st g.stands)))
+  link {st = st} (refused d e) n s p x y fs k h g = rw e (inl (deep-told st g.calm (too-many s (fill p) x y fs st (and-l _ _ h) (record { calm = g.calm; seen = g.seen; stands = fills s fs st p (sym d) g.stands })) (taken-at s p fs st g.stands)))
   link (call h1) zero s p x y fs k h g = false-true refl h
   link (call {p = q} h1) (suc n) s p x y fs k h g = link h1 n s p x y fs k (good n s p x y (body q) k h) g
   link {st = st} {t = u} (plain {a = a} {t = t} i h1 e) n s p x y fs k h g = plain-in n s p x y a fs k st t u i (link h1) e h g

@@ -2,7 +2,7 @@
 -- limits, whose derivation is the tree without its ignored leaves.
 use Rattle.parser_rules.proofs.runs.Steps.{Holds_along, along, turns_along, along_reading}
 use Rattle.parser_rules.proofs.lookahead.FirstSets.{unread as unread_set}
-use Rattle.std.proofs.Common.{◌≡◌, ℕ, zero, suc, ◌+◌, ◌≤◌, Bool, cond, true, false, List, [], ◌∷◌, ◌++◌, Option, Some, None, if◌then◌else◌, length, refl, sym, ap, ap₂, ◌∙◌, subst, ◌⊎◌, inl, inr, true≢false, eqb-true, append-nil, append_assoc, arith, not}
+use Rattle.std.proofs.Common.{◌≡◌, ℕ, zero, suc, ◌+◌, ◌≤◌, Bool, cond, true, false, List, [], ◌∷◌, ◌++◌, Option, Some, None, if◌then◌else◌, length, refl, sym, ap, ap₂, ◌∙◌, subst, ◌⊎◌, inl, inr, true≢false, is_some, eqb-true, append-nil, append_assoc, arith, not}
 use Rattle.std.specs.Prelude.{map, ⊤}
 use Rattle.std.proofs.lemmas.List.{map-append, append_cancel_right, length-append}
 use Rattle.lexical_grammar.specs.declared.TokenKind.{TokenKind}
@@ -55,13 +55,9 @@ use Rattle.parser_rules.proofs.soundness.Simulation.{Leveled, Place, Fits, Out, 
 
 -- ---- what was answered, where all answers are tokens
 
-word-tokens : (k : TokenKind) (text : List ℕ) (b : Bool) → (if b then token_of (record { kind = k; text = text }) ∷ [] else []) ≡ map token_of (if b then record { kind = k; text = text } ∷ [] else [])
-word-tokens k text true = refl
-word-tokens k text false = refl
-
 pub item-words : (found : Option TokenKind) (text : List ℕ) → item_tokens found text ≡ map token_of (significant_word found text)
 item-words None text = refl
-item-words (Some k) text = word-tokens k text (is_significant_kind k)
+item-words (Some k) text = elim (is_significant_kind k) as (λ b. (if b then token_of (record { kind = k; text = text }) ∷ [] else []) ≡ map token_of (if b then record { kind = k; text = text } ∷ [] else [])) [ true ↦ refl | false ↦ refl ]
 
 pub record Given (allowed : ℕ) (items : List Item) : Type 0 where
   pub tokens : are_tokens items ≡ true
@@ -122,11 +118,8 @@ start-fits r xs e =
       })
     ]
   where
-    none-taken : {a c : ℕ} → a ≡ c → 0 + a ≡ c
-    none-taken e = omega arith
-
     blame : Blames xs [] ⊤ (Rightly document xs [] ⊤ r (answers_tokens xs)) 0 (answers_tokens xs)
-    blame x ys p n z = no_token p n (frame DOCUMENT 0 none ∷ [], subst (λ (u : List Token). Reach DOCUMENT (answers_tokens xs) (frame DOCUMENT 0 none ∷ []) u) (sym z) start) (none-taken (ap length z))
+    blame x ys p n z = no_token p n (frame DOCUMENT 0 none ∷ [], subst (λ (u : List Token). Reach DOCUMENT (answers_tokens xs) (frame DOCUMENT 0 none ∷ []) u) (sym z) start) (let e = ap length z in omega (arith, e))
 
     leveled-from : Leveled document xs [] ⊤ r (answers_tokens xs) DOCUMENT 0 low none [] (begun xs r kind.DOCUMENT).depth (begun xs r kind.DOCUMENT).high (begun xs r kind.DOCUMENT).limit
     leveled-from = let still = read_untouched xs (fresh xs r kind.DOCUMENT) in rw (still.depth, still.high, still.limit) (start-level r xs (answers_tokens xs))
@@ -258,11 +251,7 @@ answers-append (gives item ∷ xs) ys = ap (λ (v : List Token). item_tokens ite
 
 no-token-words : (x : Answer) (ys : List Answer) → is_token x ≡ false → answers_tokens (x ∷ ys) ≡ answers_tokens ys
 no-token-words (limit_at index) ys h = refl
-no-token-words (gives item) ys h = on item.kind h
-  where
-    on : (found : Option TokenKind) → is_token (gives (record { kind = found; text = item.text; index = item.index })) ≡ false → item_tokens found item.text ++ answers_tokens ys ≡ answers_tokens ys
-    on None h = refl
-    on (Some k) h = absurd (true≢false h)
+no-token-words (gives item) ys h = (elim item.kind as (λ found. is_some found ≡ false → item_tokens found item.text ++ answers_tokens ys ≡ answers_tokens ys) [ None ↦ λ h. refl | Some k ↦ λ h. absurd (true≢false h) ]) h
 
 -- the tokens before
 words-before : (xs front ys : List Answer) (b : List Token) → xs ≡ front ++ ys → answers_tokens xs ≡ b ++ answers_tokens ys → b ≡ answers_tokens front
@@ -428,31 +417,22 @@ token-of-all : (front items : List Answer) (x : Answer) → all_tokens (front ++
 token-of-all [] items x h = and-l _ _ h
 token-of-all (y ∷ front) items x h = token-of-all front items x (and-r _ _ h)
 
--- over a sentence within the limits the first report is at most one of what no rule reads
-pub only-unread : (r : ℕ) (xs : List Answer) (e : Report) (m : ℕ) (t : Tree) → Spells (answers_tokens xs) t document → nest t ≤ r → all_tokens xs ≡ true → Right document xs r (answers_tokens xs) e m
-    → (u : List Token) × Unread document xs r (answers_tokens xs) u
-only-unread r xs e m t h n a (stuck_here said {t = lexeme} {items = items} now p k c) = absurd (accepts document (answers_tokens xs) (answers_tokens (given_by lexeme ∷ items)) t h k.0)
-only-unread r xs e m t h n a (unread_here said {t = lexeme} {items = items} now p k c) = (answers_tokens (given_by lexeme ∷ items), k)
-only-unread r xs e m t h n a (deep_here {t = lexeme} {items = items} now p k c) =
-    let q = sentence-parse document (answers_tokens xs) t h in
-    let d = k.deeper q.0 (answers_tokens (given_by lexeme ∷ items)) (subst (λ (z : List Token). Parse DOCUMENT q.0 z) k.split q.1) refl in
-    let nests : nest t ≡ nesting_all q.0 = ap nest (sym q.2) ∙ nest-show q.0 q.1.0 in
+-- over a sentence within the limits, without what no rule reads yet, no report is right
+pub none-right : (r : ℕ) (xs : List Answer) (e : Report) (m : ℕ) (t : Tree) → Spells (answers_tokens xs) t document → Plain t → nest t ≤ r → all_tokens xs ≡ true → Right document xs r (answers_tokens xs) e m → ⊥
+none-right r xs e m t h p n a (stuck_here said {t = lexeme} {items = items} now q k c) = accepts document (answers_tokens xs) (answers_tokens (given_by lexeme ∷ items)) t h k.0
+none-right r xs e m t h p n a (unread_here said {t = lexeme} {items = items} now q k c) =
+    let u = sentence-parse document (answers_tokens xs) t h in
+    plain-read xs r (answers_tokens xs) (answers_tokens (given_by lexeme ∷ items)) u.0 u.1 (subst (λ (z : Tree). Plain z) (sym u.2) p) k
+none-right r xs e m t h p n a (deep_here {t = lexeme} {items = items} now q k c) =
+    let u = sentence-parse document (answers_tokens xs) t h in
+    let d = k.deeper u.0 (answers_tokens (given_by lexeme ∷ items)) (subst (λ (z : List Token). Parse DOCUMENT u.0 z) k.split u.1) refl in
+    let nests : nest t ≡ nesting_all u.0 = ap nest (sym u.2) ∙ nest-show u.0 u.1.0 in
     absurd (omega (arith, d, nests, n))
-only-unread r xs e m t h n a (no_token {x = x} {items = items} p other_one v c) = false-true other_one (token-of-all p.front items x (subst (λ (z : List Answer). all_tokens z ≡ true) p.split a))
-
-pub accepted : (r : ℕ) (xs : List Answer) (s : State) (t : Tree) → EndsWell xs → IsRoot s.tree → Runs (Call Document) (begun xs r kind.DOCUMENT) s → Spells (answers_tokens xs) t document → nest t ≤ r → all_tokens xs ≡ true
-    → (s.errors ≡ []) ⊎ ((u : List Token) × Unread document xs r (answers_tokens xs) u)
-accepted r xs s t en root run h n a = elim (parsed r xs s en root run) [
-  | inl o ↦ inr (only-unread r xs o.report o.taken t h n a o.right)
-  | inr o ↦ inl o.silent
-]
+none-right r xs e m t h p n a (no_token {x = x} {items = items} q other_one v c) = false-true other_one (token-of-all q.front items x (subst (λ (z : List Answer). all_tokens z ≡ true) q.split a))
 
 -- Acceptance: a sentence within the limits, without what no rule reads yet, gets no report.
 pub accepted_plain : (r : ℕ) (xs : List Answer) (s : State) (t : Tree) → EndsWell xs → IsRoot s.tree → Runs (Call Document) (begun xs r kind.DOCUMENT) s → Spells (answers_tokens xs) t document → Plain t → nest t ≤ r → all_tokens xs ≡ true → s.errors ≡ []
-accepted_plain r xs s t en root run h p n a = elim (accepted r xs s t en root run h n a) [
-  | inl e ↦ e
-  | inr k ↦ (let q = sentence-parse document (answers_tokens xs) t h in absurd (plain-read xs r (answers_tokens xs) k.0 q.0 q.1 (subst (λ (z : Tree). Plain z) (sym q.2) p) k.1))
-]
+accepted_plain r xs s t en root run h p n a = elim (parsed r xs s en root run) [ inl o ↦ absurd (none-right r xs o.report o.taken t h p n a o.right) | inr o ↦ o.silent ]
 
 -- The text is a sentence within both limits.
 pub record IsClean (source : List ℕ) (t : Tree) (r k : ℕ) : Type 0 where

@@ -68,11 +68,6 @@ is_firm loose = false
 is_firm firm = true
 is_firm full = true
 
-abbrev pub is_full : Sure → Bool
-is_full loose = false
-is_full firm = false
-is_full full = true
-
 -- where the depth may have changed
 abbrev pub weak : Sure → Sure
 weak loose = loose
@@ -217,7 +212,7 @@ deepens s q l x = eqb (raised l) 0 and (eqb (own s) 1 or (eqb (own s) 0 and (cou
 
 -- the limit is reached there
 unfoldable pub limits_at : ℕ → Spot → ℕ → Bool
-limits_at s (spot q l d) x = is_full d and deepens s q l x
+limits_at s (spot q l d) x = same_sure d full and deepens s q l x
 limits_at s lost x = false
 
 unfoldable pub nests : Spot → (Spot → Bool) → Bool
