@@ -4,6 +4,8 @@ pub mod Settled
 pub mod TableCheck
 pub mod FirstReport
 pub mod Plain
+pub mod Positions
+pub mod Moves
 pub mod Simulation
 pub mod Soundness
 pub mod OverTexts

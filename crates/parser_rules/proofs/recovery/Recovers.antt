@@ -1,6 +1,5 @@
 -- Going on after reports: where the tokens that are left at a turn of the document's loop are a sentence's, its children follow, without a report.
 use Rattle.std.proofs.Common.{◌≡◌, ℕ, ◌≤◌, Bool, true, is_some, List, [], ◌∷◌, ◌++◌, Option, Some, None, refl, sym, ap, ap₂, ◌∙◌, subst, ◌⊎◌, inl, inr, append-nil}
-use Rattle.std.specs.Prelude.{⊤}
 use Rattle.lexical_grammar.specs.declared.TokenKind.{TokenKind}
 use Rattle.lexical_grammar.specs.Cut.{Item, Cut}
 use Rattle.lexical_grammar.specs.Answers.{Answer, gives, limit_at, limited}
@@ -34,9 +33,10 @@ use Rattle.parser_rules.proofs.lookahead.Split.{low, loose, spot}
 use Rattle.parser_rules.proofs.soundness.TableCheck.{root_ends, turns_follow}
 use Rattle.parser_rules.proofs.NodeChecks.{turns_followed}
 use Rattle.parser_rules.proofs.soundness.Plain.{Plain}
-use Rattle.parser_rules.proofs.soundness.Simulation.{Fits, Tells, good, link}
+use Rattle.parser_rules.proofs.soundness.Positions.{Fits, Tells}
+use Rattle.parser_rules.proofs.soundness.Simulation.{good, link}
 use Rattle.parser_rules.proofs.runs.Anew.{Alike, Same_steps, anew}
-use Rattle.parser_rules.proofs.soundness.Soundness.{document-label, start-level, loops, Turn, from_now, now_words, Silent, root-out, none-right}
+use Rattle.parser_rules.proofs.soundness.Soundness.{document-label, whole, start-level, loops, Turn, from_now, now_words, Silent, root-out, none-right}
 
 -- the same turn in a tree of its own
 abbrev pub afresh : State → State
@@ -45,7 +45,7 @@ afresh st = record { items = st.items; current = st.current; waiting = st.waitin
 alike : (st : State) → Turn st → Alike st (afresh st)
 alike st c = record { current = refl; rest = record { items = refl; waiting = refl; limit = refl; depth = sym c.no_level; accepts = sym c.accepts } }
 
-afresh-fits : (st : State) (c : Turn st) → all_ignored st.waiting ≡ true → Fits document (from_now st c) [] ⊤ st.limit (now_words st c) DOCUMENT (spot 0 low loose) ready any [] (afresh st)
+afresh-fits : (st : State) (c : Turn st) → all_ignored st.waiting ≡ true → Fits (whole st.limit (from_now st c)) DOCUMENT (spot 0 low loose) ready any [] (afresh st)
 unfolding holds within
 afresh-fits st c i = record {
   calm = record {
@@ -57,7 +57,7 @@ afresh-fits st c i = record {
   stands = (
     record {
       children = none;
-      place = record { reach = subst (λ (v : List Token). Reach DOCUMENT (now_words st c) (frame DOCUMENT 0 none ∷ []) v) (sym same) starts; leveled = start-level st.limit (from_now st c) (now_words st c); alone = λ e. refl };
+      place = record { reach = subst (λ (v : List Token). Reach DOCUMENT (now_words st c) (frame DOCUMENT 0 none ∷ []) v) (sym same) starts; leveled = start-level st.limit (from_now st c); alone = λ e. refl };
       built = λ z. ap (λ (k : ℕ). (k, none) ∷ ((0, none) ∷ [])) (sym document-label.0);
     },
     tt,
@@ -76,7 +76,7 @@ pub record From_turn (st s : State) (c : Turn st) : Type 0 where
   pub own : State
   pub alike : Alike s own
   pub steps : Same_steps st s (afresh st) own
-  pub parsed : Tells document (from_now st c) [] ⊤ st.limit (now_words st c) own ⊎ Silent (from_now st c) [] ⊤ st.limit (now_words st c) own
+  pub parsed : Tells (whole st.limit (from_now st c)) own ⊎ Silent st.limit (from_now st c) own
 
 pub from-turn : (st s : State) (c : Turn st) → all_ignored st.waiting ≡ true → Runs loops st s → From_turn st s c
 unfolding turns_follow
@@ -86,9 +86,9 @@ from-turn st s c i run =
       own = a.0;
       alike = a.2.alike;
       steps = a.2.steps;
-      parsed = root-out (from_now st c) [] ⊤ st.limit (now_words st c) a.0
-          (link document (from_now st c) [] ⊤ st.limit (now_words st c) a.1 5 DOCUMENT (spot 0 low loose) ready any [] root_ends
-          (good document (from_now st c) [] ⊤ st.limit (now_words st c) 5 DOCUMENT (spot 0 low loose) ready any (While Ready (Call Definition)) root_ends turns_followed) (afresh-fits st c i));
+      parsed = root-out st.limit (from_now st c) a.0
+          (link (whole st.limit (from_now st c)) a.1 5 DOCUMENT (spot 0 low loose) ready any [] root_ends
+          (good (whole st.limit (from_now st c)) 5 DOCUMENT (spot 0 low loose) ready any (While Ready (Call Definition)) root_ends turns_followed) (afresh-fits st c i));
     }
 
 -- The root's later children are the derivation's, and nothing more is reported.
@@ -121,7 +121,7 @@ recovers st s c t i h p n a run = on (from-turn st s c i run)
           let more : built.Forest = f.steps.more in
           let later : built.Forest = built.join more (parts_forest s.waiting) in
           let here : (add_all own.waiting own.tree).here ≡ later = (added-all own.waiting own.tree).here ∙ ap₂ (λ (x : built.Forest) (w : List Part). built.join x (parts_forest w)) f.steps.other.trees.here f.alike.rest.waiting in
-          let bare : strip later ≡ shows o.children = ap strip (sym here) ∙ root-layer (add_all own.waiting own.tree) (record { before = built.none; kind = kind.DOCUMENT }) (label DOCUMENT) (shows o.children) ((0, none) ∷ []) (add_all_above own.waiting own.tree ∙ f.steps.other.trees.above) (o.built tt) in
+          let bare : strip later ≡ shows o.children = ap strip (sym here) ∙ root-layer (add_all own.waiting own.tree) (record { before = built.none; kind = kind.DOCUMENT }) (label DOCUMENT) (shows o.children) ((0, none) ∷ []) (add_all_above own.waiting own.tree ∙ f.steps.other.trees.above) o.built in
           record {
             later = later;
             children = (added-all s.waiting s.tree).here ∙ (ap (λ (x : built.Forest). built.join x (parts_forest s.waiting)) f.steps.one.trees.here ∙ join_assoc st.tree.here more (parts_forest s.waiting));

@@ -51,7 +51,9 @@ use Rattle.parser_rules.proofs.soundness.TableCheck.{raised, own, owed, behind, 
 use Rattle.parser_rules.proofs.NodeChecks.{document_followed}
 use Rattle.parser_rules.proofs.soundness.FirstReport.{Viable, Unread, TooMany, Right, stuck_here, unread_here, deep_here, no_token, Behind}
 use Rattle.parser_rules.proofs.soundness.Plain.{Plain, plain-read}
-use Rattle.parser_rules.proofs.soundness.Simulation.{Leveled, Place, Fits, Out, Tells, Rightly, tell-on, fits-next, shown, good, link, run-grows}
+use Rattle.parser_rules.proofs.soundness.Positions.{Reading, run-grows, Leveled, Place, Fits, Out, Tells, Rightly, tell-on, shown}
+use Rattle.parser_rules.proofs.soundness.Moves.{fits-next}
+use Rattle.parser_rules.proofs.soundness.Simulation.{good, link}
 
 -- ---- what was answered, where all answers are tokens
 
@@ -85,8 +87,12 @@ pub document-label : (label DOCUMENT ≡ DOCUMENT) × (own DOCUMENT ≡ 0) × (i
 unfolding label labels own ◌or◌ is_leaf member
 document-label = (refl, refl, refl, refl)
 
-pub start-level : (lim : ℕ) (answers : List Answer) (w : List Token) → Leveled document answers [] ⊤ lim w DOCUMENT 0 low none [] 0 0 lim
-start-level lim answers w = record {
+-- all the answers, to a parser with nothing reported
+abbrev pub whole : ℕ → List Answer → Reading
+whole r xs = record { sort = document; answers = xs; base = []; follows = ⊤; limit = r; words = answers_tokens xs }
+
+pub start-level : (r : ℕ) (xs : List Answer) → Leveled (whole r xs) DOCUMENT 0 low none [] 0 0 r
+start-level r xs = record {
   level = omega (arith, document-label.1, document-label.3);
   entered = omega arith;
   most_open = omega (arith, peak-start DOCUMENT, document-label.3);
@@ -95,18 +101,18 @@ start-level lim answers w = record {
 }
 
 abbrev pub First : ℕ → List Answer → State → Type 0
-First r xs s = Tells document xs [] ⊤ r (answers_tokens xs) s
+First r xs s = Tells (whole r xs) s
 
-start-fits : (r : ℕ) (xs : List Answer) → EndsWell xs → First r xs (begun xs r kind.DOCUMENT) ⊎ Fits document xs [] ⊤ r (answers_tokens xs) DOCUMENT (spot 0 low loose) any any [] (begun xs r kind.DOCUMENT)
+start-fits : (r : ℕ) (xs : List Answer) → EndsWell xs → First r xs (begun xs r kind.DOCUMENT) ⊎ Fits (whole r xs) DOCUMENT (spot 0 low loose) any any [] (begun xs r kind.DOCUMENT)
 start-fits r xs e =
     let s : State = fresh xs r kind.DOCUMENT in
     let b : State = begun xs r kind.DOCUMENT in
     let w : List Token = answers_tokens xs in
-    elim (read-on xs [] ⊤ (Rightly document xs [] ⊤ r w) 0 xs s (record { clean = refl; accepts = refl; waits = λ z. refl }) e (record { front = []; split = refl; tokens = refl }) blame (λ z. (omega arith, tt, (tt, tt)))) [
+    elim (read-on xs [] ⊤ (Rightly (whole r xs)) 0 xs s (record { clean = refl; accepts = refl; waits = λ z. refl }) e (record { front = []; split = refl; tokens = refl }) blame (λ z. (omega arith, tt, (tt, tt)))) [
       | inl o ↦ inl o
       | inr o ↦ inr (record {
         calm = o.calm;
-        seen = record { near = of-any b.current (shown document xs [] ⊤ r w b o.calm); far = of-any (second_of b.items) (second-shown b.items) };
+        seen = record { near = of-any b.current (shown (whole r xs) b o.calm); far = of-any (second_of b.items) (second-shown b.items) };
         stands = (
           record {
             children = none;
@@ -118,11 +124,11 @@ start-fits r xs e =
       })
     ]
   where
-    blame : Blames xs [] ⊤ (Rightly document xs [] ⊤ r (answers_tokens xs)) 0 (answers_tokens xs)
+    blame : Blames xs [] ⊤ (Rightly (whole r xs)) 0 (answers_tokens xs)
     blame x ys p n z = no_token p n (frame DOCUMENT 0 none ∷ [], subst (λ (u : List Token). Reach DOCUMENT (answers_tokens xs) (frame DOCUMENT 0 none ∷ []) u) (sym z) start) (let e = ap length z in omega (arith, e))
 
-    leveled-from : Leveled document xs [] ⊤ r (answers_tokens xs) DOCUMENT 0 low none [] (begun xs r kind.DOCUMENT).depth (begun xs r kind.DOCUMENT).high (begun xs r kind.DOCUMENT).limit
-    leveled-from = let still = read_untouched xs (fresh xs r kind.DOCUMENT) in rw (still.depth, still.high, still.limit) (start-level r xs (answers_tokens xs))
+    leveled-from : Leveled (whole r xs) DOCUMENT 0 low none [] (begun xs r kind.DOCUMENT).depth (begun xs r kind.DOCUMENT).high (begun xs r kind.DOCUMENT).limit
+    leveled-from = let still = read_untouched xs (fresh xs r kind.DOCUMENT) in rw (still.depth, still.high, still.limit) (start-level r xs)
 
 -- ---- the end
 
@@ -175,54 +181,54 @@ pub record Nothing_told (r : ℕ) (xs : List Answer) (s : State) : Type 0 where
   pub clean : Clean r xs s
 
 -- Nothing is reported: what was to be read is a sentence within the limit, with the tree's children.
-pub record Silent (xs : List Answer) (base : List Report) (Follows : Type 0) (r : ℕ) (w : List Token) (s : State) : Type 0 where
-  pub silent : s.errors ≡ base
+pub record Silent (r : ℕ) (xs : List Answer) (s : State) : Type 0 where
+  pub silent : s.errors ≡ []
   pub children : Forest
-  pub spells : Spells w (show (node DOCUMENT children)) document
-  pub nesting : Follows → nest (show (node DOCUMENT children)) ≤ r
-  pub high : Follows → s.high ≡ nest (show (node DOCUMENT children))
-  pub built : Follows → stack (add_all s.waiting s.tree) ≡ (label DOCUMENT, shows children) ∷ ((0, none) ∷ [])
+  pub spells : Spells (answers_tokens xs) (show (node DOCUMENT children)) document
+  pub nesting : nest (show (node DOCUMENT children)) ≤ r
+  pub high : s.high ≡ nest (show (node DOCUMENT children))
+  pub built : stack (add_all s.waiting s.tree) ≡ (label DOCUMENT, shows children) ∷ ((0, none) ∷ [])
   pub tokens : all_tokens xs ≡ true
 
-pub root-out : (xs : List Answer) (base : List Report) (Follows : Type 0) (r : ℕ) (w : List Token) (s : State) → Out document xs base Follows r w DOCUMENT [] root_ends s → Tells document xs base Follows r w s ⊎ Silent xs base Follows r w s
+pub root-out : (r : ℕ) (xs : List Answer) (s : State) → Out (whole r xs) DOCUMENT [] root_ends s → Tells (whole r xs) s ⊎ Silent r xs s
 unfolding root_ends
-root-out xs base Follows r w s (inl o) = inl o
-root-out xs base Follows r w s (inr (lost, x, y, h, g)) = false-true refl h
-root-out xs base Follows r w s (inr (spot q l d, x, y, h, g)) =
+root-out r xs s (inl o) = inl o
+root-out r xs s (inr (lost, x, y, h, g)) = false-true refl h
+root-out r xs s (inr (spot q l d, x, y, h, g)) =
     let st = g.stands.0 in
     let f : Forest = st.children in
-    let i : Place document xs base Follows r w DOCUMENT q l f [] s = st.place in
-    let n : Next x y (rest s) = fits-next document xs base Follows r w g in
+    let i : Place (whole r xs) DOCUMENT q l f [] s = st.place in
+    let n : Next x y (rest s) = fits-next (whole r xs) g in
     let none : rest s ≡ [] = over-rest s.current s.items g.calm.now (holds-subset (class_of s.current) x over (and-r _ _ (and-l _ _ h)) g.seen.near) in
     let m : next DOCUMENT q (rest s) ≡ closes_move = closes-move DOCUMENT q x (behind y) (first (rest s)) (second (rest s)) (and-l _ _ (and-l _ _ h)) n.near n.far in
-    let d = ended_sound document w f (rest s) (q, i.reach, m) in
-    let words : yields f ≡ w = sym (append-nil (yields f)) ∙ sym (d.0 ∙ ap (λ (v : List Token). yields f ++ v) none) in
+    let d = ended_sound document (answers_tokens xs) f (rest s) (q, i.reach, m) in
+    let words : yields f ≡ answers_tokens xs = sym (append-nil (yields f)) ∙ sym (d.0 ∙ ap (λ (v : List Token). yields f ++ v) none) in
     let lv = i.leveled in
     let low_again : raised l ≡ 0 = eqb-true _ _ (and-r _ _ h) in
     let owes = owed-none l low_again in
-    let p = (done DOCUMENT document-begins w q f (rest s) i.reach m).1 in
+    let p = (done DOCUMENT document-begins (answers_tokens xs) q f (rest s) i.reach m).1 in
     let nests = nest-show (node DOCUMENT f) p.0 in
     let end = peak-end DOCUMENT q f in
     inr (record {
       silent = g.calm.quiet.clean;
       children = f;
       spells = subst (λ (v : List Token). Spells v (show (node DOCUMENT f)) document) words d.1;
-      nesting = λ z. omega (arith, document-label.1, document-label.3, lv.level, lv.most_open, low_again, owes, nests, end, lv.bounds.kept z);
-      high = λ z. omega (arith, document-label.1, document-label.3, lv.level, lv.most_open, low_again, owes, nests, end, lv.bounds.nested z (node DOCUMENT f) (p.0, p.1, words));
-      built = λ z. stack-flush s.waiting s.tree (g.calm.quiet.waits z) ∙ st.built z;
+      nesting = omega (arith, document-label.1, document-label.3, lv.level, lv.most_open, low_again, owes, nests, end, lv.bounds.kept tt);
+      high = omega (arith, document-label.1, document-label.3, lv.level, lv.most_open, low_again, owes, nests, end, lv.bounds.nested tt (node DOCUMENT f) (p.0, p.1, words));
+      built = stack-flush s.waiting s.tree (g.calm.quiet.waits tt) ∙ st.built tt;
       tokens = all-read xs s.current s.items g.calm.now g.calm.held none;
     })
 
-clean-root : (r : ℕ) (xs : List Answer) (s : State) → IsRoot s.tree → Silent xs [] ⊤ r (answers_tokens xs) s → Nothing_told r xs s
+clean-root : (r : ℕ) (xs : List Answer) (s : State) → IsRoot s.tree → Silent r xs s → Nothing_told r xs s
 clean-root r xs s root o =
     let f : Forest = o.children in
-    let shown : bare (tree_of (finished s)) ≡ show (node DOCUMENT f) = finished-tree s (label DOCUMENT, shows f) ((0, none) ∷ []) root (o.built tt) in
+    let shown : bare (tree_of (finished s)) ≡ show (node DOCUMENT f) = finished-tree s (label DOCUMENT, shows f) ((0, none) ∷ []) root o.built in
     record {
       silent = o.silent;
       clean = record {
         spells = subst (λ (z : Tree). Spells (answers_tokens xs) z document) (sym shown) o.spells;
-        nesting = subst (λ (z : Tree). nest z ≤ r) (sym shown) (o.nesting tt);
-        high = subst (λ (z : Tree). s.high ≡ nest z) (sym shown) (o.high tt);
+        nesting = subst (λ (z : Tree). nest z ≤ r) (sym shown) o.nesting;
+        high = subst (λ (z : Tree). s.high ≡ nest z) (sym shown) o.high;
         tokens = o.tokens;
       };
     }
@@ -231,9 +237,9 @@ clean-root r xs s root o =
 pub parsed : (r : ℕ) (xs : List Answer) (s : State) → EndsWell xs → IsRoot s.tree → Runs (Call Document) (begun xs r kind.DOCUMENT) s → First r xs s ⊎ Nothing_told r xs s
 unfolding document_follows
 parsed r xs s en root run = elim (start-fits r xs en) [
-  | inl o ↦ inl (tell-on document xs [] ⊤ r (answers_tokens xs) (begun xs r kind.DOCUMENT) s (run-grows run) o)
-  | inr b ↦ elim (root-out xs [] ⊤ r (answers_tokens xs) s (link document xs [] ⊤ r (answers_tokens xs) run 5 DOCUMENT (spot 0 low loose) any any [] root_ends
-      (good document xs [] ⊤ r (answers_tokens xs) 5 DOCUMENT (spot 0 low loose) any any (Call Document) root_ends document_followed) b)) [
+  | inl o ↦ inl (tell-on (whole r xs) (begun xs r kind.DOCUMENT) s (run-grows run) o)
+  | inr b ↦ elim (root-out r xs s (link (whole r xs) run 5 DOCUMENT (spot 0 low loose) any any [] root_ends
+      (good (whole r xs) 5 DOCUMENT (spot 0 low loose) any any (Call Document) root_ends document_followed) b)) [
         | inl o ↦ inl o
         | inr o ↦ inr (clean-root r xs s root o)
       ]

@@ -1,0 +1,314 @@
+-- The machine's moves along a rule: where it is stuck, where the limit is reached, and how it takes a token, begins a node and ends one.
+use Rattle.std.proofs.Common.{◌≡◌, ℕ, ◌+◌, ◌<◌, Bool, true, false, cond, eqb, not, List, [], ◌∷◌, ◌++◌, length, Option, Some, None, refl, sym, ap, ap₂, ◌∙◌, subst, ◌⊎◌, inl, inr, eqb-true, arith, leb-true}
+use Rattle.lexical_grammar.specs.Answers.{is_end}
+use Rattle.document_grammar.specs.declared.kind.SyntaxKind.{SyntaxKind}
+use Rattle.document_grammar.specs.Numbers.{number}
+use Rattle.document_grammar.specs.Sentence.{leaf_number}
+use Rattle.document_grammar.specs.Kinds.{DOCUMENT}
+use Rattle.grammar_machine.specs.Symbols.{TYPE}
+use Rattle.document_grammar.specs.Builds.{add_leaf}
+use Rattle.document_grammar.specs.Tree.{Token, Tree, leaf, node, Forest, none, ◌▸◌, ◌+++◌}
+use Rattle.document_grammar.specs.Booleans.{◌and◌, ◌or◌}
+use Rattle.grammar_machine.specs.Machine.{holds as within, is_leaf, ends, exit, arcs, target, entries, fires, Move, go, close, stuck, class, first as first_class, Frame, frame, Reach, shift, open', closed as closes_node, has}
+use Rattle.document_grammar.proofs.Booleans.{either, false-true, and-l, and-r, or-c, not-c, implies}
+use Rattle.grammar_machine.proofs.TableLemmas.{holds-subset, holds-disjoint, arcs-at}
+use Rattle.grammar_machine.proofs.Checks.{subset}
+use Rattle.grammar_machine.proofs.Depth.{count_in, nesting_all, left-depth}
+use Rattle.grammar_machine.proofs.Patterns.{label}
+use Rattle.grammar_machine.proofs.FromMachineTree.{shows, show}
+use Rattle.grammar_machine.proofs.Sound.{any, second-any, spent, reach-sound, move-ends, move-has, move-fires}
+use Rattle.grammar_machine.proofs.Run.{next}
+use Rattle.grammar_machine.proofs.MachineTheorems.{Parse, fault, never_stuck, on-the-way, no-leaf as start-no-leaf, fault_left}
+use Rattle.grammar_machine.proofs.OneTokenLookahead.{Firm, firm-shift, firm-close}
+use Rattle.grammar_machine.proofs.Steps.{goes, sticks, goes-move, closes-move, sticks-move, misses-fires, misses}
+use Rattle.parser_rules.specs.State.{State, Lexeme, second, flush, opened, closed, moved, bump, is_deep, add_all, read_on}
+use Rattle.parser_rules.specs.Nodes.{Node, symbol, kind_of}
+use Rattle.parser_rules.specs.RuleLanguage.{Prim}
+use Rattle.parser_rules.proofs.runs.Frame.{Untouched, read_untouched}
+use Rattle.parser_rules.proofs.soundness.WithoutIgnored.{Stack, stack, put, stack-leaf, stack-finish, stack-flush}
+use Rattle.parser_rules.proofs.reports.NoReport.{Now, choose, EndsWell, rest, answers_tokens, current_tokens, AtToken, standing, given, passed-one, Held, read-on}
+use Rattle.parser_rules.proofs.soundness.FirstReport.{Stuck, TooMany, no_token}
+use Rattle.parser_rules.proofs.lookahead.MachineClasses.{Next, sees-next}
+use Rattle.parser_rules.proofs.lookahead.Split.{Level, low, Sure, loose, firm, full, Spot, spot, lost}
+use Rattle.parser_rules.proofs.lookahead.TokenSets.{class_of, second-shown, read-second, of-any, over, Seen, seen-any, holds-minus}
+use Rattle.parser_rules.proofs.lookahead.FirstSets.{without, unread}
+use Rattle.parser_rules.proofs.soundness.MachineStack.{image, image-some, shows-snoc, put-image, image-open, image-node, show-node, lay, lay-put}
+use Rattle.parser_rules.proofs.soundness.Settled.{Fitting, settled-at}
+use Rattle.parser_rules.proofs.soundness.TableCheck.{Then, behind, raised, own, levels, leaf_of, loses, takes, ends_at, after, closing, losing, counted, limits_at, reports, is_node, ends_well, follows_table, no_brace, leaves_well, deepens}
+use Rattle.parser_rules.proofs.NodeChecks.{node_passes}
+use Rattle.parser_rules.proofs.lookahead.MachineClasses.{zero-one}
+use Rattle.parser_rules.proofs.soundness.Positions.{Reading, Alike, opened-alike, closed-alike, idle-rest, idle-grows, top, Place, Stands, Lost, Known, StandsAt, Rightly, Still_calm, Tells, Fits, Way, Out, tell-on, known-firm, start_good, shown, Blamed, spent-behind, fitting, stands-taken, idle-lost, leveled-leaf, leveled-begin, leveled-end, still-leveled, moved-on}
+
+module _ (R : Reading) where
+  open R use {sort, answers, base, follows as Follows, limit as lim, words as w}
+
+  -- ---- where the machine is stuck
+
+  pub fits-next : {s x y : ℕ} {p : Spot} {fs : List Frame} {st : State} → Fits R s p x y fs st → Next x y (rest st)
+  fits-next {x = x} {y = y} {st = st} g = sees-next x y st g.calm.now g.seen
+
+  pub goes-on : {s q x y : ℕ} {l : Level} {d : Sure} {fs : List Frame} {st : State} (j : ℕ) → Fits R s (spot q l d) x y fs st → goes s q x (behind y) j ≡ true → next s q (rest st) ≡ go j
+  goes-on {s = s} {q = q} {x = x} {y = y} j g h = let n = fits-next g in goes-move s q x (behind y) j _ _ h n.near n.far
+
+  pub lost-at : {s q x y : ℕ} {l : Level} {d : Sure} {fs : List Frame} {st : State} → Fits R s (spot q l d) x y fs st → sticks s q x (behind y) ≡ true → Lost R st
+  lost-at {s = s} {q = q} {x = x} {y = y} {fs = fs} {st = st} g h =
+      let c : Stands R s q _ fs st = g.stands.0 in
+      let n = fits-next g in
+      ((fault (top R) (start_good R) w s q c.children fs (rest st) c.place.reach (sticks-move s q x (behind y) _ _ h n.near n.far), (frame s q c.children ∷ fs, c.place.reach)), stands-taken R c)
+
+  -- the root may end here, and tokens are left
+  pub root-stuck : {s q : ℕ} {l : Level} {f : Forest} {fs : List Frame} {st : State} → Place R s q l f fs st → eqb s DOCUMENT ≡ true → next s q (rest st) ≡ close → (first_class (rest st) ≡ 0 → ⊥) → Stuck sort answers lim w (rest st)
+  root-stuck {s = s} {q = q} {f = f} {fs = fs} {st = st} c h m z =
+      let alone : Reach (top R) w (frame s q f ∷ []) (rest st) = subst (λ (z : List Frame). Reach (top R) w (frame s q f ∷ z) (rest st)) (c.alone h) c.reach in
+      let e : s ≡ (top R) = (reach-sound (start-no-leaf (top R) (start_good R)) alone).2 in
+      (fault_left (top R) (start_good R) w q f (rest st) (subst (λ (n : ℕ). Reach (top R) w (frame n q f ∷ []) (rest st)) e alone) (subst (λ (n : ℕ). next n q (rest st) ≡ close) e m) z, (frame s q f ∷ fs, c.reach))
+
+  pub note-right : (s : ℕ) (p : Spot) (x y : ℕ) (fs : List Frame) (st : State) → reports s p x y ≡ true → Fits R s p x y fs st → Blamed R (rest st)
+  unfolding reports has fires
+  note-right s lost x y fs st h g = inl g.stands.0
+  note-right s (spot q l d) x y fs st h g = on (next s q (rest st)) refl
+    where
+      c : Stands R s q l fs st
+      c = g.stands.0
+
+      -- the machine goes on at most with what no rule reads
+      class : (k : ℕ) → next s q (rest st) ≡ go k → within (first_class (rest st)) (unread k) ≡ true
+      class k m = elim (either (within (first_class (rest st)) (unread k))) [
+        | inl u ↦ u
+        | inr u ↦ false-true (misses-fires (entries k) (without x (unread k)) (behind y) _ _ (arcs-at (arcs s q) (λ k q'. misses k (without x (unread k)) (behind y)) k (and-l _ _ h) (move-has s q _ _ k m)) (holds-minus _ x (unread k) (fits-next g).near u) (fits-next g).far) (move-fires s q _ _ k m)
+      ]
+
+      on : (m : Move) → next s q (rest st) ≡ m → Blamed R (rest st)
+      on (go k) m = inr (record { symbol = s; state = q; children = c.children; above = fs; reached = c.place.reach; child = k; goes_on = m; class = class k m })
+      on stuck m = inl (fault (top R) (start_good R) w s q c.children fs (rest st) c.place.reach m, (frame s q c.children ∷ fs, c.place.reach))
+      on close m = elim (or-c _ _ (and-r _ _ h)) [
+        | inl e ↦ false-true (not-c _ e) (move-ends s q _ _ m)
+        | inr e ↦ inl (root-stuck c.place (and-l _ _ e) m (λ z. false-true (holds-disjoint 0 x 1 (and-r _ _ e) (subst (λ (a : ℕ). within a x ≡ true) z (fits-next g).near)) zero-one))
+      ]
+
+  -- ---- the limit
+
+  -- where the check lets a level be entered, each tree that goes on nests deeper
+  pub goes-deeper : {s q : ℕ} {l : Level} {f : Forest} {fs : List Frame} {st : State} (x : ℕ) (t : Tree) (v u : List Token) → deepens s q l x ≡ true → Place R s q l f fs st → Parse (top R) t u → within (first_class v) x ≡ true → Reach (top R) u (frame s q f ∷ fs) v → st.depth < nesting_all t
+  unfolding has fires
+  goes-deeper {s = s} {q = q} {l = l} {f = f} {fs = fs} {st = st} x t v u h c p hx r = elim (or-c _ _ (and-r _ _ h)) [
+    | inl i ↦ (
+        let a = left-depth gs v t (on-the-way (top R) (start_good R) t u gs v p r) in
+        let o = eqb-true _ _ i in
+        omega (arith, a, o, low_level, c.leveled.level))
+    | inr i ↦ on (next s q v) refl (eqb-true _ _ (and-l _ _ i)) (and-r _ _ i)
+  ]
+    where
+      gs : List Frame
+      gs = frame s q f ∷ fs
+
+      low_level : raised l ≡ 0
+      low_level = eqb-true _ _ (and-l _ _ h)
+
+      on : (m : Move) → next s q v ≡ m → own s ≡ 0 → counted s (arcs s q) x any and not (ends s q) ≡ true → st.depth < nesting_all t
+      on close m o i = false-true (not-c _ (and-r _ _ i)) (move-ends s q _ _ m)
+      on stuck m o i = absurd (never_stuck (top R) (start_good R) t u s q f fs v p r m)
+      on (go k) m o i = elim (or-c _ _ (arcs-at (arcs s q) (λ k q'. misses k x any or (eqb (count_in s k) 1 and not (is_leaf k))) k (and-l _ _ i) (move-has s q _ _ k m))) [
+        | inl z ↦ false-true (misses-fires (entries k) x any _ _ z hx (second-any v)) (move-fires s q _ _ k m)
+        | inr z ↦ (
+            let a = left-depth (frame k 0 none ∷ gs) v t (on-the-way (top R) (start_good R) t u (frame k 0 none ∷ gs) v p (open' r m (not-c _ (and-r _ _ z)))) in
+            let b = eqb-true _ _ (and-l _ _ z) in
+            omega (arith, a, b, o, low_level, c.leveled.level))
+      ]
+
+  pub too-many : (s : ℕ) (p : Spot) (x y : ℕ) (fs : List Frame) (st : State) → limits_at s p x ≡ true → Fits R s p x y fs st → TooMany sort answers lim w (rest st)
+  unfolding limits_at is_deep
+  too-many s lost x y fs st h g = false-true refl h
+  too-many s (spot q l loose) x y fs st h g = false-true refl (and-l _ _ h)
+  too-many s (spot q l firm) x y fs st h g = false-true refl (and-l _ _ h)
+  too-many s (spot q l full) x y fs st h g =
+      let k = g.stands.1.0 in
+      let c : Place R s q l g.stands.0.children fs st = g.stands.0.place in
+      record {
+        before = k.before;
+        split = k.split;
+        comes = (frame s q g.stands.0.children ∷ fs, c.reach);
+        deeper = λ t v p e.
+            let a = leb-true st.limit st.depth g.stands.1.1 in
+            let b = goes-deeper x t v (k.before ++ v) (and-r _ _ h) c p (subst (λ (n : ℕ). within n x ≡ true) e (fits-next g).near) (k.firm v e) in
+            omega (arith, a, b, c.leveled.bounds.limit);
+      }
+
+  -- ---- a token is taken
+
+  pub flushed : (st : State) → Still_calm R st → Follows → stack (add_all st.waiting st.tree) ≡ stack st.tree
+  flushed st c z = stack-flush st.waiting st.tree (c.quiet.waits z)
+
+  -- what a token leaves behind that becomes a leaf of the open node; `shape` gives the builder's open nodes from the node's children
+  pub record Grown (s q k y : ℕ) (l : Level) (f : Forest) (fs : List Frame) (shape : Forest → Stack) (v : State) : Type 0 where
+    pub first : Token
+    pub place : Place R s (target s q k) l (f +++ (leaf k first.1 ▸ none)) fs v
+    pub certain : Firm (top R) w (frame s (target s q k) (f +++ (leaf k first.1 ▸ none)) ∷ fs) (rest v)
+    pub calm : Still_calm R v
+    pub seen : Seen y any v
+    pub built : Follows → stack v.tree ≡ shape (shows (f +++ (leaf k first.1 ▸ none)))
+
+  -- What is built as `shape` says takes more trees in its innermost open node; where the machine reaches that, all trees of it fit.
+  pub record Shaped (s : ℕ) (fs : List Frame) (shape : Forest → Stack) : Type 0 where
+    pub joins : (f g : Forest) → put g (shape f) ≡ shape (f +++ g)
+    pub fits : (q : ℕ) (f : Forest) (r : List Token) → Reach (top R) w (frame s q f ∷ fs) r → Fitting (length (spent (frame s q f ∷ fs))) (shape (shows f))
+
+  pub token-taken : (kind : SyntaxKind) (s q k x y : ℕ) (l : Level) (d : Sure) (f : Forest) (fs : List Frame) (st : State) (shape : Forest → Stack) (then_at : Spot → Bool) → takes s (spot q l d) x y (number kind) k then_at ≡ true → Shaped s fs shape
+      → Place R s q l f fs st → (Follows → stack st.tree ≡ shape (shows f)) → Still_calm R st → Seen x y st → Tells R (bump kind st) ⊎ Grown s q k y l f fs shape (bump kind st)
+  unfolding bump takes flush
+  token-taken kind s q k x y l d f fs st shape then_at h sh c built calm seen = at st.current refl calm.now
+    where
+      u : Lexeme → State
+      u t = record (flush st) { tree = add_leaf kind t.text (flush st).tree }
+
+      took : (t : Lexeme) → st.current ≡ Some t → AtToken t st.items → EndsWell st.items → Tells R (moved kind st (Some t)) ⊎ Grown s q k y l f fs shape (moved kind st (Some t))
+      took t e a en =
+          let b : Token = (leaf_number t.kind, t.text) in
+          let gs : List Frame = frame s (target s q k) (f +++ (leaf k t.text ▸ none)) ∷ fs in
+          let split : rest st ≡ b ∷ answers_tokens st.items = ap (λ (o : Option Lexeme). current_tokens o ++ answers_tokens st.items) e ∙ a.first in
+          let leaf_next : is_leaf k ≡ true = and-r _ _ (and-l _ _ (and-l _ _ h)) in
+          let kinds = and-r _ _ (and-l _ _ h) in
+          let n = sees-next x y st calm.now seen in
+          let m : next s q (b ∷ answers_tokens st.items) ≡ go k = subst (λ (v : List Token). next s q v ≡ go k) split (goes-move s q x (behind y) k _ _ (and-l _ _ (and-r _ _ h)) n.near n.far) in
+          let here : Reach (top R) w (frame s q f ∷ fs) (b ∷ answers_tokens st.items) = subst (λ (v : List Token). Reach (top R) w (frame s q f ∷ fs) v) split c.reach in
+          let there : Reach (top R) w gs (answers_tokens st.items) = shift here m leaf_next in
+          let still : Untouched (u t) (read_on st.items (u t)) = read_untouched st.items (u t) in
+          let leafed : Follows → stack (u t).tree ≡ shape (shows (f +++ (leaf k t.text ▸ none))) = λ z. stack-leaf kind t.text (add_all st.waiting st.tree) (not-c _ (and-r _ _ kinds))
+          ∙ (ap₂ (λ (j : ℕ) (v : Stack). put (leaf j t.text ▸ none) v) (sym (eqb-true _ _ (and-l _ _ kinds))) (flushed st calm z ∙ built z) ∙ (sh.joins (shows f) (leaf (label k) t.text ▸ none) ∙ ap shape (sym (shows-snoc f (leaf k t.text))))) in
+          elim (read-on answers base Follows (Rightly R) (length (spent gs)) st.items (u t) (record { clean = calm.quiet.clean; accepts = calm.quiet.accepts; waits = λ z. refl }) en (passed-one answers (given t) st.items refl (subst (λ (o : Option Lexeme). Held answers o st.items) e calm.held))
+          (λ x ys p i z. let before : Reach (top R) w gs (answers_tokens ys) = subst (λ (v : List Token). Reach (top R) w gs v) (sym z) there in no_token p i (gs, before) (spent-behind R gs (answers_tokens ys) before)) (λ z. settled-at _ (u t).tree _ (leafed z) (sh.fits _ _ _ there))) [
+            | inl o ↦ inl o
+            | inr o ↦ inr (record {
+              first = b;
+              place = record { reach = rw o.left there; leveled = still-leveled R {st = st} {v = read_on st.items (u t)} (record { depth = still.depth; high = still.high; limit = still.limit }) (leveled-leaf R k (target s q k) t.text leaf_next c.leveled); alone = c.alone };
+              certain = rw o.left (firm-shift here m leaf_next);
+              calm = o.calm;
+              seen = record { near = rw (read-second st.items (u t)) seen.far; far = of-any _ (second-shown (read_on st.items (u t)).items) };
+              built = λ z. ap stack still.tree ∙ leafed z;
+            })
+          ]
+
+      at : (o : Option Lexeme) → st.current ≡ o → Now o st.items → Tells R (moved kind st o) ⊎ Grown s q k y l f fs shape (moved kind st o)
+      at None e n = absurd n
+      at (Some t) e n = elim (standing t st.items n) [
+        | inl z ↦ (
+            let i : within (class_of (Some t)) x ≡ true = subst (λ o. within (class_of o) x ≡ true) e seen.near in
+            let g : within 0 x ≡ true = subst (λ k. within (cond (is_end k) 0 (class (leaf_number k, t.text))) x ≡ true) z.kind i in
+            false-true (holds-disjoint 0 x 1 (and-l _ _ (and-l _ _ (and-l _ _ h))) g) zero-one)
+        | inr a ↦ took t e a (subst (λ (b : Bool). choose b (st.items ≡ []) (EndsWell st.items)) a.is_end n.1)
+      ]
+
+  pub bump-out : (s : ℕ) (p : Spot) (x y : ℕ) (kind : SyntaxKind) (fs : List Frame) (k : Then) (st : State) → takes s p x y (number kind) (leaf_of s (number kind)) (λ p'. k p' y any) ≡ true → Fits R s p x y fs st → Out R s fs k (bump kind st)
+  unfolding takes
+  bump-out s lost x y kind fs k st h g = false-true refl h
+  bump-out s (spot q l d) x y kind fs k st h g =
+      let j : ℕ = leaf_of s (number kind) in
+      let c : Stands R s q l fs st = g.stands.0 in
+      elim (token-taken kind s q j x y l d c.children fs st (λ f. lay s f (image fs)) (λ p'. k p' y any) h (record { joins = λ f g. sym (lay-put s f g (image fs)); fits = λ q f r o. fitting R (frame s q f ∷ fs) r o }) c.place c.built g.calm g.seen) [
+        | inl o ↦ inl o
+        | inr o ↦ inr (spot (target s q j) l firm, y, any, and-r _ _ (and-r _ _ h), record { calm = o.calm; seen = o.seen; stands = (record { children = c.children +++ (leaf j o.first.1 ▸ none); place = o.place; built = o.built }, o.certain) })
+      ]
+
+  -- ---- a node begins and ends
+
+  -- a node of the symbol `j` begins
+  pub begun : {s q x y : ℕ} {l : Level} {d : Sure} {fs : List Frame} {st v : State} (j : ℕ) (g : Fits R s (spot q l d) x y fs st) → is_leaf j ≡ false → eqb j DOCUMENT ≡ false → goes s q x (behind y) j ≡ true → levels s l j ≡ true → Alike st v
+      → (Follows → stack st.tree ≡ image (frame s q g.stands.0.children ∷ fs) → stack v.tree ≡ image (frame j 0 none ∷ frame s q g.stands.0.children ∷ fs)) → Fits R j (spot 0 low loose) x y (frame s q g.stands.0.children ∷ fs) v
+  begun j g i ro m h e b =
+      let c = g.stands.0 in
+      moved-on R g e.idle (
+        record {
+          children = none;
+          place = record { reach = rw (idle-rest e.idle) (open' c.place.reach (goes-on j g m) i); leveled = still-leveled R e.still (leveled-begin R j h c.place.leveled); alone = λ z. false-true ro z };
+          built = λ z. b z (c.built z);
+        },
+        tt,
+      )
+
+  -- a node is none of a leaf, a type and the document, and its symbol's kind is its own
+  pub node-is : (c : Node) → (is_leaf (symbol c) ≡ false) × (eqb (symbol c) TYPE ≡ false) × (eqb (symbol c) DOCUMENT ≡ false) × (label (symbol c) ≡ number (kind_of c))
+  unfolding follows_table is_node
+  node-is c = let h = and-l _ _ (node_passes c).table in let r = and-r _ _ h in (not-c _ (and-l _ _ h), not-c _ (and-l _ _ r), not-c _ (and-l _ _ (and-r _ _ r)), eqb-true _ _ (and-r _ _ (and-r _ _ r)))
+
+  pub begun-in : {s q x y : ℕ} {l : Level} {d : Sure} {fs : List Frame} {st : State} (c : Node) (g : Fits R s (spot q l d) x y fs st) → goes s q x (behind y) (symbol c) ≡ true → levels s l (symbol c) ≡ true → Fits R (symbol c) (spot 0 low loose) x y (frame s q g.stands.0.children ∷ fs) (opened (kind_of c) st)
+  unfolding opened flush
+  begun-in {s = s} {q = q} {fs = fs} {st = st} c g m h =
+      begun (symbol c) g (node-is c).0 (node-is c).2 m h (opened-alike (kind_of c) st)
+      (λ z e. ap₂ (λ (k : ℕ) (z : Stack). (k, none) ∷ z) (sym (node-is c).3) (flushed st g.calm z ∙ e) ∙ sym (image-open (symbol c) 0 (frame s q g.stands.0.children ∷ fs) (node-is c).1))
+
+  -- the machine ends a node
+  pub ended : {s q j p : ℕ} {l m : Level} {g : Forest} {fs : List Frame} {st u v : State} (c : Stands R s q l fs st) (d : Sure) (x : ℕ) → levels s l j ≡ true → ends_at j p m d x ≡ true → within (first_class (rest u)) x ≡ true → Known R d (frame j p g ∷ frame s q c.children ∷ fs) u
+      → Place R j p m g (frame s q c.children ∷ fs) u → Alike u v → (Follows → stack v.tree ≡ put (show (node j g) ▸ none) (image (frame s q c.children ∷ fs))) → StandsAt R s (spot (target s q j + exit j p) l firm) fs v
+  unfolding ends_at
+  ended {s = s} {q = q} {j = j} {p = p} {g = g} {fs = fs} {u = u} c d x h e n k i a b =
+      let r = and-l _ _ e in
+      let m : next j p (rest u) ≡ close = closes-move j p x any _ _ (and-r _ _ e) n (second-any (rest u)) in (
+        record {
+          children = c.children +++ (node j g ▸ none);
+          place = record {
+            reach = rw (idle-rest a.idle) (closes_node i.reach m);
+            leveled = still-leveled R a.still (leveled-end R (target s q j + exit j p) h (eqb-true _ _ (and-l _ _ (and-l _ _ r))) (eqb-true _ _ (and-r _ _ (and-l _ _ r))) c.place.leveled i.leveled);
+            alone = c.place.alone;
+          };
+          built = λ z. b z ∙ put-image s q (target s q j + exit j p) c.children (node j g) fs;
+        },
+        rw (idle-rest a.idle) (firm-close x (known-firm R d (frame j p g ∷ frame s q c.children ∷ fs) u (and-r _ _ r) k) (and-r _ _ e) n),
+      )
+
+  -- a node that is walked at its place ends
+  pub ended-here : {s q j p x y : ℕ} {l m : Level} {d : Sure} {fs : List Frame} {st u v : State} (c : Stands R s q l fs st) (k : Then) → levels s l j ≡ true → closing j (spot (target s q j) l firm) k (spot p m d) x y ≡ true → (g : Fits R j (spot p m d) x y (frame s q c.children ∷ fs) u)
+      → Alike u v → (Follows → stack v.tree ≡ put (show (node j g.stands.0.children) ▸ none) (image (frame s q c.children ∷ fs))) → Way R s fs k v
+  unfolding closing
+  ended-here {s = s} {q = q} {j = j} {p = p} {x = x} {y = y} {l = l} {d = d} c k h e g a b = (spot (target s q j + exit j p) l firm, x, y, and-r _ _ e, moved-on R g a.idle (ended c d x h (and-l _ _ e) (fits-next g).near g.stands.1 g.stands.0.place a b))
+
+  pub closed-built : {s q p : ℕ} {m : Level} {f : Forest} {fs : List Frame} {v : State} (c : Node) (i : Stands R (symbol c) p m (frame s q f ∷ fs) v) → Follows → stack (closed v).tree ≡ put (show (node (symbol c) i.children) ▸ none) (image (frame s q f ∷ fs))
+  unfolding closed
+  closed-built {s = s} {q = q} {p = p} {f = f} {fs = fs} {v = v} c i z =
+      let gs : List Frame = frame s q f ∷ fs in
+      stack-finish v.tree (label (symbol c), shows i.children) (image gs) (image-some gs) (i.built z ∙ image-node (symbol c) p i.children gs (node-is c).1) ∙ ap (λ (t : Tree). put (t ▸ none) (image gs)) (sym (show-node (symbol c) i.children (node-is c).1))
+
+  pub tell-closed : (u : State) → Tells R u → Tells R (closed u)
+  tell-closed u o = tell-on R u (closed u) (idle-grows (closed-alike u).idle) o
+
+  pub lost-closed : {s s' x y : ℕ} {fs fs' : List Frame} {u : State} → Fits R s lost x y fs u → Fits R s' lost x y fs' (closed u)
+  lost-closed {u = u} g = moved-on R g (closed-alike u).idle (idle-lost R (closed-alike u).idle g.stands)
+
+  pub with-sets : {s x y u v : ℕ} {p : Spot} {fs : List Frame} {st : State} → Fits R s p x y fs st → Seen u v st → Fits R s p u v fs st
+  with-sets g i = record { calm = g.calm; seen = i; stands = g.stands }
+
+  -- whatever follows the next token
+  pub far-any : {x y : ℕ} {st : State} (u : ℕ) → subset x u ≡ true → Seen x y st → Seen u any st
+  far-any {x = x} {st = st} u h i = record { near = holds-subset _ x u h i.near; far = of-any (second st.items) (second-shown st.items) }
+
+  -- the end of the text breaks a node off
+  pub broken-off : {s s' x y : ℕ} {fs fs' : List Frame} {v : State} (c : Node) (k : Then) → loses c ≡ true → subset x over ≡ true → not (loses c) or k lost over any ≡ true → Fits R s' lost x y fs' v → Out R s fs k (closed v)
+  broken-off c k a a' b g = inr (lost, over, any, implies _ _ b a, lost-closed (with-sets g (far-any over a' g.seen)))
+
+  pub node-out : {s q : ℕ} {l : Level} {fs : List Frame} {st : State} (c : Node) (k : Then) (u : State) (c0 : Stands R s q l fs st) → levels s l (symbol c) ≡ true → after (spot (target s q (symbol c)) l firm) c k ≡ true → Out R (symbol c) (frame s q c0.children ∷ fs) (ends_well c) u → Out R s fs k (closed u)
+  unfolding ends_well leaves_well
+  node-out c k u c0 h a (inl o) = inl (tell-closed u o)
+  node-out c k u c0 h a (inr (lost, x, y, e, g)) = broken-off c k (and-l _ _ e) (and-r _ _ e) (and-r _ _ a) g
+  node-out {s = s} {q = q} {l = l} {fs = fs} c k u c0 h a (inr (spot p m d, x, y, e, g)) = elim (or-c _ _ e) [
+    | inl z ↦ elim (or-c _ _ (and-r _ _ z)) [
+      | inl i ↦ inr (spot (target s q (symbol c) + 0) l firm, any, any, and-l _ _ (and-l _ _ a), leaves (and-l _ _ z) 0 (eqb-true _ _ i) any (seen-any u (shown R u g.calm)))
+      | inr i ↦ inr (spot (target s q (symbol c) + 1) l firm, no_brace, any, implies _ _ (and-r _ _ (and-l _ _ a)) (and-l _ _ i), leaves (and-l _ _ z) 1 (eqb-true _ _ (and-l _ _ (and-r _ _ i))) no_brace (far-any no_brace (and-r _ _ (and-r _ _ i)) g.seen))
+    ]
+    | inr z ↦ broken-off {s' = symbol c} {fs' = frame s q c0.children ∷ fs} c k (and-l _ _ z) (and-l _ _ (and-r _ _ z)) (and-r _ _ a) (record { calm = g.calm; seen = g.seen; stands = lost-at g (and-r _ _ (and-r _ _ z)) })
+  ]
+    where
+      -- what the node leaves behind
+      leaves : ends_at (symbol c) p m d x ≡ true → (n : ℕ) → exit (symbol c) p ≡ n → (v : ℕ) → Seen v any u → Fits R s (spot (target s q (symbol c) + n) l firm) v any fs (closed u)
+      leaves z n e v i = subst (λ (n : ℕ). Fits R s (spot (target s q (symbol c) + n) l firm) v any fs (closed u)) e
+          (moved-on R (with-sets g i) (closed-alike u).idle (ended c0 d x h z (fits-next g).near g.stands.1 g.stands.0.place (closed-alike u) (closed-built c g.stands.0)))
+
+  pub walked-out : {s q : ℕ} {l : Level} {fs : List Frame} {st : State} (c : Node) (k : Then) (u : State) (c0 : Stands R s q l fs st) → levels s l (symbol c) ≡ true → Out R (symbol c) (frame s q c0.children ∷ fs) (closing (symbol c) (spot (target s q (symbol c)) l firm) k) u → Out R s fs k (closed u)
+  unfolding closing
+  walked-out c k u c0 h (inl o) = inl (tell-closed u o)
+  walked-out c k u c0 h (inr (lost, x, y, e, g)) = false-true refl e
+  walked-out c k u c0 h (inr (spot p m d, x, y, e, g)) = inr (ended-here c0 k h e g (closed-alike u) (closed-built c g.stands.0))
+
+  -- a node that begins where the machine is stuck
+  pub lost-out : {s : ℕ} {fs : List Frame} (k : Then) (u : State) → Out R s fs (losing k) u → Out R s fs k (closed u)
+  lost-out k u (inl o) = inl (tell-closed u o)
+  lost-out k u (inr (spot q l d, x, y, e, g)) = false-true refl (and-l _ _ e)
+  lost-out k u (inr (lost, x, y, e, g)) = inr (lost, x, y, and-r _ _ e, lost-closed g)

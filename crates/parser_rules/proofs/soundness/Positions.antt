@@ -1,0 +1,334 @@
+-- Where a rule is: the open nodes of the machine and of the builder, the levels, and what is known; and which reports are right there.
+use Rattle.std.proofs.Common.{◌≡◌, ℕ, suc, ◌+◌, ◌-◌, ◌≤◌, ◌<◌, max, Bool, true, false, cond, eqb, if◌then◌else◌, List, [], ◌∷◌, ◌++◌, length, Option, Some, None, refl, sym, ap, ap₂, ◌∙◌, subst, ◌⊎◌, inl, inr, eqb-true, arith}
+use Rattle.std.specs.Prelude.{⊤}
+use Rattle.lexical_grammar.specs.Answers.{Answer}
+use Rattle.document_grammar.specs.declared.kind.SyntaxKind.{SyntaxKind}
+use Rattle.document_grammar.specs.declared.kind.SyntaxKind.TheVariants as kind
+use Rattle.document_grammar.specs.Kinds.{DOCUMENT, SELECTION_SET, LIST_TYPE}
+use Rattle.document_grammar.specs.Builds.{Building, add_leaf, built_count}
+use Rattle.document_grammar.specs.Tree.{Text, Token, Tree, leaf, node, Forest, none, ◌▸◌, ◌+++◌}
+use Rattle.document_grammar.specs.Booleans.{◌or◌}
+use Rattle.grammar_machine.specs.Machine.{is_leaf, first as first_class, Frame, frame, Reach}
+use Rattle.document_grammar.proofs.Booleans.{false-true, and-l, and-r}
+use Rattle.grammar_machine.proofs.Depth.{depth_above, nesting_all, peak, peak-open, peak-close, peak-shift}
+use Rattle.grammar_machine.proofs.Sound.{spent, reach-sound, reach-spent}
+use Rattle.grammar_machine.proofs.MachineTheorems.{Parse, begins_parse, no-leaf as start-no-leaf}
+use Rattle.grammar_machine.proofs.Starts.{opens}
+use Rattle.grammar_machine.proofs.OneTokenLookahead.{Firm}
+use Rattle.document_grammar.specs.Derivation.{Sort}
+use Rattle.grammar_machine.proofs.SentenceTheorems.{start_symbol}
+use Rattle.std.proofs.lemmas.List.{length-append}
+use Rattle.parser_rules.specs.declared.message.Message.{Message}
+use Rattle.parser_rules.specs.State.{State, Part, Lexeme, Report, fault_report, recursion_limit_report, noted, note, flush, opened, closed, wrapped_from, is_deep, enter, leave, deepened, limited_at, too_deep, read_on}
+use Rattle.parser_rules.specs.RuleLanguage.{Prim, Rule}
+use Rattle.parser_rules.specs.Runs.{Runs}
+use Rattle.parser_rules.proofs.runs.Steps.{Holds_along, along}
+use Rattle.parser_rules.proofs.soundness.WithoutIgnored.{all_ignored, stack}
+use Rattle.parser_rules.proofs.reports.NoReport.{Now, rest, answers_tokens, current_tokens, Grows, same-errors, grows-on, read-grows, Stays, Held, Told, told-on, Quiet, Calm}
+use Rattle.parser_rules.proofs.soundness.FirstReport.{Stuck, Unread, TooMany, Behind, Right, stuck_here, unread_here, deep_here}
+use Rattle.parser_rules.proofs.lookahead.Split.{Level, low, high, past, Sure, loose, firm, full, Spot, spot, lost, fill}
+use Rattle.parser_rules.proofs.lookahead.TokenSets.{Shown, Seen, seen-same}
+use Rattle.parser_rules.proofs.soundness.MachineStack.{image}
+use Rattle.parser_rules.proofs.soundness.Settled.{Settled, Fitting, fitting-image, settled-at, settled-leaf, settled-parts, settled-start, settled-finish, settled-wrap}
+use Rattle.parser_rules.proofs.soundness.TableCheck.{Then, raised, own, owed, is_firm, weak, levels}
+
+-- ---- levels, on plain numbers
+
+own-le : (s : ℕ) → own s ≤ 1
+unfolding own
+own-le s = elim (eqb s SELECTION_SET or eqb s LIST_TYPE) as (λ b. cond b 1 0 ≤ 1) [ true ↦ omega arith | false ↦ omega arith ]
+
+owed-le : (s : ℕ) (l : Level) → owed s l ≤ 1
+owed-le s low = own-le s
+owed-le s high = omega arith
+owed-le s past = omega arith
+
+-- ---- steps that read nothing
+
+-- The same tokens are left, the reports are the same, what waits is still ignored, and what was settled of the tree still is.
+pub record Idle (st v : State) : Type 0 where
+  pub current : v.current ≡ st.current
+  pub items : v.items ≡ st.items
+  pub errors : v.errors ≡ st.errors
+  pub accepts : v.accepts ≡ st.accepts
+  pub waits : all_ignored st.waiting ≡ true → all_ignored v.waiting ≡ true
+  pub stays : Stays st v
+
+-- nothing of the nesting is touched
+pub record Still (st v : State) : Type 0 where
+  pub depth : v.depth ≡ st.depth
+  pub high : v.high ≡ st.high
+  pub limit : v.limit ≡ st.limit
+
+pub record Alike (st v : State) : Type 0 where
+  pub idle : Idle st v
+  pub still : Still st v
+
+-- what waits and the tree are all that changes
+pub rebuilt : (st : State) (parts : List Part) (b : Building) → (all_ignored st.waiting ≡ true → all_ignored parts ≡ true) → ((m : ℕ) → Settled m st.tree → Settled m b) → Alike st (record st { waiting = parts; tree = b })
+rebuilt st parts b w f = record { idle = record { current = refl; items = refl; errors = refl; accepts = refl; waits = w; stays = f }; still = record { depth = refl; high = refl; limit = refl } }
+
+pub same-alike : (st : State) → Alike st st
+same-alike st = rebuilt st st.waiting st.tree (λ z. z) (λ m z. z)
+
+pub flush-alike : (st : State) → Alike st (flush st)
+unfolding flush
+flush-alike st = rebuilt st [] _ (λ z. refl) (λ m z. settled-parts m st.waiting st.tree z)
+
+pub opened-alike : (k : SyntaxKind) (st : State) → Alike st (opened k st)
+unfolding opened flush
+opened-alike k st = rebuilt st [] _ (λ z. refl) (λ m z. settled-start m k _ (settled-parts m st.waiting st.tree z))
+
+pub closed-alike : (st : State) → Alike st (closed st)
+unfolding closed
+closed-alike st = rebuilt st st.waiting _ (λ z. z) (λ m z. settled-finish m st.tree z)
+
+pub wrapped-alike : (place : ℕ) (st : State) → Alike st (wrapped_from place kind.NON_NULL_TYPE st)
+unfolding wrapped_from
+wrapped-alike place st = rebuilt st st.waiting _ (λ z. z) (λ m z. settled-wrap m place kind.NON_NULL_TYPE st.tree z)
+
+-- the depth and the greatest depth are all that changes
+pub renested : (st : State) (d h : ℕ) → Idle st (record st { depth = d; high = h })
+renested st d h = record { current = refl; items = refl; errors = refl; accepts = refl; waits = λ z. z; stays = λ m z. z }
+
+pub left-idle : {u v : State} → v ≡ leave u → Idle u v
+unfolding leave
+left-idle {u = u} e = subst (λ (z : State). Idle u z) (sym e) (renested u (u.depth - 1) u.high)
+
+pub idle-rest : {st v : State} → Idle st v → rest v ≡ rest st
+idle-rest e = ap₂ (λ (o : Option Lexeme) (xs : List Answer). current_tokens o ++ answers_tokens xs) e.current e.items
+
+pub idle-seen : {x y : ℕ} {st v : State} → Idle st v → Seen x y st → Seen x y v
+idle-seen {x = x} {y = y} {st = st} {v = v} e h = seen-same x y st v e.current e.items h
+
+pub idle-grows : {st v : State} → Idle st v → Grows st v
+idle-grows {st = st} {v = v} e = same-errors st v e.errors e.stays
+
+-- ---- reports stay
+
+pub moved-grows : (k : SyntaxKind) (x : Lexeme) (s : State) → Grows s (read_on s.items (record s { tree = add_leaf k x.text s.tree }))
+moved-grows k x s = grows-on s _ _ (idle-grows (rebuilt s s.waiting (add_leaf k x.text s.tree) (λ z. z) (λ m z. settled-leaf m k x.text s.tree z)).idle) (read-grows s.items (record s { tree = add_leaf k x.text s.tree }))
+
+pub grows-along : Holds_along Grows
+unfolding enter leave closed wrapped_from
+grows-along = record {
+  same = λ s. idle-grows (same-alike s).idle;
+  next = grows-on;
+  flushes = λ s. idle-grows (flush-alike s).idle;
+  moves = λ k x s e w. moved-grows k x s;
+  reports = λ m x s c a. record { more = fault_report m x ∷ []; errors = refl; stays = λ m z. z };
+  limits = λ x s c a d. record { more = recursion_limit_report x ∷ []; errors = refl; stays = λ m z. z };
+  asks = λ s. idle-grows (renested s s.depth _);
+  nodes = λ k s u g. record { more = g.more; errors = g.errors; stays = λ m z. settled-finish m u.tree (g.stays m (settled-start m k s.tree z)) };
+  levels = λ s u d g. record { more = g.more; errors = g.errors; stays = g.stays };
+  wraps = λ k t u w g h. let i = grows-on t u w g (record { more = h.more; errors = h.errors; stays = λ m z. h.stays m (settled-wrap m (built_count t.tree) k u.tree z) }) in
+      record { more = i.more; errors = i.errors; stays = λ m z. settled-finish m w.tree (i.stays m z) };
+}
+
+pub run-grows : {r : Rule} {s t : State} → Runs r s t → Grows s t
+run-grows h = along grows-along h
+
+-- ---- the link
+
+-- What is read: the sort of what is parsed, its answers and tokens, the recursion limit, and the reports before. `follows` says whether what
+-- waits and what is built is followed.
+pub record Reading : Type 1 where
+  pub sort : Sort
+  pub answers : List Answer
+  pub base : List Report
+  pub follows : Type 0
+  pub limit : ℕ
+  pub words : List Token
+
+module _ (R : Reading) where
+  open R use {sort, answers, base, follows as Follows, limit as lim, words as w}
+
+  -- the start symbol
+  abbrev pub top : ℕ
+  top = start_symbol sort w
+
+  -- The greatest depth is within the limit, and each tree of all the tokens nests as deep.
+  pub record Bounded (most bound : ℕ) : Type 0 where
+    pub kept : Follows → most ≤ lim
+    pub nested : Follows → (t : Tree) → Parse top t w → most ≤ nesting_all t
+    pub limit : bound ≡ lim
+
+  -- The depth agrees with the open nodes; the greatest depth covers what they nest.
+  pub record Leveled (s q : ℕ) (l : Level) (f : Forest) (fs : List Frame) (depth most bound : ℕ) : Type 0 where
+    pub level : depth + own s ≡ depth_above fs s + raised l
+    pub entered : raised l ≤ depth
+    pub most_open : peak (frame s q f ∷ fs) ≤ max most (depth + owed s l)
+    pub above : depth ≤ most
+    pub bounds : Bounded most bound
+
+  -- The machine reaches the open nodes before the tokens that are left.
+  pub record Place (s q : ℕ) (l : Level) (f : Forest) (fs : List Frame) (st : State) : Type 0 where
+    pub reach : Reach top w (frame s q f ∷ fs) (rest st)
+    pub leveled : Leveled s q l f fs st.depth st.high st.limit
+    pub alone : eqb s DOCUMENT ≡ true → fs ≡ []
+
+  -- The builder has the same nodes.
+  pub record Stands (s q : ℕ) (l : Level) (fs : List Frame) (st : State) : Type 0 where
+    pub children : Forest
+    pub place : Place s q l children fs st
+    pub built : Follows → stack st.tree ≡ image (frame s q children ∷ fs)
+
+  -- So many tokens are taken, and the nodes that ended before the last of them fit.
+  pub record Taken (r : List Token) (b : Building) : Type 0 where
+    pub count : ℕ
+    pub behind : Behind sort answers lim w count r
+    pub settled : Follows → Settled count b
+
+  -- The machine is stuck here, which is not yet reported.
+  abbrev pub Lost : State → Type 0
+  Lost st = Stuck sort answers lim w (rest st) × Taken (rest st) st.tree
+
+  abbrev pub Known : Sure → List Frame → State → Type 0
+  Known loose fs st = ⊤
+  Known firm fs st = Firm top w fs (rest st)
+  Known full fs st = Firm top w fs (rest st) × (is_deep st ≡ true)
+
+  abbrev pub StandsAt : ℕ → Spot → List Frame → State → Type 0
+  StandsAt s (spot q l d) fs st = (c : Stands s q l fs st) × Known d (frame s q c.children ∷ fs) st
+  StandsAt s lost fs st = Lost st
+
+  abbrev pub Rightly : Report → ℕ → Type 0
+  Rightly = Right sort answers lim w
+
+  abbrev pub Still_calm : State → Type 0
+  Still_calm st = Calm answers base Follows Rightly st
+
+  abbrev pub Tells : State → Type 0
+  Tells st = Told answers base Follows Rightly st
+
+  pub record Fits (s : ℕ) (p : Spot) (x y : ℕ) (fs : List Frame) (st : State) : Type 0 where
+    pub calm : Still_calm st
+    pub seen : Seen x y st
+    pub stands : StandsAt s p fs st
+
+  abbrev pub Way : ℕ → List Frame → Then → State → Type 0
+  Way s fs k t = (p : Spot) × (u : ℕ) × (v : ℕ) × (k p u v ≡ true) × Fits s p u v fs t
+
+  abbrev pub Out : ℕ → List Frame → Then → State → Type 0
+  Out s fs k t = Tells t ⊎ Way s fs k t
+
+  pub tell-on : (s t : State) → Grows s t → Tells s → Tells t
+  tell-on s t g h = told-on answers base Follows Rightly s t g h
+
+  pub fills : (s : ℕ) (fs : List Frame) (st : State) (p : Spot) → is_deep st ≡ true → StandsAt s p fs st → StandsAt s (fill p) fs st
+  fills s fs st (spot q l loose) e g = g
+  fills s fs st (spot q l firm) e g = (g.0, (g.1, e))
+  fills s fs st (spot q l full) e g = g
+  fills s fs st lost e g = g
+
+  pub known-firm : (d : Sure) (fs : List Frame) (st : State) → is_firm d ≡ true → Known d fs st → Firm top w fs (rest st)
+  known-firm loose fs st h k = false-true refl h
+  known-firm firm fs st h k = k
+  known-firm full fs st h k = k.0
+
+  pub known-weak : (d : Sure) (fs : List Frame) (st v : State) → rest v ≡ rest st → Known d fs st → Known (weak d) fs v
+  known-weak loose fs st v e k = tt
+  known-weak firm fs st v e k = rw e k
+  known-weak full fs st v e k = rw e k.0
+
+  abbrev pub start_good : begins_parse top ≡ true
+  start_good = opens sort (first_class w)
+
+  pub idle-calm : {st v : State} → Idle st v → Still_calm st → Still_calm v
+  idle-calm e c = record {
+    quiet = record { clean = e.errors ∙ c.quiet.clean; accepts = e.accepts ∙ c.quiet.accepts; waits = λ z. e.waits (c.quiet.waits z) };
+    now = rw (e.current, e.items) c.now;
+    held = rw (e.current, e.items) c.held;
+  }
+
+  pub shown : (st : State) → Still_calm st → Shown st.current
+  shown st c = at st.current c.now
+    where
+      at : (o : Option Lexeme) → Now o st.items → Shown o
+      at None n = absurd n
+      at (Some t) n = n.0
+
+  -- ---- reports
+
+  pub fault-told : (m : ℕ) (r : Report) (st : State) → Quiet answers base Follows Rightly st → Rightly r m → (Follows → Settled m st.tree) → Tells (if st.accepts then record st { errors = st.errors ++ r ∷ [] } else st)
+  fault-told m r st q i f = subst (λ (b : Bool). Tells (if b then record st { errors = st.errors ++ r ∷ [] } else st)) (sym q.accepts) (record { report = r; more = []; reported = ap (λ (z : List Report). z ++ r ∷ []) q.clean; taken = m; right = i; settled = f })
+
+  abbrev pub Blamed : List Token → Type 0
+  Blamed r = Stuck sort answers lim w r ⊎ Unread sort answers lim w r
+
+  pub note-told : (m : Message) (st : State) → Still_calm st → Blamed (rest st) → Taken (rest st) st.tree → Tells (note m st)
+  unfolding note
+  note-told m st c b k = at st.current c.now c.held b k.behind
+    where
+      at : (o : Option Lexeme) → Now o st.items → Held answers o st.items → Blamed (current_tokens o ++ answers_tokens st.items) → Behind sort answers lim w k.count (current_tokens o ++ answers_tokens st.items) → Tells (noted m st o)
+      at None n h b e = absurd n
+      at (Some t) n h (inl a) e = fault-told k.count (fault_report m t) st c.quiet (stuck_here m n h a e) k.settled
+      at (Some t) n h (inr a) e = fault-told k.count (fault_report m t) st c.quiet (unread_here m n h a e) k.settled
+
+  pub deep-told : (st : State) → Still_calm st → TooMany sort answers lim w (rest st) → Taken (rest st) st.tree → Tells (too_deep st)
+  unfolding too_deep
+  deep-told st c b k = at st.current c.now c.held b k.behind
+    where
+      at : (o : Option Lexeme) → Now o st.items → Held answers o st.items → TooMany sort answers lim w (current_tokens o ++ answers_tokens st.items) → Behind sort answers lim w k.count (current_tokens o ++ answers_tokens st.items) → Tells (limited_at (deepened st) o)
+      at None n h b e = absurd n
+      at (Some t) n h b e = tell-on _ _ (same-errors _ _ refl (λ m z. z)) (fault-told k.count (recursion_limit_report t) (deepened st) (idle-calm (renested st st.depth _) c).quiet (deep_here n h b e) k.settled)
+
+  -- ---- what is taken
+
+  pub spent-behind : (fs : List Frame) (r : List Token) → Reach top w fs r → Behind sort answers lim w (length (spent fs)) r
+  spent-behind fs r c = sym (ap length (reach-spent c) ∙ length-append (spent fs) r)
+
+  pub fitting : (fs : List Frame) (r : List Token) → Reach top w fs r → Fitting (length (spent fs)) (image fs)
+  fitting fs r c = fitting-image top fs (reach-sound (start-no-leaf top start_good) c)
+
+  pub stands-taken : {s q : ℕ} {l : Level} {fs : List Frame} {st : State} → Stands s q l fs st → Taken (rest st) st.tree
+  stands-taken {s = s} {q = q} {fs = fs} {st = st} c =
+      let gs : List Frame = frame s q c.children ∷ fs in
+      record { count = length (spent gs); behind = spent-behind gs (rest st) c.place.reach; settled = λ z. settled-at (length (spent gs)) st.tree (image gs) (c.built z) (fitting gs (rest st) c.place.reach) }
+
+  pub taken-at : (s : ℕ) (p : Spot) (fs : List Frame) (st : State) → StandsAt s p fs st → Taken (rest st) st.tree
+  taken-at s (spot q l d) fs st g = stands-taken g.0
+  taken-at s lost fs st g = g.1
+
+  pub idle-lost : {st v : State} → Idle st v → Lost st → Lost v
+  idle-lost {v = v} e h = rw (idle-rest e) (h.0, record { count = h.1.count; behind = h.1.behind; settled = λ z. e.stays h.1.count (h.1.settled z) })
+
+  -- ---- levels
+
+  pub leveled-enter : {s q : ℕ} {l : Level} {f : Forest} {fs : List Frame} {d h m : ℕ} → raised l ≡ 0 → suc d ≤ m → ((t : Tree) → Parse top t w → d < nesting_all t) → Leveled s q l f fs d h m → Leveled s q high f fs (d + 1) (max h (d + 1)) m
+  leveled-enter {s = s} {l = l} r b n v = record {
+    level = omega (arith, r);
+    entered = omega arith;
+    most_open = let o = owed-le s l in omega (arith, o);
+    above = omega arith;
+    bounds = record { kept = λ z. omega (arith, v.bounds.kept z); nested = λ z t p. omega (arith, v.bounds.nested z t p, n t p); limit = v.bounds.limit };
+  }
+
+  pub leveled-leave : {s q : ℕ} {f : Forest} {fs : List Frame} {d h m : ℕ} → Leveled s q high f fs d h m → Leveled s q past f fs (d - 1) h m
+  leveled-leave v = record { level = omega arith; entered = omega arith; most_open = omega arith; above = omega arith; bounds = v.bounds }
+
+  pub leveled-leaf : {s q : ℕ} {l : Level} {f : Forest} {fs : List Frame} {d h m : ℕ} (k p : ℕ) (x : Text) → is_leaf k ≡ true → Leveled s q l f fs d h m → Leveled s p l (f +++ (leaf k x ▸ none)) fs d h m
+  leveled-leaf {s = s} {q = q} {f = f} {fs = fs} k p x i v = record { level = v.level; entered = v.entered; most_open = omega (arith, peak-shift s q p k x f fs i); above = v.above; bounds = v.bounds }
+
+  pub leveled-begin : {s q : ℕ} {l : Level} {f : Forest} {fs : List Frame} {d h m : ℕ} (j : ℕ) → levels s l j ≡ true → Leveled s q l f fs d h m → Leveled j 0 low none (frame s q f ∷ fs) d h m
+  unfolding levels
+  leveled-begin {s = s} {q = q} {f = f} {fs = fs} j e v =
+      let a = eqb-true _ _ (and-l _ _ e) in
+      let b = eqb-true _ _ (and-r _ _ e) in
+      record { level = omega (arith, a); entered = omega arith; most_open = omega (arith, a, b, peak-open s q j f fs); above = v.above; bounds = v.bounds }
+
+  pub leveled-end : {s q j p : ℕ} {l m : Level} {f g : Forest} {fs : List Frame} {d h n d' h' n' : ℕ} (o : ℕ) → levels s l j ≡ true → raised m ≡ 0 → owed j m ≡ 0 → Leveled s q l f fs d h n → Leveled j p m g (frame s q f ∷ fs) d' h' n' → Leveled s o l (f +++ (node j g ▸ none)) fs d' h' n'
+  unfolding levels
+  leveled-end {s = s} {q = q} {j = j} {p = p} {f = f} {g = g} {fs = fs} o e r u v v' =
+      let a = eqb-true _ _ (and-l _ _ e) in
+      record { level = omega (arith, a); entered = omega (arith, a); most_open = omega (arith, a, peak-close s q o j p f g fs); above = v'.above; bounds = v'.bounds }
+
+  pub still-leveled : {s q : ℕ} {l : Level} {f : Forest} {fs : List Frame} {st v : State} → Still st v → Leveled s q l f fs st.depth st.high st.limit → Leveled s q l f fs v.depth v.high v.limit
+  still-leveled e h = rw (e.depth, e.high, e.limit) h
+
+  pub place-alike : {s q : ℕ} {l : Level} {f : Forest} {fs : List Frame} {st v : State} → Place s q l f fs st → Alike st v → Place s q l f fs v
+  place-alike c e = record { reach = rw (idle-rest e.idle) c.reach; leveled = still-leveled e.still c.leveled; alone = c.alone }
+
+  -- the rule goes on elsewhere
+  pub moved-on : {s s' x y : ℕ} {p p' : Spot} {fs fs' : List Frame} {st v : State} → Fits s p x y fs st → Idle st v → StandsAt s' p' fs' v → Fits s' p' x y fs' v
+  moved-on g e c = record { calm = idle-calm e g.calm; seen = idle-seen e g.seen; stands = c }
