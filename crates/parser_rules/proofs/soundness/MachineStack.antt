@@ -15,7 +15,7 @@ use Rattle.grammar_machine.proofs.Checks.{exits, row_of}
 use Rattle.grammar_machine.proofs.Patterns.{label}
 use Rattle.grammar_machine.proofs.FromMachineTree.{show, shows, type_of}
 use Rattle.document_grammar.proofs.Added.{wrap_added}
-use Rattle.parser_rules.proofs.soundness.WithoutIgnored.{IsLayered, Stack, stack, layers, layers-join, strip, put, put-none}
+use Rattle.parser_rules.proofs.soundness.WithoutIgnored.{IsLayered, Stack, stack, layers, layers-join, strip, put}
 
 -- ---- lists of trees
 
@@ -59,14 +59,7 @@ image-some (frame s q f ∷ fs) = elim (either (eqb s TYPE)) [ inl p ↦ rw p (p
 pub put-image : (s q p : ℕ) (f : Forest) (t : Tree) (fs : List Frame) → put (show t ▸ none) (image (frame s q f ∷ fs)) ≡ image (frame s p (f +++ (t ▸ none)) ∷ fs)
 put-image s q p f t fs = sym (ap (λ (z : Forest). lay s z (image fs)) (shows-snoc f t) ∙ lay-put s (shows f) (show t ▸ none) (image fs))
 
--- a node that opens
-pub image-open : (j q : ℕ) (fs : List Frame) → eqb j TYPE ≡ false → image (frame j q none ∷ fs) ≡ (label j, none) ∷ image fs
-image-open j q fs e = rw e refl
-
-pub image-type : (q : ℕ) (fs : List Frame) → image (frame TYPE q none ∷ fs) ≡ image fs
-image-type q fs = put-none (image fs)
-
--- a node that ends
+-- a node that is no type
 pub image-node : (j q : ℕ) (g : Forest) (fs : List Frame) → eqb j TYPE ≡ false → image (frame j q g ∷ fs) ≡ (label j, shows g) ∷ image fs
 image-node j q g fs e = rw e refl
 

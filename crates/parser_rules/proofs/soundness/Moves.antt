@@ -28,15 +28,14 @@ use Rattle.parser_rules.proofs.runs.Frame.{Untouched, read_untouched}
 use Rattle.parser_rules.proofs.soundness.WithoutIgnored.{Stack, stack, put, stack-leaf, stack-finish, stack-flush}
 use Rattle.parser_rules.proofs.reports.NoReport.{Now, choose, EndsWell, rest, answers_tokens, current_tokens, AtToken, standing, given, passed-one, Held, read-on}
 use Rattle.parser_rules.proofs.soundness.FirstReport.{Stuck, TooMany, no_token}
-use Rattle.parser_rules.proofs.lookahead.MachineClasses.{Next, sees-next}
+use Rattle.parser_rules.proofs.lookahead.MachineClasses.{Next, sees-next, zero-one}
 use Rattle.parser_rules.proofs.lookahead.Split.{Level, low, Sure, loose, firm, full, Spot, spot, lost}
 use Rattle.parser_rules.proofs.lookahead.TokenSets.{class_of, second-shown, read-second, of-any, over, Seen, seen-any, holds-minus}
 use Rattle.parser_rules.proofs.lookahead.FirstSets.{without, unread}
-use Rattle.parser_rules.proofs.soundness.MachineStack.{image, image-some, shows-snoc, put-image, image-open, image-node, show-node, lay, lay-put}
+use Rattle.parser_rules.proofs.soundness.MachineStack.{image, image-some, shows-snoc, put-image, image-node, show-node, lay, lay-put}
 use Rattle.parser_rules.proofs.soundness.Settled.{Fitting, settled-at}
 use Rattle.parser_rules.proofs.soundness.TableCheck.{Then, behind, raised, own, levels, leaf_of, loses, takes, ends_at, after, closing, losing, counted, limits_at, reports, is_node, ends_well, follows_table, no_brace, leaves_well, deepens}
 use Rattle.parser_rules.proofs.NodeChecks.{node_passes}
-use Rattle.parser_rules.proofs.lookahead.MachineClasses.{zero-one}
 use Rattle.parser_rules.proofs.soundness.Positions.{Reading, Alike, opened-alike, closed-alike, idle-rest, idle-grows, top, Place, Stands, Lost, Known, StandsAt, Rightly, Still_calm, Tells, Fits, Way, Out, tell-on, known-firm, start_good, shown, Blamed, spent-behind, fitting, stands-taken, idle-lost, leveled-leaf, leveled-begin, leveled-end, still-leveled, moved-on}
 
 module _ (R : Reading) where
@@ -180,7 +179,7 @@ module _ (R : Reading) where
             | inl o ↦ inl o
             | inr o ↦ inr (record {
               first = b;
-              place = record { reach = rw o.left there; leveled = still-leveled R {st = st} {v = read_on st.items (u t)} (record { depth = still.depth; high = still.high; limit = still.limit }) (leveled-leaf R k (target s q k) t.text leaf_next c.leveled); alone = c.alone };
+              place = record { reach = rw o.left there; leveled = rw (still.depth, still.high, still.limit) (leveled-leaf R k (target s q k) t.text leaf_next c.leveled); alone = c.alone };
               certain = rw o.left (firm-shift here m leaf_next);
               calm = o.calm;
               seen = record { near = rw (read-second st.items (u t)) seen.far; far = of-any _ (second-shown (read_on st.items (u t)).items) };
@@ -219,7 +218,7 @@ module _ (R : Reading) where
       moved-on R g e.idle (
         record {
           children = none;
-          place = record { reach = rw (idle-rest e.idle) (open' c.place.reach (goes-on j g m) i); leveled = still-leveled R e.still (leveled-begin R j h c.place.leveled); alone = λ z. false-true ro z };
+          place = record { reach = rw (idle-rest e.idle) (open' c.place.reach (goes-on j g m) i); leveled = still-leveled R e (leveled-begin R j h c.place.leveled); alone = λ z. false-true ro z };
           built = λ z. b z (c.built z);
         },
         tt,
@@ -234,7 +233,7 @@ module _ (R : Reading) where
   unfolding opened flush
   begun-in {s = s} {q = q} {fs = fs} {st = st} c g m h =
       begun (symbol c) g (node-is c).0 (node-is c).2 m h (opened-alike (kind_of c) st)
-      (λ z e. ap₂ (λ (k : ℕ) (z : Stack). (k, none) ∷ z) (sym (node-is c).3) (flushed st g.calm z ∙ e) ∙ sym (image-open (symbol c) 0 (frame s q g.stands.0.children ∷ fs) (node-is c).1))
+      (λ z e. ap₂ (λ (k : ℕ) (z : Stack). (k, none) ∷ z) (sym (node-is c).3) (flushed st g.calm z ∙ e) ∙ sym (image-node (symbol c) 0 none (frame s q g.stands.0.children ∷ fs) (node-is c).1))
 
   -- the machine ends a node
   pub ended : {s q j p : ℕ} {l m : Level} {g : Forest} {fs : List Frame} {st u v : State} (c : Stands R s q l fs st) (d : Sure) (x : ℕ) → levels s l j ≡ true → ends_at j p m d x ≡ true → within (first_class (rest u)) x ≡ true → Known R d (frame j p g ∷ frame s q c.children ∷ fs) u
@@ -247,7 +246,7 @@ module _ (R : Reading) where
           children = c.children +++ (node j g ▸ none);
           place = record {
             reach = rw (idle-rest a.idle) (closes_node i.reach m);
-            leveled = still-leveled R a.still (leveled-end R (target s q j + exit j p) h (eqb-true _ _ (and-l _ _ (and-l _ _ r))) (eqb-true _ _ (and-r _ _ (and-l _ _ r))) c.place.leveled i.leveled);
+            leveled = still-leveled R a (leveled-end R (target s q j + exit j p) h (eqb-true _ _ (and-l _ _ (and-l _ _ r))) (eqb-true _ _ (and-r _ _ (and-l _ _ r))) c.place.leveled i.leveled);
             alone = c.place.alone;
           };
           built = λ z. b z ∙ put-image s q (target s q j + exit j p) c.children (node j g) fs;

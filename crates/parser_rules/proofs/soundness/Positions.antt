@@ -34,12 +34,9 @@ use Rattle.parser_rules.proofs.soundness.TableCheck.{Then, raised, own, owed, is
 
 -- ---- levels, on plain numbers
 
-own-le : (s : ℕ) → own s ≤ 1
-unfolding own
-own-le s = elim (eqb s SELECTION_SET or eqb s LIST_TYPE) as (λ b. cond b 1 0 ≤ 1) [ true ↦ omega arith | false ↦ omega arith ]
-
 owed-le : (s : ℕ) (l : Level) → owed s l ≤ 1
-owed-le s low = own-le s
+unfolding own
+owed-le s low = elim (eqb s SELECTION_SET or eqb s LIST_TYPE) as (λ b. cond b 1 0 ≤ 1) [ true ↦ omega arith | false ↦ omega arith ]
 owed-le s high = omega arith
 owed-le s past = omega arith
 
@@ -54,19 +51,16 @@ pub record Idle (st v : State) : Type 0 where
   pub waits : all_ignored st.waiting ≡ true → all_ignored v.waiting ≡ true
   pub stays : Stays st v
 
--- nothing of the nesting is touched
-pub record Still (st v : State) : Type 0 where
+-- and nothing of the nesting is touched
+pub record Alike (st v : State) : Type 0 where
+  pub idle : Idle st v
   pub depth : v.depth ≡ st.depth
   pub high : v.high ≡ st.high
   pub limit : v.limit ≡ st.limit
 
-pub record Alike (st v : State) : Type 0 where
-  pub idle : Idle st v
-  pub still : Still st v
-
 -- what waits and the tree are all that changes
 pub rebuilt : (st : State) (parts : List Part) (b : Building) → (all_ignored st.waiting ≡ true → all_ignored parts ≡ true) → ((m : ℕ) → Settled m st.tree → Settled m b) → Alike st (record st { waiting = parts; tree = b })
-rebuilt st parts b w f = record { idle = record { current = refl; items = refl; errors = refl; accepts = refl; waits = w; stays = f }; still = record { depth = refl; high = refl; limit = refl } }
+rebuilt st parts b w f = record { idle = record { current = refl; items = refl; errors = refl; accepts = refl; waits = w; stays = f }; depth = refl; high = refl; limit = refl }
 
 pub same-alike : (st : State) → Alike st st
 same-alike st = rebuilt st st.waiting st.tree (λ z. z) (λ m z. z)
@@ -241,12 +235,12 @@ module _ (R : Reading) where
     held = rw (e.current, e.items) c.held;
   }
 
+  -- the current token
+  pub current : (st : State) → Still_calm st → (t : Lexeme) × (st.current ≡ Some t) × Now (Some t) st.items × Held answers (Some t) st.items
+  current st c = (elim st.current as (λ o. Now o st.items → Held answers o st.items → (t : Lexeme) × (o ≡ Some t) × Now (Some t) st.items × Held answers (Some t) st.items) [ None ↦ λ n h. absurd n | Some t ↦ λ n h. (t, refl, n, h) ]) c.now c.held
+
   pub shown : (st : State) → Still_calm st → Shown st.current
-  shown st c = at st.current c.now
-    where
-      at : (o : Option Lexeme) → Now o st.items → Shown o
-      at None n = absurd n
-      at (Some t) n = n.0
+  shown st c = let t = current st c in rw t.1 t.2.0
 
   -- ---- reports
 
@@ -258,20 +252,15 @@ module _ (R : Reading) where
 
   pub note-told : (m : Message) (st : State) → Still_calm st → Blamed (rest st) → Taken (rest st) st.tree → Tells (note m st)
   unfolding note
-  note-told m st c b k = at st.current c.now c.held b k.behind
-    where
-      at : (o : Option Lexeme) → Now o st.items → Held answers o st.items → Blamed (current_tokens o ++ answers_tokens st.items) → Behind sort answers lim w k.count (current_tokens o ++ answers_tokens st.items) → Tells (noted m st o)
-      at None n h b e = absurd n
-      at (Some t) n h (inl a) e = fault-told k.count (fault_report m t) st c.quiet (stuck_here m n h a e) k.settled
-      at (Some t) n h (inr a) e = fault-told k.count (fault_report m t) st c.quiet (unread_here m n h a e) k.settled
+  note-told m st c b k =
+      let t = current st c in
+      subst (λ (o : Option Lexeme). Tells (noted m st o)) (sym t.1) (fault-told k.count (fault_report m t.0) st c.quiet (elim (rw t.1 at b) [ inl a ↦ stuck_here m t.2 t.3 a (rw t.1 at k.behind) | inr a ↦ unread_here m t.2 t.3 a (rw t.1 at k.behind) ]) k.settled)
 
   pub deep-told : (st : State) → Still_calm st → TooMany sort answers lim w (rest st) → Taken (rest st) st.tree → Tells (too_deep st)
   unfolding too_deep
-  deep-told st c b k = at st.current c.now c.held b k.behind
-    where
-      at : (o : Option Lexeme) → Now o st.items → Held answers o st.items → TooMany sort answers lim w (current_tokens o ++ answers_tokens st.items) → Behind sort answers lim w k.count (current_tokens o ++ answers_tokens st.items) → Tells (limited_at (deepened st) o)
-      at None n h b e = absurd n
-      at (Some t) n h b e = tell-on _ _ (same-errors _ _ refl (λ m z. z)) (fault-told k.count (recursion_limit_report t) (deepened st) (idle-calm (renested st st.depth _) c).quiet (deep_here n h b e) k.settled)
+  deep-told st c b k =
+      let t = current st c in
+      subst (λ (o : Option Lexeme). Tells (limited_at (deepened st) o)) (sym t.1) (tell-on _ _ (same-errors _ _ refl (λ m z. z)) (fault-told k.count (recursion_limit_report t.0) (deepened st) (idle-calm (renested st st.depth _) c).quiet (deep_here t.2 t.3 (rw t.1 at b) (rw t.1 at k.behind)) k.settled))
 
   -- ---- what is taken
 
@@ -323,11 +312,8 @@ module _ (R : Reading) where
       let a = eqb-true _ _ (and-l _ _ e) in
       record { level = omega (arith, a); entered = omega (arith, a); most_open = omega (arith, a, peak-close s q o j p f g fs); above = v'.above; bounds = v'.bounds }
 
-  pub still-leveled : {s q : ℕ} {l : Level} {f : Forest} {fs : List Frame} {st v : State} → Still st v → Leveled s q l f fs st.depth st.high st.limit → Leveled s q l f fs v.depth v.high v.limit
+  pub still-leveled : {s q : ℕ} {l : Level} {f : Forest} {fs : List Frame} {st v : State} → Alike st v → Leveled s q l f fs st.depth st.high st.limit → Leveled s q l f fs v.depth v.high v.limit
   still-leveled e h = rw (e.depth, e.high, e.limit) h
-
-  pub place-alike : {s q : ℕ} {l : Level} {f : Forest} {fs : List Frame} {st v : State} → Place s q l f fs st → Alike st v → Place s q l f fs v
-  place-alike c e = record { reach = rw (idle-rest e.idle) c.reach; leveled = still-leveled e.still c.leveled; alone = c.alone }
 
   -- the rule goes on elsewhere
   pub moved-on : {s s' x y : ℕ} {p p' : Spot} {fs fs' : List Frame} {st v : State} → Fits s p x y fs st → Idle st v → StandsAt s' p' fs' v → Fits s' p' x y fs' v

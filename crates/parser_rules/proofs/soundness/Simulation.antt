@@ -16,21 +16,21 @@ use Rattle.grammar_machine.proofs.Sound.{any, reach-sound}
 use Rattle.grammar_machine.proofs.MachineTheorems.{Parse, no-leaf as start-no-leaf}
 use Rattle.parser_rules.specs.State.{State, flush, opened, closed, wrapped_from, bump, is_deep, enter, leave}
 use Rattle.parser_rules.specs.Nodes.{Node, symbol, kind_of}
-use Rattle.parser_rules.specs.RuleLanguage.{Test, At, holds, Prim, Bump, Note, step, Rule, Do, While, Nested}
+use Rattle.parser_rules.specs.RuleLanguage.{Test, At, holds, Prim, Bump, Note, step, Rule, While, Nested}
 use Rattle.parser_rules.specs.Rules.{inside, body}
 use Rattle.parser_rules.specs.Runs.{Runs, skip, does, seq, yes, no, done, again, child, limited, deeper, refused, call, plain, wrapped}
 use Rattle.parser_rules.proofs.runs.Frame.{Adds, adds}
-use Rattle.parser_rules.proofs.soundness.WithoutIgnored.{Stack, stack, put, stack-finish}
+use Rattle.parser_rules.proofs.soundness.WithoutIgnored.{put-none, Stack, stack, put, stack-finish}
 use Rattle.parser_rules.proofs.reports.NoReport.{rest, Grows, grows-on}
 use Rattle.parser_rules.proofs.lookahead.MachineClasses.{sees-next}
 use Rattle.parser_rules.proofs.lookahead.Split.{Level, low, high, past, Sure, loose, firm, full, Spot, spot, lost, fill, divide, divide-at, choice}
 use Rattle.parser_rules.proofs.lookahead.TokenSets.{class_of, seen-more, near-at}
 use Rattle.parser_rules.proofs.lookahead.FirstSets.{first_of, second_of, inlined}
-use Rattle.parser_rules.proofs.soundness.MachineStack.{image, image-some, image-type, image-plain, show-bang, stack-wrap}
+use Rattle.parser_rules.proofs.soundness.MachineStack.{image, image-some, image-plain, show-bang, stack-wrap}
 use Rattle.parser_rules.proofs.soundness.Settled.{fitting-image, fitting-path}
 use Rattle.parser_rules.proofs.soundness.TableCheck.{Mark, Then, same_level, same_sure, weak, same_spot, covered, all_marks, levels, is_high, lowered, heads, takes, after, closing, losing, child_goes, child_sticks, child_at, limits_at, nests, typed, type_at, ok, ends_well, follows_table, bang_next, no_bang}
 use Rattle.parser_rules.proofs.NodeChecks.{node_passes}
-use Rattle.parser_rules.proofs.soundness.Positions.{Reading, Alike, same-alike, flush-alike, opened-alike, closed-alike, wrapped-alike, renested, left-idle, idle-seen, idle-grows, run-grows, top, Stands, StandsAt, Fits, Way, Out, tell-on, fills, known-weak, start_good, idle-calm, shown, note-told, deep-told, taken-at, idle-lost, leveled-enter, leveled-leave, place-alike, moved-on}
+use Rattle.parser_rules.proofs.soundness.Positions.{Reading, idle-rest, Alike, same-alike, flush-alike, opened-alike, closed-alike, wrapped-alike, renested, left-idle, idle-seen, idle-grows, run-grows, top, Stands, StandsAt, Fits, Way, Out, tell-on, fills, known-weak, start_good, idle-calm, shown, note-told, deep-told, taken-at, idle-lost, leveled-enter, leveled-leave, still-leveled, moved-on}
 use Rattle.parser_rules.proofs.soundness.Moves.{fits-next, lost-at, note-right, goes-deeper, too-many, flushed, Shaped, token-taken, bump-out, begun, begun-in, ended, ended-here, tell-closed, with-sets, node-out, walked-out, lost-out}
 
 module _ (R : Reading) where
@@ -137,7 +137,7 @@ module _ (R : Reading) where
   type-in n s q x y l d a fs k st t u e walk h g =
       let gs : List Frame = frame s q g.stands.0.children ∷ fs in
       let m = and-l _ _ h in
-      let b : Fits R TYPE (spot 0 low loose) x y gs (flush st) = begun R TYPE g refl refl (and-l _ _ m) (and-l _ _ (and-r _ _ m)) (flush-alike st) (λ z i. flushed R st g.calm z ∙ (i ∙ sym (image-type 0 gs))) in
+      let b : Fits R TYPE (spot 0 low loose) x y gs (flush st) = begun R TYPE g refl refl (and-l _ _ m) (and-l _ _ (and-r _ _ m)) (flush-alike st) (λ z i. flushed R st g.calm z ∙ (i ∙ sym (put-none (image gs)))) in
       walked a walk n TYPE gs (typed (spot (target s q TYPE) l firm) k) (spot 0 low loose, x, y, and-r _ _ h, rw e b)
 
   -- the children of a type that no `!` ends
@@ -202,7 +202,7 @@ module _ (R : Reading) where
       on (spot q' m d, x, y, t', c) =
           let f : Forest = c.stands.0.children in
           let built : Follows → stack v.tree ≡ shape (shows f) = λ z. ap (λ (z : State). stack z.tree) i ∙ stack-wrap s q q' g.stands.0.children f fs t.tree u.tree added.more none_equal added.trees.above added.trees.here (before z) (c.stands.0.built z) in
-          subst (λ (z : State). Out R s fs k (closed z)) (sym j) (elim (token-taken R kind.BANG TYPE q' BANG x y m d f gs v shape (λ P. closing TYPE p k P y any) (and-r _ _ t') shaped (place-alike R c.stands.0.place al) built (idle-calm R al.idle c.calm) (idle-seen al.idle c.seen)) [
+          subst (λ (z : State). Out R s fs k (closed z)) (sym j) (elim (token-taken R kind.BANG TYPE q' BANG x y m d f gs v shape (λ P. closing TYPE p k P y any) (and-r _ _ t') shaped (record { reach = rw (idle-rest al.idle) c.stands.0.place.reach; leveled = still-leveled R al c.stands.0.place.leveled; alone = c.stands.0.place.alone }) built (idle-calm R al.idle c.calm) (idle-seen al.idle c.seen)) [
             | inl o ↦ inl (tell-closed R (bump kind.BANG v) o)
             | inr o ↦ (
                 let w'' : State = bump kind.BANG v in
@@ -257,10 +257,6 @@ module _ (R : Reading) where
       after_it (spot q low d, x, y, h, g) = false-true refl (and-l _ _ h)
       after_it (spot q past d, x, y, h, g) = false-true refl (and-l _ _ h)
 
-  bang-step : (v w' : State) → Runs (Do (Bump kind.BANG)) v w' → w' ≡ bump kind.BANG v
-  unfolding step
-  bang-step v w' (does e) = e
-
   pub link : {r : Rule} {st t : State} → Runs r st t → (n s : ℕ) (p : Spot) (x y : ℕ) (fs : List Frame) (k : Then) → Good n s p x y r k → Fits R s p x y fs st → Out R s fs k t
   unfolding Good ok step
   link skip n s p x y fs k h g = inr (p, x, y, h, g)
@@ -285,5 +281,5 @@ module _ (R : Reading) where
   link (call h1) zero s p x y fs k h g = false-true refl h
   link (call {p = q} h1) (suc n) s p x y fs k h g = link h1 n s p x y fs k (good n s p x y (body q) k h) g
   link {st = st} {t = u} (plain {a = a} {t = t} i h1 e) n s p x y fs k h g = plain-in n s p x y a fs k st t u i (link h1) e h g
-  link {st = st} (wrapped {a = a} {t = t} {u = u} {v = v} {w = w'} i o m j h1 e h2) n s p x y fs k h g =
-      rw j (wrapped-in n s p x y a fs k st t u v w' i (link h1) (adds h1) (m ∙ ap (λ (n : ℕ). wrapped_from n kind.NON_NULL_TYPE u) o) (run-grows h2) (bang-step v w' h2) e h g)
+  link {st = st} (wrapped {a = a} {t = t} {u = u} {v = v} {w = w'} i o m j h1 e (does f)) n s p x y fs k h g =
+      rw j (wrapped-in n s p x y a fs k st t u v w' i (link h1) (adds h1) (m ∙ ap (λ (n : ℕ). wrapped_from n kind.NON_NULL_TYPE u) o) (run-grows (does {a = Bump kind.BANG} f)) f e h g)

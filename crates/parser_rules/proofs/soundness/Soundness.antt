@@ -100,10 +100,7 @@ start-level r xs = record {
   bounds = record { kept = λ z. omega arith; nested = λ z t p. omega arith; limit = refl };
 }
 
-abbrev pub First : ℕ → List Answer → State → Type 0
-First r xs s = Tells (whole r xs) s
-
-start-fits : (r : ℕ) (xs : List Answer) → EndsWell xs → First r xs (begun xs r kind.DOCUMENT) ⊎ Fits (whole r xs) DOCUMENT (spot 0 low loose) any any [] (begun xs r kind.DOCUMENT)
+start-fits : (r : ℕ) (xs : List Answer) → EndsWell xs → Tells (whole r xs) (begun xs r kind.DOCUMENT) ⊎ Fits (whole r xs) DOCUMENT (spot 0 low loose) any any [] (begun xs r kind.DOCUMENT)
 start-fits r xs e =
     let s : State = fresh xs r kind.DOCUMENT in
     let b : State = begun xs r kind.DOCUMENT in
@@ -116,7 +113,7 @@ start-fits r xs e =
         stands = (
           record {
             children = none;
-            place = record { reach = subst (λ (z : List Token). Reach DOCUMENT w (frame DOCUMENT 0 none ∷ []) z) (sym o.left) start; leveled = leveled-from; alone = λ e. refl };
+            place = record { reach = subst (λ (z : List Token). Reach DOCUMENT w (frame DOCUMENT 0 none ∷ []) z) (sym o.left) start; leveled = (let still = read_untouched xs s in rw (still.depth, still.high, still.limit) (start-level r xs)); alone = λ e. refl };
             built = λ z. ap stack (read_untouched xs s).tree ∙ ap (λ (k : ℕ). (k, none) ∷ ((0, none) ∷ [])) (sym document-label.0);
           },
           tt,
@@ -126,9 +123,6 @@ start-fits r xs e =
   where
     blame : Blames xs [] ⊤ (Rightly (whole r xs)) 0 (answers_tokens xs)
     blame x ys p n z = no_token p n (frame DOCUMENT 0 none ∷ [], subst (λ (u : List Token). Reach DOCUMENT (answers_tokens xs) (frame DOCUMENT 0 none ∷ []) u) (sym z) start) (let e = ap length z in omega (arith, e))
-
-    leveled-from : Leveled (whole r xs) DOCUMENT 0 low none [] (begun xs r kind.DOCUMENT).depth (begun xs r kind.DOCUMENT).high (begun xs r kind.DOCUMENT).limit
-    leveled-from = let still = read_untouched xs (fresh xs r kind.DOCUMENT) in rw (still.depth, still.high, still.limit) (start-level r xs)
 
 -- ---- the end
 
@@ -141,27 +135,23 @@ finished-tree s layer more root e =
     ap (λ (above : List Open). bare (tree_of (close b.here above).here)) a ∙ ap (λ (l : ℕ × Forest). node l.0 l.1) same
 
 -- the class of no token left but the end
-over-rest : (c : Option Lexeme) (items : List Answer) → Now c items → within (class_of c) over ≡ true → current_tokens c ++ answers_tokens items ≡ []
-over-rest None items n h = absurd n
-over-rest (Some t) items n h = elim (standing t items n) [
-  | inl a ↦ a.nothing
+-- there is no token left, and all answers were given
+nothing-left : (c : Option Lexeme) (items : List Answer) → Now c items → within (class_of c) over ≡ true → (current_tokens c ++ answers_tokens items ≡ []) × (items ≡ [])
+nothing-left None items n h = absurd n
+nothing-left (Some t) items n h = elim (standing t items n) [
+  | inl a ↦ (a.nothing, a.none)
   | inr a ↦ (
       let b : Token = (leaf_number t.kind, t.text) in
       let i : within (class b) over ≡ true = subst (λ (e : Bool). within (cond e 0 (class b)) over ≡ true) a.is_end h in
       false-true (holds-disjoint (class b) over ready refl i) (not-zero b))
 ]
 
--- nothing is left to read: all answers were given
-none-left : (c : Option Lexeme) (items : List Answer) → Now c items → current_tokens c ++ answers_tokens items ≡ [] → items ≡ []
-none-left None items n e = absurd n
-none-left (Some t) items n e = elim (standing t items n) [ inl a ↦ a.none | inr a ↦ no-cons (sym e ∙ a.first) ]
-
 -- all answers were tokens
-all-read : (xs : List Answer) (c : Option Lexeme) (items : List Answer) → Now c items → Held xs c items → current_tokens c ++ answers_tokens items ≡ [] → all_tokens xs ≡ true
+all-read : (xs : List Answer) (c : Option Lexeme) (items : List Answer) → Now c items → Held xs c items → items ≡ [] → all_tokens xs ≡ true
 unfolding ◌and◌
 all-read xs None items n p e = absurd n
 all-read xs (Some t) items n p e =
-    ap all_tokens (p.split ∙ ap (λ (ys : List Answer). p.front ++ given_by t ∷ ys) (none-left (Some t) items n e)) ∙ all_tokens-append p.front (given_by t ∷ []) p.tokens refl
+    ap all_tokens (p.split ∙ ap (λ (ys : List Answer). p.front ++ given_by t ∷ ys) e) ∙ all_tokens-append p.front (given_by t ∷ []) p.tokens refl
 
 owed-none : (l : Level) → raised l ≡ 0 → owed DOCUMENT l ≡ 0
 owed-none low e = document-label.1
@@ -199,10 +189,10 @@ root-out r xs s (inr (spot q l d, x, y, h, g)) =
     let f : Forest = st.children in
     let i : Place (whole r xs) DOCUMENT q l f [] s = st.place in
     let n : Next x y (rest s) = fits-next (whole r xs) g in
-    let none : rest s ≡ [] = over-rest s.current s.items g.calm.now (holds-subset (class_of s.current) x over (and-r _ _ (and-l _ _ h)) g.seen.near) in
+    let left = nothing-left s.current s.items g.calm.now (holds-subset (class_of s.current) x over (and-r _ _ (and-l _ _ h)) g.seen.near) in
     let m : next DOCUMENT q (rest s) ≡ closes_move = closes-move DOCUMENT q x (behind y) (first (rest s)) (second (rest s)) (and-l _ _ (and-l _ _ h)) n.near n.far in
     let d = ended_sound document (answers_tokens xs) f (rest s) (q, i.reach, m) in
-    let words : yields f ≡ answers_tokens xs = sym (append-nil (yields f)) ∙ sym (d.0 ∙ ap (λ (v : List Token). yields f ++ v) none) in
+    let words : yields f ≡ answers_tokens xs = sym (append-nil (yields f)) ∙ sym (d.0 ∙ ap (λ (v : List Token). yields f ++ v) left.0) in
     let lv = i.leveled in
     let low_again : raised l ≡ 0 = eqb-true _ _ (and-r _ _ h) in
     let owes = owed-none l low_again in
@@ -216,7 +206,7 @@ root-out r xs s (inr (spot q l d, x, y, h, g)) =
       nesting = omega (arith, document-label.1, document-label.3, lv.level, lv.most_open, low_again, owes, nests, end, lv.bounds.kept tt);
       high = omega (arith, document-label.1, document-label.3, lv.level, lv.most_open, low_again, owes, nests, end, lv.bounds.nested tt (node DOCUMENT f) (p.0, p.1, words));
       built = stack-flush s.waiting s.tree (g.calm.quiet.waits tt) ∙ st.built tt;
-      tokens = all-read xs s.current s.items g.calm.now g.calm.held none;
+      tokens = all-read xs s.current s.items g.calm.now g.calm.held left.1;
     })
 
 clean-root : (r : ℕ) (xs : List Answer) (s : State) → IsRoot s.tree → Silent r xs s → Nothing_told r xs s
@@ -234,7 +224,7 @@ clean-root r xs s root o =
     }
 
 -- A run of the document's rule.
-pub parsed : (r : ℕ) (xs : List Answer) (s : State) → EndsWell xs → IsRoot s.tree → Runs (Call Document) (begun xs r kind.DOCUMENT) s → First r xs s ⊎ Nothing_told r xs s
+pub parsed : (r : ℕ) (xs : List Answer) (s : State) → EndsWell xs → IsRoot s.tree → Runs (Call Document) (begun xs r kind.DOCUMENT) s → Tells (whole r xs) s ⊎ Nothing_told r xs s
 unfolding document_follows
 parsed r xs s en root run = elim (start-fits r xs en) [
   | inl o ↦ inl (tell-on (whole r xs) (begun xs r kind.DOCUMENT) s (run-grows run) o)

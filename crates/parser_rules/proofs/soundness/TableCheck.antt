@@ -64,9 +64,7 @@ same_sure _ _ = false
 
 -- whatever follows the next token
 abbrev pub is_firm : Sure → Bool
-is_firm loose = false
-is_firm firm = true
-is_firm full = true
+is_firm d = not (same_sure d loose)
 
 -- where the depth may have changed
 abbrev pub weak : Sure → Sure
@@ -119,10 +117,6 @@ is_high lost = true
 abbrev pub lowered : Spot → Spot
 lowered (spot q l d) = spot q past (weak d)
 lowered lost = lost
-
-abbrev pub is_lost : Spot → Bool
-is_lost (spot q l d) = false
-is_lost lost = true
 
 -- what a node leaves behind for its parent: the parent's state is moved on
 abbrev pub on_by : Spot → ℕ → Spot
@@ -186,7 +180,7 @@ closing j p k lost x y = false
 
 -- what follows a node that begins where the machine is stuck
 abbrev pub losing : Then → Spot → ℕ → ℕ → Bool
-losing k p x y = is_lost p and k lost x y
+losing k p x y = same_spot p lost and k lost x y
 
 -- the machine begins the node
 unfoldable pub child_goes : ℕ → ℕ → Level → ℕ → ℕ → Node → Then → (ℕ → ℕ → Then → Bool) → Bool
