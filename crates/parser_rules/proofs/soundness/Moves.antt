@@ -276,12 +276,12 @@ module _ (R : Reading) where
   with-sets g i = record { calm = g.calm; seen = i; stands = g.stands }
 
   -- whatever follows the next token
-  pub far-any : {x y : ℕ} {st : State} (u : ℕ) → subset x u ≡ true → Seen x y st → Seen u any st
-  far-any {x = x} {st = st} u h i = record { near = holds-subset _ x u h i.near; far = of-any (second st.items) (second-shown st.items) }
+  pub far-any : (x y u : ℕ) (st : State) → subset x u ≡ true → Seen x y st → Seen u any st
+  far-any x y u st h i = record { near = holds-subset _ x u h i.near; far = of-any (second st.items) (second-shown st.items) }
 
   -- the end of the text breaks a node off
   pub broken-off : {s s' x y : ℕ} {fs fs' : List Frame} {v : State} (c : Node) (k : Then) → loses c ≡ true → subset x over ≡ true → not (loses c) or k lost over any ≡ true → Fits R s' lost x y fs' v → Out R s fs k (closed v)
-  broken-off c k a a' b g = inr (lost, over, any, implies _ _ b a, lost-closed (with-sets g (far-any over a' g.seen)))
+  broken-off {x = x} {y = y} {v = v} c k a a' b g = inr (lost, over, any, implies _ _ b a, lost-closed (with-sets g (far-any x y over v a' g.seen)))
 
   pub node-out : {s q : ℕ} {l : Level} {fs : List Frame} {st : State} (c : Node) (k : Then) (u : State) (c0 : Stands R s q l fs st) → levels s l (symbol c) ≡ true → after (spot (target s q (symbol c)) l firm) c k ≡ true → Out R (symbol c) (frame s q c0.children ∷ fs) (ends_well c) u → Out R s fs k (closed u)
   unfolding ends_well leaves_well
@@ -290,7 +290,7 @@ module _ (R : Reading) where
   node-out {s = s} {q = q} {l = l} {fs = fs} c k u c0 h a (inr (spot p m d, x, y, e, g)) = elim (or-c _ _ e) [
     | inl z ↦ elim (or-c _ _ (and-r _ _ z)) [
       | inl i ↦ inr (spot (target s q (symbol c) + 0) l firm, any, any, and-l _ _ (and-l _ _ a), leaves (and-l _ _ z) 0 (eqb-true _ _ i) any (seen-any u (shown R u g.calm)))
-      | inr i ↦ inr (spot (target s q (symbol c) + 1) l firm, no_brace, any, implies _ _ (and-r _ _ (and-l _ _ a)) (and-l _ _ i), leaves (and-l _ _ z) 1 (eqb-true _ _ (and-l _ _ (and-r _ _ i))) no_brace (far-any no_brace (and-r _ _ (and-r _ _ i)) g.seen))
+      | inr i ↦ inr (spot (target s q (symbol c) + 1) l firm, no_brace, any, implies _ _ (and-r _ _ (and-l _ _ a)) (and-l _ _ i), leaves (and-l _ _ z) 1 (eqb-true _ _ (and-l _ _ (and-r _ _ i))) no_brace (far-any x y no_brace u (and-r _ _ (and-r _ _ i)) g.seen))
     ]
     | inr z ↦ broken-off {s' = symbol c} {fs' = frame s q c0.children ∷ fs} c k (and-l _ _ z) (and-l _ _ (and-r _ _ z)) (and-r _ _ a) (record { calm = g.calm; seen = g.seen; stands = lost-at g (and-r _ _ (and-r _ _ z)) })
   ]

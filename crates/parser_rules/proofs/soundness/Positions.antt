@@ -92,8 +92,8 @@ left-idle {u = u} e = subst (λ (z : State). Idle u z) (sym e) (renested u (u.de
 pub idle-rest : {st v : State} → Idle st v → rest v ≡ rest st
 idle-rest e = ap₂ (λ (o : Option Lexeme) (xs : List Answer). current_tokens o ++ answers_tokens xs) e.current e.items
 
-pub idle-seen : {x y : ℕ} {st v : State} → Idle st v → Seen x y st → Seen x y v
-idle-seen {x = x} {y = y} {st = st} {v = v} e h = seen-same x y st v e.current e.items h
+pub idle-seen : (x y : ℕ) {st v : State} → Idle st v → Seen x y st → Seen x y v
+idle-seen x y {st = st} {v = v} e h = seen-same x y st v e.current e.items h
 
 pub idle-grows : {st v : State} → Idle st v → Grows st v
 idle-grows {st = st} {v = v} e = same-errors st v e.errors e.stays
@@ -317,4 +317,4 @@ module _ (R : Reading) where
 
   -- the rule goes on elsewhere
   pub moved-on : {s s' x y : ℕ} {p p' : Spot} {fs fs' : List Frame} {st v : State} → Fits s p x y fs st → Idle st v → StandsAt s' p' fs' v → Fits s' p' x y fs' v
-  moved-on g e c = record { calm = idle-calm e g.calm; seen = idle-seen e g.seen; stands = c }
+  moved-on {x = x} {y = y} g e c = record { calm = idle-calm e g.calm; seen = idle-seen x y e g.seen; stands = c }

@@ -202,7 +202,7 @@ module _ (R : Reading) where
       on (spot q' m d, x, y, t', c) =
           let f : Forest = c.stands.0.children in
           let built : Follows → stack v.tree ≡ shape (shows f) = λ z. ap (λ (z : State). stack z.tree) i ∙ stack-wrap s q q' g.stands.0.children f fs t.tree u.tree added.more none_equal added.trees.above added.trees.here (before z) (c.stands.0.built z) in
-          subst (λ (z : State). Out R s fs k (closed z)) (sym j) (elim (token-taken R kind.BANG TYPE q' BANG x y m d f gs v shape (λ P. closing TYPE p k P y any) (and-r _ _ t') shaped (record { reach = rw (idle-rest al.idle) c.stands.0.place.reach; leveled = still-leveled R al c.stands.0.place.leveled; alone = c.stands.0.place.alone }) built (idle-calm R al.idle c.calm) (idle-seen al.idle c.seen)) [
+          subst (λ (z : State). Out R s fs k (closed z)) (sym j) (elim (token-taken R kind.BANG TYPE q' BANG x y m d f gs v shape (λ P. closing TYPE p k P y any) (and-r _ _ t') shaped (record { reach = rw (idle-rest al.idle) c.stands.0.place.reach; leveled = still-leveled R al c.stands.0.place.leveled; alone = c.stands.0.place.alone }) built (idle-calm R al.idle c.calm) (idle-seen x y al.idle c.seen)) [
             | inl o ↦ inl (tell-closed R (bump kind.BANG v) o)
             | inr o ↦ (
                 let w'' : State = bump kind.BANG v in
@@ -216,7 +216,7 @@ module _ (R : Reading) where
                   and-r _ _ c',
                   record {
                     calm = idle-calm R (closed-alike w'').idle o.calm;
-                    seen = idle-seen (closed-alike w'').idle o.seen;
+                    seen = idle-seen y any (closed-alike w'').idle o.seen;
                     stands = ended R g.stands.0 firm y (and-l _ _ (and-r _ _ (and-l _ _ h))) (and-l _ _ c') (sees-next y any w'' o.calm.now o.seen).near o.certain o.place (closed-alike w'') done;
                   },
                 ))
