@@ -1,4 +1,7 @@
 -- What the functions of a parser are proved by: the forms of a run, and that nodes and levels stay open.
+use Rattle.parser_rules.specs.State.{same_kind, flush, opened, closed, bump, note, is_deep, enter, leave, too_deep, wrapped_from}
+use Rattle.parser_rules.specs.RuleLanguage.{holds, step}
+use Rattle.parser_rules.specs.Open.{IsInside, IsMark}
 use Rattle.parser_rules.specs.Runs.{skip, does, seq, yes, no, child, deeper, refused, call, plain, wrapped, begin, turn}
 use Rattle.parser_rules.proofs.runs.Forms.{wanted, chosen, for_fragment, for_enum}
 use Rattle.parser_rules.proofs.runs.Frame.{ended, is_open, still_open, open_in_loop, open_too_deep, open_inside, open_outside, is_inside, still_inside, still_at}
@@ -14,3 +17,8 @@ pub ruleset looping = (running, begin, turn, ended, open_in_loop)
 
 -- the same, one level deeper
 pub ruleset nesting = (looping, deeper, refused, plain, wrapped, open_too_deep, open_inside, open_outside, is_inside, still_inside)
+
+-- what the steps of a state are
+unfoldable pub steps : Unit {0}
+unfolding same_kind holds step flush opened closed bump note is_deep enter leave too_deep wrapped_from IsInside IsMark
+steps = tt

@@ -1,7 +1,7 @@
 use Rattle.std.proofs.Common.{◌≡◌, length}
 use Rattle.apollo_lexer.specs.Answers.{answers_left}
 use Rattle.parser_rules.specs.State.{second}
-use Rattle.apollo_grammar.proofs.state.next_significant.Given as goal
+use Rattle.apollo_grammar.proofs.state.reading.next_significant.Given as goal
 
 abbrev pub invariant-loop-answer : goal.invariant-loop-answer
 invariant-loop-answer l = second (answers_left l.initial.lexer) ≡ second (answers_left l.lexer)

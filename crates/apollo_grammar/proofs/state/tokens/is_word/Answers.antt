@@ -3,7 +3,7 @@ use Rattle.lexical_grammar.specs.declared.TokenKind.TheVariants as token
 use Rattle.parser_rules.specs.State.{same_kind, is_word}
 use Rattle.apollo_grammar.specs.View.{lexeme_of, current_of}
 use Rattle.apollo_grammar.proofs.Keywords.{name_is_word, no_word}
-use Rattle.apollo_grammar.proofs.state.is_word.Goals as goal
+use Rattle.apollo_grammar.proofs.state.tokens.is_word.Goals as goal
 
 pub returns-in_default : goal.returns-in_default
 returns-in_default c = sym (no_word c.args.keyword (current_of c.args.token) c.requires c.in_default.ensures)

@@ -1,7 +1,7 @@
 use Rattle.std.proofs.Common.{sym, ◌∙◌, ap}
 use Rattle.apollo_grammar.proofs.Reading.{second_found, second_ignored, second_bad, second_end, one_less}
 use Rattle.parser_rules.specs.State.{ignored}
-use Rattle.apollo_grammar.proofs.state.next_significant.Goals as goal
+use Rattle.apollo_grammar.proofs.state.reading.next_significant.Goals as goal
 
 pub loop-answer-smaller-else-is_none : goal.loop-answer-smaller-else-is_none
 loop-answer-smaller-else-is_none c = one_less _ _ _ c.in-Some.ensures.answers
