@@ -13,10 +13,6 @@ pub next_fits : (q : TokenTest) (s : State) (o : Option Lexeme) → o ≡ second
 unfolding holds
 next_fits q s o e b h = h ∙ ap (fits q) e
 
-pub here_fits : (q : TokenTest) (s : State) (o : Option Lexeme) → o ≡ s.current → (b : Bool) → b ≡ fits q o → b ≡ holds (Here q) s
-unfolding holds
-here_fits q s o e b h = h ∙ ap (fits q) e
-
 pub has_next : (s : State) (o : Option Lexeme) → o ≡ second s.items → (b : Bool) → b ≡ is_some o → b ≡ holds HasNext s
 unfolding holds
 has_next s o e b h = h ∙ ap is_some e

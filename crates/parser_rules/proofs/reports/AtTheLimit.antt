@@ -1,5 +1,5 @@
 -- Where the recursion limit is reported, one level more than the limit was asked for.
-use Rattle.std.proofs.Common.{◌≡◌, ◌+◌, ◌≤◌, ◌||◌, ◌&&◌, if◌then◌else◌, true≢false, ℕ, Option, Some, None, min, Bool, true, false, List, [], ◌∷◌, ◌++◌, refl, sym, ◌∙◌, ap, arith}
+use Rattle.std.proofs.Common.{◌≡◌, ◌+◌, ◌≤◌, ◌||◌, ◌&&◌, if◌then◌else◌, true≢false, ℕ, Some, None, min, Bool, true, false, List, [], ◌∷◌, ◌++◌, refl, sym, ◌∙◌, ap, arith}
 use Rattle.std.specs.List.{list_any}
 use Rattle.std.proofs.lemmas.List.Folds.{list_any-append}
 use Rattle.lexical_grammar.specs.Answers.{Answer, gives, limit_at, is_end}
@@ -7,7 +7,7 @@ use Rattle.document_grammar.specs.declared.kind.SyntaxKind.{SyntaxKind}
 use Rattle.document_grammar.specs.Builds.{add_leaf}
 use Rattle.parser_rules.specs.declared.message.Message.{Message}
 use Rattle.parser_rules.specs.Messages.{is_limit}
-use Rattle.parser_rules.specs.State.{State, Lexeme, Report, at_end, at_text, bad_report, token_limit_report, ignored, bad, met, wait, lexeme, read_on, flush, closed, wrapped_from, fault_report, recursion_limit_report, enter, leave, deepened, begun, fresh, usize_max}
+use Rattle.parser_rules.specs.State.{State, Lexeme, Report, at_end, at_text, bad_report, token_limit_report, ignored, bad, met, wait, read_on, flush, closed, wrapped_from, fault_report, enter, leave, deepened, begun, fresh, usize_max}
 use Rattle.parser_rules.specs.Reports.{is_recursion_limit}
 use Rattle.parser_rules.specs.RuleLanguage.{Rule}
 use Rattle.parser_rules.specs.Runs.{Runs}

@@ -1,7 +1,7 @@
 -- A run does not depend on what was built and reported before: from a state that reads the same there is a run that adds the same trees and
 -- reports.
 use Rattle.std.specs.Prelude.{nat_le}
-use Rattle.std.proofs.Common.{◌≡◌, ℕ, ◌+◌, ◌-◌, Bool, true, false, not, ◌&&◌, ◌||◌, is_some, if◌then◌else◌, List, [], ◌∷◌, ◌++◌, Option, Some, None, refl, sym, ap, ap₂, ◌∙◌, subst, append_assoc, append-nil}
+use Rattle.std.proofs.Common.{◌≡◌, ℕ, ◌+◌, ◌-◌, Bool, true, false, not, ◌&&◌, is_some, if◌then◌else◌, List, [], ◌∷◌, ◌++◌, Option, Some, None, refl, sym, ap, ap₂, ◌∙◌, subst, append_assoc, append-nil}
 use Rattle.lexical_grammar.specs.declared.TokenKind.TheVariants as token
 use Rattle.lexical_grammar.specs.Answers.{Answer}
 use Rattle.document_grammar.specs.declared.kind.SyntaxKind.{SyntaxKind}
@@ -10,7 +10,7 @@ use Rattle.document_grammar.specs.Forests as built
 use Rattle.document_grammar.specs.Builds.{built_count}
 use Rattle.document_grammar.proofs.Added.{Added, added-none, added-leaf, added-then, added-node, added-wrap}
 use Rattle.parser_rules.specs.declared.message.Message.{Message}
-use Rattle.parser_rules.specs.State.{State, Lexeme, Part, Report, bad_report, token_limit_report, recursion_limit_report, fault_report, met, wait, bad, read_on, second, flush, opened, closed, wrapped_from, moved, bump, noted, note, is_deep, deepened, limited_at, too_deep, enter, leave, is_at, is_word, is_over}
+use Rattle.parser_rules.specs.State.{State, Lexeme, Part, Report, bad_report, token_limit_report, recursion_limit_report, fault_report, met, wait, bad, read_on, second, flush, opened, closed, wrapped_from, moved, bump, noted, note, is_deep, deepened, limited_at, too_deep, enter, leave, is_over}
 use Rattle.parser_rules.specs.Nodes.{kind_of}
 use Rattle.parser_rules.specs.RuleLanguage.{Test, Here, Next, At, Ready, HasNext, Deep, Not, Both, fits, holds, Prim, Bump, Note, step, Rule}
 use Rattle.parser_rules.specs.Runs.{Runs, skip, does, seq, yes, no, done, again, child, limited, deeper, refused, call, plain, wrapped}

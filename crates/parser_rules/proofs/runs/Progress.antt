@@ -1,6 +1,5 @@
 -- Rules that surely take the token that is there: so loops end.
 use Rattle.std.proofs.Common.{◌≡◌, ℕ, suc, ◌<◌, Option, Some, None, refl, sym, ◌∙◌, ap, ap₂, subst, arith, true, false, Bool, not, ◌&&◌, ◌||◌, inl, inr, true≢false}
-use Rattle.lexical_grammar.specs.declared.TokenKind.{TokenKind}
 use Rattle.lexical_grammar.specs.declared.TokenKind.TheVariants as token
 use Rattle.document_grammar.specs.declared.kind.SyntaxKind.{SyntaxKind}
 use Rattle.document_grammar.specs.Booleans.{◌and◌, ◌or◌}

@@ -3,7 +3,7 @@ use Rattle.lexical_grammar.specs.Answers.{AreAnswers}
 use Rattle.apollo_lexer.proofs.Law.{answers_are}
 use Rattle.parser_rules.specs.State.{State}
 use Rattle.apollo_grammar.proofs.Reading.{taken_text}
-use Rattle.apollo_grammar.proofs.state.reading.ParserState.next_answer.Goals as goal
+use Rattle.apollo_grammar.proofs.state.ParserState.next_answer.Goals as goal
 
 pub returns-clause-taken : goal.returns-clause-taken
 returns-clause-taken g c = search rules

@@ -1,7 +1,7 @@
 use Rattle.std.proofs.Common.{sym, ◌∙◌, ap, List, ℕ}
 use Rattle.parser_rules.specs.State.{ignored, wait}
 use Rattle.apollo_grammar.proofs.Reading.{read_bad, read_ignored, read_token, read_end}
-use Rattle.apollo_grammar.proofs.state.reading.ParserState.read_on.Goals as goal
+use Rattle.apollo_grammar.proofs.state.ParserState.read_on.Goals as goal
 
 pub loop-answer-preserved-in-Continue-1 : goal.loop-answer-preserved-in-Continue-1
 loop-answer-preserved-in-Continue-1 g c =

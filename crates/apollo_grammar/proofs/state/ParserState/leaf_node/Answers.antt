@@ -5,7 +5,7 @@ use Rattle.parser_rules.specs.State.{State}
 use Rattle.apollo_grammar.specs.Reading.{is_leaf_of}
 use Rattle.apollo_grammar.specs.View.{lexeme_of, current_of}
 use Rattle.apollo_grammar.proofs.Leaves.{fits_text}
-use Rattle.apollo_grammar.proofs.state.building.ParserState.leaf_node.Goals as goal
+use Rattle.apollo_grammar.proofs.state.ParserState.leaf_node.Goals as goal
 
 pub push_leaf_node-requires : goal.push_leaf_node-requires
 push_leaf_node-requires g c =

@@ -4,7 +4,7 @@ use Rattle.parser_rules.specs.Nodes.{BooleanValue}
 use Rattle.parser_rules.specs.RuleLanguage.{holds, step}
 use Rattle.parser_rules.specs.Rules.{inside}
 use Rattle.parser_rules.specs.Runs.{child, does, yes, no}
-use Rattle.apollo_grammar.proofs.state.building.ParserState.boolean_value.Goals as goal
+use Rattle.apollo_grammar.proofs.state.ParserState.boolean_value.Goals as goal
 
 pub returns-in_ok-leaf_node : goal.returns-in_ok-leaf_node
 unfolding inside step opened flush holds
