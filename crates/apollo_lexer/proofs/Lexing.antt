@@ -1,9 +1,10 @@
 -- The lists of tokens and errors that are made of a lexer's answers.
-use Rattle.std.proofs.Common.{◌≡◌, ℕ, Bool, true, false, List, [], ◌∷◌, ◌++◌, refl, sym, subst, IsAscii}
+use Rattle.std.proofs.Common.{◌≡◌, ℕ, Bool, true, false, List, [], ◌∷◌, ◌++◌, refl, sym, subst}
 use Rattle.std.specs.Prelude.{filter, not}
 use Rattle.lexical_grammar.specs.Answers.{Answer, is_token}
 use Rattle.apollo_lexer.specs.Diagnostics.{Diagnostic}
 use Rattle.apollo_lexer.specs.Answers.{error_answer}
+use Rattle.apollo_lexer.specs.Faults.{IsFaultMessage}
 use Rattle.apollo_lexer.specs.Told.{told_subject, limit_message, IsLexMessage, Tells, AreTold}
 
 -- an error's answer is no token
@@ -54,6 +55,6 @@ pub limit_told : (limit : Bool) (text message : List ℕ) → limit ≡ true →
 limit_told true text message is m = m
 limit_told false text message is m = absurd (cc)
 
-pub text_told : (limit : Bool) (text message : List ℕ) → limit ≡ false → (IsAscii text → IsAscii message) → IsLexMessage limit text message
+pub text_told : (limit : Bool) (text message : List ℕ) → limit ≡ false → IsFaultMessage text message → IsLexMessage limit text message
 text_told true text message is m = absurd (cc)
 text_told false text message is m = m

@@ -1,15 +1,15 @@
--- Messages are ASCII where the text is.
-use Rattle.std.proofs.Common.{◌≡◌, ℕ, true, List, ◌++◌, refl}
+-- Messages for bad text are ASCII where the text is, and none is that of a limit.
+use Rattle.std.proofs.Common.{◌≡◌, ℕ, Bool, true, false, ◌||◌, eqb, List, [], ◌∷◌, ◌++◌, drop, refl, sym, ap, ◌∙◌, subst, true≢false}
 use Rattle.std.specs.Prelude.{codes}
 use Rattle.std.specs.List.{list_all}
 use Rattle.std.specs.Str.{IsAscii}
 use Rattle.std.specs.Char.{is_ascii}
 use Rattle.std.proofs.lemmas.Bool.{ltb-true}
-use Rattle.std.proofs.lemmas.Str.{IsAscii-append}
+use Rattle.std.proofs.lemmas.Str.{IsAscii-append, IsAscii-drop}
 use Rattle.lexical_grammar.proofs.Sound.{ascii_run}
 use Rattle.apollo_lexer.specs.declared.faults.LexFault.{LexFault}
 use Rattle.apollo_lexer.specs.declared.faults.LexFault.TheVariants.{UnexpectedCharacter, NumberSuffix, IntegerSuffix, FractionalDigit, FloatSuffix, ExponentDigitOrSign, ExponentDigit}
-use Rattle.apollo_lexer.specs.Faults.{words, fault_message}
+use Rattle.apollo_lexer.specs.Faults.{words, fault_message, IsFaultMessage}
 
 -- what computes to ASCII is ASCII
 pub ascii_text : (xs : List ℕ) → list_all is_ascii xs ≡ true → IsAscii xs
@@ -26,7 +26,7 @@ words_ascii fault = ascii_text (words fault) (all_ascii fault)
 quoting : (front text back : List ℕ) → list_all is_ascii front ≡ true → list_all is_ascii back ≡ true → IsAscii text → IsAscii (front ++ text ++ back)
 quoting front text back f b h = IsAscii-append (front ++ text) back (IsAscii-append front text (ascii_text front f) h) (ascii_text back b)
 
-pub message_ascii : (fault : LexFault) (text next : List ℕ) → IsAscii text → IsAscii next → IsAscii (fault_message fault text next)
+message_ascii : (fault : LexFault) (text next : List ℕ) → IsAscii text → IsAscii next → IsAscii (fault_message fault text next)
 message_ascii UnexpectedCharacter text next h k = quoting (codes "Unexpected character \"") text (codes "\"") refl refl h
 message_ascii NumberSuffix text next h k = quoting (codes "Unexpected character `") next (codes "`") refl refl k
 message_ascii IntegerSuffix text next h k = quoting (codes "Unexpected character `") next (codes "` as integer suffix") refl refl k
@@ -35,3 +35,19 @@ message_ascii FloatSuffix text next h k = quoting (codes "Unexpected character `
 message_ascii ExponentDigitOrSign text next h k = quoting (codes "Unexpected character `") next (codes "`, expected exponent digit or sign") refl refl k
 message_ascii ExponentDigit text next h k = quoting (codes "Unexpected character `") next (codes "`, expected exponent digit") refl refl k
 message_ascii fault text next h k = words_ascii fault
+
+pub fault_ascii : (text message : List ℕ) → IsFaultMessage text message → IsAscii text → IsAscii message
+fault_ascii text message m h = subst IsAscii (sym m.words) (message_ascii m.fault text (drop m.number_len text) h (IsAscii-drop text m.number_len h))
+
+-- the letters that messages for bad text begin with: `N`, `U`, `i` and `u`
+abbrev begins_fault : List ℕ → Bool
+begins_fault [] = false
+begins_fault (c ∷ text) = eqb c 78 || eqb c 85 || eqb c 105 || eqb c 117
+
+fault_begins : (fault : LexFault) (text next : List ℕ) → begins_fault (fault_message fault text next) ≡ true
+fault_begins UnexpectedCharacter text next = refl
+fault_begins _ text next = refl
+
+-- a text that begins otherwise is none
+pub no_fault_message : (text message : List ℕ) → IsFaultMessage text message → begins_fault message ≡ false → ⊥
+no_fault_message text message m h = true≢false (sym (ap begins_fault m.words ∙ fault_begins m.fault text (drop m.number_len text)) ∙ h)

@@ -1,5 +1,5 @@
 -- What is wrong with bad text, and the words that say it.
-use Rattle.std.specs.Prelude.{ℕ, if◌then◌else◌, List, ◌++◌, Option, Some, None, codes}
+use Rattle.std.specs.Prelude.{◌≡◌, ℕ, if◌then◌else◌, List, ◌++◌, drop, Option, Some, None, codes}
 use Rattle.lexical_grammar.specs.Characters.{is_digit}
 use Rattle.lexical_grammar.specs.declared.NumberState.{NumberState}
 use Rattle.lexical_grammar.specs.declared.NumberState.TheVariants.{Minus, Zero, Integer, Point, ExponentIndicator, ExponentSign}
@@ -43,3 +43,9 @@ fault_message FloatSuffix text next = codes "Unexpected character `" ++ next ++ 
 fault_message ExponentDigitOrSign text next = codes "Unexpected character `" ++ next ++ codes "`, expected exponent digit or sign"
 fault_message ExponentDigit text next = codes "Unexpected character `" ++ next ++ codes "`, expected exponent digit"
 fault_message fault text next = words fault
+
+-- one of the messages for bad text; where it quotes a character, that is what follows the beginning of a number
+pub record IsFaultMessage (text message : List ℕ) : Type 0 where
+  pub fault : LexFault
+  pub number_len : ℕ
+  pub words : message ≡ fault_message fault text (drop number_len text)

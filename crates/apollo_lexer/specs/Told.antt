@@ -1,7 +1,8 @@
 -- The errors that are made of a lexer's answers.
-use Rattle.std.specs.Prelude.{◌≡◌, ℕ, Bool, true, false, List, [], ◌∷◌, ⊤, IsAscii, codes}
+use Rattle.std.specs.Prelude.{◌≡◌, ℕ, Bool, true, false, List, [], ◌∷◌, ⊤, codes}
 use Rattle.lexical_grammar.specs.Answers.{Answer, gives, limit_at}
 use Rattle.apollo_lexer.specs.Diagnostics.{Subject, of_text, of_limit, Diagnostic}
+use Rattle.apollo_lexer.specs.Faults.{IsFaultMessage}
 
 abbrev pub limit_message : List ℕ
 limit_message = codes "token limit reached, aborting lexing"
@@ -11,15 +12,15 @@ abbrev pub told_subject : Bool → List ℕ → Subject
 told_subject true text = of_limit
 told_subject false text = of_text text
 
--- its message: that of the limit, or one that is ASCII where the text is
+-- its message: that of the limit, or one of those for bad text
 abbrev pub IsLexMessage : Bool → List ℕ → List ℕ → Type 0
 IsLexMessage true text message = message ≡ limit_message
-IsLexMessage false text message = IsAscii text → IsAscii message
+IsLexMessage false text message = IsFaultMessage text message
 
--- the error keeps the answer's text and index, or that the limit is met; its message is ASCII where the text is
+-- the error keeps the answer's text and index, or that the limit is met; its message is one of those for it
 abbrev pub Tells : Answer → Diagnostic → Type 0
 Tells (limit_at index) d = d ≡ record { message = limit_message; subject = of_limit; index = index }
-Tells (gives item) d = (d.subject ≡ of_text item.text) × (d.index ≡ item.index) × (IsAscii item.text → IsAscii d.message)
+Tells (gives item) d = (d.subject ≡ of_text item.text) × (d.index ≡ item.index) × IsFaultMessage item.text d.message
 
 -- an error for each of the answers, in order
 abbrev pub AreTold : List Answer → List Diagnostic → Type 0

@@ -1,6 +1,6 @@
 // What is wrong with bad text, and the messages that say it.
-ghost use Rattle.std.specs.Prelude.{◌≡◌, ◌≤◌, ◌<◌, IfOk, IfSome, IsAscii, length, slice_index, string_bytes};
-ghost use Rattle.apollo_lexer.specs.Faults.{words, fault_message, number_fault};
+ghost use Rattle.std.specs.Prelude.{◌≡◌, ◌≤◌, ◌<◌, IfOk, IfSome, length, slice_index, string_bytes};
+ghost use Rattle.apollo_lexer.specs.Faults.{words, fault_message, number_fault, IsFaultMessage};
 
 use crate::escapes::escape_len;
 use crate::numbers::number_len;
@@ -213,7 +213,7 @@ fn fault_message<A: Allocator>(
 
 /// The message for bad text, by its last fault.
 pub fn bad_text_message<A: Allocator>(text: &str, alloc: A) -> Result<String<A>, AllocError>
-    ensures { IfOk result (λ m. IsAscii text.now → IsAscii (string_bytes m)) }
+    ensures { IfOk result (λ m. IsFaultMessage text.now (string_bytes m)) }
 {
     let bytes = text.as_bytes();
     let (state, n) = number_len(bytes);
