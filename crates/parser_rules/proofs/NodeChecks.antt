@@ -19,6 +19,7 @@ use Rattle.parser_rules.proofs.lookahead.FirstSets.{first_of, first_in, second_o
 use Rattle.parser_rules.proofs.soundness.TableCheck.{own, covered, all_marks, levels, leaf_of, loses, lacks, leaves_well, post, heads, takes, ends_at, closing, child_goes, child_sticks, child_at, limits_at, nests, typed, type_at, reports, is_node, ok, ends_well, follows_table, root_ends, document_follows, turns_follow}
 use Rattle.parser_rules.proofs.leaves.LeafCheck.{belongs, anything, leaf_check}
 use Rattle.parser_rules.proofs.nesting.LevelCheck.{at_first, level_check}
+use Rattle.parser_rules.proofs.reports.LimitCheck.{unknown as unknown_token, limit_check}
 use Rattle.document_grammar.proofs.Nested.{weight}
 use Rattle.parser_rules.proofs.runs.Walk.{walk, checks, always}
 use Rattle.parser_rules.proofs.recovery.RecoveryCheck.{pop_check, row_check, tidy_check, of_row, leaf_of_row, unknown, any_token}
@@ -31,6 +32,8 @@ data Fault : Type 0 where
   WrongLeaf : Fault
   -- a level of nesting is not entered, or not left
   WrongLevel : Fault
+  -- a level is entered where no token is certain
+  UncertainToken : Fault
   -- it makes an ERROR leaf of a token without a report, or of too many
   WrongErrorLeaf : Fault
   -- a symbol that is not of the node's row
@@ -46,13 +49,14 @@ faults c =
     unless (follows_table c) AgainstTheTable
     (unless (checks leaf_check c) WrongLeaf
     (unless (checks level_check c) WrongLevel
+    (unless (checks limit_check c) UncertainToken
     (unless (checks pop_check c) WrongErrorLeaf
     (unless (checks row_check c) ForeignSymbol
-    (unless (checks tidy_check c) IgnoredToken [])))))
+    (unless (checks tidy_check c) IgnoredToken []))))))
 
 -- all that the checks compute with
 unfoldable pub computing : Unit {0}
-unfolding ◌and◌ ◌or◌ is_leaf at ends exit arcs target entries rows firsts goes closes sticks label labels member Row symbol consuming split divide first_of first_in second_of inlined unread own covered all_marks levels leaf_of loses lacks leaves_well exits row_of post heads takes ends_at closing child_goes child_sticks child_at limits_at nests typed type_at reports is_node ok ends_well root_ends belongs leaf_check weight walk pop_check row_check tidy_check of_row leaf_of_row follows_table level_check document_follows turns_follow
+unfolding ◌and◌ ◌or◌ is_leaf at ends exit arcs target entries rows firsts goes closes sticks label labels member Row symbol consuming split divide first_of first_in second_of inlined unread own covered all_marks levels leaf_of loses lacks leaves_well exits row_of post heads takes ends_at closing child_goes child_sticks child_at limits_at nests typed type_at reports is_node ok ends_well root_ends belongs leaf_check weight walk pop_check row_check tidy_check of_row leaf_of_row follows_table level_check limit_check document_follows turns_follow
 computing = tt
 
 -- No node's rule is at fault. A node with a place is looked at in both.
@@ -88,6 +92,7 @@ pub record SoundRule (c : Node) : Type 0 where
   pub table : follows_table c ≡ true
   pub leaves : checks leaf_check c ≡ true
   pub levels : checks level_check c ≡ true
+  pub limits : checks limit_check c ≡ true
   pub errors : checks pop_check c ≡ true
   pub row : checks row_check c ≡ true
   pub ignored : checks tidy_check c ≡ true
@@ -100,7 +105,8 @@ node_passes c =
     let d = others _ _ _ b in
     let e = others _ _ _ d in
     let f = others _ _ _ e in
-    record { table = this _ _ _ (no_faults c); leaves = this _ _ _ a; levels = this _ _ _ b; errors = this _ _ _ d; row = this _ _ _ e; ignored = this _ _ _ f }
+    let g = others _ _ _ f in
+    record { table = this _ _ _ (no_faults c); leaves = this _ _ _ a; levels = this _ _ _ b; limits = this _ _ _ d; errors = this _ _ _ e; row = this _ _ _ f; ignored = this _ _ _ g }
 
 -- ---- the document's rule
 
@@ -119,6 +125,10 @@ document_leaves = refl
 pub document_levels : walk level_check 5 (Call Document) (at_first DOCUMENT) (level_check.ends kind.DOCUMENT) ≡ true
 unfolding computing
 document_levels = refl
+
+pub document_limits : walk limit_check 5 (Call Document) unknown_token always ≡ true
+unfolding computing
+document_limits = refl
 
 pub document_told : walk pop_check 5 (Call Document) (unknown any_token) always ≡ true
 unfolding computing

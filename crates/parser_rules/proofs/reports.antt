@@ -3,3 +3,5 @@ pub mod AlongItems
 pub mod Endings
 pub mod InOrder
 pub mod AtTheLimit
+pub mod LimitCheck
+pub mod PastTheLimit

@@ -180,7 +180,7 @@ sound = record {
   closes = λ j a e k b s u f g c d h i l. (anything, d, record { shown = i.shown; seen = seen-any u i.shown; fits = fit-after s f (marked.node j g marked.none) h.fits (fit-node j g i.fits) });
   inlines = λ n a b s f c h. record { shown = h.shown; seen = h.seen; fits = no_more };
   inlined = λ n a e b s u f g c h i. record { shown = i.shown; seen = i.seen; fits = fit-after s f (marked.node (kind_of n) g marked.none) h.fits (fit-node (kind_of n) g i.fits) };
-  enters = λ a k b s f c h. (a, c, h);
+  enters = λ a k b s f w c h. (a, c, h);
   leaves = λ a k b s f c h. (a, c, h);
   types = λ a b s f h. record { shown = h.shown; seen = h.seen; fits = no_more };
   plain = λ a e k b s u f g c h i l. (e, c, record { shown = i.shown; seen = i.seen; fits = fit-after s f g h.fits i.fits });

@@ -141,7 +141,7 @@ sound = record {
       (a, and-r _ _ d, grows a b s (closed u) f (marked.node j g marked.none) h n.0 i.higher n.1 i.waits);
   inlines = λ n a b s f c h. false-true refl c;
   inlined = λ n a e b s u f g c h i. false-true refl c;
-  enters = λ a k b s f c h.
+  enters = λ a k b s f w c h.
       let n = eqb-true _ _ (and-l _ _ (and-l _ _ c)) in
       let o = leb-true _ _ (and-r _ _ (and-l _ _ c)) in
       let d = h.depth in let u = h.higher in let p = h.peak in

@@ -143,7 +143,7 @@ allowed k f no_token h i = rw (not-c _ h) i
 -- ---- where the token limit cuts the text off
 
 -- where no significant token is left, the token limit is
-cut-off : {xs : List Answer} {s t : State} → Reading xs s t → EndsWell xs → second xs ≡ None → t.accepts ≡ true → ⊥
+pub cut-off : {xs : List Answer} {s t : State} → Reading xs s t → EndsWell xs → second xs ≡ None → t.accepts ≡ true → ⊥
 unfolding second
 cut-off stops e h a = e
 cut-off (cuts r) e h a = true≢false (sym ((read-reports r).keeps a))
@@ -156,7 +156,7 @@ cut-off (shows i j) e h a = absurd (none (rw (i, j) at h))
 
 -- ---- tests
 
-and-both : (a b : Bool) → true ≡ a && b → (true ≡ a) × (true ≡ b)
+pub and-both : (a b : Bool) → true ≡ a && b → (true ≡ a) × (true ≡ b)
 and-both true b e = (refl, e)
 and-both false b e = absurd (true≢false e)
 
@@ -318,7 +318,7 @@ sound = record {
   );
   inlines = λ n a b s f c h. false-true refl c;
   inlined = λ n a e b s u f g c h i. false-true refl c;
-  enters = λ a k b s f c h. (a, c, h);
+  enters = λ a k b s f w c h. (a, c, h);
   leaves = λ a k b s f c h. (a, c, h);
   types = λ a b s f h. held one_token (flush s) (flush s) none h.stood (λ y. (tt, refl));
   plain = λ a e k b s u f g c h i l.

@@ -82,7 +82,7 @@ sound = record {
       (a, and-r _ _ d, grows a b s (closed u) f (node j g none) h (and-i (and-i (and-l _ _ o) r) refl) (and-i (and-i (and-r _ _ o) r) refl) i.waits);
   inlines = λ n a b s f c h. absurd (true≢false (sym c));
   inlined = λ n a e b s u f g c h i. absurd (true≢false (sym c));
-  enters = λ a k b s f c h. (a, c, h);
+  enters = λ a k b s f w c h. (a, c, h);
   leaves = λ a k b s f c h. (a, c, h);
   types = λ a b s f h. record { own = refl; later = refl; waits = refl };
   plain = λ a e k b s u f g c h i l.

@@ -8,7 +8,7 @@ use Rattle.document_grammar.specs.Builds.{built_count}
 use Rattle.document_grammar.specs.Booleans.{◌and◌}
 use Rattle.document_grammar.proofs.Booleans.{false-true, and-l, and-r, either}
 use Rattle.parser_rules.specs.declared.message.Message.{Message}
-use Rattle.parser_rules.specs.State.{State, Lexeme, flush, opened, closed, wrapped_from, moved, bump, note, enter, leave, too_deep, begun}
+use Rattle.parser_rules.specs.State.{State, Lexeme, flush, opened, closed, wrapped_from, moved, bump, note, is_deep, enter, leave, too_deep, begun}
 use Rattle.parser_rules.specs.Nodes.{Node, kind_of}
 use Rattle.parser_rules.specs.RuleLanguage.{Test, At, holds, Prim, Bump, Note, step, Rule, Skip, Do, Seq, When, While, Child, TooDeep, Nested, Call, Typed}
 use Rattle.parser_rules.specs.Rules.{inside, body}
@@ -109,7 +109,7 @@ module _ {K : Type 0} (d : Domain K) (Held : K → State → State → Marked �
         → Goes k b (closed u) (append f (after_waiting s (node j g none)))
     pub inlines : (n : Node) (a : K) (b s : State) (f : Marked) → d.inlines n ≡ true → Held a b s f → Held a (opened (kind_of n) s) (opened (kind_of n) s) none
     pub inlined : (n : Node) (a e : K) (b s u : State) (f g : Marked) → d.inlines n ≡ true → Held a b s f → Held e (opened (kind_of n) s) u g → Held e b (closed u) (append f (after_waiting s (node (kind_of n) g none)))
-    pub enters : (a : K) (k : K → Bool) (b s : State) (f : Marked) → d.enters a k ≡ true → Held a b s f → Goes k b (enter s) f
+    pub enters : (a : K) (k : K → Bool) (b s : State) (f : Marked) → false ≡ is_deep s → d.enters a k ≡ true → Held a b s f → Goes k b (enter s) f
     pub leaves : (a : K) (k : K → Bool) (b s : State) (f : Marked) → d.leaves a k ≡ true → Held a b s f → Goes k b (leave s) f
     pub types : (a : K) (b s : State) (f : Marked) → Held a b s f → Held (d.types a) (flush s) (flush s) none
     pub plain : (a c : K) (k : K → Bool) (b s u : State) (f g : Marked) → d.plain a c k ≡ true → Held a b s f → Held c (flush s) u g → Grown (flush s) u g → Goes k b u (append f (after_waiting s g))
@@ -188,7 +188,7 @@ module _ {K : Type 0} (d : Domain K) (Held : K → State → State → Marked �
           subst (Comes k b) (sym c) (node-ends (kind_of q) a k b s u f (and-r _ _ w) g i (subst (λ (z : State). Comes (d.ends (kind_of q)) z u) e l)))
     ]
     walked {s = s} (deeper {a = p} {b = q} {u = u} z e c x y) n a k b f h g i =
-        let m = r.enters a (λ c. walk d n p c (λ c'. d.leaves c' (λ c''. walk d n q c'' k))) b s f (and-r _ _ h) i in
+        let m = r.enters a (λ c. walk d n p c (λ c'. d.leaves c' (λ c''. walk d n q c'' k))) b s f z (and-r _ _ h) i in
         let l = walked x n m.0 (λ c'. d.leaves c' (λ c''. walk d n q c'' k)) b f m.1 (subst (λ (z : State). Grown b z f) (sym e) g) (subst (λ (z : State). Held m.0 b z f) (sym e) m.2) in
         let o = r.leaves l.2.0 (λ c''. walk d n q c'' k) b u l.0 l.2.1 l.2.2 in
         walked y n o.0 k b l.0 o.1 (subst (λ (z : State). Grown b z l.0) (sym c) l.1) (subst (λ (z : State). Held o.0 b z l.0) (sym c) o.2)
