@@ -1,5 +1,5 @@
 -- What the errors of a parse are, by the reports that they say.
-use Rattle.std.proofs.Common.{◌≡◌, ℕ, zero, suc, Bool, true, false, ◌&&◌, ◌||◌, if◌then◌else◌, List, [], ◌∷◌, ◌++◌, length, map, take, get_or, ◌+◌, ◌<◌, ◌⊎◌, add-one, arith, Option, Some, None, refl, sym, ◌∙◌, ap, ap₂, subst, inl, inr, true≢false}
+use Rattle.std.proofs.Common.{◌≡◌, ℕ, zero, suc, Bool, true, false, ◌&&◌, ◌||◌, if◌then◌else◌, eqb, List, [], ◌∷◌, ◌++◌, length, map, take, get_or, ◌+◌, ◌<◌, ◌⊎◌, add-one, arith, Option, Some, None, refl, sym, ◌∙◌, ap, ap₂, subst, inl, inr, true≢false}
 use Rattle.std.specs.Prelude.{codes, is_some, IsAscii, ⊤}
 use Rattle.std.specs.List.{AllZip, Any, All, list_all, list_any}
 use Rattle.std.specs.Char.{is_ascii}
@@ -11,19 +11,21 @@ use Rattle.std.proofs.Math.Seq.{take-append_seam, drop-append_seam, take-suc}
 use Rattle.lexical_grammar.specs.Answers.{Answer, gives, limit_at, limited, is_end}
 use Rattle.lexical_grammar.specs.Cut.{Item, texts}
 use Rattle.document_grammar.specs.Booleans.{◌and◌}
-use Rattle.apollo_lexer.specs.Diagnostics.{Diagnostic, of_text, of_end, of_limit}
+use Rattle.document_grammar.proofs.Booleans.{either}
+use Rattle.std.proofs.lemmas.Bool.{eqb-true}
+use Rattle.apollo_lexer.specs.Diagnostics.{Subject, Diagnostic, of_text, of_end, of_limit}
 use Rattle.apollo_lexer.specs.Told.{limit_message}
-use Rattle.apollo_lexer.proofs.Messages.{ascii_text}
+use Rattle.apollo_lexer.proofs.Messages.{ascii_text, fault_ascii, begins_fault, no_fault_message}
 use Rattle.grammar_machine.specs.Machine.{text_eq}
 use Rattle.parser_rules.specs.declared.message.Message.{Message}
 use Rattle.parser_rules.specs.declared.message.Message.TheVariants as message
 use Rattle.parser_rules.specs.Messages.{Text, Found, at_text, at_end, at_limit, is_limit, description, names_found, found_text, message_text, recursion_limit_message}
-use Rattle.parser_rules.specs.State.{Report, Lexeme, found_at, lexeme}
+use Rattle.parser_rules.specs.State.{Report, Lexeme, bad_report, token_limit_report, recursion_limit_report, fault_report, found_at, lexeme}
 use Rattle.parser_rules.specs.Reports.{Reported, no_more, bad_text, token_limit, fault, recursion_limit, passed, is_recursion_limit}
 use Rattle.parser_rules.proofs.reports.Endings.{limited-none}
 use Rattle.apollo_grammar.specs.declared.report.Report.{Report as Source}
 use Rattle.apollo_grammar.specs.View.{report_of}
-use Rattle.apollo_grammar.specs.Errors.{found_of, IsWorded, IsErrorOf, IsRecursionLimit}
+use Rattle.apollo_grammar.specs.Errors.{found_of, IsWorded, IsErrorOf, IsRecursionLimit, IsLimitMessage, IsLimitWorded}
 
 pub same-indices : (rs : List Report) (ds : List Diagnostic) → AllZip IsErrorOf rs ds → map (λ (d : Diagnostic). d.index) ds ≡ map (λ (r : Report). r.index) rs
 same-indices [] [] h = refl
@@ -89,11 +91,26 @@ found-ascii x h = elim (is_end x.kind) as (λ b. IsAscii (found_text (if b then 
   | false ↦ h
 ]
 
--- the text of each item is ASCII
-abbrev pub AllAscii : List Answer → Type 0
-AllAscii [] = ⊤
-AllAscii (gives item ∷ answers) = IsAscii item.text × AllAscii answers
-AllAscii (limit_at index ∷ answers) = AllAscii answers
+-- what holds of the text of each item
+abbrev pub AllTexts : (Text → Type 0) → List Answer → Type 0
+AllTexts P [] = ⊤
+AllTexts P (gives item ∷ answers) = P item.text × AllTexts P answers
+AllTexts P (limit_at index ∷ answers) = AllTexts P answers
+
+-- What holds of the error of each report that a text can have. `Text_is` is what is known of the items' texts.
+module _ (Text_is : Text → Type 0) (P : Diagnostic → Type 0)
+    (of_bad : (text : Text) (index : ℕ) (d : Diagnostic) → Text_is text → IsErrorOf (bad_report text index) d → P d)
+    (of_tokens : (index : ℕ) (d : Diagnostic) → IsErrorOf (token_limit_report index) d → P d)
+    (of_fault : (m : Message) (x : Lexeme) (d : Diagnostic) → Text_is x.text → IsErrorOf (fault_report m x) d → P d)
+    (of_depth : (x : Lexeme) (d : Diagnostic) → IsErrorOf (recursion_limit_report x) d → P d) where
+  each-error : {taken : Bool} {answers : List Answer} {rs : List Report} (ds : List Diagnostic) → Reported taken answers rs → AllTexts Text_is answers → AllZip IsErrorOf rs ds → All P ds
+  each-error [] h a z = All-nil P
+  each-error (d ∷ ds) no_more a z = absurd z
+  each-error (d ∷ ds) (bad_text {item = item} e h) a z = All-cons P d ds (of_bad item.text item.index d a.0 z.0) (each-error ds h a.1 z.1)
+  each-error (d ∷ ds) (token_limit {index = index} h) a z = All-cons P d ds (of_tokens index d z.0) (each-error ds h a z.1)
+  each-error (d ∷ ds) (fault m {k = k} {item = item} e i h) a z = All-cons P d ds (of_fault m (lexeme k item) d a.0 z.0) (each-error ds h a z.1)
+  each-error (d ∷ ds) (recursion_limit {k = k} {item = item} e i h) a z = All-cons P d ds (of_depth (lexeme k item) d z.0) (each-error ds h a z.1)
+  each-error (d ∷ ds) (passed e h) a z = each-error (d ∷ ds) h a.1 z
 
 abbrev AsciiMessage : Diagnostic → Type 0
 AsciiMessage d = IsAscii d.message
@@ -101,26 +118,86 @@ AsciiMessage d = IsAscii d.message
 worded-ascii : (text message : Text) → IsAscii text → message ≡ text → IsAscii message
 worded-ascii text message h e = subst IsAscii (sym e) h
 
-pub ascii-messages : {taken : Bool} {answers : List Answer} {rs : List Report} (ds : List Diagnostic) → Reported taken answers rs → AllAscii answers → AllZip IsErrorOf rs ds → All AsciiMessage ds
-ascii-messages [] h a z = All-nil AsciiMessage
-ascii-messages (d ∷ ds) no_more a z = absurd z
-ascii-messages (d ∷ ds) (bad_text e h) a z = All-cons AsciiMessage d ds (z.0.message a.0) (ascii-messages ds h a.1 z.1)
-ascii-messages (d ∷ ds) (token_limit h) a z = All-cons AsciiMessage d ds (worded-ascii limit_message d.message (ascii_text limit_message refl) z.0.message) (ascii-messages ds h a z.1)
-ascii-messages (d ∷ ds) (fault m {k = k} {item = item} e i h) a z =
-    let x : Lexeme = lexeme k item in
-    All-cons AsciiMessage d ds (worded-ascii (message_text m (found_at x)) d.message (message-ascii m (found_at x) (found-ascii x a.0)) z.0.message) (ascii-messages ds h a z.1)
-ascii-messages (d ∷ ds) (recursion_limit e i h) a z = All-cons AsciiMessage d ds (worded-ascii recursion_limit_message d.message (ascii_text recursion_limit_message refl) z.0.message) (ascii-messages ds h a z.1)
-ascii-messages (d ∷ ds) (passed e h) a z = ascii-messages (d ∷ ds) h a.1 z
+pub ascii-messages : {answers : List Answer} {rs : List Report} (ds : List Diagnostic) → Reported true answers rs → AllTexts IsAscii answers → AllZip IsErrorOf rs ds → All AsciiMessage ds
+ascii-messages = each-error IsAscii AsciiMessage
+    (λ text index d h e. fault_ascii text d.message e.message h)
+    (λ index d e. worded-ascii limit_message d.message (ascii_text limit_message refl) e.message)
+    (λ m x d h e. worded-ascii (message_text m (found_at x)) d.message (message-ascii m (found_at x) (found-ascii x h)) e.message)
+    (λ x d e. worded-ascii recursion_limit_message d.message (ascii_text recursion_limit_message refl) e.message)
 
 -- the items of an ASCII text are ASCII
-limited-ascii : (k : ℕ) (items : List Item) → IsAscii (texts items) → AllAscii (limited k items)
-limited-ascii k [] h = subst AllAscii (sym (limited-none k)) tt
+limited-ascii : (k : ℕ) (items : List Item) → IsAscii (texts items) → AllTexts IsAscii (limited k items)
+limited-ascii k [] h = subst (AllTexts IsAscii) (sym (limited-none k)) tt
 limited-ascii zero (item ∷ items) h = tt
 limited-ascii (suc k) (item ∷ items) h =
     (subst IsAscii (take-append_seam item.text (texts items)) (IsAscii-take _ (length item.text) h), limited-ascii k items (subst IsAscii (drop-append_seam item.text (texts items)) (IsAscii-drop _ (length item.text) h)))
 
-pub source-ascii : (k : ℕ) (source : Text) (items : List Item) → texts items ≡ source → IsAscii source → AllAscii (limited k items)
+pub source-ascii : (k : ℕ) (source : Text) (items : List Item) → texts items ≡ source → IsAscii source → AllTexts IsAscii (limited k items)
 source-ascii k source items e h = limited-ascii k items (subst IsAscii (sym e) h)
+
+-- ---- the messages of limits
+
+-- what the two messages begin with: `p` and `t`
+abbrev begins_limit : Text → Bool
+begins_limit [] = false
+begins_limit (c ∷ text) = eqb c 112 || eqb c 116
+
+limit-begins : (message : Text) → IsLimitMessage message → begins_limit message ≡ true
+limit-begins message (inl e) = ap begins_limit e
+limit-begins message (inr e) = ap begins_limit e
+
+-- the grammar's messages begin otherwise
+message-begins : (m : Message) (found : Found) → begins_limit (message_text m found) ≡ false
+message-begins message.UnexpectedEof found = refl
+message-begins _ found = refl
+
+subject-limit : (d : Diagnostic) → found_of d.subject ≡ at_limit → d.subject ≡ of_limit
+subject-limit d e = on d.subject e
+  where
+    on : (s : Subject) → found_of s ≡ at_limit → s ≡ of_limit
+    on (of_text text) e = absurd cc
+    on of_end e = absurd cc
+    on of_limit e = refl
+
+-- and the messages for bad text do too
+limit-otherwise : (message : Text) → begins_limit message ≡ true → begins_fault message ≡ false
+limit-otherwise [] h = refl
+limit-otherwise (c ∷ text) h = on c h
+  where
+    on : (c : ℕ) → eqb c 112 || eqb c 116 ≡ true → eqb c 78 || eqb c 85 || eqb c 105 || eqb c 117 ≡ false
+    on c h = elim (either (eqb c 112)) [
+      | inl e ↦ rw (eqb-true c 112 e) refl
+      | inr e ↦ rw (eqb-true c 116 (subst (λ (b : Bool). b || eqb c 116 ≡ true) e h)) refl
+    ]
+
+-- an error about something else, with another message
+other-worded : (d : Diagnostic) (found : Found) → found_of d.subject ≡ found → is_limit found ≡ false → (IsLimitMessage d.message → ⊥) → IsLimitWorded d
+other-worded d found e l n = record { limit = λ s. absurd (true≢false (sym (ap (λ (x : Subject). is_limit (found_of x)) s) ∙ (ap is_limit e ∙ l))); other = λ i. absurd (n i) }
+
+found-other : (x : Lexeme) → is_limit (found_at x) ≡ false
+found-other x = elim (is_end x.kind) as (λ b. is_limit (if b then at_end else at_text x.text) ≡ false) [ true ↦ refl | false ↦ refl ]
+
+any-text : (answers : List Answer) → AllTexts (λ text. ⊤) answers
+any-text [] = tt
+any-text (gives item ∷ answers) = (tt, any-text answers)
+any-text (limit_at index ∷ answers) = any-text answers
+
+pub limit-worded : {answers : List Answer} {rs : List Report} (ds : List Diagnostic) → Reported true answers rs → AllZip IsErrorOf rs ds → All IsLimitWorded ds
+limit-worded {answers = answers} ds h = each-error (λ text. ⊤) IsLimitWorded
+    (λ text index d i e. other-worded d (at_text text) e.subject refl (λ l. no_fault_message text d.message e.message (limit-otherwise d.message (limit-begins d.message l))))
+    (λ index d e. record { limit = λ s. inl e.message; other = λ i. subject-limit d e.subject })
+    (λ m x d i e. other-worded d (found_at x) e.subject (found-other x) (λ l. true≢false (sym (limit-begins d.message l) ∙ (ap begins_limit e.message ∙ message-begins m (found_at x)))))
+    (λ x d e. record { limit = λ s. inr e.message; other = λ i. subject-limit d e.subject })
+    ds h (any-text answers)
+
+-- a report of a limit has its error
+pub any-limit : (before after : List Report) (r : Report) (ds : List Diagnostic) → r.found ≡ at_limit → AllZip IsErrorOf (before ++ (r ∷ after)) ds → Any (λ (d : Diagnostic). d.subject ≡ of_limit) ds
+any-limit [] after r [] e z = absurd z
+any-limit [] after r (d ∷ ds) e z = (0, d, omega arith, refl, subject-limit d (z.0.subject ∙ e))
+any-limit (x ∷ before) after r [] e z = absurd z
+any-limit (x ∷ before) after r (d ∷ ds) e z =
+    let a = any-limit before after r ds e z.1 in
+    (suc a.0, a.1, omega (arith, a.2), a.3, a.4)
 
 -- ---- the errors are made, one after the other
 

@@ -1,5 +1,5 @@
 -- The current token may be the one leaf of a name or a literal.
-use Rattle.std.proofs.Common.{◌≡◌, Bool, true, false, ◌&&◌, eqb, Option, Some, None, refl, sym, ◌∙◌, subst, inl, inr, rules}
+use Rattle.std.proofs.Common.{◌≡◌, true, Option, Some, None, refl, sym, subst, inl, inr, rules}
 use denote.Enum.Bare.{same_true}
 use Rattle.lexical_grammar.specs.contracts.TokenKind.{the_type}
 use Rattle.lexical_grammar.specs.declared.TokenKind.{TokenKind}
@@ -10,11 +10,9 @@ use Rattle.document_grammar.specs.declared.kind.SyntaxKind.TheVariants as kind
 use Rattle.std.specs.Prelude.{codes}
 use Rattle.document_grammar.specs.Kinds.{words}
 use Rattle.document_grammar.specs.Choices.{keyword_word}
-use Rattle.document_grammar.specs.Numbers.{number}
-use Rattle.grammar_machine.specs.Machine.{word_class}
 use Rattle.document_grammar.specs.Forests.{none, leaf}
 use Rattle.apollo_tree.specs.Sound.{Fits}
-use Rattle.parser_rules.specs.State.{Text, Lexeme, IsNow, same_kind, is_at, is_word}
+use Rattle.parser_rules.specs.State.{Text, Lexeme, IsNow, same_kind, is_at}
 use Rattle.apollo_grammar.specs.Reading.{is_leaf_of}
 use Rattle.apollo_grammar.proofs.Keywords.{word_is}
 

@@ -1,5 +1,5 @@
 // The whole parse.
-ghost use Rattle.std.specs.Prelude.{◌≡◌, ◌≤◌, ◌+◌, ◌^◌, ◌-◌, true, [], IfOk, length, min, take, map};
+ghost use Rattle.std.specs.Prelude.{◌≡◌, ◌≤◌, ◌<◌, ◌+◌, ◌^◌, ◌-◌, true, [], IfOk, length, min, take, map};
 ghost use Rattle.std.specs.Str.{IsAscii};
 ghost use Rattle.std.specs.List.{Any, All};
 ghost use Rattle.std.specs.List.Sorted.{IsNonDecreasing};
@@ -7,6 +7,7 @@ ghost use Rattle.lexical_grammar.specs.Answers.{limited};
 ghost use Rattle.lexical_grammar.specs.Cut.{Cut, texts};
 ghost use Rattle.lexical_grammar.specs.Reads.{items_of};
 ghost use Rattle.apollo_lexer.specs.Answers.{answers_left};
+ghost use Rattle.apollo_lexer.specs.Diagnostics.{of_limit};
 ghost use Rattle.document_grammar.specs.declared.kind.SyntaxKind.TheVariants as kind;
 ghost use Rattle.document_grammar.specs.Forests.{Forest, none, node, text};
 ghost use Rattle.document_grammar.specs.Derivation.{document as document_sort, nest};
@@ -15,7 +16,7 @@ ghost use Rattle.document_grammar.specs.Places.{bare};
 ghost use Rattle.document_grammar.specs.Numbered.{tree_of};
 ghost use Rattle.parser_rules.specs.Leaves.{leaves, OneLeafAnItem};
 ghost use Rattle.apollo_grammar.specs.ByRules.{ByRules};
-ghost use Rattle.apollo_grammar.specs.Errors.{ErrorsOf, IsRecursionLimit};
+ghost use Rattle.apollo_grammar.specs.Errors.{ErrorsOf, IsRecursionLimit, IsLimitWorded};
 
 use crate::grammar::document::document;
 use crate::state::ParserState;
@@ -113,12 +114,16 @@ impl<'i> Parser<'i> {
         ensures recursion { IfOk result (λ t. (t.recursion_limit.current ≡ 0) × (t.recursion_limit.limit ≡ self.entry.recursion_limit) × (t.recursion_limit.high ≤ self.entry.recursion_limit + 1)) }
         // with the recursion limit's error, more than the limit was asked for; by one, as long as that is a usize
         ensures limit_met { IfOk result (λ t. Any IsRecursionLimit t.errors → min (self.entry.recursion_limit + 1) (2 ^ 64 - 1) ≤ t.recursion_limit.high) }
+        // where more than the limit was asked for, there is a limit's error: the recursion limit's, or the token limit's before it
+        ensures past_limit { IfOk result (λ t. self.entry.recursion_limit < t.recursion_limit.high → Any (λ e. e.subject ≡ of_limit) t.errors) }
         // the greatest depth that was asked for covers what the tree nests, also where there are errors
         ensures nesting { IfOk result (λ t. nest (tree_of t.tree) ≤ t.recursion_limit.high) }
         ensures tokens { IfOk result (λ t. (t.token_limit.limit ≡ self.entry.token_limit) × (t.token_limit.high ≡ min (length (items_of self.entry.source.now)) (self.entry.token_limit + 1))) }
         // the errors go along the items: one for each bad text and for the token limit, in the lexer's words; the grammar's and the recursion
         // limit's, word by word, at significant tokens or the end, and none of these after a limit error
         ensures errors { IfOk result (λ t. ErrorsOf (limited self.entry.token_limit (items_of self.entry.source.now)) t.errors) }
+        // a limit's error has a limit's message, and no other error has one
+        ensures limit_messages { IfOk result (λ t. All IsLimitWorded t.errors) }
         ensures ascii { IfOk result (λ t. IsAscii self.entry.source.now → All (λ e. IsAscii e.message) t.errors) }
         ensures in_order { IfOk result (λ t. IsNonDecreasing (map (λ e. e.index) t.errors)) }
         // without errors, the tree without its ignored leaves is the derivation of the text, which is a sentence within both limits

@@ -40,7 +40,7 @@ pub fault_ascii : (text message : List ℕ) → IsFaultMessage text message → 
 fault_ascii text message m h = subst IsAscii (sym m.words) (message_ascii m.fault text (drop m.number_len text) h (IsAscii-drop text m.number_len h))
 
 -- the letters that messages for bad text begin with: `N`, `U`, `i` and `u`
-abbrev begins_fault : List ℕ → Bool
+abbrev pub begins_fault : List ℕ → Bool
 begins_fault [] = false
 begins_fault (c ∷ text) = eqb c 78 || eqb c 85 || eqb c 105 || eqb c 117
 

@@ -1,5 +1,5 @@
 use Rattle.std.proofs.lemmas.Result.{IfOk-weaker}
-use Rattle.apollo_grammar.proofs.Parses.{lossless, one_document, one_leaf, recursion, nested, tokens, errors, ascii_messages, limit_met, ordered, sound_tree}
+use Rattle.apollo_grammar.proofs.Parses.{lossless, one_document, one_leaf, recursion, nested, tokens, errors, ascii_messages, limit_met, past_limit, limit_words, ordered, sound_tree}
 use Rattle.apollo_grammar.proofs.parser.Parser.parse.Goals as goal
 
 pub returns-clause-cut : goal.returns-clause-cut
@@ -31,6 +31,12 @@ returns-clause-ascii g c = IfOk-weaker c.run_document.result _ _ (λ t p. ascii_
 
 pub returns-clause-limit_met : goal.returns-clause-limit_met
 returns-clause-limit_met g c = IfOk-weaker c.run_document.result _ _ (λ t p. limit_met p) c.run_document.ensures
+
+pub returns-clause-past_limit : goal.returns-clause-past_limit
+returns-clause-past_limit g c = IfOk-weaker c.run_document.result _ _ (λ t p. past_limit p) c.run_document.ensures
+
+pub returns-clause-limit_messages : goal.returns-clause-limit_messages
+returns-clause-limit_messages g c = IfOk-weaker c.run_document.result _ _ (λ t p. limit_words p) c.run_document.ensures
 
 pub returns-clause-in_order : goal.returns-clause-in_order
 returns-clause-in_order g c = IfOk-weaker c.run_document.result _ _ (λ t p. ordered p) c.run_document.ensures
