@@ -9,7 +9,7 @@ use apollo_cst_core::CstNode;
 use apollo_cst_document::Document;
 use apollo_lexer::{Error, LimitTracker};
 use apollo_tree::{Subtree, SyntaxNode};
-use std::alloc::{AllocError, Allocator};
+use std::alloc::{AllocError, Allocator, Global};
 use std::fmt;
 use std::marker::{Model, PhantomData};
 use std::slice::Iter;
@@ -28,7 +28,7 @@ impl Root for DocumentRoot {
 
 /// The tree of a text, the errors that were found in it, and how the limits were used. `R` marks what the root is.
 #[derive(Drop)]
-pub struct SyntaxTree<R: Root, A: Allocator> {
+pub struct SyntaxTree<R: Root, A: Allocator = Global> {
     pub(crate) tree: Subtree<A>,
     pub(crate) errors: Vec<Error<A>, A>,
     pub(crate) recursion_limit: LimitTracker,

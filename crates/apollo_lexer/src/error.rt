@@ -6,7 +6,7 @@ ghost use Rattle.apollo_lexer.specs.Equal.{same_diagnostic, subject_number, hash
 ghost use Rattle.apollo_lexer.specs.Printed.{error_text};
 ghost use Rattle.apollo_lexer.specs.Diagnostics.{of_text, of_end, of_limit, subject_text, is_end_subject, is_limit_subject};
 
-use std::alloc::{AllocError, Allocator};
+use std::alloc::{AllocError, Allocator, Global};
 use std::fmt;
 use std::hash::{Hash, Hasher};
 use std::marker::Model;
@@ -22,7 +22,7 @@ enum ErrorData<A: Allocator> {
 /// What is wrong, and where: a message, the text of the source that it is about, and the byte where that begins. In place of a text an
 /// error may be about the end of the source, or about a limit that was met.
 #[derive(Drop)]
-pub struct Error<A: Allocator> {
+pub struct Error<A: Allocator = Global> {
     message: String<A>,
     subject: ErrorData<A>,
     index: usize,
