@@ -1,5 +1,6 @@
 -- The grammar of the parser: a rule for each node, and for each part that works within the open node. Above each is the production of the
--- standard (GraphQL October 2021) with its section. A rule also says what is reported, and what becomes an ERROR leaf.
+-- standard (GraphQL October 2021) with its section. A rule also says what is reported, and what becomes an ERROR leaf. The nodes and parts
+-- are made from the left sides (specs/Nodes.antt); a node's parameter says whether its place is constant.
 use Rattle.std.specs.Prelude.{Bool, true, false}
 use Rattle.lexical_grammar.specs.declared.TokenKind.TheVariants as token
 use Rattle.document_grammar.specs.declared.kind.SyntaxKind.TheVariants as kind
@@ -184,7 +185,7 @@ body VariableType = When (Here type_start) (Call TypeOf > Call MaybeDefaultValue
 body MaybeDefaultValue = maybe token.Eq DefaultValue
 body MaybeTypeCondition = maybe token.Name TypeCondition
 -- Value[Const] (2.9) : [if not Const] Variable, IntValue, FloatValue, StringValue, BooleanValue, NullValue, EnumValue, ListValue[?Const], or
--- ObjectValue[?Const]
+-- ObjectValue[?Const]. Where none starts, `pops` says that the token becomes an ERROR leaf.
 body (ValueOf c pops) =
     When (At token.Dollar) (variable_of c)
     (When (At token.Int) (Child IntValue)
@@ -194,7 +195,7 @@ body (ValueOf c pops) =
     (When (At token.LBracket) (Child (ListValue c))
     (When (At token.LCurly) (Child (ObjectValue c))
     (no_value pops)))))))
--- BooleanValue (2.9.3), NullValue (2.9.5), or EnumValue (2.9.6)
+-- BooleanValue (2.9.3), NullValue (2.9.5), or EnumValue (2.9.6): the values that are a word
 body WordValue =
     When (Here boolean) (Child BooleanValue)
     (When (Word kind.null_KW) (Child NullValue)

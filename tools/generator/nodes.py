@@ -1,0 +1,87 @@
+"""The nodes and parts of the parser's rules, with their kinds and the machine's symbols: specs/Nodes.antt of the crate parser_rules.
+
+Both are the left sides of specs/Rules.antt: `inside` has a clause for each node, `body` one for each part. A parameter is a Bool, and that
+of a node says whether its place is constant.
+"""
+
+import re
+
+from .layout import CRATES, mark
+from .symbols import Symbols
+
+FOLDER = CRATES / "parser_rules/specs"
+
+# The node whose kind has another name. The others are called as their symbols: FragmentSpread as FRAGMENT_SPREAD.
+OTHER_NAMES = {"Operation": "OPERATION_DEFINITION"}
+
+
+class Clause:
+    """What a clause of `inside` or `body` is for: the name of the node or part, and its parameters."""
+
+    def __init__(self, name, parameters):
+        self.name, self.parameters = name, parameters
+        self.type = "Bool → " * len(parameters)
+        self.pattern = f"({' '.join([name, *parameters])})" if parameters else name
+
+
+def clauses(function):
+    """The clauses of a function of Rules.antt, in order."""
+    text = (FOLDER / "Rules.antt").read_text()
+    heads = re.findall(rf"^{function} (?:(\w+)|\((\w+) ([\w ]+)\)) =", text, re.M)
+    return [Clause(plain or name, parameters.split()) for plain, name, parameters in heads]
+
+
+def symbol_of(node, symbols):
+    """The symbol of a node, in a place that is not constant."""
+    symbol = OTHER_NAMES.get(node.name) or re.sub(r"(?<!^)(?=[A-Z])", "_", node.name).upper()
+    if symbol not in symbols.number:
+        raise SystemExit(f"Rules.antt: the node {node.name} has no kind {symbol}")
+    return symbol
+
+
+def own_symbols(nodes, symbols):
+    """The clauses of `symbol` for the nodes whose symbol is not the number of their kind; those of constant places come last."""
+    plain, constant = [], []
+    for node in nodes:
+        symbol = symbol_of(node, symbols)
+        if symbols.label[symbol] != symbol:
+            plain.append(f"symbol {node.pattern} = symbols.{symbol}\n")
+        if node.parameters:
+            constant.append(f"symbol ({node.name} true) = symbols.{symbols.constant(symbol)}\n")
+    return "".join(plain + constant)
+
+
+def constructors(of, made):
+    """The constructors of the type of nodes, or of parts."""
+    return "".join(f"  {clause.name} : {clause.type}{of}\n" for clause in made)
+
+
+def nodes_file(symbols):
+    """specs/Nodes.antt."""
+    nodes = clauses("inside")
+    kinds = "".join(f"kind_of {node.pattern} = kind.{symbols.label[symbol_of(node, symbols)]}\n" for node in nodes)
+    return f"""{mark("--", "the left sides of specs/Rules.antt")}-- The nodes that the parser builds, and the parts of the grammar that work within the node that is open.
+use Rattle.std.specs.Prelude.{{ℕ, Bool, true}}
+use Rattle.document_grammar.specs.declared.kind.SyntaxKind.{{SyntaxKind}}
+use Rattle.document_grammar.specs.declared.kind.SyntaxKind.TheVariants as kind
+use Rattle.document_grammar.specs.Numbers.{{number}}
+use Rattle.grammar_machine.specs.Symbols as symbols
+
+-- the nodes; `true` names those in a constant place
+pub data Node : Type 0 where
+{constructors("Node", nodes)}
+-- the kind of a node
+abbrev pub kind_of : Node → SyntaxKind
+{kinds}
+-- the machine's symbol of a node: that of its kind, but for these
+unfoldable pub symbol : Node → ℕ
+{own_symbols(nodes, symbols)}symbol c = number (kind_of c)
+
+-- the rules that work within the node that is open; `true` says first that the place is a constant one
+pub data Part : Type 0 where
+{constructors("Part", clauses("body"))}"""
+
+
+def outputs(grammar):
+    """The text of the file, by its path."""
+    return {FOLDER / "Nodes.antt": nodes_file(Symbols(grammar))}
