@@ -1,5 +1,7 @@
 """The accessors of the typed nodes, and where the structs and enums are."""
 
+from .grammar import type_case
+
 # The crates, from low to high, with their modules: the kinds of each in order, and then its enums.
 CRATES = {
     "apollo_cst_value": {
@@ -84,10 +86,6 @@ def number_of(pattern, kinds):
     if most > 1:
         return "at_least_one" if least else "any_number"
     return "exactly_one" if least else "at_most_one"
-
-
-def type_case(kind):
-    return "".join(part.capitalize() for part in kind.split("_"))
 
 
 class Accessor:

@@ -1,4 +1,5 @@
-"""What the generator reads: the list of kinds, the choices of kinds, the rows, and two lists of the rules on derivations.
+"""What the generator reads: the list of kinds with their documentation, the choices of kinds, the rows, and two lists of the rules on
+derivations.
 
 Kinds are given by their names. Their numbers are their places in the list.
 """
@@ -12,10 +13,12 @@ FOLDER = CRATES / "document_grammar"
 
 
 class Grammar:
-    """`kinds` in the order of their numbers, `number` of each, `lists` by their names, and `rows`, the pattern of each kind of node."""
+    """`kinds` in the order of their numbers, `number` of each, the lines of its `documentation`, `lists` by their names, and `rows`, the
+    pattern of each kind of node."""
 
     def __init__(self):
-        self.kinds = read_kinds()
+        self.documentation = read_kinds()
+        self.kinds = list(self.documentation)
         self.number = {kind: number for number, kind in enumerate(self.kinds)}
         self.lists = {}
         self.add_lists("Choices")
@@ -58,12 +61,18 @@ class Grammar:
 
 
 def read_kinds():
-    """The variants of the enum, in order."""
+    """The variants of the enum, in order, each with the lines of its documentation."""
     text = (FOLDER / "src/kind.rt").read_text()
-    body = re.search(r"pub enum SyntaxKind \{\n(.*?)\n\}", text, re.S).group(1)
-    return re.findall(r"^    (\w+),$", body, re.M)
+    body = re.search(r"pub enum SyntaxKind \{\n(.*?\n)\}", text, re.S).group(1)
+    variants = re.findall(r"((?:    ///.*\n)*)    (\w+),\n", body)
+    return {kind: [line.removeprefix("    ///").strip() for line in lines.splitlines()] for lines, kind in variants}
 
 
 def word(keyword):
     """The word of a keyword's kind."""
     return keyword.removesuffix("_KW")
+
+
+def type_case(kind):
+    """The name of a kind's struct."""
+    return "".join(part.capitalize() for part in kind.split("_"))

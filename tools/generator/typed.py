@@ -1,13 +1,14 @@
 """The text of the typed nodes: a struct for each kind of node, with its casts and accessors; and the types of leaves.
 
-The names of structs and accessors are those of accessors.py, and the words of their documentation those of typed_docs.py.
+The names of accessors are those of accessors.py. A struct's documentation is that of its kind; the other words are in typed_docs.py.
 """
 
 import re
 import textwrap
 
 from . import typed_docs
-from .accessors import CRATES, ENUMS, LEAVES, accessors, check_places, home, type_case
+from .accessors import CRATES, ENUMS, LEAVES, accessors, check_places, home
+from .grammar import type_case
 from .layout import CRATES as FOLDER
 from .layout import long_list, mark, use
 
@@ -15,11 +16,11 @@ SOURCE = "the rows of the grammar"
 VARIANTS = "Rattle.document_grammar.specs.declared.kind.SyntaxKind.TheVariants"
 
 
-def struct_text(kind, row):
+def struct_text(kind, row, grammar):
     """The struct of a kind, with its impls."""
     name = type_case(kind)
     return f"""
-{typed_docs.struct_doc(kind)}#[derive(Clone, Copy)]
+{typed_docs.struct_doc(grammar, kind)}#[derive(Clone, Copy)]
 pub struct {name}<'t> {{
     syntax: SyntaxNode<'t>,
     ghost of_kind: {{ is_kind {kind} (node_kind syntax) ≡ true }},
@@ -98,12 +99,11 @@ def signature(name, answer):
     return line if len(line) <= 100 else f"    pub fn {name}(\n        &self,\n    ) -> {answer}"
 
 
-def leaf_text(kind):
+def leaf_text(kind, grammar):
     """The struct of a kind of leaf."""
     name = type_case(kind) + "Token"
     return f"""
-/// {typed_docs.LEAVES[kind]}.
-#[derive(Clone, Copy)]
+{typed_docs.doc(grammar.documentation[kind])}#[derive(Clone, Copy)]
 pub struct {name}<'t> {{
     syntax: SyntaxToken<'t>,
 }}
@@ -115,7 +115,7 @@ pub struct {name}<'t> {{
 """
 
 
-def leaves_text():
+def leaves_text(grammar):
     """The module of the types of leaves."""
     return (
         mark("//", SOURCE)
@@ -127,18 +127,19 @@ ghost use Rattle.document_grammar.specs.Numbers.{{is_kind}};
 use crate::typed::CstToken;
 use apollo_tree::{{SyntaxKind, SyntaxToken}};
 """
-        + "".join(map(leaf_text, LEAVES))
+        + "".join(leaf_text(kind, grammar) for kind in LEAVES)
     )
 
 
-def enum_text(enum, kinds, crate):
+def enum_text(enum, crate, grammar):
     """An enum of nodes, with its casts."""
     name, listed = enum.lower(), ENUMS[enum][0]
+    kinds = grammar.lists[listed]
     types = [type_case(kind) for kind in kinds]
     variants = "".join(f"    {variant}({variant}<'t>),\n" for variant in types)
     nodes = "".join(f"            {enum}::{variant}(node) => node.syntax(),\n" for variant in types)
     return f"""
-{typed_docs.enum_doc(enum)}#[derive(Clone, Copy)]
+{typed_docs.enum_doc(grammar, enum, kinds)}#[derive(Clone, Copy)]
 pub enum {enum}<'t> {{
 {variants}}}
 
@@ -214,8 +215,8 @@ def use_line(path, names):
 def module_text(crate, module, grammar):
     """A module of structs, and of enums after them."""
     kinds, enums = CRATES[crate][module]
-    body = "".join(struct_text(kind, accessors(grammar, grammar.rows[kind])) for kind in kinds)
-    body += "".join(enum_text(enum, grammar.lists[ENUMS[enum][0]], crate) for enum in enums)
+    body = "".join(struct_text(kind, accessors(grammar, grammar.rows[kind]), grammar) for kind in kinds)
+    body += "".join(enum_text(enum, crate, grammar) for enum in enums)
     here = {*map(type_case, kinds), *enums}
     return mark("//", SOURCE) + "\n" + ghost_uses(body, grammar) + "\n" + rust_uses(body, crate, here, grammar) + body
 
@@ -275,7 +276,7 @@ def outputs(grammar):
     """The text of each file, by its path."""
     check_places(grammar)
     core = FOLDER / "apollo_cst_core"
-    files = {core / "src/tokens.rt": leaves_text(), core / "specs/Accessors.antt": accessors_spec(grammar)}
+    files = {core / "src/tokens.rt": leaves_text(grammar), core / "specs/Accessors.antt": accessors_spec(grammar)}
     for crate, modules in CRATES.items():
         for module, (_, enums) in modules.items():
             files[FOLDER / crate / "src" / f"{module}.rt"] = module_text(crate, module, grammar)
