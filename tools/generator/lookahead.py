@@ -5,6 +5,7 @@ A class is the number of a leaf: a Name that is a keyword has the class of the k
 
 import heapq
 from functools import cached_property
+from itertools import combinations
 
 from .automata import rows
 from .grammar import word
@@ -14,8 +15,6 @@ ALONE = None
 END = 0
 # The symbols that a parse begins with, and after which the tokens may end.
 STARTS = ("DOCUMENT", "TYPE", "BARE_SELECTIONS", "SELECTION_SET")
-# The nodes that are told apart by two tokens: an alias from a name, and a fragment's spread from an inline fragment.
-BY_TWO = ("ALIAS", "FRAGMENT_SPREAD", "INLINE_FRAGMENT")
 
 
 class Lookahead:
@@ -64,7 +63,21 @@ class Lookahead:
 
     def begins(self, state):
         """The classes of the first token of what may come in the state."""
-        return {first for symbol, _ in state.arcs for first, _ in self.pairs[symbol]}
+        return {first for symbol, _ in state.arcs for first in self.first(symbol)}
+
+    def first(self, symbol):
+        """The classes of the first token of a symbol."""
+        return {first for first, _ in self.pairs[symbol]}
+
+    @cached_property
+    def by_two(self):
+        """The symbols that the first token does not tell from all others of a state, each with the class of that token."""
+        found = set()
+        for state in (state for states in self.rows.values() for state in states):
+            for (symbol, _), (other, _) in combinations(state.arcs, 2):
+                shared = self.first(symbol) & self.first(other)
+                found |= {(name, first) for name in (symbol, other) for first in shared}
+        return found
 
     def entries(self, name):
         """Triples: classes of the first token, classes of the second, and whether the first may be all. Where the first token alone tells
@@ -75,16 +88,10 @@ class Lookahead:
         found = {}
         for first in sorted(seconds):
             second = frozenset(seconds[first])
-            if second != {ALONE} and not self.by_two(name, first):
+            if second != {ALONE} and (name, first) not in self.by_two:
                 second = frozenset(self.classes | {ALONE})
             found.setdefault(second, set()).add(first)
         return [(firsts, set(second - {ALONE}), ALONE in second) for second, firsts in found.items()]
-
-    def by_two(self, name, first):
-        """Whether the second token counts: also where a definition begins with a description or `extend`."""
-        definitions = self.symbols.label
-        shared = (self.number["STRING"], self.number["extend_KW"])
-        return name in BY_TWO or (first in shared and definitions[name] in self.symbols.grammar.lists["Definitions"])
 
     def exits(self, name):
         """What the symbol can leave behind."""
