@@ -1,56 +1,7 @@
-"""The accessors of the typed nodes, and where the structs and enums are."""
+"""The accessors of the typed nodes."""
 
 from .grammar import type_case
-
-# The crates, from low to high, with their modules: the kinds of each in order, and then its enums.
-CRATES = {
-    "apollo_cst_value": {
-        "names": (["NAME", "VARIABLE", "ENUM_VALUE"], []),
-        "values": (
-            ["INT_VALUE", "FLOAT_VALUE", "STRING_VALUE", "BOOLEAN_VALUE", "NULL_VALUE", "LIST_VALUE", "OBJECT_VALUE", "OBJECT_FIELD", "DEFAULT_VALUE"],
-            ["Value"],
-        ),
-        "directives": (["DIRECTIVES", "DIRECTIVE", "ARGUMENTS", "ARGUMENT", "DESCRIPTION"], []),
-        "types": (["NAMED_TYPE", "LIST_TYPE", "NON_NULL_TYPE"], ["Ty"]),
-    },
-    "apollo_cst_exec": {
-        "operations": (["OPERATION_DEFINITION", "OPERATION_TYPE", "VARIABLE_DEFINITIONS", "VARIABLE_DEFINITION"], []),
-        "selections": (["SELECTION_SET", "FIELD", "ALIAS"], ["Selection"]),
-        "fragments": (["FRAGMENT_SPREAD", "INLINE_FRAGMENT", "FRAGMENT_DEFINITION", "FRAGMENT_NAME", "TYPE_CONDITION"], []),
-    },
-    "apollo_cst_types": {
-        "schema": (["SCHEMA_DEFINITION", "ROOT_OPERATION_TYPE_DEFINITION", "SCALAR_TYPE_DEFINITION"], []),
-        "objects": (["OBJECT_TYPE_DEFINITION", "INTERFACE_TYPE_DEFINITION", "IMPLEMENTS_INTERFACES"], []),
-        "fields": (["FIELDS_DEFINITION", "FIELD_DEFINITION", "ARGUMENTS_DEFINITION", "INPUT_VALUE_DEFINITION"], []),
-        "unions": (["UNION_TYPE_DEFINITION", "UNION_MEMBER_TYPES"], []),
-        "enums": (["ENUM_TYPE_DEFINITION", "ENUM_VALUES_DEFINITION", "ENUM_VALUE_DEFINITION"], []),
-        "inputs": (["INPUT_OBJECT_TYPE_DEFINITION", "INPUT_FIELDS_DEFINITION"], []),
-    },
-    "apollo_cst_document": {
-        "document": (["DOCUMENT"], ["Definition"]),
-        "directives": (["DIRECTIVE_DEFINITION", "DIRECTIVE_LOCATIONS", "DIRECTIVE_LOCATION"], []),
-        "extensions": (
-            [
-                "SCHEMA_EXTENSION",
-                "SCALAR_TYPE_EXTENSION",
-                "OBJECT_TYPE_EXTENSION",
-                "INTERFACE_TYPE_EXTENSION",
-                "UNION_TYPE_EXTENSION",
-                "ENUM_TYPE_EXTENSION",
-                "INPUT_OBJECT_TYPE_EXTENSION",
-            ],
-            [],
-        ),
-    },
-}
-
-# Each enum: its list of kinds in Choices.antt, and the accessor's name where one child, or any number, may be there.
-ENUMS = {
-    "Definition": ("Definitions", None, "definitions"),
-    "Selection": ("Selections", None, "selections"),
-    "Value": ("Values", "value", "values"),
-    "Ty": ("Types", "ty", None),
-}
+from .places import ENUMS
 
 # The kinds of leaves that have a type.
 LEAVES = ["IDENT", "STRING", "INT", "FLOAT", "COMMENT", "WHITESPACE"]
@@ -105,7 +56,7 @@ def accessors(grammar, pattern):
     enum has one accessor for each kind.
     """
     found = []
-    enum_of = {tuple(grammar.lists[listed]): enum for enum, (listed, _, _) in ENUMS.items()}
+    enum_of = {tuple(grammar.lists[choice.listed]): enum for enum, choice in ENUMS.items()}
     for kinds in choices(pattern):
         if kinds in enum_of:
             found.append(enum_accessor(enum_of[kinds], kinds, number_of(pattern, kinds)))
@@ -119,8 +70,7 @@ def accessors(grammar, pattern):
 
 def enum_accessor(enum, kinds, number):
     accessor = Accessor(None, kinds, number, enum)
-    _, one, several = ENUMS[enum]
-    accessor.name = several if accessor.gives_all else one
+    accessor.name = ENUMS[enum].several if accessor.gives_all else ENUMS[enum].one
     return accessor
 
 
@@ -130,19 +80,3 @@ def kind_accessor(grammar, kind, number, is_choice):
     accessor = Accessor(kind.lower(), [kind], number, type_case(kind), is_choice)
     accessor.name += "s" if accessor.gives_all else ""
     return accessor
-
-
-def home(target):
-    """The crate and the module of a struct or an enum."""
-    for crate, modules in CRATES.items():
-        for module, (kinds, enums) in modules.items():
-            if target in enums or target in map(type_case, kinds):
-                return crate, module
-    raise SystemExit(f"no module has {target}")
-
-
-def check_places(grammar):
-    """Each kind of node has a struct in one module."""
-    placed = [kind for modules in CRATES.values() for kinds, _ in modules.values() for kind in kinds]
-    if sorted(placed) != sorted(grammar.nodes):
-        raise SystemExit(f"each kind has to be in one module: {sorted(set(placed) ^ set(grammar.nodes))}")

@@ -56,6 +56,14 @@ class Grammar:
         """The kinds of keywords: the leaves after STRING."""
         return self.leaves[self.number["STRING"] + 1 :]
 
+    def section(self, kind):
+        """The number and the title of the section that the documentation of a kind of node names."""
+        what = self.documentation[kind][0] if self.documentation[kind] else ""
+        section = re.search(r"\(section ([\d.]+), \"(.+)\"\)\.$", what)
+        if not section:
+            raise SystemExit(f'kind.rt: the documentation of {kind} does not end its first line with (section NUMBER, "TITLE").')
+        return section.groups()
+
     def is_leaf(self, kind):
         return self.number[kind] < self.number["DOCUMENT"]
 

@@ -7,10 +7,11 @@ import re
 import textwrap
 
 from . import typed_docs
-from .accessors import CRATES, ENUMS, LEAVES, accessors, check_places, home
+from .accessors import LEAVES, accessors
 from .grammar import type_case
 from .layout import CRATES as FOLDER
 from .layout import long_list, mark, use
+from .places import CRATES, ENUMS, enums_in, home, kinds_in
 
 SOURCE = "the rows of the grammar"
 VARIANTS = "Rattle.document_grammar.specs.declared.kind.SyntaxKind.TheVariants"
@@ -28,7 +29,7 @@ pub struct {name}<'t> {{
 {cast_text("Node", name, kind)}}}
 
 impl<'t> {name}<'t> {{
-{accessors_text(kind, row)}}}
+{accessors_text(kind, row, grammar)}}}
 """
 
 
@@ -60,10 +61,10 @@ impl<'t> Cst{of}<'t> for {name}<'t> {{
 """
 
 
-def accessors_text(kind, row):
+def accessors_text(kind, row, grammar):
     """The accessors of a struct, and before them what their clauses cite."""
     chosen = sorted({accessor.target for accessor in row if accessor.target in ENUMS and not accessor.gives_all})
-    cited = "".join(f"    ghost use Rattle.{home(enum)[0]}.specs.{enum}.{{{enum.lower()}_node}};\n" for enum in chosen)
+    cited = "".join(f"    ghost use Rattle.{home(enum, grammar)[0]}.specs.{enum}.{{{enum.lower()}_node}};\n" for enum in chosen)
     return "\n".join(([cited] if cited else []) + [accessor_text(kind, accessor) for accessor in row])
 
 
@@ -75,7 +76,7 @@ def accessor_text(kind, accessor):
         clause = f"GivesLeaf {wanted} self.now.syntax result"
         return doc + method(accessor.name, "Option<SyntaxToken<'t>>", clause, f"token(&self.syntax, SyntaxKind::{wanted})")
     if target in ENUMS:
-        casts, node = f"(one_of {ENUMS[target][0]})", f"{target.lower()}_node"
+        casts, node = f"(one_of {ENUMS[target].listed})", f"{target.lower()}_node"
     else:
         casts, node = f"(is_kind {wanted})", "(λ n. n.syntax)"
     if accessor.gives_all:
@@ -133,13 +134,13 @@ use apollo_tree::{{SyntaxKind, SyntaxToken}};
 
 def enum_text(enum, crate, grammar):
     """An enum of nodes, with its casts."""
-    name, listed = enum.lower(), ENUMS[enum][0]
+    name, listed = enum.lower(), ENUMS[enum].listed
     kinds = grammar.lists[listed]
     types = [type_case(kind) for kind in kinds]
     variants = "".join(f"    {variant}({variant}<'t>),\n" for variant in types)
     nodes = "".join(f"            {enum}::{variant}(node) => node.syntax(),\n" for variant in types)
     return f"""
-{typed_docs.enum_doc(grammar, enum, kinds)}#[derive(Clone, Copy)]
+{typed_docs.enum_doc(grammar, enum)}#[derive(Clone, Copy)]
 pub enum {enum}<'t> {{
 {variants}}}
 
@@ -186,10 +187,10 @@ def tried_casts(enum, types):
     )
 
 
-def enum_spec(enum, kinds):
+def enum_spec(enum, crate, module, grammar):
     """The file of definitions that has the node of an enum's value."""
     name = enum.lower()
-    crate, module = home(enum)
+    kinds = grammar.lists[ENUMS[enum].listed]
     variants = ", ".join(map(type_case, kinds))
     clauses = "".join(f"{name}_node ({type_case(kind)} n) = n.syntax\n" for kind in kinds)
     return f"""{mark("--", SOURCE)}-- The node of a value of `{enum}`.
@@ -214,7 +215,7 @@ def use_line(path, names):
 
 def module_text(crate, module, grammar):
     """A module of structs, and of enums after them."""
-    kinds, enums = CRATES[crate][module]
+    kinds, enums = kinds_in(crate, module, grammar), enums_in(crate, module)
     body = "".join(struct_text(kind, accessors(grammar, grammar.rows[kind]), grammar) for kind in kinds)
     body += "".join(enum_text(enum, crate, grammar) for enum in enums)
     here = {*map(type_case, kinds), *enums}
@@ -228,7 +229,7 @@ def ghost_uses(body, grammar):
     lines = [
         ("Rattle.std.specs.Prelude", ["◌≡◌", "true"]),
         (VARIANTS, cited(grammar.kinds)),
-        ("Rattle.document_grammar.specs.Choices", [listed for listed, _, _ in ENUMS.values() if f"one_of {listed}" in body]),
+        ("Rattle.document_grammar.specs.Choices", [choice.listed for choice in ENUMS.values() if f"one_of {choice.listed}" in body]),
         ("Rattle.document_grammar.specs.Numbers", ["is_kind"]),
         ("Rattle.apollo_cst_core.specs.Cast", cited(["GivesAll", "GivesFirst", "GivesLeaf", "node_kind", "one_of"])),
         ("Rattle.apollo_cst_core.specs.Children", cited(["rest_cast"])),
@@ -244,7 +245,7 @@ def rust_uses(body, crate, here, grammar):
     tree = [name for name in ["SyntaxKind", "SyntaxNode", "SyntaxToken"] if name in names]
     imports = {}
     for target in sorted((names & {*map(type_case, grammar.nodes), *ENUMS}) - here):
-        other, module = home(target)
+        other, module = home(target, grammar)
         imports.setdefault(f"crate::{module}" if other == crate else other, []).append(target)
     lines = [use_line(path, targets) for path, targets in sorted(imports.items()) if path.startswith("crate")]
     lines.append(f"use apollo_cst_core::{{{', '.join(core)}}};\n")
@@ -254,7 +255,7 @@ def rust_uses(body, crate, here, grammar):
 
 def accessors_spec(grammar):
     """The accessors of all rows, as the list that the law on reading back goes through."""
-    listed = {tuple(grammar.lists[name]): name for name, _, _ in ENUMS.values()}
+    listed = {tuple(grammar.lists[choice.listed]): choice.listed for choice in ENUMS.values()}
     used, items = set(), []
     for kind, pattern in grammar.rows.items():
         used.add(kind)
@@ -274,14 +275,13 @@ accessors =
 
 def outputs(grammar):
     """The text of each file, by its path."""
-    check_places(grammar)
     core = FOLDER / "apollo_cst_core"
     files = {core / "src/tokens.rt": leaves_text(grammar), core / "specs/Accessors.antt": accessors_spec(grammar)}
     for crate, modules in CRATES.items():
-        for module, (_, enums) in modules.items():
+        for module in modules:
             files[FOLDER / crate / "src" / f"{module}.rt"] = module_text(crate, module, grammar)
-            for enum in enums:
-                files[FOLDER / crate / "specs" / f"{enum}.antt"] = enum_spec(enum, grammar.lists[ENUMS[enum][0]])
+            for enum in enums_in(crate, module):
+                files[FOLDER / crate / "specs" / f"{enum}.antt"] = enum_spec(enum, crate, module, grammar)
     return files
 
 

@@ -1,4 +1,4 @@
-"""The words of the documentation of the typed nodes: what the enums are, and what parts are called.
+"""The words of the documentation of the typed nodes: what parts are called, and when an accessor gives none.
 
 What a node is, its section and its production are in the documentation of its kind, in document_grammar/src/kind.rt.
 """
@@ -6,6 +6,7 @@ What a node is, its section and its production are in the documentation of its k
 import re
 
 from .grammar import type_case
+from .places import ENUMS
 
 # Which call gives the value of a node. The words of a node's own documentation are those of its kind.
 VALUES = {
@@ -13,17 +14,6 @@ VALUES = {
     "INT_VALUE": "`i32::try_from` gives the value.",
     "BOOLEAN_VALUE": "`bool::try_from` gives the value.",
 }
-
-# The enums: what each is, the section of the standard, and the name of its production.
-CHOICES = {
-    "Definition": ("A definition or an extension", '2.2, "Document"', "Definition"),
-    "Selection": ("A selection", '2.4, "Selection Sets"', "Selection"),
-    "Value": ("A value", '2.9, "Input Values"', "Value[Const]"),
-    "Ty": ("A type", '2.11, "Type References"', "Type"),
-}
-
-# The forms of a production that are not the kinds of the enum.
-FORMS = {"Definition": ["ExecutableDefinition", "TypeSystemDefinitionOrExtension"]}
 
 # What a part is called where one child may stand. Where none is given it is the kind's words, as "default value".
 PARTS = {
@@ -96,11 +86,13 @@ def struct_doc(grammar, kind):
     return doc([what.replace("(section", "(GraphQL October 2021, section"), *production, *value])
 
 
-def enum_doc(grammar, enum, kinds):
+def enum_doc(grammar, enum):
     """The documentation of an enum."""
-    what, section, production = CHOICES[enum]
-    forms = FORMS.get(enum) or [form(grammar, kind) for kind in kinds]
-    return doc([f"{what} (GraphQL October 2021, section {section}).", "", f"*{production}*:"] + [f"- {one}" for one in forms])
+    choice = ENUMS[enum]
+    number, title = choice.section
+    forms = choice.forms or [form(grammar, kind) for kind in grammar.lists[choice.listed]]
+    head = f'{choice.what} (GraphQL October 2021, section {number}, "{title}").'
+    return doc([head, "", f"*{choice.production}*:"] + [f"- {one}" for one in forms])
 
 
 def form(grammar, kind):
