@@ -1,5 +1,6 @@
 """Where the files are, and how lists and marks are written in them."""
 
+import textwrap
 from pathlib import Path
 
 TOP = Path(__file__).resolve().parent.parent.parent
@@ -36,3 +37,14 @@ def commented_list(items):
 def use(path, names):
     """A line that brings names from a file of definitions; nothing where there are none."""
     return f"use Rattle.{path}.{{{', '.join(names)}}}\n" if names else ""
+
+
+def use_line(path, names, before=0):
+    """A `use` line in the layout of `rt fmt`, which breaks long lines. `before` is the length of what stands before it."""
+    if len(names) == 1:
+        return f"use {path}::{names[0]};\n"
+    line = f"use {path}::{{{', '.join(names)}}};\n"
+    if before + len(line) <= 101:
+        return line
+    rows = textwrap.wrap(", ".join(names) + ",", 95)
+    return f"use {path}::{{\n" + "".join(f"    {row}\n" for row in rows) + "};\n"

@@ -11,7 +11,7 @@ from .symbols import Symbols
 
 FOLDER = CRATES / "parser_rules/specs"
 
-# The node whose kind has another name. The others are called as their symbols: FragmentSpread as FRAGMENT_SPREAD.
+# The node whose kind has another name. The others are called as their symbols: SelectionSet as SELECTION_SET.
 OTHER_NAMES = {"Operation": "OPERATION_DEFINITION"}
 
 

@@ -4,13 +4,12 @@ The names of accessors are those of accessors.py. A struct's documentation is th
 """
 
 import re
-import textwrap
 
 from . import typed_docs
 from .accessors import LEAVES, accessors
 from .grammar import type_case
 from .layout import CRATES as FOLDER
-from .layout import long_list, mark, use
+from .layout import long_list, mark, use, use_line
 from .places import CRATES, ENUMS, enums_in, home, kinds_in
 
 SOURCE = "the rows of the grammar"
@@ -200,17 +199,6 @@ use Rattle.{crate}.specs.declared.{module}.{enum}.TheVariants.{{{variants}}}
 
 abbrev pub {name}_node : {enum} → SyntaxNode
 {clauses}"""
-
-
-def use_line(path, names):
-    """A `use` line in the layout of `rt fmt`, which breaks lines after 100 columns."""
-    if len(names) == 1:
-        return f"use {path}::{names[0]};\n"
-    line = f"use {path}::{{{', '.join(names)}}};\n"
-    if len(line) <= 101:
-        return line
-    rows = textwrap.wrap(", ".join(names) + ",", 96)
-    return f"use {path}::{{\n" + "".join(f"    {row}\n" for row in rows) + "};\n"
 
 
 def module_text(crate, module, grammar):

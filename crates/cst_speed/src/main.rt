@@ -61,7 +61,7 @@ impl<'t> Walk<'t> {
                     self.visit_later(field.selection_set())?;
                 }
                 Selection::InlineFragment(fragment) => self.visit_later(fragment.selection_set())?,
-                Selection::FragmentSpread(_) => {}
+                _ => {}
             }
         }
         Ok(())
