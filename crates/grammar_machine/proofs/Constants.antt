@@ -1,17 +1,17 @@
 -- A tree of the tables keeps the rules on constants and braces; so it is shown as a derivation.
-use Rattle.std.proofs.Common.{◌≡◌, ◌≢◌, ℕ, ◌+◌, ◌<◌, Bool, true, false, cond, not, eqb, ltb, List, [], ◌∷◌, ◌++◌, refl, sym, ap, ap₂, ◌∙◌, subst, ◌⊎◌, inl, inr, true≢false, arith, eqb-true, ltb-true, append-nil}
+use Rattle.std.proofs.Common.{◌≡◌, ◌≢◌, ℕ, zero, suc, ◌+◌, ◌-◌, ◌^◌, ◌<◌, Bool, true, false, cond, not, eqb, ltb, List, [], ◌∷◌, ◌++◌, get_or, refl, sym, ap, ap₂, ◌∙◌, subst, ◌⊎◌, inl, inr, true≢false, arith, eqb-true, ltb-true, append-nil, bit_or}
 use Rattle.std.proofs.lemmas.Bool.{eqb-false}
 use Rattle.document_grammar.specs.Tree.{Text, Token, Tree, leaf, node, Forest, none, ◌▸◌, root}
 use Rattle.document_grammar.specs.Pattern.{Pattern, member, Matches}
 use Rattle.document_grammar.specs.Rows.{Row, bare_selections}
-use Rattle.document_grammar.specs.Kinds.{DOCUMENT, OPERATION_DEFINITION, SELECTION_SET, FRAGMENT_NAME, DIRECTIVES, VARIABLE, DEFAULT_VALUE, ENUM_VALUE, NAMED_TYPE, LIST_TYPE, NON_NULL_TYPE, OBJECT_TYPE_DEFINITION, FIELDS_DEFINITION, INTERFACE_TYPE_DEFINITION, ENUM_TYPE_DEFINITION, ENUM_VALUES_DEFINITION, INPUT_OBJECT_TYPE_DEFINITION, INPUT_FIELDS_DEFINITION, OBJECT_TYPE_EXTENSION, INTERFACE_TYPE_EXTENSION, ENUM_TYPE_EXTENSION, INPUT_OBJECT_TYPE_EXTENSION, FIELD, FRAGMENT_SPREAD, INLINE_FRAGMENT, FRAGMENT_DEFINITION, ARGUMENTS, ARGUMENT, DIRECTIVE, VARIABLE_DEFINITIONS, VARIABLE_DEFINITION, LIST_VALUE, OBJECT_VALUE, OBJECT_FIELD, L_CURLY, IDENT, STRING, WHITESPACE}
+use Rattle.document_grammar.specs.Kinds.{DOCUMENT, OPERATION_DEFINITION, SELECTION_SET, FRAGMENT_NAME, DIRECTIVES, VARIABLE, DEFAULT_VALUE, ENUM_VALUE, NAMED_TYPE, LIST_TYPE, NON_NULL_TYPE, FIELDS_DEFINITION, ENUM_VALUES_DEFINITION, INPUT_FIELDS_DEFINITION, L_CURLY, IDENT, STRING, WHITESPACE}
 use Rattle.document_grammar.specs.Choices.{Types, is_ignored}
 use Rattle.grammar_machine.specs.Table.{State, rows, firsts, name_leaves}
 use Rattle.grammar_machine.proofs.generated.Labels.{paths, labels}
 use Rattle.document_grammar.specs.Booleans.{◌and◌, ◌or◌}
 use Rattle.grammar_machine.specs.Machine.{holds, is_leaf, at, ends, exit, arcs, has, target, target_in, state_arcs, state_ends, state_exit, opening, entries, fires, class, yield, yields, token, finish, walk, Ok, OkFrom, Path}
 use Rattle.document_grammar.specs.Derivation.{kinds, NameRule, NoVariable, NoVariables, Marked, ConstantDirectives, ConstantRule, Braced, NoBlock, LacksBlock, StartsWithSelections, IsQuery, BraceRule, Fits, AllFit, BareBy, Sort, document, selections, type, Derivation, Spells, Yield, Yields}
-use Rattle.grammar_machine.proofs.Checks.{all_arcs, every_state, every_arc, exits, all_below}
+use Rattle.grammar_machine.proofs.Checks.{all_arcs, all_from, every_state, every_arc, exits, all_below}
 use Rattle.document_grammar.proofs.Booleans.{false-true, and-l, and-r, and-i, or-c, or-r, or-false, or-false-l, or-false-r, or-assoc, or-none, same, same-bool, not-c, either, implies}
 use Rattle.grammar_machine.proofs.TableLemmas.{tail-same, no-cons, arcs-at, arc-test, exits-at, state-test, below-at}
 use Rattle.grammar_machine.proofs.Sound.{leaf-lt}
@@ -20,27 +20,50 @@ use Rattle.grammar_machine.proofs.FromMachineTree.{kinds-at, type-arc, type-root
 use Rattle.grammar_machine.proofs.Rules.{label-test, labels-alone, name-rule, leaf-rule, start-pattern, symbol-row}
 use Rattle.grammar_machine.specs.Symbols.{TYPE, SHORT_QUERY, BARE_SELECTIONS}
 
+-- The symbols above a VARIABLE, as a set: a symbol joins it whose row has an arc to one of the set. Each step goes over the rows, from the
+-- last one to the first. The test of all arcs, below, shows that the steps are enough.
+abbrev leads_to : ℕ → List State → Bool
+leads_to set row = not (all_from 0 row (λ q v. all_arcs (state_arcs v) (λ k p. not (holds k set))))
+
+abbrev with_parent : ℕ → List State → ℕ → ℕ
+with_parent s row set = cond (leads_to set row) (bit_or (2 ^ s) set) set
+
+abbrev with_parents : ℕ → List (List State) → ℕ → ℕ
+with_parents s [] set = set
+with_parents s (row ∷ more) set = with_parent s row (with_parents (suc s) more set)
+
+abbrev after_steps : ℕ → ℕ
+after_steps zero = 2 ^ VARIABLE
+after_steps (suc n) = with_parents DOCUMENT rows (after_steps n)
+
+unfoldable above_variable : ℕ
+above_variable = after_steps 8
+
 -- The symbols below which no VARIABLE can stand.
-unfoldable pub pure : ℕ → Bool
-pure s = not (member s (DOCUMENT ∷ OPERATION_DEFINITION ∷ SELECTION_SET ∷ FIELD ∷ FRAGMENT_SPREAD ∷ INLINE_FRAGMENT ∷ FRAGMENT_DEFINITION ∷ ARGUMENTS ∷ ARGUMENT ∷ DIRECTIVES ∷ DIRECTIVE ∷ VARIABLE_DEFINITIONS ∷ VARIABLE_DEFINITION ∷ VARIABLE ∷ LIST_VALUE ∷ OBJECT_VALUE ∷ OBJECT_FIELD ∷ SHORT_QUERY ∷ BARE_SELECTIONS ∷ []))
+abbrev free : ℕ → ℕ → Bool
+free set s = not (holds s set)
+
+abbrev pure : ℕ → Bool
+pure s = free above_variable s
 
 -- Along an arc: below a pure symbol all are pure, below one whose DIRECTIVES are constant these are; and no node has the selections without
 -- braces below it.
-abbrev arc_test : ℕ → ℕ → ℕ → Bool
-arc_test s k q = (not (pure s) or pure k) and (not (member (label s) Marked and member DIRECTIVES (shown k)) or pure k) and not (eqb k BARE_SELECTIONS)
+abbrev arc_test : ℕ → ℕ → ℕ → ℕ → Bool
+arc_test set s k q = (not (free set s) or free set k) and (not (member (label s) Marked and member DIRECTIVES (shown k)) or free set k)
+    and not (eqb k BARE_SELECTIONS)
 
-arcs-checked : every_arc arc_test ≡ true
-unfolding pure member ◌and◌ ◌or◌ rows label labels shown
+arcs-checked : every_arc (arc_test above_variable) ≡ true
+unfolding above_variable holds member ◌and◌ ◌or◌ rows label labels shown
 arcs-checked = refl
 
 along : (s q k : ℕ) → is_leaf s ≡ false → has s q k ≡ true → (pure s ≡ true → pure k ≡ true)
     × (member (label s) Marked ≡ true → member DIRECTIVES (shown k) ≡ true → pure k ≡ true) × (eqb k BARE_SELECTIONS ≡ false)
 along s q k l h =
-    let c = arc-test arc_test arcs-checked s q k l h in
+    let c = arc-test (arc_test above_variable) arcs-checked s q k l h in
     (implies _ _ (and-l _ _ (and-l _ _ c)), (λ m n. implies _ _ (and-r _ _ (and-l _ _ c)) (and-i m n)), not-c _ (and-r _ _ c))
 
 pure-kinds : (pure VARIABLE ≡ false) × (pure DEFAULT_VALUE ≡ true)
-unfolding pure member
+unfolding above_variable holds rows ◌and◌
 pure-kinds = (refl, refl)
 
 pure-is_no_variable : (s : ℕ) → pure s ≡ true → label s ≢ VARIABLE
@@ -61,11 +84,11 @@ no-variable-build s f p h = elim (either (eqb s TYPE)) [
 ]
 
 mutual
-  pub pure-tree : (t : Tree) → Ok t → pure (root t) ≡ true → NoVariable (show t)
+  pure-tree : (t : Tree) → Ok t → pure (root t) ≡ true → NoVariable (show t)
   pure-tree (leaf l x) o p = tt
   pure-tree (node s f) o p = no-variable-build s (shows f) p (pure-forest s 0 f o.0 p o.1)
 
-  pub pure-forest : (s q : ℕ) (f : Forest) → is_leaf s ≡ false → pure s ≡ true → OkFrom s q f → NoVariables (shows f)
+  pure-forest : (s q : ℕ) (f : Forest) → is_leaf s ≡ false → pure s ≡ true → OkFrom s q f → NoVariables (shows f)
   pure-forest s q none l p o = tt
   pure-forest s q (t ▸ f) l p o = (pure-tree t o.1 ((along s q (root t) l o.0).0 p), pure-forest s (target s q (root t) + finish t) f l p o.2)
 
@@ -98,9 +121,13 @@ none-block : (f : Forest) → has_block f ≡ false → NoBlock f
 none-block none h = tt
 none-block (t ▸ f) h = (or-false-l _ _ h, none-block f (or-false-r _ _ h))
 
--- In the row of a definition that may have a block, the states after it.
+-- The states after the block of a row: a mark is among the kinds of children that lead there.
+abbrev has_mark : List ℕ → Bool
+has_mark [] = false
+has_mark (k ∷ ks) = member k block_marks or has_mark ks
+
 unfoldable after_block : ℕ → ℕ → Bool
-after_block s q = ltb (cond (member s (OBJECT_TYPE_DEFINITION ∷ INTERFACE_TYPE_DEFINITION ∷ OBJECT_TYPE_EXTENSION ∷ INTERFACE_TYPE_EXTENSION ∷ [])) 5 (cond (member s (ENUM_TYPE_DEFINITION ∷ INPUT_OBJECT_TYPE_DEFINITION ∷ ENUM_TYPE_EXTENSION ∷ INPUT_OBJECT_TYPE_EXTENSION ∷ [])) 4 3)) q
+after_block s q = has_mark (get_or (get_or paths (s - DOCUMENT) []) q [])
 
 abbrev block_arc : ℕ → ℕ → ℕ → ℕ → Bool
 block_arc s q k p = all_kinds (shown k) (λ j. exits k (λ x. same (after_block s (p + x)) (after_block s q or member j block_marks)))
@@ -111,7 +138,7 @@ block_test s q v = (not (eqb (state_exit v) 1) or member s Braced)
     and (not (member s Braced) or (all_arcs (state_arcs v) (block_arc s q) and (not (state_ends v) or eqb (state_exit v) (cond (after_block s q) 0 1))))
 
 blocks-checked : every_state block_test ≡ true
-unfolding after_block ◌and◌ ◌or◌ is_leaf rows label labels shown member exits
+unfolding after_block paths ◌and◌ ◌or◌ is_leaf rows label labels shown member exits
 blocks-checked = refl
 
 block-state : (s q : ℕ) → is_leaf s ≡ false → block_test s q (at s q) ≡ true
@@ -119,7 +146,7 @@ unfolding ◌and◌ ◌or◌
 block-state s q l = state-test block_test blocks-checked (λ s q. or-r _ _ refl) s q l
 
 braced-checked : all_kinds Braced (λ s. eqb (label s) s and not (after_block s 0)) ≡ true
-unfolding after_block label labels member ◌and◌
+unfolding after_block paths label labels member ◌and◌ ◌or◌
 braced-checked = refl
 
 block-walk : (s q : ℕ) (f : Forest) → is_leaf s ≡ false → member s Braced ≡ true → OkFrom s q f
