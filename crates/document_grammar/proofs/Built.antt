@@ -1,18 +1,16 @@
--- Trees that grow by one tree at the end, without their ignored leaves: what they spell and how deep they nest; and the same of built trees.
-use Rattle.std.proofs.Common.{◌≡◌, ℕ, ◌+◌, ◌-◌, ◌<◌, max, Bool, true, false, cond, ltb, zero, suc, List, [], ◌∷◌, ◌++◌, append_assoc, refl, sym, ap, ap₂, ◌∙◌, subst, inl, inr, true≢false, ltb-true, arith}
+-- Lists of trees, one after the other, with and without their ignored leaves: what they spell; and the same of built trees.
+use Rattle.std.proofs.Common.{◌≡◌, ℕ, ◌+◌, ◌-◌, Bool, true, false, cond, ltb, zero, suc, List, [], ◌∷◌, ◌++◌, append_assoc, refl, sym, ap, ap₂, ◌∙◌, subst, inl, inr, true≢false, arith}
 use Rattle.document_grammar.specs.declared.kind.SyntaxKind.{SyntaxKind}
-use Rattle.document_grammar.specs.Kinds.{ERROR, DOCUMENT, LIST_VALUE, OBJECT_FIELD}
+use Rattle.document_grammar.specs.Kinds.{ERROR}
 use Rattle.document_grammar.specs.Numbers.{number}
 use Rattle.document_grammar.specs.Forests as built
 use Rattle.document_grammar.specs.Builds.{Open, front, back, close, open_count, built_count}
 use Rattle.document_grammar.proofs.Joins.{count-join}
 use Rattle.document_grammar.specs.Numbered.{numbered}
 use Rattle.document_grammar.specs.Tree.{Text, Token, Tree, leaf, node, Forest, none, ◌▸◌, ◌+++◌, root}
-use Rattle.document_grammar.specs.Pattern.{member}
-use Rattle.document_grammar.specs.Derivation.{kinds, text, texts, Yield, Yields, counts, below, belows, nest}
+use Rattle.document_grammar.specs.Derivation.{kinds, text, texts, Yield, Yields}
 use Rattle.document_grammar.specs.Places.{ignored, bare, bares}
 use Rattle.document_grammar.proofs.Booleans.{either}
-use Rattle.document_grammar.proofs.Booleans.{cond-zero}
 
 -- One list of trees after the other.
 pub forest-none : (f : Forest) → f +++ none ≡ f
@@ -30,16 +28,6 @@ texts-append (t ▸ f) g = ap (λ (x : Text). text t ++ x) (texts-append f g) �
 pub Yields-append : (f g : Forest) → Yields (f +++ g) ≡ Yields f ++ Yields g
 Yields-append none g = refl
 Yields-append (t ▸ f) g = ap (λ (w : List Token). Yield t ++ w) (Yields-append f g) ∙ sym (append_assoc (Yield t) (Yields f) (Yields g))
-
-max_assoc : (a b c : ℕ) → max a (max b c) ≡ max (max a b) c
-max_assoc a b c = omega arith
-
-max_first : (b : ℕ) → b ≡ max 0 b
-max_first b = omega arith
-
-pub belows-append : (k : ℕ) (f g : Forest) → belows k (f +++ g) ≡ max (belows k f) (belows k g)
-belows-append k none g = max_first (belows k g)
-belows-append k (t ▸ f) g = ap (λ (n : ℕ). max (counts k (root t) + below t) n) (belows-append k f g) ∙ max_assoc (counts k (root t) + below t) (belows k f) (belows k g)
 
 pub bares-append : (f g : Forest) → bares (f +++ g) ≡ bares f +++ bares g
 bares-append none g = refl
@@ -60,7 +48,7 @@ bares-leaf f k x h =
 pub bares-node : (f : Forest) (k : ℕ) (g : Forest) → bares (f +++ (node k g ▸ none)) ≡ bares f +++ (node k (bares g) ▸ none)
 bares-node f k g = bares-append f (node k g ▸ none)
 
--- What stays without the ignored leaves: the tokens and the nesting.
+-- What is spelled stays without the ignored leaves.
 pub yield-ignored : (t : Tree) → ignored t ≡ true → Yield t ≡ []
 yield-ignored (leaf k x) h = rw h refl
 yield-ignored (node k f) h = absurd (true≢false (sym h))
@@ -79,43 +67,6 @@ mutual
   pub Yields-bares : (f : Forest) → Yields (bares f) ≡ Yields f
   Yields-bares none = refl
   Yields-bares (t ▸ f) = kept-yields t f (Yield-bare t) (Yields-bares f)
-
-ignored-count : (p k : ℕ) → ltb k 3 ≡ true → counts p k ≡ 0
-unfolding member
-ignored-count p zero h = cond-zero (member p (LIST_VALUE ∷ OBJECT_FIELD ∷ []))
-ignored-count p (suc zero) h = cond-zero (member p (LIST_VALUE ∷ OBJECT_FIELD ∷ []))
-ignored-count p (suc (suc zero)) h = cond-zero (member p (LIST_VALUE ∷ OBJECT_FIELD ∷ []))
-ignored-count p (suc (suc (suc k))) h = let l : suc (suc (suc k)) < 3 = ltb-true _ _ h in absurd (omega arith)
-
-ignored-below : (p : ℕ) (t : Tree) → ignored t ≡ true → counts p (root t) + below t ≡ 0
-ignored-below p (leaf k x) h = ap (λ (n : ℕ). n + 0) (ignored-count p k h)
-ignored-below p (node k f) h = absurd (true≢false (sym h))
-
-pub root-bare : (t : Tree) → root (bare t) ≡ root t
-root-bare (leaf k x) = refl
-root-bare (node k f) = refl
-
-max-none : (a b : ℕ) → a ≡ 0 → b ≡ max a b
-max-none a b e = omega arith
-
-kept-belows : (p : ℕ) (t : Tree) (f : Forest) → below (bare t) ≡ below t → belows p (bares f) ≡ belows p f
-    → belows p (bares (t ▸ f)) ≡ belows p (t ▸ f)
-kept-belows p t f a b = elim (either (ignored t)) [
-  | inl q ↦ subst (λ (c : Bool). belows p (cond c (bares f) (bare t ▸ bares f)) ≡ max (counts p (root t) + below t) (belows p f)) (sym q) (b ∙ max-none (counts p (root t) + below t) (belows p f) (ignored-below p t q))
-  | inr q ↦ subst (λ (c : Bool). belows p (cond c (bares f) (bare t ▸ bares f)) ≡ max (counts p (root t) + below t) (belows p f)) (sym q) (ap₂ (λ (x y : ℕ). max x y) (ap₂ (λ (x y : ℕ). x + y) (ap (λ (k : ℕ). counts p k) (root-bare t)) a) b)
-]
-
-mutual
-  pub below-bare : (t : Tree) → below (bare t) ≡ below t
-  below-bare (leaf k x) = refl
-  below-bare (node k f) = belows-bares k f
-
-  pub belows-bares : (p : ℕ) (f : Forest) → belows p (bares f) ≡ belows p f
-  belows-bares p none = refl
-  belows-bares p (t ▸ f) = kept-belows p t f (below-bare t) (belows-bares p f)
-
-pub nest-bare : (t : Tree) → nest (bare t) ≡ nest t
-nest-bare t = ap₂ (λ (x y : ℕ). x + y) (ap (λ (k : ℕ). counts DOCUMENT k) (root-bare t)) (below-bare t)
 
 -- Built trees.
 pub numbered-join : (f g : built.Forest) → numbered (built.join f g) ≡ numbered f +++ numbered g

@@ -1,4 +1,5 @@
-use Rattle.document_grammar.proofs.Built.{Yield-bare, nest-bare}
+use Rattle.document_grammar.proofs.Built.{Yield-bare}
+use Rattle.document_grammar.proofs.Nested.{nest-bare}
 use Rattle.document_grammar.proofs.laws.ignored_leaves.Goals as goal
 
 pub returns-clause-tokens : goal.returns-clause-tokens
