@@ -2,7 +2,7 @@
 use Rattle.std.proofs.Common.{◌≡◌, ℕ, zero, suc, ◌+◌, ◌-◌, List, ◌∷◌, refl, sym, ap, ap₂, ◌∙◌, subst, arith}
 use Rattle.document_grammar.specs.declared.kind.SyntaxKind.{SyntaxKind}
 use Rattle.document_grammar.specs.Forests.{Forest, none, leaf, node, count, join}
-use Rattle.document_grammar.specs.Builds.{Building, start, add_leaf, close, finish, open_count, built_count, front, wrap, wrap_at, IsSeam, IsPlace}
+use Rattle.document_grammar.specs.Builds.{Building, start, add_leaf, close, finish, open_count, built_count, front, wrap, IsSeam, IsPlace}
 use Rattle.document_grammar.proofs.Joins.{join-none, join_assoc}
 use Rattle.document_grammar.proofs.Built.{front-join, back-join}
 
@@ -24,26 +24,16 @@ pub added-node : {f : Forest} {b t : Building} (k : SyntaxKind) → Added f (sta
 added-node {b = b} {t = t} k h =
     let e = ap (close t.here) h.above in record { above = ap (λ (z : Building). z.above) e; here = ap (λ (z : Building). z.here) e ∙ ap (λ (x : Forest). join b.here (node k x none)) h.here }
 
-place_left : (o c : ℕ) → (o + c) - o ≡ c
-place_left o c = omega arith
-
 -- the new node holds what was added since
 pub wrap_added : (k : SyntaxKind) (b t : Building) (f : Forest) → t.above ≡ b.above → t.here ≡ join b.here f → wrap (built_count b) k t ≡ record { here = f; above = record { before = b.here; kind = k } ∷ b.above }
 wrap_added k b t f a e =
-    ap₂ (λ above here. wrap (built_count b) k (record { here = here; above = above })) a e
-    ∙ (ap (λ n. wrap_at n k (record { here = join b.here f; above = b.above })) (place_left (open_count b.above) (count b.here))
-    ∙ ap₂ (λ x y. record { here = y; above = record { before = x; kind = k } ∷ b.above }) (front-join b.here f) (back-join b.here f))
+    let left : (open_count b.above + count b.here) - open_count b.above ≡ count b.here = omega arith in
+    ap₂ (λ above here. wrap (built_count b) k (record { here = here; above = above })) a e ∙ rw (left, front-join b.here f, back-join b.here f) refl
 
 pub added-wrap : {f : Forest} {b t : Building} (k : SyntaxKind) → Added f b t → Added f (start k b) (wrap (built_count b) k t)
 added-wrap {f = f} {b = b} {t = t} k h = let e = wrap_added k b t f h.above h.here in record { above = ap (λ (z : Building). z.above) e; here = ap (λ (z : Building). z.here) e }
 
 -- ---- places
-
-rest_seam : (n c m : ℕ) → suc (c + m) ≡ suc n → m ≡ n - c
-rest_seam n c m e = omega arith
-
-back_seam : (n c m m' : ℕ) → suc (c + m) ≡ suc n → m' ≡ n - c → suc (c + m') ≡ suc n
-back_seam n c m m' e f = omega arith
 
 -- a seam stays one when trees are added
 seam-join : (n : ℕ) (f g : Forest) → IsSeam n f → IsSeam n (join f g)
@@ -51,13 +41,15 @@ seam-join zero f g h = refl
 seam-join (suc n) none g h = absurd cc
 seam-join (suc n) (leaf k s rest) g h = ap suc (seam-join n rest g (omega (arith, h)))
 seam-join (suc n) (node k kids rest) g h =
-    back_seam n (count kids) (count (front (n - count kids) rest)) (count (front (n - count kids) (join rest g))) h (seam-join (n - count kids) rest g (rest_seam n (count kids) (count (front (n - count kids) rest)) h))
+    let m : count (front (n - count kids) rest) ≡ n - count kids = omega (arith, h) in
+    let e = seam-join (n - count kids) rest g m in
+    omega (arith, h, e)
 
 -- the place after all that is built
 pub place-last : (b : Building) → IsPlace (built_count b) b
 place-last b = record {
   inside = omega arith;
-  seam = subst (λ n. IsSeam n b.here) (sym (place_left (open_count b.above) (count b.here))) (ap count (ap (front (count b.here)) (sym (join-none b.here)) ∙ front-join b.here none));
+  seam = let left : built_count b - open_count b.above ≡ count b.here = omega arith in let e = front-join b.here none in rw (left, ap count (rw join-none at e)) refl;
 }
 
 pub place-added : {f : Forest} {b t : Building} (place : ℕ) → Added f b t → IsPlace place b → IsPlace place t

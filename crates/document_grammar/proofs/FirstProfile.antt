@@ -1,35 +1,21 @@
 -- What is a sentence by the rows of the first profile is one.
 use Rattle.std.proofs.Common.{ℕ, eqb, List, [], refl, inl, inr, eqb-true}
 use Rattle.document_grammar.specs.Tree.{Token, Tree, leaf, node, Forest, none, ◌▸◌}
-use Rattle.document_grammar.specs.Pattern.{Matches, maybe, one, ◌then◌, Pattern}
-use Rattle.document_grammar.specs.Kinds.{DESCRIPTION, OPERATION_DEFINITION, FRAGMENT_DEFINITION, VARIABLE_DEFINITION}
+use Rattle.document_grammar.specs.Pattern.{Matches}
+use Rattle.document_grammar.specs.Kinds.{OPERATION_DEFINITION, FRAGMENT_DEFINITION, VARIABLE_DEFINITION}
 use Rattle.document_grammar.specs.Rows.{Row, FirstRow, first_operation, first_fragment, first_variable}
 use Rattle.document_grammar.specs.Derivation.{FitsBy, AllFitBy, BareBy, Sort, document, selections, type, DerivationBy, Derivation, FirstSpells, Spells}
 use Rattle.document_grammar.proofs.Booleans.{either}
 
-described : (p : Pattern) (w : List ℕ) → Matches p w → Matches (maybe (one DESCRIPTION) then p) w
-described p w m = ([], w, refl, inr refl, m)
-
-row-operation : (w : List ℕ) → Matches first_operation w → Matches (Row OPERATION_DEFINITION) w
-unfolding Row
-row-operation w m = elim m [ inl a ↦ inl a | inr b ↦ inr ([], w, refl, inr refl, b) ]
-
-row-fragment : (w : List ℕ) → Matches first_fragment w → Matches (Row FRAGMENT_DEFINITION) w
-unfolding Row
-row-fragment w m = described first_fragment w m
-
-row-variable : (w : List ℕ) → Matches first_variable w → Matches (Row VARIABLE_DEFINITION) w
-unfolding Row
-row-variable w m = described first_variable w m
-
+-- The three rows that differ may have a description first, and need not.
 row-kept : (k : ℕ) (w : List ℕ) → Matches (FirstRow k) w → Matches (Row k) w
-unfolding FirstRow
+unfolding FirstRow Row
 row-kept k w m = elim (either (eqb k OPERATION_DEFINITION)) [
-  | inl p ↦ (let m' : Matches first_operation w = rw p at m in rw (eqb-true k OPERATION_DEFINITION p) (row-operation w m'))
+  | inl p ↦ (let m' : Matches first_operation w = rw p at m in rw (eqb-true _ _ p) (elim m' [ inl a ↦ inl a | inr b ↦ inr ([], w, refl, inr refl, b) ]))
   | inr p ↦ elim (either (eqb k FRAGMENT_DEFINITION)) [
-    | inl q ↦ (let m' : Matches first_fragment w = rw (p, q) at m in rw (eqb-true k FRAGMENT_DEFINITION q) (row-fragment w m'))
+    | inl q ↦ (let m' : Matches first_fragment w = rw (p, q) at m in rw (eqb-true _ _ q) ([], w, refl, inr refl, m'))
     | inr q ↦ elim (either (eqb k VARIABLE_DEFINITION)) [
-      | inl r ↦ (let m' : Matches first_variable w = rw (p, q, r) at m in rw (eqb-true k VARIABLE_DEFINITION r) (row-variable w m'))
+      | inl r ↦ (let m' : Matches first_variable w = rw (p, q, r) at m in rw (eqb-true _ _ r) ([], w, refl, inr refl, m'))
       | inr r ↦ (rw (p, q, r) at m)
     ]
   ]

@@ -9,8 +9,9 @@ use Rattle.grammar_machine.specs.Machine.{is_leaf, at, ends, arcs, has, has_in, 
 use Rattle.document_grammar.specs.Derivation.{kinds}
 use Rattle.grammar_machine.proofs.Checks.{exits}
 use Rattle.document_grammar.proofs.Booleans.{false-true, and-l, and-r, or-c, or-l, or-r, implies, either, eqb-refl}
-use Rattle.grammar_machine.proofs.TableLemmas.{arcs-at, exits-at, state-test}
-use Rattle.grammar_machine.proofs.Patterns.{nullable, deriv, kinds_eq, pattern_eq, pattern_of, label, shown, all_kinds, any_arcs, constant, begin_kinds, no_arc, is_live, agree_at, agree_checked, nullable-from, from-deriv}
+use Rattle.grammar_machine.proofs.TableLemmas.{arcs-at, exits-at, state-test, text-same}
+use Rattle.document_grammar.proofs.Nullable.{nullable}
+use Rattle.grammar_machine.proofs.Patterns.{deriv, pattern_eq, pattern_of, label, shown, all_kinds, any_arcs, constant, begin_kinds, no_arc, is_live, agree_at, agree_checked, nullable-from, from-deriv}
 use Rattle.document_grammar.specs.Kinds.{VARIABLE, NAMED_TYPE, LIST_TYPE, NON_NULL_TYPE, DOCUMENT, SELECTION_SET, DEFAULT_VALUE, FRAGMENT_NAME, ENUM_VALUE}
 use Rattle.grammar_machine.specs.Symbols.{TYPE, BARE_SELECTIONS}
 
@@ -33,13 +34,8 @@ abbrev mutual
   shows (t ▸ f) = show t ▸ shows f
 
 -- Equal patterns.
-kinds-same : (a b : List ℕ) → kinds_eq a b ≡ true → a ≡ b
-kinds-same [] [] h = refl
-kinds-same (a ∷ more) (b ∷ bs) h = ap₂ (λ x y. x ∷ y) (eqb-true a b (and-l _ _ h)) (kinds-same more bs (and-r _ _ h))
-kinds-same _ _ h = absurd (true≢false (sym h))
-
 pub pattern-same : (p q : Pattern) → pattern_eq p q ≡ true → p ≡ q
-pattern-same (any_of ks) (any_of ls) h = ap any_of (kinds-same ks ls h)
+pattern-same (any_of ks) (any_of ls) h = ap any_of (text-same ks ls h)
 pattern-same nothing nothing h = refl
 pattern-same (p then q) (r then s) h = ap₂ (λ x y. x then y) (pattern-same p r (and-l _ _ h)) (pattern-same q s (and-r _ _ h))
 pattern-same (p or_else q) (r or_else s) h = ap₂ (λ x y. x or_else y) (pattern-same p r (and-l _ _ h)) (pattern-same q s (and-r _ _ h))

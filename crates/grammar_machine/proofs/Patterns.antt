@@ -5,9 +5,10 @@ use Rattle.document_grammar.specs.Rows.{Row, keyword_operation, bare_selections}
 use Rattle.grammar_machine.specs.Table.{State, rows}
 use Rattle.grammar_machine.proofs.generated.Labels.{paths, labels}
 use Rattle.document_grammar.specs.Booleans.{◌and◌, ◌or◌}
-use Rattle.grammar_machine.specs.Machine.{is_leaf, at, ends, exit, arcs, state_arcs, state_ends}
+use Rattle.grammar_machine.specs.Machine.{is_leaf, at, ends, exit, arcs, state_arcs, state_ends, text_eq}
+use Rattle.document_grammar.proofs.Nullable.{nullable, nullable-to}
 use Rattle.grammar_machine.proofs.Checks.{all_arcs, every_state, exits}
-use Rattle.document_grammar.proofs.Booleans.{and-l, and-r, or-c, or-l, or-r, either}
+use Rattle.document_grammar.proofs.Booleans.{and-l, and-r, or-c, either}
 use Rattle.grammar_machine.proofs.TableLemmas.{head-same, tail-same, no-cons}
 use Rattle.document_grammar.specs.Kinds.{OPERATION_DEFINITION, SELECTION_SET, VARIABLE, DEFAULT_VALUE, NAMED_TYPE, LIST_TYPE, NON_NULL_TYPE, DOCUMENT, BANG}
 use Rattle.grammar_machine.specs.Symbols.{TYPE, SHORT_QUERY, BARE_SELECTIONS, NAME_FOR_ENUM}
@@ -26,13 +27,6 @@ seq (a then b) q = a then (b then q)
 seq (a or_else b) q = (a or_else b) then q
 seq (many p) q = many p then q
 
-abbrev pub nullable : Pattern → Bool
-nullable (any_of ks) = false
-nullable nothing = true
-nullable (p then q) = nullable p and nullable q
-nullable (p or_else q) = nullable p or nullable q
-nullable (many p) = true
-
 abbrev pub deriv : Pattern → ℕ → Pattern
 deriv (any_of ks) k = cond (member k ks) nothing (any_of [])
 deriv nothing k = any_of []
@@ -40,13 +34,8 @@ deriv (p then q) k = alt (seq (deriv p k) q) (cond (nullable p) (deriv q k) (any
 deriv (p or_else q) k = alt (deriv p k) (deriv q k)
 deriv (many p) k = seq (deriv p k) (many p)
 
-abbrev pub kinds_eq : List ℕ → List ℕ → Bool
-kinds_eq [] [] = true
-kinds_eq (a ∷ more) (b ∷ bs) = eqb a b and kinds_eq more bs
-kinds_eq _ _ = false
-
 abbrev pub pattern_eq : Pattern → Pattern → Bool
-pattern_eq (any_of ks) (any_of ls) = kinds_eq ks ls
+pattern_eq (any_of ks) (any_of ls) = text_eq ks ls
 pattern_eq nothing nothing = true
 pattern_eq (p then q) (r then s) = pattern_eq p r and pattern_eq q s
 pattern_eq (p or_else q) (r or_else s) = pattern_eq p r and pattern_eq q s
@@ -145,23 +134,6 @@ seq-from (a then b) q w h = (h.0 ++ h.4.0, h.4.1, h.2 ∙ (ap (λ (v : List ℕ)
 seq-from (a or_else b) q w h = h
 seq-from (many p) q w h = h
 
-nil-l : (u v : List ℕ) → [] ≡ u ++ v → (u ≡ []) × (v ≡ [])
-nil-l [] v e = (refl, sym e)
-nil-l (k ∷ u) v e = absurd (cc)
-
-pub nullable-to : (p : Pattern) → Matches p [] → nullable p ≡ true
-unfolding ◌and◌ ◌or◌
-nullable-to (any_of ks) h = absurd (no-nil h.0 h.2)
-  where
-    no-nil : (k : ℕ) → [] ≡ k ∷ [] → ⊥
-    no-nil k e = cc
-nullable-to nothing h = refl
-nullable-to (p then q) h =
-    let e = nil-l h.0 h.1 h.2 in
-    rw (nullable-to p (subst (λ (v : List ℕ). Matches p v) e.0 h.3)) (nullable-to q (subst (λ (v : List ℕ). Matches q v) e.1 h.4))
-nullable-to (p or_else q) h = elim h [ inl x ↦ or-l _ _ (nullable-to p x) | inr x ↦ or-r _ _ (nullable-to q x) ]
-nullable-to (many p) h = refl
-
 pub nullable-from : (p : Pattern) → nullable p ≡ true → Matches p []
 nullable-from (any_of ks) h = absurd (true≢false (sym h))
 nullable-from nothing h = refl
@@ -182,7 +154,7 @@ rest-of p k w d (again {u = u} {v = v} m r f) e = rest-split p k w u v d m r (sy
 
 then-to : (p q : Pattern) (k : ℕ) (w u v : List ℕ) → k ∷ w ≡ u ++ v → Matches p u → Matches q v
     → ((u' : List ℕ) → Matches p (k ∷ u') → Matches (deriv p k) u') → (Matches q (k ∷ w) → Matches (deriv q k) w) → Matches (deriv (p then q) k) w
-then-to p q k w [] v e m n dp dq = alt-to (seq (deriv p k) q) _ w (inr (rw (nullable-to p m) (dq (subst (λ (z : List ℕ). Matches q z) (sym e) n))))
+then-to p q k w [] v e m n dp dq = alt-to (seq (deriv p k) q) _ w (inr (rw (nullable-to p [] refl m) (dq (subst (λ (z : List ℕ). Matches q z) (sym e) n))))
 then-to p q k w (a ∷ u) v e m n dp dq =
     alt-to (seq (deriv p k) q) _ w (inl (seq-to (deriv p k) q w (u, v, tail-same e, dp u (subst (λ (z : ℕ). Matches p (z ∷ u)) (sym (head-same e)) m), n)))
 

@@ -18,7 +18,8 @@ use Rattle.document_grammar.proofs.Booleans.{false-true, and-l, and-r, or-c, or-
 use Rattle.grammar_machine.proofs.TableLemmas.{text-same, arc-test, head-same, tail-same, no-cons, below-at}
 use Rattle.grammar_machine.proofs.Endings.{ending, fillable}
 use Rattle.grammar_machine.proofs.Sound.{leaf-lt, fill-after, fill-start, fillable-ok}
-use Rattle.grammar_machine.proofs.Patterns.{deriv, pattern_of, symbol_row, type_row, label, shown, any_arcs, constant, begin_kinds, agree_at, nullable-to, to-deriv, first-kind}
+use Rattle.document_grammar.proofs.Nullable.{nullable-to}
+use Rattle.grammar_machine.proofs.Patterns.{deriv, pattern_of, symbol_row, type_row, label, shown, any_arcs, constant, begin_kinds, agree_at, to-deriv, first-kind}
 use Rattle.grammar_machine.proofs.FromMachineTree.{show, shows, type_of, show-root, Live, agree, agree-end-from, agree-arc, agree-kind, has-live, ends-live, leaf-no-type, node-symbols, labels-checked}
 use Rattle.grammar_machine.proofs.Constants.{type-first, type-pattern, bare-pattern, document-arc, finish-lacks}
 use Rattle.grammar_machine.proofs.Rules.{start-pattern, keyword-class}
@@ -313,7 +314,7 @@ read-step s q t f l n m a d h rt rf =
     ]
 
 read-end : (s q : ℕ) → agree_at s q ≡ true → Matches (pattern_of s q) [] → ReadFrom s q none
-read-end s q a m = (none, agree-end-from s q a (nullable-to (pattern_of s q) m), refl)
+read-end s q a m = (none, agree-end-from s q a (nullable-to (pattern_of s q) [] refl m), refl)
 
 -- Numbers of symbols and kinds.
 abbrev number_test : ℕ → Bool
