@@ -1,6 +1,6 @@
 -- Texts that begin a sentence. Where tokens at the front of a text, and further tokens with the texts that are listed for the leaves, are
 -- those of a derivation, the text of the first goes on to a sentence: by a line feed, and then by the further tokens.
-use Rattle.std.proofs.Common.{◌≡◌, ℕ, zero, suc, ◌<◌, Bool, true, false, cond, eqb, List, [], ◌∷◌, ◌++◌, length, get_or, map, Option, Some, None, IsUtf8, refl, sym, ap, ap₂, ◌∙◌, subst, inl, inr, eqb-true, ltb-true, append_assoc, arith}
+use Rattle.std.proofs.Common.{◌≡◌, ◌≢◌, ℕ, zero, suc, ◌<◌, Bool, true, false, cond, eqb, List, [], ◌∷◌, ◌++◌, length, map, Option, Some, None, IsUtf8, refl, sym, ap, ap₂, ◌∙◌, subst, inl, inr, eqb-true, ltb-true, append_assoc, arith}
 use Rattle.std.proofs.lemmas.Bool.{eqb-false}
 use Rattle.std.proofs.lemmas.Str.{IsUtf8-from_ascii}
 use Rattle.std.proofs.Math.Seq.{take-length}
@@ -29,36 +29,13 @@ use Rattle.grammar_machine.proofs.SentenceTheorems.{reached-begins}
 use Rattle.std.proofs.lemmas.List.{map-append}
 use Rattle.document_grammar.specs.Kinds.{WHITESPACE, ERROR, DOCUMENT}
 
--- The kind of the tokens that become a leaf.
-kinds_by_leaf : List TokenKind
-kinds_by_leaf =
-    kind.Whitespace
-    ∷ kind.Comment
-    ∷ kind.Comma
-    ∷ kind.Eof
-    ∷ kind.Bang
-    ∷ kind.Dollar
-    ∷ kind.Amp
-    ∷ kind.Spread
-    ∷ kind.Colon
-    ∷ kind.Eq
-    ∷ kind.At
-    ∷ kind.LParen
-    ∷ kind.RParen
-    ∷ kind.LBracket
-    ∷ kind.RBracket
-    ∷ kind.LCurly
-    ∷ kind.RCurly
-    ∷ kind.Pipe
-    ∷ kind.Name
-    ∷ kind.Int
-    ∷ kind.Float
-    ∷ kind.StringValue
-    ∷ []
-
+-- The kind of the token that is listed for a leaf.
 kind_of : ℕ → TokenKind
-unfolding token
-kind_of l = get_or kinds_by_leaf (token l []).0 kind.Eof
+kind_of l = kind_or (token_at (spell l))
+  where
+    kind_or : Option (TokenKind × ℕ) → TokenKind
+    kind_or None = kind.Eof
+    kind_or (Some t) = t.0
 
 -- Two leaves have no tokens: WHITESPACE, and ERROR. (COMMENT and COMMA have the numbers of two sorts of names here.)
 wordless : ℕ → Bool
@@ -69,14 +46,11 @@ abbrev down : ℕ → List ℕ
 down zero = []
 down (suc n) = n ∷ down n
 
-less : (n m : ℕ) → n < suc m → (n ≡ m → ⊥) → n < m
-less n m h i = omega arith
-
 at-each : {A : Type 0} (f g : ℕ → A) (m n : ℕ) → n < m → map f (down m) ≡ map g (down m) → f n ≡ g n
 at-each f g zero n h e = absurd (omega arith)
 at-each f g (suc m) n h e = elim (either (eqb n m)) [
   | inl p ↦ subst (λ k. f k ≡ g k) (sym (eqb-true n m p)) (head-same e)
-  | inr p ↦ at-each f g m n (less n m h (eqb-false n m p)) (tail-same e)
+  | inr p ↦ (let i : n ≢ m = eqb-false n m p in at-each f g m n (omega arith) (tail-same e))
 ]
 
 -- What is known of a leaf's text: the token that it is, its leaf again, whether it is significant, and whether it is ASCII.
@@ -87,10 +61,10 @@ abbrev facts : ℕ → Facts
 facts l = (token_at (spell l), leaf_number (kind_of l), is_significant_kind (kind_of l), all_ascii (spell l))
 
 abbrev wanted : ℕ → Facts
-wanted l = (cond (wordless l) None (Some (kind_of l, length (spell l))), (token l []).0, cond (wordless l) false true, true)
+wanted l = cond (wordless l) (None, ERROR, false, true) (Some (kind_of l, length (spell l)), (token l []).0, true, true)
 
 leaves-checked : map facts (down DOCUMENT) ≡ map wanted (down DOCUMENT)
-unfolding spellings holds token kind_of kinds_by_leaf wordless ◌or◌ ◌and◌
+unfolding spellings holds token kind_of wordless ◌or◌ ◌and◌
 leaves-checked = refl
 
 no-word : (l a : ℕ) → wordless l ≡ true → fires l a 0 ≡ false
@@ -106,16 +80,14 @@ unfolding is_leaf token
 leaf-word l ok =
     let b : l < DOCUMENT = ltb-true l DOCUMENT ok.0 in
     let some : wordless l ≡ false = elim (either (wordless l)) [ inl p ↦ false-true (no-word l (class (token l (spell l))) p) ok.1 | inr p ↦ p ] in
-    let all : facts l ≡ wanted l = at-each facts wanted DOCUMENT l b leaves-checked in
-    let reading : token_at (spell l) ≡ Some (kind_of l, length (spell l)) = rw some at (ap (λ (p : Facts). p.0) all) in
-    let signs : is_significant_kind (kind_of l) ≡ cond (wordless l) false true = ap (λ (p : Facts). p.2) all in
+    let all : facts l ≡ (Some (kind_of l, length (spell l)), (token l []).0, true, true) = rw some at (at-each facts wanted DOCUMENT l b leaves-checked) in
     let plain : all_ascii (spell l) ≡ true = ap (λ (p : Facts). p.3) all in
     let number : leaf_number (kind_of l) ≡ (token l []).0 = ap (λ (p : Facts). p.1) all in (
       record { kind = kind_of l; text = spell l },
       record {
         characters = IsUtf8-from_ascii (spell l) (is-ascii (spell l) plain);
-        token = subst (λ (x : List ℕ). Tok (kind_of l) x) (take-length (spell l)) (sound (spell l) (kind_of l) (length (spell l)) reading).stands.token;
-        significant = rw some at signs;
+        token = subst (λ (x : List ℕ). Tok (kind_of l) x) (take-length (spell l)) (sound (spell l) (kind_of l) (length (spell l)) (ap (λ (p : Facts). p.0) all)).stands.token;
+        significant = ap (λ (p : Facts). p.2) all;
       },
       ap (λ (n : ℕ). (n, spell l)) number,
     )

@@ -7,45 +7,29 @@ use Rattle.grammar_machine.specs.Machine.{is_leaf, exit, target, Move, go, close
 use Rattle.document_grammar.proofs.Booleans.{false-true}
 use Rattle.grammar_machine.proofs.TableLemmas.{head-same, tail-same}
 
-abbrev is_go : Move → Bool
-is_go (go k) = true
-is_go close = false
-is_go stuck = false
-
 abbrev pub is_stuck : Move → Bool
 is_stuck (go k) = false
 is_stuck close = false
 is_stuck stuck = true
 
-abbrev goal_of : Move → ℕ
-goal_of (go k) = k
-goal_of close = 0
-goal_of stuck = 0
-
 pub go-close : {A : Type 0} {k : ℕ} → go k ≡ close → A
-go-close e = false-true (ap is_go e) refl
+go-close e = absurd cc
 
 pub go-stuck : {A : Type 0} {k : ℕ} → go k ≡ stuck → A
-go-stuck e = false-true (ap is_go e) refl
+go-stuck e = absurd cc
 
 pub close-stuck : {A : Type 0} → close ≡ stuck → A
-close-stuck e = false-true refl (ap is_stuck e)
+close-stuck e = absurd cc
 
 pub go-inj : {k l : ℕ} → go k ≡ go l → k ≡ l
-go-inj e = ap goal_of e
+go-inj e = cc
 
 -- What the machine does next, before the tokens `r`.
 abbrev pub next : ℕ → ℕ → List Token → Move
 next s q r = move s q (first r) (second r)
 
-same_move : (s s' q q' : ℕ) (r r' : List Token) (m m' : Move) → s ≡ s' → q ≡ q' → r ≡ r' → next s q r ≡ m → next s' q' r' ≡ m' → m ≡ m'
-same_move s s' q q' r r' m m' es eq er a b = cc
-
-both : {t u : Tree} {f g : Forest} {v w v' w' : List Token} → (t ≡ u) × (v ≡ w) → (t ≡ u → v ≡ w → (f ≡ g) × (v' ≡ w')) → (t ▸ f ≡ u ▸ g) × (v' ≡ w')
-both p h = let r = h p.0 p.1 in (ap₂ (λ x y. x ▸ y) p.0 r.0, r.1)
-
-same_after : (s s' q q' : ℕ) (t u : Tree) → s ≡ s' → q ≡ q' → t ≡ u → target s q (root t) + finish t ≡ target s' q' (root u) + finish u
-same_after s s' q q' t u es eq et = cc
+same_move : {s s' q q' : ℕ} {r r' : List Token} {m m' : Move} → s ≡ s' → q ≡ q' → r ≡ r' → next s q r ≡ m → next s' q' r' ≡ m' → m ≡ m'
+same_move es eq er a b = cc
 
 -- One tree.
 mutual
@@ -60,13 +44,15 @@ mutual
   pub same_forest : (s s' q q' : ℕ) (f g : Forest) (v w : List Token) → s ≡ s' → q ≡ q' → RunFrom s q f v → RunFrom s' q' g w
       → yields f ++ v ≡ yields g ++ w → (f ≡ g) × (v ≡ w)
   same_forest s s' q q' none none v w es eq a b h = (refl, h)
-  same_forest s s' q q' none (u ▸ g) v w es eq a b h = go-close (sym (same_move s s' q q' _ _ _ _ es eq h a b.0))
-  same_forest s s' q q' (t ▸ f) none v w es eq a b h = go-close (same_move s s' q q' _ _ _ _ es eq h a.0 b)
+  same_forest s s' q q' none (u ▸ g) v w es eq a b h = go-close (sym (same_move es eq h a b.0))
+  same_forest s s' q q' (t ▸ f) none v w es eq a b h = go-close (same_move es eq h a.0 b)
   same_forest s s' q q' (t ▸ f) (u ▸ g) v w es eq a b h =
-      let er : root t ≡ root u = go-inj (same_move s s' q q' _ _ _ _ es eq h a.0 b.0) in
       let h' : yield t ++ (yields f ++ v) ≡ yield u ++ (yields g ++ w) = sym (append_assoc (yield t) (yields f) v) ∙ (h ∙ append_assoc (yield u) (yields g) w) in
-      both (same_tree t u (yields f ++ v) (yields g ++ w) er a.1 b.1 h')
-      (λ et ev. same_forest s s' (target s q (root t) + finish t) (target s' q' (root u) + finish u) f g v w es (same_after s s' q q' t u es eq et) a.2 b.2 ev)
+      let e = same_tree t u (yields f ++ v) (yields g ++ w) (go-inj (same_move es eq h a.0 b.0)) a.1 b.1 h' in
+      let et : t ≡ u = e.0 in
+      let after : target s q (root t) + finish t ≡ target s' q' (root u) + finish u = cc in
+      let r = same_forest s s' _ _ f g v w es after a.2 b.2 e.1 in
+      (ap₂ (λ x y. x ▸ y) et r.0, r.1)
 
 -- The open nodes `fs` are the left part of a tree that the machine makes, with `r` still to be read.
 abbrev pub Upper : List Frame → Tree → List Token → Tree → Type 0
@@ -81,9 +67,6 @@ pub forest_assoc : (f : Forest) (t : Tree) (g : Forest) → (f +++ (t ▸ none))
 forest_assoc none t g = refl
 forest_assoc (u ▸ f) t g = ap (λ (x : Forest). u ▸ x) (forest_assoc f t g)
 
-next-at : (s q : ℕ) (r v : List Token) (m m' : Move) → r ≡ v → next s q r ≡ m → next s q v ≡ m' → m ≡ m'
-next-at s q r v m m' e a b = cc
-
 -- A move takes a left part to a left part.
 pub left-start : (s : ℕ) (g : Forest) (w : List Token) → Run (node s g) [] → yields g ≡ w → Left (frame s 0 none ∷ []) w (node s g)
 left-start s g w h e = (g, [], sym e ∙ sym (append-nil (yields g)), h.1, (refl, refl))
@@ -91,60 +74,40 @@ left-start s g w h e = (g, [], sym e ∙ sym (append-nil (yields g)), h.1, (refl
 pub left-shift : (s q l : ℕ) (f : Forest) (fs : List Frame) (a : Token) (r : List Token) (t : Tree) → Left (frame s q f ∷ fs) (a ∷ r) t
     → next s q (a ∷ r) ≡ go l → IsTrue (is_leaf l) → Left (frame s (target s q l) (f +++ (leaf l a.1 ▸ none)) ∷ fs) r t
 unfolding token
-left-shift s q l f fs a r t h m i = on h.0 h.1 h.2 h.3 h.4
-  where
-    on : (g : Forest) (v : List Token) → a ∷ r ≡ yields g ++ v → RunFrom s q g v → Upper fs (node s (f +++ g)) v t
-        → Left (frame s (target s q l) (f +++ (leaf l a.1 ▸ none)) ∷ fs) r t
-    on none v e run up = go-close (next-at s q _ _ _ _ e m run)
-    on (leaf k x ▸ g) v e run up =
-        let ek' : k ≡ l = sym (go-inj (next-at s q _ _ _ _ e m run.0)) in
-        let et : a ≡ token k x = head-same e in
-        let ex : x ≡ a.1 = ap (λ (z : Token). z.1) (sym et) in
-        let es : target s q k + 0 ≡ target s q l = add-zero (target s q k) ∙ ap (target s q) ek' in
-        let ef : f +++ (leaf k x ▸ g) ≡ (f +++ (leaf l a.1 ▸ none)) +++ g = ap (λ (z : Tree). f +++ (z ▸ g)) (ap₂ leaf ek' ex) ∙ sym (forest_assoc f (leaf l a.1) g) in
-        (g, v, tail-same e, subst (λ (n : ℕ). RunFrom s n g v) es run.2, subst (λ (z : Forest). Upper fs (node s z) v t) ef up)
-    on (node k f' ▸ g) v e run up = false-true (rw (sym (go-inj (next-at s q _ _ _ _ e m run.0))) at run.1.0) i
+left-shift s q l f fs a r t (none, v, e, run, up) m i = go-close (same_move refl refl e m run)
+left-shift s q l f fs a r t (leaf k x ▸ g, v, e, run, up) m i =
+    let ek : k ≡ l = sym (go-inj (same_move refl refl e m run.0)) in
+    let ex : x ≡ a.1 = ap (λ (z : Token). z.1) (sym (head-same e)) in
+    let es : target s q k + 0 ≡ target s q l = add-zero (target s q k) ∙ ap (target s q) ek in
+    let ef : f +++ (leaf k x ▸ g) ≡ (f +++ (leaf l a.1 ▸ none)) +++ g = ap (λ (z : Tree). f +++ (z ▸ g)) (ap₂ leaf ek ex) ∙ sym (forest_assoc f (leaf l a.1) g) in
+    (g, v, tail-same e, subst (λ (n : ℕ). RunFrom s n g v) es run.2, subst (λ (z : Forest). Upper fs (node s z) v t) ef up)
+left-shift s q l f fs a r t (node k f' ▸ g, v, e, run, up) m i = false-true (rw (sym (go-inj (same_move refl refl e m run.0))) at run.1.0) i
 
 pub left-open : (s q k : ℕ) (f : Forest) (fs : List Frame) (r : List Token) (t : Tree) → Left (frame s q f ∷ fs) r t → next s q r ≡ go k
     → IsFalse (is_leaf k) → Left (frame k 0 none ∷ frame s q f ∷ fs) r t
-left-open s q k f fs r t h m i = on h.0 h.1 h.2 h.3 h.4
-  where
-    on : (g : Forest) (v : List Token) → r ≡ yields g ++ v → RunFrom s q g v → Upper fs (node s (f +++ g)) v t
-        → Left (frame k 0 none ∷ frame s q f ∷ fs) r t
-    on none v e run up = go-close (next-at s q _ _ _ _ e m run)
-    on (leaf k' x ▸ g) v e run up = false-true (rw (go-inj (next-at s q _ _ _ _ e m run.0)) at i) run.1
-    on (node k' f' ▸ g) v e run up =
-        let ek : k' ≡ k = sym (go-inj (next-at s q _ _ _ _ e m run.0)) in
-        let e' : r ≡ yields f' ++ (yields g ++ v) = e ∙ append_assoc (yields f') (yields g) v in
-        subst (λ (n : ℕ). Left (frame n 0 none ∷ frame s q f ∷ fs) r t) ek (f', yields g ++ v, e', run.1.1, (g, v, refl, run.2, up))
+left-open s q k f fs r t (none, v, e, run, up) m i = go-close (same_move refl refl e m run)
+left-open s q k f fs r t (leaf k' x ▸ g, v, e, run, up) m i = false-true (rw (go-inj (same_move refl refl e m run.0)) at i) run.1
+left-open s q k f fs r t (node k' f' ▸ g, v, e, run, up) m i =
+    let ek : k' ≡ k = sym (go-inj (same_move refl refl e m run.0)) in
+    subst (λ (n : ℕ). Left (frame n 0 none ∷ frame s q f ∷ fs) r t) ek (f', yields g ++ v, e ∙ append_assoc (yields f') (yields g) v, run.1.1, (g, v, refl, run.2, up))
 
 pub left-close : (s q k p : ℕ) (f g : Forest) (fs : List Frame) (r : List Token) (t : Tree) → walk k 0 g ≡ p
     → Left (frame k p g ∷ frame s q f ∷ fs) r t → next k p r ≡ close → Left (frame s (target s q k + exit k p) (f +++ (node k g ▸ none)) ∷ fs) r t
-left-close s q k p f g fs r t ew h m = on h.0 h.1 h.2 h.3 h.4
-  where
-    on : (g' : Forest) (v : List Token) → r ≡ yields g' ++ v → RunFrom k p g' v → Upper (frame s q f ∷ fs) (node k (g +++ g')) v t
-        → Left (frame s (target s q k + exit k p) (f +++ (node k g ▸ none)) ∷ fs) r t
-    on none v e run up =
-        let eg : g +++ none ≡ g = forest-none g in
-        let er : walk k 0 (g +++ none) ≡ p = ap (walk k 0) eg ∙ ew in
-        let ef : f +++ (node k (g +++ none) ▸ up.0) ≡ (f +++ (node k g ▸ none)) +++ up.0 = ap (λ (z : Forest). f +++ (node k z ▸ up.0)) eg ∙ sym (forest_assoc f (node k g) up.0) in
-        (up.0, up.1, e ∙ up.2, subst (λ (n : ℕ). RunFrom s (target s q k + exit k n) up.0 up.1) er up.3, subst (λ (z : Forest). Upper fs (node s z) up.1 t) ef up.4)
-    on (x ▸ g') v e run up = go-close (sym (next-at k p _ _ _ _ e m run.0))
+left-close s q k p f g fs r t ew (none, v, e, run, (h, w, er, more, up)) m =
+    let eg : g +++ none ≡ g = forest-none g in
+    let ep : walk k 0 (g +++ none) ≡ p = ap (walk k 0) eg ∙ ew in
+    let ef : f +++ (node k (g +++ none) ▸ h) ≡ (f +++ (node k g ▸ none)) +++ h = ap (λ (z : Forest). f +++ (node k z ▸ h)) eg ∙ sym (forest_assoc f (node k g) h) in
+    (h, w, e ∙ er, subst (λ (n : ℕ). RunFrom s (target s q k + exit k n) h w) ep more, subst (λ (z : Forest). Upper fs (node s z) w t) ef up)
+left-close s q k p f g fs r t ew (x ▸ g', v, e, run, up) m = go-close (sym (same_move refl refl e m run.0))
 
 pub left-stuck : (s q : ℕ) (f : Forest) (fs : List Frame) (r : List Token) (t : Tree) → Left (frame s q f ∷ fs) r t → next s q r ≡ stuck → ⊥
-left-stuck s q f fs r t h m = on h.0 h.1 h.2 h.3
-  where
-    on : (g : Forest) (v : List Token) → r ≡ yields g ++ v → RunFrom s q g v → ⊥
-    on none v e run = close-stuck (sym (next-at s q _ _ _ _ e m run))
-    on (x ▸ g) v e run = go-stuck (sym (next-at s q _ _ _ _ e m run.0))
+left-stuck s q f fs r t (none, v, e, run, up) m = close-stuck (sym (same_move refl refl e m run))
+left-stuck s q f fs r t (x ▸ g, v, e, run, up) m = go-stuck (sym (same_move refl refl e m run.0))
 
 -- Where the machine ends the root's node, all is read and it is the whole tree.
 pub left-done : (s q : ℕ) (f : Forest) (r : List Token) (t : Tree) → Left (frame s q f ∷ []) r t → next s q r ≡ close → (r ≡ []) × (node s f ≡ t)
-left-done s q f r t h m = on h.0 h.1 h.2 h.3 h.4
-  where
-    on : (g : Forest) (v : List Token) → r ≡ yields g ++ v → RunFrom s q g v → Upper [] (node s (f +++ g)) v t → (r ≡ []) × (node s f ≡ t)
-    on none v e run u = (e ∙ u.1, ap (λ (x : Forest). node s x) (sym (forest-none f)) ∙ u.0)
-    on (x ▸ g) v e run u = go-close (sym (next-at s q _ _ _ _ e m run.0))
+left-done s q f r t (none, v, e, run, up) m = (e ∙ up.1, ap (λ (x : Forest). node s x) (sym (forest-none f)) ∙ up.0)
+left-done s q f r t (x ▸ g, v, e, run, up) m = go-close (sym (same_move refl refl e m run.0))
 
 -- The states of the open nodes are those to which their children lead.
 abbrev pub Tracks : List Frame → Type 0

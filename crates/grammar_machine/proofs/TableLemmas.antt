@@ -1,5 +1,5 @@
 -- What the tests say, for each state and symbol.
-use Rattle.std.proofs.Common.{◌≡◌, ℕ, zero, suc, ◌+◌, ◌-◌, ◌≤◌, ◌<◌, min, Bool, true, false, cond, not, eqb, List, [], ◌∷◌, get_or, bit_or, refl, sym, ap, ap₂, subst, ◌⊎◌, inl, inr, true≢false, eqb-true, ltb-false, arith}
+use Rattle.std.proofs.Common.{◌≡◌, ◌≢◌, ℕ, zero, suc, ◌+◌, ◌-◌, ◌≤◌, ◌<◌, min, Bool, true, false, cond, not, eqb, List, [], ◌∷◌, get_or, bit_or, refl, sym, ap, ap₂, subst, ◌⊎◌, inl, inr, true≢false, eqb-true, ltb-false, arith}
 use Rattle.std.proofs.lemmas.Bool.{eqb-false}
 use Rattle.std.specs.Int.{bit_at}
 use Rattle.std.proofs.lemmas.Nat.Bits.{bit_at_and, bit_at_or, bit_at-lt, bit_at-zero}
@@ -16,11 +16,8 @@ pub below-at : (t : ℕ → Bool) (n l : ℕ) → l < n → all_below n t ≡ tr
 below-at t zero l h e = absurd (omega arith)
 below-at t (suc n) l h e = elim (either (eqb l n)) [
   | inl p ↦ subst (λ (k : ℕ). t k ≡ true) (sym (eqb-true l n p)) (and-l _ _ e)
-  | inr p ↦ below-at t n l (lt-of-ne l n h (eqb-false l n p)) (and-r _ _ e)
+  | inr p ↦ (let i : l ≢ n = eqb-false l n p in below-at t n l (omega arith) (and-r _ _ e))
 ]
-  where
-    lt-of-ne : (l n : ℕ) → l < suc n → (l ≡ n → ⊥) → l < n
-    lt-of-ne l n h p = omega arith
 
 -- Equal lists.
 pub head-same : {A : Type 0} {a b : A} {v w : List A} → a ∷ v ≡ b ∷ w → a ≡ b
