@@ -52,7 +52,7 @@ trim-join (built.leaf k x rest) g a b = trim-join rest g a b
 trim-join (built.node k kids rest) g a b = and-i (and-l _ _ a) (trim-join rest g (and-r _ _ a) b)
 
 -- the trees after the first one fit
-fits-tail : (t : Tree) (f : Forest) → AllFit (bares (t ▸ f)) → AllFit (bares f)
+pub fits-tail : (t : Tree) (f : Forest) → AllFit (bares (t ▸ f)) → AllFit (bares f)
 fits-tail t f h = elim (either (ignored t)) [ inl e ↦ (rw e at h) | inr e ↦ (let g : AllFit (bare t ▸ bares f) = rw e at h in g.1) ]
 
 -- No node's row is empty.

@@ -34,13 +34,13 @@ use Rattle.parser_rules.specs.Rules.{body}
 use Rattle.parser_rules.specs.Runs.{Runs, seq, yes, no, done, again, call}
 use Rattle.parser_rules.proofs.runs.Frame.{add_all_above, root_kept}
 use Rattle.parser_rules.proofs.runs.AtTheEnd.{EndNow, ends, read_ends}
-use Rattle.parser_rules.proofs.runs.Reading.{reading, reading-second}
+use Rattle.parser_rules.proofs.runs.Reading.{Shown, second-shown, reading, reading-second}
 use Rattle.parser_rules.proofs.runs.Marked as marked
 use Rattle.parser_rules.proofs.runs.Marked.{Source, token, aside, Marked, append, erase, erase-append, flat, flat-append, set_aside, source_at, source_of, now_of, sources, moved_on}
 use Rattle.parser_rules.proofs.runs.Walk.{after_waiting, always, Goes, Sound, walked_whole}
 use Rattle.parser_rules.proofs.runs.Reporting.{after_note, after_too_deep}
 use Rattle.parser_rules.proofs.reports.NoReport.{end-kind}
-use Rattle.parser_rules.proofs.lookahead.TokenSets.{absent, over, class_of, Shown, second-shown, read-second, of-any, Seen, seen-any, seen-more, edges, end-over, absent-over}
+use Rattle.parser_rules.proofs.lookahead.TokenSets.{absent, over, class_of, read-second, of-any, Seen, seen-any, seen-more, edges, end-over, absent-over}
 use Rattle.parser_rules.proofs.lookahead.Split.{split-at}
 use Rattle.parser_rules.proofs.leaves.LeafCheck.{is_error, belongs, Tokens, anything, leaf_check}
 use Rattle.parser_rules.proofs.NodeChecks.{node_passes, document_leaves as document_fits}
@@ -170,7 +170,7 @@ sound = record {
   leaf = λ own a k b s f x e c h g. taken own a k b s f x e h c;
   no_leaf = not_taken;
   report = λ m a b s f h. after_note (λ t. Held a b t f) m s (λ errors. h);
-  limit = λ a k b s f c h. (a, c, after_too_deep (λ t. Held a b t f) s (λ errors accepts. h));
+  limit = λ a k b s f d c h. (a, c, after_too_deep (λ t. Held a b t f) s (λ errors accepts. h));
   passes = λ q a x y b s f e c h. let r = split-at q true a.near a.far (λ u v. x (record { near = u; far = v })) (λ u v. y (record { near = u; far = v })) s h.shown e c h.seen in (_, r.2, record { shown = h.shown; seen = r.3; fits = h.fits });
   fails = λ q a x y b s f e c h. let r = split-at q false a.near a.far (λ u v. x (record { near = u; far = v })) (λ u v. y (record { near = u; far = v })) s h.shown e c h.seen in (_, r.2, record { shown = h.shown; seen = r.3; fits = h.fits });
   turn = λ a b s f h. record { shown = h.shown; seen = seen-any s h.shown; fits = h.fits };

@@ -5,7 +5,8 @@ use Rattle.document_grammar.specs.Booleans.{◌and◌}
 use Rattle.document_grammar.proofs.Booleans.{either, and-l, and-r}
 use Rattle.parser_rules.specs.State.{State, is_deep, second}
 use Rattle.parser_rules.specs.RuleLanguage.{Test, Here, Next, Ready, HasNext, Deep, Not, Both, holds}
-use Rattle.parser_rules.proofs.lookahead.TokenSets.{set_of, fits-set, Shown, ready, present, ready-is, present-is, second-shown, Seen, Branch, pick, by_near, by_far, near-at, far-at, flip}
+use Rattle.parser_rules.proofs.runs.Reading.{Shown, second-shown}
+use Rattle.parser_rules.proofs.lookahead.TokenSets.{set_of, fits-set, ready, present, ready-is, present-is, Seen, Branch, pick, by_near, by_far, near-at, far-at, flip}
 
 -- Within a node: no level was entered in it, a level is entered, or one was entered and left.
 pub data Level : Type 0 where

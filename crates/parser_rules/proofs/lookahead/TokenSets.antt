@@ -1,6 +1,5 @@
 -- What a test says of the classes of the current token and of the next significant one: it passes exactly for the classes of its set.
-use Rattle.std.proofs.Common.{◌≡◌, ℕ, zero, suc, ◌+◌, ◌-◌, ◌^◌, ◌%◌, ◌≤◌, ◌<◌, ◌||◌, ap₂, max, min, Bool, true, false, not, cond, ◌&&◌, eqb, bit_and, List, [], ◌∷◌, Option, Some, None, refl, sym, ap, ◌∙◌, subst, inl, inr, eqb-true, is_some, arith}
-use Rattle.std.specs.Prelude.{⊤}
+use Rattle.std.proofs.Common.{◌≡◌, ℕ, zero, suc, ◌+◌, ◌-◌, ◌^◌, ◌%◌, ◌≤◌, ◌<◌, ◌||◌, ap₂, max, min, Bool, true, false, not, cond, ◌&&◌, eqb, bit_and, List, Option, Some, None, refl, sym, ap, ◌∙◌, subst, inl, inr, eqb-true, is_some, arith}
 use Rattle.std.proofs.lemmas.Bool.{eqb-false}
 use Rattle.std.specs.Int.{bit_at}
 use Rattle.std.specs.Int.Bits.{bit_xor, bit_or}
@@ -8,8 +7,7 @@ use Rattle.parser_rules.specs.RuleLanguage.{TokenTest, Kind, Keyword, Or, fits}
 use Rattle.std.proofs.lemmas.Nat.Bits.{bit_at_and, bit_at_or, bit_at_xor, bit_at-lt, bit_at-pow_same, bit_at-zero}
 use Rattle.lexical_grammar.specs.declared.TokenKind.{TokenKind}
 use Rattle.lexical_grammar.specs.declared.TokenKind.TheVariants as token
-use Rattle.lexical_grammar.specs.Cut.{Item}
-use Rattle.lexical_grammar.specs.Answers.{Answer, gives, limit_at, is_end}
+use Rattle.lexical_grammar.specs.Answers.{Answer, is_end}
 use Rattle.document_grammar.specs.declared.kind.SyntaxKind.{SyntaxKind}
 use Rattle.document_grammar.specs.Kinds.{words, COMMENT, IDENT}
 use Rattle.document_grammar.specs.Numbers.{number}
@@ -25,8 +23,8 @@ use Rattle.document_grammar.proofs.Booleans.{either, false-true, and-l, and-r}
 use Rattle.grammar_machine.proofs.TableLemmas.{holds-subset, holds-disjoint}
 use Rattle.grammar_machine.proofs.Sound.{any, class-any, word-name, holds-one}
 use Rattle.grammar_machine.proofs.Endings.{words_checked}
-use Rattle.parser_rules.specs.State.{State, Text, Lexeme, same_kind, ignored, lexeme, read_on, second, is_at, is_word, is_over}
-use Rattle.parser_rules.proofs.runs.Reading.{reading, reading-second}
+use Rattle.parser_rules.specs.State.{State, Text, Lexeme, same_kind, ignored, read_on, second, is_at, is_word, is_over}
+use Rattle.parser_rules.proofs.runs.Reading.{Shown, second-shown, reading, reading-second}
 
 -- ---- classes of tokens
 
@@ -41,26 +39,6 @@ lexeme_class k text = cond (is_end k) 0 (class (leaf_number k, text))
 abbrev pub class_of : Option Lexeme → ℕ
 class_of None = absent
 class_of (Some t) = lexeme_class t.kind t.text
-
--- not an ignored token
-abbrev pub Shown : Option Lexeme → Type 0
-Shown None = ⊤
-Shown (Some t) = ignored t.kind ≡ None
-
-abbrev on_ignored : List Answer → Item → TokenKind → Option SyntaxKind → Option Lexeme
-on_ignored rest item k found = elim found [ Some leaf ↦ second rest | None ↦ Some (lexeme k item) ]
-
-abbrev on_found : List Answer → Item → Option TokenKind → Option Lexeme
-on_found rest item found = elim found [ None ↦ second rest | Some k ↦ on_ignored rest item k (ignored k) ]
-
-pub second-shown : (xs : List Answer) → Shown (second xs)
-unfolding second
-second-shown [] = tt
-second-shown (limit_at index ∷ rest) = second-shown rest
-second-shown (gives item ∷ rest) = elim item.kind as (λ found. Shown (on_found rest item found)) [
-  | None ↦ second-shown rest
-  | Some k ↦ (elim (ignored k) as (λ found. ignored k ≡ found → Shown (on_ignored rest item k found)) [ Some leaf ↦ λ e. second-shown rest | None ↦ λ e. e ]) refl
-]
 
 -- reading on reaches the token after the current one
 pub read-second : (xs : List Answer) (s : State) → (read_on xs s).current ≡ second xs

@@ -49,7 +49,7 @@ error-uncounted = refl
 
 ignored-uncounted : (k : TokenKind) (own : SyntaxKind) → ignored k ≡ Some own → uncounted (number own) ≡ true
 unfolding ◌and◌ member
-ignored-uncounted = ignored-kinds (λ own. uncounted (number own) ≡ true) refl refl refl
+ignored-uncounted = ignored-kinds (λ k own. uncounted (number own) ≡ true) refl refl refl
 
 read-waits : {xs : List Answer} {s t : State} → Reading xs s t → all_uncounted s.waiting ≡ true → all_uncounted t.waiting ≡ true
 read-waits = reading-waits (λ k. uncounted (number k)) error-uncounted ignored-uncounted
@@ -115,7 +115,7 @@ sound = record {
       (a, and-r _ _ c, grows a b s (moved own s (Some x)) f (marked.leaf (token x) own marked.none) h u.depth high (leaf-peak a b s (moved own s (Some x)) f own x.text (and-l _ _ c) h u.depth high) (read-waits (reading s.items (moved_on own x (flush s))) refl));
   no_leaf = λ own a k b s f e c h. (a, and-r _ _ c, h);
   report = λ m a b s f h. after_note (λ t. Held a b t f) m s (λ errors. h);
-  limit = λ a k b s f c h. (
+  limit = λ a k b s f d c h. (
     record a { owed = 0 },
     and-r _ _ c,
     after_too_deep (λ t. Held (record a { owed = 0 }) b t f) s (λ errors accepts. let o = leb-true _ _ (and-l _ _ c) in let d = h.deep in let u = h.higher in let p = h.peak in

@@ -76,7 +76,7 @@ sound = record {
   leaf = λ own a k b s f x e c h g. let i = not-c _ (and-l _ _ c) in (a, and-r _ _ c, weaken true a b (moved own s (Some x)) (append f (after_waiting s (marked.leaf (token x) own marked.none))) (λ z. refl) (grows a b s (moved own s (Some x)) f (marked.leaf (token x) own marked.none) h refl (rw i refl) (λ v. rw i refl)));
   no_leaf = λ own a k b s f e c h. (a, and-r _ _ c, h);
   report = λ m a b s f h. after_note (λ t. Tidy a b t f) m s (λ errors. h);
-  limit = λ a k b s f c h. (a, c, after_too_deep (λ t. Tidy a b t f) s (λ errors accepts. h));
+  limit = λ a k b s f d c h. (a, c, after_too_deep (λ t. Tidy a b t f) s (λ errors accepts. h));
   passes = λ q a x y b s f e c h. (a, and-l _ _ c, h);
   fails = λ q a x y b s f e c h. (a, and-r _ _ c, h);
   turn = λ a b s f h. weaken a false b s f (λ z. absurd (true≢false (sym z))) h;

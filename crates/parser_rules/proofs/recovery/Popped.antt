@@ -303,7 +303,7 @@ sound = record {
     spared = λ z. after_note (λ t. is_at token_kind.RBracket t.current ≡ false) m s (λ errors. h.spared z);
     right = right-on a.room s (note m s) f (grown-note m s).reports h.right;
   };
-  limit = λ a k b s f c h. (unknown a.room, c, held a.room b (too_deep s) f (after_too_deep (λ t. Stood t.current t.items) s (λ errors accepts. h.stood)) (right-on a.room s (too_deep s) f (grown-deep s).reports h.right));
+  limit = λ a k b s f d c h. (unknown a.room, c, held a.room b (too_deep s) f (after_too_deep (λ t. Stood t.current t.items) s (λ errors accepts. h.stood)) (right-on a.room s (too_deep s) f (grown-deep s d).reports h.right));
   passes = λ q a x y b s f e c h. (_, and-l _ _ c, record { stood = h.stood; told = h.told; cut = h.cut; spared = λ z. elim (or-c _ _ z) [ inl i ↦ h.spared i | inr i ↦ no-bracket q s i e ]; right = h.right });
   fails = λ q a x y b s f e c h. (_, and-r _ _ c, record { stood = h.stood; told = h.told; cut = λ z. elim (or-c _ _ z) [ inl i ↦ h.cut i | inr i ↦ none-next q s i e ]; spared = h.spared; right = h.right });
   turn = λ a b s f h. held a.room b s f h.stood h.right;

@@ -28,7 +28,8 @@ use Rattle.parser_rules.specs.Runs.{Runs, Turns}
 use Rattle.parser_rules.proofs.runs.Frame.{parts_forest, added-all, add_all_above}
 use Rattle.parser_rules.proofs.soundness.WithoutIgnored.{stack, strip, layers, all_ignored}
 use Rattle.parser_rules.proofs.reports.NoReport.{answers_tokens, all_tokens, rest, current_tokens, Now, Held}
-use Rattle.parser_rules.proofs.lookahead.TokenSets.{Shown, ready-is, second-shown, of-any, ready}
+use Rattle.parser_rules.proofs.runs.Reading.{Shown, second-shown}
+use Rattle.parser_rules.proofs.lookahead.TokenSets.{ready-is, of-any, ready}
 use Rattle.parser_rules.proofs.lookahead.Split.{low, loose, spot}
 use Rattle.parser_rules.proofs.soundness.TableCheck.{root_ends, turns_follow}
 use Rattle.parser_rules.proofs.NodeChecks.{turns_followed}
@@ -49,7 +50,7 @@ afresh-fits : (st : State) (c : Turn st) → all_ignored st.waiting ≡ true →
 unfolding holds within
 afresh-fits st c i = record {
   calm = record {
-    quiet = record { clean = refl; accepts = refl; waits = λ z. i };
+    quiet = record { clean = refl; accepts = refl; waits = i };
     now = subst (λ (o : Option Lexeme). Now o st.items) (sym c.current) c.now;
     held = subst (λ (o : Option Lexeme). Held (from_now st c) o st.items) (sym c.current) (record { front = []; split = refl; tokens = refl });
   };
@@ -58,7 +59,7 @@ afresh-fits st c i = record {
     record {
       children = none;
       place = record { reach = subst (λ (v : List Token). Reach DOCUMENT (now_words st c) (frame DOCUMENT 0 none ∷ []) v) (sym same) starts; leveled = start-level st.limit (from_now st c); alone = λ e. refl };
-      built = λ z. ap (λ (k : ℕ). (k, none) ∷ ((0, none) ∷ [])) (sym document-label.0);
+      built = ap (λ (k : ℕ). (k, none) ∷ ((0, none) ∷ [])) (sym document-label.0);
     },
     tt,
   );

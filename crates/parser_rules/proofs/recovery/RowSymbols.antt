@@ -12,10 +12,9 @@ use Rattle.parser_rules.specs.State.{State, Part, flush, opened, closed, wrapped
 use Rattle.parser_rules.specs.Nodes.{Document}
 use Rattle.parser_rules.specs.RuleLanguage.{Call}
 use Rattle.parser_rules.specs.Runs.{Runs}
-use Rattle.parser_rules.proofs.reports.NoReport.{ignored-leaf}
 use Rattle.parser_rules.proofs.recovery.RecoveryCheck.{of_row, leaf_of_row, Two_rows, row_check}
 use Rattle.parser_rules.proofs.NodeChecks.{node_passes, document_row}
-use Rattle.parser_rules.proofs.runs.Reading.{Reading, reading, all_kinds, reading-waits}
+use Rattle.parser_rules.proofs.runs.Reading.{ignored-leaf, Reading, reading, all_kinds, reading-waits}
 use Rattle.parser_rules.proofs.runs.Marked.{Marked, none, leaf, node, token, moved_on, append, erase, erase-append, set_aside}
 use Rattle.parser_rules.proofs.runs.Walk.{after_waiting, Sound, walked_whole}
 use Rattle.parser_rules.proofs.runs.Reporting.{after_note, after_too_deep}
@@ -69,7 +68,7 @@ sound = record {
   leaf = λ own a k b s f x e c h g. let d = and-l _ _ c in (a, and-r _ _ c, grows a b s (moved own s (Some x)) f (leaf (token x) own none) h (and-i (and-l _ _ d) refl) (and-i (and-r _ _ d) refl) (read-aside (reading s.items (moved_on own x (flush s))) refl));
   no_leaf = λ own a k b s f e c h. (a, and-r _ _ c, h);
   report = λ m a b s f h. after_note (λ t. Fit a b t f) m s (λ errors. h);
-  limit = λ a k b s f c h. (a, c, after_too_deep (λ t. Fit a b t f) s (λ errors accepts. h));
+  limit = λ a k b s f d c h. (a, c, after_too_deep (λ t. Fit a b t f) s (λ errors accepts. h));
   passes = λ q a x y b s f e c h. (a, and-l _ _ c, h);
   fails = λ q a x y b s f e c h. (a, and-r _ _ c, h);
   turn = λ a b s f h. h;

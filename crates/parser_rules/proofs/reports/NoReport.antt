@@ -1,20 +1,19 @@
 -- A state without a new report: what is left to read, and that reading on keeps it so or reports.
-use Rattle.std.proofs.Common.{◌≡◌, ℕ, Bool, true, false, ltb, if◌then◌else◌, List, [], ◌∷◌, ◌++◌, Option, Some, None, refl, sym, ap, ap₂, ◌∙◌, subst, ◌⊎◌, inl, inr, append_assoc, append-nil}
+use Rattle.std.proofs.Common.{◌≡◌, ℕ, Bool, true, false, if◌then◌else◌, List, [], ◌∷◌, ◌++◌, Option, Some, None, refl, sym, ap, ap₂, ◌∙◌, subst, ◌⊎◌, inl, inr, append_assoc}
 use Rattle.std.specs.Prelude.{⊤}
 use Rattle.lexical_grammar.specs.declared.TokenKind.{TokenKind}
 use Rattle.lexical_grammar.specs.declared.TokenKind.TheVariants as token
-use Rattle.lexical_grammar.specs.Cut.{is_significant_kind}
+use Rattle.lexical_grammar.specs.Cut.{Item, is_significant_kind}
 use Rattle.lexical_grammar.specs.Answers.{Answer, gives, limit_at, is_token, is_end}
 use Rattle.document_grammar.specs.declared.kind.SyntaxKind.{SyntaxKind}
-use Rattle.document_grammar.specs.Numbers.{number}
-use Rattle.document_grammar.specs.Kinds.{ERROR}
 use Rattle.document_grammar.specs.Tree.{Token}
 use Rattle.document_grammar.specs.Sentence.{token_of, leaf_number}
-use Rattle.document_grammar.proofs.Booleans.{either, false-true, and-i, and-l, and-r}
+use Rattle.document_grammar.proofs.Booleans.{either, false-true, and-i}
 use Rattle.document_grammar.specs.Booleans.{◌and◌}
-use Rattle.parser_rules.specs.State.{State, Text, Lexeme, Part, Report, bad_report, token_limit_report, ignored, wait, bad, met, lexeme, read_on}
-use Rattle.parser_rules.proofs.runs.Frame.{on_kind, on_item}
-use Rattle.document_grammar.specs.Builds.{Building}
+use Rattle.parser_rules.specs.State.{State, Text, Lexeme, Report, bad_report, token_limit_report, ignored, wait, bad, met}
+use Rattle.parser_rules.proofs.runs.Reading.{Reading, stops, cuts, bad_text, waits, shows, item-is, kinds-more, ignored-kinds, ignored-leaf}
+use Rattle.parser_rules.proofs.runs.Frame.{untouched}
+use Rattle.parser_rules.proofs.runs.Marked.{Reports, reports-then, read-reports}
 use Rattle.parser_rules.proofs.soundness.WithoutIgnored.{all_ignored}
 use Rattle.parser_rules.proofs.soundness.Settled.{Settled}
 
@@ -75,61 +74,21 @@ abbrev pub Stays : State → State → Type 0
 Stays s t = (m : ℕ) → Settled m s.tree → Settled m t.tree
 
 pub record Grows (s t : State) : Type 0 where
-  pub more : List Report
-  pub errors : t.errors ≡ s.errors ++ more
+  pub reports : Reports s t
   pub stays : Stays s t
 
-pub same-errors : (s t : State) → t.errors ≡ s.errors → Stays s t → Grows s t
-same-errors s t e f = record { more = []; errors = e ∙ sym (append-nil s.errors); stays = f }
-
 pub grows-on : (s t u : State) → Grows s t → Grows t u → Grows s u
-grows-on s t u h k = record { more = h.more ++ k.more; errors = k.errors ∙ (ap (λ (z : List Report). z ++ k.more) h.errors ∙ append_assoc s.errors h.more k.more); stays = λ m z. k.stays m (h.stays m z) }
+grows-on s t u h k = record { reports = reports-then s t u h.reports k.reports; stays = λ m z. k.stays m (h.stays m z) }
 
-pub read-grows : (xs : List Answer) (s : State) → Grows s (read_on xs s)
-unfolding read_on
-read-grows [] s = same-errors s (record s { current = None }) refl (λ m z. z)
-read-grows (limit_at index ∷ xs) s =
-    let r : Report = token_limit_report index in
-    grows-on s (met index (record s { items = xs })) _ (record { more = r ∷ []; errors = refl; stays = λ m z. z }) (read-grows xs (met index (record s { items = xs })))
-read-grows (gives item ∷ xs) s = elim item.kind as (λ found. Grows s (on_item xs s item found)) [
-  | None ↦ (
-      let r : Report = bad_report item.text item.index in
-      grows-on s (bad item.text item.index (record s { items = xs })) _ (record { more = r ∷ []; errors = refl; stays = λ m z. z }) (read-grows xs (bad item.text item.index (record s { items = xs }))))
-  | Some k ↦ elim (ignored k) as (λ found. Grows s (on_kind xs s item k found)) [
-    | Some leaf ↦ (
-        let t : State = wait leaf item.text (record s { items = xs }) in
-        grows-on s t _ (same-errors s t refl (λ m z. z)) (read-grows xs t))
-    | None ↦ same-errors s (record s { items = xs; current = Some (lexeme k item) }) refl (λ m z. z)
-  ]
-]
+reading-grows : {xs : List Answer} {s t : State} → Reading xs s t → Grows s t
+reading-grows {t = t} r = record { reports = read-reports r; stays = λ m. subst (Settled m) (sym (untouched r).tree) }
 
--- ignored tokens are no tokens of the grammar, and wait as ignored leaves
+-- ignored tokens are no tokens of the grammar
 pub ignored-tokens : (k : TokenKind) (leaf : SyntaxKind) (text : Text) → ignored k ≡ Some leaf → kind_tokens k text ≡ []
-ignored-tokens token.Whitespace leaf text e = refl
-ignored-tokens token.Comment leaf text e = refl
-ignored-tokens token.Comma leaf text e = refl
-ignored-tokens _ leaf text e = absurd cc
-
-abbrev is_ignored : Option SyntaxKind → Bool
-is_ignored None = false
-is_ignored (Some leaf) = ltb (number leaf) ERROR
-
-pub ignored-leaf : (k : TokenKind) (leaf : SyntaxKind) → ignored k ≡ Some leaf → ltb (number leaf) ERROR ≡ true
-ignored-leaf token.Whitespace leaf e = subst (λ (o : Option SyntaxKind). is_ignored o ≡ true) e refl
-ignored-leaf token.Comment leaf e = subst (λ (o : Option SyntaxKind). is_ignored o ≡ true) e refl
-ignored-leaf token.Comma leaf e = subst (λ (o : Option SyntaxKind). is_ignored o ≡ true) e refl
-ignored-leaf _ leaf e = absurd cc
+ignored-tokens k leaf text = ignored-kinds (λ k own. kind_tokens k text ≡ []) refl refl refl k leaf
 
 pub ignored-end : (k : TokenKind) (leaf : SyntaxKind) → ignored k ≡ Some leaf → is_end k ≡ false
-ignored-end token.Whitespace leaf e = refl
-ignored-end token.Comment leaf e = refl
-ignored-end token.Comma leaf e = refl
-ignored-end _ leaf e = absurd cc
-
-all_ignored-append : (parts : List Part) (part : Part) → all_ignored parts ≡ true → ltb (number part.kind) ERROR ≡ true → all_ignored (parts ++ part ∷ []) ≡ true
-unfolding ◌and◌
-all_ignored-append [] part h g = and-i g refl
-all_ignored-append (p ∷ parts) part h g = and-i (and-l _ _ h) (all_ignored-append parts part (and-r _ _ h) g)
+ignored-end = ignored-kinds (λ k own. is_end k ≡ false) refl refl refl
 
 -- ---- the current token
 
@@ -193,26 +152,25 @@ module _ (answers : List Answer) where
   Held None items = ⊤
   Held (Some t) items = Passed (given t ∷ items)
 
--- `Follows` says whether what waits and what is built is followed
-module _ (answers : List Answer) (base : List Report) (Follows : Type 0) (Right : Report → ℕ → Type 0) where
-  -- The reports go on, and the first of them is right. So many tokens were taken before it, and the nodes that ended before the last of
+module _ (answers : List Answer) (Right : Report → ℕ → Type 0) where
+  -- There are reports, and the first of them is right. So many tokens were taken before it, and the nodes that ended before the last of
   -- them fit.
   pub record Told (st : State) : Type 0 where
     pub report : Report
     pub more : List Report
-    pub reported : st.errors ≡ base ++ (report ∷ more)
+    pub reported : st.errors ≡ report ∷ more
     pub taken : ℕ
     pub right : Right report taken
-    pub settled : Follows → Settled taken st.tree
+    pub settled : Settled taken st.tree
 
   pub told-on : (s t : State) → Grows s t → Told s → Told t
-  told-on s t g h = record { report = h.report; more = h.more ++ g.more; reported = g.errors ∙ (ap (λ (z : List Report). z ++ g.more) h.reported ∙ append_assoc base (h.report ∷ h.more) g.more); taken = h.taken; right = h.right; settled = λ z. g.stays h.taken (h.settled z) }
+  told-on s t g h = record { report = h.report; more = h.more ++ g.reports.more; reported = g.reports.errors ∙ ap (λ (z : List Report). z ++ g.reports.more) h.reported; taken = h.taken; right = h.right; settled = g.stays h.taken h.settled }
 
   -- nothing is reported, and what waits is ignored
   pub record Quiet (st : State) : Type 0 where
-    pub clean : st.errors ≡ base
+    pub clean : st.errors ≡ []
     pub accepts : st.accepts ≡ true
-    pub waits : Follows → all_ignored st.waiting ≡ true
+    pub waits : all_ignored st.waiting ≡ true
 
   pub record Calm (st : State) : Type 0 where
     pub quiet : Quiet st
@@ -220,52 +178,32 @@ module _ (answers : List Answer) (base : List Report) (Follows : Type 0) (Right 
     pub held : Held answers st.current st.items
 
   -- reading on
-  pub record Reads (xs : List Answer) (s t : State) : Type 0 where
+  pub record Reads (xs : List Answer) (t : State) : Type 0 where
     pub calm : Calm t
     pub left : rest t ≡ answers_tokens xs
-
-  abbrev Read : List Answer → State → State → Type 0
-  Read xs s t = Told t ⊎ Reads xs s t
 
   -- a report of an answer that is no token would be right
   abbrev pub Blames : ℕ → List Token → Type 0
   Blames m v = (x : Answer) (ys : List Answer) → Passed answers (x ∷ ys) → is_token x ≡ false → answers_tokens ys ≡ v → Right (report_of x) m
 
-  told-bad : (m : ℕ) (r : Report) (s : State) → s.errors ≡ base ++ (r ∷ []) → Right r m → (Follows → Settled m s.tree) → Told s
-  told-bad m r s e i f = record { report = r; more = []; reported = e; taken = m; right = i; settled = f }
+  -- the first report
+  pub told-first : (m : ℕ) (r : Report) (s t : State) → Quiet s → t.errors ≡ s.errors ++ r ∷ [] → Right r m → Settled m t.tree → Told t
+  told-first m r s t q e i f = record { report = r; more = []; reported = e ∙ ap (λ (z : List Report). z ++ r ∷ []) q.clean; taken = m; right = i; settled = f }
 
-  pub read-on : (m : ℕ) (xs : List Answer) (s : State) → Quiet s → EndsWell xs → Passed answers xs → Blames m (answers_tokens xs) → (Follows → Settled m s.tree) → Read xs s (read_on xs s)
-  unfolding read_on
-  read-on m [] s q e p b f = absurd e
-  read-on m (limit_at index ∷ xs) s q e p b f =
-      let t : State = met index (record s { items = xs }) in
-      let r : Report = token_limit_report index in
-      inl (told-on t (read_on xs t) (read-grows xs t) (told-bad m r t (ap (λ (z : List Report). z ++ r ∷ []) q.clean) (b (limit_at index) xs p refl refl) f))
-  read-on m (gives item ∷ xs) s q e p b f = elim item.kind as (λ found. choose (ends found) (xs ≡ []) (EndsWell xs) → Passed answers (gives (record { kind = found; text = item.text; index = item.index }) ∷ xs)
-      → Blames m (item_tokens found item.text ++ answers_tokens xs) → Read (gives (record { kind = found; text = item.text; index = item.index }) ∷ xs) s (on_item xs s item found)) [
-        | None ↦ λ e' p' b'. (
-            let t : State = bad item.text item.index (record s { items = xs }) in
-            let r : Report = bad_report item.text item.index in
-            inl (told-on t (read_on xs t) (read-grows xs t) (told-bad m r t (ap (λ (z : List Report). z ++ r ∷ []) q.clean) (b' (gives (record { kind = None; text = item.text; index = item.index })) xs p' refl refl) f)))
-        | Some k ↦ λ e' p' b'. on_ignored (λ t same q' e2 p2 b2. read-on m xs t q' e2 p2 b2 (λ z. subst (λ (x : Building). Settled m x) (sym same) (f z))) k (ignored k) refl e' p' b'
-      ] e p b
-    where
-      kept : TokenKind → Answer
-      kept k = gives (record { kind = Some k; text = item.text; index = item.index })
-
-      on_ignored : ((t : State) → t.tree ≡ s.tree → Quiet t → EndsWell xs → Passed answers xs → Blames m (answers_tokens xs) → Read xs t (read_on xs t)) → (k : TokenKind) (found : Option SyntaxKind) → ignored k ≡ found → choose (is_end k) (xs ≡ []) (EndsWell xs) → Passed answers (kept k ∷ xs)
-          → Blames m (kind_tokens k item.text ++ answers_tokens xs) → Read (kept k ∷ xs) s (on_kind xs s item k found)
-      on_ignored go k None i e' p' b' = inr (record {
-        calm = record { quiet = record { clean = q.clean; accepts = q.accepts; waits = q.waits }; now = (i, e'); held = p' };
-        left = refl;
-      })
-      on_ignored go k (Some leaf) i e' p' b' =
-          let part : Part = record { kind = leaf; text = item.text } in
-          let t : State = wait leaf item.text (record s { items = xs }) in
-          let w : Follows → all_ignored t.waiting ≡ true = λ z. all_ignored-append s.waiting part (q.waits z) (ignored-leaf k leaf i) in
-          let e2 : EndsWell xs = subst (λ (b : Bool). choose b (xs ≡ []) (EndsWell xs)) (ignored-end k leaf i) e' in
-          let same : kind_tokens k item.text ++ answers_tokens xs ≡ answers_tokens xs = ap (λ (z : List Token). z ++ answers_tokens xs) (ignored-tokens k leaf item.text i) in
-          elim (go t refl (record { clean = q.clean; accepts = q.accepts; waits = w }) e2 (passed-one answers (kept k) xs refl p') (subst (λ (z : List Token). Blames m z) same b')) [
-            | inl o ↦ inl o
-            | inr o ↦ inr (record { calm = o.calm; left = o.left ∙ sym same })
-          ]
+  pub read-on : {xs : List Answer} {s t : State} → Reading xs s t → (m : ℕ) → Quiet s → EndsWell xs → Passed answers xs → Blames m (answers_tokens xs) → Settled m s.tree → Told t ⊎ Reads xs t
+  read-on stops m q e p b f = absurd e
+  read-on {s = s} {t = t} (cuts {index = index} {xs = xs} h) m q e p b f = let u : State = met index (record s { items = xs }) in inl (told-on u t (reading-grows h) (told-first m (token_limit_report index) s u q refl (b (limit_at index) xs p refl refl) f))
+  read-on {s = s} {t = t} (bad_text {item = item} {xs = xs} i h) m q e p b f =
+      let u : State = bad item.text item.index (record s { items = xs }) in
+      inl (told-on u t (reading-grows h) (told-first m (bad_report item.text item.index) s u q refl (b (gives item) xs p (rw i refl) (rw i refl)) f))
+  read-on {s = s} (waits {item = item} {k = k} {own = own} {xs = xs} i j h) m q e p b f =
+      let same : answers_tokens (gives item ∷ xs) ≡ answers_tokens xs = rw (i, ignored-tokens k own item.text j) refl in
+      let quiet : Quiet (wait own item.text (record s { items = xs })) = record { clean = q.clean; accepts = q.accepts; waits = kinds-more _ _ (record { kind = own; text = item.text }) q.waits (ignored-leaf k own j) } in
+      elim (read-on h m quiet (rw (i, ignored-end k own j) at e) (passed-one answers (gives item) xs (rw i refl) p) (subst (Blames m) same b) f) [
+        | inl o ↦ inl o
+        | inr o ↦ inr (record { calm = o.calm; left = o.left ∙ sym same })
+      ]
+  read-on (shows {item = item} {k = k} {xs = xs} i j) m q e p b f = inr (record {
+    calm = record { quiet = record { clean = q.clean; accepts = q.accepts; waits = q.waits }; now = (j, rw i at e); held = subst (λ (x : Item). Passed answers (gives x ∷ xs)) (sym (item-is item k i)) p };
+    left = rw i refl;
+  })

@@ -22,7 +22,7 @@ pub use Rattle.parser_rules.proofs.runs.Reading.{on_kind, on_item}
 abbrev pub Untouched : State → State → Type 0
 Untouched s t = record { tree : t.tree ≡ s.tree; depth : t.depth ≡ s.depth; limit : t.limit ≡ s.limit; high : t.high ≡ s.high; asked : t.asked ≡ s.asked }
 
-untouched : {xs : List Answer} {s t : State} → Reading xs s t → Untouched s t
+pub untouched : {xs : List Answer} {s t : State} → Reading xs s t → Untouched s t
 untouched stops = record { tree = refl; depth = refl; limit = refl; high = refl; asked = refl }
 untouched (cuts h) = untouched h
 untouched (bad_text e h) = untouched h

@@ -1,5 +1,5 @@
 -- Trees that know which token each leaf is, and what a run adds: its trees, what they are made of, and its reports.
-use Rattle.std.proofs.Common.{◌≡◌, ℕ, true, false, if◌then◌else◌, List, [], ◌∷◌, ◌++◌, Option, Some, None, refl, sym, ap, ap₂, ◌∙◌, subst, append_assoc, append-nil, inl, inr}
+use Rattle.std.proofs.Common.{◌≡◌, ℕ, true, false, List, [], ◌∷◌, ◌++◌, Option, Some, None, refl, sym, ap, ap₂, ◌∙◌, subst, append_assoc, append-nil, inl, inr}
 use Rattle.lexical_grammar.specs.declared.TokenKind.{TokenKind}
 use Rattle.lexical_grammar.specs.Cut.{Item}
 use Rattle.lexical_grammar.specs.Answers.{Answer, gives, limit_at}
@@ -10,8 +10,11 @@ use Rattle.document_grammar.specs.Builds.{Building, add_leaf, built_count}
 use Rattle.document_grammar.proofs.Booleans.{false-true, either}
 use Rattle.document_grammar.proofs.Added.{Added, added-none, added-then, added-node, added-wrap}
 use Rattle.parser_rules.specs.declared.message.Message.{Message}
-use Rattle.parser_rules.specs.State.{State, Lexeme, Part, Text, Report, at_limit, bad_report, token_limit_report, recursion_limit_report, fault_report, ignored, bad, met, lexeme, read_on, add_all, flush, opened, closed, wrapped_from, noted, note, deepened, limited_at, too_deep, fresh, begun}
+use Rattle.parser_rules.specs.State.{State, Lexeme, Part, Text, Report, at_limit, bad_report, token_limit_report, recursion_limit_report, fault_report, ignored, bad, met, lexeme, read_on, add_all, flush, opened, closed, wrapped_from, note, is_deep, enter, leave, too_deep, fresh, begun}
 use Rattle.parser_rules.proofs.runs.Reading.{Reading, stops, cuts, bad_text, waits, shows, reading}
+use Rattle.parser_rules.proofs.runs.Steps.{Holds_along, step_along, too_deep_along}
+use Rattle.parser_rules.proofs.runs.Reporting.{after_note, after_too_deep}
+use Rattle.parser_rules.specs.RuleLanguage.{Note, step}
 use Rattle.parser_rules.proofs.runs.Frame.{read_untouched, parts_forest, added-all, added-read}
 
 -- what a leaf is: a significant token, or an ignored token or bad text
@@ -123,8 +126,8 @@ Limited errors = (r : Report) × (r.found ≡ at_limit) × Has errors r
 abbrev pub Reports : State → State → Type 0
 Reports s t = record { more : List Report; errors : t.errors ≡ s.errors ++ more; keeps : t.accepts ≡ true → s.accepts ≡ true; limited : s.accepts ≡ true → t.accepts ≡ false → Limited more }
 
-reports-none : (s : State) → Reports s s
-reports-none s = record { more = []; errors = sym (append-nil s.errors); keeps = λ z. z; limited = λ z y. false-true y z }
+pub reports-same : (s t : State) → t.errors ≡ s.errors → t.accepts ≡ s.accepts → Reports s t
+reports-same s t e a = record { more = []; errors = e ∙ sym (append-nil s.errors); keeps = λ z. sym a ∙ z; limited = λ z y. false-true y (a ∙ z) }
 
 pub reports-then : (s t u : State) → Reports s t → Reports t u → Reports s u
 reports-then s t u h k = record {
@@ -134,28 +137,46 @@ reports-then s t u h k = record {
   limited = λ z y. elim (either t.accepts) [ inl a ↦ (let l = k.limited a y in (l.0, l.1, has-later h.more k.more l.0 l.2)) | inr a ↦ (let l = h.limited z a in (l.0, l.1, has-more h.more k.more l.0 l.2)) ];
 }
 
-reports-one : (s t : State) (r : Report) → t.errors ≡ s.errors ++ r ∷ [] → (t.accepts ≡ true → s.accepts ≡ true) → (s.accepts ≡ true → t.accepts ≡ false → Limited (r ∷ [])) → Reports s t
-reports-one s t r e k l = record { more = r ∷ []; errors = e; keeps = k; limited = l }
+-- one report more, of a limit or not
+reports-more : (s t : State) (r : Report) → t.errors ≡ s.errors ++ r ∷ [] → t.accepts ≡ s.accepts → Reports s t
+reports-more s t r e a = record { more = r ∷ []; errors = e; keeps = λ z. sym a ∙ z; limited = λ z y. false-true y (a ∙ z) }
 
--- a limit is the last report
-limit-last : (r : Report) → r.found ≡ at_limit → Limited (r ∷ [])
-limit-last r e = (r, e, record { before = []; after = []; split = refl })
+reports-limit : (s t : State) (r : Report) → r.found ≡ at_limit → t.errors ≡ s.errors ++ r ∷ [] → t.accepts ≡ false → Reports s t
+reports-limit s t r l e a = record { more = r ∷ []; errors = e; keeps = λ z. false-true a z; limited = λ z y. (r, l, record { before = []; after = []; split = refl }) }
 
 pub read-reports : {xs : List Answer} {s t : State} → Reading xs s t → Reports s t
-read-reports {s = s} stops = reports-none s
-read-reports {s = s} {t = t} (cuts {index = index} {xs = xs} h) =
-    reports-then s (met index (record s { items = xs })) t (reports-one s (met index (record s { items = xs })) (token_limit_report index) refl (λ z. false-true refl z) (λ z y. limit-last (token_limit_report index) refl)) (read-reports h)
-read-reports {s = s} {t = t} (bad_text {item = item} {xs = xs} e h) =
-    let u : State = bad item.text item.index (record s { items = xs }) in
-    reports-then s u t (reports-one s u (bad_report item.text item.index) refl (λ z. z) (λ z y. false-true y z)) (read-reports h)
+read-reports {s = s} stops = reports-same s s refl refl
+read-reports {s = s} {t = t} (cuts {index = index} {xs = xs} h) = let u : State = met index (record s { items = xs }) in reports-then s u t (reports-limit s u (token_limit_report index) refl refl refl) (read-reports h)
+read-reports {s = s} {t = t} (bad_text {item = item} {xs = xs} e h) = let u : State = bad item.text item.index (record s { items = xs }) in reports-then s u t (reports-more s u (bad_report item.text item.index) refl refl) (read-reports h)
 read-reports (waits e i h) = read-reports h
-read-reports {s = s} (shows e i) = reports-none s
+read-reports {s = s} (shows e i) = reports-same s s refl refl
+
+-- the current token is in the tree, and the next one is not read yet
+abbrev pub moved_on : SyntaxKind → Lexeme → State → State
+moved_on own x s = record s { tree = add_leaf own x.text s.tree }
+
+pub reports-along : Holds_along Reports
+unfolding flush closed enter leave wrapped_from
+reports-along = record {
+  same = λ s. reports-same s s refl refl;
+  next = reports-then;
+  flushes = λ s. reports-same s s refl refl;
+  moves = λ leaf x s e w. read-reports (reading s.items (moved_on leaf x s));
+  reports = λ m x s c a. reports-more s (record s { errors = s.errors ++ fault_report m x ∷ [] }) (fault_report m x) refl refl;
+  limits = λ x s c a d. reports-limit s (record s { errors = s.errors ++ recursion_limit_report x ∷ []; accepts = false }) (recursion_limit_report x) refl refl refl;
+  asks = λ s. reports-same s s refl refl;
+  nodes = λ k s u h. h;
+  levels = λ s u q h. h;
+  wraps = λ k t u w h l. reports-then t u w h l;
+}
+
+-- ---- the trees, what they are made of, and the reports
 
 abbrev pub Grown : State → State → Marked → Type 0
 Grown s t f = record { trees : Added (erase f) s.tree t.tree; order : flat f ++ pending t ≡ pending s; reports : Reports s t }
 
 pub grown-none : (s : State) → Grown s s none
-grown-none s = record { trees = added-none s.tree; order = refl; reports = reports-none s }
+grown-none s = record { trees = added-none s.tree; order = refl; reports = reports-along.same s }
 
 pub grown-then : (s t u : State) (f g : Marked) → Grown s t f → Grown t u g → Grown s u (append f g)
 grown-then s t u f g h k = record {
@@ -166,11 +187,7 @@ grown-then s t u f g h k = record {
 
 pub grown-flush : (s : State) → Grown s (flush s) (set_aside s.waiting)
 unfolding flush
-grown-flush s = record { trees = subst (λ (x : built.Forest). Added x s.tree (add_all s.waiting s.tree)) (sym (erase-aside s.waiting)) (added-all s.waiting s.tree); order = refl; reports = reports-none s }
-
--- the current token is in the tree, and the next one is not read yet
-abbrev pub moved_on : SyntaxKind → Lexeme → State → State
-moved_on own x s = record s { tree = add_leaf own x.text s.tree }
+grown-flush s = record { trees = subst (λ (x : built.Forest). Added x s.tree (add_all s.waiting s.tree)) (sym (erase-aside s.waiting)) (added-all s.waiting s.tree); order = refl; reports = reports-along.flushes s }
 
 pub grown-leaf : (own : SyntaxKind) (x : Lexeme) (s : State) → s.current ≡ Some x → s.waiting ≡ [] → Grown s (read_on s.items (moved_on own x s)) (leaf (token x) own none)
 grown-leaf own x s c w =
@@ -183,26 +200,19 @@ grown-leaf own x s c w =
     }
 
 pub grown-note : (m : Message) (s : State) → Grown s (note m s) none
-unfolding note
-grown-note m s = on s.current
-  where
-    on : (o : Option Lexeme) → Grown s (noted m s o) none
-    on None = grown-none s
-    on (Some x) = elim s.accepts as (λ b. Grown s (if b then record s { errors = s.errors ++ fault_report m x ∷ [] } else s) none) [
-      | true ↦ record { trees = added-none s.tree; order = refl; reports = record { more = fault_report m x ∷ []; errors = refl; keeps = λ z. z; limited = λ z y. false-true y z } }
-      | false ↦ grown-none s
-    ]
+unfolding step
+grown-note m s = record {
+  trees = after_note (λ t. Added built.none s.tree t.tree) m s (λ errors. added-none s.tree);
+  order = after_note (λ t. pending t ≡ pending s) m s (λ errors. refl);
+  reports = step_along reports-along (Note m) s;
+}
 
-pub grown-deep : (s : State) → Grown s (too_deep s) none
-unfolding too_deep
-grown-deep s = on s.current
-  where
-    on : (o : Option Lexeme) → Grown s (limited_at (deepened s) o) none
-    on None = grown-none s
-    on (Some x) = (elim s.accepts as (λ b. s.accepts ≡ b → Grown s (record (if b then record (deepened s) { errors = s.errors ++ recursion_limit_report x ∷ [] } else deepened s) { accepts = false }) none) [
-      | true ↦ λ e. record { trees = added-none s.tree; order = refl; reports = record { more = recursion_limit_report x ∷ []; errors = refl; keeps = λ z. false-true refl z; limited = λ z y. limit-last (recursion_limit_report x) refl } }
-      | false ↦ λ e. record { trees = added-none s.tree; order = refl; reports = record { more = []; errors = sym (append-nil s.errors); keeps = λ z. false-true refl z; limited = λ z y. false-true e z } }
-    ]) refl
+pub grown-deep : (s : State) → true ≡ is_deep s → Grown s (too_deep s) none
+grown-deep s d = record {
+  trees = after_too_deep (λ t. Added built.none s.tree t.tree) s (λ errors accepts. added-none s.tree);
+  order = after_too_deep (λ t. pending t ≡ pending s) s (λ errors accepts. refl);
+  reports = too_deep_along reports-along s d;
+}
 
 -- a node around what is added in it, after what waited
 pub grown-node : (j : SyntaxKind) (s u : State) (g : Marked) → Grown (opened j s) u g → Grown (flush s) (closed u) (node j g none)

@@ -1,5 +1,6 @@
 -- Reading on, answer by answer: the one induction for all that is proved of it.
-use Rattle.std.proofs.Common.{◌≡◌, ℕ, Bool, true, Option, Some, None, List, [], ◌∷◌, ◌++◌, refl, subst}
+use Rattle.std.proofs.Common.{◌≡◌, ℕ, Bool, true, ltb, Option, Some, None, List, [], ◌∷◌, ◌++◌, refl, sym, ap, subst}
+use Rattle.std.specs.Prelude.{⊤}
 use Rattle.lexical_grammar.specs.declared.TokenKind.{TokenKind}
 use Rattle.lexical_grammar.specs.declared.TokenKind.TheVariants as token_kind
 use Rattle.lexical_grammar.specs.Cut.{Item}
@@ -8,7 +9,9 @@ use Rattle.document_grammar.specs.declared.kind.SyntaxKind.{SyntaxKind}
 use Rattle.document_grammar.specs.declared.kind.SyntaxKind.TheVariants as kind
 use Rattle.document_grammar.specs.Booleans.{◌and◌}
 use Rattle.document_grammar.proofs.Booleans.{and-i, and-l, and-r}
-use Rattle.parser_rules.specs.State.{Part, State, ignored, bad, met, wait, lexeme, read_on, second}
+use Rattle.document_grammar.specs.Numbers.{number}
+use Rattle.document_grammar.specs.Kinds.{ERROR}
+use Rattle.parser_rules.specs.State.{Part, State, Lexeme, ignored, bad, met, wait, lexeme, read_on, second, fresh}
 
 abbrev pub on_kind : List Answer → State → Item → TokenKind → Option SyntaxKind → State
 on_kind rest s item k found = elim found [
@@ -57,13 +60,32 @@ reading-second (bad_text e h) = rw e (reading-second h)
 reading-second (waits e i h) = rw (e, i) (reading-second h)
 reading-second (shows e i) = rw (e, i) refl
 
+-- the answer that gave the current token
+pub item-is : (item : Item) (k : TokenKind) → item.kind ≡ Some k → record { kind = Some k; text = item.text; index = item.index } ≡ item
+item-is item k e = ap (λ found. record { kind = found; text = item.text; index = item.index }) (sym e)
+
+-- not an ignored token
+abbrev pub Shown : Option Lexeme → Type 0
+Shown None = ⊤
+Shown (Some t) = ignored t.kind ≡ None
+
+pub reading-shown : {xs : List Answer} {s t : State} → Reading xs s t → Shown t.current
+reading-shown stops = tt
+reading-shown (cuts h) = reading-shown h
+reading-shown (bad_text e h) = reading-shown h
+reading-shown (waits e i h) = reading-shown h
+reading-shown (shows e i) = i
+
+pub second-shown : (xs : List Answer) → Shown (second xs)
+second-shown xs = let r = reading xs (fresh xs 0 kind.DOCUMENT) in subst Shown (reading-second r) (reading-shown r)
+
 -- ---- what waits
 
 abbrev pub all_kinds : (SyntaxKind → Bool) → List Part → Bool
 all_kinds p [] = true
 all_kinds p (part ∷ parts) = p part.kind and all_kinds p parts
 
-kinds-more : (p : SyntaxKind → Bool) (parts : List Part) (part : Part) → all_kinds p parts ≡ true → p part.kind ≡ true → all_kinds p (parts ++ part ∷ []) ≡ true
+pub kinds-more : (p : SyntaxKind → Bool) (parts : List Part) (part : Part) → all_kinds p parts ≡ true → p part.kind ≡ true → all_kinds p (parts ++ part ∷ []) ≡ true
 kinds-more p [] part h g = and-i g refl
 kinds-more p (q ∷ parts) part h g = and-i (and-l _ _ h) (kinds-more p parts part (and-r _ _ h) g)
 
@@ -71,12 +93,16 @@ abbrev In : (SyntaxKind → Type 0) → SyntaxKind → Option SyntaxKind → Typ
 In P own None = P own
 In P own (Some other) = P other
 
--- what is said of the leaf of each ignored token
-pub ignored-kinds : (P : SyntaxKind → Type 0) → P kind.WHITESPACE → P kind.COMMENT → P kind.COMMA → (k : TokenKind) (own : SyntaxKind) → ignored k ≡ Some own → P own
-ignored-kinds P a b c token_kind.Whitespace own e = subst (In P own) e a
-ignored-kinds P a b c token_kind.Comment own e = subst (In P own) e b
-ignored-kinds P a b c token_kind.Comma own e = subst (In P own) e c
+-- what is said of each ignored token and its leaf
+pub ignored-kinds : (P : TokenKind → SyntaxKind → Type 0) → P token_kind.Whitespace kind.WHITESPACE → P token_kind.Comment kind.COMMENT → P token_kind.Comma kind.COMMA → (k : TokenKind) (own : SyntaxKind) → ignored k ≡ Some own → P k own
+ignored-kinds P a b c token_kind.Whitespace own e = subst (In (P token_kind.Whitespace) own) e a
+ignored-kinds P a b c token_kind.Comment own e = subst (In (P token_kind.Comment) own) e b
+ignored-kinds P a b c token_kind.Comma own e = subst (In (P token_kind.Comma) own) e c
 ignored-kinds P a b c _ own e = absurd cc
+
+-- it is kept until the next leaf as one that is ignored
+pub ignored-leaf : (k : TokenKind) (own : SyntaxKind) → ignored k ≡ Some own → ltb (number own) ERROR ≡ true
+ignored-leaf = ignored-kinds (λ k own. ltb (number own) ERROR ≡ true) refl refl refl
 
 -- what waits keeps to the kinds, when bad text and ignored tokens are of them
 pub reading-waits : (p : SyntaxKind → Bool) → p kind.ERROR ≡ true → ((k : TokenKind) (own : SyntaxKind) → ignored k ≡ Some own → p own ≡ true) → {xs : List Answer} {s t : State} → Reading xs s t → all_kinds p s.waiting ≡ true → all_kinds p t.waiting ≡ true

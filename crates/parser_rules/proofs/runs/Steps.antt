@@ -54,11 +54,11 @@ module _ {R : State → State → Type 0} (r : Holds_along R) where
     | false ↦ λ a. subst (λ b. R s (record s { accepts = b })) a (r.same s)
   ]) refl
 
-  too_deep_along : (s : State) → true ≡ is_deep s → R s (too_deep s)
+  pub too_deep_along : (s : State) → true ≡ is_deep s → R s (too_deep s)
   unfolding too_deep
   too_deep_along s q = r.next s (deepened s) (too_deep s) (r.asks s) (limited_along (deepened s) s.current refl (past_limit s q))
 
-  step_along : (a : Prim) (s : State) → R s (step a s)
+  pub step_along : (a : Prim) (s : State) → R s (step a s)
   unfolding step bump note
   step_along (Bump leaf) s = moved_along leaf s s.current refl
   step_along (Note m) s = noted_along m s s.current refl

@@ -98,7 +98,7 @@ module _ {K : Type 0} (d : Domain K) (Held : K → State → State → Marked �
         → Grown s (moved own s (Some x)) (after_waiting s (leaf (token x) own none)) → Goes k b (moved own s (Some x)) (append f (after_waiting s (leaf (token x) own none)))
     pub no_leaf : (own : SyntaxKind) (a : K) (k : K → Bool) (b s : State) (f : Marked) → s.current ≡ None → d.leaf own a k ≡ true → Held a b s f → Goes k b s f
     pub report : (m : Message) (a : K) (b s : State) (f : Marked) → Held a b s f → Held (d.report a) b (note m s) f
-    pub limit : (a : K) (k : K → Bool) (b s : State) (f : Marked) → d.limit a k ≡ true → Held a b s f → Goes k b (too_deep s) f
+    pub limit : (a : K) (k : K → Bool) (b s : State) (f : Marked) → true ≡ is_deep s → d.limit a k ≡ true → Held a b s f → Goes k b (too_deep s) f
     pub passes : (q : Test) (a : K) (g h : K → Bool) (b s : State) (f : Marked) → true ≡ holds q s → d.test q a g h ≡ true → Held a b s f → Goes g b s f
     pub fails : (q : Test) (a : K) (g h : K → Bool) (b s : State) (f : Marked) → false ≡ holds q s → d.test q a g h ≡ true → Held a b s f → Goes h b s f
     pub turn : (a : K) (b s : State) (f : Marked) → Held a b s f → Held (d.turn a) b s f
@@ -192,8 +192,8 @@ module _ {K : Type 0} (d : Domain K) (Held : K → State → State → Marked �
         let l = walked x n m.0 (λ c'. d.leaves c' (λ c''. walk d n q c'' k)) b f m.1 (subst (λ (z : State). Grown b z f) (sym e) g) (subst (λ (z : State). Held m.0 b z f) (sym e) m.2) in
         let o = r.leaves l.2.0 (λ c''. walk d n q c'' k) b u l.0 l.2.1 l.2.2 in
         walked y n o.0 k b l.0 o.1 (subst (λ (z : State). Grown b z l.0) (sym c) l.1) (subst (λ (z : State). Held o.0 b z l.0) (sym c) o.2)
-    walked {s = s} (limited z e) n a k b f h g i = subst (Comes k b) (sym e) (comes-still k b s (too_deep s) f g (grown-deep s) (r.limit a k b s f h i))
-    walked {s = s} (refused z e) n a k b f h g i = subst (Comes k b) (sym e) (comes-still k b s (too_deep s) f g (grown-deep s) (r.limit a k b s f (and-l _ _ h) i))
+    walked {s = s} (limited z e) n a k b f h g i = subst (Comes k b) (sym e) (comes-still k b s (too_deep s) f g (grown-deep s z) (r.limit a k b s f z h i))
+    walked {s = s} (refused z e) n a k b f h g i = subst (Comes k b) (sym e) (comes-still k b s (too_deep s) f g (grown-deep s z) (r.limit a k b s f z (and-l _ _ h) i))
     walked (call x) zero a k b f h g i = false-true refl h
     walked (call x) (suc n) a k b f h g i = walked x n a k b f h g i
     walked {s = s} (plain {t = t} {u = u} e x z) n a k b f h g i =

@@ -30,7 +30,8 @@ use Rattle.parser_rules.proofs.reports.NoReport.{Now, choose, EndsWell, rest, an
 use Rattle.parser_rules.proofs.soundness.FirstReport.{Stuck, TooMany, no_token}
 use Rattle.parser_rules.proofs.lookahead.MachineClasses.{Next, sees-next, zero-one}
 use Rattle.parser_rules.proofs.lookahead.Split.{Level, low, Sure, loose, firm, full, Spot, spot, lost}
-use Rattle.parser_rules.proofs.lookahead.TokenSets.{class_of, second-shown, read-second, of-any, over, Seen, seen-any, holds-minus}
+use Rattle.parser_rules.proofs.runs.Reading.{second-shown, reading}
+use Rattle.parser_rules.proofs.lookahead.TokenSets.{class_of, read-second, of-any, over, Seen, seen-any, holds-minus}
 use Rattle.parser_rules.proofs.lookahead.FirstSets.{without, unread}
 use Rattle.parser_rules.proofs.soundness.MachineStack.{image, image-some, shows-snoc, put-image, image-node, show-node, lay, lay-put}
 use Rattle.parser_rules.proofs.soundness.Settled.{Fitting, settled-at}
@@ -39,7 +40,7 @@ use Rattle.parser_rules.proofs.NodeChecks.{node_passes}
 use Rattle.parser_rules.proofs.soundness.Positions.{Reading, Alike, opened-alike, closed-alike, idle-rest, idle-grows, top, Place, Stands, Lost, Known, StandsAt, Rightly, Still_calm, Tells, Fits, Way, Out, tell-on, known-firm, start_good, shown, Blamed, spent-behind, fitting, stands-taken, idle-lost, leveled-leaf, leveled-begin, leveled-end, still-leveled, moved-on}
 
 module _ (R : Reading) where
-  open R use {sort, answers, base, follows as Follows, limit as lim, words as w}
+  open R use {sort, answers, limit as lim, words as w}
 
   -- ---- where the machine is stuck
 
@@ -135,8 +136,8 @@ module _ (R : Reading) where
 
   -- ---- a token is taken
 
-  pub flushed : (st : State) → Still_calm R st → Follows → stack (add_all st.waiting st.tree) ≡ stack st.tree
-  flushed st c z = stack-flush st.waiting st.tree (c.quiet.waits z)
+  pub flushed : (st : State) → Still_calm R st → stack (add_all st.waiting st.tree) ≡ stack st.tree
+  flushed st c = stack-flush st.waiting st.tree c.quiet.waits
 
   -- what a token leaves behind that becomes a leaf of the open node; `shape` gives the builder's open nodes from the node's children
   pub record Grown (s q k y : ℕ) (l : Level) (f : Forest) (fs : List Frame) (shape : Forest → Stack) (v : State) : Type 0 where
@@ -145,7 +146,7 @@ module _ (R : Reading) where
     pub certain : Firm (top R) w (frame s (target s q k) (f +++ (leaf k first.1 ▸ none)) ∷ fs) (rest v)
     pub calm : Still_calm R v
     pub seen : Seen y any v
-    pub built : Follows → stack v.tree ≡ shape (shows (f +++ (leaf k first.1 ▸ none)))
+    pub built : stack v.tree ≡ shape (shows (f +++ (leaf k first.1 ▸ none)))
 
   -- What is built as `shape` says takes more trees in its innermost open node; where the machine reaches that, all trees of it fit.
   pub record Shaped (s : ℕ) (fs : List Frame) (shape : Forest → Stack) : Type 0 where
@@ -153,7 +154,7 @@ module _ (R : Reading) where
     pub fits : (q : ℕ) (f : Forest) (r : List Token) → Reach (top R) w (frame s q f ∷ fs) r → Fitting (length (spent (frame s q f ∷ fs))) (shape (shows f))
 
   pub token-taken : (kind : SyntaxKind) (s q k x y : ℕ) (l : Level) (d : Sure) (f : Forest) (fs : List Frame) (st : State) (shape : Forest → Stack) (then_at : Spot → Bool) → takes s (spot q l d) x y (number kind) k then_at ≡ true → Shaped s fs shape
-      → Place R s q l f fs st → (Follows → stack st.tree ≡ shape (shows f)) → Still_calm R st → Seen x y st → Tells R (bump kind st) ⊎ Grown s q k y l f fs shape (bump kind st)
+      → Place R s q l f fs st → (stack st.tree ≡ shape (shows f)) → Still_calm R st → Seen x y st → Tells R (bump kind st) ⊎ Grown s q k y l f fs shape (bump kind st)
   unfolding bump takes flush
   token-taken kind s q k x y l d f fs st shape then_at h sh c built calm seen = at st.current refl calm.now
     where
@@ -172,10 +173,10 @@ module _ (R : Reading) where
           let here : Reach (top R) w (frame s q f ∷ fs) (b ∷ answers_tokens st.items) = subst (λ (v : List Token). Reach (top R) w (frame s q f ∷ fs) v) split c.reach in
           let there : Reach (top R) w gs (answers_tokens st.items) = shift here m leaf_next in
           let still : Untouched (u t) (read_on st.items (u t)) = read_untouched st.items (u t) in
-          let leafed : Follows → stack (u t).tree ≡ shape (shows (f +++ (leaf k t.text ▸ none))) = λ z. stack-leaf kind t.text (add_all st.waiting st.tree) (not-c _ (and-r _ _ kinds))
-          ∙ (ap₂ (λ (j : ℕ) (v : Stack). put (leaf j t.text ▸ none) v) (sym (eqb-true _ _ (and-l _ _ kinds))) (flushed st calm z ∙ built z) ∙ (sh.joins (shows f) (leaf (label k) t.text ▸ none) ∙ ap shape (sym (shows-snoc f (leaf k t.text))))) in
-          elim (read-on answers base Follows (Rightly R) (length (spent gs)) st.items (u t) (record { clean = calm.quiet.clean; accepts = calm.quiet.accepts; waits = λ z. refl }) en (passed-one answers (given t) st.items refl (subst (λ (o : Option Lexeme). Held answers o st.items) e calm.held))
-          (λ x ys p i z. let before : Reach (top R) w gs (answers_tokens ys) = subst (λ (v : List Token). Reach (top R) w gs v) (sym z) there in no_token p i (gs, before) (spent-behind R gs (answers_tokens ys) before)) (λ z. settled-at _ (u t).tree _ (leafed z) (sh.fits _ _ _ there))) [
+          let leafed : stack (u t).tree ≡ shape (shows (f +++ (leaf k t.text ▸ none))) = stack-leaf kind t.text (add_all st.waiting st.tree) (not-c _ (and-r _ _ kinds))
+          ∙ (ap₂ (λ (j : ℕ) (v : Stack). put (leaf j t.text ▸ none) v) (sym (eqb-true _ _ (and-l _ _ kinds))) (flushed st calm ∙ built) ∙ (sh.joins (shows f) (leaf (label k) t.text ▸ none) ∙ ap shape (sym (shows-snoc f (leaf k t.text))))) in
+          elim (read-on answers (Rightly R) (reading st.items (u t)) (length (spent gs)) (record { clean = calm.quiet.clean; accepts = calm.quiet.accepts; waits = refl }) en (passed-one answers (given t) st.items refl (subst (λ (o : Option Lexeme). Held answers o st.items) e calm.held))
+          (λ x ys p i z. let before : Reach (top R) w gs (answers_tokens ys) = subst (λ (v : List Token). Reach (top R) w gs v) (sym z) there in no_token p i (gs, before) (spent-behind R gs (answers_tokens ys) before)) (settled-at _ (u t).tree _ leafed (sh.fits _ _ _ there))) [
             | inl o ↦ inl o
             | inr o ↦ inr (record {
               first = b;
@@ -183,7 +184,7 @@ module _ (R : Reading) where
               certain = rw o.left (firm-shift here m leaf_next);
               calm = o.calm;
               seen = record { near = rw (read-second st.items (u t)) seen.far; far = of-any _ (second-shown (read_on st.items (u t)).items) };
-              built = λ z. ap stack still.tree ∙ leafed z;
+              built = ap stack still.tree ∙ leafed;
             })
           ]
 
@@ -212,14 +213,14 @@ module _ (R : Reading) where
 
   -- a node of the symbol `j` begins
   pub begun : {s q x y : ℕ} {l : Level} {d : Sure} {fs : List Frame} {st v : State} (j : ℕ) (g : Fits R s (spot q l d) x y fs st) → is_leaf j ≡ false → eqb j DOCUMENT ≡ false → goes s q x (behind y) j ≡ true → levels s l j ≡ true → Alike st v
-      → (Follows → stack st.tree ≡ image (frame s q g.stands.0.children ∷ fs) → stack v.tree ≡ image (frame j 0 none ∷ frame s q g.stands.0.children ∷ fs)) → Fits R j (spot 0 low loose) x y (frame s q g.stands.0.children ∷ fs) v
+      → (stack st.tree ≡ image (frame s q g.stands.0.children ∷ fs) → stack v.tree ≡ image (frame j 0 none ∷ frame s q g.stands.0.children ∷ fs)) → Fits R j (spot 0 low loose) x y (frame s q g.stands.0.children ∷ fs) v
   begun j g i ro m h e b =
       let c = g.stands.0 in
       moved-on R g e.idle (
         record {
           children = none;
           place = record { reach = rw (idle-rest e.idle) (open' c.place.reach (goes-on j g m) i); leveled = still-leveled R e (leveled-begin R j h c.place.leveled); alone = λ z. false-true ro z };
-          built = λ z. b z (c.built z);
+          built = b c.built;
         },
         tt,
       )
@@ -233,11 +234,11 @@ module _ (R : Reading) where
   unfolding opened flush
   begun-in {s = s} {q = q} {fs = fs} {st = st} c g m h =
       begun (symbol c) g (node-is c).0 (node-is c).2 m h (opened-alike (kind_of c) st)
-      (λ z e. ap₂ (λ (k : ℕ) (z : Stack). (k, none) ∷ z) (sym (node-is c).3) (flushed st g.calm z ∙ e) ∙ sym (image-node (symbol c) 0 none (frame s q g.stands.0.children ∷ fs) (node-is c).1))
+      (λ e. ap₂ (λ (k : ℕ) (z : Stack). (k, none) ∷ z) (sym (node-is c).3) (flushed st g.calm ∙ e) ∙ sym (image-node (symbol c) 0 none (frame s q g.stands.0.children ∷ fs) (node-is c).1))
 
   -- the machine ends a node
   pub ended : {s q j p : ℕ} {l m : Level} {g : Forest} {fs : List Frame} {st u v : State} (c : Stands R s q l fs st) (d : Sure) (x : ℕ) → levels s l j ≡ true → ends_at j p m d x ≡ true → within (first_class (rest u)) x ≡ true → Known R d (frame j p g ∷ frame s q c.children ∷ fs) u
-      → Place R j p m g (frame s q c.children ∷ fs) u → Alike u v → (Follows → stack v.tree ≡ put (show (node j g) ▸ none) (image (frame s q c.children ∷ fs))) → StandsAt R s (spot (target s q j + exit j p) l firm) fs v
+      → Place R j p m g (frame s q c.children ∷ fs) u → Alike u v → (stack v.tree ≡ put (show (node j g) ▸ none) (image (frame s q c.children ∷ fs))) → StandsAt R s (spot (target s q j + exit j p) l firm) fs v
   unfolding ends_at
   ended {s = s} {q = q} {j = j} {p = p} {g = g} {fs = fs} {u = u} c d x h e n k i a b =
       let r = and-l _ _ e in
@@ -249,22 +250,22 @@ module _ (R : Reading) where
             leveled = still-leveled R a (leveled-end R (target s q j + exit j p) h (eqb-true _ _ (and-l _ _ (and-l _ _ r))) (eqb-true _ _ (and-r _ _ (and-l _ _ r))) c.place.leveled i.leveled);
             alone = c.place.alone;
           };
-          built = λ z. b z ∙ put-image s q (target s q j + exit j p) c.children (node j g) fs;
+          built = b ∙ put-image s q (target s q j + exit j p) c.children (node j g) fs;
         },
         rw (idle-rest a.idle) (firm-close x (known-firm R d (frame j p g ∷ frame s q c.children ∷ fs) u (and-r _ _ r) k) (and-r _ _ e) n),
       )
 
   -- a node that is walked at its place ends
   pub ended-here : {s q j p x y : ℕ} {l m : Level} {d : Sure} {fs : List Frame} {st u v : State} (c : Stands R s q l fs st) (k : Then) → levels s l j ≡ true → closing j (spot (target s q j) l firm) k (spot p m d) x y ≡ true → (g : Fits R j (spot p m d) x y (frame s q c.children ∷ fs) u)
-      → Alike u v → (Follows → stack v.tree ≡ put (show (node j g.stands.0.children) ▸ none) (image (frame s q c.children ∷ fs))) → Way R s fs k v
+      → Alike u v → (stack v.tree ≡ put (show (node j g.stands.0.children) ▸ none) (image (frame s q c.children ∷ fs))) → Way R s fs k v
   unfolding closing
   ended-here {s = s} {q = q} {j = j} {p = p} {x = x} {y = y} {l = l} {d = d} c k h e g a b = (spot (target s q j + exit j p) l firm, x, y, and-r _ _ e, moved-on R g a.idle (ended c d x h (and-l _ _ e) (fits-next g).near g.stands.1 g.stands.0.place a b))
 
-  pub closed-built : {s q p : ℕ} {m : Level} {f : Forest} {fs : List Frame} {v : State} (c : Node) (i : Stands R (symbol c) p m (frame s q f ∷ fs) v) → Follows → stack (closed v).tree ≡ put (show (node (symbol c) i.children) ▸ none) (image (frame s q f ∷ fs))
+  pub closed-built : {s q p : ℕ} {m : Level} {f : Forest} {fs : List Frame} {v : State} (c : Node) (i : Stands R (symbol c) p m (frame s q f ∷ fs) v) → stack (closed v).tree ≡ put (show (node (symbol c) i.children) ▸ none) (image (frame s q f ∷ fs))
   unfolding closed
-  closed-built {s = s} {q = q} {p = p} {f = f} {fs = fs} {v = v} c i z =
+  closed-built {s = s} {q = q} {p = p} {f = f} {fs = fs} {v = v} c i =
       let gs : List Frame = frame s q f ∷ fs in
-      stack-finish v.tree (label (symbol c), shows i.children) (image gs) (image-some gs) (i.built z ∙ image-node (symbol c) p i.children gs (node-is c).1) ∙ ap (λ (t : Tree). put (t ▸ none) (image gs)) (sym (show-node (symbol c) i.children (node-is c).1))
+      stack-finish v.tree (label (symbol c), shows i.children) (image gs) (image-some gs) (i.built ∙ image-node (symbol c) p i.children gs (node-is c).1) ∙ ap (λ (t : Tree). put (t ▸ none) (image gs)) (sym (show-node (symbol c) i.children (node-is c).1))
 
   pub tell-closed : (u : State) → Tells R u → Tells R (closed u)
   tell-closed u o = tell-on R u (closed u) (idle-grows (closed-alike u).idle) o

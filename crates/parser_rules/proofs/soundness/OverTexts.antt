@@ -30,8 +30,8 @@ use Rattle.parser_rules.specs.State.{State, Report, begun, Lexeme, fault_report,
 use Rattle.parser_rules.proofs.reports.NoReport.{all_tokens, answers_tokens, item_tokens, report_of, given as given_by, Now, choose, EndsWell, kind_tokens, significant, ends, ignored-tokens, ignored-end}
 use Rattle.parser_rules.proofs.reports.Endings.{ends-well, limited-none}
 use Rattle.document_grammar.specs.Forests as built
-use Rattle.parser_rules.proofs.runs.Frame.{add_all_above}
-use Rattle.parser_rules.proofs.soundness.Settled.{EndedFit, ended-root, settled-parts}
+use Rattle.parser_rules.proofs.runs.Frame.{add_all_above, added-all}
+use Rattle.parser_rules.proofs.soundness.Settled.{EndedFit, ended-root, settled-added}
 use Rattle.parser_rules.proofs.soundness.Plain.{Plain}
 use Rattle.parser_rules.proofs.soundness.FirstReport.{Right}
 use Rattle.parser_rules.proofs.soundness.Soundness.{given, StartsPlain, Why, fault as w_fault, unread as w_unread, too_deep as w_too_deep, other, why, parsed, accepted_plain, sound, item-words, Placed}
@@ -295,7 +295,7 @@ module _ (r k : ℕ) (source : List ℕ) (items : List Item) (s : State) (cut : 
   first-told u e more h = elim (parsed r (limited k items) s (ends-well k 0 items cut.each) root run) [
     | inl o ↦ (
         let i = told u e o.taken (why r (limited k items) e o.taken (subst (λ (z : Report). Right document (limited k items) r (answers_tokens (limited k items)) z o.taken) (head-same (sym o.reported ∙ h)) o.right)) in
-        (i.0, subst (λ (n : ℕ). EndedFit n 0 (finished s)) i.1 (ended-root o.taken (add_all s.waiting s.tree) (record { before = built.none; kind = root.0 }) (add_all_above s.waiting s.tree ∙ root.2) (settled-parts o.taken s.waiting s.tree (o.settled tt)))))
+        (i.0, subst (λ (n : ℕ). EndedFit n 0 (finished s)) i.1 (ended-root o.taken (add_all s.waiting s.tree) (record { before = built.none; kind = root.0 }) (add_all_above s.waiting s.tree ∙ root.2) (settled-added o.taken (added-all s.waiting s.tree) o.settled))))
     | inr o ↦ no-cons (sym o.silent ∙ h)
   ]
 

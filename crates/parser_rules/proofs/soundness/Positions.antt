@@ -5,7 +5,7 @@ use Rattle.lexical_grammar.specs.Answers.{Answer}
 use Rattle.document_grammar.specs.declared.kind.SyntaxKind.{SyntaxKind}
 use Rattle.document_grammar.specs.declared.kind.SyntaxKind.TheVariants as kind
 use Rattle.document_grammar.specs.Kinds.{DOCUMENT, SELECTION_SET, LIST_TYPE}
-use Rattle.document_grammar.specs.Builds.{Building, add_leaf, built_count}
+use Rattle.document_grammar.specs.Builds.{Building}
 use Rattle.document_grammar.specs.Tree.{Text, Token, Tree, leaf, node, Forest, none, ◌▸◌, ◌+++◌}
 use Rattle.document_grammar.specs.Booleans.{◌or◌}
 use Rattle.grammar_machine.specs.Machine.{is_leaf, first as first_class, Frame, frame, Reach}
@@ -19,17 +19,20 @@ use Rattle.document_grammar.specs.Derivation.{Sort}
 use Rattle.grammar_machine.proofs.SentenceTheorems.{start_symbol}
 use Rattle.std.proofs.lemmas.List.{length-append}
 use Rattle.parser_rules.specs.declared.message.Message.{Message}
-use Rattle.parser_rules.specs.State.{State, Part, Lexeme, Report, fault_report, recursion_limit_report, noted, note, flush, opened, closed, wrapped_from, is_deep, enter, leave, deepened, limited_at, too_deep, read_on}
+use Rattle.parser_rules.specs.State.{State, Part, Lexeme, Report, fault_report, recursion_limit_report, noted, note, flush, opened, closed, wrapped_from, is_deep, leave, deepened, limited_at, too_deep}
 use Rattle.parser_rules.specs.RuleLanguage.{Prim, Rule}
 use Rattle.parser_rules.specs.Runs.{Runs}
-use Rattle.parser_rules.proofs.runs.Steps.{Holds_along, along}
+use Rattle.parser_rules.proofs.runs.Steps.{along}
+use Rattle.parser_rules.proofs.runs.Frame.{adds, added-all}
+use Rattle.parser_rules.proofs.runs.Marked.{reports-along, reports-same}
 use Rattle.parser_rules.proofs.soundness.WithoutIgnored.{all_ignored, stack}
-use Rattle.parser_rules.proofs.reports.NoReport.{Now, rest, answers_tokens, current_tokens, Grows, same-errors, grows-on, read-grows, Stays, Held, Told, told-on, Quiet, Calm}
+use Rattle.parser_rules.proofs.reports.NoReport.{Now, rest, answers_tokens, current_tokens, Grows, Stays, Held, Told, told-on, told-first, Calm}
 use Rattle.parser_rules.proofs.soundness.FirstReport.{Stuck, Unread, TooMany, Behind, Right, stuck_here, unread_here, deep_here}
 use Rattle.parser_rules.proofs.lookahead.Split.{Level, low, high, past, Sure, loose, firm, full, Spot, spot, lost, fill}
-use Rattle.parser_rules.proofs.lookahead.TokenSets.{Shown, Seen, seen-same}
+use Rattle.parser_rules.proofs.runs.Reading.{Shown}
+use Rattle.parser_rules.proofs.lookahead.TokenSets.{Seen, seen-same}
 use Rattle.parser_rules.proofs.soundness.MachineStack.{image}
-use Rattle.parser_rules.proofs.soundness.Settled.{Settled, Fitting, fitting-image, settled-at, settled-leaf, settled-parts, settled-start, settled-finish, settled-wrap}
+use Rattle.parser_rules.proofs.soundness.Settled.{Settled, Fitting, fitting-image, settled-at, settled-added, settled-start, settled-finish, settled-wrap}
 use Rattle.parser_rules.proofs.soundness.TableCheck.{Then, raised, own, owed, is_firm, weak, levels}
 
 -- ---- levels, on plain numbers
@@ -67,11 +70,11 @@ same-alike st = rebuilt st st.waiting st.tree (λ z. z) (λ m z. z)
 
 pub flush-alike : (st : State) → Alike st (flush st)
 unfolding flush
-flush-alike st = rebuilt st [] _ (λ z. refl) (λ m z. settled-parts m st.waiting st.tree z)
+flush-alike st = rebuilt st [] _ (λ z. refl) (λ m z. settled-added m (added-all st.waiting st.tree) z)
 
 pub opened-alike : (k : SyntaxKind) (st : State) → Alike st (opened k st)
 unfolding opened flush
-opened-alike k st = rebuilt st [] _ (λ z. refl) (λ m z. settled-start m k _ (settled-parts m st.waiting st.tree z))
+opened-alike k st = rebuilt st [] _ (λ z. refl) (λ m z. settled-start m k _ (settled-added m (added-all st.waiting st.tree) z))
 
 pub closed-alike : (st : State) → Alike st (closed st)
 unfolding closed
@@ -96,46 +99,22 @@ pub idle-seen : (x y : ℕ) {st v : State} → Idle st v → Seen x y st → See
 idle-seen x y {st = st} {v = v} e h = seen-same x y st v e.current e.items h
 
 pub idle-grows : {st v : State} → Idle st v → Grows st v
-idle-grows {st = st} {v = v} e = same-errors st v e.errors e.stays
-
--- ---- reports stay
-
-pub moved-grows : (k : SyntaxKind) (x : Lexeme) (s : State) → Grows s (read_on s.items (record s { tree = add_leaf k x.text s.tree }))
-moved-grows k x s = grows-on s _ _ (idle-grows (rebuilt s s.waiting (add_leaf k x.text s.tree) (λ z. z) (λ m z. settled-leaf m k x.text s.tree z)).idle) (read-grows s.items (record s { tree = add_leaf k x.text s.tree }))
-
-pub grows-along : Holds_along Grows
-unfolding enter leave closed wrapped_from
-grows-along = record {
-  same = λ s. idle-grows (same-alike s).idle;
-  next = grows-on;
-  flushes = λ s. idle-grows (flush-alike s).idle;
-  moves = λ k x s e w. moved-grows k x s;
-  reports = λ m x s c a. record { more = fault_report m x ∷ []; errors = refl; stays = λ m z. z };
-  limits = λ x s c a d. record { more = recursion_limit_report x ∷ []; errors = refl; stays = λ m z. z };
-  asks = λ s. idle-grows (renested s s.depth _);
-  nodes = λ k s u g. record { more = g.more; errors = g.errors; stays = λ m z. settled-finish m u.tree (g.stays m (settled-start m k s.tree z)) };
-  levels = λ s u d g. record { more = g.more; errors = g.errors; stays = g.stays };
-  wraps = λ k t u w g h. let i = grows-on t u w g (record { more = h.more; errors = h.errors; stays = λ m z. h.stays m (settled-wrap m (built_count t.tree) k u.tree z) }) in
-      record { more = i.more; errors = i.errors; stays = λ m z. settled-finish m w.tree (i.stays m z) };
-}
+idle-grows {st = st} {v = v} e = record { reports = reports-same st v e.errors e.accepts; stays = e.stays }
 
 pub run-grows : {r : Rule} {s t : State} → Runs r s t → Grows s t
-run-grows h = along grows-along h
+run-grows h = record { reports = along reports-along h; stays = λ m. settled-added m (adds h).trees }
 
 -- ---- the link
 
--- What is read: the sort of what is parsed, its answers and tokens, the recursion limit, and the reports before. `follows` says whether what
--- waits and what is built is followed.
+-- What is read: the sort of what is parsed, its answers and tokens, and the recursion limit.
 pub record Reading : Type 1 where
   pub sort : Sort
   pub answers : List Answer
-  pub base : List Report
-  pub follows : Type 0
   pub limit : ℕ
   pub words : List Token
 
 module _ (R : Reading) where
-  open R use {sort, answers, base, follows as Follows, limit as lim, words as w}
+  open R use {sort, answers, limit as lim, words as w}
 
   -- the start symbol
   abbrev pub top : ℕ
@@ -143,8 +122,8 @@ module _ (R : Reading) where
 
   -- The greatest depth is within the limit, and each tree of all the tokens nests as deep.
   pub record Bounded (most bound : ℕ) : Type 0 where
-    pub kept : Follows → most ≤ lim
-    pub nested : Follows → (t : Tree) → Parse top t w → most ≤ nesting_all t
+    pub kept : most ≤ lim
+    pub nested : (t : Tree) → Parse top t w → most ≤ nesting_all t
     pub limit : bound ≡ lim
 
   -- The depth agrees with the open nodes; the greatest depth covers what they nest.
@@ -165,13 +144,13 @@ module _ (R : Reading) where
   pub record Stands (s q : ℕ) (l : Level) (fs : List Frame) (st : State) : Type 0 where
     pub children : Forest
     pub place : Place s q l children fs st
-    pub built : Follows → stack st.tree ≡ image (frame s q children ∷ fs)
+    pub built : stack st.tree ≡ image (frame s q children ∷ fs)
 
   -- So many tokens are taken, and the nodes that ended before the last of them fit.
   pub record Taken (r : List Token) (b : Building) : Type 0 where
     pub count : ℕ
     pub behind : Behind sort answers lim w count r
-    pub settled : Follows → Settled count b
+    pub settled : Settled count b
 
   -- The machine is stuck here, which is not yet reported.
   abbrev pub Lost : State → Type 0
@@ -190,10 +169,10 @@ module _ (R : Reading) where
   Rightly = Right sort answers lim w
 
   abbrev pub Still_calm : State → Type 0
-  Still_calm st = Calm answers base Follows Rightly st
+  Still_calm st = Calm answers Rightly st
 
   abbrev pub Tells : State → Type 0
-  Tells st = Told answers base Follows Rightly st
+  Tells st = Told answers Rightly st
 
   pub record Fits (s : ℕ) (p : Spot) (x y : ℕ) (fs : List Frame) (st : State) : Type 0 where
     pub calm : Still_calm st
@@ -207,7 +186,7 @@ module _ (R : Reading) where
   Out s fs k t = Tells t ⊎ Way s fs k t
 
   pub tell-on : (s t : State) → Grows s t → Tells s → Tells t
-  tell-on s t g h = told-on answers base Follows Rightly s t g h
+  tell-on s t g h = told-on answers Rightly s t g h
 
   pub fills : (s : ℕ) (fs : List Frame) (st : State) (p : Spot) → is_deep st ≡ true → StandsAt s p fs st → StandsAt s (fill p) fs st
   fills s fs st (spot q l loose) e g = g
@@ -230,7 +209,7 @@ module _ (R : Reading) where
 
   pub idle-calm : {st v : State} → Idle st v → Still_calm st → Still_calm v
   idle-calm e c = record {
-    quiet = record { clean = e.errors ∙ c.quiet.clean; accepts = e.accepts ∙ c.quiet.accepts; waits = λ z. e.waits (c.quiet.waits z) };
+    quiet = record { clean = e.errors ∙ c.quiet.clean; accepts = e.accepts ∙ c.quiet.accepts; waits = e.waits c.quiet.waits };
     now = rw (e.current, e.items) c.now;
     held = rw (e.current, e.items) c.held;
   }
@@ -244,9 +223,6 @@ module _ (R : Reading) where
 
   -- ---- reports
 
-  pub fault-told : (m : ℕ) (r : Report) (st : State) → Quiet answers base Follows Rightly st → Rightly r m → (Follows → Settled m st.tree) → Tells (if st.accepts then record st { errors = st.errors ++ r ∷ [] } else st)
-  fault-told m r st q i f = subst (λ (b : Bool). Tells (if b then record st { errors = st.errors ++ r ∷ [] } else st)) (sym q.accepts) (record { report = r; more = []; reported = ap (λ (z : List Report). z ++ r ∷ []) q.clean; taken = m; right = i; settled = f })
-
   abbrev pub Blamed : List Token → Type 0
   Blamed r = Stuck sort answers lim w r ⊎ Unread sort answers lim w r
 
@@ -254,13 +230,15 @@ module _ (R : Reading) where
   unfolding note
   note-told m st c b k =
       let t = current st c in
-      subst (λ (o : Option Lexeme). Tells (noted m st o)) (sym t.1) (fault-told k.count (fault_report m t.0) st c.quiet (elim (rw t.1 at b) [ inl a ↦ stuck_here m t.2 t.3 a (rw t.1 at k.behind) | inr a ↦ unread_here m t.2 t.3 a (rw t.1 at k.behind) ]) k.settled)
+      subst (λ (o : Option Lexeme). Tells (noted m st o)) (sym t.1)
+      (subst (λ (b : Bool). Tells (if b then record st { errors = st.errors ++ fault_report m t.0 ∷ [] } else st)) (sym c.quiet.accepts) (told-first answers Rightly k.count (fault_report m t.0) st _ c.quiet refl (elim (rw t.1 at b) [ inl a ↦ stuck_here m t.2 t.3 a (rw t.1 at k.behind) | inr a ↦ unread_here m t.2 t.3 a (rw t.1 at k.behind) ]) k.settled))
 
   pub deep-told : (st : State) → Still_calm st → TooMany sort answers lim w (rest st) → Taken (rest st) st.tree → Tells (too_deep st)
   unfolding too_deep
   deep-told st c b k =
       let t = current st c in
-      subst (λ (o : Option Lexeme). Tells (limited_at (deepened st) o)) (sym t.1) (tell-on _ _ (same-errors _ _ refl (λ m z. z)) (fault-told k.count (recursion_limit_report t.0) (deepened st) (idle-calm (renested st st.depth _) c).quiet (deep_here t.2 t.3 (rw t.1 at b) (rw t.1 at k.behind)) k.settled))
+      subst (λ (o : Option Lexeme). Tells (limited_at (deepened st) o)) (sym t.1)
+      (subst (λ (b : Bool). Tells (record (if b then record (deepened st) { errors = st.errors ++ recursion_limit_report t.0 ∷ [] } else deepened st) { accepts = false })) (sym c.quiet.accepts) (told-first answers Rightly k.count (recursion_limit_report t.0) st _ c.quiet refl (deep_here t.2 t.3 (rw t.1 at b) (rw t.1 at k.behind)) k.settled))
 
   -- ---- what is taken
 
@@ -273,14 +251,14 @@ module _ (R : Reading) where
   pub stands-taken : {s q : ℕ} {l : Level} {fs : List Frame} {st : State} → Stands s q l fs st → Taken (rest st) st.tree
   stands-taken {s = s} {q = q} {fs = fs} {st = st} c =
       let gs : List Frame = frame s q c.children ∷ fs in
-      record { count = length (spent gs); behind = spent-behind gs (rest st) c.place.reach; settled = λ z. settled-at (length (spent gs)) st.tree (image gs) (c.built z) (fitting gs (rest st) c.place.reach) }
+      record { count = length (spent gs); behind = spent-behind gs (rest st) c.place.reach; settled = settled-at (length (spent gs)) st.tree (image gs) c.built (fitting gs (rest st) c.place.reach) }
 
   pub taken-at : (s : ℕ) (p : Spot) (fs : List Frame) (st : State) → StandsAt s p fs st → Taken (rest st) st.tree
   taken-at s (spot q l d) fs st g = stands-taken g.0
   taken-at s lost fs st g = g.1
 
   pub idle-lost : {st v : State} → Idle st v → Lost st → Lost v
-  idle-lost {v = v} e h = rw (idle-rest e) (h.0, record { count = h.1.count; behind = h.1.behind; settled = λ z. e.stays h.1.count (h.1.settled z) })
+  idle-lost {v = v} e h = rw (idle-rest e) (h.0, record { count = h.1.count; behind = h.1.behind; settled = e.stays h.1.count h.1.settled })
 
   -- ---- levels
 
@@ -290,7 +268,7 @@ module _ (R : Reading) where
     entered = omega arith;
     most_open = let o = owed-le s l in omega (arith, o);
     above = omega arith;
-    bounds = record { kept = λ z. omega (arith, v.bounds.kept z); nested = λ z t p. omega (arith, v.bounds.nested z t p, n t p); limit = v.bounds.limit };
+    bounds = record { kept = omega (arith, v.bounds.kept); nested = λ t p. omega (arith, v.bounds.nested t p, n t p); limit = v.bounds.limit };
   }
 
   pub leveled-leave : {s q : ℕ} {f : Forest} {fs : List Frame} {d h m : ℕ} → Leveled s q high f fs d h m → Leveled s q past f fs (d - 1) h m

@@ -6,14 +6,14 @@ use Rattle.document_grammar.specs.declared.kind.SyntaxKind.{SyntaxKind}
 use Rattle.document_grammar.specs.Kinds.{ERROR}
 use Rattle.document_grammar.specs.Numbers.{number}
 use Rattle.document_grammar.specs.Forests as built
-use Rattle.document_grammar.specs.Builds.{Building, Open, start, add_leaf, close, finish, wrap, front, back, open_count}
+use Rattle.document_grammar.specs.Builds.{Building, Open, start, close, finish, wrap, front, back, open_count}
 use Rattle.document_grammar.specs.Numbered.{numbered}
-use Rattle.document_grammar.specs.Tree.{Text, Token, Tree, leaf, node, Forest, none, ◌▸◌, ◌+++◌, root}
+use Rattle.document_grammar.specs.Tree.{Token, leaf, node, Forest, none, ◌▸◌, ◌+++◌, root}
 use Rattle.document_grammar.specs.Derivation.{Yields, Fits, AllFit}
-use Rattle.document_grammar.specs.Places.{ignored, bare, bares}
 use Rattle.document_grammar.proofs.Booleans.{either}
+use Rattle.document_grammar.proofs.Added.{Added}
+use Rattle.document_grammar.proofs.Trimmed.{fits-tail}
 use Rattle.document_grammar.proofs.Built.{Yields-append, Yields-bares, join-front_back}
-use Rattle.parser_rules.specs.State.{Part, add_all}
 use Rattle.grammar_machine.specs.Symbols.{TYPE}
 use Rattle.grammar_machine.specs.Machine.{is_leaf, target, finish as leaves_behind, Frame, frame, Path, yields}
 use Rattle.grammar_machine.proofs.Constants.{path-fits, show-yield}
@@ -61,13 +61,10 @@ tokens-join built.none g = omega arith
 tokens-join (built.leaf k x rest) g = let e = tokens-join rest g in omega (arith, e)
 tokens-join (built.node k kids rest) g = let e = tokens-join rest g in omega (arith, e)
 
-pub fit-tail : (t : Tree) (f : Forest) → AllFit (bares (t ▸ f)) → AllFit (bares f)
-fit-tail t f h = elim (either (ignored t)) [ inl e ↦ (rw e at h) | inr e ↦ (let g : AllFit (bare t ▸ bares f) = rw e at h in g.1) ]
-
 -- where all trees fit, all nodes do
 fit-ended : (m n : ℕ) (f : built.Forest) → AllFit (strip f) → EndedFit m n f
 fit-ended m n built.none h = tt
-fit-ended m n (built.leaf k x rest) h = fit-ended m (n + cond (ltb (number k) ERROR) 0 1) rest (fit-tail (leaf (number k) x) (numbered rest) h)
+fit-ended m n (built.leaf k x rest) h = fit-ended m (n + cond (ltb (number k) ERROR) 0 1) rest (fits-tail (leaf (number k) x) (numbered rest) h)
 fit-ended m n (built.node k kids rest) h = (λ z. h.0, fit-ended m n kids h.0.4, fit-ended m (n + tokens kids) rest h.1)
 
 leaf-count : (b : Bool) (a : Token) → length (cond b [] (a ∷ [])) ≡ cond b 0 1
@@ -96,16 +93,18 @@ Opens m (o ∷ above) = EndedFit m (open_tokens above) o.before × Opens m above
 abbrev pub Settled : ℕ → Building → Type 0
 Settled m b = (m ≤ open_tokens b.above + tokens b.here) × EndedFit m (open_tokens b.above) b.here × Opens m b.above
 
-pub settled-leaf : (m : ℕ) (k : SyntaxKind) (x : Text) (b : Building) → Settled m b → Settled m (add_leaf k x b)
-settled-leaf m k x b h =
-    let t : built.Forest = built.leaf k x built.none in
-    let e = tokens-join b.here t in
-    let c = h.0 in
-    (omega (arith, c, e), ended-join m (open_tokens b.above) b.here t h.1 tt, h.2)
+-- what begins after them does not end before
+ended-later : (m n : ℕ) (f : built.Forest) → m ≤ n → EndedFit m n f
+ended-later m n built.none h = tt
+ended-later m n (built.leaf k x rest) h = ended-later m (n + cond (ltb (number k) ERROR) 0 1) rest (omega (arith, h))
+ended-later m n (built.node k kids rest) h = (λ g. absurd (omega (arith, h, g)), ended-later m n kids h, ended-later m (n + tokens kids) rest (omega (arith, h)))
 
-pub settled-parts : (m : ℕ) (parts : List Part) (b : Building) → Settled m b → Settled m (add_all parts b)
-settled-parts m [] b h = h
-settled-parts m (p ∷ parts) b h = settled-parts m parts (add_leaf p.kind p.text b) (settled-leaf m p.kind p.text b h)
+pub settled-added : (m : ℕ) {f : built.Forest} {b c : Building} → Added f b c → Settled m b → Settled m c
+settled-added m {f = f} {b = b} a h =
+    let e = tokens-join b.here f in
+    let c = h.0 in
+    subst (Settled m) (sym (ap₂ (λ (here : built.Forest) (above : List Open). record { here = here; above = above }) a.here a.above))
+    (omega (arith, c, e), ended-join m (open_tokens b.above) b.here f h.1 (ended-later m _ f h.0), h.2)
 
 pub settled-start : (m : ℕ) (k : SyntaxKind) (b : Building) → Settled m b → Settled m (start k b)
 settled-start m k b h = (let c = h.0 in omega (arith, c), tt, (h.1, h.2))

@@ -34,7 +34,7 @@ use Rattle.parser_rules.proofs.soundness.Positions.{Reading, idle-rest, Alike, s
 use Rattle.parser_rules.proofs.soundness.Moves.{fits-next, lost-at, note-right, goes-deeper, too-many, flushed, Shaped, token-taken, bump-out, begun, begun-in, ended, ended-here, tell-closed, with-sets, node-out, walked-out, lost-out}
 
 module _ (R : Reading) where
-  open R use {sort, answers, base, follows as Follows, limit as lim, words as w}
+  open R use {words as w}
 
   -- ---- marks
 
@@ -137,7 +137,7 @@ module _ (R : Reading) where
   type-in n s q x y l d a fs k st t u e walk h g =
       let gs : List Frame = frame s q g.stands.0.children ∷ fs in
       let m = and-l _ _ h in
-      let b : Fits R TYPE (spot 0 low loose) x y gs (flush st) = begun R TYPE g refl refl (and-l _ _ m) (and-l _ _ (and-r _ _ m)) (flush-alike st) (λ z i. flushed R st g.calm z ∙ (i ∙ sym (put-none (image gs)))) in
+      let b : Fits R TYPE (spot 0 low loose) x y gs (flush st) = begun R TYPE g refl refl (and-l _ _ m) (and-l _ _ (and-r _ _ m)) (flush-alike st) (λ i. flushed R st g.calm ∙ (i ∙ sym (put-none (image gs)))) in
       walked a walk n TYPE gs (typed (spot (target s q TYPE) l firm) k) (spot 0 low loose, x, y, and-r _ _ h, rw e b)
 
   -- the children of a type that no `!` ends
@@ -160,7 +160,7 @@ module _ (R : Reading) where
 
       on : Way R TYPE gs (no_bang p k) u → Way R s fs k u
       on (lost, x, y, t, i) = false-true refl (and-l _ _ t)
-      on (spot q' m d, x, y, t, i) = ended-here R g.stands.0 k (and-l _ _ (and-r _ _ (and-l _ _ h))) (and-r _ _ t) i (same-alike u) (λ z. i.stands.0.built z ∙ image-plain s q q g.stands.0.children i.stands.0.children fs (one-path i.stands.0 (and-l _ _ t)))
+      on (spot q' m d, x, y, t, i) = ended-here R g.stands.0 k (and-l _ _ (and-r _ _ (and-l _ _ h))) (and-r _ _ t) i (same-alike u) (i.stands.0.built ∙ image-plain s q q g.stands.0.children i.stands.0.children fs (one-path i.stands.0 (and-l _ _ t)))
 
   bang-built : (f : Forest) (fs : List Frame) (v : State) (x : Text) → Path TYPE 0 f 1 → stack v.tree ≡ (NON_NULL_TYPE, shows (f +++ (leaf BANG x ▸ none))) ∷ image fs → stack (closed v).tree ≡ put (show (node TYPE (f +++ (leaf BANG x ▸ none))) ▸ none) (image fs)
   unfolding closed
@@ -194,21 +194,21 @@ module _ (R : Reading) where
       shaped : Shaped R TYPE gs shape
       shaped = record { joins = λ f g. refl; fits = λ q f r o. let h = reach-sound (start-no-leaf (top R) (start_good R)) o in fitting-path TYPE 0 q NON_NULL_TYPE f gs (image gs) h.0 h.1 (fitting-image (top R) gs h.3) }
 
-      before : Follows → stack t.tree ≡ image gs
-      before z = ap (λ (z : State). stack z.tree) e ∙ (flushed R st g.calm z ∙ g.stands.0.built z)
+      before : stack t.tree ≡ image gs
+      before = ap (λ (z : State). stack z.tree) e ∙ (flushed R st g.calm ∙ g.stands.0.built)
 
       on : Way R TYPE gs (bang_next p k) u → Out R s fs k (closed w')
       on (lost, x, y, t, c) = false-true refl (and-l _ _ t)
       on (spot q' m d, x, y, t', c) =
           let f : Forest = c.stands.0.children in
-          let built : Follows → stack v.tree ≡ shape (shows f) = λ z. ap (λ (z : State). stack z.tree) i ∙ stack-wrap s q q' g.stands.0.children f fs t.tree u.tree added.more none_equal added.trees.above added.trees.here (before z) (c.stands.0.built z) in
+          let built : stack v.tree ≡ shape (shows f) = ap (λ (z : State). stack z.tree) i ∙ stack-wrap s q q' g.stands.0.children f fs t.tree u.tree added.more none_equal added.trees.above added.trees.here before c.stands.0.built in
           subst (λ (z : State). Out R s fs k (closed z)) (sym j) (elim (token-taken R kind.BANG TYPE q' BANG x y m d f gs v shape (λ P. closing TYPE p k P y any) (and-r _ _ t') shaped (record { reach = rw (idle-rest al.idle) c.stands.0.place.reach; leveled = still-leveled R al c.stands.0.place.leveled; alone = c.stands.0.place.alone }) built (idle-calm R al.idle c.calm) (idle-seen x y al.idle c.seen)) [
             | inl o ↦ inl (tell-closed R (bump kind.BANG v) o)
             | inr o ↦ (
                 let w'' : State = bump kind.BANG v in
                 let g' : Forest = f +++ (leaf BANG o.first.1 ▸ none) in
                 let c' = and-r _ _ (and-r _ _ (and-r _ _ t')) in
-                let done : Follows → stack (closed w'').tree ≡ put (show (node TYPE g') ▸ none) (image gs) = λ z. bang-built f gs w'' o.first.1 (one-path c.stands.0 (and-l _ _ t')) (o.built z) in
+                let done : stack (closed w'').tree ≡ put (show (node TYPE g') ▸ none) (image gs) = bang-built f gs w'' o.first.1 (one-path c.stands.0 (and-l _ _ t')) o.built in
                 inr (
                   spot (target s q TYPE + exit TYPE (target TYPE q' BANG)) l firm,
                   y,

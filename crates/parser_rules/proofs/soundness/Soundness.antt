@@ -44,7 +44,8 @@ use Rattle.parser_rules.specs.Open.{IsRoot}
 use Rattle.parser_rules.proofs.runs.Frame.{read_untouched, add_all_above, on_kind, on_item, turned, begun_nesting}
 use Rattle.parser_rules.proofs.soundness.WithoutIgnored.{stack, strip, layers, stack-flush}
 use Rattle.parser_rules.proofs.reports.NoReport.{answers_tokens, all_tokens, rest, current_tokens, item_tokens, EndsWell, Now, standing, given as given_by, report_of, Held, all_tokens-append, Blames, read-on, choose, ends as ends_of, ignored-end, Passed}
-use Rattle.parser_rules.proofs.lookahead.TokenSets.{class_of, second-shown, of-any, over, ready, not-zero}
+use Rattle.parser_rules.proofs.runs.Reading.{second-shown, reading}
+use Rattle.parser_rules.proofs.lookahead.TokenSets.{class_of, of-any, over, ready, not-zero}
 use Rattle.parser_rules.proofs.lookahead.Split.{Level, low, high, past, loose, spot, lost}
 use Rattle.parser_rules.proofs.lookahead.MachineClasses.{Next}
 use Rattle.parser_rules.proofs.soundness.TableCheck.{raised, own, owed, behind, root_ends, document_follows}
@@ -89,7 +90,7 @@ document-label = (refl, refl, refl, refl)
 
 -- all the answers, to a parser with nothing reported
 abbrev pub whole : ℕ → List Answer → Reading
-whole r xs = record { sort = document; answers = xs; base = []; follows = ⊤; limit = r; words = answers_tokens xs }
+whole r xs = record { sort = document; answers = xs; limit = r; words = answers_tokens xs }
 
 pub start-level : (r : ℕ) (xs : List Answer) → Leveled (whole r xs) DOCUMENT 0 low none [] 0 0 r
 start-level r xs = record {
@@ -97,7 +98,7 @@ start-level r xs = record {
   entered = omega arith;
   most_open = omega (arith, peak-start DOCUMENT, document-label.3);
   above = omega arith;
-  bounds = record { kept = λ z. omega arith; nested = λ z t p. omega arith; limit = refl };
+  bounds = record { kept = omega arith; nested = λ t p. omega arith; limit = refl };
 }
 
 start-fits : (r : ℕ) (xs : List Answer) → EndsWell xs → Tells (whole r xs) (begun xs r kind.DOCUMENT) ⊎ Fits (whole r xs) DOCUMENT (spot 0 low loose) any any [] (begun xs r kind.DOCUMENT)
@@ -105,7 +106,7 @@ start-fits r xs e =
     let s : State = fresh xs r kind.DOCUMENT in
     let b : State = begun xs r kind.DOCUMENT in
     let w : List Token = answers_tokens xs in
-    elim (read-on xs [] ⊤ (Rightly (whole r xs)) 0 xs s (record { clean = refl; accepts = refl; waits = λ z. refl }) e (record { front = []; split = refl; tokens = refl }) blame (λ z. (omega arith, tt, (tt, tt)))) [
+    elim (read-on xs (Rightly (whole r xs)) (reading xs s) 0 (record { clean = refl; accepts = refl; waits = refl }) e (record { front = []; split = refl; tokens = refl }) blame (omega arith, tt, (tt, tt))) [
       | inl o ↦ inl o
       | inr o ↦ inr (record {
         calm = o.calm;
@@ -114,14 +115,14 @@ start-fits r xs e =
           record {
             children = none;
             place = record { reach = subst (λ (z : List Token). Reach DOCUMENT w (frame DOCUMENT 0 none ∷ []) z) (sym o.left) start; leveled = (let still = read_untouched xs s in rw (still.depth, still.high, still.limit) (start-level r xs)); alone = λ e. refl };
-            built = λ z. ap stack (read_untouched xs s).tree ∙ ap (λ (k : ℕ). (k, none) ∷ ((0, none) ∷ [])) (sym document-label.0);
+            built = ap stack (read_untouched xs s).tree ∙ ap (λ (k : ℕ). (k, none) ∷ ((0, none) ∷ [])) (sym document-label.0);
           },
           tt,
         );
       })
     ]
   where
-    blame : Blames xs [] ⊤ (Rightly (whole r xs)) 0 (answers_tokens xs)
+    blame : Blames xs (Rightly (whole r xs)) 0 (answers_tokens xs)
     blame x ys p n z = no_token p n (frame DOCUMENT 0 none ∷ [], subst (λ (u : List Token). Reach DOCUMENT (answers_tokens xs) (frame DOCUMENT 0 none ∷ []) u) (sym z) start) (let e = ap length z in omega (arith, e))
 
 -- ---- the end
@@ -203,9 +204,9 @@ root-out r xs s (inr (spot q l d, x, y, h, g)) =
       silent = g.calm.quiet.clean;
       children = f;
       spells = subst (λ (v : List Token). Spells v (show (node DOCUMENT f)) document) words d.1;
-      nesting = omega (arith, document-label.1, document-label.3, lv.level, lv.most_open, low_again, owes, nests, end, lv.bounds.kept tt);
-      high = omega (arith, document-label.1, document-label.3, lv.level, lv.most_open, low_again, owes, nests, end, lv.bounds.nested tt (node DOCUMENT f) (p.0, p.1, words));
-      built = stack-flush s.waiting s.tree (g.calm.quiet.waits tt) ∙ st.built tt;
+      nesting = omega (arith, document-label.1, document-label.3, lv.level, lv.most_open, low_again, owes, nests, end, lv.bounds.kept);
+      high = omega (arith, document-label.1, document-label.3, lv.level, lv.most_open, low_again, owes, nests, end, lv.bounds.nested (node DOCUMENT f) (p.0, p.1, words));
+      built = stack-flush s.waiting s.tree g.calm.quiet.waits ∙ st.built;
       tokens = all-read xs s.current s.items g.calm.now g.calm.held left.1;
     })
 
