@@ -1,19 +1,16 @@
 -- The machine's classes of the next two tokens, where the rules' sets hold the current one and the one after it.
-use Rattle.std.proofs.Common.{◌≡◌, ℕ, ◌^◌, Bool, true, false, cond, List, [], ◌∷◌, ◌++◌, Option, Some, None, refl, sym, subst, ◌⊎◌, inl, inr}
-use Rattle.lexical_grammar.specs.declared.TokenKind.{TokenKind}
-use Rattle.lexical_grammar.specs.declared.TokenKind.TheVariants as token
-use Rattle.lexical_grammar.specs.Cut.{Item}
-use Rattle.lexical_grammar.specs.Answers.{Answer, gives, limit_at, is_end}
-use Rattle.document_grammar.specs.declared.kind.SyntaxKind.{SyntaxKind}
+use Rattle.std.proofs.Common.{◌≡◌, ℕ, ◌^◌, true, false, List, [], ◌++◌, Option, Some, None, refl, sym, subst, inl, inr}
+use Rattle.lexical_grammar.specs.Answers.{Answer, is_end}
 use Rattle.document_grammar.specs.Sentence.{leaf_number}
 use Rattle.document_grammar.specs.Tree.{Token}
 use Rattle.grammar_machine.specs.Machine.{holds as within, class, first as first_class, second as second_class}
 use Rattle.grammar_machine.proofs.Checks.{disjoint}
 use Rattle.document_grammar.proofs.Booleans.{either, false-true}
 use Rattle.grammar_machine.proofs.TableLemmas.{holds-disjoint, holds-or}
-use Rattle.parser_rules.specs.State.{State, Lexeme, ignored, lexeme, second}
+use Rattle.parser_rules.specs.State.{State, Lexeme, second}
 use Rattle.parser_rules.proofs.lookahead.TokenSets.{absent, class_of, ready, not-zero, holds-minus, Seen}
-use Rattle.parser_rules.proofs.reports.NoReport.{ends, choose, EndsWell, Now, rest, answers_tokens, current_tokens, kind_tokens, item_tokens, ignored-tokens, ignored-end, end-kind, significant, AtEnd, AtToken, standing}
+use Rattle.parser_rules.proofs.reports.NoReport.{EndsWell, Now, rest, answers_tokens, current_tokens, ignored-tokens, ignored-end, end-kind, significant, standing}
+use Rattle.parser_rules.proofs.runs.Reading.{Reading, stops, cuts, bad_text, waits, shows, reading-none, looks}
 use Rattle.parser_rules.proofs.lookahead.FirstSets.{without}
 use Rattle.parser_rules.proofs.soundness.TableCheck.{behind}
 
@@ -51,45 +48,17 @@ class-shown b = holds-disjoint (class b) ready (2 ^ absent) ready-shown (not-zer
 
 -- ---- the first of some answers
 
-abbrev Sees : List Answer → ℕ → Type 0
-Sees xs y = within (class_of (second xs)) y ≡ true → within (first_class (answers_tokens xs)) (behind y) ≡ true
-
-abbrev Sees_item : List Answer → Item → Option TokenKind → Option Lexeme → ℕ → Type 0
-Sees_item xs item found o y = within (class_of o) y ≡ true → within (first_class (item_tokens found item.text ++ answers_tokens xs)) (behind y) ≡ true
-
-abbrev on_ignored : List Answer → Item → TokenKind → Option SyntaxKind → Option Lexeme
-on_ignored xs item k found = elim found [ Some leaf ↦ second xs | None ↦ Some (lexeme k item) ]
-
-abbrev on_found : List Answer → Item → Option TokenKind → Option Lexeme
-on_found xs item found = elim found [ None ↦ second xs | Some k ↦ on_ignored xs item k (ignored k) ]
-
-pub sees : (xs : List Answer) (y : ℕ) → EndsWell xs → Sees xs y
-unfolding second first_class
-sees [] y e h = absurd e
-sees (limit_at index ∷ xs) y e h = none xs e (subst (λ (ys : List Answer). within (class_of (second ys)) y ≡ true) e h)
-  where
-    none : (ys : List Answer) → ys ≡ [] → within absent y ≡ true → within (first_class (answers_tokens ys)) (behind y) ≡ true
-    none ys e h = subst (λ (zs : List Answer). within (first_class (answers_tokens zs)) (behind y) ≡ true) (sym e) (behind-none y h)
-sees (gives item ∷ xs) y e h = (elim item.kind as (λ found. choose (ends found) (xs ≡ []) (EndsWell xs) → Sees_item xs item found (on_found xs item found) y) [
-  | None ↦ λ e' h'. sees xs y e' h'
-  | Some k ↦ λ e' h'. on_kind (λ e2 h2. sees xs y e2 h2) k (ignored k) refl e' h'
-]) e h
-  where
-    at_end : (k : TokenKind) → k ≡ token.Eof → xs ≡ [] → within (class_of (Some (lexeme k item))) y ≡ true → within (first_class (kind_tokens k item.text ++ answers_tokens xs)) (behind y) ≡ true
-    at_end k i n h' = rw (i, n) (behind-in 0 y zero-shown (rw i at h'))
-
-    at_token : (k : TokenKind) → is_end k ≡ false → ignored k ≡ None → within (class_of (Some (lexeme k item))) y ≡ true → within (first_class (kind_tokens k item.text ++ answers_tokens xs)) (behind y) ≡ true
-    at_token k i n h' =
-        let b : Token = (leaf_number k, item.text) in
-        subst (λ (v : List Token). within (first_class (v ++ answers_tokens xs)) (behind y) ≡ true) (sym (significant k item.text i n)) (behind-in (class b) y (class-shown b) (rw i at h'))
-
-    on_kind : (EndsWell xs → Sees xs y) → (k : TokenKind) (found : Option SyntaxKind) → ignored k ≡ found → choose (is_end k) (xs ≡ []) (EndsWell xs) → Sees_item xs item (Some k) (on_ignored xs item k found) y
-    on_kind go k (Some leaf) i e' h' =
-        subst (λ (v : List Token). within (first_class (v ++ answers_tokens xs)) (behind y) ≡ true) (sym (ignored-tokens k leaf item.text i)) (go (subst (λ (b : Bool). choose b (xs ≡ []) (EndsWell xs)) (ignored-end k leaf i) e') h')
-    on_kind go k None i e' h' = elim (either (is_end k)) [
-      | inl z ↦ at_end k (end-kind k z) (subst (λ (b : Bool). choose b (xs ≡ []) (EndsWell xs)) z e') h'
-      | inr z ↦ at_token k z i h'
-    ]
+-- the first class is in a set of the machine's, where the class of the token that is read next is in the rules' set
+sees : {xs : List Answer} {s t : State} → Reading xs s t → (y : ℕ) → EndsWell xs → within (class_of t.current) y ≡ true → within (first_class (answers_tokens xs)) (behind y) ≡ true
+unfolding first_class
+sees stops y e h = absurd e
+sees (cuts r) y e h = rw e (behind-none y (subst (λ (o : Option Lexeme). within (class_of o) y ≡ true) (reading-none r e) h))
+sees (bad_text i r) y e h = rw i (sees r y (rw i at e) h)
+sees (waits {item = item} {k = k} {own = own} i j r) y e h = rw (i, ignored-tokens k own item.text j) (sees r y (rw (i, ignored-end k own j) at e) h)
+sees (shows {item = item} {k = k} {xs = xs} i j) y e h = elim (either (is_end k)) [
+  | inl z ↦ (let n : xs ≡ [] = rw (i, z) at e in rw (i, n, end-kind k z) (behind-in 0 y zero-shown (rw z at h)))
+  | inr z ↦ (let b : Token = (leaf_number k, item.text) in rw (i, significant k item.text z j) (behind-in (class b) y (class-shown b) (rw z at h)))
+]
 
 -- ---- the next two
 
@@ -99,18 +68,14 @@ pub record Next (x y : ℕ) (r : List Token) : Type 0 where
 
 pub sees-next : (x y : ℕ) (st : State) → Now st.current st.items → Seen x y st → Next x y (rest st)
 unfolding first_class second_class second
-sees-next x y st n i = at st.current n i.near i.far
+sees-next x y st n i = at st.current n i.near
   where
-    at_lexeme : (t : Lexeme) → AtEnd t st.items ⊎ AtToken t st.items → Now (Some t) st.items → within (class_of (Some t)) x ≡ true → within (class_of (second st.items)) y ≡ true → Next x y (current_tokens (Some t) ++ answers_tokens st.items)
-    at_lexeme t (inl a) n h g = subst (λ (v : List Token). Next x y v) (sym a.nothing) (record {
-      near = subst (λ (k : TokenKind). within (class_of (Some (record { kind = k; text = t.text; index = t.index }))) x ≡ true) a.kind h;
-      far = behind-none y (subst (λ (xs : List Answer). within (class_of (second xs)) y ≡ true) a.none g);
-    })
-    at_lexeme t (inr a) n h g = subst (λ (v : List Token). Next x y v) (sym a.first) (record {
-      near = subst (λ (b : Bool). within (cond b 0 (class (leaf_number t.kind, t.text))) x ≡ true) a.is_end h;
-      far = sees st.items y (subst (λ (b : Bool). choose b (st.items ≡ []) (EndsWell st.items)) a.is_end n.1) g;
-    })
+    far : EndsWell st.items → within (first_class (answers_tokens st.items)) (behind y) ≡ true
+    far e = let l = looks st.items in sees l.2 y e (rw l.3 i.far)
 
-    at : (o : Option Lexeme) → Now o st.items → within (class_of o) x ≡ true → within (class_of (second st.items)) y ≡ true → Next x y (current_tokens o ++ answers_tokens st.items)
-    at None n h g = absurd n
-    at (Some t) n h g = at_lexeme t (standing t st.items n) n h g
+    at : (o : Option Lexeme) → Now o st.items → within (class_of o) x ≡ true → Next x y (current_tokens o ++ answers_tokens st.items)
+    at None n h = absurd n
+    at (Some t) n h = elim (standing t st.items n) [
+      | inl a ↦ subst (Next x y) (sym a.nothing) (record { near = rw a.kind at h; far = behind-none y (rw a.none at i.far) })
+      | inr a ↦ subst (Next x y) (sym a.first) (record { near = rw a.is_end at h; far = far (rw a.is_end at n.1) })
+    ]

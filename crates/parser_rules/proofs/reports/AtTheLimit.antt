@@ -1,18 +1,19 @@
 -- Where the recursion limit is reported, one level more than the limit was asked for.
-use Rattle.std.proofs.Common.{◌≡◌, ◌+◌, ◌≤◌, ◌||◌, ◌&&◌, if◌then◌else◌, true≢false, ℕ, Some, None, min, Bool, true, false, List, [], ◌∷◌, ◌++◌, refl, sym, ◌∙◌, ap, arith}
+use Rattle.std.proofs.Common.{◌≡◌, ◌+◌, ◌≤◌, ◌||◌, ◌&&◌, if◌then◌else◌, true≢false, ℕ, min, Bool, true, false, List, [], ◌∷◌, ◌++◌, refl, sym, ◌∙◌, ap, arith}
 use Rattle.std.specs.List.{list_any}
 use Rattle.std.proofs.lemmas.List.Folds.{list_any-append}
-use Rattle.lexical_grammar.specs.Answers.{Answer, gives, limit_at, is_end}
+use Rattle.lexical_grammar.specs.Answers.{Answer, is_end}
 use Rattle.document_grammar.specs.declared.kind.SyntaxKind.{SyntaxKind}
 use Rattle.document_grammar.specs.Builds.{add_leaf}
 use Rattle.parser_rules.specs.declared.message.Message.{Message}
 use Rattle.parser_rules.specs.Messages.{is_limit}
-use Rattle.parser_rules.specs.State.{State, Lexeme, Report, at_end, at_text, bad_report, token_limit_report, ignored, bad, met, wait, read_on, flush, closed, wrapped_from, fault_report, enter, leave, deepened, begun, fresh, usize_max}
+use Rattle.parser_rules.specs.State.{State, Lexeme, Report, at_end, at_text, bad_report, token_limit_report, read_on, flush, closed, wrapped_from, fault_report, enter, leave, deepened, begun, fresh, usize_max}
 use Rattle.parser_rules.specs.Reports.{is_recursion_limit}
 use Rattle.parser_rules.specs.RuleLanguage.{Rule}
 use Rattle.parser_rules.specs.Runs.{Runs}
 use Rattle.parser_rules.proofs.runs.Steps.{Holds_along, PastLimit, along}
-use Rattle.parser_rules.proofs.runs.Frame.{on_kind, on_item, read_untouched}
+use Rattle.parser_rules.proofs.runs.Reading.{Reading, stops, cuts, bad_text, waits, shows, reading}
+use Rattle.parser_rules.proofs.runs.Frame.{read_untouched}
 
 -- the recursion limit is reported
 abbrev IsLimited : State → Type 0
@@ -29,17 +30,12 @@ other-report s r e h = omit (list_any is_recursion_limit s.errors) (sym (list_an
 fault-other : (m : Message) (x : Lexeme) → is_recursion_limit (fault_report m x) ≡ false
 fault-other m x = elim (is_end x.kind) as (λ b. is_limit (if b then at_end else at_text x.text) && true ≡ false) [ true ↦ refl | false ↦ refl ]
 
-read-limited : (xs : List Answer) (s : State) → IsLimited (read_on xs s) → IsLimited s
-unfolding read_on
-read-limited [] s h = h
-read-limited (limit_at index ∷ rest) s h = other-report s (token_limit_report index) refl (read-limited rest (met index (record s { items = rest })) h)
-read-limited (gives item ∷ rest) s h = (elim item.kind as (λ found. IsLimited (on_item rest s item found) → IsLimited s) [
-  | None ↦ λ h'. other-report s (bad_report item.text item.index) refl (read-limited rest (bad item.text item.index (record s { items = rest })) h')
-  | Some k ↦ (elim (ignored k) as (λ found. IsLimited (on_kind rest s item k found) → IsLimited s) [
-    | Some leaf ↦ λ h'. read-limited rest (wait leaf item.text (record s { items = rest })) h'
-    | None ↦ λ h'. h'
-  ])
-]) h
+read-limited : {xs : List Answer} {s t : State} → Reading xs s t → IsLimited t → IsLimited s
+read-limited stops h = h
+read-limited {s = s} (cuts {index = index} r) h = other-report s (token_limit_report index) refl (read-limited r h)
+read-limited {s = s} (bad_text {item = item} e r) h = other-report s (bad_report item.text item.index) refl (read-limited r h)
+read-limited (waits e i r) h = read-limited r h
+read-limited (shows e i) h = h
 
 abbrev Told : State → Type 0
 Told s = IsLimited s → PastLimit s
@@ -60,7 +56,7 @@ moves leaf x s =
     let u : State = record s { tree = add_leaf leaf x.text s.tree } in
     let e = read_untouched s.items u in
     let h = e.high in
-    same s (read_on s.items u) e.limit (omega (arith, h)) (read-limited s.items u)
+    same s (read_on s.items u) e.limit (omega (arith, h)) (read-limited (reading s.items u))
 
 tells-along : Holds_along Tells
 unfolding flush closed enter leave wrapped_from
@@ -81,7 +77,7 @@ tells-along = record {
 pub asked-past : {r : Rule} {t : State} (items : List Answer) (limit : ℕ) (k : SyntaxKind) → Runs r (begun items limit k) t → list_any is_recursion_limit t.errors ≡ true → min (limit + 1) usize_max ≤ t.high
 asked-past {t = t} items limit k run h =
     let b = along tells-along run in
-    let first : Told (begun items limit k) = λ i. absurd (true≢false (sym (read-limited items (fresh items limit k) i))) in
+    let first : Told (begun items limit k) = λ i. absurd (true≢false (sym (read-limited (reading items (fresh items limit k)) i))) in
     let l = b.limit ∙ (read_untouched items (fresh items limit k)).limit in
     let p = b.told first h in
     omega (arith, l, p)

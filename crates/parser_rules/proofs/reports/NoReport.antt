@@ -11,7 +11,9 @@ use Rattle.document_grammar.specs.Sentence.{token_of, leaf_number}
 use Rattle.document_grammar.proofs.Booleans.{either, false-true, and-i}
 use Rattle.document_grammar.specs.Booleans.{◌and◌}
 use Rattle.parser_rules.specs.State.{State, Text, Lexeme, Report, bad_report, token_limit_report, ignored, wait, bad, met}
-use Rattle.parser_rules.proofs.runs.Reading.{Reading, stops, cuts, bad_text, waits, shows, item-is, kinds-more, ignored-kinds, ignored-leaf}
+use Rattle.parser_rules.proofs.runs.Reading.{Reading, stops, cuts, bad_text, waits, shows, reading, reading-none, item-is, kinds-more, ignored-kinds, ignored-leaf}
+use Rattle.document_grammar.specs.Builds.{add_leaf}
+use Rattle.parser_rules.proofs.runs.Steps.{Holds_along, Keeps_reading, along_reading}
 use Rattle.parser_rules.proofs.runs.Frame.{untouched}
 use Rattle.parser_rules.proofs.runs.Marked.{Reports, reports-then, read-reports}
 use Rattle.parser_rules.proofs.soundness.WithoutIgnored.{all_ignored}
@@ -123,6 +125,27 @@ standing t items n = elim (either (is_end t.kind)) [
       inl (record { kind = k; none = none; nothing = ap₂ (λ (j : TokenKind) (xs : List Answer). kind_tokens j t.text ++ answers_tokens xs) k none }))
   | inr e ↦ inr (record { is_end = e; shown = n.0; first = ap (λ (v : List Token). v ++ answers_tokens items) (significant t.kind t.text e n.0) })
 ]
+
+-- What holds at each state of a run: the current token is shown, and what follows it comes to an end.
+abbrev pub Stood : Option Lexeme → List Answer → Type 0
+Stood None items = ⊤
+Stood (Some t) items = Now (Some t) items
+
+pub reading-stood : {xs : List Answer} {s t : State} → Reading xs s t → EndsWell xs → Stood t.current t.items
+reading-stood stops e = absurd e
+reading-stood {t = t} (cuts h) e = subst (λ (o : Option Lexeme). Stood o t.items) (sym (reading-none h e)) tt
+reading-stood (bad_text i h) e = reading-stood h (rw i at e)
+reading-stood (waits {k = k} {own = own} i j h) e = reading-stood h (rw (i, ignored-end k own j) at e)
+reading-stood (shows i j) e = (j, rw i at e)
+
+stood-after : {xs : List Answer} {s t : State} (x : Lexeme) → Reading xs s t → Now (Some x) xs → Stood t.current t.items
+stood-after {t = t} x h n = elim (either (is_end x.kind)) [
+  | inl e ↦ subst (λ (o : Option Lexeme). Stood o t.items) (sym (reading-none h (rw e at n.1))) tt
+  | inr e ↦ reading-stood h (rw e at n.1)
+]
+
+pub stands-along : Holds_along (Keeps_reading Stood)
+stands-along = along_reading Stood (λ leaf x s e h. stood-after x (reading s.items (record s { tree = add_leaf leaf x.text s.tree })) (subst (λ (o : Option Lexeme). Stood o s.items) e h))
 
 -- the answer that gave the current token
 abbrev pub given : Lexeme → Answer

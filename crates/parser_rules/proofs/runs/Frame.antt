@@ -14,9 +14,8 @@ use Rattle.parser_rules.specs.RuleLanguage.{Test, At, holds, Rule, Skip, While}
 use Rattle.parser_rules.specs.Runs.{Runs, done, again, refused, Turns, begin, turn}
 use Rattle.parser_rules.proofs.runs.Reading.{Reading, stops, cuts, bad_text, waits, shows, reading, reading-is}
 use Rattle.parser_rules.proofs.runs.Steps.{Holds_along, along, turns_along}
--- ---- reading on
 
-pub use Rattle.parser_rules.proofs.runs.Reading.{on_kind, on_item}
+-- ---- reading on
 
 -- what reading on leaves as it is
 abbrev pub Untouched : State → State → Type 0

@@ -1,5 +1,5 @@
 -- Reading on, answer by answer: the one induction for all that is proved of it.
-use Rattle.std.proofs.Common.{◌≡◌, ℕ, Bool, true, ltb, Option, Some, None, List, [], ◌∷◌, ◌++◌, refl, sym, ap, subst}
+use Rattle.std.proofs.Common.{◌≡◌, ℕ, Bool, true, ltb, Option, Some, None, List, [], ◌∷◌, ◌++◌, refl, sym, ap, ◌∙◌, subst}
 use Rattle.std.specs.Prelude.{⊤}
 use Rattle.lexical_grammar.specs.declared.TokenKind.{TokenKind}
 use Rattle.lexical_grammar.specs.declared.TokenKind.TheVariants as token_kind
@@ -13,13 +13,13 @@ use Rattle.document_grammar.specs.Numbers.{number}
 use Rattle.document_grammar.specs.Kinds.{ERROR}
 use Rattle.parser_rules.specs.State.{Part, State, Lexeme, ignored, bad, met, wait, lexeme, read_on, second, fresh}
 
-abbrev pub on_kind : List Answer → State → Item → TokenKind → Option SyntaxKind → State
+abbrev on_kind : List Answer → State → Item → TokenKind → Option SyntaxKind → State
 on_kind rest s item k found = elim found [
   | Some leaf ↦ read_on rest (wait leaf item.text (record s { items = rest }))
   | None ↦ record s { items = rest; current = Some (lexeme k item) }
 ]
 
-abbrev pub on_item : List Answer → State → Item → Option TokenKind → State
+abbrev on_item : List Answer → State → Item → Option TokenKind → State
 on_item rest s item found = elim found [ None ↦ read_on rest (bad item.text item.index (record s { items = rest })) | Some k ↦ on_kind rest s item k (ignored k) ]
 
 -- from the first state the answers are read, up to the next token that is not ignored, to the second one
@@ -60,6 +60,11 @@ reading-second (bad_text e h) = rw e (reading-second h)
 reading-second (waits e i h) = rw (e, i) (reading-second h)
 reading-second (shows e i) = rw (e, i) refl
 
+-- after the last answer there is none
+pub reading-none : {xs : List Answer} {s t : State} → Reading xs s t → xs ≡ [] → t.current ≡ None
+unfolding second
+reading-none h e = reading-second h ∙ ap second e
+
 -- the answer that gave the current token
 pub item-is : (item : Item) (k : TokenKind) → item.kind ≡ Some k → record { kind = Some k; text = item.text; index = item.index } ≡ item
 item-is item k e = ap (λ found. record { kind = found; text = item.text; index = item.index }) (sym e)
@@ -76,8 +81,12 @@ reading-shown (bad_text e h) = reading-shown h
 reading-shown (waits e i h) = reading-shown h
 reading-shown (shows e i) = i
 
+-- how a copy of the reader reads
+pub looks : (xs : List Answer) → (s : State) × (t : State) × Reading xs s t × (t.current ≡ second xs)
+looks xs = let s : State = fresh xs 0 kind.DOCUMENT in (s, read_on xs s, reading xs s, reading-second (reading xs s))
+
 pub second-shown : (xs : List Answer) → Shown (second xs)
-second-shown xs = let r = reading xs (fresh xs 0 kind.DOCUMENT) in subst Shown (reading-second r) (reading-shown r)
+second-shown xs = let l = looks xs in subst Shown l.3 (reading-shown l.2)
 
 -- ---- what waits
 

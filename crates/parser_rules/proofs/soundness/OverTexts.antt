@@ -1,15 +1,13 @@
 -- A run over a text: a sentence within both limits gets no report, and where the first report is, the text before begins a sentence.
 use Rattle.std.proofs.lemmas.Bool.{and_parts, and_from}
 use Rattle.grammar_machine.proofs.TableLemmas.{head-same, tail-same, no-cons}
-use Rattle.document_grammar.specs.declared.kind.SyntaxKind.{SyntaxKind}
 use Rattle.document_grammar.specs.Numbered.{tree_of}
 use Rattle.document_grammar.specs.Places.{bare}
 use Rattle.grammar_machine.proofs.Starts.{read, next_one, next_two}
-use Rattle.std.proofs.Common.{◌≡◌, ℕ, zero, suc, ◌≤◌, length, Bool, true, false, List, [], ◌∷◌, ◌++◌, Option, Some, None, refl, sym, ap, ap₂, ◌∙◌, subst, inl, inr, true≢false, arith, is_some, ◌-◌, ◌⊎◌}
+use Rattle.std.proofs.Common.{◌≡◌, ℕ, zero, suc, ◌≤◌, length, Bool, true, false, List, [], ◌∷◌, ◌++◌, Some, None, refl, sym, ap, ap₂, ◌∙◌, subst, inl, inr, true≢false, arith, is_some, ◌-◌, ◌⊎◌}
 use Rattle.std.specs.Prelude.{map, take}
 use Rattle.std.specs.Str.{IsUtf8}
 use Rattle.std.proofs.lemmas.List.{map-append}
-use Rattle.lexical_grammar.specs.declared.TokenKind.{TokenKind}
 use Rattle.lexical_grammar.specs.Cut.{Item, Cut, texts, Significant, significant_word}
 use Rattle.lexical_grammar.specs.Begins.{are_tokens}
 use Rattle.lexical_grammar.specs.Answers.{Answer, gives, limited, is_token, limit_at, limit_index, is_end}
@@ -26,10 +24,11 @@ use Rattle.parser_rules.specs.Nodes.{Document}
 use Rattle.parser_rules.specs.RuleLanguage.{Call}
 use Rattle.parser_rules.specs.Runs.{Runs}
 use Rattle.parser_rules.specs.declared.message.Message.{Message}
-use Rattle.parser_rules.specs.State.{State, Report, begun, Lexeme, fault_report, recursion_limit_report, token_limit_report, bad_report, finished, second, ignored, lexeme, add_all}
-use Rattle.parser_rules.proofs.reports.NoReport.{all_tokens, answers_tokens, item_tokens, report_of, given as given_by, Now, choose, EndsWell, kind_tokens, significant, ends, ignored-tokens, ignored-end}
+use Rattle.parser_rules.specs.State.{State, Report, begun, Lexeme, fault_report, recursion_limit_report, token_limit_report, bad_report, finished, second, lexeme, add_all}
+use Rattle.parser_rules.proofs.reports.NoReport.{all_tokens, answers_tokens, item_tokens, report_of, given as given_by, Now, choose, EndsWell, kind_tokens, significant, ignored-tokens, ignored-end}
 use Rattle.parser_rules.proofs.reports.Endings.{ends-well, limited-none}
 use Rattle.document_grammar.specs.Forests as built
+use Rattle.parser_rules.proofs.runs.Reading.{Reading, stops, cuts, bad_text as bad_item, waits, shows, looks}
 use Rattle.parser_rules.proofs.runs.Frame.{add_all_above, added-all}
 use Rattle.parser_rules.proofs.soundness.Settled.{EndedFit, ended-root, settled-added}
 use Rattle.parser_rules.proofs.soundness.Plain.{Plain}
@@ -96,32 +95,18 @@ next-marks n k t more now h = elim (either (is_end t.kind)) [
   | inr e ↦ subst (λ (v : List Token). take (suc n) (marks (v ++ words_of more)) ≡ take (suc n) (marks (v ++ answers_tokens (limited k more)))) (sym (significant t.kind t.text e now.0)) (ap (λ (l : List Mark). word (leaf_number t.kind, t.text) ∷ l) (h e))
 ]
 
-abbrev on_shown : List Answer → Item → TokenKind → Option SyntaxKind → Option Lexeme
-on_shown xs item k found = elim found [ Some leaf ↦ second xs | None ↦ Some (lexeme k item) ]
-
-abbrev on_kind : List Answer → Item → Option TokenKind → Option Lexeme
-on_kind xs item found = elim found [ None ↦ second xs | Some k ↦ on_shown xs item k (ignored k) ]
-
 abbrev One : List Item → List Answer → List Token → Type 0
 One more xs v = take 1 (marks (v ++ words_of more)) ≡ take 1 (marks (v ++ answers_tokens xs))
 
 -- the first token after it is the text's, where one was answered
-behind-one : (k : ℕ) (more : List Item) → EndsWell (limited k more) → is_some (second (limited k more)) ≡ true → One more (limited k more) []
-unfolding second
-behind-one zero [] e h = absurd e
-behind-one (suc k) [] e h = absurd e
-behind-one zero (item ∷ more) e h = absurd (true≢false (sym h))
-behind-one (suc k) (item ∷ more) e h =
-    ap (λ (v : List Token). take 1 (marks v)) (words-cons item more)
-    ∙ (elim item.kind as (λ found. choose (ends found) (limited k more ≡ []) (EndsWell (limited k more)) → is_some (on_kind (limited k more) item found) ≡ true → One more (limited k more) (item_tokens found item.text)) [
-      | None ↦ λ e' h'. behind-one k more e' h'
-      | Some j ↦ λ e' h'. on (λ e2 h2. behind-one k more e2 h2) j (ignored j) refl e' h'
-    ]) e h
-  where
-    on : (EndsWell (limited k more) → is_some (second (limited k more)) ≡ true → One more (limited k more) []) → (j : TokenKind) (found : Option SyntaxKind) → ignored j ≡ found
-        → choose (is_end j) (limited k more ≡ []) (EndsWell (limited k more)) → is_some (on_shown (limited k more) item j found) ≡ true → One more (limited k more) (kind_tokens j item.text)
-    on reads j (Some leaf) i e' h' = subst (One more (limited k more)) (sym (ignored-tokens j leaf item.text i)) (reads (subst (λ (b : Bool). choose b (limited k more ≡ []) (EndsWell (limited k more))) (ignored-end j leaf i) e') h')
-    on reads j None i e' h' = next-marks 0 k (lexeme j item) more (i, e') (λ e. refl)
+behind-one : (k : ℕ) (more : List Item) {s t : State} → Reading (limited k more) s t → EndsWell (limited k more) → is_some t.current ≡ true → One more (limited k more) []
+behind-one zero [] r e h = absurd e
+behind-one (suc k) [] r e h = absurd e
+behind-one zero (item ∷ more) (cuts stops) e h = absurd (true≢false (sym h))
+behind-one (suc k) (item ∷ more) (bad_item i r) e h = ap (λ (v : List Token). take 1 (marks v)) (words-cons item more) ∙ rw i (behind-one k more r (rw i at e) h)
+behind-one (suc k) (item ∷ more) (waits {k = j} {own = own} i n r) e h =
+    ap (λ (v : List Token). take 1 (marks v)) (words-cons item more) ∙ rw (i, ignored-tokens j own item.text n) (behind-one k more r (rw (i, ignored-end j own n) at e) h)
+behind-one (suc k) (item ∷ more) (shows {k = j} i n) e h = ap (λ (v : List Token). take 1 (marks v)) (words-cons item more) ∙ rw i (next-marks 0 k (lexeme j item) more (n, rw i at e) (λ e. refl))
 
 pub before-at : (k : ℕ) (items : List Item) (front : List Answer) (x : Answer) (ys : List Answer) → limited k items ≡ front ++ x ∷ ys → all_tokens front ≡ true → Before k items front x ys
 before-at k [] front x ys e h = none-there x front ys (sym (limited-none k) ∙ e)
@@ -189,7 +174,7 @@ two-at {k = k} {ys = ys} t b now a = marks-at t 1 b now behind ∙ two-marks (an
     behind : is_end t.kind ≡ false → One b.more (limited m b.more) []
     behind e = elim a [
       | inl i ↦ absurd (true≢false (sym i ∙ e))
-      | inr i ↦ behind-one m b.more (subst (λ (l : List Answer). EndsWell l) (sym (b.rest_is (item_of t) refl)) (subst (λ (b : Bool). choose b (ys ≡ []) (EndsWell ys)) e now.1)) i
+      | inr i ↦ (let l = looks (limited m b.more) in behind-one m b.more l.2 (subst (λ (l : List Answer). EndsWell l) (sym (b.rest_is (item_of t) refl)) (rw e at now.1)) (rw l.3 i))
     ]
 
 -- ---- the headline

@@ -1,20 +1,19 @@
 -- A run of the document's rule over a text: its first report is right; or it reports nothing, and the text is a sentence within both
 -- limits, whose derivation is the tree without its ignored leaves.
-use Rattle.parser_rules.proofs.runs.Steps.{Holds_along, along, turns_along, along_reading}
+use Rattle.parser_rules.proofs.runs.Steps.{along, turns_along}
 use Rattle.parser_rules.proofs.lookahead.FirstSets.{unread as unread_set}
 use Rattle.std.proofs.Common.{◌≡◌, ℕ, zero, suc, ◌+◌, ◌≤◌, Bool, cond, true, false, List, [], ◌∷◌, ◌++◌, Option, Some, None, if◌then◌else◌, length, refl, sym, ap, ap₂, ◌∙◌, subst, ◌⊎◌, inl, inr, true≢false, is_some, eqb-true, append-nil, append_assoc, arith, not}
-use Rattle.std.specs.Prelude.{map, ⊤}
+use Rattle.std.specs.Prelude.{map}
 use Rattle.std.proofs.lemmas.List.{map-append, append_cancel_right, length-append}
 use Rattle.lexical_grammar.specs.declared.TokenKind.{TokenKind}
 use Rattle.lexical_grammar.specs.Cut.{Item, Cut, Significant, significant_word, is_significant_kind}
 use Rattle.lexical_grammar.specs.Begins.{are_tokens}
-use Rattle.lexical_grammar.specs.Answers.{Answer, gives, limit_at, limited, is_token, is_end}
-use Rattle.document_grammar.specs.declared.kind.SyntaxKind.{SyntaxKind}
+use Rattle.lexical_grammar.specs.Answers.{Answer, gives, limit_at, limited, is_token}
 use Rattle.document_grammar.specs.declared.kind.SyntaxKind.TheVariants as kind
 use Rattle.document_grammar.specs.Numbers.{number}
 use Rattle.document_grammar.specs.Kinds.{DOCUMENT}
 use Rattle.document_grammar.specs.Forests as built
-use Rattle.document_grammar.specs.Builds.{Building, Open, close, add_leaf}
+use Rattle.document_grammar.specs.Builds.{Building, Open, close}
 use Rattle.document_grammar.specs.Numbered.{tree_of}
 use Rattle.grammar_machine.proofs.generated.Labels.{labels}
 use Rattle.document_grammar.specs.Pattern.{member}
@@ -24,7 +23,7 @@ use Rattle.document_grammar.specs.Places.{bare}
 use Rattle.document_grammar.specs.Sentence.{token_of, leaf_number, Sentence, Within}
 use Rattle.document_grammar.specs.Booleans.{◌and◌, ◌or◌}
 use Rattle.grammar_machine.specs.Machine.{holds as within, is_leaf, class, first, second, frame, yields, Reach, start, close as closes_move, Frame, go, move}
-use Rattle.document_grammar.proofs.Booleans.{false-true, and-l, and-r, either}
+use Rattle.document_grammar.proofs.Booleans.{false-true, and-l, and-r}
 use Rattle.grammar_machine.proofs.TableLemmas.{holds-subset, holds-disjoint, head-same, no-cons}
 use Rattle.grammar_machine.proofs.Depth.{count_in, nest-show, nesting_all, peak-end, peak-start}
 use Rattle.grammar_machine.proofs.SentenceTheorems.{sentence-parse, sound as ended_sound, not-starts, accepts, begins-at}
@@ -36,14 +35,14 @@ use Rattle.grammar_machine.proofs.Starts.{read, next_one, next_two, after-one, a
 use Rattle.grammar_machine.proofs.Steps.{closes-move}
 use Rattle.grammar_machine.proofs.MachineTheorems.{Parse, done, document-begins}
 use Rattle.parser_rules.specs.declared.message.Message.{Message}
-use Rattle.parser_rules.specs.State.{State, Lexeme, Report, fault_report, recursion_limit_report, add_all, second as second_of, fresh, begun, finished, read_on, met, bad, wait, ignored, is_over}
+use Rattle.parser_rules.specs.State.{State, Lexeme, Report, fault_report, recursion_limit_report, add_all, second as second_of, fresh, begun, finished, is_over}
 use Rattle.parser_rules.specs.Nodes.{Definition, Document}
 use Rattle.parser_rules.specs.RuleLanguage.{Rule, Call, While, Ready, holds}
 use Rattle.parser_rules.specs.Runs.{Runs, Turns}
 use Rattle.parser_rules.specs.Open.{IsRoot}
-use Rattle.parser_rules.proofs.runs.Frame.{read_untouched, add_all_above, on_kind, on_item, turned, begun_nesting}
+use Rattle.parser_rules.proofs.runs.Frame.{read_untouched, add_all_above, turned, begun_nesting}
 use Rattle.parser_rules.proofs.soundness.WithoutIgnored.{stack, strip, layers, stack-flush}
-use Rattle.parser_rules.proofs.reports.NoReport.{answers_tokens, all_tokens, rest, current_tokens, item_tokens, EndsWell, Now, standing, given as given_by, report_of, Held, all_tokens-append, Blames, read-on, choose, ends as ends_of, ignored-end, Passed}
+use Rattle.parser_rules.proofs.reports.NoReport.{Stood, reading-stood, stands-along, answers_tokens, all_tokens, rest, current_tokens, item_tokens, EndsWell, Now, standing, given as given_by, report_of, Held, all_tokens-append, Blames, read-on, Passed}
 use Rattle.parser_rules.proofs.runs.Reading.{second-shown, reading}
 use Rattle.parser_rules.proofs.lookahead.TokenSets.{class_of, of-any, over, ready, not-zero}
 use Rattle.parser_rules.proofs.lookahead.Split.{Level, low, high, past, loose, spot, lost}
@@ -361,45 +360,13 @@ from_now st c = given_by c.token ∷ st.items
 abbrev pub now_words : (st : State) → Turn st → List Token
 now_words st c = answers_tokens (from_now st c)
 
--- what holds at each state of a run: the current token is shown, and what follows it comes to an end
-abbrev pub Stood : Option Lexeme → List Answer → Type 0
-Stood None items = ⊤
-Stood (Some t) items = Now (Some t) items
-
-pub stood-read : (xs : List Answer) (s : State) → EndsWell xs → Stood (read_on xs s).current (read_on xs s).items
-unfolding read_on
-stood-read [] s e = absurd e
-stood-read (limit_at index ∷ xs) s e = subst (λ (ys : List Answer). Stood (read_on ys (met index (record s { items = xs }))).current (read_on ys (met index (record s { items = xs }))).items) (sym e) tt
-stood-read (gives item ∷ xs) s e = (elim item.kind as (λ found. choose (ends_of found) (xs ≡ []) (EndsWell xs) → Stood (on_item xs s item found).current (on_item xs s item found).items) [
-  | None ↦ λ e'. stood-read xs (bad item.text item.index (record s { items = xs })) e'
-  | Some k ↦ λ e'. on (λ t e2. stood-read xs t e2) k (ignored k) refl e'
-]) e
-  where
-    on : ((t : State) → EndsWell xs → Stood (read_on xs t).current (read_on xs t).items) → (k : TokenKind) (found : Option SyntaxKind) → ignored k ≡ found → choose (is_end k) (xs ≡ []) (EndsWell xs) → Stood (on_kind xs s item k found).current (on_kind xs s item k found).items
-    on reads k None i e' = (i, e')
-    on reads k (Some leaf) i e' = reads (wait leaf item.text (record s { items = xs })) (subst (λ (b : Bool). choose b (xs ≡ []) (EndsWell xs)) (ignored-end k leaf i) e')
-
-abbrev pub Stands_still : State → State → Type 0
-Stands_still s t = Stood s.current s.items → Stood t.current t.items
-
-stood-moves : (x : Lexeme) (s u : State) → u.items ≡ s.items → Now (Some x) s.items → Stood (read_on s.items u).current (read_on s.items u).items
-unfolding read_on
-stood-moves x s u i n = elim (either (is_end x.kind)) [
-  | inl e ↦ (let z : s.items ≡ [] = subst (λ (b : Bool). choose b (s.items ≡ []) (EndsWell s.items)) e n.1 in
-      subst (λ (ys : List Answer). Stood (read_on ys u).current (read_on ys u).items) (sym z) tt)
-  | inr e ↦ stood-read s.items u (subst (λ (b : Bool). choose b (s.items ≡ []) (EndsWell s.items)) e n.1)
-]
-
-pub stands-along : Holds_along Stands_still
-stands-along = along_reading Stood (λ leaf x s e h. stood-moves x s (record s { tree = add_leaf leaf x.text s.tree }) refl (subst (λ (o : Option Lexeme). Stood o s.items) e h))
-
 -- a turn of the document's loop over a text, while the grammar's reports are taken
 pub turn-of : (r : ℕ) (xs : List Answer) (first_rule : Rule) (b st : State) → EndsWell xs → Runs first_rule (begun xs r kind.DOCUMENT) b → Turns Ready (Call Definition) b st → true ≡ holds Ready st → st.accepts ≡ true → Turn st
 unfolding holds
 turn-of r xs first_rule b st en run turns rd ac = at st.current refl stood rd
   where
     stood : Stood st.current st.items
-    stood = turns_along stands-along turns (along stands-along run (stood-read xs (fresh xs r kind.DOCUMENT) en))
+    stood = turns_along stands-along turns (along stands-along run (reading-stood (reading xs (fresh xs r kind.DOCUMENT)) en))
 
     depth : st.depth ≡ 0
     depth = (turned turns).depth ∙ (begun_nesting xs r kind.DOCUMENT run).0
