@@ -10,38 +10,37 @@ use Rattle.parser_rules.proofs.reports.AlongItems.{reported_at}
 use Rattle.document_grammar.specs.declared.kind.SyntaxKind.TheVariants as kind
 use Rattle.document_grammar.specs.Kinds.{DOCUMENT}
 use Rattle.document_grammar.specs.Forests as built
-use Rattle.document_grammar.specs.Builds.{Building, Open, start, nothing}
+use Rattle.document_grammar.specs.Builds.{Building, Open}
 use Rattle.document_grammar.specs.Numbers.{number}
 use Rattle.document_grammar.proofs.Joins.{join_assoc}
-use Rattle.document_grammar.specs.Tree.{Token, Tree, node, Forest, none}
+use Rattle.document_grammar.specs.Tree.{Tree, node, Forest, none}
 use Rattle.document_grammar.specs.Derivation.{document, Spells, nest}
-use Rattle.grammar_machine.specs.Machine.{holds as within, frame, Reach, start as starts}
+use Rattle.grammar_machine.specs.Machine.{holds as within}
 use Rattle.grammar_machine.proofs.SentenceTheorems.{one-derivation}
 use Rattle.grammar_machine.proofs.Patterns.{label}
 use Rattle.grammar_machine.proofs.FromMachineTree.{show, shows}
 use Rattle.grammar_machine.proofs.Sound.{any}
 use Rattle.parser_rules.specs.declared.message.Message.TheVariants as message
-use Rattle.parser_rules.specs.State.{State, Lexeme, Part, Report, add_all, begun, fault_report, second as second_of}
+use Rattle.parser_rules.specs.State.{State, Lexeme, Part, Report, add_all, begun, fresh, fault_report, second as second_of}
 use Rattle.parser_rules.specs.Nodes.{Definition}
-use Rattle.parser_rules.specs.RuleLanguage.{Rule, Call, While, Ready, holds}
+use Rattle.parser_rules.specs.RuleLanguage.{Rule, Call, Ready, holds}
 use Rattle.parser_rules.specs.Runs.{Runs, Turns}
 use Rattle.parser_rules.proofs.runs.Frame.{parts_forest, added-all, add_all_above}
 use Rattle.parser_rules.proofs.soundness.WithoutIgnored.{stack, strip, layers, all_ignored}
-use Rattle.parser_rules.proofs.reports.NoReport.{answers_tokens, all_tokens, rest, current_tokens, Now, Held}
+use Rattle.parser_rules.proofs.reports.NoReport.{answers_tokens, all_tokens, current_tokens, Now, Held}
 use Rattle.parser_rules.proofs.runs.Reading.{Shown, second-shown}
 use Rattle.parser_rules.proofs.lookahead.TokenSets.{ready-is, of-any, ready}
 use Rattle.parser_rules.proofs.lookahead.Split.{low, loose, spot}
-use Rattle.parser_rules.proofs.soundness.TableCheck.{root_ends, turns_follow}
+use Rattle.parser_rules.proofs.soundness.TableCheck.{turns_follow}
 use Rattle.parser_rules.proofs.NodeChecks.{turns_followed}
 use Rattle.parser_rules.proofs.soundness.Plain.{Plain}
 use Rattle.parser_rules.proofs.soundness.Positions.{Fits, Tells}
-use Rattle.parser_rules.proofs.soundness.Simulation.{good, link}
 use Rattle.parser_rules.proofs.runs.Anew.{Alike, Same_steps, anew}
-use Rattle.parser_rules.proofs.soundness.Soundness.{document-label, whole, start-level, loops, Turn, from_now, now_words, Silent, root-out, none-right}
+use Rattle.parser_rules.proofs.soundness.Soundness.{document-label, whole, root-stands, loops, Turn, from_now, now_words, Silent, run-out, none-right}
 
 -- the same turn in a tree of its own
 abbrev pub afresh : State → State
-afresh st = record { items = st.items; current = st.current; waiting = st.waiting; tree = start kind.DOCUMENT nothing; errors = []; limit = st.limit; depth = 0; high = 0; accepts = true; asked = st.asked }
+afresh st = record (fresh st.items st.limit kind.DOCUMENT) { current = st.current; waiting = st.waiting }
 
 alike : (st : State) → Turn st → Alike st (afresh st)
 alike st c = record { current = refl; rest = record { items = refl; waiting = refl; limit = refl; depth = sym c.no_level; accepts = sym c.accepts } }
@@ -55,19 +54,9 @@ afresh-fits st c i = record {
     held = subst (λ (o : Option Lexeme). Held (from_now st c) o st.items) (sym c.current) (record { front = []; split = refl; tokens = refl });
   };
   seen = record { near = sym (c.is_ready ∙ ready-is st.current shown_now); far = of-any (second_of st.items) (second-shown st.items) };
-  stands = (
-    record {
-      children = none;
-      place = record { reach = subst (λ (v : List Token). Reach DOCUMENT (now_words st c) (frame DOCUMENT 0 none ∷ []) v) (sym same) starts; leveled = start-level st.limit (from_now st c); alone = λ e. refl };
-      built = ap (λ (k : ℕ). (k, none) ∷ ((0, none) ∷ [])) (sym document-label.0);
-    },
-    tt,
-  );
+  stands = root-stands st.limit (from_now st c) st.items (afresh st) (record { tree = refl; depth = refl; limit = refl; high = refl; asked = refl }) (ap (λ (o : Option Lexeme). current_tokens o ++ answers_tokens st.items) c.current);
 }
   where
-    same : rest (afresh st) ≡ now_words st c
-    same = ap (λ (o : Option Lexeme). current_tokens o ++ answers_tokens st.items) c.current
-
     shown_now : Shown st.current
     shown_now = subst (λ (o : Option Lexeme). Shown o) (sym c.current) c.now.0
 
@@ -87,9 +76,7 @@ from-turn st s c i run =
       own = a.0;
       alike = a.2.alike;
       steps = a.2.steps;
-      parsed = root-out st.limit (from_now st c) a.0
-          (link (whole st.limit (from_now st c)) a.1 5 DOCUMENT (spot 0 low loose) ready any [] root_ends
-          (good (whole st.limit (from_now st c)) 5 DOCUMENT (spot 0 low loose) ready any (While Ready (Call Definition)) root_ends turns_followed) (afresh-fits st c i));
+      parsed = run-out st.limit (from_now st c) ready turns_followed a.1 (afresh-fits st c i);
     }
 
 -- The root's later children are the derivation's, and nothing more is reported.
@@ -126,7 +113,7 @@ recovers st s c t i h p n a run = on (from-turn st s c i run)
           record {
             later = later;
             children = (added-all s.waiting s.tree).here ∙ (ap (λ (x : built.Forest). built.join x (parts_forest s.waiting)) f.steps.one.trees.here ∙ join_assoc st.tree.here more (parts_forest s.waiting));
-            derived = ap₂ (λ (k : ℕ) (g : Forest). node k g) (sym document-label.0) bare ∙ one-derivation document (now_words st c) (show (node DOCUMENT o.children)) t o.spells h;
+            derived = ap₂ (λ (k : ℕ) (g : Forest). node k g) (sym document-label.0) bare ∙ one-derivation document (now_words st c) (show (node DOCUMENT o.children)) t o.clean.spells h;
             silent = no-reports st.errors s.errors f.steps.reports f.steps.one.errors (sym f.steps.other.errors ∙ o.silent);
           })
     ]

@@ -64,10 +64,17 @@ pub record Before (k : ℕ) (items : List Item) (front : List Answer) (x : Answe
   pub split : items ≡ before ++ item ∷ more
   pub tokens : are_tokens before ≡ true
   pub words : answers_tokens front ≡ words_of before
-  pub item_is : (i : Item) → x ≡ gives i → i ≡ item
-  pub limit_is : (n : ℕ) → x ≡ limit_at n → n ≡ limit_index item
-  -- what follows it was answered, up to the token limit
-  pub rest_is : (i : Item) → x ≡ gives i → limited (k - suc (length before)) more ≡ ys
+  -- what was answered from there on, up to the token limit
+  pub answers : limited (k - length before) (item ∷ more) ≡ x ∷ ys
+
+-- an item that was answered, and what follows it; and the limit
+pub given-is : (n : ℕ) (item i : Item) (more : List Item) (ys : List Answer) → limited n (item ∷ more) ≡ gives i ∷ ys → (i ≡ item) × (limited (n - 1) more ≡ ys)
+given-is zero item i more ys e = let h : limit_at (limit_index item) ≡ gives i = head-same e in absurd (cc)
+given-is (suc n) item i more ys e = let h : gives item ≡ gives i = head-same e in let m : suc n - 1 ≡ n = omega arith in (cc, rw m (tail-same e))
+
+pub limit-is : (n m : ℕ) (item : Item) (more : List Item) (ys : List Answer) → limited n (item ∷ more) ≡ limit_at m ∷ ys → m ≡ limit_index item
+limit-is zero m item more ys e = let h : limit_at (limit_index item) ≡ limit_at m = head-same e in cc
+limit-is (suc n) m item more ys e = let h : gives item ≡ limit_at m = head-same e in absurd (cc)
 
 none-there : {A : Type 0} (x : Answer) (front ys : List Answer) → [] ≡ front ++ x ∷ ys → A
 none-there x [] ys e = no-cons e
@@ -110,32 +117,7 @@ behind-one (suc k) (item ∷ more) (shows {k = j} i n) e h = ap (λ (v : List To
 
 pub before-at : (k : ℕ) (items : List Item) (front : List Answer) (x : Answer) (ys : List Answer) → limited k items ≡ front ++ x ∷ ys → all_tokens front ≡ true → Before k items front x ys
 before-at k [] front x ys e h = none-there x front ys (sym (limited-none k) ∙ e)
-before-at zero (item ∷ items) [] x ys e h =
-    let same : limit_at (limit_index item) ≡ x = head-same e in
-    record {
-      before = [];
-      item = item;
-      more = items;
-      split = refl;
-      tokens = refl;
-      words = refl;
-      item_is = λ i z. absurd (cc);
-      limit_is = λ n z. cc;
-      rest_is = λ i z. absurd (cc);
-    }
-before-at (suc k) (item ∷ items) [] x ys e h =
-    let same : gives item ≡ x = head-same e in
-    record {
-      before = [];
-      item = item;
-      more = items;
-      split = refl;
-      tokens = refl;
-      words = refl;
-      item_is = λ i z. cc;
-      limit_is = λ n z. absurd (cc);
-      rest_is = λ i z. let n : suc k - suc 0 ≡ k = omega arith in ap (λ (m : ℕ). limited m items) n ∙ tail-same e;
-    }
+before-at k (item ∷ items) [] x ys e h = record { before = []; item = item; more = items; split = refl; tokens = refl; words = refl; answers = (let n : k - 0 ≡ k = omega arith in rw n e) }
 before-at zero (item ∷ items) (f ∷ front) x ys e h = none-there x front ys (tail-same e)
 before-at (suc k) (item ∷ items) (f ∷ front) x ys e h =
     let first : gives item ≡ f = head-same e in
@@ -147,47 +129,43 @@ before-at (suc k) (item ∷ items) (f ∷ front) x ys e h =
       split = ap (λ (l : List Item). item ∷ l) r.split;
       tokens = and_from _ _ (subst (λ (a : Answer). is_token a ≡ true) (sym first) (and-l _ _ h)) r.tokens;
       words = ap (λ (a : Answer). answers_tokens (a ∷ front)) (sym first) ∙ (ap₂ (λ (v u : List Token). v ++ u) (item-words item.kind item.text) r.words ∙ sym (map-append token_of (significant_word item.kind item.text) (Significant r.before)));
-      item_is = r.item_is;
-      limit_is = r.limit_is;
-      rest_is = λ i z. let n : suc k - suc (suc (length r.before)) ≡ k - suc (length r.before) = omega arith in ap (λ (m : ℕ). limited m r.more) n ∙ r.rest_is i z;
+      answers = (let n : suc k - suc (length r.before) ≡ k - length r.before = omega arith in rw n r.answers);
     }
 
--- the tokens there are the text's
-marks-at : {k : ℕ} {items : List Item} {front ys : List Answer} (t : Lexeme) (n : ℕ) (b : Before k items front (given_by t) ys) → Now (Some t) ys → (is_end t.kind ≡ false → take n (marks (words_of b.more)) ≡ take n (marks (answers_tokens (limited (k - suc (length b.before)) b.more))))
-    → take (suc n) (marks (words_of (b.item ∷ b.more))) ≡ take (suc n) (marks (answers_tokens (given_by t ∷ ys)))
-marks-at {k = k} t n b now h =
-    let m : ℕ = k - suc (length b.before) in
-    let same : limited m b.more ≡ _ = b.rest_is (item_of t) refl in
-    ap (λ (v : List Token). take (suc n) (marks v)) (words-cons b.item b.more)
-    ∙ (ap (λ (i : Item). take (suc n) (marks (item_tokens i.kind i.text ++ words_of b.more))) (sym (b.item_is (item_of t) refl))
-    ∙ (next-marks n m t b.more (subst (λ (l : List Answer). Now (Some t) l) (sym same) now) h ∙ ap (λ (l : List Answer). take (suc n) (marks (kind_tokens t.kind t.text ++ answers_tokens l))) same))
+module _ {k : ℕ} {items : List Item} {front ys : List Answer} (t : Lexeme) (b : Before k items front (given_by t) ys) where
+  -- the item is the token's
+  item-there : item_of t ≡ b.item
+  item-there = (given-is _ b.item (item_of t) b.more ys b.answers).0
 
-one-at : {k : ℕ} {items : List Item} {front ys : List Answer} (t : Lexeme) (b : Before k items front (given_by t) ys) → Now (Some t) ys → take 1 (marks (words_of (b.item ∷ b.more))) ≡ next_one (answers_tokens (given_by t ∷ ys))
-one-at {ys = ys} t b now = marks-at t 0 b now (λ e. refl) ∙ one-mark (answers_tokens (given_by t ∷ ys))
+  -- what follows it was answered
+  answers-after : limited (k - suc (length b.before)) b.more ≡ ys
+  answers-after = let n : k - suc (length b.before) ≡ (k - length b.before) - 1 = omega arith in rw n (given-is _ b.item (item_of t) b.more ys b.answers).1
 
-two-at : {k : ℕ} {items : List Item} {front ys : List Answer} (t : Lexeme) (b : Before k items front (given_by t) ys) → Now (Some t) ys → Answered k b.before b.more t → take 2 (marks (words_of (b.item ∷ b.more))) ≡ next_two (answers_tokens (given_by t ∷ ys))
-two-at {k = k} {ys = ys} t b now a = marks-at t 1 b now behind ∙ two-marks (answers_tokens (given_by t ∷ ys))
-  where
-    m : ℕ
-    m = k - suc (length b.before)
+  module _ (now : Now (Some t) ys) where
+    -- the tokens there are the text's
+    marks-at : (n : ℕ) → (is_end t.kind ≡ false → take n (marks (words_of b.more)) ≡ take n (marks (answers_tokens (limited (k - suc (length b.before)) b.more)))) → take (suc n) (marks (words_of (b.item ∷ b.more))) ≡ take (suc n) (marks (answers_tokens (given_by t ∷ ys)))
+    marks-at n h =
+        ap (λ (v : List Token). take (suc n) (marks v)) (words-cons b.item b.more)
+        ∙ (ap (λ (i : Item). take (suc n) (marks (item_tokens i.kind i.text ++ words_of b.more))) (sym item-there)
+        ∙ (next-marks n (k - suc (length b.before)) t b.more (subst (Now (Some t)) (sym answers-after) now) h ∙ ap (λ (l : List Answer). take (suc n) (marks (kind_tokens t.kind t.text ++ answers_tokens l))) answers-after))
 
-    behind : is_end t.kind ≡ false → One b.more (limited m b.more) []
-    behind e = elim a [
-      | inl i ↦ absurd (true≢false (sym i ∙ e))
-      | inr i ↦ (let l = looks (limited m b.more) in behind-one m b.more l.2 (subst (λ (l : List Answer). EndsWell l) (sym (b.rest_is (item_of t) refl)) (rw e at now.1)) (rw l.3 i))
-    ]
+    one-at : take 1 (marks (words_of (b.item ∷ b.more))) ≡ next_one (answers_tokens (given_by t ∷ ys))
+    one-at = marks-at 0 (λ e. refl) ∙ one-mark (answers_tokens (given_by t ∷ ys))
+
+    two-at : Answered k b.before b.more t → take 2 (marks (words_of (b.item ∷ b.more))) ≡ next_two (answers_tokens (given_by t ∷ ys))
+    two-at a = marks-at 1 behind ∙ two-marks (answers_tokens (given_by t ∷ ys))
+      where
+        behind : is_end t.kind ≡ false → One b.more (limited (k - suc (length b.before)) b.more) []
+        behind e = elim a [
+          | inl i ↦ absurd (true≢false (sym i ∙ e))
+          | inr i ↦ (let l = looks (limited (k - suc (length b.before)) b.more) in behind-one (k - suc (length b.before)) b.more l.2 (subst EndsWell (sym answers-after) (rw e at now.1)) (rw l.3 i))
+        ]
 
 -- ---- the headline
 
 -- a sentence without what no rule reads yet starts so
-pub record StartPlain (front : List Mark) : Type 0 where
-  pub source : List ℕ
-  pub tree : Tree
-  pub rest : List Mark
-  pub characters : IsUtf8 source
-  pub sentence : Sentence source tree document
-  pub beginning : marks (Yield tree) ≡ front ++ rest
-  pub plain : Plain tree
+abbrev pub StartPlain : List Mark → Type 0
+StartPlain front = (h : StartSentence front) × Plain h.tree
 
 -- The first report of a text, at an item: no sentence starts with the tokens before, that of the item, or the end, and the next; each that
 -- starts with them and that of the item nests deeper than the limit; or the item is bad text, or the first that is too many. Where
@@ -216,9 +194,7 @@ from-words : (front before : List Token) (l m : List Mark) → front ≡ before 
 from-words front before l m e f = ap₂ (λ (l m : List Mark). l ++ m) (read-map before ∙ ap read (sym e)) f
 
 plain-starts : (front : List Mark) → StartPlain front → StartsPlain front
-plain-starts front h =
-    let s = sentence-starts front (record { source = h.source; tree = h.tree; rest = h.rest; characters = h.characters; sentence = h.sentence; beginning = h.beginning }) in
-    (map token_of (Significant h.sentence.items), h.tree, h.rest, (h.sentence.derivation, h.sentence.yield), ap marks (sym h.sentence.yield) ∙ h.beginning, h.plain)
+plain-starts front (h, p) = (Yield h.tree, h.tree, h.rest, (h.sentence.derivation, refl), h.beginning, p)
 
 no-kind : (item : Item) → is_token (gives item) ≡ false → item.kind ≡ None
 no-kind item h = (elim item.kind as (λ found. is_some found ≡ false → found ≡ None) [ None ↦ λ h. refl | Some k ↦ λ h. absurd (true≢false h) ]) h
@@ -259,19 +235,19 @@ module _ (r k : ℕ) (source : List ℕ) (items : List Item) (s : State) (cut : 
       (record { before = b.before; item = b.item; more = b.more; split = b.split; tokens = b.tokens; begins = begins-text source b.before b.item b.more begins.0 begins.1 u d b.tokens spells begins.3; reason = reason b }, p.taken ∙ ap length b.words)
 
   other-reason : (front : List Answer) (x : Answer) (ys : List Answer) → is_token x ≡ false → (b : Before k items front x ys) → Reason items r k b.before b.item b.more (report_of x)
-  other-reason front (limit_at n) ys h b = subst (λ (m : ℕ). Reason items r k b.before b.item b.more (token_limit_report m)) (sym (b.limit_is n refl)) too_many
+  other-reason front (limit_at n) ys h b = subst (λ (m : ℕ). Reason items r k b.before b.item b.more (token_limit_report m)) (sym (limit-is _ n b.item b.more ys b.answers)) too_many
   other-reason front (gives item) ys h b =
-      let same : item ≡ b.item = b.item_is item refl in
+      let same : item ≡ b.item = (given-is _ b.item item b.more ys b.answers).0 in
       subst (λ (i : Item). Reason items r k b.before b.item b.more (bad_report i.text i.index)) (sym same) (bad_text (subst (λ (i : Item). i.kind ≡ None) same (no-kind item h)))
 
   told : IsUtf8 source → (e : Report) (m : ℕ) → Why r xs e m → Told_right e m
   unfolding xs
   told u e m (w_fault said front ys t p now n) = at-place u front (given_by t) ys (fault_report said t) m p
-      (λ q. fault said t (q.item_is (item_of t) refl) (λ c z. n (subst (λ (l : List Mark). Starts document l) (from-words (answers_tokens front) (words_of q.before) _ _ q.words (two-at t q now c)) (sentence-starts _ z))))
+      (λ q. fault said t (item-there t q) (λ c z. n (subst (λ (l : List Mark). Starts document l) (from-words (answers_tokens front) (words_of q.before) _ _ q.words (two-at t q now c)) (sentence-starts _ z))))
   told u e m (w_unread said front ys t p now n) = at-place u front (given_by t) ys (fault_report said t) m p
-      (λ q. unread said t (q.item_is (item_of t) refl) (λ c z. n (subst (λ (l : List Mark). StartsPlain l) (from-words (answers_tokens front) (words_of q.before) _ _ q.words (two-at t q now c)) (plain-starts _ z))))
+      (λ q. unread said t (item-there t q) (λ c z. n (subst (λ (l : List Mark). StartsPlain l) (from-words (answers_tokens front) (words_of q.before) _ _ q.words (two-at t q now c)) (plain-starts _ z))))
   told u e m (w_too_deep front ys t p now n) = at-place u front (given_by t) ys (recursion_limit_report t) m p
-      (λ q. too_deep t (q.item_is (item_of t) refl) (λ z. n (subst (λ (l : List Mark). StartsWithin document r l) (from-words (answers_tokens front) (words_of q.before) _ _ q.words (one-at t q now)) (sentence-starts-within r _ z))))
+      (λ q. too_deep t (item-there t q) (λ z. n (subst (λ (l : List Mark). StartsWithin document r l) (from-words (answers_tokens front) (words_of q.before) _ _ q.words (one-at t q now)) (sentence-starts-within r _ z))))
   told u e m (other front ys x p n) = at-place u front x ys (report_of x) m p (other-reason front x ys n)
 
   -- the first report is right, and the nodes that end before its last token fit
@@ -281,7 +257,7 @@ module _ (r k : ℕ) (source : List ℕ) (items : List Item) (s : State) (cut : 
     | inl o ↦ (
         let i = told u e o.taken (why r (limited k items) e o.taken (subst (λ (z : Report). Right document (limited k items) r (answers_tokens (limited k items)) z o.taken) (head-same (sym o.reported ∙ h)) o.right)) in
         (i.0, subst (λ (n : ℕ). EndedFit n 0 (finished s)) i.1 (ended-root o.taken (add_all s.waiting s.tree) (record { before = built.none; kind = root.0 }) (add_all_above s.waiting s.tree ∙ root.2) (settled-added o.taken (added-all s.waiting s.tree) o.settled))))
-    | inr o ↦ no-cons (sym o.silent ∙ h)
+    | inr o ↦ no-cons (sym o.0 ∙ h)
   ]
 
   -- No late fault, with the reason of the first report.

@@ -4,6 +4,7 @@ use Rattle.parser_rules.proofs.runs.Steps.{along, turns_along}
 use Rattle.parser_rules.proofs.lookahead.FirstSets.{unread as unread_set}
 use Rattle.std.proofs.Common.{◌≡◌, ℕ, zero, suc, ◌+◌, ◌≤◌, Bool, cond, true, false, List, [], ◌∷◌, ◌++◌, Option, Some, None, if◌then◌else◌, length, refl, sym, ap, ap₂, ◌∙◌, subst, ◌⊎◌, inl, inr, true≢false, is_some, eqb-true, append-nil, append_assoc, arith, not}
 use Rattle.std.specs.Prelude.{map}
+use Rattle.std.proofs.lemmas.Bool.{and_from}
 use Rattle.std.proofs.lemmas.List.{map-append, append_cancel_right, length-append}
 use Rattle.lexical_grammar.specs.declared.TokenKind.{TokenKind}
 use Rattle.lexical_grammar.specs.Cut.{Item, Cut, Significant, significant_word, is_significant_kind}
@@ -35,23 +36,23 @@ use Rattle.grammar_machine.proofs.Starts.{read, next_one, next_two, after-one, a
 use Rattle.grammar_machine.proofs.Steps.{closes-move}
 use Rattle.grammar_machine.proofs.MachineTheorems.{Parse, done, document-begins}
 use Rattle.parser_rules.specs.declared.message.Message.{Message}
-use Rattle.parser_rules.specs.State.{State, Lexeme, Report, fault_report, recursion_limit_report, add_all, second as second_of, fresh, begun, finished, is_over}
+use Rattle.parser_rules.specs.State.{State, Lexeme, Report, fault_report, recursion_limit_report, add_all, fresh, begun, finished, is_over}
 use Rattle.parser_rules.specs.Nodes.{Definition, Document}
 use Rattle.parser_rules.specs.RuleLanguage.{Rule, Call, While, Ready, holds}
 use Rattle.parser_rules.specs.Runs.{Runs, Turns}
 use Rattle.parser_rules.specs.Open.{IsRoot}
-use Rattle.parser_rules.proofs.runs.Frame.{read_untouched, add_all_above, turned, begun_nesting}
+use Rattle.parser_rules.proofs.runs.Frame.{Untouched, read_untouched, add_all_above, turned, begun_nesting}
 use Rattle.parser_rules.proofs.soundness.WithoutIgnored.{stack, strip, layers, stack-flush}
 use Rattle.parser_rules.proofs.reports.NoReport.{Stood, reading-stood, stands-along, answers_tokens, all_tokens, rest, current_tokens, item_tokens, EndsWell, Now, standing, given as given_by, report_of, Held, all_tokens-append, Blames, read-on, Passed}
-use Rattle.parser_rules.proofs.runs.Reading.{second-shown, reading}
-use Rattle.parser_rules.proofs.lookahead.TokenSets.{class_of, of-any, over, ready, not-zero}
+use Rattle.parser_rules.proofs.runs.Reading.{reading}
+use Rattle.parser_rules.proofs.lookahead.TokenSets.{class_of, seen-any, over, ready, not-zero}
 use Rattle.parser_rules.proofs.lookahead.Split.{Level, low, high, past, loose, spot, lost}
 use Rattle.parser_rules.proofs.lookahead.MachineClasses.{Next}
-use Rattle.parser_rules.proofs.soundness.TableCheck.{raised, own, owed, behind, root_ends, document_follows}
+use Rattle.parser_rules.proofs.soundness.TableCheck.{ok, raised, own, owed, behind, root_ends, document_follows}
 use Rattle.parser_rules.proofs.NodeChecks.{document_followed}
 use Rattle.parser_rules.proofs.soundness.FirstReport.{Viable, Unread, TooMany, Right, stuck_here, unread_here, deep_here, no_token, Behind}
 use Rattle.parser_rules.proofs.soundness.Plain.{Plain, plain-read}
-use Rattle.parser_rules.proofs.soundness.Positions.{Reading, run-grows, Leveled, Place, Fits, Out, Tells, Rightly, tell-on, shown}
+use Rattle.parser_rules.proofs.soundness.Positions.{StandsAt, Reading, run-grows, Leveled, Place, Fits, Out, Tells, Rightly, tell-on, shown}
 use Rattle.parser_rules.proofs.soundness.Moves.{fits-next}
 use Rattle.parser_rules.proofs.soundness.Simulation.{good, link}
 
@@ -66,20 +67,18 @@ pub record Given (allowed : ℕ) (items : List Item) : Type 0 where
   pub count : length items ≤ allowed
   pub words : answers_tokens (limited allowed items) ≡ map token_of (Significant items)
 
-given-more : (allowed : ℕ) (item : Item) (items : List Item) (found : Option TokenKind) → is_token (gives (record { kind = found; text = item.text; index = item.index })) ≡ true → Given allowed items → Given (suc allowed) (record { kind = found; text = item.text; index = item.index } ∷ items)
-given-more allowed item items None h g = absurd (true≢false (sym h))
-given-more allowed item items (Some k) h g = record {
-  tokens = g.tokens;
-  count = let c = g.count in omega (arith, c);
-  words = ap₂ (λ (a b : List Token). a ++ b) (item-words (Some k) item.text) g.words ∙ sym (map-append token_of (significant_word (Some k) item.text) (Significant items));
-}
-
 pub given : (allowed : ℕ) (items : List Item) → all_tokens (limited allowed items) ≡ true → Given allowed items
 unfolding ◌and◌
 given zero [] h = record { tokens = refl; count = omega arith; words = refl }
 given (suc allowed) [] h = record { tokens = refl; count = omega arith; words = refl }
 given zero (item ∷ items) h = absurd (true≢false (sym h))
-given (suc allowed) (item ∷ items) h = given-more allowed item items item.kind (and-l _ _ h) (given allowed items (and-r _ _ h))
+given (suc allowed) (item ∷ items) h =
+    let g = given allowed items (and-r _ _ h) in
+    record {
+      tokens = and_from (is_some item.kind) (are_tokens items) (and-l _ _ h) g.tokens;
+      count = let c = g.count in omega (arith, c);
+      words = ap₂ (λ (a b : List Token). a ++ b) (item-words item.kind item.text) g.words ∙ sym (map-append token_of (significant_word item.kind item.text) (Significant items));
+    }
 
 -- ---- the beginning
 
@@ -100,25 +99,24 @@ start-level r xs = record {
   bounds = record { kept = omega arith; nested = λ t p. omega arith; limit = refl };
 }
 
+-- where the root is open, nothing is built, and all the tokens are left
+pub root-stands : (r : ℕ) (xs ys : List Answer) (s : State) → Untouched (fresh ys r kind.DOCUMENT) s → rest s ≡ answers_tokens xs → StandsAt (whole r xs) DOCUMENT (spot 0 low loose) [] s
+root-stands r xs ys s u e = (
+  record {
+    children = none;
+    place = record { reach = subst (λ (z : List Token). Reach DOCUMENT (answers_tokens xs) (frame DOCUMENT 0 none ∷ []) z) (sym e) start; leveled = rw (u.depth, u.high, u.limit) (start-level r xs); alone = λ e. refl };
+    built = ap stack u.tree ∙ ap (λ (k : ℕ). (k, none) ∷ ((0, none) ∷ [])) (sym document-label.0);
+  },
+  tt,
+)
+
 start-fits : (r : ℕ) (xs : List Answer) → EndsWell xs → Tells (whole r xs) (begun xs r kind.DOCUMENT) ⊎ Fits (whole r xs) DOCUMENT (spot 0 low loose) any any [] (begun xs r kind.DOCUMENT)
 start-fits r xs e =
     let s : State = fresh xs r kind.DOCUMENT in
     let b : State = begun xs r kind.DOCUMENT in
-    let w : List Token = answers_tokens xs in
     elim (read-on xs (Rightly (whole r xs)) (reading xs s) 0 (record { clean = refl; accepts = refl; waits = refl }) e (record { front = []; split = refl; tokens = refl }) blame (omega arith, tt, (tt, tt))) [
       | inl o ↦ inl o
-      | inr o ↦ inr (record {
-        calm = o.calm;
-        seen = record { near = of-any b.current (shown (whole r xs) b o.calm); far = of-any (second_of b.items) (second-shown b.items) };
-        stands = (
-          record {
-            children = none;
-            place = record { reach = subst (λ (z : List Token). Reach DOCUMENT w (frame DOCUMENT 0 none ∷ []) z) (sym o.left) start; leveled = (let still = read_untouched xs s in rw (still.depth, still.high, still.limit) (start-level r xs)); alone = λ e. refl };
-            built = ap stack (read_untouched xs s).tree ∙ ap (λ (k : ℕ). (k, none) ∷ ((0, none) ∷ [])) (sym document-label.0);
-          },
-          tt,
-        );
-      })
+      | inr o ↦ inr (record { calm = o.calm; seen = seen-any b (shown (whole r xs) b o.calm); stands = root-stands r xs xs b (read_untouched xs s) o.left })
     ]
   where
     blame : Blames xs (Rightly (whole r xs)) 0 (answers_tokens xs)
@@ -134,7 +132,6 @@ finished-tree s layer more root e =
     let same : (number root.0, strip b.here) ≡ layer = head-same (sym (ap (layers b.here) a) ∙ e) in
     ap (λ (above : List Open). bare (tree_of (close b.here above).here)) a ∙ ap (λ (l : ℕ × Forest). node l.0 l.1) same
 
--- the class of no token left but the end
 -- there is no token left, and all answers were given
 nothing-left : (c : Option Lexeme) (items : List Answer) → Now c items → within (class_of c) over ≡ true → (current_tokens c ++ answers_tokens items ≡ []) × (items ≡ [])
 nothing-left None items n h = absurd n
@@ -158,27 +155,24 @@ owed-none low e = document-label.1
 owed-none high e = refl
 owed-none past e = refl
 
--- What a run of the rule gives: the text's words are spelled by a derivation that nests within the limit.
-pub record Clean (r : ℕ) (xs : List Answer) (s : State) : Type 0 where
-  pub spells : Spells (answers_tokens xs) (bare (tree_of (finished s))) document
-  pub nesting : nest (bare (tree_of (finished s))) ≤ r
+-- The text's words are spelled by a derivation that nests within the limit, and all answers are tokens.
+pub record CleanAs (r : ℕ) (xs : List Answer) (s : State) (t : Tree) : Type 0 where
+  pub spells : Spells (answers_tokens xs) t document
+  pub nesting : nest t ≤ r
   -- the greatest depth is the nesting
-  pub high : s.high ≡ nest (bare (tree_of (finished s)))
+  pub high : s.high ≡ nest t
   pub tokens : all_tokens xs ≡ true
 
-pub record Nothing_told (r : ℕ) (xs : List Answer) (s : State) : Type 0 where
-  pub silent : s.errors ≡ []
-  pub clean : Clean r xs s
+-- What a run of the rule gives: the derivation is the tree.
+abbrev pub Clean : ℕ → List Answer → State → Type 0
+Clean r xs s = CleanAs r xs s (bare (tree_of (finished s)))
 
 -- Nothing is reported: what was to be read is a sentence within the limit, with the tree's children.
 pub record Silent (r : ℕ) (xs : List Answer) (s : State) : Type 0 where
   pub silent : s.errors ≡ []
   pub children : Forest
-  pub spells : Spells (answers_tokens xs) (show (node DOCUMENT children)) document
-  pub nesting : nest (show (node DOCUMENT children)) ≤ r
-  pub high : s.high ≡ nest (show (node DOCUMENT children))
+  pub clean : CleanAs r xs s (show (node DOCUMENT children))
   pub built : stack (add_all s.waiting s.tree) ≡ (label DOCUMENT, shows children) ∷ ((0, none) ∷ [])
-  pub tokens : all_tokens xs ≡ true
 
 pub root-out : (r : ℕ) (xs : List Answer) (s : State) → Out (whole r xs) DOCUMENT [] root_ends s → Tells (whole r xs) s ⊎ Silent r xs s
 unfolding root_ends
@@ -202,41 +196,32 @@ root-out r xs s (inr (spot q l d, x, y, h, g)) =
     inr (record {
       silent = g.calm.quiet.clean;
       children = f;
-      spells = subst (λ (v : List Token). Spells v (show (node DOCUMENT f)) document) words d.1;
-      nesting = omega (arith, document-label.1, document-label.3, lv.level, lv.most_open, low_again, owes, nests, end, lv.bounds.kept);
-      high = omega (arith, document-label.1, document-label.3, lv.level, lv.most_open, low_again, owes, nests, end, lv.bounds.nested (node DOCUMENT f) (p.0, p.1, words));
+      clean = record {
+        spells = subst (λ (v : List Token). Spells v (show (node DOCUMENT f)) document) words d.1;
+        nesting = omega (arith, document-label.1, document-label.3, lv.level, lv.most_open, low_again, owes, nests, end, lv.bounds.kept);
+        high = omega (arith, document-label.1, document-label.3, lv.level, lv.most_open, low_again, owes, nests, end, lv.bounds.nested (node DOCUMENT f) (p.0, p.1, words));
+        tokens = all-read xs s.current s.items g.calm.now g.calm.held left.1;
+      };
       built = stack-flush s.waiting s.tree g.calm.quiet.waits ∙ st.built;
-      tokens = all-read xs s.current s.items g.calm.now g.calm.held left.1;
     })
 
-clean-root : (r : ℕ) (xs : List Answer) (s : State) → IsRoot s.tree → Silent r xs s → Nothing_told r xs s
-clean-root r xs s root o =
-    let f : Forest = o.children in
-    let shown : bare (tree_of (finished s)) ≡ show (node DOCUMENT f) = finished-tree s (label DOCUMENT, shows f) ((0, none) ∷ []) root o.built in
-    record {
-      silent = o.silent;
-      clean = record {
-        spells = subst (λ (z : Tree). Spells (answers_tokens xs) z document) (sym shown) o.spells;
-        nesting = subst (λ (z : Tree). nest z ≤ r) (sym shown) o.nesting;
-        high = subst (λ (z : Tree). s.high ≡ nest z) (sym shown) o.high;
-        tokens = o.tokens;
-      };
-    }
+-- a run from where the root is open, by the check of its rule
+pub run-out : (r : ℕ) (xs : List Answer) {q : Rule} {s t : State} (x : ℕ) → ok 5 DOCUMENT (spot 0 low loose) x any q root_ends ≡ true → Runs q s t → Fits (whole r xs) DOCUMENT (spot 0 low loose) x any [] s → Tells (whole r xs) t ⊎ Silent r xs t
+run-out r xs {q = q} {t = t} x h run b = root-out r xs t (link (whole r xs) run 5 DOCUMENT (spot 0 low loose) x any [] root_ends (good (whole r xs) 5 DOCUMENT (spot 0 low loose) x any q root_ends h) b)
 
 -- A run of the document's rule.
-pub parsed : (r : ℕ) (xs : List Answer) (s : State) → EndsWell xs → IsRoot s.tree → Runs (Call Document) (begun xs r kind.DOCUMENT) s → Tells (whole r xs) s ⊎ Nothing_told r xs s
+pub parsed : (r : ℕ) (xs : List Answer) (s : State) → EndsWell xs → IsRoot s.tree → Runs (Call Document) (begun xs r kind.DOCUMENT) s → Tells (whole r xs) s ⊎ ((s.errors ≡ []) × Clean r xs s)
 unfolding document_follows
 parsed r xs s en root run = elim (start-fits r xs en) [
   | inl o ↦ inl (tell-on (whole r xs) (begun xs r kind.DOCUMENT) s (run-grows run) o)
-  | inr b ↦ elim (root-out r xs s (link (whole r xs) run 5 DOCUMENT (spot 0 low loose) any any [] root_ends
-      (good (whole r xs) 5 DOCUMENT (spot 0 low loose) any any (Call Document) root_ends document_followed) b)) [
-        | inl o ↦ inl o
-        | inr o ↦ inr (clean-root r xs s root o)
-      ]
+  | inr b ↦ elim (run-out r xs any document_followed run b) [
+    | inl o ↦ inl o
+    | inr o ↦ inr (o.silent, subst (CleanAs r xs s) (sym (finished-tree s (label DOCUMENT, shows o.children) ((0, none) ∷ []) root o.built)) o.clean)
+  ]
 ]
 
 pub clean : (r : ℕ) (xs : List Answer) (s : State) → EndsWell xs → IsRoot s.tree → s.errors ≡ [] → Runs (Call Document) (begun xs r kind.DOCUMENT) s → Clean r xs s
-clean r xs s en root e run = elim (parsed r xs s en root run) [ inl o ↦ no-cons (sym e ∙ o.reported) | inr o ↦ o.clean ]
+clean r xs s en root e run = elim (parsed r xs s en root run) [ inl o ↦ no-cons (sym e ∙ o.reported) | inr o ↦ o.1 ]
 
 -- ---- the first report
 
@@ -396,7 +381,7 @@ none-right r xs e m t h p n a (no_token {x = x} {items = items} q other_one v c)
 
 -- Acceptance: a sentence within the limits, without what no rule reads yet, gets no report.
 pub accepted_plain : (r : ℕ) (xs : List Answer) (s : State) (t : Tree) → EndsWell xs → IsRoot s.tree → Runs (Call Document) (begun xs r kind.DOCUMENT) s → Spells (answers_tokens xs) t document → Plain t → nest t ≤ r → all_tokens xs ≡ true → s.errors ≡ []
-accepted_plain r xs s t en root run h p n a = elim (parsed r xs s en root run) [ inl o ↦ absurd (none-right r xs o.report o.taken t h p n a o.right) | inr o ↦ o.silent ]
+accepted_plain r xs s t en root run h p n a = elim (parsed r xs s en root run) [ inl o ↦ absurd (none-right r xs o.report o.taken t h p n a o.right) | inr o ↦ o.0 ]
 
 -- The text is a sentence within both limits.
 pub record IsClean (source : List ℕ) (t : Tree) (r k : ℕ) : Type 0 where
