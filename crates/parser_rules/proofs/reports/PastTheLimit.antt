@@ -19,8 +19,7 @@ use Rattle.parser_rules.proofs.runs.Marked as marked
 use Rattle.parser_rules.proofs.runs.Marked.{Marked, append, Limited, Has, Reports, reports-then, read-reports, moved_on}
 use Rattle.parser_rules.proofs.runs.Walk.{after_waiting, always, Sound, walked_whole}
 use Rattle.parser_rules.proofs.runs.Frame.{read_untouched}
-use Rattle.parser_rules.proofs.reports.NoReport.{choose, EndsWell}
-use Rattle.parser_rules.proofs.soundness.Soundness.{Stood, stands-along, stood-read}
+use Rattle.parser_rules.proofs.reports.NoReport.{choose, EndsWell, Stood, reading-stood, stands-along}
 use Rattle.parser_rules.proofs.recovery.Popped.{cut-off, and-both}
 use Rattle.parser_rules.proofs.reports.LimitCheck.{Current, unknown, present, inner, is_inner, known, fits_inner, tells_inner, after_token, is_known, same_inner, begins_level, limit_check}
 use Rattle.parser_rules.proofs.NodeChecks.{node_passes, document_limits}
@@ -175,7 +174,7 @@ sound = record {
   leaf = λ own a k b s f x e c h g. (after_token a, c, moved-held own a b s f x e h (append f (after_waiting s (marked.leaf (marked.token x) own marked.none))) g.reports);
   no_leaf = λ own a k b s f e c h. (after_token a, c, no-token a b s f h);
   report = noted-held;
-  limit = λ a k b s f c h. (a, and-r _ _ c, limit-held a b s f (and-l _ _ c) h);
+  limit = λ a k b s f d c h. (a, and-r _ _ c, limit-held a b s f (and-l _ _ c) h);
   passes = λ q a x y b s f e c h. (cond (tells_inner q) inner a, and-l _ _ c, passed q a b s f e h);
   fails = λ q a x y b s f e c h. (a, and-r _ _ c, h);
   turn = λ a b s f h. forget a b b s f f h;
@@ -199,7 +198,7 @@ limit-reported r xs s en run more =
     let o : State = fresh xs r kind.DOCUMENT in
     let b : State = begun xs r kind.DOCUMENT in
     let none-asked : b.high ≡ 0 = (read_untouched xs o).high in
-    let (f, a, e, h, g, w) = walked_whole limit_check Held sound xs r kind.DOCUMENT unknown always run document_limits (record { stood = stood-read xs o en; bounded = λ y. omega (arith, none-asked); token = λ y. refl }) in
+    let (f, a, e, h, g, w) = walked_whole limit_check Held sound xs r kind.DOCUMENT unknown always run document_limits (record { stood = reading-stood (reading xs o) en; bounded = λ y. omega (arith, none-asked); token = λ y. refl }) in
     let p = reports-then o b s (read-reports (reading xs o)) g.reports in
     elim (either s.accepts) [
       | inl y ↦ absurd (over (h.bounded y))
