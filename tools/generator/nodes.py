@@ -1,7 +1,7 @@
 """The nodes and parts of the parser's rules, with their kinds and the machine's symbols: specs/Nodes.antt of the crate parser_rules.
 
-Both are the left sides of specs/Rules.antt: `inside` has a clause for each node, `body` one for each part. A parameter is a Bool, and that
-of a node says whether its place is constant.
+Both are the left sides of specs/Rules.antt: `inside` has a clause for each node, `body` one for each part. A parameter `c` says whether the
+place is constant; another one is a Bool.
 """
 
 import re
@@ -20,7 +20,7 @@ class Clause:
 
     def __init__(self, name, parameters):
         self.name, self.parameters = name, parameters
-        self.type = "Bool → " * len(parameters)
+        self.type = "".join(f"{'Constness' if parameter == 'c' else 'Bool'} → " for parameter in parameters)
         self.pattern = f"({' '.join([name, *parameters])})" if parameters else name
 
 
@@ -47,7 +47,7 @@ def own_symbols(nodes, symbols):
         if symbols.label[symbol] != symbol:
             plain.append(f"symbol {node.pattern} = symbols.{symbol}\n")
         if node.parameters:
-            constant.append(f"symbol ({node.name} true) = symbols.{symbols.constant(symbol)}\n")
+            constant.append(f"symbol ({node.name} Const) = symbols.{symbols.constant(symbol)}\n")
     return "".join(plain + constant)
 
 
@@ -61,13 +61,15 @@ def nodes_file(symbols):
     nodes = clauses("inside")
     kinds = "".join(f"kind_of {node.pattern} = kind.{symbols.label[symbol_of(node, symbols)]}\n" for node in nodes)
     return f"""{mark("--", "the left sides of specs/Rules.antt")}-- The nodes that the parser builds, and the parts of the grammar that work within the node that is open.
-use Rattle.std.specs.Prelude.{{ℕ, Bool, true}}
+use Rattle.std.specs.Prelude.{{ℕ, Bool}}
 use Rattle.document_grammar.specs.declared.kind.SyntaxKind.{{SyntaxKind}}
 use Rattle.document_grammar.specs.declared.kind.SyntaxKind.TheVariants as kind
 use Rattle.document_grammar.specs.Numbers.{{number}}
 use Rattle.grammar_machine.specs.Symbols as symbols
+use Rattle.parser_rules.specs.declared.constness.Constness.{{Constness}}
+use Rattle.parser_rules.specs.declared.constness.Constness.TheVariants.{{Const}}
 
--- the nodes; `true` names those in a constant place
+-- the nodes
 pub data Node : Type 0 where
 {constructors("Node", nodes)}
 -- the kind of a node
@@ -77,7 +79,7 @@ abbrev pub kind_of : Node → SyntaxKind
 unfoldable pub symbol : Node → ℕ
 {own_symbols(nodes, symbols)}symbol c = number (kind_of c)
 
--- the rules that work within the node that is open; `true` says first that the place is a constant one
+-- the rules that work within the node that is open
 pub data Part : Type 0 where
 {constructors("Part", clauses("body"))}"""
 

@@ -11,6 +11,7 @@ use Rattle.grammar_machine.specs.Machine.{is_leaf, at, ends, exit, arcs, target,
 use Rattle.grammar_machine.proofs.Checks.{exits, row_of}
 use Rattle.grammar_machine.proofs.Steps.{goes, closes, sticks}
 use Rattle.grammar_machine.proofs.Patterns.{label}
+use Rattle.parser_rules.specs.declared.constness.Constness.TheVariants.{Const, NotConst}
 use Rattle.parser_rules.specs.Nodes.{Node, Arguments, Argument, Directives, Directive, ListValue, ObjectValue, ObjectField, symbol, Document, Definition}
 use Rattle.parser_rules.specs.RuleLanguage.{While, Ready, Call}
 use Rattle.parser_rules.proofs.runs.Progress.{consuming}
@@ -62,20 +63,20 @@ computing = tt
 -- No node's rule is at fault. A node with a place is looked at in both.
 no_faults : (c : Node) → faults c ≡ []
 unfolding computing faults
-no_faults (Arguments true) = refl
-no_faults (Arguments false) = refl
-no_faults (Argument true) = refl
-no_faults (Argument false) = refl
-no_faults (Directives true) = refl
-no_faults (Directives false) = refl
-no_faults (Directive true) = refl
-no_faults (Directive false) = refl
-no_faults (ListValue true) = refl
-no_faults (ListValue false) = refl
-no_faults (ObjectValue true) = refl
-no_faults (ObjectValue false) = refl
-no_faults (ObjectField true) = refl
-no_faults (ObjectField false) = refl
+no_faults (Arguments Const) = refl
+no_faults (Arguments NotConst) = refl
+no_faults (Argument Const) = refl
+no_faults (Argument NotConst) = refl
+no_faults (Directives Const) = refl
+no_faults (Directives NotConst) = refl
+no_faults (Directive Const) = refl
+no_faults (Directive NotConst) = refl
+no_faults (ListValue Const) = refl
+no_faults (ListValue NotConst) = refl
+no_faults (ObjectValue Const) = refl
+no_faults (ObjectValue NotConst) = refl
+no_faults (ObjectField Const) = refl
+no_faults (ObjectField NotConst) = refl
 no_faults _ = refl
 
 -- ---- what that says, check by check

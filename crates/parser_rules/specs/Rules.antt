@@ -4,6 +4,8 @@
 use Rattle.std.specs.Prelude.{Bool, true, false}
 use Rattle.lexical_grammar.specs.declared.TokenKind.TheVariants as token
 use Rattle.document_grammar.specs.declared.kind.SyntaxKind.TheVariants as kind
+use Rattle.parser_rules.specs.declared.constness.Constness.{Constness}
+use Rattle.parser_rules.specs.declared.constness.Constness.TheVariants.{Const, NotConst}
 use Rattle.parser_rules.specs.declared.message.Message.TheVariants as message
 use Rattle.parser_rules.specs.RuleLanguage.{TokenTest, Kind, Keyword, Or, Test, Here, At, Word, Next, Ready, HasNext, Deep, Not, Both, Bump, Note, TooDeep, Rule, Skip, Do, When, While, Child, Nested, Call, Typed, ◌>◌, expect, want, refuse, expect_word, maybe}
 use Rattle.parser_rules.specs.Nodes.{Node, Operation, ShortQuery, OperationType, SelectionSet, Field, Alias, Name, FragmentSpread, InlineFragment, FragmentDefinition, FragmentName, NameForFragment, TypeCondition, Arguments, Argument, Directives, Directive, VariableDefinitions, VariableDefinition, Variable, DefaultValue, IntValue, FloatValue, StringValue, BooleanValue, NullValue, EnumValue, NameForEnum, ListValue, ObjectValue, ObjectField, NamedType, ListType, Part, Document, Definition, Described, MaybeName, Selections, Selection, Spread, AliasedName, Named, MaybeArguments, MaybeDirectives, MaybeVariableDefinitions, VariableType, MaybeDefaultValue, MaybeTypeCondition, ValueOf, WordValue, NestedValue, ListItems, TypeOf, ItemType}
@@ -37,9 +39,9 @@ abbrev pub has_item : Test
 has_item = Both (Both Ready (Not (At token.RBracket))) (Not Deep)
 
 -- a variable is read in a constant place too, but reported
-abbrev pub variable_of : Bool → Rule
-variable_of true = Do (Note message.VariableInConst) > Child Variable
-variable_of false = Child Variable
+abbrev pub variable_of : Constness → Rule
+variable_of Const = Do (Note message.VariableInConst) > Child Variable
+variable_of NotConst = Child Variable
 
 abbrev pub no_value : Bool → Rule
 no_value true = refuse message.ExpectedValue
@@ -62,7 +64,7 @@ inside Operation =
     Child OperationType
     > Call MaybeName
     > Call MaybeVariableDefinitions
-    > Call (MaybeDirectives false)
+    > Call (MaybeDirectives NotConst)
     > When (At token.LCurly) (Child SelectionSet) (refuse message.ExpectedSelectionSet)
 -- OperationDefinition (2.3) : SelectionSet
 inside ShortQuery = Child SelectionSet
@@ -71,25 +73,25 @@ inside OperationType = operation_word
 -- SelectionSet (2.4) : { Selection+ }
 inside SelectionSet = Do (Bump kind.L_CURLY) > Nested (Call Selections) (expect token.RCurly kind.R_CURLY message.ExpectedRCurly)
 -- Field (2.5) : Alias? Name Arguments? Directives? SelectionSet?
-inside Field = Call AliasedName > Call (MaybeArguments false) > Call (MaybeDirectives false) > maybe token.LCurly SelectionSet
+inside Field = Call AliasedName > Call (MaybeArguments NotConst) > Call (MaybeDirectives NotConst) > maybe token.LCurly SelectionSet
 -- Alias (2.7) : Name :
 inside Alias = Child Name > Do (Bump kind.COLON)
 -- Name (2.1.9)
 inside Name = Do (Bump kind.IDENT)
 -- FragmentSpread (2.8) : ... FragmentName Directives?
-inside FragmentSpread = Do (Bump kind.SPREAD) > Child FragmentName > Call (MaybeDirectives false)
+inside FragmentSpread = Do (Bump kind.SPREAD) > Child FragmentName > Call (MaybeDirectives NotConst)
 -- InlineFragment (2.8.2) : ... TypeCondition? Directives? SelectionSet
 inside InlineFragment =
     Do (Bump kind.SPREAD)
     > Call MaybeTypeCondition
-    > Call (MaybeDirectives false)
+    > Call (MaybeDirectives NotConst)
     > When (At token.LCurly) (Child SelectionSet) (Do (Note message.ExpectedInlineSelectionSet))
 -- FragmentDefinition (2.8) : `fragment` FragmentName TypeCondition Directives? SelectionSet
 inside FragmentDefinition =
     Do (Bump kind.fragment_KW)
     > Child FragmentName
     > Child TypeCondition
-    > Call (MaybeDirectives false)
+    > Call (MaybeDirectives NotConst)
     > When (At token.LCurly) (Child SelectionSet) (Do (Note message.ExpectedSelectionSet))
 -- FragmentName (2.8) : Name but not `on`
 inside FragmentName =
@@ -121,7 +123,7 @@ inside VariableDefinition = Child Variable > When (At token.Colon) (Do (Bump kin
 -- Variable (2.10) : $ Name
 inside Variable = Do (Bump kind.DOLLAR) > Call Named
 -- DefaultValue (2.10) : = Value[Const]
-inside DefaultValue = Do (Bump kind.EQ) > Call (ValueOf true false)
+inside DefaultValue = Do (Bump kind.EQ) > Call (ValueOf Const false)
 -- IntValue (2.9.1)
 inside IntValue = Do (Bump kind.INT)
 -- FloatValue (2.9.2)
@@ -181,7 +183,7 @@ body (MaybeArguments c) = maybe token.LParen (Arguments c)
 body (MaybeDirectives c) = maybe token.At (Directives c)
 body MaybeVariableDefinitions = maybe token.LParen VariableDefinitions
 -- Type DefaultValue? Directives[Const]?, the rest of a VariableDefinition (2.10)
-body VariableType = When (Here type_start) (Call TypeOf > Call MaybeDefaultValue > Call (MaybeDirectives true)) (Do (Note message.ExpectedType))
+body VariableType = When (Here type_start) (Call TypeOf > Call MaybeDefaultValue > Call (MaybeDirectives Const)) (Do (Note message.ExpectedType))
 body MaybeDefaultValue = maybe token.Eq DefaultValue
 body MaybeTypeCondition = maybe token.Name TypeCondition
 -- Value[Const] (2.9) : [if not Const] Variable, IntValue, FloatValue, StringValue, BooleanValue, NullValue, EnumValue, ListValue[?Const], or

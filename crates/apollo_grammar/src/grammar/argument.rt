@@ -11,15 +11,15 @@ use super::value::value;
 use crate::state::ParserState;
 use document_grammar::SyntaxKind;
 use lexical_grammar::TokenKind;
-use parser_rules::Message;
+use parser_rules::{Constness, Message};
 use std::alloc::{AllocError, Allocator};
 
 /// Arguments (GraphQL October 2021, section 2.6, "Arguments"), where `(` comes next.
 pub fn arguments<A: Allocator + Copy>(
     p: &mut ParserState<'_, A>,
-    is_constant: bool,
+    constness: Constness,
 ) -> Result<(), AllocError>
-    ensures { OnOk result (Runs (Call (rule.MaybeArguments is_constant)) p.old p.new) }
+    ensures { OnOk result (Runs (Call (rule.MaybeArguments constness)) p.old p.new) }
 {
     if !p.at(TokenKind::LParen) {
         return Ok(());
@@ -28,7 +28,7 @@ pub fn arguments<A: Allocator + Copy>(
     p.bump(SyntaxKind::L_PAREN)?;
     p.want(TokenKind::Name, Message::ExpectedArgument)?;
     while p.at(TokenKind::Name) {
-        argument(p, is_constant)?;
+        argument(p, constness)?;
     }
     p.expect(
         TokenKind::RParen,
@@ -41,16 +41,16 @@ pub fn arguments<A: Allocator + Copy>(
 
 fn argument<A: Allocator + Copy>(
     p: &mut ParserState<'_, A>,
-    is_constant: bool,
+    constness: Constness,
 ) -> Result<(), AllocError>
     requires { true ≡ holds (At token.Name) p.old }
-    ensures { OnOk result (Runs (Child (rule.Argument is_constant)) p.old p.new) }
+    ensures { OnOk result (Runs (Child (rule.Argument constness)) p.old p.new) }
 {
     p.start_node(SyntaxKind::ARGUMENT)?;
     p.name()?;
     if p.at(TokenKind::Colon) {
         p.bump(SyntaxKind::COLON)?;
-        value(p, is_constant, false)?;
+        value(p, constness, false)?;
     } else {
         p.err(Message::ExpectedColon)?;
     }

@@ -11,21 +11,22 @@ use super::name::name;
 use crate::state::ParserState;
 use document_grammar::SyntaxKind;
 use lexical_grammar::TokenKind;
+use parser_rules::Constness;
 use std::alloc::{AllocError, Allocator};
 
 /// Directives (GraphQL October 2021, section 2.12, "Directives"), where `@` comes next.
 pub fn directives<A: Allocator + Copy>(
     p: &mut ParserState<'_, A>,
-    is_constant: bool,
+    constness: Constness,
 ) -> Result<(), AllocError>
-    ensures { OnOk result (Runs (Call (rule.MaybeDirectives is_constant)) p.old p.new) }
+    ensures { OnOk result (Runs (Call (rule.MaybeDirectives constness)) p.old p.new) }
 {
     if !p.at(TokenKind::At) {
         return Ok(());
     }
     p.start_node(SyntaxKind::DIRECTIVES)?;
     while p.at(TokenKind::At) {
-        directive(p, is_constant)?;
+        directive(p, constness)?;
     }
     p.finish_node();
     Ok(())
@@ -33,14 +34,14 @@ pub fn directives<A: Allocator + Copy>(
 
 fn directive<A: Allocator + Copy>(
     p: &mut ParserState<'_, A>,
-    is_constant: bool,
+    constness: Constness,
 ) -> Result<(), AllocError>
-    ensures { OnOk result (Runs (Child (rule.Directive is_constant)) p.old p.new) }
+    ensures { OnOk result (Runs (Child (rule.Directive constness)) p.old p.new) }
 {
     p.start_node(SyntaxKind::DIRECTIVE)?;
     p.bump(SyntaxKind::AT)?;
     name(p)?;
-    arguments(p, is_constant)?;
+    arguments(p, constness)?;
     p.finish_node();
     Ok(())
 }

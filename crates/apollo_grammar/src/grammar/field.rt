@@ -14,6 +14,7 @@ use super::selection::selection_set;
 use crate::state::ParserState;
 use document_grammar::SyntaxKind;
 use lexical_grammar::TokenKind;
+use parser_rules::Constness;
 use std::alloc::{AllocError, Allocator};
 
 /// A field (GraphQL October 2021, section 2.5, "Fields").
@@ -24,8 +25,8 @@ pub fn field<A: Allocator + Copy>(p: &mut ParserState<'_, A>) -> Result<(), Allo
 {
     p.start_node(SyntaxKind::FIELD)?;
     aliased_name(p)?;
-    arguments(p, false)?;
-    directives(p, false)?;
+    arguments(p, Constness::NotConst)?;
+    directives(p, Constness::NotConst)?;
     if p.at(TokenKind::LCurly) {
         selection_set(p)?;
     }

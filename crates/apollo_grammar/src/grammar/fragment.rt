@@ -13,7 +13,7 @@ use super::ty::named_type;
 use crate::state::ParserState;
 use document_grammar::SyntaxKind;
 use lexical_grammar::TokenKind;
-use parser_rules::Message;
+use parser_rules::{Constness, Message};
 use std::alloc::{AllocError, Allocator};
 
 /// A fragment definition (GraphQL October 2021, section 2.8, "Fragments").
@@ -26,7 +26,7 @@ pub fn fragment_definition<A: Allocator + Copy>(
     p.bump(SyntaxKind::fragment_KW)?;
     fragment_name(p)?;
     type_condition(p)?;
-    directives(p, false)?;
+    directives(p, Constness::NotConst)?;
     if p.at(TokenKind::LCurly) {
         selection_set(p)?;
     } else {
@@ -86,7 +86,7 @@ pub fn inline_fragment<A: Allocator + Copy>(p: &mut ParserState<'_, A>) -> Resul
     p.start_node(SyntaxKind::INLINE_FRAGMENT)?;
     p.bump(SyntaxKind::SPREAD)?;
     maybe_type_condition(p)?;
-    directives(p, false)?;
+    directives(p, Constness::NotConst)?;
     if p.at(TokenKind::LCurly) {
         selection_set(p)?;
     } else {
@@ -103,7 +103,7 @@ pub fn fragment_spread<A: Allocator + Copy>(p: &mut ParserState<'_, A>) -> Resul
     p.start_node(SyntaxKind::FRAGMENT_SPREAD)?;
     p.bump(SyntaxKind::SPREAD)?;
     fragment_name(p)?;
-    directives(p, false)?;
+    directives(p, Constness::NotConst)?;
     p.finish_node();
     Ok(())
 }

@@ -15,7 +15,7 @@ use super::variable::variable_definitions;
 use crate::state::ParserState;
 use document_grammar::SyntaxKind;
 use lexical_grammar::TokenKind;
-use parser_rules::Message;
+use parser_rules::{Constness, Message};
 use std::alloc::{AllocError, Allocator};
 
 /// An operation with its type (GraphQL October 2021, section 2.3, "Operations").
@@ -28,7 +28,7 @@ pub fn operation_definition<A: Allocator + Copy>(
     operation_type(p)?;
     maybe_name(p)?;
     variable_definitions(p)?;
-    directives(p, false)?;
+    directives(p, Constness::NotConst)?;
     if p.at(TokenKind::LCurly) {
         selection_set(p)?;
     } else {

@@ -12,20 +12,20 @@ use super::variable::variable;
 use crate::state::ParserState;
 use document_grammar::SyntaxKind;
 use lexical_grammar::TokenKind;
-use parser_rules::Message;
+use parser_rules::{Constness, Message};
 use std::alloc::{AllocError, Allocator};
 
 /// A value (GraphQL October 2021, section 2.9, "Input Values"). A token that starts none is reported, and popped where that is asked.
 #[cycle(value)]
 pub fn value<A: Allocator + Copy>(
     p: &mut ParserState<'_, A>,
-    is_constant: bool,
+    constness: Constness,
     pop_on_error: bool,
 ) -> Result<(), AllocError>
-    ensures { OnOk result (Runs (Call (rule.ValueOf is_constant pop_on_error)) p.old p.new) }
+    ensures { OnOk result (Runs (Call (rule.ValueOf constness pop_on_error)) p.old p.new) }
 {
     if p.at(TokenKind::Dollar) {
-        return variable_value(p, is_constant);
+        return variable_value(p, constness);
     }
     if p.at(TokenKind::Int) {
         return p.int_value();
@@ -40,10 +40,10 @@ pub fn value<A: Allocator + Copy>(
         return word_value(p);
     }
     if p.at(TokenKind::LBracket) {
-        return list_value(p, is_constant);
+        return list_value(p, constness);
     }
     if p.at(TokenKind::LCurly) {
-        return object_value(p, is_constant);
+        return object_value(p, constness);
     }
     no_value(p, pop_on_error)
 }
@@ -51,14 +51,13 @@ pub fn value<A: Allocator + Copy>(
 // A variable. In a constant place it is reported, and read all the same.
 fn variable_value<A: Allocator + Copy>(
     p: &mut ParserState<'_, A>,
-    is_constant: bool,
+    constness: Constness,
 ) -> Result<(), AllocError>
-    ensures { OnOk result (Runs (rules.variable_of is_constant) p.old p.new) }
+    ensures { OnOk result (Runs (rules.variable_of constness) p.old p.new) }
 {
-    if !is_constant {
-        return variable(p);
+    if let Constness::Const = constness {
+        p.err(Message::VariableInConst)?;
     }
-    p.err(Message::VariableInConst)?;
     variable(p)
 }
 
@@ -120,15 +119,15 @@ fn enum_value<A: Allocator + Copy>(p: &mut ParserState<'_, A>) -> Result<(), All
 #[cycle(value)]
 fn nested_value<A: Allocator + Copy>(
     p: &mut ParserState<'_, A>,
-    is_constant: bool,
+    constness: Constness,
 ) -> Result<(), AllocError>
-    ensures { OnOk result (Runs (Call (rule.NestedValue is_constant)) p.old p.new) }
+    ensures { OnOk result (Runs (Call (rule.NestedValue constness)) p.old p.new) }
 {
     if p.is_too_deep() {
         return p.too_deep();
     }
     p.enter();
-    value(p, is_constant, true)?;
+    value(p, constness, true)?;
     p.leave();
     Ok(())
 }
@@ -137,14 +136,14 @@ fn nested_value<A: Allocator + Copy>(
 #[cycle(value)]
 fn list_value<A: Allocator + Copy>(
     p: &mut ParserState<'_, A>,
-    is_constant: bool,
+    constness: Constness,
 ) -> Result<(), AllocError>
     requires { true ≡ holds (At token.LBracket) p.old }
-    ensures { OnOk result (Runs (Child (rule.ListValue is_constant)) p.old p.new) }
+    ensures { OnOk result (Runs (Child (rule.ListValue constness)) p.old p.new) }
 {
     p.start_node(SyntaxKind::LIST_VALUE)?;
     p.bump(SyntaxKind::L_BRACK)?;
-    list_items(p, is_constant)?;
+    list_items(p, constness)?;
     p.finish_node();
     Ok(())
 }
@@ -153,12 +152,12 @@ fn list_value<A: Allocator + Copy>(
 #[cycle(value)]
 fn list_items<A: Allocator + Copy>(
     p: &mut ParserState<'_, A>,
-    is_constant: bool,
+    constness: Constness,
 ) -> Result<(), AllocError>
-    ensures { OnOk result (Runs (Call (rule.ListItems is_constant)) p.old p.new) }
+    ensures { OnOk result (Runs (Call (rule.ListItems constness)) p.old p.new) }
 {
     while has_item(p) {
-        nested_value(p, is_constant)?;
+        nested_value(p, constness)?;
     }
     if p.at(TokenKind::RBracket) {
         return p.bump(SyntaxKind::R_BRACK);
@@ -181,15 +180,15 @@ fn has_item<A: Allocator + Copy>(p: &ParserState<'_, A>) -> bool
 #[cycle(value)]
 fn object_value<A: Allocator + Copy>(
     p: &mut ParserState<'_, A>,
-    is_constant: bool,
+    constness: Constness,
 ) -> Result<(), AllocError>
     requires { true ≡ holds (At token.LCurly) p.old }
-    ensures { OnOk result (Runs (Child (rule.ObjectValue is_constant)) p.old p.new) }
+    ensures { OnOk result (Runs (Child (rule.ObjectValue constness)) p.old p.new) }
 {
     p.start_node(SyntaxKind::OBJECT_VALUE)?;
     p.bump(SyntaxKind::L_CURLY)?;
     while p.at(TokenKind::Name) {
-        object_field(p, is_constant)?;
+        object_field(p, constness)?;
     }
     p.expect(
         TokenKind::RCurly,
@@ -203,16 +202,16 @@ fn object_value<A: Allocator + Copy>(
 #[cycle(value)]
 fn object_field<A: Allocator + Copy>(
     p: &mut ParserState<'_, A>,
-    is_constant: bool,
+    constness: Constness,
 ) -> Result<(), AllocError>
     requires { true ≡ holds (At token.Name) p.old }
-    ensures { OnOk result (Runs (Child (rule.ObjectField is_constant)) p.old p.new) }
+    ensures { OnOk result (Runs (Child (rule.ObjectField constness)) p.old p.new) }
 {
     p.start_node(SyntaxKind::OBJECT_FIELD)?;
     p.name()?;
     if p.at(TokenKind::Colon) {
         p.bump(SyntaxKind::COLON)?;
-        nested_value(p, is_constant)?;
+        nested_value(p, constness)?;
     } else {
         p.err(Message::ExpectedColon)?;
     }
@@ -229,7 +228,7 @@ pub fn default_value<A: Allocator + Copy>(p: &mut ParserState<'_, A>) -> Result<
     }
     p.start_node(SyntaxKind::DEFAULT_VALUE)?;
     p.bump(SyntaxKind::EQ)?;
-    value(p, true, false)?;
+    value(p, Constness::Const, false)?;
     p.finish_node();
     Ok(())
 }

@@ -13,7 +13,7 @@ use super::value::default_value;
 use crate::state::ParserState;
 use document_grammar::SyntaxKind;
 use lexical_grammar::TokenKind;
-use parser_rules::Message;
+use parser_rules::{Constness, Message};
 use std::alloc::{AllocError, Allocator};
 
 /// Variable definitions (GraphQL October 2021, section 2.10, "Variables"), where `(` comes next.
@@ -64,7 +64,7 @@ fn variable_type<A: Allocator + Copy>(p: &mut ParserState<'_, A>) -> Result<(), 
     }
     ty(p)?;
     default_value(p)?;
-    directives(p, true)
+    directives(p, Constness::Const)
 }
 
 /// A variable (GraphQL October 2021, section 2.10, "Variables").

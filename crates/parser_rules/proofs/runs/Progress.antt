@@ -5,6 +5,8 @@ use Rattle.document_grammar.specs.declared.kind.SyntaxKind.{SyntaxKind}
 use Rattle.document_grammar.specs.Booleans.{◌and◌, ◌or◌}
 use Rattle.document_grammar.proofs.Booleans.{and-l, and-r, either}
 use Rattle.parser_rules.specs.State.{State, Lexeme, flush, opened, closed, moved, bump, is_at, is_over, is_deep, enter, leave}
+use Rattle.parser_rules.specs.declared.constness.Constness.{Constness}
+use Rattle.parser_rules.specs.declared.constness.Constness.TheVariants.{Const, NotConst}
 use Rattle.parser_rules.specs.Nodes.{kind_of, ValueOf, NestedValue}
 use Rattle.parser_rules.specs.RuleLanguage.{TokenTest, Kind, Keyword, Or, fits, Here, Ready, holds, Prim, Bump, Note, step, Rule, Skip, Do, Seq, When, Child, Nested, Call}
 use Rattle.parser_rules.specs.Rules.{has_item, inside, body}
@@ -174,12 +176,12 @@ deeper_taken {s = s} (deeper {u = u} q e v h k) d i w =
     omega (arith, f, g, l, m)
 deeper_taken (refused q e) d i w = absurd (true≢false (q ∙ sym d))
 
-value_consumes : (c : Bool) → consumes 5 (Call (ValueOf c true)) ≡ true
+value_consumes : (c : Constness) → consumes 5 (Call (ValueOf c true)) ≡ true
 unfolding consuming
-value_consumes true = refl
-value_consumes false = refl
+value_consumes Const = refl
+value_consumes NotConst = refl
 
-pub item_taken : {c : Bool} {s t : State} → Runs (Call (NestedValue c)) s t → true ≡ holds has_item s → left t < left s
+pub item_taken : {c : Constness} {s t : State} → Runs (Call (NestedValue c)) s t → true ≡ holds has_item s → left t < left s
 unfolding body
 item_taken {c = c} {s = s} (call h) e = deeper_taken h (item_not_deep s e) (item_there s e) (value_consumes c)
 

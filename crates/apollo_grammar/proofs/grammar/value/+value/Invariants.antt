@@ -26,13 +26,13 @@ abbrev pub decreases-object_field : goal.decreases-object_field
 decreases-object_field g l = 4 * left l.p.now
 
 abbrev pub invariant-list_items-loop-p : goal.invariant-list_items-loop-p
-invariant-list_items-loop-p g l = Turns has_item (Call (NestedValue l.is_constant)) l.initial.p l.p
+invariant-list_items-loop-p g l = Turns has_item (Call (NestedValue l.constness)) l.initial.p l.p
 
 abbrev pub decreases-list_items-loop-p : goal.decreases-list_items-loop-p
 decreases-list_items-loop-p g l = left l.p
 
 abbrev pub invariant-object_value-loop-p : goal.invariant-object_value-loop-p
-invariant-object_value-loop-p g l = Turns (At token.Name) (Child (ObjectField l.is_constant)) l.initial.p l.p
+invariant-object_value-loop-p g l = Turns (At token.Name) (Child (ObjectField l.constness)) l.initial.p l.p
 
 abbrev pub decreases-object_value-loop-p : goal.decreases-object_value-loop-p
 decreases-object_value-loop-p g l = left l.p
