@@ -1,7 +1,7 @@
 -- Tokens that become ERROR leaves: where no limit was reported, each has a report with its text and index, and it is a child of the root, or
 -- of a LIST_VALUE and not `]`, or its node's only one.
 use Rattle.std.specs.Prelude.{⊤}
-use Rattle.std.proofs.Common.{◌≡◌, ℕ, ◌+◌, ◌≤◌, Bool, true, false, cond, not, ◌&&◌, is_some, List, [], ◌∷◌, ◌++◌, Option, Some, None, refl, sym, subst, inl, inr, arith, true≢false}
+use Rattle.std.proofs.Common.{◌≡◌, ℕ, ◌+◌, ◌≤◌, Bool, true, false, cond, not, ◌&&◌, is_some, List, [], ◌∷◌, ◌++◌, Option, Some, None, refl, sym, ◌∙◌, subst, inl, inr, arith, true≢false}
 use Rattle.lexical_grammar.specs.declared.TokenKind.TheVariants as token_kind
 use Rattle.lexical_grammar.specs.Answers.{Answer, is_end}
 use Rattle.document_grammar.specs.declared.kind.SyntaxKind.{SyntaxKind}
@@ -13,10 +13,11 @@ use Rattle.parser_rules.specs.State.{State, Lexeme, Part, Report, at_limit, faul
 use Rattle.parser_rules.specs.Nodes.{kind_of, Document}
 use Rattle.parser_rules.specs.RuleLanguage.{Kind, Test, Here, HasNext, Not, Both, holds, Call}
 use Rattle.parser_rules.specs.Runs.{Runs}
+use Rattle.std.proofs.lemmas.Bool.{and_parts}
 use Rattle.parser_rules.proofs.recovery.RecoveryCheck.{is_list, excludes, asks_next, Room, any_token, no_bracket, one_token, no_token, same_room, room_of, Popping, unknown, pop, pop_check}
 use Rattle.parser_rules.proofs.NodeChecks.{node_passes, document_told}
 use Rattle.parser_rules.proofs.runs.Reading.{Reading, stops, cuts, bad_text, waits, shows, reading}
-use Rattle.parser_rules.proofs.runs.Marked.{Source, token, aside, Marked, none, leaf, node, append, erase, flat, set_aside, now_of, sources, moved_on, has-more, Reports, reports-then, read-reports, Grown, grown-note, grown-deep}
+use Rattle.parser_rules.proofs.runs.Marked.{Source, token, aside, Marked, none, leaf, node, append, append-none, erase, flat, set_aside, now_of, sources, moved_on, has-more, Reports, reports-then, read-reports, Grown, grown-note, grown-deep}
 use Rattle.parser_rules.proofs.runs.Walk.{after_waiting, always, Goes, Sound, walked_whole}
 use Rattle.parser_rules.proofs.runs.Reporting.{after_note, after_too_deep}
 use Rattle.parser_rules.proofs.reports.NoReport.{Now, EndsWell, choose, ignored-end, Stood, reading-stood, stands-along}
@@ -86,8 +87,8 @@ pops-aside : (parts : List Part) → pops_of (set_aside parts) ≡ 0
 pops-aside [] = refl
 pops-aside (p ∷ parts) = let e = pops-aside parts in omega (arith, e)
 
-pops-after : (s : State) (f g : Marked) → pops_of (append f (after_waiting s g)) ≡ pops_of f + pops_of g
-pops-after s f g = let a = pops-append f (after_waiting s g) in let b = pops-append (set_aside s.waiting) g in let c = pops-aside s.waiting in omega (arith, a, b, c)
+pops-after : (s : State) (g : Marked) → pops_of (after_waiting s g) ≡ pops_of g
+pops-after s g = let b = pops-append (set_aside s.waiting) g in let c = pops-aside s.waiting in omega (arith, b, c)
 
 bracket-append : (f g : Marked) → NoBracket f → NoBracket g → NoBracket (append f g)
 bracket-append none g a b = b
@@ -121,9 +122,20 @@ roomed-none no_token = omega arith
 -- nothing is popped
 roomed-still : (r : Room) (s : State) (f g : Marked) → pops_of g ≡ 0 → Roomed r f → Roomed r (append f (after_waiting s g))
 roomed-still any_token s f g e h = tt
-roomed-still no_bracket s f g e h = let a = pops-append (set_aside s.waiting) g in let b = pops-aside s.waiting in bracket-append f (after_waiting s g) h (none-bracket (after_waiting s g) (omega (arith, a, b, e)))
-roomed-still one_token s f g e h = let a = pops-after s f g in omega (arith, a, e, h)
-roomed-still no_token s f g e h = let a = pops-after s f g in omega (arith, a, e, h)
+roomed-still no_bracket s f g e h = bracket-append f (after_waiting s g) h (none-bracket (after_waiting s g) (pops-after s g ∙ e))
+roomed-still one_token s f g e h = let a = pops-append f (after_waiting s g) in let b = pops-after s g in omega (arith, a, b, e, h)
+roomed-still no_token s f g e h = let a = pops-append f (after_waiting s g) in let b = pops-after s g in omega (arith, a, b, e, h)
+
+-- the room after trees with at most one popped token, which is no `]` where it is spared, and is none where the text is cut off
+roomed-pop : (a : Popping) (r : Room) (k : Popping → Bool) → pop a r k ≡ true
+    → (q : Room) × (k (unknown q) ≡ true) × ((f g : Marked) → pops_of g ≤ 1 → (a.spared ≡ true → NoBracket g) → (a.cut ≡ true → pops_of g ≡ 0) → Roomed r f → Roomed q (append f g))
+roomed-pop a any_token k h = (any_token, h, λ f g n b c i. tt)
+roomed-pop a no_bracket k h = (no_bracket, and-r _ _ h, λ f g n b c i. bracket-append f g i (b (and-l _ _ h)))
+roomed-pop a one_token k h = elim (either a.cut) [
+  | inl z ↦ (one_token, (rw z at h), λ f g n b c i. let e = pops-append f g in let m = c z in omega (arith, e, m, i))
+  | inr z ↦ (no_token, (rw z at h), λ f g n b c i. let e = pops-append f g in omega (arith, e, n, i))
+]
+roomed-pop a no_token k h = (no_token, and-r _ _ h, λ f g n b c i. let e = pops-append f g in let m = c (and-l _ _ h) in omega (arith, e, m, i))
 
 same-room : (r q : Room) → same_room r q ≡ true → r ≡ q
 same-room any_token any_token h = refl
@@ -155,22 +167,14 @@ cut-off (shows i j) e h a = absurd (none (rw (i, j) at h))
 
 -- ---- tests
 
-pub and-both : (a b : Bool) → true ≡ a && b → (true ≡ a) × (true ≡ b)
-and-both true b e = (refl, e)
-and-both false b e = absurd (true≢false e)
-
 none-there : (o : Option Lexeme) → false ≡ is_some o → o ≡ None
 none-there None e = refl
 none-there (Some x) e = absurd (true≢false (sym e))
 
-not-false : (a : Bool) → true ≡ not a → a ≡ false
-not-false true e = absurd (true≢false e)
-not-false false e = refl
-
 no-bracket : (q : Test) (s : State) → excludes q ≡ true → true ≡ holds q s → is_at token_kind.RBracket s.current ≡ false
 unfolding holds ◌or◌
-no-bracket (Not (Here (Kind token_kind.RBracket))) s e h = not-false (is_at token_kind.RBracket s.current) h
-no-bracket (Both p q) s e h = let b = and-both (holds p s) (holds q s) h in elim (or-c _ _ e) [ inl i ↦ no-bracket p s i b.0 | inr i ↦ no-bracket q s i b.1 ]
+no-bracket (Not (Here (Kind token_kind.RBracket))) s e h = not-c (is_at token_kind.RBracket s.current) (sym h)
+no-bracket (Both p q) s e h = let b = and_parts (holds p s) (holds q s) (sym h) in elim (or-c _ _ e) [ inl i ↦ no-bracket p s i (sym b.0) | inr i ↦ no-bracket q s i (sym b.1) ]
 no-bracket _ s e h = false-true refl e
 
 none-next : (q : Test) (s : State) → asks_next q ≡ true → false ≡ holds q s → second s.items ≡ None
@@ -242,53 +246,34 @@ module _ (own : SyntaxKind) (a : Popping) (k : Popping → Bool) (b s : State) (
       told : after.accepts ≡ true → Recovers after.errors one
       told y = ((λ z. subst (λ (errors : List Report). Reported_at errors (Some x)) (sym p.errors) (reported-more s.errors p.more (Some x) (subst (λ (o : Option Lexeme). Reported_at s.errors o) e (h.told (t (and-l _ _ z)) (p.keeps y))))), tt)
 
-  kept : after.accepts ≡ true → popped (token x) own ≡ false → Roomed a.room f → Roomed a.room (append f (after_waiting s one))
-  kept y p i = roomed-still a.room s f one (rw p refl) i
-
-  pops-one : pops_of (append f (after_waiting s one)) ≡ pops_of f + (cond (popped (token x) own) 1 0 + 0)
-  pops-one = pops-after s f one
+  pops-one : pops_of (after_waiting s one) ≡ cond (popped (token x) own) 1 0 + 0
+  pops-one = pops-after s one
 
   at-most-one : (b : Bool) → cond b 1 0 ≤ 1
   at-most-one true = omega arith
   at-most-one false = omega arith
 
-  -- a token is popped
-  pops : Reports s after → a.told ≡ true → (r : Room) → a.room ≡ r → pop a r k ≡ true → Goes pop_check Held k b after (append f (after_waiting s one))
-  pops p t any_token r c = bumped any_token p c (λ z. t) (λ y i. tt)
-  pops p t no_bracket r c =
-      bumped no_bracket p (and-r _ _ c) (λ z. t)
-      (λ y i. bracket-append f (after_waiting s one) (subst (λ (q : Room). Roomed q f) r i) (bracket-append (set_aside s.waiting) one (none-bracket (set_aside s.waiting) (pops-aside s.waiting)) ((λ z. subst (λ (o : Option Lexeme). is_at token_kind.RBracket o ≡ false) e (h.spared (and-l _ _ c))), tt)))
-  pops p t one_token r c = elim (either a.cut) [
-    | inl z ↦ bumped one_token p (rw z at c) (λ _. t) (λ y i. subst (λ (q : Room). Roomed q (append f (after_waiting s one))) r (kept y (not-popped z y) i))
-    | inr z ↦ bumped no_token p (rw z at c) (λ _. t) (λ y i. let n : pops_of f ≡ 0 = subst (λ (q : Room). Roomed q f) r i in let m = pops-one in let l = at-most-one (popped (token x) own) in omega (arith, n, m, l))
-  ]
-  pops p t no_token r c = bumped no_token p (and-r _ _ c) (λ z. t) (λ y i. subst (λ (q : Room). Roomed q (append f (after_waiting s one))) r (kept y (not-popped (and-l _ _ c) y) i))
-
   leaf-right : cond (is_error own) (a.told and pop a a.room k) (k (unknown a.room)) ≡ true → Grown s after (after_waiting s one) → Goes pop_check Held k b after (append f (after_waiting s one))
   unfolding ◌and◌
   leaf-right c g = elim (either (is_error own)) [
-    | inl i ↦ (let d = rw i at c in pops g.reports (and-l _ _ d) a.room refl (and-r _ _ d))
-    | inr i ↦ bumped a.room g.reports (rw i at c) (λ z. false-true i z) (λ y j. kept y (rw i refl) j)
+    | inl i ↦ (
+        let d = rw i at c in
+        let r = roomed-pop a a.room k (and-r _ _ d) in
+        bumped r.0 g.reports r.1 (λ z. and-l _ _ d)
+        (λ y. r.2 f (after_waiting s one) (let m = pops-one in let l = at-most-one (popped (token x) own) in omega (arith, m, l))
+        (λ z. bracket-append (set_aside s.waiting) one (none-bracket (set_aside s.waiting) (pops-aside s.waiting)) ((λ _. subst (λ (o : Option Lexeme). is_at token_kind.RBracket o ≡ false) e (h.spared z)), tt))
+        (λ z. pops-one ∙ rw (not-popped z y) refl)))
+    | inr i ↦ bumped a.room g.reports (rw i at c) (λ z. false-true i z) (λ y. roomed-still a.room s f one (rw i refl))
   ]
 
 -- where there is no token, none is popped
 no-leaf : (own : SyntaxKind) (a : Popping) (k : Popping → Bool) (b s : State) (f : Marked) → cond (is_error own) (a.told and pop a a.room k) (k (unknown a.room)) ≡ true → Held a b s f → Goes pop_check Held k b s f
 no-leaf own a k b s f c h = elim (either (is_error own)) [
-  | inl i ↦ (let d = rw i at c in on a.room refl (and-r _ _ d))
+  | inl i ↦ (
+      let r = roomed-pop a a.room k (and-r _ _ (rw i at c)) in
+      (unknown r.0, r.1, held r.0 b s f h.stood (λ y. let j = h.right y in (j.0, subst (Roomed r.0) (append-none f) (r.2 f none (omega arith) (λ z. tt) (λ z. refl) j.1)))))
   | inr i ↦ (unknown a.room, (rw i at c), held a.room b s f h.stood h.right)
 ]
-  where
-    still : (q : Room) → k (unknown q) ≡ true → (Roomed a.room f → Roomed q f) → Goes pop_check Held k b s f
-    still q c j = (unknown q, c, held q b s f h.stood (λ y. let r = h.right y in (r.0, j r.1)))
-
-    on : (r : Room) → a.room ≡ r → pop a r k ≡ true → Goes pop_check Held k b s f
-    on any_token e c = still any_token c (λ i. tt)
-    on no_bracket e c = still no_bracket (and-r _ _ c) (λ i. subst (λ (q : Room). Roomed q f) e i)
-    on one_token e c = elim (either a.cut) [
-      | inl z ↦ still one_token (rw z at c) (λ i. subst (λ (q : Room). Roomed q f) e i)
-      | inr z ↦ still no_token (rw z at c) (λ i. let n : pops_of f ≡ 0 = subst (λ (q : Room). Roomed q f) e i in omega (arith, n))
-    ]
-    on no_token e c = still no_token (and-r _ _ c) (λ i. subst (λ (q : Room). Roomed q f) e i)
 
 sound : Sound pop_check Held
 unfolding pop_check flush opened closed wrapped_from enter leave

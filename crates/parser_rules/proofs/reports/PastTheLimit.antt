@@ -1,7 +1,7 @@
 -- Where more than the recursion limit was asked for, a limit is reported.
 use Rattle.std.proofs.Common.{◌≡◌, ℕ, ◌≤◌, ◌<◌, Bool, true, false, ◌||◌, not, cond, if◌then◌else◌, List, [], ◌∷◌, ◌++◌, Option, Some, None, refl, sym, ap, ◌∙◌, subst, true≢false, inl, inr, arith}
 use Rattle.std.specs.Prelude.{is_some}
-use Rattle.std.proofs.lemmas.Bool.{leb-false}
+use Rattle.std.proofs.lemmas.Bool.{leb-false, and_parts}
 use Rattle.lexical_grammar.specs.declared.TokenKind.{TokenKind}
 use Rattle.lexical_grammar.specs.declared.TokenKind.TheVariants as token
 use Rattle.lexical_grammar.specs.Answers.{Answer, is_end}
@@ -20,7 +20,7 @@ use Rattle.parser_rules.proofs.runs.Marked.{Marked, append, Limited, Has, Report
 use Rattle.parser_rules.proofs.runs.Walk.{after_waiting, always, Sound, walked_whole}
 use Rattle.parser_rules.proofs.runs.Frame.{read_untouched}
 use Rattle.parser_rules.proofs.reports.NoReport.{choose, EndsWell, Stood, reading-stood, stands-along}
-use Rattle.parser_rules.proofs.recovery.Popped.{cut-off, and-both}
+use Rattle.parser_rules.proofs.recovery.Popped.{cut-off}
 use Rattle.parser_rules.proofs.reports.LimitCheck.{Current, unknown, present, inner, is_inner, known, fits_inner, tells_inner, after_token, is_known, same_inner, begins_level, limit_check}
 use Rattle.parser_rules.proofs.NodeChecks.{node_passes, document_limits}
 
@@ -37,7 +37,7 @@ unfolding is_inner
 token-inner (Kind k) None h e = absurd (true≢false e)
 token-inner (Kind k) (Some x) h e = ap not (not-end x.kind k e h)
 token-inner (Keyword k) None h e = absurd (true≢false e)
-token-inner (Keyword k) (Some x) h e = ap not (not-end x.kind token.Name (and-both _ _ e).0 refl)
+token-inner (Keyword k) (Some x) h e = ap not (not-end x.kind token.Name (sym (and_parts _ _ (sym e)).0) refl)
 token-inner (Or p q) o h e = elim (either (fits p o)) [
   | inl y ↦ token-inner p o (and-l _ _ h) (sym y)
   | inr y ↦ token-inner q o (and-r _ _ h) (e ∙ ap (λ (b : Bool). b || fits q o) y)
@@ -51,8 +51,8 @@ test-inner Ready s h e = elim s.current as (λ o. true ≡ not (is_over o) → i
   | Some x ↦ λ e'. sym e'
 ] e
 test-inner (Both p q) s h e = elim (or-c _ _ h) [
-  | inl y ↦ test-inner p s y (and-both _ _ e).0
-  | inr y ↦ test-inner q s y (and-both _ _ e).1
+  | inl y ↦ test-inner p s y (sym (and_parts _ _ (sym e)).0)
+  | inr y ↦ test-inner q s y (sym (and_parts _ _ (sym e)).1)
 ]
 test-inner _ s h e = absurd cc
 

@@ -3,7 +3,7 @@ use Rattle.std.proofs.Common.{◌≡◌, ℕ, suc, ◌<◌, Option, Some, None, 
 use Rattle.lexical_grammar.specs.declared.TokenKind.TheVariants as token
 use Rattle.document_grammar.specs.declared.kind.SyntaxKind.{SyntaxKind}
 use Rattle.document_grammar.specs.Booleans.{◌and◌, ◌or◌}
-use Rattle.document_grammar.proofs.Booleans.{and-l, and-r, either}
+use Rattle.document_grammar.proofs.Booleans.{and-l, and-r, or-c}
 use Rattle.parser_rules.specs.State.{State, Lexeme, flush, opened, closed, moved, bump, is_at, is_over, is_deep, enter, leave}
 use Rattle.parser_rules.specs.declared.constness.Constness.{Constness}
 use Rattle.parser_rules.specs.declared.constness.Constness.TheVariants.{Const, NotConst}
@@ -116,18 +116,12 @@ bump_takes leaf s e h =
     let l = ap left e in
     omega (arith, f, k, l)
 
-or-false : (a b : Bool) → a or b ≡ true → a ≡ false → b ≡ true
-unfolding ◌or◌
-or-false true b h e = absurd (true≢false e)
-or-false false b h e = h
-
 taken-by : {a : Rule} {s t : State} → Runs a s t → (n : ℕ) → IsThere s → consumes n a ≡ true → left t < left s
 unfolding consumes
 taken-by {s = s} (does {a = Bump leaf} k) n h e = bump_takes leaf s k h
-taken-by {s = s} (seq {a = a} {b = b} {t = t} k l) n h e = elim (either (consumes n a)) [
+taken-by {s = s} (seq {a = a} {b = b} {t = t} k l) n h e = elim (or-c _ _ e) [
   | inl y ↦ let f = taken-by k n h y in let g = fewer l in omega (arith, f, g)
-  | inr no_first ↦
-      let later = or-false (consumes n a) (stays a and consumes n b) e no_first in
+  | inr later ↦
       let same = stayed k (and-l (stays a) (consumes n b) later) in
       let f = taken-by l n (still_there s t same.0 h) (and-r (stays a) (consumes n b) later) in
       let g = same.1 in
