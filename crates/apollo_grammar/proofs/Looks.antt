@@ -1,25 +1,21 @@
--- Tests of the current token and of the next one, by the tokens that are looked at.
-use Rattle.std.proofs.Common.{◌≡◌, Bool, true, false, Option, Some, None, is_some, not, ◌&&◌, ◌||◌, refl, ◌∙◌, ap}
+-- Tests of the current token and of the next one.
+use Rattle.std.proofs.Common.{◌≡◌, Bool, true, false, Option, Some, None, is_some, not, ◌&&◌, ◌||◌, refl}
 use Rattle.lexical_grammar.specs.declared.TokenKind.{TokenKind}
 use Rattle.lexical_grammar.specs.declared.TokenKind.TheVariants as token
 use Rattle.apollo_lexer.specs.declared.token.Token.{Token}
-use Rattle.parser_rules.specs.State.{State, Lexeme, second, is_at, is_over, is_deep}
-use Rattle.parser_rules.specs.RuleLanguage.{TokenTest, Kind, Or, fits, Here, At, Ready, Next, HasNext, holds}
+use Rattle.parser_rules.specs.State.{State, is_at, is_over, is_deep}
+use Rattle.parser_rules.specs.RuleLanguage.{Kind, Or, Here, At, Ready, holds}
 use Rattle.parser_rules.specs.Rules.{has_item}
+use Rattle.parser_rules.proofs.runs.Running.{nesting}
 use Rattle.apollo_grammar.specs.View.{current_of}
 
--- a test of the token that a look finds is a test of the next token
-pub next_fits : (q : TokenTest) (s : State) (o : Option Lexeme) → o ≡ second s.items → (b : Bool) → b ≡ fits q o → b ≡ holds (Next q) s
-unfolding holds
-next_fits q s o e b h = h ∙ ap (fits q) e
-
-pub has_next : (s : State) (o : Option Lexeme) → o ≡ second s.items → (b : Bool) → b ≡ is_some o → b ≡ holds HasNext s
-unfolding holds
-has_next s o e b h = h ∙ ap is_some e
-
+-- a token that a look finds is the next one
 pub some_shown : (o : Option Token) → is_some o ≡ is_some (current_of o)
 some_shown None = refl
 some_shown (Some t) = refl
+
+-- what a function is proved by that chooses by the next token
+pub ruleset looking = (nesting, some_shown)
 
 other : (a b : Bool) → true ≡ a || b → false ≡ a → true ≡ b
 other true b e f = absurd cc

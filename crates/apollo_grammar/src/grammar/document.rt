@@ -75,6 +75,7 @@ fn is_operation(token: Option<Token<'_>>) -> bool
 }
 
 // A string in the place of a definition is popped. The token after it says what was expected.
+#[tactic(auto, using(crate::proofs::Looks::looking), unfolding(parser_rules::specs::Rules::body, parser_rules::specs::RuleLanguage::holds))]
 fn described<A: Allocator + Copy>(p: &mut ParserState<'_, A>) -> Result<(), AllocError>
     ensures { OnOk result (Runs (Call rule.Described) p.old p.new) }
 {

@@ -11,7 +11,7 @@ ghost use Rattle.parser_rules.specs.Runs.{Runs};
 ghost use Rattle.apollo_grammar.specs.View.{current_of};
 
 use super::field::field;
-use super::fragment::{fragment_spread, inline_fragment};
+use super::fragment;
 use crate::state::{ParserState, is_kind, is_word};
 use apollo_lexer::Token;
 use document_grammar::SyntaxKind;
@@ -96,16 +96,17 @@ fn is_inline(next: Option<Token<'_>>) -> bool
 
 // What starts with `...`: the token after it says which fragment it is. Where there is none, the `...` is popped.
 #[cycle(selection)]
+#[tactic(auto, using(crate::proofs::Looks::looking), unfolding(parser_rules::specs::Rules::body, parser_rules::specs::RuleLanguage::holds))]
 fn spread<A: Allocator + Copy>(p: &mut ParserState<'_, A>) -> Result<(), AllocError>
     requires { true ≡ holds (At token.Spread) p.old }
     ensures { OnOk result (Runs (Call rule.Spread) p.old p.new) }
 {
     let next = p.peek();
     if is_inline(next) {
-        return inline_fragment(p);
+        return fragment::inline_fragment(p);
     }
     if is_kind(next, TokenKind::Name) {
-        return fragment_spread(p);
+        return fragment::fragment_spread(p);
     }
     if next.is_none() {
         return p.err_and_pop(Message::ExpectedFragment);
