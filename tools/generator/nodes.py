@@ -60,7 +60,9 @@ def nodes_file(symbols):
     """specs/Nodes.antt."""
     nodes = clauses("inside")
     kinds = "".join(f"kind_of {node.pattern} = kind.{symbols.label[symbol_of(node, symbols)]}\n" for node in nodes)
-    return f"""{mark("--", "the left sides of specs/Rules.antt")}-- The nodes that the parser builds, and the parts of the grammar that work within the node that is open.
+    return (
+        mark("--", "the left sides of specs/Rules.antt")
+        + f"""-- The nodes that the parser builds, and the parts of the grammar that work within the node that is open.
 use Rattle.std.specs.Prelude.{{ℕ, Bool}}
 use Rattle.document_grammar.specs.declared.kind.SyntaxKind.{{SyntaxKind}}
 use Rattle.document_grammar.specs.declared.kind.SyntaxKind.TheVariants as kind
@@ -82,6 +84,7 @@ unfoldable pub symbol : Node → ℕ
 -- the rules that work within the node that is open
 pub data Part : Type 0 where
 {constructors("Part", clauses("body"))}"""
+    )
 
 
 def outputs(grammar):

@@ -5,8 +5,8 @@ use Rattle.parser_rules.specs.Runs.{Turns}
 use Rattle.parser_rules.proofs.runs.Frame.{left}
 use Rattle.apollo_grammar.proofs.grammar.argument.arguments.Given as goal
 
-abbrev pub invariant-loop-p : goal.invariant-loop-p
-invariant-loop-p g l = Turns (At token.Name) (Child (Argument l.constness)) l.initial.p l.p
+abbrev pub invariant-loop-constness : goal.invariant-loop-constness
+invariant-loop-constness g l = Turns (At token.Name) (Child (Argument l.constness)) l.initial.p l.p
 
-abbrev pub decreases-loop-p : goal.decreases-loop-p
-decreases-loop-p g l = left l.p
+abbrev pub decreases-loop-constness : goal.decreases-loop-constness
+decreases-loop-constness g l = left l.p

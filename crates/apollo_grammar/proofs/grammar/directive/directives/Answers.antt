@@ -4,6 +4,6 @@ use Rattle.parser_rules.specs.RuleLanguage.{Kind}
 use Rattle.parser_rules.proofs.runs.Progress.{consuming, here_there, taken}
 use Rattle.apollo_grammar.proofs.grammar.directive.directives.Goals as goal
 
-pub loop-p-smaller : goal.loop-p-smaller
+pub loop-constness-smaller : goal.loop-constness-smaller
 unfolding consuming
-loop-p-smaller g c = taken c.in_ok-directive.ensures (here_there (Kind token.At) _ c.loop-p-test.ensures) refl
+loop-constness-smaller g c = taken c.in_ok-directive.ensures (here_there (Kind token.At) _ c.loop-constness-test.ensures) refl
