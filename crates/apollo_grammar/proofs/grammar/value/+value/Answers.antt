@@ -24,22 +24,22 @@ list_value-list_items-requires g t c =
 
 pub list_items-nested_value-requires : goal.list_items-nested_value-requires
 list_items-nested_value-requires g t c =
-    let k = (turned c.loop-p.invariant).fewer in
+    let k = (turned c.loop-constness.invariant).fewer in
     λ κs w. (omega (arith, k, c.decreases), w)
 
-pub list_items-loop-p-smaller : goal.list_items-loop-p-smaller
-list_items-loop-p-smaller g t c = item_taken c.in_ok-nested_value.ensures c.loop-p-test.ensures
+pub list_items-loop-constness-smaller : goal.list_items-loop-constness-smaller
+list_items-loop-constness-smaller g t c = item_taken c.in_ok-nested_value.ensures c.loop-constness-test.ensures
 
 pub object_value-object_field-requires : goal.object_value-object_field-requires
 unfolding consuming
 object_value-object_field-requires g t c =
     let h = opened_takes kind.OBJECT_VALUE _ c.in_ok-start_node.ensures c.in_ok-bump.ensures (here_there (Kind token.LCurly) _ c.requires) refl in
-    let k = (turned c.loop-p.invariant).fewer in
-    λ κs w. (omega (arith, h, k, c.decreases), (w, c.loop-p-test.ensures))
+    let k = (turned c.loop-constness.invariant).fewer in
+    λ κs w. (omega (arith, h, k, c.decreases), (w, c.loop-constness-test.ensures))
 
-pub object_value-loop-p-smaller : goal.object_value-loop-p-smaller
+pub object_value-loop-constness-smaller : goal.object_value-loop-constness-smaller
 unfolding consuming
-object_value-loop-p-smaller g t c = taken c.in_ok-object_field.ensures (here_there (Kind token.Name) _ c.loop-p-test.ensures) refl
+object_value-loop-constness-smaller g t c = taken c.in_ok-object_field.ensures (here_there (Kind token.Name) _ c.loop-constness-test.ensures) refl
 
 pub object_field-nested_value-requires : goal.object_field-nested_value-requires
 unfolding consuming
@@ -55,4 +55,4 @@ nested_value-returns g t c = call {p = NestedValue _} (deeper c.if-is_too_deep.e
 pub list_items-returns-then-is_ready : goal.list_items-returns-then-is_ready
 unfolding body
 list_items-returns-then-is_ready g t c =
-    on_ok_weaker c.too_deep.result (λ e. call {p = ListItems _} (seq (ended c.loop-p.invariant c.loop-p-test.ensures) (no c.if-at.ensures (yes c.if-is_ready.ensures (limited (deep_there _ c.loop-p-test.ensures c.if-at.ensures c.if-is_ready.ensures) e))))) c.too_deep.ensures
+    on_ok_weaker c.too_deep.result (λ e. call {p = ListItems _} (seq (ended c.loop-constness.invariant c.loop-constness-test.ensures) (no c.if-at.ensures (yes c.if-is_ready.ensures (limited (deep_there _ c.loop-constness-test.ensures c.if-at.ensures c.if-is_ready.ensures) e))))) c.too_deep.ensures

@@ -25,14 +25,14 @@ decreases-object_value g l = 4 * left l.p.now
 abbrev pub decreases-object_field : goal.decreases-object_field
 decreases-object_field g l = 4 * left l.p.now
 
-abbrev pub invariant-list_items-loop-p : goal.invariant-list_items-loop-p
-invariant-list_items-loop-p g l = Turns has_item (Call (NestedValue l.constness)) l.initial.p l.p
+abbrev pub invariant-list_items-loop-constness : goal.invariant-list_items-loop-constness
+invariant-list_items-loop-constness g l = Turns has_item (Call (NestedValue l.constness)) l.initial.p l.p
 
-abbrev pub decreases-list_items-loop-p : goal.decreases-list_items-loop-p
-decreases-list_items-loop-p g l = left l.p
+abbrev pub decreases-list_items-loop-constness : goal.decreases-list_items-loop-constness
+decreases-list_items-loop-constness g l = left l.p
 
-abbrev pub invariant-object_value-loop-p : goal.invariant-object_value-loop-p
-invariant-object_value-loop-p g l = Turns (At token.Name) (Child (ObjectField l.constness)) l.initial.p l.p
+abbrev pub invariant-object_value-loop-constness : goal.invariant-object_value-loop-constness
+invariant-object_value-loop-constness g l = Turns (At token.Name) (Child (ObjectField l.constness)) l.initial.p l.p
 
-abbrev pub decreases-object_value-loop-p : goal.decreases-object_value-loop-p
-decreases-object_value-loop-p g l = left l.p
+abbrev pub decreases-object_value-loop-constness : goal.decreases-object_value-loop-constness
+decreases-object_value-loop-constness g l = left l.p
