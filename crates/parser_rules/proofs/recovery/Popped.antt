@@ -1,7 +1,7 @@
 -- Tokens that become ERROR leaves: where no limit was reported, each has a report with its text and index, and it is a child of the root, or
 -- of a LIST_VALUE and not `]`, or its node's only one.
 use Rattle.std.specs.Prelude.{⊤}
-use Rattle.std.proofs.Common.{◌≡◌, ℕ, ◌+◌, ◌≤◌, Bool, true, false, cond, not, ◌&&◌, is_some, List, [], ◌∷◌, ◌++◌, Option, Some, None, refl, sym, ◌∙◌, subst, inl, inr, arith, true≢false}
+use Rattle.std.proofs.Common.{◌≡◌, ℕ, ◌+◌, ◌≤◌, Bool, true, false, cond, not, is_some, List, [], ◌∷◌, ◌++◌, Option, Some, None, refl, sym, ◌∙◌, subst, inl, inr, arith, true≢false}
 use Rattle.lexical_grammar.specs.declared.TokenKind.TheVariants as token_kind
 use Rattle.lexical_grammar.specs.Answers.{Answer, is_end}
 use Rattle.document_grammar.specs.declared.kind.SyntaxKind.{SyntaxKind}

@@ -10,18 +10,18 @@ use Rattle.parser_rules.proofs.reports.AlongItems.{reported_at}
 use Rattle.document_grammar.specs.declared.kind.SyntaxKind.TheVariants as kind
 use Rattle.document_grammar.specs.Kinds.{DOCUMENT}
 use Rattle.document_grammar.specs.Forests as built
-use Rattle.document_grammar.specs.Builds.{Building, Open}
-use Rattle.document_grammar.specs.Numbers.{number}
+use Rattle.document_grammar.specs.Builds.{Building, Open, start, nothing}
 use Rattle.document_grammar.proofs.Joins.{join_assoc}
 use Rattle.document_grammar.specs.Tree.{Tree, node, Forest, none}
 use Rattle.document_grammar.specs.Derivation.{document, Spells, nest}
 use Rattle.grammar_machine.specs.Machine.{holds as within}
 use Rattle.grammar_machine.proofs.SentenceTheorems.{one-derivation}
 use Rattle.grammar_machine.proofs.Patterns.{label}
+use Rattle.grammar_machine.proofs.TableLemmas.{head-same}
 use Rattle.grammar_machine.proofs.FromMachineTree.{show, shows}
 use Rattle.grammar_machine.proofs.Sound.{any}
 use Rattle.parser_rules.specs.declared.message.Message.TheVariants as message
-use Rattle.parser_rules.specs.State.{State, Lexeme, Part, Report, add_all, begun, fresh, fault_report, second as second_of}
+use Rattle.parser_rules.specs.State.{State, Lexeme, Report, add_all, begun, fault_report, second as second_of}
 use Rattle.parser_rules.specs.Nodes.{Definition}
 use Rattle.parser_rules.specs.RuleLanguage.{Rule, Call, Ready, holds}
 use Rattle.parser_rules.specs.Runs.{Runs, Turns}
@@ -35,26 +35,26 @@ use Rattle.parser_rules.proofs.soundness.TableCheck.{turns_follow}
 use Rattle.parser_rules.proofs.NodeChecks.{turns_followed}
 use Rattle.parser_rules.proofs.soundness.Plain.{Plain}
 use Rattle.parser_rules.proofs.soundness.Positions.{Fits, Tells}
-use Rattle.parser_rules.proofs.runs.Anew.{Alike, Same_steps, anew}
+use Rattle.parser_rules.proofs.runs.Anew.{Built, built_of, on, Same_steps, anew}
 use Rattle.parser_rules.proofs.soundness.Soundness.{document-label, whole, root-stands, loops, Turn, from_now, now_words, Silent, run-out, none-right}
 
 -- the same turn in a tree of its own
-abbrev pub afresh : State → State
-afresh st = record (fresh st.items st.limit kind.DOCUMENT) { current = st.current; waiting = st.waiting }
+abbrev pub own_tree : Built
+own_tree = record { tree = start kind.DOCUMENT nothing; errors = []; high = 0 }
 
-alike : (st : State) → Turn st → Alike st (afresh st)
-alike st c = record { current = refl; rest = record { items = refl; waiting = refl; limit = refl; depth = sym c.no_level; accepts = sym c.accepts } }
+abbrev pub afresh : State → State
+afresh st = on st own_tree
 
 afresh-fits : (st : State) (c : Turn st) → all_ignored st.waiting ≡ true → Fits (whole st.limit (from_now st c)) DOCUMENT (spot 0 low loose) ready any [] (afresh st)
 unfolding holds within
 afresh-fits st c i = record {
   calm = record {
-    quiet = record { clean = refl; accepts = refl; waits = i };
+    quiet = record { clean = refl; accepts = c.accepts; waits = i };
     now = subst (λ (o : Option Lexeme). Now o st.items) (sym c.current) c.now;
     held = subst (λ (o : Option Lexeme). Held (from_now st c) o st.items) (sym c.current) (record { front = []; split = refl; tokens = refl });
   };
   seen = record { near = sym (c.is_ready ∙ ready-is st.current shown_now); far = of-any (second_of st.items) (second-shown st.items) };
-  stands = root-stands st.limit (from_now st c) st.items (afresh st) (record { tree = refl; depth = refl; limit = refl; high = refl; asked = refl }) (ap (λ (o : Option Lexeme). current_tokens o ++ answers_tokens st.items) c.current);
+  stands = root-stands st.limit st.asked (from_now st c) st.items (afresh st) (record { tree = refl; depth = c.no_level; limit = refl; high = refl; asked = refl }) (ap (λ (o : Option Lexeme). current_tokens o ++ answers_tokens st.items) c.current);
 }
   where
     shown_now : Shown st.current
@@ -63,21 +63,13 @@ afresh-fits st c i = record {
 -- A run from a turn on, as one of a document of its own: the first report is right, or there is none and a sentence is built. Both runs add
 -- the same trees and reports.
 pub record From_turn (st s : State) (c : Turn st) : Type 0 where
-  pub own : State
-  pub alike : Alike s own
-  pub steps : Same_steps st s (afresh st) own
-  pub parsed : Tells (whole st.limit (from_now st c)) own ⊎ Silent st.limit (from_now st c) own
+  pub own : Built
+  pub steps : Same_steps (built_of st) (built_of s) own_tree own
+  pub parsed : Tells (whole st.limit (from_now st c)) (on s own) ⊎ Silent st.limit (from_now st c) (on s own)
 
 pub from-turn : (st s : State) (c : Turn st) → all_ignored st.waiting ≡ true → Runs loops st s → From_turn st s c
 unfolding turns_follow
-from-turn st s c i run =
-    let a = anew run (afresh st) (alike st c) in
-    record {
-      own = a.0;
-      alike = a.2.alike;
-      steps = a.2.steps;
-      parsed = run-out st.limit (from_now st c) ready turns_followed a.1 (afresh-fits st c i);
-    }
+from-turn st s c i run = let a = anew run own_tree in record { own = a.0; steps = a.2; parsed = run-out st.limit (from_now st c) ready turns_followed a.1 (afresh-fits st c i) }
 
 -- The root's later children are the derivation's, and nothing more is reported.
 pub record Recovered (st s : State) (t : Tree) : Type 0 where
@@ -86,29 +78,22 @@ pub record Recovered (st s : State) (t : Tree) : Type 0 where
   pub derived : node DOCUMENT (strip later) ≡ t
   pub silent : s.errors ≡ st.errors
 
-head-forest : (a b : ℕ × Forest) (v w : List (ℕ × Forest)) → a ∷ v ≡ b ∷ w → a.1 ≡ b.1
-head-forest a b v w e = ap (λ (l : ℕ × Forest). l.1) (head a b v w e)
-  where
-    head : (a b : ℕ × Forest) (v w : List (ℕ × Forest)) → a ∷ v ≡ b ∷ w → a ≡ b
-    head a b v w e = cc
-
 root-layer : (b : Building) (o : Open) (k : ℕ) (f : Forest) (more : List (ℕ × Forest)) → b.above ≡ o ∷ [] → stack b ≡ (k, f) ∷ more → strip b.here ≡ f
-root-layer b o k f more a e = head-forest (number o.kind, strip b.here) (k, f) _ more (sym (ap (layers b.here) a) ∙ e)
+root-layer b o k f more a e = ap (λ (l : ℕ × Forest). l.1) (head-same (sym (ap (layers b.here) a) ∙ e))
 
 no-reports : (a : List Report) (v w : List Report) → v ≡ a ++ w → w ≡ [] → v ≡ a
 no-reports a v w e h = e ∙ (ap (λ (z : List Report). a ++ z) h ∙ append-nil a)
 
 pub recovers : (st s : State) (c : Turn st) (t : Tree) → all_ignored st.waiting ≡ true → Spells (now_words st c) t document → Plain t → nest t ≤ st.limit → all_tokens (from_now st c) ≡ true → Runs loops st s → Recovered st s t
-recovers st s c t i h p n a run = on (from-turn st s c i run)
-  where
-    on : From_turn st s c → Recovered st s t
-    on f = elim f.parsed [
+recovers st s c t i h p n a run =
+    let f = from-turn st s c i run in
+    elim f.parsed [
       | inl o ↦ absurd (none-right st.limit (from_now st c) o.report o.taken t h p n a o.right)
       | inr o ↦ (
-          let own : State = f.own in
+          let own : State = on s f.own in
           let more : built.Forest = f.steps.more in
           let later : built.Forest = built.join more (parts_forest s.waiting) in
-          let here : (add_all own.waiting own.tree).here ≡ later = (added-all own.waiting own.tree).here ∙ ap₂ (λ (x : built.Forest) (w : List Part). built.join x (parts_forest w)) f.steps.other.trees.here f.alike.rest.waiting in
+          let here : (add_all own.waiting own.tree).here ≡ later = (added-all own.waiting own.tree).here ∙ ap (λ (x : built.Forest). built.join x (parts_forest s.waiting)) f.steps.other.trees.here in
           let bare : strip later ≡ shows o.children = ap strip (sym here) ∙ root-layer (add_all own.waiting own.tree) (record { before = built.none; kind = kind.DOCUMENT }) (label DOCUMENT) (shows o.children) ((0, none) ∷ []) (add_all_above own.waiting own.tree ∙ f.steps.other.trees.above) o.built in
           record {
             later = later;

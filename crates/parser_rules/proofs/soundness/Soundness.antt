@@ -100,8 +100,8 @@ start-level r xs = record {
 }
 
 -- where the root is open, nothing is built, and all the tokens are left
-pub root-stands : (r : ℕ) (xs ys : List Answer) (s : State) → Untouched (fresh ys r kind.DOCUMENT) s → rest s ≡ answers_tokens xs → StandsAt (whole r xs) DOCUMENT (spot 0 low loose) [] s
-root-stands r xs ys s u e = (
+pub root-stands : (r n : ℕ) (xs ys : List Answer) (s : State) → Untouched (record (fresh ys r kind.DOCUMENT) { asked = n }) s → rest s ≡ answers_tokens xs → StandsAt (whole r xs) DOCUMENT (spot 0 low loose) [] s
+root-stands r n xs ys s u e = (
   record {
     children = none;
     place = record { reach = subst (λ (z : List Token). Reach DOCUMENT (answers_tokens xs) (frame DOCUMENT 0 none ∷ []) z) (sym e) start; leveled = rw (u.depth, u.high, u.limit) (start-level r xs); alone = λ e. refl };
@@ -116,7 +116,7 @@ start-fits r xs e =
     let b : State = begun xs r kind.DOCUMENT in
     elim (read-on xs (Rightly (whole r xs)) (reading xs s) 0 (record { clean = refl; accepts = refl; waits = refl }) e (record { front = []; split = refl; tokens = refl }) blame (omega arith, tt, (tt, tt))) [
       | inl o ↦ inl o
-      | inr o ↦ inr (record { calm = o.calm; seen = seen-any b (shown (whole r xs) b o.calm); stands = root-stands r xs xs b (read_untouched xs s) o.left })
+      | inr o ↦ inr (record { calm = o.calm; seen = seen-any b (shown (whole r xs) b o.calm); stands = root-stands r s.asked xs xs b (read_untouched xs s) o.left })
     ]
   where
     blame : Blames xs (Rightly (whole r xs)) 0 (answers_tokens xs)
