@@ -81,13 +81,9 @@ no_faults _ = refl
 
 -- ---- what that says, check by check
 
-this : (b : Bool) (fault : Fault) (more : List Fault) → unless b fault more ≡ [] → b ≡ true
-this true fault more h = refl
-this false fault more h = absurd (cc)
-
-others : (b : Bool) (fault : Fault) (more : List Fault) → unless b fault more ≡ [] → more ≡ []
-others true fault more h = h
-others false fault more h = absurd (cc)
+no_fault : (b : Bool) (fault : Fault) (more : List Fault) → unless b fault more ≡ [] → (b ≡ true) × (more ≡ [])
+no_fault true fault more h = (refl, h)
+no_fault false fault more h = absurd (cc)
 
 pub record SoundRule (c : Node) : Type 0 where
   pub table : follows_table c ≡ true
@@ -101,44 +97,26 @@ pub record SoundRule (c : Node) : Type 0 where
 pub node_passes : (c : Node) → SoundRule c
 unfolding faults
 node_passes c =
-    let a = others _ _ _ (no_faults c) in
-    let b = others _ _ _ a in
-    let d = others _ _ _ b in
-    let e = others _ _ _ d in
-    let f = others _ _ _ e in
-    let g = others _ _ _ f in
-    record { table = this _ _ _ (no_faults c); leaves = this _ _ _ a; levels = this _ _ _ b; limits = this _ _ _ d; errors = this _ _ _ e; row = this _ _ _ f; ignored = this _ _ _ g }
+    let a = no_fault _ _ _ (no_faults c) in
+    let b = no_fault _ _ _ a.1 in
+    let d = no_fault _ _ _ b.1 in
+    let e = no_fault _ _ _ d.1 in
+    let f = no_fault _ _ _ e.1 in
+    let g = no_fault _ _ _ f.1 in
+    let h = no_fault _ _ _ g.1 in
+    record { table = a.0; leaves = b.0; levels = d.0; limits = e.0; errors = f.0; row = g.0; ignored = h.0 }
 
--- ---- the document's rule
+-- The document's rule passes each check, and so does its loop from any turn on.
+pub record DocumentRule : Type 0 where
+  pub table : document_follows (Call Document) ≡ true
+  pub turns : turns_follow (While Ready (Call Definition)) ≡ true
+  pub leaves : walk leaf_check 5 (Call Document) anything always ≡ true
+  pub levels : walk level_check 5 (Call Document) (at_first DOCUMENT) (level_check.ends kind.DOCUMENT) ≡ true
+  pub limits : walk limit_check 5 (Call Document) unknown_token always ≡ true
+  pub errors : walk pop_check 5 (Call Document) (unknown any_token) always ≡ true
+  pub row : walk row_check 5 (Call Document) (record { own = DOCUMENT; later = DOCUMENT }) (row_check.ends kind.DOCUMENT) ≡ true
+  pub ignored : walk tidy_check 5 (Call Document) false always ≡ true
 
-pub document_followed : document_follows (Call Document) ≡ true
+pub document_passes : DocumentRule
 unfolding computing
-document_followed = refl
-
-pub turns_followed : turns_follow (While Ready (Call Definition)) ≡ true
-unfolding computing
-turns_followed = refl
-
-pub document_leaves : walk leaf_check 5 (Call Document) anything always ≡ true
-unfolding computing
-document_leaves = refl
-
-pub document_levels : walk level_check 5 (Call Document) (at_first DOCUMENT) (level_check.ends kind.DOCUMENT) ≡ true
-unfolding computing
-document_levels = refl
-
-pub document_limits : walk limit_check 5 (Call Document) unknown_token always ≡ true
-unfolding computing
-document_limits = refl
-
-pub document_told : walk pop_check 5 (Call Document) (unknown any_token) always ≡ true
-unfolding computing
-document_told = refl
-
-pub document_row : walk row_check 5 (Call Document) (record { own = DOCUMENT; later = DOCUMENT }) (row_check.ends kind.DOCUMENT) ≡ true
-unfolding computing
-document_row = refl
-
-pub document_tidy : walk tidy_check 5 (Call Document) false always ≡ true
-unfolding computing
-document_tidy = refl
+document_passes = record { table = refl; turns = refl; leaves = refl; levels = refl; limits = refl; errors = refl; row = refl; ignored = refl }

@@ -40,10 +40,10 @@ use Rattle.parser_rules.proofs.runs.Marked.{Source, token, aside, Marked, append
 use Rattle.parser_rules.proofs.runs.Walk.{after_waiting, always, Goes, Sound, walked_whole}
 use Rattle.parser_rules.proofs.runs.Reporting.{after_note, after_too_deep}
 use Rattle.parser_rules.proofs.reports.NoReport.{end-kind}
-use Rattle.parser_rules.proofs.lookahead.TokenSets.{absent, over, class_of, read-second, of-any, Seen, seen-any, seen-more, edges, end-over, absent-over}
+use Rattle.parser_rules.proofs.lookahead.TokenSets.{absent, over, class_of, read-second, of-any, Seen, seen-any, seen-more, edges}
 use Rattle.parser_rules.proofs.lookahead.Split.{split-at}
 use Rattle.parser_rules.proofs.leaves.LeafCheck.{is_error, belongs, Tokens, anything, leaf_check}
-use Rattle.parser_rules.proofs.NodeChecks.{node_passes, document_leaves as document_fits}
+use Rattle.parser_rules.proofs.NodeChecks.{node_passes, document_passes}
 
 -- ---- the leaves of what is built
 
@@ -110,7 +110,7 @@ unfolding belongs fires
 belongs_fits x own t i b h = elim (either (is_end t.kind)) [
   | inl e ↦ (
       let z : within 0 x ≡ true = subst (λ b. within (cond b 0 (class (leaf_number t.kind, t.text))) x ≡ true) e h in
-      false-true (holds-disjoint 0 x over (and-l _ _ (and-l _ _ b)) z) end-over)
+      false-true (holds-disjoint 0 x over (and-l _ _ (and-l _ _ b)) z) edges.end_over)
   | inr e ↦ (
       let z : within (class (leaf_number t.kind, t.text)) x ≡ true = subst (λ b. within (cond b 0 (class (leaf_number t.kind, t.text))) x ≡ true) e h in
       let f : fires (number own) (class (leaf_number t.kind, t.text)) 0 ≡ true = hits-fires (entries (number own)) x any (class (leaf_number t.kind, t.text)) 0 (and-r _ _ (and-r _ _ b)) z edges.end_any in
@@ -119,7 +119,7 @@ belongs_fits x own t i b h = elim (either (is_end t.kind)) [
 
 none_belongs : {A : Type 0} (x : ℕ) (own : SyntaxKind) → belongs x own ≡ true → within absent x ≡ true → A
 unfolding belongs
-none_belongs x own b h = false-true (holds-disjoint absent x over (and-l _ _ (and-l _ _ b)) h) absent-over
+none_belongs x own b h = false-true (holds-disjoint absent x over (and-l _ _ (and-l _ _ b)) h) edges.none_over
 
 -- ---- runs
 
@@ -254,7 +254,7 @@ pub document_leaves : {t : State} (items : List Answer) (limit : ℕ) → AreAns
 document_leaves {t = t} items limit are run =
     let s = begun items limit kind.DOCUMENT in
     let shown = subst Shown (sym (reading-second (reading items (fresh items limit kind.DOCUMENT)))) (second-shown items) in
-    let (f, a, e, h, g, w) = walked_whole leaf_check Held sound items limit kind.DOCUMENT anything always run document_fits (record { shown = shown; seen = seen-any s shown; fits = no_more }) in
+    let (f, a, e, h, g, w) = walked_whole leaf_check Held sound items limit kind.DOCUMENT anything always run document_passes.leaves (record { shown = shown; seen = seen-any s shown; fits = no_more }) in
     let last = none_left t.current t.items (ends run (read_ends items (fresh items limit kind.DOCUMENT) refl are)).now (document_over run) in
     let order : flat (append f (set_aside t.waiting)) ++ now_of t.current ≡ sources items = ap (λ (v : List Source). flat (append f (set_aside t.waiting)) ++ v) (sym (ap (λ (xs : List Answer). now_of t.current ++ sources xs) last ∙ append-nil (now_of t.current))) ∙ w.order in
     let each = each-item items t.current (document_over run) (fit-append f (set_aside t.waiting) h.fits (fit-aside t.waiting)) order in

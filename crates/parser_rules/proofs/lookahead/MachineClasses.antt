@@ -8,7 +8,7 @@ use Rattle.grammar_machine.proofs.Checks.{disjoint}
 use Rattle.document_grammar.proofs.Booleans.{either, false-true}
 use Rattle.grammar_machine.proofs.TableLemmas.{holds-disjoint, holds-or}
 use Rattle.parser_rules.specs.State.{State, Lexeme, second}
-use Rattle.parser_rules.proofs.lookahead.TokenSets.{absent, class_of, ready, not-zero, holds-minus, Seen}
+use Rattle.parser_rules.proofs.lookahead.TokenSets.{edges, absent, class_of, ready, not-zero, holds-minus, Seen}
 use Rattle.parser_rules.proofs.reports.NoReport.{EndsWell, Now, rest, answers_tokens, current_tokens, ignored-tokens, ignored-end, end-kind, significant, standing}
 use Rattle.parser_rules.proofs.runs.Reading.{Reading, stops, cuts, bad_text, waits, shows, reading-none, looks}
 use Rattle.parser_rules.proofs.lookahead.FirstSets.{without}
@@ -16,18 +16,10 @@ use Rattle.parser_rules.proofs.soundness.TableCheck.{behind}
 
 -- ---- the end, where no token is
 
-own-absent : within absent (2 ^ absent) ≡ true
-unfolding within
-own-absent = refl
-
-pub zero-one : within 0 1 ≡ true
-unfolding within
-zero-one = refl
-
 pub behind-none : (y : ℕ) → within absent y ≡ true → within 0 (behind y) ≡ true
 behind-none y h = elim (either (disjoint y (2 ^ absent))) [
-  | inl d ↦ false-true (holds-disjoint absent y (2 ^ absent) d h) own-absent
-  | inr d ↦ rw d (holds-or 0 (without y (2 ^ absent)) 1 (inr zero-one))
+  | inl d ↦ false-true (holds-disjoint absent y (2 ^ absent) d h) edges.none_one
+  | inr d ↦ rw d (holds-or 0 (without y (2 ^ absent)) 1 (inr edges.end_one))
 ]
 
 pub behind-in : (a y : ℕ) → within a (2 ^ absent) ≡ false → within a y ≡ true → within a (behind y) ≡ true
@@ -35,10 +27,6 @@ behind-in a y n h = elim (either (disjoint y (2 ^ absent))) [
   | inl d ↦ rw d h
   | inr d ↦ rw d (holds-or a (without y (2 ^ absent)) 1 (inl (holds-minus a y (2 ^ absent) h n)))
 ]
-
-zero-shown : within 0 (2 ^ absent) ≡ false
-unfolding within
-zero-shown = refl
 
 ready-shown : disjoint ready (2 ^ absent) ≡ true
 ready-shown = refl
@@ -56,7 +44,7 @@ sees (cuts r) y e h = rw e (behind-none y (subst (λ (o : Option Lexeme). within
 sees (bad_text i r) y e h = rw i (sees r y (rw i at e) h)
 sees (waits {item = item} {k = k} {own = own} i j r) y e h = rw (i, ignored-tokens k own item.text j) (sees r y (rw (i, ignored-end k own j) at e) h)
 sees (shows {item = item} {k = k} {xs = xs} i j) y e h = elim (either (is_end k)) [
-  | inl z ↦ (let n : xs ≡ [] = rw (i, z) at e in rw (i, n, end-kind k z) (behind-in 0 y zero-shown (rw z at h)))
+  | inl z ↦ (let n : xs ≡ [] = rw (i, z) at e in rw (i, n, end-kind k z) (behind-in 0 y edges.end_none (rw z at h)))
   | inr z ↦ (let b : Token = (leaf_number k, item.text) in rw (i, significant k item.text z j) (behind-in (class b) y (class-shown b) (rw z at h)))
 ]
 

@@ -1,5 +1,5 @@
 -- What a test says of the classes of the current token and of the next significant one: it passes exactly for the classes of its set.
-use Rattle.std.proofs.Common.{◌≡◌, ℕ, zero, suc, ◌+◌, ◌-◌, ◌^◌, ◌%◌, ◌≤◌, ◌<◌, ◌||◌, ap₂, max, min, Bool, true, false, not, cond, ◌&&◌, eqb, bit_and, List, Option, Some, None, refl, sym, ap, ◌∙◌, subst, inl, inr, eqb-true, is_some, arith}
+use Rattle.std.proofs.Common.{◌≡◌, ℕ, zero, suc, ◌+◌, ◌-◌, ◌^◌, ◌%◌, ◌<◌, ◌||◌, ap₂, max, min, Bool, true, false, not, cond, ◌&&◌, eqb, bit_and, List, Option, Some, None, refl, sym, ap, ◌∙◌, subst, inl, inr, eqb-true, is_some, arith}
 use Rattle.std.proofs.lemmas.Bool.{eqb-false}
 use Rattle.std.specs.Int.{bit_at}
 use Rattle.std.specs.Int.Bits.{bit_xor, bit_or}
@@ -69,6 +69,10 @@ present = any - 2 ^ absent
 
 abbrev pub ready : ℕ
 ready = present - 1
+
+-- no token is left but the end
+abbrev pub over : ℕ
+over = 2 ^ absent + 1
 
 at-end : (k : TokenKind) → same_kind token.Eof k ≡ within 0 (kind_set k)
 unfolding same_kind within
@@ -155,10 +159,23 @@ unfolding within
 at-none token.Eof = refl
 at-none _ = refl
 
--- the classes of the end and of no token, in the sets of all tokens
-pub edges : record { end_ready : within 0 ready ≡ false; none_ready : within absent ready ≡ false; end_present : within 0 present ≡ true; none_present : within absent present ≡ false; end_any : within 0 any ≡ true; none_any : within absent any ≡ true }
+-- the classes of the end and of no token, in the sets of all tokens and in those of one class
+pub record Edges : Type 0 where
+  pub end_ready : within 0 ready ≡ false
+  pub none_ready : within absent ready ≡ false
+  pub end_present : within 0 present ≡ true
+  pub none_present : within absent present ≡ false
+  pub end_any : within 0 any ≡ true
+  pub none_any : within absent any ≡ true
+  pub end_over : within 0 over ≡ true
+  pub none_over : within absent over ≡ true
+  pub end_one : within 0 1 ≡ true
+  pub none_one : within absent (2 ^ absent) ≡ true
+  pub end_none : within 0 (2 ^ absent) ≡ false
+
+pub edges : Edges
 unfolding within
-edges = record { end_ready = refl; none_ready = refl; end_present = refl; none_present = refl; end_any = refl; none_any = refl }
+edges = record { end_ready = refl; none_ready = refl; end_present = refl; none_present = refl; end_any = refl; none_any = refl; end_over = refl; none_over = refl; end_one = refl; none_one = refl; end_none = refl }
 
 -- the end, or any other token
 at-token : (A : TokenKind → ℕ → Type 0) (k : TokenKind) (text : Text) → ignored k ≡ None → A token.Eof 0 → (is_end k ≡ false → A k (class (leaf_number k, text))) → A k (lexeme_class k text)
@@ -232,42 +249,23 @@ by_near c e m x y f g = c (part e (bit_and x m) (λ z. f z y)) (part e (bit_xor 
 abbrev pub by_far : {R : Type 0} → (R → R → R) → R → ℕ → ℕ → ℕ → (ℕ → ℕ → R) → (ℕ → ℕ → R) → R
 by_far c e m x y f g = c (part e (bit_and y m) (λ z. f x z)) (part e (bit_xor y (bit_and y m)) (λ z. g x z))
 
--- no token is left but the end
-abbrev pub over : ℕ
-over = 2 ^ absent + 1
-
-pub end-over : within 0 over ≡ true
-unfolding within
-end-over = refl
-
-pub absent-over : within absent over ≡ true
-unfolding within
-absent-over = refl
-
-no-bit : (n : ℕ) → n ≤ 1 → eqb n 1 ≡ false → n ≡ 0
-no-bit zero l h = refl
-no-bit (suc zero) l h = false-true h refl
-no-bit (suc (suc n)) l h = omega arith
-
 -- a class in a set and not in a second is in the first without what they share
 pub holds-minus : (a x m : ℕ) → within a x ≡ true → within a m ≡ false → within a (bit_xor x (bit_and x m)) ≡ true
 unfolding within
 holds-minus a x m h g =
     let e : bit_at x a ≡ 1 = eqb-true _ _ h in
     let lm = bit_at-lt m a in
-    let f : bit_at m a ≡ 0 = no-bit (bit_at m a) (omega arith) g in
+    let n = eqb-false (bit_at m a) 1 g in
+    let f : bit_at m a ≡ 0 = omega (arith, lm, n) in
     let i : bit_at (bit_and x m) a ≡ min (bit_at x a) (bit_at m a) = bit_at_and x m a in
     let k : bit_at (bit_and x m) a ≡ 0 = omega arith in
     let j : bit_at (bit_xor x (bit_and x m)) a ≡ (bit_at x a + bit_at (bit_and x m) a) % 2 = bit_at_xor x (bit_and x m) a in
     let l : bit_at (bit_xor x (bit_and x m)) a ≡ 1 = rw (e, k) at j in
     rw l refl
 
-zero-one : {A : Type 0} {n : ℕ} → n ≡ 0 → n ≡ 1 → A
-zero-one e f = absurd (omega (arith, e, f))
-
 pub holds-none : {A : Type 0} (a : ℕ) → within a 0 ≡ true → A
 unfolding within
-holds-none a h = let z : bit_at 0 a ≡ 0 = bit_at-zero a in let e : bit_at 0 a ≡ 1 = eqb-true _ _ h in zero-one z e
+holds-none a h = let z : bit_at 0 a ≡ 0 = bit_at-zero a in let e : bit_at 0 a ≡ 1 = eqb-true _ _ h in absurd (omega (arith, z, e))
 
 part-live : (a z : ℕ) (f : ℕ → Bool) → part true z f ≡ true → within a z ≡ true → f z ≡ true
 part-live a z f h i = elim (either (eqb z 0)) [ inl p ↦ holds-none a (subst (λ n. within a n ≡ true) (eqb-true _ _ p) i) | inr p ↦ (rw p at h) ]

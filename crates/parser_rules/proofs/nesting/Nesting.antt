@@ -27,7 +27,7 @@ use Rattle.parser_rules.proofs.runs.Walk.{after_waiting, Sound, walked_whole}
 use Rattle.parser_rules.proofs.runs.Reporting.{after_note, after_too_deep}
 use Rattle.parser_rules.proofs.soundness.TableCheck.{own}
 use Rattle.parser_rules.proofs.nesting.LevelCheck.{Depth, at_first, level_check}
-use Rattle.parser_rules.proofs.NodeChecks.{node_passes, document_levels}
+use Rattle.parser_rules.proofs.NodeChecks.{node_passes, document_passes}
 
 -- ---- what waits
 
@@ -186,7 +186,7 @@ nesting items limit s run c =
     let still = read_untouched items (fresh items limit kind.DOCUMENT) in
     let d = still.depth in
     let first = inner-none DOCUMENT in
-    let (f, a, e, h, g, w) = walked_whole level_check Held sound items limit kind.DOCUMENT (at_first DOCUMENT) _ run document_levels
+    let (f, a, e, h, g, w) = walked_whole level_check Held sound items limit kind.DOCUMENT (at_first DOCUMENT) _ run document_passes.levels
     (record { depth = omega arith; deep = omega (arith, d); higher = omega arith; peak = omega (arith, first); waits = read-waits (reading items (fresh items limit kind.DOCUMENT)) refl }) in
     let here : Forest = (add_all s.waiting s.tree).here in
     let root : finished s ≡ built.node kind.DOCUMENT here built.none = ap (λ (above : List Open). (close here above).here) (add_all_above s.waiting s.tree ∙ root_stays items limit kind.DOCUMENT run) in

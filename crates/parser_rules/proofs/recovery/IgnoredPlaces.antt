@@ -14,7 +14,7 @@ use Rattle.parser_rules.specs.RuleLanguage.{Call}
 use Rattle.parser_rules.specs.Runs.{Runs}
 use Rattle.parser_rules.specs.Open.{IsRoot}
 use Rattle.parser_rules.proofs.recovery.RecoveryCheck.{tidy_check}
-use Rattle.parser_rules.proofs.NodeChecks.{node_passes, document_tidy}
+use Rattle.parser_rules.proofs.NodeChecks.{node_passes, document_passes}
 use Rattle.parser_rules.proofs.runs.Frame.{add_all_above}
 use Rattle.parser_rules.proofs.runs.Marked as marked
 use Rattle.parser_rules.proofs.runs.Marked.{Marked, append, token, erase, erase-append, set_aside}
@@ -99,7 +99,7 @@ sound = record {
 -- no node but the root begins or ends with an ignored leaf
 pub trimmed : (r : ℕ) (xs : List Answer) (s : State) → Runs (Call Document) (begun xs r kind.DOCUMENT) s → trim (add_all s.waiting s.tree).here ≡ true
 trimmed r xs s run =
-    let (f, a, e, h, g, w) = walked_whole tidy_check Tidy sound xs r kind.DOCUMENT false always run document_tidy (empty (begun xs r kind.DOCUMENT)) in
+    let (f, a, e, h, g, w) = walked_whole tidy_check Tidy sound xs r kind.DOCUMENT false always run document_passes.ignored (empty (begun xs r kind.DOCUMENT)) in
     subst (λ (x : built.Forest). trim x ≡ true) w.tree (trim-append f (set_aside s.waiting) h.inner (trim-aside s.waiting))
 
 -- In a tree without reports each ignored leaf is where the text fixes it.

@@ -15,7 +15,7 @@ use Rattle.parser_rules.specs.RuleLanguage.{Kind, Test, Here, HasNext, Not, Both
 use Rattle.parser_rules.specs.Runs.{Runs}
 use Rattle.std.proofs.lemmas.Bool.{and_parts}
 use Rattle.parser_rules.proofs.recovery.RecoveryCheck.{is_list, excludes, asks_next, Room, any_token, no_bracket, one_token, no_token, same_room, room_of, Popping, unknown, pop, pop_check}
-use Rattle.parser_rules.proofs.NodeChecks.{node_passes, document_told}
+use Rattle.parser_rules.proofs.NodeChecks.{node_passes, document_passes}
 use Rattle.parser_rules.proofs.runs.Reading.{Reading, stops, cuts, bad_text, waits, shows, reading}
 use Rattle.parser_rules.proofs.runs.Marked.{Source, token, aside, Marked, none, leaf, node, append, append-none, erase, flat, set_aside, now_of, sources, moved_on, has-more, Reports, reports-then, read-reports, Grown, grown-note, grown-deep}
 use Rattle.parser_rules.proofs.runs.Walk.{after_waiting, always, Goes, Sound, walked_whole}
@@ -326,7 +326,7 @@ pub record Recovery (xs : List Answer) (s : State) : Type 0 where
 pub document_recovers : (r : ℕ) (xs : List Answer) (s : State) → EndsWell xs → Runs (Call Document) (begun xs r kind.DOCUMENT) s → ((r : Report) → r.found ≡ at_limit → Has s.errors r → ⊥) → Recovery xs s
 document_recovers r xs s en run none-limited =
     let o : State = fresh xs r kind.DOCUMENT in
-    let (f, a, e, h, g, w) = walked_whole pop_check Held sound xs r kind.DOCUMENT (unknown any_token) always run document_told (held any_token (begun xs r kind.DOCUMENT) (begun xs r kind.DOCUMENT) none (reading-stood (reading xs o) en) (λ y. (tt, tt))) in
+    let (f, a, e, h, g, w) = walked_whole pop_check Held sound xs r kind.DOCUMENT (unknown any_token) always run document_passes.errors (held any_token (begun xs r kind.DOCUMENT) (begun xs r kind.DOCUMENT) none (reading-stood (reading xs o) en) (λ y. (tt, tt))) in
     let p = reports-then o (begun xs r kind.DOCUMENT) s (read-reports (reading xs o)) g.reports in
     let taken : s.accepts ≡ true = elim (either s.accepts) [ inl y ↦ y | inr y ↦ (let l = p.limited refl y in absurd (none-limited l.0 l.1 (subst (λ (z : List Report). Has z l.0) (sym p.errors) l.2))) ] in
     record { marked = append f (set_aside s.waiting); tree = w.tree; order = w.order; recovers = recovers-append s.errors f (set_aside s.waiting) (h.right taken).0 (recovers-aside s.errors s.waiting) }

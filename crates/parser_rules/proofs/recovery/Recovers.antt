@@ -32,7 +32,7 @@ use Rattle.parser_rules.proofs.runs.Reading.{Shown, second-shown}
 use Rattle.parser_rules.proofs.lookahead.TokenSets.{ready-is, of-any, ready}
 use Rattle.parser_rules.proofs.lookahead.Split.{low, loose, spot}
 use Rattle.parser_rules.proofs.soundness.TableCheck.{turns_follow}
-use Rattle.parser_rules.proofs.NodeChecks.{turns_followed}
+use Rattle.parser_rules.proofs.NodeChecks.{document_passes}
 use Rattle.parser_rules.proofs.soundness.Plain.{Plain}
 use Rattle.parser_rules.proofs.soundness.Positions.{Fits, Tells}
 use Rattle.parser_rules.proofs.runs.Anew.{Built, built_of, on, Same_steps, anew}
@@ -69,7 +69,7 @@ pub record From_turn (st s : State) (c : Turn st) : Type 0 where
 
 pub from-turn : (st s : State) (c : Turn st) → all_ignored st.waiting ≡ true → Runs loops st s → From_turn st s c
 unfolding turns_follow
-from-turn st s c i run = let a = anew run own_tree in record { own = a.0; steps = a.2; parsed = run-out st.limit (from_now st c) ready turns_followed a.1 (afresh-fits st c i) }
+from-turn st s c i run = let a = anew run own_tree in record { own = a.0; steps = a.2; parsed = run-out st.limit (from_now st c) ready document_passes.turns a.1 (afresh-fits st c i) }
 
 -- The root's later children are the derivation's, and nothing more is reported.
 pub record Recovered (st s : State) (t : Tree) : Type 0 where

@@ -13,7 +13,7 @@ use Rattle.parser_rules.specs.Nodes.{Document}
 use Rattle.parser_rules.specs.RuleLanguage.{Call}
 use Rattle.parser_rules.specs.Runs.{Runs}
 use Rattle.parser_rules.proofs.recovery.RecoveryCheck.{of_row, leaf_of_row, Two_rows, row_check}
-use Rattle.parser_rules.proofs.NodeChecks.{node_passes, document_row}
+use Rattle.parser_rules.proofs.NodeChecks.{node_passes, document_passes}
 use Rattle.parser_rules.proofs.runs.Reading.{ignored-leaf, Reading, reading, all_kinds, reading-waits}
 use Rattle.parser_rules.proofs.runs.Marked.{Marked, none, leaf, node, token, moved_on, append, erase, erase-append, set_aside}
 use Rattle.parser_rules.proofs.runs.Walk.{after_waiting, Sound, walked_whole}
@@ -96,5 +96,5 @@ sound = record {
 pub document_rowed : (r : ℕ) (xs : List Answer) (s : State) → Runs (Call Document) (begun xs r kind.DOCUMENT) s → rowed kind.DOCUMENT (add_all s.waiting s.tree).here ≡ true
 unfolding row_check
 document_rowed r xs s run =
-    let (f, a, e, h, g, w) = walked_whole row_check Fit sound xs r kind.DOCUMENT _ _ run document_row (record { own = refl; later = refl; waits = read-aside (reading xs (fresh xs r kind.DOCUMENT)) refl }) in
+    let (f, a, e, h, g, w) = walked_whole row_check Fit sound xs r kind.DOCUMENT _ _ run document_passes.row (record { own = refl; later = refl; waits = read-aside (reading xs (fresh xs r kind.DOCUMENT)) refl }) in
     subst (λ (x : built.Forest). rows DOCUMENT x ≡ true) w.tree (subst (λ n. rows n (erase (append f (set_aside s.waiting))) ≡ true) (eqb-true _ _ e) (rows-append a.own f (set_aside s.waiting) h.own (rows-aside a.own s.waiting h.waits)))

@@ -7,13 +7,13 @@ use Rattle.document_grammar.specs.declared.kind.SyntaxKind.{SyntaxKind}
 use Rattle.document_grammar.specs.Builds.{add_leaf}
 use Rattle.parser_rules.specs.declared.message.Message.{Message}
 use Rattle.parser_rules.specs.Messages.{is_limit}
-use Rattle.parser_rules.specs.State.{State, Lexeme, Report, at_end, at_text, bad_report, token_limit_report, read_on, flush, closed, wrapped_from, fault_report, enter, leave, deepened, begun, fresh, usize_max}
+use Rattle.parser_rules.specs.State.{State, Lexeme, Report, at_end, at_text, bad_report, token_limit_report, flush, closed, wrapped_from, fault_report, enter, leave, begun, fresh, usize_max}
 use Rattle.parser_rules.specs.Reports.{is_recursion_limit}
 use Rattle.parser_rules.specs.RuleLanguage.{Rule}
 use Rattle.parser_rules.specs.Runs.{Runs}
 use Rattle.parser_rules.proofs.runs.Steps.{Holds_along, PastLimit, along}
 use Rattle.parser_rules.proofs.runs.Reading.{Reading, stops, cuts, bad_text, waits, shows, reading}
-use Rattle.parser_rules.proofs.runs.Frame.{read_untouched}
+use Rattle.parser_rules.proofs.runs.Frame.{read_untouched, begun_nesting}
 
 -- the recursion limit is reported
 abbrev IsLimited : State → Type 0
@@ -37,47 +37,29 @@ read-limited {s = s} (bad_text {item = item} e r) h = other-report s (bad_report
 read-limited (waits e i r) h = read-limited r h
 read-limited (shows e i) h = h
 
+-- where it is reported, more than the limit was asked for
 abbrev Told : State → Type 0
 Told s = IsLimited s → PastLimit s
 
-record Tells (s t : State) : Type 0 where
-  limit : t.limit ≡ s.limit
-  higher : s.high ≤ t.high
-  told : Told s → Told t
-
-same : (s t : State) → t.limit ≡ s.limit → s.high ≤ t.high → (IsLimited t → IsLimited s) → Tells s t
-same s t l h e = record { limit = l; higher = h; told = λ k i. let p = k (e i) in omega (arith, l, h, p) }
-
-next : (s t u : State) → Tells s t → Tells t u → Tells s u
-next s t u h k = record { limit = k.limit ∙ h.limit; higher = (let a = h.higher in let b = k.higher in omega (arith, a, b)); told = λ e. k.told (h.told e) }
-
-moves : (leaf : SyntaxKind) (x : Lexeme) (s : State) → Tells s (read_on s.items (record s { tree = add_leaf leaf x.text s.tree }))
-moves leaf x s =
-    let u : State = record s { tree = add_leaf leaf x.text s.tree } in
-    let e = read_untouched s.items u in
-    let h = e.high in
-    same s (read_on s.items u) e.limit (omega (arith, h)) (read-limited (reading s.items u))
-
-tells-along : Holds_along Tells
+tells-along : Holds_along (λ s t. Told s → Told t)
 unfolding flush closed enter leave wrapped_from
 tells-along = record {
-  same = λ s. same s s refl (omega arith) (λ e. e);
-  next = next;
-  flushes = λ s. same s (flush s) refl (omega arith) (λ e. e);
-  moves = λ leaf x s e w. moves leaf x s;
-  reports = λ m x s e a. same s (record s { errors = s.errors ++ fault_report m x ∷ [] }) refl (omega arith) (other-report s (fault_report m x) (fault-other m x));
-  limits = λ x s e a d. record { limit = refl; higher = omega arith; told = λ k i. d };
-  asks = λ s. same s (deepened s) refl (omega arith) (λ e. e);
-  nodes = λ k s u h. record { limit = h.limit; higher = h.higher; told = h.told };
-  levels = λ s u q h. next s (enter s) (leave u) (same s (enter s) refl (omega arith) (λ e. e)) (record { limit = h.limit; higher = h.higher; told = h.told });
-  wraps = λ k t u w h l. next t u (closed w) h (record { limit = l.limit; higher = l.higher; told = l.told });
+  same = λ s h. h;
+  next = λ s t u h k e. k (h e);
+  flushes = λ s h. h;
+  moves = λ leaf x s e w h i.
+      let t : State = record s { tree = add_leaf leaf x.text s.tree } in let u = read_untouched s.items t in let l = u.limit in let g = u.high in let p = h (read-limited (reading s.items t) i) in omega (arith, l, g, p);
+  reports = λ m x s e a h i. h (other-report s (fault_report m x) (fault-other m x) i);
+  limits = λ x s e a d h i. d;
+  asks = λ s h i. let p = h i in omega (arith, p);
+  nodes = λ k s u h. h;
+  levels = λ s u q h k. h (λ i. let p = k i in omega (arith, p));
+  wraps = λ k t u w h l e. l (h e);
 }
 
 -- the limit is one below the greatest depth that was asked for, where it is reported
 pub asked-past : {r : Rule} {t : State} (items : List Answer) (limit : ℕ) (k : SyntaxKind) → Runs r (begun items limit k) t → list_any is_recursion_limit t.errors ≡ true → min (limit + 1) usize_max ≤ t.high
 asked-past {t = t} items limit k run h =
-    let b = along tells-along run in
-    let first : Told (begun items limit k) = λ i. absurd (true≢false (sym (read-limited (reading items (fresh items limit k)) i))) in
-    let l = b.limit ∙ (read_untouched items (fresh items limit k)).limit in
-    let p = b.told first h in
+    let l = (begun_nesting items limit k run).1 in
+    let p = along tells-along run (λ i. absurd (true≢false (sym (read-limited (reading items (fresh items limit k)) i)))) h in
     omega (arith, l, p)

@@ -22,7 +22,7 @@ use Rattle.parser_rules.proofs.runs.Frame.{read_untouched}
 use Rattle.parser_rules.proofs.reports.NoReport.{choose, EndsWell, Stood, reading-stood, stands-along}
 use Rattle.parser_rules.proofs.recovery.Popped.{cut-off}
 use Rattle.parser_rules.proofs.reports.LimitCheck.{Current, unknown, present, inner, is_inner, known, fits_inner, tells_inner, after_token, is_known, same_inner, begins_level, limit_check}
-use Rattle.parser_rules.proofs.NodeChecks.{node_passes, document_limits}
+use Rattle.parser_rules.proofs.NodeChecks.{node_passes, document_passes}
 
 -- ---- what a test says
 
@@ -198,7 +198,7 @@ limit-reported r xs s en run more =
     let o : State = fresh xs r kind.DOCUMENT in
     let b : State = begun xs r kind.DOCUMENT in
     let none-asked : b.high ≡ 0 = (read_untouched xs o).high in
-    let (f, a, e, h, g, w) = walked_whole limit_check Held sound xs r kind.DOCUMENT unknown always run document_limits (record { stood = reading-stood (reading xs o) en; bounded = λ y. omega (arith, none-asked); token = λ y. refl }) in
+    let (f, a, e, h, g, w) = walked_whole limit_check Held sound xs r kind.DOCUMENT unknown always run document_passes.limits (record { stood = reading-stood (reading xs o) en; bounded = λ y. omega (arith, none-asked); token = λ y. refl }) in
     let p = reports-then o b s (read-reports (reading xs o)) g.reports in
     elim (either s.accepts) [
       | inl y ↦ absurd (over (h.bounded y))

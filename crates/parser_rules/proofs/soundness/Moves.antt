@@ -28,10 +28,10 @@ use Rattle.parser_rules.proofs.runs.Frame.{Untouched, read_untouched}
 use Rattle.parser_rules.proofs.soundness.WithoutIgnored.{Stack, stack, put, stack-leaf, stack-finish, stack-flush}
 use Rattle.parser_rules.proofs.reports.NoReport.{Now, choose, EndsWell, rest, answers_tokens, current_tokens, AtToken, standing, given, passed-one, Held, read-on}
 use Rattle.parser_rules.proofs.soundness.FirstReport.{Stuck, TooMany, no_token}
-use Rattle.parser_rules.proofs.lookahead.MachineClasses.{Next, sees-next, zero-one}
+use Rattle.parser_rules.proofs.lookahead.MachineClasses.{Next, sees-next}
 use Rattle.parser_rules.proofs.lookahead.Split.{Level, low, Sure, loose, firm, full, Spot, spot, lost}
 use Rattle.parser_rules.proofs.runs.Reading.{second-shown, reading}
-use Rattle.parser_rules.proofs.lookahead.TokenSets.{class_of, read-second, of-any, over, Seen, seen-any, holds-minus}
+use Rattle.parser_rules.proofs.lookahead.TokenSets.{edges, class_of, read-second, of-any, over, Seen, seen-any, holds-minus}
 use Rattle.parser_rules.proofs.lookahead.FirstSets.{without, unread}
 use Rattle.parser_rules.proofs.soundness.MachineStack.{image, image-some, shows-snoc, put-image, image-node, show-node, lay, lay-put}
 use Rattle.parser_rules.proofs.soundness.Settled.{Fitting, settled-at}
@@ -83,7 +83,7 @@ module _ (R : Reading) where
       on stuck m = inl (fault (top R) (start_good R) w s q c.children fs (rest st) c.place.reach m, (frame s q c.children ∷ fs, c.place.reach))
       on close m = elim (or-c _ _ (and-r _ _ h)) [
         | inl e ↦ false-true (not-c _ e) (move-ends s q _ _ m)
-        | inr e ↦ inl (root-stuck c.place (and-l _ _ e) m (λ z. false-true (holds-disjoint 0 x 1 (and-r _ _ e) (subst (λ (a : ℕ). within a x ≡ true) z (fits-next g).near)) zero-one))
+        | inr e ↦ inl (root-stuck c.place (and-l _ _ e) m (λ z. false-true (holds-disjoint 0 x 1 (and-r _ _ e) (subst (λ (a : ℕ). within a x ≡ true) z (fits-next g).near)) edges.end_one))
       ]
 
   -- ---- the limit
@@ -194,7 +194,7 @@ module _ (R : Reading) where
         | inl z ↦ (
             let i : within (class_of (Some t)) x ≡ true = subst (λ o. within (class_of o) x ≡ true) e seen.near in
             let g : within 0 x ≡ true = subst (λ k. within (cond (is_end k) 0 (class (leaf_number k, t.text))) x ≡ true) z.kind i in
-            false-true (holds-disjoint 0 x 1 (and-l _ _ (and-l _ _ (and-l _ _ h))) g) zero-one)
+            false-true (holds-disjoint 0 x 1 (and-l _ _ (and-l _ _ (and-l _ _ h))) g) edges.end_one)
         | inr a ↦ took t e a (subst (λ (b : Bool). choose b (st.items ≡ []) (EndsWell st.items)) a.is_end n.1)
       ]
 

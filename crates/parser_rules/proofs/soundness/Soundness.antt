@@ -49,7 +49,7 @@ use Rattle.parser_rules.proofs.lookahead.TokenSets.{class_of, seen-any, over, re
 use Rattle.parser_rules.proofs.lookahead.Split.{Level, low, high, past, loose, spot, lost}
 use Rattle.parser_rules.proofs.lookahead.MachineClasses.{Next}
 use Rattle.parser_rules.proofs.soundness.TableCheck.{ok, raised, own, owed, behind, root_ends, document_follows}
-use Rattle.parser_rules.proofs.NodeChecks.{document_followed}
+use Rattle.parser_rules.proofs.NodeChecks.{document_passes}
 use Rattle.parser_rules.proofs.soundness.FirstReport.{Viable, Unread, TooMany, Right, stuck_here, unread_here, deep_here, no_token, Behind}
 use Rattle.parser_rules.proofs.soundness.Plain.{Plain, plain-read}
 use Rattle.parser_rules.proofs.soundness.Positions.{StandsAt, Reading, run-grows, Leveled, Place, Fits, Out, Tells, Rightly, tell-on, shown}
@@ -214,7 +214,7 @@ pub parsed : (r : ℕ) (xs : List Answer) (s : State) → EndsWell xs → IsRoot
 unfolding document_follows
 parsed r xs s en root run = elim (start-fits r xs en) [
   | inl o ↦ inl (tell-on (whole r xs) (begun xs r kind.DOCUMENT) s (run-grows run) o)
-  | inr b ↦ elim (run-out r xs any document_followed run b) [
+  | inr b ↦ elim (run-out r xs any document_passes.table run b) [
     | inl o ↦ inl o
     | inr o ↦ inr (o.silent, subst (CleanAs r xs s) (sym (finished-tree s (label DOCUMENT, shows o.children) ((0, none) ∷ []) root o.built)) o.clean)
   ]
