@@ -4,10 +4,12 @@ use Rattle.grammar_machine.proofs.TableLemmas.{head-same, tail-same, no-cons}
 use Rattle.document_grammar.specs.Numbered.{tree_of}
 use Rattle.document_grammar.specs.Places.{bare}
 use Rattle.grammar_machine.proofs.Starts.{read, next_one, next_two}
-use Rattle.std.proofs.Common.{◌≡◌, ℕ, zero, suc, ◌≤◌, length, Bool, true, false, List, [], ◌∷◌, ◌++◌, Some, None, refl, sym, ap, ap₂, ◌∙◌, subst, inl, inr, true≢false, arith, is_some, ◌-◌, ◌⊎◌}
+use Rattle.std.proofs.Common.{◌≡◌, ℕ, zero, suc, ◌≤◌, ◌+◌, length, Bool, true, false, List, [], ◌∷◌, ◌++◌, Some, None, refl, sym, ap, ap₂, ◌∙◌, subst, inl, inr, true≢false, arith, is_some, ◌-◌, ◌⊎◌}
 use Rattle.std.specs.Prelude.{map, take}
 use Rattle.std.specs.Str.{IsUtf8}
-use Rattle.std.proofs.lemmas.List.{map-append}
+use Rattle.std.proofs.lemmas.List.{map-append, length-append}
+use Rattle.grammar_machine.specs.Machine.{frame}
+use Rattle.grammar_machine.proofs.SentenceTheorems.{not-starts}
 use Rattle.lexical_grammar.specs.Cut.{Item, Cut, texts, Significant, significant_word}
 use Rattle.lexical_grammar.specs.Begins.{are_tokens}
 use Rattle.lexical_grammar.specs.Answers.{Answer, gives, limited, is_token, limit_at, limit_index, is_end}
@@ -25,15 +27,15 @@ use Rattle.parser_rules.specs.RuleLanguage.{Call}
 use Rattle.parser_rules.specs.Runs.{Runs}
 use Rattle.parser_rules.specs.declared.message.Message.{Message}
 use Rattle.parser_rules.specs.State.{State, Report, begun, Lexeme, fault_report, recursion_limit_report, token_limit_report, bad_report, finished, second, lexeme, add_all}
-use Rattle.parser_rules.proofs.reports.NoReport.{all_tokens, answers_tokens, item_tokens, report_of, given as given_by, Now, choose, EndsWell, kind_tokens, significant, ignored-tokens, ignored-end}
+use Rattle.parser_rules.proofs.reports.NoReport.{Passed, all_tokens, answers_tokens, item_tokens, report_of, given as given_by, Now, choose, EndsWell, kind_tokens, significant, ignored-tokens, ignored-end}
 use Rattle.parser_rules.proofs.reports.Endings.{ends-well, limited-none}
 use Rattle.document_grammar.specs.Forests as built
 use Rattle.parser_rules.proofs.runs.Reading.{Reading, stops, cuts, bad_text as bad_item, waits, shows, looks}
 use Rattle.parser_rules.proofs.runs.Frame.{add_all_above, added-all}
 use Rattle.parser_rules.proofs.soundness.Settled.{EndedFit, ended-root, settled-added}
 use Rattle.parser_rules.proofs.soundness.Plain.{Plain}
-use Rattle.parser_rules.proofs.soundness.FirstReport.{Right}
-use Rattle.parser_rules.proofs.soundness.Soundness.{given, StartsPlain, Why, fault as w_fault, unread as w_unread, too_deep as w_too_deep, other, why, parsed, accepted_plain, sound, item-words, Placed}
+use Rattle.parser_rules.proofs.soundness.FirstReport.{Right, Viable, Behind, stuck_here, unread_here, deep_here, no_token}
+use Rattle.parser_rules.proofs.soundness.Soundness.{given, StartsPlain, parsed, accepted_plain, sound, item-words, answers-append, no-token-words, words-before, viable-begins, not-plain, not-within-one}
 
 -- ---- all items are given
 
@@ -225,14 +227,17 @@ module _ (r k : ℕ) (source : List ℕ) (items : List Item) (s : State) (cut : 
   Told_right e m = (i : IsRight source items r k e) × (m ≡ length (words_of i.before))
 
   -- what holds at the place of an answer
-  at-place : IsUtf8 source → (front : List Answer) (x : Answer) (ys : List Answer) (e : Report) (m : ℕ) → Placed xs m front x ys → ((b : Before k items front x ys) → Reason items r k b.before b.item b.more e) → Told_right e m
+  at-place : IsUtf8 source → {x : Answer} {ys : List Answer} (e : Report) (m : ℕ) (p : Passed xs (x ∷ ys)) → Viable document xs r (answers_tokens xs) (answers_tokens (x ∷ ys)) → Behind document xs r (answers_tokens xs) m (answers_tokens (x ∷ ys))
+      → ((b : Before k items p.front x ys) → Reason items r k b.before b.item b.more e) → Told_right e m
   unfolding xs
-  at-place u front x ys e m p reason =
-      let b = before-at k items front x ys p.split p.tokens in
+  at-place u {x = x} {ys = ys} e m p v c reason =
+      let b = before-at k items p.front x ys p.split p.tokens in
       let d : Cut source (b.before ++ b.item ∷ b.more) = subst (λ (l : List Item). Cut source l) b.split cut in
-      let begins = p.begins in
+      let begins = viable-begins r xs p.front (x ∷ ys) p.split v in
       let spells : Spells (words_of b.before ++ begins.1) begins.0 document = subst (λ (v : List Token). Spells (v ++ begins.1) begins.0 document) b.words begins.2 in
-      (record { before = b.before; item = b.item; more = b.more; split = b.split; tokens = b.tokens; begins = begins-text source b.before b.item b.more begins.0 begins.1 u d b.tokens spells begins.3; reason = reason b }, p.taken ∙ ap length b.words)
+      let l : length (answers_tokens xs) ≡ length (answers_tokens p.front) + length (answers_tokens (x ∷ ys)) = ap length (ap answers_tokens p.split ∙ answers-append p.front (x ∷ ys)) ∙ length-append (answers_tokens p.front) (answers_tokens (x ∷ ys)) in
+      let w = ap length b.words in
+      (record { before = b.before; item = b.item; more = b.more; split = b.split; tokens = b.tokens; begins = begins-text source b.before b.item b.more begins.0 begins.1 u d b.tokens spells begins.3; reason = reason b }, omega (arith, l, c, w))
 
   other-reason : (front : List Answer) (x : Answer) (ys : List Answer) → is_token x ≡ false → (b : Before k items front x ys) → Reason items r k b.before b.item b.more (report_of x)
   other-reason front (limit_at n) ys h b = subst (λ (m : ℕ). Reason items r k b.before b.item b.more (token_limit_report m)) (sym (limit-is _ n b.item b.more ys b.answers)) too_many
@@ -240,22 +245,25 @@ module _ (r k : ℕ) (source : List ℕ) (items : List Item) (s : State) (cut : 
       let same : item ≡ b.item = (given-is _ b.item item b.more ys b.answers).0 in
       subst (λ (i : Item). Reason items r k b.before b.item b.more (bad_report i.text i.index)) (sym same) (bad_text (subst (λ (i : Item). i.kind ≡ None) same (no-kind item h)))
 
-  told : IsUtf8 source → (e : Report) (m : ℕ) → Why r xs e m → Told_right e m
+  told : IsUtf8 source → (e : Report) (m : ℕ) → Right document xs r (answers_tokens xs) e m → Told_right e m
   unfolding xs
-  told u e m (w_fault said front ys t p now n) = at-place u front (given_by t) ys (fault_report said t) m p
-      (λ q. fault said t (item-there t q) (λ c z. n (subst (λ (l : List Mark). Starts document l) (from-words (answers_tokens front) (words_of q.before) _ _ q.words (two-at t q now c)) (sentence-starts _ z))))
-  told u e m (w_unread said front ys t p now n) = at-place u front (given_by t) ys (fault_report said t) m p
-      (λ q. unread said t (item-there t q) (λ c z. n (subst (λ (l : List Mark). StartsPlain l) (from-words (answers_tokens front) (words_of q.before) _ _ q.words (two-at t q now c)) (plain-starts _ z))))
-  told u e m (w_too_deep front ys t p now n) = at-place u front (given_by t) ys (recursion_limit_report t) m p
-      (λ q. too_deep t (item-there t q) (λ z. n (subst (λ (l : List Mark). StartsWithin document r l) (from-words (answers_tokens front) (words_of q.before) _ _ q.words (one-at t q now)) (sentence-starts-within r _ z))))
-  told u e m (other front ys x p n) = at-place u front x ys (report_of x) m p (other-reason front x ys n)
+  told u e m (stuck_here said {t = t} {items = ys} now p k c) = at-place u (fault_report said t) m p k.1 c (λ q. fault said t (item-there t q) (λ a z. not-starts document (answers_tokens xs) (answers_tokens (given_by t ∷ ys)) k.0
+      (subst (λ (l : List Mark). Starts document l) (from-words k.0.before (words_of q.before) _ _ (words-before xs p.front (given_by t ∷ ys) k.0.before p.split k.0.split ∙ q.words) (two-at t q now a)) (sentence-starts _ z))))
+  told u e m (unread_here said {t = t} {items = ys} now p k c) =
+      let n = not-plain r xs (answers_tokens xs) (answers_tokens (given_by t ∷ ys)) k in
+      at-place u (fault_report said t) m p (frame k.symbol k.state k.children ∷ k.above, k.reached) c
+      (λ q. unread said t (item-there t q) (λ a z. n.2 (subst (λ (l : List Mark). StartsPlain l) (from-words n.0 (words_of q.before) _ _ (words-before xs p.front (given_by t ∷ ys) n.0 p.split n.1 ∙ q.words) (two-at t q now a)) (plain-starts _ z))))
+  told u e m (deep_here {t = t} {items = ys} now p k c) = at-place u (recursion_limit_report t) m p k.comes c (λ q. too_deep t (item-there t q) (λ z. not-within-one r xs (answers_tokens xs) (answers_tokens (given_by t ∷ ys)) k
+      (subst (λ (l : List Mark). StartsWithin document r l) (from-words k.before (words_of q.before) _ _ (words-before xs p.front (given_by t ∷ ys) k.before p.split k.split ∙ q.words) (one-at t q now)) (sentence-starts-within r _ z))))
+  told u e m (no_token {x = x} {items = ys} p n v c) =
+      let same = no-token-words x ys n in at-place u (report_of x) m p (rw same v) (rw same c) (other-reason p.front x ys n)
 
   -- the first report is right, and the nodes that end before its last token fit
   pub first-told : IsUtf8 source → (e : Report) (more : List Report) → s.errors ≡ e ∷ more → (i : IsRight source items r k e) × EndedFit (length (words_of i.before)) 0 (finished s)
   unfolding xs
   first-told u e more h = elim (parsed r (limited k items) s (ends-well k 0 items cut.each) root run) [
     | inl o ↦ (
-        let i = told u e o.taken (why r (limited k items) e o.taken (subst (λ (z : Report). Right document (limited k items) r (answers_tokens (limited k items)) z o.taken) (head-same (sym o.reported ∙ h)) o.right)) in
+        let i = told u e o.taken (subst (λ (z : Report). Right document (limited k items) r (answers_tokens (limited k items)) z o.taken) (head-same (sym o.reported ∙ h)) o.right) in
         (i.0, subst (λ (n : ℕ). EndedFit n 0 (finished s)) i.1 (ended-root o.taken (add_all s.waiting s.tree) (record { before = built.none; kind = root.0 }) (add_all_above s.waiting s.tree ∙ root.2) (settled-added o.taken (added-all s.waiting s.tree) o.settled))))
     | inr o ↦ no-cons (sym o.0 ∙ h)
   ]

@@ -225,24 +225,24 @@ clean r xs s en root e run = elim (parsed r xs s en root run) [ inl o ↦ no-con
 
 -- ---- the first report
 
-answers-append : (xs ys : List Answer) → answers_tokens (xs ++ ys) ≡ answers_tokens xs ++ answers_tokens ys
+pub answers-append : (xs ys : List Answer) → answers_tokens (xs ++ ys) ≡ answers_tokens xs ++ answers_tokens ys
 answers-append [] ys = refl
 answers-append (limit_at index ∷ xs) ys = answers-append xs ys
 answers-append (gives item ∷ xs) ys = ap (λ (v : List Token). item_tokens item.kind item.text ++ v) (answers-append xs ys) ∙ sym (append_assoc (item_tokens item.kind item.text) (answers_tokens xs) (answers_tokens ys))
 
-no-token-words : (x : Answer) (ys : List Answer) → is_token x ≡ false → answers_tokens (x ∷ ys) ≡ answers_tokens ys
+pub no-token-words : (x : Answer) (ys : List Answer) → is_token x ≡ false → answers_tokens (x ∷ ys) ≡ answers_tokens ys
 no-token-words (limit_at index) ys h = refl
 no-token-words (gives item) ys h = (elim item.kind as (λ found. is_some found ≡ false → item_tokens found item.text ++ answers_tokens ys ≡ answers_tokens ys) [ None ↦ λ h. refl | Some k ↦ λ h. absurd (true≢false h) ]) h
 
 -- the tokens before
-words-before : (xs front ys : List Answer) (b : List Token) → xs ≡ front ++ ys → answers_tokens xs ≡ b ++ answers_tokens ys → b ≡ answers_tokens front
+pub words-before : (xs front ys : List Answer) (b : List Token) → xs ≡ front ++ ys → answers_tokens xs ≡ b ++ answers_tokens ys → b ≡ answers_tokens front
 words-before xs front ys b e h = append_cancel_right b (answers_tokens front) (answers_tokens ys) (sym h ∙ (ap answers_tokens e ∙ answers-append front ys))
 
 -- No late fault: the tokens before begin a sentence, which goes on with listed tokens.
 abbrev pub Begins_tokens : List Token → Type 0
 Begins_tokens b = (t : Tree) × (v : List Token) × Spells (b ++ v) t document × AllSpelt v
 
-viable-begins : (r : ℕ) (xs front ys : List Answer) → xs ≡ front ++ ys → Viable document xs r (answers_tokens xs) (answers_tokens ys) → Begins_tokens (answers_tokens front)
+pub viable-begins : (r : ℕ) (xs front ys : List Answer) → xs ≡ front ++ ys → Viable document xs r (answers_tokens xs) (answers_tokens ys) → Begins_tokens (answers_tokens front)
 viable-begins r xs front ys e v =
     let h = begins-at document (answers_tokens xs) v.0 (answers_tokens ys) v.1 in
     subst (λ (b : List Token). Begins_tokens b) (words-before xs front ys h.0 e h.1) h.2
@@ -261,7 +261,7 @@ abbrev pub StartsPlain : List Mark → Type 0
 StartsPlain l = (w : List Token) × (t : Tree) × (v : List Mark) × Spells w t document × (marks w ≡ l ++ v) × Plain t
 
 -- No such sentence starts with the tokens before, what no rule reads, and the next token.
-not-plain : (r : ℕ) (xs : List Answer) (w rest : List Token) (k : Unread document xs r w rest) → (b : List Token) × (w ≡ b ++ rest) × (StartsPlain (read b ++ next_two rest) → ⊥)
+pub not-plain : (r : ℕ) (xs : List Answer) (w rest : List Token) (k : Unread document xs r w rest) → (b : List Token) × (w ≡ b ++ rest) × (StartsPlain (read b ++ next_two rest) → ⊥)
 not-plain r xs w rest k =
     let o = reach-other k.reached in
     (o.0, o.1, λ h. on o.0 o.2 h (after-two o.0 rest h.0 h.2 h.4))
@@ -286,45 +286,7 @@ not-plain r xs w rest k =
           class = subst (λ (n : ℕ). within n (unread_set k.child) ≡ true) a.2 k.class;
         })
 
--- An answer: so many tokens are before it, all answers before it are tokens, and they begin a sentence.
-pub record Placed (xs : List Answer) (m : ℕ) (front : List Answer) (x : Answer) (items : List Answer) : Type 0 where
-  pub taken : m ≡ length (answers_tokens front)
-  pub split : xs ≡ front ++ x ∷ items
-  pub tokens : all_tokens front ≡ true
-  pub begins : Begins_tokens (answers_tokens front)
-
--- Where the first report is, and why; and how many tokens are before it.
-pub data Why (r : ℕ) (xs : List Answer) : Report → ℕ → Type 0 where
-  -- no sentence starts with the tokens before, the one there and the next
-  fault : (said : Message) {m : ℕ} (front items : List Answer) (t : Lexeme) → Placed xs m front (given_by t) items → Now (Some t) items → (Starts document (read (answers_tokens front) ++ next_two (answers_tokens (given_by t ∷ items))) → ⊥) → Why r xs (fault_report said t) m
-  -- no rule reads what is there: no sentence without such parts starts with the tokens before, the one there and the next
-  unread : (said : Message) {m : ℕ} (front items : List Answer) (t : Lexeme) → Placed xs m front (given_by t) items → Now (Some t) items → (StartsPlain (read (answers_tokens front) ++ next_two (answers_tokens (given_by t ∷ items))) → ⊥) → Why r xs (fault_report said t) m
-  -- each sentence that starts so nests deeper than the limit
-  too_deep : {m : ℕ} (front items : List Answer) (t : Lexeme) → Placed xs m front (given_by t) items → Now (Some t) items → (StartsWithin document r (read (answers_tokens front) ++ next_one (answers_tokens (given_by t ∷ items))) → ⊥) → Why r xs (recursion_limit_report t) m
-  -- the answer is no token: bad text, or the token limit
-  other : {m : ℕ} (front items : List Answer) (x : Answer) → Placed xs m front x items → is_token x ≡ false → Why r xs (report_of x) m
-
-placed-at : (r : ℕ) (xs : List Answer) (m : ℕ) (x : Answer) (items : List Answer) (p : Passed xs (x ∷ items)) → Viable document xs r (answers_tokens xs) (answers_tokens (x ∷ items)) → Behind document xs r (answers_tokens xs) m (answers_tokens (x ∷ items)) → Placed xs m p.front x items
-placed-at r xs m x items p v c =
-    let e : length (answers_tokens xs) ≡ length (answers_tokens p.front) + length (answers_tokens (x ∷ items)) = ap length (ap answers_tokens p.split ∙ answers-append p.front (x ∷ items)) ∙ length-append (answers_tokens p.front) (answers_tokens (x ∷ items)) in
-    record { taken = omega (arith, e, c); split = p.split; tokens = p.tokens; begins = viable-begins r xs p.front (x ∷ items) p.split v }
-
-pub why : (r : ℕ) (xs : List Answer) (e : Report) (m : ℕ) → Right document xs r (answers_tokens xs) e m → Why r xs e m
-why r xs e m (stuck_here said {t = t} {items = items} now p k c) =
-    let ys : List Answer = given_by t ∷ items in
-    fault said p.front items t (placed-at r xs m (given_by t) items p k.1 c) now (λ h. not-starts document (answers_tokens xs) (answers_tokens ys) k.0 (rw (words-before xs p.front ys k.0.before p.split k.0.split) h))
-why r xs e m (unread_here said {t = t} {items = items} now p k c) =
-    let ys : List Answer = given_by t ∷ items in
-    let n = not-plain r xs (answers_tokens xs) (answers_tokens ys) k in
-    unread said p.front items t (placed-at r xs m (given_by t) items p (frame k.symbol k.state k.children ∷ k.above, k.reached) c) now (λ h. n.2 (rw (words-before xs p.front ys n.0 p.split n.1) h))
-why r xs e m (deep_here {t = t} {items = items} now p k c) =
-    let ys : List Answer = given_by t ∷ items in
-    too_deep p.front items t (placed-at r xs m (given_by t) items p k.comes c) now (λ h. not-within-one r xs (answers_tokens xs) (answers_tokens ys) k (rw (words-before xs p.front ys k.before p.split k.split) h))
-why r xs e m (no_token {x = x} {items = items} p n v c) =
-    let same = sym (no-token-words x items n) in
-    other p.front items x (placed-at r xs m x items p (subst (λ (u : List Token). Viable document xs r (answers_tokens xs) u) same v) (subst (λ (u : List Token). Behind document xs r (answers_tokens xs) m u) same c)) n
-
--- ---- going on after reports
+-- ---- going on after reports: for the clause on the children that follow a report, which no contract has yet
 
 abbrev pub loops : Rule
 loops = While Ready (Call Definition)
