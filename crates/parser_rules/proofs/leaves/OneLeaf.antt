@@ -18,7 +18,7 @@ use Rattle.grammar_machine.specs.Table.{name_leaves}
 use Rattle.document_grammar.specs.Booleans.{◌and◌, ◌or◌}
 use Rattle.grammar_machine.specs.Machine.{holds as within, is_leaf, entries, fires, class, token as token_of_leaf}
 use Rattle.document_grammar.proofs.Booleans.{false-true, and-l, and-r, either, implies}
-use Rattle.grammar_machine.proofs.TableLemmas.{below-at, holds-disjoint}
+use Rattle.grammar_machine.proofs.TableLemmas.{head-same, tail-same, below-at, holds-disjoint}
 use Rattle.grammar_machine.proofs.Checks.{all_below}
 use Rattle.grammar_machine.proofs.Patterns.{label}
 use Rattle.grammar_machine.proofs.Rules.{leaf-rule}
@@ -34,13 +34,13 @@ use Rattle.parser_rules.specs.Rules.{body}
 use Rattle.parser_rules.specs.Runs.{Runs, seq, yes, no, done, again, call}
 use Rattle.parser_rules.proofs.runs.Frame.{add_all_above, root_kept}
 use Rattle.parser_rules.proofs.runs.AtTheEnd.{EndNow, ends, read_ends}
-use Rattle.parser_rules.proofs.runs.Reading.{Shown, second-shown, reading, reading-second}
+use Rattle.parser_rules.proofs.runs.Reading.{Reading, reading-shown, Shown, second-shown, reading, reading-second}
 use Rattle.parser_rules.proofs.runs.Marked as marked
 use Rattle.parser_rules.proofs.runs.Marked.{Source, token, aside, Marked, append, erase, erase-append, flat, flat-append, set_aside, source_at, source_of, now_of, sources, moved_on}
 use Rattle.parser_rules.proofs.runs.Walk.{after_waiting, always, Goes, Sound, walked_whole}
 use Rattle.parser_rules.proofs.runs.Reporting.{after_note, after_too_deep}
 use Rattle.parser_rules.proofs.reports.NoReport.{end-kind}
-use Rattle.parser_rules.proofs.lookahead.TokenSets.{absent, over, class_of, read-second, of-any, Seen, seen-any, seen-more, edges}
+use Rattle.parser_rules.proofs.lookahead.TokenSets.{absent, over, class_of, read-second, of-any, Seen, seen-any, seen-more, edges, flip}
 use Rattle.parser_rules.proofs.lookahead.Split.{split-at}
 use Rattle.parser_rules.proofs.leaves.LeafCheck.{is_error, belongs, Tokens, anything, leaf_check}
 use Rattle.parser_rules.proofs.NodeChecks.{node_passes, document_passes}
@@ -133,26 +133,23 @@ module _ (own : SyntaxKind) (a : Tokens) (k : Tokens → Bool) (b s : State) (f 
   abbrev grown : Marked
   grown = append f (after_waiting s (marked.leaf (token x) own marked.none))
 
-  next : after.current ≡ second s.items
+  next : Reading s.items (moved_on own x (flush s)) after
   unfolding flush
-  next = read-second s.items (moved_on own x (flush s))
-
-  shown-after : Shown after.current
-  shown-after = subst Shown (sym next) (second-shown s.items)
+  next = reading s.items (moved_on own x (flush s))
 
   fits-after : IsLeafOf (Some x.kind) (record { kind = own; text = x.text }) → Fit grown
   fits-after i = fit-after s f (marked.leaf (token x) own marked.none) h.fits (one_more (refl, i) no_more)
 
   taken : cond (is_error own) (k anything) (belongs a.near own and k (record { near = a.far; far = any })) ≡ true → Goes leaf_check Held k b after grown
   taken c = elim (either (is_error own)) [
-    | inl i ↦ (anything, (rw i at c), record { shown = shown-after; seen = seen-any after shown-after; fits = fits-after (error_fits x own (subst Shown e h.shown) (error_is own i)) })
+    | inl i ↦ (anything, (rw i at c), record { shown = reading-shown next; seen = seen-any after (reading-shown next); fits = fits-after (error_fits x own (subst Shown e h.shown) (error_is own i)) })
     | inr i ↦ (
         let d = rw i at c in (
           record { near = a.far; far = any },
           and-r _ _ d,
           record {
-            shown = shown-after;
-            seen = record { near = subst (λ o. within (class_of o) a.far ≡ true) (sym next) h.seen.far; far = of-any (second after.items) (second-shown after.items) };
+            shown = reading-shown next;
+            seen = record { near = subst (λ o. within (class_of o) a.far ≡ true) (sym (reading-second next)) h.seen.far; far = of-any (second after.items) (second-shown after.items) };
             fits = fits-after (belongs_fits a.near own x (subst Shown e h.shown) (and-l _ _ d) (subst (λ o. within (class_of o) a.near ≡ true) e h.seen.near));
           },
         ))
@@ -192,11 +189,10 @@ sound = record {
 
 leaf-item : (item : Item) (found : Option TokenKind) (l : Part) → LeafOf (source_at item found) l → (l.text ≡ item.text) × IsLeafOf found l
 leaf-item item None l h = h
-leaf-item item (Some k) l h = on (ignored k) refl h
-  where
-    on : (found : Option SyntaxKind) → ignored k ≡ found → LeafOf (source_of item k found) l → (l.text ≡ item.text) × IsLeafOf (Some k) l
-    on None i h = h
-    on (Some own) i h = (h.0, subst (λ found. IsLeafOfToken k found l) (sym i) h.1)
+leaf-item item (Some k) l h = (elim (ignored k) as (λ found. ignored k ≡ found → LeafOf (source_of item k found) l → (l.text ≡ item.text) × IsLeafOf (Some k) l) [
+  | None ↦ λ i h. h
+  | Some own ↦ λ i h. (h.0, subst (λ found. IsLeafOfToken k found l) (sym i) h.1)
+]) refl h
 
 abbrev ends_text : Source → Bool
 ends_text (token x) = is_end x.kind
@@ -204,14 +200,7 @@ ends_text (aside p) = false
 
 end-item : (item : Item) (found : Option TokenKind) → ends_text (source_at item found) ≡ true → found ≡ Some token_kind.Eof
 end-item item None h = absurd cc
-end-item item (Some k) h = on (ignored k) h
-  where
-    on : (found : Option SyntaxKind) → ends_text (source_of item k found) ≡ true → Some k ≡ Some token_kind.Eof
-    on None h = ap Some (end-kind k h)
-    on (Some own) h = absurd cc
-
-tails : {A : Type 0} (a b : A) (v w : List A) → a ∷ v ≡ b ∷ w → (a ≡ b) × (v ≡ w)
-tails a b v w e = (cc, cc)
+end-item item (Some k) h = elim (ignored k) as (λ found. ends_text (source_of item k found) ≡ true → Some k ≡ Some token_kind.Eof) [ None ↦ λ h. ap Some (end-kind k h) | Some own ↦ λ h. absurd cc ] h
 
 -- each item has a leaf, but for the end
 each-item : (xs : List Answer) {v : List Source} {ls : List Part} (o : Option Lexeme) → is_over o ≡ true → LeavesOf v ls → v ++ now_of o ≡ sources xs → OneLeafAnItem xs ls
@@ -219,8 +208,8 @@ each-item [] o h no_more e = nothing
 each-item [] o h (one_more i l) e = absurd cc
 each-item (limit_at index ∷ xs) o h l e = the_limit (each-item xs o h l e)
 each-item (gives item ∷ xs) None h no_more e = absurd cc
-each-item (gives item ∷ xs) (Some x) h no_more e = let t = tails _ _ _ _ e in the_end (end-item item item.kind (ap ends_text (sym t.0) ∙ h)) (each-item xs None refl no_more t.1)
-each-item (gives item ∷ xs) o h (one_more {l = l} i m) e = let t = tails _ _ _ _ e in let f = leaf-item item item.kind l (subst (λ x. LeafOf x l) t.0 i) in one f.0 f.1 (each-item xs o h m t.1)
+each-item (gives item ∷ xs) (Some x) h no_more e = the_end (end-item item item.kind (ap ends_text (sym (head-same e)) ∙ h)) (each-item xs None refl no_more (tail-same e))
+each-item (gives item ∷ xs) o h (one_more {l = l} i m) e = let f = leaf-item item item.kind l (subst (λ x. LeafOf x l) (head-same e) i) in one f.0 f.1 (each-item xs o h m (tail-same e))
 
 finished_leaves : (s : State) → IsRoot s.tree → leaves (finished s) ≡ leaves (add_all s.waiting s.tree).here
 finished_leaves s h = let here = (add_all s.waiting s.tree).here in ap (λ (above : List Open). leaves (close here above).here) (add_all_above s.waiting s.tree ∙ h.2) ∙ append-nil (leaves here)
@@ -232,13 +221,9 @@ none_left (Some x) items h e = h e
 
 -- ---- documents
 
-not_ready : (b : Bool) → false ≡ not b → b ≡ true
-not_ready true e = refl
-not_ready false e = absurd cc
-
 loop-over : {a : Rule} {s t : State} → Runs (While Ready a) s t → is_over t.current ≡ true
 unfolding holds
-loop-over {t = t} (done q) = not_ready (is_over t.current) q
+loop-over {t = t} (done q) = sym (flip false (is_over t.current) q)
 loop-over (again q h k) = loop-over k
 
 wanted-over : {a : Rule} {p : Prim} {s t : State} → Runs (When Ready (While Ready a) (Seq (Do p) (While Ready a))) s t → is_over t.current ≡ true
@@ -253,7 +238,7 @@ document_over (call h) = wanted-over h
 pub document_leaves : {t : State} (items : List Answer) (limit : ℕ) → AreAnswers items → Runs (Call rule.Document) (begun items limit kind.DOCUMENT) t → OneLeafAnItem items (leaves (finished t))
 document_leaves {t = t} items limit are run =
     let s = begun items limit kind.DOCUMENT in
-    let shown = subst Shown (sym (reading-second (reading items (fresh items limit kind.DOCUMENT)))) (second-shown items) in
+    let shown = reading-shown (reading items (fresh items limit kind.DOCUMENT)) in
     let (f, a, e, h, g, w) = walked_whole leaf_check Held sound items limit kind.DOCUMENT anything always run document_passes.leaves (record { shown = shown; seen = seen-any s shown; fits = no_more }) in
     let last = none_left t.current t.items (ends run (read_ends items (fresh items limit kind.DOCUMENT) refl are)).now (document_over run) in
     let order : flat (append f (set_aside t.waiting)) ++ now_of t.current ≡ sources items = ap (λ (v : List Source). flat (append f (set_aside t.waiting)) ++ v) (sym (ap (λ (xs : List Answer). now_of t.current ++ sources xs) last ∙ append-nil (now_of t.current))) ∙ w.order in

@@ -43,16 +43,9 @@ inner-aside p (part ∷ parts) h =
     let r = inner-aside p parts (and-r _ _ h) in
     omega (arith, j, l, w, r)
 
-error-uncounted : uncounted (number kind.ERROR) ≡ true
-unfolding ◌and◌ member
-error-uncounted = refl
-
-ignored-uncounted : (k : TokenKind) (own : SyntaxKind) → ignored k ≡ Some own → uncounted (number own) ≡ true
-unfolding ◌and◌ member
-ignored-uncounted = ignored-kinds (λ k own. uncounted (number own) ≡ true) refl refl refl
-
 read-waits : {xs : List Answer} {s t : State} → Reading xs s t → all_uncounted s.waiting ≡ true → all_uncounted t.waiting ≡ true
-read-waits = reading-waits (λ k. uncounted (number k)) error-uncounted ignored-uncounted
+unfolding ◌and◌ member
+read-waits = reading-waits (λ k. uncounted (number k)) refl refl refl refl
 
 -- ---- runs
 

@@ -81,9 +81,6 @@ pub record Recovered (st s : State) (t : Tree) : Type 0 where
 root-layer : (b : Building) (o : Open) (k : ℕ) (f : Forest) (more : List (ℕ × Forest)) → b.above ≡ o ∷ [] → stack b ≡ (k, f) ∷ more → strip b.here ≡ f
 root-layer b o k f more a e = ap (λ (l : ℕ × Forest). l.1) (head-same (sym (ap (layers b.here) a) ∙ e))
 
-no-reports : (a : List Report) (v w : List Report) → v ≡ a ++ w → w ≡ [] → v ≡ a
-no-reports a v w e h = e ∙ (ap (λ (z : List Report). a ++ z) h ∙ append-nil a)
-
 pub recovers : (st s : State) (c : Turn st) (t : Tree) → all_ignored st.waiting ≡ true → Spells (now_words st c) t document → Plain t → nest t ≤ st.limit → all_tokens (from_now st c) ≡ true → Runs loops st s → Recovered st s t
 recovers st s c t i h p n a run =
     let f = from-turn st s c i run in
@@ -99,7 +96,7 @@ recovers st s c t i h p n a run =
             later = later;
             children = (added-all s.waiting s.tree).here ∙ (ap (λ (x : built.Forest). built.join x (parts_forest s.waiting)) f.steps.one.trees.here ∙ join_assoc st.tree.here more (parts_forest s.waiting));
             derived = ap₂ (λ (k : ℕ) (g : Forest). node k g) (sym document-label.0) bare ∙ one-derivation document (now_words st c) (show (node DOCUMENT o.children)) t o.clean.spells h;
-            silent = no-reports st.errors s.errors f.steps.reports f.steps.one.errors (sym f.steps.other.errors ∙ o.silent);
+            silent = f.steps.one.errors ∙ (ap (λ (z : List Report). st.errors ++ z) (sym f.steps.other.errors ∙ o.silent) ∙ append-nil st.errors);
           })
     ]
 
@@ -107,11 +104,10 @@ recovers st s c t i h p n a run =
 tokens-silent : (taken : Bool) (xs : List Answer) → all_tokens xs ≡ true → Reported taken xs []
 tokens-silent taken [] h = no_more
 tokens-silent taken (limit_at index ∷ xs) h = false-true refl (and-l _ _ h)
-tokens-silent taken (gives item ∷ xs) h = on item.kind refl (and-l _ _ h) (tokens-silent taken xs (and-r _ _ h))
-  where
-    on : (found : Option TokenKind) → item.kind ≡ found → is_some found ≡ true → Reported taken xs [] → Reported taken (gives item ∷ xs) []
-    on None e g r = false-true refl g
-    on (Some k) e g r = passed e r
+tokens-silent taken (gives item ∷ xs) h = (elim item.kind as (λ found. item.kind ≡ found → is_some found ≡ true → Reported taken (gives item ∷ xs) []) [
+  | None ↦ λ e g. false-true refl g
+  | Some k ↦ λ e g. passed e (tokens-silent taken xs (and-r _ _ h))
+]) refl (and-l _ _ h)
 
 -- and no report is beyond the first token that is left
 pub none-beyond : (r k : ℕ) (source : List ℕ) (items : List Item) (first_rule : Rule) (b st : State) (c : Turn st) → Cut source items → all_tokens (from_now st c) ≡ true → Runs first_rule (begun (limited k items) r kind.DOCUMENT) b → Turns Ready (Call Definition) b st → AllUpTo c.token.index st.errors

@@ -48,7 +48,7 @@ rows-aside k (p ∷ parts) h = and-i (or-l _ _ (and-l _ _ h)) (rows-aside k part
 -- reading on sets only such aside
 read-aside : {xs : List Answer} {s t : State} → Reading xs s t → all_aside s.waiting ≡ true → all_aside t.waiting ≡ true
 unfolding ◌or◌
-read-aside = reading-waits (λ k. ltb (number k) ERROR or eqb (number k) ERROR) refl (λ k own i. or-l _ _ (ignored-leaf k own i))
+read-aside = reading-waits (λ k. ltb (number k) ERROR or eqb (number k) ERROR) refl refl refl refl
 
 -- ---- runs
 

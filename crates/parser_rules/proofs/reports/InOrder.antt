@@ -32,15 +32,12 @@ from_lower : (low high : ℕ) (ns : List ℕ) → low ≤ high → Rises high ns
 from_lower low high [] h rise = tt
 from_lower low high (n ∷ ns) h rise = let above = rise.0 in (omega (arith, above), rise.1)
 
-same_place : (n : ℕ) → n ≤ n
-same_place n = omega arith
-
 reports_rise : {taken : Bool} {answers : List Answer} {reports : List Report} (low : ℕ) → Reported taken answers reports → Rises low (places answers) → Rises low (indices reports)
 reports_rise low no_more rise = tt
 reports_rise low (bad_text {item = item} e h) rise = (rise.0, reports_rise item.index h rise.1)
 reports_rise low (token_limit {index = index} h) rise = (rise.0, reports_rise index h rise.1)
-reports_rise low (fault m {item = item} e i h) rise = (rise.0, reports_rise item.index h (same_place item.index, rise.1))
-reports_rise low (recursion_limit {item = item} e i h) rise = (rise.0, reports_rise item.index h (same_place item.index, rise.1))
+reports_rise low (fault m {item = item} e i h) rise = (rise.0, reports_rise item.index h (omega arith, rise.1))
+reports_rise low (recursion_limit {item = item} e i h) rise = (rise.0, reports_rise item.index h (omega arith, rise.1))
 reports_rise low (passed {item = item} {answers = answers} e h) rise = reports_rise low h (from_lower low item.index (places answers) rise.0 rise.1)
 
 -- ---- the answers of a cut

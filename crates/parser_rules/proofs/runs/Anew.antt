@@ -170,19 +170,15 @@ wrapping s u d e h = record {
 abbrev pub Anew : Rule → State → State → Built → Type 0
 Anew r s t d = (e : Built) × Runs r (on s d) (on t e) × Same_steps (built_of s) (built_of t) d e
 
--- one run after another
-anew-then : (s t u : State) (d e f : Built) → Same_steps (built_of s) (built_of t) d e → Same_steps (built_of t) (built_of u) e f → Same_steps (built_of s) (built_of u) d f
-anew-then s t u d e f h k = then_on (built_of s) (built_of t) (built_of u) d e f h k
-
 pub anew : {r : Rule} {s t : State} → Runs r s t → (d : Built) → Anew r s t d
 unfolding is_deep flush opened closed enter leave wrapped_from
 anew {s = s} skip d = (d, skip, still (built_of s) d)
 anew {s = s} (does {a = p} e) d = let k = stepping p s d in subst (λ (z : State). Anew (Do p) s z d) (sym e) (k.0, does (sym k.1), k.2)
-anew {s = s} {t = u} (seq {t = t} h k) d = let i = anew h d in let j = anew k i.0 in (j.0, seq i.1 j.1, anew-then s t u d i.0 j.0 i.2 j.2)
+anew {s = s} {t = u} (seq {t = t} h k) d = let i = anew h d in let j = anew k i.0 in (j.0, seq i.1 j.1, then_on (built_of s) (built_of t) (built_of u) d i.0 j.0 i.2 j.2)
 anew {s = s} (yes {q = q} e h) d = let i = anew h d in (i.0, yes (e ∙ sym (test-same q s d)) i.1, i.2)
 anew {s = s} (no {q = q} e h) d = let i = anew h d in (i.0, no (e ∙ sym (test-same q s d)) i.1, i.2)
 anew {s = s} (done {q = q} e) d = (d, done (e ∙ sym (test-same q s d)), still (built_of s) d)
-anew {s = s} {t = u} (again {q = q} {t = t} e h k) d = let i = anew h d in let j = anew k i.0 in (j.0, again (e ∙ sym (test-same q s d)) i.1 j.1, anew-then s t u d i.0 j.0 i.2 j.2)
+anew {s = s} {t = u} (again {q = q} {t = t} e h k) d = let i = anew h d in let j = anew k i.0 in (j.0, again (e ∙ sym (test-same q s d)) i.1 j.1, then_on (built_of s) (built_of t) (built_of u) d i.0 j.0 i.2 j.2)
 anew {s = s} (child {n = n} {t = t} {u = u} e k h) d =
     let o : Built = opened_on (kind_of n) s d in
     let i = anew h o in
@@ -193,14 +189,14 @@ anew {s = s} {t = w} (deeper {t = t} {u = u} {v = v} q e k h l) d =
     let i = anew h o in
     let j = anew l i.0 in
     let c = subst (λ (z : State). Same_steps (built_of s) (built_of z) d i.0) (sym k) (subst (λ (z : State). Same_steps (built_of z) (built_of u) o i.0) e i.2) in
-    (j.0, deeper q (ap (λ (z : State). on z o) e) (ap (λ (z : State). on z i.0) k) i.1 j.1, anew-then s v w d i.0 j.0 c j.2)
+    (j.0, deeper q (ap (λ (z : State). on z o) e) (ap (λ (z : State). on z i.0) k) i.1 j.1, then_on (built_of s) (built_of v) (built_of w) d i.0 j.0 c j.2)
 anew {s = s} (limited q e) d = let k = limiting s d in subst (λ (z : State). Anew TooDeep s z d) (sym e) (k.0, limited q (sym k.1), k.2)
 anew {s = s} (refused {a = a} {b = b} q e) d = let k = limiting s d in subst (λ (z : State). Anew (Nested a b) s z d) (sym e) (k.0, refused q (sym k.1), k.2)
 anew (call h) d = let i = anew h d in (i.0, call i.1, i.2)
 anew {s = s} {t = u} (plain {t = t} e h n) d =
     let i = anew h (flushed s d) in
     let f = subst (λ (z : State). Same_steps (built_of s) (built_of z) d (flushed s d)) (sym e) (flushing s d) in
-    (i.0, plain (ap (λ (z : State). on z (flushed s d)) e) i.1 (n ∙ sym (test-same (At token.Bang) u i.0)), anew-then s t u d (flushed s d) i.0 f i.2)
+    (i.0, plain (ap (λ (z : State). on z (flushed s d)) e) i.1 (n ∙ sym (test-same (At token.Bang) u i.0)), then_on (built_of s) (built_of t) (built_of u) d (flushed s d) i.0 f i.2)
 anew {s = s} (wrapped {t = t} {u = u} {v = v} {w = w} e p m c h n l) d =
     let k : SyntaxKind = kind.NON_NULL_TYPE in
     let i = anew h (flushed s d) in
@@ -208,6 +204,6 @@ anew {s = s} (wrapped {t = t} {u = u} {v = v} {w = w} e p m c h n l) d =
     let j = anew l o in
     let there : v ≡ around s u = m ∙ ap (λ (n : ℕ). wrapped_from n k u) (p ∙ ap (λ (z : State). built_count z.tree) e) in
     let first = wrapping s u d i.0 (subst (λ (z : State). Same_steps (built_of z) (built_of u) (flushed s d) i.0) e i.2) in
-    let inside = anew-then (opened k s) (around s u) w (opened_on k s d) o j.0 first (subst (λ (z : State). Same_steps (built_of z) (built_of w) o j.0) there j.2) in
+    let inside = then_on (built_of (opened k s)) (built_of (around s u)) (built_of w) (opened_on k s d) o j.0 first (subst (λ (z : State). Same_steps (built_of z) (built_of w) o j.0) there j.2) in
     let x : Built = closed_on j.0 in
     (x, wrapped (ap (λ (z : State). on z (flushed s d)) e) refl (ap (λ (z : State). on z o) there) (ap (λ (z : State). on z x) c) i.1 (n ∙ sym (test-same (At token.Bang) u i.0)) j.1, subst (λ (z : State). Same_steps (built_of s) (built_of z) d x) (sym c) (noding k s w d j.0 inside))

@@ -116,10 +116,6 @@ levels s u q h = record {
   bound = λ d c. let n = not_deep s q in h.bound (omega arith) (omega arith);
 }
 
-asks : (s : State) → Keeps s (deepened s)
-unfolding left
-asks s = record { fewer = omega arith; depth = refl; limit = refl; asked = refl; higher = omega arith; bound = λ d c. omega arith }
-
 abbrev keeps_along : Holds_along Keeps
 unfolding left flush closed wrapped_from
 keeps_along = record {
@@ -129,7 +125,7 @@ keeps_along = record {
   moves = λ leaf x s e w. moves leaf x s e;
   reports = λ m x s c a. same s;
   limits = λ x s c a d. same s;
-  asks = asks;
+  asks = λ s. record { fewer = omega arith; depth = refl; limit = refl; asked = refl; higher = omega arith; bound = λ d c. omega arith };
   nodes = λ k s u h. h;
   levels = levels;
   wraps = λ k t u w h l. next t u w h l;

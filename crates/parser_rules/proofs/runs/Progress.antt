@@ -84,10 +84,6 @@ pub opened_left : (k : SyntaxKind) (s : State) {t : State} → t ≡ opened k s 
 unfolding opened flush left
 opened_left k s e = ap left e
 
-closed_left : (s : State) {t : State} → t ≡ closed s → left t ≡ left s
-unfolding closed left
-closed_left s e = ap left e
-
 -- ---- a report changes nothing that is read
 
 abbrev pub Unread : State → State → Type 0
@@ -117,7 +113,7 @@ bump_takes leaf s e h =
     omega (arith, f, k, l)
 
 taken-by : {a : Rule} {s t : State} → Runs a s t → (n : ℕ) → IsThere s → consumes n a ≡ true → left t < left s
-unfolding consumes
+unfolding consumes closed left
 taken-by {s = s} (does {a = Bump leaf} k) n h e = bump_takes leaf s k h
 taken-by {s = s} (seq {a = a} {b = b} {t = t} k l) n h e = elim (or-c _ _ e) [
   | inl y ↦ let f = taken-by k n h y in let g = fewer l in omega (arith, f, g)
@@ -132,7 +128,7 @@ taken-by (no {a = a} {b = b} q k) n h e = taken-by k n h (and-r (consumes n a) (
 taken-by {s = s} (child {n = c} {u = u} a b k) (suc n) h e =
     let f = taken-by k n (opened_there (kind_of c) s a h) e in
     let g = opened_left (kind_of c) s a in
-    let d = closed_left u b in
+    let d = ap left b in
     omega (arith, f, g, d)
 taken-by (call k) (suc n) h e = taken-by k n h e
 taken-by _ n h e = absurd (true≢false (sym e))
@@ -156,16 +152,13 @@ entered_there : (s : State) {t : State} → t ≡ enter s → IsThere s → IsTh
 unfolding enter IsThere
 entered_there s e h = (h.0, ap (λ w. w.current) e ∙ h.1)
 
-left_left : (s : State) {t : State} → t ≡ leave s → left t ≡ left s
-unfolding leave left
-left_left s e = ap left e
-
 -- a value one level deeper takes a token where the recursion limit is not reached
 deeper_taken : {a b : Rule} {s t : State} → Runs (Nested a b) s t → false ≡ is_deep s → IsThere s → consumes 5 a ≡ true → left t < left s
+unfolding leave left
 deeper_taken {s = s} (deeper {u = u} q e v h k) d i w =
     let f = taken h (entered_there s e i) w in
     let g = entered_left s e in
-    let l = left_left u v in
+    let l = ap left v in
     let m = fewer k in
     omega (arith, f, g, l, m)
 deeper_taken (refused q e) d i w = absurd (true≢false (q ∙ sym d))

@@ -114,9 +114,10 @@ pub ignored-leaf : (k : TokenKind) (own : SyntaxKind) → ignored k ≡ Some own
 ignored-leaf = ignored-kinds (λ k own. ltb (number own) ERROR ≡ true) refl refl refl
 
 -- what waits keeps to the kinds, when bad text and ignored tokens are of them
-pub reading-waits : (p : SyntaxKind → Bool) → p kind.ERROR ≡ true → ((k : TokenKind) (own : SyntaxKind) → ignored k ≡ Some own → p own ≡ true) → {xs : List Answer} {s t : State} → Reading xs s t → all_kinds p s.waiting ≡ true → all_kinds p t.waiting ≡ true
-reading-waits p b w stops h = h
-reading-waits p b w (cuts r) h = reading-waits p b w r h
-reading-waits p b w {s = s} (bad_text {item = item} e r) h = reading-waits p b w r (kinds-more p s.waiting (record { kind = kind.ERROR; text = item.text }) h b)
-reading-waits p b w {s = s} (waits {item = item} {k = k} {own = own} e i r) h = reading-waits p b w r (kinds-more p s.waiting (record { kind = own; text = item.text }) h (w k own i))
-reading-waits p b w (shows e i) h = h
+module _ (p : SyntaxKind → Bool) (bad : p kind.ERROR ≡ true) (white : p kind.WHITESPACE ≡ true) (comment : p kind.COMMENT ≡ true) (comma : p kind.COMMA ≡ true) where
+  pub reading-waits : {xs : List Answer} {s t : State} → Reading xs s t → all_kinds p s.waiting ≡ true → all_kinds p t.waiting ≡ true
+  reading-waits stops h = h
+  reading-waits (cuts r) h = reading-waits r h
+  reading-waits {s = s} (bad_text {item = item} e r) h = reading-waits r (kinds-more p s.waiting (record { kind = kind.ERROR; text = item.text }) h bad)
+  reading-waits {s = s} (waits {item = item} {k = k} {own = own} e i r) h = reading-waits r (kinds-more p s.waiting (record { kind = own; text = item.text }) h (ignored-kinds (λ k own. p own ≡ true) white comment comma k own i))
+  reading-waits (shows e i) h = h

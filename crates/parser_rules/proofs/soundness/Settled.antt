@@ -37,24 +37,15 @@ EndedFit m n (built.node k kids rest) = (n + tokens kids < m → Fits (node (num
 
 -- ---- lists of trees
 
-shift-ended : (m n n' : ℕ) (f : built.Forest) → n ≡ n' → EndedFit m n f → EndedFit m n' f
-shift-ended m n n' f e h = subst (λ (z : ℕ). EndedFit m z f) e h
+ended-join : (m n n' : ℕ) (f g : built.Forest) → n' ≡ n + tokens f → EndedFit m n f → EndedFit m n' g → EndedFit m n (built.join f g)
+ended-join m n n' built.none g e a b = subst (λ (z : ℕ). EndedFit m z g) (omega (arith, e)) b
+ended-join m n n' (built.leaf k x rest) g e a b = ended-join m (n + cond (ltb (number k) ERROR) 0 1) n' rest g (omega (arith, e)) a b
+ended-join m n n' (built.node k kids rest) g e a b = (a.0, a.1, ended-join m (n + tokens kids) n' rest g (omega (arith, e)) a.2 b)
 
-ended-join : (m n : ℕ) (f g : built.Forest) → EndedFit m n f → EndedFit m (n + tokens f) g → EndedFit m n (built.join f g)
-ended-join m n built.none g a b = shift-ended m (n + 0) n g (omega arith) b
-ended-join m n (built.leaf k x rest) g a b = let c : ℕ = cond (ltb (number k) ERROR) 0 1 in ended-join m (n + c) rest g a (shift-ended m (n + (c + tokens rest)) ((n + c) + tokens rest) g (omega arith) b)
-ended-join m n (built.node k kids rest) g a b =
-    (a.0, a.1, ended-join m (n + tokens kids) rest g a.2 (shift-ended m (n + (tokens kids + tokens rest)) ((n + tokens kids) + tokens rest) g (omega arith) b))
-
-ended-parts : (m n : ℕ) (f g : built.Forest) → EndedFit m n (built.join f g) → EndedFit m n f × EndedFit m (n + tokens f) g
-ended-parts m n built.none g a = (tt, shift-ended m n (n + 0) g (omega arith) a)
-ended-parts m n (built.leaf k x rest) g a =
-    let c : ℕ = cond (ltb (number k) ERROR) 0 1 in
-    let r = ended-parts m (n + c) rest g a in
-    (r.0, shift-ended m ((n + c) + tokens rest) (n + (c + tokens rest)) g (omega arith) r.1)
-ended-parts m n (built.node k kids rest) g a =
-    let r = ended-parts m (n + tokens kids) rest g a.2 in
-    ((a.0, a.1, r.0), shift-ended m ((n + tokens kids) + tokens rest) (n + (tokens kids + tokens rest)) g (omega arith) r.1)
+ended-parts : (m n n' : ℕ) (f g : built.Forest) → n' ≡ n + tokens f → EndedFit m n (built.join f g) → EndedFit m n f × EndedFit m n' g
+ended-parts m n n' built.none g e a = (tt, subst (λ (z : ℕ). EndedFit m z g) (omega (arith, e)) a)
+ended-parts m n n' (built.leaf k x rest) g e a = ended-parts m (n + cond (ltb (number k) ERROR) 0 1) n' rest g (omega (arith, e)) a
+ended-parts m n n' (built.node k kids rest) g e a = let r = ended-parts m (n + tokens kids) n' rest g (omega (arith, e)) a.2 in ((a.0, a.1, r.0), r.1)
 
 tokens-join : (f g : built.Forest) → tokens (built.join f g) ≡ tokens f + tokens g
 tokens-join built.none g = omega arith
@@ -104,7 +95,7 @@ settled-added m {f = f} {b = b} a h =
     let e = tokens-join b.here f in
     let c = h.0 in
     subst (Settled m) (sym (ap₂ (λ (here : built.Forest) (above : List Open). record { here = here; above = above }) a.here a.above))
-    (omega (arith, c, e), ended-join m (open_tokens b.above) b.here f h.1 (ended-later m _ f h.0), h.2)
+    (omega (arith, c, e), ended-join m (open_tokens b.above) _ b.here f refl h.1 (ended-later m _ f h.0), h.2)
 
 pub settled-start : (m : ℕ) (k : SyntaxKind) (b : Building) → Settled m b → Settled m (start k b)
 settled-start m k b h = (let c = h.0 in omega (arith, c), tt, (h.1, h.2))
@@ -115,7 +106,7 @@ settled-close m here (o ∷ above) h =
     let t : built.Forest = built.node o.kind here built.none in
     let e = tokens-join o.before t in
     let c = h.0 in
-    (omega (arith, c, e), ended-join m (open_tokens above) o.before t h.2.0 ((λ g. absurd (omega (arith, c, g))), h.1, tt), h.2.1)
+    (omega (arith, c, e), ended-join m (open_tokens above) _ o.before t refl h.2.0 ((λ g. absurd (omega (arith, c, g))), h.1, tt), h.2.1)
 
 pub settled-finish : (m : ℕ) (b : Building) → Settled m b → Settled m (finish b)
 settled-finish m b h = settled-close m b.here b.above h
@@ -124,7 +115,7 @@ pub settled-wrap : (m place : ℕ) (k : SyntaxKind) (b : Building) → Settled m
 settled-wrap m place k b h =
     let n : ℕ = place - open_count b.above in
     let e : built.join (front n b.here) (back n b.here) ≡ b.here = join-front_back n b.here in
-    let p = ended-parts m (open_tokens b.above) (front n b.here) (back n b.here) (subst (λ (f : built.Forest). EndedFit m (open_tokens b.above) f) (sym e) h.1) in
+    let p = ended-parts m (open_tokens b.above) _ (front n b.here) (back n b.here) refl (subst (λ (f : built.Forest). EndedFit m (open_tokens b.above) f) (sym e) h.1) in
     let j = tokens-join (front n b.here) (back n b.here) in
     let i : tokens (built.join (front n b.here) (back n b.here)) ≡ tokens b.here = ap tokens e in
     let c = h.0 in

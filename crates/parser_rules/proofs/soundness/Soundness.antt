@@ -263,28 +263,24 @@ StartsPlain l = (w : List Token) × (t : Tree) × (v : List Mark) × Spells w t 
 -- No such sentence starts with the tokens before, what no rule reads, and the next token.
 pub not-plain : (r : ℕ) (xs : List Answer) (w rest : List Token) (k : Unread document xs r w rest) → (b : List Token) × (w ≡ b ++ rest) × (StartsPlain (read b ++ next_two rest) → ⊥)
 not-plain r xs w rest k =
-    let o = reach-other k.reached in
-    (o.0, o.1, λ h. on o.0 o.2 h (after-two o.0 rest h.0 h.2 h.4))
-  where
-    fs : List Frame
-    fs = frame k.symbol k.state k.children ∷ k.above
-
-    on : (b : List Token) → ((v : List Token) → first rest ≡ first v → second rest ≡ second v → Reach DOCUMENT (b ++ v) fs v) → (h : StartsPlain (read b ++ next_two rest))
-        → (u : List Token) × (h.0 ≡ b ++ u) × (first rest ≡ first u) × (second rest ≡ second u) → ⊥
-    on b reach h a =
-        let v : List Token = a.0 in
-        let q = sentence-parse document (b ++ v) h.1 (subst (λ (z : List Token). Spells z h.1 document) a.1 h.3) in
-        let m : next k.symbol k.state v ≡ go k.child = ap₂ (λ (x y : ℕ). move k.symbol k.state x y) (sym a.2) (sym a.3) ∙ k.goes_on in
-        plain-read xs r (b ++ v) v q.0 q.1 (subst (λ (z : Tree). Plain z) (sym q.2) h.5) (record {
-          symbol = k.symbol;
-          state = k.state;
-          children = k.children;
-          above = k.above;
-          reached = reach v a.2 a.3;
-          child = k.child;
-          goes_on = m;
-          class = subst (λ (n : ℕ). within n (unread_set k.child) ≡ true) a.2 k.class;
-        })
+    let o = reach-other k.reached in (
+      o.0,
+      o.1,
+      λ h.
+          let a = after-two o.0 rest h.0 h.2 h.4 in
+          let v : List Token = a.0 in
+          let q = sentence-parse document (o.0 ++ v) h.1 (subst (λ (z : List Token). Spells z h.1 document) a.1 h.3) in
+          plain-read xs r (o.0 ++ v) v q.0 q.1 (subst (λ (z : Tree). Plain z) (sym q.2) h.5) (record {
+            symbol = k.symbol;
+            state = k.state;
+            children = k.children;
+            above = k.above;
+            reached = o.2 v a.2 a.3;
+            child = k.child;
+            goes_on = ap₂ (λ (x y : ℕ). move k.symbol k.state x y) (sym a.2) (sym a.3) ∙ k.goes_on;
+            class = subst (λ (n : ℕ). within n (unread_set k.child) ≡ true) a.2 k.class;
+          }),
+    )
 
 -- ---- going on after reports: for the clause on the children that follow a report, which no contract has yet
 
