@@ -2,7 +2,7 @@
 use Rattle.std.proofs.Common.{◌≡◌, ◌≢◌, ℕ, ◌+◌, ◌-◌, ◌^◌, true, false, List, [], ◌∷◌, bit_and, bit_or, refl, inl, inr, arith, eqb-true}
 use Rattle.std.proofs.lemmas.Bool.{eqb-false}
 use Rattle.std.specs.Int.{bit_at}
-use Rattle.std.proofs.lemmas.Nat.Bits.{bit_at_and, bit_at_or, bit_at-lt}
+use Rattle.std.proofs.lemmas.Nat.Bits.{bit_at_and, bit_at_or, bit_at-lt, bit_at-pow_other}
 use Rattle.grammar_machine.specs.Machine.{holds}
 use Rattle.grammar_machine.proofs.Checks.{subset}
 use Rattle.document_grammar.proofs.Booleans.{either}
@@ -22,19 +22,10 @@ pub holds-and : (a x y : ℕ) → holds a x ≡ true → holds a y ≡ true → 
 unfolding holds
 holds-and a x y h k = let e : bit_at (bit_and x y) a ≡ 1 = omega (arith, bit_at_and x y a, eqb-true _ _ h, eqb-true _ _ k) in rw e refl
 
--- A class that is in one of two sets and not in the first is in the second.
-pub holds-other : (a x y : ℕ) → holds a (bit_or x y) ≡ true → holds a x ≡ false → holds a y ≡ true
-unfolding holds
-holds-other a x y h k =
-    let e : bit_at y a ≡ 1 = omega (arith, bit_at_or x y a, bit_at-lt x a, bit_at-lt y a, eqb-true _ _ h, eqb-false _ _ k) in rw e refl
-
--- Without the classes of `x`, the set `s` is in `y`.
-pub holds-without : (a s x y : ℕ) → holds a s ≡ true → holds a x ≡ false → subset s (bit_or x y) ≡ true → holds a y ≡ true
-holds-without a s x y h k t = holds-other a x y (holds-subset a s (bit_or x y) t h) k
-
--- A class that is not `c`.
-pub not-one : (a c : ℕ) → a ≢ c → holds a (2 ^ c) ≡ false
-not-one a c n = elim (either (holds a (2 ^ c))) [ inl p ↦ absurd (n (holds-one a c p)) | inr p ↦ p ]
-
+-- Without the class `c`, the set `s` is in `y`.
 pub holds-but : (a c s y : ℕ) → holds a s ≡ true → a ≢ c → subset s (bit_or (2 ^ c) y) ≡ true → holds a y ≡ true
-holds-but a c s y h n t = holds-without a s (2 ^ c) y h (not-one a c n) t
+unfolding holds
+holds-but a c s y h n t =
+    let k = eqb-true _ _ (holds-subset a s (bit_or (2 ^ c) y) t h) in
+    let e : bit_at y a ≡ 1 = omega (arith, k, bit_at_or (2 ^ c) y a, bit_at-lt y a, bit_at-pow_other c a n) in
+    rw e refl

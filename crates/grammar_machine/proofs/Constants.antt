@@ -251,18 +251,14 @@ brace-rule q (t ▸ (u ▸ f)) o = (
 )
 
 -- Types.
-pub type-target : (k : ℕ) → (k ≡ NAMED_TYPE) ⊎ (k ≡ LIST_TYPE) → target TYPE 0 k ≡ 1
-unfolding target arcs at rows
-type-target k h = elim h [ inl p ↦ rw p refl | inr p ↦ rw p refl ]
-
-pub type-exit : (k : ℕ) → (k ≡ NAMED_TYPE) ⊎ (k ≡ LIST_TYPE) → exits k (λ x. eqb x 0) ≡ true
-unfolding exits is_leaf rows ◌and◌ ◌or◌
-type-exit k h = elim h [ inl p ↦ rw p refl | inr p ↦ rw p refl ]
+type-arcs : all_arcs (arcs TYPE 0) (λ k q. exits k (λ x. eqb (q + x) 1)) ≡ true
+unfolding arcs at rows exits is_leaf ◌and◌ ◌or◌
+type-arcs = refl
 
 pub type-first : (t : Tree) → has TYPE 0 (root t) ≡ true → Ok t → target TYPE 0 (root t) + finish t ≡ 1
+unfolding has target
 type-first t h o =
-    let c = type-arc (root t) h in
-    ap₂ (λ (x y : ℕ). x + y) (type-target (root t) c) (eqb-true _ _ (exits-at t (λ x. eqb x 0) (type-exit (root t) c) o))
+    eqb-true _ _ (exits-at t (λ x. eqb (target TYPE 0 (root t) + x) 1) (arcs-at (arcs TYPE 0) (λ k q. exits k (λ x. eqb (q + x) 1)) (root t) type-arcs h) o)
 
 pub type-pattern : pattern_of TYPE 0 ≡ type_row
 unfolding pattern_of symbol_row label labels Row paths

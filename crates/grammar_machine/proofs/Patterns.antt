@@ -104,7 +104,7 @@ unfolding agree_at constant shown pattern_of symbol_row label ◌and◌ ◌or◌
 agree_checked = refl
 
 -- Derivatives.
-never-none : {A : Type 0} (w : List ℕ) → Matches (any_of []) w → A
+pub never-none : {A : Type 0} (w : List ℕ) → Matches (any_of []) w → A
 unfolding member
 never-none w h = absurd (true≢false (sym h.1))
 

@@ -40,37 +40,22 @@ labels-alone s =
     (label-alone VARIABLE s refl refl, label-alone DEFAULT_VALUE s refl refl, label-alone DOCUMENT s refl refl, label-alone FRAGMENT_NAME s refl refl, label-alone ENUM_VALUE s refl refl)
 
 -- The row of a symbol.
-abbrev first_empty : List (List (List ℕ)) → Bool
-first_empty [] = true
-first_empty ([] ∷ more) = first_empty more
-first_empty (([] ∷ r) ∷ more) = first_empty more
-first_empty (((a ∷ v) ∷ r) ∷ more) = false
-
-first-path : (l : List (List (List ℕ))) (n : ℕ) → first_empty l ≡ true → get_or (get_or l n []) 0 [] ≡ []
-first-path [] n h = refl
-first-path ([] ∷ more) zero h = refl
-first-path (([] ∷ r) ∷ more) zero h = refl
-first-path (((a ∷ v) ∷ r) ∷ more) n h = absurd (true≢false (sym h))
-first-path ([] ∷ more) (suc n) h = first-path more n h
-first-path (([] ∷ r) ∷ more) (suc n) h = first-path more n h
-
-paths-start : first_empty paths ≡ true
-unfolding paths
+paths-start : all_from 0 paths (λ n r. text_eq (get_or r 0 []) []) ≡ true
+unfolding paths ◌and◌
 paths-start = refl
 
 pub start-pattern : (s : ℕ) → eqb s TYPE ≡ false → pattern_of s 0 ≡ symbol_row s
 unfolding pattern_of
-start-pattern s e = rw e (ap (derive_all (symbol_row s)) (first-path paths (s - DOCUMENT) paths-start))
+start-pattern s e = rw e (ap (derive_all (symbol_row s)) (text-same _ [] (all-from-at paths 0 (s - DOCUMENT) (λ n r. text_eq (get_or r 0 []) []) [] paths-start refl)))
 
 pub symbol-row : (s : ℕ) (w : List ℕ) → eqb s BARE_SELECTIONS ≡ false → Matches (symbol_row s) w → Matches (Row (label s)) w
 unfolding symbol_row label labels Row
 symbol-row s w e h = elim (either (eqb s OPERATION_DEFINITION)) [
-  | inl p ↦ (let m : Matches keyword_operation w = rw p at h in let n : s ≡ OPERATION_DEFINITION = eqb-true s OPERATION_DEFINITION p in subst (λ (k : ℕ). Matches (Row (get_or labels k 0)) w) (sym n) (inr m))
-  | inr p ↦ (let h' : Matches (cond (eqb s SHORT_QUERY) (one SELECTION_SET) (cond (eqb s BARE_SELECTIONS) bare_selections (Row (get_or labels s 0)))) w = rw p at h in
-      elim (either (eqb s SHORT_QUERY)) [
-        | inl q ↦ (let m : Matches (one SELECTION_SET) w = rw q at h' in let n : s ≡ SHORT_QUERY = eqb-true s SHORT_QUERY q in subst (λ (k : ℕ). Matches (Row (get_or labels k 0)) w) (sym n) (inl m))
-        | inr q ↦ rw (q, e) at h'
-      ])
+  | inl p ↦ (let m : Matches keyword_operation w = rw p at h in rw (eqb-true _ _ p) (inr m))
+  | inr p ↦ elim (either (eqb s SHORT_QUERY)) [
+    | inl q ↦ (let m : Matches (one SELECTION_SET) w = rw (p, q) at h in rw (eqb-true _ _ q) (inl m))
+    | inr q ↦ (rw (p, q, e) at h)
+  ]
 ]
 
 -- Leaves.
@@ -109,40 +94,30 @@ leaf-rule l x o h =
 abbrev HoldsOne : ℕ → ℕ → Type 0
 HoldsOne s j = (is_leaf s ≡ false) × (eqb s TYPE ≡ false) × (pattern_of s 0 ≡ any_of (label j ∷ [])) × (arcs s 0 ≡ (j, 1) ∷ [])
 
-only-child : (s j : ℕ) (f : Forest) → HoldsOne s j → OkFrom s 0 f → (t : Tree) × (f ≡ t ▸ none) × (root t ≡ j) × Ok t
+-- What is said of the child's text, is said of the node's.
+child-text : (P : Text → Type 0) (s j : ℕ) (f : Forest) → HoldsOne s j → ((t : Tree) → root t ≡ j → Ok t → P (text (show t))) → OkFrom s 0 f
+    → Matches (any_of (label j ∷ [])) (kinds (shows f)) → P (texts (shows f))
 unfolding has ◌or◌
-only-child s j f c o = on f o (subst (λ (q : Pattern). Matches q (kinds (shows f))) c.2 (row-shown s 0 f c.0 o))
-  where
-    on : (f : Forest) → OkFrom s 0 f → Matches (any_of (label j ∷ [])) (kinds (shows f)) → (t : Tree) × (f ≡ t ▸ none) × (root t ≡ j) × Ok t
-    on none o m = no-cons m.2
-    on (t ▸ none) o m = (t, refl, elim (or-c (eqb j (root t)) false (rw c.3 at o.0)) [ inl p ↦ sym (eqb-true j (root t) p) | inr p ↦ absurd (true≢false (sym p)) ], o.1)
-    on (t ▸ (u ▸ f)) o m = no-cons (sym (tail-same m.2))
+child-text P s j none c h o m = no-cons m.2
+child-text P s j (t ▸ none) c h o m =
+    rw (append-nil (text (show t))) (h t (elim (or-c (eqb j (root t)) false (rw c.3 at o.0)) [ inl p ↦ sym (eqb-true j (root t) p) | inr p ↦ false-true refl p ]) o.1)
+child-text P s j (t ▸ (u ▸ f)) c h o m = no-cons (sym (tail-same m.2))
 
-NameLeaf : ℕ → Text → Type 0
-NameLeaf i y = (x : Text) × (y ≡ x) × (fires i (class (token i x)) 0 ≡ true)
+one-text : (P : Text → Type 0) (s j : ℕ) (f : Forest) → HoldsOne s j → ((t : Tree) → root t ≡ j → Ok t → P (text (show t))) → OkFrom s 0 f → P (texts (shows f))
+one-text P s j f c h o = child-text P s j f c h o (subst (λ (q : Pattern). Matches q (kinds (shows f))) c.2 (row-shown s 0 f c.0 o))
 
-leaf-text : (i : ℕ) (u : Tree) → root u ≡ i → is_leaf i ≡ true → Ok u → NameLeaf i (text (show u))
-unfolding NameLeaf
-leaf-text i (leaf l x) e li o = (x, refl, rw e at o.1)
-leaf-text i (node s f) e li o = false-true o.0 (rw (sym e) at li)
+-- The leaf of a name's node is of the symbol `i`.
+abbrev NameLeaf : ℕ → Text → Type 0
+NameLeaf i y = fires i (class (token i y)) 0 ≡ true
 
-trim : (i : ℕ) (y : Text) → NameLeaf i y → NameLeaf i (y ++ [])
-unfolding NameLeaf
-trim i y h = (h.0, append-nil y ∙ h.1, h.2)
+leaf-text : (i : ℕ) → is_leaf i ≡ true → (u : Tree) → root u ≡ i → Ok u → NameLeaf i (text (show u))
+leaf-text i li (leaf l x) e o = rw e at o.1
+leaf-text i li (node s f) e o = false-true o.0 (rw (← e) at li)
 
-inner-text : (j i : ℕ) (t : Tree) → root t ≡ j → HoldsOne j i → is_leaf i ≡ true → Ok t → NameLeaf i (text (show t))
-inner-text j i (leaf l x) e c li o = false-true c.0 (rw e at o.0)
-inner-text j i (node s g) e c li o =
-    let a = only-child j i g c (subst (λ (n : ℕ). OkFrom n 0 g) e o.1) in
-    let n : NameLeaf i (text (show a.0) ++ []) = trim i (text (show a.0)) (leaf-text i a.0 a.2 li a.3) in
-    subst (λ (z : Tree). NameLeaf i (text z)) (sym (show-root s g (subst (λ (z : ℕ). eqb z TYPE ≡ false) (sym e) c.1)))
-    (subst (λ (z : Forest). NameLeaf i (texts (shows z))) (sym a.1) n)
-
--- The text of a name node: its leaf is of the symbol `i`.
-name-leaf : (s j i : ℕ) (f : Forest) → HoldsOne s j → HoldsOne j i → is_leaf i ≡ true → OkFrom s 0 f → NameLeaf i (texts (shows f))
-name-leaf s j i f c d li o =
-    let a = only-child s j f c o in
-    subst (λ (z : Forest). NameLeaf i (texts (shows z))) (sym a.1) (trim i (text (show a.0)) (inner-text j i a.0 a.2 d li a.3))
+name-text : (j i : ℕ) → HoldsOne j i → is_leaf i ≡ true → (t : Tree) → root t ≡ j → Ok t → NameLeaf i (text (show t))
+name-text j i c li (leaf l x) e o = false-true c.0 (rw e at o.0)
+name-text j i c li (node s g) e o =
+    subst (λ (z : Tree). NameLeaf i (text z)) (sym (show-root s g (rw e c.1))) (one-text (NameLeaf i) j i g c (leaf-text i li) (rw e at o.1))
 
 refused : (x : Text) → (fires IDENT_FOR_FRAGMENT (class (token IDENT_FOR_FRAGMENT x)) 0 ≡ true → x ≢ on_text)
     × (fires IDENT_FOR_ENUM (class (token IDENT_FOR_ENUM x)) 0 ≡ true → (x ≢ true_text) × (x ≢ false_text) × (x ≢ null_text))
@@ -151,16 +126,14 @@ refused x = ((λ h e. true≢false (sym (rw e at h))), (λ h. ((λ e. true≢fal
 
 fragment-leaf : (f : Forest) → OkFrom FRAGMENT_NAME 0 f → NameLeaf IDENT_FOR_FRAGMENT (texts (shows f))
 unfolding is_leaf pattern_of symbol_row label labels Row paths arcs at rows
-fragment-leaf f o = name-leaf FRAGMENT_NAME NAME_FOR_FRAGMENT IDENT_FOR_FRAGMENT f (refl, refl, refl, refl) (refl, refl, refl, refl) refl o
+fragment-leaf f o = one-text (NameLeaf IDENT_FOR_FRAGMENT) FRAGMENT_NAME NAME_FOR_FRAGMENT f (refl, refl, refl, refl) (name-text NAME_FOR_FRAGMENT IDENT_FOR_FRAGMENT (refl, refl, refl, refl) refl) o
 
 enum-leaf : (f : Forest) → OkFrom ENUM_VALUE 0 f → NameLeaf IDENT_FOR_ENUM (texts (shows f))
 unfolding is_leaf pattern_of symbol_row label labels Row paths arcs at rows
-enum-leaf f o = name-leaf ENUM_VALUE NAME_FOR_ENUM IDENT_FOR_ENUM f (refl, refl, refl, refl) (refl, refl, refl, refl) refl o
+enum-leaf f o = one-text (NameLeaf IDENT_FOR_ENUM) ENUM_VALUE NAME_FOR_ENUM f (refl, refl, refl, refl) (name-text NAME_FOR_ENUM IDENT_FOR_ENUM (refl, refl, refl, refl) refl) o
 
 pub name-rule : (s : ℕ) (f : Forest) → OkFrom s 0 f → NameRule (label s) (shows f)
-unfolding NameLeaf
 name-rule s f o = (
-  (λ e t. let c = fragment-leaf f (subst (λ (n : ℕ). OkFrom n 0 f) ((labels-alone s).3 e) o) in (refused c.0).0 c.2 (sym c.1 ∙ t)),
-  (λ e. let c = enum-leaf f (subst (λ (n : ℕ). OkFrom n 0 f) ((labels-alone s).4 e) o) in
-      let r = (refused c.0).1 c.2 in ((λ t. r.0 (sym c.1 ∙ t)), (λ t. r.1 (sym c.1 ∙ t)), (λ t. r.2 (sym c.1 ∙ t)))),
+  (λ e. (refused _).0 (fragment-leaf f (rw ((labels-alone s).3 e) at o))),
+  (λ e. (refused _).1 (enum-leaf f (rw ((labels-alone s).4 e) at o))),
 )
