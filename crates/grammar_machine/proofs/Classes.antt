@@ -1,13 +1,11 @@
 -- Sets of classes, and which sets hold a class.
-use Rattle.std.proofs.Common.{◌≡◌, ◌≢◌, ℕ, ◌+◌, ◌-◌, ◌^◌, true, false, List, [], ◌∷◌, bit_and, bit_or, refl, inl, inr, arith, eqb-true}
-use Rattle.std.proofs.lemmas.Bool.{eqb-false}
+use Rattle.std.proofs.Common.{◌≡◌, ◌≢◌, ℕ, ◌+◌, ◌-◌, ◌^◌, true, List, [], ◌∷◌, bit_and, bit_or, refl, arith, eqb-true}
 use Rattle.std.specs.Int.{bit_at}
 use Rattle.std.proofs.lemmas.Nat.Bits.{bit_at_and, bit_at_or, bit_at-lt, bit_at-pow_other}
 use Rattle.grammar_machine.specs.Machine.{holds}
 use Rattle.grammar_machine.proofs.Checks.{subset}
-use Rattle.document_grammar.proofs.Booleans.{either}
 use Rattle.grammar_machine.proofs.TableLemmas.{holds-subset}
-use Rattle.grammar_machine.proofs.Sound.{any, holds-one}
+use Rattle.grammar_machine.proofs.Sound.{any}
 
 -- Sets: of the listed classes, each once; of all others.
 abbrev pub only : List ℕ → ℕ

@@ -1,10 +1,9 @@
 -- A tree of the tables keeps the rules on constants and braces; so it is shown as a derivation.
-use Rattle.std.proofs.Common.{◌≡◌, ◌≢◌, ℕ, zero, suc, ◌+◌, ◌-◌, ◌^◌, ◌<◌, Bool, true, false, cond, not, eqb, ltb, List, [], ◌∷◌, ◌++◌, get_or, refl, sym, ap, ap₂, ◌∙◌, subst, ◌⊎◌, inl, inr, true≢false, arith, eqb-true, ltb-true, append-nil, bit_or}
-use Rattle.std.proofs.lemmas.Bool.{eqb-false}
+use Rattle.std.proofs.Common.{◌≡◌, ◌≢◌, ℕ, zero, suc, ◌+◌, ◌-◌, ◌^◌, ◌<◌, Bool, true, false, cond, not, eqb, ltb, List, [], ◌∷◌, ◌++◌, get_or, refl, sym, ap, ap₂, ◌∙◌, subst, inl, inr, true≢false, arith, eqb-true, ltb-true, append-nil, bit_or}
 use Rattle.document_grammar.specs.Tree.{Text, Token, Tree, leaf, node, Forest, none, ◌▸◌, root}
 use Rattle.document_grammar.specs.Pattern.{Pattern, member, Matches}
 use Rattle.document_grammar.specs.Rows.{Row, bare_selections}
-use Rattle.document_grammar.specs.Kinds.{DOCUMENT, OPERATION_DEFINITION, SELECTION_SET, FRAGMENT_NAME, DIRECTIVES, VARIABLE, DEFAULT_VALUE, ENUM_VALUE, NAMED_TYPE, LIST_TYPE, NON_NULL_TYPE, FIELDS_DEFINITION, ENUM_VALUES_DEFINITION, INPUT_FIELDS_DEFINITION, L_CURLY, IDENT, STRING, WHITESPACE}
+use Rattle.document_grammar.specs.Kinds.{DOCUMENT, OPERATION_DEFINITION, SELECTION_SET, DIRECTIVES, VARIABLE, DEFAULT_VALUE, NON_NULL_TYPE, FIELDS_DEFINITION, ENUM_VALUES_DEFINITION, INPUT_FIELDS_DEFINITION, L_CURLY, IDENT, STRING, WHITESPACE}
 use Rattle.document_grammar.specs.Choices.{Types, is_ignored}
 use Rattle.grammar_machine.specs.Table.{State, rows, firsts, name_leaves}
 use Rattle.grammar_machine.proofs.generated.Labels.{paths, labels}
@@ -16,9 +15,9 @@ use Rattle.document_grammar.proofs.Booleans.{false-true, and-l, and-r, and-i, or
 use Rattle.grammar_machine.proofs.TableLemmas.{tail-same, no-cons, arcs-at, arc-test, exits-at, state-test, below-at}
 use Rattle.grammar_machine.proofs.Sound.{leaf-lt}
 use Rattle.grammar_machine.proofs.Patterns.{all_kinds, label, shown, pattern_of, symbol_row, type_row}
-use Rattle.grammar_machine.proofs.FromMachineTree.{kinds-at, type-arc, type-root, type-end, show, shows, build, type_of, row-shown, show-root, shown-root, node-symbols, labels-checked}
+use Rattle.grammar_machine.proofs.FromMachineTree.{kinds-at, type-root, type-end, show, shows, build, type_of, row-shown, show-root, shown-root, node-symbols, labels-checked}
 use Rattle.grammar_machine.proofs.Rules.{label-test, labels-alone, name-rule, leaf-rule, start-pattern, symbol-row}
-use Rattle.grammar_machine.specs.Symbols.{TYPE, SHORT_QUERY, BARE_SELECTIONS}
+use Rattle.grammar_machine.specs.Symbols.{TYPE, BARE_SELECTIONS}
 
 -- The symbols above a VARIABLE, as a set: a symbol joins it whose row has an arc to one of the set. Each step goes over the rows, from the
 -- last one to the first. The test of all arcs, below, shows that the steps are enough.
@@ -69,13 +68,10 @@ pure-kinds = (refl, refl)
 pure-is_no_variable : (s : ℕ) → pure s ≡ true → label s ≢ VARIABLE
 pure-is_no_variable s p e = false-true pure-kinds.0 (rw ((labels-alone s).0 e) at p)
 
-non_null-is_no_variable : ◌≢◌ {A = ℕ} NON_NULL_TYPE VARIABLE
-non_null-is_no_variable e = omega arith
-
 no-variable-type : (f : Forest) → NoVariables f → NoVariable (type_of f)
-no-variable-type none h = (non_null-is_no_variable, tt)
+no-variable-type none h = ((λ e. absurd (omega arith)), tt)
 no-variable-type (t ▸ none) h = h.0
-no-variable-type (t ▸ (u ▸ f)) h = (non_null-is_no_variable, h)
+no-variable-type (t ▸ (u ▸ f)) h = ((λ e. absurd (omega arith)), h)
 
 no-variable-build : (s : ℕ) (f : Forest) → pure s ≡ true → NoVariables f → NoVariable (build s f)
 no-variable-build s f p h = elim (either (eqb s TYPE)) [
@@ -109,9 +105,12 @@ constant-rule s f l o = (
 abbrev block_marks : List ℕ
 block_marks = FIELDS_DEFINITION ∷ ENUM_VALUES_DEFINITION ∷ INPUT_FIELDS_DEFINITION ∷ L_CURLY ∷ []
 
+abbrev has_mark : List ℕ → Bool
+has_mark [] = false
+has_mark (k ∷ ks) = member k block_marks or has_mark ks
+
 abbrev has_block : Forest → Bool
-has_block none = false
-has_block (t ▸ f) = member (root t) block_marks or has_block f
+has_block f = has_mark (kinds f)
 
 block-none : (f : Forest) → NoBlock f → has_block f ≡ false
 block-none none h = refl
@@ -122,10 +121,6 @@ none-block none h = tt
 none-block (t ▸ f) h = (or-false-l _ _ h, none-block f (or-false-r _ _ h))
 
 -- The states after the block of a row: a mark is among the kinds of children that lead there.
-abbrev has_mark : List ℕ → Bool
-has_mark [] = false
-has_mark (k ∷ ks) = member k block_marks or has_mark ks
-
 unfoldable after_block : ℕ → ℕ → Bool
 after_block s q = has_mark (get_or (get_or paths (s - DOCUMENT) []) q [])
 
@@ -205,37 +200,28 @@ document-arc q u h o =
     let c = implies _ _ (arc-test document_test document-checked DOCUMENT q (root u) node-symbols.0 h) refl in
     (not-c _ (and-l _ _ (and-l _ _ c)), eqb-true _ _ (and-r _ _ (and-l _ _ c)), ltb-true _ _ (exits-at u (λ x. ltb x 2) (and-r _ _ c) o))
 
-query-symbols : (s : ℕ) → label s ≡ OPERATION_DEFINITION → (s ≡ OPERATION_DEFINITION) ⊎ (s ≡ SHORT_QUERY)
-unfolding labels ◌and◌ ◌or◌
-query-symbols s e =
-    let c = label-test (λ i v. not (eqb v OPERATION_DEFINITION) or (eqb i OPERATION_DEFINITION or eqb i SHORT_QUERY)) refl s refl in
-    let q : eqb (label s) OPERATION_DEFINITION ≡ true = rw e refl in
-    elim (or-c _ _ (implies _ _ c q)) [ inl p ↦ inl (eqb-true _ _ p) | inr p ↦ inr (eqb-true _ _ p) ]
+-- After a definition that lacks its block an operation is none that begins with a selection set.
+abbrev no_selections : List (ℕ × ℕ) → Bool
+no_selections l = all_arcs l (λ k q. not (member SELECTION_SET (shown k)))
 
-no-short_query : has DOCUMENT 2 SHORT_QUERY ≡ false
-unfolding has arcs at rows ◌or◌
-no-short_query = refl
+abbrev query_test : ℕ → ℕ → Bool
+query_test k q = not (eqb (label k) OPERATION_DEFINITION) or no_selections (arcs k 0)
 
--- An operation with a keyword does not begin with a selection set.
-head-operation : all_arcs (arcs OPERATION_DEFINITION 0) (λ k q. not (member SELECTION_SET (shown k))) ≡ true
-unfolding arcs at rows shown label labels member ◌and◌
-head-operation = refl
+queries-checked : all_arcs (arcs DOCUMENT 2) query_test ≡ true
+unfolding arcs at rows shown label labels member ◌and◌ ◌or◌
+queries-checked = refl
 
-no-selections : (f : Forest) → OkFrom OPERATION_DEFINITION 0 f → StartsWithSelections (shows f) → ⊥
+no-selections : (s : ℕ) (f : Forest) → no_selections (arcs s 0) ≡ true → OkFrom s 0 f → StartsWithSelections (shows f) → ⊥
 unfolding has
-no-selections none o h = h
-no-selections (t ▸ f) o h =
-    let n : member SELECTION_SET (shown (root t)) ≡ false = not-c _ (arcs-at (arcs OPERATION_DEFINITION 0) (λ k q. not (member SELECTION_SET (shown k))) (root t) head-operation o.0) in
-    false-true n (subst (λ (j : ℕ). member j (shown (root t)) ≡ true) h (shown-root t o.1))
+no-selections s none c o h = h
+no-selections s (t ▸ f) c o h = false-true (not-c _ (arcs-at (arcs s 0) _ (root t) c o.0)) (subst (λ (j : ℕ). member j (shown (root t)) ≡ true) h (shown-root t o.1))
 
 not-query : (u : Tree) → Ok u → eqb (root u) TYPE ≡ false → has DOCUMENT 2 (root u) ≡ true → IsQuery (show u) → ⊥
+unfolding has
 not-query (leaf l x) o e h i = i
 not-query (node s f) o e h i =
-    let j : IsQuery (node (label s) (shows f)) = subst (λ (z : Tree). IsQuery z) (show-root s f e) i in
-    elim (query-symbols s j.0) [
-      | inl p ↦ no-selections f (subst (λ (n : ℕ). OkFrom n 0 f) p o.1) j.1
-      | inr p ↦ false-true no-short_query (rw p at h)
-    ]
+    let j : IsQuery (node (label s) (shows f)) = rw e at i in
+    no-selections s f (implies _ _ (arcs-at (arcs DOCUMENT 2) query_test s queries-checked h) (rw j.0 refl)) o.1 j.1
 
 pub brace-rule : (q : ℕ) (f : Forest) → OkFrom DOCUMENT q f → BraceRule (shows f)
 brace-rule q none o = tt
@@ -274,7 +260,7 @@ two-children a b w v e m = elim m.4 [
 
 rules-non_null_type : (f : Forest) → NameRule NON_NULL_TYPE f × ConstantRule NON_NULL_TYPE f × (◌≡◌ {A = ℕ} NON_NULL_TYPE DOCUMENT → BraceRule f)
 unfolding member
-rules-non_null_type f = (((λ e. absurd (eqb-false NON_NULL_TYPE FRAGMENT_NAME refl e)), (λ e. absurd (eqb-false NON_NULL_TYPE ENUM_VALUE refl e))), ((λ e. absurd (eqb-false NON_NULL_TYPE DEFAULT_VALUE refl e)), (λ e. absurd (true≢false (sym e)))), (λ e. absurd (eqb-false NON_NULL_TYPE DOCUMENT refl e)))
+rules-non_null_type f = (((λ e. absurd (omega arith)), (λ e. absurd (omega arith))), ((λ e. absurd (omega arith)), (λ e. false-true refl e)), (λ e. absurd (omega arith)))
 
 type-fits : (f : Forest) → OkFrom TYPE 0 f → AllFit (shows f) → Fits (type_of (shows f))
 type-fits none o h = false-true type-end o

@@ -1,8 +1,8 @@
 -- A tree of the tables keeps the rules on leaves and names.
-use Rattle.std.proofs.Common.{◌≡◌, ◌≢◌, ℕ, zero, suc, ◌-◌, ◌<◌, ◌^◌, Bool, true, false, cond, not, eqb, ltb, List, [], ◌∷◌, ◌++◌, get_or, refl, sym, ap, ◌∙◌, subst, inl, inr, true≢false, append-nil, arith, eqb-true, lt-ltb}
+use Rattle.std.proofs.Common.{◌≡◌, ◌≢◌, ℕ, ◌-◌, ◌<◌, ◌^◌, Bool, true, false, not, eqb, ltb, List, [], ◌∷◌, get_or, refl, sym, ap, ◌∙◌, subst, inl, inr, true≢false, append-nil, arith, eqb-true, lt-ltb}
 use Rattle.document_grammar.specs.Tree.{Text, Tree, leaf, node, Forest, none, ◌▸◌, root}
 use Rattle.document_grammar.specs.Pattern.{Pattern, any_of, one, Matches}
-use Rattle.document_grammar.specs.Rows.{Row, keyword_operation, bare_selections}
+use Rattle.document_grammar.specs.Rows.{Row, keyword_operation}
 use Rattle.grammar_machine.specs.Table.{rows, firsts, name_leaves}
 use Rattle.grammar_machine.proofs.generated.Labels.{paths, labels}
 use Rattle.document_grammar.specs.Booleans.{◌and◌, ◌or◌}

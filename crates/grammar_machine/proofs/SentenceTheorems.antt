@@ -4,7 +4,7 @@ use Rattle.document_grammar.specs.Sentence.{token_of, Sentence}
 use Rattle.document_grammar.proofs.Texts.{one-cut}
 use Rattle.lexical_grammar.specs.Cut.{Item, Significant}
 use Rattle.document_grammar.specs.Tree.{Token, Tree, node, Forest}
-use Rattle.grammar_machine.specs.Machine.{first, second, yield, yields, opening, close, Frame, frame, Reach, Reached, IsStuck}
+use Rattle.grammar_machine.specs.Machine.{first, yield, yields, opening, close, Frame, frame, Reach, Reached, IsStuck}
 use Rattle.document_grammar.specs.Derivation.{Sort, Spells, Yield, Starts, Mark, word, marks}
 use Rattle.grammar_machine.proofs.Run.{next}
 use Rattle.grammar_machine.proofs.FromMachineTree.{show}
@@ -73,23 +73,13 @@ begins-at sort w fs r c =
     let h = viable (no-leaf s o) (can-end s o) c in
     (spent fs, reach-spent c, (show h.0, h.1, parse-sentence sort (first w) (spent fs ++ h.1) h.0 h.2 h.3 h.4, h.5))
 
--- Another list with the same beginning has the same start symbol.
-same-start : (sort : Sort) (w b r v : List Token) (u : Tree) → w ≡ b ++ r → first r ≡ first v → Parse (start_symbol sort (b ++ v)) u (b ++ v)
-    → Parse (start_symbol sort w) u (b ++ v)
-same-start sort w b r v u e f p = subst (λ (n : ℕ). Parse (opening sort n) u (b ++ v)) (sym (ap first e ∙ first-same b r v f)) p
-
--- No early fault: no sentence begins with them and goes on with the next two.
-pub not-early : (sort : Sort) (w r : List Token) (k : FaultIn sort w r) (v : List Token) (t : Tree) → Spells (k.before ++ v) t sort
-    → first r ≡ first v → second r ≡ second v → ⊥
-not-early sort w r k v t h e e' =
-    let a = sentence-parse sort (k.before ++ v) t h in
-    k.not_early a.0 v (same-start sort w k.before r v a.0 k.split e a.1) e e'
-
--- The same as a statement on beginnings of sentences.
+-- No early fault: no sentence begins with what is before it and the next two tokens.
 pub not-starts : (sort : Sort) (w r : List Token) (k : FaultIn sort w r) → Starts sort (read k.before ++ next_two r) → ⊥
 not-starts sort w r k h =
     let a = after-two k.before r h.0 h.2 h.4 in
-    not-early sort w r k a.0 h.1 (subst (λ (z : List Token). Spells z h.1 sort) a.1 h.3) a.2 a.3
+    let b = sentence-parse sort h.0 h.1 h.3 in
+    let start : first h.0 ≡ first w = ap first a.1 ∙ (sym (first-same k.before r a.0 a.2) ∙ sym (ap first k.split)) in
+    k.not_early b.0 a.0 (b.1.0, b.1.1 ∙ ap (opening sort) start, b.1.2 ∙ a.1) a.2 a.3
 
 -- A text has one derivation, since it has one cut without bad text.
 pub one-sentence : (source : List ℕ) (t u : Tree) (sort : Sort) → Sentence source t sort → Sentence source u sort → t ≡ u
@@ -113,9 +103,6 @@ fault-of : (sort : Sort) (before rest : List Token) → IsStuck sort before rest
 fault-of sort before rest s =
     fault (start_symbol sort (before ++ rest)) (opens sort (first (before ++ rest))) (before ++ rest) s.symbol s.state s.children s.above rest s.reached s.no_move
 
-before-of : (sort : Sort) (before rest : List Token) (k : FaultIn sort (before ++ rest) rest) → k.before ≡ before
-before-of sort before rest k = append_cancel_right k.before before rest (sym k.split)
-
 -- What has been read begins tokens that a derivation spells, and that go on as the leaves are listed.
 pub reached-begins : (sort : Sort) (before rest : List Token) (fs : List Frame) → Reached sort before rest fs
     → (t : Tree) × (v : List Token) × Spells (before ++ v) t sort × AllSpelt v
@@ -132,5 +119,5 @@ pub stuck-starts-none : (sort : Sort) (before rest : List Token) → IsStuck sor
 stuck-starts-none sort before rest s h =
     let k = fault-of sort before rest s in
     let e : map word before ++ take 2 (marks rest) ≡ read k.before ++ next_two rest =
-    ap₂ (λ (l m : List Mark). l ++ m) (read-map before ∙ ap read (sym (before-of sort before rest k))) (two-marks rest) in
+    ap₂ (λ (l m : List Mark). l ++ m) (read-map before ∙ ap read (append_cancel_right before k.before rest k.split)) (two-marks rest) in
     not-starts sort (before ++ rest) rest k (subst (λ (l : List Mark). Starts sort l) e h)

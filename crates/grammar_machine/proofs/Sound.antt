@@ -58,10 +58,6 @@ word-name (w ∷ more) x h = elim (either (text_eq w.1 x)) [
   | inr p ↦ rw p (word-name more x (and-r _ _ h))
 ]
 
-token-kind-no-name : (k : ℕ) → holds k token_kinds ≡ true → holds k name_classes ≡ false
-unfolding holds
-token-kind-no-name k h = holds-disjoint k token_kinds name_classes refl h
-
 error-no-name : holds ERROR name_classes ≡ false
 unfolding holds
 error-no-name = refl
@@ -73,7 +69,7 @@ unfolding class
 class-cases a = elim (either (eqb a.0 IDENT)) [
   | inl p ↦ inl (eqb-true _ _ p, rw p (word-name words a.1 words_checked))
   | inr p ↦ elim (either (holds a.0 token_kinds)) [
-    | inl q ↦ inr (rw (p, q) (token-kind-no-name a.0 q), inl (rw (p, q) refl))
+    | inl q ↦ inr (rw (p, q) (holds-disjoint a.0 token_kinds name_classes refl q), inl (rw (p, q) refl))
     | inr q ↦ inr (rw (p, q) error-no-name, inr (rw (p, q) refl))
   ]
 ]
@@ -243,18 +239,20 @@ held-fillable s0 s (frame s1 q1 f1 ∷ fs) l h c b = fill-start s1 q1 s c.0 h l
 abbrev pub Whole : ℕ → List Token → Type 0
 Whole s0 u = (t : Tree) × (v : List Token) × Ok t × (root t ≡ s0) × (yield t ≡ u ++ v) × AllSpelt v
 
-lift : (s0 s : ℕ) (fs : List Frame) (x : Tree) → Ok x → root x ≡ s → Held s0 s fs → Sound s0 fs → Whole s0 (spent fs ++ yield x)
-lift s0 s [] x o e h c = (x, [], o, e ∙ h, sym (append-nil (yield x)), tt)
-lift s0 s (frame s1 q1 f1 ∷ fs) x o e h c =
-    let hx : has s1 q1 (root x) ≡ true = rw e h in
-    let g = ending s1 (target s1 q1 (root x) + finish x) in
-    let fa : fillable s1 (target s1 q1 (root x) + finish x) ≡ true = fill-after s1 q1 x c.0 hx o in
-    let og : OkFrom s1 (target s1 q1 (root x) + finish x) g = fillable-ok s1 (target s1 q1 (root x) + finish x) fa in
-    let w = lift s0 s1 fs (node s1 (f1 +++ (x ▸ g))) (c.0, path-join s1 0 q1 f1 (x ▸ g) c.1 (hx, o, og)) refl c.2 c.3 in
-    (w.0, yields g ++ w.1, w.2, w.3, w.4 ∙ shuffle g w.1, all-append (yields g) w.1 (fillable-spelt s1 (target s1 q1 (root x) + finish x) fa) w.5)
+-- The open nodes end, each with what the row's state is completed with.
+complete : (s0 s q : ℕ) (f : Forest) (fs : List Frame) → Sound s0 (frame s q f ∷ fs) → fillable s q ≡ true → Whole s0 (spent fs ++ yields f)
+complete s0 s q f [] c b =
+    let g = ending s q in
+    (node s (f +++ g), yields g, (c.0, path-join s 0 q f g c.1 (fillable-ok s q b)), c.2, yields-append f g, fillable-spelt s q b)
+complete s0 s q f (frame s1 q1 f1 ∷ fs) c b =
+    let g = ending s q in
+    let x = node s (f +++ g) in
+    let o : Ok x = (c.0, path-join s 0 q f g c.1 (fillable-ok s q b)) in
+    let w = complete s0 s1 (target s1 q1 s + finish x) (f1 +++ (x ▸ none)) fs (c.3.0, path-snoc s1 0 q1 f1 x c.3.1 c.2 o, c.3.2, c.3.3) (fill-after s1 q1 x c.3.0 c.2 o) in
+    (w.0, yields g ++ w.1, w.2, w.3, w.4 ∙ shuffle w.1, all-append (yields g) w.1 (fillable-spelt s q b) w.5)
   where
-    shuffle : (g : Forest) (v : List Token) → (spent fs ++ yields (f1 +++ (x ▸ g))) ++ v ≡ ((spent fs ++ yields f1) ++ yield x) ++ (yields g ++ v)
-    shuffle g v = rw (yields-append f1 (x ▸ g)) (simp append_assoc)
+    shuffle : (v : List Token) → (spent fs ++ yields (f1 +++ (node s (f +++ ending s q) ▸ none))) ++ v ≡ ((spent fs ++ yields f1) ++ yields f) ++ (yields (ending s q) ++ v)
+    shuffle v = rw (yields-append f1 (node s (f +++ ending s q) ▸ none), yields-append f (ending s q)) (simp (append_assoc, append-nil))
 
 reach-nonempty : {s0 : ℕ} {w : List Token} {fs : List Frame} {r : List Token} → Reach s0 w fs r → (fs ≡ []) → ⊥
 reach-nonempty start e = cc
@@ -269,12 +267,7 @@ viable {s0} {w} {fs} {r} i b c = on fs (reach-sound i c) (reach-nonempty c)
   where
     on : (fs : List Frame) → Sound s0 fs → (fs ≡ [] → ⊥) → Whole s0 (spent fs)
     on [] c n = absurd (n refl)
-    on (frame s q f ∷ fs) c n =
-        let g = ending s q in
-        let fa : fillable s q ≡ true = path-fillable s 0 q f c.0 c.1 (held-fillable s0 s fs c.0 c.2 c.3 b) in
-        let og : OkFrom s q g = fillable-ok s q fa in
-        let w = lift s0 s fs (node s (f +++ g)) (c.0, path-join s 0 q f g c.1 og) refl c.2 c.3 in
-        (w.0, yields g ++ w.1, w.2, w.3, w.4 ∙ (rw (yields-append f g) (simp append_assoc)), all-append (yields g) w.1 (fillable-spelt s q fa) w.5)
+    on (frame s q f ∷ fs) c n = complete s0 s q f fs c (path-fillable s 0 q f c.0 c.1 (held-fillable s0 s fs c.0 c.2 c.3 b))
 
 -- The set of all classes, which are the numbers before DOCUMENT.
 abbrev pub any : ℕ

@@ -1,25 +1,25 @@
 -- A derivation is shown by a tree of the tables.
-use Rattle.std.proofs.Common.{◌≡◌, ◌≢◌, ℕ, ◌+◌, ◌<◌, Bool, true, false, cond, not, eqb, ltb, List, [], ◌∷◌, ◌++◌, get_or, refl, sym, ap, ap₂, ◌∙◌, subst, ◌⊎◌, inl, inr, true≢false, arith, eqb-true, append-nil, ltb-true, ltb-false, ◌≤◌}
+use Rattle.std.proofs.Common.{◌≡◌, ◌≢◌, ℕ, ◌+◌, ◌<◌, Bool, true, false, cond, not, eqb, ltb, List, [], ◌∷◌, ◌++◌, refl, sym, ap, ap₂, ◌∙◌, subst, ◌⊎◌, inl, inr, true≢false, arith, eqb-true, append-nil, ltb-true, ltb-false, ◌≤◌}
 use Rattle.std.proofs.lemmas.Bool.{eqb-false}
 use Rattle.document_grammar.proofs.Words.{all_words, listed-at}
 use Rattle.document_grammar.specs.Tree.{Text, Tree, leaf, node, Forest, none, ◌▸◌, root}
 use Rattle.document_grammar.specs.Pattern.{Pattern, any_of, one, member, Matches}
-use Rattle.document_grammar.specs.Rows.{Row, row_in, children, keyword_operation}
-use Rattle.document_grammar.specs.Kinds.{words, WHITESPACE, ERROR, DOCUMENT, OPERATION_DEFINITION, SELECTION_SET, NAME, FRAGMENT_NAME, DIRECTIVES, VARIABLE, DEFAULT_VALUE, ENUM_VALUE, NAMED_TYPE, LIST_TYPE, NON_NULL_TYPE, IDENT, STRING}
+use Rattle.document_grammar.specs.Rows.{Row, keyword_operation}
+use Rattle.document_grammar.specs.Kinds.{words, WHITESPACE, ERROR, DOCUMENT, OPERATION_DEFINITION, SELECTION_SET, NAME, FRAGMENT_NAME, DIRECTIVES, VARIABLE, DEFAULT_VALUE, ENUM_VALUE, NON_NULL_TYPE, IDENT, STRING}
 use Rattle.document_grammar.specs.Choices.{Types}
 use Rattle.grammar_machine.specs.Table.{rows, firsts, name_leaves, token_kinds}
 use Rattle.grammar_machine.proofs.generated.Samples.{endings, spellings}
 use Rattle.grammar_machine.proofs.generated.Labels.{paths, labels}
 use Rattle.document_grammar.specs.Booleans.{◌and◌, ◌or◌}
 use Rattle.grammar_machine.specs.Machine.{holds, is_leaf, at, ends, exit, arcs, has, has_in, target, entries, fires, class, word_class, text_eq, token, finish, Ok, OkFrom}
-use Rattle.document_grammar.specs.Derivation.{kinds, text, texts, Listed, LeafRule, NameRule, on_text, true_text, false_text, null_text, NoVariable, NoVariables, Marked, ConstantDirectives, ConstantRule, LacksBlock, StartsWithSelections, NotBefore, BraceRule, IsQuery, Fits, AllFit, BareBy, Sort, document, selections, type, Derivation}
+use Rattle.document_grammar.specs.Derivation.{kinds, text, texts, LeafRule, NameRule, on_text, true_text, false_text, null_text, NoVariable, NoVariables, Marked, ConstantDirectives, ConstantRule, LacksBlock, NotBefore, BraceRule, IsQuery, Fits, AllFit, BareBy, Sort, document, selections, type, Derivation}
 use Rattle.grammar_machine.proofs.Checks.{every_arc, all_below}
 use Rattle.document_grammar.proofs.Booleans.{false-true, and-l, and-r, or-c, or-l, or-r, or-false, or-false-l, or-false-r, not-c, either, same, same-bool, implies, eqb-refl}
 use Rattle.grammar_machine.proofs.TableLemmas.{text-same, arc-test, head-same, tail-same, no-cons, below-at}
 use Rattle.grammar_machine.proofs.Endings.{ending, fillable}
 use Rattle.grammar_machine.proofs.Sound.{leaf-lt, fill-after, fill-start, fillable-ok}
 use Rattle.document_grammar.proofs.Nullable.{nullable-to}
-use Rattle.grammar_machine.proofs.Patterns.{all_kinds, deriv, pattern_of, symbol_row, type_row, label, shown, any_arcs, constant, begin_kinds, agree_at, to-deriv, first-kind, never-none, pattern_eq}
+use Rattle.grammar_machine.proofs.Patterns.{all_kinds, deriv, pattern_of, symbol_row, type_row, label, shown, any_arcs, constant, agree_at, to-deriv, first-kind, never-none, pattern_eq}
 use Rattle.grammar_machine.proofs.FromMachineTree.{kinds-at, pattern-same, show, shows, type_of, show-root, Live, agree, agree-end-from, agree-arc, agree-kind, has-live, ends-live, leaf-no-type, node-symbols, labels-checked}
 use Rattle.grammar_machine.proofs.Constants.{type-first, type-pattern, bare-pattern, document-arc, finish-lacks}
 use Rattle.grammar_machine.proofs.Rules.{start-pattern, keyword-class}
