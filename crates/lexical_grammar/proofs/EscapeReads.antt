@@ -1,4 +1,4 @@
--- An escape at the front of a text, form by form: how long it is, and what it stands for.
+-- An escape at the front of a text, form by form: how long it is, and which character it represents.
 use Rattle.std.proofs.Common.{◌≡◌, ℕ, ◌+◌, ◌-◌, ◌<◌, ◌≤◌, Bool, true, false, cond, List, [], ◌∷◌, length, take, drop, min, nat_lt, Some, None, refl, sym, ap, ◌∙◌, subst, inl, inr, arith, length-append}
 use Rattle.std.specs.Prelude.{slice_index, is_some, ◌&&◌, encode_utf8}
 use Rattle.std.specs.Char.{IsScalar}
@@ -22,7 +22,7 @@ slashed : (P : List ℕ → Type 0) (text : List ℕ) → slice_index text 0 ≡
 slashed P [] e h = absurd (omega arith)
 slashed P (b ∷ bs) e h = subst (λ (c : ℕ). P (c ∷ bs)) (sym e) (h bs)
 
--- a string character of so many bytes that stands for this text
+-- the string character at the front has n bytes, and represents the text `said`
 record IsRead (text : List ℕ) (n : ℕ) (said : List ℕ) : Type 0 where
   pub len : n ≡ string_character_len text
   pub value : said ≡ string_character_value text

@@ -80,6 +80,6 @@ answers_from zero place (item ∷ next ∷ items) cut = refl
 answers_from (suc allowed) place (item ∷ next ∷ items) cut =
     (item_text item.kind item.text _ cut.1, item_not_last item.kind item.text _ (limited allowed (next ∷ items)) cut.1, answers_from allowed _ (next ∷ items) cut.2)
 
--- token texts are of their kind, and nothing comes behind the end or the limit
+-- token texts are of their kind, and nothing comes after the end or the limit error
 pub limited_answers : (allowed : ℕ) (source : List ℕ) (items : List Item) → Cut source items → AreAnswers (limited allowed items)
 limited_answers allowed source items cut = answers_from allowed 0 items cut.each

@@ -18,7 +18,7 @@ one_place source place m n kind other a b =
     let right = length-take-le n (drop place source) (omega (arith, b.within, length-drop place source)) in
     (same.0, sym left ∙ ap (λ (l : List ℕ). length l) same.1 ∙ right)
 
--- the text that stands behind another
+-- the text that comes after another
 behind : (before text after : List ℕ) → drop (length before) (before ++ (text ++ after)) ≡ text ++ after
 behind before text after = drop_at before (text ++ after) _ refl
 

@@ -42,7 +42,7 @@ beyond_whole = refl
 minus_nought : IntOf (codes "-0") ≡ pos 0
 minus_nought = refl
 
--- what stands between the quotes, and its value
+-- what is between the quotes, and its value
 escapes : quoted_value 0 (codes "a\\n\\\"\\/\\u0041\\u{1F4A9}") ≡ codes "a\n\"/A" ++ (240 ∷ 159 ∷ 146 ∷ 169 ∷ [])
 unfolding encode
 escapes = refl
@@ -51,7 +51,7 @@ surrogates : quoted_value 0 (codes "\\uD83D\\uDCA9") ≡ 240 ∷ 159 ∷ 146 ∷
 unfolding encode
 surrogates = refl
 
--- a surrogate pair stands for one character
+-- a surrogate pair represents one character
 pair_value : StringCharacter (codes "\\uD83D\\uDCA9") (encode_utf8 0x1F4A9)
 pair_value = pair {high = codes "\\uD83D"} {high_digits = codes "D83D"} {low = codes "\\uDCA9"} {low_digits = codes "DCA9"}
     (record { spelled = refl; four = refl; hex = refl }) refl (record { spelled = refl; four = refl; hex = refl }) refl
@@ -63,7 +63,7 @@ pair_string = record { inside = codes "\\uD83D\\uDCA9"; spelled = refl; characte
 empty_string : Quoted (codes "\"\"") []
 empty_string = record { inside = []; spelled = refl; characters = none }
 
--- `\"""` in a block string stands for `"""`
+-- `\"""` in a block string represents `"""`
 quotes_value : BlockString (codes "\"\"\"\\\"\"\"\"\"\"") (codes "\"\"\"")
 quotes_value = record { inside = codes "\\\"\"\"\"\"\""; spelled = refl; characters = escaped closing }
 

@@ -51,7 +51,7 @@ abbrev pub IsLast : Option TokenKind → List Answer → Type 0
 IsLast None rest = ⊤
 IsLast (Some kind) rest = is_end kind ≡ true → rest ≡ []
 
--- a token's text is one of its kind, and nothing comes behind the end or behind the limit error
+-- a token's text is one of its kind, and nothing comes after the end or after the limit error
 abbrev pub AreAnswers : List Answer → Type 0
 AreAnswers [] = ⊤
 AreAnswers (limit_at index ∷ rest) = rest ≡ []

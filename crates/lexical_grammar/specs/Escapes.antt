@@ -14,7 +14,7 @@ abbrev pub IsFixedValue : List ℕ → Option ℕ → Type 0
 IsFixedValue text None = begins_fixed_escape text ≡ false
 IsFixedValue text (Some v) = (begins_fixed_escape text ≡ true) × (v ≡ fixed_value text) × (v < 65536)
 
--- a string character of so many bytes is at the front, and stands for the character
+-- a string character of `len` bytes is at the front, and represents the character
 pub record IsEscape (text : List ℕ) (character len : ℕ) : Type 0 where
   pub value : encode_utf8 character ≡ string_character_value text
   pub bytes : len ≡ string_character_len text

@@ -112,7 +112,7 @@ fn braced_escape(bytes: &[u8]) -> Option<(char, usize)>
     Some((c, 4 + n))
 }
 
-// What a backslash and this byte stand for.
+// The character that a backslash and this byte represent.
 fn escaped(b: u8) -> Option<char>
     ensures { result ≡ escaped_character b }
 {
@@ -129,7 +129,7 @@ fn escaped(b: u8) -> Option<char>
     }
 }
 
-/// The character that the escape at the front stands for, and the escape's length in bytes; `None` when the backslash begins no string
+/// The character that the escape at the front represents, and the escape's length in bytes; `None` when the backslash begins no string
 /// character.
 pub fn escape(bytes: &[u8]) -> Option<(char, usize)>
     requires { slice_index bytes.now 0 ≡ 92 }
