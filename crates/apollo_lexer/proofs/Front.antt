@@ -1,4 +1,4 @@
--- The item at the front of a text: it has some bytes, and the text may be cut behind it.
+-- The item at the front of a text: it has some bytes, and the text may be cut after it.
 use Rattle.std.proofs.Common.{◌≡◌, ℕ, ◌<◌, List, [], ◌∷◌, length, take, drop, Some, None, refl, sym, ap, ◌∙◌, subst, arith, length-take-le, IsUtf8, IsCharBoundary}
 use Rattle.std.specs.Prelude.{slice_index}
 use Rattle.std.proofs.lemmas.List.{take-append-drop}
@@ -21,14 +21,14 @@ front_boundary source n some u e =
     let m = (first_item source).1 in
     subst (IsCharBoundary source) (length-take-le m source f.within ∙ sym e) (IsCharBoundary-at_seam source (take m source) (drop m source) (sym (take-append-drop m source)) f.rest)
 
--- behind what begins a number
+-- after what begins a number
 pub number_boundary : (source : List ℕ) (n : ℕ) → IsUtf8 source → n ≡ live_len Begin source → IsCharBoundary source n
 number_boundary source n u e =
     let m = live_len Begin source in
     subst (IsCharBoundary source) (sym e)
     (IsCharBoundary-from_take source m u (live_within Begin source) (IsUtf8-from_ascii (take m source) (live_ascii Begin (take m source) (live_is Begin source refl))))
 
--- behind an ASCII character
+-- after an ASCII character
 one_boundary : (source : List ℕ) → IsUtf8 source → 0 < length source → slice_index source 0 < 128 → IsCharBoundary source 1
 one_boundary [] u some small = absurd (omega arith)
 one_boundary (b ∷ bs) u some small = IsCharBoundary-from_take (b ∷ bs) 1 u (omega arith) (IsUtf8-from_ascii (b ∷ []) (IsAscii-cons b [] small IsAscii-nil))

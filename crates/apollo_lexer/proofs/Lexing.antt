@@ -19,7 +19,7 @@ tokens_kept tokens limit text index old rest all e h =
     let kept = rw e at h in
     rw error_no_token at kept
 
--- the errors tell the first of all answers, and the rest is left
+-- the errors report the first of all answers, and the rest is left
 abbrev pub Telling : List Answer → List Diagnostic → List Answer → Type 0
 Telling all [] rest = all ≡ rest
 Telling [] (d ∷ ds) rest = ⊥
@@ -44,7 +44,7 @@ errors_more all ds d limit text index old rest e t h =
     let kept = rw e at h in
     told_more all ds (error_answer limit text index) d (filter (λ a. not (is_token a)) rest) (rw error_no_token at kept) t
 
--- what is made of an error's answer tells it
+-- the error that is made from an answer reports that answer
 pub told_tells : (limit : Bool) (text : List ℕ) (index : ℕ) (d : Diagnostic) → d.subject ≡ told_subject limit text → d.index ≡ index → IsLexMessage limit text d.message
     → Tells (error_answer limit text index) d
 told_tells true text index d s i m = λ j. record { message = m j; subject = s j; index = i j }

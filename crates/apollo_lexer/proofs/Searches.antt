@@ -61,7 +61,7 @@ block_piece_none text none = none_of (block_len 0) (is_byte2 34 92) block_quiet 
 pub block_piece_run : (text : List ℕ) (i : ℕ) → i ≤ length text → Nowhere (Passes (is_byte2 34 92) text) 0 i → block_len 0 text ≡ longer i (block_len 0 (drop i text))
 block_piece_run text i le none = run_of (block_len 0) (is_byte2 34 92) block_quiet i text le (λ k lt. none k (omega arith) lt)
 
--- what stands where the search ended
+-- what is left where the search ended
 pub slice_rest : (text : List ℕ) (i : ℕ) → take (length text - i) (drop i text) ≡ drop i text
 slice_rest text i = take_rest text i
 
@@ -230,7 +230,7 @@ at_terminator : (tail : List ℕ) → 0 < length tail → is_byte2 10 13 (slice_
 at_terminator [] some h = absurd (omega arith)
 at_terminator (b ∷ bs) some h = terminator b bs h
 
--- a line terminator stands before the first quote or backslash
+-- a line terminator comes before the first quote or backslash
 pub quoted_broken : (text : List ℕ) (i j : ℕ) → FirstAt (is_byte2 34 92) text i → FirstAt (is_byte2 10 13) (take i text) j → quoted_len 0 text ≡ None
 quoted_broken text i j f g =
     let le : i < length text = f.0.high in

@@ -4,7 +4,7 @@ use Rattle.lexical_grammar.specs.Reads.{bad_string_len}
 use Rattle.apollo_lexer.specs.declared.strings.Piece.{Piece}
 use Rattle.apollo_lexer.specs.declared.strings.Piece.TheVariants.{Open, Last, Inner}
 
--- none; the whole; or some bytes, and then what is read behind them
+-- none; the whole; or some bytes, and then what is read after them
 abbrev pub IsPiece : (List ℕ → Option ℕ) → List ℕ → Piece → Type 0
 IsPiece read rest Open = read rest ≡ None
 IsPiece read rest (Last n) = (n ≤ length rest) × (read rest ≡ Some n)

@@ -1,4 +1,4 @@
--- What the first byte of an item tells of it.
+-- What the first byte of an item says about it.
 use Rattle.std.specs.Prelude.{ℕ, ◌==◌, ◌||◌, if◌then◌else◌}
 use Rattle.lexical_grammar.specs.Characters.{is_name_start, is_digit, is_white_space, is_line_terminator}
 use Rattle.apollo_lexer.specs.declared.bytes.Start.{Start}

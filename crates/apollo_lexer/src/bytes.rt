@@ -5,7 +5,7 @@ ghost use Rattle.apollo_lexer.specs.Starts.{start_of};
 
 use Start::{Blank, Dot, Name, Number, NumberSign, Other, Quote};
 
-/// What the first byte of an item tells of it.
+/// What the first byte of an item says about it.
 #[derive(Clone, Copy)]
 pub enum Start {
     Name,

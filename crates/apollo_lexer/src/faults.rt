@@ -31,7 +31,7 @@ enum LexFault {
     NoScalarValue,
 }
 
-// What is wrong with a number that was read so far, and behind which this byte comes or the text ends.
+// What is wrong with a number that was read so far, when `next` comes after it; `None` when the text ends there.
 fn number_fault(state: NumberState, next: Option<u8>) -> LexFault
     ensures { result ≡ number_fault state next }
 {
@@ -125,7 +125,7 @@ fn first_part(rest: &[u8]) -> Option<Part>
     }
 }
 
-// What is wrong with a bad string, of which this stands behind the opening quote.
+// What is wrong with a bad string, when `inside` is what follows its opening quote.
 fn string_fault(inside: &[u8]) -> LexFault {
     if inside.is_empty() {
         return LexFault::UnfinishedString;
@@ -179,7 +179,7 @@ fn words(fault: LexFault) -> &'static str
     }
 }
 
-// The message for a fault of this text, where this character stands behind what begins a number.
+// The message for a fault of this text, when `next` is the character after what begins a number.
 fn fault_message<A: Allocator>(
     fault: LexFault,
     text: &str,

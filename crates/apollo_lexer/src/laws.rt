@@ -9,7 +9,7 @@ ghost use Rattle.lexical_grammar.specs.Reads.{items_from};
 
 use crate::lexer::Lexer;
 
-/// A token's text is one of its kind, and nothing comes behind the end or behind the limit error.
+/// A token's text is one of its kind, and nothing comes after the end or after the limit error.
 pub fn answers_are_items(lexer: &Lexer)
     ensures { AreAnswers (answers_left lexer.now) }
 {}

@@ -112,7 +112,7 @@ fn ends_number(after: &[u8]) -> bool
     }
 }
 
-/// The number that stands at the front, and its length in bytes.
+/// The number at the front, and its length in bytes.
 #[inline(never)]
 pub fn number_at(bytes: &[u8]) -> Option<(TokenKind, usize)>
     ensures { result ≡ number_at bytes.now }

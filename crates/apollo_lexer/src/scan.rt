@@ -1,4 +1,4 @@
-// Which item stands at the front of a text, and how far it goes.
+// Which item is at the front of a text, and how far it goes.
 ghost use Rattle.std.specs.Prelude.{◌≡◌, ◌+◌, ◌≤◌, ◌<◌, ◌==◌, ◌||◌, [], ◌∷◌, if◌then◌else◌, length, take, drop, Some, None, option_map};
 ghost use Rattle.std.specs.List.{prefix_len};
 ghost use Rattle.lexical_grammar.specs.Characters.{is_name_start, is_name_continue, is_comment_character, is_digit};
@@ -103,7 +103,7 @@ fn blanks_len(bytes: &[u8]) -> usize
     }
 }
 
-// The spread at the front, behind whose first dot this stands.
+// The spread at the front, when `others` is what follows its first dot.
 fn spread_at(others: &[u8]) -> Option<(TokenKind, usize)>
     ensures { result ≡ (if begins (46 ∷ 46 ∷ []) others.now then Some (token.Spread, 3) else None) }
 {
@@ -164,7 +164,7 @@ fn character_len(source: &str) -> usize
     }
 }
 
-// The bytes of the bad text at the front, where no token stands.
+// The bytes of the bad text at the front, when no token is there.
 #[cold]
 #[inline(never)]
 fn bad_len(source: &str) -> usize

@@ -4,8 +4,8 @@ ghost use Rattle.std.specs.Borrow.{ftrue};
 
 use std::marker::Model;
 
-/// How many items were cut. The count stands in contracts alone: it takes no bytes at run time and has no greatest value. It starts
-/// at 0, and only `Lexer::next_counted` raises it.
+/// How many items were cut. The count is in contracts alone: it takes no bytes at run time and has no greatest value. It starts at 0,
+/// and only `Lexer::next_counted` raises it.
 #[derive(Drop)]
 pub struct Steps {
     pub ghost count: { ℕ },

@@ -12,7 +12,7 @@ use crate::escapes::escape_len;
 use lexical_grammar::TokenKind;
 use memchr::memchr2;
 
-// What stands at the front: nothing that ends the string, its end, or some bytes of it.
+// What is at the front: nothing that ends the string, its end, or some bytes of it.
 enum Piece {
     Open,
     Last(usize),
@@ -38,7 +38,7 @@ fn block_piece(rest: &[u8]) -> Piece
     }
 }
 
-// The block characters at the front, and the quotes behind them.
+// The bytes of the block characters at the front and of the quotes after them.
 fn block_len(bytes: &[u8]) -> Option<usize>
     ensures value { result ≡ block_len 0 bytes.now }
     ensures within { IfSome result (λ n. n ≤ length bytes.now) }
@@ -76,7 +76,7 @@ fn quoted_piece(rest: &[u8]) -> Piece
     }
 }
 
-// The string characters at the front, and the quote behind them.
+// The bytes of the string characters at the front and of the quote after them.
 fn quoted_len(bytes: &[u8]) -> Option<usize>
     ensures value { result ≡ quoted_len 0 bytes.now }
     ensures within { IfSome result (λ n. n ≤ length bytes.now) }
@@ -109,8 +109,7 @@ fn bad_piece(rest: &[u8]) -> Piece
     }
 }
 
-/// How far a bad string goes behind its opening quote, in bytes: to the next quote that no backslash stands before, or to the end of the
-/// text.
+/// How far a bad string goes after its opening quote, in bytes: to the next quote that no backslash escapes, or to the end of the text.
 pub fn bad_string_len(bytes: &[u8]) -> usize
     ensures value { Some result ≡ read_bad bytes.now }
     ensures within { result ≤ length bytes.now }
@@ -125,7 +124,7 @@ pub fn bad_string_len(bytes: &[u8]) -> usize
     }
 }
 
-/// The string that stands at the front, where a quote does, and its length in bytes.
+/// The string at the front, which begins with a quote, and its length in bytes.
 #[inline(never)]
 pub fn string_at(bytes: &[u8]) -> Option<(TokenKind, usize)>
     requires { 0 < length bytes.now }
