@@ -80,7 +80,7 @@ spot whole i = record { whole = whole; index = i }
 abbrev ranges : Forest → List ℕ → List (ℕ × ℕ)
 ranges whole is = map range_at (map (λ i. record { whole = whole; index = i }) is)
 
--- the elements of trees stand in the whole order from the place i on
+-- the elements of the trees are in the order of the whole, from the place i on
 abbrev Stands : Forest → ℕ → ℕ → Option ℕ → Forest → Type 0
 Stands whole at i p f = (k : ℕ) → k < count f → get_or (order whole) (i + k) nowhere ≡ get_or (order_from at i p f) k nowhere
 

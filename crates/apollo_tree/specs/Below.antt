@@ -11,7 +11,7 @@ abbrev pub places_from : Forest → ℕ → ℕ → List Place
 places_from whole i zero = []
 places_from whole i (suc n) = record { whole = whole; index = i } ∷ places_from whole (suc i) n
 
--- the elements below an element stand right behind it in document order
+-- the elements below an element come right after it in document order
 abbrev pub below : Place → List Place
 below p = places_from p.whole (suc p.index) (count (tree_kids (tree_at p)))
 

@@ -9,7 +9,7 @@ pub data Bracket : Type 0 where
   Single : SyntaxKind → List ℕ → Bracket
   Closing : Bracket
 
--- the brackets that trees stand for
+-- the brackets of trees
 abbrev pub brackets : Forest → List Bracket
 brackets none = []
 brackets (leaf k s rest) = Single k s ∷ brackets rest

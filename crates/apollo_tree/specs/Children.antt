@@ -1,4 +1,4 @@
--- The places of the trees that stand one after another in a table.
+-- The places of the trees that follow one another in a table.
 use Rattle.std.specs.Prelude.{◌≡◌, ℕ, zero, suc, pred, ◌-◌, ◌≤◌, List, [], ◌∷◌, length, take, drop, map, Bool, true, false}
 use Rattle.std.specs.List.{filter}
 use Rattle.apollo_tree.specs.declared.record.Record.{Record}
@@ -10,14 +10,14 @@ heads n i [] = []
 heads zero i (r ∷ rs) = i ∷ heads (pred r.size) (suc i) rs
 heads (suc n) i (r ∷ rs) = heads n (suc i) rs
 
--- after the first n records stand whole trees
+-- the records after the first n are those of whole trees
 abbrev pub tiled : ℕ → List Record → Bool
 tiled zero [] = true
 tiled (suc n) [] = false
 tiled zero (r ∷ rs) = elim r.size [ zero ↦ false | suc n ↦ tiled n rs ]
 tiled (suc n) (r ∷ rs) = tiled n rs
 
--- whole trees stand from one place to another
+-- the records from one place to another are those of whole trees
 pub record IsSpan (rs : List Record) (from to : ℕ) : Type 0 where
   pub order : from ≤ to
   pub inside : to ≤ length rs

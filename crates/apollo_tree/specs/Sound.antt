@@ -45,7 +45,7 @@ abbrev pub AreSound : List Open → Type 0
 AreSound [] = ⊤
 AreSound (o ∷ above) = IsSound o.before × AreSound above
 
--- there is an innermost open node, and it may have the trees that stand in it
+-- there is an innermost open node, and it may have the trees that are in it
 abbrev pub FitsInnermost : Forest → List Open → Type 0
 FitsInnermost here [] = ⊥
 FitsInnermost here (o ∷ above) = Fits o.kind here

@@ -1,4 +1,4 @@
--- Ranges that lie one behind another and fill a range.
+-- Ranges that follow one another and fill a range.
 use Rattle.std.specs.Prelude.{◌≡◌, ℕ, List, [], ◌∷◌}
 
 -- the first begins where the whole does, each further one where the one before it has ended, and the last ends with the whole

@@ -18,7 +18,7 @@ pub struct TokenText<'t> {
 }
 
 impl<'t> TokenText<'t> {
-    /// A text as it stands.
+    /// A text as it is.
     pub fn new(text: &'t str) -> TokenText<'t>
         ensures { token_text result ≡ text.now }
     {
@@ -55,7 +55,7 @@ impl Eq for TokenText<'_> {
     ghost laws = { Prim.search (comparing, rules) };
 }
 
-/// The first byte that differs decides; a text comes before those that go on behind it.
+/// The first byte that differs decides; a text comes before the longer ones that begin with it.
 impl Ord for TokenText<'_> {
     ghost cmp = { on token_text (slice_cmp nat_cmp) };
 
@@ -80,7 +80,7 @@ impl PartialOrd for TokenText<'_> {
     }
 }
 
-/// The text as it stands.
+/// The text as it is.
 impl fmt::Display for TokenText<'_> {
     ghost output = { λ t. Some (token_text t) };
 
