@@ -8,7 +8,7 @@ pub record Open : Type 0 where
   pub before : Forest
   pub kind : SyntaxKind
 
--- what has been built: the trees that stand in the innermost open node, and the open nodes from there outward
+-- what has been built: the trees in the innermost open node, and the open nodes from there outward
 pub record Building : Type 0 where
   pub here : Forest
   pub above : List Open

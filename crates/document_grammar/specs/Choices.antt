@@ -33,7 +33,7 @@ Definitions =
     ∷ INPUT_OBJECT_TYPE_EXTENSION
     ∷ []
 
--- What stands in a selection set (section 2.4).
+-- The selections of a selection set (section 2.4).
 abbrev pub Selections : List ℕ
 Selections = FIELD ∷ FRAGMENT_SPREAD ∷ INLINE_FRAGMENT ∷ []
 
@@ -45,7 +45,7 @@ Values = VARIABLE ∷ INT_VALUE ∷ FLOAT_VALUE ∷ STRING_VALUE ∷ BOOLEAN_VAL
 abbrev pub Types : List ℕ
 Types = NAMED_TYPE ∷ LIST_TYPE ∷ NON_NULL_TYPE ∷ []
 
--- The words of the places where a directive may stand (section 3.13).
+-- The words of the places where a directive may be (section 3.13).
 abbrev pub DirectiveLocations : List ℕ
 DirectiveLocations =
     QUERY_KW

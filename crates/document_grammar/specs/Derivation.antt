@@ -36,13 +36,14 @@ abbrev mutual
   Yields none = []
   Yields (t ▸ f) = Yield t ++ Yields f
 
--- The text stands beside the kind in a list.
+-- A list pairs the kind with the text.
 abbrev pub Listed : List (ℕ × Text) → ℕ → Text → Type 0
 Listed [] k x = ⊥
 Listed (w ∷ more) k x = ((w.0 ≡ k) × (w.1 ≡ x)) ⊎ Listed more k x
 
--- Leaf rule: the leaf of a keyword has its word as text. The kinds behind STRING are those of keywords, and then those of nodes, which
--- have no word, so no leaf has one. That other leaves have texts of their token kinds, is asked where the leaves are a text's tokens.
+-- Leaf rule: the leaf of a keyword has its word as text. The kinds after STRING are those of keywords, and then those of nodes, which
+-- have no word, so no leaf has one. `Sentence`, in which the leaves are a text's tokens, asks that the other leaves have texts of their
+-- token kinds.
 abbrev pub LeafRule : ℕ → Text → Type 0
 LeafRule k x = STRING < k → Listed words k x
 
@@ -101,7 +102,7 @@ abbrev pub ConstantDirectives : Forest → Type 0
 ConstantDirectives none = Unit {0}
 ConstantDirectives (t ▸ f) = (root t ≡ DIRECTIVES → NoVariable t) × ConstantDirectives f
 
--- Constant rule: no VARIABLE stands below a DEFAULT_VALUE or below constant DIRECTIVES (`Const` in the standard's grammar, section 2.9).
+-- Constant rule: no VARIABLE is below a DEFAULT_VALUE or below constant DIRECTIVES (`Const` in the standard's grammar, section 2.9).
 abbrev pub ConstantRule : ℕ → Forest → Type 0
 ConstantRule k f = (k ≡ DEFAULT_VALUE → NoVariables f) × (IsTrue (member k Marked) → ConstantDirectives f)
 
@@ -160,7 +161,7 @@ abbrev mutual
   AllFitBy row none = Unit {0}
   AllFitBy row (t ▸ f) = FitsBy row t × AllFitBy row f
 
--- A node that holds what stands between the braces of a selection set.
+-- A node that holds what is between the braces of a selection set.
 abbrev pub BareBy : (ℕ → Pattern) → Tree → Type 0
 BareBy row (leaf k x) = ⊥
 BareBy row (node k f) = Matches bare_selections (kinds f) × AllFitBy row f

@@ -35,7 +35,7 @@ abbrev mutual
   AllPlaced (t ▸ f) = PlacedIn t × AllPlaced f
 
 -- Each ignored leaf is a child of the smallest node that has significant leaves before and after it, or of the root: a node other
--- than the root holds an ignored leaf only between significant ones. A child of the root may stand anywhere: if no smaller node has
+-- than the root holds an ignored leaf only between significant ones. An ignored child of the root may be anywhere: if no smaller node has
 -- leaves on both sides, the root is the one, or there is none.
 abbrev pub Placed : Tree → Type 0
 Placed (leaf k x) = Unit {0}

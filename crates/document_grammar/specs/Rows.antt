@@ -1,5 +1,5 @@
 -- The children of each kind of node, in order (GraphQL October 2021, sections 2 and 3); ignored leaves are not among them. This is the
--- second profile, which is this project's own: descriptions may stand before operations with a keyword, fragment definitions and
+-- second profile, which is this project's own: descriptions may come before operations with a keyword, fragment definitions and
 -- variable definitions. The kinds whose DIRECTIVES are constant, and the rules on names, words and braces, are in `Derivation`.
 use Rattle.std.specs.Prelude.{ℕ, List, [], ◌∷◌, cond, eqb}
 use Rattle.document_grammar.specs.Pattern.{Pattern, any_of, ◌then◌, ◌or_else◌, many, one, optional, some}
@@ -149,7 +149,7 @@ children =
     ∷ (INPUT_OBJECT_TYPE_EXTENSION, one extend_KW then one input_KW then one NAME then parts_with INPUT_FIELDS_DEFINITION)
     ∷ []
 
--- The pattern that stands beside a kind. Nothing fits a kind that has none.
+-- The pattern that a list pairs with a kind. Nothing fits a kind that has none.
 abbrev pub row_in : List (ℕ × Pattern) → ℕ → Pattern
 row_in [] k = any_of []
 row_in (row ∷ more) k = cond (eqb row.0 k) row.1 (row_in more k)
@@ -157,7 +157,7 @@ row_in (row ∷ more) k = cond (eqb row.0 k) row.1 (row_in more k)
 unfoldable pub Row : ℕ → Pattern
 Row k = row_in children k
 
--- What stands between the braces of a selection set; the root of a parsed selection set may lack them.
+-- What is between the braces of a selection set; the root of a parsed selection set may lack them.
 abbrev pub bare_selections : Pattern
 bare_selections = some (any_of Selections)
 

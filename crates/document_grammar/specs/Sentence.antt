@@ -63,7 +63,7 @@ pub record Within (source : List ℕ) (t : Tree) (r k : ℕ) : Type 0 where
   pub cut : Cut source items
   pub count : length items ≤ k
 
--- Some text goes on behind this one to a sentence.
+-- The text is the beginning of a sentence: some text after it completes one.
 pub record Begins (front : List ℕ) : Type 0 where
   pub rest : List ℕ
   pub tree : Tree

@@ -20,7 +20,7 @@ pub fn one_cut()
     ensures { (source : List ℕ) (items others : List Item) → Cut source items → Cut source others → are_tokens items ≡ true → items ≡ others }
 {}
 
-/// A sentence of the first profile, where no description stands before an operation, a fragment or a variable, is a sentence with the
+/// A sentence of the first profile, in which no description comes before an operation, a fragment or a variable, is a sentence with the
 /// same derivation.
 pub fn first_profile()
     ensures tokens { (sort : Sort) (w : List Token) (t : Tree) → FirstSpells w t sort → Spells w t sort }
