@@ -1,4 +1,4 @@
-"""The row of each symbol as an automaton: its states are the patterns of what may still come, the fewest that tell rows apart."""
+"""The row of each symbol as an automaton with as few states as possible, which are patterns of what may still come."""
 
 from dataclasses import dataclass
 
@@ -10,7 +10,7 @@ BLOCKS = ("FIELDS_DEFINITION", "ENUM_VALUES_DEFINITION", "INPUT_FIELDS_DEFINITIO
 
 @dataclass
 class State:
-    """Whether the row may end here, what the node then leaves behind for its parent, and the arcs: each a symbol and the state after it."""
+    """Whether the row may end here, what the node then adds to its parent's state, and the arcs: each a symbol and the state after it."""
 
     ends: bool
     exit: int
@@ -35,7 +35,7 @@ def automaton(pattern):
 
 
 def fewest(ends, arcs):
-    """The same automaton with states that nothing tells apart made one, in the order in which they are first reached."""
+    """The same automaton with equivalent states merged into one, in the order in which they are first reached."""
     groups = [int(end) for end in ends]
     while True:
         seen = [(groups[place], [(symbol, groups[target]) for symbol, target in here]) for place, here in enumerate(arcs)]

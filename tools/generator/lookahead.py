@@ -71,7 +71,7 @@ class Lookahead:
 
     @cached_property
     def by_two(self):
-        """The symbols that the first token does not tell from all others of a state, each with the class of that token."""
+        """The symbols that the first token does not distinguish from all others of a state, each with the class of that token."""
         found = set()
         for state in (state for states in self.rows.values() for state in states):
             for (symbol, _), (other, _) in combinations(state.arcs, 2):
@@ -80,8 +80,8 @@ class Lookahead:
         return found
 
     def entries(self, name):
-        """Triples: classes of the first token, classes of the second, and whether the first may be all. Where the first token alone tells
-        the symbol from others, the second may be of any class."""
+        """Triples: classes of the first token, classes of the second, and whether the first may be all. When the first token alone
+        distinguishes the symbol from others, the second may be of any class."""
         seconds = {}
         for first, second in self.pairs.get(name, ()):
             seconds.setdefault(first, set()).add(second)
@@ -94,12 +94,12 @@ class Lookahead:
         return [(firsts, set(second - {ALONE}), ALONE in second) for second, firsts in found.items()]
 
     def exits(self, name):
-        """What the symbol can leave behind."""
+        """What the symbol can add to its parent's state."""
         return sorted({state.exit for state in self.rows[name] if state.ends}) if name in self.rows else [0]
 
     @cached_property
     def follow(self):
-        """The classes that may follow a symbol, by the symbol and what it leaves behind."""
+        """The classes that may follow a symbol, by the symbol and what it adds to its parent's state."""
         found = {(name, exit): set() for name in self.symbols.names for exit in (0, 1)}
         for name in STARTS:
             found[name, 0].add(END)
@@ -114,14 +114,14 @@ class Lookahead:
         return found
 
     def children(self, name, states):
-        """Each symbol that may be a child, with what it leaves behind, and the state after it."""
+        """Each symbol that may be a child, with what it adds to its parent's state, and the state after it."""
         for state in states:
             for symbol, target in state.arcs:
                 for exit in self.exits(symbol):
                     yield symbol, exit, states[target + (exit if name == "DOCUMENT" else 0)]
 
     def check(self):
-        """Two tokens tell which child comes next, and whether the row ends; this says where they do not."""
+        """Two tokens decide which child comes next, and whether the row ends; this says where they do not."""
         for name, states in self.rows.items():
             for place, state in enumerate(states):
                 both = self.begins(state) & self.follow[name, state.exit] if state.ends else None

@@ -118,8 +118,8 @@ def table_file(lookahead):
 -- agree with the rows. A symbol before DOCUMENT is a leaf, one from DOCUMENT on a node.
 use Rattle.std.specs.Prelude.{{ℕ, Bool, true, false, List, [], ◌∷◌}}
 {uses(symbols, used)}
--- A state of a row: whether the row may end there, what the node then leaves behind for its parent, and the
--- symbols that may come next, each with the state after it.
+-- A state of a row: whether the row may end there, what the node then adds to its parent's state, and the symbols
+-- that may come next, each with the state after it.
 pub data State : Type 0 where
   state : Bool → ℕ → List (ℕ × ℕ) → State
 
@@ -152,7 +152,7 @@ def follows_file(lookahead):
         closed, lacking = lookahead.follow[name, 0], lookahead.follow[name, 1]
         words = lookahead.class_names(closed) + ("; " + lookahead.class_names(lacking) if lacking else "")
         items.append((f"{number}, {name}: {words}", f"({mask(closed)}, {mask(lacking)})"))
-    return f"""{mark("--", SOURCE)}-- The classes that may follow each symbol, for each of what it leaves behind, and the classes of names.
+    return f"""{mark("--", SOURCE)}-- The classes that may follow each symbol, for each number that it may add to its parent's state, and the classes of names.
 {PRELUDE}
 unfoldable pub follows : List (ℕ × ℕ)
 follows =

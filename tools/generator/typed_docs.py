@@ -15,7 +15,7 @@ VALUES = {
     "BOOLEAN_VALUE": "`bool::try_from` gives the value.",
 }
 
-# What a part is called where one child may stand. Where none is given it is the kind's words, as "default value".
+# What a part is called when it is at most one child. When no words are given, they are the kind's, as "default value".
 PARTS = {
     "FRAGMENT_NAME": "name of the fragment",
     "IMPLEMENTS_INTERFACES": "interfaces that it implements",
@@ -30,7 +30,7 @@ PARTS = {
     "Ty": "type",
 }
 
-# What the children are called where several may stand, by the kind of their parent. Where none is given it is the accessor's words.
+# What the children are called when there may be several, by the kind of their parent. When no words are given, they are the accessor's.
 SEVERAL = {
     "OBJECT_VALUE": "fields",
     "VARIABLE_DEFINITIONS": "definitions of the variables",

@@ -122,7 +122,7 @@ abbrev mutual
   yields none = []
   yields (t ▸ f) = yield t ++ yields f
 
--- What a tree leaves behind for its parent: 1 where it lacks its brace block, else 0.
+-- What a tree adds to its parent's state: 1 when it lacks its brace block, else 0.
 abbrev mutual
   pub finish : Tree → ℕ
   finish (leaf l x) = 0

@@ -25,7 +25,7 @@ pub fn no_late_fault()
         → Begins (texts before) }
 {}
 
-/// No early fault: where the machine is stuck, no derivation spells tokens that go on behind what it has read with the next two.
+/// No early fault: when the machine is stuck, no derivation spells tokens that begin with what it has read and the next two.
 pub fn no_early_fault()
     ensures { (sort : Sort) (before rest : List Token) → IsStuck sort before rest → ¬ Starts sort (map word before ++ take 2 (marks rest)) }
 {}
