@@ -30,6 +30,6 @@ IsMark place b = IsPlace place b
 unfoldable pub IsInside : State → Type 0
 IsInside s = 0 < s.depth
 
--- the root alone is open, and nothing stands before it
+-- the root alone is open, and nothing comes before it
 abbrev pub IsRoot : Building → Type 0
 IsRoot b = (k : SyntaxKind) × (is_free k ≡ true) × (b.above ≡ record { before = none; kind = k } ∷ [])

@@ -63,14 +63,14 @@ pub data Rule : Type 0 where
   Seq : Rule → Rule → Rule
   When : Test → Rule → Rule → Rule
   While : Test → Rule → Rule
-  -- a node, with what stands in it
+  -- a node, with what is in it
   Child : Node → Rule
   -- the report that the recursion limit is reached, in a place where it is
   TooDeep : Rule
   -- the first rule one level deeper, and then the second; or the report that the recursion limit is reached
   Nested : Rule → Rule → Rule
   Call : Part → Rule
-  -- the rule makes a type; where `!` comes next, the type and the `!` stand in a NON_NULL_TYPE
+  -- the rule makes a type; when `!` comes next, the type and the `!` go into a NON_NULL_TYPE
   Typed : Rule → Rule
 
 -- the one and then the other, which goes on at each end of the first

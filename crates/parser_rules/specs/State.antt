@@ -141,7 +141,7 @@ opened k s = let f = flush s in record f { tree = start k f.tree }
 unfoldable pub closed : State → State
 closed s = record s { tree = finish s.tree }
 
--- what was added to the open node since the place stands in a new node, which is open
+-- what was added to the open node since the place is moved into a new node, which is open
 unfoldable pub wrapped_from : ℕ → SyntaxKind → State → State
 wrapped_from place k s = record s { tree = wrap place k s.tree }
 
