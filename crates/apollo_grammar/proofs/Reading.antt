@@ -62,7 +62,7 @@ pub one_more : (leaves : List PendingToken) (i : ℕ) (d : PendingToken) (b c : 
 one_more leaves i d b c h e =
     rw add-one (ap {A = List PendingToken} (λ ys. add_all (map part_of ys) b) (drop-cons leaves i d h) ∙ ap (λ x. add_all (map part_of (drop (suc i) leaves)) x) (sym e))
 
--- ---- looking behind the current token
+-- ---- looking at what follows the current token
 
 pub one_less : (answer : Answer) (xs ys : List Answer) → xs ≡ answer ∷ ys → length ys < length xs
 one_less answer xs ys e = let n = ap length e in omega (arith, n)

@@ -55,7 +55,7 @@ fn variable_definition<A: Allocator + Copy>(p: &mut ParserState<'_, A>) -> Resul
     Ok(())
 }
 
-// What stands behind a variable's `:`.
+// What follows a variable's `:`.
 fn variable_type<A: Allocator + Copy>(p: &mut ParserState<'_, A>) -> Result<(), AllocError>
     ensures { OnOk result (Runs (Call rule.VariableType) p.old p.new) }
 {

@@ -43,7 +43,7 @@ impl<'i, A: Allocator + Copy> ParserState<'i, A> {
         Ok(())
     }
 
-    /// Opens a node, behind what waits.
+    /// Opens a node, after the pending tokens.
     pub fn start_node(&mut self, kind: SyntaxKind) -> Result<(), AllocError>
         ensures { OnOk result (self.new ≡ state.opened kind self.old) }
     {
@@ -148,7 +148,7 @@ impl<'i, A: Allocator + Copy> ParserState<'i, A> {
         Ok(())
     }
 
-    /// The present place in the open node, behind what waits, for a later `wrap`.
+    /// The present place in the open node, after the pending tokens, for a later `wrap`.
     pub fn checkpoint(&mut self) -> Result<Checkpoint, AllocError>
         ensures flushed { OnOk result (self.new ≡ state.flush self.old) }
         ensures place { IfOk result (λ c. c.place ≡ built_count self.new.tree) }

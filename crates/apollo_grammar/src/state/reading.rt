@@ -67,14 +67,14 @@ impl<'i, A: Allocator + Copy> ParserState<'i, A> {
         is_boolean(self.current())
     }
 
-    /// The significant token behind the current one, or the end. A copy of the lexer looks for it.
+    /// The significant token after the current one, or the end. A copy of the lexer looks for it.
     pub fn peek(&self) -> Option<Token<'i>>
         ensures { current_of result ≡ state.second self.now.items }
     {
         next_significant(self.lexer)
     }
 
-    /// Whether the significant token behind the current one is of the kind.
+    /// Whether the significant token after the current one is of the kind.
     pub fn next_is(&self, kind: TokenKind) -> bool
         ensures { result ≡ holds (Next (Kind kind)) self.now }
     {
