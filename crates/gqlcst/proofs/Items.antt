@@ -34,7 +34,7 @@ printed_more all left answer output form errors more h one counts few = record {
   within = omega (arith, length-append output (line form), length-append form (10 ∷ []), h.within, few);
 }
 
--- the same, as a loop tells it
+-- the same, in the form that a loop gives
 pub printed_next : (all old left : List Answer) (answer : Answer) (output form new : List ℕ) (errors more after : ℕ) → ArePrinted all old output errors → old ≡ answer ∷ left → IsAnswerForm answer form
     → new ≡ output ++ line form → error_count (answer ∷ []) ≡ more → more ≤ 1 → after ≡ errors + more → ArePrinted all left new after
 printed_next all old left answer output form new errors more after h comes one pushed counts few sum =
@@ -47,7 +47,7 @@ pub error_counts : (limit : Bool) (text : List ℕ) (index : ℕ) → error_coun
 error_counts true text index = refl
 error_counts false text index = refl
 
--- what is made of a lexer's error tells it
+-- the printed form of a lexer's error is that of its answer
 pub error_form : (limit : Bool) (text form : List ℕ) (index : ℕ) (error : Diagnostic) → error.subject ≡ told_subject limit text → error.index ≡ index → IsLexMessage limit text error.message
     → IsErrorForm error form → IsAnswerForm (error_answer limit text index) form
 error_form true text form index error subject place message one =

@@ -30,7 +30,7 @@ none_unless false n fails = refl
 number_none : (word : List ℕ) → ((all_ascii_digits word ≡ true) × (0 < length word) × (digits_value 10 word < 2 ^ 64) → ⊥) → number_of word ≡ None
 number_none word fails = none_unless (is_number word) (digits_value 10 word) (λ passes. fails (number_passed word passes))
 
--- the test and `parse` agree where no plus stands first
+-- the test and `parse` agree when the word doesn't begin with a plus
 pub number_parsed : {E : Type 0} (word : List ℕ) (r : Result ℕ E) → get_or word 0 0 ≢ 43 → ParsesUnsigned 64 10 word r → result_ok r ≡ number_of word
 number_parsed {E} word (Ok n) plain h =
     let k = parse_plain (numerals_by_value _ tells_all_ascii_digits) {E = E} 64 word (Ok n) h plain in

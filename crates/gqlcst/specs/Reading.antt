@@ -4,7 +4,7 @@ use Rattle.gqlcst.specs.Devices.{Account, failed}
 use Rattle.gqlcst.specs.declared.outcome.Fault.{Fault}
 use Rattle.gqlcst.specs.declared.outcome.Fault.TheVariants.{Read, Utf8, Memory, Write}
 
--- the reader failed, or memory was refused behind a read
+-- the reader failed, or memory was refused after a read
 abbrev pub EndsReading : Fault → Account → Account → Type 0
 EndsReading Read old new = new ≡ failed old
 EndsReading Memory old new = new ≡ old

@@ -38,13 +38,13 @@ abbrev pub IsVerdict : List Diagnostic → List ℕ → Type 0
 IsVerdict [] output = output ≡ line (codes "clean")
 IsVerdict (error ∷ errors) output = IsReport (error ∷ errors) output
 
--- the printed form of the error that is told of bad text, or of the limit
+-- the printed form of the error for bad text, or for the limit
 pub record IsToldForm (answer : Answer) (text : List ℕ) : Type 0 where
   pub error : Diagnostic
   pub tells : Tells answer error
   pub form : IsErrorForm error text
 
--- the printed form of an item: of the token that it is, or of the error that is told of it
+-- the printed form of an item: of the token that it is, or of the error for it
 abbrev pub IsItemForm : Option TokenKind → Item → List ℕ → Type 0
 IsItemForm (Some kind) item text = IsForm (token_text kind item.text item.index) text
 IsItemForm None item text = IsToldForm (gives item) text

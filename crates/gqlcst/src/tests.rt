@@ -1,4 +1,4 @@
-// The program over readers and writers of its own, which fail or stop where they are told to.
+// The program over readers and writers of these tests, which fail or stop at a chosen point.
 ghost use Rattle.std.specs.Prelude.{◌≡◌, IfOk};
 
 use crate::command::{Limits, Mode, options};
