@@ -1,7 +1,7 @@
 #!/usr/bin/env python3
 """Runs `gqlcst check` on hostile texts of N bytes (5,000,000 unless given) and of twice as many, and prints how much longer these take.
 
-hostile.py PROGRAM [N]. Ends with status 1 where twice a text takes more than 2.2 times as long. Best of five runs each, in turn."""
+hostile.py PROGRAM [N]. Ends with status 1 when twice a text takes more than 2.2 times as long. Best of five runs each, in turn."""
 import os
 import subprocess
 import sys
