@@ -6,7 +6,7 @@ use Rattle.document_grammar.specs.Forests.{Forest, none, node}
 use Rattle.document_grammar.specs.Builds.{Building, Open, finish, close}
 use Rattle.apollo_tree.specs.Sound.{Fits, FitsInnermost, CanFinish}
 use Rattle.apollo_tree.specs.Open.{IsComplete, one_node}
-use Rattle.parser_rules.specs.State.{State, Part, add_all, finished}
+use Rattle.parser_rules.specs.State.{State, PendingToken, add_all, finished}
 use Rattle.parser_rules.specs.Open.{is_free, is_free_in, IsOpen, IsRoot}
 use Rattle.parser_rules.proofs.runs.Frame.{add_all_above}
 
@@ -28,7 +28,7 @@ free_fits b h = fits_in b.here b.above h
 pub root_closes : (b : Building) → IsRoot b → IsComplete (finish b)
 root_closes b h = record { closed = ap (λ above. (close b.here above).above) h.2; root = ap (λ above. one_node (close b.here above).here) h.2 }
 
-pub root_flushed : (ps : List Part) (b : Building) → IsRoot b → IsRoot (add_all ps b)
+pub root_flushed : (ps : List PendingToken) (b : Building) → IsRoot b → IsRoot (add_all ps b)
 root_flushed ps b h = (h.0, h.1, add_all_above ps b ∙ h.2)
 
 pub root_is_open : (b : Building) → IsRoot b → IsOpen b
@@ -36,5 +36,5 @@ unfolding IsOpen
 root_is_open b h = subst (λ above. is_free_in above ≡ true) (sym h.2) h.1
 
 -- the finished tree is one node, of the kind of the node that was open first
-pub finished_node : (s : State) (k : SyntaxKind) → s.tree.above ≡ record { before = none; kind = k } ∷ [] → finished s ≡ node k (add_all s.waiting s.tree).here none
-finished_node s k e = ap (λ above. (close (add_all s.waiting s.tree).here above).here) (add_all_above s.waiting s.tree ∙ e)
+pub finished_node : (s : State) (k : SyntaxKind) → s.tree.above ≡ record { before = none; kind = k } ∷ [] → finished s ≡ node k (add_all s.pending s.tree).here none
+finished_node s k e = ap (λ above. (close (add_all s.pending s.tree).here above).here) (add_all_above s.pending s.tree ∙ e)

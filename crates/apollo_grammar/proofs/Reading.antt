@@ -8,7 +8,7 @@ use Rattle.lexical_grammar.specs.Answers.{Answer, gives, limit_at, AreAnswers}
 use Rattle.apollo_lexer.specs.Answers.{error_answer}
 use Rattle.document_grammar.specs.Builds.{Building, add_leaf}
 use Rattle.apollo_grammar.specs.declared.state.PendingToken.{PendingToken}
-use Rattle.apollo_grammar.specs.View.{part_of}
+use Rattle.apollo_grammar.specs.View.{pending_of}
 use Rattle.parser_rules.specs.State.{State, Text, Lexeme, ignored, bad, met, wait, lexeme, read_on, second, add_all}
 use Rattle.apollo_grammar.specs.Reading.{Taken, IsAnswerText, refused}
 
@@ -58,9 +58,9 @@ taken_text (Some answer) s t h k = first_text answer t.items s.items h.0 k
 
 -- one leaf more
 pub one_more : (leaves : List PendingToken) (i : ℕ) (d : PendingToken) (b c : Building) → i < length leaves → c ≡ add_leaf (get_or leaves i d).kind (get_or leaves i d).text.now b
-    → add_all (map part_of (drop i leaves)) b ≡ add_all (map part_of (drop (i + 1) leaves)) c
+    → add_all (map pending_of (drop i leaves)) b ≡ add_all (map pending_of (drop (i + 1) leaves)) c
 one_more leaves i d b c h e =
-    rw add-one (ap {A = List PendingToken} (λ ys. add_all (map part_of ys) b) (drop-cons leaves i d h) ∙ ap (λ x. add_all (map part_of (drop (suc i) leaves)) x) (sym e))
+    rw add-one (ap {A = List PendingToken} (λ ys. add_all (map pending_of ys) b) (drop-cons leaves i d h) ∙ ap (λ x. add_all (map pending_of (drop (suc i) leaves)) x) (sym e))
 
 -- ---- looking at what follows the current token
 

@@ -4,7 +4,7 @@ use Rattle.apollo_lexer.specs.declared.token.Token.{Token}
 use Rattle.apollo_grammar.specs.declared.state.PendingToken.{PendingToken}
 use Rattle.apollo_grammar.specs.declared.report.Report.{Report}
 use Rattle.apollo_grammar.specs.declared.report.Report.TheVariants.{Lexer, Fault, RecursionLimit}
-use Rattle.parser_rules.specs.State.{Text, Lexeme, Part, bad_report, token_limit_report, recursion_limit_report, fault_report}
+use Rattle.parser_rules.specs.State.{Text, Lexeme, bad_report, token_limit_report, recursion_limit_report, fault_report}
 use Rattle.parser_rules.specs.State as state
 
 abbrev pub lexeme_of : Token → Lexeme
@@ -14,8 +14,8 @@ abbrev pub current_of : Option Token → Option Lexeme
 current_of None = None
 current_of (Some t) = Some (lexeme_of t)
 
-abbrev pub part_of : PendingToken → Part
-part_of t = record { kind = t.kind; text = t.text.now }
+abbrev pub pending_of : PendingToken → state.PendingToken
+pending_of t = record { kind = t.kind; text = t.text.now }
 
 -- what the lexer finds wrong: the token limit, or bad text
 abbrev pub lexer_report : Bool → Text → ℕ → state.Report

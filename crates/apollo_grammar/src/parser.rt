@@ -1,9 +1,9 @@
 // The whole parse.
-ghost use Rattle.std.specs.Prelude.{◌≡◌, ◌≤◌, ◌<◌, ◌+◌, ◌^◌, ◌-◌, true, [], IfOk, length, min, take, map};
+ghost use Rattle.std.specs.Prelude.{◌≡◌, ◌≤◌, ◌<◌, ◌+◌, true, [], IfOk, length, min, take, map};
 ghost use Rattle.std.specs.Str.{IsAscii};
 ghost use Rattle.std.specs.List.{Any, All};
 ghost use Rattle.std.specs.List.Sorted.{IsNonDecreasing};
-ghost use Rattle.lexical_grammar.specs.Answers.{limited};
+ghost use Rattle.lexical_grammar.specs.Answers.{limited, usize_max};
 ghost use Rattle.lexical_grammar.specs.Cut.{Cut, texts};
 ghost use Rattle.lexical_grammar.specs.Reads.{items_of};
 ghost use Rattle.apollo_lexer.specs.Answers.{answers_left};
@@ -40,7 +40,7 @@ impl<'i> Parser<'i> {
     pub fn new(source: &'i str) -> Self
         ensures source { result.source.now ≡ source.now }
         ensures recursion_limit { result.recursion_limit ≡ 500 }
-        ensures token_limit { result.token_limit ≡ 2 ^ 64 - 1 }
+        ensures token_limit { result.token_limit ≡ usize_max }
     {
         Parser {
             source,
@@ -113,7 +113,7 @@ impl<'i> Parser<'i> {
         ensures one_leaf { IfOk result (λ t. OneLeafAnItem (limited self.entry.token_limit (items_of self.entry.source.now)) (leaves t.tree)) }
         ensures recursion { IfOk result (λ t. (t.recursion_limit.current ≡ 0) × (t.recursion_limit.limit ≡ self.entry.recursion_limit) × (t.recursion_limit.high ≤ self.entry.recursion_limit + 1)) }
         // with the recursion limit's error, more than the limit was asked for; by one, as long as that is a usize
-        ensures limit_met { IfOk result (λ t. Any IsRecursionLimit t.errors → min (self.entry.recursion_limit + 1) (2 ^ 64 - 1) ≤ t.recursion_limit.high) }
+        ensures limit_met { IfOk result (λ t. Any IsRecursionLimit t.errors → min (self.entry.recursion_limit + 1) usize_max ≤ t.recursion_limit.high) }
         // where more than the limit was asked for, there is a limit's error: the recursion limit's, or the token limit's before it
         ensures past_limit { IfOk result (λ t. self.entry.recursion_limit < t.recursion_limit.high → Any (λ e. e.subject ≡ of_limit) t.errors) }
         // the greatest depth that was asked for covers what the tree nests, also where there are errors

@@ -16,7 +16,7 @@ ghost use Rattle.parser_rules.specs.State as state;
 ghost use Rattle.parser_rules.specs.Open.{IsRoot};
 ghost use Rattle.apollo_grammar.specs.Roots.{root_kind};
 ghost use Rattle.apollo_grammar.specs.Errors.{IsErrorOf};
-ghost use Rattle.apollo_grammar.specs.View.{current_of, part_of, report_of};
+ghost use Rattle.apollo_grammar.specs.View.{current_of, pending_of, report_of};
 
 use crate::report::Report;
 use crate::syntax_tree::{Root, SyntaxTree};
@@ -60,13 +60,13 @@ impl<'i, A: Allocator> Model for ParserState<'i, A> {
     ghost coded = { Prim.hlevel (codes, building_code) };
 
     ghost use Rattle.apollo_lexer.specs.Answers.{answers_left, final_high};
-    ghost use Rattle.apollo_grammar.specs.View.{current_of, part_of, report_of};
+    ghost use Rattle.apollo_grammar.specs.View.{current_of, pending_of, report_of};
     ghost use Rattle.parser_rules.specs.State.{IsNow};
 
     ghost view = { λ p. record {
       items = answers_left p.lexer;
       current = current_of p.current_token;
-      waiting = map part_of p.pending.items;
+      pending = map pending_of p.pending.items;
       tree = p.builder;
       errors = map report_of p.reports.items;
       limit = p.recursion_limit.limit;

@@ -31,15 +31,15 @@ impl<'a> Lexer<'a> {
     ghost use Rattle.lexical_grammar.specs.Cut.{Cut};
     ghost use Rattle.lexical_grammar.specs.Reads.{items_from};
     ghost use Rattle.apollo_lexer.specs.Answers.{answers_left, items_left};
-    ghost use Rattle.lexical_grammar.specs.Answers.{limited};
+    ghost use Rattle.lexical_grammar.specs.Answers.{limited, usize_max};
 
     /// A lexer of the text, which has no limit.
     #[tactic(auto, unfolding(crate::specs::Answers::answers_left, crate::specs::Answers::items_left))]
     pub fn new(input: &'a str) -> Self
-        ensures answers { answers_left result ≡ limited (2 ^ 64 - 1) (items_from 0 0 input.now) }
+        ensures answers { answers_left result ≡ limited usize_max (items_from 0 0 input.now) }
         ensures cut { Cut input.now (items_from 0 0 input.now) }
         ensures items { items_left result ≡ items_from 0 0 input.now }
-        ensures tracker { result.limit_tracker ≡ record { current = 0; high = 0; limit = 2 ^ 64 - 1 } }
+        ensures tracker { result.limit_tracker ≡ record { current = 0; high = 0; limit = usize_max } }
     {
         Lexer {
             rest: input,

@@ -1,7 +1,8 @@
 -- The words of the program: a mode, and then options in any order, each at most once.
-use Rattle.std.specs.Prelude.{ℕ, ◌^◌, ◌-◌, Bool, ◌&&◌, nat_lt, List, [], ◌∷◌, length, codes, bytes_eq, if◌then◌else◌, Option, Some, None, option_and_then, option_map}
+use Rattle.std.specs.Prelude.{ℕ, ◌^◌, Bool, ◌&&◌, nat_lt, List, [], ◌∷◌, length, codes, bytes_eq, if◌then◌else◌, Option, Some, None, option_and_then, option_map}
 use Rattle.std.specs.Str.{all_ascii_digits}
 use Rattle.std.specs.Str.Parse.{digits_value}
+use Rattle.apollo_parser.specs.Answers.{usize_max}
 use Rattle.gqlcst.specs.declared.command.Mode.{Mode}
 use Rattle.gqlcst.specs.declared.command.Mode.TheVariants.{Check, Tokens, Tree}
 use Rattle.gqlcst.specs.declared.command.Limits.{Limits}
@@ -22,7 +23,7 @@ abbrev pub number_of : List ℕ → Option ℕ
 number_of word = if is_number word then Some (digits_value 10 word) else None
 
 abbrev pub none_set : Limits
-none_set = record { recursion = 500; tokens = 2 ^ 64 - 1 }
+none_set = record { recursion = 500; tokens = usize_max }
 
 -- the limits, with one of them set
 abbrev pub with_limit : List ℕ → Limits → ℕ → Option Limits

@@ -1,5 +1,5 @@
 -- What a reader of items answers, one after another, where it may give a limited number of items.
-use Rattle.std.specs.Prelude.{◌≡◌, ℕ, zero, suc, ◌-◌, Bool, true, false, List, [], ◌∷◌, ◌++◌, ⊤, Option, Some, None, is_some}
+use Rattle.std.specs.Prelude.{◌≡◌, ℕ, zero, suc, ◌-◌, ◌^◌, Bool, true, false, List, [], ◌∷◌, ◌++◌, ⊤, Option, Some, None, is_some}
 use Rattle.lexical_grammar.specs.declared.TokenKind.{TokenKind}
 use Rattle.lexical_grammar.specs.declared.TokenKind.TheVariants.{Eof}
 use Rattle.lexical_grammar.specs.Tokens.{Tok}
@@ -9,6 +9,10 @@ use Rattle.lexical_grammar.specs.Cut.{Item}
 pub data Answer : Type 0 where
   gives : Item → Answer
   limit_at : ℕ → Answer
+
+-- the greatest number of the target; as a limit it allows every item
+abbrev pub usize_max : ℕ
+usize_max = 2 ^ 64 - 1
 
 -- the limit error's index: where the next item begins, or the last byte where that is the end of a text with some
 abbrev pub limit_index_at : Option TokenKind → ℕ → ℕ

@@ -10,30 +10,30 @@ use Rattle.document_grammar.specs.Numbers.{number}
 use Rattle.document_grammar.specs.Forests.{Forest, none, leaf, node}
 use Rattle.document_grammar.specs.Derivation.{spelled, LeafRule}
 use Rattle.document_grammar.specs.Sentence.{leaf_number}
-use Rattle.parser_rules.specs.State.{Part, ignored}
+use Rattle.parser_rules.specs.State.{PendingToken, ignored}
 
 -- the leaves of a list of trees, from the first to the last
-abbrev pub leaves : Forest → List Part
+abbrev pub leaves : Forest → List PendingToken
 leaves none = []
 leaves (leaf k text rest) = record { kind = k; text = text } ∷ leaves rest
 leaves (node k kids rest) = leaves kids ++ leaves rest
 
 -- a leaf of a kind that belongs to the token kind; a keyword's leaf has its word as text
-abbrev pub Belongs : TokenKind → Part → Type 0
+abbrev pub Belongs : TokenKind → PendingToken → Type 0
 Belongs k l = (spelled (number l.kind) l.text ≡ (leaf_number k, l.text)) × LeafRule (number l.kind) l.text
 
-abbrev pub IsLeafOfToken : TokenKind → Option SyntaxKind → Part → Type 0
+abbrev pub IsLeafOfToken : TokenKind → Option SyntaxKind → PendingToken → Type 0
 IsLeafOfToken k (Some own) l = l.kind ≡ own
 IsLeafOfToken k None l = (l.kind ≡ kind.ERROR) ⊎ Belongs k l
 
 -- the kind of leaf that an item becomes: an ignored token its own, bad text ERROR, any other token one that belongs to it, or ERROR
-abbrev pub IsLeafOf : Option TokenKind → Part → Type 0
+abbrev pub IsLeafOf : Option TokenKind → PendingToken → Type 0
 IsLeafOf None l = l.kind ≡ kind.ERROR
 IsLeafOf (Some k) l = IsLeafOfToken k (ignored k) l
 
 -- One for one and in order: each item is a leaf with its text. The limit is none, and the end may be left out.
-pub data OneLeafAnItem : List Answer → List Part → Type 0 where
+pub data OneLeafAnItem : List Answer → List PendingToken → Type 0 where
   nothing : OneLeafAnItem [] []
-  one : {item : Item} {answers : List Answer} {l : Part} {ls : List Part} → l.text ≡ item.text → IsLeafOf item.kind l → OneLeafAnItem answers ls → OneLeafAnItem (gives item ∷ answers) (l ∷ ls)
-  the_end : {item : Item} {answers : List Answer} {ls : List Part} → item.kind ≡ Some token.Eof → OneLeafAnItem answers ls → OneLeafAnItem (gives item ∷ answers) ls
-  the_limit : {index : ℕ} {answers : List Answer} {ls : List Part} → OneLeafAnItem answers ls → OneLeafAnItem (limit_at index ∷ answers) ls
+  one : {item : Item} {answers : List Answer} {l : PendingToken} {ls : List PendingToken} → l.text ≡ item.text → IsLeafOf item.kind l → OneLeafAnItem answers ls → OneLeafAnItem (gives item ∷ answers) (l ∷ ls)
+  the_end : {item : Item} {answers : List Answer} {ls : List PendingToken} → item.kind ≡ Some token.Eof → OneLeafAnItem answers ls → OneLeafAnItem (gives item ∷ answers) ls
+  the_limit : {index : ℕ} {answers : List Answer} {ls : List PendingToken} → OneLeafAnItem answers ls → OneLeafAnItem (limit_at index ∷ answers) ls

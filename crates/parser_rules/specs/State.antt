@@ -1,11 +1,11 @@
 -- What a parser has read and built, and its steps.
-use Rattle.std.specs.Prelude.{ℕ, ◌+◌, ◌-◌, ◌^◌, max, min, Bool, true, false, nat_le, ◌&&◌, eqb, if◌then◌else◌, List, [], ◌∷◌, ◌++◌, length, Option, Some, None, ⊤}
+use Rattle.std.specs.Prelude.{ℕ, ◌+◌, ◌-◌, max, min, Bool, true, false, nat_le, ◌&&◌, eqb, if◌then◌else◌, List, [], ◌∷◌, ◌++◌, length, Option, Some, None, ⊤}
 use denote.Enum.Bare.{sameb}
 use Rattle.lexical_grammar.specs.contracts.TokenKind.{the_type}
 use Rattle.lexical_grammar.specs.declared.TokenKind.{TokenKind}
 use Rattle.lexical_grammar.specs.declared.TokenKind.TheVariants as token
 use Rattle.lexical_grammar.specs.Cut.{Item}
-use Rattle.lexical_grammar.specs.Answers.{Answer, gives, limit_at, is_end, IsTokenText}
+use Rattle.lexical_grammar.specs.Answers.{Answer, gives, limit_at, is_end, IsTokenText, usize_max}
 use Rattle.document_grammar.specs.declared.kind.SyntaxKind.{SyntaxKind}
 use Rattle.document_grammar.specs.declared.kind.SyntaxKind.TheVariants as kind
 use Rattle.document_grammar.specs.Kinds.{words}
@@ -24,7 +24,7 @@ pub record Lexeme : Type 0 where
   pub index : ℕ
 
 -- an ignored token or bad text, which waits for the next leaf
-pub record Part : Type 0 where
+pub record PendingToken : Type 0 where
   pub kind : SyntaxKind
   pub text : Text
 
@@ -60,7 +60,7 @@ fault_report m t = record { found = found_at t; index = t.index; message = Some 
 pub record State : Type 0 where
   pub items : List Answer
   pub current : Option Lexeme
-  pub waiting : List Part
+  pub pending : List PendingToken
   pub tree : Building
   pub errors : List Report
   pub limit : ℕ
@@ -88,7 +88,7 @@ ignored _ = None
 -- ---- reading
 
 abbrev pub wait : SyntaxKind → Text → State → State
-wait k text s = record s { waiting = s.waiting ++ record { kind = k; text = text } ∷ [] }
+wait k text s = record s { pending = s.pending ++ record { kind = k; text = text } ∷ [] }
 
 -- bad text, which waits for the next leaf
 abbrev pub bad : Text → ℕ → State → State
@@ -127,13 +127,13 @@ second (gives item ∷ rest) = elim item.kind [
 
 -- ---- building
 
-abbrev pub add_all : List Part → Building → Building
+abbrev pub add_all : List PendingToken → Building → Building
 add_all [] b = b
 add_all (part ∷ parts) b = add_all parts (add_leaf part.kind part.text b)
 
 -- what waits goes into the tree
 unfoldable pub flush : State → State
-flush s = record s { tree = add_all s.waiting s.tree; waiting = [] }
+flush s = record s { tree = add_all s.pending s.tree; pending = [] }
 
 unfoldable pub opened : SyntaxKind → State → State
 opened k s = let f = flush s in record f { tree = start k f.tree }
@@ -179,10 +179,6 @@ enter s = record s { depth = s.depth + 1; high = max s.high (s.depth + 1) }
 unfoldable pub leave : State → State
 leave s = record s { depth = s.depth - 1 }
 
--- the greatest number of the target
-abbrev pub usize_max : ℕ
-usize_max = 2 ^ 64 - 1
-
 -- one level more was asked for
 abbrev pub deepened : State → State
 deepened s = record s { high = max s.high (min (s.depth + 1) usize_max) }
@@ -215,7 +211,7 @@ is_over (Some t) = is_end t.kind
 
 -- the root is open, and nothing is read
 abbrev pub fresh : List Answer → ℕ → SyntaxKind → State
-fresh items limit root = record { items = items; current = None; waiting = []; tree = start root nothing; errors = []; limit = limit; depth = 0; high = 0; accepts = true; asked = length items }
+fresh items limit root = record { items = items; current = None; pending = []; tree = start root nothing; errors = []; limit = limit; depth = 0; high = 0; accepts = true; asked = length items }
 
 -- the root is open, and the first token is read
 abbrev pub begun : List Answer → ℕ → SyntaxKind → State
@@ -223,4 +219,4 @@ begun items limit root = read_on items (fresh items limit root)
 
 -- the tree, where all that waits is taken in and the root is closed
 abbrev pub finished : State → Forest
-finished s = (finish (add_all s.waiting s.tree)).here
+finished s = (finish (add_all s.pending s.tree)).here

@@ -14,7 +14,7 @@ ghost use Rattle.parser_rules.specs.Runs.{Runs};
 ghost use Rattle.parser_rules.specs.Open.{IsOpen, IsMark};
 ghost use Rattle.parser_rules.specs.Rules as rules;
 ghost use Rattle.apollo_grammar.specs.Reading as reading;
-ghost use Rattle.apollo_grammar.specs.View.{part_of};
+ghost use Rattle.apollo_grammar.specs.View.{pending_of};
 
 use super::{ParserState, PendingToken};
 use apollo_tree::{Checkpoint, TreeBuilder};
@@ -25,7 +25,7 @@ pub(super) fn push_all<A: Allocator + Copy>(
     builder: &mut TreeBuilder<A>,
     pending: &[PendingToken<'_>],
 ) -> Result<(), AllocError>
-    ensures { OnOk result (builder.new ≡ state.add_all (map part_of pending.now) builder.old) }
+    ensures { OnOk result (builder.new ≡ state.add_all (map pending_of pending.now) builder.old) }
 {
     for token in pending {
         builder.token(token.kind, token.text)?;

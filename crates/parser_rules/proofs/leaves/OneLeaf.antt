@@ -24,7 +24,7 @@ use Rattle.grammar_machine.proofs.Patterns.{label}
 use Rattle.grammar_machine.proofs.Rules.{leaf-rule}
 use Rattle.grammar_machine.proofs.Sound.{any, leaf-lt, leaf-ok, leaf-token}
 use Rattle.grammar_machine.proofs.Steps.{hits-fires}
-use Rattle.parser_rules.specs.State.{State, Text, Lexeme, Part, ignored, second, add_all, flush, opened, closed, wrapped_from, moved, is_over, enter, leave, fresh, begun, finished}
+use Rattle.parser_rules.specs.State.{State, Text, Lexeme, PendingToken, ignored, second, add_all, flush, opened, closed, wrapped_from, moved, is_over, enter, leave, fresh, begun, finished}
 use Rattle.parser_rules.specs.Open.{IsRoot}
 use Rattle.parser_rules.specs.Leaves.{leaves, IsLeafOf, IsLeafOfToken, OneLeafAnItem, nothing, one, the_end, the_limit}
 use Rattle.parser_rules.specs.Nodes as rule
@@ -37,10 +37,10 @@ use Rattle.parser_rules.proofs.runs.AtTheEnd.{EndNow, ends, read_ends}
 use Rattle.parser_rules.proofs.runs.Reading.{Reading, reading-shown, Shown, second-shown, reading, reading-second}
 use Rattle.parser_rules.proofs.runs.Marked as marked
 use Rattle.parser_rules.proofs.runs.Marked.{Source, token, aside, Marked, append, erase, erase-append, flat, flat-append, set_aside, source_at, source_of, now_of, sources, moved_on}
-use Rattle.parser_rules.proofs.runs.Walk.{after_waiting, always, Goes, Sound, walked_whole}
+use Rattle.parser_rules.proofs.runs.Walk.{after_pending, always, Goes, Sound, walked_whole}
 use Rattle.parser_rules.proofs.runs.Reporting.{after_note, after_too_deep}
 use Rattle.parser_rules.proofs.reports.NoReport.{end-kind}
-use Rattle.parser_rules.proofs.lookahead.TokenSets.{absent, over, class_of, read-second, of-any, Seen, seen-any, seen-more, edges, flip}
+use Rattle.parser_rules.proofs.lookahead.TokenSets.{absent, over, class_of, of-any, Seen, seen-any, seen-more, edges, flip}
 use Rattle.parser_rules.proofs.lookahead.Split.{split-at}
 use Rattle.parser_rules.proofs.leaves.LeafCheck.{is_error, belongs, Tokens, anything, leaf_check}
 use Rattle.parser_rules.proofs.NodeChecks.{node_passes, document_passes}
@@ -53,15 +53,15 @@ leaves-join (leaf k s rest) g = ap (λ l. record { kind = k; text = s } ∷ l) (
 leaves-join (node k kids rest) g = ap (λ l. leaves kids ++ l) (leaves-join rest g) ∙ sym (append_assoc (leaves kids) (leaves rest) (leaves g))
 
 -- the leaf of a token belongs to it, and what waited is a leaf as it was
-abbrev LeafOf : Source → Part → Type 0
+abbrev LeafOf : Source → PendingToken → Type 0
 LeafOf (token x) l = (l.text ≡ x.text) × IsLeafOf (Some x.kind) l
 LeafOf (aside p) l = (l.text ≡ p.text) × (l.kind ≡ p.kind)
 
-data LeavesOf : List Source → List Part → Type 0 where
+data LeavesOf : List Source → List PendingToken → Type 0 where
   no_more : LeavesOf [] []
-  one_more : {o : Source} {l : Part} {v : List Source} {ls : List Part} → LeafOf o l → LeavesOf v ls → LeavesOf (o ∷ v) (l ∷ ls)
+  one_more : {o : Source} {l : PendingToken} {v : List Source} {ls : List PendingToken} → LeafOf o l → LeavesOf v ls → LeavesOf (o ∷ v) (l ∷ ls)
 
-leaves-append : {v w : List Source} {ls ms : List Part} → LeavesOf v ls → LeavesOf w ms → LeavesOf (v ++ w) (ls ++ ms)
+leaves-append : {v w : List Source} {ls ms : List PendingToken} → LeavesOf v ls → LeavesOf w ms → LeavesOf (v ++ w) (ls ++ ms)
 leaves-append no_more k = k
 leaves-append (one_more i h) k = one_more i (leaves-append h k)
 
@@ -71,12 +71,12 @@ Fit f = LeavesOf (flat f) (leaves (erase f))
 fit-append : (f g : Marked) → Fit f → Fit g → Fit (append f g)
 fit-append f g h k = rw (flat-append f g, erase-append f g, leaves-join (erase f) (erase g)) (leaves-append h k)
 
-fit-aside : (parts : List Part) → Fit (set_aside parts)
+fit-aside : (parts : List PendingToken) → Fit (set_aside parts)
 fit-aside [] = no_more
 fit-aside (p ∷ parts) = one_more (refl, refl) (fit-aside parts)
 
-fit-after : (s : State) (f g : Marked) → Fit f → Fit g → Fit (append f (after_waiting s g))
-fit-after s f g h k = fit-append f (after_waiting s g) h (fit-append (set_aside s.waiting) g (fit-aside s.waiting) k)
+fit-after : (s : State) (f g : Marked) → Fit f → Fit g → Fit (append f (after_pending s g))
+fit-after s f g h k = fit-append f (after_pending s g) h (fit-append (set_aside s.pending) g (fit-aside s.pending) k)
 
 fit-node : (k : SyntaxKind) (g : Marked) → Fit g → Fit (marked.node k g marked.none)
 fit-node k g h = leaves-append h no_more
@@ -131,7 +131,7 @@ module _ (own : SyntaxKind) (a : Tokens) (k : Tokens → Bool) (b s : State) (f 
   after = moved own s (Some x)
 
   abbrev grown : Marked
-  grown = append f (after_waiting s (marked.leaf (token x) own marked.none))
+  grown = append f (after_pending s (marked.leaf (token x) own marked.none))
 
   next : Reading s.items (moved_on own x (flush s)) after
   unfolding flush
@@ -187,7 +187,7 @@ sound = record {
 
 -- ---- the whole
 
-leaf-item : (item : Item) (found : Option TokenKind) (l : Part) → LeafOf (source_at item found) l → (l.text ≡ item.text) × IsLeafOf found l
+leaf-item : (item : Item) (found : Option TokenKind) (l : PendingToken) → LeafOf (source_at item found) l → (l.text ≡ item.text) × IsLeafOf found l
 leaf-item item None l h = h
 leaf-item item (Some k) l h = (elim (ignored k) as (λ found. ignored k ≡ found → LeafOf (source_of item k found) l → (l.text ≡ item.text) × IsLeafOf (Some k) l) [
   | None ↦ λ i h. h
@@ -203,7 +203,7 @@ end-item item None h = absurd cc
 end-item item (Some k) h = elim (ignored k) as (λ found. ends_text (source_of item k found) ≡ true → Some k ≡ Some token_kind.Eof) [ None ↦ λ h. ap Some (end-kind k h) | Some own ↦ λ h. absurd cc ] h
 
 -- each item has a leaf, but for the end
-each-item : (xs : List Answer) {v : List Source} {ls : List Part} (o : Option Lexeme) → is_over o ≡ true → LeavesOf v ls → v ++ now_of o ≡ sources xs → OneLeafAnItem xs ls
+each-item : (xs : List Answer) {v : List Source} {ls : List PendingToken} (o : Option Lexeme) → is_over o ≡ true → LeavesOf v ls → v ++ now_of o ≡ sources xs → OneLeafAnItem xs ls
 each-item [] o h no_more e = nothing
 each-item [] o h (one_more i l) e = absurd cc
 each-item (limit_at index ∷ xs) o h l e = the_limit (each-item xs o h l e)
@@ -211,8 +211,8 @@ each-item (gives item ∷ xs) None h no_more e = absurd cc
 each-item (gives item ∷ xs) (Some x) h no_more e = the_end (end-item item item.kind (ap ends_text (sym (head-same e)) ∙ h)) (each-item xs None refl no_more (tail-same e))
 each-item (gives item ∷ xs) o h (one_more {l = l} i m) e = let f = leaf-item item item.kind l (subst (λ x. LeafOf x l) (head-same e) i) in one f.0 f.1 (each-item xs o h m (tail-same e))
 
-finished_leaves : (s : State) → IsRoot s.tree → leaves (finished s) ≡ leaves (add_all s.waiting s.tree).here
-finished_leaves s h = let here = (add_all s.waiting s.tree).here in ap (λ (above : List Open). leaves (close here above).here) (add_all_above s.waiting s.tree ∙ h.2) ∙ append-nil (leaves here)
+finished_leaves : (s : State) → IsRoot s.tree → leaves (finished s) ≡ leaves (add_all s.pending s.tree).here
+finished_leaves s h = let here = (add_all s.pending s.tree).here in ap (λ (above : List Open). leaves (close here above).here) (add_all_above s.pending s.tree ∙ h.2) ∙ append-nil (leaves here)
 
 none_left : (o : Option Lexeme) (items : List Answer) → EndNow o items → is_over o ≡ true → items ≡ []
 unfolding EndNow
@@ -241,17 +241,17 @@ document_leaves {t = t} items limit are run =
     let shown = reading-shown (reading items (fresh items limit kind.DOCUMENT)) in
     let (f, a, e, h, g, w) = walked_whole leaf_check Held sound items limit kind.DOCUMENT anything always run document_passes.leaves (record { shown = shown; seen = seen-any s shown; fits = no_more }) in
     let last = none_left t.current t.items (ends run (read_ends items (fresh items limit kind.DOCUMENT) refl are)).now (document_over run) in
-    let order : flat (append f (set_aside t.waiting)) ++ now_of t.current ≡ sources items = ap (λ (v : List Source). flat (append f (set_aside t.waiting)) ++ v) (sym (ap (λ (xs : List Answer). now_of t.current ++ sources xs) last ∙ append-nil (now_of t.current))) ∙ w.order in
-    let each = each-item items t.current (document_over run) (fit-append f (set_aside t.waiting) h.fits (fit-aside t.waiting)) order in
-    subst (λ (ls : List Part). OneLeafAnItem items ls) (ap leaves w.tree ∙ sym (finished_leaves t (root_kept items limit kind.DOCUMENT refl run))) each
+    let order : flat (append f (set_aside t.pending)) ++ now_of t.current ≡ sources items = ap (λ (v : List Source). flat (append f (set_aside t.pending)) ++ v) (sym (ap (λ (xs : List Answer). now_of t.current ++ sources xs) last ∙ append-nil (now_of t.current))) ∙ w.order in
+    let each = each-item items t.current (document_over run) (fit-append f (set_aside t.pending) h.fits (fit-aside t.pending)) order in
+    subst (λ (ls : List PendingToken). OneLeafAnItem items ls) (ap leaves w.tree ∙ sym (finished_leaves t (root_kept items limit kind.DOCUMENT refl run))) each
 
 -- ---- their text
 
-abbrev joined : List Part → Text
+abbrev joined : List PendingToken → Text
 joined [] = []
 joined (l ∷ ls) = l.text ++ joined ls
 
-joined-append : (ls ms : List Part) → joined (ls ++ ms) ≡ joined ls ++ joined ms
+joined-append : (ls ms : List PendingToken) → joined (ls ++ ms) ≡ joined ls ++ joined ms
 joined-append [] ms = refl
 joined-append (l ∷ ls) ms = ap (λ t. l.text ++ t) (joined-append ls ms) ∙ sym (append_assoc l.text (joined ls) (joined ms))
 
@@ -263,7 +263,7 @@ text_leaves (node k kids rest) = ap₂ (λ (a b : Text). a ++ b) (text_leaves ki
 end_text : (item : Item) → item.kind ≡ Some token_kind.Eof → IsItemText item.kind item.text → item.text ≡ []
 end_text item e h = subst (λ found. IsItemText found item.text) e h
 
-joined_answers : {xs : List Answer} {ls : List Part} → OneLeafAnItem xs ls → AreAnswers xs → joined ls ≡ answers_text xs
+joined_answers : {xs : List Answer} {ls : List PendingToken} → OneLeafAnItem xs ls → AreAnswers xs → joined ls ≡ answers_text xs
 joined_answers nothing are = refl
 joined_answers (one {item = item} {answers = xs} {l = l} {ls = ls} e fit h) are = ap₂ (λ (a b : Text). a ++ b) e (joined_answers h are.2)
 joined_answers (the_end {item = item} {answers = xs} {ls = ls} e h) are = joined_answers h are.2 ∙ sym (ap (λ t. t ++ answers_text xs) (end_text item e are.0))

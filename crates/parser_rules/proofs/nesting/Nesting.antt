@@ -1,7 +1,6 @@
 -- The greatest depth that was asked for covers what every tree nests, whatever is reported.
 use Rattle.std.proofs.Common.{◌≡◌, ℕ, suc, ◌+◌, ◌≤◌, max, min, Bool, true, List, [], ◌∷◌, Some, refl, sym, ap, ◌∙◌, eqb-true, leb-true, arith}
-use Rattle.lexical_grammar.specs.declared.TokenKind.{TokenKind}
-use Rattle.lexical_grammar.specs.Answers.{Answer}
+use Rattle.lexical_grammar.specs.Answers.{Answer, usize_max}
 use Rattle.document_grammar.specs.declared.kind.SyntaxKind.{SyntaxKind}
 use Rattle.document_grammar.specs.declared.kind.SyntaxKind.TheVariants as kind
 use Rattle.document_grammar.specs.Kinds.{DOCUMENT, NON_NULL_TYPE}
@@ -14,16 +13,16 @@ use Rattle.document_grammar.specs.Pattern.{member}
 use Rattle.document_grammar.specs.Derivation.{nest}
 use Rattle.document_grammar.specs.Booleans.{◌and◌, ◌or◌}
 use Rattle.document_grammar.proofs.Booleans.{false-true, and-l, and-r}
-use Rattle.parser_rules.specs.State.{usize_max, State, Part, ignored, add_all, flush, opened, closed, wrapped_from, moved, enter, leave, fresh, begun, finished}
+use Rattle.parser_rules.specs.State.{State, PendingToken, add_all, flush, opened, closed, wrapped_from, moved, enter, leave, fresh, begun, finished}
 use Rattle.document_grammar.proofs.Nested.{uncounted, is_bare, weight, weight-none, inner, inner-join, inner-none, inner-leaf, inner-node, inner-same, inner-count}
 use Rattle.parser_rules.specs.Nodes.{Document, kind_of}
 use Rattle.parser_rules.specs.RuleLanguage.{Call}
 use Rattle.parser_rules.specs.Runs.{Runs}
 use Rattle.parser_rules.proofs.runs.Frame.{read_untouched, add_all_above, root_stays}
-use Rattle.parser_rules.proofs.runs.Reading.{Reading, reading, all_kinds, ignored-kinds, reading-waits}
+use Rattle.parser_rules.proofs.runs.Reading.{Reading, reading, all_kinds, reading-waits}
 use Rattle.parser_rules.proofs.runs.Marked as marked
 use Rattle.parser_rules.proofs.runs.Marked.{Marked, append, token, erase, erase-append, set_aside, moved_on}
-use Rattle.parser_rules.proofs.runs.Walk.{after_waiting, Sound, walked_whole}
+use Rattle.parser_rules.proofs.runs.Walk.{after_pending, Sound, walked_whole}
 use Rattle.parser_rules.proofs.runs.Reporting.{after_note, after_too_deep}
 use Rattle.parser_rules.proofs.soundness.TableCheck.{own}
 use Rattle.parser_rules.proofs.nesting.LevelCheck.{Depth, at_first, level_check}
@@ -31,10 +30,10 @@ use Rattle.parser_rules.proofs.NodeChecks.{node_passes, document_passes}
 
 -- ---- what waits
 
-abbrev all_uncounted : List Part → Bool
+abbrev all_uncounted : List PendingToken → Bool
 all_uncounted = all_kinds (λ k. uncounted (number k))
 
-inner-aside : (p : ℕ) (parts : List Part) → all_uncounted parts ≡ true → inner p (erase (set_aside parts)) ≡ 0
+inner-aside : (p : ℕ) (parts : List PendingToken) → all_uncounted parts ≡ true → inner p (erase (set_aside parts)) ≡ 0
 inner-aside p [] h = inner-none p
 inner-aside p (part ∷ parts) h =
     let j = inner-join p (built.leaf part.kind part.text built.none) (erase (set_aside parts)) in
@@ -43,7 +42,7 @@ inner-aside p (part ∷ parts) h =
     let r = inner-aside p parts (and-r _ _ h) in
     omega (arith, j, l, w, r)
 
-read-waits : {xs : List Answer} {s t : State} → Reading xs s t → all_uncounted s.waiting ≡ true → all_uncounted t.waiting ≡ true
+read-waits : {xs : List Answer} {s t : State} → Reading xs s t → all_uncounted s.pending ≡ true → all_uncounted t.pending ≡ true
 unfolding ◌and◌ member
 read-waits = reading-waits (λ k. uncounted (number k)) refl refl refl refl
 
@@ -57,20 +56,20 @@ Held a b s f = record {
   deep : s.depth ≤ s.high;
   higher : b.high ≤ s.high;
   peak : min (b.depth + a.open_nodes + inner a.kind (erase f)) usize_max ≤ max s.high (s.depth + a.owed);
-  waits : all_uncounted s.waiting ≡ true;
+  waits : all_uncounted s.pending ≡ true;
 }
 
-inner-after : (p : ℕ) (s : State) (f g : Marked) → all_uncounted s.waiting ≡ true → inner p (erase (append f (after_waiting s g))) ≡ max (inner p (erase f)) (inner p (erase g))
+inner-after : (p : ℕ) (s : State) (f g : Marked) → all_uncounted s.pending ≡ true → inner p (erase (append f (after_pending s g))) ≡ max (inner p (erase f)) (inner p (erase g))
 inner-after p s f g h =
-    let a = ap (inner p) (erase-append f (after_waiting s g)) in
-    let b = inner-join p (erase f) (erase (after_waiting s g)) in
-    let c = ap (inner p) (erase-append (set_aside s.waiting) g) in
-    let d = inner-join p (erase (set_aside s.waiting)) (erase g) in
-    let e = inner-aside p s.waiting h in
+    let a = ap (inner p) (erase-append f (after_pending s g)) in
+    let b = inner-join p (erase f) (erase (after_pending s g)) in
+    let c = ap (inner p) (erase-append (set_aside s.pending) g) in
+    let d = inner-join p (erase (set_aside s.pending)) (erase g) in
+    let e = inner-aside p s.pending h in
     omega (arith, a, b, c, d, e)
 
 -- trees are added that the greatest depth covers
-grows : (a : Depth) (b s t : State) (f g : Marked) → Held a b s f → t.depth ≡ s.depth → s.high ≤ t.high → min (b.depth + a.open_nodes + inner a.kind (erase g)) usize_max ≤ max t.high (t.depth + a.owed) → all_uncounted t.waiting ≡ true → Held a b t (append f (after_waiting s g))
+grows : (a : Depth) (b s t : State) (f g : Marked) → Held a b s f → t.depth ≡ s.depth → s.high ≤ t.high → min (b.depth + a.open_nodes + inner a.kind (erase g)) usize_max ≤ max t.high (t.depth + a.owed) → all_uncounted t.pending ≡ true → Held a b t (append f (after_pending s g))
 grows a b s t f g h d u p w = record {
   depth = d ∙ h.depth;
   deep = let e = h.deep in omega (arith, d, u, e);
@@ -181,14 +180,14 @@ nesting items limit s run c =
     let first = inner-none DOCUMENT in
     let (f, a, e, h, g, w) = walked_whole level_check Held sound items limit kind.DOCUMENT (at_first DOCUMENT) _ run document_passes.levels
     (record { depth = omega arith; deep = omega (arith, d); higher = omega arith; peak = omega (arith, first); waits = read-waits (reading items (fresh items limit kind.DOCUMENT)) refl }) in
-    let here : Forest = (add_all s.waiting s.tree).here in
-    let root : finished s ≡ built.node kind.DOCUMENT here built.none = ap (λ (above : List Open). (close here above).here) (add_all_above s.waiting s.tree ∙ root_stays items limit kind.DOCUMENT run) in
+    let here : Forest = (add_all s.pending s.tree).here in
+    let root : finished s ≡ built.node kind.DOCUMENT here built.none = ap (λ (above : List Open). (close here above).here) (add_all_above s.pending s.tree ∙ root_stays items limit kind.DOCUMENT run) in
     let n : nest (tree_of (finished s)) ≡ weight DOCUMENT DOCUMENT + inner DOCUMENT here = ap (λ (t : Forest). nest (tree_of t)) root ∙ one-node kind.DOCUMENT here in
     let m : inner DOCUMENT here ≤ count here = inner-count DOCUMENT here in
     let l : count (finished s) ≡ suc (count here + 0) = ap count root in
-    let t = ap (inner DOCUMENT) (sym w.tree ∙ erase-append f (set_aside s.waiting)) in
-    let j = inner-join DOCUMENT (erase f) (erase (set_aside s.waiting)) in
-    let o = inner-aside DOCUMENT s.waiting h.waits in
+    let t = ap (inner DOCUMENT) (sym w.tree ∙ erase-append f (set_aside s.pending)) in
+    let j = inner-join DOCUMENT (erase f) (erase (set_aside s.pending)) in
+    let o = inner-aside DOCUMENT s.pending h.waits in
     let k = ap (λ (n : ℕ). inner n (erase f)) (eqb-true _ _ (and-l _ _ (and-l _ _ e))) in
     let x = eqb-true _ _ (and-l _ _ (and-r _ _ e)) in
     let y = eqb-true _ _ (and-r _ _ (and-r _ _ e)) in

@@ -8,7 +8,7 @@ use Rattle.document_grammar.specs.Numbered.{tree_of}
 use Rattle.document_grammar.proofs.Trimmed.{starts_well, ends_with, trim, starts-join, ends-join, trim-join, root-placed}
 use Rattle.document_grammar.specs.Places.{Placed}
 use Rattle.document_grammar.proofs.Booleans.{and-i, and-l, and-r, not-c}
-use Rattle.parser_rules.specs.State.{State, Part, add_all, flush, opened, closed, wrapped_from, moved, enter, leave, begun, finished}
+use Rattle.parser_rules.specs.State.{State, PendingToken, add_all, flush, opened, closed, wrapped_from, moved, enter, leave, begun, finished}
 use Rattle.parser_rules.specs.Nodes.{kind_of, Document}
 use Rattle.parser_rules.specs.RuleLanguage.{Call}
 use Rattle.parser_rules.specs.Runs.{Runs}
@@ -18,7 +18,7 @@ use Rattle.parser_rules.proofs.NodeChecks.{node_passes, document_passes}
 use Rattle.parser_rules.proofs.runs.Frame.{add_all_above}
 use Rattle.parser_rules.proofs.runs.Marked as marked
 use Rattle.parser_rules.proofs.runs.Marked.{Marked, append, token, erase, erase-append, set_aside}
-use Rattle.parser_rules.proofs.runs.Walk.{after_waiting, always, Sound, walked_whole}
+use Rattle.parser_rules.proofs.runs.Walk.{after_pending, always, Sound, walked_whole}
 use Rattle.parser_rules.proofs.reports.NoReport.{EndsWell}
 use Rattle.parser_rules.proofs.soundness.Soundness.{clean}
 use Rattle.parser_rules.proofs.runs.Reporting.{after_note, after_too_deep}
@@ -30,7 +30,7 @@ pieces-join marked.none g e = (refl, e)
 pieces-join (marked.leaf o k rest) g e = absurd cc
 pieces-join (marked.node k kids rest) g e = absurd cc
 
-trim-aside : (parts : List Part) → trim (erase (set_aside parts)) ≡ true
+trim-aside : (parts : List PendingToken) → trim (erase (set_aside parts)) ≡ true
 trim-aside [] = refl
 trim-aside (p ∷ parts) = trim-aside parts
 
@@ -41,8 +41,8 @@ trim-append f g a b = subst (λ (x : built.Forest). trim x ≡ true) (sym (erase
 abbrev Tidy : Bool → State → State → Marked → Type 0
 Tidy c b s f = record {
   inner : trim (erase f) ≡ true;
-  starts : b.waiting ≡ [] → starts_well (erase f) ≡ true;
-  idle : b.waiting ≡ [] → erase f ≡ built.none → s.waiting ≡ [];
+  starts : b.pending ≡ [] → starts_well (erase f) ≡ true;
+  idle : b.pending ≡ [] → erase f ≡ built.none → s.pending ≡ [];
   ends : ends_with true (erase f) ≡ true;
   some : c ≡ true → ends_with false (erase f) ≡ true;
 }
@@ -54,17 +54,17 @@ weaken : (c e : Bool) (b s : State) (f : Marked) → (e ≡ true → c ≡ true)
 weaken c e b s f i h = record { inner = h.inner; starts = h.starts; idle = h.idle; ends = h.ends; some = λ z. h.some (i z) }
 
 -- trees after what waited, of which the last is no ignored leaf
-grows : (c : Bool) (b s t : State) (f g : Marked) → Tidy c b s f → trim (erase g) ≡ true → starts_well (erase g) ≡ true → ((e : Bool) → ends_with e (erase g) ≡ true) → Tidy true b t (append f (after_waiting s g))
+grows : (c : Bool) (b s t : State) (f g : Marked) → Tidy c b s f → trim (erase g) ≡ true → starts_well (erase g) ≡ true → ((e : Bool) → ends_with e (erase g) ≡ true) → Tidy true b t (append f (after_pending s g))
 grows c b s t f g h i j e = record {
-  inner = trim-append f (after_waiting s g) h.inner (trim-append (set_aside s.waiting) g (trim-aside s.waiting) i);
-  starts = λ z. subst (λ (x : built.Forest). starts_well x ≡ true) (sym (erase-append f (after_waiting s g))) (starts-join (erase f) (erase (after_waiting s g)) (h.starts z) (λ y. subst (λ (w : List Part). starts_well (erase (append (set_aside w) g)) ≡ true) (sym (h.idle z y)) j));
-  idle = λ z y. absurd (true≢false (sym (e false) ∙ ap (ends_with false) (pieces-join (set_aside s.waiting) g (pieces-join f (after_waiting s g) y).1).1));
+  inner = trim-append f (after_pending s g) h.inner (trim-append (set_aside s.pending) g (trim-aside s.pending) i);
+  starts = λ z. subst (λ (x : built.Forest). starts_well x ≡ true) (sym (erase-append f (after_pending s g))) (starts-join (erase f) (erase (after_pending s g)) (h.starts z) (λ y. subst (λ (w : List PendingToken). starts_well (erase (append (set_aside w) g)) ≡ true) (sym (h.idle z y)) j));
+  idle = λ z y. absurd (true≢false (sym (e false) ∙ ap (ends_with false) (pieces-join (set_aside s.pending) g (pieces-join f (after_pending s g) y).1).1));
   ends = last true;
   some = λ z. last false;
 }
   where
-    last : (v : Bool) → ends_with v (erase (append f (after_waiting s g))) ≡ true
-    last v = ap (ends_with v) (erase-append f (after_waiting s g)) ∙ (ends-join v (erase f) (erase (after_waiting s g)) ∙ (ap (ends_with (ends_with v (erase f))) (erase-append (set_aside s.waiting) g) ∙ (ends-join (ends_with v (erase f)) (erase (set_aside s.waiting)) (erase g) ∙ e _)))
+    last : (v : Bool) → ends_with v (erase (append f (after_pending s g))) ≡ true
+    last v = ap (ends_with v) (erase-append f (after_pending s g)) ∙ (ends-join v (erase f) (erase (after_pending s g)) ∙ (ap (ends_with (ends_with v (erase f))) (erase-append (set_aside s.pending) g) ∙ (ends-join (ends_with v (erase f)) (erase (set_aside s.pending)) (erase g) ∙ e _)))
 
 any-end : (f : Marked) (b : Bool) → ends_with true (erase f) ≡ true → ends_with false (erase f) ≡ true → ends_with b (erase f) ≡ true
 any-end f true h g = h
@@ -73,7 +73,7 @@ any-end f false h g = g
 sound : Sound tidy_check Tidy
 unfolding tidy_check flush opened closed wrapped_from enter leave
 sound = record {
-  leaf = λ own a k b s f x e c h g. let i = not-c _ (and-l _ _ c) in (a, and-r _ _ c, weaken true a b (moved own s (Some x)) (append f (after_waiting s (marked.leaf (token x) own marked.none))) (λ z. refl) (grows a b s (moved own s (Some x)) f (marked.leaf (token x) own marked.none) h refl (rw i refl) (λ v. rw i refl)));
+  leaf = λ own a k b s f x e c h g. let i = not-c _ (and-l _ _ c) in (a, and-r _ _ c, weaken true a b (moved own s (Some x)) (append f (after_pending s (marked.leaf (token x) own marked.none))) (λ z. refl) (grows a b s (moved own s (Some x)) f (marked.leaf (token x) own marked.none) h refl (rw i refl) (λ v. rw i refl)));
   no_leaf = λ own a k b s f e c h. (a, and-r _ _ c, h);
   report = λ m a b s f h. after_note (λ t. Tidy a b t f) m s (λ errors. h);
   limit = λ a k b s f d c h. (a, c, after_too_deep (λ t. Tidy a b t f) s (λ errors accepts. h));
@@ -97,13 +97,13 @@ sound = record {
 -- ---- a tree without reports
 
 -- no node but the root begins or ends with an ignored leaf
-pub trimmed : (r : ℕ) (xs : List Answer) (s : State) → Runs (Call Document) (begun xs r kind.DOCUMENT) s → trim (add_all s.waiting s.tree).here ≡ true
+pub trimmed : (r : ℕ) (xs : List Answer) (s : State) → Runs (Call Document) (begun xs r kind.DOCUMENT) s → trim (add_all s.pending s.tree).here ≡ true
 trimmed r xs s run =
     let (f, a, e, h, g, w) = walked_whole tidy_check Tidy sound xs r kind.DOCUMENT false always run document_passes.ignored (empty (begun xs r kind.DOCUMENT)) in
-    subst (λ (x : built.Forest). trim x ≡ true) w.tree (trim-append f (set_aside s.waiting) h.inner (trim-aside s.waiting))
+    subst (λ (x : built.Forest). trim x ≡ true) w.tree (trim-append f (set_aside s.pending) h.inner (trim-aside s.pending))
 
 -- In a tree without reports each ignored leaf is where the text fixes it.
 pub placed : (r : ℕ) (xs : List Answer) (s : State) → EndsWell xs → IsRoot s.tree → s.errors ≡ [] → Runs (Call Document) (begun xs r kind.DOCUMENT) s → Placed (tree_of (finished s))
 placed r xs s en root e run =
     let c = clean r xs s en root e run in
-    root-placed (add_all s.waiting s.tree) (record { before = built.none; kind = root.0 }) refl (add_all_above s.waiting s.tree ∙ root.2) (trimmed r xs s run) c.spells.0.1
+    root-placed (add_all s.pending s.tree) (record { before = built.none; kind = root.0 }) refl (add_all_above s.pending s.tree ∙ root.2) (trimmed r xs s run) c.spells.0.1

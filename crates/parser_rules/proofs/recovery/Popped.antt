@@ -9,7 +9,7 @@ use Rattle.document_grammar.specs.declared.kind.SyntaxKind.TheVariants as kind
 use Rattle.document_grammar.specs.Booleans.{◌and◌, ◌or◌}
 use Rattle.document_grammar.proofs.Booleans.{false-true, and-l, and-r, or-c, not-c, either}
 use Rattle.parser_rules.specs.declared.message.Message.{Message}
-use Rattle.parser_rules.specs.State.{State, Lexeme, Part, Report, at_limit, fault_report, second, add_all, flush, opened, closed, wrapped_from, moved, noted, note, too_deep, enter, leave, is_at, fresh, begun}
+use Rattle.parser_rules.specs.State.{State, Lexeme, PendingToken, Report, at_limit, fault_report, second, add_all, flush, opened, closed, wrapped_from, moved, noted, note, too_deep, enter, leave, is_at, fresh, begun}
 use Rattle.parser_rules.specs.Nodes.{kind_of, Document}
 use Rattle.parser_rules.specs.RuleLanguage.{Kind, Test, Here, HasNext, Not, Both, holds, Call}
 use Rattle.parser_rules.specs.Runs.{Runs}
@@ -18,7 +18,7 @@ use Rattle.parser_rules.proofs.recovery.RecoveryCheck.{is_list, excludes, asks_n
 use Rattle.parser_rules.proofs.NodeChecks.{node_passes, document_passes}
 use Rattle.parser_rules.proofs.runs.Reading.{Reading, stops, cuts, bad_text, waits, shows, reading}
 use Rattle.parser_rules.proofs.runs.Marked.{Source, token, aside, Marked, none, leaf, node, append, append-none, erase, flat, set_aside, now_of, sources, moved_on, has-more, Reports, reports-then, read-reports, Grown, grown-note, grown-deep}
-use Rattle.parser_rules.proofs.runs.Walk.{after_waiting, always, Goes, Sound, walked_whole}
+use Rattle.parser_rules.proofs.runs.Walk.{after_pending, always, Goes, Sound, walked_whole}
 use Rattle.parser_rules.proofs.runs.Reporting.{after_note, after_too_deep}
 use Rattle.parser_rules.proofs.reports.NoReport.{Now, EndsWell, choose, ignored-end, Stood, reading-stood, stands-along}
 use Rattle.parser_rules.proofs.leaves.LeafCheck.{is_error}
@@ -74,7 +74,7 @@ recovers-append errors none g a b = b
 recovers-append errors (leaf o k rest) g a b = (a.0, recovers-append errors rest g a.1 b)
 recovers-append errors (node k kids rest) g a b = (a.0, a.1, recovers-append errors rest g a.2 b)
 
-recovers-aside : (errors : List Report) (parts : List Part) → Recovers errors (set_aside parts)
+recovers-aside : (errors : List Report) (parts : List PendingToken) → Recovers errors (set_aside parts)
 recovers-aside errors [] = tt
 recovers-aside errors (p ∷ parts) = ((λ z. false-true refl z), recovers-aside errors parts)
 
@@ -83,12 +83,12 @@ pops-append none g = omega arith
 pops-append (leaf o k rest) g = let e = pops-append rest g in omega (arith, e)
 pops-append (node k kids rest) g = pops-append rest g
 
-pops-aside : (parts : List Part) → pops_of (set_aside parts) ≡ 0
+pops-aside : (parts : List PendingToken) → pops_of (set_aside parts) ≡ 0
 pops-aside [] = refl
 pops-aside (p ∷ parts) = let e = pops-aside parts in omega (arith, e)
 
-pops-after : (s : State) (g : Marked) → pops_of (after_waiting s g) ≡ pops_of g
-pops-after s g = let b = pops-append (set_aside s.waiting) g in let c = pops-aside s.waiting in omega (arith, b, c)
+pops-after : (s : State) (g : Marked) → pops_of (after_pending s g) ≡ pops_of g
+pops-after s g = let b = pops-append (set_aside s.pending) g in let c = pops-aside s.pending in omega (arith, b, c)
 
 bracket-append : (f g : Marked) → NoBracket f → NoBracket g → NoBracket (append f g)
 bracket-append none g a b = b
@@ -120,11 +120,11 @@ roomed-none one_token = refl
 roomed-none no_token = omega arith
 
 -- nothing is popped
-roomed-still : (r : Room) (s : State) (f g : Marked) → pops_of g ≡ 0 → Roomed r f → Roomed r (append f (after_waiting s g))
+roomed-still : (r : Room) (s : State) (f g : Marked) → pops_of g ≡ 0 → Roomed r f → Roomed r (append f (after_pending s g))
 roomed-still any_token s f g e h = tt
-roomed-still no_bracket s f g e h = bracket-append f (after_waiting s g) h (none-bracket (after_waiting s g) (pops-after s g ∙ e))
-roomed-still one_token s f g e h = let a = pops-append f (after_waiting s g) in let b = pops-after s g in omega (arith, a, b, e, h)
-roomed-still no_token s f g e h = let a = pops-append f (after_waiting s g) in let b = pops-after s g in omega (arith, a, b, e, h)
+roomed-still no_bracket s f g e h = bracket-append f (after_pending s g) h (none-bracket (after_pending s g) (pops-after s g ∙ e))
+roomed-still one_token s f g e h = let a = pops-append f (after_pending s g) in let b = pops-after s g in omega (arith, a, b, e, h)
+roomed-still no_token s f g e h = let a = pops-append f (after_pending s g) in let b = pops-after s g in omega (arith, a, b, e, h)
 
 -- the room after trees with at most one popped token, which is no `]` where it is spared, and is none where the text is cut off
 roomed-pop : (a : Popping) (r : Room) (k : Popping → Bool) → pop a r k ≡ true
@@ -206,10 +206,10 @@ right-on : (r : Room) (s t : State) (f : Marked) → Reports s t → Right r s f
 right-on r s t f g h y = let i = h (g.keeps y) in (recovers-on s t f g i.0, i.1)
 
 -- trees are added after what waited
-right-grows : (r q : Room) (s t : State) (f g : Marked) → Reports s t → Right r s f → (t.accepts ≡ true → Recovers t.errors g) → (t.accepts ≡ true → Roomed r f → Roomed q (append f (after_waiting s g))) → Right q t (append f (after_waiting s g))
+right-grows : (r q : Room) (s t : State) (f g : Marked) → Reports s t → Right r s f → (t.accepts ≡ true → Recovers t.errors g) → (t.accepts ≡ true → Roomed r f → Roomed q (append f (after_pending s g))) → Right q t (append f (after_pending s g))
 right-grows r q s t f g p h i j y =
     let k = h (p.keeps y) in
-    (recovers-append t.errors f (after_waiting s g) (recovers-on s t f p k.0) (recovers-append t.errors (set_aside s.waiting) g (recovers-aside t.errors s.waiting) (i y)), j y k.1)
+    (recovers-append t.errors f (after_pending s g) (recovers-on s t f p k.0) (recovers-append t.errors (set_aside s.pending) g (recovers-aside t.errors s.pending) (i y)), j y k.1)
 
 noted-at : (m : Message) (s : State) → s.accepts ≡ true → Reported_at (note m s).errors s.current
 unfolding note
@@ -240,28 +240,28 @@ module _ (own : SyntaxKind) (a : Popping) (k : Popping → Bool) (b s : State) (
   unfolding flush
   stood-after = stands-along.moves own x (flush s) e refl (stands-along.flushes s h.stood)
 
-  bumped : (q : Room) → Reports s after → k (unknown q) ≡ true → (is_error own ≡ true → a.told ≡ true) → (after.accepts ≡ true → Roomed a.room f → Roomed q (append f (after_waiting s one))) → Goes pop_check Held k b after (append f (after_waiting s one))
-  bumped q p i t j = (unknown q, i, held q b after (append f (after_waiting s one)) stood-after (right-grows a.room q s after f one p h.right told j))
+  bumped : (q : Room) → Reports s after → k (unknown q) ≡ true → (is_error own ≡ true → a.told ≡ true) → (after.accepts ≡ true → Roomed a.room f → Roomed q (append f (after_pending s one))) → Goes pop_check Held k b after (append f (after_pending s one))
+  bumped q p i t j = (unknown q, i, held q b after (append f (after_pending s one)) stood-after (right-grows a.room q s after f one p h.right told j))
     where
       told : after.accepts ≡ true → Recovers after.errors one
       told y = ((λ z. subst (λ (errors : List Report). Reported_at errors (Some x)) (sym p.errors) (reported-more s.errors p.more (Some x) (subst (λ (o : Option Lexeme). Reported_at s.errors o) e (h.told (t (and-l _ _ z)) (p.keeps y))))), tt)
 
-  pops-one : pops_of (after_waiting s one) ≡ cond (popped (token x) own) 1 0 + 0
+  pops-one : pops_of (after_pending s one) ≡ cond (popped (token x) own) 1 0 + 0
   pops-one = pops-after s one
 
   at-most-one : (b : Bool) → cond b 1 0 ≤ 1
   at-most-one true = omega arith
   at-most-one false = omega arith
 
-  leaf-right : cond (is_error own) (a.told and pop a a.room k) (k (unknown a.room)) ≡ true → Grown s after (after_waiting s one) → Goes pop_check Held k b after (append f (after_waiting s one))
+  leaf-right : cond (is_error own) (a.told and pop a a.room k) (k (unknown a.room)) ≡ true → Grown s after (after_pending s one) → Goes pop_check Held k b after (append f (after_pending s one))
   unfolding ◌and◌
   leaf-right c g = elim (either (is_error own)) [
     | inl i ↦ (
         let d = rw i at c in
         let r = roomed-pop a a.room k (and-r _ _ d) in
         bumped r.0 g.reports r.1 (λ z. and-l _ _ d)
-        (λ y. r.2 f (after_waiting s one) (let m = pops-one in let l = at-most-one (popped (token x) own) in omega (arith, m, l))
-        (λ z. bracket-append (set_aside s.waiting) one (none-bracket (set_aside s.waiting) (pops-aside s.waiting)) ((λ _. subst (λ (o : Option Lexeme). is_at token_kind.RBracket o ≡ false) e (h.spared z)), tt))
+        (λ y. r.2 f (after_pending s one) (let m = pops-one in let l = at-most-one (popped (token x) own) in omega (arith, m, l))
+        (λ z. bracket-append (set_aside s.pending) one (none-bracket (set_aside s.pending) (pops-aside s.pending)) ((λ _. subst (λ (o : Option Lexeme). is_at token_kind.RBracket o ≡ false) e (h.spared z)), tt))
         (λ z. pops-one ∙ rw (not-popped z y) refl)))
     | inr i ↦ bumped a.room g.reports (rw i at c) (λ z. false-true i z) (λ y. roomed-still a.room s f one (rw i refl))
   ]
@@ -317,7 +317,7 @@ sound = record {
 -- A tree that knows its tokens: its leaves are the answers in their order, and popped tokens are reported and stand where they may.
 pub record Recovery (xs : List Answer) (s : State) : Type 0 where
   pub marked : Marked
-  pub tree : erase marked ≡ (add_all s.waiting s.tree).here
+  pub tree : erase marked ≡ (add_all s.pending s.tree).here
   pub order : flat marked ++ (now_of s.current ++ sources s.items) ≡ sources xs
   pub recovers : Recovers s.errors marked
 
@@ -329,4 +329,4 @@ document_recovers r xs s en run none-limited =
     let (f, a, e, h, g, w) = walked_whole pop_check Held sound xs r kind.DOCUMENT (unknown any_token) always run document_passes.errors (held any_token (begun xs r kind.DOCUMENT) (begun xs r kind.DOCUMENT) none (reading-stood (reading xs o) en) (λ y. (tt, tt))) in
     let p = reports-then o (begun xs r kind.DOCUMENT) s (read-reports (reading xs o)) g.reports in
     let taken : s.accepts ≡ true = elim (either s.accepts) [ inl y ↦ y | inr y ↦ (let l = p.limited refl y in absurd (none-limited l.0 l.1 (subst (λ (z : List Report). Has z l.0) (sym p.errors) l.2))) ] in
-    record { marked = append f (set_aside s.waiting); tree = w.tree; order = w.order; recovers = recovers-append s.errors f (set_aside s.waiting) (h.right taken).0 (recovers-aside s.errors s.waiting) }
+    record { marked = append f (set_aside s.pending); tree = w.tree; order = w.order; recovers = recovers-append s.errors f (set_aside s.pending) (h.right taken).0 (recovers-aside s.errors s.pending) }

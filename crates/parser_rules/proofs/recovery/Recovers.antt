@@ -1,6 +1,5 @@
 -- Going on after reports: where the tokens that are left at a turn of the document's loop are a sentence's, its children follow, without a report.
 use Rattle.std.proofs.Common.{◌≡◌, ℕ, ◌≤◌, Bool, true, is_some, List, [], ◌∷◌, ◌++◌, Option, Some, None, refl, sym, ap, ap₂, ◌∙◌, subst, ◌⊎◌, inl, inr, append-nil}
-use Rattle.lexical_grammar.specs.declared.TokenKind.{TokenKind}
 use Rattle.lexical_grammar.specs.Cut.{Item, Cut}
 use Rattle.lexical_grammar.specs.Answers.{Answer, gives, limit_at, limited}
 use Rattle.document_grammar.proofs.Booleans.{false-true, and-l, and-r}
@@ -45,7 +44,7 @@ own_tree = record { tree = start kind.DOCUMENT nothing; errors = []; high = 0 }
 abbrev pub afresh : State → State
 afresh st = on st own_tree
 
-afresh-fits : (st : State) (c : Turn st) → all_ignored st.waiting ≡ true → Fits (whole st.limit (from_now st c)) DOCUMENT (spot 0 low loose) ready any [] (afresh st)
+afresh-fits : (st : State) (c : Turn st) → all_ignored st.pending ≡ true → Fits (whole st.limit (from_now st c)) DOCUMENT (spot 0 low loose) ready any [] (afresh st)
 unfolding holds within
 afresh-fits st c i = record {
   calm = record {
@@ -67,21 +66,21 @@ pub record From_turn (st s : State) (c : Turn st) : Type 0 where
   pub steps : Same_steps (built_of st) (built_of s) own_tree own
   pub parsed : Tells (whole st.limit (from_now st c)) (on s own) ⊎ Silent st.limit (from_now st c) (on s own)
 
-pub from-turn : (st s : State) (c : Turn st) → all_ignored st.waiting ≡ true → Runs loops st s → From_turn st s c
+pub from-turn : (st s : State) (c : Turn st) → all_ignored st.pending ≡ true → Runs loops st s → From_turn st s c
 unfolding turns_follow
 from-turn st s c i run = let a = anew run own_tree in record { own = a.0; steps = a.2; parsed = run-out st.limit (from_now st c) ready document_passes.turns a.1 (afresh-fits st c i) }
 
 -- The root's later children are the derivation's, and nothing more is reported.
 pub record Recovered (st s : State) (t : Tree) : Type 0 where
   pub later : built.Forest
-  pub children : (add_all s.waiting s.tree).here ≡ built.join st.tree.here later
+  pub children : (add_all s.pending s.tree).here ≡ built.join st.tree.here later
   pub derived : node DOCUMENT (strip later) ≡ t
   pub silent : s.errors ≡ st.errors
 
 root-layer : (b : Building) (o : Open) (k : ℕ) (f : Forest) (more : List (ℕ × Forest)) → b.above ≡ o ∷ [] → stack b ≡ (k, f) ∷ more → strip b.here ≡ f
 root-layer b o k f more a e = ap (λ (l : ℕ × Forest). l.1) (head-same (sym (ap (layers b.here) a) ∙ e))
 
-pub recovers : (st s : State) (c : Turn st) (t : Tree) → all_ignored st.waiting ≡ true → Spells (now_words st c) t document → Plain t → nest t ≤ st.limit → all_tokens (from_now st c) ≡ true → Runs loops st s → Recovered st s t
+pub recovers : (st s : State) (c : Turn st) (t : Tree) → all_ignored st.pending ≡ true → Spells (now_words st c) t document → Plain t → nest t ≤ st.limit → all_tokens (from_now st c) ≡ true → Runs loops st s → Recovered st s t
 recovers st s c t i h p n a run =
     let f = from-turn st s c i run in
     elim f.parsed [
@@ -89,12 +88,12 @@ recovers st s c t i h p n a run =
       | inr o ↦ (
           let own : State = on s f.own in
           let more : built.Forest = f.steps.more in
-          let later : built.Forest = built.join more (parts_forest s.waiting) in
-          let here : (add_all own.waiting own.tree).here ≡ later = (added-all own.waiting own.tree).here ∙ ap (λ (x : built.Forest). built.join x (parts_forest s.waiting)) f.steps.other.trees.here in
-          let bare : strip later ≡ shows o.children = ap strip (sym here) ∙ root-layer (add_all own.waiting own.tree) (record { before = built.none; kind = kind.DOCUMENT }) (label DOCUMENT) (shows o.children) ((0, none) ∷ []) (add_all_above own.waiting own.tree ∙ f.steps.other.trees.above) o.built in
+          let later : built.Forest = built.join more (parts_forest s.pending) in
+          let here : (add_all own.pending own.tree).here ≡ later = (added-all own.pending own.tree).here ∙ ap (λ (x : built.Forest). built.join x (parts_forest s.pending)) f.steps.other.trees.here in
+          let bare : strip later ≡ shows o.children = ap strip (sym here) ∙ root-layer (add_all own.pending own.tree) (record { before = built.none; kind = kind.DOCUMENT }) (label DOCUMENT) (shows o.children) ((0, none) ∷ []) (add_all_above own.pending own.tree ∙ f.steps.other.trees.above) o.built in
           record {
             later = later;
-            children = (added-all s.waiting s.tree).here ∙ (ap (λ (x : built.Forest). built.join x (parts_forest s.waiting)) f.steps.one.trees.here ∙ join_assoc st.tree.here more (parts_forest s.waiting));
+            children = (added-all s.pending s.tree).here ∙ (ap (λ (x : built.Forest). built.join x (parts_forest s.pending)) f.steps.one.trees.here ∙ join_assoc st.tree.here more (parts_forest s.pending));
             derived = ap₂ (λ (k : ℕ) (g : Forest). node k g) (sym document-label.0) bare ∙ one-derivation document (now_words st c) (show (node DOCUMENT o.children)) t o.clean.spells h;
             silent = f.steps.one.errors ∙ (ap (λ (z : List Report). st.errors ++ z) (sym f.steps.other.errors ∙ o.silent) ∙ append-nil st.errors);
           })

@@ -8,15 +8,15 @@ use Rattle.document_grammar.specs.Kinds.{ERROR, DOCUMENT}
 use Rattle.document_grammar.specs.Forests as built
 use Rattle.document_grammar.specs.Booleans.{◌and◌, ◌or◌}
 use Rattle.document_grammar.proofs.Booleans.{and-i, and-l, and-r, or-l}
-use Rattle.parser_rules.specs.State.{State, Part, flush, opened, closed, wrapped_from, moved, add_all, enter, leave, fresh, begun}
+use Rattle.parser_rules.specs.State.{State, PendingToken, flush, opened, closed, wrapped_from, moved, add_all, enter, leave, fresh, begun}
 use Rattle.parser_rules.specs.Nodes.{Document}
 use Rattle.parser_rules.specs.RuleLanguage.{Call}
 use Rattle.parser_rules.specs.Runs.{Runs}
 use Rattle.parser_rules.proofs.recovery.RecoveryCheck.{of_row, leaf_of_row, Two_rows, row_check}
 use Rattle.parser_rules.proofs.NodeChecks.{node_passes, document_passes}
-use Rattle.parser_rules.proofs.runs.Reading.{ignored-leaf, Reading, reading, all_kinds, reading-waits}
+use Rattle.parser_rules.proofs.runs.Reading.{Reading, reading, all_kinds, reading-waits}
 use Rattle.parser_rules.proofs.runs.Marked.{Marked, none, leaf, node, token, moved_on, append, erase, erase-append, set_aside}
-use Rattle.parser_rules.proofs.runs.Walk.{after_waiting, Sound, walked_whole}
+use Rattle.parser_rules.proofs.runs.Walk.{after_pending, Sound, walked_whole}
 use Rattle.parser_rules.proofs.runs.Reporting.{after_note, after_too_deep}
 
 -- the children of a node of the kind with the number, and those below
@@ -37,28 +37,28 @@ rows-append : (k : ℕ) (f g : Marked) → rows k (erase f) ≡ true → rows k 
 rows-append k f g a b = subst (λ (x : built.Forest). rows k x ≡ true) (sym (erase-append f g)) (rows-join k (erase f) (erase g) a b)
 
 -- what waits is ignored or bad text
-abbrev all_aside : List Part → Bool
+abbrev all_aside : List PendingToken → Bool
 all_aside = all_kinds (λ k. ltb (number k) ERROR or eqb (number k) ERROR)
 
-rows-aside : (k : ℕ) (parts : List Part) → all_aside parts ≡ true → rows k (erase (set_aside parts)) ≡ true
+rows-aside : (k : ℕ) (parts : List PendingToken) → all_aside parts ≡ true → rows k (erase (set_aside parts)) ≡ true
 unfolding leaf_of_row
 rows-aside k [] h = refl
 rows-aside k (p ∷ parts) h = and-i (or-l _ _ (and-l _ _ h)) (rows-aside k parts (and-r _ _ h))
 
 -- reading on sets only such aside
-read-aside : {xs : List Answer} {s t : State} → Reading xs s t → all_aside s.waiting ≡ true → all_aside t.waiting ≡ true
+read-aside : {xs : List Answer} {s t : State} → Reading xs s t → all_aside s.pending ≡ true → all_aside t.pending ≡ true
 unfolding ◌or◌
 read-aside = reading-waits (λ k. ltb (number k) ERROR or eqb (number k) ERROR) refl refl refl refl
 
 -- ---- runs
 
 abbrev Fit : Two_rows → State → State → Marked → Type 0
-Fit a b s f = record { own : rows a.own (erase f) ≡ true; later : rows a.later (erase f) ≡ true; waits : all_aside s.waiting ≡ true }
+Fit a b s f = record { own : rows a.own (erase f) ≡ true; later : rows a.later (erase f) ≡ true; waits : all_aside s.pending ≡ true }
 
-grows : (a : Two_rows) (b s t : State) (f g : Marked) → Fit a b s f → rows a.own (erase g) ≡ true → rows a.later (erase g) ≡ true → all_aside t.waiting ≡ true → Fit a b t (append f (after_waiting s g))
+grows : (a : Two_rows) (b s t : State) (f g : Marked) → Fit a b s f → rows a.own (erase g) ≡ true → rows a.later (erase g) ≡ true → all_aside t.pending ≡ true → Fit a b t (append f (after_pending s g))
 grows a b s t f g h i j w = record {
-  own = rows-append a.own f (after_waiting s g) h.own (rows-append a.own (set_aside s.waiting) g (rows-aside a.own s.waiting h.waits) i);
-  later = rows-append a.later f (after_waiting s g) h.later (rows-append a.later (set_aside s.waiting) g (rows-aside a.later s.waiting h.waits) j);
+  own = rows-append a.own f (after_pending s g) h.own (rows-append a.own (set_aside s.pending) g (rows-aside a.own s.pending h.waits) i);
+  later = rows-append a.later f (after_pending s g) h.later (rows-append a.later (set_aside s.pending) g (rows-aside a.later s.pending h.waits) j);
   waits = w;
 }
 
@@ -93,8 +93,8 @@ sound = record {
 }
 
 -- In each tree of the document's rule, also with reports, a node's children are symbols of its row, but for ignored, ERROR and SPREAD leaves.
-pub document_rowed : (r : ℕ) (xs : List Answer) (s : State) → Runs (Call Document) (begun xs r kind.DOCUMENT) s → rowed kind.DOCUMENT (add_all s.waiting s.tree).here ≡ true
+pub document_rowed : (r : ℕ) (xs : List Answer) (s : State) → Runs (Call Document) (begun xs r kind.DOCUMENT) s → rowed kind.DOCUMENT (add_all s.pending s.tree).here ≡ true
 unfolding row_check
 document_rowed r xs s run =
     let (f, a, e, h, g, w) = walked_whole row_check Fit sound xs r kind.DOCUMENT _ _ run document_passes.row (record { own = refl; later = refl; waits = read-aside (reading xs (fresh xs r kind.DOCUMENT)) refl }) in
-    subst (λ (x : built.Forest). rows DOCUMENT x ≡ true) w.tree (subst (λ n. rows n (erase (append f (set_aside s.waiting))) ≡ true) (eqb-true _ _ e) (rows-append a.own f (set_aside s.waiting) h.own (rows-aside a.own s.waiting h.waits)))
+    subst (λ (x : built.Forest). rows DOCUMENT x ≡ true) w.tree (subst (λ n. rows n (erase (append f (set_aside s.pending))) ≡ true) (eqb-true _ _ e) (rows-append a.own f (set_aside s.pending) h.own (rows-aside a.own s.pending h.waits)))

@@ -2,12 +2,12 @@
 use Rattle.std.proofs.Common.{◌≡◌, ◌+◌, ◌≤◌, ◌||◌, ◌&&◌, if◌then◌else◌, true≢false, ℕ, min, Bool, true, false, List, [], ◌∷◌, ◌++◌, refl, sym, ◌∙◌, ap, arith}
 use Rattle.std.specs.List.{list_any}
 use Rattle.std.proofs.lemmas.List.Folds.{list_any-append}
-use Rattle.lexical_grammar.specs.Answers.{Answer, is_end}
+use Rattle.lexical_grammar.specs.Answers.{Answer, is_end, usize_max}
 use Rattle.document_grammar.specs.declared.kind.SyntaxKind.{SyntaxKind}
 use Rattle.document_grammar.specs.Builds.{add_leaf}
 use Rattle.parser_rules.specs.declared.message.Message.{Message}
 use Rattle.parser_rules.specs.Messages.{is_limit}
-use Rattle.parser_rules.specs.State.{State, Lexeme, Report, at_end, at_text, bad_report, token_limit_report, flush, closed, wrapped_from, fault_report, enter, leave, begun, fresh, usize_max}
+use Rattle.parser_rules.specs.State.{State, Lexeme, Report, at_end, at_text, bad_report, token_limit_report, flush, closed, wrapped_from, fault_report, enter, leave, begun, fresh}
 use Rattle.parser_rules.specs.Reports.{is_recursion_limit}
 use Rattle.parser_rules.specs.RuleLanguage.{Rule}
 use Rattle.parser_rules.specs.Runs.{Runs}

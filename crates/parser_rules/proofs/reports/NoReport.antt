@@ -193,7 +193,7 @@ module _ (answers : List Answer) (Right : Report → ℕ → Type 0) where
   pub record Quiet (st : State) : Type 0 where
     pub clean : st.errors ≡ []
     pub accepts : st.accepts ≡ true
-    pub waits : all_ignored st.waiting ≡ true
+    pub waits : all_ignored st.pending ≡ true
 
   pub record Calm (st : State) : Type 0 where
     pub quiet : Quiet st

@@ -17,7 +17,7 @@ use Rattle.parser_rules.specs.Runs.{Runs}
 use Rattle.parser_rules.proofs.runs.Reading.{reading, reading-second}
 use Rattle.parser_rules.proofs.runs.Marked as marked
 use Rattle.parser_rules.proofs.runs.Marked.{Marked, append, Limited, Has, Reports, reports-then, read-reports, moved_on}
-use Rattle.parser_rules.proofs.runs.Walk.{after_waiting, always, Sound, walked_whole}
+use Rattle.parser_rules.proofs.runs.Walk.{after_pending, always, Sound, walked_whole}
 use Rattle.parser_rules.proofs.runs.Frame.{read_untouched}
 use Rattle.parser_rules.proofs.reports.NoReport.{choose, EndsWell, Stood, reading-stood, stands-along}
 use Rattle.parser_rules.proofs.recovery.Popped.{cut-off}
@@ -171,7 +171,7 @@ opened-held n a b s f c h = elim (either (begins_level n)) [
 sound : Sound limit_check Held
 unfolding limit_check flush opened closed wrapped_from enter leave is_deep
 sound = record {
-  leaf = λ own a k b s f x e c h g. (after_token a, c, moved-held own a b s f x e h (append f (after_waiting s (marked.leaf (marked.token x) own marked.none))) g.reports);
+  leaf = λ own a k b s f x e c h g. (after_token a, c, moved-held own a b s f x e h (append f (after_pending s (marked.leaf (marked.token x) own marked.none))) g.reports);
   no_leaf = λ own a k b s f e c h. (after_token a, c, no-token a b s f h);
   report = noted-held;
   limit = λ a k b s f d c h. (a, and-r _ _ c, limit-held a b s f (and-l _ _ c) h);

@@ -2,14 +2,14 @@
 -- same trees and reports.
 use Rattle.std.proofs.Common.{◌≡◌, ℕ, ◌+◌, max, min, Bool, true, false, not, ◌&&◌, if◌then◌else◌, List, [], ◌∷◌, ◌++◌, Option, Some, None, refl, sym, ap, ap₂, ◌∙◌, subst, append_assoc, append-nil}
 use Rattle.lexical_grammar.specs.declared.TokenKind.TheVariants as token
-use Rattle.lexical_grammar.specs.Answers.{Answer}
+use Rattle.lexical_grammar.specs.Answers.{Answer, usize_max}
 use Rattle.document_grammar.specs.declared.kind.SyntaxKind.{SyntaxKind}
 use Rattle.document_grammar.specs.declared.kind.SyntaxKind.TheVariants as kind
 use Rattle.document_grammar.specs.Forests as built
 use Rattle.document_grammar.specs.Builds.{Building, start, add_leaf, finish, wrap, built_count}
 use Rattle.document_grammar.proofs.Added.{Added, added-none, added-leaf, added-then, added-node, added-wrap}
 use Rattle.parser_rules.specs.declared.message.Message.{Message}
-use Rattle.parser_rules.specs.State.{State, Lexeme, Report, bad_report, token_limit_report, recursion_limit_report, fault_report, add_all, flush, opened, closed, wrapped_from, moved, bump, reported, noted, note, is_deep, deepened, limited_at, too_deep, enter, leave, usize_max}
+use Rattle.parser_rules.specs.State.{State, Lexeme, Report, bad_report, token_limit_report, recursion_limit_report, fault_report, add_all, flush, opened, closed, wrapped_from, moved, bump, reported, noted, note, is_deep, deepened, limited_at, too_deep, enter, leave}
 use Rattle.parser_rules.specs.Nodes.{kind_of}
 use Rattle.parser_rules.specs.RuleLanguage.{Test, At, Not, Both, holds, Prim, Bump, Note, step, Rule, Do, TooDeep, Nested}
 use Rattle.parser_rules.specs.Runs.{Runs, skip, does, seq, yes, no, done, again, child, limited, deeper, refused, call, plain, wrapped}
@@ -83,11 +83,11 @@ abbrev Stepping : (State → State) → State → Built → Type 0
 Stepping f s d = (e : Built) × (f (on s d) ≡ on (f s) e) × Same_steps (built_of s) (built_of (f s)) d e
 
 abbrev flushed : State → Built → Built
-flushed s d = record d { tree = add_all s.waiting d.tree }
+flushed s d = record d { tree = add_all s.pending d.tree }
 
 flushing : (s : State) (d : Built) → Same_steps (built_of s) (built_of (flush s)) d (flushed s d)
 unfolding flush
-flushing s d = grown (parts_forest s.waiting) (built_of s) (built_of (flush s)) d (flushed s d) (added-all s.waiting s.tree) (added-all s.waiting d.tree) refl refl
+flushing s d = grown (parts_forest s.pending) (built_of s) (built_of (flush s)) d (flushed s d) (added-all s.pending s.tree) (added-all s.pending d.tree) refl refl
 
 bumping : (own : SyntaxKind) (s : State) (d : Built) → Stepping (bump own) s d
 unfolding bump flush
@@ -98,9 +98,9 @@ bumping own s d = at s.current
     at (Some x) =
         let f : State = flush s in
         let u : State = moved_on own x f in
-        let e : Built = record d { tree = add_leaf own x.text (add_all s.waiting d.tree) } in
+        let e : Built = record d { tree = add_leaf own x.text (add_all s.pending d.tree) } in
         let k = reading-on (reading s.items u) e in
-        let leafed = grown (built.leaf own x.text built.none) (built_of f) (built_of u) (flushed s d) e (added-leaf own x.text f.tree) (added-leaf own x.text (add_all s.waiting d.tree)) refl refl in
+        let leafed = grown (built.leaf own x.text built.none) (built_of f) (built_of u) (flushed s d) e (added-leaf own x.text f.tree) (added-leaf own x.text (add_all s.pending d.tree)) refl refl in
         let first = then_on (built_of s) (built_of f) (built_of u) d (flushed s d) e (flushing s d) leafed in
         (k.0, reading-is k.1, then_on (built_of s) (built_of u) (built_of (moved own s (Some x))) d e k.0 first k.2)
 
@@ -135,7 +135,7 @@ test-same _ s d = refl
 -- ---- nodes
 
 abbrev opened_on : SyntaxKind → State → Built → Built
-opened_on k s d = record d { tree = start k (add_all s.waiting d.tree) }
+opened_on k s d = record d { tree = start k (add_all s.pending d.tree) }
 
 abbrev closed_on : Built → Built
 closed_on d = record d { tree = finish d.tree }
@@ -154,7 +154,7 @@ abbrev around : State → State → State
 around s u = wrapped_from (built_count (flush s).tree) kind.NON_NULL_TYPE u
 
 abbrev around_on : State → Built → Built → Built
-around_on s d e = record e { tree = wrap (built_count (add_all s.waiting d.tree)) kind.NON_NULL_TYPE e.tree }
+around_on s d e = record e { tree = wrap (built_count (add_all s.pending d.tree)) kind.NON_NULL_TYPE e.tree }
 
 wrapping : (s u : State) (d e : Built) → Same_steps (built_of (flush s)) (built_of u) (flushed s d) e → Same_steps (built_of (opened kind.NON_NULL_TYPE s)) (built_of (around s u)) (opened_on kind.NON_NULL_TYPE s d) (around_on s d e)
 unfolding wrapped_from opened flush

@@ -8,7 +8,7 @@ use Rattle.document_grammar.specs.Builds.{Building, nothing, start, add_leaf, bu
 use Rattle.document_grammar.specs.Forests.{none as no_trees, Forest, join}
 use Rattle.document_grammar.specs.Forests as built
 use Rattle.document_grammar.proofs.Added.{Added, added-none, added-leaf, added-then, added-node, added-wrap, place-last, place-added}
-use Rattle.parser_rules.specs.State.{State, Text, Lexeme, Part, read_on, add_all, flush, opened, closed, wrapped_from, is_at, is_deep, enter, leave, deepened, too_deep, fresh, begun}
+use Rattle.parser_rules.specs.State.{State, Text, Lexeme, PendingToken, read_on, add_all, flush, opened, closed, wrapped_from, is_at, is_deep, enter, leave, too_deep, fresh, begun}
 use Rattle.parser_rules.specs.Open.{is_free, is_free_in, IsOpen, IsMark, IsInside, IsRoot}
 use Rattle.parser_rules.specs.RuleLanguage.{Test, At, holds, Rule, Skip, While}
 use Rattle.parser_rules.specs.Runs.{Runs, done, again, refused, Turns, begin, turn}
@@ -148,15 +148,15 @@ pub record Adds (s t : State) : Type 0 where
   pub more : Forest
   pub trees : Added more s.tree t.tree
 
-abbrev pub parts_forest : List Part → Forest
+abbrev pub parts_forest : List PendingToken → Forest
 parts_forest [] = built.none
 parts_forest (p ∷ parts) = built.leaf p.kind p.text (parts_forest parts)
 
-pub added-all : (parts : List Part) (b : Building) → Added (parts_forest parts) b (add_all parts b)
+pub added-all : (parts : List PendingToken) (b : Building) → Added (parts_forest parts) b (add_all parts b)
 added-all [] b = added-none b
 added-all (p ∷ parts) b = added-then (added-leaf p.kind p.text b) (added-all parts (add_leaf p.kind p.text b))
 
-pub add_all_above : (parts : List Part) (b : Building) → (add_all parts b).above ≡ b.above
+pub add_all_above : (parts : List PendingToken) (b : Building) → (add_all parts b).above ≡ b.above
 add_all_above parts b = (added-all parts b).above
 
 -- a leaf that is taken, after what is read on
@@ -168,7 +168,7 @@ unfolding flush enter leave closed wrapped_from
 adds_along = record {
   same = λ s. record { more = built.none; trees = added-none s.tree };
   next = λ s t u h k. record { more = join h.more k.more; trees = added-then h.trees k.trees };
-  flushes = λ s. record { more = parts_forest s.waiting; trees = added-all s.waiting s.tree };
+  flushes = λ s. record { more = parts_forest s.pending; trees = added-all s.pending s.tree };
   moves = λ leaf x s e w. record { more = built.leaf leaf x.text built.none; trees = added-read leaf x.text s };
   reports = λ m x s c a. record { more = built.none; trees = added-none s.tree };
   limits = λ x s c a d. record { more = built.none; trees = added-none s.tree };

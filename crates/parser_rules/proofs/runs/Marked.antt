@@ -10,7 +10,7 @@ use Rattle.document_grammar.specs.Builds.{Building, add_leaf, built_count}
 use Rattle.document_grammar.proofs.Booleans.{false-true, either}
 use Rattle.document_grammar.proofs.Added.{Added, added-none, added-then, added-node, added-wrap}
 use Rattle.parser_rules.specs.declared.message.Message.{Message}
-use Rattle.parser_rules.specs.State.{State, Lexeme, Part, Text, Report, at_limit, bad_report, token_limit_report, recursion_limit_report, fault_report, ignored, bad, met, lexeme, read_on, add_all, flush, opened, closed, wrapped_from, note, is_deep, enter, leave, too_deep, fresh, begun}
+use Rattle.parser_rules.specs.State.{State, Lexeme, PendingToken, Text, Report, at_limit, bad_report, token_limit_report, recursion_limit_report, fault_report, ignored, bad, met, lexeme, read_on, add_all, flush, opened, closed, wrapped_from, note, is_deep, enter, leave, too_deep, fresh, begun}
 use Rattle.parser_rules.proofs.runs.Reading.{Reading, stops, cuts, bad_text, waits, shows, reading}
 use Rattle.parser_rules.proofs.runs.Steps.{Holds_along, step_along, too_deep_along}
 use Rattle.parser_rules.proofs.runs.Reporting.{after_note, after_too_deep}
@@ -20,7 +20,7 @@ use Rattle.parser_rules.proofs.runs.Frame.{read_untouched, parts_forest, added-a
 -- what a leaf is: a significant token, or an ignored token or bad text
 pub data Source : Type 0 where
   token : Lexeme → Source
-  aside : Part → Source
+  aside : PendingToken → Source
 
 abbrev pub text_of : Source → Text
 text_of (token x) = x.text
@@ -63,11 +63,11 @@ flat-append (leaf o k rest) g = ap (λ (l : List Source). o ∷ l) (flat-append 
 flat-append (node k kids rest) g = ap (λ (l : List Source). flat kids ++ l) (flat-append rest g) ∙ sym (append_assoc (flat kids) (flat rest) (flat g))
 
 -- what waits, as leaves
-abbrev pub set_aside : List Part → Marked
+abbrev pub set_aside : List PendingToken → Marked
 set_aside [] = none
 set_aside (p ∷ parts) = leaf (aside p) p.kind (set_aside parts)
 
-pub erase-aside : (parts : List Part) → erase (set_aside parts) ≡ parts_forest parts
+pub erase-aside : (parts : List PendingToken) → erase (set_aside parts) ≡ parts_forest parts
 erase-aside [] = refl
 erase-aside (p ∷ parts) = ap (built.leaf p.kind p.text) (erase-aside parts)
 
@@ -91,19 +91,19 @@ sources [] = []
 sources (limit_at index ∷ rest) = sources rest
 sources (gives item ∷ rest) = source_at item item.kind ∷ sources rest
 
-abbrev pub pending : State → List Source
-pending s = flat (set_aside s.waiting) ++ (now_of s.current ++ sources s.items)
+abbrev pub to_come : State → List Source
+to_come s = flat (set_aside s.pending) ++ (now_of s.current ++ sources s.items)
 
-waits-more : (w : List Part) (p : Part) (l : List Source) → flat (set_aside (w ++ p ∷ [])) ++ l ≡ flat (set_aside w) ++ (aside p ∷ l)
+waits-more : (w : List PendingToken) (p : PendingToken) (l : List Source) → flat (set_aside (w ++ p ∷ [])) ++ l ≡ flat (set_aside w) ++ (aside p ∷ l)
 waits-more [] p l = refl
 waits-more (q ∷ w) p l = ap (λ (z : List Source). aside q ∷ z) (waits-more w p l)
 
-pub read-pending : {xs : List Answer} {s t : State} → Reading xs s t → s.items ≡ xs → pending t ≡ flat (set_aside s.waiting) ++ sources xs
-read-pending {s = s} stops e = ap (λ (xs : List Answer). flat (set_aside s.waiting) ++ sources xs) e
-read-pending (cuts h) e = read-pending h refl
-read-pending {s = s} (bad_text {item = item} {xs = xs} i h) e = rw i (read-pending h refl ∙ waits-more s.waiting (record { kind = kind.ERROR; text = item.text }) (sources xs))
-read-pending {s = s} (waits {item = item} {own = own} {xs = xs} i j h) e = rw (i, j) (read-pending h refl ∙ waits-more s.waiting (record { kind = own; text = item.text }) (sources xs))
-read-pending (shows i j) e = rw (i, j) refl
+pub read-to_come : {xs : List Answer} {s t : State} → Reading xs s t → s.items ≡ xs → to_come t ≡ flat (set_aside s.pending) ++ sources xs
+read-to_come {s = s} stops e = ap (λ (xs : List Answer). flat (set_aside s.pending) ++ sources xs) e
+read-to_come (cuts h) e = read-to_come h refl
+read-to_come {s = s} (bad_text {item = item} {xs = xs} i h) e = rw i (read-to_come h refl ∙ waits-more s.pending (record { kind = kind.ERROR; text = item.text }) (sources xs))
+read-to_come {s = s} (waits {item = item} {own = own} {xs = xs} i j h) e = rw (i, j) (read-to_come h refl ∙ waits-more s.pending (record { kind = own; text = item.text }) (sources xs))
+read-to_come (shows i j) e = rw (i, j) refl
 
 -- ---- what a run adds
 
@@ -173,7 +173,7 @@ reports-along = record {
 -- ---- the trees, what they are made of, and the reports
 
 abbrev pub Grown : State → State → Marked → Type 0
-Grown s t f = record { trees : Added (erase f) s.tree t.tree; order : flat f ++ pending t ≡ pending s; reports : Reports s t }
+Grown s t f = record { trees : Added (erase f) s.tree t.tree; order : flat f ++ to_come t ≡ to_come s; reports : Reports s t }
 
 pub grown-none : (s : State) → Grown s s none
 grown-none s = record { trees = added-none s.tree; order = refl; reports = reports-along.same s }
@@ -181,21 +181,21 @@ grown-none s = record { trees = added-none s.tree; order = refl; reports = repor
 pub grown-then : (s t u : State) (f g : Marked) → Grown s t f → Grown t u g → Grown s u (append f g)
 grown-then s t u f g h k = record {
   trees = subst (λ (x : built.Forest). Added x s.tree u.tree) (sym (erase-append f g)) (added-then h.trees k.trees);
-  order = ap (λ (l : List Source). l ++ pending u) (flat-append f g) ∙ (append_assoc (flat f) (flat g) (pending u) ∙ (ap (λ (l : List Source). flat f ++ l) k.order ∙ h.order));
+  order = ap (λ (l : List Source). l ++ to_come u) (flat-append f g) ∙ (append_assoc (flat f) (flat g) (to_come u) ∙ (ap (λ (l : List Source). flat f ++ l) k.order ∙ h.order));
   reports = reports-then s t u h.reports k.reports;
 }
 
-pub grown-flush : (s : State) → Grown s (flush s) (set_aside s.waiting)
+pub grown-flush : (s : State) → Grown s (flush s) (set_aside s.pending)
 unfolding flush
-grown-flush s = record { trees = subst (λ (x : built.Forest). Added x s.tree (add_all s.waiting s.tree)) (sym (erase-aside s.waiting)) (added-all s.waiting s.tree); order = refl; reports = reports-along.flushes s }
+grown-flush s = record { trees = subst (λ (x : built.Forest). Added x s.tree (add_all s.pending s.tree)) (sym (erase-aside s.pending)) (added-all s.pending s.tree); order = refl; reports = reports-along.flushes s }
 
-pub grown-leaf : (own : SyntaxKind) (x : Lexeme) (s : State) → s.current ≡ Some x → s.waiting ≡ [] → Grown s (read_on s.items (moved_on own x s)) (leaf (token x) own none)
+pub grown-leaf : (own : SyntaxKind) (x : Lexeme) (s : State) → s.current ≡ Some x → s.pending ≡ [] → Grown s (read_on s.items (moved_on own x s)) (leaf (token x) own none)
 grown-leaf own x s c w =
     let h = reading s.items (moved_on own x s) in
     record {
       trees = added-read own x.text s;
-      order = ap (λ (l : List Source). token x ∷ l) (read-pending h refl) ∙ ap (λ (p : List Part). token x ∷ (flat (set_aside p) ++ sources s.items)) w
-          ∙ sym (ap₂ (λ (p : List Part) (o : Option Lexeme). flat (set_aside p) ++ (now_of o ++ sources s.items)) w c);
+      order = ap (λ (l : List Source). token x ∷ l) (read-to_come h refl) ∙ ap (λ (p : List PendingToken). token x ∷ (flat (set_aside p) ++ sources s.items)) w
+          ∙ sym (ap₂ (λ (p : List PendingToken) (o : Option Lexeme). flat (set_aside p) ++ (now_of o ++ sources s.items)) w c);
       reports = read-reports h;
     }
 
@@ -203,21 +203,21 @@ pub grown-note : (m : Message) (s : State) → Grown s (note m s) none
 unfolding step
 grown-note m s = record {
   trees = after_note (λ t. Added built.none s.tree t.tree) m s (λ errors. added-none s.tree);
-  order = after_note (λ t. pending t ≡ pending s) m s (λ errors. refl);
+  order = after_note (λ t. to_come t ≡ to_come s) m s (λ errors. refl);
   reports = step_along reports-along (Note m) s;
 }
 
 pub grown-deep : (s : State) → true ≡ is_deep s → Grown s (too_deep s) none
 grown-deep s d = record {
   trees = after_too_deep (λ t. Added built.none s.tree t.tree) s (λ errors accepts. added-none s.tree);
-  order = after_too_deep (λ t. pending t ≡ pending s) s (λ errors accepts. refl);
+  order = after_too_deep (λ t. to_come t ≡ to_come s) s (λ errors accepts. refl);
   reports = too_deep_along reports-along s d;
 }
 
 -- a node around what is added in it, after what waited
 pub grown-node : (j : SyntaxKind) (s u : State) (g : Marked) → Grown (opened j s) u g → Grown (flush s) (closed u) (node j g none)
 unfolding opened closed flush
-grown-node j s u g h = record { trees = added-node j h.trees; order = ap (λ (l : List Source). l ++ pending u) (append-nil (flat g)) ∙ h.order; reports = h.reports }
+grown-node j s u g h = record { trees = added-node j h.trees; order = ap (λ (l : List Source). l ++ to_come u) (append-nil (flat g)) ∙ h.order; reports = h.reports }
 
 pub grown-wrap : (j : SyntaxKind) (s u : State) (g : Marked) → Grown (flush s) u g → Grown (opened j s) (wrapped_from (built_count (flush s).tree) j u) g
 unfolding opened wrapped_from flush
@@ -225,15 +225,15 @@ grown-wrap j s u g h = record { trees = added-wrap j h.trees; order = h.order; r
 
 -- what was added from the beginning on is the whole tree, of all that was answered
 pub record Whole (xs : List Answer) (s : State) (f : Marked) : Type 0 where
-  pub tree : erase f ≡ (add_all s.waiting s.tree).here
+  pub tree : erase f ≡ (add_all s.pending s.tree).here
   pub order : flat f ++ (now_of s.current ++ sources s.items) ≡ sources xs
 
-pub whole : (xs : List Answer) (r : ℕ) (k : SyntaxKind) (s : State) (f : Marked) → Grown (begun xs r k) s f → Whole xs s (append f (set_aside s.waiting))
+pub whole : (xs : List Answer) (r : ℕ) (k : SyntaxKind) (s : State) (f : Marked) → Grown (begun xs r k) s f → Whole xs s (append f (set_aside s.pending))
 unfolding flush
 whole xs r k s f h =
     let b : State = begun xs r k in
-    let g = grown-then b s (flush s) f (set_aside s.waiting) h (grown-flush s) in
+    let g = grown-then b s (flush s) f (set_aside s.pending) h (grown-flush s) in
     record {
-      tree = sym (g.trees.here ∙ ap (λ (t : Building). built.join t.here (erase (append f (set_aside s.waiting)))) (read_untouched xs (fresh xs r k)).tree);
-      order = g.order ∙ read-pending (reading xs (fresh xs r k)) refl;
+      tree = sym (g.trees.here ∙ ap (λ (t : Building). built.join t.here (erase (append f (set_aside s.pending)))) (read_untouched xs (fresh xs r k)).tree);
+      order = g.order ∙ read-to_come (reading xs (fresh xs r k)) refl;
     }

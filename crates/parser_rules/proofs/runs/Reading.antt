@@ -11,7 +11,7 @@ use Rattle.document_grammar.specs.Booleans.{◌and◌}
 use Rattle.document_grammar.proofs.Booleans.{and-i, and-l, and-r}
 use Rattle.document_grammar.specs.Numbers.{number}
 use Rattle.document_grammar.specs.Kinds.{ERROR}
-use Rattle.parser_rules.specs.State.{Part, State, Lexeme, ignored, bad, met, wait, lexeme, read_on, second, fresh}
+use Rattle.parser_rules.specs.State.{PendingToken, State, Lexeme, ignored, bad, met, wait, lexeme, read_on, second, fresh}
 
 abbrev on_kind : List Answer → State → Item → TokenKind → Option SyntaxKind → State
 on_kind rest s item k found = elim found [
@@ -90,11 +90,11 @@ second-shown xs = let l = looks xs in subst Shown l.3 (reading-shown l.2)
 
 -- ---- what waits
 
-abbrev pub all_kinds : (SyntaxKind → Bool) → List Part → Bool
+abbrev pub all_kinds : (SyntaxKind → Bool) → List PendingToken → Bool
 all_kinds p [] = true
 all_kinds p (part ∷ parts) = p part.kind and all_kinds p parts
 
-pub kinds-more : (p : SyntaxKind → Bool) (parts : List Part) (part : Part) → all_kinds p parts ≡ true → p part.kind ≡ true → all_kinds p (parts ++ part ∷ []) ≡ true
+pub kinds-more : (p : SyntaxKind → Bool) (parts : List PendingToken) (part : PendingToken) → all_kinds p parts ≡ true → p part.kind ≡ true → all_kinds p (parts ++ part ∷ []) ≡ true
 kinds-more p [] part h g = and-i g refl
 kinds-more p (q ∷ parts) part h g = and-i (and-l _ _ h) (kinds-more p parts part (and-r _ _ h) g)
 
@@ -115,9 +115,9 @@ ignored-leaf = ignored-kinds (λ k own. ltb (number own) ERROR ≡ true) refl re
 
 -- what waits keeps to the kinds, when bad text and ignored tokens are of them
 module _ (p : SyntaxKind → Bool) (bad : p kind.ERROR ≡ true) (white : p kind.WHITESPACE ≡ true) (comment : p kind.COMMENT ≡ true) (comma : p kind.COMMA ≡ true) where
-  pub reading-waits : {xs : List Answer} {s t : State} → Reading xs s t → all_kinds p s.waiting ≡ true → all_kinds p t.waiting ≡ true
+  pub reading-waits : {xs : List Answer} {s t : State} → Reading xs s t → all_kinds p s.pending ≡ true → all_kinds p t.pending ≡ true
   reading-waits stops h = h
   reading-waits (cuts r) h = reading-waits r h
-  reading-waits {s = s} (bad_text {item = item} e r) h = reading-waits r (kinds-more p s.waiting (record { kind = kind.ERROR; text = item.text }) h bad)
-  reading-waits {s = s} (waits {item = item} {k = k} {own = own} e i r) h = reading-waits r (kinds-more p s.waiting (record { kind = own; text = item.text }) h (ignored-kinds (λ k own. p own ≡ true) white comment comma k own i))
+  reading-waits {s = s} (bad_text {item = item} e r) h = reading-waits r (kinds-more p s.pending (record { kind = kind.ERROR; text = item.text }) h bad)
+  reading-waits {s = s} (waits {item = item} {k = k} {own = own} e i r) h = reading-waits r (kinds-more p s.pending (record { kind = own; text = item.text }) h (ignored-kinds (λ k own. p own ≡ true) white comment comma k own i))
   reading-waits (shows e i) h = h

@@ -1,11 +1,11 @@
 -- A relation between states that holds along each step holds along each run.
 use Rattle.std.proofs.Common.{◌≡◌, refl, sym, subst, true, false, if◌then◌else◌, Option, Some, None, List, [], ◌∷◌, ◌++◌, ◌+◌, ◌≤◌, min, arith}
 use Rattle.std.proofs.lemmas.Bool.{leb-true}
-use Rattle.lexical_grammar.specs.Answers.{Answer}
+use Rattle.lexical_grammar.specs.Answers.{Answer, usize_max}
 use Rattle.document_grammar.specs.declared.kind.SyntaxKind.{SyntaxKind}
 use Rattle.document_grammar.specs.declared.kind.SyntaxKind.TheVariants as kind
 use Rattle.document_grammar.specs.Builds.{start, add_leaf, built_count}
-use Rattle.parser_rules.specs.State.{State, Lexeme, read_on, flush, opened, closed, wrapped_from, moved, bump, noted, note, fault_report, recursion_limit_report, is_deep, enter, leave, deepened, limited_at, too_deep, usize_max}
+use Rattle.parser_rules.specs.State.{State, Lexeme, read_on, flush, opened, closed, wrapped_from, moved, bump, noted, note, fault_report, recursion_limit_report, is_deep, enter, leave, deepened, limited_at, too_deep}
 use Rattle.parser_rules.specs.declared.message.Message.{Message}
 use Rattle.parser_rules.specs.Nodes.{kind_of}
 use Rattle.parser_rules.specs.RuleLanguage.{Test, Prim, Bump, Note, step, Rule}
@@ -25,7 +25,7 @@ pub record Holds_along (R : State → State → Type 0) : Type 0 where
   -- what waits goes into the tree
   pub flushes : (s : State) → R s (flush s)
   -- the current token goes into the tree after what waited, and the next one is read
-  pub moves : (leaf : SyntaxKind) (x : Lexeme) (s : State) → s.current ≡ Some x → s.waiting ≡ [] → R s (read_on s.items (record s { tree = add_leaf leaf x.text s.tree }))
+  pub moves : (leaf : SyntaxKind) (x : Lexeme) (s : State) → s.current ≡ Some x → s.pending ≡ [] → R s (read_on s.items (record s { tree = add_leaf leaf x.text s.tree }))
   -- a report of the grammar at the current token, and that of the recursion limit, after which none is taken; more than the limit was asked for
   pub reports : (m : Message) (x : Lexeme) (s : State) → s.current ≡ Some x → s.accepts ≡ true → R s (record s { errors = s.errors ++ fault_report m x ∷ [] })
   pub limits : (x : Lexeme) (s : State) → s.current ≡ Some x → s.accepts ≡ true → PastLimit s → R s (record s { errors = s.errors ++ recursion_limit_report x ∷ []; accepts = false })

@@ -84,8 +84,8 @@ abbrev pub checks : {K : Type 0} → Domain K → Node → Bool
 checks d c = walk d 5 (inside c) (d.begins c) (d.ends (kind_of c))
 
 -- trees after what waited
-abbrev pub after_waiting : State → Marked → Marked
-after_waiting s g = append (set_aside s.waiting) g
+abbrev pub after_pending : State → Marked → Marked
+after_pending s g = append (set_aside s.pending) g
 
 -- `Held a b s f`: `a` is known in a state `s` that comes of `b` and has the trees `f` more
 module _ {K : Type 0} (d : Domain K) (Held : K → State → State → Marked → Type 0) where
@@ -95,7 +95,7 @@ module _ {K : Type 0} (d : Domain K) (Held : K → State → State → Marked �
   -- each step says what is right
   pub record Sound : Type 0 where
     pub leaf : (own : SyntaxKind) (a : K) (k : K → Bool) (b s : State) (f : Marked) (x : Lexeme) → s.current ≡ Some x → d.leaf own a k ≡ true → Held a b s f
-        → Grown s (moved own s (Some x)) (after_waiting s (leaf (token x) own none)) → Goes k b (moved own s (Some x)) (append f (after_waiting s (leaf (token x) own none)))
+        → Grown s (moved own s (Some x)) (after_pending s (leaf (token x) own none)) → Goes k b (moved own s (Some x)) (append f (after_pending s (leaf (token x) own none)))
     pub no_leaf : (own : SyntaxKind) (a : K) (k : K → Bool) (b s : State) (f : Marked) → s.current ≡ None → d.leaf own a k ≡ true → Held a b s f → Goes k b s f
     pub report : (m : Message) (a : K) (b s : State) (f : Marked) → Held a b s f → Held (d.report a) b (note m s) f
     pub limit : (a : K) (k : K → Bool) (b s : State) (f : Marked) → true ≡ is_deep s → d.limit a k ≡ true → Held a b s f → Goes k b (too_deep s) f
@@ -106,13 +106,13 @@ module _ {K : Type 0} (d : Domain K) (Held : K → State → State → Marked �
     pub keeps : (a c : K) (b s : State) (f : Marked) → d.keeps c (d.turn a) ≡ true → Held c b s f → Held (d.turn a) b s f
     pub opens : (n : Node) (a : K) (b s : State) (f : Marked) → d.opens n a ≡ true → Held a b s f → Held (d.begins n) (opened (kind_of n) s) (opened (kind_of n) s) none
     pub closes : (j : SyntaxKind) (a e : K) (k : K → Bool) (b s u : State) (f g : Marked) → d.ends j e ≡ true → d.after j a k ≡ true → Held a b s f → Held e (opened j s) u g → Grown (opened j s) u g
-        → Goes k b (closed u) (append f (after_waiting s (node j g none)))
+        → Goes k b (closed u) (append f (after_pending s (node j g none)))
     pub inlines : (n : Node) (a : K) (b s : State) (f : Marked) → d.inlines n ≡ true → Held a b s f → Held a (opened (kind_of n) s) (opened (kind_of n) s) none
-    pub inlined : (n : Node) (a e : K) (b s u : State) (f g : Marked) → d.inlines n ≡ true → Held a b s f → Held e (opened (kind_of n) s) u g → Held e b (closed u) (append f (after_waiting s (node (kind_of n) g none)))
+    pub inlined : (n : Node) (a e : K) (b s u : State) (f g : Marked) → d.inlines n ≡ true → Held a b s f → Held e (opened (kind_of n) s) u g → Held e b (closed u) (append f (after_pending s (node (kind_of n) g none)))
     pub enters : (a : K) (k : K → Bool) (b s : State) (f : Marked) → false ≡ is_deep s → d.enters a k ≡ true → Held a b s f → Goes k b (enter s) f
     pub leaves : (a : K) (k : K → Bool) (b s : State) (f : Marked) → d.leaves a k ≡ true → Held a b s f → Goes k b (leave s) f
     pub types : (a : K) (b s : State) (f : Marked) → Held a b s f → Held (d.types a) (flush s) (flush s) none
-    pub plain : (a c : K) (k : K → Bool) (b s u : State) (f g : Marked) → d.plain a c k ≡ true → Held a b s f → Held c (flush s) u g → Grown (flush s) u g → Goes k b u (append f (after_waiting s g))
+    pub plain : (a c : K) (k : K → Bool) (b s u : State) (f g : Marked) → d.plain a c k ≡ true → Held a b s f → Held c (flush s) u g → Grown (flush s) u g → Goes k b u (append f (after_pending s g))
     pub wraps : (c : K) (k : K → Bool) (s u : State) (g : Marked) → d.wraps c k ≡ true → Held c (flush s) u g → Grown (flush s) u g → Goes k (opened kind.NON_NULL_TYPE s) (wrapped_from (built_count (flush s).tree) kind.NON_NULL_TYPE u) g
     pub nodes : (n : Node) → checks d n ≡ true
 
@@ -128,18 +128,18 @@ module _ {K : Type 0} (d : Domain K) (Held : K → State → State → Marked �
   comes-still k b s t f h i j = (f, subst (λ (x : Marked). Grown b t x) (append-none f) (grown-then b s t f none h i), j)
 
   module _ (r : Sound) where
-    moved-on : (own : SyntaxKind) (x : Lexeme) (s : State) → s.current ≡ Some x → Grown s (moved own s (Some x)) (after_waiting s (leaf (token x) own none))
+    moved-on : (own : SyntaxKind) (x : Lexeme) (s : State) → s.current ≡ Some x → Grown s (moved own s (Some x)) (after_pending s (leaf (token x) own none))
     unfolding flush
-    moved-on own x s e = grown-then s (flush s) (moved own s (Some x)) (set_aside s.waiting) (leaf (token x) own none) (grown-flush s) (grown-leaf own x (flush s) e refl)
+    moved-on own x s e = grown-then s (flush s) (moved own s (Some x)) (set_aside s.pending) (leaf (token x) own none) (grown-flush s) (grown-leaf own x (flush s) e refl)
 
-    node-on : (j : SyntaxKind) (s u : State) (g : Marked) → Grown (opened j s) u g → Grown s (closed u) (after_waiting s (node j g none))
-    node-on j s u g h = grown-then s (flush s) (closed u) (set_aside s.waiting) (node j g none) (grown-flush s) (grown-node j s u g h)
+    node-on : (j : SyntaxKind) (s u : State) (g : Marked) → Grown (opened j s) u g → Grown s (closed u) (after_pending s (node j g none))
+    node-on j s u g h = grown-then s (flush s) (closed u) (set_aside s.pending) (node j g none) (grown-flush s) (grown-node j s u g h)
 
     bumps : (own : SyntaxKind) (a : K) (k : K → Bool) (b s : State) (f : Marked) → d.leaf own a k ≡ true → Grown b s f → Held a b s f → Comes k b (bump own s)
     unfolding bump
     bumps own a k b s f h g i = (elim s.current as (λ o. s.current ≡ o → Comes k b (moved own s o)) [
       | None ↦ λ e. (f, g, r.no_leaf own a k b s f e h i)
-      | Some x ↦ λ e. let m = moved-on own x s e in comes-on k b s (moved own s (Some x)) f (after_waiting s (leaf (token x) own none)) g m (r.leaf own a k b s f x e h i m)
+      | Some x ↦ λ e. let m = moved-on own x s e in comes-on k b s (moved own s (Some x)) f (after_pending s (leaf (token x) own none)) g m (r.leaf own a k b s f x e h i m)
     ]) refl
 
     steps : (p : Prim) (n : ℕ) (a : K) (k : K → Bool) (b s : State) (f : Marked) → walk d n (Do p) a k ≡ true → Grown b s f → Held a b s f → Comes k b (step p s)
@@ -149,7 +149,7 @@ module _ {K : Type 0} (d : Domain K) (Held : K → State → State → Marked �
 
     -- a node that was walked ends
     node-ends : (j : SyntaxKind) (a : K) (k : K → Bool) (b s u : State) (f : Marked) → d.after j a k ≡ true → Grown b s f → Held a b s f → Comes (d.ends j) (opened j s) u → Comes k b (closed u)
-    node-ends j a k b s u f h g i (x, m, c) = comes-on k b s (closed u) f (after_waiting s (node j x none)) g (node-on j s u x m) (r.closes j a c.0 k b s u f x c.1 h i c.2 m)
+    node-ends j a k b s u f h g i (x, m, c) = comes-on k b s (closed u) f (after_pending s (node j x none)) g (node-on j s u x m) (r.closes j a c.0 k b s u f x c.1 h i c.2 m)
 
     -- the checks of what follows a type: after a `!` that wraps it, where one is next, and in any case
     abbrev Banged : K → (K → Bool) → K → Bool
@@ -181,7 +181,7 @@ module _ {K : Type 0} (d : Domain K) (Held : K → State → State → Marked �
       | inl p ↦ (
           let l = walked x n a k t none (subst (λ (z : Bool). cond z (walk d n (inside q) a k) (d.opens q a and d.after (kind_of q) a k) ≡ true) p h) (grown-none t) (subst (λ (z : State). Held a z z none) (sym e) (r.inlines q a b s f p i)) in
           let m : Comes k (opened (kind_of q) s) u = subst (λ (z : State). Comes k z u) e l in
-          subst (Comes k b) (sym c) (comes-on k b s (closed u) f (after_waiting s (node (kind_of q) m.0 none)) g (node-on (kind_of q) s u m.0 m.1) (m.2.0, m.2.1, r.inlined q a m.2.0 b s u f m.0 p i m.2.2)))
+          subst (Comes k b) (sym c) (comes-on k b s (closed u) f (after_pending s (node (kind_of q) m.0 none)) g (node-on (kind_of q) s u m.0 m.1) (m.2.0, m.2.1, r.inlined q a m.2.0 b s u f m.0 p i m.2.2)))
       | inr p ↦ (
           let w : d.opens q a and d.after (kind_of q) a k ≡ true = subst (λ (z : Bool). cond z (walk d n (inside q) a k) (d.opens q a and d.after (kind_of q) a k) ≡ true) p h in
           let l = walked x 5 (d.begins q) (d.ends (kind_of q)) t none (r.nodes q) (grown-none t) (subst (λ (z : State). Held (d.begins q) z z none) (sym e) (r.opens q a b s f (and-l _ _ w) i)) in
@@ -200,7 +200,7 @@ module _ {K : Type 0} (d : Domain K) (Held : K → State → State → Marked �
         let l = walked x n (d.types a) (Typed_end a k) t none h (grown-none t) (subst (λ (z : State). Held (d.types a) z z none) (sym e) (r.types a b s f i)) in
         let (j, m, c) = subst (λ (z : State). Comes (Typed_end a k) z u) e l in
         let o = r.fails (At token_kind.Bang) c.0 (Wraps a k) (λ e. d.plain a e k) (flush s) u j z c.1 c.2 in
-        comes-on k b s u f (after_waiting s j) g (grown-then s (flush s) u (set_aside s.waiting) j (grown-flush s) m) (r.plain a o.0 k b s u f j o.1 i o.2 m)
+        comes-on k b s u f (after_pending s j) g (grown-then s (flush s) u (set_aside s.pending) j (grown-flush s) m) (r.plain a o.0 k b s u f j o.1 i o.2 m)
     walked {s = s} (wrapped {t = t} {u = u} {v = v} {w = w} e p q c x z y) n a k b f h g i =
         let l = walked x n (d.types a) (Typed_end a k) t none h (grown-none t) (subst (λ (z : State). Held (d.types a) z z none) (sym e) (r.types a b s f i)) in
         let (j, m, o) = subst (λ (z : State). Comes (Typed_end a k) z u) e l in
@@ -213,5 +213,5 @@ module _ {K : Type 0} (d : Domain K) (Held : K → State → State → Marked �
 
     -- the whole of a text
     pub walked_whole : {q : Rule} {s : State} (xs : List Answer) (l : ℕ) (j : SyntaxKind) (a : K) (k : K → Bool) → Runs q (begun xs l j) s → walk d 5 q a k ≡ true → Held a (begun xs l j) (begun xs l j) none
-        → (f : Marked) × (c : K) × (k c ≡ true) × Held c (begun xs l j) s f × Grown (begun xs l j) s f × Whole xs s (append f (set_aside s.waiting))
+        → (f : Marked) × (c : K) × (k c ≡ true) × Held c (begun xs l j) s f × Grown (begun xs l j) s f × Whole xs s (append f (set_aside s.pending))
     walked_whole {s = s} xs l j a k run h i = let b : State = begun xs l j in let m = walked run 5 a k b none h (grown-none b) i in (m.0, m.2.0, m.2.1, m.2.2, m.1, whole xs l j s m.0 m.1)

@@ -136,8 +136,8 @@ module _ (R : Reading) where
 
   -- ---- a token is taken
 
-  pub flushed : (st : State) → Still_calm R st → stack (add_all st.waiting st.tree) ≡ stack st.tree
-  flushed st c = stack-flush st.waiting st.tree c.quiet.waits
+  pub flushed : (st : State) → Still_calm R st → stack (add_all st.pending st.tree) ≡ stack st.tree
+  flushed st c = stack-flush st.pending st.tree c.quiet.waits
 
   -- what a token leaves behind that becomes a leaf of the open node; `shape` gives the builder's open nodes from the node's children
   pub record Grown (s q k y : ℕ) (l : Level) (f : Forest) (fs : List Frame) (shape : Forest → Stack) (v : State) : Type 0 where
@@ -173,7 +173,7 @@ module _ (R : Reading) where
           let here : Reach (top R) w (frame s q f ∷ fs) (b ∷ answers_tokens st.items) = subst (λ (v : List Token). Reach (top R) w (frame s q f ∷ fs) v) split c.reach in
           let there : Reach (top R) w gs (answers_tokens st.items) = shift here m leaf_next in
           let still : Untouched (u t) (read_on st.items (u t)) = read_untouched st.items (u t) in
-          let leafed : stack (u t).tree ≡ shape (shows (f +++ (leaf k t.text ▸ none))) = stack-leaf kind t.text (add_all st.waiting st.tree) (not-c _ (and-r _ _ kinds))
+          let leafed : stack (u t).tree ≡ shape (shows (f +++ (leaf k t.text ▸ none))) = stack-leaf kind t.text (add_all st.pending st.tree) (not-c _ (and-r _ _ kinds))
           ∙ (ap₂ (λ (j : ℕ) (v : Stack). put (leaf j t.text ▸ none) v) (sym (eqb-true _ _ (and-l _ _ kinds))) (flushed st calm ∙ built) ∙ (sh.joins (shows f) (leaf (label k) t.text ▸ none) ∙ ap shape (sym (shows-snoc f (leaf k t.text))))) in
           elim (read-on answers (Rightly R) (reading st.items (u t)) (length (spent gs)) (record { clean = calm.quiet.clean; accepts = calm.quiet.accepts; waits = refl }) en (passed-one answers (given t) st.items refl (subst (λ (o : Option Lexeme). Held answers o st.items) e calm.held))
           (λ x ys p i z. let before : Reach (top R) w gs (answers_tokens ys) = subst (λ (v : List Token). Reach (top R) w gs v) (sym z) there in no_token p i (gs, before) (spent-behind R gs (answers_tokens ys) before)) (settled-at _ (u t).tree _ leafed (sh.fits _ _ _ there))) [

@@ -264,7 +264,7 @@ module _ (r k : ℕ) (source : List ℕ) (items : List Item) (s : State) (cut : 
   first-told u e more h = elim (parsed r (limited k items) s (ends-well k 0 items cut.each) root run) [
     | inl o ↦ (
         let i = told u e o.taken (subst (λ (z : Report). Right document (limited k items) r (answers_tokens (limited k items)) z o.taken) (head-same (sym o.reported ∙ h)) o.right) in
-        (i.0, subst (λ (n : ℕ). EndedFit n 0 (finished s)) i.1 (ended-root o.taken (add_all s.waiting s.tree) (record { before = built.none; kind = root.0 }) (add_all_above s.waiting s.tree ∙ root.2) (settled-added o.taken (added-all s.waiting s.tree) o.settled))))
+        (i.0, subst (λ (n : ℕ). EndedFit n 0 (finished s)) i.1 (ended-root o.taken (add_all s.pending s.tree) (record { before = built.none; kind = root.0 }) (add_all_above s.pending s.tree ∙ root.2) (settled-added o.taken (added-all s.pending s.tree) o.settled))))
     | inr o ↦ no-cons (sym o.0 ∙ h)
   ]
 

@@ -19,7 +19,7 @@ use Rattle.document_grammar.specs.Derivation.{Sort}
 use Rattle.grammar_machine.proofs.SentenceTheorems.{start_symbol}
 use Rattle.std.proofs.lemmas.List.{length-append}
 use Rattle.parser_rules.specs.declared.message.Message.{Message}
-use Rattle.parser_rules.specs.State.{State, Part, Lexeme, Report, fault_report, recursion_limit_report, noted, note, flush, opened, closed, wrapped_from, is_deep, leave, deepened, limited_at, too_deep}
+use Rattle.parser_rules.specs.State.{State, PendingToken, Lexeme, Report, fault_report, recursion_limit_report, noted, note, flush, opened, closed, wrapped_from, is_deep, leave, deepened, limited_at, too_deep}
 use Rattle.parser_rules.specs.RuleLanguage.{Prim, Rule}
 use Rattle.parser_rules.specs.Runs.{Runs}
 use Rattle.parser_rules.proofs.runs.Steps.{along}
@@ -51,7 +51,7 @@ pub record Idle (st v : State) : Type 0 where
   pub items : v.items ≡ st.items
   pub errors : v.errors ≡ st.errors
   pub accepts : v.accepts ≡ st.accepts
-  pub waits : all_ignored st.waiting ≡ true → all_ignored v.waiting ≡ true
+  pub waits : all_ignored st.pending ≡ true → all_ignored v.pending ≡ true
   pub stays : Stays st v
 
 -- and nothing of the nesting is touched
@@ -62,27 +62,27 @@ pub record Alike (st v : State) : Type 0 where
   pub limit : v.limit ≡ st.limit
 
 -- what waits and the tree are all that changes
-pub rebuilt : (st : State) (parts : List Part) (b : Building) → (all_ignored st.waiting ≡ true → all_ignored parts ≡ true) → ((m : ℕ) → Settled m st.tree → Settled m b) → Alike st (record st { waiting = parts; tree = b })
+pub rebuilt : (st : State) (parts : List PendingToken) (b : Building) → (all_ignored st.pending ≡ true → all_ignored parts ≡ true) → ((m : ℕ) → Settled m st.tree → Settled m b) → Alike st (record st { pending = parts; tree = b })
 rebuilt st parts b w f = record { idle = record { current = refl; items = refl; errors = refl; accepts = refl; waits = w; stays = f }; depth = refl; high = refl; limit = refl }
 
 pub same-alike : (st : State) → Alike st st
-same-alike st = rebuilt st st.waiting st.tree (λ z. z) (λ m z. z)
+same-alike st = rebuilt st st.pending st.tree (λ z. z) (λ m z. z)
 
 pub flush-alike : (st : State) → Alike st (flush st)
 unfolding flush
-flush-alike st = rebuilt st [] _ (λ z. refl) (λ m z. settled-added m (added-all st.waiting st.tree) z)
+flush-alike st = rebuilt st [] _ (λ z. refl) (λ m z. settled-added m (added-all st.pending st.tree) z)
 
 pub opened-alike : (k : SyntaxKind) (st : State) → Alike st (opened k st)
 unfolding opened flush
-opened-alike k st = rebuilt st [] _ (λ z. refl) (λ m z. settled-start m k _ (settled-added m (added-all st.waiting st.tree) z))
+opened-alike k st = rebuilt st [] _ (λ z. refl) (λ m z. settled-start m k _ (settled-added m (added-all st.pending st.tree) z))
 
 pub closed-alike : (st : State) → Alike st (closed st)
 unfolding closed
-closed-alike st = rebuilt st st.waiting _ (λ z. z) (λ m z. settled-finish m st.tree z)
+closed-alike st = rebuilt st st.pending _ (λ z. z) (λ m z. settled-finish m st.tree z)
 
 pub wrapped-alike : (place : ℕ) (st : State) → Alike st (wrapped_from place kind.NON_NULL_TYPE st)
 unfolding wrapped_from
-wrapped-alike place st = rebuilt st st.waiting _ (λ z. z) (λ m z. settled-wrap m place kind.NON_NULL_TYPE st.tree z)
+wrapped-alike place st = rebuilt st st.pending _ (λ z. z) (λ m z. settled-wrap m place kind.NON_NULL_TYPE st.tree z)
 
 -- the depth and the greatest depth are all that changes
 pub renested : (st : State) (d h : ℕ) → Idle st (record st { depth = d; high = h })

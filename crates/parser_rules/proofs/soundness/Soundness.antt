@@ -2,10 +2,10 @@
 -- limits, whose derivation is the tree without its ignored leaves.
 use Rattle.parser_rules.proofs.runs.Steps.{along, turns_along}
 use Rattle.parser_rules.proofs.lookahead.FirstSets.{unread as unread_set}
-use Rattle.std.proofs.Common.{◌≡◌, ℕ, zero, suc, ◌+◌, ◌≤◌, Bool, cond, true, false, List, [], ◌∷◌, ◌++◌, Option, Some, None, if◌then◌else◌, length, refl, sym, ap, ap₂, ◌∙◌, subst, ◌⊎◌, inl, inr, true≢false, is_some, eqb-true, append-nil, append_assoc, arith, not}
+use Rattle.std.proofs.Common.{◌≡◌, ℕ, zero, suc, ◌≤◌, Bool, cond, true, false, List, [], ◌∷◌, ◌++◌, Option, Some, None, if◌then◌else◌, length, refl, sym, ap, ap₂, ◌∙◌, subst, ◌⊎◌, inl, inr, true≢false, is_some, eqb-true, append-nil, append_assoc, arith, not}
 use Rattle.std.specs.Prelude.{map}
 use Rattle.std.proofs.lemmas.Bool.{and_from}
-use Rattle.std.proofs.lemmas.List.{map-append, append_cancel_right, length-append}
+use Rattle.std.proofs.lemmas.List.{map-append, append_cancel_right}
 use Rattle.lexical_grammar.specs.declared.TokenKind.{TokenKind}
 use Rattle.lexical_grammar.specs.Cut.{Item, Cut, Significant, significant_word, is_significant_kind}
 use Rattle.lexical_grammar.specs.Begins.{are_tokens}
@@ -19,15 +19,15 @@ use Rattle.document_grammar.specs.Numbered.{tree_of}
 use Rattle.grammar_machine.proofs.generated.Labels.{labels}
 use Rattle.document_grammar.specs.Pattern.{member}
 use Rattle.document_grammar.specs.Tree.{Token, Tree, node, Forest, none}
-use Rattle.document_grammar.specs.Derivation.{document, Spells, nest, Starts, StartsWithin, marks, Mark}
+use Rattle.document_grammar.specs.Derivation.{document, Spells, nest, StartsWithin, marks, Mark}
 use Rattle.document_grammar.specs.Places.{bare}
 use Rattle.document_grammar.specs.Sentence.{token_of, leaf_number, Sentence, Within}
 use Rattle.document_grammar.specs.Booleans.{◌and◌, ◌or◌}
-use Rattle.grammar_machine.specs.Machine.{holds as within, is_leaf, class, first, second, frame, yields, Reach, start, close as closes_move, Frame, go, move}
+use Rattle.grammar_machine.specs.Machine.{holds as within, is_leaf, class, first, second, frame, yields, Reach, start, close as closes_move, move}
 use Rattle.document_grammar.proofs.Booleans.{false-true, and-l, and-r}
 use Rattle.grammar_machine.proofs.TableLemmas.{holds-subset, holds-disjoint, head-same, no-cons}
 use Rattle.grammar_machine.proofs.Depth.{count_in, nest-show, nesting_all, peak-end, peak-start}
-use Rattle.grammar_machine.proofs.SentenceTheorems.{sentence-parse, sound as ended_sound, not-starts, accepts, begins-at}
+use Rattle.grammar_machine.proofs.SentenceTheorems.{sentence-parse, sound as ended_sound, accepts, begins-at}
 use Rattle.grammar_machine.proofs.Patterns.{label}
 use Rattle.grammar_machine.proofs.Run.{next, reach-other}
 use Rattle.grammar_machine.proofs.FromMachineTree.{show, shows}
@@ -35,22 +35,21 @@ use Rattle.grammar_machine.proofs.Sound.{any, AllSpelt}
 use Rattle.grammar_machine.proofs.Starts.{read, next_one, next_two, after-one, after-two}
 use Rattle.grammar_machine.proofs.Steps.{closes-move}
 use Rattle.grammar_machine.proofs.MachineTheorems.{Parse, done, document-begins}
-use Rattle.parser_rules.specs.declared.message.Message.{Message}
-use Rattle.parser_rules.specs.State.{State, Lexeme, Report, fault_report, recursion_limit_report, add_all, fresh, begun, finished, is_over}
+use Rattle.parser_rules.specs.State.{State, Lexeme, Report, add_all, fresh, begun, finished, is_over}
 use Rattle.parser_rules.specs.Nodes.{Definition, Document}
 use Rattle.parser_rules.specs.RuleLanguage.{Rule, Call, While, Ready, holds}
 use Rattle.parser_rules.specs.Runs.{Runs, Turns}
 use Rattle.parser_rules.specs.Open.{IsRoot}
 use Rattle.parser_rules.proofs.runs.Frame.{Untouched, read_untouched, add_all_above, turned, begun_nesting}
 use Rattle.parser_rules.proofs.soundness.WithoutIgnored.{stack, strip, layers, stack-flush}
-use Rattle.parser_rules.proofs.reports.NoReport.{Stood, reading-stood, stands-along, answers_tokens, all_tokens, rest, current_tokens, item_tokens, EndsWell, Now, standing, given as given_by, report_of, Held, all_tokens-append, Blames, read-on, Passed}
+use Rattle.parser_rules.proofs.reports.NoReport.{Stood, reading-stood, stands-along, answers_tokens, all_tokens, rest, current_tokens, item_tokens, EndsWell, Now, standing, given as given_by, Held, all_tokens-append, Blames, read-on}
 use Rattle.parser_rules.proofs.runs.Reading.{reading}
 use Rattle.parser_rules.proofs.lookahead.TokenSets.{class_of, seen-any, over, ready, not-zero}
 use Rattle.parser_rules.proofs.lookahead.Split.{Level, low, high, past, loose, spot, lost}
 use Rattle.parser_rules.proofs.lookahead.MachineClasses.{Next}
 use Rattle.parser_rules.proofs.soundness.TableCheck.{ok, raised, own, owed, behind, root_ends, document_follows}
 use Rattle.parser_rules.proofs.NodeChecks.{document_passes}
-use Rattle.parser_rules.proofs.soundness.FirstReport.{Viable, Unread, TooMany, Right, stuck_here, unread_here, deep_here, no_token, Behind}
+use Rattle.parser_rules.proofs.soundness.FirstReport.{Viable, Unread, TooMany, Right, stuck_here, unread_here, deep_here, no_token}
 use Rattle.parser_rules.proofs.soundness.Plain.{Plain, plain-read}
 use Rattle.parser_rules.proofs.soundness.Positions.{StandsAt, Reading, run-grows, Leveled, Place, Fits, Out, Tells, Rightly, tell-on, shown}
 use Rattle.parser_rules.proofs.soundness.Moves.{fits-next}
@@ -124,11 +123,11 @@ start-fits r xs e =
 
 -- ---- the end
 
-finished-tree : (s : State) (layer : ℕ × Forest) (more : List (ℕ × Forest)) → IsRoot s.tree → stack (add_all s.waiting s.tree) ≡ layer ∷ more → bare (tree_of (finished s)) ≡ node layer.0 layer.1
+finished-tree : (s : State) (layer : ℕ × Forest) (more : List (ℕ × Forest)) → IsRoot s.tree → stack (add_all s.pending s.tree) ≡ layer ∷ more → bare (tree_of (finished s)) ≡ node layer.0 layer.1
 finished-tree s layer more root e =
-    let b : Building = add_all s.waiting s.tree in
+    let b : Building = add_all s.pending s.tree in
     let o : Open = record { before = built.none; kind = root.0 } in
-    let a : b.above ≡ o ∷ [] = add_all_above s.waiting s.tree ∙ root.2 in
+    let a : b.above ≡ o ∷ [] = add_all_above s.pending s.tree ∙ root.2 in
     let same : (number root.0, strip b.here) ≡ layer = head-same (sym (ap (layers b.here) a) ∙ e) in
     ap (λ (above : List Open). bare (tree_of (close b.here above).here)) a ∙ ap (λ (l : ℕ × Forest). node l.0 l.1) same
 
@@ -172,7 +171,7 @@ pub record Silent (r : ℕ) (xs : List Answer) (s : State) : Type 0 where
   pub silent : s.errors ≡ []
   pub children : Forest
   pub clean : CleanAs r xs s (show (node DOCUMENT children))
-  pub built : stack (add_all s.waiting s.tree) ≡ (label DOCUMENT, shows children) ∷ ((0, none) ∷ [])
+  pub built : stack (add_all s.pending s.tree) ≡ (label DOCUMENT, shows children) ∷ ((0, none) ∷ [])
 
 pub root-out : (r : ℕ) (xs : List Answer) (s : State) → Out (whole r xs) DOCUMENT [] root_ends s → Tells (whole r xs) s ⊎ Silent r xs s
 unfolding root_ends
@@ -202,7 +201,7 @@ root-out r xs s (inr (spot q l d, x, y, h, g)) =
         high = omega (arith, document-label.1, document-label.3, lv.level, lv.most_open, low_again, owes, nests, end, lv.bounds.nested (node DOCUMENT f) (p.0, p.1, words));
         tokens = all-read xs s.current s.items g.calm.now g.calm.held left.1;
       };
-      built = stack-flush s.waiting s.tree g.calm.quiet.waits ∙ st.built;
+      built = stack-flush s.pending s.tree g.calm.quiet.waits ∙ st.built;
     })
 
 -- a run from where the root is open, by the check of its rule
