@@ -15,7 +15,7 @@ use Rattle.document_grammar.proofs.Booleans.{false-true, and-l, and-r, and-i, or
 use Rattle.grammar_machine.proofs.TableLemmas.{tail-same, no-cons, arcs-at, arc-test, exits-at, state-test, below-at}
 use Rattle.grammar_machine.proofs.Sound.{leaf-lt}
 use Rattle.grammar_machine.proofs.Patterns.{all_kinds, label, shown, pattern_of, symbol_row, type_row}
-use Rattle.grammar_machine.proofs.FromMachineTree.{kinds-at, type-root, type-end, show, shows, build, type_of, row-shown, show-root, shown-root, node-symbols, labels-checked}
+use Rattle.grammar_machine.proofs.FromMachineTree.{kinds-at, type-end, show, shows, build, type_of, row-shown, show-root, shown-root, node-symbols, labels-checked}
 use Rattle.grammar_machine.proofs.Rules.{label-test, labels-alone, name-rule, leaf-rule, start-pattern, symbol-row}
 use Rattle.grammar_machine.specs.Symbols.{TYPE, BARE_SELECTIONS}
 
@@ -351,14 +351,9 @@ bare-fits (node s f) o e =
     let m : Matches bare_selections (kinds (shows f)) = subst (λ (p : Pattern). Matches p (kinds (shows f))) bare-pattern (row-shown BARE_SELECTIONS 0 f n h) in
     subst (λ (z : Tree). BareBy Row z) (sym (ap (λ (n : ℕ). show (node n f)) e ∙ show-root BARE_SELECTIONS f refl)) (m, ok-all-fit BARE_SELECTIONS 0 f n h)
 
-type-member : (f : Forest) → OkFrom TYPE 0 f → member (root (type_of (shows f))) Types ≡ true
-unfolding member
-type-member f o = elim (type-root f o) [ inl p ↦ rw p refl | inr p ↦ elim p [ inl q ↦ rw q refl | inr q ↦ rw q refl ] ]
-
 type-shown : (t : Tree) → Ok t → root t ≡ TYPE → member (root (show t)) Types ≡ true
-unfolding is_leaf
-type-shown (leaf l x) o e = false-true refl (rw e at o.0)
-type-shown (node s f) o e = subst (λ (n : ℕ). member (root (build n (shows f))) Types ≡ true) (sym e) (type-member f (subst (λ (n : ℕ). OkFrom n 0 f) e o.1))
+unfolding shown
+type-shown t o e = rw e at (shown-root t o)
 
 pub ok-derivation : (sort : Sort) (a : ℕ) (t : Tree) → Ok t → root t ≡ opening sort a → Derivation (show t) sort
 ok-derivation document a t o e = (root-shown DOCUMENT t node-symbols.0 refl o e ∙ labels-checked.3, ok-fits t o (rw e refl))

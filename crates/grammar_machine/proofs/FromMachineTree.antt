@@ -1,5 +1,5 @@
 -- A tree of the tables, shown as the tree of syntax kinds, is a derivation.
-use Rattle.std.proofs.Common.{◌≡◌, ℕ, ◌+◌, Bool, true, false, cond, not, eqb, List, [], ◌∷◌, refl, sym, ap, ap₂, subst, ◌⊎◌, inl, inr, true≢false, eqb-true}
+use Rattle.std.proofs.Common.{◌≡◌, ℕ, ◌+◌, Bool, true, false, cond, not, eqb, List, [], ◌∷◌, refl, sym, ap, ap₂, ◌∙◌, subst, ◌⊎◌, inl, inr, true≢false, eqb-true}
 use Rattle.document_grammar.specs.Tree.{Tree, leaf, node, Forest, none, ◌▸◌, root}
 use Rattle.document_grammar.specs.Pattern.{Pattern, any_of, nothing, ◌then◌, ◌or_else◌, many, member, Matches}
 use Rattle.grammar_machine.specs.Table.{State, rows}
@@ -8,7 +8,7 @@ use Rattle.document_grammar.specs.Booleans.{◌and◌, ◌or◌}
 use Rattle.grammar_machine.specs.Machine.{is_leaf, at, ends, arcs, has, has_in, target, target_in, state_arcs, finish, Ok, OkFrom}
 use Rattle.document_grammar.specs.Derivation.{kinds}
 use Rattle.grammar_machine.proofs.Checks.{exits}
-use Rattle.document_grammar.proofs.Booleans.{false-true, and-l, and-r, or-c, or-l, or-r, implies, either, eqb-refl}
+use Rattle.document_grammar.proofs.Booleans.{false-true, and-l, and-r, or-c, or-l, or-r, implies, either, eqb-refl, same-bool}
 use Rattle.grammar_machine.proofs.TableLemmas.{arcs-at, exits-at, state-test, text-same}
 use Rattle.document_grammar.proofs.Nullable.{nullable}
 use Rattle.grammar_machine.proofs.Patterns.{deriv, pattern_eq, pattern_of, label, shown, all_kinds, any_arcs, constant, begin_kinds, no_arc, is_live, agree_at, agree_checked, nullable-from, from-deriv}
@@ -84,10 +84,6 @@ pub shown-one : (k : ℕ) → eqb k TYPE ≡ false → member (label k) (shown k
 unfolding shown member
 shown-one k e = rw (e, eqb-refl (label k)) refl
 
-shown-type : (j : ℕ) → (j ≡ NAMED_TYPE) ⊎ (j ≡ LIST_TYPE) ⊎ (j ≡ NON_NULL_TYPE) → member j (shown TYPE) ≡ true
-unfolding shown member
-shown-type j h = elim h [ inl p ↦ rw p refl | inr p ↦ elim p [ inl q ↦ rw q refl | inr q ↦ rw q refl ] ]
-
 pub type-child : (t : Tree) → Ok t → (root t ≡ NAMED_TYPE) ⊎ (root t ≡ LIST_TYPE) → (root (show t) ≡ NAMED_TYPE) ⊎ (root (show t) ≡ LIST_TYPE)
 unfolding is_leaf
 type-child (leaf l x) o h = elim h [ inl p ↦ false-true refl (rw p at o.0) | inr p ↦ false-true refl (rw p at o.0) ]
@@ -96,16 +92,16 @@ type-child (node s f) o h = elim h [
   | inr p ↦ inr (subst (λ (n : ℕ). root (build n (shows f)) ≡ LIST_TYPE) (sym p) labels-checked.1)
 ]
 
-pub type-root : (f : Forest) → OkFrom TYPE 0 f
-    → (root (type_of (shows f)) ≡ NAMED_TYPE) ⊎ (root (type_of (shows f)) ≡ LIST_TYPE) ⊎ (root (type_of (shows f)) ≡ NON_NULL_TYPE)
+type-root : (f : Forest) → OkFrom TYPE 0 f → member (root (type_of (shows f))) (shown TYPE) ≡ true
+unfolding shown member
 type-root none o = false-true type-end o
-type-root (t ▸ none) o = elim (type-child t o.1 (type-arc (root t) o.0)) [ inl p ↦ inl p | inr p ↦ inr (inl p) ]
-type-root (t ▸ (u ▸ f)) o = inr (inr refl)
+type-root (t ▸ none) o = elim (type-child t o.1 (type-arc (root t) o.0)) [ inl p ↦ rw p refl | inr p ↦ rw p refl ]
+type-root (t ▸ (u ▸ f)) o = refl
 
 pub shown-root : (t : Tree) → Ok t → member (root (show t)) (shown (root t)) ≡ true
 shown-root (leaf l x) o = shown-one l (leaf-no-type l o.0)
 shown-root (node s f) o = elim (either (eqb s TYPE)) [
-  | inl p ↦ (let e : s ≡ TYPE = eqb-true s TYPE p in subst (λ (n : ℕ). member (root (build n (shows f))) (shown n) ≡ true) (sym e) (shown-type (root (type_of (shows f))) (type-root f (subst (λ (n : ℕ). OkFrom n 0 f) e o.1))))
+  | inl p ↦ (let e : s ≡ TYPE = eqb-true s TYPE p in rw e (type-root f (rw e at o.1)))
   | inr p ↦ rw p (shown-one s p)
 ]
 
@@ -130,16 +126,9 @@ unfolding ends
 ends-live s q h = or-l _ _ h
 
 -- What the agreement says of the end, of an arc, and of a kind.
-agree-end : (s q : ℕ) → agree_at s q ≡ true → ends s q ≡ true → nullable (pattern_of s q) ≡ true
+pub agree-ends : (s q : ℕ) → agree_at s q ≡ true → nullable (pattern_of s q) ≡ ends s q
 unfolding agree_at
-agree-end s q a e = elim (either (nullable (pattern_of s q))) [
-  | inl p ↦ p
-  | inr p ↦ (let c = and-l _ _ (and-l _ _ a) in false-true refl (rw (p, e) at c))
-]
-
-pub agree-end-from : (s q : ℕ) → agree_at s q ≡ true → nullable (pattern_of s q) ≡ true → ends s q ≡ true
-unfolding agree_at
-agree-end-from s q a e = (let c = and-l _ _ (and-l _ _ a) in rw e at c)
+agree-ends s q a = same-bool _ _ (and-l _ _ (and-l _ _ a))
 
 pub agree-arc : (s q j : ℕ) (u : Tree) → agree_at s q ≡ true → has s q (root u) ≡ true → Ok u → member j (shown (root u)) ≡ true
     → deriv (pattern_of s q) j ≡ pattern_of s (target s q (root u) + finish u)
@@ -155,7 +144,7 @@ unfolding agree_at
 agree-kind s q j a m = kinds-at (begin_kinds (pattern_of s q)) (λ j. (constant s and eqb j VARIABLE) or any_arcs (arcs s q) (λ k p. member j (shown k))) j (and-r _ _ a) m
 
 pub row-shown : (s q : ℕ) (f : Forest) → is_leaf s ≡ false → OkFrom s q f → Matches (pattern_of s q) (kinds (shows f))
-row-shown s q none l o = nullable-from (pattern_of s q) (agree-end s q (agree s q l (ends-live s q o)) o)
+row-shown s q none l o = nullable-from (pattern_of s q) (agree-ends s q (agree s q l (ends-live s q o)) ∙ o)
 row-shown s q (t ▸ f) l o =
     let m : Matches (pattern_of s (target s q (root t) + finish t)) (kinds (shows f)) = row-shown s (target s q (root t) + finish t) f l o.2 in
     let d : deriv (pattern_of s q) (root (show t)) ≡ pattern_of s (target s q (root t) + finish t) = agree-arc s q (root (show t)) t (agree s q l (has-live s q (root t) o.0)) o.0 o.1 (shown-root t o.1) in

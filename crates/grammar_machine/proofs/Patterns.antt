@@ -142,21 +142,11 @@ nullable-from (p or_else q) h = elim (or-c _ _ h) [ inl x ↦ inl (nullable-from
 nullable-from (many p) h = stop
 
 -- The rest of a repetition after its first child.
-rest-split : (p : Pattern) (k : ℕ) (w u v : List ℕ) → ((v : List ℕ) → Matches p (k ∷ v) → Matches (deriv p k) v) → Matches p u → Repeats (Matches p) v
-    → u ++ v ≡ k ∷ w → (v ≡ k ∷ w → Matches (deriv p k then many p) w) → Matches (deriv p k then many p) w
-rest-split p k w [] v d m r e ih = ih e
-rest-split p k w (a ∷ u) v d m r e ih = (u, v, sym (tail-same e), d u (subst (λ (n : ℕ). Matches p (n ∷ u)) (head-same e) m), r)
-
 rest-of : (p : Pattern) (k : ℕ) (w : List ℕ) (d : (v : List ℕ) → Matches p (k ∷ v) → Matches (deriv p k) v) {x : List ℕ} → Repeats (Matches p) x
     → x ≡ k ∷ w → Matches (deriv p k then many p) w
 rest-of p k w d stop e = no-cons e
-rest-of p k w d (again {u = u} {v = v} m r f) e = rest-split p k w u v d m r (sym f ∙ e) (λ e'. rest-of p k w d r e')
-
-then-to : (p q : Pattern) (k : ℕ) (w u v : List ℕ) → k ∷ w ≡ u ++ v → Matches p u → Matches q v
-    → ((u' : List ℕ) → Matches p (k ∷ u') → Matches (deriv p k) u') → (Matches q (k ∷ w) → Matches (deriv q k) w) → Matches (deriv (p then q) k) w
-then-to p q k w [] v e m n dp dq = alt-to (seq (deriv p k) q) _ w (inr (rw (nullable-to p [] refl m) (dq (subst (λ (z : List ℕ). Matches q z) (sym e) n))))
-then-to p q k w (a ∷ u) v e m n dp dq =
-    alt-to (seq (deriv p k) q) _ w (inl (seq-to (deriv p k) q w (u, v, tail-same e, dp u (subst (λ (z : ℕ). Matches p (z ∷ u)) (sym (head-same e)) m), n)))
+rest-of p k w d (again {u = []} m r f) e = rest-of p k w d r (sym f ∙ e)
+rest-of p k w d (again {u = a ∷ u} {v = v} m r f) e = (u, v, sym (tail-same (sym f ∙ e)), d u (subst (λ (n : ℕ). Matches p (n ∷ u)) (head-same (sym f ∙ e)) m), r)
 
 -- What is left after the first kind of one pattern and then another: the rest of the one, or, where it may be empty, of the other.
 then-from : {C : Type 0} (p q : Pattern) (k : ℕ) (w : List ℕ) → Matches (deriv (p then q) k) w → (Matches (deriv p k then q) w → C)
@@ -169,7 +159,9 @@ then-from p q k w m one two = elim (alt-from (seq (deriv p k) q) (cond (nullable
 pub to-deriv : (p : Pattern) (k : ℕ) (w : List ℕ) → Matches p (k ∷ w) → Matches (deriv p k) w
 to-deriv (any_of ks) k w h = subst (λ (b : Bool). Matches (cond b nothing (any_of [])) w) (sym (subst (λ (n : ℕ). member n ks ≡ true) (sym (head-same h.2)) h.1)) (tail-same h.2)
 to-deriv nothing k w h = no-cons (sym h)
-to-deriv (p then q) k w h = then-to p q k w h.0 h.1 h.2 h.3 h.4 (λ u m. to-deriv p k u m) (λ m. to-deriv q k w m)
+to-deriv (p then q) k w ([], v, e, m, n) = alt-to (seq (deriv p k) q) _ w (inr (rw (nullable-to p [] refl m) (to-deriv q k w (subst (λ (z : List ℕ). Matches q z) (sym e) n))))
+to-deriv (p then q) k w (a ∷ u, v, e, m, n) =
+    alt-to (seq (deriv p k) q) _ w (inl (seq-to (deriv p k) q w (u, v, tail-same e, to-deriv p k u (subst (λ (z : ℕ). Matches p (z ∷ u)) (sym (head-same e)) m), n)))
 to-deriv (p or_else q) k w h = alt-to (deriv p k) (deriv q k) w (elim h [ inl x ↦ inl (to-deriv p k w x) | inr x ↦ inr (to-deriv q k w x) ])
 to-deriv (many p) k w h = seq-to (deriv p k) (many p) w (rest-of p k w (λ v m. to-deriv p k v m) h refl)
 

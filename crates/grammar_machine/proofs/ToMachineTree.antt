@@ -20,7 +20,7 @@ use Rattle.grammar_machine.proofs.Endings.{ending, fillable}
 use Rattle.grammar_machine.proofs.Sound.{leaf-lt, fill-after, fill-start, fillable-ok}
 use Rattle.document_grammar.proofs.Nullable.{nullable-to}
 use Rattle.grammar_machine.proofs.Patterns.{all_kinds, deriv, pattern_of, symbol_row, type_row, label, shown, any_arcs, constant, agree_at, to-deriv, first-kind, never-none, pattern_eq}
-use Rattle.grammar_machine.proofs.FromMachineTree.{kinds-at, pattern-same, show, shows, type_of, show-root, Live, agree, agree-end-from, agree-arc, agree-kind, has-live, ends-live, leaf-no-type, node-symbols, labels-checked}
+use Rattle.grammar_machine.proofs.FromMachineTree.{kinds-at, pattern-same, show, shows, type_of, show-root, Live, agree, agree-ends, agree-arc, agree-kind, has-live, ends-live, leaf-no-type, node-symbols, labels-checked}
 use Rattle.grammar_machine.proofs.Constants.{type-first, type-pattern, bare-pattern, document-arc, finish-lacks}
 use Rattle.grammar_machine.proofs.Rules.{start-pattern, keyword-class}
 use Rattle.grammar_machine.specs.Symbols.{TYPE, SHORT_QUERY, IDENT_FOR_FRAGMENT, IDENT_FOR_ENUM, NAME_FOR_FRAGMENT, NAME_FOR_ENUM, BARE_SELECTIONS, DIRECTIVES_CONST, OBJECT_FIELD_CONST}
@@ -300,7 +300,7 @@ build-forest s q k t f l a h m d r rf =
     (r.0 ▸ g.0, (hu, r.1, g.1), ap₂ (λ x y. x ▸ y) r.3 g.2)
 
 read-end : (s q : ℕ) → agree_at s q ≡ true → Matches (pattern_of s q) [] → ReadFrom s q none
-read-end s q a m = (none, agree-end-from s q a (nullable-to (pattern_of s q) [] refl m), refl)
+read-end s q a m = (none, sym (agree-ends s q a) ∙ nullable-to (pattern_of s q) [] refl m, refl)
 
 -- Leaves are shown as leaves, and nodes as nodes.
 abbrev number_test : ℕ → Bool

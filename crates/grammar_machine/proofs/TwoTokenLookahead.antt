@@ -86,22 +86,18 @@ mutual
   forest-first s q none o = o
   forest-first s q (t ▸ g) o = tail-begun s q t g o.0 (tree-first t o.1)
 
-begins-arc : (s q k a : ℕ) → has s q k ≡ true → holds a (entries_mask (entries k)) ≡ true → holds a (state_begins (at s q)) ≡ true
-unfolding has arcs
-begins-arc s q k a h i = arc-begins (arcs s q) k a h i
-
 -- What may come after a state: a token that begins what is left of the row, or, where the row may end, one that may follow it.
 abbrev NextOk : ℕ → ℕ → List Token → Type 0
 NextOk s q r = (holds (first r) (state_begins (at s q)) ≡ true) ⊎ ((ends s q ≡ true) × (holds (first r) (follow s (exit s q)) ≡ true))
 
-begun-first : (t : Tree) (b : Begun t) (g : Forest) (r : List Token) → first (yields (t ▸ g) ++ r) ≡ class b.0
-unfolding first
-begun-first t b g r = rw b.2 refl
+begun-split : (t : Tree) (b : Begun t) (g : Forest) (r : List Token) → yields (t ▸ g) ++ r ≡ b.0 ∷ (b.1 ++ (yields g ++ r))
+begun-split t b g r = append_assoc (yield t) (yields g) r ∙ ap (λ (v : List Token). v ++ (yields g ++ r)) b.2
 
 next-ok : (s q : ℕ) (f : Forest) (r : List Token) → OkFrom s q f → holds (first r) (follow s (exit s (walk s q f))) ≡ true
     → NextOk s q (yields f ++ r)
+unfolding has arcs first
 next-ok s q none r o h = inr (o, h)
-next-ok s q (t ▸ g) r o h = let b = tree-first t o.1 in inl (rw (begun-first t b g r) (begins-arc s q (root t) (class b.0) o.0 (starts-begins (entries (root t)) (class b.0) b.1 b.3)))
+next-ok s q (t ▸ g) r o h = let b = tree-first t o.1 in inl (rw (begun-split t b g r) (arc-begins (arcs s q) (root t) (class b.0) o.0 (starts-begins (entries (root t)) (class b.0) b.1 b.3)))
 
 -- The close: nothing that may go on begins here.
 no-fire : (es : List Entry) (a b : ℕ) → holds a (entries_mask es) ≡ false → fires_in es a b ≡ false
@@ -193,9 +189,6 @@ move-go s q t a y z l h o st n = choose-go (arcs s q) s (root t) (target s q (ro
     (λ j d. unfires (entries j) (entries (root t)) s (root t) (target s q (root t)) (class a) y z d st
     (λ m e. next-clear s (target s q (root t)) (finish t) z m n (exits-at t (λ x. clear s (target s q (root t)) x m) e o)))
 
-begun-split : (t : Tree) (b : Begun t) (g : Forest) (r : List Token) → yields (t ▸ g) ++ r ≡ b.0 ∷ (b.1 ++ (yields g ++ r))
-begun-split t b g r = append_assoc (yield t) (yields g) r ∙ ap (λ (v : List Token). v ++ (yields g ++ r)) b.2
-
 mutual
   pub tree-run : (t : Tree) (r : List Token) → Ok t → holds (first r) (follow (root t) (finish t)) ≡ true → Run t r
   tree-run (leaf l x) r o h = o.0
@@ -206,9 +199,8 @@ mutual
   forest-run s q none r l o h = move-close s q r l o h
   forest-run s q (t ▸ f) r l o h =
       let n : NextOk s (target s q (root t) + finish t) (yields f ++ r) = next-ok s (target s q (root t) + finish t) f r o.2 h in
-      let b : Begun t = tree-first t o.1 in
-      let m : move s q (first (b.0 ∷ (b.1 ++ (yields f ++ r)))) (second (b.0 ∷ (b.1 ++ (yields f ++ r)))) ≡ go (root t) = move-go s q t b.0 b.1 (yields f ++ r) l o.0 o.1 b.3 n in (
-        subst (λ (v : List Token). move s q (first v) (second v) ≡ go (root t)) (sym (begun-split t b f r)) m,
+      let b : Begun t = tree-first t o.1 in (
+        rw (begun-split t b f r) (move-go s q t b.0 b.1 (yields f ++ r) l o.0 o.1 b.3 n),
         tree-run t (yields f ++ r) o.1 (child-follow s q t (yields f ++ r) l o.0 o.1 n),
         forest-run s (target s q (root t) + finish t) f r l o.2 h,
       )

@@ -27,12 +27,9 @@ use Rattle.document_grammar.proofs.Texts.{one-cut}
 abbrev Config : Type 0
 Config = List Frame × List Token
 
-abbrev take : ℕ → ℕ → ℕ → Forest → List Frame → List Token → Config
-take k s q f fs [] = (frame s q f ∷ fs, [])
-take k s q f fs (a ∷ r) = (frame s (target s q k) (f +++ (leaf k a.1 ▸ none)) ∷ fs, r)
-
 abbrev act : Move → ℕ → ℕ → Forest → List Frame → List Token → Config
-act (go k) s q f fs r = cond (is_leaf k) (take k s q f fs r) (frame k 0 none ∷ frame s q f ∷ fs, r)
+act (go k) s q f fs [] = cond (is_leaf k) (frame s q f ∷ fs, []) (frame k 0 none ∷ frame s q f ∷ fs, [])
+act (go k) s q f fs (a ∷ r) = cond (is_leaf k) (frame s (target s q k) (f +++ (leaf k a.1 ▸ none)) ∷ fs, r) (frame k 0 none ∷ frame s q f ∷ fs, a ∷ r)
 act close s q f [] r = (frame s q f ∷ [], r)
 act close s q f (frame p o g ∷ fs) r = (frame p (target p o s + exit s q) (g +++ (node s f ▸ none)) ∷ fs, r)
 act stuck s q f fs r = (frame s q f ∷ fs, r)
@@ -48,17 +45,10 @@ steps (suc n) fs r = let c = step fs r in steps n c.0 c.1
 abbrev At : ℕ → List Token → Config → Type 0
 At s0 w c = Reach s0 w c.0 c.1
 
-take-reach : (s0 : ℕ) (w : List Token) (k s q : ℕ) (f : Forest) (fs : List Frame) (r : List Token) → Reach s0 w (frame s q f ∷ fs) r
-    → next s q r ≡ go k → is_leaf k ≡ true → At s0 w (take k s q f fs r)
-take-reach s0 w k s q f fs [] c m i = c
-take-reach s0 w k s q f fs (a ∷ r) c m i = shift c m i
-
 act-reach : (m : Move) (s0 : ℕ) (w : List Token) (s q : ℕ) (f : Forest) (fs : List Frame) (r : List Token) → Reach s0 w (frame s q f ∷ fs) r
     → next s q r ≡ m → At s0 w (act m s q f fs r)
-act-reach (go k) s0 w s q f fs r c m = elim (either (is_leaf k)) [
-  | inl p ↦ subst (λ (b : Bool). At s0 w (cond b (take k s q f fs r) (frame k 0 none ∷ frame s q f ∷ fs, r))) (sym p) (take-reach s0 w k s q f fs r c m p)
-  | inr p ↦ subst (λ (b : Bool). At s0 w (cond b (take k s q f fs r) (frame k 0 none ∷ frame s q f ∷ fs, r))) (sym p) (open' c m p)
-]
+act-reach (go k) s0 w s q f fs [] c m = elim (either (is_leaf k)) [ inl p ↦ rw p c | inr p ↦ rw p (open' c m p) ]
+act-reach (go k) s0 w s q f fs (a ∷ r) c m = elim (either (is_leaf k)) [ inl p ↦ rw p (shift c m p) | inr p ↦ rw p (open' c m p) ]
 act-reach close s0 w s q f [] r c m = c
 act-reach close s0 w s q f (frame p o g ∷ fs) r c m = closed c m
 act-reach stuck s0 w s q f fs r c m = c
