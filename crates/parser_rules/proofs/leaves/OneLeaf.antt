@@ -34,7 +34,7 @@ use Rattle.parser_rules.specs.Rules.{body}
 use Rattle.parser_rules.specs.Runs.{Runs, seq, yes, no, done, again, call}
 use Rattle.parser_rules.proofs.runs.Frame.{add_all_above, root_kept}
 use Rattle.parser_rules.proofs.runs.AtTheEnd.{EndNow, ends, read_ends}
-use Rattle.parser_rules.proofs.runs.Reading.{Reading, reading-shown, Shown, second-shown, reading, reading-second}
+use Rattle.parser_rules.proofs.runs.Reading.{Reading, found, Shown, second-shown, reading}
 use Rattle.parser_rules.proofs.runs.Marked as marked
 use Rattle.parser_rules.proofs.runs.Marked.{Source, token, aside, Marked, append, erase, erase-append, flat, flat-append, set_aside, source_at, source_of, now_of, sources, moved_on}
 use Rattle.parser_rules.proofs.runs.Walk.{after_pending, always, Goes, Sound, walked_whole}
@@ -142,14 +142,14 @@ module _ (own : SyntaxKind) (a : Tokens) (k : Tokens → Bool) (b s : State) (f 
 
   taken : cond (is_error own) (k anything) (belongs a.near own and k (record { near = a.far; far = any })) ≡ true → Goes leaf_check Held k b after grown
   taken c = elim (either (is_error own)) [
-    | inl i ↦ (anything, (rw i at c), record { shown = reading-shown next; seen = seen-any after (reading-shown next); fits = fits-after (error_fits x own (subst Shown e h.shown) (error_is own i)) })
+    | inl i ↦ (anything, (rw i at c), record { shown = (found next).shown; seen = seen-any after ((found next).shown); fits = fits-after (error_fits x own (subst Shown e h.shown) (error_is own i)) })
     | inr i ↦ (
         let d = rw i at c in (
           record { near = a.far; far = any },
           and-r _ _ d,
           record {
-            shown = reading-shown next;
-            seen = record { near = subst (λ o. within (class_of o) a.far ≡ true) (sym (reading-second next)) h.seen.far; far = of-any (second after.items) (second-shown after.items) };
+            shown = (found next).shown;
+            seen = record { near = subst (λ o. within (class_of o) a.far ≡ true) (sym (found next).next) h.seen.far; far = of-any (second after.items) (second-shown after.items) };
             fits = fits-after (belongs_fits a.near own x (subst Shown e h.shown) (and-l _ _ d) (subst (λ o. within (class_of o) a.near ≡ true) e h.seen.near));
           },
         ))
@@ -238,7 +238,7 @@ document_over (call h) = wanted-over h
 pub document_leaves : {t : State} (items : List Answer) (limit : ℕ) → AreAnswers items → Runs (Call rule.Document) (begun items limit kind.DOCUMENT) t → OneLeafAnItem items (leaves (finished t))
 document_leaves {t = t} items limit are run =
     let s = begun items limit kind.DOCUMENT in
-    let shown = reading-shown (reading items (fresh items limit kind.DOCUMENT)) in
+    let shown = (found (reading items (fresh items limit kind.DOCUMENT))).shown in
     let (f, a, e, h, g, w) = walked_whole leaf_check Held sound items limit kind.DOCUMENT anything always run document_passes.leaves (record { shown = shown; seen = seen-any s shown; fits = no_more }) in
     let last = none_left t.current t.items (ends run (read_ends items (fresh items limit kind.DOCUMENT) refl are)).now (document_over run) in
     let order : flat (append f (set_aside t.pending)) ++ now_of t.current ≡ sources items = ap (λ (v : List Source). flat (append f (set_aside t.pending)) ++ v) (sym (ap (λ (xs : List Answer). now_of t.current ++ sources xs) last ∙ append-nil (now_of t.current))) ∙ w.order in

@@ -1,12 +1,12 @@
 -- Where a rule is in its node, and what a test says of the next two tokens and of the recursion limit there.
 use Rattle.std.specs.Prelude.{⊤}
-use Rattle.std.proofs.Common.{◌≡◌, ℕ, Bool, true, false, not, ◌&&◌, sym, ap, ◌∙◌, subst, inl, inr}
+use Rattle.std.proofs.Common.{◌≡◌, ℕ, Bool, true, false, cond, not, ◌&&◌, sym, ap, ◌∙◌, subst, inl, inr}
 use Rattle.document_grammar.specs.Booleans.{◌and◌}
 use Rattle.document_grammar.proofs.Booleans.{either, and-l, and-r}
 use Rattle.parser_rules.specs.State.{State, is_deep, second}
 use Rattle.parser_rules.specs.RuleLanguage.{Test, Here, Next, Ready, HasNext, Deep, Not, Both, holds}
 use Rattle.parser_rules.proofs.runs.Reading.{Shown, second-shown}
-use Rattle.parser_rules.proofs.lookahead.TokenSets.{set_of, fits-set, ready, present, ready-is, present-is, Seen, Branch, pick, by_near, by_far, near-at, far-at, flip}
+use Rattle.parser_rules.proofs.lookahead.TokenSets.{set_of, fits-set, ready, present, ready-is, present-is, Seen, Branch, by_near, by_far, near-at, far-at, flip}
 
 -- Within a node: no level was entered in it, a level is entered, or one was entered and left.
 pub data Level : Type 0 where
@@ -50,23 +50,19 @@ module _ (s : State) (A : Spot → Type 0) (fills : (p : Spot) → is_deep s ≡
   abbrev pub Way : (Spot → ℕ → ℕ → Bool) → Type 0
   Way f = (p : Spot) × (u : ℕ) × (v : ℕ) × (f p u v ≡ true) × Seen u v s × A p
 
-  abbrev pub choice : Bool → (Spot → ℕ → ℕ → Bool) → (Spot → ℕ → ℕ → Bool) → Spot → ℕ → ℕ → Bool
-  choice true f g = f
-  choice false f g = g
-
-  placed : (b : Bool) (p : Spot) (f g : Spot → ℕ → ℕ → Bool) → A p → Branch (pick b (f p) (g p)) s → Way (choice b f g)
+  placed : (b : Bool) (p : Spot) (f g : Spot → ℕ → ℕ → Bool) → A p → Branch (cond b (f p) (g p)) s → Way (cond b f g)
   placed true p f g a r = (p, r.0, r.1, r.2, r.3, a)
   placed false p f g a r = (p, r.0, r.1, r.2, r.3, a)
 
-  blind : (b : Bool) (p : Spot) (x y : ℕ) (f g : Spot → ℕ → ℕ → Bool) → b ≡ is_deep s → f (fill p) x y and g p x y ≡ true → Seen x y s → A p → Way (choice b f g)
+  blind : (b : Bool) (p : Spot) (x y : ℕ) (f g : Spot → ℕ → ℕ → Bool) → b ≡ is_deep s → f (fill p) x y and g p x y ≡ true → Seen x y s → A p → Way (cond b f g)
   blind true p x y f g e h i a = (fill p, x, y, and-l _ _ h, i, fills p (sym e) a)
   blind false p x y f g e h i a = (p, x, y, and-r _ _ h, i, a)
 
-  turned : (b : Bool) (f g : Spot → ℕ → ℕ → Bool) → Way (choice (not b) g f) → Way (choice b f g)
+  turned : (b : Bool) (f g : Spot → ℕ → ℕ → Bool) → Way (cond (not b) g f) → Way (cond b f g)
   turned true f g h = h
   turned false f g h = h
 
-  pub divide-at : (t : Test) (b : Bool) (p : Spot) (x y : ℕ) (f g : Spot → ℕ → ℕ → Bool) → Shown s.current → b ≡ holds t s → divide (λ a b. a and b) true t p x y f g ≡ true → Seen x y s → A p → Way (choice b f g)
+  pub divide-at : (t : Test) (b : Bool) (p : Spot) (x y : ℕ) (f g : Spot → ℕ → ℕ → Bool) → Shown s.current → b ≡ holds t s → divide (λ a b. a and b) true t p x y f g ≡ true → Seen x y s → A p → Way (cond b f g)
   unfolding divide holds
   divide-at (Here q) b p x y f g w e h i a = placed b p f g a (near-at b (set_of q) x y (f p) (g p) s (e ∙ fits-set q s.current w) h i)
   divide-at (Next q) b p x y f g w e h i a = placed b p f g a (far-at b (set_of q) x y (f p) (g p) s (e ∙ fits-set q (second s.items) (second-shown s.items)) h i)
@@ -78,7 +74,7 @@ module _ (s : State) (A : Spot → Type 0) (fills : (p : Spot) → is_deep s ≡
       let k : Spot → ℕ → ℕ → Bool = λ p' u v. divide (λ a b. a and b) true q p' u v f g in
       elim (either (holds t s)) [
         | inl y' ↦ (let r = divide-at t true p x y k g w (sym y') h i a in divide-at q b r.0 r.1 r.2 f g w (e ∙ ap (λ z. z && holds q s) y') r.3 r.4 r.5)
-        | inr n ↦ subst (λ z. Way (choice z f g)) (sym (e ∙ ap (λ z. z && holds q s) n)) (divide-at t false p x y k g w (sym n) h i a)
+        | inr n ↦ subst (λ z. Way (cond z f g)) (sym (e ∙ ap (λ z. z && holds q s) n)) (divide-at t false p x y k g w (sym n) h i a)
       ]
 
 -- ---- where no place is followed
@@ -89,7 +85,7 @@ split c e t x y f g = divide c e t lost x y (λ p u v. f u v) (λ p u v. g u v)
 Nowhere : Spot → Type 0
 Nowhere p = ⊤
 
-pub split-at : (t : Test) (b : Bool) (x y : ℕ) (f g : ℕ → ℕ → Bool) (s : State) → Shown s.current → b ≡ holds t s → split (λ a b. a and b) true t x y f g ≡ true → Seen x y s → Branch (pick b f g) s
+pub split-at : (t : Test) (b : Bool) (x y : ℕ) (f g : ℕ → ℕ → Bool) (s : State) → Shown s.current → b ≡ holds t s → split (λ a b. a and b) true t x y f g ≡ true → Seen x y s → Branch (cond b f g) s
 unfolding split Nowhere
 split-at t true x y f g s w e h i = let r = divide-at s Nowhere (λ p z a. a) t true lost x y (λ p u v. f u v) (λ p u v. g u v) w e h i tt in (r.1, r.2, r.3, r.4)
 split-at t false x y f g s w e h i = let r = divide-at s Nowhere (λ p z a. a) t false lost x y (λ p u v. f u v) (λ p u v. g u v) w e h i tt in (r.1, r.2, r.3, r.4)

@@ -24,7 +24,7 @@ use Rattle.grammar_machine.proofs.TableLemmas.{holds-subset, holds-disjoint}
 use Rattle.grammar_machine.proofs.Sound.{any, class-any, word-name, holds-one}
 use Rattle.grammar_machine.proofs.Endings.{words_checked}
 use Rattle.parser_rules.specs.State.{State, Text, Lexeme, same_kind, ignored, read_on, second, is_at, is_word, is_over}
-use Rattle.parser_rules.proofs.runs.Reading.{Shown, second-shown, reading, reading-second}
+use Rattle.parser_rules.proofs.runs.Reading.{Shown, second-shown}
 
 -- ---- classes of tokens
 
@@ -39,10 +39,6 @@ lexeme_class k text = cond (is_end k) 0 (class (leaf_number k, text))
 abbrev pub class_of : Option Lexeme → ℕ
 class_of None = absent
 class_of (Some t) = lexeme_class t.kind t.text
-
--- reading on reaches the token after the current one
-pub read-second : (xs : List Answer) (s : State) → (read_on xs s).current ≡ second xs
-read-second xs s = reading-second (reading xs s)
 
 -- ---- sets of the tests
 
@@ -273,15 +269,11 @@ part-live a z f h i = elim (either (eqb z 0)) [ inl p ↦ holds-none a (subst (�
 abbrev pub Branch : (ℕ → ℕ → Bool) → State → Type 0
 Branch f s = (u : ℕ) × (v : ℕ) × (f u v ≡ true) × Seen u v s
 
-abbrev pub pick : Bool → (ℕ → ℕ → Bool) → (ℕ → ℕ → Bool) → ℕ → ℕ → Bool
-pick true f g = f
-pick false f g = g
-
-pub near-at : (b : Bool) (m x y : ℕ) (f g : ℕ → ℕ → Bool) (s : State) → b ≡ within (class_of s.current) m → by_near (λ a b. a and b) true m x y f g ≡ true → Seen x y s → Branch (pick b f g) s
+pub near-at : (b : Bool) (m x y : ℕ) (f g : ℕ → ℕ → Bool) (s : State) → b ≡ within (class_of s.current) m → by_near (λ a b. a and b) true m x y f g ≡ true → Seen x y s → Branch (cond b f g) s
 near-at true m x y f g s e h i = let z = holds-and (class_of s.current) x m i.near (sym e) in (bit_and x m, y, part-live (class_of s.current) (bit_and x m) (λ z. f z y) (and-l _ _ h) z, record { near = z; far = i.far })
 near-at false m x y f g s e h i = let z = holds-minus (class_of s.current) x m i.near (sym e) in (bit_xor x (bit_and x m), y, part-live (class_of s.current) (bit_xor x (bit_and x m)) (λ z. g z y) (and-r _ _ h) z, record { near = z; far = i.far })
 
-pub far-at : (b : Bool) (m x y : ℕ) (f g : ℕ → ℕ → Bool) (s : State) → b ≡ within (class_of (second s.items)) m → by_far (λ a b. a and b) true m x y f g ≡ true → Seen x y s → Branch (pick b f g) s
+pub far-at : (b : Bool) (m x y : ℕ) (f g : ℕ → ℕ → Bool) (s : State) → b ≡ within (class_of (second s.items)) m → by_far (λ a b. a and b) true m x y f g ≡ true → Seen x y s → Branch (cond b f g) s
 far-at true m x y f g s e h i = let c = class_of (second s.items) in let z = holds-and c y m i.far (sym e) in (x, bit_and y m, part-live c (bit_and y m) (λ z. f x z) (and-l _ _ h) z, record { near = i.near; far = z })
 far-at false m x y f g s e h i = let c = class_of (second s.items) in let z = holds-minus c y m i.far (sym e) in (x, bit_xor y (bit_and y m), part-live c (bit_xor y (bit_and y m)) (λ z. g x z) (and-r _ _ h) z, record { near = i.near; far = z })
 

@@ -200,11 +200,6 @@ module _ (answers : List Answer) (Right : Report → ℕ → Type 0) where
     pub now : Now st.current st.items
     pub held : Held answers st.current st.items
 
-  -- reading on
-  pub record Reads (xs : List Answer) (t : State) : Type 0 where
-    pub calm : Calm t
-    pub left : rest t ≡ answers_tokens xs
-
   -- a report of an answer that is no token would be right
   abbrev pub Blames : ℕ → List Token → Type 0
   Blames m v = (x : Answer) (ys : List Answer) → Passed answers (x ∷ ys) → is_token x ≡ false → answers_tokens ys ≡ v → Right (report_of x) m
@@ -213,7 +208,7 @@ module _ (answers : List Answer) (Right : Report → ℕ → Type 0) where
   pub told-first : (m : ℕ) (r : Report) (s t : State) → Quiet s → t.errors ≡ s.errors ++ r ∷ [] → Right r m → Settled m t.tree → Told t
   told-first m r s t q e i f = record { report = r; more = []; reported = e ∙ ap (λ (z : List Report). z ++ r ∷ []) q.clean; taken = m; right = i; settled = f }
 
-  pub read-on : {xs : List Answer} {s t : State} → Reading xs s t → (m : ℕ) → Quiet s → EndsWell xs → Passed answers xs → Blames m (answers_tokens xs) → Settled m s.tree → Told t ⊎ Reads xs t
+  pub read-on : {xs : List Answer} {s t : State} → Reading xs s t → (m : ℕ) → Quiet s → EndsWell xs → Passed answers xs → Blames m (answers_tokens xs) → Settled m s.tree → Told t ⊎ (Calm t × (rest t ≡ answers_tokens xs))
   read-on stops m q e p b f = absurd e
   read-on {s = s} {t = t} (cuts {index = index} {xs = xs} h) m q e p b f = let u : State = met index (record s { items = xs }) in inl (told-on u t (reading-grows h) (told-first m (token_limit_report index) s u q refl (b (limit_at index) xs p refl refl) f))
   read-on {s = s} {t = t} (bad_text {item = item} {xs = xs} i h) m q e p b f =
@@ -224,9 +219,9 @@ module _ (answers : List Answer) (Right : Report → ℕ → Type 0) where
       let quiet : Quiet (wait own item.text (record s { items = xs })) = record { clean = q.clean; accepts = q.accepts; waits = kinds-more _ _ (record { kind = own; text = item.text }) q.waits (ignored-leaf k own j) } in
       elim (read-on h m quiet (rw (i, ignored-end k own j) at e) (passed-one answers (gives item) xs (rw i refl) p) (subst (Blames m) same b) f) [
         | inl o ↦ inl o
-        | inr o ↦ inr (record { calm = o.calm; left = o.left ∙ sym same })
+        | inr o ↦ inr (o.0, o.1 ∙ sym same)
       ]
-  read-on (shows {item = item} {k = k} {xs = xs} i j) m q e p b f = inr (record {
-    calm = record { quiet = record { clean = q.clean; accepts = q.accepts; waits = q.waits }; now = (j, rw i at e); held = subst (λ (x : Item). Passed answers (gives x ∷ xs)) (sym (item-is item k i)) p };
-    left = rw i refl;
-  })
+  read-on (shows {item = item} {k = k} {xs = xs} i j) m q e p b f = inr (
+    record { quiet = record { clean = q.clean; accepts = q.accepts; waits = q.waits }; now = (j, rw i at e); held = subst (λ (x : Item). Passed answers (gives x ∷ xs)) (sym (item-is item k i)) p },
+    rw i refl,
+  )

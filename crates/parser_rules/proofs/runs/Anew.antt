@@ -13,7 +13,7 @@ use Rattle.parser_rules.specs.State.{State, Lexeme, Report, bad_report, token_li
 use Rattle.parser_rules.specs.Nodes.{kind_of}
 use Rattle.parser_rules.specs.RuleLanguage.{Test, At, Not, Both, holds, Prim, Bump, Note, step, Rule, Do, TooDeep, Nested}
 use Rattle.parser_rules.specs.Runs.{Runs, skip, does, seq, yes, no, done, again, child, limited, deeper, refused, call, plain, wrapped}
-use Rattle.parser_rules.proofs.runs.Reading.{Reading, stops, cuts, bad_text, waits, shows, reading, reading-is}
+use Rattle.parser_rules.proofs.runs.Reading.{Reading, stops, cuts, bad_text, waits, shows, reading, found}
 use Rattle.parser_rules.proofs.runs.Frame.{parts_forest, added-all}
 use Rattle.parser_rules.proofs.runs.Marked.{moved_on}
 
@@ -102,7 +102,7 @@ bumping own s d = at s.current
         let k = reading-on (reading s.items u) e in
         let leafed = grown (built.leaf own x.text built.none) (built_of f) (built_of u) (flushed s d) e (added-leaf own x.text f.tree) (added-leaf own x.text (add_all s.pending d.tree)) refl refl in
         let first = then_on (built_of s) (built_of f) (built_of u) d (flushed s d) e (flushing s d) leafed in
-        (k.0, reading-is k.1, then_on (built_of s) (built_of u) (built_of (moved own s (Some x))) d e k.0 first k.2)
+        (k.0, (found k.1).is, then_on (built_of s) (built_of u) (built_of (moved own s (Some x))) d e k.0 first k.2)
 
 reporting : (r : Report) (s : State) (d : Built) → Stepping (reported r) s d
 reporting r s d = elim s.accepts as (λ b. (e : Built) × ((if b then on s (tell r d) else on s d) ≡ on (if b then record s { errors = s.errors ++ r ∷ [] } else s) e) × Same_steps (built_of s) (built_of (if b then record s { errors = s.errors ++ r ∷ [] } else s)) d e) [

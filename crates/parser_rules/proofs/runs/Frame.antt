@@ -12,7 +12,7 @@ use Rattle.parser_rules.specs.State.{State, Text, Lexeme, PendingToken, read_on,
 use Rattle.parser_rules.specs.Open.{is_free, is_free_in, IsOpen, IsMark, IsInside, IsRoot}
 use Rattle.parser_rules.specs.RuleLanguage.{Test, At, holds, Rule, Skip, While}
 use Rattle.parser_rules.specs.Runs.{Runs, done, again, refused, Turns, begin, turn}
-use Rattle.parser_rules.proofs.runs.Reading.{Reading, stops, cuts, bad_text, waits, shows, reading, reading-is}
+use Rattle.parser_rules.proofs.runs.Reading.{Reading, stops, cuts, bad_text, waits, shows, reading, found}
 use Rattle.parser_rules.proofs.runs.Steps.{Holds_along, along, turns_along}
 
 -- ---- reading on
@@ -41,7 +41,7 @@ closes (shows e i) = shows e i
 
 -- reading on and closing a node commute
 pub read_closed : (xs : List Answer) (s : State) → closed (read_on xs s) ≡ read_on xs (closed s)
-read_closed xs s = sym (reading-is (closes (reading xs s)))
+read_closed xs s = sym (found (closes (reading xs s))).is
 
 -- how much is left to read
 abbrev pub one_if : Option Lexeme → ℕ

@@ -42,51 +42,38 @@ reading (gives item ∷ xs) s = (elim item.kind as (λ found. item.kind ≡ foun
   ]) refl
 ]) refl
 
--- there is one such state
-pub reading-is : {xs : List Answer} {s t : State} → Reading xs s t → read_on xs s ≡ t
-unfolding read_on
-reading-is stops = refl
-reading-is (cuts h) = reading-is h
-reading-is (bad_text e h) = rw e (reading-is h)
-reading-is (waits e i h) = rw (e, i) (reading-is h)
-reading-is (shows e i) = rw (e, i) refl
-
--- the current token is then the one that a copy of the reader finds
-pub reading-second : {xs : List Answer} {s t : State} → Reading xs s t → t.current ≡ second xs
-unfolding second
-reading-second stops = refl
-reading-second (cuts h) = reading-second h
-reading-second (bad_text e h) = rw e (reading-second h)
-reading-second (waits e i h) = rw (e, i) (reading-second h)
-reading-second (shows e i) = rw (e, i) refl
-
--- after the last answer there is none
-pub reading-none : {xs : List Answer} {s t : State} → Reading xs s t → xs ≡ [] → t.current ≡ None
-unfolding second
-reading-none h e = reading-second h ∙ ap second e
-
--- the answer that gave the current token
-pub item-is : (item : Item) (k : TokenKind) → item.kind ≡ Some k → record { kind = Some k; text = item.text; index = item.index } ≡ item
-item-is item k e = ap (λ found. record { kind = found; text = item.text; index = item.index }) (sym e)
-
 -- not an ignored token
 abbrev pub Shown : Option Lexeme → Type 0
 Shown None = ⊤
 Shown (Some t) = ignored t.kind ≡ None
 
-pub reading-shown : {xs : List Answer} {s t : State} → Reading xs s t → Shown t.current
-reading-shown stops = tt
-reading-shown (cuts h) = reading-shown h
-reading-shown (bad_text e h) = reading-shown h
-reading-shown (waits e i h) = reading-shown h
-reading-shown (shows e i) = i
+-- there is one such state, and its current token is the one that a copy of the reader finds, and none that is ignored
+abbrev pub Found : List Answer → State → State → Type 0
+Found xs s t = record { is : read_on xs s ≡ t; next : t.current ≡ second xs; shown : Shown t.current }
+
+pub found : {xs : List Answer} {s t : State} → Reading xs s t → Found xs s t
+unfolding read_on second
+found stops = record { is = refl; next = refl; shown = tt }
+found (cuts h) = found h
+found (bad_text e h) = rw e (found h)
+found (waits e i h) = rw (e, i) (found h)
+found (shows e i) = rw (e, i) (record { is = refl; next = refl; shown = refl })
+
+-- after the last answer there is none
+pub reading-none : {xs : List Answer} {s t : State} → Reading xs s t → xs ≡ [] → t.current ≡ None
+unfolding second
+reading-none h e = (found h).next ∙ ap second e
+
+-- the answer that gave the current token
+pub item-is : (item : Item) (k : TokenKind) → item.kind ≡ Some k → record { kind = Some k; text = item.text; index = item.index } ≡ item
+item-is item k e = ap (λ found. record { kind = found; text = item.text; index = item.index }) (sym e)
 
 -- how a copy of the reader reads
 pub looks : (xs : List Answer) → (s : State) × (t : State) × Reading xs s t × (t.current ≡ second xs)
-looks xs = let s : State = fresh xs 0 kind.DOCUMENT in (s, read_on xs s, reading xs s, reading-second (reading xs s))
+looks xs = let s : State = fresh xs 0 kind.DOCUMENT in (s, read_on xs s, reading xs s, (found (reading xs s)).next)
 
 pub second-shown : (xs : List Answer) → Shown (second xs)
-second-shown xs = let l = looks xs in subst Shown l.3 (reading-shown l.2)
+second-shown xs = let l = looks xs in subst Shown l.3 (found l.2).shown
 
 -- ---- what waits
 

@@ -30,8 +30,8 @@ use Rattle.parser_rules.proofs.reports.NoReport.{Now, choose, EndsWell, rest, an
 use Rattle.parser_rules.proofs.soundness.FirstReport.{Stuck, TooMany, no_token}
 use Rattle.parser_rules.proofs.lookahead.MachineClasses.{Next, sees-next}
 use Rattle.parser_rules.proofs.lookahead.Split.{Level, low, Sure, loose, firm, full, Spot, spot, lost}
-use Rattle.parser_rules.proofs.runs.Reading.{second-shown, reading}
-use Rattle.parser_rules.proofs.lookahead.TokenSets.{edges, class_of, read-second, of-any, over, Seen, seen-any, holds-minus}
+use Rattle.parser_rules.proofs.runs.Reading.{second-shown, reading, found}
+use Rattle.parser_rules.proofs.lookahead.TokenSets.{edges, class_of, of-any, over, Seen, seen-any, holds-minus}
 use Rattle.parser_rules.proofs.lookahead.FirstSets.{without, unread}
 use Rattle.parser_rules.proofs.soundness.MachineStack.{image, image-some, shows-snoc, put-image, image-node, show-node, lay, lay-put}
 use Rattle.parser_rules.proofs.soundness.Settled.{Fitting, settled-at}
@@ -180,10 +180,10 @@ module _ (R : Reading) where
             | inl o ↦ inl o
             | inr o ↦ inr (record {
               first = b;
-              place = record { reach = rw o.left there; leveled = rw (still.depth, still.high, still.limit) (leveled-leaf R k (target s q k) t.text leaf_next c.leveled); alone = c.alone };
-              certain = rw o.left (firm-shift here m leaf_next);
-              calm = o.calm;
-              seen = record { near = rw (read-second st.items (u t)) seen.far; far = of-any _ (second-shown (read_on st.items (u t)).items) };
+              place = record { reach = rw o.1 there; leveled = rw (still.depth, still.high, still.limit) (leveled-leaf R k (target s q k) t.text leaf_next c.leveled); alone = c.alone };
+              certain = rw o.1 (firm-shift here m leaf_next);
+              calm = o.0;
+              seen = record { near = rw (found (reading st.items (u t))).next seen.far; far = of-any _ (second-shown (read_on st.items (u t)).items) };
               built = ap stack still.tree ∙ leafed;
             })
           ]

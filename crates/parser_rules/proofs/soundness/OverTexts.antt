@@ -9,7 +9,7 @@ use Rattle.std.specs.Prelude.{map, take}
 use Rattle.std.specs.Str.{IsUtf8}
 use Rattle.std.proofs.lemmas.List.{map-append, length-append}
 use Rattle.grammar_machine.specs.Machine.{frame}
-use Rattle.grammar_machine.proofs.SentenceTheorems.{not-starts}
+use Rattle.grammar_machine.proofs.SentenceTheorems.{not-starts, read-map, two-marks, one-sentence}
 use Rattle.lexical_grammar.specs.Cut.{Item, Cut, texts, Significant, significant_word}
 use Rattle.lexical_grammar.specs.Begins.{are_tokens}
 use Rattle.lexical_grammar.specs.Answers.{Answer, gives, limited, is_token, limit_at, limit_index, is_end}
@@ -20,7 +20,6 @@ use Rattle.document_grammar.specs.Tree.{Token, Tree}
 use Rattle.document_grammar.proofs.Booleans.{and-i, and-l, and-r, either}
 use Rattle.grammar_machine.proofs.Beginnings.{begins-text}
 use Rattle.document_grammar.proofs.Texts.{one-cut, sentence-starts, sentence-starts-within}
-use Rattle.grammar_machine.proofs.SentenceTheorems.{read-map, two-marks, one-sentence}
 use Rattle.parser_rules.specs.Open.{IsRoot}
 use Rattle.parser_rules.specs.Nodes.{Document}
 use Rattle.parser_rules.specs.RuleLanguage.{Call}

@@ -23,7 +23,7 @@ use Rattle.parser_rules.proofs.runs.Frame.{Adds, adds}
 use Rattle.parser_rules.proofs.soundness.WithoutIgnored.{put-none, Stack, stack, put, stack-finish}
 use Rattle.parser_rules.proofs.reports.NoReport.{rest, Grows, grows-on}
 use Rattle.parser_rules.proofs.lookahead.MachineClasses.{sees-next}
-use Rattle.parser_rules.proofs.lookahead.Split.{Level, low, high, past, Sure, loose, firm, full, Spot, spot, lost, fill, divide, divide-at, choice}
+use Rattle.parser_rules.proofs.lookahead.Split.{Level, low, high, past, Sure, loose, firm, full, Spot, spot, lost, fill, divide, divide-at}
 use Rattle.parser_rules.proofs.lookahead.TokenSets.{class_of, seen-more, near-at}
 use Rattle.parser_rules.proofs.lookahead.FirstSets.{first_of, second_of, inlined}
 use Rattle.parser_rules.proofs.soundness.MachineStack.{image, image-some, image-plain, show-bang, stack-wrap}
@@ -66,7 +66,7 @@ module _ (R : Reading) where
   ]
 
   -- the branch that is taken
-  branch : (t : Test) (b : Bool) (s : ℕ) (fs : List Frame) (st : State) (f g : Then) → b ≡ holds t st → Way R s fs (λ p x y. divide (λ a b. a and b) true t p x y f g) st → Way R s fs (choice st (λ (p : Spot). StandsAt R s p fs st) (fills R s fs st) b f g) st
+  branch : (t : Test) (b : Bool) (s : ℕ) (fs : List Frame) (st : State) (f g : Then) → b ≡ holds t st → Way R s fs (λ p x y. divide (λ a b. a and b) true t p x y f g) st → Way R s fs (cond b f g) st
   branch t b s fs st f g e (p, x, y, h, c) =
       let r = divide-at st (λ (p : Spot). StandsAt R s p fs st) (fills R s fs st) t b p x y f g (shown R st c.calm) e h c.seen c.stands in
       (r.0, r.1, r.2, r.3, record { calm = c.calm; seen = r.4; stands = r.5 })

@@ -115,7 +115,7 @@ start-fits r xs e =
     let b : State = begun xs r kind.DOCUMENT in
     elim (read-on xs (Rightly (whole r xs)) (reading xs s) 0 (record { clean = refl; accepts = refl; waits = refl }) e (record { front = []; split = refl; tokens = refl }) blame (omega arith, tt, (tt, tt))) [
       | inl o ↦ inl o
-      | inr o ↦ inr (record { calm = o.calm; seen = seen-any b (shown (whole r xs) b o.calm); stands = root-stands r s.asked xs xs b (read_untouched xs s) o.left })
+      | inr o ↦ inr (record { calm = o.0; seen = seen-any b (shown (whole r xs) b o.0); stands = root-stands r s.asked xs xs b (read_untouched xs s) o.1 })
     ]
   where
     blame : Blames xs (Rightly (whole r xs)) 0 (answers_tokens xs)
