@@ -14,7 +14,7 @@ use Rattle.parser_rules.specs.State.{State, Lexeme, Report, fault_report, recurs
 use Rattle.parser_rules.specs.Nodes.{Node, kind_of, Document}
 use Rattle.parser_rules.specs.RuleLanguage.{TokenTest, Kind, Keyword, Or, fits, Test, Here, Ready, Both, holds, Call}
 use Rattle.parser_rules.specs.Runs.{Runs}
-use Rattle.parser_rules.proofs.runs.Reading.{reading, reading-second}
+use Rattle.parser_rules.proofs.runs.Reading.{reading, found}
 use Rattle.parser_rules.proofs.runs.Marked as marked
 use Rattle.parser_rules.proofs.runs.Marked.{Marked, append, Limited, Has, Reports, reports-then, read-reports, moved_on}
 use Rattle.parser_rules.proofs.runs.Walk.{after_pending, always, Sound, walked_whole}
@@ -78,7 +78,7 @@ unfolding is_inner
 next-present x s u n i y =
     let r = reading u.items u in
     let ends : EndsWell u.items = subst (λ (b : Bool). choose b (u.items ≡ []) (EndsWell u.items)) (not-c _ i) n.1 in
-    there (read_on u.items u).current (λ e. cut-off r ends (sym (reading-second r) ∙ e) y)
+    there (read_on u.items u).current (λ e. cut-off r ends (sym (found r).next ∙ e) y)
   where
     there : (o : Option Lexeme) → (o ≡ None → ⊥) → is_some o ≡ true
     there None h = absurd (h refl)
