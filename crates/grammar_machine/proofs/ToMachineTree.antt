@@ -25,24 +25,25 @@ use Rattle.grammar_machine.proofs.Constants.{type-first, type-pattern, bare-patt
 use Rattle.grammar_machine.proofs.Rules.{start-pattern, keyword-class}
 use Rattle.grammar_machine.specs.Symbols.{TYPE, SHORT_QUERY, IDENT_FOR_FRAGMENT, IDENT_FOR_ENUM, NAME_FOR_FRAGMENT, NAME_FOR_ENUM, BARE_SELECTIONS, DIRECTIVES_CONST, OBJECT_FIELD_CONST}
 
-abbrev inconst : ℕ → Bool
-inconst k = ltb NAME_FOR_ENUM k and ltb k BARE_SELECTIONS
+-- Symbols in constant places, and of names that refuse some words, with the nodes that hold them.
+abbrev in_constant : ℕ → Bool
+in_constant k = ltb NAME_FOR_ENUM k and ltb k BARE_SELECTIONS
 
-abbrev fname : ℕ → Bool
-fname k = eqb k NAME_FOR_FRAGMENT or eqb k IDENT_FOR_FRAGMENT
+abbrev is_fragment_name : ℕ → Bool
+is_fragment_name k = eqb k NAME_FOR_FRAGMENT or eqb k IDENT_FOR_FRAGMENT
 
-abbrev ename : ℕ → Bool
-ename k = eqb k NAME_FOR_ENUM or eqb k IDENT_FOR_ENUM
+abbrev is_enum_name : ℕ → Bool
+is_enum_name k = eqb k NAME_FOR_ENUM or eqb k IDENT_FOR_ENUM
 
 -- The symbols that are no children: two leaves that are not read, and the selections without braces.
 abbrev no_child : ℕ → Bool
 no_child k = eqb k WHITESPACE or eqb k ERROR or ltb OBJECT_FIELD_CONST k
 
-abbrev fparent : ℕ → Bool
-fparent s = eqb s FRAGMENT_NAME or eqb s NAME_FOR_FRAGMENT
+abbrev has_fragment_name : ℕ → Bool
+has_fragment_name s = eqb s FRAGMENT_NAME or eqb s NAME_FOR_FRAGMENT
 
-abbrev eparent : ℕ → Bool
-eparent s = eqb s ENUM_VALUE or eqb s NAME_FOR_ENUM
+abbrev has_enum_name : ℕ → Bool
+has_enum_name s = eqb s ENUM_VALUE or eqb s NAME_FOR_ENUM
 
 abbrev NoWord : Text → Type 0
 NoWord y = (y ≢ true_text) × (y ≢ false_text) × (y ≢ null_text)
@@ -64,18 +65,18 @@ AsOperation k t = (k ≡ OPERATION_DEFINITION → Matches keyword_operation (chi
 
 -- What the rules say of the children of a node that is read as the symbol `s`, and of a tree that is read as `k`.
 abbrev Kids : ℕ → Forest → Type 0
-Kids s f = (constant s ≡ true → NoVariables f) × (member (label s) Marked ≡ true → ConstantDirectives f) × (fparent s ≡ true → AllTexts NotOn f) × (eparent s ≡ true → AllTexts NoWord f)
+Kids s f = (constant s ≡ true → NoVariables f) × (member (label s) Marked ≡ true → ConstantDirectives f) × (has_fragment_name s ≡ true → AllTexts NotOn f) × (has_enum_name s ≡ true → AllTexts NoWord f)
 
 abbrev Cond : ℕ → Tree → Type 0
-Cond k t = (member (root t) (shown k) ≡ true) × (inconst k ≡ true → NoVariable t) × (fname k ≡ true → text t ≢ on_text) × (ename k ≡ true → NoWord (text t)) × AsOperation k t × (no_child k ≡ false) × (is_leaf k ≡ false → fillable k 0 ≡ true)
+Cond k t = (member (root t) (shown k) ≡ true) × (in_constant k ≡ true → NoVariable t) × (is_fragment_name k ≡ true → text t ≢ on_text) × (is_enum_name k ≡ true → NoWord (text t)) × AsOperation k t × (no_child k ≡ false) × (is_leaf k ≡ false → fillable k 0 ≡ true)
 
 kids-tail : (s : ℕ) (t : Tree) (f : Forest) → Kids s (t ▸ f) → Kids s f
 kids-tail s t f h = ((λ e. (h.0 e).1), (λ e. (h.1 e).1), (λ e. (h.2 e).1), (λ e. (h.3 e).1))
 
 abbrev child_test : ℕ → ℕ → ℕ → Bool
 child_test s k q =
-    (not (inconst k) or (constant s or (member (label s) Marked and eqb k DIRECTIVES_CONST)))
-    and (not (fname k) or fparent s) and (not (ename k) or eparent s) and (not (eqb k OPERATION_DEFINITION or eqb k SHORT_QUERY) or eqb s DOCUMENT) and not (no_child k)
+    (not (in_constant k) or (constant s or (member (label s) Marked and eqb k DIRECTIVES_CONST)))
+    and (not (is_fragment_name k) or has_fragment_name s) and (not (is_enum_name k) or has_enum_name s) and (not (eqb k OPERATION_DEFINITION or eqb k SHORT_QUERY) or eqb s DOCUMENT) and not (no_child k)
 
 child-checked : every_arc child_test ≡ true
 unfolding ◌and◌ ◌or◌ rows label labels constant member
@@ -105,39 +106,41 @@ kid-cond s q k t f l h m o d =
     )
 
 -- Operations are children of a DOCUMENT alone.
+as-no_operation : (k : ℕ) (t : Tree) → ((eqb k OPERATION_DEFINITION or eqb k SHORT_QUERY) ≡ true → ⊥) → AsOperation k t
+as-no_operation k t n = ((λ e. absurd (n (or-l _ _ (rw e refl)))), (λ e. absurd (n (or-r _ _ (rw e refl)))))
+
 no-operation : (s q k : ℕ) (t : Tree) → is_leaf s ≡ false → eqb s DOCUMENT ≡ false → has s q k ≡ true → AsOperation k t
 no-operation s q k t l n h =
     let c = and-r _ _ (and-l _ _ (arc-test child_test child-checked s q k l h)) in
-    let no : (eqb k OPERATION_DEFINITION or eqb k SHORT_QUERY) ≡ true → ⊥ = λ e. false-true n (implies _ _ c e) in
-    ((λ e. absurd (no (or-l _ _ (rw e refl)))), (λ e. absurd (no (or-r _ _ (rw e refl)))))
+    as-no_operation k t (λ e. false-true n (implies _ _ c e))
 
 -- A node that asks nothing of its children, and a symbol that asks nothing of its tree but the kind.
 unfoldable asks_nothing : ℕ → Bool
-asks_nothing s = not (constant s) and not (member (label s) Marked) and not (fparent s) and not (eparent s)
+asks_nothing s = not (constant s or (member (label s) Marked or (has_fragment_name s or has_enum_name s)))
 
 plain-kids : (s : ℕ) (f : Forest) → asks_nothing s ≡ true → Kids s f
 unfolding asks_nothing
-plain-kids s f h =
-    let c = and-l _ _ h in
-    ((λ e. false-true (not-c _ (and-l _ _ (and-l _ _ c))) e), (λ e. false-true (not-c _ (and-r _ _ (and-l _ _ c))) e), (λ e. false-true (not-c _ (and-r _ _ c)) e), (λ e. false-true (not-c _ (and-r _ _ h)) e))
+plain-kids s f h = (
+  (λ e. false-true (not-c _ h) (or-l _ _ e)),
+  (λ e. false-true (not-c _ h) (or-r _ _ (or-l _ _ e))),
+  (λ e. false-true (not-c _ h) (or-r _ _ (or-r _ _ (or-l _ _ e)))),
+  (λ e. false-true (not-c _ h) (or-r _ _ (or-r _ _ (or-r _ _ e)))),
+)
 
 unfoldable plain : ℕ → Bool
-plain k = not (inconst k) and not (fname k) and not (ename k) and not (eqb k OPERATION_DEFINITION) and not (eqb k SHORT_QUERY) and not (no_child k) and fillable k 0
+plain k = not (no_child k or (eqb k OPERATION_DEFINITION or eqb k SHORT_QUERY) or (in_constant k or (is_fragment_name k or is_enum_name k))) and fillable k 0
 
 plain-cond : (k : ℕ) (t : Tree) → plain k ≡ true → member (root t) (shown k) ≡ true → Cond k t
 unfolding plain
 plain-cond k t p m =
-    let c6 = and-l _ _ p in
-    let c5 = and-l _ _ c6 in
-    let c4 = and-l _ _ c5 in
-    let c3 = and-l _ _ c4 in
-    let c2 = and-l _ _ c3 in (
+    let n = not-c _ (and-l _ _ p) in
+    let no : (eqb k OPERATION_DEFINITION or eqb k SHORT_QUERY) ≡ true → ⊥ = λ e. false-true n (or-l _ _ (or-r _ _ e)) in (
       m,
-      (λ e. false-true (not-c _ (and-l _ _ c2)) e),
-      (λ e. false-true (not-c _ (and-r _ _ c2)) e),
-      (λ e. false-true (not-c _ (and-r _ _ c3)) e),
-      ((λ e. absurd (eqb-false k OPERATION_DEFINITION (not-c _ (and-r _ _ c4)) e)), (λ e. absurd (eqb-false k SHORT_QUERY (not-c _ (and-r _ _ c5)) e))),
-      not-c _ (and-r _ _ c6),
+      (λ e. false-true n (or-r _ _ (or-l _ _ e))),
+      (λ e. false-true n (or-r _ _ (or-r _ _ (or-l _ _ e)))),
+      (λ e. false-true n (or-r _ _ (or-r _ _ (or-r _ _ e)))),
+      as-no_operation k t no,
+      or-false-l _ _ (or-false-l _ _ n),
       (λ i. and-r _ _ p),
     )
 
@@ -154,14 +157,14 @@ all-texts P none x e h = tt
 all-texts P (t ▸ none) x e h = (subst P (append-nil (text t)) h, tt)
 all-texts P (t ▸ (u ▸ f)) x e h = no-cons (sym (tail-same e))
 
-name-pattern : (s : ℕ) → fparent s or eparent s ≡ true → (x : ℕ) × (pattern_of s 0 ≡ any_of (x ∷ []))
+name-pattern : (s : ℕ) → has_fragment_name s or has_enum_name s ≡ true → (x : ℕ) × (pattern_of s 0 ≡ any_of (x ∷ []))
 unfolding pattern_of symbol_row label labels Row paths
 name-pattern s h = elim (or-c _ _ h) [
   | inl p ↦ elim (or-c _ _ p) [ inl q ↦ (NAME, rw (eqb-true _ _ q) refl) | inr q ↦ (IDENT, rw (eqb-true _ _ q) refl) ]
   | inr p ↦ elim (or-c _ _ p) [ inl q ↦ (NAME, rw (eqb-true _ _ q) refl) | inr q ↦ (IDENT, rw (eqb-true _ _ q) refl) ]
 ]
 
-one-kind : (s : ℕ) (f : Forest) → fparent s or eparent s ≡ true → Matches (pattern_of s 0) (kinds f) → (x : ℕ) × (kinds f ≡ x ∷ [])
+one-kind : (s : ℕ) (f : Forest) → has_fragment_name s or has_enum_name s ≡ true → Matches (pattern_of s 0) (kinds f) → (x : ℕ) × (kinds f ≡ x ∷ [])
 one-kind s f h m = let c = name-pattern s h in let n : Matches (any_of (c.0 ∷ [])) (kinds f) = subst (λ (p : Pattern). Matches p (kinds f)) c.1 m in (n.0, n.2)
 
 cond-kids : (s j : ℕ) (f : Forest) → label s ≡ j → Matches (pattern_of s 0) (kinds f) → NameRule j f → ConstantRule j f → Cond s (node j f) → Kids s f
@@ -209,11 +212,11 @@ names-checked = (refl, refl, refl, refl, refl, refl)
 unequal : (x y : Text) → x ≢ y → text_eq x y ≡ false
 unequal x y n = elim (either (text_eq x y)) [ inl p ↦ absurd (n (text-same x y p)) | inr p ↦ p ]
 
-fires-fname : (x : Text) → x ≢ on_text → fires IDENT_FOR_FRAGMENT (word_class words x) 0 ≡ true
-fires-fname x n = word-read words (λ k. fires IDENT_FOR_FRAGMENT k 0) on x names-checked.1 names-checked.4 (unequal x on_text n)
+fires-fragment_name : (x : Text) → x ≢ on_text → fires IDENT_FOR_FRAGMENT (word_class words x) 0 ≡ true
+fires-fragment_name x n = word-read words (λ k. fires IDENT_FOR_FRAGMENT k 0) on x names-checked.1 names-checked.4 (unequal x on_text n)
 
-fires-ename : (x : Text) → NoWord x → fires IDENT_FOR_ENUM (word_class words x) 0 ≡ true
-fires-ename x n = word-read words (λ k. fires IDENT_FOR_ENUM k 0) enum_word x names-checked.2 names-checked.5
+fires-enum_name : (x : Text) → NoWord x → fires IDENT_FOR_ENUM (word_class words x) 0 ≡ true
+fires-enum_name x n = word-read words (λ k. fires IDENT_FOR_ENUM k 0) enum_word x names-checked.2 names-checked.5
     (or-false (or-false (unequal x true_text n.0) (unequal x false_text n.1)) (unequal x null_text n.2))
 
 own-class : (k : ℕ) (x : Text) → holds k name_leaves ≡ false → eqb k IDENT ≡ false → holds k token_kinds ≡ true → class (token k x) ≡ k
@@ -226,8 +229,8 @@ keyword-fires k x r p =
     let r' : LeafRule k x = rw e at r in
     listed-at words (λ k y. fires k (word_class words y) 0) k x keywords-checked (r' (ltb-true _ _ (and-l _ _ p)))
 
-leaf-fires : (k : ℕ) (x : Text) → is_leaf k ≡ true → (eqb k WHITESPACE or eqb k ERROR) ≡ false → LeafRule (label k) x → (fname k ≡ true → x ≢ on_text)
-    → (ename k ≡ true → NoWord x) → fires k (class (token k x)) 0 ≡ true
+leaf-fires : (k : ℕ) (x : Text) → is_leaf k ≡ true → (eqb k WHITESPACE or eqb k ERROR) ≡ false → LeafRule (label k) x → (is_fragment_name k ≡ true → x ≢ on_text)
+    → (is_enum_name k ≡ true → NoWord x) → fires k (class (token k x)) 0 ≡ true
 leaf-fires k x l n r fn en = elim (or-c _ _ (below-at leaf_read DOCUMENT k (leaf-lt k l) leaf-reads-checked)) [
   | inl p ↦ false-true n p
   | inr c ↦ elim (either (holds k name_leaves)) [
@@ -237,8 +240,8 @@ leaf-fires k x l n r fn en = elim (or-c _ _ (below-at leaf_read DOCUMENT k (leaf
           | inr p ↦ elim (or-c _ _ p) [
             | inl q ↦ rw (eqb-true k IDENT q) (word-read words (λ k. fires IDENT k 0) (λ y. false) x names-checked.0 names-checked.3 refl)
             | inr q ↦ elim (or-c _ _ q) [
-              | inl e ↦ rw (eqb-true k IDENT_FOR_FRAGMENT e) (fires-fname x (fn (or-r _ _ e)))
-              | inr e ↦ rw (eqb-true k IDENT_FOR_ENUM e) (fires-ename x (en (or-r _ _ e)))
+              | inl e ↦ rw (eqb-true k IDENT_FOR_FRAGMENT e) (fires-fragment_name x (fn (or-r _ _ e)))
+              | inr e ↦ rw (eqb-true k IDENT_FOR_ENUM e) (fires-enum_name x (en (or-r _ _ e)))
             ]
           ]
         ]))
@@ -381,9 +384,9 @@ is-query (leaf j x) e m = no-cons m.2
 is-query (node j none) e m = no-cons m.2
 is-query (node j (t ▸ f)) e m = (e, head-same m.2 ∙ member-one m.0 SELECTION_SET m.1)
 
-shown-operation : (j k : ℕ) → (k ≡ OPERATION_DEFINITION) ⊎ (k ≡ SHORT_QUERY) → member j (shown k) ≡ true → j ≡ OPERATION_DEFINITION
+shown-operation : (j k : ℕ) → (eqb k OPERATION_DEFINITION or eqb k SHORT_QUERY) ≡ true → member j (shown k) ≡ true → j ≡ OPERATION_DEFINITION
 unfolding shown label labels
-shown-operation j k h m = elim h [ inl e ↦ member-one j OPERATION_DEFINITION (rw e at m) | inr e ↦ member-one j OPERATION_DEFINITION (rw e at m) ]
+shown-operation j k h m = elim (or-c _ _ h) [ inl e ↦ member-one j OPERATION_DEFINITION (rw (eqb-true _ _ e) at m) | inr e ↦ member-one j OPERATION_DEFINITION (rw (eqb-true _ _ e) at m) ]
 
 operation-shown : (j : ℕ) → j ≡ OPERATION_DEFINITION → (member j (shown SHORT_QUERY) ≡ true) × (member j (shown OPERATION_DEFINITION) ≡ true)
 unfolding shown label labels member
@@ -409,8 +412,7 @@ chosen : (s q k : ℕ) (t : Tree) (f : Forest) → is_leaf s ≡ false → Fits 
 chosen s q k t f l h p a m = elim (either (eqb s DOCUMENT)) [
   | inl d ↦ elim (either (eqb (root t) OPERATION_DEFINITION)) [
     | inl o ↦ rw (eqb-true s DOCUMENT d) (choose-operation q t (p d).0 (p d).1 h (eqb-true _ _ o))
-    | inr o ↦ (let no : (k ≡ OPERATION_DEFINITION) ⊎ (k ≡ SHORT_QUERY) → ⊥ = λ z. eqb-false _ _ o (shown-operation (root t) k z m) in
-        (k, a, m, ((λ z. absurd (no (inl z))), (λ z. absurd (no (inr z))))))
+    | inr o ↦ (k, a, m, as-no_operation k t (λ z. eqb-false _ _ o (shown-operation (root t) k z m)))
   ]
   | inr d ↦ (k, a, m, no-operation s q k t l d a)
 ]
