@@ -1,56 +1,43 @@
--- Lemmas on Booleans, and on the `and` and `or` that proofs unfold.
-use Rattle.std.proofs.Common.{◌≡◌, ℕ, Bool, true, false, cond, not, eqb, refl, sym, ◌∙◌, ◌⊎◌, inl, inr, true≢false}
-use Rattle.std.proofs.lemmas.Bool.{eqb-false}
+-- Lemmas on Booleans, and std's lemmas on `&&` and `||` for the `and` and `or` that proofs unfold.
+use Rattle.std.proofs.Common.{◌≡◌, ℕ, Bool, true, false, cond, not, eqb, refl, sym, ◌⊎◌}
+use Rattle.std.proofs.lemmas.Bool.{both_ways, and_parts, and_from, and_left, and_right, or_cases, or_left, or_right, or_from, or_parts, eq-eqb}
+pub use Rattle.std.proofs.lemmas.Bool.{cases_Bool as either, not-true as not-c}
 use Rattle.document_grammar.specs.Booleans.{◌and◌, ◌or◌}
 
 pub false-true : {A : Type 0} {b : Bool} → b ≡ false → b ≡ true → A
-false-true e f = absurd (true≢false (sym f ∙ e))
+false-true {b = b} e f = absurd (both_ways b e f)
 
 pub and-l : (a b : Bool) → a and b ≡ true → a ≡ true
-unfolding ◌and◌ ◌or◌
-and-l true b h = refl
-and-l false b h = h
+unfolding ◌and◌
+and-l a b h = (and_parts a b h).0
 
 pub and-r : (a b : Bool) → a and b ≡ true → b ≡ true
-unfolding ◌and◌ ◌or◌
-and-r true b h = h
-and-r false b h = absurd (true≢false (sym h))
+unfolding ◌and◌
+and-r a b h = (and_parts a b h).1
 
 pub and-i : {a b : Bool} → a ≡ true → b ≡ true → a and b ≡ true
 unfolding ◌and◌
-and-i {a = true} {b = b} e f = f
-and-i {a = false} {b = b} e f = absurd (true≢false (sym e))
+and-i {a} {b} = and_from a b
 
 pub or-c : (a b : Bool) → a or b ≡ true → (a ≡ true) ⊎ (b ≡ true)
-unfolding ◌and◌ ◌or◌
-or-c true b h = inl refl
-or-c false b h = inr h
+unfolding ◌or◌
+or-c = or_cases
 
 pub or-l : (a b : Bool) → a ≡ true → a or b ≡ true
-unfolding ◌and◌ ◌or◌
-or-l true b h = refl
-or-l false b h = absurd (true≢false (sym h))
+unfolding ◌or◌
+or-l = or_left
 
 pub or-r : (a b : Bool) → b ≡ true → a or b ≡ true
-unfolding ◌and◌ ◌or◌
-or-r true b h = refl
-or-r false b h = h
+unfolding ◌or◌
+or-r = or_right
 
 pub implies : (a b : Bool) → not a or b ≡ true → a ≡ true → b ≡ true
-unfolding ◌and◌ ◌or◌
+unfolding ◌or◌
 implies true b h e = h
-implies false b h e = absurd (true≢false (sym e))
-
-pub not-c : (a : Bool) → not a ≡ true → a ≡ false
-not-c true h = sym h
-not-c false h = refl
-
-pub either : (a : Bool) → (a ≡ true) ⊎ (a ≡ false)
-either true = inl refl
-either false = inr refl
+implies false b h e = false-true refl e
 
 pub eqb-refl : (k : ℕ) → eqb k k ≡ true
-eqb-refl k = elim (either (eqb k k)) [ inl p ↦ p | inr p ↦ absurd (eqb-false k k p refl) ]
+eqb-refl k = eq-eqb k k refl
 
 pub cond-zero : (b : Bool) → ◌≡◌ {A = ℕ} (cond b 0 0) 0
 cond-zero true = refl
@@ -58,17 +45,15 @@ cond-zero false = refl
 
 pub or-false : {a b : Bool} → a ≡ false → b ≡ false → a or b ≡ false
 unfolding ◌or◌
-or-false {a} {b} e f = rw (e, f) refl
+or-false {a} {b} = or_from a b
 
 pub or-false-l : (a b : Bool) → a or b ≡ false → a ≡ false
 unfolding ◌or◌
-or-false-l true b h = h
-or-false-l false b h = refl
+or-false-l a b h = (or_parts a b h).0
 
 pub or-false-r : (a b : Bool) → a or b ≡ false → b ≡ false
 unfolding ◌or◌
-or-false-r true b h = absurd (true≢false h)
-or-false-r false b h = h
+or-false-r a b h = (or_parts a b h).1
 
 pub or-assoc : (a b c : Bool) → (a or b) or c ≡ a or (b or c)
 unfolding ◌or◌
@@ -82,12 +67,11 @@ or-none false = refl
 
 pub and-false-r : (a : Bool) {b : Bool} → b ≡ false → a and b ≡ false
 unfolding ◌and◌
-and-false-r true e = e
-and-false-r false e = refl
+and-false-r a {b} = and_right a b
 
 pub and-false-l : (a b : Bool) → a ≡ false → a and b ≡ false
 unfolding ◌and◌
-and-false-l a b e = rw e refl
+and-false-l = and_left
 
 -- Two tests that agree.
 abbrev pub same : Bool → Bool → Bool
