@@ -1,5 +1,6 @@
 -- A tree of the tables, shown as the tree of syntax kinds, is a derivation.
 use Rattle.std.proofs.Common.{◌≡◌, ℕ, ◌+◌, Bool, true, false, cond, not, eqb, List, [], ◌∷◌, refl, sym, ap, ap₂, ◌∙◌, subst, ◌⊎◌, inl, inr, true≢false, eqb-true}
+use Rattle.std.proofs.lemmas.Bool.{false_from_ne_true}
 use Rattle.document_grammar.specs.Tree.{Tree, leaf, node, Forest, none, ◌▸◌, root}
 use Rattle.document_grammar.specs.Pattern.{Pattern, any_of, nothing, ◌then◌, ◌or_else◌, many, member, Matches}
 use Rattle.grammar_machine.specs.Table.{State, rows}
@@ -53,7 +54,7 @@ agree s q l v = implies _ _ (state-test (λ s q v. not (is_live v) or agree_at s
 -- The rows.
 pub leaf-no-type : (l : ℕ) → is_leaf l ≡ true → eqb l TYPE ≡ false
 unfolding is_leaf
-leaf-no-type l h = elim (either (eqb l TYPE)) [ inl p ↦ false-true refl (rw (eqb-true l TYPE p) at h) | inr p ↦ p ]
+leaf-no-type l h = false_from_ne_true _ (λ p. false-true refl (rw (eqb-true l TYPE p) at h))
 
 pub type-arc : (k : ℕ) → has TYPE 0 k ≡ true → (k ≡ NAMED_TYPE) ⊎ (k ≡ LIST_TYPE)
 unfolding has arcs at rows ◌or◌

@@ -1,6 +1,6 @@
 -- Lists of marks, and the start symbol that the first token chooses.
 use Rattle.std.proofs.Common.{◌≡◌, ℕ, true, false, eqb, List, [], ◌∷◌, ◌++◌, refl, ap₂, subst, inl, inr, eqb-true}
-use Rattle.std.proofs.lemmas.Bool.{eqb-false}
+use Rattle.std.proofs.lemmas.Bool.{eqb-false, true_from_ne_false, false_from_ne_true}
 use Rattle.document_grammar.specs.Tree.{Token, Tree, none}
 use Rattle.grammar_machine.specs.Table.{rows, firsts}
 use Rattle.document_grammar.specs.Derivation.{Sort, document, selections, type, Mark, word, end, marks}
@@ -28,18 +28,14 @@ unfolding ◌and◌ ◌or◌ holds is_leaf at ends arcs entries rows firsts stic
 tests = (refl, refl, refl)
 
 begins-selection_set : (u : Tree) (w : List Token) → Parse SELECTION_SET u w → eqb (first w) L_CURLY ≡ true
-begins-selection_set u w p = elim (either (eqb (first w) L_CURLY)) [
-  | inl e ↦ e
-  | inr e ↦ (let h : holds (first w) (but (L_CURLY ∷ [])) ≡ true = holds-but (first w) L_CURLY any (but (L_CURLY ∷ [])) (first-any w) (eqb-false _ _ e) refl in
-      absurd (never_stuck SELECTION_SET fragments-begin.0 u w SELECTION_SET 0 none [] w p start (sticks-move SELECTION_SET 0 (but (L_CURLY ∷ [])) any (first w) (second w) tests.0 h (second-any w))))
-]
+begins-selection_set u w p = true_from_ne_false _ (λ e.
+    let h : holds (first w) (but (L_CURLY ∷ [])) ≡ true = holds-but (first w) L_CURLY any (but (L_CURLY ∷ [])) (first-any w) (eqb-false _ _ e) refl in
+    never_stuck SELECTION_SET fragments-begin.0 u w SELECTION_SET 0 none [] w p start (sticks-move SELECTION_SET 0 (but (L_CURLY ∷ [])) any (first w) (second w) tests.0 h (second-any w)))
 
 begins-bare_selections : (u : Tree) (w : List Token) → Parse BARE_SELECTIONS u w → eqb (first w) L_CURLY ≡ false
-begins-bare_selections u w p = elim (either (eqb (first w) L_CURLY)) [
-  | inl e ↦ (let h : holds (first w) (only (L_CURLY ∷ [])) ≡ true = rw (eqb-true _ _ e) tests.2 in
-      absurd (never_stuck BARE_SELECTIONS fragments-begin.1 u w BARE_SELECTIONS 0 none [] w p start (sticks-move BARE_SELECTIONS 0 (only (L_CURLY ∷ [])) any (first w) (second w) tests.1 h (second-any w))))
-  | inr e ↦ e
-]
+begins-bare_selections u w p = false_from_ne_true _ (λ e.
+    let h : holds (first w) (only (L_CURLY ∷ [])) ≡ true = rw (eqb-true (first w) L_CURLY e) tests.2 in
+    never_stuck BARE_SELECTIONS fragments-begin.1 u w BARE_SELECTIONS 0 none [] w p start (sticks-move BARE_SELECTIONS 0 (only (L_CURLY ∷ [])) any (first w) (second w) tests.1 h (second-any w)))
 
 pub opens-by : (sort : Sort) (k : ℕ) (u : Tree) (w : List Token) → Opens sort k → Parse k u w → k ≡ opening sort (first w)
 opens-by document k u w e p = e

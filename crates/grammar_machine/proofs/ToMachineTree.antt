@@ -1,6 +1,6 @@
 -- A derivation is shown by a tree of the tables.
 use Rattle.std.proofs.Common.{◌≡◌, ◌≢◌, ℕ, ◌+◌, ◌<◌, Bool, true, false, cond, not, eqb, ltb, List, [], ◌∷◌, ◌++◌, refl, sym, ap, ap₂, ◌∙◌, subst, ◌⊎◌, inl, inr, true≢false, arith, eqb-true, append-nil, ltb-true, ltb-false, ◌≤◌}
-use Rattle.std.proofs.lemmas.Bool.{eqb-false}
+use Rattle.std.proofs.lemmas.Bool.{eqb-false, false_from_ne_true}
 use Rattle.document_grammar.proofs.Words.{all_words, listed-at}
 use Rattle.document_grammar.specs.Tree.{Text, Tree, leaf, node, Forest, none, ◌▸◌, root}
 use Rattle.document_grammar.specs.Pattern.{Pattern, any_of, one, member, Matches}
@@ -210,7 +210,7 @@ unfolding ◌and◌ ◌or◌ words fires entries firsts holds
 names-checked = (refl, refl, refl, refl, refl, refl)
 
 unequal : (x y : Text) → x ≢ y → text_eq x y ≡ false
-unequal x y n = elim (either (text_eq x y)) [ inl p ↦ absurd (n (text-same x y p)) | inr p ↦ p ]
+unequal x y n = false_from_ne_true _ (λ p. n (text-same x y p))
 
 fires-fragment_name : (x : Text) → x ≢ on_text → fires IDENT_FOR_FRAGMENT (word_class words x) 0 ≡ true
 fires-fragment_name x n = word-read words (λ k. fires IDENT_FOR_FRAGMENT k 0) on x names-checked.1 names-checked.4 (unequal x on_text n)

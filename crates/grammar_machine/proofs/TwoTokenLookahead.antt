@@ -1,5 +1,6 @@
 -- Every tree that fits the rows is made by the machine.
 use Rattle.std.proofs.Common.{◌≡◌, ℕ, ◌+◌, Bool, true, false, not, eqb, List, [], ◌∷◌, ◌++◌, refl, sym, ap, ◌∙◌, subst, ◌⊎◌, inl, inr, true≢false, append_assoc, eqb-true, ltb-true}
+use Rattle.std.proofs.lemmas.Bool.{false_from_ne_true}
 use Rattle.document_grammar.specs.Tree.{Text, Token, Tree, leaf, node, Forest, none, ◌▸◌, root}
 use Rattle.grammar_machine.specs.Table.{Entry}
 use Rattle.document_grammar.specs.Booleans.{◌and◌, ◌or◌}
@@ -101,28 +102,23 @@ next-ok s q (t ▸ g) r o h = let b = tree-first t o.1 in inl (rw (begun-split t
 
 -- The close: nothing that may go on begins here.
 no-fire : (es : List Entry) (a b : ℕ) → holds a (entries_mask es) ≡ false → fires_in es a b ≡ false
-no-fire es a b h = elim (either (fires_in es a b)) [
-  | inl p ↦ false-true h (holds-mask es a (any-more es (begun_by a b) (λ x y alone. holds a x) (rw fires-any at p) (λ x y alone q. and-l _ _ q)))
-  | inr p ↦ p
-]
+no-fire es a b h = false_from_ne_true _ (λ p.
+    false-true h (holds-mask es a (any-more es (begun_by a b) (λ x y alone. holds a x) (rw fires-any at p) (λ x y alone q. and-l _ _ q))))
 
 choose-close : (l : List (ℕ × ℕ)) (e : Bool) (a b : ℕ) → e ≡ true → holds a (arcs_mask l) ≡ false → choose l e a b ≡ close
 unfolding arcs_mask fires
 choose-close [] e a b h n = rw h refl
-choose-close (c ∷ more) e a b h n = elim (either (holds a (entries_mask (entries c.0)))) [
-  | inl p ↦ false-true n (holds-or a (entries_mask (entries c.0)) (arcs_mask more) (inl p))
-  | inr p ↦ elim (either (holds a (arcs_mask more))) [
-    | inl q ↦ false-true n (holds-or a (entries_mask (entries c.0)) (arcs_mask more) (inr q))
-    | inr q ↦ rw (no-fire (entries c.0) a b p) (choose-close more e a b h q)
-  ]
-]
+choose-close (c ∷ more) e a b h n =
+    let begins = holds-or a (entries_mask (entries c.0)) (arcs_mask more) in
+    rw (no-fire (entries c.0) a b (false_from_ne_true _ (λ p. false-true n (begins (inl p)))))
+    (choose-close more e a b h (false_from_ne_true _ (λ p. false-true n (begins (inr p)))))
 
 close-at : (s q : ℕ) → is_leaf s ≡ false → ends s q ≡ true → disjoint (state_begins (at s q)) (follow s (exit s q)) ≡ true
 unfolding ends exit ◌or◌
 close-at s q l e = implies _ _ (row-test close_test close_checked (λ k. refl) s q l) e
 
 disjoint-r : (a x y : ℕ) → disjoint x y ≡ true → holds a y ≡ true → holds a x ≡ false
-disjoint-r a x y d h = elim (either (holds a x)) [ inl p ↦ false-true (holds-disjoint a x y d p) h | inr p ↦ p ]
+disjoint-r a x y d h = false_from_ne_true _ (λ p. false-true (holds-disjoint a x y d p) h)
 
 move-close : (s q : ℕ) (r : List Token) → is_leaf s ≡ false → ends s q ≡ true → holds (first r) (follow s (exit s q)) ≡ true
     → move s q (first r) (second r) ≡ close
