@@ -166,9 +166,7 @@ spent (frame s q f ∷ fs) = spent fs ++ yields f
 
 pub snoc-spent : (fs : List Frame) (f : Forest) (t : Tree) (r : List Token)
     → (spent fs ++ yields (f +++ (t ▸ none))) ++ r ≡ (spent fs ++ yields f) ++ (yield t ++ r)
-snoc-spent fs f t r =
-    ap (λ (v : List Token). (spent fs ++ v) ++ r) (yields-append f (t ▸ none) ∙ ap (λ (v : List Token). yields f ++ v) (append-nil (yield t)))
-    ∙ (append_assoc (spent fs) (yields f ++ yield t) r ∙ (ap (λ (v : List Token). spent fs ++ v) (append_assoc (yields f) (yield t) r) ∙ sym (append_assoc (spent fs) (yields f) (yield t ++ r))))
+snoc-spent fs f t r = rw (yields-append f (t ▸ none)) (simp (append_assoc, append-nil))
 
 pub reach-spent : {s0 : ℕ} {w : List Token} {fs : List Frame} {r : List Token} → Reach s0 w fs r → w ≡ spent fs ++ r
 unfolding first
