@@ -14,6 +14,7 @@ use Rattle.grammar_machine.proofs.Depth.{nesting_all}
 use Rattle.grammar_machine.proofs.FromMachineTree.{shows, show}
 use Rattle.grammar_machine.proofs.Sound.{any, reach-sound}
 use Rattle.grammar_machine.proofs.MachineTheorems.{Parse, no-leaf as start-no-leaf}
+use Rattle.std.specs.Prelude.{⊤}
 use Rattle.parser_rules.specs.State.{State, flush, opened, closed, wrapped_from, bump, is_deep, enter, leave}
 use Rattle.parser_rules.specs.Nodes.{Node, symbol, kind_of}
 use Rattle.parser_rules.specs.RuleLanguage.{Test, At, holds, Prim, Bump, Note, step, Rule, While, Nested}
@@ -28,7 +29,7 @@ use Rattle.parser_rules.proofs.lookahead.TokenSets.{class_of, seen-more, near-at
 use Rattle.parser_rules.proofs.lookahead.FirstSets.{first_of, second_of, inlined}
 use Rattle.parser_rules.proofs.soundness.MachineStack.{image, image-some, image-plain, show-bang, stack-wrap}
 use Rattle.parser_rules.proofs.soundness.Settled.{fitting-image, fitting-path}
-use Rattle.parser_rules.proofs.soundness.TableCheck.{Mark, Then, same_level, same_sure, weak, same_spot, covered, all_marks, levels, is_high, lowered, heads, takes, after, closing, losing, child_goes, child_sticks, child_at, limits_at, nests, typed, type_at, ok, ends_well, follows_table, bang_next, no_bang}
+use Rattle.parser_rules.proofs.soundness.TableCheck.{Mark, Then, same_level, same_sure, weak, same_spot, covered, turns, levels, is_high, lowered, takes, after, closing, losing, child_goes, child_sticks, child_at, limits_at, nests, typed, type_at, ok, ends_well, follows_table, bang_next, no_bang}
 use Rattle.parser_rules.proofs.NodeChecks.{node_passes}
 use Rattle.parser_rules.proofs.soundness.Positions.{Reading, idle-rest, Alike, same-alike, flush-alike, opened-alike, closed-alike, wrapped-alike, renested, left-idle, idle-seen, idle-grows, run-grows, top, Stands, StandsAt, Fits, Way, Out, tell-on, fills, known-weak, start_good, idle-calm, shown, note-told, deep-told, taken-at, idle-lost, leveled-enter, leveled-leave, still-leveled, moved-on}
 use Rattle.parser_rules.proofs.soundness.Moves.{fits-next, lost-at, note-right, goes-deeper, too-many, flushed, Shaped, token-taken, bump-out, begun, begun-in, ended, ended-here, tell-closed, with-sets, node-out, walked-out, lost-out}
@@ -55,14 +56,34 @@ module _ (R : Reading) where
   spot-same lost lost h = refl
   spot-same _ _ h = false-true refl h
 
-  covered-at : (s : ℕ) (p : Spot) (x y : ℕ) (fs : List Frame) (st : State) (hs : List Mark) (f : Then) → covered p x y hs ≡ true → all_marks hs f ≡ true → Fits R s p x y fs st → Way R s fs f st
-  unfolding covered all_marks
-  covered-at s p x y fs st [] f h a g = false-true refl h
-  covered-at s p x y fs st (m ∷ more) f h a g = elim (or-c _ _ h) [
-    | inl e ↦ (
-        let i = subst (λ (z : Spot). Fits R s z x y fs st) (spot-same p m.place (and-l _ _ e)) g in
-        (m.place, m.near, m.far, and-l _ _ a, with-sets R i (seen-more x y m.near m.far st (and-r _ _ e) g.seen)))
-    | inr e ↦ covered-at s p x y fs st more f e (and-r _ _ a) g
+  -- the check of each mark that was met
+  Met : (Spot → ℕ → ℕ → Then → Bool) → List Mark → Type 0
+  Met turn [] = ⊤
+  Met turn (m ∷ h) = ((n : ℕ) × (turn m.place m.near m.far (turns n turn (m ∷ h)) ≡ true)) × Met turn h
+
+  -- a mark at which a turn begins, with its check
+  record Head (turn : Spot → ℕ → ℕ → Then → Bool) (s : ℕ) (fs : List Frame) (st : State) : Type 0 where
+    count : ℕ
+    marks : List Mark
+    met : Met turn marks
+    way : Way R s fs (λ p x y. turn p x y (turns count turn marks)) st
+
+  met-at : (turn : Spot → ℕ → ℕ → Then → Bool) (s : ℕ) (p : Spot) (x y : ℕ) (fs : List Frame) (st : State) (h : List Mark) → covered p x y h ≡ true → Met turn h → Fits R s p x y fs st → Head turn s fs st
+  unfolding covered Met
+  met-at turn s p x y fs st [] c m g = false-true refl c
+  met-at turn s p x y fs st (m ∷ h) c e g = elim (or-c _ _ c) [
+    | inl i ↦ (
+        let f = subst (λ (z : Spot). Fits R s z x y fs st) (spot-same p m.place (and-l _ _ i)) g in
+        record { count = e.0.0; marks = m ∷ h; met = e; way = (m.place, m.near, m.far, e.0.1, with-sets R f (seen-more x y m.near m.far st (and-r _ _ i) g.seen)) })
+    | inr i ↦ met-at turn s p x y fs st h i e.1 g
+  ]
+
+  head-at : (turn : Spot → ℕ → ℕ → Then → Bool) (n s : ℕ) (p : Spot) (x y : ℕ) (fs : List Frame) (st : State) (h : List Mark) → turns n turn h p x y ≡ true → Met turn h → Fits R s p x y fs st → Head turn s fs st
+  unfolding turns Met
+  head-at turn zero s p x y fs st h c m g = met-at turn s p x y fs st h c m g
+  head-at turn (suc n) s p x y fs st h c m g = elim (either (covered p x y h)) [
+    | inl i ↦ met-at turn s p x y fs st h i m g
+    | inr i ↦ let d = rw (turns, i) at c in record { count = n; marks = record { place = p; near = x; far = y } ∷ h; met = ((n, d), m); way = (p, x, y, d, g) }
   ]
 
   -- the branch that is taken
@@ -73,17 +94,17 @@ module _ (R : Reading) where
 
   -- ---- runs
 
-  abbrev turned : ℕ → ℕ → Test → Rule → Then → List Mark → Then
-  turned n s t a k h p u v = divide (λ a' b'. a' and b') true t p u v (λ q' u' v'. ok n s q' u' v' a (λ p'' u'' v''. covered p'' u'' v'' h)) (λ q' u' v'. k q' u' v')
+  abbrev turned : ℕ → ℕ → Test → Rule → Then → Spot → ℕ → ℕ → Then → Bool
+  turned n s t a k p u v next = divide (λ a' b'. a' and b') true t p u v (λ q' u' v'. ok n s q' u' v' a next) k
 
-  -- What is asked of a rule: its check, and for a loop some marks that hold its heads.
+  -- What is asked of a rule: its check, and for a loop that of the turns that are left, with the marks that were met.
   pub Good : ℕ → ℕ → Spot → ℕ → ℕ → Rule → Then → Type 0
-  Good n s p x y (While t a) k = (h : List Mark) × (covered p x y h ≡ true) × (all_marks h (turned n s t a k h) ≡ true)
+  Good n s p x y (While t a) k = (j : ℕ) × (h : List Mark) × (turns j (turned n s t a k) h p x y ≡ true) × Met (turned n s t a k) h
   Good n s p x y r k = ok n s p x y r k ≡ true
 
   pub good : (n s : ℕ) (p : Spot) (x y : ℕ) (r : Rule) (k : Then) → ok n s p x y r k ≡ true → Good n s p x y r k
-  unfolding Good ok
-  good n s p x y (While t a) k h = (heads n s p x y t a, and-l _ _ h, and-r _ _ h)
+  unfolding Good ok Met
+  good n s p x y (While t a) k h = (5, [], h, tt)
   good n s p x y _ k h = h
 
   -- a run of a rule, from any mark that its check holds at
@@ -268,11 +289,11 @@ module _ (R : Reading) where
   link {st = st} (yes {q = q} {a = a} {b = b} e h1) n s p x y fs k h g = walked a (link h1) n s fs k (branch q true s fs st (λ p' u v. ok n s p' u v a k) (λ p' u v. ok n s p' u v b k) e (p, x, y, h, g))
   link {st = st} (no {q = q} {a = a} {b = b} e h1) n s p x y fs k h g = walked b (link h1) n s fs k (branch q false s fs st (λ p' u v. ok n s p' u v a k) (λ p' u v. ok n s p' u v b k) e (p, x, y, h, g))
   link {st = st} (done {q = q} {a = a} e) n s p x y fs k h g =
-      inr (branch q false s fs st (λ q' u' v'. ok n s q' u' v' a (λ p'' u'' v''. covered p'' u'' v'' h.0)) k e (covered-at s p x y fs st h.0 (turned n s q a k h.0) h.1 h.2 g))
+      let d = head-at (turned n s q a k) h.0 s p x y fs st h.1 h.2 h.3 g in inr (branch q false s fs st (λ q' u' v'. ok n s q' u' v' a (turns d.count (turned n s q a k) d.marks)) k e d.way)
   link {st = st} {t = u} (again {q = q} {a = a} {t = t} e h1 h2) n s p x y fs k h g =
-      let f : Then = λ p'' u'' v''. covered p'' u'' v'' h.0 in
-      then-on s fs f k t u (run-grows h2) (λ o. link h2 n s o.0 o.1 o.2 fs k (h.0, o.3, h.2) o.4)
-      (walked a (link h1) n s fs f (branch q true s fs st (λ q' u' v'. ok n s q' u' v' a f) k e (covered-at s p x y fs st h.0 (turned n s q a k h.0) h.1 h.2 g)))
+      let d = head-at (turned n s q a k) h.0 s p x y fs st h.1 h.2 h.3 g in
+      let f : Then = turns d.count (turned n s q a k) d.marks in
+      then-on s fs f k t u (run-grows h2) (λ o. link h2 n s o.0 o.1 o.2 fs k (d.count, d.marks, o.3, d.met) o.4) (walked a (link h1) n s fs f (branch q true s fs st (λ q' u' v'. ok n s q' u' v' a f) k e d.way))
   link (child i j h1) zero s p x y fs k h g = false-true refl h
   link {st = st} (child {n = c} {t = t} {u = u} i j h1) (suc n) s p x y fs k h g = rw j (child-in n s p x y c fs k st t u i (link h1) h g)
   link {st = st} {t = z} (deeper {a = a} {b = b} {t = t} {u = u} {v = v} d i j h1 h2) n s p x y fs k h g = level-in n s p x y a b fs k st t u v z d i j (link h1) (link h2) (run-grows h2) h g

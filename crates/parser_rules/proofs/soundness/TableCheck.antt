@@ -81,9 +81,11 @@ unfoldable pub covered : Spot → ℕ → ℕ → List Mark → Bool
 covered p x y [] = false
 covered p x y (m ∷ more) = (same_spot p m.place and (subset x m.near and subset y m.far)) or covered p x y more
 
-unfoldable pub all_marks : List Mark → Then → Bool
-all_marks [] t = true
-all_marks (m ∷ more) t = t m.place m.near m.far and all_marks more t
+-- The check of a loop from a mark, where `turn` is that of one turn with what follows it, and of the loop's end. A mark that is covered by
+-- one that was met before is not looked at again.
+unfoldable pub turns : ℕ → (Spot → ℕ → ℕ → Then → Bool) → List Mark → Then
+turns zero turn h p x y = covered p x y h
+turns (suc n) turn h p x y = elim (covered p x y h) [ true ↦ true | false ↦ turn p x y (turns n turn (record { place = p; near = x; far = y } ∷ h)) ]
 
 -- the levels agree where a node of the symbol `j` begins
 unfoldable pub levels : ℕ → Level → ℕ → Bool
@@ -130,31 +132,6 @@ lacks k = not (exits k (λ e. eqb e 0))
 -- no `{`
 abbrev pub no_brace : ℕ
 no_brace = without any (kind_set token.LCurly)
-
--- candidate loop invariants; they need no proof, since `ok` checks them
-unfoldable pub post : ℕ → ℕ → Spot → ℕ → ℕ → Rule → (Spot → ℕ → ℕ → List Mark) → List Mark
-post n s p x y Skip k = k p x y
-post n s p x y (Do (Bump leaf)) k = k (shift_to s p (leaf_of s (number leaf))) y any
-post n s p x y (Do (Note m)) k = []
-post n s p x y TooDeep k = []
-post n s p x y (Seq a b) k = post n s p x y a (λ p' u v. post n s p' u v b k)
-post n s p x y (When t a b) k = divide (λ a' b'. a' ++ b') [] t p x y (λ p' u v. post n s p' u v a k) (λ p' u v. post n s p' u v b k)
-post n s p x y (While t a) k = k p x y
-post n s p x y (Child c) k = k (on_by (shift_to s p (symbol c)) 0) (cond (inlined c) y any) any ++ (cond (lacks (symbol c)) (k (on_by (shift_to s p (symbol c)) 1) no_brace any) [] ++ cond (loses c) (k lost over any) [])
-post n s p x y (Nested a b) k = post n s (risen p) x y a (λ p' u v. post n s (lowered p') u v b k)
-post zero s p x y (Call q) k = []
-post (suc n) s p x y (Call q) k = post n s p x y (body q) k
-post n s p x y (Typed a) k = k (shift_to s p TYPE) any any
-
-abbrev pub add : List Mark → List Mark → List Mark
-add [] h = h
-add (m ∷ more) h = add more (cond (covered m.place m.near m.far h) h (h ++ m ∷ []))
-
-abbrev pub mark : Spot → ℕ → ℕ → List Mark
-mark p x y = record { place = p; near = x; far = y } ∷ []
-
-unfoldable pub heads : ℕ → ℕ → Spot → ℕ → ℕ → Test → Rule → List Mark
-heads n s p x y t a = add (divide (λ a' b'. a' ++ b') [] t p x y (λ p' u v. post n s p' u v a mark) (λ p' u v. [])) (mark p x y)
 
 -- a token becomes a leaf of the row, by the machine's move
 unfoldable pub takes : ℕ → Spot → ℕ → ℕ → ℕ → ℕ → (Spot → Bool) → Bool
@@ -249,9 +226,7 @@ ok n s p x y (Do (Note m)) k = reports s p x y
 ok n s p x y TooDeep k = limits_at s p x
 ok n s p x y (Seq a b) k = ok n s p x y a (λ p' u v. ok n s p' u v b k)
 ok n s p x y (When t a b) k = divide (λ a' b'. a' and b') true t p x y (λ p' u v. ok n s p' u v a k) (λ p' u v. ok n s p' u v b k)
-ok n s p x y (While t a) k =
-    let h = heads n s p x y t a in
-    covered p x y h and all_marks h (λ p' u v. divide (λ a' b'. a' and b') true t p' u v (λ q' u' v'. ok n s q' u' v' a (λ p'' u'' v''. covered p'' u'' v'' h)) (λ q' u' v'. k q' u' v'))
+ok n s p x y (While t a) k = turns 5 (λ p u v next. divide (λ a' b'. a' and b') true t p u v (λ q' u' v'. ok n s q' u' v' a next) k) [] p x y
 ok zero s p x y (Child c) k = false
 ok (suc n) s p x y (Child c) k = child_at s p x y c k (λ u v k'. ok n (symbol c) (spot 0 low loose) u v (inside c) k') (λ u v. ok n s lost u v (inside c) (losing k))
 ok n s p x y (Nested a b) k = limits_at s (fill p) x and nests p (λ p'. ok n s p' x y a (λ p'' u v. is_high p'' and ok n s (lowered p'') u v b k))
