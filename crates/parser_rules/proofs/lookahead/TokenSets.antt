@@ -7,7 +7,7 @@ use Rattle.parser_rules.specs.RuleLanguage.{TokenTest, Kind, Keyword, Or, fits}
 use Rattle.std.proofs.lemmas.Nat.Bits.{bit_at_and, bit_at_or, bit_at_xor, bit_at-lt, bit_at-pow_same, bit_at-zero}
 use Rattle.lexical_grammar.specs.declared.TokenKind.{TokenKind}
 use Rattle.lexical_grammar.specs.declared.TokenKind.TheVariants as token
-use Rattle.lexical_grammar.specs.Answers.{Answer, is_end}
+use Rattle.lexical_grammar.specs.Answers.{is_end}
 use Rattle.document_grammar.specs.declared.kind.SyntaxKind.{SyntaxKind}
 use Rattle.document_grammar.specs.Kinds.{words, COMMENT, IDENT}
 use Rattle.document_grammar.specs.Numbers.{number}
@@ -23,7 +23,7 @@ use Rattle.document_grammar.proofs.Booleans.{either, false-true, and-l, and-r}
 use Rattle.grammar_machine.proofs.TableLemmas.{holds-subset, holds-disjoint}
 use Rattle.grammar_machine.proofs.Sound.{any, class-any, word-name, holds-one}
 use Rattle.grammar_machine.proofs.Endings.{words_checked}
-use Rattle.parser_rules.specs.State.{State, Text, Lexeme, same_kind, ignored, read_on, second, is_at, is_word, is_over}
+use Rattle.parser_rules.specs.State.{State, Text, Lexeme, same_kind, ignored, second, is_at, is_word, is_over}
 use Rattle.parser_rules.proofs.runs.Reading.{Shown, second-shown}
 
 -- ---- classes of tokens

@@ -1,9 +1,9 @@
 -- Rules that surely take the token that is there: so loops end.
-use Rattle.std.proofs.Common.{◌≡◌, ℕ, suc, ◌<◌, Option, Some, None, refl, sym, ◌∙◌, ap, ap₂, subst, arith, true, false, Bool, not, ◌&&◌, ◌||◌, inl, inr, true≢false}
-use Rattle.lexical_grammar.specs.declared.TokenKind.TheVariants as token
+use Rattle.std.proofs.Common.{◌≡◌, ℕ, suc, ◌<◌, Option, Some, None, refl, sym, ◌∙◌, ap, ap₂, subst, arith, true, false, Bool, not, ◌||◌, inl, inr, true≢false}
 use Rattle.document_grammar.specs.declared.kind.SyntaxKind.{SyntaxKind}
 use Rattle.document_grammar.specs.Booleans.{◌and◌, ◌or◌}
-use Rattle.document_grammar.proofs.Booleans.{and-l, and-r, or-c}
+use Rattle.std.proofs.lemmas.Bool.{and_parts}
+use Rattle.document_grammar.proofs.Booleans.{and-l, and-r, or-c, not-c}
 use Rattle.parser_rules.specs.State.{State, Lexeme, flush, opened, closed, moved, bump, is_at, is_over, is_deep, enter, leave}
 use Rattle.parser_rules.specs.declared.constness.Constness.{Constness}
 use Rattle.parser_rules.specs.declared.constness.Constness.TheVariants.{Const, NotConst}
@@ -58,23 +58,14 @@ pub ready_there : (s : State) → true ≡ holds Ready s → IsThere s
 unfolding holds IsThere
 ready_there s e = elim s.current as (λ o. true ≡ not (is_over o) → (x : Lexeme) × (o ≡ Some x)) [ None ↦ λ y. absurd cc | Some x ↦ λ y. (x, refl) ] e
 
-item_here : (o : Option Lexeme) (d : Bool) → true ≡ (not (is_over o) && not (is_at token.RBracket o)) && not d → (x : Lexeme) × (o ≡ Some x)
-item_here None d e = absurd cc
-item_here (Some x) d e = (x, refl)
-
-item_low : (a d : Bool) → true ≡ a && not d → false ≡ d
-item_low true true e = absurd cc
-item_low true false e = refl
-item_low false d e = absurd cc
-
 -- where another item may start, a token is there, and the recursion limit is not reached
 pub item_there : (s : State) → true ≡ holds has_item s → IsThere s
 unfolding holds IsThere
-item_there s e = item_here s.current (is_deep s) e
+item_there s e = ready_there s (sym (and_parts _ _ (and_parts _ _ (sym e)).0).0)
 
 pub item_not_deep : (s : State) → true ≡ holds has_item s → false ≡ is_deep s
 unfolding holds
-item_not_deep s e = item_low (not (is_over s.current) && not (is_at token.RBracket s.current)) (is_deep s) e
+item_not_deep s e = sym (not-c _ (and_parts _ _ (sym e)).1)
 
 pub opened_there : (k : SyntaxKind) (s : State) {t : State} → t ≡ opened k s → IsThere s → IsThere t
 unfolding opened flush IsThere

@@ -1,7 +1,7 @@
 -- The check of the rules against the grammar's machine: each rule is walked along the rows, with sets of classes of the next two tokens.
 -- A token that is taken and a node that begins must be the machine's move for all of them; a report must be where the machine is
 -- stuck, or where the root ends and tokens are left.
-use Rattle.std.proofs.Common.{ℕ, zero, suc, ◌+◌, ◌^◌, Bool, true, false, not, eqb, ltb, List, [], ◌∷◌, ◌++◌, cond, bit_and, bit_or}
+use Rattle.std.proofs.Common.{ℕ, zero, suc, ◌+◌, ◌^◌, Bool, true, false, not, eqb, ltb, List, [], ◌∷◌, cond, bit_and, bit_or}
 use Rattle.std.specs.Int.Bits.{bit_xor}
 use Rattle.lexical_grammar.specs.declared.TokenKind.TheVariants as token
 use Rattle.document_grammar.specs.declared.kind.SyntaxKind.TheVariants as kind
@@ -16,7 +16,7 @@ use Rattle.grammar_machine.proofs.Patterns.{label}
 use Rattle.grammar_machine.proofs.Sound.{any}
 use Rattle.grammar_machine.proofs.Depth.{count_in}
 use Rattle.parser_rules.specs.Nodes.{Node, Argument, VariableDefinition, DefaultValue, ListValue, ObjectField, symbol, kind_of}
-use Rattle.parser_rules.specs.RuleLanguage.{Prim, Bump, Note, Test, At, Rule, Skip, Do, Seq, When, While, Child, TooDeep, Nested, Call, Typed}
+use Rattle.parser_rules.specs.RuleLanguage.{Prim, Bump, Note, At, Rule, Skip, Do, Seq, When, While, Child, TooDeep, Nested, Call, Typed}
 use Rattle.parser_rules.specs.Rules.{inside, body}
 use Rattle.parser_rules.proofs.lookahead.TokenSets.{absent, over, ready, by_near, kind_set}
 use Rattle.parser_rules.proofs.lookahead.Split.{Level, low, high, past, Sure, loose, firm, full, Spot, spot, lost, fill, divide}
