@@ -30,10 +30,12 @@ Onward taken answers reports t = record { more : List Report; are : t.errors ≡
 
 -- ---- reading on
 
-reports_one : {taken held : Bool} {answers rest : List Answer} (reports : List Report) (t : State) (r : Report) → ((later : List Report) → Reported held rest later → Reported taken answers (r ∷ later)) → Onward held rest (reports ++ r ∷ []) t → Onward taken answers reports t
+reports_one : {taken held : Bool} {answers rest : List Answer} (reports : List Report) (t : State) (r : Report) → ((later : List Report) → Reported held rest later → Reported taken answers (r ∷ later))
+    → Onward held rest (reports ++ r ∷ []) t → Onward taken answers reports t
 reports_one reports t r step h = record { more = r ∷ h.more; are = h.are ∙ append_assoc reports (r ∷ []) h.more; onward = λ later l. step (h.more ++ later) (h.onward later l); shown = h.shown }
 
-reports_none : {taken held : Bool} {answers rest : List Answer} (reports : List Report) (t : State) → ((later : List Report) → Reported held rest later → Reported taken answers later) → Onward held rest reports t → Onward taken answers reports t
+reports_none : {taken held : Bool} {answers rest : List Answer} (reports : List Report) (t : State) → ((later : List Report) → Reported held rest later → Reported taken answers later)
+    → Onward held rest reports t → Onward taken answers reports t
 reports_none reports t step h = record { more = h.more; are = h.are; onward = λ later l. step (h.more ++ later) (h.onward later l); shown = h.shown }
 
 stands : (s : State) → Shown s.current → Onward s.accepts (ahead s) s.errors s

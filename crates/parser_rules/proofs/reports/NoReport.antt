@@ -210,7 +210,9 @@ module _ (answers : List Answer) (Right : Report → ℕ → Type 0) where
 
   pub read-on : {xs : List Answer} {s t : State} → Reading xs s t → (m : ℕ) → Quiet s → EndsWell xs → Passed answers xs → Blames m (answers_tokens xs) → Settled m s.tree → Told t ⊎ (Calm t × (rest t ≡ answers_tokens xs))
   read-on stops m q e p b f = absurd e
-  read-on {s = s} {t = t} (cuts {index = index} {xs = xs} h) m q e p b f = let u : State = met index (record s { items = xs }) in inl (told-on u t (reading-grows h) (told-first m (token_limit_report index) s u q refl (b (limit_at index) xs p refl refl) f))
+  read-on {s = s} {t = t} (cuts {index = index} {xs = xs} h) m q e p b f =
+      let u : State = met index (record s { items = xs }) in
+      inl (told-on u t (reading-grows h) (told-first m (token_limit_report index) s u q refl (b (limit_at index) xs p refl refl) f))
   read-on {s = s} {t = t} (bad_text {item = item} {xs = xs} i h) m q e p b f =
       let u : State = bad item.text item.index (record s { items = xs }) in
       inl (told-on u t (reading-grows h) (told-first m (bad_report item.text item.index) s u q refl (b (gives item) xs p (rw i refl) (rw i refl)) f))
