@@ -1,4 +1,5 @@
 -- Going on after reports: where the tokens that are left at a turn of the document's loop are a sentence's, its children follow, without a report.
+-- These theorems are for the clause on the children that follow a report, which no contract has yet.
 use Rattle.std.proofs.Common.{◌≡◌, ℕ, ◌≤◌, Bool, true, is_some, List, [], ◌∷◌, ◌++◌, Option, Some, None, refl, sym, ap, ap₂, ◌∙◌, subst, ◌⊎◌, inl, inr, append-nil}
 use Rattle.lexical_grammar.specs.Cut.{Item, Cut}
 use Rattle.lexical_grammar.specs.Answers.{Answer, gives, limit_at, limited}
@@ -108,7 +109,7 @@ tokens-silent taken (gives item ∷ xs) h = (elim item.kind as (λ found. item.k
   | Some k ↦ λ e g. passed e (tokens-silent taken xs (and-r _ _ h))
 ]) refl (and-l _ _ h)
 
--- and no report is beyond the first token that is left
+-- and no report is beyond the first token that is left: a part of that clause
 pub none-beyond : (r k : ℕ) (source : List ℕ) (items : List Item) (first_rule : Rule) (b st : State) (c : Turn st) → Cut source items → all_tokens (from_now st c) ≡ true → Runs first_rule (begun (limited k items) r kind.DOCUMENT) b → Turns Ready (Call Definition) b st → AllUpTo c.token.index st.errors
 none-beyond r k source items first_rule b st c cut h run turns =
     before_last k source items st.errors (fault_report message.UnexpectedEof c.token) cut (reported_at (limited k items) r kind.DOCUMENT message.UnexpectedEof c.token run turns c.current c.accepts (tokens-silent true st.items (and-r _ _ h)))

@@ -1,5 +1,5 @@
 -- Where a rule is: the open nodes of the machine and of the builder, the levels, and what is known; and which reports are right there.
-use Rattle.std.proofs.Common.{◌≡◌, ℕ, suc, ◌+◌, ◌-◌, ◌≤◌, ◌<◌, max, Bool, true, false, cond, eqb, if◌then◌else◌, List, [], ◌∷◌, ◌++◌, length, Option, Some, None, refl, sym, ap, ap₂, ◌∙◌, subst, ◌⊎◌, inl, inr, eqb-true, arith}
+use Rattle.std.proofs.Common.{◌≡◌, ℕ, suc, ◌+◌, ◌-◌, ◌≤◌, ◌<◌, max, true, false, cond, eqb, List, [], ◌∷◌, ◌++◌, length, Option, Some, None, refl, sym, ap, ap₂, ◌∙◌, subst, ◌⊎◌, inl, inr, eqb-true, arith}
 use Rattle.std.specs.Prelude.{⊤}
 use Rattle.lexical_grammar.specs.Answers.{Answer}
 use Rattle.document_grammar.specs.declared.kind.SyntaxKind.{SyntaxKind}

@@ -91,10 +91,6 @@ turns (suc n) turn h p x y = elim (covered p x y h) [ true ↦ true | false ↦ 
 unfoldable pub levels : ℕ → Level → ℕ → Bool
 levels s l j = eqb (raised l + own j) (own s + count_in s j) and eqb (owed s l) 0
 
-abbrev pub shift_to : ℕ → Spot → ℕ → Spot
-shift_to s (spot q l d) k = spot (target s q k) l firm
-shift_to s lost k = lost
-
 -- the machine's leaf of a name
 unfoldable pub leaf_of : ℕ → ℕ → ℕ
 leaf_of s n = cond (eqb s NAME_FOR_FRAGMENT) IDENT_FOR_FRAGMENT (cond (eqb s NAME_FOR_ENUM) IDENT_FOR_ENUM n)
@@ -107,10 +103,6 @@ loses DefaultValue = true
 loses (ListValue c) = true
 loses (ObjectField c) = true
 loses _ = false
-
-abbrev pub risen : Spot → Spot
-risen (spot q l d) = spot q high (weak d)
-risen lost = lost
 
 abbrev pub is_high : Spot → Bool
 is_high (spot q l d) = same_level l high
