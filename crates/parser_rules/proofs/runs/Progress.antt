@@ -4,7 +4,7 @@ use Rattle.document_grammar.specs.declared.kind.SyntaxKind.{SyntaxKind}
 use Rattle.document_grammar.specs.Booleans.{◌and◌, ◌or◌}
 use Rattle.std.proofs.lemmas.Bool.{and_parts}
 use Rattle.document_grammar.proofs.Booleans.{and-l, and-r, or-c, not-c}
-use Rattle.parser_rules.specs.State.{State, Lexeme, flush, opened, closed, moved, bump, is_at, is_over, is_deep, enter, leave}
+use Rattle.parser_rules.specs.State.{State, Lexeme, flush, opened, closed, moved, bump, is_over, is_deep, enter, leave}
 use Rattle.parser_rules.specs.declared.constness.Constness.{Constness}
 use Rattle.parser_rules.specs.declared.constness.Constness.TheVariants.{Const, NotConst}
 use Rattle.parser_rules.specs.Nodes.{kind_of, ValueOf, NestedValue}

@@ -19,7 +19,7 @@ use Rattle.document_grammar.specs.Derivation.{Sort}
 use Rattle.grammar_machine.proofs.SentenceTheorems.{start_symbol}
 use Rattle.std.proofs.lemmas.List.{length-append}
 use Rattle.parser_rules.specs.declared.message.Message.{Message}
-use Rattle.parser_rules.specs.State.{State, PendingToken, Lexeme, Report, fault_report, recursion_limit_report, noted, note, flush, opened, closed, wrapped_from, is_deep, leave, deepened, limited_at, too_deep}
+use Rattle.parser_rules.specs.State.{State, PendingToken, Lexeme, Report, fault_report, recursion_limit_report, note, flush, opened, closed, wrapped_from, is_deep, leave, too_deep}
 use Rattle.parser_rules.specs.RuleLanguage.{Prim, Rule}
 use Rattle.parser_rules.specs.Runs.{Runs}
 use Rattle.parser_rules.proofs.runs.Steps.{along}
