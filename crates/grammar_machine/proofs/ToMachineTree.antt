@@ -268,10 +268,6 @@ any-arc (a ∷ more) j h = elim (or-c _ _ h) [
   | inr p ↦ (let r = any-arc more j p in (r.0, or-r _ _ r.1, r.2))
 ]
 
-arc-for : (s q j : ℕ) → any_arcs (arcs s q) (λ k p. member j (shown k)) ≡ true → (k : ℕ) × (has s q k ≡ true) × (member j (shown k) ≡ true)
-unfolding has
-arc-for s q j h = any-arc (arcs s q) j h
-
 ok-live : (s q : ℕ) (g : Forest) → OkFrom s q g → Live (at s q)
 ok-live s q none h = ends-live s q h
 ok-live s q (t ▸ g) h = has-live s q (root t) h.0
@@ -289,18 +285,6 @@ leaf-below j x r h = let b : STRING < j = omega arith in let l : j < DOCUMENT = 
 no-variable : (t : Tree) → Fits t → NoVariable t → root t ≡ VARIABLE → ⊥
 no-variable (leaf j x) h n e = leaf-below j x h (omega arith)
 no-variable (node j f) h n e = n.0 e
-
-build-forest : (s q k : ℕ) (t : Tree) (f : Forest) → is_leaf s ≡ false → agree_at s q ≡ true → has s q k ≡ true → member (root t) (shown k) ≡ true
-    → Matches (deriv (pattern_of s q) (root t)) (kinds f) → (r : Read k t)
-    → (Matches (pattern_of s (target s q (root r.0) + finish r.0)) (kinds f) → agree_at s (target s q (root r.0) + finish r.0) ≡ true
-    → ReadFrom s (target s q (root r.0) + finish r.0) f) → ReadFrom s q (t ▸ f)
-build-forest s q k t f l a h m d r rf =
-    let hu : has s q (root r.0) ≡ true = subst (λ (n : ℕ). has s q n ≡ true) (sym r.2) h in
-    let mu : member (root t) (shown (root r.0)) ≡ true = subst (λ (n : ℕ). member (root t) (shown n) ≡ true) (sym r.2) m in
-    let e : deriv (pattern_of s q) (root t) ≡ pattern_of s (target s q (root r.0) + finish r.0) = agree-arc s q (root t) r.0 a hu r.1 mu in
-    let v : Live (at s (target s q (root r.0) + finish r.0)) = fill-live s (target s q (root r.0) + finish r.0) (fill-after s q r.0 l hu r.1) in
-    let g = rf (subst (λ (z : Pattern). Matches z (kinds f)) e d) (agree s (target s q (root r.0) + finish r.0) l v) in
-    (r.0 ▸ g.0, (hu, r.1, g.1), ap₂ (λ x y. x ▸ y) r.3 g.2)
 
 read-end : (s q : ℕ) → agree_at s q ≡ true → Matches (pattern_of s q) [] → ReadFrom s q none
 read-end s q a m = (none, sym (agree-ends s q a) ∙ nullable-to (pattern_of s q) [] refl m, refl)
@@ -421,13 +405,20 @@ chosen s q k t f l h p a m = elim (either (eqb s DOCUMENT)) [
 read-step : (s q : ℕ) (t : Tree) (f : Forest) → is_leaf s ≡ false → Matches (pattern_of s q) (root t ∷ kinds f) → agree_at s q ≡ true
     → Kids s (t ▸ f) → Place s q (t ▸ f) → Fits t → ((k : ℕ) → Cond k t → Read k t)
     → ((p : ℕ) → Matches (pattern_of s p) (kinds f) → agree_at s p ≡ true → Place s p f → ReadFrom s p f) → ReadFrom s q (t ▸ f)
+unfolding has
 read-step s q t f l m a d p h rt rf =
     let dm : Matches (deriv (pattern_of s q) (root t)) (kinds f) = to-deriv (pattern_of s q) (root t) (kinds f) m in
     elim (or-c _ _ (agree-kind s q (root t) a (first-kind (pattern_of s q) (root t) (kinds f) dm))) [
       | inl v ↦ absurd (no-variable t h (d.0 (and-l _ _ v)).0 (eqb-true _ _ (and-r _ _ v)))
-      | inr v ↦ (let c = arc-for s q (root t) v in let k = chosen s q c.0 t f l h p c.1 c.2 in
+      | inr v ↦ (let c = any-arc (arcs s q) (root t) v in let k = chosen s q c.0 t f l h p c.1 c.2 in
           let r = rt k.0 (kid-cond s q k.0 t f l k.1 k.2 k.3 d) in
-          build-forest s q k.0 t f l a k.1 k.2 dm r (λ m' a'. rf _ m' a' (place-after s q k.0 t f k.1 r p)))
+          let q' : ℕ = target s q (root r.0) + finish r.0 in
+          let hu : has s q (root r.0) ≡ true = subst (λ (n : ℕ). has s q n ≡ true) (sym r.2) k.1 in
+          let mu : member (root t) (shown (root r.0)) ≡ true = subst (λ (n : ℕ). member (root t) (shown n) ≡ true) (sym r.2) k.2 in
+          let e : deriv (pattern_of s q) (root t) ≡ pattern_of s q' = agree-arc s q (root t) r.0 a hu r.1 mu in
+          let live : Live (at s q') = fill-live s q' (fill-after s q r.0 l hu r.1) in
+          let g = rf q' (subst (λ (z : Pattern). Matches z (kinds f)) e dm) (agree s q' l live) (place-after s q k.0 t f k.1 r p) in
+          (r.0 ▸ g.0, (hu, r.1, g.1), rw (r.3, g.2) refl))
     ]
 
 -- Types.
