@@ -23,10 +23,6 @@ string_fits : (k : SyntaxKind) (kids : Forest) → is_kind STRING_VALUE k ≡ tr
 string_fits STRING_VALUE kids e f = f
 string_fits _ kids e f = absurd cc
 
-boolean_fits : (k : SyntaxKind) (kids : Forest) → is_kind BOOLEAN_VALUE k ≡ true → Fits k kids → IsOneLeaf IsBooleanLeaf kids
-boolean_fits BOOLEAN_VALUE kids e f = f
-boolean_fits _ kids e f = absurd cc
-
 -- what is known of the leaf's text holds of the node's
 one_leaf_text : (P : SyntaxKind → List ℕ → Type 0) (Q : List ℕ → Type 0) → ((k : SyntaxKind) (s : List ℕ) → P k s → Q s) → (kids : Forest) → IsOneLeaf P kids → Q (text kids)
 one_leaf_text P Q says kids f = subst Q (sym (ap text f.2 ∙ append-nil f.1)) (says f.0 f.1 f.3)
@@ -42,14 +38,3 @@ IsIntegerPart-from_sound (Node k kids) n e h = one_leaf_text IsIntLeaf IsInteger
 pub IsString-from_sound : (t : Tree) → is_node t ≡ true → is_kind STRING_VALUE (tree_kind t) ≡ true → IsSoundTree t → IsString (tree_text t)
 IsString-from_sound (Leaf k s) n e h = absurd cc
 IsString-from_sound (Node k kids) n e h = one_leaf_text IsStringLeaf IsString (λ k s p. p.1) kids (string_fits k kids e h.0)
-
--- the two texts of a Boolean
-abbrev pub IsBoolean : List ℕ → Type 0
-IsBoolean s = (s ≡ codes "true") ⊎ (s ≡ codes "false")
-
-boolean_text : (k : SyntaxKind) (s : List ℕ) → IsBooleanLeaf k s → IsBoolean s
-boolean_text k s h = ⊎_elim (λ a. inl a.1) (λ b. inr b.1) h
-
-pub IsBoolean-from_sound : (t : Tree) → is_node t ≡ true → is_kind BOOLEAN_VALUE (tree_kind t) ≡ true → IsSoundTree t → IsBoolean (tree_text t)
-IsBoolean-from_sound (Leaf k s) n e h = absurd cc
-IsBoolean-from_sound (Node k kids) n e h = one_leaf_text IsBooleanLeaf IsBoolean boolean_text kids (boolean_fits k kids e h.0)
