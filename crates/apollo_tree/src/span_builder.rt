@@ -1,0 +1,220 @@
+ghost use Rattle.std.specs.Prelude.{◌≡◌, ℕ, suc, ◌+◌, ◌^◌, ◌<◌, ◌≤◌, [], ◌∷◌, ◌++◌, length, take, drop, true, OnErr, OnOk, IfOk, string_bytes};
+ghost use Rattle.apollo_tree.specs.Sound.{CanFinish};
+ghost use Rattle.apollo_tree.specs.Open.{IsComplete, start_behind, up_at};
+ghost use Rattle.apollo_tree.specs.Brackets.{Opening, Single, Closing, brackets, written, open_at};
+ghost use Rattle.apollo_tree.specs.Children.{tiled};
+ghost use Rattle.apollo_tree.specs.Adopted.{after_adoption};
+ghost use Rattle.document_grammar.specs.Forests.{Forest};
+ghost use Rattle.document_grammar.specs.Builds.{nothing, start, add_leaf, finish, wrap, IsPlace, built_count, built_text};
+
+use crate::record::Record;
+use crate::subtree::Subtree;
+use crate::table::RecordTable;
+use crate::words::{Piece, Words};
+use document_grammar::SyntaxKind;
+use std::alloc::{AllocError, Allocator};
+use std::marker::Model;
+
+/// A place between the elements of what is being built, where a node can be opened later: the number of elements before it.
+#[derive(Clone, Copy)]
+pub struct Checkpoint {
+    pub place: usize,
+}
+
+/// Builds a tree of a text that is at hand elsewhere, from its leaves and the starts and ends of its nodes, called in document order. It keeps how
+/// long the leaves are, and no text: that is copied once, when the tree is finished.
+///
+/// Contracts see it as the trees that stand in the innermost open node, and the open nodes from there outward. Each call also says
+/// which brackets have been written: a start opens, a finish closes, and a wrap opens at the place of its checkpoint.
+/// A call that fails, which it does only where memory is refused or the text passes the greatest `usize`, leaves what has been built as it was.
+#[derive(Drop)]
+pub struct SpanBuilder<A: Allocator> {
+    records: RecordTable<A>,
+    unfinished: Vec<usize, A>,
+    len: usize,
+    words: Words,
+}
+
+impl<A: Allocator> Model for SpanBuilder<A> {
+    ghost use Rattle.std.specs.Prelude.{◌≡◌, length};
+    ghost use Rattle.document_grammar.specs.Builds.{Building};
+    ghost use Rattle.apollo_tree.specs.Codes.{building_code};
+
+    ghost Value = { Building };
+
+    ghost coded = { building_code };
+
+    ghost use Rattle.apollo_tree.specs.Records.{built};
+    ghost use Rattle.apollo_tree.specs.Open.{Holds};
+
+    ghost view = { λ a. built a.words.bytes a.records };
+
+    ghost invariant = { λ a. Holds (built a.words.bytes a.records) a.records a.unfinished.items a.words.bytes × (a.len ≡ length a.words.bytes) };
+}
+
+impl<A: Allocator + Copy> SpanBuilder<A> {
+    /// A builder that has built nothing. It takes no memory yet.
+    pub fn new(alloc: A) -> SpanBuilder<A>
+        ensures { result ≡ nothing }
+    {
+        SpanBuilder {
+            records: RecordTable::new(alloc),
+            unfinished: Vec::new(alloc),
+            len: 0,
+            words: Words::new(),
+        }
+    }
+
+    /// Opens a node behind what has been built. Its children are what is built until it is closed.
+    pub fn start_node(&mut self, kind: SyntaxKind) -> Result<(), AllocError>
+        ensures ok { OnOk result (self.new ≡ start kind self.old) }
+        ensures calls { OnOk result (written self.new ≡ written self.old ++ Opening kind ∷ []) }
+        ensures err { OnErr result (self.new ≡ self.old) }
+    {
+        let place = self.checkpoint().place;
+        let to_parent = self.to_parent(place);
+        self.unfinished.reserve(1)?;
+        self.records.push(Record {
+            kind,
+            is_node: true,
+            start: self.len,
+            size: 0,
+            to_parent,
+        })?;
+        self.unfinished.push(place)?;
+        Ok(())
+    }
+
+    /// The present place, for a later `wrap`.
+    pub fn checkpoint(&self) -> Checkpoint
+        ensures place { result.place ≡ built_count self.now }
+        ensures is_place { IsPlace result.place self.now }
+    {
+        Checkpoint {
+            place: self.records.len(),
+        }
+    }
+
+    /// Opens a node at an earlier place of the innermost open node, round all that has been built in it since.
+    pub fn wrap(&mut self, checkpoint: Checkpoint, kind: SyntaxKind) -> Result<(), AllocError>
+        requires { IsPlace checkpoint.place self.old }
+        ensures ok { OnOk result (self.new ≡ wrap checkpoint.place kind self.old) }
+        ensures calls { OnOk result (written self.new ≡ open_at checkpoint.place kind (written self.old)) }
+        ensures err { OnErr result (self.new ≡ self.old) }
+    {
+        let place = checkpoint.place;
+        let start = self.start_behind(place);
+        let to_parent = self.to_parent(place);
+        self.unfinished.reserve(1)?;
+        self.records.insert(
+            place,
+            Record {
+                kind,
+                is_node: true,
+                start,
+                size: 0,
+                to_parent,
+            },
+        )?;
+        adopt(&mut self.records, place);
+        self.unfinished.push(place)?;
+        Ok(())
+    }
+
+    // The offset in the text at which the element behind a place begins, or the text's length where the place is the end.
+    fn start_behind(&self, place: usize) -> usize
+        requires { IsPlace place self.now }
+        ensures { result ≡ start_behind place self.now }
+    {
+        if place < self.records.len() {
+            self.records.get(place).start
+        } else {
+            self.len
+        }
+    }
+
+    // How many records before a place the innermost open node stands; 0 where none is open.
+    fn to_parent(&self, place: usize) -> usize
+        requires { IsPlace place self.now }
+        ensures { result ≡ up_at place self.now }
+    {
+        match self.unfinished.last() {
+            Some(parent) => place - *parent,
+            None => 0,
+        }
+    }
+
+    /// Adds a leaf behind what has been built. The leaves' texts, joined, are the tree's text.
+    pub fn token(&mut self, kind: SyntaxKind, text: &str) -> Result<(), AllocError>
+        ensures ok { OnOk result (self.new ≡ add_leaf kind text.now self.old) }
+        ensures calls { OnOk result (written self.new ≡ written self.old ++ Single kind text.now ∷ []) }
+        ensures err { OnErr result (self.new ≡ self.old) }
+    {
+        let to_parent = self.to_parent(self.checkpoint().place);
+        let start = self.len;
+        let Some(end) = start.checked_add(text.len()) else {
+            return Err(AllocError);
+        };
+        self.records.push(Record {
+            kind,
+            is_node: false,
+            start,
+            size: 1,
+            to_parent,
+        })?;
+        self.words = self.words.joined(&Piece { text });
+        self.len = end;
+        Ok(())
+    }
+
+    /// Closes the innermost open node. It takes no memory and can't fail.
+    ///
+    /// A node of the kind NAME, INT_VALUE, STRING_VALUE or BOOLEAN_VALUE must hold one leaf, the one of its row, whose text is a token of its kind.
+    pub fn finish_node(&mut self)
+        requires { CanFinish self.old }
+        ensures after { self.new ≡ finish self.old }
+        ensures calls { written self.new ≡ written self.old ++ Closing ∷ [] }
+        ensures counted { built_count self.new < 2 ^ 64 }
+    {
+        let place = self.unfinished.pop().unwrap();
+        let size = self.records.len() - place;
+        self.records.set_size(place, size);
+    }
+
+    /// The finished tree over its text, once all nodes are closed and there is one root.
+    pub(crate) fn finish_over(self, text: String<A>) -> Subtree<A>
+        requires complete { IsComplete self }
+        requires text { string_bytes text ≡ built_text self }
+        ensures value { result ≡ self.here }
+        ensures calls { brackets result ≡ written self }
+        ensures only { (f : Forest) → brackets f ≡ written self → f ≡ result }
+    {
+        let SpanBuilder { records, .. } = self;
+        Subtree { records, text }
+    }
+
+    /// The finished tree, once all nodes are closed and there is one root. Its text is copied from a source that begins with it.
+    pub fn finish(self, alloc: A, source: &str) -> Result<Subtree<A>, AllocError>
+        requires complete { IsComplete self }
+        requires source { take (length (built_text self)) source.now ≡ built_text self }
+        ensures value { IfOk result (λ t. t ≡ self.here) }
+    {
+        let text = String::from_str(alloc, &source[..self.len])?;
+        Ok(self.finish_over(text))
+    }
+}
+
+// Tells the trees that stand behind a record that it is their parent.
+fn adopt<A: Allocator>(records: &mut RecordTable<A>, parent: usize)
+    requires inside { parent < length records.old }
+    requires trees { tiled 0 (drop (suc parent) records.old) ≡ true }
+    ensures { records.new ≡ after_adoption parent records.old }
+{
+    let len = records.len();
+    let mut child = parent + 1;
+    while child < len {
+        let size = records.get(child).size;
+        records.set_parent(child, child - parent);
+        child += size;
+    }
+}
