@@ -1,7 +1,9 @@
 #!/usr/bin/env python3
-"""Runs `gqlcst check` on hostile texts of N bytes (5,000,000 unless given) and of twice as many, and prints how much longer these take.
+"""Runs `gqlcst check` on hostile texts of N bytes (5,000,000 unless given), of twice as many, and so on, and prints a table: the seconds at each
+size, how many times those of the size before they are, and the peak memory at the last.
 
-hostile.py PROGRAM [N]. Ends with status 1 when twice a text takes more than 2.2 times as long. Best of five runs each, in turn."""
+hostile.py PROGRAM [N [SIZES [ROUNDS [GIGABYTES]]]]: SIZES of them (2), best of ROUNDS runs each, in turn (5). A size that would take more than
+GIGABYTES (8), by what the size before took, is left out. Ends with status 1 where twice a text takes more than 2.2 times as long."""
 import os
 import subprocess
 import sys
@@ -26,27 +28,53 @@ TEXTS = {
 }
 
 
-def spent(program, text):
+
+
+def run(program, text):
+    """The seconds that the program takes, and the greatest memory that it held in gigabytes."""
     with open(text) as source:
         started = time.perf_counter()
-        subprocess.run([program, "check"], stdin=source, stdout=subprocess.DEVNULL)
-        return time.perf_counter() - started
+        process = subprocess.Popen([program, "check"], stdin=source, stdout=subprocess.DEVNULL)
+        _, _, usage = os.wait4(process.pid, 0)
+        return time.perf_counter() - started, usage.ru_maxrss / 1e6
+
+
+def measured(program, folder, make, sizes, rounds, most):
+    """The least seconds at each size, and the memory at each."""
+    texts = []
+    for size in sizes:
+        path = os.path.join(folder, str(size))
+        with open(path, "w") as target:
+            target.write(make(size))
+        texts.append(path)
+    seconds, memory = [], []
+    for turn in range(rounds):
+        for i, path in enumerate(texts):
+            if turn == 0 and i > 0 and 2 * memory[i - 1] > most:
+                texts = texts[:i]
+                break
+            spent, peak = run(program, path)
+            if turn == 0:
+                seconds.append(spent)
+                memory.append(peak)
+            seconds[i] = min(seconds[i], spent)
+    return seconds, memory
 
 
 def main():
-    program = sys.argv[1]
-    size = int(sys.argv[2]) if len(sys.argv) > 2 else 5_000_000
+    given = [float(word) for word in sys.argv[2:]]
+    size, count, rounds, most = given + [5_000_000, 2, 5, 8][len(given):]
+    sizes = [int(size) * 2**i for i in range(int(count))]
+    print("| | " + " | ".join(f"{size / 1e6:g} MB" for size in sizes) + " | times | memory |\n|" + "---|" * (len(sizes) + 3))
     slow = 0
     with tempfile.TemporaryDirectory() as folder:
-        once, twice = os.path.join(folder, "once"), os.path.join(folder, "twice")
         for name, make in TEXTS.items():
-            for path, length in [(once, size), (twice, 2 * size)]:
-                with open(path, "w") as target:
-                    target.write(make(length))
-            runs = [(spent(program, once), spent(program, twice)) for _ in range(5)]
-            short, long = min(run[0] for run in runs), min(run[1] for run in runs)
-            slow += long > 2.2 * short
-            print(f"{name}: {1000 * short:.0f} ms, {1000 * long:.0f} ms, {long / short:.2f} times")
+            seconds, memory = measured(sys.argv[1], folder, make, sizes, int(rounds), most)
+            times = [after / before for before, after in zip(seconds, seconds[1:])]
+            slow += any(ratio > 2.2 for ratio in times)
+            cells = [f"{spent:.2f}" for spent in seconds] + [""] * (len(sizes) - len(seconds))
+            ratios = ", ".join(f"{ratio:.2f}" for ratio in times)
+            print(f"| {name} | " + " | ".join(cells) + f" | {ratios} | {memory[-1]:.2f} GB |", flush=True)
     sys.exit(1 if slow else 0)
 
 
