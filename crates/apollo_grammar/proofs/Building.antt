@@ -1,9 +1,9 @@
 -- What the builder asks where a node is closed.
-use Rattle.std.proofs.Common.{◌≡◌, ◌∙◌, ap, sym, subst, true, List, [], ◌∷◌}
+use Rattle.std.proofs.Common.{◌≡◌, ◌∙◌, ap, sym, subst, true, ℕ, List, [], ◌∷◌, ◌++◌, length, take}
 use Rattle.document_grammar.specs.declared.kind.SyntaxKind.{SyntaxKind}
 use Rattle.document_grammar.specs.declared.kind.SyntaxKind.TheVariants as kind
-use Rattle.document_grammar.specs.Forests.{Forest, none, node}
-use Rattle.document_grammar.specs.Builds.{Building, Open, finish, close}
+use Rattle.document_grammar.specs.Forests.{Forest, none, node, text}
+use Rattle.document_grammar.specs.Builds.{Building, Open, finish, close, built_text, open_text}
 use Rattle.apollo_tree.specs.Sound.{Fits, FitsInnermost, CanFinish}
 use Rattle.apollo_tree.specs.Open.{IsComplete, one_node}
 use Rattle.parser_rules.specs.State.{State, PendingToken, add_all, finished}
@@ -34,6 +34,12 @@ root_flushed ps b h = (h.0, h.1, add_all_above ps b ∙ h.2)
 pub root_is_open : (b : Building) → IsRoot b → IsOpen b
 unfolding IsOpen
 root_is_open b h = subst (λ above. is_free_in above ≡ true) (sym h.2) h.1
+
+-- the text of what was built is that of the finished tree
+pub begins_with : (b : Building) (f : Forest) (source : List ℕ) → IsComplete b → b.here ≡ f → take (length (text f)) source ≡ text f → take (length (built_text b)) source ≡ built_text b
+begins_with b f source complete here h =
+    let e : built_text b ≡ text f = ap (λ above. open_text above ++ text b.here) complete.closed ∙ ap text here in
+    ap (λ s. take (length s) source) e ∙ h ∙ sym e
 
 -- the finished tree is one node, of the kind of the node that was open first
 pub finished_node : (s : State) (k : SyntaxKind) → s.tree.above ≡ record { before = none; kind = k } ∷ [] → finished s ≡ node k (add_all s.pending s.tree).here none

@@ -92,7 +92,7 @@ impl<'i> Parser<'i> {
             SyntaxKind::DOCUMENT,
         )?;
         document(&mut p)?;
-        let tree = p.finish(self.token_limit)?;
+        let tree = p.finish(self.token_limit, self.source)?;
         Ok(tree)
     }
 

@@ -7,10 +7,10 @@ mod reading;
 mod reporting;
 mod tokens;
 
-ghost use Rattle.std.specs.Prelude.{◌≡◌, ◌<◌, ◌^◌, true, [], map, IfOk};
+ghost use Rattle.std.specs.Prelude.{◌≡◌, ◌<◌, ◌^◌, true, [], length, take, map, IfOk};
 ghost use Rattle.std.specs.List.{AllZip};
 ghost use Rattle.lexical_grammar.specs.declared.TokenKind.TheVariants as token;
-ghost use Rattle.document_grammar.specs.Forests.{count, none};
+ghost use Rattle.document_grammar.specs.Forests.{count, none, text};
 ghost use Rattle.apollo_lexer.specs.Answers.{answers_left};
 ghost use Rattle.parser_rules.specs.State as state;
 ghost use Rattle.parser_rules.specs.Open.{IsRoot};
@@ -21,7 +21,7 @@ ghost use Rattle.apollo_grammar.specs.View.{current_of, pending_of, report_of};
 use crate::report::Report;
 use crate::syntax_tree::{Root, SyntaxTree};
 use apollo_lexer::{Lexer, LimitTracker, Token};
-use apollo_tree::TreeBuilder;
+use apollo_tree::SpanBuilder;
 use building::push_all;
 use document_grammar::SyntaxKind;
 use reporting::errors_of;
@@ -42,7 +42,7 @@ pub struct ParserState<'i, A: Allocator> {
     alloc: A,
     lexer: Lexer<'i>,
     current_token: Option<Token<'i>>,
-    builder: TreeBuilder<A>,
+    builder: SpanBuilder<A>,
     pending: Vec<PendingToken<'i>, A>,
     reports: Vec<Report<'i>, A>,
     recursion_limit: LimitTracker,
@@ -90,7 +90,7 @@ impl<'i, A: Allocator + Copy> ParserState<'i, A> {
         requires { lexer.limit_tracker.high ≡ 0 }
         ensures { IfOk result (λ p. p ≡ state.begun (answers_left lexer.entry) recursion_limit root) }
     {
-        let mut builder = TreeBuilder::new(alloc);
+        let mut builder = SpanBuilder::new(alloc);
         builder.start_node(root)?;
         let mut p = ParserState {
             alloc,
@@ -106,8 +106,13 @@ impl<'i, A: Allocator + Copy> ParserState<'i, A> {
         Ok(p)
     }
 
-    /// Takes in what waits, and closes the root. The token limit is the lexer's.
-    pub fn finish<R: Root>(self, token_limit: usize) -> Result<SyntaxTree<R, A>, AllocError>
+    /// Takes in what waits, and closes the root. The token limit is the lexer's, and the source is what it reads.
+    pub fn finish<R: Root>(
+        self,
+        token_limit: usize,
+        source: &str,
+    ) -> Result<SyntaxTree<R, A>, AllocError>
+        requires source { take (length (text (state.finished self))) source.now ≡ text (state.finished self) }
         requires open_root { IsRoot self.tree }
         requires kind { R.roots (root_kind (state.finished self)) ≡ true }
         ensures tree { IfOk result (λ t. t.tree ≡ state.finished self.entry) }
@@ -130,7 +135,7 @@ impl<'i, A: Allocator + Copy> ParserState<'i, A> {
         let mut tokens = LimitTracker::new(token_limit);
         tokens.high = lexer.limit_tracker().high;
         Ok(SyntaxTree {
-            tree: builder.finish(),
+            tree: builder.finish(alloc, source)?,
             errors: errors_of(alloc, &reports)?,
             recursion_limit,
             token_limit: tokens,

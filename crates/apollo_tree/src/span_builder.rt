@@ -12,7 +12,7 @@ use crate::subtree::Subtree;
 use crate::table::RecordTable;
 use crate::words::{Piece, Words};
 use document_grammar::SyntaxKind;
-use std::alloc::{AllocError, Allocator};
+use std::alloc::{AllocError, Allocator, Global};
 use std::marker::Model;
 
 /// A place between the elements of what is being built, where a node can be opened later: the number of elements before it.
@@ -24,11 +24,11 @@ pub struct Checkpoint {
 /// Builds a tree of a text that is at hand elsewhere, from its leaves and the starts and ends of its nodes, called in document order. It keeps how
 /// long the leaves are, and no text: that is copied once, when the tree is finished.
 ///
-/// Contracts see it as the trees that stand in the innermost open node, and the open nodes from there outward. Each call also says
-/// which brackets have been written: a start opens, a finish closes, and a wrap opens at the place of its checkpoint.
-/// A call that fails, which it does only where memory is refused or the text passes the greatest `usize`, leaves what has been built as it was.
+/// Contracts see it as the trees in the innermost open node, and the open nodes from there outward. Each call also says which brackets
+/// have been written: a start opens, a finish closes, and a wrap opens at the place of its checkpoint.
+/// A call fails only when memory is refused or the text passes the greatest `usize`, and then leaves what has been built as it was.
 #[derive(Drop)]
-pub struct SpanBuilder<A: Allocator> {
+pub struct SpanBuilder<A: Allocator = Global> {
     records: RecordTable<A>,
     unfinished: Vec<usize, A>,
     len: usize,
@@ -65,7 +65,7 @@ impl<A: Allocator + Copy> SpanBuilder<A> {
         }
     }
 
-    /// Opens a node behind what has been built. Its children are what is built until it is closed.
+    /// Opens a node after what has been built. Its children are what is built until it is closed.
     pub fn start_node(&mut self, kind: SyntaxKind) -> Result<(), AllocError>
         ensures ok { OnOk result (self.new ≡ start kind self.old) }
         ensures calls { OnOk result (written self.new ≡ written self.old ++ Opening kind ∷ []) }
@@ -121,7 +121,7 @@ impl<A: Allocator + Copy> SpanBuilder<A> {
         Ok(())
     }
 
-    // The offset in the text at which the element behind a place begins, or the text's length where the place is the end.
+    // The byte offset in the text at which the element at a place begins, or the text's length when the place is the end.
     fn start_behind(&self, place: usize) -> usize
         requires { IsPlace place self.now }
         ensures { result ≡ start_behind place self.now }
@@ -133,7 +133,7 @@ impl<A: Allocator + Copy> SpanBuilder<A> {
         }
     }
 
-    // How many records before a place the innermost open node stands; 0 where none is open.
+    // How many records before a place the innermost open node is; 0 when none is open.
     fn to_parent(&self, place: usize) -> usize
         requires { IsPlace place self.now }
         ensures { result ≡ up_at place self.now }
@@ -144,7 +144,7 @@ impl<A: Allocator + Copy> SpanBuilder<A> {
         }
     }
 
-    /// Adds a leaf behind what has been built. The leaves' texts, joined, are the tree's text.
+    /// Adds a leaf after what has been built. The leaves' texts, joined, are the tree's text.
     pub fn token(&mut self, kind: SyntaxKind, text: &str) -> Result<(), AllocError>
         ensures ok { OnOk result (self.new ≡ add_leaf kind text.now self.old) }
         ensures calls { OnOk result (written self.new ≡ written self.old ++ Single kind text.now ∷ []) }
@@ -204,7 +204,7 @@ impl<A: Allocator + Copy> SpanBuilder<A> {
     }
 }
 
-// Tells the trees that stand behind a record that it is their parent.
+// Makes a record the parent of the trees that follow it.
 fn adopt<A: Allocator>(records: &mut RecordTable<A>, parent: usize)
     requires inside { parent < length records.old }
     requires trees { tiled 0 (drop (suc parent) records.old) ≡ true }

@@ -28,7 +28,7 @@ impl Words {
         Words {}
     }
 
-    // The text with one more behind it.
+    // The text, and one more after it.
     #[inline(always)]
     pub fn joined(&self, _piece: &Piece<'_>) -> Words
         ensures { result.bytes ≡ self.now.bytes ++ _piece.now.text.now }

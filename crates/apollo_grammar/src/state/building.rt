@@ -17,12 +17,12 @@ ghost use Rattle.apollo_grammar.specs.Reading as reading;
 ghost use Rattle.apollo_grammar.specs.View.{pending_of};
 
 use super::{ParserState, PendingToken};
-use apollo_tree::{Checkpoint, TreeBuilder};
+use apollo_tree::{Checkpoint, SpanBuilder};
 use document_grammar::SyntaxKind;
 use std::alloc::{AllocError, Allocator};
 
 pub(super) fn push_all<A: Allocator + Copy>(
-    builder: &mut TreeBuilder<A>,
+    builder: &mut SpanBuilder<A>,
     pending: &[PendingToken<'_>],
 ) -> Result<(), AllocError>
     ensures { OnOk result (builder.new ≡ state.add_all (map pending_of pending.now) builder.old) }

@@ -9,7 +9,7 @@ use Rattle.parser_rules.specs.Runs.{Runs}
 use Rattle.parser_rules.proofs.runs.Frame.{root_kept, root_stays}
 use Rattle.apollo_grammar.specs.Roots.{root_kind}
 use Rattle.apollo_grammar.proofs.Building.{finished_node}
-use Rattle.apollo_grammar.proofs.Parses.{run_read}
+use Rattle.apollo_grammar.proofs.Parses.{run_read, run_begins}
 use Rattle.apollo_grammar.proofs.parser.Parser.run_document.Goals as goal
 
 pub finish-requires : goal.finish-requires
@@ -17,7 +17,9 @@ finish-requires g c =
     let xs = answers_left c.lexer.result in
     let r = c.args.self.recursion_limit in
     let run = subst (λ s. Runs (Call Document) s c.document.new.p) c.in_ok-p.ensures c.in_ok-document.ensures in
+    let ran = subst (λ answers. Runs (Call Document) (begun answers r kind.DOCUMENT) c.document.new.p) c.lexer.ensures.answers run in
     record {
+      source = run_begins c.args.self.token_limit r c.args.self.source.now c.document.new.p c.lexer.ensures.cut ran;
       open_root = root_kept xs r kind.DOCUMENT refl run;
       kind = ap (λ f. is_kind kind.DOCUMENT (root_kind f)) (finished_node c.document.new.p kind.DOCUMENT (root_stays xs r kind.DOCUMENT run));
     }
