@@ -8,39 +8,39 @@ use Rattle.apollo_tree.specs.Sound.{Fits, FitsInnermost, CanFinish}
 use Rattle.apollo_tree.specs.Open.{IsComplete, one_node}
 use Rattle.parser_rules.specs.State.{State, PendingToken, add_all, finished}
 use Rattle.parser_rules.specs.Open.{is_free, is_free_in, IsOpen, IsRoot}
-use Rattle.parser_rules.proofs.runs.Frame.{add_all_above}
+use Rattle.parser_rules.proofs.runs.Frame.{add_all-above}
 
-fits_free : (k : SyntaxKind) (kids : Forest) → is_free k ≡ true → Fits k kids
-fits_free kind.NAME kids e = absurd cc
-fits_free kind.INT_VALUE kids e = absurd cc
-fits_free kind.STRING_VALUE kids e = absurd cc
-fits_free kind.BOOLEAN_VALUE kids e = absurd cc
-fits_free _ kids e = tt
+fits-free : (k : SyntaxKind) (kids : Forest) → is_free k ≡ true → Fits k kids
+fits-free kind.NAME kids e = absurd cc
+fits-free kind.INT_VALUE kids e = absurd cc
+fits-free kind.STRING_VALUE kids e = absurd cc
+fits-free kind.BOOLEAN_VALUE kids e = absurd cc
+fits-free _ kids e = tt
 
-fits_in : (here : Forest) (above : List Open) → is_free_in above ≡ true → FitsInnermost here above
-fits_in here [] e = absurd cc
-fits_in here (o ∷ above) e = fits_free o.kind here e
+fits-in : (here : Forest) (above : List Open) → is_free_in above ≡ true → FitsInnermost here above
+fits-in here [] e = absurd cc
+fits-in here (o ∷ above) e = fits-free o.kind here e
 
-pub free_fits : (b : Building) → IsOpen b → CanFinish b
+pub free-fits : (b : Building) → IsOpen b → CanFinish b
 unfolding IsOpen
-free_fits b h = fits_in b.here b.above h
+free-fits b h = fits-in b.here b.above h
 
-pub root_closes : (b : Building) → IsRoot b → IsComplete (finish b)
-root_closes b h = record { closed = ap (λ above. (close b.here above).above) h.2; root = ap (λ above. one_node (close b.here above).here) h.2 }
+pub root-closes : (b : Building) → IsRoot b → IsComplete (finish b)
+root-closes b h = record { closed = ap (λ above. (close b.here above).above) h.2; root = ap (λ above. one_node (close b.here above).here) h.2 }
 
-pub root_flushed : (ps : List PendingToken) (b : Building) → IsRoot b → IsRoot (add_all ps b)
-root_flushed ps b h = (h.0, h.1, add_all_above ps b ∙ h.2)
+pub root-flushed : (ps : List PendingToken) (b : Building) → IsRoot b → IsRoot (add_all ps b)
+root-flushed ps b h = (h.0, h.1, add_all-above ps b ∙ h.2)
 
-pub root_is_open : (b : Building) → IsRoot b → IsOpen b
+pub root-is-open : (b : Building) → IsRoot b → IsOpen b
 unfolding IsOpen
-root_is_open b h = subst (λ above. is_free_in above ≡ true) (sym h.2) h.1
+root-is-open b h = subst (λ above. is_free_in above ≡ true) (sym h.2) h.1
 
 -- the text of what was built is that of the finished tree
-pub begins_with : (b : Building) (f : Forest) (source : List ℕ) → IsComplete b → b.here ≡ f → take (length (text f)) source ≡ text f → take (length (built_text b)) source ≡ built_text b
-begins_with b f source complete here h =
+pub begins-with : (b : Building) (f : Forest) (source : List ℕ) → IsComplete b → b.here ≡ f → take (length (text f)) source ≡ text f → take (length (built_text b)) source ≡ built_text b
+begins-with b f source complete here h =
     let e : built_text b ≡ text f = ap (λ above. open_text above ++ text b.here) complete.closed ∙ ap text here in
     ap (λ s. take (length s) source) e ∙ h ∙ sym e
 
 -- the finished tree is one node, of the kind of the node that was open first
-pub finished_node : (s : State) (k : SyntaxKind) → s.tree.above ≡ record { before = none; kind = k } ∷ [] → finished s ≡ node k (add_all s.pending s.tree).here none
-finished_node s k e = ap (λ above. (close (add_all s.pending s.tree).here above).here) (add_all_above s.pending s.tree ∙ e)
+pub finished-node : (s : State) (k : SyntaxKind) → s.tree.above ≡ record { before = none; kind = k } ∷ [] → finished s ≡ node k (add_all s.pending s.tree).here none
+finished-node s k e = ap (λ above. (close (add_all s.pending s.tree).here above).here) (add_all-above s.pending s.tree ∙ e)

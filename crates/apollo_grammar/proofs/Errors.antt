@@ -15,7 +15,7 @@ use Rattle.document_grammar.proofs.Booleans.{either}
 use Rattle.std.proofs.lemmas.Bool.{eqb-true}
 use Rattle.apollo_lexer.specs.Diagnostics.{Subject, Diagnostic, of_text, of_end, of_limit}
 use Rattle.apollo_lexer.specs.Told.{limit_message}
-use Rattle.apollo_lexer.proofs.Messages.{ascii_text, fault_ascii, begins_fault, no_fault_message}
+use Rattle.apollo_lexer.proofs.Messages.{ascii-text, fault-ascii, begins_fault, no-fault-message}
 use Rattle.grammar_machine.specs.Machine.{text_eq}
 use Rattle.parser_rules.specs.declared.message.Message.{Message}
 use Rattle.parser_rules.specs.declared.message.Message.TheVariants as message
@@ -81,13 +81,13 @@ description-ascii _ = refl
 
 message-ascii : (m : Message) (found : Found) → IsAscii (found_text found) → IsAscii (message_text m found)
 message-ascii m found h = elim (names_found m) as (λ b. IsAscii (if b then description m ++ codes ", got " ++ found_text found else description m)) [
-  | true ↦ IsAscii-append (description m ++ codes ", got ") (found_text found) (IsAscii-append (description m) (codes ", got ") (ascii_text (description m) (description-ascii m)) (ascii_text (codes ", got ") refl)) h
-  | false ↦ ascii_text (description m) (description-ascii m)
+  | true ↦ IsAscii-append (description m ++ codes ", got ") (found_text found) (IsAscii-append (description m) (codes ", got ") (ascii-text (description m) (description-ascii m)) (ascii-text (codes ", got ") refl)) h
+  | false ↦ ascii-text (description m) (description-ascii m)
 ]
 
 found-ascii : (x : Lexeme) → IsAscii x.text → IsAscii (found_text (found_at x))
 found-ascii x h = elim (is_end x.kind) as (λ b. IsAscii (found_text (if b then at_end else at_text x.text))) [
-  | true ↦ ascii_text (codes "EOF") refl
+  | true ↦ ascii-text (codes "EOF") refl
   | false ↦ h
 ]
 
@@ -120,10 +120,10 @@ worded-ascii text message h e = subst IsAscii (sym e) h
 
 pub ascii-messages : {answers : List Answer} {rs : List Report} (ds : List Diagnostic) → Reported true answers rs → AllTexts IsAscii answers → AllZip IsErrorOf rs ds → All AsciiMessage ds
 ascii-messages = each-error IsAscii AsciiMessage
-    (λ text index d h e. fault_ascii text d.message e.message h)
-    (λ index d e. worded-ascii limit_message d.message (ascii_text limit_message refl) e.message)
+    (λ text index d h e. fault-ascii text d.message e.message h)
+    (λ index d e. worded-ascii limit_message d.message (ascii-text limit_message refl) e.message)
     (λ m x d h e. worded-ascii (message_text m (found_at x)) d.message (message-ascii m (found_at x) (found-ascii x h)) e.message)
-    (λ x d e. worded-ascii recursion_limit_message d.message (ascii_text recursion_limit_message refl) e.message)
+    (λ x d e. worded-ascii recursion_limit_message d.message (ascii-text recursion_limit_message refl) e.message)
 
 -- the items of an ASCII text are ASCII
 limited-ascii : (k : ℕ) (items : List Item) → IsAscii (texts items) → AllTexts IsAscii (limited k items)
@@ -184,7 +184,7 @@ any-text (limit_at index ∷ answers) = any-text answers
 
 pub limit-worded : {answers : List Answer} {rs : List Report} (ds : List Diagnostic) → Reported true answers rs → AllZip IsErrorOf rs ds → All IsLimitWorded ds
 limit-worded {answers = answers} ds h = each-error (λ text. ⊤) IsLimitWorded
-    (λ text index d i e. other-worded d (at_text text) e.subject refl (λ l. no_fault_message text d.message e.message (limit-otherwise d.message (limit-begins d.message l))))
+    (λ text index d i e. other-worded d (at_text text) e.subject refl (λ l. no-fault-message text d.message e.message (limit-otherwise d.message (limit-begins d.message l))))
     (λ index d e. record { limit = λ s. inl e.message; other = λ i. subject-limit d e.subject })
     (λ m x d i e. other-worded d (found_at x) e.subject (found-other x) (λ l. true≢false (sym (limit-begins d.message l) ∙ (ap begins_limit e.message ∙ message-begins m (found_at x)))))
     (λ x d e. record { limit = λ s. inr e.message; other = λ i. subject-limit d e.subject })

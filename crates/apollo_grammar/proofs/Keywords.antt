@@ -25,12 +25,12 @@ only n s = all_words words (λ l y. not (eqb l n) or text_eq y s)
 abbrev own : ℕ → Text → Bool
 own n s = eqb (word_class words s) n and only n s
 
-words_own : all_words words own ≡ true
+words-own : all_words words own ≡ true
 unfolding words ◌and◌ ◌or◌
-words_own = refl
+words-own = refl
 
-pub equal_bytes : (x y : Text) → bytes_eq x y ≡ true → x ≡ y
-equal_bytes x y e = (bytes_eq-Decides x y).0 e
+pub equal-bytes : (x y : Text) → bytes_eq x y ≡ true → x ≡ y
+equal-bytes x y e = (bytes_eq-Decides x y).0 e
 
 abbrev word_or : Text → Option Text → Text
 word_or s None = s
@@ -62,9 +62,9 @@ listed-beside (w ∷ more) n s h e = elim (either (eqb w.0 n)) [
 word-class : (n : ℕ) (s : Text) → keyword_word n ≡ Some s → is_keyword n ≡ true → (x : Text) → bytes_eq x s ≡ eqb (word_class words x) n
 unfolding keyword_word
 word-class n s e other x =
-    let h = listed-at words own n s words_own (beside-listed words n s e) in
+    let h = listed-at words own n s words-own (beside-listed words n s e) in
     elim (either (bytes_eq x s)) [
-      | inl p ↦ p ∙ sym (subst (λ (y : Text). eqb (word_class words y) n ≡ true) (sym (equal_bytes x s p)) (and-l _ _ h))
+      | inl p ↦ p ∙ sym (subst (λ (y : Text). eqb (word_class words y) n ≡ true) (sym (equal-bytes x s p)) (and-l _ _ h))
       | inr p ↦ elim (either (eqb (word_class words x) n)) [
         | inl q ↦ (
             let t = listed-at words (λ l y. not (eqb l n) or text_eq y s) n x (and-r _ _ h) (listed words n x (eqb-true _ _ q) (not-ident n other)) in
@@ -81,8 +81,8 @@ no-class n e other x = elim (either (eqb (word_class words x) n)) [
 ]
 
 -- the test of a name
-pub name_is_word : (k : SyntaxKind) (x : Lexeme) (a b : Text) → is_keyword (number k) ≡ true → keyword_word (number k) ≡ Some b → true ≡ same_kind x.kind token.Name → a ≡ x.text → bytes_eq a b ≡ is_word k (Some x)
-name_is_word k x a b h f n e =
+pub name-is-word : (k : SyntaxKind) (x : Lexeme) (a b : Text) → is_keyword (number k) ≡ true → keyword_word (number k) ≡ Some b → true ≡ same_kind x.kind token.Name → a ≡ x.text → bytes_eq a b ≡ is_word k (Some x)
+name-is-word k x a b h f n e =
     ap (λ (t : Text). bytes_eq t b) e ∙ word-class (number k) b f h x.text ∙ ap (λ (c : Bool). c && eqb (word_class words x.text) (number k)) n
 
 last : (a b : Bool) → true ≡ a && b → b ≡ true
@@ -91,7 +91,7 @@ last false b e = absurd cc
 
 -- the text of a token that is the keyword
 pub word_is : (k : SyntaxKind) (x : Lexeme) (w : Text) → is_keyword (number k) ≡ true → keyword_word (number k) ≡ Some w → true ≡ is_word k (Some x) → x.text ≡ w
-word_is k x w h f e = equal_bytes x.text w (word-class (number k) w f h x.text ∙ last (same_kind x.kind token.Name) (eqb (word_class words x.text) (number k)) e)
+word_is k x w h f e = equal-bytes x.text w (word-class (number k) w f h x.text ∙ last (same_kind x.kind token.Name) (eqb (word_class words x.text) (number k)) e)
 
 -- a kind without a word is no token
 pub no_word : (k : SyntaxKind) (o : Option Lexeme) → is_keyword (number k) ≡ true → keyword_word (number k) ≡ None → is_word k o ≡ false

@@ -10,26 +10,26 @@ use Rattle.parser_rules.proofs.runs.Running.{nesting}
 use Rattle.apollo_grammar.specs.View.{current_of}
 
 -- a token that a look finds is the next one
-pub some_shown : (o : Option Token) → is_some o ≡ is_some (current_of o)
-some_shown None = refl
-some_shown (Some t) = refl
+pub some-shown : (o : Option Token) → is_some o ≡ is_some (current_of o)
+some-shown None = refl
+some-shown (Some t) = refl
 
 -- what a function is proved by that chooses by the next token
-pub ruleset looking = (nesting, some_shown)
+pub ruleset looking = (nesting, some-shown)
 
 other : (a b : Bool) → true ≡ a || b → false ≡ a → true ≡ b
 other true b e f = absurd cc
 other false b e f = e
 
 -- one of two tokens is there, and not the first
-pub other_at : (j k : TokenKind) (s : State) → true ≡ holds (Here (Or (Kind j) (Kind k))) s → false ≡ holds (At j) s → true ≡ holds (At k) s
+pub other-at : (j k : TokenKind) (s : State) → true ≡ holds (Here (Or (Kind j) (Kind k))) s → false ≡ holds (At j) s → true ≡ holds (At k) s
 unfolding holds
-other_at j k s e f = other (is_at j s.current) (is_at k s.current) e f
+other-at j k s e f = other (is_at j s.current) (is_at k s.current) e f
 
 -- where no item of a list follows, though neither `]` nor the end is there, the recursion limit is reached
-pub deep_there : (s : State) → false ≡ holds has_item s → false ≡ holds (At token.RBracket) s → true ≡ holds Ready s → true ≡ is_deep s
+pub deep-there : (s : State) → false ≡ holds has_item s → false ≡ holds (At token.RBracket) s → true ≡ holds Ready s → true ≡ is_deep s
 unfolding holds
-deep_there s h a r = only (not (is_over s.current)) (is_at token.RBracket s.current) (is_deep s) h a r
+deep-there s h a r = only (not (is_over s.current)) (is_at token.RBracket s.current) (is_deep s) h a r
   where
     only : (r a d : Bool) → false ≡ (r && not a) && not d → false ≡ a → true ≡ r → true ≡ d
     only true false true h e f = refl

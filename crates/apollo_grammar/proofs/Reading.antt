@@ -18,10 +18,10 @@ on_kind rest s item k found = elim found [
   | None ↦ record s { items = rest; current = Some (lexeme k item) }
 ]
 
-on_is : (rest : List Answer) (s : State) (text : Text) (index : ℕ) (k : TokenKind)
+on-is : (rest : List Answer) (s : State) (text : Text) (index : ℕ) (k : TokenKind)
     → read_on (gives (record { kind = Some k; text = text; index = index }) ∷ rest) s ≡ on_kind rest s (record { kind = Some k; text = text; index = index }) k (ignored k)
 unfolding read_on on_kind
-on_is rest s text index k = refl
+on-is rest s text index k = refl
 
 -- bad text, or the limit
 pub read_bad : (s t u : State) (limit : Bool) (text : Text) (index : ℕ) → Taken (Some (error_answer limit text index)) s t → u ≡ refused limit text index t → read_on s.items s ≡ read_on u.items u
@@ -29,32 +29,32 @@ unfolding read_on
 read_bad s t u true text index h e = ap (λ xs. read_on xs s) h.0 ∙ ap (λ w. read_on t.items (met index w)) (sym h.1) ∙ sym (ap (λ w. read_on w.items w) e)
 read_bad s t u false text index h e = ap (λ xs. read_on xs s) h.0 ∙ ap (λ w. read_on t.items (bad text index w)) (sym h.1) ∙ sym (ap (λ w. read_on w.items w) e)
 
-pub read_ignored : (s t u : State) (k : TokenKind) (text : Text) (index : ℕ) (kind : SyntaxKind) → Taken (Some (gives (record { kind = Some k; text = text; index = index }))) s t
+pub read-ignored : (s t u : State) (k : TokenKind) (text : Text) (index : ℕ) (kind : SyntaxKind) → Taken (Some (gives (record { kind = Some k; text = text; index = index }))) s t
     → Some kind ≡ ignored k → u ≡ wait kind text t → read_on s.items s ≡ read_on u.items u
 unfolding on_kind
-read_ignored s t u k text index kind h i e =
+read-ignored s t u k text index kind h i e =
     let item : Item = record { kind = Some k; text = text; index = index } in
-    ap (λ xs. read_on xs s) h.0 ∙ on_is t.items s text index k ∙ sym (ap (on_kind t.items s item k) i) ∙ ap (λ w. read_on t.items (wait kind text w)) (sym h.1) ∙ sym (ap (λ w. read_on w.items w) e)
+    ap (λ xs. read_on xs s) h.0 ∙ on-is t.items s text index k ∙ sym (ap (on_kind t.items s item k) i) ∙ ap (λ w. read_on t.items (wait kind text w)) (sym h.1) ∙ sym (ap (λ w. read_on w.items w) e)
 
-pub read_token : (s t : State) (k : TokenKind) (text : Text) (index : ℕ) → Taken (Some (gives (record { kind = Some k; text = text; index = index }))) s t
+pub read-token : (s t : State) (k : TokenKind) (text : Text) (index : ℕ) → Taken (Some (gives (record { kind = Some k; text = text; index = index }))) s t
     → None ≡ ignored k → read_on s.items s ≡ record t { current = Some (record { kind = k; text = text; index = index }) }
 unfolding on_kind
-read_token s t k text index h i =
+read-token s t k text index h i =
     let item : Item = record { kind = Some k; text = text; index = index } in
-    ap (λ xs. read_on xs s) h.0 ∙ on_is t.items s text index k ∙ sym (ap (on_kind t.items s item k) i) ∙ sym (ap {A = State} (λ w. record w { current = Some (record { kind = k; text = text; index = index }) }) h.1)
+    ap (λ xs. read_on xs s) h.0 ∙ on-is t.items s text index k ∙ sym (ap (on_kind t.items s item k) i) ∙ sym (ap {A = State} (λ w. record w { current = Some (record { kind = k; text = text; index = index }) }) h.1)
 
 pub read_end : (s t : State) → Taken None s t → read_on s.items s ≡ record t { current = None }
 unfolding read_on
 read_end s t h = ap (λ xs. read_on xs s) h.0 ∙ sym (ap {A = State} (λ w. record w { current = None }) h.1)
 
 -- an answer that was taken has a text of its kind
-first_text : (answer : Answer) (rest items : List Answer) → items ≡ answer ∷ rest → AreAnswers items → IsAnswerText (Some answer)
-first_text (limit_at index) rest items e h = tt
-first_text (gives item) rest items e h = (subst AreAnswers e h).0
+first-text : (answer : Answer) (rest items : List Answer) → items ≡ answer ∷ rest → AreAnswers items → IsAnswerText (Some answer)
+first-text (limit_at index) rest items e h = tt
+first-text (gives item) rest items e h = (subst AreAnswers e h).0
 
-pub taken_text : (r : Option Answer) (s t : State) → Taken r s t → AreAnswers s.items → IsAnswerText r
-taken_text None s t h k = tt
-taken_text (Some answer) s t h k = first_text answer t.items s.items h.0 k
+pub taken-text : (r : Option Answer) (s t : State) → Taken r s t → AreAnswers s.items → IsAnswerText r
+taken-text None s t h k = tt
+taken-text (Some answer) s t h k = first-text answer t.items s.items h.0 k
 
 -- one leaf more
 pub one_more : (leaves : List PendingToken) (i : ℕ) (d : PendingToken) (b c : Building) → i < length leaves → c ≡ add_leaf (get_or leaves i d).kind (get_or leaves i d).text.now b
@@ -64,42 +64,42 @@ one_more leaves i d b c h e =
 
 -- ---- looking at what follows the current token
 
-pub one_less : (answer : Answer) (xs ys : List Answer) → xs ≡ answer ∷ ys → length ys < length xs
-one_less answer xs ys e = let n = ap length e in omega (arith, n)
+pub one-less : (answer : Answer) (xs ys : List Answer) → xs ≡ answer ∷ ys → length ys < length xs
+one-less answer xs ys e = let n = ap length e in omega (arith, n)
 
-pub second_end : (xs : List Answer) → xs ≡ [] → second xs ≡ None
+pub second-end : (xs : List Answer) → xs ≡ [] → second xs ≡ None
 unfolding second
-second_end xs e = ap second e
+second-end xs e = ap second e
 
 on_second : List Answer → TokenKind → Item → Option SyntaxKind → Option Lexeme
 on_second rest k item found = elim found [ Some leaf ↦ second rest | None ↦ Some (lexeme k item) ]
 
-second_is : (rest : List Answer) (text : Text) (index : ℕ) (k : TokenKind)
+second-is : (rest : List Answer) (text : Text) (index : ℕ) (k : TokenKind)
     → second (gives (record { kind = Some k; text = text; index = index }) ∷ rest) ≡ on_second rest k (record { kind = Some k; text = text; index = index }) (ignored k)
 unfolding second on_second
-second_is rest text index k = refl
+second-is rest text index k = refl
 
 no_leaf : (o : Option SyntaxKind) → is_some o ≡ false → o ≡ None
 no_leaf None e = refl
 no_leaf (Some leaf) e = absurd cc
 
-some_leaf : (rest : List Answer) (k : TokenKind) (item : Item) (o : Option SyntaxKind) → is_some o ≡ true → on_second rest k item o ≡ second rest
+some-leaf : (rest : List Answer) (k : TokenKind) (item : Item) (o : Option SyntaxKind) → is_some o ≡ true → on_second rest k item o ≡ second rest
 unfolding on_second
-some_leaf rest k item None e = absurd cc
-some_leaf rest k item (Some leaf) e = refl
+some-leaf rest k item None e = absurd cc
+some-leaf rest k item (Some leaf) e = refl
 
-pub second_found : (xs rest : List Answer) (k : TokenKind) (text : Text) (index : ℕ) (found : Option SyntaxKind) → xs ≡ gives (record { kind = Some k; text = text; index = index }) ∷ rest
+pub second-found : (xs rest : List Answer) (k : TokenKind) (text : Text) (index : ℕ) (found : Option SyntaxKind) → xs ≡ gives (record { kind = Some k; text = text; index = index }) ∷ rest
     → found ≡ ignored k → is_some found ≡ false → second xs ≡ Some (record { kind = k; text = text; index = index })
 unfolding on_second
-second_found xs rest k text index found e f i =
-    ap second e ∙ second_is rest text index k ∙ ap (on_second rest k (record { kind = Some k; text = text; index = index })) (sym f ∙ no_leaf found i)
+second-found xs rest k text index found e f i =
+    ap second e ∙ second-is rest text index k ∙ ap (on_second rest k (record { kind = Some k; text = text; index = index })) (sym f ∙ no_leaf found i)
 
-pub second_ignored : (xs rest : List Answer) (k : TokenKind) (text : Text) (index : ℕ) (found : Option SyntaxKind) → xs ≡ gives (record { kind = Some k; text = text; index = index }) ∷ rest
+pub second-ignored : (xs rest : List Answer) (k : TokenKind) (text : Text) (index : ℕ) (found : Option SyntaxKind) → xs ≡ gives (record { kind = Some k; text = text; index = index }) ∷ rest
     → found ≡ ignored k → is_some found ≡ true → second xs ≡ second rest
-second_ignored xs rest k text index found e f i =
-    ap second e ∙ second_is rest text index k ∙ ap (on_second rest k (record { kind = Some k; text = text; index = index })) (sym f) ∙ some_leaf rest k (record { kind = Some k; text = text; index = index }) found i
+second-ignored xs rest k text index found e f i =
+    ap second e ∙ second-is rest text index k ∙ ap (on_second rest k (record { kind = Some k; text = text; index = index })) (sym f) ∙ some-leaf rest k (record { kind = Some k; text = text; index = index }) found i
 
-pub second_bad : (xs rest : List Answer) (limit : Bool) (text : Text) (index : ℕ) → xs ≡ error_answer limit text index ∷ rest → second xs ≡ second rest
+pub second-bad : (xs rest : List Answer) (limit : Bool) (text : Text) (index : ℕ) → xs ≡ error_answer limit text index ∷ rest → second xs ≡ second rest
 unfolding second
-second_bad xs rest true text index e = ap second e
-second_bad xs rest false text index e = ap second e
+second-bad xs rest true text index e = ap second e
+second-bad xs rest false text index e = ap second e

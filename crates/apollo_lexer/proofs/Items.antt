@@ -10,30 +10,30 @@ use Rattle.lexical_grammar.proofs.Sound.{sound}
 use Rattle.std.specs.Prelude.{max}
 use Rattle.std.proofs.lemmas.Bool.Decides.{nat_tests}
 use Rattle.lexical_grammar.specs.Reads.{token_at, item_of_token, first_item, items_from}
-use Rattle.lexical_grammar.proofs.Limited.{limited_end}
+use Rattle.lexical_grammar.proofs.Limited.{limited-end}
 use Rattle.lexical_grammar.proofs.TheCut
 use Rattle.lexical_grammar.specs.Answers.{Answer, gives, limit_at, limit_index, limit_index_at, limited}
 
-max_next : (n : ℕ) → max n (n + 1) ≡ n + 1
-max_next n = grind (arith, nat_tests)
+max-next : (n : ℕ) → max n (n + 1) ≡ n + 1
+max-next n = grind (arith, nat_tests)
 
 -- the first item, and the items of what follows it
-pub first_then : (place : ℕ) (source : List ℕ) → 0 < length source → 0 < (first_item source).1 → (first_item source).1 ≤ length source
+pub first-then : (place : ℕ) (source : List ℕ) → 0 < length source → 0 < (first_item source).1 → (first_item source).1 ≤ length source
     → items_from place 0 source ≡ record { kind = (first_item source).0; text = take (first_item source).1 source; index = place }
     ∷ items_from (place + (first_item source).1) 0 (drop (first_item source).1 source)
-first_then place [] some one within = absurd (omega arith)
-first_then place (b ∷ bs) some one within = TheCut.first_then place b bs one within
+first-then place [] some one within = absurd (omega arith)
+first-then place (b ∷ bs) some one within = TheCut.first-then place b bs one within
 
 -- at the end
-pub end_then : (place : ℕ) (source : List ℕ) → length source ≡ 0 → items_from place 0 source ≡ end_at place ∷ []
+pub end-then : (place : ℕ) (source : List ℕ) → length source ≡ 0 → items_from place 0 source ≡ end_at place ∷ []
 unfolding items_from
-end_then place [] e = refl
-end_then place (b ∷ bs) e = absurd (omega arith)
+end-then place [] e = refl
+end-then place (b ∷ bs) e = absurd (omega arith)
 
 -- what a lexer answers next, where it has more to give, and where it has not
-pub limited_some : (allowed : ℕ) (item : Item) (items : List Item) → 0 < allowed → limited allowed (item ∷ items) ≡ gives item ∷ limited (allowed - 1) items
-limited_some zero item items some = absurd (omega arith)
-limited_some (suc n) item items some = let less : suc n - 1 ≡ n = omega arith in ap (λ m. gives item ∷ limited m items) (sym less)
+pub limited-some : (allowed : ℕ) (item : Item) (items : List Item) → 0 < allowed → limited allowed (item ∷ items) ≡ gives item ∷ limited (allowed - 1) items
+limited-some zero item items some = absurd (omega arith)
+limited-some (suc n) item items some = let less : suc n - 1 ≡ n = omega arith in ap (λ m. gives item ∷ limited m items) (sym less)
 
 pub limited_none : (allowed : ℕ) (item : Item) (items : List Item) → allowed ≡ 0 → limited allowed (item ∷ items) ≡ limit_at (limit_index item) ∷ []
 limited_none zero item items e = refl
@@ -44,61 +44,61 @@ not_end : (kind : TokenKind) (place : ℕ) → (kind ≡ Eof → ⊥) → limit_
 not_end Eof place h = absurd (h refl)
 not_end _ place h = refl
 
-token_not_end : (kind : TokenKind) (text : List ℕ) → Tok kind text → kind ≡ Eof → ⊥
-token_not_end kind text tok e = subst (λ k. Tok k text) e tok
+token-not-end : (kind : TokenKind) (text : List ℕ) → Tok kind text → kind ≡ Eof → ⊥
+token-not-end kind text tok e = subst (λ k. Tok k text) e tok
 
-first_not_end : (place : ℕ) (source : List ℕ) (found : Option (TokenKind × ℕ)) → token_at source ≡ found → limit_index_at (item_of_token source found).0 place ≡ place
-first_not_end place source None e = refl
-first_not_end place source (Some token) e = not_end token.0 place (token_not_end token.0 (take token.1 source) (sound source token.0 token.1 e).stands.token)
+first-not-end : (place : ℕ) (source : List ℕ) (found : Option (TokenKind × ℕ)) → token_at source ≡ found → limit_index_at (item_of_token source found).0 place ≡ place
+first-not-end place source None e = refl
+first-not-end place source (Some token) e = not_end token.0 place (token-not-end token.0 (take token.1 source) (sound source token.0 token.1 e).stands.token)
 
 -- the limit is met
-limit_met : (count limit place : ℕ) (source : List ℕ) → limit < count + 1 → 0 < length source
+limit-met : (count limit place : ℕ) (source : List ℕ) → limit < count + 1 → 0 < length source
     → limited (limit - count) (items_from place 0 source) ≡ limit_at place ∷ []
 unfolding items_from
-limit_met count limit place [] met some = absurd (omega arith)
-limit_met count limit place (b ∷ bs) met some =
+limit-met count limit place [] met some = absurd (omega arith)
+limit-met count limit place (b ∷ bs) met some =
     limited_none (limit - count) (record { kind = (first_item (b ∷ bs)).0; text = take (first_item (b ∷ bs)).1 (b ∷ bs); index = place })
     (items_from (1 + place) ((first_item (b ∷ bs)).1 - 1) bs) (omega arith)
-    ∙ ap (λ n. limit_at n ∷ []) (first_not_end place (b ∷ bs) (token_at (b ∷ bs)) refl)
+    ∙ ap (λ n. limit_at n ∷ []) (first-not-end place (b ∷ bs) (token_at (b ∷ bs)) refl)
 
-limit_met_end : (count limit place : ℕ) (source : List ℕ) → limit < count + 1 → length source ≡ 0 → limited (limit - count) (items_from place 0 source) ≡ limit_at (place - 1) ∷ []
-limit_met_end count limit place source met none =
-    ap (limited (limit - count)) (end_then place source none) ∙ limited_none (limit - count) (end_at place) [] (omega arith)
+limit-met-end : (count limit place : ℕ) (source : List ℕ) → limit < count + 1 → length source ≡ 0 → limited (limit - count) (items_from place 0 source) ≡ limit_at (place - 1) ∷ []
+limit-met-end count limit place source met none =
+    ap (limited (limit - count)) (end-then place source none) ∙ limited_none (limit - count) (end_at place) [] (omega arith)
 
-some_more : (n : ℕ) → 0 < n → eqb n 0 ≡ false
-some_more n h = grind (arith, nat_tests)
+some-more : (n : ℕ) → 0 < n → eqb n 0 ≡ false
+some-more n h = grind (arith, nat_tests)
 
-pub limit_met_at : (count limit place : ℕ) (source : List ℕ) → limit < count + 1
+pub limit-met-at : (count limit place : ℕ) (source : List ℕ) → limit < count + 1
     → limited (limit - count) (items_from place 0 source) ≡ limit_at (cond (eqb (length source) 0) (place - 1) place) ∷ []
-limit_met_at count limit place [] met = limit_met_end count limit place [] met refl
-limit_met_at count limit place (b ∷ bs) met = rw (some_more (length (b ∷ bs)) (omega arith)) (limit_met count limit place (b ∷ bs) met (omega arith))
+limit-met-at count limit place [] met = limit-met-end count limit place [] met refl
+limit-met-at count limit place (b ∷ bs) met = rw (some-more (length (b ∷ bs)) (omega arith)) (limit-met count limit place (b ∷ bs) met (omega arith))
 
 -- the end comes
-pub end_comes : (count limit place : ℕ) (source : List ℕ) → count + 1 ≤ limit → length source ≡ 0
+pub end-comes : (count limit place : ℕ) (source : List ℕ) → count + 1 ≤ limit → length source ≡ 0
     → limited (limit - count) (items_from place 0 source) ≡ gives (end_at place) ∷ []
-end_comes count limit place source more none =
-    ap (limited (limit - count)) (end_then place source none) ∙ limited_some (limit - count) (end_at place) [] (omega arith)
-    ∙ ap (λ l. gives (end_at place) ∷ l) (limited_end (limit - count - 1))
+end-comes count limit place source more none =
+    ap (limited (limit - count)) (end-then place source none) ∙ limited-some (limit - count) (end_at place) [] (omega arith)
+    ∙ ap (λ l. gives (end_at place) ∷ l) (limited-end (limit - count - 1))
 
 -- an item is given, and those of the text after it are left
-pub items_next : (place : ℕ) (source text after : List ℕ) (kind : Option TokenKind) → 0 < length source
+pub items-next : (place : ℕ) (source text after : List ℕ) (kind : Option TokenKind) → 0 < length source
     → kind ≡ (first_item source).0 → text ≡ take (first_item source).1 source → after ≡ drop (first_item source).1 source
     → 0 < (first_item source).1 → (first_item source).1 + length after ≡ length source
     → items_from place 0 source ≡ record { kind = kind; text = text; index = place } ∷ items_from (place + length text) 0 after
-items_next place source text after kind some k t a one within =
+items-next place source text after kind some k t a one within =
     let n = (first_item source).1 in
     let len : length text ≡ n = ap (λ (l : List ℕ). length l) t ∙ length-take-le n source (omega arith) in
-    first_then place source some one (omega arith)
+    first-then place source some one (omega arith)
     ∙ (λ i. record { kind = sym k i; text = sym t i; index = place } ∷ items_from (place + sym len i) 0 (sym a i))
 
 -- an item comes
-pub item_comes : (limit count next_limit next_count : ℕ) (item : Item) (items rest left : List Item) → count + 1 ≤ limit → next_limit ≡ limit → next_count ≡ count + 1
+pub item-comes : (limit count next_limit next_count : ℕ) (item : Item) (items rest left : List Item) → count + 1 ≤ limit → next_limit ≡ limit → next_count ≡ count + 1
     → items ≡ item ∷ rest → left ≡ drop 1 items → limited (limit - count) items ≡ gives item ∷ limited (next_limit - next_count) left
-item_comes limit count next_limit next_count item items rest left more same one first others =
+item-comes limit count next_limit next_count item items rest left more same one first others =
     let less : limit - count - 1 ≡ next_limit - next_count = omega arith in
     let left_is : left ≡ rest = others ∙ ap (drop 1) first in
-    ap (limited (limit - count)) first ∙ limited_some (limit - count) item rest (omega arith) ∙ (λ i. gives item ∷ limited (less i) (sym left_is i))
+    ap (limited (limit - count)) first ∙ limited-some (limit - count) item rest (omega arith) ∙ (λ i. gives item ∷ limited (less i) (sym left_is i))
 
 -- one more was asked for, and an answer less is left
-pub high_kept : (high next count : ℕ) (answer : Answer) (old new : List Answer) → old ≡ answer ∷ new → high ≡ count → next ≡ max high (count + 1) → next + length new ≡ high + length old
-high_kept high next count answer old new e same asked = omega (arith, ap (λ (l : List Answer). length l) e, max_next high)
+pub high-kept : (high next count : ℕ) (answer : Answer) (old new : List Answer) → old ≡ answer ∷ new → high ≡ count → next ≡ max high (count + 1) → next + length new ≡ high + length old
+high-kept high next count answer old new e same asked = omega (arith, ap (λ (l : List Answer). length l) e, max-next high)

@@ -5,55 +5,55 @@ use Rattle.std.proofs.lemmas.Bool.Decides.{nat_tests}
 use Rattle.lexical_grammar.specs.declared.TokenKind.{TokenKind}
 use Rattle.lexical_grammar.specs.Cut.{Item}
 use Rattle.lexical_grammar.specs.Reads.{token_at, item_of_token, first_item, items_from}
-use Rattle.lexical_grammar.proofs.Limited.{token_text, not_last}
+use Rattle.lexical_grammar.proofs.Limited.{token_text, not-last}
 use Rattle.apollo_lexer.specs.Answers.{answers_left, items_left}
 use Rattle.lexical_grammar.specs.Answers.{Answer, limited}
 use Rattle.lexical_grammar.specs.Answers.{IsItemText, IsLast, AreAnswers}
 use Rattle.apollo_lexer.specs.declared.lexer.Lexer.{Lexer}
 use Rattle.lexical_grammar.proofs.Sound.{sound}
 
-item_text : (source : List ℕ) (found : Option (TokenKind × ℕ)) → token_at source ≡ found → IsItemText (item_of_token source found).0 (take (item_of_token source found).1 source)
-item_text source None e = tt
-item_text source (Some token) e = token_text token.0 (take token.1 source) (sound source token.0 token.1 e).stands.token
+item-text : (source : List ℕ) (found : Option (TokenKind × ℕ)) → token_at source ≡ found → IsItemText (item_of_token source found).0 (take (item_of_token source found).1 source)
+item-text source None e = tt
+item-text source (Some token) e = token_text token.0 (take token.1 source) (sound source token.0 token.1 e).stands.token
 
-item_last : (source : List ℕ) (found : Option (TokenKind × ℕ)) (rest : List Answer) → token_at source ≡ found → IsLast (item_of_token source found).0 rest
-item_last source None rest e = tt
-item_last source (Some token) rest e = not_last token.0 (take token.1 source) rest (sound source token.0 token.1 e).stands.token
+item-last : (source : List ℕ) (found : Option (TokenKind × ℕ)) (rest : List Answer) → token_at source ≡ found → IsLast (item_of_token source found).0 rest
+item-last source None rest e = tt
+item-last source (Some token) rest e = not-last token.0 (take token.1 source) rest (sound source token.0 token.1 e).stands.token
 
-limited_are : (allowed place inside : ℕ) (source : List ℕ) → AreAnswers (limited allowed (items_from place inside source))
+limited-are : (allowed place inside : ℕ) (source : List ℕ) → AreAnswers (limited allowed (items_from place inside source))
 unfolding items_from
-limited_are zero place inside [] = refl
-limited_are (suc zero) place inside [] = (refl, (λ e. refl), tt)
-limited_are (suc (suc n)) place inside [] = (refl, (λ e. refl), tt)
-limited_are allowed place (suc inside) (b ∷ bs) = limited_are allowed (1 + place) inside bs
-limited_are zero place zero (b ∷ bs) = refl
-limited_are (suc n) place zero (b ∷ bs) =
-    (item_text (b ∷ bs) (token_at (b ∷ bs)) refl, item_last (b ∷ bs) (token_at (b ∷ bs)) _ refl, limited_are n (1 + place) ((first_item (b ∷ bs)).1 - 1) bs)
+limited-are zero place inside [] = refl
+limited-are (suc zero) place inside [] = (refl, (λ e. refl), tt)
+limited-are (suc (suc n)) place inside [] = (refl, (λ e. refl), tt)
+limited-are allowed place (suc inside) (b ∷ bs) = limited-are allowed (1 + place) inside bs
+limited-are zero place zero (b ∷ bs) = refl
+limited-are (suc n) place zero (b ∷ bs) =
+    (item-text (b ∷ bs) (token_at (b ∷ bs)) refl, item-last (b ∷ bs) (token_at (b ∷ bs)) _ refl, limited-are n (1 + place) ((first_item (b ∷ bs)).1 - 1) bs)
 
-unless_are : (done : Bool) (allowed place : ℕ) (source : List ℕ) → AreAnswers (limited allowed (if done then [] else items_from place 0 source))
-unless_are true allowed place source = none_are allowed where
+unless-are : (done : Bool) (allowed place : ℕ) (source : List ℕ) → AreAnswers (limited allowed (if done then [] else items_from place 0 source))
+unless-are true allowed place source = none_are allowed where
   none_are : (allowed : ℕ) → AreAnswers (limited allowed [])
   none_are zero = tt
   none_are (suc n) = tt
-unless_are false allowed place source = limited_are allowed place 0 source
+unless-are false allowed place source = limited-are allowed place 0 source
 
-pub answers_are : (l : Lexer) → AreAnswers (answers_left l)
+pub answers-are : (l : Lexer) → AreAnswers (answers_left l)
 unfolding answers_left items_left
-answers_are l = unless_are l.is_finished (l.limit_tracker.limit - l.limit_tracker.current) l.index l.rest.now
+answers-are l = unless-are l.is_finished (l.limit_tracker.limit - l.limit_tracker.current) l.index l.rest.now
 
 -- ---- how many there are
 
-min_next : (m n : ℕ) → min (m + 1) (n + 1) ≡ min m n + 1
-min_next m n = grind (arith, nat_tests)
+min-next : (m n : ℕ) → min (m + 1) (n + 1) ≡ min m n + 1
+min-next m n = grind (arith, nat_tests)
 
-min_zero : (n : ℕ) → min 0 n ≡ 0
-min_zero n = grind (arith, nat_tests)
+min-zero : (n : ℕ) → min 0 n ≡ 0
+min-zero n = grind (arith, nat_tests)
 
-min_one : (n : ℕ) → min (suc n) 1 ≡ 1
-min_one n = grind (arith, nat_tests)
+min-one : (n : ℕ) → min (suc n) 1 ≡ 1
+min-one n = grind (arith, nat_tests)
 
-pub limited_length : (limit : ℕ) (items : List Item) → length (limited limit items) ≡ min (length items) (limit + 1)
-limited_length zero [] = refl
-limited_length (suc limit) [] = sym (min_zero (suc limit + 1))
-limited_length zero (item ∷ items) = sym (min_one (length items))
-limited_length (suc limit) (item ∷ items) = omega (arith, limited_length limit items, min_next (length items) (limit + 1))
+pub limited-length : (limit : ℕ) (items : List Item) → length (limited limit items) ≡ min (length items) (limit + 1)
+limited-length zero [] = refl
+limited-length (suc limit) [] = sym (min-zero (suc limit + 1))
+limited-length zero (item ∷ items) = sym (min-one (length items))
+limited-length (suc limit) (item ∷ items) = omega (arith, limited-length limit items, min-next (length items) (limit + 1))

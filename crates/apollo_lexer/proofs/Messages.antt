@@ -6,25 +6,25 @@ use Rattle.std.specs.Str.{IsAscii}
 use Rattle.std.specs.Char.{is_ascii}
 use Rattle.std.proofs.lemmas.Bool.{ltb-true}
 use Rattle.std.proofs.lemmas.Str.{IsAscii-append, IsAscii-drop}
-use Rattle.lexical_grammar.proofs.Sound.{ascii_run}
+use Rattle.lexical_grammar.proofs.Sound.{ascii-run}
 use Rattle.apollo_lexer.specs.declared.faults.LexFault.{LexFault}
 use Rattle.apollo_lexer.specs.declared.faults.LexFault.TheVariants.{UnexpectedCharacter, NumberSuffix, IntegerSuffix, FractionalDigit, FloatSuffix, ExponentDigitOrSign, ExponentDigit}
 use Rattle.apollo_lexer.specs.Faults.{words, fault_message, IsFaultMessage}
 
 -- what computes to ASCII is ASCII
-pub ascii_text : (xs : List ℕ) → list_all is_ascii xs ≡ true → IsAscii xs
-ascii_text xs h = ascii_run is_ascii (λ c e. ltb-true c 128 e) xs h
+pub ascii-text : (xs : List ℕ) → list_all is_ascii xs ≡ true → IsAscii xs
+ascii-text xs h = ascii-run is_ascii (λ c e. ltb-true c 128 e) xs h
 
 all_ascii : (fault : LexFault) → list_all is_ascii (words fault) ≡ true
 all_ascii UnexpectedCharacter = refl
 all_ascii _ = refl
 
-words_ascii : (fault : LexFault) → IsAscii (words fault)
-words_ascii fault = ascii_text (words fault) (all_ascii fault)
+words-ascii : (fault : LexFault) → IsAscii (words fault)
+words-ascii fault = ascii-text (words fault) (all_ascii fault)
 
 -- a message that quotes a text
 quoting : (front text back : List ℕ) → list_all is_ascii front ≡ true → list_all is_ascii back ≡ true → IsAscii text → IsAscii (front ++ text ++ back)
-quoting front text back f b h = IsAscii-append (front ++ text) back (IsAscii-append front text (ascii_text front f) h) (ascii_text back b)
+quoting front text back f b h = IsAscii-append (front ++ text) back (IsAscii-append front text (ascii-text front f) h) (ascii-text back b)
 
 message_ascii : (fault : LexFault) (text next : List ℕ) → IsAscii text → IsAscii next → IsAscii (fault_message fault text next)
 message_ascii UnexpectedCharacter text next h k = quoting (codes "Unexpected character \"") text (codes "\"") refl refl h
@@ -34,20 +34,20 @@ message_ascii FractionalDigit text next h k = quoting (codes "Unexpected charact
 message_ascii FloatSuffix text next h k = quoting (codes "Unexpected character `") next (codes "` as float suffix") refl refl k
 message_ascii ExponentDigitOrSign text next h k = quoting (codes "Unexpected character `") next (codes "`, expected exponent digit or sign") refl refl k
 message_ascii ExponentDigit text next h k = quoting (codes "Unexpected character `") next (codes "`, expected exponent digit") refl refl k
-message_ascii fault text next h k = words_ascii fault
+message_ascii fault text next h k = words-ascii fault
 
-pub fault_ascii : (text message : List ℕ) → IsFaultMessage text message → IsAscii text → IsAscii message
-fault_ascii text message m h = subst IsAscii (sym m.words) (message_ascii m.fault text (drop m.number_len text) h (IsAscii-drop text m.number_len h))
+pub fault-ascii : (text message : List ℕ) → IsFaultMessage text message → IsAscii text → IsAscii message
+fault-ascii text message m h = subst IsAscii (sym m.words) (message_ascii m.fault text (drop m.number_len text) h (IsAscii-drop text m.number_len h))
 
 -- the letters that messages for bad text begin with: `N`, `U`, `i` and `u`
 abbrev pub begins_fault : List ℕ → Bool
 begins_fault [] = false
 begins_fault (c ∷ text) = eqb c 78 || eqb c 85 || eqb c 105 || eqb c 117
 
-fault_begins : (fault : LexFault) (text next : List ℕ) → begins_fault (fault_message fault text next) ≡ true
-fault_begins UnexpectedCharacter text next = refl
-fault_begins _ text next = refl
+fault-begins : (fault : LexFault) (text next : List ℕ) → begins_fault (fault_message fault text next) ≡ true
+fault-begins UnexpectedCharacter text next = refl
+fault-begins _ text next = refl
 
 -- a text that begins otherwise is none
-pub no_fault_message : (text message : List ℕ) → IsFaultMessage text message → begins_fault message ≡ false → ⊥
-no_fault_message text message m h = true≢false (sym (ap begins_fault m.words ∙ fault_begins m.fault text (drop m.number_len text)) ∙ h)
+pub no-fault-message : (text message : List ℕ) → IsFaultMessage text message → begins_fault message ≡ false → ⊥
+no-fault-message text message m h = true≢false (sym (ap begins_fault m.words ∙ fault-begins m.fault text (drop m.number_len text)) ∙ h)

@@ -10,197 +10,197 @@ use Rattle.memchr.specs.Find.{is_byte2, Nowhere, NoneBefore, Passes, IsFirstByte
 use Rattle.lexical_grammar.specs.Strings.{begins, triple_quote, escaped_triple_quote}
 use Rattle.lexical_grammar.specs.Reads.{block_len, quoted_len, string_character_len}
 use Rattle.apollo_lexer.specs.Pieces.{read_bad}
-use Rattle.lexical_grammar.proofs.StringSound.{begins_is}
+use Rattle.lexical_grammar.proofs.StringSound.{begins-is}
 
 -- a length, so many bytes longer
 abbrev pub longer : ℕ → Option ℕ → Option ℕ
 longer n o = option_map (λ m. n + m) o
 
-pub longer_none : (o : Option ℕ) → longer 0 o ≡ o
-longer_none None = refl
-longer_none (Some m) = ap Some (omega arith)
+pub longer-none : (o : Option ℕ) → longer 0 o ≡ o
+longer-none None = refl
+longer-none (Some m) = ap Some (omega arith)
 
-pub longer_suc : (n : ℕ) (o : Option ℕ) → option_map suc (longer n o) ≡ longer (suc n) o
-longer_suc n None = refl
-longer_suc n (Some m) = ap Some (omega arith)
+pub longer-suc : (n : ℕ) (o : Option ℕ) → option_map suc (longer n o) ≡ longer (suc n) o
+longer-suc n None = refl
+longer-suc n (Some m) = ap Some (omega arith)
 
-pub longer_more : (a b n : ℕ) (o : Option ℕ) → a + b ≡ n → longer a (longer b o) ≡ longer n o
-longer_more a b n None e = refl
-longer_more a b n (Some m) e = ap Some (omega arith)
+pub longer-more : (a b n : ℕ) (o : Option ℕ) → a + b ≡ n → longer a (longer b o) ≡ longer n o
+longer-more a b n None e = refl
+longer-more a b n (Some m) e = ap Some (omega arith)
 
-pub run_of : (read : List ℕ → Option ℕ) (p : ℕ → Bool) → ((b : ℕ) (bs : List ℕ) → p b ≡ false → read (b ∷ bs) ≡ option_map suc (read bs))
+pub run-of : (read : List ℕ → Option ℕ) (p : ℕ → Bool) → ((b : ℕ) (bs : List ℕ) → p b ≡ false → read (b ∷ bs) ≡ option_map suc (read bs))
     → (i : ℕ) (text : List ℕ) → i ≤ length text → ((k : ℕ) → k < i → p (slice_index text k) ≡ true → ⊥) → read text ≡ longer i (read (drop i text))
-run_of read p quiet zero text le none = sym (longer_none (read text))
-run_of read p quiet (suc i) [] le none = absurd (omega arith)
-run_of read p quiet (suc i) (b ∷ bs) le none =
+run-of read p quiet zero text le none = sym (longer-none (read text))
+run-of read p quiet (suc i) [] le none = absurd (omega arith)
+run-of read p quiet (suc i) (b ∷ bs) le none =
     quiet b bs (false_from_ne_true (p b) (none 0 (omega arith)))
-    ∙ ap (option_map suc) (run_of read p quiet i bs (omega arith) (λ k lt. none (suc k) (omega arith)))
-    ∙ longer_suc i (read (drop i bs))
+    ∙ ap (option_map suc) (run-of read p quiet i bs (omega arith) (λ k lt. none (suc k) (omega arith)))
+    ∙ longer-suc i (read (drop i bs))
 
-pub none_of : (read : List ℕ → Option ℕ) (p : ℕ → Bool) → ((b : ℕ) (bs : List ℕ) → p b ≡ false → read (b ∷ bs) ≡ option_map suc (read bs)) → read [] ≡ None
+pub none-of : (read : List ℕ → Option ℕ) (p : ℕ → Bool) → ((b : ℕ) (bs : List ℕ) → p b ≡ false → read (b ∷ bs) ≡ option_map suc (read bs)) → read [] ≡ None
     → (text : List ℕ) → ((k : ℕ) → k < length text → p (slice_index text k) ≡ true → ⊥) → read text ≡ None
-none_of read p quiet nil [] none = nil
-none_of read p quiet nil (b ∷ bs) none =
+none-of read p quiet nil [] none = nil
+none-of read p quiet nil (b ∷ bs) none =
     quiet b bs (false_from_ne_true (p b) (none 0 (omega arith)))
-    ∙ ap (option_map suc) (none_of read p quiet nil bs (λ k lt. none (suc k) (omega arith)))
+    ∙ ap (option_map suc) (none-of read p quiet nil bs (λ k lt. none (suc k) (omega arith)))
 
 -- block strings
-other_way : (a b : ℕ) → eqb a b ≡ false → eqb b a ≡ false
-other_way a b e = ne_eqb b a (λ s. eqb-false a b e (sym s))
+other-way : (a b : ℕ) → eqb a b ≡ false → eqb b a ≡ false
+other-way a b e = ne_eqb b a (λ s. eqb-false a b e (sym s))
 
-pub block_quiet : (b : ℕ) (bs : List ℕ) → is_byte2 34 92 b ≡ false → block_len 0 (b ∷ bs) ≡ option_map suc (block_len 0 bs)
-block_quiet b bs h =
+pub block-quiet : (b : ℕ) (bs : List ℕ) → is_byte2 34 92 b ≡ false → block_len 0 (b ∷ bs) ≡ option_map suc (block_len 0 bs)
+block-quiet b bs h =
     let q = or_parts (eqb b 34) (eqb b 92) h in
-    let quote = other_way b 34 q.0 in
-    let slash = other_way b 92 q.1 in
+    let quote = other-way b 34 q.0 in
+    let slash = other-way b 92 q.1 in
     rw (quote, slash) refl
 
-pub block_piece_none : (text : List ℕ) → Nowhere (Passes (is_byte2 34 92) text) 0 (length text) → block_len 0 text ≡ None
-block_piece_none text none = none_of (block_len 0) (is_byte2 34 92) block_quiet refl text (λ k lt. none k (omega arith) lt)
+pub block-piece-none : (text : List ℕ) → Nowhere (Passes (is_byte2 34 92) text) 0 (length text) → block_len 0 text ≡ None
+block-piece-none text none = none-of (block_len 0) (is_byte2 34 92) block-quiet refl text (λ k lt. none k (omega arith) lt)
 
-pub block_piece_run : (text : List ℕ) (i : ℕ) → i ≤ length text → Nowhere (Passes (is_byte2 34 92) text) 0 i → block_len 0 text ≡ longer i (block_len 0 (drop i text))
-block_piece_run text i le none = run_of (block_len 0) (is_byte2 34 92) block_quiet i text le (λ k lt. none k (omega arith) lt)
+pub block-piece-run : (text : List ℕ) (i : ℕ) → i ≤ length text → Nowhere (Passes (is_byte2 34 92) text) 0 i → block_len 0 text ≡ longer i (block_len 0 (drop i text))
+block-piece-run text i le none = run-of (block_len 0) (is_byte2 34 92) block-quiet i text le (λ k lt. none k (omega arith) lt)
 
 -- what is left where the search ended
-pub slice_rest : (text : List ℕ) (i : ℕ) → take (length text - i) (drop i text) ≡ drop i text
-slice_rest text i = take_rest text i
+pub slice-rest : (text : List ℕ) (i : ℕ) → take (length text - i) (drop i text) ≡ drop i text
+slice-rest text i = take_rest text i
 
-at_last : (tail : List ℕ) → begins triple_quote tail ≡ true → block_len 0 tail ≡ Some 3
-at_last [] h = absurd (let no : false ≡ true = h in (cc))
-at_last (b ∷ bs) h = rw h refl
+at-last : (tail : List ℕ) → begins triple_quote tail ≡ true → block_len 0 tail ≡ Some 3
+at-last [] h = absurd (let no : false ≡ true = h in (cc))
+at-last (b ∷ bs) h = rw h refl
 
-map_four : (o : Option ℕ) → option_map suc (option_map suc (option_map suc (option_map suc o))) ≡ longer 4 o
-map_four None = refl
-map_four (Some m) = ap Some (omega arith)
+map-four : (o : Option ℕ) → option_map suc (option_map suc (option_map suc (option_map suc o))) ≡ longer 4 o
+map-four None = refl
+map-four (Some m) = ap Some (omega arith)
 
-map_one : (o : Option ℕ) → option_map suc o ≡ longer 1 o
-map_one None = refl
-map_one (Some m) = ap Some (omega arith)
+map-one : (o : Option ℕ) → option_map suc o ≡ longer 1 o
+map-one None = refl
+map-one (Some m) = ap Some (omega arith)
 
-at_escaped : (tail : List ℕ) → begins escaped_triple_quote tail ≡ true → block_len 0 tail ≡ longer 4 (block_len 0 (drop 4 tail))
-at_escaped tail h = ap (block_len 0) (begins_is escaped_triple_quote tail h) ∙ map_four (block_len 0 (drop 4 tail))
+at-escaped : (tail : List ℕ) → begins escaped_triple_quote tail ≡ true → block_len 0 tail ≡ longer 4 (block_len 0 (drop 4 tail))
+at-escaped tail h = ap (block_len 0) (begins-is escaped_triple_quote tail h) ∙ map-four (block_len 0 (drop 4 tail))
 
-at_other : (tail : List ℕ) → 0 < length tail → begins triple_quote tail ≡ false → begins escaped_triple_quote tail ≡ false → block_len 0 tail ≡ longer 1 (block_len 0 (drop 1 tail))
-at_other [] some h g = absurd (omega arith)
-at_other (b ∷ bs) some h g = rw (h, g) (map_one (block_len 0 bs))
+at-other : (tail : List ℕ) → 0 < length tail → begins triple_quote tail ≡ false → begins escaped_triple_quote tail ≡ false → block_len 0 tail ≡ longer 1 (block_len 0 (drop 1 tail))
+at-other [] some h g = absurd (omega arith)
+at-other (b ∷ bs) some h g = rw (h, g) (map-one (block_len 0 bs))
 
 -- the part of a search that ends at a place
 abbrev pub FirstAt : (ℕ → Bool) → List ℕ → ℕ → Type 0
 FirstAt p text i = NoneBefore (Passes p text) 0 (length text) i × Passes p text i
 
-long_as : (front text : List ℕ) (i : ℕ) → i ≤ length text → begins front (drop i text) ≡ true → i + length front ≤ length text
-long_as front text i le h =
-    let e = ap (λ (l : List ℕ). length l) (begins_is front (drop i text) h) in
+long-as : (front text : List ℕ) (i : ℕ) → i ≤ length text → begins front (drop i text) ≡ true → i + length front ≤ length text
+long-as front text i le h =
+    let e = ap (λ (l : List ℕ). length l) (begins-is front (drop i text) h) in
     omega (arith, e, length-append front (drop (length front) (drop i text)), length-drop i text)
 
-of_slice : (front text : List ℕ) (i : ℕ) (b : Bool) → begins front (take (length text - i) (drop i text)) ≡ b → begins front (drop i text) ≡ b
-of_slice front text i b h = ap (begins front) (sym (slice_rest text i)) ∙ h
+of-slice : (front text : List ℕ) (i : ℕ) (b : Bool) → begins front (take (length text - i) (drop i text)) ≡ b → begins front (drop i text) ≡ b
+of-slice front text i b h = ap (begins front) (sym (slice-rest text i)) ∙ h
 
 behind : (read : List ℕ → Option ℕ) (text : List ℕ) (i n : ℕ) → read text ≡ longer i (read (drop i text)) → read (drop i text) ≡ longer n (read (drop n (drop i text)))
     → read text ≡ longer (i + n) (read (drop (i + n) text))
-behind read text i n e f = e ∙ ap (longer i) f ∙ longer_more i n (i + n) _ refl ∙ ap (λ l. longer (i + n) (read l)) (drop-drop n i text)
+behind read text i n e f = e ∙ ap (longer i) f ∙ longer-more i n (i + n) _ refl ∙ ap (λ l. longer (i + n) (read l)) (drop-drop n i text)
 
-pub block_last : (text : List ℕ) (i : ℕ) → FirstAt (is_byte2 34 92) text i → begins triple_quote (take (length text - i) (drop i text)) ≡ true
+pub block-last : (text : List ℕ) (i : ℕ) → FirstAt (is_byte2 34 92) text i → begins triple_quote (take (length text - i) (drop i text)) ≡ true
     → (i + 3 ≤ length text) × (block_len 0 text ≡ Some (i + 3))
-block_last text i f h =
+block-last text i f h =
     let le : i ≤ length text = omega (arith, f.0.high) in
-    let t = of_slice triple_quote text i true h in
-    (long_as triple_quote text i le t, block_piece_run text i le f.0.before ∙ ap (longer i) (at_last (drop i text) t))
+    let t = of-slice triple_quote text i true h in
+    (long-as triple_quote text i le t, block-piece-run text i le f.0.before ∙ ap (longer i) (at-last (drop i text) t))
 
-pub block_inner : (text : List ℕ) (i : ℕ) → FirstAt (is_byte2 34 92) text i → begins escaped_triple_quote (take (length text - i) (drop i text)) ≡ true
+pub block-inner : (text : List ℕ) (i : ℕ) → FirstAt (is_byte2 34 92) text i → begins escaped_triple_quote (take (length text - i) (drop i text)) ≡ true
     → (0 < i + 4) × (i + 4 ≤ length text) × (block_len 0 text ≡ longer (i + 4) (block_len 0 (drop (i + 4) text)))
-block_inner text i f h =
+block-inner text i f h =
     let le : i ≤ length text = omega (arith, f.0.high) in
-    let t = of_slice escaped_triple_quote text i true h in
-    (omega arith, long_as escaped_triple_quote text i le t, behind (block_len 0) text i 4 (block_piece_run text i le f.0.before) (at_escaped (drop i text) t))
+    let t = of-slice escaped_triple_quote text i true h in
+    (omega arith, long-as escaped_triple_quote text i le t, behind (block_len 0) text i 4 (block-piece-run text i le f.0.before) (at-escaped (drop i text) t))
 
-pub block_other : (text : List ℕ) (i : ℕ) → FirstAt (is_byte2 34 92) text i → begins triple_quote (take (length text - i) (drop i text)) ≡ false
+pub block-other : (text : List ℕ) (i : ℕ) → FirstAt (is_byte2 34 92) text i → begins triple_quote (take (length text - i) (drop i text)) ≡ false
     → begins escaped_triple_quote (take (length text - i) (drop i text)) ≡ false
     → (0 < i + 1) × (i + 1 ≤ length text) × (block_len 0 text ≡ longer (i + 1) (block_len 0 (drop (i + 1) text)))
-block_other text i f h g =
+block-other text i f h g =
     let le : i < length text = f.0.high in (
       omega arith,
       omega arith,
-      behind (block_len 0) text i 1 (block_piece_run text i (omega arith) f.0.before)
-          (at_other (drop i text) (omega (arith, length-drop i text)) (of_slice triple_quote text i false h) (of_slice escaped_triple_quote text i false g)),
+      behind (block_len 0) text i 1 (block-piece-run text i (omega arith) f.0.before)
+          (at-other (drop i text) (omega (arith, length-drop i text)) (of-slice triple_quote text i false h) (of-slice escaped_triple_quote text i false g)),
     )
 
 -- bad strings
-pub bad_quiet : (b : ℕ) (bs : List ℕ) → is_byte2 34 92 b ≡ false → read_bad (b ∷ bs) ≡ option_map suc (read_bad bs)
-bad_quiet b [] h = refl
-bad_quiet b (c ∷ bs) h = let q = or_parts (eqb b 34) (eqb b 92) h in let quote = q.0 in let slash = q.1 in rw (quote, slash) (ap Some (omega arith))
+pub bad-quiet : (b : ℕ) (bs : List ℕ) → is_byte2 34 92 b ≡ false → read_bad (b ∷ bs) ≡ option_map suc (read_bad bs)
+bad-quiet b [] h = refl
+bad-quiet b (c ∷ bs) h = let q = or_parts (eqb b 34) (eqb b 92) h in let quote = q.0 in let slash = q.1 in rw (quote, slash) (ap Some (omega arith))
 
-all_bad : (text : List ℕ) → ((k : ℕ) → k < length text → is_byte2 34 92 (slice_index text k) ≡ true → ⊥) → read_bad text ≡ Some (length text)
-all_bad [] none = refl
-all_bad (b ∷ bs) none =
-    bad_quiet b bs (false_from_ne_true _ (none 0 (omega arith))) ∙ ap (option_map suc) (all_bad bs (λ k lt. none (suc k) (omega arith))) ∙ ap Some (omega arith)
+all-bad : (text : List ℕ) → ((k : ℕ) → k < length text → is_byte2 34 92 (slice_index text k) ≡ true → ⊥) → read_bad text ≡ Some (length text)
+all-bad [] none = refl
+all-bad (b ∷ bs) none =
+    bad-quiet b bs (false_from_ne_true _ (none 0 (omega arith))) ∙ ap (option_map suc) (all-bad bs (λ k lt. none (suc k) (omega arith))) ∙ ap Some (omega arith)
 
-pub bad_open : (text : List ℕ) → Nowhere (Passes (is_byte2 34 92) text) 0 (length text) → (length text ≤ length text) × (read_bad text ≡ Some (length text))
-bad_open text none = (omega arith, all_bad text (λ k lt. none k (omega arith) lt))
+pub bad-open : (text : List ℕ) → Nowhere (Passes (is_byte2 34 92) text) 0 (length text) → (length text ≤ length text) × (read_bad text ≡ Some (length text))
+bad-open text none = (omega arith, all-bad text (λ k lt. none k (omega arith) lt))
 
-bad_run : (text : List ℕ) (i : ℕ) → FirstAt (is_byte2 34 92) text i → read_bad text ≡ longer i (read_bad (drop i text))
-bad_run text i f = run_of read_bad (is_byte2 34 92) bad_quiet i text (omega (arith, f.0.high)) (λ k lt. f.0.before k (omega arith) lt)
+bad-run : (text : List ℕ) (i : ℕ) → FirstAt (is_byte2 34 92) text i → read_bad text ≡ longer i (read_bad (drop i text))
+bad-run text i f = run-of read_bad (is_byte2 34 92) bad-quiet i text (omega (arith, f.0.high)) (λ k lt. f.0.before k (omega arith) lt)
 
-at_quote : (tail : List ℕ) → 0 < length tail → eqb (slice_index tail 0) 34 ≡ true → read_bad tail ≡ Some 1
-at_quote [] some h = absurd (omega arith)
-at_quote (b ∷ []) some h = refl
-at_quote (b ∷ c ∷ bs) some h = rw h refl
+at-quote : (tail : List ℕ) → 0 < length tail → eqb (slice_index tail 0) 34 ≡ true → read_bad tail ≡ Some 1
+at-quote [] some h = absurd (omega arith)
+at-quote (b ∷ []) some h = refl
+at-quote (b ∷ c ∷ bs) some h = rw h refl
 
-at_slash : (tail : List ℕ) → 1 < length tail → eqb (slice_index tail 0) 92 ≡ true → read_bad tail ≡ longer 2 (read_bad (drop 2 tail))
-at_slash [] some h = absurd (omega arith)
-at_slash (b ∷ []) some h = absurd (omega arith)
-at_slash (b ∷ c ∷ bs) some h = let is = eqb-true b 92 h in rw is (ap Some (omega arith))
+at-slash : (tail : List ℕ) → 1 < length tail → eqb (slice_index tail 0) 92 ≡ true → read_bad tail ≡ longer 2 (read_bad (drop 2 tail))
+at-slash [] some h = absurd (omega arith)
+at-slash (b ∷ []) some h = absurd (omega arith)
+at-slash (b ∷ c ∷ bs) some h = let is = eqb-true b 92 h in rw is (ap Some (omega arith))
 
 at_end : (tail : List ℕ) → length tail ≡ 1 → read_bad tail ≡ Some 1
 at_end [] e = absurd (omega arith)
 at_end (b ∷ []) e = refl
 at_end (b ∷ c ∷ bs) e = absurd (omega arith)
 
-byte_at : (text : List ℕ) (i : ℕ) → slice_index (drop i text) 0 ≡ slice_index text i
-byte_at text i = get_or-drop i text 0 0 ∙ ap (slice_index text) (omega arith)
+byte-at : (text : List ℕ) (i : ℕ) → slice_index (drop i text) 0 ≡ slice_index text i
+byte-at text i = get_or-drop i text 0 0 ∙ ap (slice_index text) (omega arith)
 
-pub bad_quote : (text : List ℕ) (i : ℕ) → FirstAt (is_byte2 34 92) text i → eqb (slice_index text i) 34 ≡ true → (i + 1 ≤ length text) × (read_bad text ≡ Some (i + 1))
-bad_quote text i f h =
+pub bad-quote : (text : List ℕ) (i : ℕ) → FirstAt (is_byte2 34 92) text i → eqb (slice_index text i) 34 ≡ true → (i + 1 ≤ length text) × (read_bad text ≡ Some (i + 1))
+bad-quote text i f h =
     let le : i < length text = f.0.high in
-    (omega arith, bad_run text i f ∙ ap (longer i) (at_quote (drop i text) (omega (arith, length-drop i text)) (ap (λ b. eqb b 34) (byte_at text i) ∙ h)))
+    (omega arith, bad-run text i f ∙ ap (longer i) (at-quote (drop i text) (omega (arith, length-drop i text)) (ap (λ b. eqb b 34) (byte-at text i) ∙ h)))
 
-pub bad_end : (text : List ℕ) (i : ℕ) → FirstAt (is_byte2 34 92) text i → length text ≤ i + 1 → (length text ≤ length text) × (read_bad text ≡ Some (length text))
-bad_end text i f short =
+pub bad-end : (text : List ℕ) (i : ℕ) → FirstAt (is_byte2 34 92) text i → length text ≤ i + 1 → (length text ≤ length text) × (read_bad text ≡ Some (length text))
+bad-end text i f short =
     let le : i < length text = f.0.high in
-    (omega arith, bad_run text i f ∙ ap (longer i) (at_end (drop i text) (omega (arith, length-drop i text))) ∙ ap Some (omega arith))
+    (omega arith, bad-run text i f ∙ ap (longer i) (at_end (drop i text) (omega (arith, length-drop i text))) ∙ ap Some (omega arith))
 
-slash_of : (text : List ℕ) (i : ℕ) → FirstAt (is_byte2 34 92) text i → eqb (slice_index text i) 34 ≡ false → eqb (slice_index text i) 92 ≡ true
-slash_of text i f other = elim (or_cases (eqb (slice_index text i) 34) (eqb (slice_index text i) 92) f.1) [
+slash-of : (text : List ℕ) (i : ℕ) → FirstAt (is_byte2 34 92) text i → eqb (slice_index text i) 34 ≡ false → eqb (slice_index text i) 92 ≡ true
+slash-of text i f other = elim (or_cases (eqb (slice_index text i) 34) (eqb (slice_index text i) 92) f.1) [
   | inl is ↦ absurd (both_ways _ other is)
   | inr is ↦ is
 ]
 
-pub bad_slash : (text : List ℕ) (i : ℕ) → FirstAt (is_byte2 34 92) text i → eqb (slice_index text i) 34 ≡ false → i + 1 < length text
+pub bad-slash : (text : List ℕ) (i : ℕ) → FirstAt (is_byte2 34 92) text i → eqb (slice_index text i) 34 ≡ false → i + 1 < length text
     → (0 < i + 2) × (i + 2 ≤ length text) × (read_bad text ≡ longer (i + 2) (read_bad (drop (i + 2) text)))
-bad_slash text i f other more = (
+bad-slash text i f other more = (
   omega arith,
   omega arith,
-  behind read_bad text i 2 (bad_run text i f)
-      (at_slash (drop i text) (omega (arith, length-drop i text)) (ap (λ b. eqb b 92) (byte_at text i) ∙ slash_of text i f other)),
+  behind read_bad text i 2 (bad-run text i f)
+      (at-slash (drop i text) (omega (arith, length-drop i text)) (ap (λ b. eqb b 92) (byte-at text i) ∙ slash-of text i f other)),
 )
 
 -- quoted strings: a search for quotes and backslashes, and one for line terminators before them
 abbrev pub is_special : ℕ → Bool
 is_special b = not (is_plain_string_character b)
 
-quoted_quiet : (b : ℕ) (bs : List ℕ) → is_special b ≡ false → quoted_len 0 (b ∷ bs) ≡ option_map suc (quoted_len 0 bs)
-quoted_quiet b bs h =
+quoted-quiet : (b : ℕ) (bs : List ℕ) → is_special b ≡ false → quoted_len 0 (b ∷ bs) ≡ option_map suc (quoted_len 0 bs)
+quoted-quiet b bs h =
     let p : is_plain_string_character b ≡ true = not-false (is_plain_string_character b) h in
     let quote : eqb b 34 ≡ false = plain_quote b p in
     rw (p, quote) refl where
       plain_quote : (b : ℕ) → is_plain_string_character b ≡ true → eqb b 34 ≡ false
       plain_quote b h = grind (arith, nat_tests)
 
-special_is : (b : ℕ) → is_special b ≡ true → is_byte2 34 92 b ≡ false → is_byte2 10 13 b ≡ true
-special_is b h other = grind (arith, nat_tests)
+special-is : (b : ℕ) → is_special b ≡ true → is_byte2 34 92 b ≡ false → is_byte2 10 13 b ≡ true
+special-is b h other = grind (arith, nat_tests)
 
-special_split : (b : ℕ) → is_special b ≡ true → (is_byte2 34 92 b ≡ true) ⊎ (is_byte2 10 13 b ≡ true)
-special_split b h = elim (cases_Bool (is_byte2 34 92 b)) [ inl e ↦ inl e | inr e ↦ inr (special_is b h e) ]
+special-split : (b : ℕ) → is_special b ≡ true → (is_byte2 34 92 b ≡ true) ⊎ (is_byte2 10 13 b ≡ true)
+special-split b h = elim (cases_Bool (is_byte2 34 92 b)) [ inl e ↦ inl e | inr e ↦ inr (special-is b h e) ]
 
 -- at a line terminator none is read
 terminator : (b : ℕ) (bs : List ℕ) → is_byte2 10 13 b ≡ true → quoted_len 0 (b ∷ bs) ≡ None
@@ -209,124 +209,124 @@ terminator b bs h = elim (or_cases (eqb b 10) (eqb b 13) h) [
   | inr e ↦ let is = eqb-true b 13 e in rw is refl
 ]
 
-pub quoted_open : (text : List ℕ) → Nowhere (Passes (is_byte2 34 92) text) 0 (length text) → quoted_len 0 text ≡ None
-quoted_open [] none = refl
-quoted_open (b ∷ bs) none = elim (cases_Bool (is_special b)) [
-  | inl special ↦ elim (special_split b special) [
+pub quoted-open : (text : List ℕ) → Nowhere (Passes (is_byte2 34 92) text) 0 (length text) → quoted_len 0 text ≡ None
+quoted-open [] none = refl
+quoted-open (b ∷ bs) none = elim (cases_Bool (is_special b)) [
+  | inl special ↦ elim (special-split b special) [
     | inl is ↦ absurd (none 0 (omega arith) (omega arith) is)
     | inr is ↦ terminator b bs is
   ]
-  | inr plain ↦ quoted_quiet b bs plain ∙ ap (option_map suc) (quoted_open bs (λ k low lt. none (suc k) (omega arith) (omega arith)))
+  | inr plain ↦ quoted-quiet b bs plain ∙ ap (option_map suc) (quoted-open bs (λ k low lt. none (suc k) (omega arith) (omega arith)))
 ]
 
-quoted_run : (text : List ℕ) (i : ℕ) → i ≤ length text → ((k : ℕ) → k < i → is_byte2 34 92 (slice_index text k) ≡ true → ⊥) → ((k : ℕ) → k < i → is_byte2 10 13 (slice_index text k) ≡ true → ⊥)
+quoted-run : (text : List ℕ) (i : ℕ) → i ≤ length text → ((k : ℕ) → k < i → is_byte2 34 92 (slice_index text k) ≡ true → ⊥) → ((k : ℕ) → k < i → is_byte2 10 13 (slice_index text k) ≡ true → ⊥)
     → quoted_len 0 text ≡ longer i (quoted_len 0 (drop i text))
-quoted_run text i le none clear = run_of (quoted_len 0) is_special quoted_quiet i text le (λ k lt s. elim (special_split (slice_index text k) s) [
+quoted-run text i le none clear = run-of (quoted_len 0) is_special quoted-quiet i text le (λ k lt s. elim (special-split (slice_index text k) s) [
   | inl is ↦ none k lt is
   | inr is ↦ clear k lt is
 ])
 
-at_terminator : (tail : List ℕ) → 0 < length tail → is_byte2 10 13 (slice_index tail 0) ≡ true → quoted_len 0 tail ≡ None
-at_terminator [] some h = absurd (omega arith)
-at_terminator (b ∷ bs) some h = terminator b bs h
+at-terminator : (tail : List ℕ) → 0 < length tail → is_byte2 10 13 (slice_index tail 0) ≡ true → quoted_len 0 tail ≡ None
+at-terminator [] some h = absurd (omega arith)
+at-terminator (b ∷ bs) some h = terminator b bs h
 
 -- a line terminator comes before the first quote or backslash
-pub quoted_broken : (text : List ℕ) (i j : ℕ) → FirstAt (is_byte2 34 92) text i → FirstAt (is_byte2 10 13) (take i text) j → quoted_len 0 text ≡ None
-quoted_broken text i j f g =
+pub quoted-broken : (text : List ℕ) (i j : ℕ) → FirstAt (is_byte2 34 92) text i → FirstAt (is_byte2 10 13) (take i text) j → quoted_len 0 text ≡ None
+quoted-broken text i j f g =
     let le : i < length text = f.0.high in
     let len : length (take i text) ≡ i = length-take-le i text (omega arith) in
     let lt : j < i = omega (arith, len, g.0.high) in
     let same : (k : ℕ) → k < i → slice_index (take i text) k ≡ slice_index text k = λ k l. get_or-take i text k 0 l in
-    quoted_run text j (omega arith) (λ k l. f.0.before k (omega arith) (omega arith))
+    quoted-run text j (omega arith) (λ k l. f.0.before k (omega arith) (omega arith))
     (λ k l is. g.0.before k (omega arith) l (ap (is_byte2 10 13) (same k (omega arith)) ∙ is))
-    ∙ ap (longer j) (at_terminator (drop j text) (omega (arith, length-drop j text)) (ap (is_byte2 10 13) (byte_at text j ∙ sym (same j lt)) ∙ g.1))
+    ∙ ap (longer j) (at-terminator (drop j text) (omega (arith, length-drop j text)) (ap (is_byte2 10 13) (byte-at text j ∙ sym (same j lt)) ∙ g.1))
 
 -- none does
-pub quoted_clear : (text : List ℕ) (i : ℕ) → FirstAt (is_byte2 34 92) text i → Nowhere (Passes (is_byte2 10 13) (take i text)) 0 (length (take i text))
+pub quoted-clear : (text : List ℕ) (i : ℕ) → FirstAt (is_byte2 34 92) text i → Nowhere (Passes (is_byte2 10 13) (take i text)) 0 (length (take i text))
     → quoted_len 0 text ≡ longer i (quoted_len 0 (drop i text))
-quoted_clear text i f g =
+quoted-clear text i f g =
     let le : i < length text = f.0.high in
     let len : length (take i text) ≡ i = length-take-le i text (omega arith) in
-    quoted_run text i (omega arith) (λ k l. f.0.before k (omega arith) l)
+    quoted-run text i (omega arith) (λ k l. f.0.before k (omega arith) l)
     (λ k l is. g k (omega arith) (omega (arith, len)) (ap (is_byte2 10 13) (get_or-take i text k 0 l) ∙ is))
 
-quote_ends : (tail : List ℕ) → 0 < length tail → eqb (slice_index tail 0) 34 ≡ true → quoted_len 0 tail ≡ Some 1
-quote_ends [] some h = absurd (omega arith)
-quote_ends (b ∷ bs) some h = rw h refl
+quote-ends : (tail : List ℕ) → 0 < length tail → eqb (slice_index tail 0) 34 ≡ true → quoted_len 0 tail ≡ Some 1
+quote-ends [] some h = absurd (omega arith)
+quote-ends (b ∷ bs) some h = rw h refl
 
-pub quoted_last : (text : List ℕ) (i : ℕ) → FirstAt (is_byte2 34 92) text i → Nowhere (Passes (is_byte2 10 13) (take i text)) 0 (length (take i text)) → eqb (slice_index text i) 34 ≡ true
+pub quoted-last : (text : List ℕ) (i : ℕ) → FirstAt (is_byte2 34 92) text i → Nowhere (Passes (is_byte2 10 13) (take i text)) 0 (length (take i text)) → eqb (slice_index text i) 34 ≡ true
     → (i + 1 ≤ length text) × (quoted_len 0 text ≡ Some (i + 1))
-quoted_last text i f g h =
+quoted-last text i f g h =
     let le : i < length text = f.0.high in
-    (omega arith, quoted_clear text i f g ∙ ap (longer i) (quote_ends (drop i text) (omega (arith, length-drop i text)) (ap (λ b. eqb b 34) (byte_at text i) ∙ h)))
+    (omega arith, quoted-clear text i f g ∙ ap (longer i) (quote-ends (drop i text) (omega (arith, length-drop i text)) (ap (λ b. eqb b 34) (byte-at text i) ∙ h)))
 
 -- an escape of n bytes is passed, and where there is none nothing is read
-skip_bytes : (n : ℕ) (bs : List ℕ) → n ≤ length bs → quoted_len n bs ≡ longer n (quoted_len 0 (drop n bs))
-skip_bytes zero bs le = sym (longer_none (quoted_len 0 bs))
-skip_bytes (suc n) [] le = absurd (omega arith)
-skip_bytes (suc n) (b ∷ bs) le = ap (option_map suc) (skip_bytes n bs (omega arith)) ∙ longer_suc n (quoted_len 0 (drop n bs))
+skip-bytes : (n : ℕ) (bs : List ℕ) → n ≤ length bs → quoted_len n bs ≡ longer n (quoted_len 0 (drop n bs))
+skip-bytes zero bs le = sym (longer-none (quoted_len 0 bs))
+skip-bytes (suc n) [] le = absurd (omega arith)
+skip-bytes (suc n) (b ∷ bs) le = ap (option_map suc) (skip-bytes n bs (omega arith)) ∙ longer-suc n (quoted_len 0 (drop n bs))
 
-escape_passed : (tail : List ℕ) (n : ℕ) → eqb (slice_index tail 0) 34 ≡ false → n ≡ string_character_len tail → 0 < n → n ≤ length tail → quoted_len 0 tail ≡ longer n (quoted_len 0 (drop n tail))
-escape_passed [] n quote e some le = absurd (omega arith)
-escape_passed (b ∷ bs) zero quote e some le = absurd (omega arith)
-escape_passed (b ∷ bs) (suc n) quote e some le =
+escape-passed : (tail : List ℕ) (n : ℕ) → eqb (slice_index tail 0) 34 ≡ false → n ≡ string_character_len tail → 0 < n → n ≤ length tail → quoted_len 0 tail ≡ longer n (quoted_len 0 (drop n tail))
+escape-passed [] n quote e some le = absurd (omega arith)
+escape-passed (b ∷ bs) zero quote e some le = absurd (omega arith)
+escape-passed (b ∷ bs) (suc n) quote e some le =
     let len : string_character_len (b ∷ bs) ≡ suc n = sym e in
     let some : eqb (suc n) 0 ≡ false = ne_eqb (suc n) 0 (λ z. omega arith) in
     let step : quoted_len 0 (b ∷ bs) ≡ option_map suc (quoted_len (suc n - 1) bs) = rw (len, quote, some) refl in
     let less : suc n - 1 ≡ n = omega arith in
-    step ∙ ap (λ m. option_map suc (quoted_len m bs)) less ∙ ap (option_map suc) (skip_bytes n bs (omega arith)) ∙ longer_suc n (quoted_len 0 (drop n bs))
+    step ∙ ap (λ m. option_map suc (quoted_len m bs)) less ∙ ap (option_map suc) (skip-bytes n bs (omega arith)) ∙ longer-suc n (quoted_len 0 (drop n bs))
 
-escape_none : (tail : List ℕ) → eqb (slice_index tail 0) 34 ≡ false → string_character_len tail ≡ 0 → quoted_len 0 tail ≡ None
-escape_none [] quote e = refl
-escape_none (b ∷ bs) quote e = rw (e, quote) refl
+escape-none : (tail : List ℕ) → eqb (slice_index tail 0) 34 ≡ false → string_character_len tail ≡ 0 → quoted_len 0 tail ≡ None
+escape-none [] quote e = refl
+escape-none (b ∷ bs) quote e = rw (e, quote) refl
 
-pub quoted_inner : (text : List ℕ) (i n : ℕ) → FirstAt (is_byte2 34 92) text i → Nowhere (Passes (is_byte2 10 13) (take i text)) 0 (length (take i text)) → eqb (slice_index text i) 34 ≡ false
+pub quoted-inner : (text : List ℕ) (i n : ℕ) → FirstAt (is_byte2 34 92) text i → Nowhere (Passes (is_byte2 10 13) (take i text)) 0 (length (take i text)) → eqb (slice_index text i) 34 ≡ false
     → n ≡ string_character_len (take (length text - i) (drop i text)) → 0 < n → n ≤ length (take (length text - i) (drop i text))
     → (0 < i + n) × (i + n ≤ length text) × (quoted_len 0 text ≡ longer (i + n) (quoted_len 0 (drop (i + n) text)))
-quoted_inner text i n f g other e some within =
+quoted-inner text i n f g other e some within =
     let le : i < length text = f.0.high in
-    let rest = slice_rest text i in
+    let rest = slice-rest text i in
     let fits : n ≤ length (drop i text) = subst (λ (l : List ℕ). n ≤ length l) rest within in (
       omega arith,
       omega (arith, fits, length-drop i text),
-      behind (quoted_len 0) text i n (quoted_clear text i f g)
-          (escape_passed (drop i text) n (ap (λ b. eqb b 34) (byte_at text i) ∙ other) (e ∙ ap string_character_len rest) some fits),
+      behind (quoted_len 0) text i n (quoted-clear text i f g)
+          (escape-passed (drop i text) n (ap (λ b. eqb b 34) (byte-at text i) ∙ other) (e ∙ ap string_character_len rest) some fits),
     )
 
-pub quoted_bad : (text : List ℕ) (i n : ℕ) → FirstAt (is_byte2 34 92) text i → Nowhere (Passes (is_byte2 10 13) (take i text)) 0 (length (take i text)) → eqb (slice_index text i) 34 ≡ false
+pub quoted-bad : (text : List ℕ) (i n : ℕ) → FirstAt (is_byte2 34 92) text i → Nowhere (Passes (is_byte2 10 13) (take i text)) 0 (length (take i text)) → eqb (slice_index text i) 34 ≡ false
     → n ≡ string_character_len (take (length text - i) (drop i text)) → n ≡ 0 → quoted_len 0 text ≡ None
-quoted_bad text i n f g other e none =
-    quoted_clear text i f g ∙ ap (longer i) (escape_none (drop i text) (ap (λ b. eqb b 34) (byte_at text i) ∙ other) (ap string_character_len (sym (slice_rest text i)) ∙ sym e ∙ none))
+quoted-bad text i n f g other e none =
+    quoted-clear text i f g ∙ ap (longer i) (escape-none (drop i text) (ap (λ b. eqb b 34) (byte-at text i) ∙ other) (ap string_character_len (sym (slice-rest text i)) ∙ sym e ∙ none))
 
 -- the byte where the search ended, if it is no quote, in what is left of the text
-pub backslash_there : (text : List ℕ) (i : ℕ) → FirstAt (is_byte2 34 92) text i → eqb (slice_index text i) 34 ≡ false → slice_index (take (length text - i) (drop i text)) 0 ≡ 92
-backslash_there text i f other = ap (λ l. slice_index l 0) (slice_rest text i) ∙ byte_at text i ∙ eqb-true _ _ (slash_of text i f other)
+pub backslash-there : (text : List ℕ) (i : ℕ) → FirstAt (is_byte2 34 92) text i → eqb (slice_index text i) 34 ≡ false → slice_index (take (length text - i) (drop i text)) 0 ≡ 92
+backslash-there text i f other = ap (λ l. slice_index l 0) (slice-rest text i) ∙ byte-at text i ∙ eqb-true _ _ (slash-of text i f other)
 
 -- what `is_some` says of the second search
 pub found : (text : List ℕ) (i : ℕ) (r : Option ℕ) → FirstAt (is_byte2 34 92) text i → IsFirstByte (is_byte2 10 13) (take i text) r → is_some r ≡ true → quoted_len 0 text ≡ None
 found text i None f g h = absurd (let no : false ≡ true = h in (cc))
-found text i (Some j) f g h = quoted_broken text i j f g
+found text i (Some j) f g h = quoted-broken text i j f g
 
-pub not_found : (text : List ℕ) (r : Option ℕ) → IsFirstByte (is_byte2 10 13) text r → is_some r ≡ false → Nowhere (Passes (is_byte2 10 13) text) 0 (length text)
-not_found text None g h = g
-not_found text (Some j) g h = absurd (let no : true ≡ false = h in (cc))
+pub not-found : (text : List ℕ) (r : Option ℕ) → IsFirstByte (is_byte2 10 13) text r → is_some r ≡ false → Nowhere (Passes (is_byte2 10 13) text) 0 (length text)
+not-found text None g h = g
+not-found text (Some j) g h = absurd (let no : true ≡ false = h in (cc))
 
 -- the end of a comment is the first line terminator, or the end of the text
-comment_quiet : (b : ℕ) (bs : List ℕ) → is_byte2 10 13 b ≡ false → prefix_len is_comment_character (b ∷ bs) ≡ suc (prefix_len is_comment_character bs)
-comment_quiet b bs h = rw h (omega arith)
+comment-quiet : (b : ℕ) (bs : List ℕ) → is_byte2 10 13 b ≡ false → prefix_len is_comment_character (b ∷ bs) ≡ suc (prefix_len is_comment_character bs)
+comment-quiet b bs h = rw h (omega arith)
 
-pub comment_whole : (text : List ℕ) → Nowhere (Passes (is_byte2 10 13) text) 0 (length text) → prefix_len is_comment_character text ≡ length text
-comment_whole [] none = refl
-comment_whole (b ∷ bs) none =
-    comment_quiet b bs (false_from_ne_true _ (none 0 (omega arith) (omega arith)))
-    ∙ ap suc (comment_whole bs (λ k low lt. none (suc k) (omega arith) (omega arith))) ∙ omega arith
+pub comment-whole : (text : List ℕ) → Nowhere (Passes (is_byte2 10 13) text) 0 (length text) → prefix_len is_comment_character text ≡ length text
+comment-whole [] none = refl
+comment-whole (b ∷ bs) none =
+    comment-quiet b bs (false_from_ne_true _ (none 0 (omega arith) (omega arith)))
+    ∙ ap suc (comment-whole bs (λ k low lt. none (suc k) (omega arith) (omega arith))) ∙ omega arith
 
-comment_until : (i : ℕ) (text : List ℕ) → i < length text → ((k : ℕ) → k < i → is_byte2 10 13 (slice_index text k) ≡ true → ⊥) → is_byte2 10 13 (slice_index text i) ≡ true
+comment-until : (i : ℕ) (text : List ℕ) → i < length text → ((k : ℕ) → k < i → is_byte2 10 13 (slice_index text k) ≡ true → ⊥) → is_byte2 10 13 (slice_index text i) ≡ true
     → prefix_len is_comment_character text ≡ i
-comment_until i [] lt none is = absurd (omega arith)
-comment_until zero (b ∷ bs) lt none is = rw is refl
-comment_until (suc i) (b ∷ bs) lt none is =
-    comment_quiet b bs (false_from_ne_true _ (none 0 (omega arith))) ∙ ap suc (comment_until i bs (omega arith) (λ k l. none (suc k) (omega arith)) is) ∙ omega arith
+comment-until i [] lt none is = absurd (omega arith)
+comment-until zero (b ∷ bs) lt none is = rw is refl
+comment-until (suc i) (b ∷ bs) lt none is =
+    comment-quiet b bs (false_from_ne_true _ (none 0 (omega arith))) ∙ ap suc (comment-until i bs (omega arith) (λ k l. none (suc k) (omega arith)) is) ∙ omega arith
 
-pub comment_ends : (text : List ℕ) (i : ℕ) → FirstAt (is_byte2 10 13) text i → prefix_len is_comment_character text ≡ i
-comment_ends text i f = comment_until i text f.0.high (λ k lt. f.0.before k (omega arith) lt) f.1
+pub comment-ends : (text : List ℕ) (i : ℕ) → FirstAt (is_byte2 10 13) text i → prefix_len is_comment_character text ≡ i
+comment-ends text i f = comment-until i text f.0.high (λ k lt. f.0.before k (omega arith) lt) f.1

@@ -21,8 +21,8 @@ token_from Dot b bs = if begins (46 ∷ 46 ∷ []) bs then Some (token.Spread, 3
 token_from Blank b bs = Some (token.Whitespace, blanks_len 0 (b ∷ bs))
 token_from Other b bs = if blank_len (b ∷ bs) == 0 then option_map (λ kind. (kind, 1)) (punctuator b) else Some (token.Whitespace, blanks_len 0 (b ∷ bs))
 
-by_start : (b : ℕ) (bs : List ℕ) → token_from (start_of b) b bs ≡ token_at (b ∷ bs)
-by_start b bs = elim (cases_Bool (is_name_start b)) [
+by-start : (b : ℕ) (bs : List ℕ) → token_from (start_of b) b bs ≡ token_at (b ∷ bs)
+by-start b bs = elim (cases_Bool (is_name_start b)) [
   | inl e ↦ rw e refl
   | inr name ↦ elim (cases_Bool (is_digit b || b == 45)) [
     | inl e ↦ rw (name, e) refl
@@ -49,5 +49,5 @@ by_start b bs = elim (cases_Bool (is_name_start b)) [
   ]
 ]
 
-pub token_by_start : (s : Start) (b : ℕ) (bs bytes : List ℕ) → bytes ≡ b ∷ bs → s ≡ start_of b → token_from s b bs ≡ token_at bytes
-token_by_start s b bs bytes is start = ap (λ t. token_from t b bs) start ∙ by_start b bs ∙ ap token_at (sym is)
+pub token-by-start : (s : Start) (b : ℕ) (bs bytes : List ℕ) → bytes ≡ b ∷ bs → s ≡ start_of b → token_from s b bs ≡ token_at bytes
+token-by-start s b bs bytes is start = ap (λ t. token_from t b bs) start ∙ by-start b bs ∙ ap token_at (sym is)

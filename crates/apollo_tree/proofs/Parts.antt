@@ -84,13 +84,13 @@ ranges whole is = map range_at (map (λ i. record { whole = whole; index = i }) 
 abbrev Stands : Forest → ℕ → ℕ → Option ℕ → Forest → Type 0
 Stands whole at i p f = (k : ℕ) → k < count f → get_or (order whole) (i + k) nowhere ≡ get_or (order_from at i p f) k nowhere
 
-first_range : (whole : Forest) (i : ℕ) (e : Element) → get_or (order whole) (i + 0) nowhere ≡ e → ◌≡◌ {A = ℕ × ℕ} (range_at (spot whole i)) (e.start, e.start + length (tree_text e.tree))
-first_range whole i e h =
+first-range : (whole : Forest) (i : ℕ) (e : Element) → get_or (order whole) (i + 0) nowhere ≡ e → ◌≡◌ {A = ℕ × ℕ} (range_at (spot whole i)) (e.start, e.start + length (tree_text e.tree))
+first-range whole i e h =
     let same : i ≡ i + 0 = omega arith in
     ap (λ (x : Element). (x.start, x.start + length (tree_text x.tree))) (ap (λ j. get_or (order whole) j nowhere) same ∙ h)
 
-tile_first : (whole : Forest) (i from end to : ℕ) (is : List ℕ) → ◌≡◌ {A = ℕ × ℕ} (range_at (spot whole i)) (from, end) → AreTiles end to (ranges whole is) → AreTiles from to (ranges whole (i ∷ is))
-tile_first whole i from end to is h rest =
+tile-first : (whole : Forest) (i from end to : ℕ) (is : List ℕ) → ◌≡◌ {A = ℕ × ℕ} (range_at (spot whole i)) (from, end) → AreTiles end to (ranges whole is) → AreTiles from to (ranges whole (i ∷ is))
+tile-first whole i from end to is h rest =
     (ap (λ (r : ℕ × ℕ). r.0) h, subst (λ j. AreTiles j to (ranges whole is)) (sym (ap (λ (r : ℕ × ℕ). r.1) h)) rest)
 
 tiles : (whole : Forest) (at i : ℕ) (p : Option ℕ) (f : Forest) → Stands whole at i p f → AreTiles at (at + length (text f)) (ranges whole (places i f))
@@ -98,8 +98,8 @@ tiles whole at i p none h = omega arith
 tiles whole at i p (leaf k s rest) h =
     let e : Element = record { tree = Leaf k s; start = at; parent = p; children = [] } in
     let end : (at + length s) + length (text rest) ≡ at + length (s ++ text rest) = omega (arith, length-append s (text rest)) in
-    tile_first whole i at (at + length s) (at + length (s ++ text rest)) (places (suc i) rest)
-    (first_range whole i e (h 0 (omega arith)))
+    tile-first whole i at (at + length s) (at + length (s ++ text rest)) (places (suc i) rest)
+    (first-range whole i e (h 0 (omega arith)))
     (subst (λ j. AreTiles (at + length s) j (ranges whole (places (suc i) rest))) end
     (tiles whole (at + length s) (suc i) p rest (λ m b. ap (λ j. get_or (order whole) j nowhere) (omega arith) ∙ h (suc m) (omega arith))))
 tiles whole at i p (node k kids rest) h =
@@ -109,8 +109,8 @@ tiles whole at i p (node k kids rest) h =
     let outer = order_from at2 (suc (i + count kids)) p rest in
     let l = length-order at (suc i) (Some i) kids in
     let end : at2 + length (text rest) ≡ at + length (text kids ++ text rest) = omega (arith, length-append (text kids) (text rest)) in
-    tile_first whole i at at2 (at + length (text kids ++ text rest)) (places (suc (i + count kids)) rest)
-    (first_range whole i e (h 0 (omega arith)))
+    tile-first whole i at at2 (at + length (text kids ++ text rest)) (places (suc (i + count kids)) rest)
+    (first-range whole i e (h 0 (omega arith)))
     (subst (λ j. AreTiles at2 j (ranges whole (places (suc (i + count kids)) rest))) end
     (tiles whole at2 (suc (i + count kids)) p rest
     (λ m b.
@@ -118,13 +118,13 @@ tiles whole at i p (node k kids rest) h =
     ap (λ j. get_or (order whole) j nowhere) (omega arith) ∙ h (suc (count kids + m)) (omega arith) ∙ past)))
 
 -- ---- at an element of a table
-node_text : (t : Tree) → is_node t ≡ true → tree_text t ≡ text (tree_kids t)
-node_text (Leaf k s) h = absurd cc
-node_text (Node k kids) h = refl
+node-text : (t : Tree) → is_node t ≡ true → tree_text t ≡ text (tree_kids t)
+node-text (Leaf k s) h = absurd cc
+node-text (Node k kids) h = refl
 
-under_text : (t : Tree) → 0 < count (tree_kids t) → tree_text t ≡ text (tree_kids t)
-under_text (Leaf k s) h = absurd (omega arith)
-under_text (Node k kids) h = refl
+under-text : (t : Tree) → 0 < count (tree_kids t) → tree_text t ≡ text (tree_kids t)
+under-text (Leaf k s) h = absurd (omega arith)
+under-text (Node k kids) h = refl
 
 module _ (rs : List Record) (s : List ℕ) (t : IsTable rs s) (i : ℕ) (h : i < length rs) where
   total : i < count (forest s rs)
@@ -148,20 +148,20 @@ module _ (rs : List Record) (s : List ℕ) (t : IsTable rs s) (i : ℕ) (h : i <
       ∙ get_or-append-add c.front (e ∷ (sub ++ c.back)) (suc k) nowhere
       ∙ get_or_append_left sub c.back nowhere k (omega arith)
 
-  pub children_at : (element (spot (forest s rs) i)).children ≡ places (suc i) (tree_kids (tree_at (spot (forest s rs) i)))
-  children_at =
+  pub children-at : (element (spot (forest s rs) i)).children ≡ places (suc i) (tree_kids (tree_at (spot (forest s rs) i)))
+  children-at =
       let plain : 0 + i ≡ i = omega arith in
       part_of.children ∙ ap (λ j. places (suc j) (tree_kids (tree_at (spot (forest s rs) i)))) plain
 
   -- the ranges of its children, in order, fill its own
-  pub children_tile : is_node (tree_at (spot (forest s rs) i)) ≡ true → AreTiles (range_at (spot (forest s rs) i)).0 (range_at (spot (forest s rs) i)).1 (map range_at (child_places (spot (forest s rs) i)))
-  children_tile n =
+  pub children-tile : is_node (tree_at (spot (forest s rs) i)) ≡ true → AreTiles (range_at (spot (forest s rs) i)).0 (range_at (spot (forest s rs) i)).1 (map range_at (child_places (spot (forest s rs) i)))
+  children-tile n =
       let e = element (spot (forest s rs) i) in
       let kids = tree_kids e.tree in
-      let end : e.start + length (text kids) ≡ e.start + length (tree_text e.tree) = ap (λ x. e.start + length x) (sym (node_text e.tree n)) in
+      let end : e.start + length (text kids) ≡ e.start + length (tree_text e.tree) = ap (λ x. e.start + length x) (sym (node-text e.tree n)) in
       let filled : AreTiles e.start (e.start + length (text kids)) (ranges (forest s rs) (places (suc i) kids)) = tiles (forest s rs) e.start (suc i) (Some i) kids stands in
       let ended : AreTiles e.start (e.start + length (tree_text e.tree)) (ranges (forest s rs) (places (suc i) kids)) = subst (λ j. AreTiles e.start j (ranges (forest s rs) (places (suc i) kids))) end filled in
-      subst (λ is. AreTiles e.start (e.start + length (tree_text e.tree)) (ranges (forest s rs) is)) (sym children_at) ended
+      subst (λ is. AreTiles e.start (e.start + length (tree_text e.tree)) (ranges (forest s rs) is)) (sym children-at) ended
 
   -- the range of each element below it lies within its own
   pub within : (k : ℕ) → k < count (tree_kids (tree_at (spot (forest s rs) i))) → ((range_at (spot (forest s rs) i)).0 ≤ (range_at (spot (forest s rs) (suc i + k))).0) × ((range_at (spot (forest s rs) (suc i + k))).1 ≤ (range_at (spot (forest s rs) i)).1)
@@ -175,5 +175,5 @@ module _ (rs : List Record) (s : List ℕ) (t : IsTable rs s) (i : ℕ) (h : i <
       let long : length (tree_text (element (spot (forest s rs) (suc i + k))).tree) ≡ length (tree_text x.tree) = ap (λ (y : Element). length (tree_text y.tree)) same in
       let parts : length (text kids) ≡ length c.before + (length (tree_text x.tree) + length c.after) =
       ap length c.words ∙ length-append c.before (tree_text x.tree ++ c.after) ∙ ap (λ n. length c.before + n) (length-append (tree_text x.tree) c.after) in
-      let own : length (tree_text e.tree) ≡ length (text kids) = ap length (under_text e.tree (omega arith)) in
+      let own : length (tree_text e.tree) ≡ length (text kids) = ap length (under-text e.tree (omega arith)) in
       (omega (arith, c.begins), omega (arith, c.begins))

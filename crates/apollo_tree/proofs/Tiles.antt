@@ -6,9 +6,9 @@ use Rattle.apollo_tree.specs.Records.{records, further}
 use Rattle.apollo_tree.specs.Children.{tiled}
 use Rattle.apollo_tree.specs.ReadBack.{length-records}
 
-pub size_parts : (n : ℕ) (rs : List Record) → elim n [ zero ↦ false | suc m ↦ tiled m rs ] ≡ true → (0 < n) × (tiled (pred n) rs ≡ true)
-size_parts zero rs h = absurd cc
-size_parts (suc n) rs h = (omega arith, h)
+pub size-parts : (n : ℕ) (rs : List Record) → elim n [ zero ↦ false | suc m ↦ tiled m rs ] ≡ true → (0 < n) × (tiled (pred n) rs ≡ true)
+size-parts zero rs h = absurd cc
+size-parts (suc n) rs h = (omega arith, h)
 
 pub tiled-skip : (n : ℕ) (rs : List Record) → tiled n rs ≡ true → tiled 0 (drop n rs) ≡ true
 tiled-skip zero rs h = h

@@ -21,9 +21,9 @@ pub written-leaf : (k : SyntaxKind) (s : List ℕ) (b : Building) → written (a
 written-leaf k s b =
     ap (λ x. open_brackets b.above ++ x) (brackets-join b.here (leaf k s none)) ∙ sym (append_assoc (open_brackets b.above) (brackets b.here) _)
 
-close_written : (here : Forest) (above : List Open) → FitsInnermost here above → written (close here above) ≡ (open_brackets above ++ brackets here) ++ Closing ∷ []
-close_written here [] h = absurd h
-close_written here (o ∷ above) h =
+close-written : (here : Forest) (above : List Open) → FitsInnermost here above → written (close here above) ≡ (open_brackets above ++ brackets here) ++ Closing ∷ []
+close-written here [] h = absurd h
+close-written here (o ∷ above) h =
     ap (λ x. open_brackets above ++ x) (brackets-join o.before (node o.kind here none))
     ∙ sym (append_assoc (open_brackets above) (brackets o.before) _)
     ∙ rest
@@ -32,7 +32,7 @@ close_written here (o ∷ above) h =
     rest = simp append_assoc
 
 pub written-finish : (b : Building) → CanFinish b → written (finish b) ≡ written b ++ Closing ∷ []
-written-finish b h = close_written b.here b.above h
+written-finish b h = close-written b.here b.above h
 
 -- how many elements brackets open
 abbrev elements : List Bracket → ℕ
@@ -81,8 +81,8 @@ written-wrap p k b place =
     sym (ap (open_at p k) whole ∙ open-past p k xs (brackets g) l ∙ ap (λ x. xs ++ x) (open-first k g)
     ∙ sym (ap (λ x. x ++ brackets g) (sym (append_assoc (open_brackets b.above) (brackets f) (Opening k ∷ []))) ∙ append_assoc xs (Opening k ∷ []) (brackets g)))
 
-whole_written : (above : List Open) (here : Forest) → above ≡ [] → brackets here ≡ open_brackets above ++ brackets here
-whole_written above here e = ap (λ x. open_brackets x ++ brackets here) (sym e)
+whole-written : (above : List Open) (here : Forest) → above ≡ [] → brackets here ≡ open_brackets above ++ brackets here
+whole-written above here e = ap (λ x. open_brackets x ++ brackets here) (sym e)
 
 pub written-whole : (b : Building) → b.above ≡ [] → brackets b.here ≡ written b
-written-whole b e = whole_written b.above b.here e
+written-whole b e = whole-written b.above b.here e

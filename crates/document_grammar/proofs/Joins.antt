@@ -8,10 +8,10 @@ join-none none = refl
 join-none (leaf k s rest) = ap (leaf k s) (join-none rest)
 join-none (node k kids rest) = ap (node k kids) (join-none rest)
 
-pub join_assoc : (f g h : Forest) → join (join f g) h ≡ join f (join g h)
-join_assoc none g h = refl
-join_assoc (leaf k s rest) g h = ap (leaf k s) (join_assoc rest g h)
-join_assoc (node k kids rest) g h = ap (node k kids) (join_assoc rest g h)
+pub join-assoc : (f g h : Forest) → join (join f g) h ≡ join f (join g h)
+join-assoc none g h = refl
+join-assoc (leaf k s rest) g h = ap (leaf k s) (join-assoc rest g h)
+join-assoc (node k kids rest) g h = ap (node k kids) (join-assoc rest g h)
 
 pub count-join : (f g : Forest) → count (join f g) ≡ count f + count g
 count-join none g = omega arith

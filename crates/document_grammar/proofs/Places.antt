@@ -21,11 +21,11 @@ no h = absurd (true≢false (sym h))
 some : {a : Token} {w : List Token} → a ∷ w ≢ []
 some e = absurd (cc)
 
-spaces_placed : Placed (query (space ▸ none) (name none))
-spaces_placed =
+spaces-placed : Placed (query (space ▸ none) (name none))
+spaces-placed =
     let ident : PlacedIn (node NAME (leaf IDENT (codes "a") ▸ none)) = ((no, tt), (tt, tt)) in
     let field : PlacedIn (name none) = ((no, tt), (ident, tt)) in
     ((((no, tt)), (((no, ((λ i. (some, some)), (no, (no, tt)))), (tt, (tt, (field, (tt, tt))))), tt)), (tt, tt))
 
-space_in_a_name : Placed (query none (name (space ▸ none))) → ⊥
-space_in_a_name h = (h.0.1.0.1.1.0.1.0.0.1.0 refl).1 refl
+space-in-a-name : Placed (query none (name (space ▸ none))) → ⊥
+space-in-a-name h = (h.0.1.0.1.1.0.1.0.0.1.0 refl).1 refl

@@ -60,9 +60,9 @@ all_some : List (ℕ × Pattern) → Bool
 all_some [] = true
 all_some (row ∷ more) = not (nullable row.1) and all_some more
 
-rows_some : all_some children ≡ true
+rows-some : all_some children ≡ true
 unfolding all_some ◌and◌ ◌or◌
-rows_some = refl
+rows-some = refl
 
 some-in : (l : List (ℕ × Pattern)) (k : ℕ) → all_some l ≡ true → nullable (row_in l k) ≡ false
 unfolding all_some
@@ -74,7 +74,7 @@ some-in (row ∷ more) k h = elim (either (eqb row.0 k)) [
 
 row-some : (k : ℕ) (w : List ℕ) → w ≡ [] → Matches (Row k) w → ⊥
 unfolding Row
-row-some k w e h = false-true (some-in children k rows_some) (nullable-to (row_in children k) w e h)
+row-some k w e h = false-true (some-in children k rows-some) (nullable-to (row_in children k) w e h)
 
 -- A node that fits spells some token.
 mutual

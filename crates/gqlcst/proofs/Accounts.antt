@@ -18,8 +18,8 @@ pub taken_none : (bytes : List ℕ) (a : Account) → IsTaken bytes bytes a a
 taken_none bytes a = record { written = []; joined = refl; account = sym (moved_nil a) }
 
 -- n of the bytes that are left are taken
-pub taken_more : (n : ℕ) (bytes rest : List ℕ) (old now : Account) → IsTaken bytes rest old now → IsTaken bytes (drop n rest) old (moved now (take n rest))
-taken_more n bytes rest old now t = record {
+pub taken-more : (n : ℕ) (bytes rest : List ℕ) (old now : Account) → IsTaken bytes rest old now → IsTaken bytes (drop n rest) old (moved now (take n rest))
+taken-more n bytes rest old now t = record {
   written = t.written ++ take n rest;
   joined = t.joined ∙ (ap (λ (more : List ℕ). t.written ++ more) (sym (take-append-drop n rest)) ∙ sym (append_assoc t.written (take n rest) (drop n rest)));
   account = ap (λ (a : Account). moved a (take n rest)) t.account ∙ moved_moved old t.written (take n rest);
@@ -42,7 +42,7 @@ pub taken_call : {E : Type 0} (r : Result ℕ E) (n : ℕ) (bytes rest : List �
     → IsTaken bytes (take (length rest - n) (drop n rest)) old new
 taken_call r zero bytes rest old now new t e some within a = absurd (some refl)
 taken_call r (suc n) bytes rest old now new t e some within a =
-    rw (a, e) (subst (λ (more : List ℕ). IsTaken bytes more old (moved now (take (suc n) rest))) (sym (take_rest rest (suc n))) (taken_more (suc n) bytes rest old now t))
+    rw (a, e) (subst (λ (more : List ℕ). IsTaken bytes more old (moved now (take (suc n) rest))) (sym (take_rest rest (suc n))) (taken-more (suc n) bytes rest old now t))
 
 -- a call of the reader gave some bytes
 pub gave : {E : Type 0} (r : Result ℕ E) (n : ℕ) (bytes buffer : List ℕ) (old now new : Account) → now ≡ moved old bytes → r ≡ Ok n → n ≢ 0 → new ≡ after now r buffer → new ≡ moved old (bytes ++ take n buffer)

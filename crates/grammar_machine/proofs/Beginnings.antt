@@ -11,8 +11,8 @@ use Rattle.lexical_grammar.specs.Cut.{Item, Word, Cut, texts, is_significant_kin
 use Rattle.lexical_grammar.specs.Begins.{IsWord, AreWords, are_tokens, spaced, ends_in_whitespace, feed}
 use Rattle.lexical_grammar.specs.Reads.{token_at}
 use Rattle.lexical_grammar.proofs.Sound.{sound}
-use Rattle.lexical_grammar.proofs.Cuts.{goes_on_by_words}
-use Rattle.lexical_grammar.proofs.Texts.{words_follow_text}
+use Rattle.lexical_grammar.proofs.Cuts.{goes_on-by-words}
+use Rattle.lexical_grammar.proofs.Texts.{words-follow-text}
 use Rattle.document_grammar.specs.Tree.{Token, Tree, leaf}
 use Rattle.grammar_machine.specs.Table.{firsts}
 use Rattle.grammar_machine.proofs.generated.Samples.{spellings}
@@ -104,8 +104,8 @@ pub begins-text : (source : List ℕ) (before : List Item) (item : Item) (more :
     → Spells (map token_of (Significant before) ++ v) t document → AllSpelt v → Begins (texts before)
 begins-text source before item more t v u cut h s spelt =
     let w = listed-words v spelt in
-    let may = goes_on_by_words source before item more w.0 cut h w.1 in
-    let utf : IsUtf8 (texts before ++ feed (ends_in_whitespace before) ++ spaced w.0) = words_follow_text source before item more w.0 cut w.1 u in
+    let may = goes_on-by-words source before item more w.0 cut h w.1 in
+    let utf : IsUtf8 (texts before ++ feed (ends_in_whitespace before) ++ spaced w.0) = words-follow-text source before item more w.0 cut w.1 u in
     let e : texts before ++ feed (ends_in_whitespace before) ++ spaced w.0 ≡ texts before ++ (feed (ends_in_whitespace before) ++ spaced w.0) = append_assoc (texts before) (feed (ends_in_whitespace before)) (spaced w.0) in
     let y : map token_of (Significant (before ++ may.rest)) ≡ map token_of (Significant before) ++ v =
     ap (λ (l : List Word). map token_of l) may.significant ∙ map-append token_of (Significant before) w.0 ∙ ap (λ (l : List Token). map token_of (Significant before) ++ l) w.2 in

@@ -105,22 +105,22 @@ first_test s q v = not (eqb q 0) or (all_arcs (state_arcs v) (first_arc s) and n
 abbrev pub leaf_entry : ℕ → Bool
 leaf_entry l = all_entries (entries l) (λ x y a. a and eqb y 0)
 
-pub follow_checked : every_arc follow_test ≡ true
+pub follow-checked : every_arc follow_test ≡ true
 unfolding ◌and◌ ◌or◌ holds is_leaf at ends exit arcs entries rows firsts follows follow exits arcs_mask
-follow_checked = refl
+follow-checked = refl
 
-pub close_checked : all_rows DOCUMENT rows close_test ≡ true
+pub close-checked : all_rows DOCUMENT rows close_test ≡ true
 unfolding ◌and◌ ◌or◌ holds is_leaf at ends exit arcs entries rows firsts follows follow exits arcs_mask
-close_checked = refl
+close-checked = refl
 
-pub choice_checked : all_rows DOCUMENT rows choice_test ≡ true
+pub choice-checked : all_rows DOCUMENT rows choice_test ≡ true
 unfolding ◌and◌ ◌or◌ holds is_leaf at ends exit arcs entries rows firsts follows follow exits arcs_mask
-choice_checked = refl
+choice-checked = refl
 
-pub first_checked : every_state first_test ≡ true
+pub first-checked : every_state first_test ≡ true
 unfolding ◌and◌ ◌or◌ holds is_leaf at ends exit arcs entries rows firsts follows follow exits arcs_mask
-first_checked = refl
+first-checked = refl
 
-pub leaf_checked : all_below DOCUMENT leaf_entry ≡ true
+pub leaf-checked : all_below DOCUMENT leaf_entry ≡ true
 unfolding ◌and◌ ◌or◌ holds is_leaf at ends exit arcs entries rows firsts follows follow exits arcs_mask
-leaf_checked = refl
+leaf-checked = refl

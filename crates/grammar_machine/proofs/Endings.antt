@@ -39,9 +39,9 @@ fillable s q = okb_from s q (ending s q)
 abbrev pub fill_test : ℕ → ℕ → ℕ → Bool
 fill_test s k q = (is_leaf k or fillable k 0) and exits k (λ x. fillable s (q + x))
 
-pub fill_checked : every_arc fill_test ≡ true
+pub fill-checked : every_arc fill_test ≡ true
 unfolding ◌and◌ ◌or◌ holds is_leaf at ends exit arcs has target entries fires class token words rows firsts exits endings spellings ending fillable
-fill_checked = refl
+fill-checked = refl
 
 -- The leaves' classes: those of names, or the leaf's own number.
 abbrev pub leaf_test : ℕ → Bool
@@ -51,10 +51,10 @@ abbrev pub word_tests : List (ℕ × Text) → Bool
 word_tests [] = true
 word_tests (w ∷ more) = holds w.0 name_classes and word_tests more
 
-pub leaf_classes_checked : all_below DOCUMENT leaf_test ≡ true
+pub leaf-classes-checked : all_below DOCUMENT leaf_test ≡ true
 unfolding ◌and◌ ◌or◌ holds is_leaf entries firsts
-leaf_classes_checked = refl
+leaf-classes-checked = refl
 
-pub words_checked : word_tests words ≡ true
+pub words-checked : word_tests words ≡ true
 unfolding ◌and◌ ◌or◌ holds words
-words_checked = refl
+words-checked = refl

@@ -12,7 +12,7 @@ use Rattle.grammar_machine.proofs.Checks.{exits}
 use Rattle.document_grammar.proofs.Booleans.{false-true, and-l, and-r, or-c, or-l, or-r, implies, either, eqb-refl, same-bool}
 use Rattle.grammar_machine.proofs.TableLemmas.{arcs-at, exits-at, state-test, text-same}
 use Rattle.document_grammar.proofs.Nullable.{nullable}
-use Rattle.grammar_machine.proofs.Patterns.{deriv, pattern_eq, pattern_of, label, shown, all_kinds, any_arcs, constant, begin_kinds, no_arc, is_live, agree_at, agree_checked, nullable-from, from-deriv}
+use Rattle.grammar_machine.proofs.Patterns.{deriv, pattern_eq, pattern_of, label, shown, all_kinds, any_arcs, constant, begin_kinds, no_arc, is_live, agree_at, agree-checked, nullable-from, from-deriv}
 use Rattle.document_grammar.specs.Kinds.{VARIABLE, NAMED_TYPE, LIST_TYPE, NON_NULL_TYPE, DOCUMENT, SELECTION_SET, DEFAULT_VALUE, FRAGMENT_NAME, ENUM_VALUE}
 use Rattle.grammar_machine.specs.Symbols.{TYPE, BARE_SELECTIONS}
 
@@ -49,7 +49,7 @@ Live v = is_live v ≡ true
 
 pub agree : (s q : ℕ) → is_leaf s ≡ false → Live (at s q) → agree_at s q ≡ true
 unfolding ◌or◌
-agree s q l v = implies _ _ (state-test (λ s q v. not (is_live v) or agree_at s q) agree_checked (λ s q. refl) s q l) v
+agree s q l v = implies _ _ (state-test (λ s q v. not (is_live v) or agree_at s q) agree-checked (λ s q. refl) s q l) v
 
 -- The rows.
 pub leaf-no-type : (l : ℕ) → is_leaf l ≡ true → eqb l TYPE ≡ false

@@ -10,7 +10,7 @@ use Rattle.grammar_machine.specs.Machine.{holds, is_leaf, at, ends, exit, arcs, 
 use Rattle.grammar_machine.proofs.Checks.{exits, follow}
 use Rattle.document_grammar.proofs.Booleans.{and-l, and-r, not-c, false-true}
 use Rattle.grammar_machine.proofs.TableLemmas.{exits-at}
-use Rattle.grammar_machine.proofs.Run.{next, same_tree, Left, left-stuck, left-done, reach-left, reach-other}
+use Rattle.grammar_machine.proofs.Run.{next, same-tree, Left, left-stuck, left-done, reach-left, reach-other}
 use Rattle.grammar_machine.proofs.TwoTokenLookahead.{tree-run}
 use Rattle.grammar_machine.proofs.Endings.{ending, fillable}
 use Rattle.grammar_machine.proofs.Sound.{reach-sound, reach-spent, spent, viable, Whole, path-ok, move-ends}
@@ -52,13 +52,13 @@ module _ (s0 : ℕ) (b : begins_parse s0 ≡ true) where
   on-the-way (node s g) w fs r p c = subst (λ (n : ℕ). Left fs r (node n g)) (sym p.1) (reach-left c g (subst (λ (n : ℕ). Run (node n g) []) p.1 (runs (node s g) w p)) p.2)
 
   -- One derivation.
-  pub one_tree : (t u : Tree) (w : List Token) → Parse s0 t w → Parse s0 u w → t ≡ u
-  one_tree t u w p q = (same_tree t u [] [] (p.1 ∙ sym q.1) (runs t w p) (runs u w q) (append-nil (yield t) ∙ (p.2 ∙ (sym q.2 ∙ sym (append-nil (yield u)))))).0
+  pub one-tree : (t u : Tree) (w : List Token) → Parse s0 t w → Parse s0 u w → t ≡ u
+  one-tree t u w p q = (same-tree t u [] [] (p.1 ∙ sym q.1) (runs t w p) (runs u w q) (append-nil (yield t) ∙ (p.2 ∙ (sym q.2 ∙ sym (append-nil (yield u)))))).0
 
   -- Acceptance: on the way through the tokens of a tree the machine is never stuck.
-  pub never_stuck : (t : Tree) (w : List Token) (s q : ℕ) (f : Forest) (fs : List Frame) (r : List Token) → Parse s0 t w
+  pub never-stuck : (t : Tree) (w : List Token) (s q : ℕ) (f : Forest) (fs : List Frame) (r : List Token) → Parse s0 t w
       → Reach s0 w (frame s q f ∷ fs) r → next s q r ≡ stuck → ⊥
-  never_stuck t w s q f fs r p c m = left-stuck s q f fs r t (on-the-way t w (frame s q f ∷ fs) r p c) m
+  never-stuck t w s q f fs r p c m = left-stuck s q f fs r t (on-the-way t w (frame s q f ∷ fs) r p c) m
 
   -- Soundness: where the first symbol's node ends, it is a tree of the tokens before.
   pub done : (w : List Token) (q : ℕ) (f : Forest) (r : List Token) → Reach s0 w (frame s0 q f ∷ []) r → next s0 q r ≡ close
@@ -95,14 +95,14 @@ module _ (s0 : ℕ) (b : begins_parse s0 ≡ true) where
 
   pub fault : (w : List Token) (s q : ℕ) (f : Forest) (fs : List Frame) (r : List Token) → Reach s0 w (frame s q f ∷ fs) r → next s q r ≡ stuck
       → Fault w r
-  fault w s q f fs r c m = faulty w (frame s q f ∷ fs) r c (λ t u v p h e1 e2. never_stuck t (u ++ v) s q f fs v p h (rw (e1, e2) at m))
+  fault w s q f fs r c m = faulty w (frame s q f ∷ fs) r c (λ t u v p h e1 e2. never-stuck t (u ++ v) s q f fs v p h (rw (e1, e2) at m))
 
   -- the first symbol's node ends, and tokens are left
-  pub fault_left : (w : List Token) (q : ℕ) (f : Forest) (r : List Token) → Reach s0 w (frame s0 q f ∷ []) r → next s0 q r ≡ close
+  pub fault-left : (w : List Token) (q : ℕ) (f : Forest) (r : List Token) → Reach s0 w (frame s0 q f ∷ []) r → next s0 q r ≡ close
       → (first r ≡ 0 → ⊥) → Fault w r
   unfolding first
-  fault_left w q f r c m left = faulty w (frame s0 q f ∷ []) r c (λ t u v p h e1 e2. left (e1 ∙ ap first (done-all t (u ++ v) q f v p h (rw (e1, e2) at m)).0))
+  fault-left w q f r c m left = faulty w (frame s0 q f ∷ []) r c (λ t u v p h e1 e2. left (e1 ∙ ap first (done-all t (u ++ v) q f v p h (rw (e1, e2) at m)).0))
 
   -- So a fault before the end of the tokens of a tree is none.
-  pub no_fault : (t : Tree) (w r : List Token) → Parse s0 t w → Fault w r → ⊥
-  no_fault t w r p h = h.not_early t r (subst (λ (z : List Token). Parse s0 t z) h.split p) refl refl
+  pub no-fault : (t : Tree) (w r : List Token) → Parse s0 t w → Fault w r → ⊥
+  no-fault t w r p h = h.not_early t r (subst (λ (z : List Token). Parse s0 t z) h.split p) refl refl

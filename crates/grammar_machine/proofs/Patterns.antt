@@ -99,9 +99,9 @@ no_arc (a ∷ more) = false
 abbrev pub is_live : State → Bool
 is_live v = state_ends v or not (no_arc (state_arcs v))
 
-pub agree_checked : every_state (λ s q v. not (is_live v) or agree_at s q) ≡ true
+pub agree-checked : every_state (λ s q v. not (is_live v) or agree_at s q) ≡ true
 unfolding agree_at constant shown pattern_of symbol_row label ◌and◌ ◌or◌ is_leaf at ends exit arcs rows exits paths labels Row member
-agree_checked = refl
+agree-checked = refl
 
 -- Derivatives.
 pub never-none : {A : Type 0} (w : List ℕ) → Matches (any_of []) w → A

@@ -10,7 +10,7 @@ use Rattle.grammar_machine.proofs.Run.{next}
 use Rattle.grammar_machine.proofs.FromMachineTree.{show}
 use Rattle.grammar_machine.proofs.Constants.{show-yield, parse-sentence}
 use Rattle.grammar_machine.proofs.ToMachineTree.{derivation-read}
-use Rattle.grammar_machine.proofs.MachineTheorems.{Parse, one_tree, done, done-all, Fault, no_fault, no-leaf, can-end, fault}
+use Rattle.grammar_machine.proofs.MachineTheorems.{Parse, one-tree, done, done-all, Fault, no-fault, no-leaf, can-end, fault}
 use Rattle.grammar_machine.proofs.Sound.{AllSpelt, viable, spent, reach-spent}
 use Rattle.grammar_machine.proofs.Starts.{opens, opens-by, first-same, read, next_two, after-two}
 use Rattle.std.proofs.lemmas.List.{append_cancel_right}
@@ -43,7 +43,7 @@ pub one-derivation : (sort : Sort) (w : List Token) (t u : Tree) → Spells w t 
 one-derivation sort w t u h k =
     let a = sentence-parse sort w t h in
     let b = sentence-parse sort w u k in
-    sym a.2 ∙ (ap show (one_tree (start_symbol sort w) (opens sort (first w)) a.0 b.0 w a.1 b.1) ∙ b.2)
+    sym a.2 ∙ (ap show (one-tree (start_symbol sort w) (opens sort (first w)) a.0 b.0 w a.1 b.1) ∙ b.2)
 
 -- Soundness: where the root's node ends, it is shown as a derivation of the tokens before.
 pub sound : (sort : Sort) (w : List Token) (f : Forest) (r : List Token) → Ended sort w f r
@@ -62,7 +62,7 @@ sound-all sort w t f r h e =
 
 -- Acceptance: a fault in the tokens of a sentence is none.
 pub accepts : (sort : Sort) (w r : List Token) (t : Tree) → Spells w t sort → FaultIn sort w r → ⊥
-accepts sort w r t h k = let a = sentence-parse sort w t h in no_fault (start_symbol sort w) (opens sort (first w)) a.0 w r a.1 k
+accepts sort w r t h k = let a = sentence-parse sort w t h in no-fault (start_symbol sort w) (opens sort (first w)) a.0 w r a.1 k
 
 -- No late fault: what the machine has read, wherever it comes, begins a sentence, which goes on with listed tokens.
 pub begins-at : (sort : Sort) (w : List Token) (fs : List Frame) (r : List Token) → Reach (start_symbol sort w) w fs r

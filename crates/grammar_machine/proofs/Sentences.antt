@@ -29,15 +29,15 @@ braces : Sentence (codes "{a}")
 unfolding running
 braces = is-sentence document 30 (codes "{a}") refl
 
-union_tree : Sentence (codes "union A")
+union-tree : Sentence (codes "union A")
     (node DOCUMENT (node UNION_TYPE_DEFINITION (leaf union_KW (codes "union") ▸ node NAME (leaf IDENT (codes "A") ▸ none) ▸ none) ▸ none)) document
 unfolding running
-union_tree = is-sentence document 30 (codes "union A") refl
+union-tree = is-sentence document 30 (codes "union A") refl
 
-type_tree : Sentence (codes "[A]!")
+type-tree : Sentence (codes "[A]!")
     (node NON_NULL_TYPE (node LIST_TYPE (leaf L_BRACK (codes "[") ▸ node NAMED_TYPE (node NAME (leaf IDENT (codes "A") ▸ none) ▸ none) ▸ leaf R_BRACK (codes "]") ▸ none) ▸ leaf BANG (codes "!") ▸ none)) type
 unfolding running
-type_tree = is-sentence type 30 (codes "[A]!") refl
+type-tree = is-sentence type 30 (codes "[A]!") refl
 
 -- Texts that are sentences, each with the nesting of its derivation.
 abbrev documents : List (String × ℕ)
@@ -169,22 +169,22 @@ abbrev T : Token
 T = (IDENT, codes "T")
 
 -- `query("" )` before `{`; `"" {`; `"" fragment on T`; `extend a`; `type T { a }` and the end: these begin no document.
-variable_not_started : Starts document (word (kw query_KW) ∷ word (t L_PAREN) ∷ word (t STRING) ∷ word (t R_PAREN) ∷ word (t L_CURLY) ∷ []) → ⊥
+variable-not-started : Starts document (word (kw query_KW) ∷ word (t L_PAREN) ∷ word (t STRING) ∷ word (t R_PAREN) ∷ word (t L_CURLY) ∷ []) → ⊥
 unfolding running
-variable_not_started = refused document 30 (kw query_KW ∷ t L_PAREN ∷ t STRING ∷ []) (t R_PAREN ∷ t L_CURLY ∷ []) refl refl
+variable-not-started = refused document 30 (kw query_KW ∷ t L_PAREN ∷ t STRING ∷ []) (t R_PAREN ∷ t L_CURLY ∷ []) refl refl
 
-description_not_started : Starts document (word (t STRING) ∷ word (t L_CURLY) ∷ []) → ⊥
+description-not-started : Starts document (word (t STRING) ∷ word (t L_CURLY) ∷ []) → ⊥
 unfolding running
-description_not_started = refused document 30 [] (t STRING ∷ t L_CURLY ∷ []) refl refl
+description-not-started = refused document 30 [] (t STRING ∷ t L_CURLY ∷ []) refl refl
 
-fragment_on_not_started : Starts document (word (t STRING) ∷ word (kw fragment_KW) ∷ word (kw on_KW) ∷ word T ∷ []) → ⊥
+fragment-on-not-started : Starts document (word (t STRING) ∷ word (kw fragment_KW) ∷ word (kw on_KW) ∷ word T ∷ []) → ⊥
 unfolding running
-fragment_on_not_started = refused document 30 (t STRING ∷ kw fragment_KW ∷ []) (kw on_KW ∷ T ∷ []) refl refl
+fragment-on-not-started = refused document 30 (t STRING ∷ kw fragment_KW ∷ []) (kw on_KW ∷ T ∷ []) refl refl
 
-extend_name_not_started : Starts document (word (kw extend_KW) ∷ word a ∷ []) → ⊥
+extend-name-not-started : Starts document (word (kw extend_KW) ∷ word a ∷ []) → ⊥
 unfolding running
-extend_name_not_started = refused document 30 [] (kw extend_KW ∷ a ∷ []) refl refl
+extend-name-not-started = refused document 30 [] (kw extend_KW ∷ a ∷ []) refl refl
 
-no_type_not_started : Starts document (word (kw type_KW) ∷ word T ∷ word (t L_CURLY) ∷ word a ∷ word (t R_CURLY) ∷ end ∷ []) → ⊥
+no-type-not-started : Starts document (word (kw type_KW) ∷ word T ∷ word (t L_CURLY) ∷ word a ∷ word (t R_CURLY) ∷ end ∷ []) → ⊥
 unfolding running
-no_type_not_started = refused document 40 (kw type_KW ∷ T ∷ t L_CURLY ∷ a ∷ []) (t R_CURLY ∷ []) refl refl
+no-type-not-started = refused document 40 (kw type_KW ∷ T ∷ t L_CURLY ∷ a ∷ []) (t R_CURLY ∷ []) refl refl

@@ -8,12 +8,12 @@ use Rattle.grammar_machine.specs.Table.{Entry, name_leaves, token_kinds}
 use Rattle.grammar_machine.proofs.generated.Follows.{name_classes}
 use Rattle.document_grammar.specs.Booleans.{◌and◌, ◌or◌}
 use Rattle.grammar_machine.specs.Machine.{holds, is_leaf, ends, exit, arcs, has, target, entries, fires, fires_in, has_in, choose, go, close, move, class, word_class, text_eq, first, second, token, yield, yields, finish, walk, Ok, OkFrom, Path, Frame, frame, Reach, start, shift, open', closed}
-use Rattle.grammar_machine.proofs.Checks.{subset, exits, all_entries, leaf_checked, leaf_entry}
+use Rattle.grammar_machine.proofs.Checks.{subset, exits, all_entries, leaf-checked, leaf_entry}
 use Rattle.document_grammar.proofs.Booleans.{false-true, and-l, and-r, and-i, or-c, or-l, or-r, not-c, either, eqb-refl}
 use Rattle.grammar_machine.proofs.TableLemmas.{any-with, any-entry, any-more, begun_by, fires-any, text-same, holds-subset, holds-disjoint, arc-test, exits-at, below-at}
 use Rattle.grammar_machine.proofs.Run.{go-close, go-stuck, close-stuck, go-inj}
 use Rattle.document_grammar.proofs.Built.{forest-none}
-use Rattle.grammar_machine.proofs.Endings.{ending, okb, okb_from, fillable, fill_test, fill_checked, leaf_test, leaf_classes_checked, word_tests, words_checked, spell}
+use Rattle.grammar_machine.proofs.Endings.{ending, okb, okb_from, fillable, fill_test, fill-checked, leaf_test, leaf-classes-checked, word_tests, words-checked, spell}
 use Rattle.document_grammar.specs.Kinds.{words, DOCUMENT, IDENT, ERROR}
 
 -- What a move says of the row.
@@ -67,7 +67,7 @@ pub class-cases : (a : Token)
     → ((a.0 ≡ IDENT) × (holds (class a) name_classes ≡ true)) ⊎ ((holds (class a) name_classes ≡ false) × ((class a ≡ a.0) ⊎ (class a ≡ ERROR)))
 unfolding class
 class-cases a = elim (either (eqb a.0 IDENT)) [
-  | inl p ↦ inl (eqb-true _ _ p, rw p (word-name words a.1 words_checked))
+  | inl p ↦ inl (eqb-true _ _ p, rw p (word-name words a.1 words-checked))
   | inr p ↦ elim (either (holds a.0 token_kinds)) [
     | inl q ↦ inr (rw (p, q) (holds-disjoint a.0 token_kinds name_classes refl q), inl (rw (p, q) refl))
     | inr q ↦ inr (rw (p, q) error-no-name, inr (rw (p, q) refl))
@@ -104,7 +104,7 @@ leaf-kind l a false x n t h =
 pub leaf-token : (l b : ℕ) (a : Token) → is_leaf l ≡ true → fires l (class a) b ≡ true → token l a.1 ≡ a
 unfolding token fires
 leaf-token l b a i f =
-    let c = fired (entries l) (λ x. cond (holds l name_leaves) (subset x name_classes) (eqb x (2 ^ l) and not (holds l name_classes) and not (eqb l ERROR))) (class a) b (below-at leaf_test DOCUMENT l (leaf-lt l i) leaf_classes_checked) f in
+    let c = fired (entries l) (λ x. cond (holds l name_leaves) (subset x name_classes) (eqb x (2 ^ l) and not (holds l name_classes) and not (eqb l ERROR))) (class a) b (below-at leaf_test DOCUMENT l (leaf-lt l i) leaf-classes-checked) f in
     ap (λ (n : ℕ). (n, a.1)) (leaf-kind l a (holds l name_leaves) c.0 refl c.1 c.2)
 
 -- A leaf's entries don't ask for a second token.
@@ -114,7 +114,7 @@ fires-alone es a b b' t h = rw fires-any (any-more es _ (begun_by a b') (any-wit
 
 pub leaf-ok : (l b : ℕ) (a : Token) → is_leaf l ≡ true → fires l (class a) b ≡ true → Ok (leaf l a.1)
 unfolding fires
-leaf-ok l b a i f = (i, rw (leaf-token l b a i f) (fires-alone (entries l) (class a) b 0 (below-at leaf_entry DOCUMENT l (leaf-lt l i) leaf_checked) f))
+leaf-ok l b a i f = (i, rw (leaf-token l b a i f) (fires-alone (entries l) (class a) b 0 (below-at leaf_entry DOCUMENT l (leaf-lt l i) leaf-checked) f))
 
 -- Paths.
 pub path-snoc : (s p q : ℕ) (f : Forest) (t : Tree) → Path s p f q → has s q (root t) ≡ true → Ok t
@@ -180,7 +180,7 @@ reach-spent (closed {s = s} {q = q} {k = k} {p = p} {f = f} {g = g} {fs = fs} {r
 
 -- Completion.
 fill-arc : (s q k : ℕ) → is_leaf s ≡ false → has s q k ≡ true → (is_leaf k or fillable k 0) and exits k (λ x. fillable s (target s q k + x)) ≡ true
-fill-arc = arc-test fill_test fill_checked
+fill-arc = arc-test fill_test fill-checked
 
 pub fill-after : (s q : ℕ) (t : Tree) → is_leaf s ≡ false → has s q (root t) ≡ true → Ok t → fillable s (target s q (root t) + finish t) ≡ true
 fill-after s q t l h o = exits-at t (λ x. fillable s (target s q (root t) + x)) (and-r _ _ (fill-arc s q (root t) l h)) o
@@ -278,7 +278,7 @@ error-any = refl
 pub class-any : (a : Token) → holds (class a) any ≡ true
 unfolding class
 class-any a = elim (either (eqb a.0 IDENT)) [
-  | inl p ↦ rw p (holds-subset (word_class words a.1) name_classes any refl (word-name words a.1 words_checked))
+  | inl p ↦ rw p (holds-subset (word_class words a.1) name_classes any refl (word-name words a.1 words-checked))
   | inr p ↦ elim (either (holds a.0 token_kinds)) [
     | inl q ↦ rw (p, q) (holds-subset a.0 token_kinds any refl q)
     | inr q ↦ rw (p, q) error-any

@@ -10,7 +10,7 @@ use Rattle.document_grammar.proofs.Booleans.{either}
 use Rattle.grammar_machine.proofs.TableLemmas.{tail-same}
 use Rattle.grammar_machine.proofs.Sound.{any, first-any, second-any}
 use Rattle.grammar_machine.proofs.Steps.{sticks, sticks-move}
-use Rattle.grammar_machine.proofs.MachineTheorems.{begins_parse, Parse, document-begins, fragments-begin, never_stuck}
+use Rattle.grammar_machine.proofs.MachineTheorems.{begins_parse, Parse, document-begins, fragments-begin, never-stuck}
 use Rattle.grammar_machine.proofs.Classes.{holds-but, only, but}
 use Rattle.grammar_machine.proofs.ToMachineTree.{Opens}
 use Rattle.document_grammar.specs.Kinds.{SELECTION_SET, L_CURLY}
@@ -30,12 +30,12 @@ tests = (refl, refl, refl)
 begins-selection_set : (u : Tree) (w : List Token) → Parse SELECTION_SET u w → eqb (first w) L_CURLY ≡ true
 begins-selection_set u w p = true_from_ne_false _ (λ e.
     let h : holds (first w) (but (L_CURLY ∷ [])) ≡ true = holds-but (first w) L_CURLY any (but (L_CURLY ∷ [])) (first-any w) (eqb-false _ _ e) refl in
-    never_stuck SELECTION_SET fragments-begin.0 u w SELECTION_SET 0 none [] w p start (sticks-move SELECTION_SET 0 (but (L_CURLY ∷ [])) any (first w) (second w) tests.0 h (second-any w)))
+    never-stuck SELECTION_SET fragments-begin.0 u w SELECTION_SET 0 none [] w p start (sticks-move SELECTION_SET 0 (but (L_CURLY ∷ [])) any (first w) (second w) tests.0 h (second-any w)))
 
 begins-bare_selections : (u : Tree) (w : List Token) → Parse BARE_SELECTIONS u w → eqb (first w) L_CURLY ≡ false
 begins-bare_selections u w p = false_from_ne_true _ (λ e.
     let h : holds (first w) (only (L_CURLY ∷ [])) ≡ true = rw (eqb-true (first w) L_CURLY e) tests.2 in
-    never_stuck BARE_SELECTIONS fragments-begin.1 u w BARE_SELECTIONS 0 none [] w p start (sticks-move BARE_SELECTIONS 0 (only (L_CURLY ∷ [])) any (first w) (second w) tests.1 h (second-any w)))
+    never-stuck BARE_SELECTIONS fragments-begin.1 u w BARE_SELECTIONS 0 none [] w p start (sticks-move BARE_SELECTIONS 0 (only (L_CURLY ∷ [])) any (first w) (second w) tests.1 h (second-any w)))
 
 pub opens-by : (sort : Sort) (k : ℕ) (u : Tree) (w : List Token) → Opens sort k → Parse k u w → k ≡ opening sort (first w)
 opens-by document k u w e p = e

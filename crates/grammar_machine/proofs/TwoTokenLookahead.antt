@@ -5,7 +5,7 @@ use Rattle.document_grammar.specs.Tree.{Text, Token, Tree, leaf, node, Forest, n
 use Rattle.grammar_machine.specs.Table.{Entry}
 use Rattle.document_grammar.specs.Booleans.{◌and◌, ◌or◌}
 use Rattle.grammar_machine.specs.Machine.{holds, is_leaf, at, ends, exit, arcs, has, target, entries, fires, fires_in, has_in, target_in, choose, go, close, move, class, first, second, token, yield, yields, finish, walk, Ok, OkFrom, Run, RunFrom}
-use Rattle.grammar_machine.proofs.Checks.{subset, disjoint, entries_mask, arcs_mask, follow, exits, all_arcs, all_entries, any_entries, state_begins, follow_test, close_test, clear, differ, choice_arcs, choice_test, covered, first_arc, first_test, leaf_entry, follow_checked, close_checked, choice_checked, first_checked, leaf_checked}
+use Rattle.grammar_machine.proofs.Checks.{subset, disjoint, entries_mask, arcs_mask, follow, exits, all_arcs, all_entries, any_entries, state_begins, follow_test, close_test, clear, differ, choice_arcs, choice_test, covered, first_arc, first_test, leaf_entry, follow-checked, close-checked, choice-checked, first-checked, leaf-checked}
 use Rattle.document_grammar.proofs.Booleans.{false-true, and-l, and-r, and-i, or-c, or-l, or-r, or-false, and-false-l, and-false-r, implies, not-c, either}
 use Rattle.grammar_machine.proofs.TableLemmas.{any-with, any-entry, any-more, no-entry, begun_by, fires-any, holds-mask, holds-subset, holds-disjoint, holds-or, arcs-at, row-test, state-test, arc-test, exits-at, below-at}
 use Rattle.document_grammar.specs.Kinds.{DOCUMENT}
@@ -56,7 +56,7 @@ all-covered es fs s q x a y z t o h = any-entry es _ (any-with es _ (λ x y1 alo
 
 row-start : (s : ℕ) → is_leaf s ≡ false → all_arcs (arcs s 0) (first_arc s) and not (ends s 0) ≡ true
 unfolding arcs ends
-row-start s l = implies _ _ (state-test first_test first_checked (λ s q. or-r _ _ (and-i refl refl)) s 0 l) refl
+row-start s l = implies _ _ (state-test first_test first-checked (λ s q. or-r _ _ (and-i refl refl)) s 0 l) refl
 
 -- What the tokens of a tree begin with.
 abbrev Begun : Tree → Type 0
@@ -64,7 +64,7 @@ Begun t = (a : Token) × (y : List Token) × (yield t ≡ a ∷ y) × (starts_in
 
 leaf-begun : (l : ℕ) (x : Text) → Ok (leaf l x) → Begun (leaf l x)
 unfolding fires is_leaf
-leaf-begun l x o = (token l x, [], refl, leaf-starts (entries l) (class (token l x)) 0 (below-at leaf_entry DOCUMENT l (ltb-true _ _ o.0) leaf_checked) o.1)
+leaf-begun l x o = (token l x, [], refl, leaf-starts (entries l) (class (token l x)) 0 (below-at leaf_entry DOCUMENT l (ltb-true _ _ o.0) leaf-checked) o.1)
 
 node-begun : (s : ℕ) (t : Tree) (g : Forest) → is_leaf s ≡ false → has s 0 (root t) ≡ true → Ok t → Begun t
     → TailOk s (target s 0 (root t) + finish t) (yields g) → Begun (node s (t ▸ g))
@@ -115,7 +115,7 @@ choose-close (c ∷ more) e a b h n =
 
 close-at : (s q : ℕ) → is_leaf s ≡ false → ends s q ≡ true → disjoint (state_begins (at s q)) (follow s (exit s q)) ≡ true
 unfolding ends exit ◌or◌
-close-at s q l e = implies _ _ (row-test close_test close_checked (λ k. refl) s q l) e
+close-at s q l e = implies _ _ (row-test close_test close-checked (λ k. refl) s q l) e
 
 disjoint-r : (a x y : ℕ) → disjoint x y ≡ true → holds a y ≡ true → holds a x ≡ false
 disjoint-r a x y d h = false_from_ne_true _ (λ p. false-true (holds-disjoint a x y d p) h)
@@ -149,7 +149,7 @@ child-follow : (s q : ℕ) (t : Tree) (r : List Token) → is_leaf s ≡ false �
     → NextOk s (target s q (root t) + finish t) r → holds (first r) (follow (root t) (finish t)) ≡ true
 unfolding has target
 child-follow s q t r l h o n =
-    let c = exits-at t (λ x. subset (state_begins (at s (target_in (arcs s q) (root t) + x))) (follow (root t) x) and (not (ends s (target_in (arcs s q) (root t) + x)) or subset (follow s (exit s (target_in (arcs s q) (root t) + x))) (follow (root t) x))) (arc-test follow_test follow_checked s q (root t) l h) o in
+    let c = exits-at t (λ x. subset (state_begins (at s (target_in (arcs s q) (root t) + x))) (follow (root t) x) and (not (ends s (target_in (arcs s q) (root t) + x)) or subset (follow s (exit s (target_in (arcs s q) (root t) + x))) (follow (root t) x))) (arc-test follow_test follow-checked s q (root t) l h) o in
     elim n [ inl p ↦ holds-subset (first r) _ _ (and-l _ _ c) p | inr p ↦ holds-subset (first r) _ _ (implies _ _ (and-r _ _ c) p.0) p.1 ]
 
 unfires : (es ks : List Entry) (s k q a : ℕ) (y z : List Token)
@@ -175,7 +175,7 @@ next-clear s q x z m n c = elim n [
 
 choice-at : (s q : ℕ) → is_leaf s ≡ false → choice_arcs s (arcs s q) ≡ true
 unfolding arcs
-choice-at s q l = row-test choice_test choice_checked (λ k. refl) s q l
+choice-at s q l = row-test choice_test choice-checked (λ k. refl) s q l
 
 move-go : (s q : ℕ) (t : Tree) (a : Token) (y z : List Token) → is_leaf s ≡ false → has s q (root t) ≡ true → Ok t
     → starts_in (entries (root t)) (class a) y ≡ true → NextOk s (target s q (root t) + finish t) z

@@ -20,7 +20,7 @@ use Rattle.std.proofs.lemmas.Str.Ascii.{IsAscii-nil, IsAscii-cons}
 use Rattle.lexical_grammar.specs.Cut.{Item, Cut, Significant}
 use Rattle.lexical_grammar.specs.Begins.{are_tokens}
 use Rattle.lexical_grammar.specs.Reads.{items_of}
-use Rattle.lexical_grammar.proofs.TheCut.{is_cut}
+use Rattle.lexical_grammar.proofs.TheCut.{is-cut}
 use Rattle.document_grammar.specs.Sentence.{token_of, Sentence}
 use Rattle.document_grammar.proofs.Texts.{one-cut}
 
@@ -167,7 +167,7 @@ abbrev pub tokens_in : List ℕ → List Token
 tokens_in source = map token_of (Significant (items_of source))
 
 ascii-cut : (source : List ℕ) → all_ascii source ≡ true → Cut source (items_of source)
-ascii-cut source h = is_cut source (IsUtf8-from_ascii source (is-ascii source h))
+ascii-cut source h = is-cut source (IsUtf8-from_ascii source (is-ascii source h))
 
 -- The text is a sentence, and its derivation nests this deep.
 abbrev Worked : Sort → String → ℕ → Type 0

@@ -4,15 +4,15 @@ use Rattle.std.proofs.lemmas.List.{take-append-drop, take_at, drop_at, drop-drop
 use Rattle.lexical_grammar.specs.declared.TokenKind.{TokenKind}
 use Rattle.lexical_grammar.specs.Cut.{Stands, TokenAt, StandsAs, StandsIn, Item, IsItem, CutFrom, Cut, texts}
 use Rattle.lexical_grammar.proofs.Standing.{one_token}
-use Rattle.lexical_grammar.proofs.Cuts.{tok_some, texts-append, item_before}
-use Rattle.lexical_grammar.proofs.Agree.{bad_some}
+use Rattle.lexical_grammar.proofs.Cuts.{tok-some, texts-append, item-before}
+use Rattle.lexical_grammar.proofs.Agree.{bad-some}
 
 -- the bytes from a place on, in two parts
 parts : (source : List ℕ) (place n : ℕ) → take n (drop place source) ++ drop (place + n) source ≡ drop place source
 parts source place n = ap (λ l. take n (drop place source) ++ l) (sym (drop-drop n place source)) ∙ take-append-drop n (drop place source)
 
-pub one_place : (source : List ℕ) (place m n : ℕ) (kind other : TokenKind) → TokenAt source place kind m → TokenAt source place other n → (kind ≡ other) × (m ≡ n)
-one_place source place m n kind other a b =
+pub one-place : (source : List ℕ) (place m n : ℕ) (kind other : TokenKind) → TokenAt source place kind m → TokenAt source place other n → (kind ≡ other) × (m ≡ n)
+one-place source place m n kind other a b =
     let same = one_token kind other _ _ _ _ a.stands b.stands (parts source place m ∙ sym (parts source place n)) in
     let left = length-take-le m (drop place source) (omega (arith, a.within, length-drop place source)) in
     let right = length-take-le n (drop place source) (omega (arith, b.within, length-drop place source)) in
@@ -22,8 +22,8 @@ one_place source place m n kind other a b =
 behind : (before text after : List ℕ) → drop (length before) (before ++ (text ++ after)) ≡ text ++ after
 behind before text after = drop_at before (text ++ after) _ refl
 
-token_behind : (before text after : List ℕ) (kind : TokenKind) → Stands kind text after → TokenAt (before ++ (text ++ after)) (length before) kind (length text)
-token_behind before text after kind s =
+token-behind : (before text after : List ℕ) (kind : TokenKind) → Stands kind text after → TokenAt (before ++ (text ++ after)) (length before) kind (length text)
+token-behind before text after kind s =
     let source = before ++ (text ++ after) in
     let front = behind before text after in record {
       within = omega (arith, length-append before (text ++ after), length-append text after);
@@ -31,34 +31,34 @@ token_behind before text after kind s =
           (subst (Stands kind text) (sym (sym (drop-drop (length text) (length before) source) ∙ ap (drop (length text)) front ∙ drop_at text after _ refl)) s);
     }
 
-stands_as : (kind : Option TokenKind) (before text after : List ℕ) → IsItem kind text after → StandsAs (before ++ (text ++ after)) (length before) kind text
-stands_as (Some kind) before text after item = token_behind before text after kind item
-stands_as None before text after item = λ kind n token.
+stands-as : (kind : Option TokenKind) (before text after : List ℕ) → IsItem kind text after → StandsAs (before ++ (text ++ after)) (length before) kind text
+stands-as (Some kind) before text after item = token-behind before text after kind item
+stands-as None before text after item = λ kind n token.
     item.0 kind _ _ (parts (before ++ (text ++ after)) (length before) n ∙ behind before text after) token.stands
 
-pub item_some : (kind : Option TokenKind) (text after : List ℕ) → IsItem kind text after → 0 < length text
-item_some None text after item = bad_some text after item.1
-item_some (Some kind) text after item = tok_some kind text item.token
+pub item-some : (kind : Option TokenKind) (text after : List ℕ) → IsItem kind text after → 0 < length text
+item-some None text after item = bad-some text after item.1
+item-some (Some kind) text after item = tok-some kind text item.token
 
 -- what a cut says of an item that isn't the last
-pub item_in : (place : ℕ) (before : List Item) (item next : Item) (more : List Item) → CutFrom place (before ++ item ∷ next ∷ more)
+pub item-in : (place : ℕ) (before : List Item) (item next : Item) (more : List Item) → CutFrom place (before ++ item ∷ next ∷ more)
     → (item.index ≡ place + length (texts before)) × IsItem item.kind item.text (texts (next ∷ more))
-item_in place [] item next more cut = (omega (arith, cut.0), cut.1)
-item_in place (first ∷ before) item next more cut =
-    let rest = item_before place first (before ++ item ∷ next ∷ more) cut (omega (arith, length-append before (item ∷ next ∷ more))) in
-    let there = item_in (place + length first.text) before item next more rest.2 in
+item-in place [] item next more cut = (omega (arith, cut.0), cut.1)
+item-in place (first ∷ before) item next more cut =
+    let rest = item-before place first (before ++ item ∷ next ∷ more) cut (omega (arith, length-append before (item ∷ next ∷ more))) in
+    let there = item-in (place + length first.text) before item next more rest.2 in
     (omega (arith, there.0, length-append first.text (texts before)), there.1)
 
-pub item_stands : (source : List ℕ) (before : List Item) (item next : Item) (more : List Item) → Cut source (before ++ item ∷ next ∷ more)
+pub item-stands : (source : List ℕ) (before : List Item) (item next : Item) (more : List Item) → Cut source (before ++ item ∷ next ∷ more)
     → StandsIn source (length (texts before)) item
-item_stands source before item next more cut =
-    let here = item_in 0 before item next more cut.each in
+item-stands source before item next more cut =
+    let here = item-in 0 before item next more cut.each in
     let after = texts (next ∷ more) in
     let joined : texts before ++ (item.text ++ after) ≡ source = sym (texts-append before (item ∷ next ∷ more)) ∙ cut.joined in
     record {
       index = omega (arith, here.0);
       text = sym (ap (λ s. take (length item.text) (drop (length (texts before)) s)) (sym joined)
           ∙ ap (take (length item.text)) (behind (texts before) item.text after) ∙ take_at item.text after _ refl);
-      some = item_some item.kind item.text after here.1;
-      stands = subst (λ s. StandsAs s (length (texts before)) item.kind item.text) joined (stands_as item.kind (texts before) item.text after here.1);
+      some = item-some item.kind item.text after here.1;
+      stands = subst (λ s. StandsAs s (length (texts before)) item.kind item.text) joined (stands-as item.kind (texts before) item.text after here.1);
     }

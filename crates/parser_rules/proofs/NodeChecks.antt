@@ -61,29 +61,29 @@ unfolding ◌and◌ ◌or◌ is_leaf at ends exit arcs target entries rows first
 computing = tt
 
 -- No node's rule is at fault. A node with a place is looked at in both.
-no_faults : (c : Node) → faults c ≡ []
+no-faults : (c : Node) → faults c ≡ []
 unfolding computing faults
-no_faults (Arguments Const) = refl
-no_faults (Arguments NotConst) = refl
-no_faults (Argument Const) = refl
-no_faults (Argument NotConst) = refl
-no_faults (Directives Const) = refl
-no_faults (Directives NotConst) = refl
-no_faults (Directive Const) = refl
-no_faults (Directive NotConst) = refl
-no_faults (ListValue Const) = refl
-no_faults (ListValue NotConst) = refl
-no_faults (ObjectValue Const) = refl
-no_faults (ObjectValue NotConst) = refl
-no_faults (ObjectField Const) = refl
-no_faults (ObjectField NotConst) = refl
-no_faults _ = refl
+no-faults (Arguments Const) = refl
+no-faults (Arguments NotConst) = refl
+no-faults (Argument Const) = refl
+no-faults (Argument NotConst) = refl
+no-faults (Directives Const) = refl
+no-faults (Directives NotConst) = refl
+no-faults (Directive Const) = refl
+no-faults (Directive NotConst) = refl
+no-faults (ListValue Const) = refl
+no-faults (ListValue NotConst) = refl
+no-faults (ObjectValue Const) = refl
+no-faults (ObjectValue NotConst) = refl
+no-faults (ObjectField Const) = refl
+no-faults (ObjectField NotConst) = refl
+no-faults _ = refl
 
 -- ---- what that says, check by check
 
-no_fault : (b : Bool) (fault : Fault) (more : List Fault) → unless b fault more ≡ [] → (b ≡ true) × (more ≡ [])
-no_fault true fault more h = (refl, h)
-no_fault false fault more h = absurd (cc)
+no-fault : (b : Bool) (fault : Fault) (more : List Fault) → unless b fault more ≡ [] → (b ≡ true) × (more ≡ [])
+no-fault true fault more h = (refl, h)
+no-fault false fault more h = absurd (cc)
 
 pub record SoundRule (c : Node) : Type 0 where
   pub table : follows_table c ≡ true
@@ -94,16 +94,16 @@ pub record SoundRule (c : Node) : Type 0 where
   pub row : checks row_check c ≡ true
   pub ignored : checks tidy_check c ≡ true
 
-pub node_passes : (c : Node) → SoundRule c
+pub node-passes : (c : Node) → SoundRule c
 unfolding faults
-node_passes c =
-    let a = no_fault _ _ _ (no_faults c) in
-    let b = no_fault _ _ _ a.1 in
-    let d = no_fault _ _ _ b.1 in
-    let e = no_fault _ _ _ d.1 in
-    let f = no_fault _ _ _ e.1 in
-    let g = no_fault _ _ _ f.1 in
-    let h = no_fault _ _ _ g.1 in
+node-passes c =
+    let a = no-fault _ _ _ (no-faults c) in
+    let b = no-fault _ _ _ a.1 in
+    let d = no-fault _ _ _ b.1 in
+    let e = no-fault _ _ _ d.1 in
+    let f = no-fault _ _ _ e.1 in
+    let g = no-fault _ _ _ f.1 in
+    let h = no-fault _ _ _ g.1 in
     record { table = a.0; leaves = b.0; levels = d.0; limits = e.0; errors = f.0; row = g.0; ignored = h.0 }
 
 -- The document's rule passes each check, and so does its loop from any turn on.

@@ -32,18 +32,18 @@ use Rattle.parser_rules.specs.Nodes.{kind_of}
 use Rattle.parser_rules.specs.RuleLanguage.{Ready, holds, Prim, Rule, Do, Seq, When, While, Call}
 use Rattle.parser_rules.specs.Rules.{body}
 use Rattle.parser_rules.specs.Runs.{Runs, seq, yes, no, done, again, call}
-use Rattle.parser_rules.proofs.runs.Frame.{add_all_above, root_kept}
-use Rattle.parser_rules.proofs.runs.AtTheEnd.{EndNow, ends, read_ends}
+use Rattle.parser_rules.proofs.runs.Frame.{add_all-above, root-kept}
+use Rattle.parser_rules.proofs.runs.AtTheEnd.{EndNow, ends, read-ends}
 use Rattle.parser_rules.proofs.runs.Reading.{Reading, found, Shown, second-shown, reading}
 use Rattle.parser_rules.proofs.runs.Marked as marked
 use Rattle.parser_rules.proofs.runs.Marked.{Source, token, aside, Marked, append, erase, erase-append, flat, flat-append, set_aside, source_at, source_of, now_of, sources, moved_on}
 use Rattle.parser_rules.proofs.runs.Walk.{after_pending, always, Goes, Sound, walked_whole}
-use Rattle.parser_rules.proofs.runs.Reporting.{after_note, after_too_deep}
+use Rattle.parser_rules.proofs.runs.Reporting.{after-note, after-too-deep}
 use Rattle.parser_rules.proofs.reports.NoReport.{end-kind}
 use Rattle.parser_rules.proofs.lookahead.TokenSets.{absent, over, class_of, of-any, Seen, seen-any, seen-more, edges, flip}
 use Rattle.parser_rules.proofs.lookahead.Split.{split-at}
 use Rattle.parser_rules.proofs.leaves.LeafCheck.{is_error, belongs, Tokens, anything, leaf_check}
-use Rattle.parser_rules.proofs.NodeChecks.{node_passes, document_passes}
+use Rattle.parser_rules.proofs.NodeChecks.{node-passes, document_passes}
 
 -- ---- the leaves of what is built
 
@@ -83,12 +83,12 @@ fit-node k g h = leaves-append h no_more
 
 -- ---- a leaf that belongs to its token
 
-error_is : (k : SyntaxKind) → is_error k ≡ true → k ≡ kind.ERROR
-error_is kind.ERROR e = refl
-error_is _ e = absurd cc
+error-is : (k : SyntaxKind) → is_error k ≡ true → k ≡ kind.ERROR
+error-is kind.ERROR e = refl
+error-is _ e = absurd cc
 
-error_fits : (x : Lexeme) (own : SyntaxKind) → ignored x.kind ≡ None → own ≡ kind.ERROR → IsLeafOf (Some x.kind) (record { kind = own; text = x.text })
-error_fits x own i e = subst (λ found. IsLeafOfToken x.kind found (record { kind = own; text = x.text })) (sym i) (inl e)
+error-fits : (x : Lexeme) (own : SyntaxKind) → ignored x.kind ≡ None → own ≡ kind.ERROR → IsLeafOf (Some x.kind) (record { kind = own; text = x.text })
+error-fits x own i e = subst (λ found. IsLeafOfToken x.kind found (record { kind = own; text = x.text })) (sym i) (inl e)
 
 abbrev spell_test : ℕ → Bool
 spell_test l = not (eqb (label l) l) or eqb (cond (is_keyword l) IDENT l) (cond (within l name_leaves) IDENT l)
@@ -105,9 +105,9 @@ token-belongs l k t i e f =
       subst (λ n. LeafRule n t) (eqb-true _ _ e) (leaf-rule l t (leaf-ok l 0 (leaf_number k, t) i f)),
     )
 
-belongs_fits : (x : ℕ) (own : SyntaxKind) (t : Lexeme) → ignored t.kind ≡ None → belongs x own ≡ true → within (class_of (Some t)) x ≡ true → IsLeafOf (Some t.kind) (record { kind = own; text = t.text })
+belongs-fits : (x : ℕ) (own : SyntaxKind) (t : Lexeme) → ignored t.kind ≡ None → belongs x own ≡ true → within (class_of (Some t)) x ≡ true → IsLeafOf (Some t.kind) (record { kind = own; text = t.text })
 unfolding belongs fires
-belongs_fits x own t i b h = elim (either (is_end t.kind)) [
+belongs-fits x own t i b h = elim (either (is_end t.kind)) [
   | inl e ↦ (
       let z : within 0 x ≡ true = subst (λ b. within (cond b 0 (class (leaf_number t.kind, t.text))) x ≡ true) e h in
       false-true (holds-disjoint 0 x over (and-l _ _ (and-l _ _ b)) z) edges.end_over)
@@ -142,7 +142,7 @@ module _ (own : SyntaxKind) (a : Tokens) (k : Tokens → Bool) (b s : State) (f 
 
   taken : cond (is_error own) (k anything) (belongs a.near own and k (record { near = a.far; far = any })) ≡ true → Goes leaf_check Held k b after grown
   taken c = elim (either (is_error own)) [
-    | inl i ↦ (anything, (rw i at c), record { shown = (found next).shown; seen = seen-any after ((found next).shown); fits = fits-after (error_fits x own (subst Shown e h.shown) (error_is own i)) })
+    | inl i ↦ (anything, (rw i at c), record { shown = (found next).shown; seen = seen-any after ((found next).shown); fits = fits-after (error-fits x own (subst Shown e h.shown) (error-is own i)) })
     | inr i ↦ (
         let d = rw i at c in (
           record { near = a.far; far = any },
@@ -150,13 +150,13 @@ module _ (own : SyntaxKind) (a : Tokens) (k : Tokens → Bool) (b s : State) (f 
           record {
             shown = (found next).shown;
             seen = record { near = subst (λ o. within (class_of o) a.far ≡ true) (sym (found next).next) h.seen.far; far = of-any (second after.items) (second-shown after.items) };
-            fits = fits-after (belongs_fits a.near own x (subst Shown e h.shown) (and-l _ _ d) (subst (λ o. within (class_of o) a.near ≡ true) e h.seen.near));
+            fits = fits-after (belongs-fits a.near own x (subst Shown e h.shown) (and-l _ _ d) (subst (λ o. within (class_of o) a.near ≡ true) e h.seen.near));
           },
         ))
   ]
 
-not_taken : (own : SyntaxKind) (a : Tokens) (k : Tokens → Bool) (b s : State) (f : Marked) → s.current ≡ None → cond (is_error own) (k anything) (belongs a.near own and k (record { near = a.far; far = any })) ≡ true → Held a b s f → Goes leaf_check Held k b s f
-not_taken own a k b s f e c h = elim (either (is_error own)) [
+not-taken : (own : SyntaxKind) (a : Tokens) (k : Tokens → Bool) (b s : State) (f : Marked) → s.current ≡ None → cond (is_error own) (k anything) (belongs a.near own and k (record { near = a.far; far = any })) ≡ true → Held a b s f → Goes leaf_check Held k b s f
+not-taken own a k b s f e c h = elim (either (is_error own)) [
   | inl i ↦ (anything, (rw i at c), record { shown = h.shown; seen = seen-any s h.shown; fits = h.fits })
   | inr i ↦ none_belongs a.near own (and-l _ _ (rw i at c)) (subst (λ o. within (class_of o) a.near ≡ true) e h.seen.near)
 ]
@@ -165,9 +165,9 @@ sound : Sound leaf_check Held
 unfolding leaf_check flush opened closed wrapped_from enter leave
 sound = record {
   leaf = λ own a k b s f x e c h g. taken own a k b s f x e h c;
-  no_leaf = not_taken;
-  report = λ m a b s f h. after_note (λ t. Held a b t f) m s (λ errors. h);
-  limit = λ a k b s f d c h. (a, c, after_too_deep (λ t. Held a b t f) s (λ errors accepts. h));
+  no_leaf = not-taken;
+  report = λ m a b s f h. after-note (λ t. Held a b t f) m s (λ errors. h);
+  limit = λ a k b s f d c h. (a, c, after-too-deep (λ t. Held a b t f) s (λ errors accepts. h));
   passes = λ q a x y b s f e c h. let r = split-at q true a.near a.far (λ u v. x (record { near = u; far = v })) (λ u v. y (record { near = u; far = v })) s h.shown e c h.seen in (_, r.2, record { shown = h.shown; seen = r.3; fits = h.fits });
   fails = λ q a x y b s f e c h. let r = split-at q false a.near a.far (λ u v. x (record { near = u; far = v })) (λ u v. y (record { near = u; far = v })) s h.shown e c h.seen in (_, r.2, record { shown = h.shown; seen = r.3; fits = h.fits });
   turn = λ a b s f h. record { shown = h.shown; seen = seen-any s h.shown; fits = h.fits };
@@ -182,7 +182,7 @@ sound = record {
   types = λ a b s f h. record { shown = h.shown; seen = h.seen; fits = no_more };
   plain = λ a e k b s u f g c h i l. (e, c, record { shown = i.shown; seen = i.seen; fits = fit-after s f g h.fits i.fits });
   wraps = λ e k s u g c i l. (e, c, i);
-  nodes = λ n. (node_passes n).leaves;
+  nodes = λ n. (node-passes n).leaves;
 }
 
 -- ---- the whole
@@ -211,13 +211,13 @@ each-item (gives item ∷ xs) None h no_more e = absurd cc
 each-item (gives item ∷ xs) (Some x) h no_more e = the_end (end-item item item.kind (ap ends_text (sym (head-same e)) ∙ h)) (each-item xs None refl no_more (tail-same e))
 each-item (gives item ∷ xs) o h (one_more {l = l} i m) e = let f = leaf-item item item.kind l (subst (λ x. LeafOf x l) (head-same e) i) in one f.0 f.1 (each-item xs o h m (tail-same e))
 
-finished_leaves : (s : State) → IsRoot s.tree → leaves (finished s) ≡ leaves (add_all s.pending s.tree).here
-finished_leaves s h = let here = (add_all s.pending s.tree).here in ap (λ (above : List Open). leaves (close here above).here) (add_all_above s.pending s.tree ∙ h.2) ∙ append-nil (leaves here)
+finished-leaves : (s : State) → IsRoot s.tree → leaves (finished s) ≡ leaves (add_all s.pending s.tree).here
+finished-leaves s h = let here = (add_all s.pending s.tree).here in ap (λ (above : List Open). leaves (close here above).here) (add_all-above s.pending s.tree ∙ h.2) ∙ append-nil (leaves here)
 
-none_left : (o : Option Lexeme) (items : List Answer) → EndNow o items → is_over o ≡ true → items ≡ []
+none-left : (o : Option Lexeme) (items : List Answer) → EndNow o items → is_over o ≡ true → items ≡ []
 unfolding EndNow
-none_left None items h e = h
-none_left (Some x) items h e = h e
+none-left None items h e = h
+none-left (Some x) items h e = h e
 
 -- ---- documents
 
@@ -230,20 +230,20 @@ wanted-over : {a : Rule} {p : Prim} {s t : State} → Runs (When Ready (While Re
 wanted-over (yes q h) = loop-over h
 wanted-over (no q (seq h k)) = loop-over k
 
-pub document_over : {s t : State} → Runs (Call rule.Document) s t → is_over t.current ≡ true
+pub document-over : {s t : State} → Runs (Call rule.Document) s t → is_over t.current ≡ true
 unfolding body
-document_over (call h) = wanted-over h
+document-over (call h) = wanted-over h
 
 -- the leaves of a document's tree are one for one the items that were answered
-pub document_leaves : {t : State} (items : List Answer) (limit : ℕ) → AreAnswers items → Runs (Call rule.Document) (begun items limit kind.DOCUMENT) t → OneLeafAnItem items (leaves (finished t))
-document_leaves {t = t} items limit are run =
+pub document-leaves : {t : State} (items : List Answer) (limit : ℕ) → AreAnswers items → Runs (Call rule.Document) (begun items limit kind.DOCUMENT) t → OneLeafAnItem items (leaves (finished t))
+document-leaves {t = t} items limit are run =
     let s = begun items limit kind.DOCUMENT in
     let shown = (found (reading items (fresh items limit kind.DOCUMENT))).shown in
     let (f, a, e, h, g, w) = walked_whole leaf_check Held sound items limit kind.DOCUMENT anything always run document_passes.leaves (record { shown = shown; seen = seen-any s shown; fits = no_more }) in
-    let last = none_left t.current t.items (ends run (read_ends items (fresh items limit kind.DOCUMENT) refl are)).now (document_over run) in
+    let last = none-left t.current t.items (ends run (read-ends items (fresh items limit kind.DOCUMENT) refl are)).now (document-over run) in
     let order : flat (append f (set_aside t.pending)) ++ now_of t.current ≡ sources items = ap (λ (v : List Source). flat (append f (set_aside t.pending)) ++ v) (sym (ap (λ (xs : List Answer). now_of t.current ++ sources xs) last ∙ append-nil (now_of t.current))) ∙ w.order in
-    let each = each-item items t.current (document_over run) (fit-append f (set_aside t.pending) h.fits (fit-aside t.pending)) order in
-    subst (λ (ls : List PendingToken). OneLeafAnItem items ls) (ap leaves w.tree ∙ sym (finished_leaves t (root_kept items limit kind.DOCUMENT refl run))) each
+    let each = each-item items t.current (document-over run) (fit-append f (set_aside t.pending) h.fits (fit-aside t.pending)) order in
+    subst (λ (ls : List PendingToken). OneLeafAnItem items ls) (ap leaves w.tree ∙ sym (finished-leaves t (root-kept items limit kind.DOCUMENT refl run))) each
 
 -- ---- their text
 
@@ -255,20 +255,20 @@ joined-append : (ls ms : List PendingToken) → joined (ls ++ ms) ≡ joined ls 
 joined-append [] ms = refl
 joined-append (l ∷ ls) ms = ap (λ t. l.text ++ t) (joined-append ls ms) ∙ sym (append_assoc l.text (joined ls) (joined ms))
 
-text_leaves : (f : Forest) → text f ≡ joined (leaves f)
-text_leaves none = refl
-text_leaves (leaf k s rest) = ap (λ t. s ++ t) (text_leaves rest)
-text_leaves (node k kids rest) = ap₂ (λ (a b : Text). a ++ b) (text_leaves kids) (text_leaves rest) ∙ sym (joined-append (leaves kids) (leaves rest))
+text-leaves : (f : Forest) → text f ≡ joined (leaves f)
+text-leaves none = refl
+text-leaves (leaf k s rest) = ap (λ t. s ++ t) (text-leaves rest)
+text-leaves (node k kids rest) = ap₂ (λ (a b : Text). a ++ b) (text-leaves kids) (text-leaves rest) ∙ sym (joined-append (leaves kids) (leaves rest))
 
-end_text : (item : Item) → item.kind ≡ Some token_kind.Eof → IsItemText item.kind item.text → item.text ≡ []
-end_text item e h = subst (λ found. IsItemText found item.text) e h
+end-text : (item : Item) → item.kind ≡ Some token_kind.Eof → IsItemText item.kind item.text → item.text ≡ []
+end-text item e h = subst (λ found. IsItemText found item.text) e h
 
-joined_answers : {xs : List Answer} {ls : List PendingToken} → OneLeafAnItem xs ls → AreAnswers xs → joined ls ≡ answers_text xs
-joined_answers nothing are = refl
-joined_answers (one {item = item} {answers = xs} {l = l} {ls = ls} e fit h) are = ap₂ (λ (a b : Text). a ++ b) e (joined_answers h are.2)
-joined_answers (the_end {item = item} {answers = xs} {ls = ls} e h) are = joined_answers h are.2 ∙ sym (ap (λ t. t ++ answers_text xs) (end_text item e are.0))
-joined_answers (the_limit {answers = xs} h) are = joined_answers h (subst AreAnswers (sym are) tt)
+joined-answers : {xs : List Answer} {ls : List PendingToken} → OneLeafAnItem xs ls → AreAnswers xs → joined ls ≡ answers_text xs
+joined-answers nothing are = refl
+joined-answers (one {item = item} {answers = xs} {l = l} {ls = ls} e fit h) are = ap₂ (λ (a b : Text). a ++ b) e (joined-answers h are.2)
+joined-answers (the_end {item = item} {answers = xs} {ls = ls} e h) are = joined-answers h are.2 ∙ sym (ap (λ t. t ++ answers_text xs) (end-text item e are.0))
+joined-answers (the_limit {answers = xs} h) are = joined-answers h (subst AreAnswers (sym are) tt)
 
 -- where each item is a leaf, the text is that of the items
-pub leaves_text : (f : Forest) {xs : List Answer} → OneLeafAnItem xs (leaves f) → AreAnswers xs → text f ≡ answers_text xs
-leaves_text f h are = text_leaves f ∙ joined_answers h are
+pub leaves-text : (f : Forest) {xs : List Answer} → OneLeafAnItem xs (leaves f) → AreAnswers xs → text f ≡ answers_text xs
+leaves-text f h are = text-leaves f ∙ joined-answers h are

@@ -22,7 +22,7 @@ use Rattle.grammar_machine.proofs.Classes.{holds-and}
 use Rattle.document_grammar.proofs.Booleans.{either, false-true, and-l, and-r}
 use Rattle.grammar_machine.proofs.TableLemmas.{holds-subset, holds-disjoint}
 use Rattle.grammar_machine.proofs.Sound.{any, class-any, word-name, holds-one}
-use Rattle.grammar_machine.proofs.Endings.{words_checked}
+use Rattle.grammar_machine.proofs.Endings.{words-checked}
 use Rattle.parser_rules.specs.State.{State, Text, Lexeme, same_kind, ignored, second, is_at, is_word, is_over}
 use Rattle.parser_rules.proofs.runs.Reading.{Shown, second-shown}
 
@@ -77,7 +77,7 @@ at-end _ = refl
 
 name-class : (text : Text) → within (class (IDENT, text)) name_classes ≡ true
 unfolding class
-name-class text = word-name words text words_checked
+name-class text = word-name words text words-checked
 
 at-name : (k : TokenKind) (text : Text) → same_kind token.Name k ≡ within (class (leaf_number token.Name, text)) (kind_set k)
 unfolding same_kind within
@@ -125,7 +125,7 @@ word-set a n h = elim (either (eqb a n)) [
 
 at-word : (j : TokenKind) (k : SyntaxKind) (text : Text) → is_end j ≡ false → ignored j ≡ None → same_kind j token.Name && eqb (word_class words text) (number k) ≡ within (class (leaf_number j, text)) (bit_and (2 ^ number k) name_classes)
 unfolding same_kind within class
-at-word token.Name k text e i = word-set (word_class words text) (number k) (word-name words text words_checked)
+at-word token.Name k text e i = word-set (word_class words text) (number k) (word-name words text words-checked)
 at-word token.Whitespace k text e i = absurd cc
 at-word token.Comment k text e i = absurd cc
 at-word token.Comma k text e i = absurd cc
@@ -140,7 +140,7 @@ end-word k text = sym (no-name 0 (2 ^ number k) refl)
 pub not-zero : (a : Token) → within (class a) ready ≡ true
 unfolding class within
 not-zero a = elim (either (eqb a.0 IDENT)) [
-  | inl p ↦ rw p (holds-subset (word_class words a.1) name_classes ready refl (word-name words a.1 words_checked))
+  | inl p ↦ rw p (holds-subset (word_class words a.1) name_classes ready refl (word-name words a.1 words-checked))
   | inr p ↦ elim (either (within a.0 token_kinds)) [
     | inl q ↦ rw (p, q) (holds-subset a.0 token_kinds ready refl q)
     | inr q ↦ rw (p, q) three

@@ -18,15 +18,15 @@ use Rattle.document_grammar.proofs.Nested.{uncounted, is_bare, weight, weight-no
 use Rattle.parser_rules.specs.Nodes.{Document, kind_of}
 use Rattle.parser_rules.specs.RuleLanguage.{Call}
 use Rattle.parser_rules.specs.Runs.{Runs}
-use Rattle.parser_rules.proofs.runs.Frame.{read_untouched, add_all_above, root_stays}
+use Rattle.parser_rules.proofs.runs.Frame.{read-untouched, add_all-above, root-stays}
 use Rattle.parser_rules.proofs.runs.Reading.{Reading, reading, all_kinds, reading-waits}
 use Rattle.parser_rules.proofs.runs.Marked as marked
 use Rattle.parser_rules.proofs.runs.Marked.{Marked, append, token, erase, erase-append, set_aside, moved_on}
 use Rattle.parser_rules.proofs.runs.Walk.{after_pending, Sound, walked_whole}
-use Rattle.parser_rules.proofs.runs.Reporting.{after_note, after_too_deep}
+use Rattle.parser_rules.proofs.runs.Reporting.{after-note, after-too-deep}
 use Rattle.parser_rules.proofs.soundness.TableCheck.{own}
 use Rattle.parser_rules.proofs.nesting.LevelCheck.{Depth, at_first, level_check}
-use Rattle.parser_rules.proofs.NodeChecks.{node_passes, document_passes}
+use Rattle.parser_rules.proofs.NodeChecks.{node-passes, document_passes}
 
 -- ---- what waits
 
@@ -102,15 +102,15 @@ sound : Sound level_check Held
 unfolding level_check flush opened closed wrapped_from enter leave
 sound = record {
   leaf = λ own a k b s f x e c h g.
-      let u = read_untouched s.items (moved_on own x (flush s)) in
+      let u = read-untouched s.items (moved_on own x (flush s)) in
       let high : s.high ≤ (moved own s (Some x)).high = let v = u.high in omega (arith, v) in
       (a, and-r _ _ c, grows a b s (moved own s (Some x)) f (marked.leaf (token x) own marked.none) h u.depth high (leaf-peak a b s (moved own s (Some x)) f own x.text (and-l _ _ c) h u.depth high) (read-waits (reading s.items (moved_on own x (flush s))) refl));
   no_leaf = λ own a k b s f e c h. (a, and-r _ _ c, h);
-  report = λ m a b s f h. after_note (λ t. Held a b t f) m s (λ errors. h);
+  report = λ m a b s f h. after-note (λ t. Held a b t f) m s (λ errors. h);
   limit = λ a k b s f d c h. (
     record a { owed = 0 },
     and-r _ _ c,
-    after_too_deep (λ t. Held (record a { owed = 0 }) b t f) s (λ errors accepts. let o = leb-true _ _ (and-l _ _ c) in let d = h.deep in let u = h.higher in let p = h.peak in
+    after-too-deep (λ t. Held (record a { owed = 0 }) b t f) s (λ errors accepts. let o = leb-true _ _ (and-l _ _ c) in let d = h.deep in let u = h.higher in let p = h.peak in
         record { depth = h.depth; deep = omega (arith, d); higher = omega (arith, u); peak = omega (arith, o, p); waits = h.waits }),
   );
   passes = λ q a x y b s f e c h. (a, and-l _ _ c, h);
@@ -157,7 +157,7 @@ sound = record {
       let q = inner-same e.kind NON_NULL_TYPE (erase g) (and-l _ _ c) bare in
       let p = i.peak in
       (_, and-r _ _ c, record { depth = i.depth; deep = i.deep; higher = i.higher; peak = omega (arith, q, p); waits = i.waits });
-  nodes = λ n. (node_passes n).levels;
+  nodes = λ n. (node-passes n).levels;
 }
 
 -- ---- the whole
@@ -175,13 +175,13 @@ pub nesting : (items : List Answer) (limit : ℕ) (s : State) → Runs (Call Doc
 unfolding level_check
 nesting items limit s run c =
     let b : State = begun items limit kind.DOCUMENT in
-    let still = read_untouched items (fresh items limit kind.DOCUMENT) in
+    let still = read-untouched items (fresh items limit kind.DOCUMENT) in
     let d = still.depth in
     let first = inner-none DOCUMENT in
     let (f, a, e, h, g, w) = walked_whole level_check Held sound items limit kind.DOCUMENT (at_first DOCUMENT) _ run document_passes.levels
     (record { depth = omega arith; deep = omega (arith, d); higher = omega arith; peak = omega (arith, first); waits = read-waits (reading items (fresh items limit kind.DOCUMENT)) refl }) in
     let here : Forest = (add_all s.pending s.tree).here in
-    let root : finished s ≡ built.node kind.DOCUMENT here built.none = ap (λ (above : List Open). (close here above).here) (add_all_above s.pending s.tree ∙ root_stays items limit kind.DOCUMENT run) in
+    let root : finished s ≡ built.node kind.DOCUMENT here built.none = ap (λ (above : List Open). (close here above).here) (add_all-above s.pending s.tree ∙ root-stays items limit kind.DOCUMENT run) in
     let n : nest (tree_of (finished s)) ≡ weight DOCUMENT DOCUMENT + inner DOCUMENT here = ap (λ (t : Forest). nest (tree_of t)) root ∙ one-node kind.DOCUMENT here in
     let m : inner DOCUMENT here ≤ count here = inner-count DOCUMENT here in
     let l : count (finished s) ≡ suc (count here + 0) = ap count root in

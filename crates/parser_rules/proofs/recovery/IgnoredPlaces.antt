@@ -14,14 +14,14 @@ use Rattle.parser_rules.specs.RuleLanguage.{Call}
 use Rattle.parser_rules.specs.Runs.{Runs}
 use Rattle.parser_rules.specs.Open.{IsRoot}
 use Rattle.parser_rules.proofs.recovery.RecoveryCheck.{tidy_check}
-use Rattle.parser_rules.proofs.NodeChecks.{node_passes, document_passes}
-use Rattle.parser_rules.proofs.runs.Frame.{add_all_above}
+use Rattle.parser_rules.proofs.NodeChecks.{node-passes, document_passes}
+use Rattle.parser_rules.proofs.runs.Frame.{add_all-above}
 use Rattle.parser_rules.proofs.runs.Marked as marked
 use Rattle.parser_rules.proofs.runs.Marked.{Marked, append, token, erase, erase-append, set_aside}
 use Rattle.parser_rules.proofs.runs.Walk.{after_pending, always, Sound, walked_whole}
 use Rattle.parser_rules.proofs.reports.NoReport.{EndsWell}
 use Rattle.parser_rules.proofs.soundness.Soundness.{clean}
-use Rattle.parser_rules.proofs.runs.Reporting.{after_note, after_too_deep}
+use Rattle.parser_rules.proofs.runs.Reporting.{after-note, after-too-deep}
 
 -- ---- what a run builds
 
@@ -75,8 +75,8 @@ unfolding tidy_check flush opened closed wrapped_from enter leave
 sound = record {
   leaf = λ own a k b s f x e c h g. let i = not-c _ (and-l _ _ c) in (a, and-r _ _ c, weaken true a b (moved own s (Some x)) (append f (after_pending s (marked.leaf (token x) own marked.none))) (λ z. refl) (grows a b s (moved own s (Some x)) f (marked.leaf (token x) own marked.none) h refl (rw i refl) (λ v. rw i refl)));
   no_leaf = λ own a k b s f e c h. (a, and-r _ _ c, h);
-  report = λ m a b s f h. after_note (λ t. Tidy a b t f) m s (λ errors. h);
-  limit = λ a k b s f d c h. (a, c, after_too_deep (λ t. Tidy a b t f) s (λ errors accepts. h));
+  report = λ m a b s f h. after-note (λ t. Tidy a b t f) m s (λ errors. h);
+  limit = λ a k b s f d c h. (a, c, after-too-deep (λ t. Tidy a b t f) s (λ errors accepts. h));
   passes = λ q a x y b s f e c h. (a, and-l _ _ c, h);
   fails = λ q a x y b s f e c h. (a, and-r _ _ c, h);
   turn = λ a b s f h. weaken a false b s f (λ z. absurd (true≢false (sym z))) h;
@@ -91,7 +91,7 @@ sound = record {
   types = λ a b s f h. empty (flush s);
   plain = λ a e k b s u f g c h i l. (true, and-r _ _ c, grows a b s u f g h i.inner (i.starts refl) (λ v. any-end g v i.ends (i.some (and-l _ _ c))));
   wraps = λ e k s u g c i l. (e, c, i);
-  nodes = λ n. (node_passes n).ignored;
+  nodes = λ n. (node-passes n).ignored;
 }
 
 -- ---- a tree without reports
@@ -106,4 +106,4 @@ trimmed r xs s run =
 pub placed : (r : ℕ) (xs : List Answer) (s : State) → EndsWell xs → IsRoot s.tree → s.errors ≡ [] → Runs (Call Document) (begun xs r kind.DOCUMENT) s → Placed (tree_of (finished s))
 placed r xs s en root e run =
     let c = clean r xs s en root e run in
-    root-placed (add_all s.pending s.tree) (record { before = built.none; kind = root.0 }) refl (add_all_above s.pending s.tree ∙ root.2) (trimmed r xs s run) c.spells.0.1
+    root-placed (add_all s.pending s.tree) (record { before = built.none; kind = root.0 }) refl (add_all-above s.pending s.tree ∙ root.2) (trimmed r xs s run) c.spells.0.1

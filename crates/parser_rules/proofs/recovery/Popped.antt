@@ -15,11 +15,11 @@ use Rattle.parser_rules.specs.RuleLanguage.{Kind, Test, Here, HasNext, Not, Both
 use Rattle.parser_rules.specs.Runs.{Runs}
 use Rattle.std.proofs.lemmas.Bool.{and_parts}
 use Rattle.parser_rules.proofs.recovery.RecoveryCheck.{is_list, excludes, asks_next, Room, any_token, no_bracket, one_token, no_token, same_room, room_of, Popping, unknown, pop, pop_check}
-use Rattle.parser_rules.proofs.NodeChecks.{node_passes, document_passes}
+use Rattle.parser_rules.proofs.NodeChecks.{node-passes, document_passes}
 use Rattle.parser_rules.proofs.runs.Reading.{Reading, stops, cuts, bad_text, waits, shows, reading}
 use Rattle.parser_rules.proofs.runs.Marked.{Source, token, aside, Marked, none, leaf, node, append, append-none, erase, flat, set_aside, now_of, sources, moved_on, has-more, Reports, reports-then, read-reports, Grown, grown-note, grown-deep}
 use Rattle.parser_rules.proofs.runs.Walk.{after_pending, always, Goes, Sound, walked_whole}
-use Rattle.parser_rules.proofs.runs.Reporting.{after_note, after_too_deep}
+use Rattle.parser_rules.proofs.runs.Reporting.{after-note, after-too-deep}
 use Rattle.parser_rules.proofs.reports.NoReport.{Now, EndsWell, choose, ignored-end, Stood, reading-stood, stands-along}
 use Rattle.parser_rules.proofs.leaves.LeafCheck.{is_error}
 pub use Rattle.parser_rules.proofs.runs.Marked.{Has}
@@ -281,13 +281,13 @@ sound = record {
   leaf = λ own a k b s f x e c h g. leaf-right own a k b s f x e h c g;
   no_leaf = λ own a k b s f e c h. no-leaf own a k b s f c h;
   report = λ m a b s f h. record {
-    stood = after_note (λ t. Stood t.current t.items) m s (λ errors. h.stood);
-    told = λ z y. subst (Reported_at (note m s).errors) (after_note (λ t. s.current ≡ t.current) m s (λ errors. refl)) (noted-at m s ((grown-note m s).reports.keeps y));
-    cut = λ z. after_note (λ t. second t.items ≡ None) m s (λ errors. h.cut z);
-    spared = λ z. after_note (λ t. is_at token_kind.RBracket t.current ≡ false) m s (λ errors. h.spared z);
+    stood = after-note (λ t. Stood t.current t.items) m s (λ errors. h.stood);
+    told = λ z y. subst (Reported_at (note m s).errors) (after-note (λ t. s.current ≡ t.current) m s (λ errors. refl)) (noted-at m s ((grown-note m s).reports.keeps y));
+    cut = λ z. after-note (λ t. second t.items ≡ None) m s (λ errors. h.cut z);
+    spared = λ z. after-note (λ t. is_at token_kind.RBracket t.current ≡ false) m s (λ errors. h.spared z);
     right = right-on a.room s (note m s) f (grown-note m s).reports h.right;
   };
-  limit = λ a k b s f d c h. (unknown a.room, c, held a.room b (too_deep s) f (after_too_deep (λ t. Stood t.current t.items) s (λ errors accepts. h.stood)) (right-on a.room s (too_deep s) f (grown-deep s d).reports h.right));
+  limit = λ a k b s f d c h. (unknown a.room, c, held a.room b (too_deep s) f (after-too-deep (λ t. Stood t.current t.items) s (λ errors accepts. h.stood)) (right-on a.room s (too_deep s) f (grown-deep s d).reports h.right));
   passes = λ q a x y b s f e c h. (_, and-l _ _ c, record { stood = h.stood; told = h.told; cut = h.cut; spared = λ z. elim (or-c _ _ z) [ inl i ↦ h.spared i | inr i ↦ no-bracket q s i e ]; right = h.right });
   fails = λ q a x y b s f e c h. (_, and-r _ _ c, record { stood = h.stood; told = h.told; cut = λ z. elim (or-c _ _ z) [ inl i ↦ h.cut i | inr i ↦ none-next q s i e ]; spared = h.spared; right = h.right });
   turn = λ a b s f h. held a.room b s f h.stood h.right;
@@ -309,7 +309,7 @@ sound = record {
       let r = same-room e.room one_token (and-l _ _ c) in
       (unknown a.room, and-r _ _ c, held a.room b u _ i.stood (right-grows a.room a.room s u f g l.reports h.right (λ y. (i.right y).0) (λ y o. roomed-still a.room s f g (subst (λ (q : Room). Roomed q g) r (i.right y).1) o)));
   wraps = λ e k s u g c i l. (e, c, i);
-  nodes = λ n. (node_passes n).errors;
+  nodes = λ n. (node-passes n).errors;
 }
 
 -- ---- the document
@@ -323,8 +323,8 @@ pub record Recovery (xs : List Answer) (s : State) : Type 0 where
 
 -- Where no limit is reported, each popped token has a report with its text and index, and is a child of the root, or of a LIST_VALUE and not
 -- `]`, or its node's only popped token.
-pub document_recovers : (r : ℕ) (xs : List Answer) (s : State) → EndsWell xs → Runs (Call Document) (begun xs r kind.DOCUMENT) s → ((r : Report) → r.found ≡ at_limit → Has s.errors r → ⊥) → Recovery xs s
-document_recovers r xs s en run none-limited =
+pub document-recovers : (r : ℕ) (xs : List Answer) (s : State) → EndsWell xs → Runs (Call Document) (begun xs r kind.DOCUMENT) s → ((r : Report) → r.found ≡ at_limit → Has s.errors r → ⊥) → Recovery xs s
+document-recovers r xs s en run none-limited =
     let o : State = fresh xs r kind.DOCUMENT in
     let (f, a, e, h, g, w) = walked_whole pop_check Held sound xs r kind.DOCUMENT (unknown any_token) always run document_passes.errors (held any_token (begun xs r kind.DOCUMENT) (begun xs r kind.DOCUMENT) none (reading-stood (reading xs o) en) (λ y. (tt, tt))) in
     let p = reports-then o (begun xs r kind.DOCUMENT) s (read-reports (reading xs o)) g.reports in

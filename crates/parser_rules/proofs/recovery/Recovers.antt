@@ -5,13 +5,13 @@ use Rattle.lexical_grammar.specs.Cut.{Item, Cut}
 use Rattle.lexical_grammar.specs.Answers.{Answer, gives, limit_at, limited}
 use Rattle.document_grammar.proofs.Booleans.{false-true, and-l, and-r}
 use Rattle.parser_rules.specs.Reports.{Reported, no_more, passed}
-use Rattle.parser_rules.proofs.reports.InOrder.{AllUpTo, before_last}
-use Rattle.parser_rules.proofs.reports.AlongItems.{reported_at}
+use Rattle.parser_rules.proofs.reports.InOrder.{AllUpTo, before-last}
+use Rattle.parser_rules.proofs.reports.AlongItems.{reported-at}
 use Rattle.document_grammar.specs.declared.kind.SyntaxKind.TheVariants as kind
 use Rattle.document_grammar.specs.Kinds.{DOCUMENT}
 use Rattle.document_grammar.specs.Forests as built
 use Rattle.document_grammar.specs.Builds.{Building, Open, start, nothing}
-use Rattle.document_grammar.proofs.Joins.{join_assoc}
+use Rattle.document_grammar.proofs.Joins.{join-assoc}
 use Rattle.document_grammar.specs.Tree.{Tree, node, Forest, none}
 use Rattle.document_grammar.specs.Derivation.{document, Spells, nest}
 use Rattle.grammar_machine.specs.Machine.{holds as within}
@@ -25,7 +25,7 @@ use Rattle.parser_rules.specs.State.{State, Lexeme, Report, add_all, begun, faul
 use Rattle.parser_rules.specs.Nodes.{Definition}
 use Rattle.parser_rules.specs.RuleLanguage.{Rule, Call, Ready, holds}
 use Rattle.parser_rules.specs.Runs.{Runs, Turns}
-use Rattle.parser_rules.proofs.runs.Frame.{parts_forest, added-all, add_all_above}
+use Rattle.parser_rules.proofs.runs.Frame.{parts_forest, added-all, add_all-above}
 use Rattle.parser_rules.proofs.soundness.WithoutIgnored.{stack, strip, layers, all_ignored}
 use Rattle.parser_rules.proofs.reports.NoReport.{answers_tokens, all_tokens, current_tokens, Now, Held}
 use Rattle.parser_rules.proofs.runs.Reading.{Shown, second-shown}
@@ -91,10 +91,10 @@ recovers st s c t i h p n a run =
           let more : built.Forest = f.steps.more in
           let later : built.Forest = built.join more (parts_forest s.pending) in
           let here : (add_all own.pending own.tree).here ≡ later = (added-all own.pending own.tree).here ∙ ap (λ (x : built.Forest). built.join x (parts_forest s.pending)) f.steps.other.trees.here in
-          let bare : strip later ≡ shows o.children = ap strip (sym here) ∙ root-layer (add_all own.pending own.tree) (record { before = built.none; kind = kind.DOCUMENT }) (label DOCUMENT) (shows o.children) ((0, none) ∷ []) (add_all_above own.pending own.tree ∙ f.steps.other.trees.above) o.built in
+          let bare : strip later ≡ shows o.children = ap strip (sym here) ∙ root-layer (add_all own.pending own.tree) (record { before = built.none; kind = kind.DOCUMENT }) (label DOCUMENT) (shows o.children) ((0, none) ∷ []) (add_all-above own.pending own.tree ∙ f.steps.other.trees.above) o.built in
           record {
             later = later;
-            children = (added-all s.pending s.tree).here ∙ (ap (λ (x : built.Forest). built.join x (parts_forest s.pending)) f.steps.one.trees.here ∙ join_assoc st.tree.here more (parts_forest s.pending));
+            children = (added-all s.pending s.tree).here ∙ (ap (λ (x : built.Forest). built.join x (parts_forest s.pending)) f.steps.one.trees.here ∙ join-assoc st.tree.here more (parts_forest s.pending));
             derived = ap₂ (λ (k : ℕ) (g : Forest). node k g) (sym document-label.0) bare ∙ one-derivation document (now_words st c) (show (node DOCUMENT o.children)) t o.clean.spells h;
             silent = f.steps.one.errors ∙ (ap (λ (z : List Report). st.errors ++ z) (sym f.steps.other.errors ∙ o.silent) ∙ append-nil st.errors);
           })
@@ -112,4 +112,4 @@ tokens-silent taken (gives item ∷ xs) h = (elim item.kind as (λ found. item.k
 -- and no report is beyond the first token that is left: a part of that clause
 pub none-beyond : (r k : ℕ) (source : List ℕ) (items : List Item) (first_rule : Rule) (b st : State) (c : Turn st) → Cut source items → all_tokens (from_now st c) ≡ true → Runs first_rule (begun (limited k items) r kind.DOCUMENT) b → Turns Ready (Call Definition) b st → AllUpTo c.token.index st.errors
 none-beyond r k source items first_rule b st c cut h run turns =
-    before_last k source items st.errors (fault_report message.UnexpectedEof c.token) cut (reported_at (limited k items) r kind.DOCUMENT message.UnexpectedEof c.token run turns c.current c.accepts (tokens-silent true st.items (and-r _ _ h)))
+    before-last k source items st.errors (fault_report message.UnexpectedEof c.token) cut (reported-at (limited k items) r kind.DOCUMENT message.UnexpectedEof c.token run turns c.current c.accepts (tokens-silent true st.items (and-r _ _ h)))

@@ -13,11 +13,11 @@ use Rattle.parser_rules.specs.Nodes.{Document}
 use Rattle.parser_rules.specs.RuleLanguage.{Call}
 use Rattle.parser_rules.specs.Runs.{Runs}
 use Rattle.parser_rules.proofs.recovery.RecoveryCheck.{of_row, leaf_of_row, Two_rows, row_check}
-use Rattle.parser_rules.proofs.NodeChecks.{node_passes, document_passes}
+use Rattle.parser_rules.proofs.NodeChecks.{node-passes, document_passes}
 use Rattle.parser_rules.proofs.runs.Reading.{Reading, reading, all_kinds, reading-waits}
 use Rattle.parser_rules.proofs.runs.Marked.{Marked, none, leaf, node, token, moved_on, append, erase, erase-append, set_aside}
 use Rattle.parser_rules.proofs.runs.Walk.{after_pending, Sound, walked_whole}
-use Rattle.parser_rules.proofs.runs.Reporting.{after_note, after_too_deep}
+use Rattle.parser_rules.proofs.runs.Reporting.{after-note, after-too-deep}
 
 -- the children of a node of the kind with the number, and those below
 abbrev rows : ℕ → built.Forest → Bool
@@ -67,8 +67,8 @@ unfolding row_check flush opened closed wrapped_from enter leave
 sound = record {
   leaf = λ own a k b s f x e c h g. let d = and-l _ _ c in (a, and-r _ _ c, grows a b s (moved own s (Some x)) f (leaf (token x) own none) h (and-i (and-l _ _ d) refl) (and-i (and-r _ _ d) refl) (read-aside (reading s.items (moved_on own x (flush s))) refl));
   no_leaf = λ own a k b s f e c h. (a, and-r _ _ c, h);
-  report = λ m a b s f h. after_note (λ t. Fit a b t f) m s (λ errors. h);
-  limit = λ a k b s f d c h. (a, c, after_too_deep (λ t. Fit a b t f) s (λ errors accepts. h));
+  report = λ m a b s f h. after-note (λ t. Fit a b t f) m s (λ errors. h);
+  limit = λ a k b s f d c h. (a, c, after-too-deep (λ t. Fit a b t f) s (λ errors accepts. h));
   passes = λ q a x y b s f e c h. (a, and-l _ _ c, h);
   fails = λ q a x y b s f e c h. (a, and-r _ _ c, h);
   turn = λ a b s f h. h;
@@ -89,12 +89,12 @@ sound = record {
       let r = subst (λ n. rows n (erase g) ≡ true) (eqb-true _ _ (and-l _ _ d)) i.own in
       (a, and-r _ _ c, grows a b s u f g h r (subst (λ n. rows n (erase g) ≡ true) (sym (eqb-true _ _ (and-r _ _ d))) r) i.waits);
   wraps = λ e k s u g c i l. let r = subst (λ n. rows n (erase g) ≡ true) (eqb-true _ _ (and-l _ _ c)) i.later in (_, and-r _ _ c, record { own = r; later = r; waits = i.waits });
-  nodes = λ n. (node_passes n).row;
+  nodes = λ n. (node-passes n).row;
 }
 
 -- In each tree of the document's rule, also with reports, a node's children are symbols of its row, but for ignored, ERROR and SPREAD leaves.
-pub document_rowed : (r : ℕ) (xs : List Answer) (s : State) → Runs (Call Document) (begun xs r kind.DOCUMENT) s → rowed kind.DOCUMENT (add_all s.pending s.tree).here ≡ true
+pub document-rowed : (r : ℕ) (xs : List Answer) (s : State) → Runs (Call Document) (begun xs r kind.DOCUMENT) s → rowed kind.DOCUMENT (add_all s.pending s.tree).here ≡ true
 unfolding row_check
-document_rowed r xs s run =
+document-rowed r xs s run =
     let (f, a, e, h, g, w) = walked_whole row_check Fit sound xs r kind.DOCUMENT _ _ run document_passes.row (record { own = refl; later = refl; waits = read-aside (reading xs (fresh xs r kind.DOCUMENT)) refl }) in
     subst (λ (x : built.Forest). rows DOCUMENT x ≡ true) w.tree (subst (λ n. rows n (erase (append f (set_aside s.pending))) ≡ true) (eqb-true _ _ e) (rows-append a.own f (set_aside s.pending) h.own (rows-aside a.own s.pending h.waits)))

@@ -10,7 +10,7 @@ use Rattle.parser_rules.specs.RuleLanguage.{Test, Rule}
 use Rattle.parser_rules.specs.Runs.{Runs, Turns}
 use Rattle.parser_rules.specs.Reports.{Reported, no_more, bad_text as bad_item, token_limit, fault, recursion_limit, passed}
 use Rattle.parser_rules.proofs.runs.Reading.{Reading, stops, cuts, bad_text, waits, shows, reading, item-is, Shown}
-use Rattle.parser_rules.proofs.runs.Steps.{Holds_along, along, turns_along}
+use Rattle.parser_rules.proofs.runs.Steps.{Holds_along, along, turns-along}
 
 -- the current token as an item
 abbrev pub item_of : Lexeme → Item
@@ -30,24 +30,24 @@ Onward taken answers reports t = record { more : List Report; are : t.errors ≡
 
 -- ---- reading on
 
-reports_one : {taken held : Bool} {answers rest : List Answer} (reports : List Report) (t : State) (r : Report) → ((later : List Report) → Reported held rest later → Reported taken answers (r ∷ later))
+reports-one : {taken held : Bool} {answers rest : List Answer} (reports : List Report) (t : State) (r : Report) → ((later : List Report) → Reported held rest later → Reported taken answers (r ∷ later))
     → Onward held rest (reports ++ r ∷ []) t → Onward taken answers reports t
-reports_one reports t r step h = record { more = r ∷ h.more; are = h.are ∙ append_assoc reports (r ∷ []) h.more; onward = λ later l. step (h.more ++ later) (h.onward later l); shown = h.shown }
+reports-one reports t r step h = record { more = r ∷ h.more; are = h.are ∙ append_assoc reports (r ∷ []) h.more; onward = λ later l. step (h.more ++ later) (h.onward later l); shown = h.shown }
 
-reports_none : {taken held : Bool} {answers rest : List Answer} (reports : List Report) (t : State) → ((later : List Report) → Reported held rest later → Reported taken answers later)
+reports-none : {taken held : Bool} {answers rest : List Answer} (reports : List Report) (t : State) → ((later : List Report) → Reported held rest later → Reported taken answers later)
     → Onward held rest reports t → Onward taken answers reports t
-reports_none reports t step h = record { more = h.more; are = h.are; onward = λ later l. step (h.more ++ later) (h.onward later l); shown = h.shown }
+reports-none reports t step h = record { more = h.more; are = h.are; onward = λ later l. step (h.more ++ later) (h.onward later l); shown = h.shown }
 
 stands : (s : State) → Shown s.current → Onward s.accepts (ahead s) s.errors s
 stands s i = record { more = []; are = sym (append-nil s.errors); onward = λ later l. l; shown = i }
 
-read_onward : {xs : List Answer} {s t : State} → Reading xs s t → s.items ≡ xs → Onward s.accepts xs s.errors t
-read_onward {s = s} stops e = record { more = []; are = sym (append-nil s.errors); onward = λ later l. subst (λ xs. Reported s.accepts xs later) e l; shown = tt }
-read_onward {s = s} {t = t} (cuts {index = index} h) e = reports_one s.errors t (token_limit_report index) (λ later l. token_limit l) (read_onward h refl)
-read_onward {s = s} {t = t} (bad_text {item = item} i h) e = reports_one s.errors t (bad_report item.text item.index) (λ later l. bad_item i l) (read_onward h refl)
-read_onward {s = s} {t = t} (waits i j h) e = reports_none s.errors t (λ later l. passed i l) (read_onward h refl)
-read_onward {s = s} (shows {item = item} {k = k} {xs = xs} i j) e =
-    let t : State = record s { items = xs; current = Some (lexeme k item) } in reports_none s.errors t (λ later l. subst (λ (x : Item). Reported s.accepts (gives x ∷ xs) later) (item-is item k i) l) (stands t j)
+read-onward : {xs : List Answer} {s t : State} → Reading xs s t → s.items ≡ xs → Onward s.accepts xs s.errors t
+read-onward {s = s} stops e = record { more = []; are = sym (append-nil s.errors); onward = λ later l. subst (λ xs. Reported s.accepts xs later) e l; shown = tt }
+read-onward {s = s} {t = t} (cuts {index = index} h) e = reports-one s.errors t (token_limit_report index) (λ later l. token_limit l) (read-onward h refl)
+read-onward {s = s} {t = t} (bad_text {item = item} i h) e = reports-one s.errors t (bad_report item.text item.index) (λ later l. bad_item i l) (read-onward h refl)
+read-onward {s = s} {t = t} (waits i j h) e = reports-none s.errors t (λ later l. passed i l) (read-onward h refl)
+read-onward {s = s} (shows {item = item} {k = k} {xs = xs} i j) e =
+    let t : State = record s { items = xs; current = Some (lexeme k item) } in reports-none s.errors t (λ later l. subst (λ (x : Item). Reported s.accepts (gives x ∷ xs) later) (item-is item k i) l) (stands t j)
 
 -- ---- along a run
 
@@ -72,7 +72,7 @@ tells-along = record {
   next = tells-on;
   flushes = stands;
   moves = λ leaf x s e w i.
-      let t : State = record s { tree = add_leaf leaf x.text s.tree } in reports_none s.errors (read_on s.items t) (λ later. rw e (passed {item = item_of x} refl)) (read_onward (reading s.items t) refl);
+      let t : State = record s { tree = add_leaf leaf x.text s.tree } in reports-none s.errors (read_on s.items t) (λ later. rw e (passed {item = item_of x} refl)) (read-onward (reading s.items t) refl);
   reports = λ m x s e a i. record { more = fault_report m x ∷ []; are = refl; onward = λ later. rw (e, a) (fault m {item = item_of x} refl (subst Shown e i)); shown = i };
   limits = λ x s e a d i. record { more = recursion_limit_report x ∷ []; are = refl; onward = λ later. rw (e, a) (recursion_limit {item = item_of x} refl (subst Shown e i)); shown = i };
   asks = stands;
@@ -83,7 +83,7 @@ tells-along = record {
 
 -- the reports so far, from the first answer on
 so_far : (items : List Answer) (limit : ℕ) (k : SyntaxKind) (s : State) → Tells (begun items limit k) s → Onward true items [] s
-so_far items limit k s h = tells-on (fresh items limit k) (begun items limit k) s (λ i. read_onward (reading items (fresh items limit k)) refl) h tt
+so_far items limit k s h = tells-on (fresh items limit k) (begun items limit k) s (λ i. read-onward (reading items (fresh items limit k)) refl) h tt
 
 -- where all is read, the reports are those of the answers
 pub reported : {r : Rule} {t : State} (items : List Answer) (limit : ℕ) (k : SyntaxKind) → Runs r (begun items limit k) t → t.items ≡ [] → Reported true items t.errors
@@ -97,10 +97,10 @@ reported {t = t} items limit k run none =
     ends-here taken (Some x) = passed refl no_more
 
 -- at a turn of a loop the reports so far are those of the answers, and a report at the current token could follow, where no later answer has one
-pub reported_at : {r a : Rule} {q : Test} {b s : State} (items : List Answer) (limit : ℕ) (k : SyntaxKind) (m : Message) (x : Lexeme) → Runs r (begun items limit k) b → Turns q a b s → s.current ≡ Some x → s.accepts ≡ true → Reported true s.items []
+pub reported-at : {r a : Rule} {q : Test} {b s : State} (items : List Answer) (limit : ℕ) (k : SyntaxKind) (m : Message) (x : Lexeme) → Runs r (begun items limit k) b → Turns q a b s → s.current ≡ Some x → s.accepts ≡ true → Reported true s.items []
     → Reported true items (s.errors ++ fault_report m x ∷ [])
-reported_at {b = b} {s = s} items limit k m x run turns e ac none =
+reported-at {b = b} {s = s} items limit k m x run turns e ac none =
     let one : Report = fault_report m x in
-    let h = so_far items limit k s (tells-on (begun items limit k) b s (along tells-along run) (turns_along tells-along turns)) in
+    let h = so_far items limit k s (tells-on (begun items limit k) b s (along tells-along run) (turns-along tells-along turns)) in
     let last : Reported s.accepts (ahead s) (one ∷ []) = rw (e, ac) (fault m {item = item_of x} refl (subst Shown e h.shown) (passed refl none)) in
     subst (Reported true items) (sym (ap (λ reports. reports ++ one ∷ []) h.are)) (h.onward (one ∷ []) last)

@@ -13,7 +13,7 @@ use Rattle.parser_rules.specs.RuleLanguage.{Rule}
 use Rattle.parser_rules.specs.Runs.{Runs}
 use Rattle.parser_rules.proofs.runs.Steps.{Holds_along, PastLimit, along}
 use Rattle.parser_rules.proofs.runs.Reading.{Reading, stops, cuts, bad_text, waits, shows, reading}
-use Rattle.parser_rules.proofs.runs.Frame.{read_untouched, begun_nesting}
+use Rattle.parser_rules.proofs.runs.Frame.{read-untouched, begun-nesting}
 
 -- the recursion limit is reported
 abbrev IsLimited : State → Type 0
@@ -48,7 +48,7 @@ tells-along = record {
   next = λ s t u h k e. k (h e);
   flushes = λ s h. h;
   moves = λ leaf x s e w h i.
-      let t : State = record s { tree = add_leaf leaf x.text s.tree } in let u = read_untouched s.items t in let l = u.limit in let g = u.high in let p = h (read-limited (reading s.items t) i) in omega (arith, l, g, p);
+      let t : State = record s { tree = add_leaf leaf x.text s.tree } in let u = read-untouched s.items t in let l = u.limit in let g = u.high in let p = h (read-limited (reading s.items t) i) in omega (arith, l, g, p);
   reports = λ m x s e a h i. h (other-report s (fault_report m x) (fault-other m x) i);
   limits = λ x s e a d h i. d;
   asks = λ s h i. let p = h i in omega (arith, p);
@@ -60,6 +60,6 @@ tells-along = record {
 -- the limit is one below the greatest depth that was asked for, where it is reported
 pub asked-past : {r : Rule} {t : State} (items : List Answer) (limit : ℕ) (k : SyntaxKind) → Runs r (begun items limit k) t → list_any is_recursion_limit t.errors ≡ true → min (limit + 1) usize_max ≤ t.high
 asked-past {t = t} items limit k run h =
-    let l = (begun_nesting items limit k run).1 in
+    let l = (begun-nesting items limit k run).1 in
     let p = along tells-along run (λ i. absurd (true≢false (sym (read-limited (reading items (fresh items limit k)) i)))) h in
     omega (arith, l, p)

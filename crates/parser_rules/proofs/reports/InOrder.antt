@@ -8,7 +8,7 @@ use Rattle.lexical_grammar.specs.declared.TokenKind.{TokenKind}
 use Rattle.lexical_grammar.specs.declared.TokenKind.TheVariants as token
 use Rattle.lexical_grammar.specs.Cut.{Item, Cut, CutFrom, texts}
 use Rattle.lexical_grammar.specs.Answers.{Answer, gives, limit_at, limit_index_at, limited}
-use Rattle.lexical_grammar.proofs.Places.{item_some}
+use Rattle.lexical_grammar.proofs.Places.{item-some}
 use Rattle.parser_rules.specs.State.{Report}
 use Rattle.parser_rules.specs.Reports.{Reported, no_more, bad_text, token_limit, fault, recursion_limit, passed}
 use Rattle.parser_rules.proofs.reports.Endings.{limited-none}
@@ -28,39 +28,39 @@ places answers = map place_of answers
 abbrev indices : List Report → List ℕ
 indices reports = map (λ (r : Report). r.index) reports
 
-from_lower : (low high : ℕ) (ns : List ℕ) → low ≤ high → Rises high ns → Rises low ns
-from_lower low high [] h rise = tt
-from_lower low high (n ∷ ns) h rise = let above = rise.0 in (omega (arith, above), rise.1)
+from-lower : (low high : ℕ) (ns : List ℕ) → low ≤ high → Rises high ns → Rises low ns
+from-lower low high [] h rise = tt
+from-lower low high (n ∷ ns) h rise = let above = rise.0 in (omega (arith, above), rise.1)
 
-reports_rise : {taken : Bool} {answers : List Answer} {reports : List Report} (low : ℕ) → Reported taken answers reports → Rises low (places answers) → Rises low (indices reports)
-reports_rise low no_more rise = tt
-reports_rise low (bad_text {item = item} e h) rise = (rise.0, reports_rise item.index h rise.1)
-reports_rise low (token_limit {index = index} h) rise = (rise.0, reports_rise index h rise.1)
-reports_rise low (fault m {item = item} e i h) rise = (rise.0, reports_rise item.index h (omega arith, rise.1))
-reports_rise low (recursion_limit {item = item} e i h) rise = (rise.0, reports_rise item.index h (omega arith, rise.1))
-reports_rise low (passed {item = item} {answers = answers} e h) rise = reports_rise low h (from_lower low item.index (places answers) rise.0 rise.1)
+reports-rise : {taken : Bool} {answers : List Answer} {reports : List Report} (low : ℕ) → Reported taken answers reports → Rises low (places answers) → Rises low (indices reports)
+reports-rise low no_more rise = tt
+reports-rise low (bad_text {item = item} e h) rise = (rise.0, reports-rise item.index h rise.1)
+reports-rise low (token_limit {index = index} h) rise = (rise.0, reports-rise index h rise.1)
+reports-rise low (fault m {item = item} e i h) rise = (rise.0, reports-rise item.index h (omega arith, rise.1))
+reports-rise low (recursion_limit {item = item} e i h) rise = (rise.0, reports-rise item.index h (omega arith, rise.1))
+reports-rise low (passed {item = item} {answers = answers} e h) rise = reports-rise low h (from-lower low item.index (places answers) rise.0 rise.1)
 
 -- ---- the answers of a cut
 
-limit_above : (found : Option TokenKind) (place : ℕ) → place - 1 ≤ limit_index_at found place
-limit_above None place = omega arith
-limit_above (Some token.Eof) place = omega arith
-limit_above (Some _) place = omega arith
+limit-above : (found : Option TokenKind) (place : ℕ) → place - 1 ≤ limit_index_at found place
+limit-above None place = omega arith
+limit-above (Some token.Eof) place = omega arith
+limit-above (Some _) place = omega arith
 
-cut_rises : (k place low : ℕ) (items : List Item) → low ≤ place - 1 → CutFrom place items → Rises low (places (limited k items))
-cut_rises k place low [] h cut = absurd cut
-cut_rises zero place low (item ∷ []) h cut = subst (λ (i : Item). Rises low (places (limited zero (i ∷ [])))) (sym cut) (h, tt)
-cut_rises (suc k) place low (item ∷ []) h cut =
+cut-rises : (k place low : ℕ) (items : List Item) → low ≤ place - 1 → CutFrom place items → Rises low (places (limited k items))
+cut-rises k place low [] h cut = absurd cut
+cut-rises zero place low (item ∷ []) h cut = subst (λ (i : Item). Rises low (places (limited zero (i ∷ [])))) (sym cut) (h, tt)
+cut-rises (suc k) place low (item ∷ []) h cut =
     let at : item.index ≡ place = ap (λ (i : Item). i.index) cut in
     (omega (arith, at), subst (λ answers. Rises item.index (places answers)) (sym (limited-none k)) tt)
-cut_rises zero place low (item ∷ next ∷ items) h cut =
+cut-rises zero place low (item ∷ next ∷ items) h cut =
     let at = cut.0 in
-    let above = limit_above item.kind item.index in
+    let above = limit-above item.kind item.index in
     (omega (arith, at, above), tt)
-cut_rises (suc k) place low (item ∷ next ∷ items) h cut =
+cut-rises (suc k) place low (item ∷ next ∷ items) h cut =
     let at = cut.0 in
-    let some = item_some item.kind item.text (texts (next ∷ items)) cut.1 in
-    (omega (arith, at), cut_rises k (place + length item.text) item.index (next ∷ items) (omega (arith, at, some)) cut.2)
+    let some = item-some item.kind item.text (texts (next ∷ items)) cut.1 in
+    (omega (arith, at), cut-rises k (place + length item.text) item.index (next ∷ items) (omega (arith, at, some)) cut.2)
 
 -- ---- as the standard library says it
 
@@ -72,9 +72,9 @@ adjacent low (m ∷ n ∷ ns) rise (suc k) d h =
     let next : suc (k + 1) ≡ suc k + 1 = omega arith in
     subst (λ j. get_or (n ∷ ns) k d ≤ get_or (m ∷ n ∷ ns) j d) next (adjacent m (n ∷ ns) rise.1 k d (omega arith))
 
-pub in_order : {taken : Bool} {reports : List Report} (k : ℕ) (source : List ℕ) (items : List Item) → Cut source items → Reported taken (limited k items) reports → IsNonDecreasing (map (λ (r : Report). r.index) reports)
-in_order {reports = reports} k source items cut h =
-    IsNonDecreasingBy-from_all_adjacent (λ (n : ℕ). n) (indices reports) (adjacent 0 (indices reports) (reports_rise 0 h (cut_rises k 0 0 items (omega arith) cut.each)))
+pub in-order : {taken : Bool} {reports : List Report} (k : ℕ) (source : List ℕ) (items : List Item) → Cut source items → Reported taken (limited k items) reports → IsNonDecreasing (map (λ (r : Report). r.index) reports)
+in-order {reports = reports} k source items cut h =
+    IsNonDecreasingBy-from_all_adjacent (λ (n : ℕ). n) (indices reports) (adjacent 0 (indices reports) (reports-rise 0 h (cut-rises k 0 0 items (omega arith) cut.each)))
 
 -- reports up to a place
 abbrev pub AllUpTo : ℕ → List Report → Type 0
@@ -85,5 +85,5 @@ up-to-last : (low : ℕ) (es : List Report) (r : Report) → Rises low (indices 
 up-to-last low [] r h = (h.0, tt)
 up-to-last low (e ∷ es) r h = let l = h.0 in let a = up-to-last e.index es r h.1 in let b = a.0 in (omega (arith, l, b), (a.0, a.1))
 
-pub before_last : {taken : Bool} (k : ℕ) (source : List ℕ) (items : List Item) (es : List Report) (r : Report) → Cut source items → Reported taken (limited k items) (es ++ r ∷ []) → AllUpTo r.index es
-before_last k source items es r cut h = (up-to-last 0 es r (reports_rise 0 h (cut_rises k 0 0 items (omega arith) cut.each))).1
+pub before-last : {taken : Bool} (k : ℕ) (source : List ℕ) (items : List Item) (es : List Report) (r : Report) → Cut source items → Reported taken (limited k items) (es ++ r ∷ []) → AllUpTo r.index es
+before-last k source items es r cut h = (up-to-last 0 es r (reports-rise 0 h (cut-rises k 0 0 items (omega arith) cut.each))).1

@@ -13,7 +13,7 @@ use Rattle.document_grammar.specs.Booleans.{◌and◌}
 use Rattle.parser_rules.specs.State.{State, Text, Lexeme, Report, bad_report, token_limit_report, ignored, wait, bad, met}
 use Rattle.parser_rules.proofs.runs.Reading.{Reading, stops, cuts, bad_text, waits, shows, reading, reading-none, item-is, kinds-more, ignored-kinds, ignored-leaf}
 use Rattle.document_grammar.specs.Builds.{add_leaf}
-use Rattle.parser_rules.proofs.runs.Steps.{Holds_along, Keeps_reading, along_reading}
+use Rattle.parser_rules.proofs.runs.Steps.{Holds_along, Keeps_reading, along-reading}
 use Rattle.parser_rules.proofs.runs.Frame.{untouched}
 use Rattle.parser_rules.proofs.runs.Marked.{Reports, reports-then, read-reports}
 use Rattle.parser_rules.proofs.soundness.WithoutIgnored.{all_ignored}
@@ -145,7 +145,7 @@ stood-after {t = t} x h n = elim (either (is_end x.kind)) [
 ]
 
 pub stands-along : Holds_along (Keeps_reading Stood)
-stands-along = along_reading Stood (λ leaf x s e h. stood-after x (reading s.items (record s { tree = add_leaf leaf x.text s.tree })) (subst (λ (o : Option Lexeme). Stood o s.items) e h))
+stands-along = along-reading Stood (λ leaf x s e h. stood-after x (reading s.items (record s { tree = add_leaf leaf x.text s.tree })) (subst (λ (o : Option Lexeme). Stood o s.items) e h))
 
 -- the answer that gave the current token
 abbrev pub given : Lexeme → Answer

@@ -18,11 +18,11 @@ use Rattle.parser_rules.proofs.runs.Reading.{reading, found}
 use Rattle.parser_rules.proofs.runs.Marked as marked
 use Rattle.parser_rules.proofs.runs.Marked.{Marked, append, Limited, Has, Reports, reports-then, read-reports, moved_on}
 use Rattle.parser_rules.proofs.runs.Walk.{after_pending, always, Sound, walked_whole}
-use Rattle.parser_rules.proofs.runs.Frame.{read_untouched}
+use Rattle.parser_rules.proofs.runs.Frame.{read-untouched}
 use Rattle.parser_rules.proofs.reports.NoReport.{choose, EndsWell, Stood, reading-stood, stands-along}
 use Rattle.parser_rules.proofs.recovery.Popped.{cut-off}
 use Rattle.parser_rules.proofs.reports.LimitCheck.{Current, unknown, present, inner, is_inner, known, fits_inner, tells_inner, after_token, is_known, same_inner, begins_level, limit_check}
-use Rattle.parser_rules.proofs.NodeChecks.{node_passes, document_passes}
+use Rattle.parser_rules.proofs.NodeChecks.{node-passes, document_passes}
 
 -- ---- what a test says
 
@@ -93,7 +93,7 @@ module _ (own : SyntaxKind) (a : Current) (b s : State) (f : Marked) (x : Lexeme
 
   untouched : (after.high ≡ s.high) × (after.limit ≡ s.limit)
   unfolding flush
-  untouched = let u = read_untouched s.items unread in (u.high, u.limit)
+  untouched = let u = read-untouched s.items unread in (u.high, u.limit)
 
   followed : (c : Current) → a ≡ c → after.accepts ≡ true → s.accepts ≡ true → known (after_token c) after.current ≡ true
   unfolding flush
@@ -189,7 +189,7 @@ sound = record {
   types = λ a b s f h. record { stood = h.stood; bounded = h.bounded; token = h.token };
   plain = λ a c k b s u f g p h i l. (c, p, record { stood = i.stood; bounded = i.bounded; token = i.token });
   wraps = λ c k s u g p i l. (c, p, record { stood = i.stood; bounded = i.bounded; token = i.token });
-  nodes = λ n. (node_passes n).limits;
+  nodes = λ n. (node-passes n).limits;
 }
 
 -- Where more than the limit was asked for, a limit is reported: the recursion limit, or the token limit before it.
@@ -197,7 +197,7 @@ pub limit-reported : (r : ℕ) (xs : List Answer) (s : State) → EndsWell xs �
 limit-reported r xs s en run more =
     let o : State = fresh xs r kind.DOCUMENT in
     let b : State = begun xs r kind.DOCUMENT in
-    let none-asked : b.high ≡ 0 = (read_untouched xs o).high in
+    let none-asked : b.high ≡ 0 = (read-untouched xs o).high in
     let (f, a, e, h, g, w) = walked_whole limit_check Held sound xs r kind.DOCUMENT unknown always run document_passes.limits (record { stood = reading-stood (reading xs o) en; bounded = λ y. omega (arith, none-asked); token = λ y. refl }) in
     let p = reports-then o b s (read-reports (reading xs o)) g.reports in
     elim (either s.accepts) [

@@ -5,7 +5,7 @@ use Rattle.document_grammar.specs.Builds.{add_leaf}
 use Rattle.parser_rules.specs.State.{State, Lexeme, read_on}
 use Rattle.parser_rules.specs.RuleLanguage.{Rule}
 use Rattle.parser_rules.specs.Runs.{Runs}
-use Rattle.parser_rules.proofs.runs.Steps.{along, along_reading}
+use Rattle.parser_rules.proofs.runs.Steps.{along, along-reading}
 use Rattle.parser_rules.proofs.runs.Reading.{Reading, stops, cuts, bad_text, waits, shows, reading}
 
 unfoldable pub EndNow : Option Lexeme → List Answer → Type 0
@@ -26,8 +26,8 @@ reading-ends (bad_text i r) e h = reading-ends r refl h.2
 reading-ends (waits i j r) e h = reading-ends r refl h.2
 reading-ends {xs = gives item ∷ xs} (shows i j) e h = record { answers = h.2; now = subst (λ found. IsLast found xs) i h.1 }
 
-pub read_ends : (xs : List Answer) (s : State) → s.items ≡ xs → AreAnswers xs → Ends (read_on xs s)
-read_ends xs s = reading-ends (reading xs s)
+pub read-ends : (xs : List Answer) (s : State) → s.items ≡ xs → AreAnswers xs → Ends (read_on xs s)
+read-ends xs s = reading-ends (reading xs s)
 
 pub ends : {r : Rule} {s t : State} → Runs r s t → Ends s → Ends t
-ends h = along (along_reading EndsAt (λ leaf x s e h. read_ends s.items (record s { tree = add_leaf leaf x.text s.tree }) refl h.answers)) h
+ends h = along (along-reading EndsAt (λ leaf x s e h. read-ends s.items (record s { tree = add_leaf leaf x.text s.tree }) refl h.answers)) h

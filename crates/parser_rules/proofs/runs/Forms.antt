@@ -8,7 +8,7 @@ use Rattle.parser_rules.specs.Nodes.{Node, Name, NameForFragment, NameForEnum, k
 use Rattle.parser_rules.specs.RuleLanguage.{Test, Prim, Bump, Note, step, Rule, Do, Seq, When, Child, want}
 use Rattle.parser_rules.specs.Rules.{inside}
 use Rattle.parser_rules.specs.Runs.{Runs, skip, does, seq, yes, no, child}
-use Rattle.parser_rules.proofs.runs.Frame.{read_closed}
+use Rattle.parser_rules.proofs.runs.Frame.{read-closed}
 
 -- a report where the test fails, and what follows
 pub wanted : {q : Test} {m : Message} {c : Rule} {s t u : State} → Runs (want q m) s t → Runs c t u → Runs (When q c (Seq (Do (Note m)) c)) s u
@@ -21,13 +21,13 @@ chosen (yes e h) k = yes e (seq h k)
 chosen (no e h) k = no e (seq h k)
 
 -- a node of one leaf may be closed before the next token is read
-pub one_leaf : (node leaf : SyntaxKind) (s f n t : State) (x : Lexeme) (text : Text)
+pub one-leaf : (node leaf : SyntaxKind) (s f n t : State) (x : Lexeme) (text : Text)
     → s.current ≡ Some x → text ≡ x.text → f ≡ flush s → n ≡ record f { tree = finish (add_leaf leaf text (start node f.tree)) } → t ≡ read_on n.items n → t ≡ closed (bump leaf (opened node s))
 unfolding flush opened closed bump
-one_leaf node leaf s f n t x text c w a b e =
+one-leaf node leaf s f n t x text c w a b e =
     e ∙ ap (λ (n : State). read_on n.items n) (b ∙ ap (λ (f : State). record f { tree = finish (add_leaf leaf text (start node f.tree)) }) a)
     ∙ ap (λ (y : Text). read_on s.items (record (flush s) { tree = finish (add_leaf leaf y (start node (flush s).tree)) })) w
-    ∙ sym (read_closed s.items (record (flush s) { tree = add_leaf leaf x.text (start node (flush s).tree) }))
+    ∙ sym (read-closed s.items (record (flush s) { tree = add_leaf leaf x.text (start node (flush s).tree) }))
     ∙ ap (λ o. closed (moved leaf (opened node s) o)) (sym c)
 
 -- what a step does to a node of one leaf is a run of the node's rule
@@ -37,10 +37,10 @@ leaf_run n k leaf {s = s} e m i =
     child refl (e ∙ ap (λ j. closed (bump leaf (opened j s))) (sym m)) (subst (λ (a : Rule). Runs a (opened (kind_of n) s) (bump leaf (opened (kind_of n) s))) (sym i) (does refl))
 
 -- a name is also one for a fragment, and one for an enum's value
-pub for_fragment : {s t : State} → Runs (Child Name) s t → Runs (Child NameForFragment) s t
+pub for-fragment : {s t : State} → Runs (Child Name) s t → Runs (Child NameForFragment) s t
 unfolding inside
-for_fragment (child e f h) = child e f h
+for-fragment (child e f h) = child e f h
 
-pub for_enum : {s t : State} → Runs (Child Name) s t → Runs (Child NameForEnum) s t
+pub for-enum : {s t : State} → Runs (Child Name) s t → Runs (Child NameForEnum) s t
 unfolding inside
-for_enum (child e f h) = child e f h
+for-enum (child e f h) = child e f h

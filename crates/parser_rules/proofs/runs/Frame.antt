@@ -13,7 +13,7 @@ use Rattle.parser_rules.specs.Open.{is_free, is_free_in, IsOpen, IsMark, IsInsid
 use Rattle.parser_rules.specs.RuleLanguage.{Test, At, holds, Rule, Skip, While}
 use Rattle.parser_rules.specs.Runs.{Runs, done, again, refused, Turns, begin, turn}
 use Rattle.parser_rules.proofs.runs.Reading.{Reading, stops, cuts, bad_text, waits, shows, reading, found}
-use Rattle.parser_rules.proofs.runs.Steps.{Holds_along, along, turns_along}
+use Rattle.parser_rules.proofs.runs.Steps.{Holds_along, along, turns-along}
 
 -- ---- reading on
 
@@ -28,8 +28,8 @@ untouched (bad_text e h) = untouched h
 untouched (waits e i h) = untouched h
 untouched (shows e i) = record { tree = refl; depth = refl; limit = refl; high = refl; asked = refl }
 
-pub read_untouched : (xs : List Answer) (s : State) → Untouched s (read_on xs s)
-read_untouched xs s = untouched (reading xs s)
+pub read-untouched : (xs : List Answer) (s : State) → Untouched s (read_on xs s)
+read-untouched xs s = untouched (reading xs s)
 
 closes : {xs : List Answer} {s t : State} → Reading xs s t → Reading xs (closed s) (closed t)
 unfolding closed
@@ -40,8 +40,8 @@ closes (waits e i h) = waits e i (closes h)
 closes (shows e i) = shows e i
 
 -- reading on and closing a node commute
-pub read_closed : (xs : List Answer) (s : State) → closed (read_on xs s) ≡ read_on xs (closed s)
-read_closed xs s = sym (found (closes (reading xs s))).is
+pub read-closed : (xs : List Answer) (s : State) → closed (read_on xs s) ≡ read_on xs (closed s)
+read-closed xs s = sym (found (closes (reading xs s))).is
 
 -- how much is left to read
 abbrev pub one_if : Option Lexeme → ℕ
@@ -51,18 +51,18 @@ one_if (Some _) = 1
 unfoldable pub left : State → ℕ
 left s = one_if s.current + length s.items
 
-read_left : {xs : List Answer} {s t : State} → Reading xs s t → s.items ≡ xs → left t ≤ length xs
+read-left : {xs : List Answer} {s t : State} → Reading xs s t → s.items ≡ xs → left t ≤ length xs
 unfolding left
-read_left {s = s} stops e = let n : length s.items ≡ 0 = ap length e in omega arith
-read_left (cuts h) e = let f = read_left h refl in omega (arith, f)
-read_left (bad_text i h) e = let f = read_left h refl in omega (arith, f)
-read_left (waits i j h) e = let f = read_left h refl in omega (arith, f)
-read_left (shows i j) e = omega arith
+read-left {s = s} stops e = let n : length s.items ≡ 0 = ap length e in omega arith
+read-left (cuts h) e = let f = read-left h refl in omega (arith, f)
+read-left (bad_text i h) e = let f = read-left h refl in omega (arith, f)
+read-left (waits i j h) e = let f = read-left h refl in omega (arith, f)
+read-left (shows i j) e = omega arith
 
-pub moved_left : (leaf : SyntaxKind) (x : Lexeme) (s : State) → s.current ≡ Some x → left (read_on s.items (record s { tree = add_leaf leaf x.text s.tree })) < left s
+pub moved-left : (leaf : SyntaxKind) (x : Lexeme) (s : State) → s.current ≡ Some x → left (read_on s.items (record s { tree = add_leaf leaf x.text s.tree })) < left s
 unfolding left
-moved_left leaf x s e =
-    let h = read_left (reading s.items (record s { tree = add_leaf leaf x.text s.tree })) refl in
+moved-left leaf x s e =
+    let h = read-left (reading s.items (record s { tree = add_leaf leaf x.text s.tree })) refl in
     let c : one_if s.current ≡ 1 = ap one_if e in
     omega (arith, h)
 
@@ -97,13 +97,13 @@ next s t u h k = record {
 moves : (leaf : SyntaxKind) (x : Lexeme) (s : State) → s.current ≡ Some x → Keeps s (read_on s.items (record s { tree = add_leaf leaf x.text s.tree }))
 moves leaf x s e =
     let t : State = record s { tree = add_leaf leaf x.text s.tree } in
-    let u = read_untouched s.items t in
-    let f = moved_left leaf x s e in
+    let u = read-untouched s.items t in
+    let f = moved-left leaf x s e in
     calm s (read_on s.items t) (omega (arith, f)) u.depth u.limit u.high u.asked
 
-pub not_deep : (s : State) → false ≡ is_deep s → s.depth < s.limit
+pub not-deep : (s : State) → false ≡ is_deep s → s.depth < s.limit
 unfolding is_deep
-not_deep s e = leb-false s.limit s.depth (sym e)
+not-deep s e = leb-false s.limit s.depth (sym e)
 
 levels : (s u : State) → false ≡ is_deep s → Keeps (enter s) u → Keeps s (leave u)
 unfolding enter leave left
@@ -113,7 +113,7 @@ levels s u q h = record {
   limit = h.limit;
   asked = h.asked;
   higher = let a = h.higher in omega (arith, a);
-  bound = λ d c. let n = not_deep s q in h.bound (omega arith) (omega arith);
+  bound = λ d c. let n = not-deep s q in h.bound (omega arith) (omega arith);
 }
 
 abbrev keeps_along : Holds_along Keeps
@@ -136,7 +136,7 @@ pub keeps : {r : Rule} {s t : State} → Runs r s t → Keeps s t
 keeps h = along keeps_along h
 
 pub turned : {q : Test} {a : Rule} {s t : State} → Turns q a s t → Keeps s t
-turned h = turns_along keeps_along h
+turned h = turns-along keeps_along h
 
 pub fewer : {r : Rule} {s t : State} → Runs r s t → left t ≤ left s
 fewer h = (keeps h).fewer
@@ -156,12 +156,12 @@ pub added-all : (parts : List PendingToken) (b : Building) → Added (parts_fore
 added-all [] b = added-none b
 added-all (p ∷ parts) b = added-then (added-leaf p.kind p.text b) (added-all parts (add_leaf p.kind p.text b))
 
-pub add_all_above : (parts : List PendingToken) (b : Building) → (add_all parts b).above ≡ b.above
-add_all_above parts b = (added-all parts b).above
+pub add_all-above : (parts : List PendingToken) (b : Building) → (add_all parts b).above ≡ b.above
+add_all-above parts b = (added-all parts b).above
 
 -- a leaf that is taken, after what is read on
 pub added-read : (k : SyntaxKind) (x : Text) (s : State) → Added (built.leaf k x built.none) s.tree (read_on s.items (record s { tree = add_leaf k x s.tree })).tree
-added-read k x s = subst (Added (built.leaf k x built.none) s.tree) (sym (read_untouched s.items (record s { tree = add_leaf k x s.tree })).tree) (added-leaf k x s.tree)
+added-read k x s = subst (Added (built.leaf k x built.none) s.tree) (sym (read-untouched s.items (record s { tree = add_leaf k x s.tree })).tree) (added-leaf k x s.tree)
 
 abbrev adds_along : Holds_along Adds
 unfolding flush enter leave closed wrapped_from
@@ -183,54 +183,54 @@ adds h = along adds_along h
 
 -- ---- what closing a node and leaving a level require: steps that `search` chains
 
-pub is_open : (k : SyntaxKind) (s : State) {t : State} → is_free k ≡ true → t ≡ opened k s → IsOpen t.tree
+pub is-open : (k : SyntaxKind) (s : State) {t : State} → is_free k ≡ true → t ≡ opened k s → IsOpen t.tree
 unfolding opened IsOpen
-is_open k s free e = subst (λ w. is_free_in w.tree.above ≡ true) (sym e) free
+is-open k s free e = subst (λ w. is_free_in w.tree.above ≡ true) (sym e) free
 
-pub still_open : {r : Rule} {s t : State} → Runs r s t → IsOpen s.tree → IsOpen t.tree
+pub still-open : {r : Rule} {s t : State} → Runs r s t → IsOpen s.tree → IsOpen t.tree
 unfolding IsOpen
-still_open h o = subst (λ above. is_free_in above ≡ true) (sym (adds h).trees.above) o
+still-open h o = subst (λ above. is_free_in above ≡ true) (sym (adds h).trees.above) o
 
-pub open_in_loop : {q : Test} {a : Rule} {s t : State} → Turns q a s t → IsOpen s.tree → IsOpen t.tree
+pub open-in-loop : {q : Test} {a : Rule} {s t : State} → Turns q a s t → IsOpen s.tree → IsOpen t.tree
 unfolding IsOpen
-open_in_loop h o = subst (λ above. is_free_in above ≡ true) (sym (turns_along adds_along h).trees.above) o
+open-in-loop h o = subst (λ above. is_free_in above ≡ true) (sym (turns-along adds_along h).trees.above) o
 
-pub open_inside : (s : State) {t : State} → t ≡ enter s → IsOpen s.tree → IsOpen t.tree
+pub open-inside : (s : State) {t : State} → t ≡ enter s → IsOpen s.tree → IsOpen t.tree
 unfolding IsOpen enter
-open_inside s e o = subst (λ w. is_free_in w.tree.above ≡ true) (sym e) o
+open-inside s e o = subst (λ w. is_free_in w.tree.above ≡ true) (sym e) o
 
-pub open_outside : (s : State) {t : State} → t ≡ leave s → IsOpen s.tree → IsOpen t.tree
+pub open-outside : (s : State) {t : State} → t ≡ leave s → IsOpen s.tree → IsOpen t.tree
 unfolding IsOpen leave
-open_outside s e o = subst (λ w. is_free_in w.tree.above ≡ true) (sym e) o
+open-outside s e o = subst (λ w. is_free_in w.tree.above ≡ true) (sym e) o
 
-pub open_too_deep : (s : State) {t : State} → true ≡ is_deep s → t ≡ too_deep s → IsOpen s.tree → IsOpen t.tree
-open_too_deep s q e o = still_open (refused {a = Skip} {b = Skip} q e) o
+pub open-too-deep : (s : State) {t : State} → true ≡ is_deep s → t ≡ too_deep s → IsOpen s.tree → IsOpen t.tree
+open-too-deep s q e o = still-open (refused {a = Skip} {b = Skip} q e) o
 
-pub is_inside : (s : State) {t : State} → t ≡ enter s → IsInside t
+pub is-inside : (s : State) {t : State} → t ≡ enter s → IsInside t
 unfolding enter IsInside
-is_inside s e = subst (λ w. 0 < w.depth) (sym e) (omega arith)
+is-inside s e = subst (λ w. 0 < w.depth) (sym e) (omega arith)
 
-pub still_inside : {r : Rule} {s t : State} → Runs r s t → IsInside s → IsInside t
+pub still-inside : {r : Rule} {s t : State} → Runs r s t → IsInside s → IsInside t
 unfolding IsInside
-still_inside h i = let k = (keeps h).depth in omega (arith, i, k)
+still-inside h i = let k = (keeps h).depth in omega (arith, i, k)
 
-pub open_wrapped : (k : SyntaxKind) (place : ℕ) (s : State) {t : State} → is_free k ≡ true → t ≡ wrapped_from place k s → IsOpen t.tree
+pub open-wrapped : (k : SyntaxKind) (place : ℕ) (s : State) {t : State} → is_free k ≡ true → t ≡ wrapped_from place k s → IsOpen t.tree
 unfolding wrapped_from IsOpen
-open_wrapped k place s free e = subst (λ w. is_free_in w.tree.above ≡ true) (sym e) free
+open-wrapped k place s free e = subst (λ w. is_free_in w.tree.above ≡ true) (sym e) free
 
 -- the place after all that is built
-pub is_mark : (s : State) (place : ℕ) → place ≡ built_count s.tree → IsMark place s.tree
+pub is-mark : (s : State) (place : ℕ) → place ≡ built_count s.tree → IsMark place s.tree
 unfolding IsMark
-is_mark s place e = subst (λ n. IsPlace n s.tree) (sym e) (place-last s.tree)
+is-mark s place e = subst (λ n. IsPlace n s.tree) (sym e) (place-last s.tree)
 
-pub still_mark : (place : ℕ) {r : Rule} {s t : State} → Runs r s t → IsMark place s.tree → IsMark place t.tree
+pub still-mark : (place : ℕ) {r : Rule} {s t : State} → Runs r s t → IsMark place s.tree → IsMark place t.tree
 unfolding IsMark
-still_mark place h m = place-added place (adds h).trees m
+still-mark place h m = place-added place (adds h).trees m
 
 -- a token that is there is still there in a node that was opened
-pub still_at : (k : SyntaxKind) (kind : TokenKind) (s : State) {t : State} → true ≡ holds (At kind) s → t ≡ opened k s → true ≡ holds (At kind) t
+pub still-at : (k : SyntaxKind) (kind : TokenKind) (s : State) {t : State} → true ≡ holds (At kind) s → t ≡ opened k s → true ≡ holds (At kind) t
 unfolding opened flush holds
-still_at k kind s e o = e ∙ sym (ap (λ w. is_at kind w.current) o)
+still-at k kind s e o = e ∙ sym (ap (λ w. is_at kind w.current) o)
 
 -- ---- loops
 
@@ -244,20 +244,20 @@ ended h q = onto h (done q)
 
 -- ---- the root
 
-root_open : (items : List Answer) (limit : ℕ) (k : SyntaxKind) → (begun items limit k).tree ≡ start k nothing
-root_open items limit k = (read_untouched items (fresh items limit k)).tree
+root-open : (items : List Answer) (limit : ℕ) (k : SyntaxKind) → (begun items limit k).tree ≡ start k nothing
+root-open items limit k = (read-untouched items (fresh items limit k)).tree
 
 -- the root is open to the end, and no other node
-pub root_stays : {r : Rule} {t : State} (items : List Answer) (limit : ℕ) (k : SyntaxKind) → Runs r (begun items limit k) t → t.tree.above ≡ record { before = no_trees; kind = k } ∷ []
-root_stays items limit k h = (adds h).trees.above ∙ ap (λ b. b.above) (root_open items limit k)
+pub root-stays : {r : Rule} {t : State} (items : List Answer) (limit : ℕ) (k : SyntaxKind) → Runs r (begun items limit k) t → t.tree.above ≡ record { before = no_trees; kind = k } ∷ []
+root-stays items limit k h = (adds h).trees.above ∙ ap (λ b. b.above) (root-open items limit k)
 
-pub root_kept : {r : Rule} {t : State} (items : List Answer) (limit : ℕ) (k : SyntaxKind) → is_free k ≡ true → Runs r (begun items limit k) t → IsRoot t.tree
-root_kept items limit k free h = (k, free, root_stays items limit k h)
+pub root-kept : {r : Rule} {t : State} (items : List Answer) (limit : ℕ) (k : SyntaxKind) → is_free k ≡ true → Runs r (begun items limit k) t → IsRoot t.tree
+root-kept items limit k free h = (k, free, root-stays items limit k h)
 
 -- the nesting is taken back, the limit is the one that was set, and at most one level more than it was asked for
-pub begun_nesting : {r : Rule} {t : State} (items : List Answer) (limit : ℕ) (k : SyntaxKind) → Runs r (begun items limit k) t → (t.depth ≡ 0) × (t.limit ≡ limit) × (t.high ≤ limit + 1)
-begun_nesting items limit k h =
-    let b = read_untouched items (fresh items limit k) in
+pub begun-nesting : {r : Rule} {t : State} (items : List Answer) (limit : ℕ) (k : SyntaxKind) → Runs r (begun items limit k) t → (t.depth ≡ 0) × (t.limit ≡ limit) × (t.high ≤ limit + 1)
+begun-nesting items limit k h =
+    let b = read-untouched items (fresh items limit k) in
     let n = keeps h in
     let d = b.depth in
     let l = b.limit in
@@ -265,5 +265,5 @@ begun_nesting items limit k h =
     let bound = n.bound (omega (arith, d, l)) (omega (arith, g, l)) in
     (n.depth ∙ d, n.limit ∙ l, omega (arith, bound, l))
 
-pub begun_asked : {r : Rule} {t : State} (items : List Answer) (limit : ℕ) (k : SyntaxKind) → Runs r (begun items limit k) t → t.asked ≡ length items
-begun_asked items limit k h = (keeps h).asked ∙ (read_untouched items (fresh items limit k)).asked
+pub begun-asked : {r : Rule} {t : State} (items : List Answer) (limit : ℕ) (k : SyntaxKind) → Runs r (begun items limit k) t → t.asked ≡ length items
+begun-asked items limit k h = (keeps h).asked ∙ (read-untouched items (fresh items limit k)).asked

@@ -12,10 +12,10 @@ use Rattle.document_grammar.proofs.Added.{Added, added-none, added-then, added-n
 use Rattle.parser_rules.specs.declared.message.Message.{Message}
 use Rattle.parser_rules.specs.State.{State, Lexeme, PendingToken, Text, Report, at_limit, bad_report, token_limit_report, recursion_limit_report, fault_report, ignored, bad, met, lexeme, read_on, add_all, flush, opened, closed, wrapped_from, note, is_deep, enter, leave, too_deep, fresh, begun}
 use Rattle.parser_rules.proofs.runs.Reading.{Reading, stops, cuts, bad_text, waits, shows, reading}
-use Rattle.parser_rules.proofs.runs.Steps.{Holds_along, step_along, too_deep_along}
-use Rattle.parser_rules.proofs.runs.Reporting.{after_note, after_too_deep}
+use Rattle.parser_rules.proofs.runs.Steps.{Holds_along, step-along, too_deep-along}
+use Rattle.parser_rules.proofs.runs.Reporting.{after-note, after-too-deep}
 use Rattle.parser_rules.specs.RuleLanguage.{Note, step}
-use Rattle.parser_rules.proofs.runs.Frame.{read_untouched, parts_forest, added-all, added-read}
+use Rattle.parser_rules.proofs.runs.Frame.{read-untouched, parts_forest, added-all, added-read}
 
 -- what a leaf is: a significant token, or an ignored token or bad text
 pub data Source : Type 0 where
@@ -202,16 +202,16 @@ grown-leaf own x s c w =
 pub grown-note : (m : Message) (s : State) → Grown s (note m s) none
 unfolding step
 grown-note m s = record {
-  trees = after_note (λ t. Added built.none s.tree t.tree) m s (λ errors. added-none s.tree);
-  order = after_note (λ t. to_come t ≡ to_come s) m s (λ errors. refl);
-  reports = step_along reports-along (Note m) s;
+  trees = after-note (λ t. Added built.none s.tree t.tree) m s (λ errors. added-none s.tree);
+  order = after-note (λ t. to_come t ≡ to_come s) m s (λ errors. refl);
+  reports = step-along reports-along (Note m) s;
 }
 
 pub grown-deep : (s : State) → true ≡ is_deep s → Grown s (too_deep s) none
 grown-deep s d = record {
-  trees = after_too_deep (λ t. Added built.none s.tree t.tree) s (λ errors accepts. added-none s.tree);
-  order = after_too_deep (λ t. to_come t ≡ to_come s) s (λ errors accepts. refl);
-  reports = too_deep_along reports-along s d;
+  trees = after-too-deep (λ t. Added built.none s.tree t.tree) s (λ errors accepts. added-none s.tree);
+  order = after-too-deep (λ t. to_come t ≡ to_come s) s (λ errors accepts. refl);
+  reports = too_deep-along reports-along s d;
 }
 
 -- a node around what is added in it, after what waited
@@ -234,6 +234,6 @@ whole xs r k s f h =
     let b : State = begun xs r k in
     let g = grown-then b s (flush s) f (set_aside s.pending) h (grown-flush s) in
     record {
-      tree = sym (g.trees.here ∙ ap (λ (t : Building). built.join t.here (erase (append f (set_aside s.pending)))) (read_untouched xs (fresh xs r k)).tree);
+      tree = sym (g.trees.here ∙ ap (λ (t : Building). built.join t.here (erase (append f (set_aside s.pending)))) (read-untouched xs (fresh xs r k)).tree);
       order = g.order ∙ read-to_come (reading xs (fresh xs r k)) refl;
     }

@@ -12,8 +12,8 @@ use Rattle.parser_rules.specs.RuleLanguage.{TokenTest, Kind, Keyword, Or, fits, 
 use Rattle.parser_rules.specs.Rules.{has_item, inside, body}
 use Rattle.parser_rules.specs.Runs.{Runs, skip, does, seq, yes, no, child, deeper, refused, call}
 use Rattle.parser_rules.specs.declared.message.Message.{Message}
-use Rattle.parser_rules.proofs.runs.Frame.{left, moved_left, fewer}
-use Rattle.parser_rules.proofs.runs.Reporting.{after_note}
+use Rattle.parser_rules.proofs.runs.Frame.{left, moved-left, fewer}
+use Rattle.parser_rules.proofs.runs.Reporting.{after-note}
 
 -- after the rule the token that was there is still there
 abbrev pub stays : Rule → Bool
@@ -50,75 +50,75 @@ there None q e = absurd (true≢false (e ∙ none-fits q))
 there (Some x) q e = (x, refl)
 
 -- where the current token fits, it is there
-pub here_there : (q : TokenTest) (s : State) → true ≡ holds (Here q) s → IsThere s
+pub here-there : (q : TokenTest) (s : State) → true ≡ holds (Here q) s → IsThere s
 unfolding holds IsThere
-here_there q s e = there s.current q e
+here-there q s e = there s.current q e
 
-pub ready_there : (s : State) → true ≡ holds Ready s → IsThere s
+pub ready-there : (s : State) → true ≡ holds Ready s → IsThere s
 unfolding holds IsThere
-ready_there s e = elim s.current as (λ o. true ≡ not (is_over o) → (x : Lexeme) × (o ≡ Some x)) [ None ↦ λ y. absurd cc | Some x ↦ λ y. (x, refl) ] e
+ready-there s e = elim s.current as (λ o. true ≡ not (is_over o) → (x : Lexeme) × (o ≡ Some x)) [ None ↦ λ y. absurd cc | Some x ↦ λ y. (x, refl) ] e
 
 -- where another item may start, a token is there, and the recursion limit is not reached
 pub item_there : (s : State) → true ≡ holds has_item s → IsThere s
 unfolding holds IsThere
-item_there s e = ready_there s (sym (and_parts _ _ (and_parts _ _ (sym e)).0).0)
+item_there s e = ready-there s (sym (and_parts _ _ (and_parts _ _ (sym e)).0).0)
 
-pub item_not_deep : (s : State) → true ≡ holds has_item s → false ≡ is_deep s
+pub item-not-deep : (s : State) → true ≡ holds has_item s → false ≡ is_deep s
 unfolding holds
-item_not_deep s e = sym (not-c _ (and_parts _ _ (sym e)).1)
+item-not-deep s e = sym (not-c _ (and_parts _ _ (sym e)).1)
 
-pub opened_there : (k : SyntaxKind) (s : State) {t : State} → t ≡ opened k s → IsThere s → IsThere t
+pub opened-there : (k : SyntaxKind) (s : State) {t : State} → t ≡ opened k s → IsThere s → IsThere t
 unfolding opened flush IsThere
-opened_there k s e h = (h.0, ap (λ w. w.current) e ∙ h.1)
+opened-there k s e h = (h.0, ap (λ w. w.current) e ∙ h.1)
 
-pub opened_left : (k : SyntaxKind) (s : State) {t : State} → t ≡ opened k s → left t ≡ left s
+pub opened-left : (k : SyntaxKind) (s : State) {t : State} → t ≡ opened k s → left t ≡ left s
 unfolding opened flush left
-opened_left k s e = ap left e
+opened-left k s e = ap left e
 
 -- ---- a report changes nothing that is read
 
 abbrev pub Unread : State → State → Type 0
 Unread s t = (t.current ≡ s.current) × (left t ≡ left s)
 
-note_unread : (m : Message) (s : State) {t : State} → t ≡ step (Note m) s → Unread s t
+note-unread : (m : Message) (s : State) {t : State} → t ≡ step (Note m) s → Unread s t
 unfolding step left
-note_unread m s e = subst (λ w. Unread s w) (sym e) (after_note (Unread s) m s (λ errors. (refl, refl)))
+note-unread m s e = subst (λ w. Unread s w) (sym e) (after-note (Unread s) m s (λ errors. (refl, refl)))
 
 pub stayed : {a : Rule} {s t : State} → Runs a s t → stays a ≡ true → Unread s t
 stayed skip e = (refl, refl)
-stayed {s = s} (does {a = Note m} h) e = note_unread m s h
+stayed {s = s} (does {a = Note m} h) e = note-unread m s h
 stayed _ e = absurd (true≢false (sym e))
 
-still_there : (s t : State) → t.current ≡ s.current → IsThere s → IsThere t
+still-there : (s t : State) → t.current ≡ s.current → IsThere s → IsThere t
 unfolding IsThere
-still_there s t e h = (h.0, e ∙ h.1)
+still-there s t e h = (h.0, e ∙ h.1)
 
 -- ---- what takes
 
-bump_takes : (leaf : SyntaxKind) (s : State) {t : State} → t ≡ step (Bump leaf) s → IsThere s → left t < left s
+bump-takes : (leaf : SyntaxKind) (s : State) {t : State} → t ≡ step (Bump leaf) s → IsThere s → left t < left s
 unfolding step bump flush left IsThere
-bump_takes leaf s e h =
-    let f = moved_left leaf h.0 (flush s) h.1 in
+bump-takes leaf s e h =
+    let f = moved-left leaf h.0 (flush s) h.1 in
     let k : left (moved leaf s s.current) ≡ left (moved leaf s (Some h.0)) = ap (λ o. left (moved leaf s o)) h.1 in
     let l = ap left e in
     omega (arith, f, k, l)
 
 taken-by : {a : Rule} {s t : State} → Runs a s t → (n : ℕ) → IsThere s → consumes n a ≡ true → left t < left s
 unfolding consumes closed left
-taken-by {s = s} (does {a = Bump leaf} k) n h e = bump_takes leaf s k h
+taken-by {s = s} (does {a = Bump leaf} k) n h e = bump-takes leaf s k h
 taken-by {s = s} (seq {a = a} {b = b} {t = t} k l) n h e = elim (or-c _ _ e) [
   | inl y ↦ let f = taken-by k n h y in let g = fewer l in omega (arith, f, g)
   | inr later ↦
       let same = stayed k (and-l (stays a) (consumes n b) later) in
-      let f = taken-by l n (still_there s t same.0 h) (and-r (stays a) (consumes n b) later) in
+      let f = taken-by l n (still-there s t same.0 h) (and-r (stays a) (consumes n b) later) in
       let g = same.1 in
       omega (arith, f, g)
 ]
 taken-by (yes {a = a} {b = b} q k) n h e = taken-by k n h (and-l (consumes n a) (consumes n b) e)
 taken-by (no {a = a} {b = b} q k) n h e = taken-by k n h (and-r (consumes n a) (consumes n b) e)
 taken-by {s = s} (child {n = c} {u = u} a b k) (suc n) h e =
-    let f = taken-by k n (opened_there (kind_of c) s a h) e in
-    let g = opened_left (kind_of c) s a in
+    let f = taken-by k n (opened-there (kind_of c) s a h) e in
+    let g = opened-left (kind_of c) s a in
     let d = ap left b in
     omega (arith, f, g, d)
 taken-by (call k) (suc n) h e = taken-by k n h e
@@ -129,40 +129,40 @@ taken r h e = taken-by r 5 h e
 
 -- ---- what the code's measures ask
 
-pub opened_takes : (k : SyntaxKind) (s : State) {t u : State} {a : Rule} → t ≡ opened k s → Runs a t u → IsThere s → consumes 5 a ≡ true → left u < left s
-opened_takes k s o r h e =
-    let f = taken r (opened_there k s o h) e in
-    let l = opened_left k s o in
+pub opened-takes : (k : SyntaxKind) (s : State) {t u : State} {a : Rule} → t ≡ opened k s → Runs a t u → IsThere s → consumes 5 a ≡ true → left u < left s
+opened-takes k s o r h e =
+    let f = taken r (opened-there k s o h) e in
+    let l = opened-left k s o in
     omega (arith, f, l)
 
-pub entered_left : (s : State) {t : State} → t ≡ enter s → left t ≡ left s
+pub entered-left : (s : State) {t : State} → t ≡ enter s → left t ≡ left s
 unfolding enter left
-entered_left s e = ap left e
+entered-left s e = ap left e
 
-entered_there : (s : State) {t : State} → t ≡ enter s → IsThere s → IsThere t
+entered-there : (s : State) {t : State} → t ≡ enter s → IsThere s → IsThere t
 unfolding enter IsThere
-entered_there s e h = (h.0, ap (λ w. w.current) e ∙ h.1)
+entered-there s e h = (h.0, ap (λ w. w.current) e ∙ h.1)
 
 -- a value one level deeper takes a token where the recursion limit is not reached
-deeper_taken : {a b : Rule} {s t : State} → Runs (Nested a b) s t → false ≡ is_deep s → IsThere s → consumes 5 a ≡ true → left t < left s
+deeper-taken : {a b : Rule} {s t : State} → Runs (Nested a b) s t → false ≡ is_deep s → IsThere s → consumes 5 a ≡ true → left t < left s
 unfolding leave left
-deeper_taken {s = s} (deeper {u = u} q e v h k) d i w =
-    let f = taken h (entered_there s e i) w in
-    let g = entered_left s e in
+deeper-taken {s = s} (deeper {u = u} q e v h k) d i w =
+    let f = taken h (entered-there s e i) w in
+    let g = entered-left s e in
     let l = ap left v in
     let m = fewer k in
     omega (arith, f, g, l, m)
-deeper_taken (refused q e) d i w = absurd (true≢false (q ∙ sym d))
+deeper-taken (refused q e) d i w = absurd (true≢false (q ∙ sym d))
 
-value_consumes : (c : Constness) → consumes 5 (Call (ValueOf c true)) ≡ true
+value-consumes : (c : Constness) → consumes 5 (Call (ValueOf c true)) ≡ true
 unfolding consuming
-value_consumes Const = refl
-value_consumes NotConst = refl
+value-consumes Const = refl
+value-consumes NotConst = refl
 
-pub item_taken : {c : Constness} {s t : State} → Runs (Call (NestedValue c)) s t → true ≡ holds has_item s → left t < left s
+pub item-taken : {c : Constness} {s t : State} → Runs (Call (NestedValue c)) s t → true ≡ holds has_item s → left t < left s
 unfolding body
-item_taken {c = c} {s = s} (call h) e = deeper_taken h (item_not_deep s e) (item_there s e) (value_consumes c)
+item-taken {c = c} {s = s} (call h) e = deeper-taken h (item-not-deep s e) (item_there s e) (value-consumes c)
 
-pub flushed_left : (s : State) {t : State} → t ≡ flush s → left t ≡ left s
+pub flushed-left : (s : State) {t : State} → t ≡ flush s → left t ≡ left s
 unfolding flush left
-flushed_left s e = ap left e
+flushed-left s e = ap left e

@@ -3,20 +3,20 @@ use Rattle.parser_rules.specs.State.{same_kind, flush, opened, closed, bump, not
 use Rattle.parser_rules.specs.RuleLanguage.{holds, step}
 use Rattle.parser_rules.specs.Open.{IsInside, IsMark}
 use Rattle.parser_rules.specs.Runs.{skip, does, seq, yes, no, child, deeper, refused, call, plain, wrapped, begin, turn}
-use Rattle.parser_rules.proofs.runs.Forms.{wanted, chosen, for_fragment, for_enum}
-use Rattle.parser_rules.proofs.runs.Frame.{ended, is_open, still_open, open_in_loop, open_too_deep, open_inside, open_outside, is_inside, still_inside, still_at}
+use Rattle.parser_rules.proofs.runs.Forms.{wanted, chosen, for-fragment, for-enum}
+use Rattle.parser_rules.proofs.runs.Frame.{ended, is-open, still-open, open-in-loop, open-too-deep, open-inside, open-outside, is-inside, still-inside, still-at}
 
 -- a step, and one rule after the other
 pub ruleset sequence = (skip, seq, yes, no)
 
 -- a function of the grammar
-pub ruleset running = (sequence, child, call, wanted, chosen, for_fragment, for_enum, is_open, still_open, still_at)
+pub ruleset running = (sequence, child, call, wanted, chosen, for-fragment, for-enum, is-open, still-open, still-at)
 
 -- the same, with a loop
-pub ruleset looping = (running, begin, turn, ended, open_in_loop)
+pub ruleset looping = (running, begin, turn, ended, open-in-loop)
 
 -- the same, one level deeper
-pub ruleset nesting = (looping, deeper, refused, plain, wrapped, open_too_deep, open_inside, open_outside, is_inside, still_inside)
+pub ruleset nesting = (looping, deeper, refused, plain, wrapped, open-too-deep, open-inside, open-outside, is-inside, still-inside)
 
 -- what the steps of a state are
 unfoldable pub steps : Unit {0}

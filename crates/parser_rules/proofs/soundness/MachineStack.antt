@@ -14,7 +14,7 @@ use Rattle.grammar_machine.proofs.TableLemmas.{exits-at, head-same}
 use Rattle.grammar_machine.proofs.Checks.{exits, row_of}
 use Rattle.grammar_machine.proofs.Patterns.{label}
 use Rattle.grammar_machine.proofs.FromMachineTree.{show, shows, type_of}
-use Rattle.document_grammar.proofs.Added.{wrap_added}
+use Rattle.document_grammar.proofs.Added.{wrap-added}
 use Rattle.parser_rules.proofs.soundness.WithoutIgnored.{IsLayered, Stack, stack, layers, layers-join, strip, put}
 
 -- ---- lists of trees
@@ -126,4 +126,4 @@ added-type s q q' f g fs t u more ty a h st su =
 pub stack-wrap : (s q q' : ℕ) (f g : Forest) (fs : List Frame) (t u : Building) (more : built.Forest) → eqb s TYPE ≡ false → u.above ≡ t.above → u.here ≡ built.join t.here more
     → stack t ≡ image (frame s q f ∷ fs) → stack u ≡ image (frame TYPE q' g ∷ frame s q f ∷ fs) → stack (wrap (built_count t) kind.NON_NULL_TYPE u) ≡ (NON_NULL_TYPE, shows g) ∷ image (frame s q f ∷ fs)
 stack-wrap s q q' f g fs t u more ty a h st su =
-    ap stack (wrap_added kind.NON_NULL_TYPE t u more a h) ∙ ap₂ (λ (x : Forest) (b : Stack). (NON_NULL_TYPE, x) ∷ b) (added-type s q q' f g fs t u more ty a h st su) st
+    ap stack (wrap-added kind.NON_NULL_TYPE t u more a h) ∙ ap₂ (λ (x : Forest) (b : Stack). (NON_NULL_TYPE, x) ∷ b) (added-type s q q' f g fs t u more ty a h st su) st

@@ -18,13 +18,13 @@ use Rattle.grammar_machine.proofs.Patterns.{label}
 use Rattle.grammar_machine.proofs.FromMachineTree.{shows, show}
 use Rattle.grammar_machine.proofs.Sound.{any, second-any, spent, reach-sound, move-ends, move-has, move-fires}
 use Rattle.grammar_machine.proofs.Run.{next}
-use Rattle.grammar_machine.proofs.MachineTheorems.{Parse, fault, never_stuck, on-the-way, no-leaf as start-no-leaf, fault_left}
+use Rattle.grammar_machine.proofs.MachineTheorems.{Parse, fault, never-stuck, on-the-way, no-leaf as start-no-leaf, fault-left}
 use Rattle.grammar_machine.proofs.OneTokenLookahead.{Firm, firm-shift, firm-close}
 use Rattle.grammar_machine.proofs.Steps.{goes, sticks, goes-move, closes-move, sticks-move, misses-fires, misses}
 use Rattle.parser_rules.specs.State.{State, Lexeme, second, flush, opened, closed, moved, bump, is_deep, add_all, read_on}
 use Rattle.parser_rules.specs.Nodes.{Node, symbol, kind_of}
 use Rattle.parser_rules.specs.RuleLanguage.{Prim}
-use Rattle.parser_rules.proofs.runs.Frame.{Untouched, read_untouched}
+use Rattle.parser_rules.proofs.runs.Frame.{Untouched, read-untouched}
 use Rattle.parser_rules.proofs.soundness.WithoutIgnored.{Stack, stack, put, stack-leaf, stack-finish, stack-flush}
 use Rattle.parser_rules.proofs.reports.NoReport.{Now, choose, EndsWell, rest, answers_tokens, current_tokens, AtToken, standing, given, passed-one, Held, read-on}
 use Rattle.parser_rules.proofs.soundness.FirstReport.{Stuck, TooMany, no_token}
@@ -36,7 +36,7 @@ use Rattle.parser_rules.proofs.lookahead.FirstSets.{without, unread}
 use Rattle.parser_rules.proofs.soundness.MachineStack.{image, image-some, shows-snoc, put-image, image-node, show-node, lay, lay-put}
 use Rattle.parser_rules.proofs.soundness.Settled.{Fitting, settled-at}
 use Rattle.parser_rules.proofs.soundness.TableCheck.{Then, behind, raised, own, levels, leaf_of, loses, takes, ends_at, after, closing, losing, counted, limits_at, reports, is_node, ends_well, follows_table, no_brace, leaves_well, deepens}
-use Rattle.parser_rules.proofs.NodeChecks.{node_passes}
+use Rattle.parser_rules.proofs.NodeChecks.{node-passes}
 use Rattle.parser_rules.proofs.soundness.Positions.{Reading, Alike, opened-alike, closed-alike, idle-rest, idle-grows, top, Place, Stands, Lost, Known, StandsAt, Rightly, Still_calm, Tells, Fits, Way, Out, tell-on, known-firm, start_good, shown, Blamed, spent-behind, fitting, stands-taken, idle-lost, leveled-leaf, leveled-begin, leveled-end, still-leveled, moved-on}
 
 module _ (R : Reading) where
@@ -61,7 +61,7 @@ module _ (R : Reading) where
   root-stuck {s = s} {q = q} {f = f} {fs = fs} {st = st} c h m z =
       let alone : Reach (top R) w (frame s q f ∷ []) (rest st) = subst (λ (z : List Frame). Reach (top R) w (frame s q f ∷ z) (rest st)) (c.alone h) c.reach in
       let e : s ≡ (top R) = (reach-sound (start-no-leaf (top R) (start_good R)) alone).2 in
-      (fault_left (top R) (start_good R) w q f (rest st) (subst (λ (n : ℕ). Reach (top R) w (frame n q f ∷ []) (rest st)) e alone) (subst (λ (n : ℕ). next n q (rest st) ≡ close) e m) z, (frame s q f ∷ fs, c.reach))
+      (fault-left (top R) (start_good R) w q f (rest st) (subst (λ (n : ℕ). Reach (top R) w (frame n q f ∷ []) (rest st)) e alone) (subst (λ (n : ℕ). next n q (rest st) ≡ close) e m) z, (frame s q f ∷ fs, c.reach))
 
   pub note-right : (s : ℕ) (p : Spot) (x y : ℕ) (fs : List Frame) (st : State) → reports s p x y ≡ true → Fits R s p x y fs st → Blamed R (rest st)
   unfolding reports has fires
@@ -107,7 +107,7 @@ module _ (R : Reading) where
 
       on : (m : Move) → next s q v ≡ m → own s ≡ 0 → counted s (arcs s q) x any and not (ends s q) ≡ true → st.depth < nesting_all t
       on close m o i = false-true (not-c _ (and-r _ _ i)) (move-ends s q _ _ m)
-      on stuck m o i = absurd (never_stuck (top R) (start_good R) t u s q f fs v p r m)
+      on stuck m o i = absurd (never-stuck (top R) (start_good R) t u s q f fs v p r m)
       on (go k) m o i = elim (or-c _ _ (arcs-at (arcs s q) (λ k q'. misses k x any or (eqb (count_in s k) 1 and not (is_leaf k))) k (and-l _ _ i) (move-has s q _ _ k m))) [
         | inl z ↦ false-true (misses-fires (entries k) x any _ _ z hx (second-any v)) (move-fires s q _ _ k m)
         | inr z ↦ (
@@ -172,7 +172,7 @@ module _ (R : Reading) where
           let m : next s q (b ∷ answers_tokens st.items) ≡ go k = subst (λ (v : List Token). next s q v ≡ go k) split (goes-move s q x (behind y) k _ _ (and-l _ _ (and-r _ _ h)) n.near n.far) in
           let here : Reach (top R) w (frame s q f ∷ fs) (b ∷ answers_tokens st.items) = subst (λ (v : List Token). Reach (top R) w (frame s q f ∷ fs) v) split c.reach in
           let there : Reach (top R) w gs (answers_tokens st.items) = shift here m leaf_next in
-          let still : Untouched (u t) (read_on st.items (u t)) = read_untouched st.items (u t) in
+          let still : Untouched (u t) (read_on st.items (u t)) = read-untouched st.items (u t) in
           let leafed : stack (u t).tree ≡ shape (shows (f +++ (leaf k t.text ▸ none))) = stack-leaf kind t.text (add_all st.pending st.tree) (not-c _ (and-r _ _ kinds))
           ∙ (ap₂ (λ (j : ℕ) (v : Stack). put (leaf j t.text ▸ none) v) (sym (eqb-true _ _ (and-l _ _ kinds))) (flushed st calm ∙ built) ∙ (sh.joins (shows f) (leaf (label k) t.text ▸ none) ∙ ap shape (sym (shows-snoc f (leaf k t.text))))) in
           elim (read-on answers (Rightly R) (reading st.items (u t)) (length (spent gs)) (record { clean = calm.quiet.clean; accepts = calm.quiet.accepts; waits = refl }) en (passed-one answers (given t) st.items refl (subst (λ (o : Option Lexeme). Held answers o st.items) e calm.held))
@@ -228,7 +228,7 @@ module _ (R : Reading) where
   -- a node is none of a leaf, a type and the document, and its symbol's kind is its own
   pub node-is : (c : Node) → (is_leaf (symbol c) ≡ false) × (eqb (symbol c) TYPE ≡ false) × (eqb (symbol c) DOCUMENT ≡ false) × (label (symbol c) ≡ number (kind_of c))
   unfolding follows_table is_node
-  node-is c = let h = and-l _ _ (node_passes c).table in let r = and-r _ _ h in (not-c _ (and-l _ _ h), not-c _ (and-l _ _ r), not-c _ (and-l _ _ (and-r _ _ r)), eqb-true _ _ (and-r _ _ (and-r _ _ r)))
+  node-is c = let h = and-l _ _ (node-passes c).table in let r = and-r _ _ h in (not-c _ (and-l _ _ h), not-c _ (and-l _ _ r), not-c _ (and-l _ _ (and-r _ _ r)), eqb-true _ _ (and-r _ _ (and-r _ _ r)))
 
   pub begun-in : {s q x y : ℕ} {l : Level} {d : Sure} {fs : List Frame} {st : State} (c : Node) (g : Fits R s (spot q l d) x y fs st) → goes s q x (behind y) (symbol c) ≡ true → levels s l (symbol c) ≡ true → Fits R (symbol c) (spot 0 low loose) x y (frame s q g.stands.0.children ∷ fs) (opened (kind_of c) st)
   unfolding opened flush

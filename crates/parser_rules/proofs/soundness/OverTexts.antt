@@ -30,11 +30,11 @@ use Rattle.parser_rules.proofs.reports.NoReport.{Passed, all_tokens, answers_tok
 use Rattle.parser_rules.proofs.reports.Endings.{ends-well, limited-none}
 use Rattle.document_grammar.specs.Forests as built
 use Rattle.parser_rules.proofs.runs.Reading.{Reading, stops, cuts, bad_text as bad_item, waits, shows, looks}
-use Rattle.parser_rules.proofs.runs.Frame.{add_all_above, added-all}
+use Rattle.parser_rules.proofs.runs.Frame.{add_all-above, added-all}
 use Rattle.parser_rules.proofs.soundness.Settled.{EndedFit, ended-root, settled-added}
 use Rattle.parser_rules.proofs.soundness.Plain.{Plain}
 use Rattle.parser_rules.proofs.soundness.FirstReport.{Right, Viable, Behind, stuck_here, unread_here, deep_here, no_token}
-use Rattle.parser_rules.proofs.soundness.Soundness.{given, StartsPlain, parsed, accepted_plain, sound, item-words, answers-append, no-token-words, words-before, viable-begins, not-plain, not-within-one}
+use Rattle.parser_rules.proofs.soundness.Soundness.{given, StartsPlain, parsed, accepted-plain, sound, item-words, answers-append, no-token-words, words-before, viable-begins, not-plain, not-within-one}
 
 -- ---- all items are given
 
@@ -210,7 +210,7 @@ module _ (r k : ℕ) (source : List ℕ) (items : List Item) (s : State) (cut : 
       let count : length items ≤ k = subst (λ (l : List Item). length l ≤ k) (sym other) n.count in
       let all : all_tokens (limited k items) ≡ true = all-given k items count tokens in
       let spells : Spells (answers_tokens (limited k items)) t document = (h.derivation, h.yield ∙ (ap (λ (l : List Item). map token_of (Significant l)) same ∙ sym (given k items all).words)) in
-      accepted_plain r (limited k items) s t (ends-well k 0 items cut.each) root run spells p n.nesting all
+      accepted-plain r (limited k items) s t (ends-well k 0 items cut.each) root run spells p n.nesting all
 
   -- The tree that is built then is the derivation.
   pub accepts-tree : (t : Tree) → Sentence source t document → Within source t r k → Plain t → bare (tree_of (finished s)) ≡ t
@@ -263,7 +263,7 @@ module _ (r k : ℕ) (source : List ℕ) (items : List Item) (s : State) (cut : 
   first-told u e more h = elim (parsed r (limited k items) s (ends-well k 0 items cut.each) root run) [
     | inl o ↦ (
         let i = told u e o.taken (subst (λ (z : Report). Right document (limited k items) r (answers_tokens (limited k items)) z o.taken) (head-same (sym o.reported ∙ h)) o.right) in
-        (i.0, subst (λ (n : ℕ). EndedFit n 0 (finished s)) i.1 (ended-root o.taken (add_all s.pending s.tree) (record { before = built.none; kind = root.0 }) (add_all_above s.pending s.tree ∙ root.2) (settled-added o.taken (added-all s.pending s.tree) o.settled))))
+        (i.0, subst (λ (n : ℕ). EndedFit n 0 (finished s)) i.1 (ended-root o.taken (add_all s.pending s.tree) (record { before = built.none; kind = root.0 }) (add_all-above s.pending s.tree ∙ root.2) (settled-added o.taken (added-all s.pending s.tree) o.settled))))
     | inr o ↦ no-cons (sym o.0 ∙ h)
   ]
 

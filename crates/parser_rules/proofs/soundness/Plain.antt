@@ -69,13 +69,13 @@ blocked k = eqb (unread k) 0 or (not (is_leaf k) and (member (label k) unread_ki
 unfoldable blocked_arcs : ℕ → State → Bool
 blocked_arcs s v = all_arcs (state_arcs v) (λ k q. blocked k)
 
-blocked_rows : all_rows DOCUMENT rows blocked_arcs ≡ true
+blocked-rows : all_rows DOCUMENT rows blocked_arcs ≡ true
 unfolding ◌and◌ ◌or◌ is_leaf at ends arcs entries rows firsts goes label labels member unread blocked blocked_arcs
-blocked_rows = refl
+blocked-rows = refl
 
 blocked-at : (s q k a b : ℕ) → is_leaf s ≡ false → move s q a b ≡ go k → blocked k ≡ true
 unfolding blocked_arcs arcs has
-blocked-at s q k a b i m = arcs-at (arcs s q) (λ k q. blocked k) k (row-test blocked_arcs blocked_rows (λ k. refl) s q i) (move-has s q a b k m)
+blocked-at s q k a b i m = arcs-at (arcs s q) (λ k q. blocked k) k (row-test blocked_arcs blocked-rows (λ k. refl) s q i) (move-has s q a b k m)
 
 description-node : (is_leaf DESCRIPTION ≡ false) × (member (label DESCRIPTION) unread_kinds ≡ true)
 unfolding is_leaf label labels member

@@ -23,7 +23,7 @@ use Rattle.parser_rules.specs.State.{State, PendingToken, Lexeme, Report, fault_
 use Rattle.parser_rules.specs.RuleLanguage.{Prim, Rule}
 use Rattle.parser_rules.specs.Runs.{Runs}
 use Rattle.parser_rules.proofs.runs.Steps.{along}
-use Rattle.parser_rules.proofs.runs.Reporting.{note_is, too_deep_is}
+use Rattle.parser_rules.proofs.runs.Reporting.{note-is, too_deep-is}
 use Rattle.parser_rules.proofs.runs.Frame.{adds, added-all}
 use Rattle.parser_rules.proofs.runs.Marked.{reports-along, reports-same}
 use Rattle.parser_rules.proofs.soundness.WithoutIgnored.{all_ignored, stack}
@@ -231,13 +231,13 @@ module _ (R : Reading) where
   note-told m st c b k =
       let t = current st c in
       let right : Rightly (fault_report m t.0) k.count = elim (rw t.1 at b) [ inl a ↦ stuck_here m t.2 t.3 a (rw t.1 at k.behind) | inr a ↦ unread_here m t.2 t.3 a (rw t.1 at k.behind) ] in
-      subst Tells (sym (note_is m st t.0 t.1 c.quiet.accepts)) (told-first answers Rightly k.count (fault_report m t.0) st _ c.quiet refl right k.settled)
+      subst Tells (sym (note-is m st t.0 t.1 c.quiet.accepts)) (told-first answers Rightly k.count (fault_report m t.0) st _ c.quiet refl right k.settled)
 
   pub deep-told : (st : State) → Still_calm st → TooMany sort answers lim w (rest st) → Taken (rest st) st.tree → Tells (too_deep st)
   deep-told st c b k =
       let t = current st c in
       let right = deep_here t.2 t.3 (rw t.1 at b) (rw t.1 at k.behind) in
-      subst Tells (sym (too_deep_is st t.0 t.1 c.quiet.accepts)) (told-first answers Rightly k.count (recursion_limit_report t.0) st _ c.quiet refl right k.settled)
+      subst Tells (sym (too_deep-is st t.0 t.1 c.quiet.accepts)) (told-first answers Rightly k.count (recursion_limit_report t.0) st _ c.quiet refl right k.settled)
 
   -- ---- what is taken
 

@@ -30,7 +30,7 @@ use Rattle.parser_rules.proofs.lookahead.FirstSets.{first_of, second_of, inlined
 use Rattle.parser_rules.proofs.soundness.MachineStack.{image, image-some, image-plain, show-bang, stack-wrap}
 use Rattle.parser_rules.proofs.soundness.Settled.{fitting-image, fitting-path}
 use Rattle.parser_rules.proofs.soundness.TableCheck.{Mark, Then, same_level, same_sure, weak, same_spot, covered, turns, levels, is_high, lowered, takes, after, closing, losing, child_goes, child_sticks, child_at, limits_at, nests, typed, type_at, ok, ends_well, follows_table, bang_next, no_bang}
-use Rattle.parser_rules.proofs.NodeChecks.{node_passes}
+use Rattle.parser_rules.proofs.NodeChecks.{node-passes}
 use Rattle.parser_rules.proofs.soundness.Positions.{Reading, idle-rest, Alike, same-alike, flush-alike, opened-alike, closed-alike, wrapped-alike, renested, left-idle, idle-seen, idle-grows, run-grows, top, Stands, StandsAt, Fits, Way, Out, tell-on, fills, known-weak, start_good, idle-calm, shown, note-told, deep-told, taken-at, idle-lost, leveled-enter, leveled-leave, still-leveled, moved-on}
 use Rattle.parser_rules.proofs.soundness.Moves.{fits-next, lost-at, note-right, goes-deeper, too-many, flushed, Shaped, token-taken, bump-out, begun, begun-in, ended, ended-here, tell-closed, with-sets, node-out, walked-out, lost-out}
 
@@ -129,7 +129,7 @@ module _ (R : Reading) where
       let b : Fits R j (spot 0 low loose) x y gs t = rw e (begun-in R c g (and-l _ _ (and-l _ _ h)) agree) in
       (elim (inlined c) as (λ i. cond i (ok n j (spot 0 low loose) x y (inside c) (closing j p k)) ((subset x (first_of c) and subset y (second_of c)) and after p c k) ≡ true → Out R s fs k (closed u)) [
         | true ↦ λ m. walked-out R c k u g.stands.0 agree (walked (inside c) walk n j gs (closing j p k) (spot 0 low loose, x, y, m, b))
-        | false ↦ λ m. node-out R c k u g.stands.0 agree (and-r _ _ m) (walked (inside c) walk 5 j gs (ends_well c) (spot 0 low loose, first_of c, second_of c, and-r _ _ (node_passes c).table, with-sets R b (seen-more x y _ _ t (and-l _ _ m) b.seen)))
+        | false ↦ λ m. node-out R c k u g.stands.0 agree (and-r _ _ m) (walked (inside c) walk 5 j gs (ends_well c) (spot 0 low loose, first_of c, second_of c, and-r _ _ (node-passes c).table, with-sets R b (seen-more x y _ _ t (and-l _ _ m) b.seen)))
       ]) (and-r _ _ h)
 
   sticks-in : (n s x y : ℕ) (c : Node) (fs : List Frame) (k : Then) (st t u : State) → t ≡ opened (kind_of c) st → Walks (inside c) t u → ok n s lost x y (inside c) (losing k) ≡ true → Fits R s lost x y fs st → Out R s fs k (closed u)

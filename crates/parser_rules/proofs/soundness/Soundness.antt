@@ -1,6 +1,6 @@
 -- A run of the document's rule over a text: its first report is right; or it reports nothing, and the text is a sentence within both
 -- limits, whose derivation is the tree without its ignored leaves.
-use Rattle.parser_rules.proofs.runs.Steps.{along, turns_along}
+use Rattle.parser_rules.proofs.runs.Steps.{along, turns-along}
 use Rattle.parser_rules.proofs.lookahead.FirstSets.{unread as unread_set}
 use Rattle.std.proofs.Common.{◌≡◌, ℕ, zero, suc, ◌≤◌, Bool, cond, true, false, List, [], ◌∷◌, ◌++◌, Option, Some, None, if◌then◌else◌, length, refl, sym, ap, ap₂, ◌∙◌, subst, ◌⊎◌, inl, inr, true≢false, is_some, eqb-true, append-nil, append_assoc, arith, not}
 use Rattle.std.specs.Prelude.{map}
@@ -40,7 +40,7 @@ use Rattle.parser_rules.specs.Nodes.{Definition, Document}
 use Rattle.parser_rules.specs.RuleLanguage.{Rule, Call, While, Ready, holds}
 use Rattle.parser_rules.specs.Runs.{Runs, Turns}
 use Rattle.parser_rules.specs.Open.{IsRoot}
-use Rattle.parser_rules.proofs.runs.Frame.{Untouched, read_untouched, add_all_above, turned, begun_nesting}
+use Rattle.parser_rules.proofs.runs.Frame.{Untouched, read-untouched, add_all-above, turned, begun-nesting}
 use Rattle.parser_rules.proofs.soundness.WithoutIgnored.{stack, strip, layers, stack-flush}
 use Rattle.parser_rules.proofs.reports.NoReport.{Stood, reading-stood, stands-along, answers_tokens, all_tokens, rest, current_tokens, item_tokens, EndsWell, Now, standing, given as given_by, Held, all_tokens-append, Blames, read-on}
 use Rattle.parser_rules.proofs.runs.Reading.{reading}
@@ -115,7 +115,7 @@ start-fits r xs e =
     let b : State = begun xs r kind.DOCUMENT in
     elim (read-on xs (Rightly (whole r xs)) (reading xs s) 0 (record { clean = refl; accepts = refl; waits = refl }) e (record { front = []; split = refl; tokens = refl }) blame (omega arith, tt, (tt, tt))) [
       | inl o ↦ inl o
-      | inr o ↦ inr (record { calm = o.0; seen = seen-any b (shown (whole r xs) b o.0); stands = root-stands r s.asked xs xs b (read_untouched xs s) o.1 })
+      | inr o ↦ inr (record { calm = o.0; seen = seen-any b (shown (whole r xs) b o.0); stands = root-stands r s.asked xs xs b (read-untouched xs s) o.1 })
     ]
   where
     blame : Blames xs (Rightly (whole r xs)) 0 (answers_tokens xs)
@@ -127,7 +127,7 @@ finished-tree : (s : State) (layer : ℕ × Forest) (more : List (ℕ × Forest)
 finished-tree s layer more root e =
     let b : Building = add_all s.pending s.tree in
     let o : Open = record { before = built.none; kind = root.0 } in
-    let a : b.above ≡ o ∷ [] = add_all_above s.pending s.tree ∙ root.2 in
+    let a : b.above ≡ o ∷ [] = add_all-above s.pending s.tree ∙ root.2 in
     let same : (number root.0, strip b.here) ≡ layer = head-same (sym (ap (layers b.here) a) ∙ e) in
     ap (λ (above : List Open). bare (tree_of (close b.here above).here)) a ∙ ap (λ (l : ℕ × Forest). node l.0 l.1) same
 
@@ -308,10 +308,10 @@ unfolding holds
 turn-of r xs first_rule b st en run turns rd ac = at st.current refl stood rd
   where
     stood : Stood st.current st.items
-    stood = turns_along stands-along turns (along stands-along run (reading-stood (reading xs (fresh xs r kind.DOCUMENT)) en))
+    stood = turns-along stands-along turns (along stands-along run (reading-stood (reading xs (fresh xs r kind.DOCUMENT)) en))
 
     depth : st.depth ≡ 0
-    depth = (turned turns).depth ∙ (begun_nesting xs r kind.DOCUMENT run).0
+    depth = (turned turns).depth ∙ (begun-nesting xs r kind.DOCUMENT run).0
 
     at : (o : Option Lexeme) → st.current ≡ o → Stood o st.items → true ≡ not (is_over o) → Turn st
     at None e h g = absurd (true≢false g)
@@ -337,8 +337,8 @@ none-right r xs e m t h p n a (deep_here {t = lexeme} {items = items} now q k c)
 none-right r xs e m t h p n a (no_token {x = x} {items = items} q other_one v c) = false-true other_one (token-of-all q.front items x (subst (λ (z : List Answer). all_tokens z ≡ true) q.split a))
 
 -- Acceptance: a sentence within the limits, without what no rule reads yet, gets no report.
-pub accepted_plain : (r : ℕ) (xs : List Answer) (s : State) (t : Tree) → EndsWell xs → IsRoot s.tree → Runs (Call Document) (begun xs r kind.DOCUMENT) s → Spells (answers_tokens xs) t document → Plain t → nest t ≤ r → all_tokens xs ≡ true → s.errors ≡ []
-accepted_plain r xs s t en root run h p n a = elim (parsed r xs s en root run) [ inl o ↦ absurd (none-right r xs o.report o.taken t h p n a o.right) | inr o ↦ o.0 ]
+pub accepted-plain : (r : ℕ) (xs : List Answer) (s : State) (t : Tree) → EndsWell xs → IsRoot s.tree → Runs (Call Document) (begun xs r kind.DOCUMENT) s → Spells (answers_tokens xs) t document → Plain t → nest t ≤ r → all_tokens xs ≡ true → s.errors ≡ []
+accepted-plain r xs s t en root run h p n a = elim (parsed r xs s en root run) [ inl o ↦ absurd (none-right r xs o.report o.taken t h p n a o.right) | inr o ↦ o.0 ]
 
 -- The text is a sentence within both limits.
 pub record IsClean (source : List ℕ) (t : Tree) (r k : ℕ) : Type 0 where

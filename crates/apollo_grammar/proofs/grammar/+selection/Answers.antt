@@ -3,15 +3,15 @@ use Rattle.lexical_grammar.specs.declared.TokenKind.TheVariants as token
 use Rattle.document_grammar.specs.declared.kind.SyntaxKind.TheVariants as kind
 use Rattle.parser_rules.specs.RuleLanguage.{Kind}
 use Rattle.parser_rules.specs.Rules.{selection_start}
-use Rattle.apollo_grammar.proofs.Looks.{other_at}
+use Rattle.apollo_grammar.proofs.Looks.{other-at}
 use Rattle.parser_rules.proofs.runs.Frame.{fewer, turned}
-use Rattle.parser_rules.proofs.runs.Progress.{consuming, here_there, taken, opened_takes, entered_left}
+use Rattle.parser_rules.proofs.runs.Progress.{consuming, here-there, taken, opened-takes, entered-left}
 use Rattle.apollo_grammar.proofs.grammar.+selection.Goals as goal
 
 pub field::field-selection_set-requires : goal.field::field-selection_set-requires
 unfolding consuming
 field::field-selection_set-requires g t c =
-    let h = opened_takes kind.FIELD _ c.in_ok-start_node.ensures c.in_ok-aliased_name.ensures (here_there (Kind token.Name) _ c.requires) refl in
+    let h = opened-takes kind.FIELD _ c.in_ok-start_node.ensures c.in_ok-aliased_name.ensures (here-there (Kind token.Name) _ c.requires) refl in
     let k = fewer c.in_ok-arguments.ensures in
     let l = fewer c.in_ok-directives.ensures in
     λ κs w. (omega (arith, h, k, l, c.decreases), (w, c.if-at.ensures))
@@ -19,7 +19,7 @@ field::field-selection_set-requires g t c =
 pub fragment::inline_fragment-selection_set-requires : goal.fragment::inline_fragment-selection_set-requires
 unfolding consuming
 fragment::inline_fragment-selection_set-requires g t c =
-    let h = opened_takes kind.INLINE_FRAGMENT _ c.in_ok-start_node.ensures c.in_ok-bump.ensures (here_there (Kind token.Spread) _ c.requires) refl in
+    let h = opened-takes kind.INLINE_FRAGMENT _ c.in_ok-start_node.ensures c.in_ok-bump.ensures (here-there (Kind token.Spread) _ c.requires) refl in
     let k = fewer c.in_ok-maybe_type_condition.ensures in
     let l = fewer c.in_ok-directives.ensures in
     λ κs w. (omega (arith, h, k, l, c.decreases), (w, c.if-at.ensures))
@@ -27,8 +27,8 @@ fragment::inline_fragment-selection_set-requires g t c =
 pub selection::selection_set-selections-requires : goal.selection::selection_set-selections-requires
 unfolding consuming
 selection::selection_set-selections-requires g t c =
-    let h = opened_takes kind.SELECTION_SET _ c.in_ok-start_node.ensures c.in_ok-bump.ensures (here_there (Kind token.LCurly) _ c.requires) refl in
-    let k = entered_left _ c.enter.ensures in
+    let h = opened-takes kind.SELECTION_SET _ c.in_ok-start_node.ensures c.in_ok-bump.ensures (here-there (Kind token.LCurly) _ c.requires) refl in
+    let k = entered-left _ c.enter.ensures in
     λ κs w. (omega (arith, h, k, c.decreases), w)
 
 pub selection::selections-selection-requires : goal.selection::selections-selection-requires
@@ -39,7 +39,7 @@ selection::selections-selection-requires g t c =
 
 pub selection::selections-loop-p-smaller : goal.selection::selections-loop-p-smaller
 unfolding consuming
-selection::selections-loop-p-smaller g t c = taken c.in_ok-selection.ensures (here_there selection_start _ c.loop-p-test.ensures) refl
+selection::selections-loop-p-smaller g t c = taken c.in_ok-selection.ensures (here-there selection_start _ c.loop-p-test.ensures) refl
 
 pub selection::selection-spread-requires : goal.selection::selection-spread-requires
-selection::selection-spread-requires g t c = λ κs w. (omega (arith, c.decreases), (w, other_at token.Name token.Spread _ c.requires c.if-at.ensures))
+selection::selection-spread-requires g t c = λ κs w. (omega (arith, c.decreases), (w, other-at token.Name token.Spread _ c.requires c.if-at.ensures))

@@ -2,40 +2,40 @@ use Rattle.std.proofs.Common.{◌∙◌, ◌+◌, ◌==◌, if◌then◌else◌,
 use Rattle.lexical_grammar.specs.declared.TokenKind.TheVariants as token
 use Rattle.lexical_grammar.specs.Reads.{blank_len, blanks_len, punctuator, number_at, string_at}
 use Rattle.apollo_lexer.specs.declared.bytes.Start.TheVariants.{Name, Number, Quote, NumberSign, Dot, Blank, Other}
-use Rattle.apollo_lexer.proofs.Starts.{token_by_start}
+use Rattle.apollo_lexer.proofs.Starts.{token-by-start}
 use Rattle.apollo_lexer.proofs.scan.token_at.Goals as goal
 
 pub returns-in-Name : goal.returns-in-Name
 returns-in-Name c =
     let is = c.in_ok-first.ensures.cases.0 in
-    ap (λ n. Some (token.Name, 1 + n)) c.name_len.ensures.value ∙ token_by_start Name c.in_ok-first.first.now c.in_ok-first.others.now c.args.bytes.now is (sym c.in-Name.is ∙ c.start_of.ensures)
+    ap (λ n. Some (token.Name, 1 + n)) c.name_len.ensures.value ∙ token-by-start Name c.in_ok-first.first.now c.in_ok-first.others.now c.args.bytes.now is (sym c.in-Name.is ∙ c.start_of.ensures)
 
 pub returns-in-Number : goal.returns-in-Number
 returns-in-Number c =
     let is = c.in_ok-first.ensures.cases.0 in
-    (c.number_at.ensures ∙ ap number_at is) ∙ token_by_start Number c.in_ok-first.first.now c.in_ok-first.others.now c.args.bytes.now is (sym c.in-Number.is ∙ c.start_of.ensures)
+    (c.number_at.ensures ∙ ap number_at is) ∙ token-by-start Number c.in_ok-first.first.now c.in_ok-first.others.now c.args.bytes.now is (sym c.in-Number.is ∙ c.start_of.ensures)
 
 pub returns-in-Quote : goal.returns-in-Quote
 returns-in-Quote c =
     let is = c.in_ok-first.ensures.cases.0 in
-    (c.string_at.ensures ∙ ap string_at is) ∙ token_by_start Quote c.in_ok-first.first.now c.in_ok-first.others.now c.args.bytes.now is (sym c.in-Quote.is ∙ c.start_of.ensures)
+    (c.string_at.ensures ∙ ap string_at is) ∙ token-by-start Quote c.in_ok-first.first.now c.in_ok-first.others.now c.args.bytes.now is (sym c.in-Quote.is ∙ c.start_of.ensures)
 
 pub returns-in-NumberSign : goal.returns-in-NumberSign
 returns-in-NumberSign c =
     let is = c.in_ok-first.ensures.cases.0 in
-    ap (λ n. Some (token.Comment, 1 + n)) c.comment_len.ensures.value ∙ token_by_start NumberSign c.in_ok-first.first.now c.in_ok-first.others.now c.args.bytes.now is (sym c.in-NumberSign.is ∙ c.start_of.ensures)
+    ap (λ n. Some (token.Comment, 1 + n)) c.comment_len.ensures.value ∙ token-by-start NumberSign c.in_ok-first.first.now c.in_ok-first.others.now c.args.bytes.now is (sym c.in-NumberSign.is ∙ c.start_of.ensures)
 
 pub returns-in-Dot : goal.returns-in-Dot
 returns-in-Dot c =
     let is = c.in_ok-first.ensures.cases.0 in
-    c.spread_at.ensures ∙ token_by_start Dot c.in_ok-first.first.now c.in_ok-first.others.now c.args.bytes.now is (sym c.in-Dot.is ∙ c.start_of.ensures)
+    c.spread_at.ensures ∙ token-by-start Dot c.in_ok-first.first.now c.in_ok-first.others.now c.args.bytes.now is (sym c.in-Dot.is ∙ c.start_of.ensures)
 
 pub returns-in-Blank : goal.returns-in-Blank
 returns-in-Blank c =
     let is = c.in_ok-first.ensures.cases.0 in
-    ap (λ n. Some (token.Whitespace, n)) (c.blanks_len.ensures ∙ ap (blanks_len 0) is) ∙ token_by_start Blank c.in_ok-first.first.now c.in_ok-first.others.now c.args.bytes.now is (sym c.in-Blank.is ∙ c.start_of.ensures)
+    ap (λ n. Some (token.Whitespace, n)) (c.blanks_len.ensures ∙ ap (blanks_len 0) is) ∙ token-by-start Blank c.in_ok-first.first.now c.in_ok-first.others.now c.args.bytes.now is (sym c.in-Blank.is ∙ c.start_of.ensures)
 
 pub returns-in-Other : goal.returns-in-Other
 returns-in-Other c =
     let is = c.in_ok-first.ensures.cases.0 in
-    (c.other_at.ensures ∙ ap (λ bytes. if blank_len bytes == 0 then option_map (λ kind. (kind, 1)) (punctuator c.in_ok-first.first.now) else Some (token.Whitespace, blanks_len 0 bytes)) is) ∙ token_by_start Other c.in_ok-first.first.now c.in_ok-first.others.now c.args.bytes.now is (sym c.in-Other.is ∙ c.start_of.ensures)
+    (c.other_at.ensures ∙ ap (λ bytes. if blank_len bytes == 0 then option_map (λ kind. (kind, 1)) (punctuator c.in_ok-first.first.now) else Some (token.Whitespace, blanks_len 0 bytes)) is) ∙ token-by-start Other c.in_ok-first.first.now c.in_ok-first.others.now c.args.bytes.now is (sym c.in-Other.is ∙ c.start_of.ensures)

@@ -1,5 +1,5 @@
 use Rattle.std.proofs.lemmas.Result.{IfOk-weaker}
-use Rattle.apollo_grammar.proofs.Parses.{lossless, one_document, one_leaf, recursion, nested, tokens, errors, ascii_messages, limit_met, past_limit, limit_words, ordered, sound_tree}
+use Rattle.apollo_grammar.proofs.Parses.{lossless, one-document, one-leaf, recursion, nested, tokens, errors, ascii_messages, limit-met, past-limit, limit-words, ordered, sound-tree}
 use Rattle.apollo_grammar.proofs.parser.Parser.parse.Goals as goal
 
 pub returns-clause-cut : goal.returns-clause-cut
@@ -9,10 +9,10 @@ pub returns-clause-lossless : goal.returns-clause-lossless
 returns-clause-lossless g c = IfOk-weaker c.run_document.result _ _ (λ t p. lossless p) c.run_document.ensures
 
 pub returns-clause-one_document : goal.returns-clause-one_document
-returns-clause-one_document g c = IfOk-weaker c.run_document.result _ _ (λ t p. one_document p) c.run_document.ensures
+returns-clause-one_document g c = IfOk-weaker c.run_document.result _ _ (λ t p. one-document p) c.run_document.ensures
 
 pub returns-clause-one_leaf : goal.returns-clause-one_leaf
-returns-clause-one_leaf g c = IfOk-weaker c.run_document.result _ _ (λ t p. one_leaf p) c.run_document.ensures
+returns-clause-one_leaf g c = IfOk-weaker c.run_document.result _ _ (λ t p. one-leaf p) c.run_document.ensures
 
 pub returns-clause-recursion : goal.returns-clause-recursion
 returns-clause-recursion g c = IfOk-weaker c.run_document.result _ _ (λ t p. recursion p) c.run_document.ensures
@@ -30,16 +30,16 @@ pub returns-clause-ascii : goal.returns-clause-ascii
 returns-clause-ascii g c = IfOk-weaker c.run_document.result _ _ (λ t p. ascii_messages p) c.run_document.ensures
 
 pub returns-clause-limit_met : goal.returns-clause-limit_met
-returns-clause-limit_met g c = IfOk-weaker c.run_document.result _ _ (λ t p. limit_met p) c.run_document.ensures
+returns-clause-limit_met g c = IfOk-weaker c.run_document.result _ _ (λ t p. limit-met p) c.run_document.ensures
 
 pub returns-clause-past_limit : goal.returns-clause-past_limit
-returns-clause-past_limit g c = IfOk-weaker c.run_document.result _ _ (λ t p. past_limit p) c.run_document.ensures
+returns-clause-past_limit g c = IfOk-weaker c.run_document.result _ _ (λ t p. past-limit p) c.run_document.ensures
 
 pub returns-clause-limit_messages : goal.returns-clause-limit_messages
-returns-clause-limit_messages g c = IfOk-weaker c.run_document.result _ _ (λ t p. limit_words p) c.run_document.ensures
+returns-clause-limit_messages g c = IfOk-weaker c.run_document.result _ _ (λ t p. limit-words p) c.run_document.ensures
 
 pub returns-clause-in_order : goal.returns-clause-in_order
 returns-clause-in_order g c = IfOk-weaker c.run_document.result _ _ (λ t p. ordered p) c.run_document.ensures
 
 pub returns-clause-sound : goal.returns-clause-sound
-returns-clause-sound g c = IfOk-weaker c.run_document.result _ _ (λ t p. sound_tree p) c.run_document.ensures
+returns-clause-sound g c = IfOk-weaker c.run_document.result _ _ (λ t p. sound-tree p) c.run_document.ensures

@@ -6,10 +6,10 @@ use Rattle.parser_rules.specs.State.{begun}
 use Rattle.parser_rules.specs.Nodes.{Document}
 use Rattle.parser_rules.specs.RuleLanguage.{Call}
 use Rattle.parser_rules.specs.Runs.{Runs}
-use Rattle.parser_rules.proofs.runs.Frame.{root_kept, root_stays}
+use Rattle.parser_rules.proofs.runs.Frame.{root-kept, root-stays}
 use Rattle.apollo_grammar.specs.Roots.{root_kind}
-use Rattle.apollo_grammar.proofs.Building.{finished_node}
-use Rattle.apollo_grammar.proofs.Parses.{run_read, run_begins}
+use Rattle.apollo_grammar.proofs.Building.{finished-node}
+use Rattle.apollo_grammar.proofs.Parses.{run-read, run-begins}
 use Rattle.apollo_grammar.proofs.parser.Parser.run_document.Goals as goal
 
 pub finish-requires : goal.finish-requires
@@ -19,9 +19,9 @@ finish-requires g c =
     let run = subst (λ s. Runs (Call Document) s c.document.new.p) c.in_ok-p.ensures c.in_ok-document.ensures in
     let ran = subst (λ answers. Runs (Call Document) (begun answers r kind.DOCUMENT) c.document.new.p) c.lexer.ensures.answers run in
     record {
-      source = run_begins c.args.self.token_limit r c.args.self.source.now c.document.new.p c.lexer.ensures.cut ran;
-      open_root = root_kept xs r kind.DOCUMENT refl run;
-      kind = ap (λ f. is_kind kind.DOCUMENT (root_kind f)) (finished_node c.document.new.p kind.DOCUMENT (root_stays xs r kind.DOCUMENT run));
+      source = run-begins c.args.self.token_limit r c.args.self.source.now c.document.new.p c.lexer.ensures.cut ran;
+      open_root = root-kept xs r kind.DOCUMENT refl run;
+      kind = ap (λ f. is_kind kind.DOCUMENT (root_kind f)) (finished-node c.document.new.p kind.DOCUMENT (root-stays xs r kind.DOCUMENT run));
     }
 
 pub returns : goal.returns
@@ -40,5 +40,5 @@ returns g c =
       counted = c.in_ok-tree.ensures.counted;
       errors = c.in_ok-tree.ensures.errors;
       recursion_limit = c.in_ok-tree.ensures.recursion_limit;
-      token_limit = c.in_ok-tree.ensures.token_limit (run_read k r source s c.lexer.ensures.cut run);
+      token_limit = c.in_ok-tree.ensures.token_limit (run-read k r source s c.lexer.ensures.cut run);
     }

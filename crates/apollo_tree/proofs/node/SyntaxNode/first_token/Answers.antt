@@ -7,14 +7,14 @@ use Rattle.apollo_tree.specs.Children.{is_node_place}
 use Rattle.apollo_tree.specs.Below.{places_from, is_leaf_place}
 use Rattle.apollo_tree.specs.References.{node_place}
 use Rattle.apollo_tree.proofs.Parts.{spot}
-use Rattle.apollo_tree.proofs.Finds.{find_pass_one}
-use Rattle.apollo_tree.proofs.Spans.{children_span}
+use Rattle.apollo_tree.proofs.Finds.{find-pass-one}
+use Rattle.apollo_tree.proofs.Spans.{children-span}
 use Rattle.apollo_tree.proofs.node.SyntaxNode.first_token.Goals as goal
 
 pub overflow_add-end : goal.overflow_add-end
 overflow_add-end c =
     let now = c.args.self.now in
-    let span = children_span _ _ now.table.is_table now.index now.inside c.record.result.size (ap (λ r. r.size) c.record.ensures.value) in
+    let span = children-span _ _ now.table.is_table now.index now.inside c.record.result.size (ap (λ r. r.size) c.record.ensures.value) in
     omega (arith, span.inside, c.record.ensures.len)
 
 pub loop-index-init : goal.loop-index-init
@@ -22,7 +22,7 @@ loop-index-init c =
     let now = c.args.self.now in
     let whole = (node_place now).whole in
     let size = c.record.result.size in
-    let span = children_span _ _ now.table.is_table now.index now.inside size (ap (λ r. r.size) c.record.ensures.value) in
+    let span = children-span _ _ now.table.is_table now.index now.inside size (ap (λ r. r.size) c.record.ensures.value) in
     let first : now.index + 1 ≡ suc now.index = omega arith in
     let number : (now.index + size) - (now.index + 1) ≡ count (tree_kids (tree_at (node_place now))) = omega (arith, c.record.ensures.size) in
     record {
@@ -39,5 +39,5 @@ loop-index-preserved c =
     let node : not (is_node_place (spot whole c.loop-index.index)) ≡ false = ap not (sym c.record-in-loop-index.ensures.node) ∙ c.if-not-record.false in
     record {
       inside = c.loop-index.invariant.inside;
-      rest = sym (find_pass_one is_leaf_place whole c.loop-index.index (now.index + c.record.result.size) c.loop-index-test.true node) ∙ c.loop-index.invariant.rest;
+      rest = sym (find-pass-one is_leaf_place whole c.loop-index.index (now.index + c.record.result.size) c.loop-index-test.true node) ∙ c.loop-index.invariant.rest;
     }

@@ -5,7 +5,7 @@ use Rattle.std.specs.Str.{IsUtf8}
 use Rattle.document_grammar.specs.Builds.{open_text, built_text}
 use Rattle.document_grammar.specs.Forests.{text}
 use Rattle.apollo_tree.proofs.Steps.{holds}
-use Rattle.apollo_tree.proofs.Places.{sound_text}
+use Rattle.apollo_tree.proofs.Places.{sound-text}
 use Rattle.apollo_tree.proofs.span_builder.SpanBuilder.finish.Goals as goal
 
 pub range-requires-clause-end_boundary : goal.range-requires-clause-end_boundary
@@ -16,4 +16,4 @@ range-requires-clause-end_boundary g c =
     let here : built_text c.args.self ≡ text c.args.self.here = ap (λ above. open_text above ++ text c.args.self.here) c.requires.complete.closed in
     IsCharBoundary-from_take c.args.source.now c.self.inside.len c.utf8.source
     (omega (arith, ap length b, length-take c.self.inside.len c.args.source.now))
-    (subst IsUtf8 (sym (b ∙ here)) (sound_text c.args.self.here h.here))
+    (subst IsUtf8 (sym (b ∙ here)) (sound-text c.args.self.here h.here))

@@ -3,7 +3,7 @@ use Rattle.document_grammar.specs.Forests.{Forest}
 use Rattle.document_grammar.specs.Builds.{Open, close, built_count}
 use Rattle.document_grammar.proofs.Built.{count-close}
 use Rattle.apollo_tree.specs.Sound.{FitsInnermost}
-use Rattle.apollo_tree.proofs.Steps.{count_is, holds, kept, built_is, moved, innermost, length-open_places, finish_here, finish_above, can_finish_open}
+use Rattle.apollo_tree.proofs.Steps.{count-is, holds, kept, built-is, moved, innermost, length-open_places, finish-here, finish-above, can-finish-open}
 use Rattle.apollo_tree.specs.Brackets.{written}
 use Rattle.apollo_tree.proofs.Written.{written-finish}
 use Rattle.apollo_tree.proofs.span_builder.SpanBuilder.finish_node.Goals as goal
@@ -11,7 +11,7 @@ use Rattle.apollo_tree.proofs.span_builder.SpanBuilder.finish_node.Goals as goal
 pub unwrap-place-requires : goal.unwrap-place-requires
 unwrap-place-requires g c =
     let h = (holds c.self.view_is c.self.invariant.0).parts in
-    c.pop.ensures.variant.1 (omega (arith, ap length h.places, can_finish_open c.args.self.now c.requires, length-open_places c.args.self.now.above, c.self.inside.unfinished.ok.0))
+    c.pop.ensures.variant.1 (omega (arith, ap length h.places, can-finish-open c.args.self.now c.requires, length-open_places c.args.self.now.above, c.self.inside.unfinished.ok.0))
 
 pub overflow_sub-size : goal.overflow_sub-size
 overflow_sub-size g c =
@@ -32,12 +32,12 @@ pub invariant_of-self : goal.invariant_of-self
 invariant_of-self g c =
     let held = holds c.self.view_is c.self.invariant.0 in
     let i = innermost held c.pop.ensures.items c.unwrap-place.ensures in
-    (kept (moved (i.done (c.len.result - c.unwrap-place.result) (omega (arith, i.inside))) c.set_size.ensures refl refl) (finish_here _ held.here held.above c.requires) (finish_above _ held.above), c.self.invariant.1)
+    (kept (moved (i.done (c.len.result - c.unwrap-place.result) (omega (arith, i.inside))) c.set_size.ensures refl refl) (finish-here _ held.here held.above c.requires) (finish-above _ held.above), c.self.invariant.1)
 
 pub returns-clause-after : goal.returns-clause-after
 returns-clause-after g c =
     let i = innermost (holds c.self.view_is c.self.invariant.0) c.pop.ensures.items c.unwrap-place.ensures in
-    built_is (moved (i.done (c.len.result - c.unwrap-place.result) (omega (arith, i.inside))) c.set_size.ensures refl refl)
+    built-is (moved (i.done (c.len.result - c.unwrap-place.result) (omega (arith, i.inside))) c.set_size.ensures refl refl)
 
 pub returns-clause-calls : goal.returns-clause-calls
 returns-clause-calls g c = ap written (returns-clause-after g c) ∙ written-finish c.args.self.now c.requires
@@ -48,6 +48,6 @@ finished_count here (o ∷ above) h = count-close here o above
 
 pub returns-clause-counted : goal.returns-clause-counted
 returns-clause-counted g c =
-    let n : c.len.result ≡ built_count c.args.self.now = c.len.ensures ∙ count_is (holds c.self.view_is c.self.invariant.0).parts in
+    let n : c.len.result ≡ built_count c.args.self.now = c.len.ensures ∙ count-is (holds c.self.view_is c.self.invariant.0).parts in
     let e = ap built_count (returns-clause-after g c) ∙ finished_count c.args.self.now.here c.args.self.now.above c.requires in
     omega (arith, e, n, c.len.type_inv)

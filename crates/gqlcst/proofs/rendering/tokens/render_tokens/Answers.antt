@@ -1,18 +1,18 @@
 use Rattle.std.proofs.Common.{◌+◌, arith, refl, ap, ◌∙◌}
 use Rattle.apollo_parser.specs.LexerAnswers.{answers_left}
 use Rattle.gqlcst.specs.Parsing.{outcome_of}
-use Rattle.gqlcst.proofs.Items.{printed_none, printed_next, error_counts, error_form, all_printed}
+use Rattle.gqlcst.proofs.Items.{printed-none, printed-next, error-counts, error-form, all-printed}
 use Rattle.gqlcst.proofs.rendering.tokens.render_tokens.Goals as goal
 
 pub loop-item-init : goal.loop-item-init
-loop-item-init g c = rw c.new-text.ensures.bytes (printed_none (answers_left c.into_iter-item-iterator.result))
+loop-item-init g c = rw c.new-text.ensures.bytes (printed-none (answers_left c.into_iter-item-iterator.result))
 
 -- a token is printed
 pub loop-item-preserved-in_ok-push_line-in-Ok : goal.loop-item-preserved-in_ok-push_line-in-Ok
 loop-item-preserved-in_ok-push_line-in-Ok g c =
     let comes = rw c.in-Ok.is at c.in-Some.ensures.steps.answers in
     let pushed = c.in_ok-push_line-in-Ok.ensures in
-    printed_next _ _ _ _ _ pushed.0 _ c.loop-item.errors 0 c.loop-item.errors c.loop-item.invariant comes pushed.1 pushed.2 refl (omega arith) (omega arith)
+    printed-next _ _ _ _ _ pushed.0 _ c.loop-item.errors 0 c.loop-item.errors c.loop-item.invariant comes pushed.1 pushed.2 refl (omega arith) (omega arith)
 
 -- an error is counted: each line has a byte
 pub overflow_add-errors : goal.overflow_add-errors
@@ -25,11 +25,11 @@ loop-item-preserved g c =
     let made = c.in_ok-to_error-in-Err.ensures in
     let comes = rw c.in-Err.is at c.in-Some.ensures.steps.answers in
     let pushed = c.in_ok-push_line-in-Err.ensures in
-    printed_next _ _ _ _ _ pushed.0 _ c.loop-item.errors 1 (c.loop-item.errors + 1) c.loop-item.invariant comes
-    (error_form e.is_limit e.text.now pushed.0 e.index c.in_ok-to_error-in-Err.field-0 made.subject made.index made.message pushed.1) pushed.2 (error_counts e.is_limit e.text.now e.index) (omega arith) refl
+    printed-next _ _ _ _ _ pushed.0 _ c.loop-item.errors 1 (c.loop-item.errors + 1) c.loop-item.invariant comes
+    (error-form e.is_limit e.text.now pushed.0 e.index c.in_ok-to_error-in-Err.field-0 made.subject made.index made.message pushed.1) pushed.2 (error-counts e.is_limit e.text.now e.index) (omega arith) refl
 
 -- nothing is left
 pub returns : goal.returns
 returns g c =
-    let all = all_printed _ _ _ _ _ (ap answers_left c.into_iter-item-iterator.ensures.into_iter_gives) c.in-None.ensures.steps.answers.0 c.loop-item.invariant in
+    let all = all-printed _ _ _ _ _ (ap answers_left c.into_iter-item-iterator.ensures.into_iter_gives) c.in-None.ensures.steps.answers.0 c.loop-item.invariant in
     record { lines = all.0; outcome = c.outcome_of.ensures ∙ ap outcome_of all.1 }
