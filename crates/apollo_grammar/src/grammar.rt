@@ -1,12 +1,21 @@
 // The grammar: each function runs the rule of its name.
 pub mod argument;
+pub mod description;
 pub mod directive;
 pub mod document;
+pub mod enum_;
+pub mod extensions;
 pub mod field;
 pub mod fragment;
+pub mod input;
+pub mod interface;
 pub mod name;
+pub mod object;
 pub mod operation;
+pub mod scalar;
+pub mod schema;
 pub mod selection;
 pub mod ty;
+pub mod union_;
 pub mod value;
 pub mod variable;

@@ -43,6 +43,34 @@ pub data Node : Type 0 where
   ObjectField : Constness → Node
   NamedType : Node
   ListType : Node
+  Description : Node
+  SchemaDefinition : Node
+  RootOperationTypeDefinition : Node
+  ScalarTypeDefinition : Node
+  ObjectTypeDefinition : Node
+  ImplementsInterfaces : Node
+  FieldsDefinition : Node
+  FieldDefinition : Node
+  ArgumentsDefinition : Node
+  InputValueDefinition : Node
+  InterfaceTypeDefinition : Node
+  UnionTypeDefinition : Node
+  UnionMemberTypes : Node
+  EnumTypeDefinition : Node
+  EnumValuesDefinition : Node
+  EnumValueDefinition : Node
+  InputObjectTypeDefinition : Node
+  InputFieldsDefinition : Node
+  DirectiveDefinition : Node
+  DirectiveLocations : Node
+  DirectiveLocation : Node
+  SchemaExtension : Node
+  ScalarTypeExtension : Node
+  ObjectTypeExtension : Node
+  InterfaceTypeExtension : Node
+  UnionTypeExtension : Node
+  EnumTypeExtension : Node
+  InputObjectTypeExtension : Node
 
 -- the kind of a node
 abbrev pub kind_of : Node → SyntaxKind
@@ -79,6 +107,34 @@ kind_of (ObjectValue c) = kind.OBJECT_VALUE
 kind_of (ObjectField c) = kind.OBJECT_FIELD
 kind_of NamedType = kind.NAMED_TYPE
 kind_of ListType = kind.LIST_TYPE
+kind_of Description = kind.DESCRIPTION
+kind_of SchemaDefinition = kind.SCHEMA_DEFINITION
+kind_of RootOperationTypeDefinition = kind.ROOT_OPERATION_TYPE_DEFINITION
+kind_of ScalarTypeDefinition = kind.SCALAR_TYPE_DEFINITION
+kind_of ObjectTypeDefinition = kind.OBJECT_TYPE_DEFINITION
+kind_of ImplementsInterfaces = kind.IMPLEMENTS_INTERFACES
+kind_of FieldsDefinition = kind.FIELDS_DEFINITION
+kind_of FieldDefinition = kind.FIELD_DEFINITION
+kind_of ArgumentsDefinition = kind.ARGUMENTS_DEFINITION
+kind_of InputValueDefinition = kind.INPUT_VALUE_DEFINITION
+kind_of InterfaceTypeDefinition = kind.INTERFACE_TYPE_DEFINITION
+kind_of UnionTypeDefinition = kind.UNION_TYPE_DEFINITION
+kind_of UnionMemberTypes = kind.UNION_MEMBER_TYPES
+kind_of EnumTypeDefinition = kind.ENUM_TYPE_DEFINITION
+kind_of EnumValuesDefinition = kind.ENUM_VALUES_DEFINITION
+kind_of EnumValueDefinition = kind.ENUM_VALUE_DEFINITION
+kind_of InputObjectTypeDefinition = kind.INPUT_OBJECT_TYPE_DEFINITION
+kind_of InputFieldsDefinition = kind.INPUT_FIELDS_DEFINITION
+kind_of DirectiveDefinition = kind.DIRECTIVE_DEFINITION
+kind_of DirectiveLocations = kind.DIRECTIVE_LOCATIONS
+kind_of DirectiveLocation = kind.DIRECTIVE_LOCATION
+kind_of SchemaExtension = kind.SCHEMA_EXTENSION
+kind_of ScalarTypeExtension = kind.SCALAR_TYPE_EXTENSION
+kind_of ObjectTypeExtension = kind.OBJECT_TYPE_EXTENSION
+kind_of InterfaceTypeExtension = kind.INTERFACE_TYPE_EXTENSION
+kind_of UnionTypeExtension = kind.UNION_TYPE_EXTENSION
+kind_of EnumTypeExtension = kind.ENUM_TYPE_EXTENSION
+kind_of InputObjectTypeExtension = kind.INPUT_OBJECT_TYPE_EXTENSION
 
 -- the machine's symbol of a node: that of its kind, but for these
 unfoldable pub symbol : Node → ℕ
@@ -99,6 +155,7 @@ pub data Part : Type 0 where
   Document : Part
   Definition : Part
   Described : Part
+  Extension : Part
   MaybeName : Part
   Selections : Part
   Selection : Part
@@ -108,6 +165,17 @@ pub data Part : Type 0 where
   MaybeArguments : Constness → Part
   MaybeDirectives : Constness → Part
   MaybeVariableDefinitions : Part
+  TypedVariable : Part
+  MaybeDescription : Part
+  MaybeArgumentsDefinition : Part
+  TypeName : Part
+  RootType : Part
+  FieldType : Part
+  DescribedName : Part
+  MaybeImplements : Part
+  InterfaceName : Part
+  UnionMember : Part
+  Location : Part
   VariableType : Part
   MaybeDefaultValue : Part
   MaybeTypeCondition : Part

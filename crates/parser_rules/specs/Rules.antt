@@ -1,14 +1,17 @@
 -- The grammar of the parser: a rule for each node, and for each part that works within the open node. Above each is the production of the
 -- standard (GraphQL October 2021) with its section. A rule also says what is reported, and what becomes an ERROR leaf. The nodes and parts
 -- are made from the left sides (specs/Nodes.antt); a node's parameter says whether its place is constant.
-use Rattle.std.specs.Prelude.{Bool, true, false}
+use Rattle.std.specs.Prelude.{Bool, true, false, List, [], ◌∷◌}
+use Rattle.lexical_grammar.specs.declared.TokenKind.{TokenKind}
+use Rattle.document_grammar.specs.declared.kind.SyntaxKind.{SyntaxKind}
+use Rattle.parser_rules.specs.declared.message.Message.{Message}
 use Rattle.lexical_grammar.specs.declared.TokenKind.TheVariants as token
 use Rattle.document_grammar.specs.declared.kind.SyntaxKind.TheVariants as kind
 use Rattle.parser_rules.specs.declared.constness.Constness.{Constness}
 use Rattle.parser_rules.specs.declared.constness.Constness.TheVariants.{Const, NotConst}
 use Rattle.parser_rules.specs.declared.message.Message.TheVariants as message
 use Rattle.parser_rules.specs.RuleLanguage.{TokenTest, Kind, Keyword, Or, Test, Here, At, Word, Next, Ready, HasNext, Deep, Not, Both, Bump, Note, TooDeep, Rule, Skip, Do, When, While, Child, Nested, Call, Typed, ◌>◌, expect, want, refuse, expect_word, maybe}
-use Rattle.parser_rules.specs.Nodes.{Node, Operation, ShortQuery, OperationType, SelectionSet, Field, Alias, Name, FragmentSpread, InlineFragment, FragmentDefinition, FragmentName, NameForFragment, TypeCondition, Arguments, Argument, Directives, Directive, VariableDefinitions, VariableDefinition, Variable, DefaultValue, IntValue, FloatValue, StringValue, BooleanValue, NullValue, EnumValue, NameForEnum, ListValue, ObjectValue, ObjectField, NamedType, ListType, Part, Document, Definition, Described, MaybeName, Selections, Selection, Spread, AliasedName, Named, MaybeArguments, MaybeDirectives, MaybeVariableDefinitions, VariableType, MaybeDefaultValue, MaybeTypeCondition, ValueOf, WordValue, NestedValue, ListItems, TypeOf, ItemType}
+use Rattle.parser_rules.specs.Nodes.{Node, Operation, ShortQuery, OperationType, SelectionSet, Field, Alias, Name, FragmentSpread, InlineFragment, FragmentDefinition, FragmentName, NameForFragment, TypeCondition, Arguments, Argument, Directives, Directive, VariableDefinitions, VariableDefinition, Variable, DefaultValue, IntValue, FloatValue, StringValue, BooleanValue, NullValue, EnumValue, NameForEnum, ListValue, ObjectValue, ObjectField, NamedType, ListType, Description, SchemaDefinition, RootOperationTypeDefinition, ScalarTypeDefinition, ObjectTypeDefinition, ImplementsInterfaces, FieldsDefinition, FieldDefinition, ArgumentsDefinition, InputValueDefinition, InterfaceTypeDefinition, UnionTypeDefinition, UnionMemberTypes, EnumTypeDefinition, EnumValuesDefinition, EnumValueDefinition, InputObjectTypeDefinition, InputFieldsDefinition, DirectiveDefinition, DirectiveLocations, DirectiveLocation, SchemaExtension, ScalarTypeExtension, ObjectTypeExtension, InterfaceTypeExtension, UnionTypeExtension, EnumTypeExtension, InputObjectTypeExtension, Part, Document, Definition, Described, Extension, MaybeName, Selections, Selection, Spread, AliasedName, Named, MaybeArguments, MaybeDirectives, MaybeVariableDefinitions, TypedVariable, MaybeDescription, MaybeArgumentsDefinition, TypeName, RootType, FieldType, DescribedName, MaybeImplements, InterfaceName, UnionMember, Location, VariableType, MaybeDefaultValue, MaybeTypeCondition, ValueOf, WordValue, NestedValue, ListItems, TypeOf, ItemType}
 
 -- a selection starts with the token
 abbrev pub selection_start : TokenTest
@@ -34,6 +37,60 @@ inline_fragment = Or (Keyword kind.on_KW) (Or (Kind token.At) (Kind token.LCurly
 abbrev pub boolean : TokenTest
 boolean = Or (Keyword kind.true_KW) (Keyword kind.false_KW)
 
+-- a variable definition starts with it
+abbrev pub variable_start : TokenTest
+variable_start = Or (Kind token.StringValue) (Kind token.Dollar)
+
+-- what has a description and a name starts with it
+abbrev pub named_start : TokenTest
+named_start = Or (Kind token.StringValue) (Kind token.Name)
+
+-- a word that no enum value has as its name
+abbrev pub reserved : TokenTest
+reserved = Or boolean (Keyword kind.null_KW)
+
+-- ExecutableDirectiveLocation (3.13)
+abbrev pub executable_locations : List SyntaxKind
+executable_locations =
+    kind.QUERY_KW
+    ∷ kind.MUTATION_KW
+    ∷ kind.SUBSCRIPTION_KW
+    ∷ kind.FIELD_KW
+    ∷ kind.FRAGMENT_DEFINITION_KW
+    ∷ kind.FRAGMENT_SPREAD_KW
+    ∷ kind.INLINE_FRAGMENT_KW
+    ∷ kind.VARIABLE_DEFINITION_KW
+    ∷ []
+
+-- TypeSystemDirectiveLocation (3.13)
+abbrev pub type_system_locations : List SyntaxKind
+type_system_locations =
+    kind.SCHEMA_KW
+    ∷ kind.SCALAR_KW
+    ∷ kind.OBJECT_KW
+    ∷ kind.FIELD_DEFINITION_KW
+    ∷ kind.ARGUMENT_DEFINITION_KW
+    ∷ kind.INTERFACE_KW
+    ∷ kind.UNION_KW
+    ∷ kind.ENUM_KW
+    ∷ kind.ENUM_VALUE_KW
+    ∷ kind.INPUT_OBJECT_KW
+    ∷ kind.INPUT_FIELD_DEFINITION_KW
+    ∷ []
+
+-- one of the keywords
+abbrev pub any_word : SyntaxKind → List SyntaxKind → TokenTest
+any_word k [] = Keyword k
+any_word k (l ∷ ks) = Or (Keyword k) (any_word l ks)
+
+abbrev pub one_of : List SyntaxKind → TokenTest
+one_of [] = Keyword kind.ERROR
+one_of (k ∷ ks) = any_word k ks
+
+-- a directive location
+abbrev pub location : TokenTest
+location = Or (one_of executable_locations) (one_of type_system_locations)
+
 -- another item of a list value may start here
 abbrev pub has_item : Test
 has_item = Both (Both Ready (Not (At token.RBracket))) (Not Deep)
@@ -58,10 +115,70 @@ operation_word =
 abbrev pub nullable_type : Rule
 nullable_type = When (At token.LBracket) (Child ListType) (Child NamedType)
 
+-- the first keyword of the list that is next; the other rule where none is
+abbrev pub word_of : List SyntaxKind → Rule → Rule
+word_of [] none = none
+word_of (k ∷ ks) none = When (Word k) (Do (Bump k)) (word_of ks none)
+
+-- Directives[Const]? and the block or list that begins with the punctuator, of which an extension has one at least
+abbrev pub extended : TokenKind → Node → Message → Rule
+extended k block m = When (At token.At) (Call (MaybeDirectives Const) > maybe k block) (When (At k) (Child block) (Do (Note m)))
+
+-- the same, after ImplementsInterfaces?
+abbrev pub implementing : Message → Rule
+implementing m =
+    When (Word kind.implements_KW) (Child ImplementsInterfaces > Call (MaybeDirectives Const) > maybe token.LCurly FieldsDefinition)
+    (extended token.LCurly FieldsDefinition m)
+
+-- { RootOperationTypeDefinition+ }, with what is reported where there is none
+abbrev pub root_operations : Message → Rule
+root_operations m =
+    Do (Bump kind.L_CURLY)
+    > want (At token.Name) m
+    > While (At token.Name) (Child RootOperationTypeDefinition)
+    > expect token.RCurly kind.R_CURLY message.ExpectedRCurly
+
+-- items between the braces or parentheses, one at least
+abbrev pub definitions : SyntaxKind → Node → Message → TokenKind → SyntaxKind → Message → Rule
+definitions first item none close leaf m =
+    Do (Bump first)
+    > want (Here named_start) none
+    > While (Here named_start) (Child item)
+    > expect close leaf m
+
+-- the separator, if it is there, and names between separators
+abbrev pub separated : TokenKind → SyntaxKind → Part → Rule
+separated k leaf name = When (At k) (Do (Bump leaf)) Skip > Call name > While (At k) (Do (Bump leaf) > Call name)
+
+-- a definition of the type system, where the keyword is
+abbrev pub type_system : (TokenTest → Test) → Rule → Rule
+type_system at none =
+    When (at (Keyword kind.schema_KW)) (Child SchemaDefinition)
+    (When (at (Keyword kind.scalar_KW)) (Child ScalarTypeDefinition)
+    (When (at (Keyword kind.type_KW)) (Child ObjectTypeDefinition)
+    (When (at (Keyword kind.interface_KW)) (Child InterfaceTypeDefinition)
+    (When (at (Keyword kind.union_KW)) (Child UnionTypeDefinition)
+    (When (at (Keyword kind.enum_KW)) (Child EnumTypeDefinition)
+    (When (at (Keyword kind.input_KW)) (Child InputObjectTypeDefinition)
+    (When (at (Keyword kind.directive_KW)) (Child DirectiveDefinition)
+    none)))))))
+
+-- a token in the place of a definition
+abbrev pub no_definition : Rule
+no_definition =
+    When (At token.Name) (refuse message.ExpectedDefinition)
+    (When (At token.StringValue) (Call Described)
+    (refuse message.ExpectedDefinitionStart))
+
+-- a string before another token than those with which a definition begins, or before none
+abbrev pub no_described : Rule
+no_described = When HasNext (refuse message.ExpectedDefinition) (refuse message.ExpectedDefinitionAfterString)
+
 unfoldable pub inside : Node → Rule
--- OperationDefinition (2.3) : OperationType Name? VariableDefinitions? Directives? SelectionSet
+-- OperationDefinition (2.3) : Description? OperationType Name? VariableDefinitions? Directives? SelectionSet
 inside Operation =
-    Child OperationType
+    Call MaybeDescription
+    > Child OperationType
     > Call MaybeName
     > Call MaybeVariableDefinitions
     > Call (MaybeDirectives NotConst)
@@ -86,9 +203,10 @@ inside InlineFragment =
     > Call MaybeTypeCondition
     > Call (MaybeDirectives NotConst)
     > When (At token.LCurly) (Child SelectionSet) (Do (Note message.ExpectedInlineSelectionSet))
--- FragmentDefinition (2.8) : `fragment` FragmentName TypeCondition Directives? SelectionSet
+-- FragmentDefinition (2.8) : Description? `fragment` FragmentName TypeCondition Directives? SelectionSet
 inside FragmentDefinition =
-    Do (Bump kind.fragment_KW)
+    Call MaybeDescription
+    > expect_word kind.fragment_KW message.ExpectedDefinition
     > Child FragmentName
     > Child TypeCondition
     > Call (MaybeDirectives NotConst)
@@ -115,11 +233,11 @@ inside (Directive c) = Do (Bump kind.AT) > Call Named > Call (MaybeArguments c)
 -- VariableDefinitions (2.10) : ( VariableDefinition+ )
 inside VariableDefinitions =
     Do (Bump kind.L_PAREN)
-    > want (At token.Dollar) message.ExpectedVariableDefinition
-    > While (At token.Dollar) (Child VariableDefinition)
+    > want (Here variable_start) message.ExpectedVariableDefinition
+    > While (Here variable_start) (Child VariableDefinition)
     > expect token.RParen kind.R_PAREN message.ExpectedRParen
--- VariableDefinition (2.10) : Variable : Type DefaultValue? Directives[Const]?
-inside VariableDefinition = Child Variable > When (At token.Colon) (Do (Bump kind.COLON) > Call VariableType) (Do (Note message.ExpectedName))
+-- VariableDefinition (2.10) : Description? Variable : Type DefaultValue? Directives[Const]?
+inside VariableDefinition = When (At token.StringValue) (Child Description > When (At token.Dollar) (Call TypedVariable) (Do (Note message.ExpectedVariable))) (Call TypedVariable)
 -- Variable (2.10) : $ Name
 inside Variable = Do (Bump kind.DOLLAR) > Call Named
 -- DefaultValue (2.10) : = Value[Const]
@@ -135,7 +253,9 @@ inside BooleanValue = When (Word kind.true_KW) (Do (Bump kind.true_KW)) (Do (Bum
 -- NullValue (2.9.5) : `null`
 inside NullValue = Do (Bump kind.null_KW)
 -- EnumValue (2.9.6) : Name but not `true`, `false` or `null`
-inside EnumValue = Child NameForEnum
+inside EnumValue =
+    When (Here reserved) (Do (Note message.InvalidEnumValue) > Child Name)
+    (When (At token.Name) (Child NameForEnum) (Do (Note message.ExpectedEnumValue)))
 inside NameForEnum = Do (Bump kind.IDENT)
 -- ListValue[Const] (2.9.7) : [ ], or [ Value[?Const]+ ]
 inside (ListValue c) = Do (Bump kind.L_BRACK) > Call (ListItems c)
@@ -147,23 +267,171 @@ inside (ObjectField c) = Child Name > When (At token.Colon) (Do (Bump kind.COLON
 inside NamedType = Call Named
 -- ListType (2.11) : [ Type ]
 inside ListType = Do (Bump kind.L_BRACK) > Nested (Call ItemType) (expect token.RBracket kind.R_BRACK message.ExpectedRBracket)
+-- Description (3) : StringValue
+inside Description = Child StringValue
+-- SchemaDefinition (3.3) : Description? `schema` Directives[Const]? { RootOperationTypeDefinition+ }
+inside SchemaDefinition =
+    Call MaybeDescription
+    > expect_word kind.schema_KW message.ExpectedDefinition
+    > Call (MaybeDirectives Const)
+    > When (At token.LCurly) (root_operations message.ExpectedRootOperation) (Do (Note message.ExpectedLCurly))
+-- RootOperationTypeDefinition (3.3) : OperationType : NamedType
+inside RootOperationTypeDefinition =
+    Child OperationType
+    > When (At token.Colon) (Do (Bump kind.COLON) > Call RootType) (Do (Note message.ExpectedRootType))
+-- ScalarTypeDefinition (3.5) : Description? `scalar` Name Directives[Const]?
+inside ScalarTypeDefinition =
+    Call MaybeDescription
+    > expect_word kind.scalar_KW message.ExpectedDefinition
+    > Call Named
+    > Call (MaybeDirectives Const)
+-- ObjectTypeDefinition (3.6) : Description? `type` Name ImplementsInterfaces? Directives[Const]? FieldsDefinition?, where the block may be left
+-- out only before another token than {
+inside ObjectTypeDefinition =
+    Call MaybeDescription
+    > expect_word kind.type_KW message.ExpectedDefinition
+    > Call TypeName
+    > Call MaybeImplements
+    > Call (MaybeDirectives Const)
+    > maybe token.LCurly FieldsDefinition
+-- ImplementsInterfaces (3.6) : `implements` &? NamedType, or ImplementsInterfaces & NamedType
+inside ImplementsInterfaces = Do (Bump kind.implements_KW) > separated token.Amp kind.AMP InterfaceName
+-- FieldsDefinition (3.6) : { FieldDefinition+ }
+inside FieldsDefinition = definitions kind.L_CURLY FieldDefinition message.ExpectedFieldDefinition token.RCurly kind.R_CURLY message.ExpectedRCurly
+-- FieldDefinition (3.6) : Description? Name ArgumentsDefinition? : Type Directives[Const]?
+inside FieldDefinition =
+    Call DescribedName
+    > Call MaybeArgumentsDefinition
+    > When (At token.Colon) (Do (Bump kind.COLON) > Call FieldType) (Do (Note message.ExpectedFieldType))
+-- ArgumentsDefinition (3.6.1) : ( InputValueDefinition+ )
+inside ArgumentsDefinition =
+    definitions kind.L_PAREN InputValueDefinition message.ExpectedArgumentDefinition token.RParen kind.R_PAREN message.ExpectedRParen
+-- InputValueDefinition (3.6.1) : Description? Name : Type DefaultValue? Directives[Const]?
+inside InputValueDefinition = Call DescribedName > When (At token.Colon) (Do (Bump kind.COLON) > Call VariableType) (Do (Note message.ExpectedName))
+-- InterfaceTypeDefinition (3.7) : Description? `interface` Name ImplementsInterfaces? Directives[Const]? FieldsDefinition?, as above
+inside InterfaceTypeDefinition =
+    Call MaybeDescription
+    > expect_word kind.interface_KW message.ExpectedDefinition
+    > Call Named
+    > Call MaybeImplements
+    > Call (MaybeDirectives Const)
+    > maybe token.LCurly FieldsDefinition
+-- UnionTypeDefinition (3.8) : Description? `union` Name Directives[Const]? UnionMemberTypes?
+inside UnionTypeDefinition =
+    Call MaybeDescription
+    > expect_word kind.union_KW message.ExpectedDefinition
+    > Call Named
+    > Call (MaybeDirectives Const)
+    > maybe token.Eq UnionMemberTypes
+-- UnionMemberTypes (3.8) : = |? NamedType, or UnionMemberTypes | NamedType
+inside UnionMemberTypes = Do (Bump kind.EQ) > separated token.Pipe kind.PIPE UnionMember
+-- EnumTypeDefinition (3.9) : Description? `enum` Name Directives[Const]? EnumValuesDefinition?, as above
+inside EnumTypeDefinition =
+    Call MaybeDescription
+    > expect_word kind.enum_KW message.ExpectedDefinition
+    > Call Named
+    > Call (MaybeDirectives Const)
+    > maybe token.LCurly EnumValuesDefinition
+-- EnumValuesDefinition (3.9) : { EnumValueDefinition+ }
+inside EnumValuesDefinition =
+    definitions kind.L_CURLY EnumValueDefinition message.ExpectedEnumValueDefinition token.RCurly kind.R_CURLY message.ExpectedRCurly
+-- EnumValueDefinition (3.9) : Description? EnumValue Directives[Const]?
+inside EnumValueDefinition = Call MaybeDescription > Child EnumValue > Call (MaybeDirectives Const)
+-- InputObjectTypeDefinition (3.10) : Description? `input` Name Directives[Const]? InputFieldsDefinition?, as above
+inside InputObjectTypeDefinition =
+    Call MaybeDescription
+    > expect_word kind.input_KW message.ExpectedDefinition
+    > Call Named
+    > Call (MaybeDirectives Const)
+    > maybe token.LCurly InputFieldsDefinition
+-- InputFieldsDefinition (3.10) : { InputValueDefinition+ }
+inside InputFieldsDefinition =
+    definitions kind.L_CURLY InputValueDefinition message.ExpectedInputValueDefinition token.RCurly kind.R_CURLY message.ExpectedRCurly
+-- DirectiveDefinition (3.13) : Description? `directive` @ Name ArgumentsDefinition? `repeatable`? `on` DirectiveLocations
+inside DirectiveDefinition =
+    Call MaybeDescription
+    > expect_word kind.directive_KW message.ExpectedDefinition
+    > expect token.At kind.AT message.ExpectedAt
+    > Call Named
+    > Call MaybeArgumentsDefinition
+    > When (Word kind.repeatable_KW) (Do (Bump kind.repeatable_KW)) Skip
+    > expect_word kind.on_KW message.ExpectedLocations
+    > When (Here (Or (Kind token.Name) (Kind token.Pipe))) (Child DirectiveLocations) (Do (Note message.ExpectedValidLocation))
+-- DirectiveLocations (3.13) : |? DirectiveLocation, or DirectiveLocations | DirectiveLocation
+inside DirectiveLocations = separated token.Pipe kind.PIPE Location
+-- DirectiveLocation (3.13) : ExecutableDirectiveLocation, or TypeSystemDirectiveLocation
+inside DirectiveLocation = word_of executable_locations (word_of type_system_locations (Do (Note message.ExpectedLocation)))
+-- SchemaExtension (3.3.2) : `extend` `schema` Directives[Const]? { RootOperationTypeDefinition+ }, or `extend` `schema` Directives[Const]
+inside SchemaExtension =
+    Do (Bump kind.extend_KW)
+    > Do (Bump kind.schema_KW)
+    > When (At token.At)
+    (Call (MaybeDirectives Const) > When (At token.LCurly) (root_operations message.ExpectedSchemaExtension) Skip)
+    (When (At token.LCurly) (root_operations message.ExpectedSchemaExtension) (Do (Note message.ExpectedSchemaExtension)))
+-- ScalarTypeExtension (3.5.3) : `extend` `scalar` Name Directives[Const]
+inside ScalarTypeExtension =
+    Do (Bump kind.extend_KW)
+    > Do (Bump kind.scalar_KW)
+    > Call Named
+    > When (At token.At) (Call (MaybeDirectives Const)) (Do (Note message.ExpectedScalarExtension))
+-- ObjectTypeExtension (3.6.3) : `extend` `type` Name, and one of ImplementsInterfaces, Directives[Const], FieldsDefinition at least, in this order
+inside ObjectTypeExtension =
+    Do (Bump kind.extend_KW)
+    > Do (Bump kind.type_KW)
+    > Call Named
+    > implementing message.ExpectedObjectExtension
+-- InterfaceTypeExtension (3.7.1) : `extend` `interface` Name, and the same
+inside InterfaceTypeExtension =
+    Do (Bump kind.extend_KW)
+    > Do (Bump kind.interface_KW)
+    > Call Named
+    > implementing message.ExpectedInterfaceExtension
+-- UnionTypeExtension (3.8.1) : `extend` `union` Name, and one of Directives[Const] and UnionMemberTypes at least, in this order
+inside UnionTypeExtension =
+    Do (Bump kind.extend_KW)
+    > Do (Bump kind.union_KW)
+    > Call Named
+    > extended token.Eq UnionMemberTypes message.ExpectedUnionExtension
+-- EnumTypeExtension (3.9.1) : `extend` `enum` Name, and one of Directives[Const] and EnumValuesDefinition at least, in this order
+inside EnumTypeExtension =
+    Do (Bump kind.extend_KW)
+    > Do (Bump kind.enum_KW)
+    > Call Named
+    > extended token.LCurly EnumValuesDefinition message.ExpectedEnumExtension
+-- InputObjectTypeExtension (3.10.1) : `extend` `input` Name, and one of Directives[Const] and InputFieldsDefinition at least, in this order
+inside InputObjectTypeExtension =
+    Do (Bump kind.extend_KW)
+    > Do (Bump kind.input_KW)
+    > Call Named
+    > extended token.LCurly InputFieldsDefinition message.ExpectedInputExtension
 
 unfoldable pub body : Part → Rule
 -- Document (2.2) : Definition+
 body Document = want Ready message.UnexpectedEof > While Ready (Call Definition)
--- ExecutableDefinition (2.2) : OperationDefinition, or FragmentDefinition
+-- Definition (2.2) : OperationDefinition, FragmentDefinition, or a definition or extension of the type system (3)
 body Definition =
     When (Here operation_type) (Child Operation)
     (When (Word kind.fragment_KW) (Child FragmentDefinition)
     (When (At token.LCurly) (Child ShortQuery)
-    (When (At token.Name) (refuse message.ExpectedDefinition)
-    (When (At token.StringValue) (Call Described)
-    (refuse message.ExpectedDefinitionStart)))))
--- a string before a definition: its description, which no rule reads yet
+    (When (Word kind.extend_KW) (Call Extension)
+    (type_system Here no_definition))))
+-- a definition with its description
 body Described =
-    When (Next operation_start) (refuse message.ExpectedOperation)
-    (When HasNext (refuse message.ExpectedDefinition)
-    (refuse message.ExpectedDefinitionAfterString))
+    When (Next operation_type) (Child Operation)
+    (When (Next (Keyword kind.fragment_KW)) (Child FragmentDefinition)
+    (When (Next (Kind token.LCurly)) (refuse message.ExpectedOperation)
+    (When (Next (Keyword kind.extend_KW)) (refuse message.InvalidExtension)
+    (type_system Next no_described))))
+-- an extension (3.4.3 and others): the word after `extend` says which
+body Extension =
+    When (Next (Keyword kind.schema_KW)) (Child SchemaExtension)
+    (When (Next (Keyword kind.scalar_KW)) (Child ScalarTypeExtension)
+    (When (Next (Keyword kind.type_KW)) (Child ObjectTypeExtension)
+    (When (Next (Keyword kind.interface_KW)) (Child InterfaceTypeExtension)
+    (When (Next (Keyword kind.union_KW)) (Child UnionTypeExtension)
+    (When (Next (Keyword kind.enum_KW)) (Child EnumTypeExtension)
+    (When (Next (Keyword kind.input_KW)) (Child InputObjectTypeExtension)
+    (refuse message.InvalidExtension)))))))
 body MaybeName = maybe token.Name Name
 -- Selection+, the inside of a SelectionSet (2.4)
 body Selections = want (Here selection_start) message.ExpectedSelection > While (Here selection_start) (Call Selection)
@@ -182,7 +450,26 @@ body Named = When (At token.Name) (Child Name) (Do (Note message.ExpectedName))
 body (MaybeArguments c) = maybe token.LParen (Arguments c)
 body (MaybeDirectives c) = maybe token.At (Directives c)
 body MaybeVariableDefinitions = maybe token.LParen VariableDefinitions
--- Type DefaultValue? Directives[Const]?, the rest of a VariableDefinition (2.10)
+-- Variable : Type DefaultValue? Directives[Const]?, a VariableDefinition (2.10) after its description
+body TypedVariable = Child Variable > When (At token.Colon) (Do (Bump kind.COLON) > Call VariableType) (Do (Note message.ExpectedName))
+body MaybeDescription = maybe token.StringValue Description
+body MaybeArgumentsDefinition = maybe token.LParen ArgumentsDefinition
+-- the name of a type that is defined, which is reported in words of its own
+body TypeName = When (At token.Name) (Child Name) (Do (Note message.ExpectedTypeName))
+-- NamedType, the rest of a RootOperationTypeDefinition (3.3)
+body RootType = When (At token.Name) (Child NamedType) (Do (Note message.ExpectedRootType))
+-- Type Directives[Const]?, the rest of a FieldDefinition (3.6)
+body FieldType = When (Here type_start) (Call TypeOf > Call (MaybeDirectives Const)) (Do (Note message.ExpectedType))
+-- Description? Name, the beginning of a FieldDefinition (3.6) and of an InputValueDefinition (3.6.1)
+body DescribedName = When (At token.StringValue) (Child Description > Call Named) (Child Name)
+body MaybeImplements = When (Word kind.implements_KW) (Child ImplementsInterfaces) Skip
+-- NamedType, in ImplementsInterfaces (3.6) and in UnionMemberTypes (3.8)
+body InterfaceName = When (At token.Name) (Child NamedType) (Do (Note message.ExpectedInterface))
+body UnionMember = When (At token.Name) (Child NamedType) (Do (Note message.ExpectedUnionMember))
+body Location =
+    When (Here location) (Child DirectiveLocation)
+    (When (At token.Name) (Do (Note message.ExpectedValidLocation)) (Do (Note message.ExpectedLocation)))
+-- Type DefaultValue? Directives[Const]?, the rest of a VariableDefinition (2.10) and of an InputValueDefinition (3.6.1)
 body VariableType = When (Here type_start) (Call TypeOf > Call MaybeDefaultValue > Call (MaybeDirectives Const)) (Do (Note message.ExpectedType))
 body MaybeDefaultValue = maybe token.Eq DefaultValue
 body MaybeTypeCondition = maybe token.Name TypeCondition

@@ -47,6 +47,58 @@ pub enum Message {
     ExpectedValue,
     /// A variable in a constant place.
     VariableInConst,
+    /// `extend` before a word that it can't extend, or a string before it.
+    InvalidExtension,
+    /// A type definition without a name.
+    ExpectedTypeName,
+    /// Another token in the place of an interface's name.
+    ExpectedInterface,
+    /// Another token in the place of a union's member.
+    ExpectedUnionMember,
+    /// Braces without a field definition.
+    ExpectedFieldDefinition,
+    /// A field definition without `:`.
+    ExpectedFieldType,
+    /// Parentheses without an argument definition.
+    ExpectedArgumentDefinition,
+    /// Braces without an input field.
+    ExpectedInputValueDefinition,
+    /// Braces without an enum value.
+    ExpectedEnumValueDefinition,
+    /// An enum value with the name `true`, `false` or `null`.
+    InvalidEnumValue,
+    /// Another token in the place of an enum value.
+    ExpectedEnumValue,
+    /// A schema definition without a root operation.
+    ExpectedRootOperation,
+    /// A root operation without `:`, or without the name of a type.
+    ExpectedRootType,
+    /// A directive definition without `@`.
+    ExpectedAt,
+    /// A directive definition without `on`.
+    ExpectedLocations,
+    /// Another word in the place of a directive location, or no location.
+    ExpectedValidLocation,
+    /// Another token in the place of a directive location.
+    ExpectedLocation,
+    /// A schema extension that adds nothing.
+    ExpectedSchemaExtension,
+    /// A scalar extension without directives.
+    ExpectedScalarExtension,
+    /// An object type extension that adds nothing.
+    ExpectedObjectExtension,
+    /// An interface extension that adds nothing.
+    ExpectedInterfaceExtension,
+    /// A union extension that adds nothing.
+    ExpectedUnionExtension,
+    /// An enum extension that adds nothing.
+    ExpectedEnumExtension,
+    /// An input object extension that adds nothing.
+    ExpectedInputExtension,
+    /// A description of a variable before another token than `$`.
+    ExpectedVariable,
+    /// Another token in the place of `{`.
+    ExpectedLCurly,
     /// Another token in the place of `:`.
     ExpectedColon,
     /// Another token in the place of `)`.
@@ -87,6 +139,36 @@ impl Message {
             Message::ExpectedItemType => "expected item type",
             Message::ExpectedValue => "expected a valid Value",
             Message::VariableInConst => "unexpected variable value in a Const context",
+            Message::InvalidExtension =>
+                "Invalid Type System Extension. This extension cannot be applied.",
+            Message::ExpectedTypeName => "expected a name",
+            Message::ExpectedInterface => "expected an Interface name",
+            Message::ExpectedUnionMember => "expected Union Member Type",
+            Message::ExpectedFieldDefinition => "expected Field Definition",
+            Message::ExpectedFieldType => "expected a type",
+            Message::ExpectedArgumentDefinition => "expected an Argument Definition",
+            Message::ExpectedInputValueDefinition => "expected an Input Value Definition",
+            Message::ExpectedEnumValueDefinition => "expected Enum Value Definition",
+            Message::InvalidEnumValue => "invalid Enum Value",
+            Message::ExpectedEnumValue => "expected Enum Value",
+            Message::ExpectedRootOperation => "expected Root Operation Type Definition",
+            Message::ExpectedRootType => "expected a Name Type",
+            Message::ExpectedAt => "expected @ symbol",
+            Message::ExpectedLocations => "expected Directive Locations",
+            Message::ExpectedValidLocation => "expected valid Directive Location",
+            Message::ExpectedLocation => "expected Directive Location",
+            Message::ExpectedSchemaExtension =>
+                "expected directives or Root Operation Type Definition",
+            Message::ExpectedScalarExtension => "expected Directives",
+            Message::ExpectedObjectExtension =>
+                "expected an Implements Interface, Directives or a Fields Definition",
+            Message::ExpectedInterfaceExtension =>
+                "exptected an Implements Interfaces, Directives, or a Fields Definition",
+            Message::ExpectedUnionExtension => "expected Directives or Union Member Types",
+            Message::ExpectedEnumExtension => "expected Directive or Enum Values Definition",
+            Message::ExpectedInputExtension => "expected Directives or an Input Fields Definition",
+            Message::ExpectedVariable => "expected a Variable",
+            Message::ExpectedLCurly => "expected L_CURLY",
             Message::ExpectedColon => "expected COLON",
             Message::ExpectedRParen => "expected R_PAREN",
             Message::ExpectedRBracket => "expected R_BRACK",
@@ -100,7 +182,8 @@ impl Message {
     {
         matches!(
             self,
-            Message::ExpectedColon
+            Message::ExpectedLCurly
+                | Message::ExpectedColon
                 | Message::ExpectedRParen
                 | Message::ExpectedRBracket
                 | Message::ExpectedRCurly

@@ -7,6 +7,8 @@ ghost use Rattle.parser_rules.specs.Nodes as rule;
 ghost use Rattle.parser_rules.specs.RuleLanguage.{At, holds, Child, Call};
 ghost use Rattle.parser_rules.specs.Runs.{Runs};
 
+use super::description::{starts_named, want_named};
+use super::input::input_value_definition;
 use super::value::value;
 use crate::state::ParserState;
 use document_grammar::SyntaxKind;
@@ -55,5 +57,39 @@ fn argument<A: Allocator + Copy>(
         p.err(Message::ExpectedColon)?;
     }
     p.finish_node();
+    Ok(())
+}
+
+/// The arguments of a field or a directive that is defined (GraphQL October 2021, section 3.6.1, "Field Arguments"), where `(` comes next.
+pub fn arguments_definition<A: Allocator + Copy>(
+    p: &mut ParserState<'_, A>,
+) -> Result<(), AllocError>
+    requires { true ≡ holds (At token.LParen) p.old }
+    ensures { OnOk result (Runs (Child rule.ArgumentsDefinition) p.old p.new) }
+{
+    p.start_node(SyntaxKind::ARGUMENTS_DEFINITION)?;
+    p.bump(SyntaxKind::L_PAREN)?;
+    want_named(p, Message::ExpectedArgumentDefinition)?;
+    while starts_named(p) {
+        input_value_definition(p)?;
+    }
+    p.expect(
+        TokenKind::RParen,
+        SyntaxKind::R_PAREN,
+        Message::ExpectedRParen,
+    )?;
+    p.finish_node();
+    Ok(())
+}
+
+/// The same, if `(` comes next.
+pub fn maybe_arguments_definition<A: Allocator + Copy>(
+    p: &mut ParserState<'_, A>,
+) -> Result<(), AllocError>
+    ensures { OnOk result (Runs (Call rule.MaybeArgumentsDefinition) p.old p.new) }
+{
+    if p.at(TokenKind::LParen) {
+        return arguments_definition(p);
+    }
     Ok(())
 }

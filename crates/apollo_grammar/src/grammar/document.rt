@@ -4,12 +4,21 @@
 ghost use Rattle.std.specs.Prelude.{◌≡◌, true, OnOk};
 ghost use Rattle.parser_rules.specs.Nodes as rule;
 ghost use Rattle.parser_rules.specs.Rules as rules;
-ghost use Rattle.parser_rules.specs.RuleLanguage.{fits, Here, holds, Call};
+ghost use Rattle.parser_rules.specs.RuleLanguage.{fits, Here, Next, holds, Call};
 ghost use Rattle.parser_rules.specs.Runs.{Runs};
 ghost use Rattle.apollo_grammar.specs.View.{current_of};
 
+use super::directive::directive_definition;
+use super::enum_::enum_type_definition;
+use super::extensions::extensions;
 use super::fragment::fragment_definition;
+use super::input::input_object_type_definition;
+use super::interface::interface_type_definition;
+use super::object::object_type_definition;
 use super::operation::{operation_definition, query_shorthand};
+use super::scalar::scalar_type_definition;
+use super::schema::schema_definition;
+use super::union_::union_type_definition;
 use crate::state::{ParserState, is_kind, is_word};
 use apollo_lexer::Token;
 use document_grammar::SyntaxKind;
@@ -41,6 +50,47 @@ fn definition<A: Allocator + Copy>(p: &mut ParserState<'_, A>) -> Result<(), All
     if p.at(TokenKind::LCurly) {
         return query_shorthand(p);
     }
+    if p.at_word(SyntaxKind::extend_KW) {
+        return extensions(p);
+    }
+    type_system_definition(p)
+}
+
+// A definition of the type system by its keyword, or a token in the place of a definition that is popped.
+fn type_system_definition<A: Allocator + Copy>(p: &mut ParserState<'_, A>) -> Result<(), AllocError>
+    ensures { OnOk result (Runs (rules.type_system Here rules.no_definition) p.old p.new) }
+{
+    if p.at_word(SyntaxKind::schema_KW) {
+        return schema_definition(p);
+    }
+    if p.at_word(SyntaxKind::scalar_KW) {
+        return scalar_type_definition(p);
+    }
+    if p.at_word(SyntaxKind::type_KW) {
+        return object_type_definition(p);
+    }
+    if p.at_word(SyntaxKind::interface_KW) {
+        return interface_type_definition(p);
+    }
+    if p.at_word(SyntaxKind::union_KW) {
+        return union_type_definition(p);
+    }
+    if p.at_word(SyntaxKind::enum_KW) {
+        return enum_type_definition(p);
+    }
+    if p.at_word(SyntaxKind::input_KW) {
+        return input_object_type_definition(p);
+    }
+    if p.at_word(SyntaxKind::directive_KW) {
+        return directive_definition(p);
+    }
+    no_definition(p)
+}
+
+// A token in the place of a definition.
+fn no_definition<A: Allocator + Copy>(p: &mut ParserState<'_, A>) -> Result<(), AllocError>
+    ensures { OnOk result (Runs rules.no_definition p.old p.new) }
+{
     if p.at(TokenKind::Name) {
         return p.err_and_pop(Message::ExpectedDefinition);
     }
@@ -67,21 +117,56 @@ fn starts_operation<A: Allocator + Copy>(p: &ParserState<'_, A>) -> bool
     is_operation_type(p.current())
 }
 
-// Whether an operation starts with the token.
-fn is_operation(token: Option<Token<'_>>) -> bool
-    ensures { result ≡ fits rules.operation_start (current_of token.entry) }
-{
-    is_kind(token, TokenKind::LCurly) || is_operation_type(token)
-}
-
-// A string in the place of a definition is popped. The token after it says what was expected.
+// A definition with its description: the token after the string says which.
 #[tactic(auto, using(crate::proofs::Looks::looking), unfolding(parser_rules::specs::Rules::body, parser_rules::specs::RuleLanguage::holds))]
 fn described<A: Allocator + Copy>(p: &mut ParserState<'_, A>) -> Result<(), AllocError>
     ensures { OnOk result (Runs (Call rule.Described) p.old p.new) }
 {
     let next = p.peek();
-    if is_operation(next) {
+    if is_operation_type(next) {
+        return operation_definition(p);
+    }
+    if is_word(next, SyntaxKind::fragment_KW) {
+        return fragment_definition(p);
+    }
+    if is_kind(next, TokenKind::LCurly) {
         return p.err_and_pop(Message::ExpectedOperation);
+    }
+    if is_word(next, SyntaxKind::extend_KW) {
+        return p.err_and_pop(Message::InvalidExtension);
+    }
+    described_type_system(p)
+}
+
+// The same for the type system. Another token pops the string.
+#[tactic(auto, using(crate::proofs::Looks::looking), unfolding(parser_rules::specs::Rules::body, parser_rules::specs::RuleLanguage::holds))]
+fn described_type_system<A: Allocator + Copy>(p: &mut ParserState<'_, A>) -> Result<(), AllocError>
+    ensures { OnOk result (Runs (rules.type_system Next rules.no_described) p.old p.new) }
+{
+    let next = p.peek();
+    if is_word(next, SyntaxKind::schema_KW) {
+        return schema_definition(p);
+    }
+    if is_word(next, SyntaxKind::scalar_KW) {
+        return scalar_type_definition(p);
+    }
+    if is_word(next, SyntaxKind::type_KW) {
+        return object_type_definition(p);
+    }
+    if is_word(next, SyntaxKind::interface_KW) {
+        return interface_type_definition(p);
+    }
+    if is_word(next, SyntaxKind::union_KW) {
+        return union_type_definition(p);
+    }
+    if is_word(next, SyntaxKind::enum_KW) {
+        return enum_type_definition(p);
+    }
+    if is_word(next, SyntaxKind::input_KW) {
+        return input_object_type_definition(p);
+    }
+    if is_word(next, SyntaxKind::directive_KW) {
+        return directive_definition(p);
     }
     if next.is_some() {
         return p.err_and_pop(Message::ExpectedDefinition);

@@ -1,20 +1,23 @@
 // Fields.
-#![tactic(auto, using(parser_rules::proofs::runs::Running::running), unfolding(parser_rules::specs::Rules::inside, parser_rules::specs::Rules::body))]
+#![tactic(auto, using(parser_rules::proofs::runs::Running::looping), unfolding(parser_rules::specs::Rules::inside, parser_rules::specs::Rules::body))]
 
 ghost use Rattle.std.specs.Prelude.{◌≡◌, true, OnOk};
 ghost use Rattle.lexical_grammar.specs.declared.TokenKind.TheVariants as token;
 ghost use Rattle.parser_rules.specs.Nodes as rule;
-ghost use Rattle.parser_rules.specs.RuleLanguage.{At, holds, Child};
+ghost use Rattle.parser_rules.specs.Rules as rules;
+ghost use Rattle.parser_rules.specs.RuleLanguage.{Here, At, holds, Child, Call};
 ghost use Rattle.parser_rules.specs.Runs.{Runs};
 
-use super::argument::arguments;
+use super::argument::{arguments, maybe_arguments_definition};
+use super::description::{described_name, starts_named, want_named};
 use super::directive::directives;
 use super::name::aliased_name;
 use super::selection::selection_set;
+use super::ty::{starts_type, ty};
 use crate::state::ParserState;
 use document_grammar::SyntaxKind;
 use lexical_grammar::TokenKind;
-use parser_rules::Constness;
+use parser_rules::{Constness, Message};
 use std::alloc::{AllocError, Allocator};
 
 /// A field (GraphQL October 2021, section 2.5, "Fields").
@@ -32,4 +35,53 @@ pub fn field<A: Allocator + Copy>(p: &mut ParserState<'_, A>) -> Result<(), Allo
     }
     p.finish_node();
     Ok(())
+}
+
+/// The fields of a type (GraphQL October 2021, section 3.6, "Objects"), where `{` comes next.
+pub fn fields_definition<A: Allocator + Copy>(p: &mut ParserState<'_, A>) -> Result<(), AllocError>
+    requires { true ≡ holds (At token.LCurly) p.old }
+    ensures { OnOk result (Runs (Child rule.FieldsDefinition) p.old p.new) }
+{
+    p.start_node(SyntaxKind::FIELDS_DEFINITION)?;
+    p.bump(SyntaxKind::L_CURLY)?;
+    want_named(p, Message::ExpectedFieldDefinition)?;
+    while starts_named(p) {
+        field_definition(p)?;
+    }
+    p.expect(
+        TokenKind::RCurly,
+        SyntaxKind::R_CURLY,
+        Message::ExpectedRCurly,
+    )?;
+    p.finish_node();
+    Ok(())
+}
+
+// The definition of a field.
+fn field_definition<A: Allocator + Copy>(p: &mut ParserState<'_, A>) -> Result<(), AllocError>
+    requires { true ≡ holds (Here rules.named_start) p.old }
+    ensures { OnOk result (Runs (Child rule.FieldDefinition) p.old p.new) }
+{
+    p.start_node(SyntaxKind::FIELD_DEFINITION)?;
+    described_name(p)?;
+    maybe_arguments_definition(p)?;
+    if p.at(TokenKind::Colon) {
+        p.bump(SyntaxKind::COLON)?;
+        field_type(p)?;
+    } else {
+        p.err(Message::ExpectedFieldType)?;
+    }
+    p.finish_node();
+    Ok(())
+}
+
+// What follows a field's `:`.
+fn field_type<A: Allocator + Copy>(p: &mut ParserState<'_, A>) -> Result<(), AllocError>
+    ensures { OnOk result (Runs (Call rule.FieldType) p.old p.new) }
+{
+    if !starts_type(p) {
+        return p.err(Message::ExpectedType);
+    }
+    ty(p)?;
+    directives(p, Constness::Const)
 }

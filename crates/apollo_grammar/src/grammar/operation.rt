@@ -8,6 +8,7 @@ ghost use Rattle.parser_rules.specs.Rules as rules;
 ghost use Rattle.parser_rules.specs.RuleLanguage.{At, holds, Child};
 ghost use Rattle.parser_rules.specs.Runs.{Runs};
 
+use super::description::maybe_description;
 use super::directive::directives;
 use super::name::maybe_name;
 use super::selection::selection_set;
@@ -25,6 +26,7 @@ pub fn operation_definition<A: Allocator + Copy>(
     ensures { OnOk result (Runs (Child rule.Operation) p.old p.new) }
 {
     p.start_node(SyntaxKind::OPERATION_DEFINITION)?;
+    maybe_description(p)?;
     operation_type(p)?;
     maybe_name(p)?;
     variable_definitions(p)?;
@@ -49,7 +51,8 @@ pub fn query_shorthand<A: Allocator + Copy>(p: &mut ParserState<'_, A>) -> Resul
     Ok(())
 }
 
-fn operation_type<A: Allocator + Copy>(p: &mut ParserState<'_, A>) -> Result<(), AllocError>
+/// The type of an operation (GraphQL October 2021, section 2.3, "Operations").
+pub fn operation_type<A: Allocator + Copy>(p: &mut ParserState<'_, A>) -> Result<(), AllocError>
     ensures { OnOk result (Runs (Child rule.OperationType) p.old p.new) }
 {
     p.start_node(SyntaxKind::OPERATION_TYPE)?;

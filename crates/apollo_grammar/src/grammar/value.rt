@@ -5,7 +5,7 @@ ghost use Rattle.std.specs.Prelude.{◌≡◌, true, OnOk};
 ghost use Rattle.lexical_grammar.specs.declared.TokenKind.TheVariants as token;
 ghost use Rattle.parser_rules.specs.Nodes as rule;
 ghost use Rattle.parser_rules.specs.Rules as rules;
-ghost use Rattle.parser_rules.specs.RuleLanguage.{At, holds, Child, Call};
+ghost use Rattle.parser_rules.specs.RuleLanguage.{Here, At, holds, Child, Call};
 ghost use Rattle.parser_rules.specs.Runs.{Runs};
 
 use super::variable::variable;
@@ -105,14 +105,29 @@ fn null_value<A: Allocator + Copy>(p: &mut ParserState<'_, A>) -> Result<(), All
     Ok(())
 }
 
-fn enum_value<A: Allocator + Copy>(p: &mut ParserState<'_, A>) -> Result<(), AllocError>
-    requires { true ≡ holds (At token.Name) p.old }
+/// An enum value (GraphQL October 2021, section 2.9.6, "Enum Value"), or a report of what is there in its place.
+pub fn enum_value<A: Allocator + Copy>(p: &mut ParserState<'_, A>) -> Result<(), AllocError>
     ensures { OnOk result (Runs (Child rule.EnumValue) p.old p.new) }
 {
     p.start_node(SyntaxKind::ENUM_VALUE)?;
-    p.name()?;
+    if at_reserved(p) {
+        p.err(Message::InvalidEnumValue)?;
+        p.name()?;
+    } else if p.at(TokenKind::Name) {
+        p.name()?;
+    } else {
+        p.err(Message::ExpectedEnumValue)?;
+    }
     p.finish_node();
     Ok(())
+}
+
+// Whether a word that no enum value has as its name is here.
+#[tactic(auto, unfolding(parser_rules::specs::RuleLanguage::holds))]
+fn at_reserved<A: Allocator + Copy>(p: &ParserState<'_, A>) -> bool
+    ensures { result ≡ holds (Here rules.reserved) p.now }
+{
+    p.at_boolean() || p.at_word(SyntaxKind::null_KW)
 }
 
 // A value one level deeper.

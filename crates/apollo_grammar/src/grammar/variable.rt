@@ -3,9 +3,12 @@
 
 ghost use Rattle.std.specs.Prelude.{◌≡◌, true, OnOk};
 ghost use Rattle.parser_rules.specs.Nodes as rule;
-ghost use Rattle.parser_rules.specs.RuleLanguage.{Child, Call};
+ghost use Rattle.parser_rules.specs.Rules as rules;
+ghost use Rattle.parser_rules.specs.declared.message.Message.TheVariants as message;
+ghost use Rattle.parser_rules.specs.RuleLanguage.{Here, holds, want, Child, Call};
 ghost use Rattle.parser_rules.specs.Runs.{Runs};
 
+use super::description::description;
 use super::directive::directives;
 use super::name::name;
 use super::ty::{starts_type, ty};
@@ -27,8 +30,8 @@ pub fn variable_definitions<A: Allocator + Copy>(
     }
     p.start_node(SyntaxKind::VARIABLE_DEFINITIONS)?;
     p.bump(SyntaxKind::L_PAREN)?;
-    p.want(TokenKind::Dollar, Message::ExpectedVariableDefinition)?;
-    while p.at(TokenKind::Dollar) {
+    want_variable(p)?;
+    while starts_variable(p) {
         variable_definition(p)?;
     }
     p.expect(
@@ -44,19 +47,52 @@ fn variable_definition<A: Allocator + Copy>(p: &mut ParserState<'_, A>) -> Resul
     ensures { OnOk result (Runs (Child rule.VariableDefinition) p.old p.new) }
 {
     p.start_node(SyntaxKind::VARIABLE_DEFINITION)?;
-    variable(p)?;
-    if p.at(TokenKind::Colon) {
-        p.bump(SyntaxKind::COLON)?;
-        variable_type(p)?;
+    if p.at(TokenKind::StringValue) {
+        description(p)?;
+        if p.at(TokenKind::Dollar) {
+            typed_variable(p)?;
+        } else {
+            p.err(Message::ExpectedVariable)?;
+        }
     } else {
-        p.err(Message::ExpectedName)?;
+        typed_variable(p)?;
     }
     p.finish_node();
     Ok(())
 }
 
-// What follows a variable's `:`.
-fn variable_type<A: Allocator + Copy>(p: &mut ParserState<'_, A>) -> Result<(), AllocError>
+// A variable definition after its description.
+fn typed_variable<A: Allocator + Copy>(p: &mut ParserState<'_, A>) -> Result<(), AllocError>
+    ensures { OnOk result (Runs (Call rule.TypedVariable) p.old p.new) }
+{
+    variable(p)?;
+    if p.at(TokenKind::Colon) {
+        p.bump(SyntaxKind::COLON)?;
+        return variable_type(p);
+    }
+    p.err(Message::ExpectedName)
+}
+
+// Whether a variable definition starts here.
+#[tactic(auto, unfolding(parser_rules::specs::RuleLanguage::holds))]
+fn starts_variable<A: Allocator + Copy>(p: &ParserState<'_, A>) -> bool
+    ensures { result ≡ holds (Here rules.variable_start) p.now }
+{
+    p.at(TokenKind::StringValue) || p.at(TokenKind::Dollar)
+}
+
+// Reports an error where no variable definition starts.
+fn want_variable<A: Allocator + Copy>(p: &mut ParserState<'_, A>) -> Result<(), AllocError>
+    ensures { OnOk result (Runs (want (Here rules.variable_start) message.ExpectedVariableDefinition) p.old p.new) }
+{
+    if starts_variable(p) {
+        return Ok(());
+    }
+    p.err(Message::ExpectedVariableDefinition)
+}
+
+/// What follows the `:` of a variable, of an argument or of an input field.
+pub fn variable_type<A: Allocator + Copy>(p: &mut ParserState<'_, A>) -> Result<(), AllocError>
     ensures { OnOk result (Runs (Call rule.VariableType) p.old p.new) }
 {
     if !starts_type(p) {

@@ -6,7 +6,7 @@ ghost use Rattle.std.specs.List.{AllZip};
 ghost use Rattle.lexical_grammar.specs.declared.TokenKind.TheVariants as token;
 ghost use Rattle.document_grammar.specs.declared.kind.SyntaxKind.TheVariants as kind;
 ghost use Rattle.parser_rules.specs.State as state;
-ghost use Rattle.parser_rules.specs.RuleLanguage.{At, Ready, Note, Do, want, expect, expect_word, refuse};
+ghost use Rattle.parser_rules.specs.RuleLanguage.{At, Word, Ready, Note, Bump, Do, When, Skip, want, expect, expect_word, refuse};
 ghost use Rattle.parser_rules.specs.Runs.{Runs};
 ghost use Rattle.document_grammar.specs.Choices.{is_keyword};
 ghost use Rattle.document_grammar.specs.Numbers.{number};
@@ -93,6 +93,29 @@ impl<'i, A: Allocator + Copy> ParserState<'i, A> {
         } else {
             self.err(message)
         }
+    }
+
+    /// The punctuator becomes a leaf, if it is there.
+    #[tactic(auto, using(parser_rules::proofs::runs::Running::sequence))]
+    pub fn skip(&mut self, token: TokenKind, kind: SyntaxKind) -> Result<(), AllocError>
+        ensures { OnOk result (Runs (When (At token) (Do (Bump kind)) Skip) self.old self.new) }
+    {
+        if self.at(token) {
+            return self.bump(kind);
+        }
+        Ok(())
+    }
+
+    /// The keyword becomes a leaf, if it is there.
+    #[tactic(auto, using(parser_rules::proofs::runs::Running::sequence))]
+    pub fn skip_word(&mut self, keyword: SyntaxKind) -> Result<(), AllocError>
+        requires { is_keyword (number keyword) ≡ true }
+        ensures { OnOk result (Runs (When (Word keyword) (Do (Bump keyword)) Skip) self.old self.new) }
+    {
+        if self.at_word(keyword) {
+            return self.bump(keyword);
+        }
+        Ok(())
     }
 
     /// Reports an error where the current token is not of the kind.

@@ -5,7 +5,7 @@ use Rattle.parser_rules.specs.declared.message.Message.{Message}
 use Rattle.document_grammar.specs.Builds.{start, add_leaf, finish}
 use Rattle.parser_rules.specs.State.{State, Text, Lexeme, read_on, flush, opened, closed, moved, bump}
 use Rattle.parser_rules.specs.Nodes.{Node, Name, NameForFragment, NameForEnum, kind_of}
-use Rattle.parser_rules.specs.RuleLanguage.{Test, Prim, Bump, Note, step, Rule, Do, Seq, When, Child, want}
+use Rattle.parser_rules.specs.RuleLanguage.{Test, Prim, Bump, Note, step, Rule, Skip, Do, Seq, When, Child, want}
 use Rattle.parser_rules.specs.Rules.{inside}
 use Rattle.parser_rules.specs.Runs.{Runs, skip, does, seq, yes, no, child}
 use Rattle.parser_rules.proofs.runs.Frame.{read-closed}
@@ -19,6 +19,11 @@ wanted (no e h) k = no e (seq h k)
 pub chosen : {q : Test} {a b : Prim} {c : Rule} {s t u : State} → Runs (When q (Do a) (Do b)) s t → Runs c t u → Runs (When q (Seq (Do a) c) (Seq (Do b) c)) s u
 chosen (yes e h) k = yes e (seq h k)
 chosen (no e h) k = no e (seq h k)
+
+-- one leaf, if it is there, and what follows
+pub optional : {q : Test} {a : Prim} {c : Rule} {s t u : State} → Runs (When q (Do a) Skip) s t → Runs c t u → Runs (When q (Seq (Do a) c) c) s u
+optional (yes e h) k = yes e (seq h k)
+optional (no e skip) k = no e k
 
 -- a node of one leaf may be closed before the next token is read
 pub one-leaf : (node leaf : SyntaxKind) (s f n t : State) (x : Lexeme) (text : Text)

@@ -15,7 +15,7 @@ use Rattle.grammar_machine.proofs.Steps.{goes, closes, sticks, misses}
 use Rattle.grammar_machine.proofs.Patterns.{label}
 use Rattle.grammar_machine.proofs.Sound.{any}
 use Rattle.grammar_machine.proofs.Depth.{count_in}
-use Rattle.parser_rules.specs.Nodes.{Node, Argument, VariableDefinition, DefaultValue, ListValue, ObjectField, symbol, kind_of}
+use Rattle.parser_rules.specs.Nodes.{Node, Argument, VariableDefinition, DefaultValue, ListValue, ObjectField, InputValueDefinition, symbol, kind_of}
 use Rattle.parser_rules.specs.RuleLanguage.{Prim, Bump, Note, At, Rule, Skip, Do, Seq, When, While, Child, TooDeep, Nested, Call, Typed}
 use Rattle.parser_rules.specs.Rules.{inside, body}
 use Rattle.parser_rules.proofs.lookahead.TokenSets.{absent, over, ready, by_near, kind_set}
@@ -102,6 +102,7 @@ loses VariableDefinition = true
 loses DefaultValue = true
 loses (ListValue c) = true
 loses (ObjectField c) = true
+loses InputValueDefinition = true
 loses _ = false
 
 abbrev pub is_high : Spot → Bool

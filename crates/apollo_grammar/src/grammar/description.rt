@@ -1,0 +1,71 @@
+// Descriptions.
+#![tactic(auto, using(parser_rules::proofs::runs::Running::running), unfolding(parser_rules::specs::Rules::inside, parser_rules::specs::Rules::body))]
+
+ghost use Rattle.std.specs.Prelude.{◌≡◌, true, OnOk};
+ghost use Rattle.lexical_grammar.specs.declared.TokenKind.TheVariants as token;
+ghost use Rattle.parser_rules.specs.Nodes as rule;
+ghost use Rattle.parser_rules.specs.Rules as rules;
+ghost use Rattle.parser_rules.specs.RuleLanguage.{Here, At, Word, fits, holds, Child, Call, When, Do, Bump, Skip, want};
+ghost use Rattle.parser_rules.specs.Runs.{Runs};
+ghost use Rattle.apollo_grammar.specs.View.{current_of};
+
+use super::name::name;
+use crate::state::ParserState;
+use document_grammar::SyntaxKind;
+use lexical_grammar::TokenKind;
+use parser_rules::{Constness, Message};
+use std::alloc::{AllocError, Allocator};
+
+/// A description (GraphQL October 2021, section 3, "Descriptions"), where a string comes next.
+pub fn description<A: Allocator + Copy>(p: &mut ParserState<'_, A>) -> Result<(), AllocError>
+    requires { true ≡ holds (At token.StringValue) p.old }
+    ensures { OnOk result (Runs (Child rule.Description) p.old p.new) }
+{
+    p.start_node(SyntaxKind::DESCRIPTION)?;
+    p.string_value()?;
+    p.finish_node();
+    Ok(())
+}
+
+/// A description, where a string comes next.
+pub fn maybe_description<A: Allocator + Copy>(p: &mut ParserState<'_, A>) -> Result<(), AllocError>
+    ensures { OnOk result (Runs (Call rule.MaybeDescription) p.old p.new) }
+{
+    if p.at(TokenKind::StringValue) {
+        return description(p);
+    }
+    Ok(())
+}
+
+/// Whether what has a description and a name starts here.
+#[tactic(auto, unfolding(parser_rules::specs::RuleLanguage::holds))]
+pub fn starts_named<A: Allocator + Copy>(p: &ParserState<'_, A>) -> bool
+    ensures { result ≡ holds (Here rules.named_start) p.now }
+{
+    p.at(TokenKind::StringValue) || p.at(TokenKind::Name)
+}
+
+/// A name with its description.
+pub fn described_name<A: Allocator + Copy>(p: &mut ParserState<'_, A>) -> Result<(), AllocError>
+    requires { true ≡ holds (Here rules.named_start) p.old }
+    ensures { OnOk result (Runs (Call rule.DescribedName) p.old p.new) }
+{
+    if p.at(TokenKind::StringValue) {
+        description(p)?;
+        return name(p);
+    }
+    p.name()
+}
+
+/// Reports an error where nothing with a description and a name starts.
+pub fn want_named<A: Allocator + Copy>(
+    p: &mut ParserState<'_, A>,
+    message: Message,
+) -> Result<(), AllocError>
+    ensures { OnOk result (Runs (want (Here rules.named_start) message) p.old p.new) }
+{
+    if starts_named(p) {
+        return Ok(());
+    }
+    p.err(message)
+}

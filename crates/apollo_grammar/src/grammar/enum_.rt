@@ -1,0 +1,94 @@
+// Enums.
+#![tactic(auto, using(parser_rules::proofs::runs::Running::looping), unfolding(parser_rules::specs::Rules::inside, parser_rules::specs::Rules::body))]
+
+ghost use Rattle.std.specs.Prelude.{◌≡◌, true, OnOk};
+ghost use Rattle.lexical_grammar.specs.declared.TokenKind.TheVariants as token;
+ghost use Rattle.parser_rules.specs.Nodes as rule;
+ghost use Rattle.parser_rules.specs.Rules as rules;
+ghost use Rattle.parser_rules.specs.RuleLanguage.{Here, At, Word, fits, holds, Child, Call, When, Do, Bump, Skip};
+ghost use Rattle.parser_rules.specs.Runs.{Runs};
+ghost use Rattle.apollo_grammar.specs.View.{current_of};
+
+use super::description::{maybe_description, starts_named, want_named};
+use super::directive::directives;
+use super::name::name;
+use super::value::enum_value;
+use crate::state::ParserState;
+use document_grammar::SyntaxKind;
+use lexical_grammar::TokenKind;
+use parser_rules::{Constness, Message};
+use std::alloc::{AllocError, Allocator};
+
+/// An enum (GraphQL October 2021, section 3.9, "Enums").
+pub fn enum_type_definition<A: Allocator + Copy>(
+    p: &mut ParserState<'_, A>,
+) -> Result<(), AllocError>
+    ensures { OnOk result (Runs (Child rule.EnumTypeDefinition) p.old p.new) }
+{
+    p.start_node(SyntaxKind::ENUM_TYPE_DEFINITION)?;
+    maybe_description(p)?;
+    p.expect_word(SyntaxKind::enum_KW, Message::ExpectedDefinition)?;
+    name(p)?;
+    directives(p, Constness::Const)?;
+    if p.at(TokenKind::LCurly) {
+        enum_values_definition(p)?;
+    }
+    p.finish_node();
+    Ok(())
+}
+
+/// An extension of an enum (GraphQL October 2021, section 3.9.1, "Enum Extensions").
+pub fn enum_type_extension<A: Allocator + Copy>(
+    p: &mut ParserState<'_, A>,
+) -> Result<(), AllocError>
+    ensures { OnOk result (Runs (Child rule.EnumTypeExtension) p.old p.new) }
+{
+    p.start_node(SyntaxKind::ENUM_TYPE_EXTENSION)?;
+    p.bump(SyntaxKind::extend_KW)?;
+    p.bump(SyntaxKind::enum_KW)?;
+    name(p)?;
+    if p.at(TokenKind::At) {
+        directives(p, Constness::Const)?;
+        if p.at(TokenKind::LCurly) {
+            enum_values_definition(p)?;
+        }
+    } else if p.at(TokenKind::LCurly) {
+        enum_values_definition(p)?;
+    } else {
+        p.err(Message::ExpectedEnumExtension)?;
+    }
+    p.finish_node();
+    Ok(())
+}
+
+// The values of an enum, where `{` comes next.
+fn enum_values_definition<A: Allocator + Copy>(p: &mut ParserState<'_, A>) -> Result<(), AllocError>
+    requires { true ≡ holds (At token.LCurly) p.old }
+    ensures { OnOk result (Runs (Child rule.EnumValuesDefinition) p.old p.new) }
+{
+    p.start_node(SyntaxKind::ENUM_VALUES_DEFINITION)?;
+    p.bump(SyntaxKind::L_CURLY)?;
+    want_named(p, Message::ExpectedEnumValueDefinition)?;
+    while starts_named(p) {
+        enum_value_definition(p)?;
+    }
+    p.expect(
+        TokenKind::RCurly,
+        SyntaxKind::R_CURLY,
+        Message::ExpectedRCurly,
+    )?;
+    p.finish_node();
+    Ok(())
+}
+
+// The definition of an enum's value.
+fn enum_value_definition<A: Allocator + Copy>(p: &mut ParserState<'_, A>) -> Result<(), AllocError>
+    ensures { OnOk result (Runs (Child rule.EnumValueDefinition) p.old p.new) }
+{
+    p.start_node(SyntaxKind::ENUM_VALUE_DEFINITION)?;
+    maybe_description(p)?;
+    enum_value(p)?;
+    directives(p, Constness::Const)?;
+    p.finish_node();
+    Ok(())
+}

@@ -1,0 +1,52 @@
+// Extensions: the word after `extend` says which.
+#![tactic(auto, using(crate::proofs::Looks::looking), unfolding(parser_rules::specs::Rules::body, parser_rules::specs::RuleLanguage::holds))]
+
+ghost use Rattle.std.specs.Prelude.{◌≡◌, true, OnOk};
+ghost use Rattle.lexical_grammar.specs.declared.TokenKind.TheVariants as token;
+ghost use Rattle.parser_rules.specs.Nodes as rule;
+ghost use Rattle.parser_rules.specs.Rules as rules;
+ghost use Rattle.parser_rules.specs.RuleLanguage.{Here, At, Word, fits, holds, Child, Call, When, Do, Bump, Skip};
+ghost use Rattle.parser_rules.specs.Runs.{Runs};
+ghost use Rattle.apollo_grammar.specs.View.{current_of};
+
+use super::enum_::enum_type_extension;
+use super::input::input_object_type_extension;
+use super::interface::interface_type_extension;
+use super::object::object_type_extension;
+use super::scalar::scalar_type_extension;
+use super::schema::schema_extension;
+use super::union_::union_type_extension;
+use crate::state::{ParserState, is_word};
+use document_grammar::SyntaxKind;
+use lexical_grammar::TokenKind;
+use parser_rules::{Constness, Message};
+use std::alloc::{AllocError, Allocator};
+
+/// An extension of the type system (GraphQL October 2021, section 3, "Type System Extensions"), where `extend` comes next.
+pub fn extensions<A: Allocator + Copy>(p: &mut ParserState<'_, A>) -> Result<(), AllocError>
+    ensures { OnOk result (Runs (Call rule.Extension) p.old p.new) }
+{
+    let next = p.peek();
+    if is_word(next, SyntaxKind::schema_KW) {
+        return schema_extension(p);
+    }
+    if is_word(next, SyntaxKind::scalar_KW) {
+        return scalar_type_extension(p);
+    }
+    if is_word(next, SyntaxKind::type_KW) {
+        return object_type_extension(p);
+    }
+    if is_word(next, SyntaxKind::interface_KW) {
+        return interface_type_extension(p);
+    }
+    if is_word(next, SyntaxKind::union_KW) {
+        return union_type_extension(p);
+    }
+    if is_word(next, SyntaxKind::enum_KW) {
+        return enum_type_extension(p);
+    }
+    if is_word(next, SyntaxKind::input_KW) {
+        return input_object_type_extension(p);
+    }
+    p.err_and_pop(Message::InvalidExtension)
+}

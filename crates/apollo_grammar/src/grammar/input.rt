@@ -1,0 +1,103 @@
+// Input objects.
+#![tactic(auto, using(parser_rules::proofs::runs::Running::looping), unfolding(parser_rules::specs::Rules::inside, parser_rules::specs::Rules::body))]
+
+ghost use Rattle.std.specs.Prelude.{◌≡◌, true, OnOk};
+ghost use Rattle.lexical_grammar.specs.declared.TokenKind.TheVariants as token;
+ghost use Rattle.parser_rules.specs.Nodes as rule;
+ghost use Rattle.parser_rules.specs.Rules as rules;
+ghost use Rattle.parser_rules.specs.RuleLanguage.{Here, At, Word, fits, holds, Child, Call, When, Do, Bump, Skip};
+ghost use Rattle.parser_rules.specs.Runs.{Runs};
+ghost use Rattle.apollo_grammar.specs.View.{current_of};
+
+use super::description::{described_name, maybe_description, starts_named, want_named};
+use super::directive::directives;
+use super::name::name;
+use super::variable::variable_type;
+use crate::state::ParserState;
+use document_grammar::SyntaxKind;
+use lexical_grammar::TokenKind;
+use parser_rules::{Constness, Message};
+use std::alloc::{AllocError, Allocator};
+
+/// An input object (GraphQL October 2021, section 3.10, "Input Objects").
+pub fn input_object_type_definition<A: Allocator + Copy>(
+    p: &mut ParserState<'_, A>,
+) -> Result<(), AllocError>
+    ensures { OnOk result (Runs (Child rule.InputObjectTypeDefinition) p.old p.new) }
+{
+    p.start_node(SyntaxKind::INPUT_OBJECT_TYPE_DEFINITION)?;
+    maybe_description(p)?;
+    p.expect_word(SyntaxKind::input_KW, Message::ExpectedDefinition)?;
+    name(p)?;
+    directives(p, Constness::Const)?;
+    if p.at(TokenKind::LCurly) {
+        input_fields_definition(p)?;
+    }
+    p.finish_node();
+    Ok(())
+}
+
+/// An extension of an input object (GraphQL October 2021, section 3.10.1, "Input Object Extensions").
+pub fn input_object_type_extension<A: Allocator + Copy>(
+    p: &mut ParserState<'_, A>,
+) -> Result<(), AllocError>
+    ensures { OnOk result (Runs (Child rule.InputObjectTypeExtension) p.old p.new) }
+{
+    p.start_node(SyntaxKind::INPUT_OBJECT_TYPE_EXTENSION)?;
+    p.bump(SyntaxKind::extend_KW)?;
+    p.bump(SyntaxKind::input_KW)?;
+    name(p)?;
+    if p.at(TokenKind::At) {
+        directives(p, Constness::Const)?;
+        if p.at(TokenKind::LCurly) {
+            input_fields_definition(p)?;
+        }
+    } else if p.at(TokenKind::LCurly) {
+        input_fields_definition(p)?;
+    } else {
+        p.err(Message::ExpectedInputExtension)?;
+    }
+    p.finish_node();
+    Ok(())
+}
+
+// The fields of an input object, where `{` comes next.
+fn input_fields_definition<A: Allocator + Copy>(
+    p: &mut ParserState<'_, A>,
+) -> Result<(), AllocError>
+    requires { true ≡ holds (At token.LCurly) p.old }
+    ensures { OnOk result (Runs (Child rule.InputFieldsDefinition) p.old p.new) }
+{
+    p.start_node(SyntaxKind::INPUT_FIELDS_DEFINITION)?;
+    p.bump(SyntaxKind::L_CURLY)?;
+    want_named(p, Message::ExpectedInputValueDefinition)?;
+    while starts_named(p) {
+        input_value_definition(p)?;
+    }
+    p.expect(
+        TokenKind::RCurly,
+        SyntaxKind::R_CURLY,
+        Message::ExpectedRCurly,
+    )?;
+    p.finish_node();
+    Ok(())
+}
+
+/// The definition of an argument or of an input field (GraphQL October 2021, section 3.6.1, "Field Arguments").
+pub fn input_value_definition<A: Allocator + Copy>(
+    p: &mut ParserState<'_, A>,
+) -> Result<(), AllocError>
+    requires { true ≡ holds (Here rules.named_start) p.old }
+    ensures { OnOk result (Runs (Child rule.InputValueDefinition) p.old p.new) }
+{
+    p.start_node(SyntaxKind::INPUT_VALUE_DEFINITION)?;
+    described_name(p)?;
+    if p.at(TokenKind::Colon) {
+        p.bump(SyntaxKind::COLON)?;
+        variable_type(p)?;
+    } else {
+        p.err(Message::ExpectedName)?;
+    }
+    p.finish_node();
+    Ok(())
+}

@@ -1,0 +1,55 @@
+// Interfaces.
+#![tactic(auto, using(parser_rules::proofs::runs::Running::running), unfolding(parser_rules::specs::Rules::inside, parser_rules::specs::Rules::body))]
+
+ghost use Rattle.std.specs.Prelude.{◌≡◌, true, OnOk};
+ghost use Rattle.lexical_grammar.specs.declared.TokenKind.TheVariants as token;
+ghost use Rattle.parser_rules.specs.Nodes as rule;
+ghost use Rattle.parser_rules.specs.Rules as rules;
+ghost use Rattle.parser_rules.specs.RuleLanguage.{Here, At, Word, fits, holds, Child, Call, When, Do, Bump, Skip};
+ghost use Rattle.parser_rules.specs.Runs.{Runs};
+ghost use Rattle.apollo_grammar.specs.View.{current_of};
+
+use super::description::maybe_description;
+use super::directive::directives;
+use super::field::fields_definition;
+use super::name::name;
+use super::object::{implementing, maybe_implements};
+use crate::state::ParserState;
+use document_grammar::SyntaxKind;
+use lexical_grammar::TokenKind;
+use parser_rules::{Constness, Message};
+use std::alloc::{AllocError, Allocator};
+
+/// An interface (GraphQL October 2021, section 3.7, "Interfaces").
+pub fn interface_type_definition<A: Allocator + Copy>(
+    p: &mut ParserState<'_, A>,
+) -> Result<(), AllocError>
+    ensures { OnOk result (Runs (Child rule.InterfaceTypeDefinition) p.old p.new) }
+{
+    p.start_node(SyntaxKind::INTERFACE_TYPE_DEFINITION)?;
+    maybe_description(p)?;
+    p.expect_word(SyntaxKind::interface_KW, Message::ExpectedDefinition)?;
+    name(p)?;
+    maybe_implements(p)?;
+    directives(p, Constness::Const)?;
+    if p.at(TokenKind::LCurly) {
+        fields_definition(p)?;
+    }
+    p.finish_node();
+    Ok(())
+}
+
+/// An extension of an interface (GraphQL October 2021, section 3.7.1, "Interface Extensions").
+pub fn interface_type_extension<A: Allocator + Copy>(
+    p: &mut ParserState<'_, A>,
+) -> Result<(), AllocError>
+    ensures { OnOk result (Runs (Child rule.InterfaceTypeExtension) p.old p.new) }
+{
+    p.start_node(SyntaxKind::INTERFACE_TYPE_EXTENSION)?;
+    p.bump(SyntaxKind::extend_KW)?;
+    p.bump(SyntaxKind::interface_KW)?;
+    name(p)?;
+    implementing(p, Message::ExpectedInterfaceExtension)?;
+    p.finish_node();
+    Ok(())
+}

@@ -1,0 +1,129 @@
+// Object types.
+#![tactic(auto, using(parser_rules::proofs::runs::Running::looping), unfolding(parser_rules::specs::Rules::inside, parser_rules::specs::Rules::body))]
+
+ghost use Rattle.std.specs.Prelude.{◌≡◌, true, OnOk};
+ghost use Rattle.lexical_grammar.specs.declared.TokenKind.TheVariants as token;
+ghost use Rattle.parser_rules.specs.Nodes as rule;
+ghost use Rattle.parser_rules.specs.Rules as rules;
+ghost use Rattle.parser_rules.specs.RuleLanguage.{Here, At, Word, fits, holds, Child, Call, When, Do, Bump, Skip};
+ghost use Rattle.parser_rules.specs.Runs.{Runs};
+ghost use Rattle.apollo_grammar.specs.View.{current_of};
+
+use super::description::maybe_description;
+use super::directive::directives;
+use super::field::fields_definition;
+use super::name::name;
+use super::ty::named_type;
+use crate::state::ParserState;
+use document_grammar::SyntaxKind;
+use lexical_grammar::TokenKind;
+use parser_rules::{Constness, Message};
+use std::alloc::{AllocError, Allocator};
+
+/// An object type (GraphQL October 2021, section 3.6, "Objects").
+pub fn object_type_definition<A: Allocator + Copy>(
+    p: &mut ParserState<'_, A>,
+) -> Result<(), AllocError>
+    ensures { OnOk result (Runs (Child rule.ObjectTypeDefinition) p.old p.new) }
+{
+    p.start_node(SyntaxKind::OBJECT_TYPE_DEFINITION)?;
+    maybe_description(p)?;
+    p.expect_word(SyntaxKind::type_KW, Message::ExpectedDefinition)?;
+    type_name(p)?;
+    maybe_implements(p)?;
+    directives(p, Constness::Const)?;
+    if p.at(TokenKind::LCurly) {
+        fields_definition(p)?;
+    }
+    p.finish_node();
+    Ok(())
+}
+
+// The name of an object type.
+fn type_name<A: Allocator + Copy>(p: &mut ParserState<'_, A>) -> Result<(), AllocError>
+    ensures { OnOk result (Runs (Call rule.TypeName) p.old p.new) }
+{
+    if p.at(TokenKind::Name) {
+        return p.name();
+    }
+    p.err(Message::ExpectedTypeName)
+}
+
+/// An extension of an object type (GraphQL October 2021, section 3.6.3, "Object Extensions").
+pub fn object_type_extension<A: Allocator + Copy>(
+    p: &mut ParserState<'_, A>,
+) -> Result<(), AllocError>
+    ensures { OnOk result (Runs (Child rule.ObjectTypeExtension) p.old p.new) }
+{
+    p.start_node(SyntaxKind::OBJECT_TYPE_EXTENSION)?;
+    p.bump(SyntaxKind::extend_KW)?;
+    p.bump(SyntaxKind::type_KW)?;
+    name(p)?;
+    implementing(p, Message::ExpectedObjectExtension)?;
+    p.finish_node();
+    Ok(())
+}
+
+/// What an extension of an object type or of an interface adds.
+pub fn implementing<A: Allocator + Copy>(
+    p: &mut ParserState<'_, A>,
+    message: Message,
+) -> Result<(), AllocError>
+    ensures { OnOk result (Runs (rules.implementing message) p.old p.new) }
+{
+    if p.at_word(SyntaxKind::implements_KW) {
+        implements_interfaces(p)?;
+        directives(p, Constness::Const)?;
+        if p.at(TokenKind::LCurly) {
+            fields_definition(p)?;
+        }
+        return Ok(());
+    }
+    if p.at(TokenKind::At) {
+        directives(p, Constness::Const)?;
+        if p.at(TokenKind::LCurly) {
+            fields_definition(p)?;
+        }
+        return Ok(());
+    }
+    if p.at(TokenKind::LCurly) {
+        return fields_definition(p);
+    }
+    p.err(message)
+}
+
+/// The interfaces that a type implements, where `implements` comes next.
+pub fn maybe_implements<A: Allocator + Copy>(p: &mut ParserState<'_, A>) -> Result<(), AllocError>
+    ensures { OnOk result (Runs (Call rule.MaybeImplements) p.old p.new) }
+{
+    if p.at_word(SyntaxKind::implements_KW) {
+        return implements_interfaces(p);
+    }
+    Ok(())
+}
+
+// The interfaces that a type implements.
+fn implements_interfaces<A: Allocator + Copy>(p: &mut ParserState<'_, A>) -> Result<(), AllocError>
+    ensures { OnOk result (Runs (Child rule.ImplementsInterfaces) p.old p.new) }
+{
+    p.start_node(SyntaxKind::IMPLEMENTS_INTERFACES)?;
+    p.bump(SyntaxKind::implements_KW)?;
+    p.skip(TokenKind::Amp, SyntaxKind::AMP)?;
+    interface_name(p)?;
+    while p.at(TokenKind::Amp) {
+        p.bump(SyntaxKind::AMP)?;
+        interface_name(p)?;
+    }
+    p.finish_node();
+    Ok(())
+}
+
+// The name of an interface.
+fn interface_name<A: Allocator + Copy>(p: &mut ParserState<'_, A>) -> Result<(), AllocError>
+    ensures { OnOk result (Runs (Call rule.InterfaceName) p.old p.new) }
+{
+    if p.at(TokenKind::Name) {
+        return named_type(p);
+    }
+    p.err(Message::ExpectedInterface)
+}

@@ -1,0 +1,53 @@
+// Scalars.
+#![tactic(auto, using(parser_rules::proofs::runs::Running::running), unfolding(parser_rules::specs::Rules::inside, parser_rules::specs::Rules::body))]
+
+ghost use Rattle.std.specs.Prelude.{◌≡◌, true, OnOk};
+ghost use Rattle.lexical_grammar.specs.declared.TokenKind.TheVariants as token;
+ghost use Rattle.parser_rules.specs.Nodes as rule;
+ghost use Rattle.parser_rules.specs.Rules as rules;
+ghost use Rattle.parser_rules.specs.RuleLanguage.{Here, At, Word, fits, holds, Child, Call, When, Do, Bump, Skip};
+ghost use Rattle.parser_rules.specs.Runs.{Runs};
+ghost use Rattle.apollo_grammar.specs.View.{current_of};
+
+use super::description::maybe_description;
+use super::directive::directives;
+use super::name::name;
+use crate::state::ParserState;
+use document_grammar::SyntaxKind;
+use lexical_grammar::TokenKind;
+use parser_rules::{Constness, Message};
+use std::alloc::{AllocError, Allocator};
+
+/// A scalar (GraphQL October 2021, section 3.5, "Scalars").
+pub fn scalar_type_definition<A: Allocator + Copy>(
+    p: &mut ParserState<'_, A>,
+) -> Result<(), AllocError>
+    ensures { OnOk result (Runs (Child rule.ScalarTypeDefinition) p.old p.new) }
+{
+    p.start_node(SyntaxKind::SCALAR_TYPE_DEFINITION)?;
+    maybe_description(p)?;
+    p.expect_word(SyntaxKind::scalar_KW, Message::ExpectedDefinition)?;
+    name(p)?;
+    directives(p, Constness::Const)?;
+    p.finish_node();
+    Ok(())
+}
+
+/// An extension of a scalar (GraphQL October 2021, section 3.5.3, "Scalar Extensions").
+pub fn scalar_type_extension<A: Allocator + Copy>(
+    p: &mut ParserState<'_, A>,
+) -> Result<(), AllocError>
+    ensures { OnOk result (Runs (Child rule.ScalarTypeExtension) p.old p.new) }
+{
+    p.start_node(SyntaxKind::SCALAR_TYPE_EXTENSION)?;
+    p.bump(SyntaxKind::extend_KW)?;
+    p.bump(SyntaxKind::scalar_KW)?;
+    name(p)?;
+    if p.at(TokenKind::At) {
+        directives(p, Constness::Const)?;
+    } else {
+        p.err(Message::ExpectedScalarExtension)?;
+    }
+    p.finish_node();
+    Ok(())
+}

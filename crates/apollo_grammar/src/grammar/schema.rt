@@ -1,0 +1,105 @@
+// Schemas.
+#![tactic(auto, using(parser_rules::proofs::runs::Running::looping), unfolding(parser_rules::specs::Rules::inside, parser_rules::specs::Rules::body))]
+
+ghost use Rattle.std.specs.Prelude.{◌≡◌, true, OnOk};
+ghost use Rattle.lexical_grammar.specs.declared.TokenKind.TheVariants as token;
+ghost use Rattle.parser_rules.specs.Nodes as rule;
+ghost use Rattle.parser_rules.specs.Rules as rules;
+ghost use Rattle.parser_rules.specs.RuleLanguage.{Here, At, Word, fits, holds, Child, Call, When, Do, Bump, Skip};
+ghost use Rattle.parser_rules.specs.Runs.{Runs};
+ghost use Rattle.apollo_grammar.specs.View.{current_of};
+
+use super::description::maybe_description;
+use super::directive::directives;
+use super::operation::operation_type;
+use super::ty::named_type;
+use crate::state::ParserState;
+use document_grammar::SyntaxKind;
+use lexical_grammar::TokenKind;
+use parser_rules::{Constness, Message};
+use std::alloc::{AllocError, Allocator};
+
+/// A schema (GraphQL October 2021, section 3.3, "Schema").
+pub fn schema_definition<A: Allocator + Copy>(p: &mut ParserState<'_, A>) -> Result<(), AllocError>
+    ensures { OnOk result (Runs (Child rule.SchemaDefinition) p.old p.new) }
+{
+    p.start_node(SyntaxKind::SCHEMA_DEFINITION)?;
+    maybe_description(p)?;
+    p.expect_word(SyntaxKind::schema_KW, Message::ExpectedDefinition)?;
+    directives(p, Constness::Const)?;
+    if p.at(TokenKind::LCurly) {
+        root_operations(p, Message::ExpectedRootOperation)?;
+    } else {
+        p.err(Message::ExpectedLCurly)?;
+    }
+    p.finish_node();
+    Ok(())
+}
+
+/// An extension of the schema (GraphQL October 2021, section 3.3.2, "Schema Extension").
+pub fn schema_extension<A: Allocator + Copy>(p: &mut ParserState<'_, A>) -> Result<(), AllocError>
+    ensures { OnOk result (Runs (Child rule.SchemaExtension) p.old p.new) }
+{
+    p.start_node(SyntaxKind::SCHEMA_EXTENSION)?;
+    p.bump(SyntaxKind::extend_KW)?;
+    p.bump(SyntaxKind::schema_KW)?;
+    if p.at(TokenKind::At) {
+        directives(p, Constness::Const)?;
+        if p.at(TokenKind::LCurly) {
+            root_operations(p, Message::ExpectedSchemaExtension)?;
+        }
+    } else if p.at(TokenKind::LCurly) {
+        root_operations(p, Message::ExpectedSchemaExtension)?;
+    } else {
+        p.err(Message::ExpectedSchemaExtension)?;
+    }
+    p.finish_node();
+    Ok(())
+}
+
+// The root operations between braces, where `{` comes next. Where there is none, that is reported.
+fn root_operations<A: Allocator + Copy>(
+    p: &mut ParserState<'_, A>,
+    message: Message,
+) -> Result<(), AllocError>
+    ensures { OnOk result (Runs (rules.root_operations message) p.old p.new) }
+{
+    p.bump(SyntaxKind::L_CURLY)?;
+    p.want(TokenKind::Name, message)?;
+    while p.at(TokenKind::Name) {
+        root_operation_type_definition(p)?;
+    }
+    p.expect(
+        TokenKind::RCurly,
+        SyntaxKind::R_CURLY,
+        Message::ExpectedRCurly,
+    )
+}
+
+// The type of a root operation.
+fn root_operation_type_definition<A: Allocator + Copy>(
+    p: &mut ParserState<'_, A>,
+) -> Result<(), AllocError>
+    ensures { OnOk result (Runs (Child rule.RootOperationTypeDefinition) p.old p.new) }
+{
+    p.start_node(SyntaxKind::ROOT_OPERATION_TYPE_DEFINITION)?;
+    operation_type(p)?;
+    if p.at(TokenKind::Colon) {
+        p.bump(SyntaxKind::COLON)?;
+        root_type(p)?;
+    } else {
+        p.err(Message::ExpectedRootType)?;
+    }
+    p.finish_node();
+    Ok(())
+}
+
+// What follows a root operation's `:`.
+fn root_type<A: Allocator + Copy>(p: &mut ParserState<'_, A>) -> Result<(), AllocError>
+    ensures { OnOk result (Runs (Call rule.RootType) p.old p.new) }
+{
+    if p.at(TokenKind::Name) {
+        return named_type(p);
+    }
+    p.err(Message::ExpectedRootType)
+}

@@ -1,0 +1,88 @@
+// Unions.
+#![tactic(auto, using(parser_rules::proofs::runs::Running::looping), unfolding(parser_rules::specs::Rules::inside, parser_rules::specs::Rules::body))]
+
+ghost use Rattle.std.specs.Prelude.{◌≡◌, true, OnOk};
+ghost use Rattle.lexical_grammar.specs.declared.TokenKind.TheVariants as token;
+ghost use Rattle.parser_rules.specs.Nodes as rule;
+ghost use Rattle.parser_rules.specs.Rules as rules;
+ghost use Rattle.parser_rules.specs.RuleLanguage.{Here, At, Word, fits, holds, Child, Call, When, Do, Bump, Skip};
+ghost use Rattle.parser_rules.specs.Runs.{Runs};
+ghost use Rattle.apollo_grammar.specs.View.{current_of};
+
+use super::description::maybe_description;
+use super::directive::directives;
+use super::name::name;
+use super::ty::named_type;
+use crate::state::ParserState;
+use document_grammar::SyntaxKind;
+use lexical_grammar::TokenKind;
+use parser_rules::{Constness, Message};
+use std::alloc::{AllocError, Allocator};
+
+/// A union (GraphQL October 2021, section 3.8, "Unions").
+pub fn union_type_definition<A: Allocator + Copy>(
+    p: &mut ParserState<'_, A>,
+) -> Result<(), AllocError>
+    ensures { OnOk result (Runs (Child rule.UnionTypeDefinition) p.old p.new) }
+{
+    p.start_node(SyntaxKind::UNION_TYPE_DEFINITION)?;
+    maybe_description(p)?;
+    p.expect_word(SyntaxKind::union_KW, Message::ExpectedDefinition)?;
+    name(p)?;
+    directives(p, Constness::Const)?;
+    if p.at(TokenKind::Eq) {
+        union_member_types(p)?;
+    }
+    p.finish_node();
+    Ok(())
+}
+
+/// An extension of a union (GraphQL October 2021, section 3.8.1, "Union Extensions").
+pub fn union_type_extension<A: Allocator + Copy>(
+    p: &mut ParserState<'_, A>,
+) -> Result<(), AllocError>
+    ensures { OnOk result (Runs (Child rule.UnionTypeExtension) p.old p.new) }
+{
+    p.start_node(SyntaxKind::UNION_TYPE_EXTENSION)?;
+    p.bump(SyntaxKind::extend_KW)?;
+    p.bump(SyntaxKind::union_KW)?;
+    name(p)?;
+    if p.at(TokenKind::At) {
+        directives(p, Constness::Const)?;
+        if p.at(TokenKind::Eq) {
+            union_member_types(p)?;
+        }
+    } else if p.at(TokenKind::Eq) {
+        union_member_types(p)?;
+    } else {
+        p.err(Message::ExpectedUnionExtension)?;
+    }
+    p.finish_node();
+    Ok(())
+}
+
+// The members of a union, where `=` comes next.
+fn union_member_types<A: Allocator + Copy>(p: &mut ParserState<'_, A>) -> Result<(), AllocError>
+    ensures { OnOk result (Runs (Child rule.UnionMemberTypes) p.old p.new) }
+{
+    p.start_node(SyntaxKind::UNION_MEMBER_TYPES)?;
+    p.bump(SyntaxKind::EQ)?;
+    p.skip(TokenKind::Pipe, SyntaxKind::PIPE)?;
+    union_member(p)?;
+    while p.at(TokenKind::Pipe) {
+        p.bump(SyntaxKind::PIPE)?;
+        union_member(p)?;
+    }
+    p.finish_node();
+    Ok(())
+}
+
+// A member of a union.
+fn union_member<A: Allocator + Copy>(p: &mut ParserState<'_, A>) -> Result<(), AllocError>
+    ensures { OnOk result (Runs (Call rule.UnionMember) p.old p.new) }
+{
+    if p.at(TokenKind::Name) {
+        return named_type(p);
+    }
+    p.err(Message::ExpectedUnionMember)
+}
