@@ -3,7 +3,6 @@ pub mod MachineStack
 pub mod Settled
 pub mod TableCheck
 pub mod FirstReport
-pub mod Plain
 pub mod Positions
 pub mod Moves
 pub mod Simulation

@@ -1,9 +1,5 @@
 -- With which tokens the rules begin a node.
-use Rattle.document_grammar.specs.Pattern.{member}
-use Rattle.std.proofs.Common.{ℕ, suc, Bool, true, false, cond, List, [], ◌∷◌, drop, bit_and, bit_or}
-use Rattle.document_grammar.specs.Kinds.{OPERATION_DEFINITION, FRAGMENT_DEFINITION, VARIABLE_DEFINITION}
-use Rattle.document_grammar.specs.Choices.{Definitions}
-use Rattle.lexical_grammar.specs.declared.TokenKind.TheVariants as token
+use Rattle.std.proofs.Common.{ℕ, suc, Bool, true, false, cond, List, [], ◌∷◌, bit_and, bit_or}
 use Rattle.grammar_machine.specs.Table.{Entry, entry}
 use Rattle.grammar_machine.specs.Machine.{entries}
 use Rattle.grammar_machine.proofs.Checks.{entries_mask}
@@ -13,23 +9,13 @@ use Rattle.document_grammar.specs.declared.kind.SyntaxKind.TheVariants as kind
 use Rattle.parser_rules.specs.Nodes.{Node, Name, symbol}
 use Rattle.parser_rules.specs.RuleLanguage.{Rule, Do, Bump, Note, Seq, When, Child, Call, Nested, Typed}
 use Rattle.parser_rules.specs.Rules.{inside, body}
-use Rattle.parser_rules.proofs.lookahead.TokenSets.{kind_set}
-use Rattle.parser_rules.proofs.runs.Progress.{consumes}
-
--- the definitions and extensions of the type system
-abbrev pub type_system : List ℕ
-type_system = drop 2 Definitions
-
--- the classes with which a node of the symbol begins where no rule reads it: descriptions of what is executable, and the type system
-unfoldable pub unread : ℕ → ℕ
-unread k = 0
 
 abbrev pub without : ℕ → ℕ → ℕ
 without x m = bit_xor x (bit_and x m)
 
--- The classes of the token with which a node begins: those of the table, without what no rule reads.
+-- the classes of the token with which a node begins
 unfoldable pub first_of : Node → ℕ
-first_of c = without (entries_mask (entries (symbol c))) (unread (symbol c))
+first_of c = entries_mask (entries (symbol c))
 
 abbrev seconds : List Entry → ℕ
 seconds [] = 0

@@ -33,7 +33,6 @@ use Rattle.parser_rules.proofs.lookahead.TokenSets.{ready-is, of-any, ready}
 use Rattle.parser_rules.proofs.lookahead.Split.{low, loose, spot}
 use Rattle.parser_rules.proofs.soundness.TableCheck.{turns_follow}
 use Rattle.parser_rules.proofs.NodeChecks.{document_passes}
-use Rattle.parser_rules.proofs.soundness.Plain.{Plain}
 use Rattle.parser_rules.proofs.soundness.Positions.{Fits, Tells}
 use Rattle.parser_rules.proofs.runs.Anew.{Built, built_of, on, Same_steps, anew}
 use Rattle.parser_rules.proofs.soundness.Soundness.{document-label, whole, root-stands, loops, Turn, from_now, now_words, Silent, run-out, none-right}
@@ -81,11 +80,11 @@ pub record Recovered (st s : State) (t : Tree) : Type 0 where
 root-layer : (b : Building) (o : Open) (k : ℕ) (f : Forest) (more : List (ℕ × Forest)) → b.above ≡ o ∷ [] → stack b ≡ (k, f) ∷ more → strip b.here ≡ f
 root-layer b o k f more a e = ap (λ (l : ℕ × Forest). l.1) (head-same (sym (ap (layers b.here) a) ∙ e))
 
-pub recovers : (st s : State) (c : Turn st) (t : Tree) → all_ignored st.pending ≡ true → Spells (now_words st c) t document → Plain t → nest t ≤ st.limit → all_tokens (from_now st c) ≡ true → Runs loops st s → Recovered st s t
-recovers st s c t i h p n a run =
+pub recovers : (st s : State) (c : Turn st) (t : Tree) → all_ignored st.pending ≡ true → Spells (now_words st c) t document → nest t ≤ st.limit → all_tokens (from_now st c) ≡ true → Runs loops st s → Recovered st s t
+recovers st s c t i h n a run =
     let f = from-turn st s c i run in
     elim f.parsed [
-      | inl o ↦ absurd (none-right st.limit (from_now st c) o.report o.taken t h p n a o.right)
+      | inl o ↦ absurd (none-right st.limit (from_now st c) o.report o.taken t h n a o.right)
       | inr o ↦ (
           let own : State = on s f.own in
           let more : built.Forest = f.steps.more in

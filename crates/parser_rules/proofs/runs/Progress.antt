@@ -1,5 +1,5 @@
 -- Rules that surely take the token that is there: so loops end.
-use Rattle.std.proofs.Common.{◌≡◌, ℕ, zero, suc, ltb, length, get_or, List, [], ◌∷◌, ◌<◌, Option, Some, None, refl, sym, ◌∙◌, ap, ap₂, subst, arith, true, false, Bool, not, ◌||◌, inl, inr, true≢false}
+use Rattle.std.proofs.Common.{◌≡◌, ℕ, zero, suc, ltb, length, get_or, List, [], ◌∷◌, ◌<◌, Some, None, refl, sym, ◌∙◌, ap, ap₂, subst, arith, true, false, Bool, not, ◌||◌, inl, inr, true≢false}
 use Rattle.lexical_grammar.specs.declared.TokenKind.{TokenKind}
 use Rattle.lexical_grammar.specs.declared.TokenKind.TheVariants as token
 use Rattle.document_grammar.specs.declared.kind.SyntaxKind.{SyntaxKind}

@@ -1,10 +1,9 @@
--- What is said of the first report: the machine is stuck there, or no rule reads yet what is there, or each tree that goes on nests
--- deeper than the limit, or an answer is no token.
-use Rattle.std.proofs.Common.{◌≡◌, ℕ, ◌+◌, length, ◌<◌, true, false, List, ◌∷◌, ◌++◌, Some}
+-- What is said of the first report: the machine is stuck there, or each tree that goes on nests deeper than the limit, or an answer is no
+-- token.
+use Rattle.std.proofs.Common.{◌≡◌, ℕ, ◌+◌, length, ◌<◌, false, List, ◌∷◌, ◌++◌, Some}
 use Rattle.lexical_grammar.specs.Answers.{Answer, is_token}
-use Rattle.document_grammar.specs.Tree.{Token, Tree, Forest}
-use Rattle.grammar_machine.specs.Machine.{holds as within, first, go, Frame, frame, Reach}
-use Rattle.grammar_machine.proofs.Run.{next}
+use Rattle.document_grammar.specs.Tree.{Token, Tree}
+use Rattle.grammar_machine.specs.Machine.{first, Frame, Reach}
 use Rattle.grammar_machine.proofs.Depth.{nesting_all}
 use Rattle.document_grammar.specs.Derivation.{Sort}
 use Rattle.grammar_machine.proofs.SentenceTheorems.{FaultIn, start_symbol}
@@ -12,7 +11,6 @@ use Rattle.grammar_machine.proofs.MachineTheorems.{Parse}
 use Rattle.parser_rules.specs.declared.message.Message.{Message}
 use Rattle.parser_rules.specs.State.{Lexeme, Report, fault_report, recursion_limit_report}
 use Rattle.parser_rules.proofs.reports.NoReport.{answers_tokens, current_tokens, report_of, Passed, Held, Now}
-use Rattle.parser_rules.proofs.lookahead.FirstSets.{unread}
 
 module _ (sort : Sort) (answers : List Answer) (lim : ℕ) (w : List Token) where
   -- the start symbol
@@ -26,17 +24,6 @@ module _ (sort : Sort) (answers : List Answer) (lim : ℕ) (w : List Token) wher
   -- the machine is stuck here, or the root ends and tokens are left
   abbrev pub Stuck : List Token → Type 0
   Stuck r = FaultIn sort w r × Viable r
-
-  -- the machine comes here and begins a node that no rule reads
-  pub record Unread (r : List Token) : Type 0 where
-    pub symbol : ℕ
-    pub state : ℕ
-    pub children : Forest
-    pub above : List Frame
-    pub reached : Reach top w (frame symbol state children ∷ above) r
-    pub child : ℕ
-    pub goes_on : next symbol state r ≡ go child
-    pub class : within (first r) (unread child) ≡ true
 
   -- each tree of the tokens read and the next one nests deeper than the limit
   pub record TooMany (r : List Token) : Type 0 where
@@ -55,6 +42,5 @@ module _ (sort : Sort) (answers : List Answer) (lim : ℕ) (w : List Token) wher
   -- a report, and how many tokens were taken before it
   pub data Right : Report → ℕ → Type 0 where
     stuck_here : (said : Message) {t : Lexeme} {items : List Answer} {m : ℕ} → Now (Some t) items → Held answers (Some t) items → Stuck (left t items) → Behind m (left t items) → Right (fault_report said t) m
-    unread_here : (said : Message) {t : Lexeme} {items : List Answer} {m : ℕ} → Now (Some t) items → Held answers (Some t) items → Unread (left t items) → Behind m (left t items) → Right (fault_report said t) m
     deep_here : {t : Lexeme} {items : List Answer} {m : ℕ} → Now (Some t) items → Held answers (Some t) items → TooMany (left t items) → Behind m (left t items) → Right (recursion_limit_report t) m
     no_token : {x : Answer} {items : List Answer} {m : ℕ} → Passed answers (x ∷ items) → is_token x ≡ false → Viable (answers_tokens items) → Behind m (answers_tokens items) → Right (report_of x) m

@@ -10,7 +10,7 @@ use Rattle.document_grammar.specs.Builds.{add_leaf}
 use Rattle.document_grammar.specs.Tree.{Token, Tree, leaf, node, Forest, none, ◌▸◌, ◌+++◌}
 use Rattle.document_grammar.specs.Booleans.{◌and◌, ◌or◌}
 use Rattle.grammar_machine.specs.Machine.{holds as within, is_leaf, ends, exit, arcs, target, entries, fires, Move, go, close, stuck, class, first as first_class, Frame, frame, Reach, shift, open', closed as closes_node, has}
-use Rattle.document_grammar.proofs.Booleans.{either, false-true, and-l, and-r, or-c, not-c, implies}
+use Rattle.document_grammar.proofs.Booleans.{false-true, and-l, and-r, or-c, not-c, implies}
 use Rattle.grammar_machine.proofs.TableLemmas.{holds-subset, holds-disjoint, arcs-at}
 use Rattle.grammar_machine.proofs.Checks.{subset}
 use Rattle.grammar_machine.proofs.Depth.{count_in, nesting_all, left-depth}
@@ -31,13 +31,12 @@ use Rattle.parser_rules.proofs.soundness.FirstReport.{Stuck, TooMany, no_token}
 use Rattle.parser_rules.proofs.lookahead.MachineClasses.{Next, sees-next}
 use Rattle.parser_rules.proofs.lookahead.Split.{Level, low, Sure, loose, firm, full, Spot, spot, lost}
 use Rattle.parser_rules.proofs.runs.Reading.{second-shown, reading, found}
-use Rattle.parser_rules.proofs.lookahead.TokenSets.{edges, class_of, of-any, over, Seen, seen-any, holds-minus}
-use Rattle.parser_rules.proofs.lookahead.FirstSets.{without, unread}
+use Rattle.parser_rules.proofs.lookahead.TokenSets.{edges, class_of, of-any, over, Seen, seen-any}
 use Rattle.parser_rules.proofs.soundness.MachineStack.{image, image-some, shows-snoc, put-image, image-node, show-node, lay, lay-put}
 use Rattle.parser_rules.proofs.soundness.Settled.{Fitting, settled-at}
 use Rattle.parser_rules.proofs.soundness.TableCheck.{Then, behind, raised, own, levels, leaf_of, loses, takes, ends_at, after, closing, losing, counted, limits_at, reports, is_node, ends_well, follows_table, no_brace, leaves_well, deepens}
 use Rattle.parser_rules.proofs.NodeChecks.{node-passes}
-use Rattle.parser_rules.proofs.soundness.Positions.{Reading, Alike, opened-alike, closed-alike, idle-rest, idle-grows, top, Place, Stands, Lost, Known, StandsAt, Rightly, Still_calm, Tells, Fits, Way, Out, tell-on, known-firm, start_good, shown, Blamed, spent-behind, fitting, stands-taken, idle-lost, leveled-leaf, leveled-begin, leveled-end, still-leveled, moved-on}
+use Rattle.parser_rules.proofs.soundness.Positions.{Reading, Alike, opened-alike, closed-alike, idle-rest, idle-grows, top, Place, Stands, Lost, Known, StandsAt, Rightly, Still_calm, Tells, Fits, Way, Out, tell-on, known-firm, start_good, shown, spent-behind, fitting, stands-taken, idle-lost, leveled-leaf, leveled-begin, leveled-end, still-leveled, moved-on}
 
 module _ (R : Reading) where
   open R use {sort, answers, limit as lim, words as w}
@@ -63,27 +62,20 @@ module _ (R : Reading) where
       let e : s ≡ (top R) = (reach-sound (start-no-leaf (top R) (start_good R)) alone).2 in
       (fault-left (top R) (start_good R) w q f (rest st) (subst (λ (n : ℕ). Reach (top R) w (frame n q f ∷ []) (rest st)) e alone) (subst (λ (n : ℕ). next n q (rest st) ≡ close) e m) z, (frame s q f ∷ fs, c.reach))
 
-  pub note-right : (s : ℕ) (p : Spot) (x y : ℕ) (fs : List Frame) (st : State) → reports s p x y ≡ true → Fits R s p x y fs st → Blamed R (rest st)
+  pub note-right : (s : ℕ) (p : Spot) (x y : ℕ) (fs : List Frame) (st : State) → reports s p x y ≡ true → Fits R s p x y fs st → Stuck sort answers lim w (rest st)
   unfolding reports has fires
-  note-right s lost x y fs st h g = inl g.stands.0
+  note-right s lost x y fs st h g = g.stands.0
   note-right s (spot q l d) x y fs st h g = on (next s q (rest st)) refl
     where
       c : Stands R s q l fs st
       c = g.stands.0
 
-      -- the machine goes on at most with what no rule reads
-      class : (k : ℕ) → next s q (rest st) ≡ go k → within (first_class (rest st)) (unread k) ≡ true
-      class k m = elim (either (within (first_class (rest st)) (unread k))) [
-        | inl u ↦ u
-        | inr u ↦ false-true (misses-fires (entries k) (without x (unread k)) (behind y) _ _ (arcs-at (arcs s q) (λ k q'. misses k (without x (unread k)) (behind y)) k (and-l _ _ h) (move-has s q _ _ k m)) (holds-minus _ x (unread k) (fits-next g).near u) (fits-next g).far) (move-fires s q _ _ k m)
-      ]
-
-      on : (m : Move) → next s q (rest st) ≡ m → Blamed R (rest st)
-      on (go k) m = inr (record { symbol = s; state = q; children = c.children; above = fs; reached = c.place.reach; child = k; goes_on = m; class = class k m })
-      on stuck m = inl (fault (top R) (start_good R) w s q c.children fs (rest st) c.place.reach m, (frame s q c.children ∷ fs, c.place.reach))
+      on : (m : Move) → next s q (rest st) ≡ m → Stuck sort answers lim w (rest st)
+      on (go k) m = false-true (misses-fires (entries k) x (behind y) _ _ (arcs-at (arcs s q) (λ k q'. misses k x (behind y)) k (and-l _ _ h) (move-has s q _ _ k m)) (fits-next g).near (fits-next g).far) (move-fires s q _ _ k m)
+      on stuck m = (fault (top R) (start_good R) w s q c.children fs (rest st) c.place.reach m, (frame s q c.children ∷ fs, c.place.reach))
       on close m = elim (or-c _ _ (and-r _ _ h)) [
         | inl e ↦ false-true (not-c _ e) (move-ends s q _ _ m)
-        | inr e ↦ inl (root-stuck c.place (and-l _ _ e) m (λ z. false-true (holds-disjoint 0 x 1 (and-r _ _ e) (subst (λ (a : ℕ). within a x ≡ true) z (fits-next g).near)) edges.end_one))
+        | inr e ↦ root-stuck c.place (and-l _ _ e) m (λ z. false-true (holds-disjoint 0 x 1 (and-r _ _ e) (subst (λ (a : ℕ). within a x ≡ true) z (fits-next g).near)) edges.end_one)
       ]
 
   -- ---- the limit

@@ -8,13 +8,12 @@ use Rattle.std.proofs.Common.{◌≡◌, ℕ, zero, suc, ◌≤◌, ◌+◌, len
 use Rattle.std.specs.Prelude.{map, take}
 use Rattle.std.specs.Str.{IsUtf8}
 use Rattle.std.proofs.lemmas.List.{map-append, length-append}
-use Rattle.grammar_machine.specs.Machine.{frame}
 use Rattle.grammar_machine.proofs.SentenceTheorems.{not-starts, read-map, two-marks, one-sentence}
 use Rattle.lexical_grammar.specs.Cut.{Item, Cut, texts, Significant, significant_word}
 use Rattle.lexical_grammar.specs.Begins.{are_tokens}
 use Rattle.lexical_grammar.specs.Answers.{Answer, gives, limited, is_token, limit_at, limit_index, is_end}
 use Rattle.document_grammar.specs.declared.kind.SyntaxKind.TheVariants as kind
-use Rattle.document_grammar.specs.Derivation.{document, Spells, Mark, word, marks, Yield, Starts, StartsWithin}
+use Rattle.document_grammar.specs.Derivation.{document, Spells, Mark, word, marks, Starts, StartsWithin}
 use Rattle.document_grammar.specs.Sentence.{token_of, Sentence, Within, Begins, StartSentence, StartSentenceWithin, leaf_number}
 use Rattle.document_grammar.specs.Tree.{Token, Tree}
 use Rattle.document_grammar.proofs.Booleans.{and-i, and-l, and-r, either}
@@ -32,9 +31,8 @@ use Rattle.document_grammar.specs.Forests as built
 use Rattle.parser_rules.proofs.runs.Reading.{Reading, stops, cuts, bad_text as bad_item, waits, shows, looks}
 use Rattle.parser_rules.proofs.runs.Frame.{add_all-above, added-all}
 use Rattle.parser_rules.proofs.soundness.Settled.{EndedFit, ended-root, settled-added}
-use Rattle.parser_rules.proofs.soundness.Plain.{Plain}
-use Rattle.parser_rules.proofs.soundness.FirstReport.{Right, Viable, Behind, stuck_here, unread_here, deep_here, no_token}
-use Rattle.parser_rules.proofs.soundness.Soundness.{given, StartsPlain, parsed, accepted-plain, sound, item-words, answers-append, no-token-words, words-before, viable-begins, not-plain, not-within-one}
+use Rattle.parser_rules.proofs.soundness.FirstReport.{Right, Viable, Behind, stuck_here, deep_here, no_token}
+use Rattle.parser_rules.proofs.soundness.Soundness.{given, parsed, accepted, sound, item-words, answers-append, no-token-words, words-before, viable-begins, not-within-one}
 
 -- ---- all items are given
 
@@ -164,17 +162,11 @@ module _ {k : ℕ} {items : List Item} {front ys : List Answer} (t : Lexeme) (b 
 
 -- ---- the headline
 
--- a sentence without what no rule reads yet starts so
-abbrev pub StartPlain : List Mark → Type 0
-StartPlain front = (h : StartSentence front) × Plain h.tree
-
 -- The first report of a text, at an item: no sentence starts with the tokens before, that of the item, or the end, and the next; each that
 -- starts with them and that of the item nests deeper than the limit; or the item is bad text, or the first that is too many. Where
 -- two tokens count, the second was answered.
 pub data Reason (items : List Item) (r k : ℕ) (before : List Item) (item : Item) (more : List Item) : Report → Type 0 where
   fault : (said : Message) (t : Lexeme) → item_of t ≡ item → (Answered k before more t → StartSentence (map word (words_of before) ++ take 2 (marks (words_of (item ∷ more)))) → ⊥)
-      → Reason items r k before item more (fault_report said t)
-  unread : (said : Message) (t : Lexeme) → item_of t ≡ item → (Answered k before more t → StartPlain (map word (words_of before) ++ take 2 (marks (words_of (item ∷ more)))) → ⊥)
       → Reason items r k before item more (fault_report said t)
   too_deep : (t : Lexeme) → item_of t ≡ item → (StartSentenceWithin r (map word (words_of before) ++ take 1 (marks (words_of (item ∷ more)))) → ⊥)
       → Reason items r k before item more (recursion_limit_report t)
@@ -194,28 +186,25 @@ pub record IsRight (source : List ℕ) (items : List Item) (r k : ℕ) (e : Repo
 from-words : (front before : List Token) (l m : List Mark) → front ≡ before → l ≡ m → map word before ++ l ≡ read front ++ m
 from-words front before l m e f = ap₂ (λ (l m : List Mark). l ++ m) (read-map before ∙ ap read (sym e)) f
 
-plain-starts : (front : List Mark) → StartPlain front → StartsPlain front
-plain-starts front (h, p) = (Yield h.tree, h.tree, h.rest, (h.sentence.derivation, refl), h.beginning, p)
-
 no-kind : (item : Item) → is_token (gives item) ≡ false → item.kind ≡ None
 no-kind item h = (elim item.kind as (λ found. is_some found ≡ false → found ≡ None) [ None ↦ λ h. refl | Some k ↦ λ h. absurd (true≢false h) ]) h
 
 module _ (r k : ℕ) (source : List ℕ) (items : List Item) (s : State) (cut : Cut source items) (root : IsRoot s.tree) (run : Runs (Call Document) (begun (limited k items) r kind.DOCUMENT) s) where
   -- Acceptance.
-  pub accepts-text : (t : Tree) → Sentence source t document → Within source t r k → Plain t → s.errors ≡ []
-  accepts-text t h n p =
+  pub accepts-text : (t : Tree) → Sentence source t document → Within source t r k → s.errors ≡ []
+  accepts-text t h n =
       let same : h.items ≡ items = one-cut source h.items items h.cut cut h.tokens in
       let tokens : are_tokens items ≡ true = subst (λ (l : List Item). are_tokens l ≡ true) same h.tokens in
       let other : items ≡ n.items = one-cut source items n.items cut n.cut tokens in
       let count : length items ≤ k = subst (λ (l : List Item). length l ≤ k) (sym other) n.count in
       let all : all_tokens (limited k items) ≡ true = all-given k items count tokens in
       let spells : Spells (answers_tokens (limited k items)) t document = (h.derivation, h.yield ∙ (ap (λ (l : List Item). map token_of (Significant l)) same ∙ sym (given k items all).words)) in
-      accepted-plain r (limited k items) s t (ends-well k 0 items cut.each) root run spells p n.nesting all
+      accepted r (limited k items) s t (ends-well k 0 items cut.each) root run spells n.nesting all
 
   -- The tree that is built then is the derivation.
-  pub accepts-tree : (t : Tree) → Sentence source t document → Within source t r k → Plain t → bare (tree_of (finished s)) ≡ t
-  accepts-tree t h n p =
-      let c = sound r k source items s (ends-well k 0 items cut.each) (λ tokens. cut) root (accepts-text t h n p) run in
+  pub accepts-tree : (t : Tree) → Sentence source t document → Within source t r k → bare (tree_of (finished s)) ≡ t
+  accepts-tree t h n =
+      let c = sound r k source items s (ends-well k 0 items cut.each) (λ tokens. cut) root (accepts-text t h n) run in
       one-sentence source (bare (tree_of (finished s))) t document c.sentence h
 
   xs : List Answer
@@ -248,10 +237,6 @@ module _ (r k : ℕ) (source : List ℕ) (items : List Item) (s : State) (cut : 
   unfolding xs
   told u e m (stuck_here said {t = t} {items = ys} now p k c) = at-place u (fault_report said t) m p k.1 c (λ q. fault said t (item-there t q) (λ a z. not-starts document (answers_tokens xs) (answers_tokens (given_by t ∷ ys)) k.0
       (subst (λ (l : List Mark). Starts document l) (from-words k.0.before (words_of q.before) _ _ (words-before xs p.front (given_by t ∷ ys) k.0.before p.split k.0.split ∙ q.words) (two-at t q now a)) (sentence-starts _ z))))
-  told u e m (unread_here said {t = t} {items = ys} now p k c) =
-      let n = not-plain r xs (answers_tokens xs) (answers_tokens (given_by t ∷ ys)) k in
-      at-place u (fault_report said t) m p (frame k.symbol k.state k.children ∷ k.above, k.reached) c
-      (λ q. unread said t (item-there t q) (λ a z. n.2 (subst (λ (l : List Mark). StartsPlain l) (from-words n.0 (words_of q.before) _ _ (words-before xs p.front (given_by t ∷ ys) n.0 p.split n.1 ∙ q.words) (two-at t q now a)) (plain-starts _ z))))
   told u e m (deep_here {t = t} {items = ys} now p k c) = at-place u (recursion_limit_report t) m p k.comes c (λ q. too_deep t (item-there t q) (λ z. not-within-one r xs (answers_tokens xs) (answers_tokens (given_by t ∷ ys)) k
       (subst (λ (l : List Mark). StartsWithin document r l) (from-words k.before (words_of q.before) _ _ (words-before xs p.front (given_by t ∷ ys) k.before p.split k.split ∙ q.words) (one-at t q now)) (sentence-starts-within r _ z))))
   told u e m (no_token {x = x} {items = ys} p n v c) =

@@ -1,5 +1,5 @@
 -- Where a rule is: the open nodes of the machine and of the builder, the levels, and what is known; and which reports are right there.
-use Rattle.std.proofs.Common.{◌≡◌, ℕ, suc, ◌+◌, ◌-◌, ◌≤◌, ◌<◌, max, true, false, cond, eqb, List, [], ◌∷◌, ◌++◌, length, Option, Some, None, refl, sym, ap, ap₂, ◌∙◌, subst, ◌⊎◌, inl, inr, eqb-true, arith}
+use Rattle.std.proofs.Common.{◌≡◌, ℕ, suc, ◌+◌, ◌-◌, ◌≤◌, ◌<◌, max, true, false, cond, eqb, List, [], ◌∷◌, ◌++◌, length, Option, Some, None, refl, sym, ap, ap₂, ◌∙◌, subst, ◌⊎◌, eqb-true, arith}
 use Rattle.std.specs.Prelude.{⊤}
 use Rattle.lexical_grammar.specs.Answers.{Answer}
 use Rattle.document_grammar.specs.declared.kind.SyntaxKind.{SyntaxKind}
@@ -28,7 +28,7 @@ use Rattle.parser_rules.proofs.runs.Frame.{adds, added-all}
 use Rattle.parser_rules.proofs.runs.Marked.{reports-along, reports-same}
 use Rattle.parser_rules.proofs.soundness.WithoutIgnored.{all_ignored, stack}
 use Rattle.parser_rules.proofs.reports.NoReport.{Now, rest, answers_tokens, current_tokens, Grows, Stays, Held, Told, told-on, told-first, Calm}
-use Rattle.parser_rules.proofs.soundness.FirstReport.{Stuck, Unread, TooMany, Behind, Right, stuck_here, unread_here, deep_here}
+use Rattle.parser_rules.proofs.soundness.FirstReport.{Stuck, TooMany, Behind, Right, stuck_here, deep_here}
 use Rattle.parser_rules.proofs.lookahead.Split.{Level, low, high, past, Sure, loose, firm, full, Spot, spot, lost, fill}
 use Rattle.parser_rules.proofs.runs.Reading.{Shown}
 use Rattle.parser_rules.proofs.lookahead.TokenSets.{Seen, seen-same}
@@ -224,13 +224,10 @@ module _ (R : Reading) where
 
   -- ---- reports
 
-  abbrev pub Blamed : List Token → Type 0
-  Blamed r = Stuck sort answers lim w r ⊎ Unread sort answers lim w r
-
-  pub note-told : (m : Message) (st : State) → Still_calm st → Blamed (rest st) → Taken (rest st) st.tree → Tells (note m st)
+  pub note-told : (m : Message) (st : State) → Still_calm st → Stuck sort answers lim w (rest st) → Taken (rest st) st.tree → Tells (note m st)
   note-told m st c b k =
       let t = current st c in
-      let right : Rightly (fault_report m t.0) k.count = elim (rw t.1 at b) [ inl a ↦ stuck_here m t.2 t.3 a (rw t.1 at k.behind) | inr a ↦ unread_here m t.2 t.3 a (rw t.1 at k.behind) ] in
+      let right : Rightly (fault_report m t.0) k.count = stuck_here m t.2 t.3 (rw t.1 at b) (rw t.1 at k.behind) in
       subst Tells (sym (note-is m st t.0 t.1 c.quiet.accepts)) (told-first answers Rightly k.count (fault_report m t.0) st _ c.quiet refl right k.settled)
 
   pub deep-told : (st : State) → Still_calm st → TooMany sort answers lim w (rest st) → Taken (rest st) st.tree → Tells (too_deep st)

@@ -1,7 +1,6 @@
 -- A run of the document's rule over a text: its first report is right; or it reports nothing, and the text is a sentence within both
 -- limits, whose derivation is the tree without its ignored leaves.
 use Rattle.parser_rules.proofs.runs.Steps.{along, turns-along}
-use Rattle.parser_rules.proofs.lookahead.FirstSets.{unread as unread_set}
 use Rattle.std.proofs.Common.{◌≡◌, ℕ, zero, suc, ◌≤◌, Bool, cond, true, false, List, [], ◌∷◌, ◌++◌, Option, Some, None, if◌then◌else◌, length, refl, sym, ap, ap₂, ◌∙◌, subst, ◌⊎◌, inl, inr, true≢false, is_some, eqb-true, append-nil, append_assoc, arith, not}
 use Rattle.std.specs.Prelude.{map}
 use Rattle.std.proofs.lemmas.Bool.{and_from}
@@ -19,20 +18,20 @@ use Rattle.document_grammar.specs.Numbered.{tree_of}
 use Rattle.grammar_machine.proofs.generated.Labels.{labels}
 use Rattle.document_grammar.specs.Pattern.{member}
 use Rattle.document_grammar.specs.Tree.{Token, Tree, node, Forest, none}
-use Rattle.document_grammar.specs.Derivation.{document, Spells, nest, StartsWithin, marks, Mark}
+use Rattle.document_grammar.specs.Derivation.{document, Spells, nest, StartsWithin}
 use Rattle.document_grammar.specs.Places.{bare}
 use Rattle.document_grammar.specs.Sentence.{token_of, leaf_number, Sentence, Within}
 use Rattle.document_grammar.specs.Booleans.{◌and◌, ◌or◌}
-use Rattle.grammar_machine.specs.Machine.{holds as within, is_leaf, class, first, second, frame, yields, Reach, start, close as closes_move, move}
+use Rattle.grammar_machine.specs.Machine.{holds as within, is_leaf, class, first, second, frame, yields, Reach, start, close as closes_move}
 use Rattle.document_grammar.proofs.Booleans.{false-true, and-l, and-r}
 use Rattle.grammar_machine.proofs.TableLemmas.{holds-subset, holds-disjoint, head-same, no-cons}
 use Rattle.grammar_machine.proofs.Depth.{count_in, nest-show, nesting_all, peak-end, peak-start}
 use Rattle.grammar_machine.proofs.SentenceTheorems.{sentence-parse, sound as ended_sound, accepts, begins-at}
 use Rattle.grammar_machine.proofs.Patterns.{label}
-use Rattle.grammar_machine.proofs.Run.{next, reach-other}
+use Rattle.grammar_machine.proofs.Run.{next}
 use Rattle.grammar_machine.proofs.FromMachineTree.{show, shows}
 use Rattle.grammar_machine.proofs.Sound.{any, AllSpelt}
-use Rattle.grammar_machine.proofs.Starts.{read, next_one, next_two, after-one, after-two}
+use Rattle.grammar_machine.proofs.Starts.{read, next_one, after-one}
 use Rattle.grammar_machine.proofs.Steps.{closes-move}
 use Rattle.grammar_machine.proofs.MachineTheorems.{Parse, done, document-begins}
 use Rattle.parser_rules.specs.State.{State, Lexeme, Report, add_all, fresh, begun, finished, is_over}
@@ -49,8 +48,7 @@ use Rattle.parser_rules.proofs.lookahead.Split.{Level, low, high, past, loose, s
 use Rattle.parser_rules.proofs.lookahead.MachineClasses.{Next}
 use Rattle.parser_rules.proofs.soundness.TableCheck.{ok, raised, own, owed, behind, root_ends, document_follows}
 use Rattle.parser_rules.proofs.NodeChecks.{document_passes}
-use Rattle.parser_rules.proofs.soundness.FirstReport.{Viable, Unread, TooMany, Right, stuck_here, unread_here, deep_here, no_token}
-use Rattle.parser_rules.proofs.soundness.Plain.{Plain, plain-read}
+use Rattle.parser_rules.proofs.soundness.FirstReport.{Viable, TooMany, Right, stuck_here, deep_here, no_token}
 use Rattle.parser_rules.proofs.soundness.Positions.{StandsAt, Reading, run-grows, Leveled, Place, Fits, Out, Tells, Rightly, tell-on, shown}
 use Rattle.parser_rules.proofs.soundness.Moves.{fits-next}
 use Rattle.parser_rules.proofs.soundness.Simulation.{good, link}
@@ -255,32 +253,6 @@ not-within-one r xs w rest k h =
     let nests : nest h.1 ≡ nesting_all p.0 = ap nest (sym p.2) ∙ nest-show p.0 p.1.0 in
     omega (arith, deeper, nests, h.5)
 
--- a sentence without what no rule reads yet starts so
-abbrev pub StartsPlain : List Mark → Type 0
-StartsPlain l = (w : List Token) × (t : Tree) × (v : List Mark) × Spells w t document × (marks w ≡ l ++ v) × Plain t
-
--- No such sentence starts with the tokens before, what no rule reads, and the next token.
-pub not-plain : (r : ℕ) (xs : List Answer) (w rest : List Token) (k : Unread document xs r w rest) → (b : List Token) × (w ≡ b ++ rest) × (StartsPlain (read b ++ next_two rest) → ⊥)
-not-plain r xs w rest k =
-    let o = reach-other k.reached in (
-      o.0,
-      o.1,
-      λ h.
-          let a = after-two o.0 rest h.0 h.2 h.4 in
-          let v : List Token = a.0 in
-          let q = sentence-parse document (o.0 ++ v) h.1 (subst (λ (z : List Token). Spells z h.1 document) a.1 h.3) in
-          plain-read xs r (o.0 ++ v) v q.0 q.1 (subst (λ (z : Tree). Plain z) (sym q.2) h.5) (record {
-            symbol = k.symbol;
-            state = k.state;
-            children = k.children;
-            above = k.above;
-            reached = o.2 v a.2 a.3;
-            child = k.child;
-            goes_on = ap₂ (λ (x y : ℕ). move k.symbol k.state x y) (sym a.2) (sym a.3) ∙ k.goes_on;
-            class = subst (λ (n : ℕ). within n (unread_set k.child) ≡ true) a.2 k.class;
-          }),
-    )
-
 -- ---- going on after reports: for the clause on the children that follow a report, which no contract has yet
 
 abbrev pub loops : Rule
@@ -323,22 +295,19 @@ token-of-all : (front items : List Answer) (x : Answer) → all_tokens (front ++
 token-of-all [] items x h = and-l _ _ h
 token-of-all (y ∷ front) items x h = token-of-all front items x (and-r _ _ h)
 
--- over a sentence within the limits, without what no rule reads yet, no report is right
-pub none-right : (r : ℕ) (xs : List Answer) (e : Report) (m : ℕ) (t : Tree) → Spells (answers_tokens xs) t document → Plain t → nest t ≤ r → all_tokens xs ≡ true → Right document xs r (answers_tokens xs) e m → ⊥
-none-right r xs e m t h p n a (stuck_here said {t = lexeme} {items = items} now q k c) = accepts document (answers_tokens xs) (answers_tokens (given_by lexeme ∷ items)) t h k.0
-none-right r xs e m t h p n a (unread_here said {t = lexeme} {items = items} now q k c) =
-    let u = sentence-parse document (answers_tokens xs) t h in
-    plain-read xs r (answers_tokens xs) (answers_tokens (given_by lexeme ∷ items)) u.0 u.1 (subst (λ (z : Tree). Plain z) (sym u.2) p) k
-none-right r xs e m t h p n a (deep_here {t = lexeme} {items = items} now q k c) =
+-- over a sentence within the limits no report is right
+pub none-right : (r : ℕ) (xs : List Answer) (e : Report) (m : ℕ) (t : Tree) → Spells (answers_tokens xs) t document → nest t ≤ r → all_tokens xs ≡ true → Right document xs r (answers_tokens xs) e m → ⊥
+none-right r xs e m t h n a (stuck_here said {t = lexeme} {items = items} now q k c) = accepts document (answers_tokens xs) (answers_tokens (given_by lexeme ∷ items)) t h k.0
+none-right r xs e m t h n a (deep_here {t = lexeme} {items = items} now q k c) =
     let u = sentence-parse document (answers_tokens xs) t h in
     let d = k.deeper u.0 (answers_tokens (given_by lexeme ∷ items)) (subst (λ (z : List Token). Parse DOCUMENT u.0 z) k.split u.1) refl in
     let nests : nest t ≡ nesting_all u.0 = ap nest (sym u.2) ∙ nest-show u.0 u.1.0 in
     absurd (omega (arith, d, nests, n))
-none-right r xs e m t h p n a (no_token {x = x} {items = items} q other_one v c) = false-true other_one (token-of-all q.front items x (subst (λ (z : List Answer). all_tokens z ≡ true) q.split a))
+none-right r xs e m t h n a (no_token {x = x} {items = items} q other_one v c) = false-true other_one (token-of-all q.front items x (subst (λ (z : List Answer). all_tokens z ≡ true) q.split a))
 
--- Acceptance: a sentence within the limits, without what no rule reads yet, gets no report.
-pub accepted-plain : (r : ℕ) (xs : List Answer) (s : State) (t : Tree) → EndsWell xs → IsRoot s.tree → Runs (Call Document) (begun xs r kind.DOCUMENT) s → Spells (answers_tokens xs) t document → Plain t → nest t ≤ r → all_tokens xs ≡ true → s.errors ≡ []
-accepted-plain r xs s t en root run h p n a = elim (parsed r xs s en root run) [ inl o ↦ absurd (none-right r xs o.report o.taken t h p n a o.right) | inr o ↦ o.0 ]
+-- Acceptance: a sentence within the limits gets no report.
+pub accepted : (r : ℕ) (xs : List Answer) (s : State) (t : Tree) → EndsWell xs → IsRoot s.tree → Runs (Call Document) (begun xs r kind.DOCUMENT) s → Spells (answers_tokens xs) t document → nest t ≤ r → all_tokens xs ≡ true → s.errors ≡ []
+accepted r xs s t en root run h n a = elim (parsed r xs s en root run) [ inl o ↦ absurd (none-right r xs o.report o.taken t h n a o.right) | inr o ↦ o.0 ]
 
 -- The text is a sentence within both limits.
 pub record IsClean (source : List ℕ) (t : Tree) (r k : ℕ) : Type 0 where

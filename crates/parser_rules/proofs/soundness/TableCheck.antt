@@ -20,7 +20,7 @@ use Rattle.parser_rules.specs.RuleLanguage.{Prim, Bump, Note, At, Rule, Skip, Do
 use Rattle.parser_rules.specs.Rules.{inside, body}
 use Rattle.parser_rules.proofs.lookahead.TokenSets.{absent, over, ready, by_near, kind_set}
 use Rattle.parser_rules.proofs.lookahead.Split.{Level, low, high, past, Sure, loose, firm, full, Spot, spot, lost, fill, divide}
-use Rattle.parser_rules.proofs.lookahead.FirstSets.{without, first_of, second_of, inlined, unread}
+use Rattle.parser_rules.proofs.lookahead.FirstSets.{without, first_of, second_of, inlined}
 
 -- a spot, and sets that hold the classes of the next two tokens
 pub record Mark : Type 0 where
@@ -202,9 +202,9 @@ unfoldable pub type_at : ℕ → Spot → ℕ → ℕ → Then → (Then → Boo
 type_at s (spot q l d) x y k walk = (goes s q x (behind y) TYPE and (levels s l TYPE and not (eqb s TYPE))) and walk (typed (spot (target s q TYPE) l firm) k)
 type_at s lost x y k walk = false
 
--- a report is right here: the machine goes on at most with what no rule reads, and the node cannot end, or it is the root and tokens are left
+-- a report is right here: the machine goes on with nothing, and the node cannot end, or it is the root and tokens are left
 unfoldable pub reports : ℕ → Spot → ℕ → ℕ → Bool
-reports s (spot q l d) x y = all_arcs (arcs s q) (λ k q'. misses k (without x (unread k)) (behind y)) and (not (ends s q) or (eqb s DOCUMENT and disjoint x 1))
+reports s (spot q l d) x y = all_arcs (arcs s q) (λ k q'. misses k x (behind y)) and (not (ends s q) or (eqb s DOCUMENT and disjoint x 1))
 reports s lost x y = true
 
 unfoldable pub is_node : Node → Bool
