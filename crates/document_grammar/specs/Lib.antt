@@ -12,3 +12,4 @@ pub mod Forests
 pub mod Builds
 pub mod Numbered
 pub mod Booleans
+pub mod FirstError

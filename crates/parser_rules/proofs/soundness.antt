@@ -8,3 +8,4 @@ pub mod Moves
 pub mod Simulation
 pub mod Soundness
 pub mod OverTexts
+pub mod FirstErrors

@@ -16,6 +16,7 @@ use Rattle.document_grammar.specs.declared.kind.SyntaxKind.TheVariants as kind
 use Rattle.document_grammar.specs.Derivation.{document, Spells, Mark, word, marks, Starts, StartsWithin}
 use Rattle.document_grammar.specs.Sentence.{token_of, Sentence, Within, Begins, StartSentence, StartSentenceWithin, leaf_number}
 use Rattle.document_grammar.specs.Tree.{Token, Tree}
+use Rattle.document_grammar.specs.FirstError.{tokens_of}
 use Rattle.document_grammar.proofs.Booleans.{and-i, and-l, and-r, either}
 use Rattle.grammar_machine.proofs.Beginnings.{begins-text}
 use Rattle.document_grammar.proofs.Texts.{one-cut, sentence-starts, sentence-starts-within}
@@ -24,7 +25,7 @@ use Rattle.parser_rules.specs.Nodes.{Document}
 use Rattle.parser_rules.specs.RuleLanguage.{Call}
 use Rattle.parser_rules.specs.Runs.{Runs}
 use Rattle.parser_rules.specs.declared.message.Message.{Message}
-use Rattle.parser_rules.specs.State.{State, Report, begun, Lexeme, fault_report, recursion_limit_report, token_limit_report, bad_report, finished, second, lexeme, add_all}
+use Rattle.parser_rules.specs.State.{State, Report, begun, Lexeme, fault_report, recursion_limit_report, token_limit_report, bad_report, finished, second, lexeme, add_all, ignored}
 use Rattle.parser_rules.proofs.reports.NoReport.{Passed, all_tokens, answers_tokens, item_tokens, report_of, given as given_by, Now, choose, EndsWell, kind_tokens, significant, ignored-tokens, ignored-end}
 use Rattle.parser_rules.proofs.reports.Endings.{ends-well, limited-none}
 use Rattle.document_grammar.specs.Forests as built
@@ -44,10 +45,6 @@ all-given (suc k) (item ∷ items) c h = let p = and_parts (is_some item.kind) (
 
 -- ---- the place of an answer in the text
 
--- the significant tokens of some items
-abbrev pub words_of : List Item → List Token
-words_of items = map token_of (Significant items)
-
 -- the item of a token
 abbrev pub item_of : Lexeme → Item
 item_of t = record { kind = Some t.kind; text = t.text; index = t.index }
@@ -62,7 +59,7 @@ pub record Before (k : ℕ) (items : List Item) (front : List Answer) (x : Answe
   pub more : List Item
   pub split : items ≡ before ++ item ∷ more
   pub tokens : are_tokens before ≡ true
-  pub words : answers_tokens front ≡ words_of before
+  pub words : answers_tokens front ≡ tokens_of before
   -- what was answered from there on, up to the token limit
   pub answers : limited (k - length before) (item ∷ more) ≡ x ∷ ys
 
@@ -88,21 +85,21 @@ one-mark : (v : List Token) → take 1 (marks v) ≡ next_one v
 one-mark [] = refl
 one-mark (a ∷ v) = refl
 
-words-cons : (item : Item) (more : List Item) → words_of (item ∷ more) ≡ item_tokens item.kind item.text ++ words_of more
-words-cons item more = map-append token_of (significant_word item.kind item.text) (Significant more) ∙ ap (λ (v : List Token). v ++ words_of more) (sym (item-words item.kind item.text))
+words-cons : (item : Item) (more : List Item) → tokens_of (item ∷ more) ≡ item_tokens item.kind item.text ++ tokens_of more
+words-cons item more = map-append token_of (significant_word item.kind item.text) (Significant more) ∙ ap (λ (v : List Token). v ++ tokens_of more) (sym (item-words item.kind item.text))
 
 -- the next tokens are the text's, where those after the current one are
-next-marks : (n k : ℕ) (t : Lexeme) (more : List Item) → Now (Some t) (limited k more) → (is_end t.kind ≡ false → take n (marks (words_of more)) ≡ take n (marks (answers_tokens (limited k more))))
-    → take (suc n) (marks (kind_tokens t.kind t.text ++ words_of more)) ≡ take (suc n) (marks (kind_tokens t.kind t.text ++ answers_tokens (limited k more)))
+next-marks : (n k : ℕ) (t : Lexeme) (more : List Item) → Now (Some t) (limited k more) → (is_end t.kind ≡ false → take n (marks (tokens_of more)) ≡ take n (marks (answers_tokens (limited k more))))
+    → take (suc n) (marks (kind_tokens t.kind t.text ++ tokens_of more)) ≡ take (suc n) (marks (kind_tokens t.kind t.text ++ answers_tokens (limited k more)))
 next-marks n k t more now h = elim (either (is_end t.kind)) [
   | inl e ↦ (
       let z : limited k more ≡ [] = subst (λ (b : Bool). choose b (limited k more ≡ []) (EndsWell (limited k more))) e now.1 in
-      ap (λ (v : List Token). take (suc n) (marks (kind_tokens t.kind t.text ++ v))) (ap words_of (none-limited k more z) ∙ sym (ap answers_tokens z)))
-  | inr e ↦ subst (λ (v : List Token). take (suc n) (marks (v ++ words_of more)) ≡ take (suc n) (marks (v ++ answers_tokens (limited k more)))) (sym (significant t.kind t.text e now.0)) (ap (λ (l : List Mark). word (leaf_number t.kind, t.text) ∷ l) (h e))
+      ap (λ (v : List Token). take (suc n) (marks (kind_tokens t.kind t.text ++ v))) (ap tokens_of (none-limited k more z) ∙ sym (ap answers_tokens z)))
+  | inr e ↦ subst (λ (v : List Token). take (suc n) (marks (v ++ tokens_of more)) ≡ take (suc n) (marks (v ++ answers_tokens (limited k more)))) (sym (significant t.kind t.text e now.0)) (ap (λ (l : List Mark). word (leaf_number t.kind, t.text) ∷ l) (h e))
 ]
 
 abbrev One : List Item → List Answer → List Token → Type 0
-One more xs v = take 1 (marks (v ++ words_of more)) ≡ take 1 (marks (v ++ answers_tokens xs))
+One more xs v = take 1 (marks (v ++ tokens_of more)) ≡ take 1 (marks (v ++ answers_tokens xs))
 
 -- the first token after it is the text's, where one was answered
 behind-one : (k : ℕ) (more : List Item) {s t : State} → Reading (limited k more) s t → EndsWell (limited k more) → is_some t.current ≡ true → One more (limited k more) []
@@ -142,16 +139,16 @@ module _ {k : ℕ} {items : List Item} {front ys : List Answer} (t : Lexeme) (b 
 
   module _ (now : Now (Some t) ys) where
     -- the tokens there are the text's
-    marks-at : (n : ℕ) → (is_end t.kind ≡ false → take n (marks (words_of b.more)) ≡ take n (marks (answers_tokens (limited (k - suc (length b.before)) b.more)))) → take (suc n) (marks (words_of (b.item ∷ b.more))) ≡ take (suc n) (marks (answers_tokens (given_by t ∷ ys)))
+    marks-at : (n : ℕ) → (is_end t.kind ≡ false → take n (marks (tokens_of b.more)) ≡ take n (marks (answers_tokens (limited (k - suc (length b.before)) b.more)))) → take (suc n) (marks (tokens_of (b.item ∷ b.more))) ≡ take (suc n) (marks (answers_tokens (given_by t ∷ ys)))
     marks-at n h =
         ap (λ (v : List Token). take (suc n) (marks v)) (words-cons b.item b.more)
-        ∙ (ap (λ (i : Item). take (suc n) (marks (item_tokens i.kind i.text ++ words_of b.more))) (sym item-there)
+        ∙ (ap (λ (i : Item). take (suc n) (marks (item_tokens i.kind i.text ++ tokens_of b.more))) (sym item-there)
         ∙ (next-marks n (k - suc (length b.before)) t b.more (subst (Now (Some t)) (sym answers-after) now) h ∙ ap (λ (l : List Answer). take (suc n) (marks (kind_tokens t.kind t.text ++ answers_tokens l))) answers-after))
 
-    one-at : take 1 (marks (words_of (b.item ∷ b.more))) ≡ next_one (answers_tokens (given_by t ∷ ys))
+    one-at : take 1 (marks (tokens_of (b.item ∷ b.more))) ≡ next_one (answers_tokens (given_by t ∷ ys))
     one-at = marks-at 0 (λ e. refl) ∙ one-mark (answers_tokens (given_by t ∷ ys))
 
-    two-at : Answered k b.before b.more t → take 2 (marks (words_of (b.item ∷ b.more))) ≡ next_two (answers_tokens (given_by t ∷ ys))
+    two-at : Answered k b.before b.more t → take 2 (marks (tokens_of (b.item ∷ b.more))) ≡ next_two (answers_tokens (given_by t ∷ ys))
     two-at a = marks-at 1 behind ∙ two-marks (answers_tokens (given_by t ∷ ys))
       where
         behind : is_end t.kind ≡ false → One b.more (limited (k - suc (length b.before)) b.more) []
@@ -166,9 +163,9 @@ module _ {k : ℕ} {items : List Item} {front ys : List Answer} (t : Lexeme) (b 
 -- starts with them and that of the item nests deeper than the limit; or the item is bad text, or the first that is too many. Where
 -- two tokens count, the second was answered.
 pub data Reason (items : List Item) (r k : ℕ) (before : List Item) (item : Item) (more : List Item) : Report → Type 0 where
-  fault : (said : Message) (t : Lexeme) → item_of t ≡ item → (Answered k before more t → StartSentence (map word (words_of before) ++ take 2 (marks (words_of (item ∷ more)))) → ⊥)
+  fault : (said : Message) (t : Lexeme) → item_of t ≡ item → ignored t.kind ≡ None → (Answered k before more t → StartSentence (map word (tokens_of before) ++ take 2 (marks (tokens_of (item ∷ more)))) → ⊥)
       → Reason items r k before item more (fault_report said t)
-  too_deep : (t : Lexeme) → item_of t ≡ item → (StartSentenceWithin r (map word (words_of before) ++ take 1 (marks (words_of (item ∷ more)))) → ⊥)
+  too_deep : (t : Lexeme) → item_of t ≡ item → (StartSentenceWithin r (map word (tokens_of before) ++ take 1 (marks (tokens_of (item ∷ more)))) → ⊥)
       → Reason items r k before item more (recursion_limit_report t)
   bad_text : item.kind ≡ None → Reason items r k before item more (bad_report item.text item.index)
   too_many : Reason items r k before item more (token_limit_report (limit_index item))
@@ -212,7 +209,7 @@ module _ (r k : ℕ) (source : List ℕ) (items : List Item) (s : State) (cut : 
 
   -- the first report is right, and how many tokens are before
   abbrev Told_right : Report → ℕ → Type 0
-  Told_right e m = (i : IsRight source items r k e) × (m ≡ length (words_of i.before))
+  Told_right e m = (i : IsRight source items r k e) × (m ≡ length (tokens_of i.before))
 
   -- what holds at the place of an answer
   at-place : IsUtf8 source → {x : Answer} {ys : List Answer} (e : Report) (m : ℕ) (p : Passed xs (x ∷ ys)) → Viable document xs r (answers_tokens xs) (answers_tokens (x ∷ ys)) → Behind document xs r (answers_tokens xs) m (answers_tokens (x ∷ ys))
@@ -222,7 +219,7 @@ module _ (r k : ℕ) (source : List ℕ) (items : List Item) (s : State) (cut : 
       let b = before-at k items p.front x ys p.split p.tokens in
       let d : Cut source (b.before ++ b.item ∷ b.more) = subst (λ (l : List Item). Cut source l) b.split cut in
       let begins = viable-begins r xs p.front (x ∷ ys) p.split v in
-      let spells : Spells (words_of b.before ++ begins.1) begins.0 document = subst (λ (v : List Token). Spells (v ++ begins.1) begins.0 document) b.words begins.2 in
+      let spells : Spells (tokens_of b.before ++ begins.1) begins.0 document = subst (λ (v : List Token). Spells (v ++ begins.1) begins.0 document) b.words begins.2 in
       let l : length (answers_tokens xs) ≡ length (answers_tokens p.front) + length (answers_tokens (x ∷ ys)) = ap length (ap answers_tokens p.split ∙ answers-append p.front (x ∷ ys)) ∙ length-append (answers_tokens p.front) (answers_tokens (x ∷ ys)) in
       let w = ap length b.words in
       (record { before = b.before; item = b.item; more = b.more; split = b.split; tokens = b.tokens; begins = begins-text source b.before b.item b.more begins.0 begins.1 u d b.tokens spells begins.3; reason = reason b }, omega (arith, l, c, w))
@@ -235,15 +232,15 @@ module _ (r k : ℕ) (source : List ℕ) (items : List Item) (s : State) (cut : 
 
   told : IsUtf8 source → (e : Report) (m : ℕ) → Right document xs r (answers_tokens xs) e m → Told_right e m
   unfolding xs
-  told u e m (stuck_here said {t = t} {items = ys} now p k c) = at-place u (fault_report said t) m p k.1 c (λ q. fault said t (item-there t q) (λ a z. not-starts document (answers_tokens xs) (answers_tokens (given_by t ∷ ys)) k.0
-      (subst (λ (l : List Mark). Starts document l) (from-words k.0.before (words_of q.before) _ _ (words-before xs p.front (given_by t ∷ ys) k.0.before p.split k.0.split ∙ q.words) (two-at t q now a)) (sentence-starts _ z))))
+  told u e m (stuck_here said {t = t} {items = ys} now p k c) = at-place u (fault_report said t) m p k.1 c (λ q. fault said t (item-there t q) now.0 (λ a z. not-starts document (answers_tokens xs) (answers_tokens (given_by t ∷ ys)) k.0
+      (subst (λ (l : List Mark). Starts document l) (from-words k.0.before (tokens_of q.before) _ _ (words-before xs p.front (given_by t ∷ ys) k.0.before p.split k.0.split ∙ q.words) (two-at t q now a)) (sentence-starts _ z))))
   told u e m (deep_here {t = t} {items = ys} now p k c) = at-place u (recursion_limit_report t) m p k.comes c (λ q. too_deep t (item-there t q) (λ z. not-within-one r xs (answers_tokens xs) (answers_tokens (given_by t ∷ ys)) k
-      (subst (λ (l : List Mark). StartsWithin document r l) (from-words k.before (words_of q.before) _ _ (words-before xs p.front (given_by t ∷ ys) k.before p.split k.split ∙ q.words) (one-at t q now)) (sentence-starts-within r _ z))))
+      (subst (λ (l : List Mark). StartsWithin document r l) (from-words k.before (tokens_of q.before) _ _ (words-before xs p.front (given_by t ∷ ys) k.before p.split k.split ∙ q.words) (one-at t q now)) (sentence-starts-within r _ z))))
   told u e m (no_token {x = x} {items = ys} p n v c) =
       let same = no-token-words x ys n in at-place u (report_of x) m p (rw same v) (rw same c) (other-reason p.front x ys n)
 
   -- the first report is right, and the nodes that end before its last token fit
-  pub first-told : IsUtf8 source → (e : Report) (more : List Report) → s.errors ≡ e ∷ more → (i : IsRight source items r k e) × EndedFit (length (words_of i.before)) 0 (finished s)
+  pub first-told : IsUtf8 source → (e : Report) (more : List Report) → s.errors ≡ e ∷ more → (i : IsRight source items r k e) × EndedFit (length (tokens_of i.before)) 0 (finished s)
   unfolding xs
   first-told u e more h = elim (parsed r (limited k items) s (ends-well k 0 items cut.each) root run) [
     | inl o ↦ (

@@ -1,0 +1,79 @@
+-- What a text says of its parse: that there is one derivation; and, where there are errors, what the place of the first one means. The standard
+-- says nothing of errors, so these are this project's own promises.
+use Rattle.std.specs.Prelude.{◌≡◌, ◌≢◌, ℕ, ◌+◌, ◌<◌, ◌≤◌, List, [], ◌∷◌, ◌++◌, length, map, take, if◌then◌else◌, Option, Some, None}
+use Rattle.std.specs.List.{flat_map}
+use Rattle.lexical_grammar.specs.declared.TokenKind.{TokenKind}
+use Rattle.lexical_grammar.specs.declared.TokenKind.TheVariants.{Eof}
+use Rattle.lexical_grammar.specs.Cut.{Item, Significant, is_significant_kind}
+use Rattle.document_grammar.specs.Tree.{Text, Token, Tree, leaf, node, Forest, none, ◌▸◌}
+use Rattle.document_grammar.specs.Derivation.{document, Spells, Fits, text, texts, Mark, word, end}
+use Rattle.document_grammar.specs.Places.{bare}
+use Rattle.document_grammar.specs.Sentence.{leaf_number, token_of, Begins, StartSentence, StartSentenceWithin}
+
+-- The significant tokens of some items.
+abbrev pub tokens_of : List Item → List Token
+tokens_of items = map token_of (Significant items)
+
+-- The items have no other derivation: each that spells their significant tokens is this tree.
+abbrev pub OnlyDerivation : List Item → Tree → Type 0
+OnlyDerivation items t = (u : Tree) → Spells (tokens_of items) u document → u ≡ t
+
+-- ---- a place in a text
+
+-- The item that begins at a place, and those before and after it.
+pub record At (items : List Item) (place : ℕ) : Type 0 where
+  pub before : List Item
+  pub item : Item
+  pub more : List Item
+  pub split : items ≡ before ++ item ∷ more
+  pub index : item.index ≡ place
+
+-- What items show of the significant tokens and the end; ignored tokens and bad text show nothing.
+abbrev pub shown_kind : TokenKind → Text → List Mark
+shown_kind Eof text = end ∷ []
+shown_kind kind text = if is_significant_kind kind then word (leaf_number kind, text) ∷ [] else []
+
+abbrev pub shown_item : Option TokenKind → Text → List Mark
+shown_item None text = []
+shown_item (Some kind) text = shown_kind kind text
+
+abbrev pub shown : List Item → List Mark
+shown items = flat_map (λ item. shown_item item.kind item.text) items
+
+-- The tokens before the place, and the next n that come from there on, the end among them.
+abbrev pub up_to : ℕ → {items : List Item} {place : ℕ} → At items place → List Mark
+up_to n a = shown a.before ++ take n (shown (a.item ∷ a.more))
+
+-- All of these are among the first k items.
+abbrev pub AreAmong : ℕ → List Item → List Mark → Type 0
+AreAmong k items front = (rest : List Mark) × (shown (take k items) ≡ front ++ rest)
+
+-- ---- the first error
+
+-- No late fault: the text before the place begins a sentence.
+abbrev pub NotLate : List ℕ → ℕ → Type 0
+NotLate source place = Begins (take place source)
+
+-- No early fault: where a token or the end is at the place, no sentence starts with the tokens before it, that one and the next, as long
+-- as all of these are among the first k items.
+abbrev pub NotEarly : ℕ → List Item → ℕ → Type 0
+NotEarly k items place = (a : At items place) × (a.item.kind ≢ None → AreAmong k items (up_to 2 a) → StartSentence (up_to 2 a) → ⊥)
+
+-- No early limit: no sentence that nests at most r deep starts with the tokens before the place and the one there.
+abbrev pub NotEarlyLimit : ℕ → List Item → ℕ → Type 0
+NotEarlyLimit r items place = (a : At items place) × (StartSentenceWithin r (up_to 1 a) → ⊥)
+
+-- Of a tree that begins at the place n: each node whose text ends at the place m or before fits its row and the rules, its ignored leaves left
+-- out.
+abbrev mutual
+  pub EndedFit : ℕ → ℕ → Tree → Type 0
+  EndedFit m n (leaf k x) = Unit {0}
+  EndedFit m n (node k f) = (n + length (texts f) ≤ m → Fits (bare (node k f))) × AllEndedFit m n f
+
+  pub AllEndedFit : ℕ → ℕ → Forest → Type 0
+  AllEndedFit m n none = Unit {0}
+  AllEndedFit m n (t ▸ f) = EndedFit m n t × AllEndedFit m (n + length (text t)) f
+
+-- Each node that is followed by a significant token in front of the place fits.
+abbrev pub EndedNodesFit : List Item → ℕ → Tree → Type 0
+EndedNodesFit items place t = (m : ℕ) (a : At items m) → Significant (a.item ∷ []) ≢ [] → m < place → EndedFit m 0 t
