@@ -171,10 +171,11 @@ pub data Part : Type 0 where
   TypeName : Part
   RootType : Part
   FieldType : Part
-  DescribedName : Part
   MaybeImplements : Part
   InterfaceName : Part
   UnionMember : Part
+  DirectiveName : Part
+  OnLocations : Part
   Location : Part
   VariableType : Part
   MaybeDefaultValue : Part

@@ -10,8 +10,8 @@ use Rattle.document_grammar.specs.declared.kind.SyntaxKind.TheVariants as kind
 use Rattle.parser_rules.specs.declared.constness.Constness.{Constness}
 use Rattle.parser_rules.specs.declared.constness.Constness.TheVariants.{Const, NotConst}
 use Rattle.parser_rules.specs.declared.message.Message.TheVariants as message
-use Rattle.parser_rules.specs.RuleLanguage.{TokenTest, Kind, Keyword, Or, Test, Here, At, Word, Next, Ready, HasNext, Deep, Not, Both, Bump, Note, TooDeep, Rule, Skip, Do, When, While, Child, Nested, Call, Typed, ◌>◌, expect, want, refuse, expect_word, maybe}
-use Rattle.parser_rules.specs.Nodes.{Node, Operation, ShortQuery, OperationType, SelectionSet, Field, Alias, Name, FragmentSpread, InlineFragment, FragmentDefinition, FragmentName, NameForFragment, TypeCondition, Arguments, Argument, Directives, Directive, VariableDefinitions, VariableDefinition, Variable, DefaultValue, IntValue, FloatValue, StringValue, BooleanValue, NullValue, EnumValue, NameForEnum, ListValue, ObjectValue, ObjectField, NamedType, ListType, Description, SchemaDefinition, RootOperationTypeDefinition, ScalarTypeDefinition, ObjectTypeDefinition, ImplementsInterfaces, FieldsDefinition, FieldDefinition, ArgumentsDefinition, InputValueDefinition, InterfaceTypeDefinition, UnionTypeDefinition, UnionMemberTypes, EnumTypeDefinition, EnumValuesDefinition, EnumValueDefinition, InputObjectTypeDefinition, InputFieldsDefinition, DirectiveDefinition, DirectiveLocations, DirectiveLocation, SchemaExtension, ScalarTypeExtension, ObjectTypeExtension, InterfaceTypeExtension, UnionTypeExtension, EnumTypeExtension, InputObjectTypeExtension, Part, Document, Definition, Described, Extension, MaybeName, Selections, Selection, Spread, AliasedName, Named, MaybeArguments, MaybeDirectives, MaybeVariableDefinitions, TypedVariable, MaybeDescription, MaybeArgumentsDefinition, TypeName, RootType, FieldType, DescribedName, MaybeImplements, InterfaceName, UnionMember, Location, VariableType, MaybeDefaultValue, MaybeTypeCondition, ValueOf, WordValue, NestedValue, ListItems, TypeOf, ItemType}
+use Rattle.parser_rules.specs.RuleLanguage.{TokenTest, Kind, Keyword, Or, Test, Here, At, Word, Next, Ready, HasNext, Deep, Not, Both, Bump, Note, TooDeep, Rule, Skip, Do, Seq, When, While, Child, Nested, Call, Typed, ◌>◌, expect, want, refuse, expect_word, maybe}
+use Rattle.parser_rules.specs.Nodes.{Node, Operation, ShortQuery, OperationType, SelectionSet, Field, Alias, Name, FragmentSpread, InlineFragment, FragmentDefinition, FragmentName, NameForFragment, TypeCondition, Arguments, Argument, Directives, Directive, VariableDefinitions, VariableDefinition, Variable, DefaultValue, IntValue, FloatValue, StringValue, BooleanValue, NullValue, EnumValue, NameForEnum, ListValue, ObjectValue, ObjectField, NamedType, ListType, Description, SchemaDefinition, RootOperationTypeDefinition, ScalarTypeDefinition, ObjectTypeDefinition, ImplementsInterfaces, FieldsDefinition, FieldDefinition, ArgumentsDefinition, InputValueDefinition, InterfaceTypeDefinition, UnionTypeDefinition, UnionMemberTypes, EnumTypeDefinition, EnumValuesDefinition, EnumValueDefinition, InputObjectTypeDefinition, InputFieldsDefinition, DirectiveDefinition, DirectiveLocations, DirectiveLocation, SchemaExtension, ScalarTypeExtension, ObjectTypeExtension, InterfaceTypeExtension, UnionTypeExtension, EnumTypeExtension, InputObjectTypeExtension, Part, Document, Definition, Described, Extension, MaybeName, Selections, Selection, Spread, AliasedName, Named, MaybeArguments, MaybeDirectives, MaybeVariableDefinitions, TypedVariable, MaybeDescription, MaybeArgumentsDefinition, TypeName, RootType, FieldType, MaybeImplements, InterfaceName, UnionMember, DirectiveName, OnLocations, Location, VariableType, MaybeDefaultValue, MaybeTypeCondition, ValueOf, WordValue, NestedValue, ListItems, TypeOf, ItemType}
 
 -- a selection starts with the token
 abbrev pub selection_start : TokenTest
@@ -104,6 +104,10 @@ abbrev pub no_value : Bool → Rule
 no_value true = refuse message.ExpectedValue
 no_value false = Do (Note message.ExpectedValue)
 
+-- Description? OperationType, the beginning of an OperationDefinition (2.3)
+abbrev pub operation_head : Rule
+operation_head = Call MaybeDescription > Child OperationType
+
 abbrev pub operation_word : Rule
 operation_word =
     When (Word kind.query_KW) (Do (Bump kind.query_KW))
@@ -138,6 +142,14 @@ root_operations m =
     > While (At token.Name) (Child RootOperationTypeDefinition)
     > expect token.RCurly kind.R_CURLY message.ExpectedRCurly
 
+-- a definition's description, where it has one, and the keyword after it
+abbrev pub described : SyntaxKind → Rule
+described k = Call MaybeDescription > When (Word k) (Do (Bump k)) (refuse message.ExpectedDefinition)
+
+-- ImplementsInterfaces? Directives[Const]? FieldsDefinition?
+abbrev pub type_parts : Rule
+type_parts = Call MaybeImplements > Call (MaybeDirectives Const) > maybe token.LCurly FieldsDefinition
+
 -- items between the braces or parentheses, one at least
 abbrev pub definitions : SyntaxKind → Node → Message → TokenKind → SyntaxKind → Message → Rule
 definitions first item none close leaf m =
@@ -150,18 +162,23 @@ definitions first item none close leaf m =
 abbrev pub separated : TokenKind → SyntaxKind → Part → Rule
 separated k leaf name = When (At k) (Do (Bump leaf)) Skip > Call name > While (At k) (Do (Bump leaf) > Call name)
 
--- a definition of the type system, where the keyword is
-abbrev pub type_system : (TokenTest → Test) → Rule → Rule
-type_system at none =
-    When (at (Keyword kind.schema_KW)) (Child SchemaDefinition)
-    (When (at (Keyword kind.scalar_KW)) (Child ScalarTypeDefinition)
+-- TypeDefinition (3.4), where the keyword is
+abbrev pub type_definition : (TokenTest → Test) → Rule → Rule
+type_definition at none =
+    When (at (Keyword kind.scalar_KW)) (Child ScalarTypeDefinition)
     (When (at (Keyword kind.type_KW)) (Child ObjectTypeDefinition)
     (When (at (Keyword kind.interface_KW)) (Child InterfaceTypeDefinition)
     (When (at (Keyword kind.union_KW)) (Child UnionTypeDefinition)
     (When (at (Keyword kind.enum_KW)) (Child EnumTypeDefinition)
     (When (at (Keyword kind.input_KW)) (Child InputObjectTypeDefinition)
+    none)))))
+
+-- TypeSystemDefinition (3.2), where the keyword is
+abbrev pub type_system : (TokenTest → Test) → Rule → Rule
+type_system at none =
+    When (at (Keyword kind.schema_KW)) (Child SchemaDefinition)
     (When (at (Keyword kind.directive_KW)) (Child DirectiveDefinition)
-    none)))))))
+    (type_definition at none))
 
 -- a token in the place of a definition
 abbrev pub no_definition : Rule
@@ -177,12 +194,11 @@ no_described = When HasNext (refuse message.ExpectedDefinition) (refuse message.
 unfoldable pub inside : Node → Rule
 -- OperationDefinition (2.3) : Description? OperationType Name? VariableDefinitions? Directives? SelectionSet
 inside Operation =
-    Call MaybeDescription
-    > Child OperationType
-    > Call MaybeName
+    Seq operation_head
+    (Call MaybeName
     > Call MaybeVariableDefinitions
     > Call (MaybeDirectives NotConst)
-    > When (At token.LCurly) (Child SelectionSet) (refuse message.ExpectedSelectionSet)
+    > When (At token.LCurly) (Child SelectionSet) (refuse message.ExpectedSelectionSet))
 -- OperationDefinition (2.3) : SelectionSet
 inside ShortQuery = Child SelectionSet
 -- OperationType (2.3) : one of `query` `mutation` `subscription`
@@ -205,12 +221,11 @@ inside InlineFragment =
     > When (At token.LCurly) (Child SelectionSet) (Do (Note message.ExpectedInlineSelectionSet))
 -- FragmentDefinition (2.8) : Description? `fragment` FragmentName TypeCondition Directives? SelectionSet
 inside FragmentDefinition =
-    Call MaybeDescription
-    > expect_word kind.fragment_KW message.ExpectedDefinition
-    > Child FragmentName
+    Seq (described kind.fragment_KW)
+    (Child FragmentName
     > Child TypeCondition
     > Call (MaybeDirectives NotConst)
-    > When (At token.LCurly) (Child SelectionSet) (Do (Note message.ExpectedSelectionSet))
+    > When (At token.LCurly) (Child SelectionSet) (Do (Note message.ExpectedSelectionSet)))
 -- FragmentName (2.8) : Name but not `on`
 inside FragmentName =
     When (Word kind.on_KW) (Do (Note message.FragmentNamedOn))
@@ -254,7 +269,7 @@ inside BooleanValue = When (Word kind.true_KW) (Do (Bump kind.true_KW)) (Do (Bum
 inside NullValue = Do (Bump kind.null_KW)
 -- EnumValue (2.9.6) : Name but not `true`, `false` or `null`
 inside EnumValue =
-    When (Here reserved) (Do (Note message.InvalidEnumValue) > Child Name)
+    When (Here reserved) (Do (Note message.InvalidEnumValue) > Call Named)
     (When (At token.Name) (Child NameForEnum) (Do (Note message.ExpectedEnumValue)))
 inside NameForEnum = Do (Bump kind.IDENT)
 -- ListValue[Const] (2.9.7) : [ ], or [ Value[?Const]+ ]
@@ -271,67 +286,61 @@ inside ListType = Do (Bump kind.L_BRACK) > Nested (Call ItemType) (expect token.
 inside Description = Child StringValue
 -- SchemaDefinition (3.3) : Description? `schema` Directives[Const]? { RootOperationTypeDefinition+ }
 inside SchemaDefinition =
-    Call MaybeDescription
-    > expect_word kind.schema_KW message.ExpectedDefinition
-    > Call (MaybeDirectives Const)
-    > When (At token.LCurly) (root_operations message.ExpectedRootOperation) (Do (Note message.ExpectedLCurly))
+    Seq (described kind.schema_KW)
+    (Call (MaybeDirectives Const)
+    > When (At token.LCurly) (root_operations message.ExpectedRootOperation) (Do (Note message.ExpectedLCurly)))
 -- RootOperationTypeDefinition (3.3) : OperationType : NamedType
 inside RootOperationTypeDefinition =
     Child OperationType
     > When (At token.Colon) (Do (Bump kind.COLON) > Call RootType) (Do (Note message.ExpectedRootType))
 -- ScalarTypeDefinition (3.5) : Description? `scalar` Name Directives[Const]?
 inside ScalarTypeDefinition =
-    Call MaybeDescription
-    > expect_word kind.scalar_KW message.ExpectedDefinition
-    > Call Named
-    > Call (MaybeDirectives Const)
+    Seq (described kind.scalar_KW)
+    (Call Named
+    > Call (MaybeDirectives Const))
 -- ObjectTypeDefinition (3.6) : Description? `type` Name ImplementsInterfaces? Directives[Const]? FieldsDefinition?, where the block may be left
 -- out only before another token than {
 inside ObjectTypeDefinition =
-    Call MaybeDescription
-    > expect_word kind.type_KW message.ExpectedDefinition
-    > Call TypeName
-    > Call MaybeImplements
-    > Call (MaybeDirectives Const)
-    > maybe token.LCurly FieldsDefinition
+    Seq (described kind.type_KW)
+    (Call TypeName
+    > type_parts)
 -- ImplementsInterfaces (3.6) : `implements` &? NamedType, or ImplementsInterfaces & NamedType
 inside ImplementsInterfaces = Do (Bump kind.implements_KW) > separated token.Amp kind.AMP InterfaceName
 -- FieldsDefinition (3.6) : { FieldDefinition+ }
 inside FieldsDefinition = definitions kind.L_CURLY FieldDefinition message.ExpectedFieldDefinition token.RCurly kind.R_CURLY message.ExpectedRCurly
 -- FieldDefinition (3.6) : Description? Name ArgumentsDefinition? : Type Directives[Const]?
 inside FieldDefinition =
-    Call DescribedName
+    Call MaybeDescription
+    > Call Named
     > Call MaybeArgumentsDefinition
     > When (At token.Colon) (Do (Bump kind.COLON) > Call FieldType) (Do (Note message.ExpectedFieldType))
 -- ArgumentsDefinition (3.6.1) : ( InputValueDefinition+ )
 inside ArgumentsDefinition =
     definitions kind.L_PAREN InputValueDefinition message.ExpectedArgumentDefinition token.RParen kind.R_PAREN message.ExpectedRParen
 -- InputValueDefinition (3.6.1) : Description? Name : Type DefaultValue? Directives[Const]?
-inside InputValueDefinition = Call DescribedName > When (At token.Colon) (Do (Bump kind.COLON) > Call VariableType) (Do (Note message.ExpectedName))
+inside InputValueDefinition =
+    Call MaybeDescription
+    > Call Named
+    > When (At token.Colon) (Do (Bump kind.COLON) > Call VariableType) (Do (Note message.ExpectedName))
 -- InterfaceTypeDefinition (3.7) : Description? `interface` Name ImplementsInterfaces? Directives[Const]? FieldsDefinition?, as above
 inside InterfaceTypeDefinition =
-    Call MaybeDescription
-    > expect_word kind.interface_KW message.ExpectedDefinition
-    > Call Named
-    > Call MaybeImplements
-    > Call (MaybeDirectives Const)
-    > maybe token.LCurly FieldsDefinition
+    Seq (described kind.interface_KW)
+    (Call Named
+    > type_parts)
 -- UnionTypeDefinition (3.8) : Description? `union` Name Directives[Const]? UnionMemberTypes?
 inside UnionTypeDefinition =
-    Call MaybeDescription
-    > expect_word kind.union_KW message.ExpectedDefinition
-    > Call Named
+    Seq (described kind.union_KW)
+    (Call Named
     > Call (MaybeDirectives Const)
-    > maybe token.Eq UnionMemberTypes
+    > maybe token.Eq UnionMemberTypes)
 -- UnionMemberTypes (3.8) : = |? NamedType, or UnionMemberTypes | NamedType
 inside UnionMemberTypes = Do (Bump kind.EQ) > separated token.Pipe kind.PIPE UnionMember
 -- EnumTypeDefinition (3.9) : Description? `enum` Name Directives[Const]? EnumValuesDefinition?, as above
 inside EnumTypeDefinition =
-    Call MaybeDescription
-    > expect_word kind.enum_KW message.ExpectedDefinition
-    > Call Named
+    Seq (described kind.enum_KW)
+    (Call Named
     > Call (MaybeDirectives Const)
-    > maybe token.LCurly EnumValuesDefinition
+    > maybe token.LCurly EnumValuesDefinition)
 -- EnumValuesDefinition (3.9) : { EnumValueDefinition+ }
 inside EnumValuesDefinition =
     definitions kind.L_CURLY EnumValueDefinition message.ExpectedEnumValueDefinition token.RCurly kind.R_CURLY message.ExpectedRCurly
@@ -339,24 +348,20 @@ inside EnumValuesDefinition =
 inside EnumValueDefinition = Call MaybeDescription > Child EnumValue > Call (MaybeDirectives Const)
 -- InputObjectTypeDefinition (3.10) : Description? `input` Name Directives[Const]? InputFieldsDefinition?, as above
 inside InputObjectTypeDefinition =
-    Call MaybeDescription
-    > expect_word kind.input_KW message.ExpectedDefinition
-    > Call Named
+    Seq (described kind.input_KW)
+    (Call Named
     > Call (MaybeDirectives Const)
-    > maybe token.LCurly InputFieldsDefinition
+    > maybe token.LCurly InputFieldsDefinition)
 -- InputFieldsDefinition (3.10) : { InputValueDefinition+ }
 inside InputFieldsDefinition =
     definitions kind.L_CURLY InputValueDefinition message.ExpectedInputValueDefinition token.RCurly kind.R_CURLY message.ExpectedRCurly
 -- DirectiveDefinition (3.13) : Description? `directive` @ Name ArgumentsDefinition? `repeatable`? `on` DirectiveLocations
 inside DirectiveDefinition =
-    Call MaybeDescription
-    > expect_word kind.directive_KW message.ExpectedDefinition
-    > expect token.At kind.AT message.ExpectedAt
-    > Call Named
+    Seq (described kind.directive_KW)
+    (Call DirectiveName
     > Call MaybeArgumentsDefinition
     > When (Word kind.repeatable_KW) (Do (Bump kind.repeatable_KW)) Skip
-    > expect_word kind.on_KW message.ExpectedLocations
-    > When (Here (Or (Kind token.Name) (Kind token.Pipe))) (Child DirectiveLocations) (Do (Note message.ExpectedValidLocation))
+    > Call OnLocations)
 -- DirectiveLocations (3.13) : |? DirectiveLocation, or DirectiveLocations | DirectiveLocation
 inside DirectiveLocations = separated token.Pipe kind.PIPE Location
 -- DirectiveLocation (3.13) : ExecutableDirectiveLocation, or TypeSystemDirectiveLocation
@@ -460,12 +465,15 @@ body TypeName = When (At token.Name) (Child Name) (Do (Note message.ExpectedType
 body RootType = When (At token.Name) (Child NamedType) (Do (Note message.ExpectedRootType))
 -- Type Directives[Const]?, the rest of a FieldDefinition (3.6)
 body FieldType = When (Here type_start) (Call TypeOf > Call (MaybeDirectives Const)) (Do (Note message.ExpectedType))
--- Description? Name, the beginning of a FieldDefinition (3.6) and of an InputValueDefinition (3.6.1)
-body DescribedName = When (At token.StringValue) (Child Description > Call Named) (Child Name)
 body MaybeImplements = When (Word kind.implements_KW) (Child ImplementsInterfaces) Skip
 -- NamedType, in ImplementsInterfaces (3.6) and in UnionMemberTypes (3.8)
 body InterfaceName = When (At token.Name) (Child NamedType) (Do (Note message.ExpectedInterface))
 body UnionMember = When (At token.Name) (Child NamedType) (Do (Note message.ExpectedUnionMember))
+-- @ Name, and `on` DirectiveLocations, parts of a DirectiveDefinition (3.13)
+body DirectiveName = expect token.At kind.AT message.ExpectedAt > Call Named
+body OnLocations =
+    expect_word kind.on_KW message.ExpectedLocations
+    > When (Here (Or (Kind token.Name) (Kind token.Pipe))) (Child DirectiveLocations) (Do (Note message.ExpectedValidLocation))
 body Location =
     When (Here location) (Child DirectiveLocation)
     (When (At token.Name) (Do (Note message.ExpectedValidLocation)) (Do (Note message.ExpectedLocation)))

@@ -3,13 +3,14 @@
 
 ghost use Rattle.std.specs.Prelude.{◌≡◌, true, OnOk};
 ghost use Rattle.lexical_grammar.specs.declared.TokenKind.TheVariants as token;
+ghost use Rattle.document_grammar.specs.Choices.{is_keyword};
+ghost use Rattle.document_grammar.specs.Numbers.{number};
 ghost use Rattle.parser_rules.specs.Nodes as rule;
 ghost use Rattle.parser_rules.specs.Rules as rules;
 ghost use Rattle.parser_rules.specs.RuleLanguage.{Here, At, Word, fits, holds, Child, Call, When, Do, Bump, Skip, want};
 ghost use Rattle.parser_rules.specs.Runs.{Runs};
 ghost use Rattle.apollo_grammar.specs.View.{current_of};
 
-use super::name::name;
 use crate::state::ParserState;
 use document_grammar::SyntaxKind;
 use lexical_grammar::TokenKind;
@@ -37,24 +38,27 @@ pub fn maybe_description<A: Allocator + Copy>(p: &mut ParserState<'_, A>) -> Res
     Ok(())
 }
 
+/// A definition's description, where it has one, and the keyword after it.
+pub fn described<A: Allocator + Copy>(
+    p: &mut ParserState<'_, A>,
+    keyword: SyntaxKind,
+) -> Result<(), AllocError>
+    requires { is_keyword (number keyword) ≡ true }
+    ensures { OnOk result (Runs (rules.described keyword) p.old p.new) }
+{
+    maybe_description(p)?;
+    if p.at_word(keyword) {
+        return p.bump(keyword);
+    }
+    p.err_and_pop(Message::ExpectedDefinition)
+}
+
 /// Whether what has a description and a name starts here.
 #[tactic(auto, unfolding(parser_rules::specs::RuleLanguage::holds))]
 pub fn starts_named<A: Allocator + Copy>(p: &ParserState<'_, A>) -> bool
     ensures { result ≡ holds (Here rules.named_start) p.now }
 {
     p.at(TokenKind::StringValue) || p.at(TokenKind::Name)
-}
-
-/// A name with its description.
-pub fn described_name<A: Allocator + Copy>(p: &mut ParserState<'_, A>) -> Result<(), AllocError>
-    requires { true ≡ holds (Here rules.named_start) p.old }
-    ensures { OnOk result (Runs (Call rule.DescribedName) p.old p.new) }
-{
-    if p.at(TokenKind::StringValue) {
-        description(p)?;
-        return name(p);
-    }
-    p.name()
 }
 
 /// Reports an error where nothing with a description and a name starts.

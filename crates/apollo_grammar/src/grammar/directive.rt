@@ -10,7 +10,7 @@ ghost use Rattle.parser_rules.specs.RuleLanguage.{Here, fits, holds, Note, Do, C
 ghost use Rattle.parser_rules.specs.Runs.{Runs};
 
 use super::argument::{arguments, maybe_arguments_definition};
-use super::description::maybe_description;
+use super::description::described;
 use super::name::name;
 use crate::state::{ParserState, is_word};
 use apollo_lexer::Token;
@@ -58,20 +58,32 @@ pub fn directive_definition<A: Allocator + Copy>(
     ensures { OnOk result (Runs (Child rule.DirectiveDefinition) p.old p.new) }
 {
     p.start_node(SyntaxKind::DIRECTIVE_DEFINITION)?;
-    maybe_description(p)?;
-    p.expect_word(SyntaxKind::directive_KW, Message::ExpectedDefinition)?;
-    p.expect(TokenKind::At, SyntaxKind::AT, Message::ExpectedAt)?;
-    name(p)?;
+    described(p, SyntaxKind::directive_KW)?;
+    directive_name(p)?;
     maybe_arguments_definition(p)?;
     p.skip_word(SyntaxKind::repeatable_KW)?;
-    p.expect_word(SyntaxKind::on_KW, Message::ExpectedLocations)?;
-    if p.at(TokenKind::Name) || p.at(TokenKind::Pipe) {
-        directive_locations(p)?;
-    } else {
-        p.err(Message::ExpectedValidLocation)?;
-    }
+    on_locations(p)?;
     p.finish_node();
     Ok(())
+}
+
+// The name of a directive that is defined, after `@`.
+fn directive_name<A: Allocator + Copy>(p: &mut ParserState<'_, A>) -> Result<(), AllocError>
+    ensures { OnOk result (Runs (Call rule.DirectiveName) p.old p.new) }
+{
+    p.expect(TokenKind::At, SyntaxKind::AT, Message::ExpectedAt)?;
+    name(p)
+}
+
+// The places where the directive may be, after `on`.
+fn on_locations<A: Allocator + Copy>(p: &mut ParserState<'_, A>) -> Result<(), AllocError>
+    ensures { OnOk result (Runs (Call rule.OnLocations) p.old p.new) }
+{
+    p.expect_word(SyntaxKind::on_KW, Message::ExpectedLocations)?;
+    if p.at(TokenKind::Name) || p.at(TokenKind::Pipe) {
+        return directive_locations(p);
+    }
+    p.err(Message::ExpectedValidLocation)
 }
 
 // The places where a directive may be.
@@ -147,6 +159,7 @@ fn directive_location<A: Allocator + Copy>(p: &mut ParserState<'_, A>) -> Result
     Ok(())
 }
 
+#[tactic(auto, using(parser_rules::proofs::runs::Running::sequence), unfolding(parser_rules::specs::Rules::inside))]
 fn executable_location<A: Allocator + Copy>(p: &mut ParserState<'_, A>) -> Result<(), AllocError>
     ensures { OnOk result (Runs (rules.word_of rules.executable_locations (rules.word_of rules.type_system_locations (Do (Note message.ExpectedLocation)))) p.old p.new) }
 {
@@ -177,6 +190,7 @@ fn executable_location<A: Allocator + Copy>(p: &mut ParserState<'_, A>) -> Resul
     type_system_location(p)
 }
 
+#[tactic(auto, using(parser_rules::proofs::runs::Running::sequence), unfolding(parser_rules::specs::Rules::inside))]
 fn type_system_location<A: Allocator + Copy>(p: &mut ParserState<'_, A>) -> Result<(), AllocError>
     ensures { OnOk result (Runs (rules.word_of rules.type_system_locations (Do (Note message.ExpectedLocation))) p.old p.new) }
 {

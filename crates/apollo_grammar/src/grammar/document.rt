@@ -63,6 +63,16 @@ fn type_system_definition<A: Allocator + Copy>(p: &mut ParserState<'_, A>) -> Re
     if p.at_word(SyntaxKind::schema_KW) {
         return schema_definition(p);
     }
+    if p.at_word(SyntaxKind::directive_KW) {
+        return directive_definition(p);
+    }
+    type_definition(p)
+}
+
+// The same for the definition of a type.
+fn type_definition<A: Allocator + Copy>(p: &mut ParserState<'_, A>) -> Result<(), AllocError>
+    ensures { OnOk result (Runs (rules.type_definition Here rules.no_definition) p.old p.new) }
+{
     if p.at_word(SyntaxKind::scalar_KW) {
         return scalar_type_definition(p);
     }
@@ -80,9 +90,6 @@ fn type_system_definition<A: Allocator + Copy>(p: &mut ParserState<'_, A>) -> Re
     }
     if p.at_word(SyntaxKind::input_KW) {
         return input_object_type_definition(p);
-    }
-    if p.at_word(SyntaxKind::directive_KW) {
-        return directive_definition(p);
     }
     no_definition(p)
 }
@@ -138,7 +145,7 @@ fn described<A: Allocator + Copy>(p: &mut ParserState<'_, A>) -> Result<(), Allo
     described_type_system(p)
 }
 
-// The same for the type system. Another token pops the string.
+// The same for the type system.
 #[tactic(auto, using(crate::proofs::Looks::looking), unfolding(parser_rules::specs::Rules::body, parser_rules::specs::RuleLanguage::holds))]
 fn described_type_system<A: Allocator + Copy>(p: &mut ParserState<'_, A>) -> Result<(), AllocError>
     ensures { OnOk result (Runs (rules.type_system Next rules.no_described) p.old p.new) }
@@ -147,6 +154,18 @@ fn described_type_system<A: Allocator + Copy>(p: &mut ParserState<'_, A>) -> Res
     if is_word(next, SyntaxKind::schema_KW) {
         return schema_definition(p);
     }
+    if is_word(next, SyntaxKind::directive_KW) {
+        return directive_definition(p);
+    }
+    described_type(p)
+}
+
+// The same for the definition of a type. Before another token the string is popped.
+#[tactic(auto, using(crate::proofs::Looks::looking), unfolding(parser_rules::specs::Rules::body, parser_rules::specs::RuleLanguage::holds))]
+fn described_type<A: Allocator + Copy>(p: &mut ParserState<'_, A>) -> Result<(), AllocError>
+    ensures { OnOk result (Runs (rules.type_definition Next rules.no_described) p.old p.new) }
+{
+    let next = p.peek();
     if is_word(next, SyntaxKind::scalar_KW) {
         return scalar_type_definition(p);
     }
@@ -164,9 +183,6 @@ fn described_type_system<A: Allocator + Copy>(p: &mut ParserState<'_, A>) -> Res
     }
     if is_word(next, SyntaxKind::input_KW) {
         return input_object_type_definition(p);
-    }
-    if is_word(next, SyntaxKind::directive_KW) {
-        return directive_definition(p);
     }
     if next.is_some() {
         return p.err_and_pop(Message::ExpectedDefinition);

@@ -9,7 +9,7 @@ ghost use Rattle.parser_rules.specs.RuleLanguage.{Here, At, Word, fits, holds, C
 ghost use Rattle.parser_rules.specs.Runs.{Runs};
 ghost use Rattle.apollo_grammar.specs.View.{current_of};
 
-use super::description::{maybe_description, starts_named, want_named};
+use super::description::{described, maybe_description, starts_named, want_named};
 use super::directive::directives;
 use super::name::name;
 use super::value::enum_value;
@@ -26,8 +26,7 @@ pub fn enum_type_definition<A: Allocator + Copy>(
     ensures { OnOk result (Runs (Child rule.EnumTypeDefinition) p.old p.new) }
 {
     p.start_node(SyntaxKind::ENUM_TYPE_DEFINITION)?;
-    maybe_description(p)?;
-    p.expect_word(SyntaxKind::enum_KW, Message::ExpectedDefinition)?;
+    described(p, SyntaxKind::enum_KW)?;
     name(p)?;
     directives(p, Constness::Const)?;
     if p.at(TokenKind::LCurly) {

@@ -9,9 +9,9 @@ ghost use Rattle.parser_rules.specs.RuleLanguage.{Here, At, holds, Child, Call};
 ghost use Rattle.parser_rules.specs.Runs.{Runs};
 
 use super::argument::{arguments, maybe_arguments_definition};
-use super::description::{described_name, starts_named, want_named};
+use super::description::{maybe_description, starts_named, want_named};
 use super::directive::directives;
-use super::name::aliased_name;
+use super::name::{aliased_name, name};
 use super::selection::selection_set;
 use super::ty::{starts_type, ty};
 use crate::state::ParserState;
@@ -63,7 +63,8 @@ fn field_definition<A: Allocator + Copy>(p: &mut ParserState<'_, A>) -> Result<(
     ensures { OnOk result (Runs (Child rule.FieldDefinition) p.old p.new) }
 {
     p.start_node(SyntaxKind::FIELD_DEFINITION)?;
-    described_name(p)?;
+    maybe_description(p)?;
+    name(p)?;
     maybe_arguments_definition(p)?;
     if p.at(TokenKind::Colon) {
         p.bump(SyntaxKind::COLON)?;

@@ -7,7 +7,7 @@ ghost use Rattle.parser_rules.specs.Nodes as rule;
 ghost use Rattle.parser_rules.specs.RuleLanguage.{At, holds, Child, Call};
 ghost use Rattle.parser_rules.specs.Runs.{Runs};
 
-use super::description::maybe_description;
+use super::description::described;
 use super::directive::directives;
 use super::selection::selection_set;
 use super::ty::named_type;
@@ -24,8 +24,7 @@ pub fn fragment_definition<A: Allocator + Copy>(
     ensures { OnOk result (Runs (Child rule.FragmentDefinition) p.old p.new) }
 {
     p.start_node(SyntaxKind::FRAGMENT_DEFINITION)?;
-    maybe_description(p)?;
-    p.expect_word(SyntaxKind::fragment_KW, Message::ExpectedDefinition)?;
+    described(p, SyntaxKind::fragment_KW)?;
     fragment_name(p)?;
     type_condition(p)?;
     directives(p, Constness::NotConst)?;

@@ -9,7 +9,7 @@ ghost use Rattle.parser_rules.specs.RuleLanguage.{Here, At, Word, fits, holds, C
 ghost use Rattle.parser_rules.specs.Runs.{Runs};
 ghost use Rattle.apollo_grammar.specs.View.{current_of};
 
-use super::description::{described_name, maybe_description, starts_named, want_named};
+use super::description::{described, maybe_description, starts_named, want_named};
 use super::directive::directives;
 use super::name::name;
 use super::variable::variable_type;
@@ -26,8 +26,7 @@ pub fn input_object_type_definition<A: Allocator + Copy>(
     ensures { OnOk result (Runs (Child rule.InputObjectTypeDefinition) p.old p.new) }
 {
     p.start_node(SyntaxKind::INPUT_OBJECT_TYPE_DEFINITION)?;
-    maybe_description(p)?;
-    p.expect_word(SyntaxKind::input_KW, Message::ExpectedDefinition)?;
+    described(p, SyntaxKind::input_KW)?;
     name(p)?;
     directives(p, Constness::Const)?;
     if p.at(TokenKind::LCurly) {
@@ -91,7 +90,8 @@ pub fn input_value_definition<A: Allocator + Copy>(
     ensures { OnOk result (Runs (Child rule.InputValueDefinition) p.old p.new) }
 {
     p.start_node(SyntaxKind::INPUT_VALUE_DEFINITION)?;
-    described_name(p)?;
+    maybe_description(p)?;
+    name(p)?;
     if p.at(TokenKind::Colon) {
         p.bump(SyntaxKind::COLON)?;
         variable_type(p)?;

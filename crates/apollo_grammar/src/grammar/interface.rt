@@ -9,11 +9,9 @@ ghost use Rattle.parser_rules.specs.RuleLanguage.{Here, At, Word, fits, holds, C
 ghost use Rattle.parser_rules.specs.Runs.{Runs};
 ghost use Rattle.apollo_grammar.specs.View.{current_of};
 
-use super::description::maybe_description;
-use super::directive::directives;
-use super::field::fields_definition;
+use super::description::described;
 use super::name::name;
-use super::object::{implementing, maybe_implements};
+use super::object::{implementing, type_parts};
 use crate::state::ParserState;
 use document_grammar::SyntaxKind;
 use lexical_grammar::TokenKind;
@@ -27,14 +25,9 @@ pub fn interface_type_definition<A: Allocator + Copy>(
     ensures { OnOk result (Runs (Child rule.InterfaceTypeDefinition) p.old p.new) }
 {
     p.start_node(SyntaxKind::INTERFACE_TYPE_DEFINITION)?;
-    maybe_description(p)?;
-    p.expect_word(SyntaxKind::interface_KW, Message::ExpectedDefinition)?;
+    described(p, SyntaxKind::interface_KW)?;
     name(p)?;
-    maybe_implements(p)?;
-    directives(p, Constness::Const)?;
-    if p.at(TokenKind::LCurly) {
-        fields_definition(p)?;
-    }
+    type_parts(p)?;
     p.finish_node();
     Ok(())
 }

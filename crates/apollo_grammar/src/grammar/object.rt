@@ -9,7 +9,7 @@ ghost use Rattle.parser_rules.specs.RuleLanguage.{Here, At, Word, fits, holds, C
 ghost use Rattle.parser_rules.specs.Runs.{Runs};
 ghost use Rattle.apollo_grammar.specs.View.{current_of};
 
-use super::description::maybe_description;
+use super::description::described;
 use super::directive::directives;
 use super::field::fields_definition;
 use super::name::name;
@@ -27,14 +27,9 @@ pub fn object_type_definition<A: Allocator + Copy>(
     ensures { OnOk result (Runs (Child rule.ObjectTypeDefinition) p.old p.new) }
 {
     p.start_node(SyntaxKind::OBJECT_TYPE_DEFINITION)?;
-    maybe_description(p)?;
-    p.expect_word(SyntaxKind::type_KW, Message::ExpectedDefinition)?;
+    described(p, SyntaxKind::type_KW)?;
     type_name(p)?;
-    maybe_implements(p)?;
-    directives(p, Constness::Const)?;
-    if p.at(TokenKind::LCurly) {
-        fields_definition(p)?;
-    }
+    type_parts(p)?;
     p.finish_node();
     Ok(())
 }
@@ -92,8 +87,20 @@ pub fn implementing<A: Allocator + Copy>(
     p.err(message)
 }
 
-/// The interfaces that a type implements, where `implements` comes next.
-pub fn maybe_implements<A: Allocator + Copy>(p: &mut ParserState<'_, A>) -> Result<(), AllocError>
+/// What follows the name of an object type or of an interface that is defined.
+pub fn type_parts<A: Allocator + Copy>(p: &mut ParserState<'_, A>) -> Result<(), AllocError>
+    ensures { OnOk result (Runs rules.type_parts p.old p.new) }
+{
+    maybe_implements(p)?;
+    directives(p, Constness::Const)?;
+    if p.at(TokenKind::LCurly) {
+        return fields_definition(p);
+    }
+    Ok(())
+}
+
+// The interfaces that a type implements, where `implements` comes next.
+fn maybe_implements<A: Allocator + Copy>(p: &mut ParserState<'_, A>) -> Result<(), AllocError>
     ensures { OnOk result (Runs (Call rule.MaybeImplements) p.old p.new) }
 {
     if p.at_word(SyntaxKind::implements_KW) {

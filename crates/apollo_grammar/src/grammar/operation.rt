@@ -26,8 +26,7 @@ pub fn operation_definition<A: Allocator + Copy>(
     ensures { OnOk result (Runs (Child rule.Operation) p.old p.new) }
 {
     p.start_node(SyntaxKind::OPERATION_DEFINITION)?;
-    maybe_description(p)?;
-    operation_type(p)?;
+    operation_head(p)?;
     maybe_name(p)?;
     variable_definitions(p)?;
     directives(p, Constness::NotConst)?;
@@ -49,6 +48,14 @@ pub fn query_shorthand<A: Allocator + Copy>(p: &mut ParserState<'_, A>) -> Resul
     selection_set(p)?;
     p.finish_node();
     Ok(())
+}
+
+// An operation's description, where it has one, and its type.
+fn operation_head<A: Allocator + Copy>(p: &mut ParserState<'_, A>) -> Result<(), AllocError>
+    ensures { OnOk result (Runs rules.operation_head p.old p.new) }
+{
+    maybe_description(p)?;
+    operation_type(p)
 }
 
 /// The type of an operation (GraphQL October 2021, section 2.3, "Operations").

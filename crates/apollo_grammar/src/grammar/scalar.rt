@@ -9,7 +9,7 @@ ghost use Rattle.parser_rules.specs.RuleLanguage.{Here, At, Word, fits, holds, C
 ghost use Rattle.parser_rules.specs.Runs.{Runs};
 ghost use Rattle.apollo_grammar.specs.View.{current_of};
 
-use super::description::maybe_description;
+use super::description::described;
 use super::directive::directives;
 use super::name::name;
 use crate::state::ParserState;
@@ -25,8 +25,7 @@ pub fn scalar_type_definition<A: Allocator + Copy>(
     ensures { OnOk result (Runs (Child rule.ScalarTypeDefinition) p.old p.new) }
 {
     p.start_node(SyntaxKind::SCALAR_TYPE_DEFINITION)?;
-    maybe_description(p)?;
-    p.expect_word(SyntaxKind::scalar_KW, Message::ExpectedDefinition)?;
+    described(p, SyntaxKind::scalar_KW)?;
     name(p)?;
     directives(p, Constness::Const)?;
     p.finish_node();

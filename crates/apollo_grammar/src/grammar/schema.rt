@@ -9,7 +9,7 @@ ghost use Rattle.parser_rules.specs.RuleLanguage.{Here, At, Word, fits, holds, C
 ghost use Rattle.parser_rules.specs.Runs.{Runs};
 ghost use Rattle.apollo_grammar.specs.View.{current_of};
 
-use super::description::maybe_description;
+use super::description::described;
 use super::directive::directives;
 use super::operation::operation_type;
 use super::ty::named_type;
@@ -24,8 +24,7 @@ pub fn schema_definition<A: Allocator + Copy>(p: &mut ParserState<'_, A>) -> Res
     ensures { OnOk result (Runs (Child rule.SchemaDefinition) p.old p.new) }
 {
     p.start_node(SyntaxKind::SCHEMA_DEFINITION)?;
-    maybe_description(p)?;
-    p.expect_word(SyntaxKind::schema_KW, Message::ExpectedDefinition)?;
+    described(p, SyntaxKind::schema_KW)?;
     directives(p, Constness::Const)?;
     if p.at(TokenKind::LCurly) {
         root_operations(p, Message::ExpectedRootOperation)?;

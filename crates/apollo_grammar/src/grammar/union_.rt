@@ -9,7 +9,7 @@ ghost use Rattle.parser_rules.specs.RuleLanguage.{Here, At, Word, fits, holds, C
 ghost use Rattle.parser_rules.specs.Runs.{Runs};
 ghost use Rattle.apollo_grammar.specs.View.{current_of};
 
-use super::description::maybe_description;
+use super::description::described;
 use super::directive::directives;
 use super::name::name;
 use super::ty::named_type;
@@ -26,8 +26,7 @@ pub fn union_type_definition<A: Allocator + Copy>(
     ensures { OnOk result (Runs (Child rule.UnionTypeDefinition) p.old p.new) }
 {
     p.start_node(SyntaxKind::UNION_TYPE_DEFINITION)?;
-    maybe_description(p)?;
-    p.expect_word(SyntaxKind::union_KW, Message::ExpectedDefinition)?;
+    described(p, SyntaxKind::union_KW)?;
     name(p)?;
     directives(p, Constness::Const)?;
     if p.at(TokenKind::Eq) {

@@ -8,6 +8,7 @@ ghost use Rattle.parser_rules.specs.Rules as rules;
 ghost use Rattle.parser_rules.specs.RuleLanguage.{Here, At, holds, Child, Call};
 ghost use Rattle.parser_rules.specs.Runs.{Runs};
 
+use super::name::name;
 use super::variable::variable;
 use crate::state::ParserState;
 use document_grammar::SyntaxKind;
@@ -112,7 +113,7 @@ pub fn enum_value<A: Allocator + Copy>(p: &mut ParserState<'_, A>) -> Result<(),
     p.start_node(SyntaxKind::ENUM_VALUE)?;
     if at_reserved(p) {
         p.err(Message::InvalidEnumValue)?;
-        p.name()?;
+        name(p)?;
     } else if p.at(TokenKind::Name) {
         p.name()?;
     } else {

@@ -1,5 +1,5 @@
 -- Rules that surely take the token that is there: so loops end.
-use Rattle.std.proofs.Common.{◌≡◌, ℕ, zero, suc, ltb, length, get_or, List, [], ◌∷◌, ◌<◌, Some, None, refl, sym, ◌∙◌, ap, ap₂, subst, arith, true, false, Bool, not, ◌||◌, inl, inr, true≢false}
+use Rattle.std.proofs.Common.{◌≡◌, ℕ, zero, suc, ltb, length, get_or, List, [], ◌∷◌, ◌<◌, Some, None, refl, sym, ◌∙◌, ap, ap₂, subst, arith, true, false, Bool, not, ◌||◌, ◌⊎◌, inl, inr, true≢false}
 use Rattle.lexical_grammar.specs.declared.TokenKind.{TokenKind}
 use Rattle.lexical_grammar.specs.declared.TokenKind.TheVariants as token
 use Rattle.document_grammar.specs.declared.kind.SyntaxKind.{SyntaxKind}
@@ -7,23 +7,16 @@ use Rattle.document_grammar.specs.Booleans.{◌and◌, ◌or◌}
 use Rattle.std.proofs.lemmas.Bool.{and_parts, ltb-true}
 use Rattle.lexical_grammar.specs.contracts.TokenKind.{the_type}
 use denote.Enum.Declared.{tag_of}
-use Rattle.document_grammar.proofs.Booleans.{either, and-i, and-l, and-r, or-c, or-l, or-r, not-c}
-use Rattle.parser_rules.specs.State.{State, Lexeme, flush, opened, closed, moved, bump, same_kind, is_over, is_deep, enter, leave}
+use Rattle.document_grammar.proofs.Booleans.{either, and-i, and-l, and-r, or-l, or-r, not-c}
+use Rattle.parser_rules.specs.State.{State, Lexeme, flush, opened, closed, moved, bump, wrapped_from, same_kind, is_over, is_deep, enter, leave}
 use Rattle.parser_rules.specs.declared.constness.Constness.{Constness}
 use Rattle.parser_rules.specs.declared.constness.Constness.TheVariants.{Const, NotConst}
 use Rattle.parser_rules.specs.Nodes.{kind_of, ValueOf, NestedValue}
-use Rattle.parser_rules.specs.RuleLanguage.{TokenTest, Kind, Keyword, Or, fits, Here, Ready, holds, Prim, Bump, Note, step, Rule, Skip, Do, Seq, When, Child, Nested, Call}
+use Rattle.parser_rules.specs.RuleLanguage.{TokenTest, Kind, Keyword, Or, fits, Here, Ready, holds, Prim, Bump, step, Rule, Do, Seq, When, Child, Nested, Call}
 use Rattle.parser_rules.specs.Rules.{has_item, inside, body}
-use Rattle.parser_rules.specs.Runs.{Runs, skip, does, seq, yes, no, child, deeper, refused, call}
-use Rattle.parser_rules.specs.declared.message.Message.{Message}
+use Rattle.parser_rules.specs.Runs.{Runs, does, seq, yes, no, child, deeper, refused, call}
 use Rattle.parser_rules.proofs.runs.Frame.{left, moved-left, fewer}
-use Rattle.parser_rules.proofs.runs.Reporting.{after-note}
-
--- after the rule the token that was there is still there
-abbrev pub stays : Rule → Bool
-stays Skip = true
-stays (Do (Note m)) = true
-stays _ = false
+use Rattle.parser_rules.proofs.runs.Steps.{Holds_along, along}
 
 -- what is known of a token's kind
 abbrev pub Kinds : Type 0
@@ -39,11 +32,6 @@ unfoldable pub failing : TokenTest → Kinds
 failing (Kind k) j = not (same_kind j k)
 failing (Keyword k) j = true
 failing (Or p q) j = failing p j and failing q j
-
--- no kind of the list is such a kind
-unfoldable pub none_of : List TokenKind → Kinds → Bool
-none_of [] p = true
-none_of (k ∷ ks) p = not (p k) and none_of ks p
 
 -- the kinds in the order of their declaration
 unfoldable pub token_kinds : List TokenKind
@@ -72,25 +60,28 @@ token_kinds =
     ∷ token.Float
     ∷ []
 
--- no token is of such a kind
-abbrev pub impossible : Kinds → Bool
-impossible p = none_of token_kinds p
+-- whether a token of the kind may still be there after the rule
+unfoldable pub may_stay : ℕ → TokenKind → Rule → Bool
+may_stay n j (Do (Bump leaf)) = false
+may_stay n j (Seq a b) = may_stay n j a and may_stay n j b
+may_stay n j (When (Here q) a b) = (passing q j and may_stay n j a) or (failing q j and may_stay n j b)
+may_stay n j (When q a b) = may_stay n j a or may_stay n j b
+may_stay (suc n) j (Child c) = may_stay n j (inside c)
+may_stay (suc n) j (Call q) = may_stay n j (body q)
+may_stay n j _ = true
+
+-- each kind of the list that is such a kind is taken
+unfoldable pub takes_all : List TokenKind → Kinds → Rule → Bool
+takes_all [] p a = true
+takes_all (k ∷ ks) p a = not (p k and may_stay 6 k a) and takes_all ks p a
 
 -- the rule takes the token that is there, when it is of these kinds
-unfoldable pub consumes : ℕ → Kinds → Rule → Bool
-consumes n p (Do (Bump leaf)) = true
-consumes n p (Seq a b) = consumes n p a or (stays a and consumes n p b)
-consumes n p (When (Here q) a b) =
-    (impossible (λ j. p j and passing q j) or consumes n (λ j. p j and passing q j) a)
-    and (impossible (λ j. p j and failing q j) or consumes n (λ j. p j and failing q j) b)
-consumes n p (When q a b) = consumes n p a and consumes n p b
-consumes (suc n) p (Child c) = consumes n p (inside c)
-consumes (suc n) p (Call q) = consumes n p (body q)
-consumes n p _ = false
+unfoldable pub consumes : Kinds → Rule → Bool
+consumes p a = takes_all token_kinds p a
 
 -- all that this test computes with
 unfoldable pub consuming : Unit {0}
-unfolding consumes passing failing none_of token_kinds same_kind inside body ◌and◌ ◌or◌
+unfolding consumes takes_all may_stay passing failing token_kinds same_kind inside body ◌and◌ ◌or◌
 consuming = tt
 
 -- ---- a token is there
@@ -131,6 +122,14 @@ here-there q s e = elim s.current as (λ o. s.current ≡ o → true ≡ fits q 
   | Some x ↦ λ c y. record { token = x; is = c; kind = passes-kind q x (sym y) }
 ] refl e
 
+here-passes : (q : TokenTest) (x : Lexeme) (s : State) → s.current ≡ Some x → true ≡ holds (Here q) s → passing q x.kind ≡ true
+unfolding holds
+here-passes q x s c e = passes-kind q x (sym (e ∙ ap (fits q) c))
+
+here-fails : (q : TokenTest) (x : Lexeme) (s : State) → s.current ≡ Some x → false ≡ holds (Here q) s → failing q x.kind ≡ true
+unfolding holds
+here-fails q x s c e = fails-kind q x (sym (e ∙ ap (fits q) c))
+
 abbrev pub anything : Kinds
 anything j = true
 
@@ -154,42 +153,29 @@ pub opened-there : (p : Kinds) (k : SyntaxKind) (s : State) {t : State} → t �
 unfolding opened flush
 opened-there p k s e h = record { token = h.token; is = ap (λ w. w.current) e ∙ h.is; kind = h.kind }
 
+opened-current : (k : SyntaxKind) (s : State) {t : State} → t ≡ opened k s → t.current ≡ s.current
+unfolding opened flush
+opened-current k s e = ap (λ w. w.current) e
+
 pub opened-left : (k : SyntaxKind) (s : State) {t : State} → t ≡ opened k s → left t ≡ left s
 unfolding opened flush left
 opened-left k s e = ap left e
 
--- ---- a report changes nothing that is read
-
-abbrev pub Unread : State → State → Type 0
-Unread s t = (t.current ≡ s.current) × (left t ≡ left s)
-
-note-unread : (m : Message) (s : State) {t : State} → t ≡ step (Note m) s → Unread s t
-unfolding step left
-note-unread m s e = subst (λ w. Unread s w) (sym e) (after-note (Unread s) m s (λ errors. (refl, refl)))
-
-pub stayed : {a : Rule} {s t : State} → Runs a s t → stays a ≡ true → Unread s t
-stayed skip e = (refl, refl)
-stayed {s = s} (does {a = Note m} h) e = note-unread m s h
-stayed _ e = absurd (true≢false (sym e))
-
-still-there : (p : Kinds) (s t : State) → t.current ≡ s.current → IsThere p s → IsThere p t
-still-there p s t e h = record { token = h.token; is = e ∙ h.is; kind = h.kind }
-
 -- ---- what takes
 
-bump-takes : (p : Kinds) (leaf : SyntaxKind) (s : State) {t : State} → t ≡ step (Bump leaf) s → IsThere p s → left t < left s
+bump-takes : (leaf : SyntaxKind) (x : Lexeme) (s : State) {t : State} → t ≡ step (Bump leaf) s → s.current ≡ Some x → left t < left s
 unfolding step bump flush left
-bump-takes p leaf s e h =
-    let f = moved-left leaf h.token (flush s) h.is in
-    let k : left (moved leaf s s.current) ≡ left (moved leaf s (Some h.token)) = ap (λ o. left (moved leaf s o)) h.is in
+bump-takes leaf x s e c =
+    let f = moved-left leaf x (flush s) c in
+    let k : left (moved leaf s s.current) ≡ left (moved leaf s (Some x)) = ap (λ o. left (moved leaf s o)) c in
     let l = ap left e in
     omega (arith, f, k, l)
 
-none-at : (ks : List TokenKind) (p : Kinds) (n : ℕ) → none_of ks p ≡ true → n < length ks → p (get_or ks n token.Eof) ≡ false
-unfolding none_of
-none-at [] p n h l = absurd (omega (arith, l))
-none-at (k ∷ ks) p zero h l = not-c _ (and-l _ _ h)
-none-at (k ∷ ks) p (suc n) h l = none-at ks p n (and-r _ _ h) (omega (arith, l))
+taken-at : (ks : List TokenKind) (p : Kinds) (a : Rule) (n : ℕ) → takes_all ks p a ≡ true → n < length ks → p (get_or ks n token.Eof) and may_stay 6 (get_or ks n token.Eof) a ≡ false
+unfolding takes_all
+taken-at [] p a n h l = absurd (omega (arith, l))
+taken-at (k ∷ ks) p a zero h l = not-c _ (and-l _ _ h)
+taken-at (k ∷ ks) p a (suc n) h l = taken-at ks p a n (and-r _ _ h) (omega (arith, l))
 
 listed : (j : TokenKind) → get_or token_kinds (tag_of the_type j) token.Eof ≡ j
 unfolding token_kinds
@@ -201,54 +187,82 @@ unfolding token_kinds
 listed-below token.Whitespace = refl
 listed-below _ = refl
 
-possible : (p : Kinds) (j : TokenKind) → impossible p ≡ true → p j ≡ true → ⊥
-possible p j h e = true≢false (sym e ∙ (ap p (sym (listed j)) ∙ none-at token_kinds p (tag_of the_type j) h (ltb-true _ _ (listed-below j))))
+-- a token of a kind that is taken does not stay
+not-left : (p : Kinds) (a : Rule) (j : TokenKind) → consumes p a ≡ true → p j ≡ true → may_stay 6 j a ≡ true → ⊥
+unfolding consumes
+not-left p a j h e m =
+    let i = taken-at token_kinds p a (tag_of the_type j) h (ltb-true _ _ (listed-below j)) in
+    true≢false (sym (and-i e m) ∙ subst (λ (k : TokenKind). p k and may_stay 6 k a ≡ false) (listed j) i)
 
--- the branch that is taken was checked
-branch : (p : Kinds) (n : ℕ) (a : Rule) (s : State) → impossible p or consumes n p a ≡ true → IsThere p s → consumes n p a ≡ true
-branch p n a s e h = elim (or-c _ _ e) [ inl y ↦ absurd (possible p h.token.kind y h.kind) | inr y ↦ y ]
+-- ---- a run takes the token that is there, or leaves it there
 
-when-passes : (p : Kinds) (q : TokenTest) (s : State) → true ≡ holds (Here q) s → IsThere p s → IsThere (λ j. p j and passing q j) s
-unfolding holds
-when-passes p q s e h = record { token = h.token; is = h.is; kind = and-i h.kind (passes-kind q h.token (sym (e ∙ ap (fits q) h.is))) }
+abbrev pub Onward : State → State → Type 0
+Onward s t = (left t < left s) ⊎ ((t.current ≡ s.current) × (left t ≡ left s))
 
-when-fails : (p : Kinds) (q : TokenTest) (s : State) → false ≡ holds (Here q) s → IsThere p s → IsThere (λ j. p j and failing q j) s
-unfolding holds
-when-fails p q s e h = record { token = h.token; is = h.is; kind = and-i h.kind (fails-kind q h.token (sym (e ∙ ap (fits q) h.is))) }
+onward-next : (s t u : State) → Onward s t → Onward t u → Onward s u
+onward-next s t u (inl f) (inl g) = inl (omega (arith, f, g))
+onward-next s t u (inl f) (inr g) = let l = g.1 in inl (omega (arith, f, l))
+onward-next s t u (inr f) (inl g) = let l = f.1 in inl (omega (arith, l, g))
+onward-next s t u (inr f) (inr g) = inr (g.0 ∙ f.0, g.1 ∙ f.1)
 
-taken-by : {a : Rule} {s t : State} → Runs a s t → (n : ℕ) (p : Kinds) → IsThere p s → consumes n p a ≡ true → left t < left s
-unfolding consumes closed left
-taken-by {s = s} (does {a = Bump leaf} k) n p h e = bump-takes p leaf s k h
-taken-by {s = s} (seq {a = a} {b = b} {t = t} k l) n p h e = elim (or-c _ _ e) [
-  | inl y ↦ let f = taken-by k n p h y in let g = fewer l in omega (arith, f, g)
-  | inr later ↦
-      let same = stayed k (and-l (stays a) (consumes n p b) later) in
-      let f = taken-by l n p (still-there p s t same.0 h) (and-r (stays a) (consumes n p b) later) in
-      let g = same.1 in
-      omega (arith, f, g)
+abbrev onward-along : Holds_along Onward
+unfolding left flush closed enter leave wrapped_from
+onward-along = record {
+  same = λ s. inr (refl, refl);
+  next = onward-next;
+  flushes = λ s. inr (refl, refl);
+  moves = λ leaf x s e w. inl (moved-left leaf x s e);
+  reports = λ m x s c a. inr (refl, refl);
+  limits = λ x s c a d. inr (refl, refl);
+  asks = λ s. inr (refl, refl);
+  nodes = λ k s u h. h;
+  levels = λ s u q h. h;
+  wraps = λ k t u w h l. onward-next t u w h l;
+}
+
+-- the token that was there is taken, or it stays and the rule may leave it
+abbrev Stays : ℕ → Rule → Lexeme → State → State → Type 0
+Stays n a x s t = (left t < left s) ⊎ ((t.current ≡ Some x) × (left t ≡ left s) × (may_stay n x.kind a ≡ true))
+
+any-rule : {a : Rule} {s t : State} → (n : ℕ) (x : Lexeme) → s.current ≡ Some x → may_stay n x.kind a ≡ true → Runs a s t → Stays n a x s t
+any-rule n x c m r = elim (along onward-along r) [ inl f ↦ inl f | inr g ↦ inr (g.0 ∙ c, g.1, m) ]
+
+stays : {a : Rule} {s t : State} → Runs a s t → (n : ℕ) (x : Lexeme) → s.current ≡ Some x → Stays n a x s t
+unfolding may_stay closed left
+stays {s = s} (does {a = Bump leaf} k) n x c = inl (bump-takes leaf x s k c)
+stays {s = s} (seq {a = a} {b = b} k l) n x c = elim (stays k n x c) [
+  | inl f ↦ let g = fewer l in inl (omega (arith, f, g))
+  | inr g ↦ elim (stays l n x g.0) [
+    | inl f ↦ let e = g.1 in inl (omega (arith, f, e))
+    | inr f ↦ inr (f.0, f.1 ∙ g.1, and-i g.2 f.2)
+  ]
 ]
-taken-by {s = s} (yes {q = Here q} {a = a} y k) n p h e =
-    let i = when-passes p q s y h in
-    taken-by k n (λ j. p j and passing q j) i (branch (λ j. p j and passing q j) n a s (and-l _ _ e) i)
-taken-by {s = s} (no {q = Here q} {b = b} y k) n p h e =
-    let i = when-fails p q s y h in
-    taken-by k n (λ j. p j and failing q j) i (branch (λ j. p j and failing q j) n b s (and-r _ _ e) i)
-taken-by (yes {a = a} {b = b} q k) n p h e = taken-by k n p h (and-l (consumes n p a) (consumes n p b) e)
-taken-by (no {a = a} {b = b} q k) n p h e = taken-by k n p h (and-r (consumes n p a) (consumes n p b) e)
-taken-by {s = s} (child {n = c} {u = u} a b k) (suc n) p h e =
-    let f = taken-by k n p (opened-there p (kind_of c) s a h) e in
-    let g = opened-left (kind_of c) s a in
+stays {s = s} (yes {q = Here q} {a = a} {b = b} y k) n x c = elim (stays k n x c) [
+  | inl f ↦ inl f
+  | inr g ↦ inr (g.0, g.1, or-l _ _ (and-i (here-passes q x s c y) g.2))
+]
+stays {s = s} (no {q = Here q} {a = a} {b = b} y k) n x c = elim (stays k n x c) [
+  | inl f ↦ inl f
+  | inr g ↦ inr (g.0, g.1, or-r _ _ (and-i (here-fails q x s c y) g.2))
+]
+stays (yes {a = a} {b = b} y k) n x c = elim (stays k n x c) [ inl f ↦ inl f | inr g ↦ inr (g.0, g.1, or-l (may_stay n x.kind a) (may_stay n x.kind b) g.2) ]
+stays (no {a = a} {b = b} y k) n x c = elim (stays k n x c) [ inl f ↦ inl f | inr g ↦ inr (g.0, g.1, or-r (may_stay n x.kind a) (may_stay n x.kind b) g.2) ]
+stays {s = s} (child {n = node} {u = u} a b k) (suc n) x c =
+    let l = opened-left (kind_of node) s a in
     let d = ap left b in
-    omega (arith, f, g, d)
-taken-by (call k) (suc n) p h e = taken-by k n p h e
-taken-by _ n p h e = absurd (true≢false (sym e))
+    elim (stays k n x (opened-current (kind_of node) s a ∙ c)) [
+      | inl f ↦ inl (omega (arith, f, l, d))
+      | inr g ↦ inr (ap (λ w. w.current) b ∙ g.0, d ∙ g.1 ∙ l, g.2)
+    ]
+stays (call k) (suc n) x c = stays k n x c
+stays r n x c = any-rule n x c refl r
 
-pub taken : {a : Rule} {p : Kinds} {s t : State} → Runs a s t → IsThere p s → consumes 5 p a ≡ true → left t < left s
-taken {p = p} r h e = taken-by r 5 p h e
+pub taken : {a : Rule} {p : Kinds} {s t : State} → Runs a s t → IsThere p s → consumes p a ≡ true → left t < left s
+taken {a = a} {p = p} r h e = elim (stays r 6 h.token h.is) [ inl f ↦ f | inr g ↦ absurd (not-left p a h.token.kind e h.kind g.2) ]
 
 -- ---- what the code's measures ask
 
-pub opened-takes : (k : SyntaxKind) (s : State) {t u : State} {a : Rule} {p : Kinds} → t ≡ opened k s → Runs a t u → IsThere p s → consumes 5 p a ≡ true → left u < left s
+pub opened-takes : (k : SyntaxKind) (s : State) {t u : State} {a : Rule} {p : Kinds} → t ≡ opened k s → Runs a t u → IsThere p s → consumes p a ≡ true → left u < left s
 opened-takes k s {p = p} o r h e =
     let f = taken r (opened-there p k s o h) e in
     let l = opened-left k s o in
@@ -263,7 +277,7 @@ unfolding enter
 entered-there p s e h = record { token = h.token; is = ap (λ w. w.current) e ∙ h.is; kind = h.kind }
 
 -- a value one level deeper takes a token where the recursion limit is not reached
-deeper-taken : {a b : Rule} {p : Kinds} {s t : State} → Runs (Nested a b) s t → false ≡ is_deep s → IsThere p s → consumes 5 p a ≡ true → left t < left s
+deeper-taken : {a b : Rule} {p : Kinds} {s t : State} → Runs (Nested a b) s t → false ≡ is_deep s → IsThere p s → consumes p a ≡ true → left t < left s
 unfolding leave left
 deeper-taken {p = p} {s = s} (deeper {u = u} q e v h k) d i w =
     let f = taken h (entered-there p s e i) w in
@@ -273,7 +287,7 @@ deeper-taken {p = p} {s = s} (deeper {u = u} q e v h k) d i w =
     omega (arith, f, g, l, m)
 deeper-taken (refused q e) d i w = absurd (true≢false (q ∙ sym d))
 
-value-consumes : (c : Constness) → consumes 5 anything (Call (ValueOf c true)) ≡ true
+value-consumes : (c : Constness) → consumes anything (Call (ValueOf c true)) ≡ true
 unfolding consuming
 value-consumes Const = refl
 value-consumes NotConst = refl

@@ -1,18 +1,16 @@
 -- What the first report of a text means, in the words of the definitions.
-use Rattle.std.proofs.Common.{◌≡◌, ◌≢◌, ℕ, zero, suc, ◌+◌, ◌-◌, ◌<◌, ◌≤◌, Bool, true, false, true≢false, if◌then◌else◌, ltb, List, [], ◌∷◌, ◌++◌, length, take, Option, Some, None, refl, sym, ap, ap₂, ◌∙◌, subst, ◌⊎◌, inl, inr, arith, is_some, append_assoc, length-append}
+use Rattle.std.proofs.Common.{◌≡◌, ◌≢◌, ℕ, zero, suc, ◌+◌, ◌-◌, Bool, true, false, true≢false, if◌then◌else◌, List, [], ◌∷◌, ◌++◌, length, take, Option, Some, None, refl, sym, ap, ap₂, ◌∙◌, subst, ◌⊎◌, inl, inr, arith, is_some}
 use Rattle.std.specs.Prelude.{map}
-use Rattle.std.specs.Str.{IsUtf8}
 use Rattle.std.proofs.lemmas.List.{append_cancel_left}
 use Rattle.lexical_grammar.specs.declared.TokenKind.{TokenKind}
 use Rattle.lexical_grammar.specs.declared.TokenKind.TheVariants as token
-use Rattle.lexical_grammar.specs.Cut.{Item, Cut, CutFrom, texts, Significant, is_significant_kind}
-use Rattle.lexical_grammar.specs.Begins.{are_tokens}
+use Rattle.lexical_grammar.specs.Cut.{Item, Cut, CutFrom, texts}
 use Rattle.lexical_grammar.specs.Answers.{limited, limit_index, is_end}
 use Rattle.document_grammar.proofs.Booleans.{either}
-use Rattle.document_grammar.specs.Derivation.{Mark, word, end, marks}
+use Rattle.document_grammar.specs.Derivation.{Mark, word, marks}
 use Rattle.document_grammar.specs.Sentence.{Begins, StartSentence, StartSentenceWithin}
 use Rattle.document_grammar.specs.Tree.{Text, Token}
-use Rattle.document_grammar.specs.FirstError.{tokens_of, At, shown_kind, shown_item, shown, up_to, AreAmong, NotLate, NotEarly, NotEarlyLimit}
+use Rattle.document_grammar.specs.FirstError.{tokens_of, At, shown_kind, shown, AreAmong, NotLate, NotEarly, NotEarlyLimit}
 use Rattle.document_grammar.proofs.Shown.{cut-shown, before-shown, cut-from, text-before, among}
 use Rattle.parser_rules.specs.State.{Report, Lexeme, at_text, at_end, at_limit, found_at, token_limit_report, second, ignored}
 use Rattle.parser_rules.proofs.soundness.OverTexts.{Answered, item_of, Reason, fault, too_deep, bad_text, too_many, IsRight}
