@@ -13,3 +13,4 @@ pub mod Builds
 pub mod Numbered
 pub mod Booleans
 pub mod FirstError
+pub mod Recovery

@@ -3,3 +3,4 @@ pub mod IgnoredPlaces
 pub mod RowSymbols
 pub mod Popped
 pub mod Recovers
+pub mod LeftOver

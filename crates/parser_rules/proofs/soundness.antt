@@ -9,3 +9,4 @@ pub mod Simulation
 pub mod Soundness
 pub mod OverTexts
 pub mod FirstErrors
+pub mod EndedNodes

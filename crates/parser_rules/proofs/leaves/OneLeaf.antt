@@ -247,15 +247,15 @@ document-leaves {t = t} items limit are run =
 
 -- ---- their text
 
-abbrev joined : List PendingToken → Text
+abbrev pub joined : List PendingToken → Text
 joined [] = []
 joined (l ∷ ls) = l.text ++ joined ls
 
-joined-append : (ls ms : List PendingToken) → joined (ls ++ ms) ≡ joined ls ++ joined ms
+pub joined-append : (ls ms : List PendingToken) → joined (ls ++ ms) ≡ joined ls ++ joined ms
 joined-append [] ms = refl
 joined-append (l ∷ ls) ms = ap (λ t. l.text ++ t) (joined-append ls ms) ∙ sym (append_assoc l.text (joined ls) (joined ms))
 
-text-leaves : (f : Forest) → text f ≡ joined (leaves f)
+pub text-leaves : (f : Forest) → text f ≡ joined (leaves f)
 text-leaves none = refl
 text-leaves (leaf k s rest) = ap (λ t. s ++ t) (text-leaves rest)
 text-leaves (node k kids rest) = ap₂ (λ (a b : Text). a ++ b) (text-leaves kids) (text-leaves rest) ∙ sym (joined-append (leaves kids) (leaves rest))

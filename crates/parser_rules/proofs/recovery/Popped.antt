@@ -26,11 +26,11 @@ pub use Rattle.parser_rules.proofs.runs.Marked.{Has}
 
 -- ---- popped tokens
 
-abbrev lexeme_of : Source → Option Lexeme
+abbrev pub lexeme_of : Source → Option Lexeme
 lexeme_of (token x) = Some x
 lexeme_of (aside p) = None
 
-abbrev popped : Source → SyntaxKind → Bool
+abbrev pub popped : Source → SyntaxKind → Bool
 popped (token x) k = is_error k and not (is_end x.kind)
 popped (aside p) k = false
 

@@ -1,12 +1,13 @@
 -- The computed checks of a rule that hold whatever is reported: which tokens become ERROR leaves, which symbols stand in a node, and that no
 -- token becomes an ignored leaf.
-use Rattle.std.proofs.Common.{ℕ, Bool, true, false, cond, eqb, ltb, not, List, [], ◌++◌}
+use Rattle.std.proofs.Common.{ℕ, Bool, true, false, cond, eqb, ltb, not}
 use Rattle.lexical_grammar.specs.declared.TokenKind.TheVariants as token
 use Rattle.document_grammar.specs.declared.kind.SyntaxKind.{SyntaxKind}
 use Rattle.document_grammar.specs.declared.kind.SyntaxKind.TheVariants as kind
 use Rattle.document_grammar.specs.Numbers.{number}
 use Rattle.document_grammar.specs.Kinds.{ERROR, SPREAD, NON_NULL_TYPE, DOCUMENT}
-use Rattle.document_grammar.specs.Pattern.{Pattern, any_of, nothing, ◌then◌, ◌or_else◌, many, member}
+use Rattle.document_grammar.specs.Pattern.{member}
+use Rattle.document_grammar.specs.Recovery.{symbols}
 use Rattle.document_grammar.specs.Rows.{Row}
 use Rattle.document_grammar.specs.Booleans.{◌and◌, ◌or◌}
 use Rattle.parser_rules.specs.Nodes.{kind_of}
@@ -87,14 +88,6 @@ pop_check = record (steady (unknown any_token)) {
 }
 
 -- ---- the symbols of a row
-
--- the symbols of a pattern
-abbrev pub symbols : Pattern → List ℕ
-symbols (any_of ks) = ks
-symbols nothing = []
-symbols (p then q) = symbols p ++ symbols q
-symbols (p or_else q) = symbols p ++ symbols q
-symbols (many p) = symbols p
 
 -- a symbol of the row of the kind with the number
 unfoldable pub of_row : ℕ → SyntaxKind → Bool

@@ -20,7 +20,7 @@ use Rattle.parser_rules.proofs.runs.Walk.{after_pending, Sound, walked_whole}
 use Rattle.parser_rules.proofs.runs.Reporting.{after-note, after-too-deep}
 
 -- the children of a node of the kind with the number, and those below
-abbrev rows : ℕ → built.Forest → Bool
+abbrev pub rows : ℕ → built.Forest → Bool
 rows k built.none = true
 rows k (built.leaf j x rest) = leaf_of_row k j and rows k rest
 rows k (built.node j kids rest) = (of_row k j and rows (number j) kids) and rows k rest

@@ -1,0 +1,83 @@
+-- What holds of a tree with errors: which children a node may have, and where tokens stand that were left over. The standard says nothing of such
+-- trees, so these are this project's own promises.
+use Rattle.std.specs.Prelude.{◌≡◌, ◌≢◌, ℕ, ◌+◌, ◌≤◌, Bool, true, false, ◌&&◌, ◌⊎◌, cond, eqb, List, [], ◌∷◌, ◌++◌, length, Option, Some, None, IsTrue, IsFalse}
+use Rattle.std.specs.List.{list_any}
+use Rattle.lexical_grammar.specs.declared.TokenKind.{TokenKind}
+use Rattle.lexical_grammar.specs.declared.TokenKind.TheVariants.{RBracket}
+use Rattle.lexical_grammar.specs.Cut.{Item, is_significant_kind}
+use Rattle.document_grammar.specs.Tree.{Text, Tree, leaf, node, Forest, none, ◌▸◌}
+use Rattle.document_grammar.specs.Pattern.{Pattern, any_of, nothing, ◌then◌, ◌or_else◌, many, member}
+use Rattle.document_grammar.specs.Rows.{Row}
+use Rattle.document_grammar.specs.Kinds.{ERROR, SPREAD, LIST_VALUE}
+use Rattle.document_grammar.specs.Choices.{is_ignored}
+use Rattle.document_grammar.specs.Derivation.{texts}
+
+-- ---- the symbols of a row
+
+-- The kinds that a pattern has a place for.
+abbrev pub symbols : Pattern → List ℕ
+symbols (any_of ks) = ks
+symbols nothing = []
+symbols (p then q) = symbols p ++ symbols q
+symbols (p or_else q) = symbols p ++ symbols q
+symbols (many p) = symbols p
+
+-- A child of a node of the kind k: a symbol of the kind's row; or an ERROR or SPREAD leaf, or an ignored one.
+abbrev pub MayStand : ℕ → Tree → Type 0
+MayStand k (leaf j x) = IsTrue (is_ignored j) ⊎ IsTrue (member j (ERROR ∷ SPREAD ∷ symbols (Row k)))
+MayStand k (node j f) = IsTrue (member j (symbols (Row k)))
+
+-- Each child may stand in its node.
+abbrev mutual
+  pub Rowed : Tree → Type 0
+  Rowed (leaf j x) = Unit {0}
+  Rowed (node j f) = AllRowed j f
+
+  pub AllRowed : ℕ → Forest → Type 0
+  AllRowed k none = Unit {0}
+  AllRowed k (t ▸ f) = MayStand k t × Rowed t × AllRowed k f
+
+-- ---- tokens that were left over
+
+-- A token of such a kind begins at the place.
+abbrev pub is_such : (TokenKind → Bool) → Option TokenKind → Bool
+is_such kinds None = false
+is_such kinds (Some kind) = kinds kind
+
+abbrev pub token_at : (TokenKind → Bool) → List Item → ℕ → Bool
+token_at kinds items place = list_any (λ item. eqb item.index place && is_such kinds item.kind) items
+
+abbrev pub is_right_bracket : TokenKind → Bool
+is_right_bracket RBracket = true
+is_right_bracket _ = false
+
+-- An ERROR leaf at the place is a token that was left over where a significant token begins there; else it is bad text or the end.
+abbrev pub left_over : List Item → ℕ → ℕ → Bool
+left_over items place k = eqb k ERROR && token_at is_significant_kind items place
+
+-- The children of the root.
+abbrev pub children_of : Tree → Forest
+children_of (leaf k x) = none
+children_of (node k f) = f
+
+-- How many of the trees that begin at the place are such tokens.
+abbrev pub count_left_over : List Item → ℕ → Forest → ℕ
+count_left_over items place none = 0
+count_left_over items place (leaf k x ▸ f) = cond (left_over items place k) 1 0 + count_left_over items (place + length x) f
+count_left_over items place (node k g ▸ f) = count_left_over items (place + length (texts g)) f
+
+-- None of them is `]`.
+abbrev pub NoBracket : List Item → ℕ → Forest → Type 0
+NoBracket items place none = Unit {0}
+NoBracket items place (leaf k x ▸ f) = (IsTrue (left_over items place k) → IsFalse (token_at is_right_bracket items place)) × NoBracket items (place + length x) f
+NoBracket items place (node k g ▸ f) = NoBracket items (place + length (texts g)) f
+
+-- The children of a node but the root: in a LIST_VALUE all but `]` may be left over, in another node one.
+abbrev pub Spares : List Item → ℕ → ℕ → Forest → Type 0
+Spares items place k f = (k ≡ LIST_VALUE → NoBracket items place f) × (k ≢ LIST_VALUE → count_left_over items place f ≤ 1)
+
+-- Each token that was left over was told, with its place and its text; and the nodes below spare the others.
+abbrev pub LeftOver : (ℕ → Text → Type 0) → List Item → ℕ → Forest → Type 0
+LeftOver Told items place none = Unit {0}
+LeftOver Told items place (leaf k x ▸ f) = (IsTrue (left_over items place k) → Told place x) × LeftOver Told items (place + length x) f
+LeftOver Told items place (node k g ▸ f) = Spares items place k g × LeftOver Told items place g × LeftOver Told items (place + length (texts g)) f
