@@ -25,6 +25,7 @@ use Rattle.parser_rules.specs.Reports.{Reported, no_more, bad_text, token_limit,
 use Rattle.parser_rules.proofs.reports.Endings.{limited-none}
 use Rattle.apollo_grammar.specs.declared.report.Report.{Report as Source}
 use Rattle.apollo_grammar.specs.View.{report_of}
+use Rattle.apollo_grammar.specs.FirstError.{IsTokenLimit}
 use Rattle.apollo_grammar.specs.Errors.{found_of, IsWorded, IsErrorOf, IsRecursionLimit, IsLimitMessage, IsLimitWorded}
 
 pub same-indices : (rs : List Report) (ds : List Diagnostic) → AllZip IsErrorOf rs ds → map (λ (d : Diagnostic). d.index) ds ≡ map (λ (r : Report). r.index) rs
@@ -37,6 +38,11 @@ pub none-said : (rs : List Report) (ds : List Diagnostic) → AllZip IsErrorOf r
 none-said [] ds h e = refl
 none-said (r ∷ rs) [] h e = absurd h
 none-said (r ∷ rs) (d ∷ ds) h e = absurd cc
+
+pub none-told : (rs : List Report) (ds : List Diagnostic) → AllZip IsErrorOf rs ds → rs ≡ [] → ds ≡ []
+none-told rs [] h e = refl
+none-told [] (d ∷ ds) h e = absurd h
+none-told (r ∷ rs) (d ∷ ds) h e = absurd cc
 
 -- ---- the recursion limit
 
@@ -151,13 +157,21 @@ message-begins : (m : Message) (found : Found) → begins_limit (message_text m 
 message-begins message.UnexpectedEof found = refl
 message-begins _ found = refl
 
-subject-limit : (d : Diagnostic) → found_of d.subject ≡ at_limit → d.subject ≡ of_limit
+pub subject-limit : (d : Diagnostic) → found_of d.subject ≡ at_limit → d.subject ≡ of_limit
 subject-limit d e = on d.subject e
   where
     on : (s : Subject) → found_of s ≡ at_limit → s ≡ of_limit
     on (of_text text) e = absurd cc
     on of_end e = absurd cc
     on of_limit e = refl
+
+-- the report of the token limit has its error
+pub token-limit-told : (n : ℕ) (r : Report) (d : Diagnostic) → r ≡ token_limit_report n → IsErrorOf r d → IsTokenLimit d
+token-limit-told n r d e h = let i : IsErrorOf (token_limit_report n) d = subst (λ (x : Report). IsErrorOf x d) e h in record { subject = subject-limit d i.subject; message = i.message }
+
+-- which is not that of the recursion limit
+pub no-recursion : (n : ℕ) (r : Report) (d : Diagnostic) → r ≡ token_limit_report n → IsErrorOf r d → IsRecursionLimit d → ⊥
+no-recursion n r d e h i = true≢false (sym (recursion-said r d h i) ∙ ap is_recursion_limit e)
 
 -- and the messages for bad text do too
 limit-otherwise : (message : Text) → begins_limit message ≡ true → begins_fault message ≡ false
@@ -190,14 +204,27 @@ limit-worded {answers = answers} ds h = each-error (λ text. ⊤) IsLimitWorded
     (λ x d e. record { limit = λ s. inr e.message; other = λ i. subject-limit d e.subject })
     ds h (any-text answers)
 
--- a report of a limit has its error
-pub any-limit : (before after : List Report) (r : Report) (ds : List Diagnostic) → r.found ≡ at_limit → AllZip IsErrorOf (before ++ (r ∷ after)) ds → Any (λ (d : Diagnostic). d.subject ≡ of_limit) ds
-any-limit [] after r [] e z = absurd z
-any-limit [] after r (d ∷ ds) e z = (0, d, omega arith, refl, subject-limit d (z.0.subject ∙ e))
-any-limit (x ∷ before) after r [] e z = absurd z
-any-limit (x ∷ before) after r (d ∷ ds) e z =
-    let a = any-limit before after r ds e z.1 in
+-- each report has its error
+pub any-said : (P : Diagnostic → Type 0) (before after : List Report) (r : Report) (ds : List Diagnostic) → ((d : Diagnostic) → IsErrorOf r d → P d) → AllZip IsErrorOf (before ++ (r ∷ after)) ds → Any P ds
+any-said P [] after r [] h z = absurd z
+any-said P [] after r (d ∷ ds) h z = (0, d, omega arith, refl, h d z.0)
+any-said P (x ∷ before) after r [] h z = absurd z
+any-said P (x ∷ before) after r (d ∷ ds) h z =
+    let a = any-said P before after r ds h z.1 in
     (suc a.0, a.1, omega (arith, a.2), a.3, a.4)
+
+-- one of a limit has that of a limit
+pub any-limit : (before after : List Report) (r : Report) (ds : List Diagnostic) → r.found ≡ at_limit → AllZip IsErrorOf (before ++ (r ∷ after)) ds → Any (λ (d : Diagnostic). d.subject ≡ of_limit) ds
+any-limit before after r ds e = any-said (λ (d : Diagnostic). d.subject ≡ of_limit) before after r ds (λ d h. subject-limit d (h.subject ∙ e))
+
+-- and one about a token that of its text
+pub fault-text : (m : Message) (x : Lexeme) (d : Diagnostic) → is_end x.kind ≡ false → IsErrorOf (fault_report m x) d → d.subject ≡ of_text x.text
+fault-text m x d i h = on d.subject (h.subject ∙ ap (λ (b : Bool). if b then at_end else at_text x.text) i)
+  where
+    on : (s : Subject) → found_of s ≡ at_text x.text → s ≡ of_text x.text
+    on (of_text text) e = cc
+    on of_end e = absurd cc
+    on of_limit e = absurd cc
 
 -- ---- the errors are made, one after the other
 

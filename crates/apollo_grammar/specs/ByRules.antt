@@ -1,6 +1,7 @@
 -- What the tree of a parse comes from: the parser's own rules. No public call promises it; the promises are theorems on such runs.
 use Rattle.std.specs.Prelude.{◌≡◌, ◌<◌, ◌^◌, ℕ, List}
 use Rattle.std.specs.List.{AllZip}
+use Rattle.std.specs.Str.{IsUtf8}
 use Rattle.lexical_grammar.specs.Answers.{limited}
 use Rattle.lexical_grammar.specs.Cut.{Cut}
 use Rattle.lexical_grammar.specs.Reads.{items_of}
@@ -17,6 +18,7 @@ use Rattle.apollo_grammar.specs.Errors.{IsErrorOf}
 pub record ByRules (source : List ℕ) (r k : ℕ) (t : Parsed) : Type 0 where
   pub last : State
   pub cut : Cut source (items_of source)
+  pub characters : IsUtf8 source
   pub run : Runs (Call Document) (begun (limited k (items_of source)) r kind.DOCUMENT) last
   pub tree : t.tree ≡ finished last
   pub counted : count t.tree < 2 ^ 64

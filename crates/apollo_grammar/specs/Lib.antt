@@ -4,3 +4,4 @@ pub mod Parsed
 pub mod Reading
 pub mod Roots
 pub mod ByRules
+pub mod FirstError

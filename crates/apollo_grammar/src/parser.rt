@@ -1,6 +1,6 @@
 // The whole parse.
-ghost use Rattle.std.specs.Prelude.{◌≡◌, ◌≤◌, ◌<◌, ◌+◌, true, [], IfOk, length, min, take, map};
-ghost use Rattle.std.specs.Str.{IsAscii};
+ghost use Rattle.std.specs.Prelude.{◌≡◌, ◌≢◌, ◌≤◌, ◌<◌, ◌+◌, true, [], IfOk, length, min, take, map};
+ghost use Rattle.std.specs.Str.{IsAscii, IsUtf8};
 ghost use Rattle.std.specs.List.{Any, All};
 ghost use Rattle.std.specs.List.Sorted.{IsNonDecreasing};
 ghost use Rattle.lexical_grammar.specs.Answers.{limited, usize_max};
@@ -11,12 +11,16 @@ ghost use Rattle.apollo_lexer.specs.Diagnostics.{of_limit};
 ghost use Rattle.document_grammar.specs.declared.kind.SyntaxKind.TheVariants as kind;
 ghost use Rattle.document_grammar.specs.Forests.{Forest, none, node, text};
 ghost use Rattle.document_grammar.specs.Derivation.{document as document_sort, nest};
-ghost use Rattle.document_grammar.specs.Sentence.{Sentence, Within};
-ghost use Rattle.document_grammar.specs.Places.{bare};
+ghost use Rattle.document_grammar.specs.Tree.{Tree};
+ghost use Rattle.document_grammar.specs.Sentence.{Sentence, FirstSentence, Within};
+ghost use Rattle.document_grammar.specs.Recovery.{Rowed, LeftOver, children_of};
+ghost use Rattle.document_grammar.specs.FirstError.{OnlyDerivation, NotLate, NotEarly, NotEarlyLimit, EndedNodesFit};
+ghost use Rattle.document_grammar.specs.Places.{bare, Placed};
 ghost use Rattle.document_grammar.specs.Numbered.{tree_of};
 ghost use Rattle.parser_rules.specs.Leaves.{leaves, OneLeafAnItem};
 ghost use Rattle.apollo_grammar.specs.ByRules.{ByRules};
 ghost use Rattle.apollo_grammar.specs.Errors.{ErrorsOf, IsRecursionLimit, IsLimitWorded};
+ghost use Rattle.apollo_grammar.specs.FirstError.{IsTokenLimit, OfFirst, HasError};
 
 use crate::grammar::document::document;
 use crate::state::ParserState;
@@ -69,13 +73,14 @@ impl<'i> Parser<'i> {
         }
     }
 
-    // A lexer that has read nothing.
-    fn lexer(self) -> Lexer<'i>
-        ensures answers { answers_left result ≡ limited self.entry.token_limit (items_of self.entry.source.now) }
+    // A lexer of the text that has read nothing. It also says what the text is made of.
+    fn lexer(source: &'i str, token_limit: usize) -> Lexer<'i>
+        ensures answers { answers_left result ≡ limited token_limit (items_of source.now) }
         ensures fresh { result.limit_tracker.high ≡ 0 }
-        ensures cut { Cut self.entry.source.now (items_of self.entry.source.now) }
+        ensures cut { Cut source.now (items_of source.now) }
+        ensures characters { IsUtf8 source.now }
     {
-        Lexer::new(self.source).with_limit(self.token_limit)
+        Lexer::new(source).with_limit(token_limit)
     }
 
     // The parse, as a run of the document's rule over the items of the text.
@@ -87,7 +92,7 @@ impl<'i> Parser<'i> {
     {
         let mut p = ParserState::new(
             alloc,
-            self.lexer(),
+            Self::lexer(self.source, self.token_limit),
             self.recursion_limit,
             SyntaxKind::DOCUMENT,
         )?;
@@ -128,6 +133,26 @@ impl<'i> Parser<'i> {
         ensures in_order { IfOk result (λ t. IsNonDecreasing (map (λ e. e.index) t.errors)) }
         // without errors, the tree without its ignored leaves is the derivation of the text, which is a sentence within both limits
         ensures sound { IfOk result (λ t. t.errors ≡ [] → Sentence self.entry.source.now (bare (tree_of t.tree)) document_sort × Within self.entry.source.now (bare (tree_of t.tree)) self.entry.recursion_limit self.entry.token_limit) }
+        // a sentence within both limits has no errors
+        ensures accepts { IfOk result (λ t. (u : Tree) → Sentence self.entry.source.now u document_sort → Within self.entry.source.now u self.entry.recursion_limit self.entry.token_limit → t.errors ≡ []) }
+        // without errors, there is no other derivation, and it nests as deep as was asked for
+        ensures only_derivation { IfOk result (λ t. t.errors ≡ [] → OnlyDerivation (items_of self.entry.source.now) (bare (tree_of t.tree)) × (t.recursion_limit.high ≡ nest (bare (tree_of t.tree)))) }
+        // a sentence of the first profile has no errors either, and the tree is its derivation
+        ensures still_a_sentence { IfOk result (λ t. (u : Tree) → FirstSentence self.entry.source.now u document_sort → Within self.entry.source.now u self.entry.recursion_limit self.entry.token_limit → (t.errors ≡ []) × (bare (tree_of t.tree) ≡ u)) }
+        // without errors, each ignored leaf is where the text fixes it
+        ensures placed { IfOk result (λ t. t.errors ≡ [] → Placed (tree_of t.tree)) }
+        // the text before the first error begins a sentence, unless it is the token limit's
+        ensures not_late { IfOk result (λ t. OfFirst (λ e. ¬ IsTokenLimit e → NotLate self.entry.source.now e.index) t.errors) }
+        // no sentence starts with the tokens before the first error, the one there and the next, if it is the grammar's
+        ensures not_early { IfOk result (λ t. OfFirst (λ e. e.subject ≢ of_limit → NotEarly self.entry.token_limit (items_of self.entry.source.now) e.index) t.errors) }
+        // no sentence that nests within the limit starts with the tokens before the first error and the one there, if it is the recursion limit's
+        ensures not_early_limit { IfOk result (λ t. OfFirst (λ e. IsRecursionLimit e → NotEarlyLimit self.entry.recursion_limit (items_of self.entry.source.now) e.index) t.errors) }
+        // each node that a significant token in front of the first error follows fits its row and the rules
+        ensures ended_nodes_fit { IfOk result (λ t. OfFirst (λ e. EndedNodesFit (items_of self.entry.source.now) e.index (tree_of t.tree)) t.errors) }
+        // also with errors, each child of a node is a symbol of its row, or an ERROR, SPREAD or ignored leaf
+        ensures row_symbols { IfOk result (λ t. Rowed (tree_of t.tree)) }
+        // where no limit is met, each token that was left over has its error, and is a child of the root or of a list, or its node's only one
+        ensures left_over { IfOk result (λ t. ¬ Any (λ e. e.subject ≡ of_limit) t.errors → LeftOver (HasError t.errors) (items_of self.entry.source.now) 0 (children_of (tree_of t.tree))) }
     {
         self.run_document(alloc)
     }

@@ -1,5 +1,5 @@
 use Rattle.std.proofs.lemmas.Result.{IfOk-weaker}
-use Rattle.apollo_grammar.proofs.Parses.{lossless, one-document, one-leaf, recursion, nested, tokens, errors, ascii_messages, limit-met, past-limit, limit-words, ordered, sound-tree}
+use Rattle.apollo_grammar.proofs.Parses.{lossless, one-document, one-leaf, recursion, nested, tokens, errors, ascii_messages, limit-met, past-limit, limit-words, ordered, sound-tree, accepts, only-derivation, still-a-sentence, placed-leaves, not-late-of, not-early-of, not-early-limit-of, ended-nodes-of, all-rowed-of, left-over-of}
 use Rattle.apollo_grammar.proofs.parser.Parser.parse.Goals as goal
 
 pub returns-clause-cut : goal.returns-clause-cut
@@ -43,3 +43,33 @@ returns-clause-in_order g c = IfOk-weaker c.run_document.result _ _ (λ t p. ord
 
 pub returns-clause-sound : goal.returns-clause-sound
 returns-clause-sound g c = IfOk-weaker c.run_document.result _ _ (λ t p. sound-tree p) c.run_document.ensures
+
+pub returns-clause-accepts : goal.returns-clause-accepts
+returns-clause-accepts g c = IfOk-weaker c.run_document.result _ _ (λ t p. accepts p) c.run_document.ensures
+
+pub returns-clause-only_derivation : goal.returns-clause-only_derivation
+returns-clause-only_derivation g c = IfOk-weaker c.run_document.result _ _ (λ t p. only-derivation p) c.run_document.ensures
+
+pub returns-clause-still_a_sentence : goal.returns-clause-still_a_sentence
+returns-clause-still_a_sentence g c = IfOk-weaker c.run_document.result _ _ (λ t p. still-a-sentence p) c.run_document.ensures
+
+pub returns-clause-placed : goal.returns-clause-placed
+returns-clause-placed g c = IfOk-weaker c.run_document.result _ _ (λ t p. placed-leaves p) c.run_document.ensures
+
+pub returns-clause-not_late : goal.returns-clause-not_late
+returns-clause-not_late g c = IfOk-weaker c.run_document.result _ _ (λ t p. not-late-of p) c.run_document.ensures
+
+pub returns-clause-not_early : goal.returns-clause-not_early
+returns-clause-not_early g c = IfOk-weaker c.run_document.result _ _ (λ t p. not-early-of p) c.run_document.ensures
+
+pub returns-clause-not_early_limit : goal.returns-clause-not_early_limit
+returns-clause-not_early_limit g c = IfOk-weaker c.run_document.result _ _ (λ t p. not-early-limit-of p) c.run_document.ensures
+
+pub returns-clause-ended_nodes_fit : goal.returns-clause-ended_nodes_fit
+returns-clause-ended_nodes_fit g c = IfOk-weaker c.run_document.result _ _ (λ t p. ended-nodes-of p) c.run_document.ensures
+
+pub returns-clause-row_symbols : goal.returns-clause-row_symbols
+returns-clause-row_symbols g c = IfOk-weaker c.run_document.result _ _ (λ t p. all-rowed-of p) c.run_document.ensures
+
+pub returns-clause-left_over : goal.returns-clause-left_over
+returns-clause-left_over g c = IfOk-weaker c.run_document.result _ _ (λ t p. left-over-of p) c.run_document.ensures

@@ -35,6 +35,7 @@ returns g c =
     record {
       last = s;
       cut = c.lexer.ensures.cut;
+      characters = c.lexer.ensures.characters;
       run = run;
       tree = c.in_ok-tree.ensures.tree;
       counted = c.in_ok-tree.ensures.counted;
