@@ -4,3 +4,4 @@ pub mod RowSymbols
 pub mod Popped
 pub mod Recovers
 pub mod LeftOver
+pub mod OneChild

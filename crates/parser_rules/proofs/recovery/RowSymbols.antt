@@ -52,7 +52,7 @@ read-aside = reading-waits (λ k. ltb (number k) ERROR or eqb (number k) ERROR) 
 
 -- ---- runs
 
-abbrev Fit : Two_rows → State → State → Marked → Type 0
+abbrev pub Fit : Two_rows → State → State → Marked → Type 0
 Fit a b s f = record { own : rows a.own (erase f) ≡ true; later : rows a.later (erase f) ≡ true; waits : all_aside s.pending ≡ true }
 
 grows : (a : Two_rows) (b s t : State) (f g : Marked) → Fit a b s f → rows a.own (erase g) ≡ true → rows a.later (erase g) ≡ true → all_aside t.pending ≡ true → Fit a b t (append f (after_pending s g))
@@ -62,7 +62,7 @@ grows a b s t f g h i j w = record {
   waits = w;
 }
 
-sound : Sound row_check Fit
+pub sound : Sound row_check Fit
 unfolding row_check flush opened closed wrapped_from enter leave
 sound = record {
   leaf = λ own a k b s f x e c h g. let d = and-l _ _ c in (a, and-r _ _ c, grows a b s (moved own s (Some x)) f (leaf (token x) own none) h (and-i (and-l _ _ d) refl) (and-i (and-r _ _ d) refl) (read-aside (reading s.items (moved_on own x (flush s))) refl));
