@@ -1,7 +1,10 @@
+mod descriptions;
 mod executable;
+mod type_system;
 
 use crate::{DocumentRoot, Parser, SyntaxTree};
 use std::alloc::{AllocError, Global};
+use std::process::Abort;
 use std::test::Fail;
 
 // Each error's message, data and index, and then the tree's text and the greatest counts of nesting and of items.
@@ -60,6 +63,43 @@ fn definitions<'t>(
         texts.push(node.text())?;
     }
     Ok(texts)
+}
+
+// Each error's message, data and index, then the greatest nesting that was asked for and how many definitions there are.
+fn found(alloc: Global, source: &str, nesting: usize) -> Result<String, AllocError> {
+    let tree = Parser::new(source).recursion_limit(nesting).parse(alloc)?;
+    let mut lines = String::new(alloc);
+    for error in tree.errors() {
+        let message = error.message();
+        let data = error.data();
+        let index = error.index();
+        writeln!(lines, "{message}|{data}|{index}")?;
+    }
+    let high = tree.recursion_limit().high;
+    let count = definitions(alloc, &tree)?.len();
+    write!(lines, "{high} {count}")?;
+    Ok(lines)
+}
+
+// Texts, each with what is found in it.
+fn expect_found(rt: &(impl Abort + AllocGlobal), rows: &[(&str, &str)]) -> Result<(), Fail> {
+    for row in rows {
+        let (source, wanted) = *row;
+        let answer = found(rt.alloc(), source, 500)?;
+        assert_eq!(rt; answer.as_str(), wanted, "{source}");
+    }
+    Ok(())
+}
+
+// Texts, each with its printed tree.
+fn expect_printed(rt: &(impl Abort + AllocGlobal), rows: &[(&str, &str)]) -> Result<(), Fail> {
+    for row in rows {
+        let (source, wanted) = *row;
+        let tree = Parser::new(source).parse(rt.alloc())?;
+        let printed = format!(in rt.alloc(); "{tree:?}")?;
+        assert_eq!(rt; printed.as_str(), wanted);
+    }
+    Ok(())
 }
 
 #[test]

@@ -1,0 +1,109 @@
+// Descriptions of operations, fragments and variables.
+use super::{expect_found, expect_printed};
+use std::test::Fail;
+
+#[test]
+fn described_definitions(rt: HostRuntime) -> Result<(), Fail> {
+    let rows = [
+        ("\"q\" query Q { a }", "1 1"),
+        ("\"f\" , fragment F on T { a }", "1 1"),
+        ("query(\"v\" $v: Int) { a }", "1 1"),
+        ("query(\"v\" , $v: Int = 1 \"w\" $w: Int) { a }", "1 1"),
+        ("\"\"\"d\"\"\" subscription S @e { a }", "1 1"),
+        (
+            "\"d\" #c\n mutation { a } \"e\" fragment F on T { b }",
+            "1 2",
+        ),
+        ("query(\"d\") { a }", "expected a Variable|)|9\n1 1"),
+        (
+            "query(\"a\" \"b\" $v: Int) {a}",
+            "expected a Variable|\"b\"|10\n1 1",
+        ),
+        ("query(\"d\" $: Int) { a }", "expected a Name|:|11\n1 1"),
+        (
+            "query(\"d\"",
+            "expected a Variable||9\nexpected R_PAREN, got EOF||9\nexpected a Selection Set||9\n0 1",
+        ),
+        (
+            "\"d\" {a}",
+            "expected an Operation Type or a Selection Set|\"d\"|0\n1 1",
+        ),
+        (
+            "\"d\" \"e\" query { a }",
+            "expected definition|\"d\"|0\n1 1",
+        ),
+        ("\"d\" query", "expected a Selection Set||9\n0 1"),
+        (
+            "\"d\" fragment on T { a }",
+            "Fragment Name cannot be 'on'|on|13\n1 1",
+        ),
+    ];
+    expect_found(&rt, rows.as_slice())
+}
+
+#[test]
+fn trees_of_descriptions(rt: HostRuntime) -> Result<(), Fail> {
+    let rows = [
+        (
+            "\"q\"query(\"v\"$v:A){a}",
+            "- DOCUMENT@0..20
+    - OPERATION_DEFINITION@0..20
+        - DESCRIPTION@0..3
+            - STRING_VALUE@0..3
+                - STRING@0..3 \"\\\"q\\\"\"
+        - OPERATION_TYPE@3..8
+            - query_KW@3..8 \"query\"
+        - VARIABLE_DEFINITIONS@8..17
+            - L_PAREN@8..9 \"(\"
+            - VARIABLE_DEFINITION@9..16
+                - DESCRIPTION@9..12
+                    - STRING_VALUE@9..12
+                        - STRING@9..12 \"\\\"v\\\"\"
+                - VARIABLE@12..14
+                    - DOLLAR@12..13 \"$\"
+                    - NAME@13..14
+                        - IDENT@13..14 \"v\"
+                - COLON@14..15 \":\"
+                - NAMED_TYPE@15..16
+                    - NAME@15..16
+                        - IDENT@15..16 \"A\"
+            - R_PAREN@16..17 \")\"
+        - SELECTION_SET@17..20
+            - L_CURLY@17..18 \"{\"
+            - FIELD@18..19
+                - NAME@18..19
+                    - IDENT@18..19 \"a\"
+            - R_CURLY@19..20 \"}\"
+recursion limit: 500, high: 1",
+        ),
+        (
+            "\"f\",fragment F on T{a}",
+            "- DOCUMENT@0..22
+    - FRAGMENT_DEFINITION@0..22
+        - DESCRIPTION@0..3
+            - STRING_VALUE@0..3
+                - STRING@0..3 \"\\\"f\\\"\"
+        - COMMA@3..4 \",\"
+        - fragment_KW@4..12 \"fragment\"
+        - WHITESPACE@12..13 \" \"
+        - FRAGMENT_NAME@13..14
+            - NAME@13..14
+                - IDENT@13..14 \"F\"
+        - WHITESPACE@14..15 \" \"
+        - TYPE_CONDITION@15..19
+            - on_KW@15..17 \"on\"
+            - WHITESPACE@17..18 \" \"
+            - NAMED_TYPE@18..19
+                - NAME@18..19
+                    - IDENT@18..19 \"T\"
+        - SELECTION_SET@19..22
+            - L_CURLY@19..20 \"{\"
+            - FIELD@20..21
+                - NAME@20..21
+                    - IDENT@20..21 \"a\"
+            - R_CURLY@21..22 \"}\"
+recursion limit: 500, high: 1",
+        ),
+    ];
+    expect_printed(&rt, rows.as_slice())
+}
