@@ -8,9 +8,13 @@ use crate::cst::{Definition, Document, Field, OperationDefinition, Selection, Va
 use std::alloc::{AllocError, Global};
 use std::test::Fail;
 
+fn first_definition(document: Document<'_>) -> Option<Definition<'_>> {
+    document.definitions().next()
+}
+
 // The first definition, where it is an operation.
 fn first_operation(document: Document<'_>) -> Option<OperationDefinition<'_>> {
-    let Definition::OperationDefinition(operation) = document.definitions().next()? else {
+    let Definition::OperationDefinition(operation) = first_definition(document)? else {
         return None;
     };
     Some(operation)

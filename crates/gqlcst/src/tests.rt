@@ -155,6 +155,30 @@ fn checks_texts(rt: HostRuntime) {
     expect(
         &rt,
         Mode::Check,
+        b"\"q\" query Q { a }",
+        limits,
+        Ok(Outcome::Clean),
+        "clean\n",
+    );
+    expect(
+        &rt,
+        Mode::Check,
+        b"\"d\" fragment on T { a }",
+        limits,
+        Ok(Outcome::Errors(1)),
+        "ERROR@13:15 \"Fragment Name cannot be 'on'\" on\nerrors: 1\n",
+    );
+    expect(
+        &rt,
+        Mode::Check,
+        b"type A { a }",
+        limits,
+        Ok(Outcome::Errors(1)),
+        "ERROR@11:12 \"expected a type\" }\nerrors: 1\n",
+    );
+    expect(
+        &rt,
+        Mode::Check,
         b"",
         limits,
         Ok(Outcome::Errors(1)),

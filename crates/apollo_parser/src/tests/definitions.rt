@@ -1,95 +1,22 @@
-// Definitions of the type system, in trees that are built here. Their names are copied from the fields of a query.
-ghost use Rattle.std.specs.Prelude.{◌≡◌, [], ◌∷◌, OnOk};
-ghost use Rattle.document_grammar.specs.declared.kind.SyntaxKind.TheVariants.{FIELD_DEFINITION, IDENT, NAME, NAMED_TYPE, PIPE};
-ghost use Rattle.document_grammar.specs.Builds.{start, add_leaf, finish};
-ghost use Rattle.document_grammar.specs.Forests.{Forest};
-ghost use Rattle.apollo_tree.specs.Order.{text_at};
-ghost use Rattle.apollo_tree.specs.References.{node_place};
-ghost use Rattle.apollo_tree.specs.Sound.{Fits};
-
-use super::{first_field, first_operation};
-use crate::cst::{CstNode, Definition, Document, Name, Selection};
-use crate::{Parser, Subtree, SyntaxKind};
-use apollo_tree::TreeBuilder;
-use std::alloc::{AllocError, Global};
-use std::process::Abort;
+// Definitions and extensions of the type system.
+use super::{first_definition, first_operation};
+use crate::Parser;
+use crate::cst::{
+    CstNode, Definition, Document, EnumValueDefinition, InputValueDefinition, StringValue, Value,
+};
 use std::test::Fail;
-
-// The names of the fields of a query.
-fn names(alloc: Global, document: Document<'_>) -> Result<Vec<Name<'_>>, AllocError> {
-    let mut names = Vec::new(alloc);
-    let Some(operation) = first_operation(document) else {
-        return Ok(names);
-    };
-    if let Some(set) = operation.selection_set() {
-        for selection in set.selections() {
-            if let Selection::Field(field) = selection {
-                if let Some(name) = field.name() {
-                    names.push(name)?;
-                }
-            }
-        }
-    }
-    Ok(names)
-}
-
-fn add_name(builder: &mut TreeBuilder<Global>, name: Name<'_>) -> Result<(), AllocError>
-    ensures { OnOk result (builder.new ≡ finish (add_leaf IDENT (text_at (node_place name.entry.syntax)) (start NAME builder.old))) }
-{
-    let text = name.text();
-    builder.start_node(SyntaxKind::NAME)?;
-    builder.token(SyntaxKind::IDENT, text.as_str())?;
-    builder.finish_node();
-    Ok(())
-}
-
-// `|` and a named type.
-fn add_member(builder: &mut TreeBuilder<Global>, name: Name<'_>) -> Result<(), AllocError>
-    ensures { OnOk result (builder.new ≡ finish (finish (add_leaf IDENT (text_at (node_place name.entry.syntax)) (start NAME (start NAMED_TYPE (add_leaf PIPE (124 ∷ []) builder.old)))))) }
-{
-    builder.token(SyntaxKind::PIPE, "|")?;
-    builder.start_node(SyntaxKind::NAMED_TYPE)?;
-    add_name(builder, name)?;
-    builder.finish_node();
-    Ok(())
-}
-
-fn union_type(alloc: Global, names: [Name<'_>; 5]) -> Result<Subtree<Global>, AllocError> {
-    let mut builder = TreeBuilder::new(alloc);
-    builder.start_node(SyntaxKind::DOCUMENT)?;
-    builder.start_node(SyntaxKind::UNION_TYPE_DEFINITION)?;
-    add_name(&mut builder, names[0])?;
-    builder.start_node(SyntaxKind::UNION_MEMBER_TYPES)?;
-    add_member(&mut builder, names[1])?;
-    add_member(&mut builder, names[2])?;
-    add_member(&mut builder, names[3])?;
-    add_member(&mut builder, names[4])?;
-    builder.finish_node();
-    builder.finish_node();
-    builder.finish_node();
-    Ok(builder.finish())
-}
-
-fn first_definition<'t>(tree: &'t Subtree<Global>) -> Option<Definition<'t>> {
-    Document::cast(tree.root())?.definitions().next()
-}
 
 #[test]
 fn members_of_a_union(rt: HostRuntime) -> Result<(), Fail> {
-    let alloc = rt.alloc();
-    let query = Parser::new("{ SearchResult Photo Person Cat Dog }").parse(alloc)?;
-    let names = names(alloc, query.document())?;
-    assert_eq!(rt; names.len(), 5);
-    let tree = union_type(alloc, [names[0], names[1], names[2], names[3], names[4]])?;
-    let Some(Definition::UnionTypeDefinition(union)) = first_definition(&tree) else {
+    let source = "union SearchResult = Photo | Person | Cat | Dog";
+    let tree = Parser::new(source).parse(rt.alloc())?;
+    assert_eq!(rt; tree.errors().len(), 0);
+    let Some(Definition::UnionTypeDefinition(union)) = first_definition(tree.document()) else {
         return Err(Fail::new("no union"));
     };
-    assert_eq!(rt;
-        union.name().expect(&rt, "a name").text().as_str(),
-        "SearchResult"
-    );
+    let name = union.name().expect(&rt, "a name");
+    assert_eq!(rt; name.text().as_str(), "SearchResult");
     let members = union.union_member_types().expect(&rt, "members");
-    assert!(rt; members.pipe_token().is_some());
     let mut types = members.named_types();
     for member in ["Photo", "Person", "Cat", "Dog"] {
         let ty = types.next().expect(&rt, "a member");
@@ -99,186 +26,224 @@ fn members_of_a_union(rt: HostRuntime) -> Result<(), Fail> {
     Ok(())
 }
 
-fn add_field(builder: &mut TreeBuilder<Global>, name: Name<'_>) -> Result<(), AllocError>
-    ensures { OnOk result (builder.new ≡ finish (finish (add_leaf IDENT (text_at (node_place name.entry.syntax)) (start NAME (start FIELD_DEFINITION builder.old))))) }
-{
-    builder.start_node(SyntaxKind::FIELD_DEFINITION)?;
-    add_name(builder, name)?;
-    builder.finish_node();
-    Ok(())
-}
-
-fn object_type(alloc: Global, names: [Name<'_>; 3]) -> Result<Subtree<Global>, AllocError> {
-    let mut builder = TreeBuilder::new(alloc);
-    builder.start_node(SyntaxKind::DOCUMENT)?;
-    builder.start_node(SyntaxKind::OBJECT_TYPE_DEFINITION)?;
-    add_name(&mut builder, names[0])?;
-    builder.start_node(SyntaxKind::FIELDS_DEFINITION)?;
-    builder.token(SyntaxKind::L_CURLY, "{")?;
-    add_field(&mut builder, names[1])?;
-    add_field(&mut builder, names[2])?;
-    builder.token(SyntaxKind::R_CURLY, "}")?;
-    builder.finish_node();
-    builder.finish_node();
-    builder.finish_node();
-    Ok(builder.finish())
-}
-
 #[test]
 fn fields_of_an_object_type(rt: HostRuntime) -> Result<(), Fail> {
-    let alloc = rt.alloc();
-    let query = Parser::new("{ ProductDimension size weight }").parse(alloc)?;
-    let names = names(alloc, query.document())?;
-    assert_eq!(rt; names.len(), 3);
-    let tree = object_type(alloc, [names[0], names[1], names[2]])?;
-    let Some(Definition::ObjectTypeDefinition(object)) = first_definition(&tree) else {
+    let source = "
+type ProductDimension {
+  size: String
+  weight: Float @tag(name: \"hi from inventory value type field\")
+}
+";
+    let tree = Parser::new(source).parse(rt.alloc())?;
+    assert_eq!(rt; tree.errors().len(), 0);
+    let Some(Definition::ObjectTypeDefinition(object)) = first_definition(tree.document()) else {
         return Err(Fail::new("no object type"));
     };
-    assert_eq!(rt;
-        object.name().expect(&rt, "a name").text().as_str(),
-        "ProductDimension"
-    );
+    let name = object.name().expect(&rt, "a name");
+    assert_eq!(rt; name.text().as_str(), "ProductDimension");
     let fields = object.fields_definition().expect(&rt, "fields");
     let mut definitions = fields.field_definitions();
     for field in ["size", "weight"] {
         let definition = definitions.next().expect(&rt, "a field");
-        assert_eq!(rt;
-            definition.name().expect(&rt, "a name").text().as_str(),
-            field
-        );
+        let name = definition.name().expect(&rt, "a name");
+        assert_eq!(rt; name.text().as_str(), field);
     }
     assert!(rt; definitions.next().is_none());
     Ok(())
 }
 
-// A definition with a name and nothing else.
-fn named(alloc: Global, kind: SyntaxKind, name: Name<'_>) -> Result<Subtree<Global>, AllocError>
-    requires { (children : Forest) → Fits kind children }
-{
-    let mut builder = TreeBuilder::new(alloc);
-    builder.start_node(SyntaxKind::DOCUMENT)?;
-    builder.start_node(kind)?;
-    add_name(&mut builder, name)?;
-    builder.finish_node();
-    builder.finish_node();
-    Ok(builder.finish())
+// The first argument of the first field of an object type.
+fn first_argument(document: Document<'_>) -> Option<InputValueDefinition<'_>> {
+    let Definition::ObjectTypeDefinition(object) = first_definition(document)? else {
+        return None;
+    };
+    let field = object.fields_definition()?.field_definitions().next()?;
+    field
+        .arguments_definition()?
+        .input_value_definitions()
+        .next()
 }
 
-// Builds such a definition, and compares what its calls give. None of these is executable.
-fn check_definition(
-    rt: &impl Abort,
-    alloc: Global,
-    kind: SyntaxKind,
-    name: Name<'_>,
-    word: &str,
-) -> Result<(), AllocError>
-    requires { (children : Forest) → Fits kind children }
-{
-    let tree = named(alloc, kind, name)?;
-    let definition = first_definition(&tree).expect(rt, "a definition");
-    assert_eq!(rt; definition.kind(), word);
-    match definition.name() {
-        Some(found) => assert_eq!(rt; found.text().as_str(), name.text().as_str()),
-        None => assert!(rt; word.starts_with("Schema")),
+#[test]
+fn argument_of_a_field(rt: HostRuntime) -> Result<(), Fail> {
+    let source = "type Query { bestSellers(category: ProductCategory = ALL): [Product] }";
+    let tree = Parser::new(source).parse(rt.alloc())?;
+    assert_eq!(rt; tree.errors().len(), 0);
+    let argument = first_argument(tree.document()).expect(&rt, "an argument");
+    let name = argument.name().expect(&rt, "a name");
+    assert_eq!(rt; name.text().as_str(), "category");
+    let ty = argument.ty().expect(&rt, "a type");
+    assert_eq!(rt; ty.syntax().text(), "ProductCategory");
+    let default = argument.default_value().expect(&rt, "a default value");
+    let value = default.value().expect(&rt, "a value");
+    assert_eq!(rt; value.syntax().text(), "ALL");
+    Ok(())
+}
+
+fn name_of<'t>(definition: Definition<'t>) -> Option<&'t str> {
+    Some(definition.name()?.text().as_str())
+}
+
+// Each kind of definition: what it is called, its name, whether it is executable and whether it is an extension.
+#[test]
+fn kinds_of_definitions(rt: HostRuntime) -> Result<(), Fail> {
+    for (source, kind, name, is_executable, is_extension) in [
+        ("query Q { a }", "OperationDefinition", Some("Q"), true, false),
+        ("fragment F on T { a }", "FragmentDefinition", Some("F"), true, false),
+        ("directive @tag on FIELD", "DirectiveDefinition", Some("tag"), false, false),
+        ("schema { query: Q }", "SchemaDefinition", None, false, false),
+        ("scalar UUID", "ScalarTypeDefinition", Some("UUID"), false, false),
+        ("type A { a: B }", "ObjectTypeDefinition", Some("A"), false, false),
+        ("interface A { a: B }", "InterfaceTypeDefinition", Some("A"), false, false),
+        ("union A = B", "UnionTypeDefinition", Some("A"), false, false),
+        ("enum Pet { Cat }", "EnumTypeDefinition", Some("Pet"), false, false),
+        ("input I { a: B }", "InputObjectTypeDefinition", Some("I"), false, false),
+        ("extend schema @a", "SchemaExtension", None, false, true),
+        ("extend scalar UUID @a", "ScalarTypeExtension", Some("UUID"), false, true),
+        ("extend type A @a", "ObjectTypeExtension", Some("A"), false, true),
+        ("extend interface A @a", "InterfaceTypeExtension", Some("A"), false, true),
+        ("extend union A = B", "UnionTypeExtension", Some("A"), false, true),
+        ("extend enum Pet { Cat }", "EnumTypeExtension", Some("Pet"), false, true),
+        ("extend input I @a", "InputObjectTypeExtension", Some("I"), false, true),
+    ] {
+        let tree = Parser::new(source).parse(rt.alloc())?;
+        assert_eq!(rt; tree.errors().len(), 0, "{source}");
+        let definition = first_definition(tree.document()).expect(&rt, "a definition");
+        assert_eq!(rt; definition.kind(), kind);
+        assert_eq!(rt; name_of(definition), name, "{source}");
+        assert_eq!(rt; definition.is_executable_definition(), is_executable, "{source}");
+        assert_eq!(rt; definition.is_extension_definition(), is_extension, "{source}");
     }
-    assert!(rt; !definition.is_executable_definition());
-    assert!(rt; definition.is_extension_definition() == word.ends_with("Extension"));
     Ok(())
 }
 
-#[test]
-fn names_and_kinds_of_definitions(rt: HostRuntime) -> Result<(), Fail> {
-    let alloc = rt.alloc();
-    let query = Parser::new("{ UUID }").parse(alloc)?;
-    let field = first_field(query.document()).expect(&rt, "a field");
-    let name = field.name().expect(&rt, "a name");
-    check_definition(
-        &rt,
-        alloc,
-        SyntaxKind::DIRECTIVE_DEFINITION,
-        name,
-        "DirectiveDefinition",
-    )?;
-    check_definition(
-        &rt,
-        alloc,
-        SyntaxKind::SCHEMA_DEFINITION,
-        name,
-        "SchemaDefinition",
-    )?;
-    check_definition(
-        &rt,
-        alloc,
-        SyntaxKind::SCALAR_TYPE_DEFINITION,
-        name,
-        "ScalarTypeDefinition",
-    )?;
-    Ok(())
-}
-
-#[test]
-fn names_and_kinds_of_extensions(rt: HostRuntime) -> Result<(), Fail> {
-    let alloc = rt.alloc();
-    let query = Parser::new("{ UUID }").parse(alloc)?;
-    let field = first_field(query.document()).expect(&rt, "a field");
-    let name = field.name().expect(&rt, "a name");
-    check_definition(
-        &rt,
-        alloc,
-        SyntaxKind::SCHEMA_EXTENSION,
-        name,
-        "SchemaExtension",
-    )?;
-    check_definition(
-        &rt,
-        alloc,
-        SyntaxKind::SCALAR_TYPE_EXTENSION,
-        name,
-        "ScalarTypeExtension",
-    )?;
-    check_definition(
-        &rt,
-        alloc,
-        SyntaxKind::UNION_TYPE_EXTENSION,
-        name,
-        "UnionTypeExtension",
-    )?;
-    Ok(())
-}
-
-fn directive(alloc: Global) -> Result<Subtree<Global>, AllocError> {
-    let mut builder = TreeBuilder::new(alloc);
-    builder.start_node(SyntaxKind::DOCUMENT)?;
-    builder.start_node(SyntaxKind::DIRECTIVE_DEFINITION)?;
-    builder.token(SyntaxKind::repeatable_KW, "repeatable")?;
-    builder.start_node(SyntaxKind::DIRECTIVE_LOCATIONS)?;
-    builder.start_node(SyntaxKind::DIRECTIVE_LOCATION)?;
-    builder.token(SyntaxKind::FIELD_KW, "FIELD")?;
-    builder.finish_node();
-    builder.start_node(SyntaxKind::DIRECTIVE_LOCATION)?;
-    builder.finish_node();
-    builder.finish_node();
-    builder.finish_node();
-    builder.finish_node();
-    Ok(builder.finish())
-}
-
-// The second location has lost its keyword.
 #[test]
 fn locations_of_a_directive(rt: HostRuntime) -> Result<(), Fail> {
-    let tree = directive(rt.alloc())?;
-    let Some(Definition::DirectiveDefinition(directive)) = first_definition(&tree) else {
+    let source = "directive @example repeatable on\n| FIELD\n| FRAGMENT_SPREAD\n| INLINE_FRAGMENT\n";
+    let tree = Parser::new(source).parse(rt.alloc())?;
+    assert_eq!(rt; tree.errors().len(), 0);
+    let Some(Definition::DirectiveDefinition(directive)) = first_definition(tree.document()) else {
         return Err(Fail::new("no directive"));
     };
     assert!(rt; directive.repeatable_token().is_some());
-    assert!(rt; directive.on_token().is_none());
+    assert!(rt; directive.on_token().is_some());
     let locations = directive.directive_locations().expect(&rt, "locations");
     let mut each = locations.directive_locations();
-    let first = each.next().expect(&rt, "a location");
-    assert_eq!(rt; first.text().expect(&rt, "a text").as_str(), "FIELD");
-    assert!(rt; first.field_token().is_some());
-    let second = each.next().expect(&rt, "a location");
-    assert!(rt; second.text().is_none());
+    for word in ["FIELD", "FRAGMENT_SPREAD", "INLINE_FRAGMENT"] {
+        let location = each.next().expect(&rt, "a location");
+        assert_eq!(rt; location.text().expect(&rt, "a text").as_str(), word);
+        assert_eq!(rt; location.field_token().is_some(), word == "FIELD");
+    }
     assert!(rt; each.next().is_none());
+    Ok(())
+}
+
+// The first value of an enum.
+fn first_enum_value(document: Document<'_>) -> Option<EnumValueDefinition<'_>> {
+    let Definition::EnumTypeDefinition(definition) = first_definition(document)? else {
+        return None;
+    };
+    definition
+        .enum_values_definition()?
+        .enum_value_definitions()
+        .next()
+}
+
+// The first argument of its first directive, where that is a string.
+fn first_string(value: EnumValueDefinition<'_>) -> Option<StringValue<'_>> {
+    let directive = value.directives()?.directives().next()?;
+    let Value::StringValue(string) = directive.arguments()?.arguments().next()?.value()? else {
+        return None;
+    };
+    Some(string)
+}
+
+#[test]
+fn directive_of_an_enum_value(rt: HostRuntime) -> Result<(), Fail> {
+    let source = "enum join__Graph { ACCOUNTS @join__graph(name: \"accounts\") }";
+    let tree = Parser::new(source).parse(rt.alloc())?;
+    assert_eq!(rt; tree.errors().len(), 0);
+    let definition = first_enum_value(tree.document()).expect(&rt, "an enum value");
+    let value = definition.enum_value().expect(&rt, "its name");
+    assert_eq!(rt; value.text().expect(&rt, "a text").as_str(), "ACCOUNTS");
+    let string = first_string(definition).expect(&rt, "a string");
+    assert_eq!(rt; string.to_string_in(rt.alloc())?.as_str(), "accounts");
+    Ok(())
+}
+
+// An enum value without a name is there, and has no text.
+#[test]
+fn enum_value_without_a_name(rt: HostRuntime) -> Result<(), Fail> {
+    let tree = Parser::new("enum E { \"d\" }").parse(rt.alloc())?;
+    let mut errors = tree.errors();
+    let error = errors.next().expect(&rt, "an error");
+    assert_eq!(rt;
+        (error.message(), error.data(), error.index()),
+        ("expected Enum Value", "}", 13)
+    );
+    assert!(rt; errors.next().is_none());
+    let definition = first_enum_value(tree.document()).expect(&rt, "an enum value");
+    let value = definition.enum_value().expect(&rt, "its place");
+    assert!(rt; value.text().is_none());
+    Ok(())
+}
+
+// The description of a definition that may have one.
+fn description_of(definition: Definition<'_>) -> Option<StringValue<'_>> {
+    let description = match definition {
+        Definition::OperationDefinition(node) => node.description(),
+        Definition::FragmentDefinition(node) => node.description(),
+        Definition::DirectiveDefinition(node) => node.description(),
+        Definition::SchemaDefinition(node) => node.description(),
+        Definition::ScalarTypeDefinition(node) => node.description(),
+        Definition::ObjectTypeDefinition(node) => node.description(),
+        Definition::InterfaceTypeDefinition(node) => node.description(),
+        Definition::UnionTypeDefinition(node) => node.description(),
+        Definition::EnumTypeDefinition(node) => node.description(),
+        Definition::InputObjectTypeDefinition(node) => node.description(),
+        _ => None,
+    };
+    description?.string_value()
+}
+
+#[test]
+fn descriptions(rt: HostRuntime) -> Result<(), Fail> {
+    for (source, wanted) in [
+        ("\"q\" query Q { a }", "q"),
+        ("\"f\" , fragment F on T { a }", "f"),
+        ("\"d\" directive @a on FIELD", "d"),
+        ("\"s\" schema { query: Q }", "s"),
+        ("\"\" scalar S", ""),
+        (
+            "\n\"\"\"\ndescription for Query object type\n\"\"\"\ntype Query {\n  a: B\n}\n",
+            "description for Query object type",
+        ),
+        ("\"i\" interface A { a: B }", "i"),
+        ("\"u\" union U", "u"),
+        ("\"e\" enum E { a }", "e"),
+        ("\"i\" input I { a: B }", "i"),
+    ] {
+        let tree = Parser::new(source).parse(rt.alloc())?;
+        assert_eq!(rt; tree.errors().len(), 0, "{source}");
+        let definition = first_definition(tree.document()).expect(&rt, "a definition");
+        let value = description_of(definition).expect(&rt, "a description");
+        assert_eq!(rt; value.to_string_in(rt.alloc())?.as_str(), wanted, "{source}");
+    }
+    Ok(())
+}
+
+// The description of the first variable of the first operation.
+fn description_of_a_variable(document: Document<'_>) -> Option<StringValue<'_>> {
+    let list = first_operation(document)?.variable_definitions()?;
+    let definition = list.variable_definitions().next()?;
+    definition.description()?.string_value()
+}
+
+#[test]
+fn description_before_a_variable(rt: HostRuntime) -> Result<(), Fail> {
+    let tree = Parser::new("query(\"v\" $v: Int) { a }").parse(rt.alloc())?;
+    assert_eq!(rt; tree.errors().len(), 0);
+    let value = description_of_a_variable(tree.document()).expect(&rt, "a description");
+    assert_eq!(rt; value.to_string_in(rt.alloc())?.as_str(), "v");
     Ok(())
 }
