@@ -45,6 +45,10 @@ variable_start = Or (Kind token.StringValue) (Kind token.Dollar)
 abbrev pub named_start : TokenTest
 named_start = Or (Kind token.StringValue) (Kind token.Name)
 
+-- directive locations start with it
+abbrev pub locations_start : TokenTest
+locations_start = Or (Kind token.Name) (Kind token.Pipe)
+
 -- a word that no enum value has as its name
 abbrev pub reserved : TokenTest
 reserved = Or boolean (Keyword kind.null_KW)
@@ -62,6 +66,15 @@ executable_locations =
     ∷ kind.VARIABLE_DEFINITION_KW
     ∷ []
 
+-- of TypeSystemDirectiveLocation (3.13), those of enums and of input objects
+abbrev pub enum_and_input_locations : List SyntaxKind
+enum_and_input_locations =
+    kind.ENUM_KW
+    ∷ kind.ENUM_VALUE_KW
+    ∷ kind.INPUT_OBJECT_KW
+    ∷ kind.INPUT_FIELD_DEFINITION_KW
+    ∷ []
+
 -- TypeSystemDirectiveLocation (3.13)
 abbrev pub type_system_locations : List SyntaxKind
 type_system_locations =
@@ -72,11 +85,7 @@ type_system_locations =
     ∷ kind.ARGUMENT_DEFINITION_KW
     ∷ kind.INTERFACE_KW
     ∷ kind.UNION_KW
-    ∷ kind.ENUM_KW
-    ∷ kind.ENUM_VALUE_KW
-    ∷ kind.INPUT_OBJECT_KW
-    ∷ kind.INPUT_FIELD_DEFINITION_KW
-    ∷ []
+    ∷ enum_and_input_locations
 
 -- one of the keywords
 abbrev pub any_word : SyntaxKind → List SyntaxKind → TokenTest
@@ -473,7 +482,7 @@ body UnionMember = When (At token.Name) (Child NamedType) (Do (Note message.Expe
 body DirectiveName = expect token.At kind.AT message.ExpectedAt > Call Named
 body OnLocations =
     expect_word kind.on_KW message.ExpectedLocations
-    > When (Here (Or (Kind token.Name) (Kind token.Pipe))) (Child DirectiveLocations) (Do (Note message.ExpectedValidLocation))
+    > When (Here locations_start) (Child DirectiveLocations) (Do (Note message.ExpectedValidLocation))
 body Location =
     When (Here location) (Child DirectiveLocation)
     (When (At token.Name) (Do (Note message.ExpectedValidLocation)) (Do (Note message.ExpectedLocation)))

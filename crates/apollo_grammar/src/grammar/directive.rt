@@ -80,10 +80,17 @@ fn on_locations<A: Allocator + Copy>(p: &mut ParserState<'_, A>) -> Result<(), A
     ensures { OnOk result (Runs (Call rule.OnLocations) p.old p.new) }
 {
     p.expect_word(SyntaxKind::on_KW, Message::ExpectedLocations)?;
-    if p.at(TokenKind::Name) || p.at(TokenKind::Pipe) {
+    if starts_locations(p) {
         return directive_locations(p);
     }
     p.err(Message::ExpectedValidLocation)
+}
+
+#[tactic(auto, unfolding(parser_rules::specs::RuleLanguage::holds))]
+fn starts_locations<A: Allocator + Copy>(p: &ParserState<'_, A>) -> bool
+    ensures { result ≡ holds (Here rules.locations_start) p.now }
+{
+    p.at(TokenKind::Name) || p.at(TokenKind::Pipe)
 }
 
 // The places where a directive may be.
@@ -159,7 +166,6 @@ fn directive_location<A: Allocator + Copy>(p: &mut ParserState<'_, A>) -> Result
     Ok(())
 }
 
-#[tactic(auto, using(parser_rules::proofs::runs::Running::sequence), unfolding(parser_rules::specs::Rules::inside))]
 fn executable_location<A: Allocator + Copy>(p: &mut ParserState<'_, A>) -> Result<(), AllocError>
     ensures { OnOk result (Runs (rules.word_of rules.executable_locations (rules.word_of rules.type_system_locations (Do (Note message.ExpectedLocation)))) p.old p.new) }
 {
@@ -190,7 +196,6 @@ fn executable_location<A: Allocator + Copy>(p: &mut ParserState<'_, A>) -> Resul
     type_system_location(p)
 }
 
-#[tactic(auto, using(parser_rules::proofs::runs::Running::sequence), unfolding(parser_rules::specs::Rules::inside))]
 fn type_system_location<A: Allocator + Copy>(p: &mut ParserState<'_, A>) -> Result<(), AllocError>
     ensures { OnOk result (Runs (rules.word_of rules.type_system_locations (Do (Note message.ExpectedLocation))) p.old p.new) }
 {
@@ -215,6 +220,12 @@ fn type_system_location<A: Allocator + Copy>(p: &mut ParserState<'_, A>) -> Resu
     if p.at_word(SyntaxKind::UNION_KW) {
         return p.bump(SyntaxKind::UNION_KW);
     }
+    enum_or_input_location(p)
+}
+
+fn enum_or_input_location<A: Allocator + Copy>(p: &mut ParserState<'_, A>) -> Result<(), AllocError>
+    ensures { OnOk result (Runs (rules.word_of rules.enum_and_input_locations (Do (Note message.ExpectedLocation))) p.old p.new) }
+{
     if p.at_word(SyntaxKind::ENUM_KW) {
         return p.bump(SyntaxKind::ENUM_KW);
     }
