@@ -1,26 +1,13 @@
 //! `gqlcst` reads a GraphQL document from the standard input, and says whether it is one or what is wrong with it.
 #![tactic(auto)]
 
-mod command;
-mod devices;
-mod ending;
-mod outcome;
-mod parsing;
-mod program;
-mod reading;
-mod rendering;
-mod std_devices;
 #[cfg(test)]
 mod tests;
-mod trace;
-mod writing;
 
-use command::{Limits, Mode, options};
-use ending::{USAGE, ending};
-use program::run;
+use gqlcst_run::ending::{USAGE, ending};
+use gqlcst_run::{Limits, Mode, StdSink, StdSource, options, run};
 use std::env;
 use std::process::ExitCode;
-use std_devices::{StdSink, StdSource};
 
 // What the words after the program's name ask for: nothing where they can't be had as texts.
 fn request(rt: &HostRuntime) -> Option<(Mode, Limits)> {

@@ -1,12 +1,8 @@
 // The program over readers and writers of these tests, which fail or stop at a chosen point.
 ghost use Rattle.std.specs.Prelude.{◌≡◌, IfOk};
 
-use crate::command::{Limits, Mode, options};
-use crate::devices::{DeviceError, Sink, Source};
-use crate::ending::ending;
-use crate::outcome::{Fault, Outcome};
-use crate::program::run;
-use crate::trace::Trace;
+use gqlcst_run::ending::ending;
+use gqlcst_run::{DeviceError, Fault, Limits, Mode, Outcome, Sink, Source, Trace, options, run};
 use std::alloc::Global;
 use std::process::Abort;
 use std::test::Fail;
@@ -39,7 +35,7 @@ struct Pieces<'a> {
 }
 
 impl<'a> Source for Pieces<'a> {
-    ghost use Rattle.gqlcst.specs.Devices.{account_of};
+    ghost use Rattle.gqlcst_run.specs.Devices.{account_of};
 
     ghost account = { λ pieces. account_of pieces.trace };
 
@@ -69,7 +65,7 @@ struct Page {
 }
 
 impl Sink for Page {
-    ghost use Rattle.gqlcst.specs.Devices.{account_of};
+    ghost use Rattle.gqlcst_run.specs.Devices.{account_of};
 
     ghost account = { λ page. account_of page.trace };
 

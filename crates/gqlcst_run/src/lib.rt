@@ -1,0 +1,21 @@
+// What the program `gqlcst` does between its words, its reader and its writer.
+#![tactic(auto)]
+
+mod command;
+mod devices;
+pub mod ending;
+mod outcome;
+mod parsing;
+mod program;
+mod reading;
+mod rendering;
+mod std_devices;
+mod trace;
+mod writing;
+
+pub use command::{Limits, Mode, options};
+pub use devices::{DeviceError, Sink, Source};
+pub use outcome::{Fault, Outcome};
+pub use program::run;
+pub use std_devices::{StdSink, StdSource};
+pub use trace::Trace;
