@@ -1,8 +1,7 @@
-use crate::error::Error;
-use crate::laws::{answers_are_items, answers_count, answers_join, equal_errors_are_same};
-use crate::lexer::Lexer;
-use crate::limit::LimitTracker;
-use crate::steps::Steps;
+use apollo_lexer::{
+    Error, Lexer, LimitTracker, Steps, answers_are_items, answers_count, answers_join,
+    equal_errors_are_same,
+};
 use lexical_grammar::TokenKind;
 use std::alloc::{AllocError, Global};
 use std::fmt::Write;

@@ -1,10 +1,8 @@
-use crate::blocks::{block_value, raw_value};
-use crate::lines::GraphQLLines;
-use crate::{
-    CommentToken, CstToken, FloatToken, IdentToken, IntToken, LiteralError, StringToken,
-    WhitespaceToken, reading_back,
+use apollo_cst_core::{
+    CommentToken, CstToken, FloatToken, GraphQLLines, IdentToken, IntToken, LiteralError,
+    StringToken, WhitespaceToken, block_value, raw_value, reading_back,
 };
-use apollo_tree::SyntaxKind;
+use document_grammar::SyntaxKind;
 use std::process::Abort;
 use std::test::Fail;
 
