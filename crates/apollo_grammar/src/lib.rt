@@ -9,6 +9,3 @@ mod syntax_tree;
 
 pub use parser::Parser;
 pub use syntax_tree::{DocumentRoot, Root, SyntaxTree};
-
-#[cfg(test)]
-mod tests;

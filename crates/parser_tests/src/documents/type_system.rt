@@ -1,6 +1,6 @@
 // Definitions and extensions of the type system.
 use super::{expect_found, expect_printed, shown};
-use crate::Parser;
+use apollo_parser::Parser;
 use std::test::Fail;
 
 #[test]

@@ -2,7 +2,7 @@ mod descriptions;
 mod executable;
 mod type_system;
 
-use crate::{DocumentRoot, Parser, SyntaxTree};
+use apollo_parser::{DocumentRoot, Parser, SyntaxTree};
 use std::alloc::{AllocError, Global};
 use std::process::Abort;
 use std::test::Fail;

@@ -1,5 +1,5 @@
 use super::{expect_found, expect_printed, found};
-use crate::Parser;
+use apollo_parser::Parser;
 use std::test::Fail;
 
 #[test]
