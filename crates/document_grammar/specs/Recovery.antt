@@ -1,16 +1,21 @@
 -- What holds of a tree with errors: which children a node may have, and where tokens stand that were left over. The standard says nothing of such
 -- trees, so these are this project's own promises.
 use Rattle.std.specs.Prelude.{◌≡◌, ◌≢◌, ℕ, ◌+◌, ◌≤◌, Bool, true, false, ◌&&◌, ◌⊎◌, cond, eqb, List, [], ◌∷◌, ◌++◌, length, Option, Some, None, IsTrue, IsFalse}
-use Rattle.std.specs.List.{list_any}
+use Rattle.std.specs.List.{list_any, All}
 use Rattle.lexical_grammar.specs.declared.TokenKind.{TokenKind}
 use Rattle.lexical_grammar.specs.declared.TokenKind.TheVariants.{RBracket}
-use Rattle.lexical_grammar.specs.Cut.{Item, is_significant_kind}
+use Rattle.lexical_grammar.specs.Cut.{Item, Significant, is_significant_kind}
+use Rattle.lexical_grammar.specs.Begins.{are_tokens}
 use Rattle.document_grammar.specs.Tree.{Text, Tree, leaf, node, Forest, none, ◌▸◌}
 use Rattle.document_grammar.specs.Pattern.{Pattern, any_of, nothing, ◌then◌, ◌or_else◌, many, member}
 use Rattle.document_grammar.specs.Rows.{Row}
-use Rattle.document_grammar.specs.Kinds.{ERROR, SPREAD, LIST_VALUE}
+use Rattle.document_grammar.specs.Kinds.{ERROR, SPREAD, LIST_VALUE, DOCUMENT}
+use Rattle.document_grammar.specs.Forests as built
+use Rattle.document_grammar.specs.Numbered.{numbered}
+use Rattle.document_grammar.specs.Places.{bares}
+use Rattle.document_grammar.specs.FirstError.{tokens_of, At}
 use Rattle.document_grammar.specs.Choices.{is_ignored}
-use Rattle.document_grammar.specs.Derivation.{texts}
+use Rattle.document_grammar.specs.Derivation.{document, Spells, nest, texts}
 
 -- ---- the symbols of a row
 
@@ -81,3 +86,17 @@ abbrev pub LeftOver : (ℕ → Text → Type 0) → List Item → ℕ → Forest
 LeftOver Told items place none = Unit {0}
 LeftOver Told items place (leaf k x ▸ f) = (IsTrue (left_over items place k) → Told place x) × LeftOver Told items (place + length x) f
 LeftOver Told items place (node k g ▸ f) = Spares items place k g × LeftOver Told items place g × LeftOver Told items (place + length (texts g)) f
+
+-- ---- going on
+
+-- None of the places is beyond a significant token of these items.
+abbrev pub NoneBeyond : List Item → List ℕ → Type 0
+NoneBeyond items places = (m : ℕ) (b : At items m) → Significant (b.item ∷ []) ≢ [] → All (λ n. n ≤ m) places
+
+-- Where the items behind some of the root's children are a document of its own, which nests at most r deep, the later children are its
+-- derivation's, and no error is beyond its first token.
+abbrev pub GoesOn : ℕ → List Item → List ℕ → built.Forest → Type 0
+GoesOn r items places kids =
+    (front later : built.Forest) (a : At items (length (built.text front))) (u : Tree) → kids ≡ built.join front later
+    → are_tokens (a.item ∷ a.more) ≡ true → Spells (tokens_of (a.item ∷ a.more)) u document → nest u ≤ r
+    → (node DOCUMENT (bares (numbered later)) ≡ u) × NoneBeyond (a.item ∷ a.more) places

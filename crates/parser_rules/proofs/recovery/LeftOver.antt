@@ -105,38 +105,38 @@ token-there kinds place (first ∷ before) item more cut =
 
 -- ---- the sources of leaves
 
-abbrev bytes : List Source → ℕ
+abbrev pub bytes : List Source → ℕ
 bytes [] = 0
 bytes (o ∷ v) = length (text_of o) + bytes v
 
-bytes-append : (v w : List Source) → bytes (v ++ w) ≡ bytes v + bytes w
+pub bytes-append : (v w : List Source) → bytes (v ++ w) ≡ bytes v + bytes w
 bytes-append [] w = omega arith
 bytes-append (o ∷ v) w = let e = bytes-append v w in omega (arith, e)
 
-source-text : (item : Item) (found : Option TokenKind) → text_of (source_at item found) ≡ item.text
+pub source-text : (item : Item) (found : Option TokenKind) → text_of (source_at item found) ≡ item.text
 source-text item None = refl
 source-text item (Some k) = elim (ignored k) as (λ o. text_of (source_of item k o) ≡ item.text) [ None ↦ refl | Some own ↦ refl ]
 
 -- the item that a leaf is of
-record Origin (items : List Item) (front : List Source) (o : Source) : Type 0 where
-  before : List Item
-  item : Item
-  more : List Item
-  split : items ≡ before ++ item ∷ more
-  source : o ≡ source_at item item.kind
-  place : bytes front ≡ length (texts before)
+pub record Origin (items : List Item) (front : List Source) (o : Source) : Type 0 where
+  pub before : List Item
+  pub item : Item
+  pub more : List Item
+  pub split : items ≡ before ++ item ∷ more
+  pub source : o ≡ source_at item item.kind
+  pub place : bytes front ≡ length (texts before)
 
-cons-head : {A : Type 0} {a b : A} {u v : List A} → a ∷ u ≡ b ∷ v → a ≡ b
+pub cons-head : {A : Type 0} {a b : A} {u v : List A} → a ∷ u ≡ b ∷ v → a ≡ b
 cons-head e = cc
 
-cons-tail : {A : Type 0} {a b : A} {u v : List A} → a ∷ u ≡ b ∷ v → u ≡ v
+pub cons-tail : {A : Type 0} {a b : A} {u v : List A} → a ∷ u ≡ b ∷ v → u ≡ v
 cons-tail e = cc
 
 none-split : {A : Type 0} (front : List Source) (o : Source) (rest : List Source) → [] ≡ front ++ o ∷ rest → A
 none-split [] o rest e = absurd cc
 none-split (f ∷ front) o rest e = absurd cc
 
-origin : (k : ℕ) (items : List Item) (front : List Source) (o : Source) (rest : List Source) → sources (limited k items) ≡ front ++ o ∷ rest → Origin items front o
+pub origin : (k : ℕ) (items : List Item) (front : List Source) (o : Source) (rest : List Source) → sources (limited k items) ≡ front ++ o ∷ rest → Origin items front o
 origin k [] front o rest e = none-split front o rest (sym (ap sources (limited-none k)) ∙ e)
 origin zero (item ∷ items) front o rest e = none-split front o rest e
 origin (suc k) (item ∷ items) [] o rest e = record { before = []; item = item; more = items; split = refl; source = sym (cons-head e); place = refl }
@@ -206,7 +206,7 @@ pub record Told_at (errors : List Report) (place : ℕ) (text : Text) : Type 0 w
   pub some : is_end token.kind ≡ false
   pub told : Has errors (fault_report said token)
 
-tree-bytes : (f : Marked) → length (tree_texts (numbered (erase f))) ≡ bytes (flat f)
+pub tree-bytes : (f : Marked) → length (tree_texts (numbered (erase f))) ≡ bytes (flat f)
 tree-bytes none = refl
 tree-bytes (leaf o k rest) = let e = tree-bytes rest in let l = length-append (text_of o) (tree_texts (numbered (erase rest))) in omega (arith, e, l)
 tree-bytes (node k kids rest) =

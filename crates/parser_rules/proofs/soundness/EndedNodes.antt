@@ -43,7 +43,7 @@ tokens-leaves built.none = refl
 tokens-leaves (built.leaf k x rest) = let e = tokens-leaves rest in omega (arith, e)
 tokens-leaves (built.node k kids rest) = let a = tokens-leaves kids in let b = tokens-leaves rest in let c = tokens-in-append (leaves kids) (leaves rest) in omega (arith, a, b, c)
 
-numbered-text : (f : built.Forest) → tree_texts (numbered f) ≡ built.text f
+pub numbered-text : (f : built.Forest) → tree_texts (numbered f) ≡ built.text f
 numbered-text built.none = refl
 numbered-text (built.leaf k x rest) = ap (λ (s : Text). x ++ s) (numbered-text rest)
 numbered-text (built.node k kids rest) = ap₂ (λ (a b : Text). a ++ b) (numbered-text kids) (numbered-text rest)

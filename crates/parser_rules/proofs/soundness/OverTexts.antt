@@ -37,7 +37,7 @@ use Rattle.parser_rules.proofs.soundness.Soundness.{given, parsed, accepted, sou
 
 -- ---- all items are given
 
-all-given : (k : ℕ) (items : List Item) → length items ≤ k → are_tokens items ≡ true → all_tokens (limited k items) ≡ true
+pub all-given : (k : ℕ) (items : List Item) → length items ≤ k → are_tokens items ≡ true → all_tokens (limited k items) ≡ true
 all-given zero [] c h = refl
 all-given (suc k) [] c h = refl
 all-given zero (item ∷ items) c h = absurd (omega arith)
