@@ -88,38 +88,143 @@ fn name_of<'t>(definition: Definition<'t>) -> Option<&'t str> {
 #[test]
 fn kinds_of_definitions(rt: HostRuntime) -> Result<(), Fail> {
     for (source, kind, name, is_executable, is_extension) in [
-        ("query Q { a }", "OperationDefinition", Some("Q"), true, false),
-        ("fragment F on T { a }", "FragmentDefinition", Some("F"), true, false),
-        ("directive @tag on FIELD", "DirectiveDefinition", Some("tag"), false, false),
-        ("schema { query: Q }", "SchemaDefinition", None, false, false),
-        ("scalar UUID", "ScalarTypeDefinition", Some("UUID"), false, false),
-        ("type A { a: B }", "ObjectTypeDefinition", Some("A"), false, false),
-        ("interface A { a: B }", "InterfaceTypeDefinition", Some("A"), false, false),
-        ("union A = B", "UnionTypeDefinition", Some("A"), false, false),
-        ("enum Pet { Cat }", "EnumTypeDefinition", Some("Pet"), false, false),
-        ("input I { a: B }", "InputObjectTypeDefinition", Some("I"), false, false),
+        (
+            "query Q { a }",
+            "OperationDefinition",
+            Some("Q"),
+            true,
+            false,
+        ),
+        (
+            "fragment F on T { a }",
+            "FragmentDefinition",
+            Some("F"),
+            true,
+            false,
+        ),
+        (
+            "directive @tag on FIELD",
+            "DirectiveDefinition",
+            Some("tag"),
+            false,
+            false,
+        ),
+        (
+            "schema { query: Q }",
+            "SchemaDefinition",
+            None,
+            false,
+            false,
+        ),
+        (
+            "scalar UUID",
+            "ScalarTypeDefinition",
+            Some("UUID"),
+            false,
+            false,
+        ),
+        (
+            "type A { a: B }",
+            "ObjectTypeDefinition",
+            Some("A"),
+            false,
+            false,
+        ),
+        (
+            "interface A { a: B }",
+            "InterfaceTypeDefinition",
+            Some("A"),
+            false,
+            false,
+        ),
+        (
+            "union A = B",
+            "UnionTypeDefinition",
+            Some("A"),
+            false,
+            false,
+        ),
+        (
+            "enum Pet { Cat }",
+            "EnumTypeDefinition",
+            Some("Pet"),
+            false,
+            false,
+        ),
+        (
+            "input I { a: B }",
+            "InputObjectTypeDefinition",
+            Some("I"),
+            false,
+            false,
+        ),
         ("extend schema @a", "SchemaExtension", None, false, true),
-        ("extend scalar UUID @a", "ScalarTypeExtension", Some("UUID"), false, true),
-        ("extend type A @a", "ObjectTypeExtension", Some("A"), false, true),
-        ("extend interface A @a", "InterfaceTypeExtension", Some("A"), false, true),
-        ("extend union A = B", "UnionTypeExtension", Some("A"), false, true),
-        ("extend enum Pet { Cat }", "EnumTypeExtension", Some("Pet"), false, true),
-        ("extend input I @a", "InputObjectTypeExtension", Some("I"), false, true),
+        (
+            "extend scalar UUID @a",
+            "ScalarTypeExtension",
+            Some("UUID"),
+            false,
+            true,
+        ),
+        (
+            "extend type A @a",
+            "ObjectTypeExtension",
+            Some("A"),
+            false,
+            true,
+        ),
+        (
+            "extend interface A @a",
+            "InterfaceTypeExtension",
+            Some("A"),
+            false,
+            true,
+        ),
+        (
+            "extend union A = B",
+            "UnionTypeExtension",
+            Some("A"),
+            false,
+            true,
+        ),
+        (
+            "extend enum Pet { Cat }",
+            "EnumTypeExtension",
+            Some("Pet"),
+            false,
+            true,
+        ),
+        (
+            "extend input I @a",
+            "InputObjectTypeExtension",
+            Some("I"),
+            false,
+            true,
+        ),
     ] {
         let tree = Parser::new(source).parse(rt.alloc())?;
         assert_eq!(rt; tree.errors().len(), 0, "{source}");
         let definition = first_definition(tree.document()).expect(&rt, "a definition");
         assert_eq!(rt; definition.kind(), kind);
         assert_eq!(rt; name_of(definition), name, "{source}");
-        assert_eq!(rt; definition.is_executable_definition(), is_executable, "{source}");
-        assert_eq!(rt; definition.is_extension_definition(), is_extension, "{source}");
+        assert_eq!(rt;
+            definition.is_executable_definition(),
+            is_executable,
+            "{source}"
+        );
+        assert_eq!(rt;
+            definition.is_extension_definition(),
+            is_extension,
+            "{source}"
+        );
     }
     Ok(())
 }
 
 #[test]
 fn locations_of_a_directive(rt: HostRuntime) -> Result<(), Fail> {
-    let source = "directive @example repeatable on\n| FIELD\n| FRAGMENT_SPREAD\n| INLINE_FRAGMENT\n";
+    let source =
+        "directive @example repeatable on\n| FIELD\n| FRAGMENT_SPREAD\n| INLINE_FRAGMENT\n";
     let tree = Parser::new(source).parse(rt.alloc())?;
     assert_eq!(rt; tree.errors().len(), 0);
     let Some(Definition::DirectiveDefinition(directive)) = first_definition(tree.document()) else {
@@ -227,7 +332,11 @@ fn descriptions(rt: HostRuntime) -> Result<(), Fail> {
         assert_eq!(rt; tree.errors().len(), 0, "{source}");
         let definition = first_definition(tree.document()).expect(&rt, "a definition");
         let value = description_of(definition).expect(&rt, "a description");
-        assert_eq!(rt; value.to_string_in(rt.alloc())?.as_str(), wanted, "{source}");
+        assert_eq!(rt;
+            value.to_string_in(rt.alloc())?.as_str(),
+            wanted,
+            "{source}"
+        );
     }
     Ok(())
 }
