@@ -84,139 +84,36 @@ fn name_of<'t>(definition: Definition<'t>) -> Option<&'t str> {
     Some(definition.name()?.text().as_str())
 }
 
-// Each kind of definition: what it is called, its name, whether it is executable and whether it is an extension.
+// Each kind of definition with its name.
 #[test]
 fn kinds_of_definitions(rt: HostRuntime) -> Result<(), Fail> {
-    for (source, kind, name, is_executable, is_extension) in [
-        (
-            "query Q { a }",
-            "OperationDefinition",
-            Some("Q"),
-            true,
-            false,
-        ),
-        (
-            "fragment F on T { a }",
-            "FragmentDefinition",
-            Some("F"),
-            true,
-            false,
-        ),
-        (
-            "directive @tag on FIELD",
-            "DirectiveDefinition",
-            Some("tag"),
-            false,
-            false,
-        ),
-        (
-            "schema { query: Q }",
-            "SchemaDefinition",
-            None,
-            false,
-            false,
-        ),
-        (
-            "scalar UUID",
-            "ScalarTypeDefinition",
-            Some("UUID"),
-            false,
-            false,
-        ),
-        (
-            "type A { a: B }",
-            "ObjectTypeDefinition",
-            Some("A"),
-            false,
-            false,
-        ),
-        (
-            "interface A { a: B }",
-            "InterfaceTypeDefinition",
-            Some("A"),
-            false,
-            false,
-        ),
-        (
-            "union A = B",
-            "UnionTypeDefinition",
-            Some("A"),
-            false,
-            false,
-        ),
-        (
-            "enum Pet { Cat }",
-            "EnumTypeDefinition",
-            Some("Pet"),
-            false,
-            false,
-        ),
-        (
-            "input I { a: B }",
-            "InputObjectTypeDefinition",
-            Some("I"),
-            false,
-            false,
-        ),
-        ("extend schema @a", "SchemaExtension", None, false, true),
-        (
-            "extend scalar UUID @a",
-            "ScalarTypeExtension",
-            Some("UUID"),
-            false,
-            true,
-        ),
-        (
-            "extend type A @a",
-            "ObjectTypeExtension",
-            Some("A"),
-            false,
-            true,
-        ),
-        (
-            "extend interface A @a",
-            "InterfaceTypeExtension",
-            Some("A"),
-            false,
-            true,
-        ),
-        (
-            "extend union A = B",
-            "UnionTypeExtension",
-            Some("A"),
-            false,
-            true,
-        ),
-        (
-            "extend enum Pet { Cat }",
-            "EnumTypeExtension",
-            Some("Pet"),
-            false,
-            true,
-        ),
-        (
-            "extend input I @a",
-            "InputObjectTypeExtension",
-            Some("I"),
-            false,
-            true,
-        ),
+    for (source, kind, name) in [
+        ("query Q { a }", "OperationDefinition", Some("Q")),
+        ("fragment F on T { a }", "FragmentDefinition", Some("F")),
+        ("directive @a on FIELD", "DirectiveDefinition", Some("a")),
+        ("schema { query: Q }", "SchemaDefinition", None),
+        ("scalar S", "ScalarTypeDefinition", Some("S")),
+        ("type A { a: B }", "ObjectTypeDefinition", Some("A")),
+        ("interface A { a: B }", "InterfaceTypeDefinition", Some("A")),
+        ("union A = B", "UnionTypeDefinition", Some("A")),
+        ("enum E { A }", "EnumTypeDefinition", Some("E")),
+        ("input I { a: B }", "InputObjectTypeDefinition", Some("I")),
+        ("extend schema @a", "SchemaExtension", None),
+        ("extend scalar S @a", "ScalarTypeExtension", Some("S")),
+        ("extend type A @a", "ObjectTypeExtension", Some("A")),
+        ("extend interface A @a", "InterfaceTypeExtension", Some("A")),
+        ("extend union A = B", "UnionTypeExtension", Some("A")),
+        ("extend enum E { A }", "EnumTypeExtension", Some("E")),
+        ("extend input I @a", "InputObjectTypeExtension", Some("I")),
     ] {
         let tree = Parser::new(source).parse(rt.alloc())?;
         assert_eq!(rt; tree.errors().len(), 0, "{source}");
         let definition = first_definition(tree.document()).expect(&rt, "a definition");
         assert_eq!(rt; definition.kind(), kind);
         assert_eq!(rt; name_of(definition), name, "{source}");
-        assert_eq!(rt;
-            definition.is_executable_definition(),
-            is_executable,
-            "{source}"
-        );
-        assert_eq!(rt;
-            definition.is_extension_definition(),
-            is_extension,
-            "{source}"
-        );
+        let is_executable = kind == "OperationDefinition" || kind == "FragmentDefinition";
+        assert!(rt; definition.is_executable_definition() == is_executable);
+        assert!(rt; definition.is_extension_definition() == kind.ends_with("Extension"));
     }
     Ok(())
 }
@@ -332,11 +229,7 @@ fn descriptions(rt: HostRuntime) -> Result<(), Fail> {
         assert_eq!(rt; tree.errors().len(), 0, "{source}");
         let definition = first_definition(tree.document()).expect(&rt, "a definition");
         let value = description_of(definition).expect(&rt, "a description");
-        assert_eq!(rt;
-            value.to_string_in(rt.alloc())?.as_str(),
-            wanted,
-            "{source}"
-        );
+        assert_eq!(rt; value.to_string_in(rt.alloc())?.as_str(), wanted);
     }
     Ok(())
 }
