@@ -8,7 +8,7 @@ use Rattle.std.proofs.lemmas.Bool.{false_from_ne_true, ne_eqb, or_parts, eqb-fal
 use Rattle.std.proofs.lemmas.List.{drop-drop, take_rest, get_or-drop, get_or-take}
 use Rattle.memchr.specs.Find.{is_byte2, Nowhere, NoneBefore, Passes, IsFirstByte}
 use Rattle.lexical_grammar.specs.Strings.{begins, triple_quote, escaped_triple_quote}
-use Rattle.lexical_grammar.specs.Reads.{block_len, quoted_len, string_character_len}
+use Rattle.lexical_grammar.specs.Reads.{block_len, quoted_len, string_character_len, bad_escape_len, bad_string_len}
 use Rattle.apollo_lexer.specs.Pieces.{read_bad}
 use Rattle.lexical_grammar.proofs.StringSound.{begins-is}
 
@@ -127,8 +127,7 @@ block-other text i f h g =
 
 -- bad strings
 pub bad-quiet : (b : ℕ) (bs : List ℕ) → is_byte2 34 92 b ≡ false → read_bad (b ∷ bs) ≡ option_map suc (read_bad bs)
-bad-quiet b [] h = refl
-bad-quiet b (c ∷ bs) h = let q = or_parts (eqb b 34) (eqb b 92) h in let quote = q.0 in let slash = q.1 in rw (quote, slash) (ap Some (omega arith))
+bad-quiet b bs h = let q = or_parts (eqb b 34) (eqb b 92) h in let quote = q.0 in let slash = q.1 in rw (quote, slash) (ap Some (omega arith))
 
 all-bad : (text : List ℕ) → ((k : ℕ) → k < length text → is_byte2 34 92 (slice_index text k) ≡ true → ⊥) → read_bad text ≡ Some (length text)
 all-bad [] none = refl
@@ -143,18 +142,24 @@ bad-run text i f = run-of read_bad (is_byte2 34 92) bad-quiet i text (omega (ari
 
 at-quote : (tail : List ℕ) → 0 < length tail → eqb (slice_index tail 0) 34 ≡ true → read_bad tail ≡ Some 1
 at-quote [] some h = absurd (omega arith)
-at-quote (b ∷ []) some h = refl
-at-quote (b ∷ c ∷ bs) some h = rw h refl
+at-quote (b ∷ bs) some h = rw h refl
 
-at-slash : (tail : List ℕ) → 1 < length tail → eqb (slice_index tail 0) 92 ≡ true → read_bad tail ≡ longer 2 (read_bad (drop 2 tail))
-at-slash [] some h = absurd (omega arith)
-at-slash (b ∷ []) some h = absurd (omega arith)
-at-slash (b ∷ c ∷ bs) some h = let is = eqb-true b 92 h in rw is (ap Some (omega arith))
+-- what is taken along is passed
+taken-along : (n : ℕ) (bs : List ℕ) → n ≤ length bs → bad_string_len n bs ≡ n + bad_string_len 0 (drop n bs)
+taken-along zero bs le = let same : bad_string_len 0 (drop 0 bs) ≡ bad_string_len 0 bs = refl in omega (arith, same)
+taken-along (suc n) [] le = absurd (omega arith)
+taken-along (suc n) (b ∷ bs) le = let more = taken-along n bs (omega arith) in omega (arith, more)
 
-at_end : (tail : List ℕ) → length tail ≡ 1 → read_bad tail ≡ Some 1
-at_end [] e = absurd (omega arith)
-at_end (b ∷ []) e = refl
-at_end (b ∷ c ∷ bs) e = absurd (omega arith)
+at-slash : (tail : List ℕ) (n : ℕ) → eqb (slice_index tail 0) 92 ≡ true → n ≡ bad_escape_len tail → 0 < n → n ≤ length tail → read_bad tail ≡ longer n (read_bad (drop n tail))
+at-slash [] n h e some le = absurd (omega arith)
+at-slash (b ∷ bs) zero h e some le = absurd (omega arith)
+at-slash (b ∷ bs) (suc n) h e some le =
+    let len : bad_escape_len (b ∷ bs) ≡ suc n = sym e in
+    let quote : eqb b 34 ≡ false = ne_eqb b 34 (λ z. omega (arith, eqb-true b 92 h)) in
+    let step : read_bad (b ∷ bs) ≡ Some (1 + bad_string_len (suc n - 1) bs) = rw (len, quote, h) refl in
+    let less : suc n - 1 ≡ n = omega arith in
+    let more = taken-along n bs (omega arith) in
+    step ∙ ap (λ m. Some (1 + bad_string_len m bs)) less ∙ ap Some (omega (arith, more))
 
 byte-at : (text : List ℕ) (i : ℕ) → slice_index (drop i text) 0 ≡ slice_index text i
 byte-at text i = get_or-drop i text 0 0 ∙ ap (slice_index text) (omega arith)
@@ -164,25 +169,24 @@ bad-quote text i f h =
     let le : i < length text = f.0.high in
     (omega arith, bad-run text i f ∙ ap (longer i) (at-quote (drop i text) (omega (arith, length-drop i text)) (ap (λ b. eqb b 34) (byte-at text i) ∙ h)))
 
-pub bad-end : (text : List ℕ) (i : ℕ) → FirstAt (is_byte2 34 92) text i → length text ≤ i + 1 → (length text ≤ length text) × (read_bad text ≡ Some (length text))
-bad-end text i f short =
-    let le : i < length text = f.0.high in
-    (omega arith, bad-run text i f ∙ ap (longer i) (at_end (drop i text) (omega (arith, length-drop i text))) ∙ ap Some (omega arith))
-
 slash-of : (text : List ℕ) (i : ℕ) → FirstAt (is_byte2 34 92) text i → eqb (slice_index text i) 34 ≡ false → eqb (slice_index text i) 92 ≡ true
 slash-of text i f other = elim (or_cases (eqb (slice_index text i) 34) (eqb (slice_index text i) 92) f.1) [
   | inl is ↦ absurd (both_ways _ other is)
   | inr is ↦ is
 ]
 
-pub bad-slash : (text : List ℕ) (i : ℕ) → FirstAt (is_byte2 34 92) text i → eqb (slice_index text i) 34 ≡ false → i + 1 < length text
-    → (0 < i + 2) × (i + 2 ≤ length text) × (read_bad text ≡ longer (i + 2) (read_bad (drop (i + 2) text)))
-bad-slash text i f other more = (
-  omega arith,
-  omega arith,
-  behind read_bad text i 2 (bad-run text i f)
-      (at-slash (drop i text) (omega (arith, length-drop i text)) (ap (λ b. eqb b 92) (byte-at text i) ∙ slash-of text i f other)),
-)
+pub bad-slash : (text : List ℕ) (i n : ℕ) → FirstAt (is_byte2 34 92) text i → eqb (slice_index text i) 34 ≡ false
+    → n ≡ bad_escape_len (take (length text - i) (drop i text)) → 0 < n → n ≤ length (take (length text - i) (drop i text))
+    → (0 < i + n) × (i + n ≤ length text) × (read_bad text ≡ longer (i + n) (read_bad (drop (i + n) text)))
+bad-slash text i n f other e some within =
+    let le : i < length text = f.0.high in
+    let rest = slice-rest text i in
+    let fits : n ≤ length (drop i text) = subst (λ (l : List ℕ). n ≤ length l) rest within in (
+      omega arith,
+      omega (arith, fits, length-drop i text),
+      behind read_bad text i n (bad-run text i f)
+          (at-slash (drop i text) n (ap (λ b. eqb b 92) (byte-at text i) ∙ slash-of text i f other) (e ∙ ap bad_escape_len rest) some fits),
+    )
 
 -- quoted strings: a search for quotes and backslashes, and one for line terminators before them
 abbrev pub is_special : ℕ → Bool

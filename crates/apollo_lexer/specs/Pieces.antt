@@ -12,4 +12,4 @@ IsPiece read rest (Inner n) = (0 < n) × (n ≤ length rest) × (read rest ≡ o
 
 -- a bad string has an end
 abbrev pub read_bad : List ℕ → Option ℕ
-read_bad text = Some (bad_string_len text)
+read_bad text = Some (bad_string_len 0 text)

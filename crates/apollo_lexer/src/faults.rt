@@ -2,7 +2,7 @@
 ghost use Rattle.std.specs.Prelude.{◌≡◌, ◌≤◌, ◌<◌, IfOk, IfSome, length, slice_index, string_bytes};
 ghost use Rattle.apollo_lexer.specs.Faults.{words, fault_message, number_fault, IsFaultMessage};
 
-use crate::escapes::escape_len;
+use crate::escapes::{bad_escape_len, begins_with_lead, escape_len};
 use crate::numbers::number_len;
 use lexical_grammar::{NumberState, hex_digits_len};
 use memchr::memchr2;
@@ -56,6 +56,20 @@ fn number_fault(state: NumberState, next: Option<u8>) -> LexFault
     }
 }
 
+// What is wrong with an escape of four hex digits at the front, after its `\u`.
+fn fixed_fault(rest: &[u8]) -> LexFault
+    requires { 2 ≤ length rest.now }
+{
+    let n = hex_digits_len(&rest[2..]);
+    if n >= 4 {
+        return LexFault::UnpairedSurrogate;
+    }
+    match rest.get(2 + n) {
+        Some(b'"') => LexFault::IncompleteEscape,
+        _ => LexFault::InvalidEscape,
+    }
+}
+
 // What is wrong with what a backslash at the front begins, which is no string character.
 fn escape_fault(rest: &[u8]) -> LexFault {
     if rest.starts_with(b"\\u{") {
@@ -69,14 +83,10 @@ fn escape_fault(rest: &[u8]) -> LexFault {
     if !rest.starts_with(b"\\u") {
         return LexFault::EscapedCharacter;
     }
-    let n = hex_digits_len(&rest[2..]);
-    if n >= 4 {
-        return LexFault::UnpairedSurrogate;
+    if begins_with_lead(rest) && rest[6..].starts_with(b"\\u") {
+        return fixed_fault(&rest[6..]);
     }
-    match rest.get(2 + n) {
-        Some(b'"') => LexFault::IncompleteEscape,
-        _ => LexFault::InvalidEscape,
-    }
+    fixed_fault(rest)
 }
 
 // A piece of a bad string: its bytes, whether it ends the string, and its last fault.
@@ -87,7 +97,7 @@ struct Part {
     fault: Option<LexFault>,
 }
 
-// The characters up to a quote or a backslash, and that one or its escape.
+// The characters up to a quote or a backslash, and that one and what it takes along.
 fn first_part(rest: &[u8]) -> Option<Part>
     ensures { IfSome result (λ p. (0 < p.len) × (p.len ≤ length rest.now)) }
 {
@@ -108,18 +118,16 @@ fn first_part(rest: &[u8]) -> Option<Part>
                 });
             }
             let tail = &rest[i..];
-            let n = escape_len(tail);
-            if n > 0 {
-                return Some(Part {
-                    len: i + n,
-                    is_last: false,
-                    fault,
-                });
-            }
+            let n = bad_escape_len(tail);
+            let is_good = escape_len(tail) > 0;
             Some(Part {
-                len: i + tail.len().min(2),
+                len: i + n,
                 is_last: false,
-                fault: Some(escape_fault(tail)),
+                fault: if is_good {
+                    fault
+                } else {
+                    Some(escape_fault(tail))
+                },
             })
         }
     }

@@ -8,7 +8,7 @@ ghost use Rattle.std.specs.Prelude.{◌≡◌, ◌<◌, ◌≤◌, IfSome, Some,
 ghost use Rattle.lexical_grammar.specs.Reads.{block_len, quoted_len, string_at};
 ghost use Rattle.apollo_lexer.specs.Pieces.{IsPiece, read_bad};
 
-use crate::escapes::escape_len;
+use crate::escapes::{bad_escape_len, escape_len};
 use lexical_grammar::TokenKind;
 use memchr::memchr2;
 
@@ -91,7 +91,7 @@ fn quoted_len(bytes: &[u8]) -> Option<usize>
     }
 }
 
-// In a bad string: the bytes up to a quote or a backslash, and that one and the byte that it escapes.
+// In a bad string: the bytes up to a quote or a backslash, and that one and what it takes along.
 fn bad_piece(rest: &[u8]) -> Piece
     ensures { IsPiece read_bad rest.now result }
 {
@@ -100,16 +100,15 @@ fn bad_piece(rest: &[u8]) -> Piece
         Some(i) => {
             if rest[i] == b'"' {
                 Piece::Last(i + 1)
-            } else if i + 1 < rest.len() {
-                Piece::Inner(i + 2)
             } else {
-                Piece::Last(rest.len())
+                let n = bad_escape_len(&rest[i..]);
+                Piece::Inner(i + n)
             }
         }
     }
 }
 
-/// How far a bad string goes after its opening quote, in bytes: to the next quote that no backslash escapes, or to the end of the text.
+/// How far a bad string goes after its opening quote, in bytes: to the next quote that no backslash takes along, or to the end of the text.
 pub fn bad_string_len(bytes: &[u8]) -> usize
     ensures value { Some result ≡ read_bad bytes.now }
     ensures within { result ≤ length bytes.now }

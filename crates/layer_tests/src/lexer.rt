@@ -236,6 +236,14 @@ fn strings_numbers_and_spreads(rt: HostRuntime) -> Result<(), Fail> {
             "\"\\uD83D\"",
             "ERROR@0:8 \"unpaired surrogate in unicode escape sequence\" \"\\uD83D\"\nEOF@8:8\n",
         ),
+        (
+            "\"\\u\\\"\" x",
+            "ERROR@0:5 \"invalid unicode escape sequence\" \"\\u\\\"\nERROR@5:8 \"unterminated string value\" \" x\nEOF@8:8\n",
+        ),
+        (
+            "\"\\uD83D\\\"\" x",
+            "ERROR@0:10 \"unpaired surrogate in unicode escape sequence\" \"\\uD83D\\\"\"\nWHITESPACE@10:11 \" \"\nNAME@11:12 \"x\"\nEOF@12:12\n",
+        ),
     ];
     for (source, lines) in rows {
         let text = printed(rt.alloc(), Lexer::new(source))?;

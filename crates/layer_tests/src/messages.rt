@@ -36,6 +36,13 @@ fn first_messages(rt: HostRuntime) -> Result<(), Fail> {
         ),
         ("\"\\q\n\"", "unexpected line terminator"),
         ("\"\n\\q\"", "unexpected escaped character"),
+        ("\"\\uD83\\uDCA9\"", "invalid unicode escape sequence"),
+        (
+            "\"\\uD83D\\q\"",
+            "unpaired surrogate in unicode escape sequence",
+        ),
+        ("\"\\uD83D\\u12\"", "incomplete unicode escape sequence"),
+        ("\"\\u12\n\"", "invalid unicode escape sequence"),
     ] {
         let mut lexer = Lexer::new(text);
         let error = lexer.next().ok_or("an item")?.err().ok_or("bad text")?;

@@ -38,8 +38,8 @@ pub fn hex_digits_len(bytes: &[u8]) -> usize
     bytes.iter().take_while(|b| b.is_ascii_hexdigit()).count()
 }
 
-// The number of `\u` and four hex digits at the front.
-fn fixed_value(bytes: &[u8]) -> Option<u32>
+/// The number of `\u` and four hex digits at the front.
+pub fn fixed_value(bytes: &[u8]) -> Option<u32>
     ensures value { IsFixedValue bytes.now result }
     ensures within { IfSome result (λ v. 6 ≤ length bytes.now) }
 {
