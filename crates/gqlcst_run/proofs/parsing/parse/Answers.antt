@@ -4,11 +4,13 @@ use Rattle.gqlcst_run.proofs.parsing.parse.Goals as goal
 
 pub returns : goal.returns
 returns g c =
-    let parsed = rw (c.parser.ensures.source, c.parser.ensures.recursion, c.parser.ensures.tokens) at c.in_ok-tree.ensures in
+    let source = c.parser.ensures.source in
+    let parsed = c.in_ok-tree.ensures in
+    let sound = rw (source, c.parser.ensures.recursion, c.parser.ensures.tokens) at parsed.sound in
     record {
-      cut = parsed.cut;
-      reported = parsed.errors;
-      ascii = parsed.ascii;
-      accepted = λ none. record { tree = _; sentence = (parsed.sound none).0; within = (parsed.sound none).1 };
+      cut = rw source at parsed.cut;
+      reported = rw (source, c.parser.ensures.tokens) at parsed.errors;
+      ascii = rw source at parsed.ascii;
+      accepted = λ none. record { tree = _; sentence = (sound none).0; within = (sound none).1 };
       counted = c.outcome_of-outcome.ensures ∙ ap outcome_of (c.len.ensures.value ∙ ap length c.errors.ensures);
     }
