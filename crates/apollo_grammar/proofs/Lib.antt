@@ -1,7 +1,1 @@
-pub mod Reading
-pub mod Building
-pub mod Parses
-pub mod Keywords
-pub mod Leaves
 pub mod Looks
-pub mod Errors

@@ -7,7 +7,7 @@ use Rattle.parser_rules.specs.State.{State, is_at, is_over, is_deep}
 use Rattle.parser_rules.specs.RuleLanguage.{Kind, Or, Here, At, Ready, holds}
 use Rattle.parser_rules.specs.Rules.{has_item}
 use Rattle.parser_rules.proofs.runs.Running.{nesting}
-use Rattle.apollo_grammar.specs.View.{current_of}
+use Rattle.parser_state.specs.View.{current_of}
 
 -- a token that a look finds is the next one
 pub some-shown : (o : Option Token) → is_some o ≡ is_some (current_of o)

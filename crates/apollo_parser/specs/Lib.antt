@@ -1,4 +1,7 @@
--- What the clauses of its calls cite.
+-- What a parse promises, and what the clauses of this crate's calls cite.
+pub mod Promise
+pub mod Roots
+pub mod ByRules
 pub use Rattle.lexical_grammar.specs.Tokens
 pub use Rattle.lexical_grammar.specs.Cut
 pub use Rattle.lexical_grammar.specs.Reads
@@ -34,6 +37,4 @@ pub use Rattle.apollo_cst_exec.specs.Selection
 pub use Rattle.apollo_cst_document.specs.Definition
 pub use Rattle.apollo_cst_document.specs.DefinitionQueries
 pub use Rattle.apollo_cst_document.specs.Locations
-pub use Rattle.parser_rules.specs.Leaves
-pub use Rattle.apollo_grammar.specs.Parsed
-pub use Rattle.apollo_grammar.specs.Errors
+pub use Rattle.document_grammar.specs.Leaves

@@ -2,8 +2,9 @@
 #![tactic(auto)]
 
 pub mod cst;
+mod parser;
+mod syntax_tree;
 
-pub use apollo_grammar::{DocumentRoot, Parser, SyntaxTree};
 pub use apollo_lexer::{Error, LexError, Lexer, LimitTracker, Steps, Token};
 pub use apollo_tree::{
     Subtree, SyntaxElement, SyntaxElementChildren, SyntaxNode, SyntaxNodeChildren, SyntaxToken,
@@ -11,6 +12,5 @@ pub use apollo_tree::{
 };
 pub use document_grammar::SyntaxKind;
 pub use lexical_grammar::TokenKind;
-
-#[cfg(test)]
-mod tests;
+pub use parser::Parser;
+pub use syntax_tree::{DocumentRoot, Root, SyntaxTree};

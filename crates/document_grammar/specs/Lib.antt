@@ -14,3 +14,4 @@ pub mod Numbered
 pub mod Booleans
 pub mod FirstError
 pub mod Recovery
+pub mod Leaves

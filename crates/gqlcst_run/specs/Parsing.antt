@@ -7,7 +7,7 @@ use Rattle.apollo_parser.specs.Tree.{Tree}
 use Rattle.apollo_parser.specs.Derivation.{document}
 use Rattle.apollo_parser.specs.Sentence.{Sentence, Within}
 use Rattle.apollo_parser.specs.Diagnostics.{Diagnostic}
-use Rattle.apollo_parser.specs.Errors.{ErrorsOf}
+use Rattle.apollo_parser.specs.Promise.{ErrorsOf}
 use Rattle.gqlcst_run.specs.declared.command.Limits.{Limits}
 use Rattle.gqlcst_run.specs.declared.outcome.Outcome.{Outcome}
 use Rattle.gqlcst_run.specs.declared.outcome.Outcome.TheVariants.{Clean, Errors}
@@ -23,11 +23,12 @@ pub record IsAccepted (limits : Limits) (text : List ℕ) : Type 0 where
   pub sentence : Sentence text tree document
   pub within : Within text tree limits.recursion limits.tokens
 
--- These errors are found in the text, and so the outcome. They go along its items, and without one it is a sentence within both limits.
--- For an ASCII text their printed forms are stated.
+-- These errors are found in the text, and so the outcome. They go along its items, and there are none exactly where the text is a sentence
+-- within both limits. For an ASCII text their printed forms are stated.
 pub record IsFound (limits : Limits) (text : List ℕ) (errors : List Diagnostic) (outcome : Outcome) : Type 0 where
   pub cut : Cut text (items_of text)
   pub reported : ErrorsOf (limited limits.tokens (items_of text)) errors
   pub ascii : IsAscii text → All (λ error. IsAscii error.message) errors
   pub accepted : errors ≡ [] → IsAccepted limits text
+  pub accepts : IsAccepted limits text → errors ≡ []
   pub counted : outcome ≡ outcome_of (length errors)

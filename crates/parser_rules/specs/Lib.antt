@@ -5,5 +5,4 @@ pub mod RuleLanguage
 pub mod Rules
 pub mod Runs
 pub mod Open
-pub mod Leaves
 pub mod Reports

@@ -12,6 +12,8 @@ use Rattle.document_grammar.specs.Kinds.{words}
 use Rattle.document_grammar.specs.Numbers.{number}
 use Rattle.grammar_machine.specs.Machine.{word_class}
 use Rattle.document_grammar.specs.Forests.{Forest}
+-- an ignored token or bad text waits for the next leaf, as the leaf that it becomes
+pub use Rattle.document_grammar.specs.Leaves.{Leaf as PendingToken, ignored}
 use Rattle.document_grammar.specs.Builds.{Building, nothing, start, add_leaf, finish, wrap}
 use Rattle.parser_rules.specs.declared.message.Message.{Message}
 pub use Rattle.parser_rules.specs.Messages.{Text, Found, at_text, at_end, at_limit}
@@ -22,11 +24,6 @@ pub record Lexeme : Type 0 where
   pub kind : TokenKind
   pub text : Text
   pub index : ℕ
-
--- an ignored token or bad text, which waits for the next leaf
-pub record PendingToken : Type 0 where
-  pub kind : SyntaxKind
-  pub text : Text
 
 -- what is found wrong, the byte where it begins, and the report's message; the lexer words bad text and the token limit itself
 pub record Report : Type 0 where
@@ -77,13 +74,6 @@ same_kind = sameb the_type
 abbrev pub IsNow : Option Lexeme → Type 0
 IsNow None = ⊤
 IsNow (Some t) = IsTokenText t.kind t.text
-
--- the leaf that an ignored token becomes
-abbrev pub ignored : TokenKind → Option SyntaxKind
-ignored token.Whitespace = Some kind.WHITESPACE
-ignored token.Comment = Some kind.COMMENT
-ignored token.Comma = Some kind.COMMA
-ignored _ = None
 
 -- ---- reading
 

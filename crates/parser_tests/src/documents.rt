@@ -1,5 +1,6 @@
 mod descriptions;
 mod executable;
+mod limits;
 mod type_system;
 
 use apollo_parser::{DocumentRoot, Parser, SyntaxTree};

@@ -3,3 +3,5 @@
 
 #[cfg(test)]
 mod documents;
+#[cfg(test)]
+mod typed;

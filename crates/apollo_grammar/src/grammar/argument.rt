@@ -10,7 +10,7 @@ ghost use Rattle.parser_rules.specs.Runs.{Runs};
 use super::description::{starts_named, want_named};
 use super::input::input_value_definition;
 use super::value::value;
-use crate::state::ParserState;
+use parser_state::ParserState;
 use document_grammar::SyntaxKind;
 use lexical_grammar::TokenKind;
 use parser_rules::{Constness, Message};

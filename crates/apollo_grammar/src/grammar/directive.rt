@@ -5,14 +5,14 @@ ghost use Rattle.std.specs.Prelude.{◌≡◌, true, OnOk};
 ghost use Rattle.parser_rules.specs.Nodes as rule;
 ghost use Rattle.parser_rules.specs.Rules as rules;
 ghost use Rattle.parser_rules.specs.declared.message.Message.TheVariants as message;
-ghost use Rattle.apollo_grammar.specs.View.{current_of};
+ghost use Rattle.parser_state.specs.View.{current_of};
 ghost use Rattle.parser_rules.specs.RuleLanguage.{Here, fits, holds, Note, Do, Child, Call};
 ghost use Rattle.parser_rules.specs.Runs.{Runs};
 
 use super::argument::{arguments, maybe_arguments_definition};
 use super::description::described;
 use super::name::name;
-use crate::state::{ParserState, is_word};
+use parser_state::{ParserState, is_word};
 use apollo_lexer::Token;
 use document_grammar::SyntaxKind;
 use lexical_grammar::TokenKind;

@@ -6,7 +6,7 @@ ghost use Rattle.parser_rules.specs.Nodes as rule;
 ghost use Rattle.parser_rules.specs.Rules as rules;
 ghost use Rattle.parser_rules.specs.RuleLanguage.{fits, Here, Next, holds, Call};
 ghost use Rattle.parser_rules.specs.Runs.{Runs};
-ghost use Rattle.apollo_grammar.specs.View.{current_of};
+ghost use Rattle.parser_state.specs.View.{current_of};
 
 use super::directive::directive_definition;
 use super::enum_::enum_type_definition;
@@ -19,7 +19,7 @@ use super::operation::{operation_definition, query_shorthand};
 use super::scalar::scalar_type_definition;
 use super::schema::schema_definition;
 use super::union_::union_type_definition;
-use crate::state::{ParserState, is_kind, is_word};
+use parser_state::{ParserState, is_kind, is_word};
 use apollo_lexer::Token;
 use document_grammar::SyntaxKind;
 use lexical_grammar::TokenKind;

@@ -7,7 +7,7 @@ ghost use Rattle.parser_rules.specs.Nodes as rule;
 ghost use Rattle.parser_rules.specs.Rules as rules;
 ghost use Rattle.parser_rules.specs.RuleLanguage.{Here, At, Word, fits, holds, Child, Call, When, Do, Bump, Skip};
 ghost use Rattle.parser_rules.specs.Runs.{Runs};
-ghost use Rattle.apollo_grammar.specs.View.{current_of};
+ghost use Rattle.parser_state.specs.View.{current_of};
 
 use super::enum_::enum_type_extension;
 use super::input::input_object_type_extension;
@@ -16,7 +16,7 @@ use super::object::object_type_extension;
 use super::scalar::scalar_type_extension;
 use super::schema::schema_extension;
 use super::union_::union_type_extension;
-use crate::state::{ParserState, is_word};
+use parser_state::{ParserState, is_word};
 use document_grammar::SyntaxKind;
 use lexical_grammar::TokenKind;
 use parser_rules::{Constness, Message};

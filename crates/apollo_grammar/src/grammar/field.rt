@@ -14,7 +14,7 @@ use super::directive::directives;
 use super::name::{aliased_name, name};
 use super::selection::selection_set;
 use super::ty::{starts_type, ty};
-use crate::state::ParserState;
+use parser_state::ParserState;
 use document_grammar::SyntaxKind;
 use lexical_grammar::TokenKind;
 use parser_rules::{Constness, Message};

@@ -11,7 +11,7 @@ use super::description::described;
 use super::directive::directives;
 use super::selection::selection_set;
 use super::ty::named_type;
-use crate::state::ParserState;
+use parser_state::ParserState;
 use document_grammar::SyntaxKind;
 use lexical_grammar::TokenKind;
 use parser_rules::{Constness, Message};

@@ -7,13 +7,13 @@ ghost use Rattle.parser_rules.specs.Nodes as rule;
 ghost use Rattle.parser_rules.specs.Rules as rules;
 ghost use Rattle.parser_rules.specs.RuleLanguage.{Here, At, Word, fits, holds, Child, Call, When, Do, Bump, Skip};
 ghost use Rattle.parser_rules.specs.Runs.{Runs};
-ghost use Rattle.apollo_grammar.specs.View.{current_of};
+ghost use Rattle.parser_state.specs.View.{current_of};
 
 use super::description::{described, maybe_description, starts_named, want_named};
 use super::directive::directives;
 use super::name::name;
 use super::variable::variable_type;
-use crate::state::ParserState;
+use parser_state::ParserState;
 use document_grammar::SyntaxKind;
 use lexical_grammar::TokenKind;
 use parser_rules::{Constness, Message};

@@ -7,7 +7,7 @@ ghost use Rattle.parser_rules.specs.Nodes as rule;
 ghost use Rattle.parser_rules.specs.RuleLanguage.{At, holds, Child, Call};
 ghost use Rattle.parser_rules.specs.Runs.{Runs};
 
-use crate::state::ParserState;
+use parser_state::ParserState;
 use document_grammar::SyntaxKind;
 use lexical_grammar::TokenKind;
 use parser_rules::Message;

@@ -13,7 +13,7 @@ use super::directive::directives;
 use super::name::maybe_name;
 use super::selection::selection_set;
 use super::variable::variable_definitions;
-use crate::state::ParserState;
+use parser_state::ParserState;
 use document_grammar::SyntaxKind;
 use lexical_grammar::TokenKind;
 use parser_rules::{Constness, Message};

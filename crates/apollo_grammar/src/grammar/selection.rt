@@ -8,11 +8,11 @@ ghost use Rattle.parser_rules.specs.Rules as rules;
 ghost use Rattle.parser_rules.specs.declared.message.Message.TheVariants as message;
 ghost use Rattle.parser_rules.specs.RuleLanguage.{fits, Here, At, holds, want, Child, Call};
 ghost use Rattle.parser_rules.specs.Runs.{Runs};
-ghost use Rattle.apollo_grammar.specs.View.{current_of};
+ghost use Rattle.parser_state.specs.View.{current_of};
 
 use super::field::field;
 use super::fragment;
-use crate::state::{ParserState, is_kind, is_word};
+use parser_state::{ParserState, is_kind, is_word};
 use apollo_lexer::Token;
 use document_grammar::SyntaxKind;
 use lexical_grammar::TokenKind;

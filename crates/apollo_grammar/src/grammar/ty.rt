@@ -9,7 +9,7 @@ ghost use Rattle.parser_rules.specs.RuleLanguage.{Here, At, holds, Child, Call};
 ghost use Rattle.parser_rules.specs.Runs.{Runs};
 
 use super::name::name;
-use crate::state::ParserState;
+use parser_state::ParserState;
 use document_grammar::SyntaxKind;
 use lexical_grammar::TokenKind;
 use parser_rules::Message;

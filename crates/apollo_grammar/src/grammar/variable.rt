@@ -13,7 +13,7 @@ use super::directive::directives;
 use super::name::name;
 use super::ty::{starts_type, ty};
 use super::value::default_value;
-use crate::state::ParserState;
+use parser_state::ParserState;
 use document_grammar::SyntaxKind;
 use lexical_grammar::TokenKind;
 use parser_rules::{Constness, Message};

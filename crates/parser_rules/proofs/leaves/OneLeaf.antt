@@ -26,7 +26,7 @@ use Rattle.grammar_machine.proofs.Sound.{any, leaf-lt, leaf-ok, leaf-token}
 use Rattle.grammar_machine.proofs.Steps.{hits-fires}
 use Rattle.parser_rules.specs.State.{State, Text, Lexeme, PendingToken, ignored, second, add_all, flush, opened, closed, wrapped_from, moved, is_over, enter, leave, fresh, begun, finished}
 use Rattle.parser_rules.specs.Open.{IsRoot}
-use Rattle.parser_rules.specs.Leaves.{leaves, IsLeafOf, IsLeafOfToken, OneLeafAnItem, nothing, one, the_end, the_limit}
+use Rattle.document_grammar.specs.Leaves.{leaves, IsLeafOf, IsLeafOfToken, OneLeafAnItem, nothing, one, the_end, the_limit}
 use Rattle.parser_rules.specs.Nodes as rule
 use Rattle.parser_rules.specs.Nodes.{kind_of}
 use Rattle.parser_rules.specs.RuleLanguage.{Ready, holds, Prim, Rule, Do, Seq, When, While, Call}

@@ -18,7 +18,7 @@ use Rattle.document_grammar.specs.Sentence.{token_of}
 use Rattle.document_grammar.specs.FirstError.{tokens_of, EndedFit, AllEndedFit, EndedNodesFit}
 use Rattle.document_grammar.proofs.Shown.{index-at, item-then, not-the-end, significant-some, tokens-append, earlier, tokens-before}
 use Rattle.parser_rules.specs.State.{PendingToken, Report}
-use Rattle.parser_rules.specs.Leaves.{leaves, IsLeafOf, OneLeafAnItem, nothing, one, the_end, the_limit}
+use Rattle.document_grammar.specs.Leaves.{leaves, IsLeafOf, OneLeafAnItem, nothing, one, the_end, the_limit}
 use Rattle.parser_rules.proofs.leaves.OneLeaf.{joined, joined-append, text-leaves}
 use Rattle.parser_rules.proofs.soundness.Settled as counted
 use Rattle.parser_rules.proofs.soundness.OverTexts.{IsRight}

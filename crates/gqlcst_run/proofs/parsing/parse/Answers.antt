@@ -7,10 +7,12 @@ returns g c =
     let source = c.parser.ensures.source in
     let parsed = c.in_ok-tree.ensures in
     let sound = rw (source, c.parser.ensures.recursion, c.parser.ensures.tokens) at parsed.sound in
+    let accepts = rw (source, c.parser.ensures.recursion, c.parser.ensures.tokens) at parsed.accepts in
     record {
       cut = rw source at parsed.cut;
       reported = rw (source, c.parser.ensures.tokens) at parsed.errors;
       ascii = rw source at parsed.ascii;
       accepted = λ none. record { tree = _; sentence = (sound none).0; within = (sound none).1 };
+      accepts = λ a. accepts a.tree a.sentence a.within;
       counted = c.outcome_of-outcome.ensures ∙ ap outcome_of (c.len.ensures.value ∙ ap length c.errors.ensures);
     }

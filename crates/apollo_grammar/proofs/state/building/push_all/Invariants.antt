@@ -1,7 +1,0 @@
-use Rattle.std.proofs.Common.{◌≡◌, map, drop}
-use Rattle.parser_rules.specs.State.{add_all}
-use Rattle.apollo_grammar.specs.View.{pending_of}
-use Rattle.apollo_grammar.proofs.state.building.push_all.Given as goal
-
-abbrev pub invariant-loop-token : goal.invariant-loop-token
-invariant-loop-token g l = add_all (map pending_of l.pending) l.initial.builder ≡ add_all (map pending_of (drop l.token-index l.pending)) l.builder

@@ -1,5 +1,0 @@
-use Rattle.std.proofs.Common.{◌≡◌, take}
-use Rattle.apollo_grammar.proofs.syntax_tree.SyntaxTree.try_clone.Given as goal
-
-abbrev pub invariant-loop-error : goal.invariant-loop-error
-invariant-loop-error g l = l.errors.items ≡ take l.error-index l.self.errors

@@ -1,0 +1,259 @@
+-- What the errors of a parse are, by the reports that they say.
+use Rattle.std.proofs.Common.{◌≡◌, ℕ, zero, suc, Bool, true, false, ◌&&◌, ◌||◌, if◌then◌else◌, eqb, List, [], ◌∷◌, ◌++◌, length, map, take, get_or, ◌+◌, ◌<◌, ◌⊎◌, add-one, arith, Option, Some, None, refl, sym, ◌∙◌, ap, ap₂, subst, inl, inr, true≢false}
+use Rattle.std.specs.Prelude.{codes, is_some, IsAscii, ⊤}
+use Rattle.std.specs.List.{AllZip, Any, All, list_all, list_any}
+use Rattle.std.specs.Char.{is_ascii}
+use Rattle.std.proofs.lemmas.Str.{IsAscii-append, IsAscii-take, IsAscii-drop}
+use Rattle.std.proofs.lemmas.List.{map-append}
+use Rattle.std.proofs.lemmas.List.Elements.{All-nil, All-cons}
+use Rattle.std.proofs.lemmas.Slice.Zip.{all_zipped_more}
+use Rattle.std.proofs.Math.Seq.{take-append_seam, drop-append_seam, take-suc}
+use Rattle.lexical_grammar.specs.Answers.{Answer, gives, limit_at, limited, is_end}
+use Rattle.lexical_grammar.specs.Cut.{Item, texts}
+use Rattle.document_grammar.specs.Booleans.{◌and◌}
+use Rattle.document_grammar.proofs.Booleans.{either}
+use Rattle.std.proofs.lemmas.Bool.{eqb-true}
+use Rattle.apollo_lexer.specs.Diagnostics.{Subject, Diagnostic, of_text, of_end, of_limit}
+use Rattle.apollo_lexer.specs.Told.{limit_message}
+use Rattle.apollo_lexer.proofs.Messages.{ascii-text, fault-ascii, begins_fault, no-fault-message}
+use Rattle.grammar_machine.specs.Machine.{text_eq}
+use Rattle.parser_rules.specs.declared.message.Message.{Message}
+use Rattle.parser_rules.specs.declared.message.Message.TheVariants as message
+use Rattle.parser_rules.specs.Messages.{Text, Found, at_text, at_end, at_limit, is_limit, description, names_found, found_text, message_text, recursion_limit_message}
+use Rattle.parser_rules.specs.State.{Report, Lexeme, bad_report, token_limit_report, recursion_limit_report, fault_report, found_at, lexeme}
+use Rattle.parser_rules.specs.Reports.{Reported, no_more, bad_text, token_limit, fault, recursion_limit, passed, is_recursion_limit}
+use Rattle.parser_rules.proofs.reports.Endings.{limited-none}
+use Rattle.apollo_parser.specs.Promise.{IsTokenLimit, IsRecursionLimit, IsLimitMessage, IsLimitWorded, subject_at, ErrorsAlong}
+use Rattle.apollo_parser.specs.Promise as promise
+use Rattle.parser_state.specs.Errors.{found_of, IsWorded, IsErrorOf}
+
+pub same-indices : (rs : List Report) (ds : List Diagnostic) → AllZip IsErrorOf rs ds → map (λ (d : Diagnostic). d.index) ds ≡ map (λ (r : Report). r.index) rs
+same-indices [] [] h = refl
+same-indices [] (d ∷ ds) h = absurd h
+same-indices (r ∷ rs) [] h = absurd h
+same-indices (r ∷ rs) (d ∷ ds) h = ap₂ (λ (i : ℕ) (is : List ℕ). i ∷ is) h.0.index (same-indices rs ds h.1)
+
+pub none-said : (rs : List Report) (ds : List Diagnostic) → AllZip IsErrorOf rs ds → ds ≡ [] → rs ≡ []
+none-said [] ds h e = refl
+none-said (r ∷ rs) [] h e = absurd h
+none-said (r ∷ rs) (d ∷ ds) h e = absurd cc
+
+pub none-told : (rs : List Report) (ds : List Diagnostic) → AllZip IsErrorOf rs ds → rs ≡ [] → ds ≡ []
+none-told rs [] h e = refl
+none-told [] (d ∷ ds) h e = absurd h
+none-told (r ∷ rs) (d ∷ ds) h e = absurd cc
+
+-- ---- the recursion limit
+
+-- the lexer's words for a limit are others
+own-words : (found : Found) (said : Option Text) (words : Text) → is_limit found ≡ true → IsWorded found said words → words ≡ recursion_limit_message → is_some said ≡ true
+unfolding ◌and◌
+own-words at_limit None words l h e = absurd (true≢false (ap (λ (t : Text). text_eq t limit_message) (sym h ∙ e)))
+own-words _ (Some said) words l h e = refl
+own-words (at_text text) None words l h e = absurd cc
+own-words at_end None words l h e = absurd cc
+
+recursion-said : (r : Report) (d : Diagnostic) → IsErrorOf r d → IsRecursionLimit d → is_recursion_limit r ≡ true
+recursion-said r d h e =
+    let l : is_limit r.found ≡ true = ap is_limit (sym h.subject ∙ ap found_of e.subject) in
+    ap₂ (λ (a b : Bool). a && b) l (own-words r.found r.message d.message l h.message e.message)
+
+any-cases : {X : Type 0} (P : X → Type 0) (x : X) (xs : List X) → Any P (x ∷ xs) → P x ⊎ Any P xs
+any-cases P x xs (zero, y, l, e, p) = inl (subst P (sym e) p)
+any-cases P x xs (suc k, y, l, e, p) = inr (k, y, omega (arith, l), e, p)
+
+nothing-below : (k : ℕ) → k < 0 → ⊥
+nothing-below k l = omega (arith, l)
+
+pub any-recursion : (rs : List Report) (ds : List Diagnostic) → AllZip IsErrorOf rs ds → Any IsRecursionLimit ds → list_any is_recursion_limit rs ≡ true
+any-recursion [] [] h (k, d, l, e, p) = absurd (nothing-below k l)
+any-recursion [] (d ∷ ds) h e = absurd h
+any-recursion (r ∷ rs) [] h e = absurd h
+any-recursion (r ∷ rs) (d ∷ ds) h e = elim (any-cases IsRecursionLimit d ds e) [
+  | inl a ↦ ap (λ (b : Bool). b || list_any is_recursion_limit rs) (recursion-said r d h.0 a)
+  | inr b ↦ ap (λ (c : Bool). is_recursion_limit r || c) (any-recursion rs ds h.1 b) ∙ either-way (is_recursion_limit r)
+]
+  where
+    either-way : (b : Bool) → b || true ≡ true
+    either-way true = refl
+    either-way false = refl
+
+-- ---- ASCII
+
+description-ascii : (m : Message) → list_all is_ascii (description m) ≡ true
+description-ascii message.UnexpectedEof = refl
+description-ascii _ = refl
+
+message-ascii : (m : Message) (found : Found) → IsAscii (found_text found) → IsAscii (message_text m found)
+message-ascii m found h = elim (names_found m) as (λ b. IsAscii (if b then description m ++ codes ", got " ++ found_text found else description m)) [
+  | true ↦ IsAscii-append (description m ++ codes ", got ") (found_text found) (IsAscii-append (description m) (codes ", got ") (ascii-text (description m) (description-ascii m)) (ascii-text (codes ", got ") refl)) h
+  | false ↦ ascii-text (description m) (description-ascii m)
+]
+
+found-ascii : (x : Lexeme) → IsAscii x.text → IsAscii (found_text (found_at x))
+found-ascii x h = elim (is_end x.kind) as (λ b. IsAscii (found_text (if b then at_end else at_text x.text))) [
+  | true ↦ ascii-text (codes "EOF") refl
+  | false ↦ h
+]
+
+-- what holds of the text of each item
+abbrev pub AllTexts : (Text → Type 0) → List Answer → Type 0
+AllTexts P [] = ⊤
+AllTexts P (gives item ∷ answers) = P item.text × AllTexts P answers
+AllTexts P (limit_at index ∷ answers) = AllTexts P answers
+
+-- What holds of the error of each report that a text can have. `Text_is` is what is known of the items' texts.
+module _ (Text_is : Text → Type 0) (P : Diagnostic → Type 0)
+    (of_bad : (text : Text) (index : ℕ) (d : Diagnostic) → Text_is text → IsErrorOf (bad_report text index) d → P d)
+    (of_tokens : (index : ℕ) (d : Diagnostic) → IsErrorOf (token_limit_report index) d → P d)
+    (of_fault : (m : Message) (x : Lexeme) (d : Diagnostic) → Text_is x.text → IsErrorOf (fault_report m x) d → P d)
+    (of_depth : (x : Lexeme) (d : Diagnostic) → IsErrorOf (recursion_limit_report x) d → P d) where
+  each-error : {taken : Bool} {answers : List Answer} {rs : List Report} (ds : List Diagnostic) → Reported taken answers rs → AllTexts Text_is answers → AllZip IsErrorOf rs ds → All P ds
+  each-error [] h a z = All-nil P
+  each-error (d ∷ ds) no_more a z = absurd z
+  each-error (d ∷ ds) (bad_text {item = item} e h) a z = All-cons P d ds (of_bad item.text item.index d a.0 z.0) (each-error ds h a.1 z.1)
+  each-error (d ∷ ds) (token_limit {index = index} h) a z = All-cons P d ds (of_tokens index d z.0) (each-error ds h a z.1)
+  each-error (d ∷ ds) (fault m {k = k} {item = item} e i h) a z = All-cons P d ds (of_fault m (lexeme k item) d a.0 z.0) (each-error ds h a z.1)
+  each-error (d ∷ ds) (recursion_limit {k = k} {item = item} e i h) a z = All-cons P d ds (of_depth (lexeme k item) d z.0) (each-error ds h a z.1)
+  each-error (d ∷ ds) (passed e h) a z = each-error (d ∷ ds) h a.1 z
+
+abbrev AsciiMessage : Diagnostic → Type 0
+AsciiMessage d = IsAscii d.message
+
+worded-ascii : (text message : Text) → IsAscii text → message ≡ text → IsAscii message
+worded-ascii text message h e = subst IsAscii (sym e) h
+
+pub ascii-messages : {answers : List Answer} {rs : List Report} (ds : List Diagnostic) → Reported true answers rs → AllTexts IsAscii answers → AllZip IsErrorOf rs ds → All AsciiMessage ds
+ascii-messages = each-error IsAscii AsciiMessage
+    (λ text index d h e. fault-ascii text d.message e.message h)
+    (λ index d e. worded-ascii limit_message d.message (ascii-text limit_message refl) e.message)
+    (λ m x d h e. worded-ascii (message_text m (found_at x)) d.message (message-ascii m (found_at x) (found-ascii x h)) e.message)
+    (λ x d e. worded-ascii recursion_limit_message d.message (ascii-text recursion_limit_message refl) e.message)
+
+-- the items of an ASCII text are ASCII
+limited-ascii : (k : ℕ) (items : List Item) → IsAscii (texts items) → AllTexts IsAscii (limited k items)
+limited-ascii k [] h = subst (AllTexts IsAscii) (sym (limited-none k)) tt
+limited-ascii zero (item ∷ items) h = tt
+limited-ascii (suc k) (item ∷ items) h =
+    (subst IsAscii (take-append_seam item.text (texts items)) (IsAscii-take _ (length item.text) h), limited-ascii k items (subst IsAscii (drop-append_seam item.text (texts items)) (IsAscii-drop _ (length item.text) h)))
+
+pub source-ascii : (k : ℕ) (source : Text) (items : List Item) → texts items ≡ source → IsAscii source → AllTexts IsAscii (limited k items)
+source-ascii k source items e h = limited-ascii k items (subst IsAscii (sym e) h)
+
+-- ---- the messages of limits
+
+-- what the two messages begin with: `p` and `t`
+abbrev begins_limit : Text → Bool
+begins_limit [] = false
+begins_limit (c ∷ text) = eqb c 112 || eqb c 116
+
+limit-begins : (message : Text) → IsLimitMessage message → begins_limit message ≡ true
+limit-begins message (inl e) = ap begins_limit e
+limit-begins message (inr e) = ap begins_limit e
+
+-- the grammar's messages begin otherwise
+message-begins : (m : Message) (found : Found) → begins_limit (message_text m found) ≡ false
+message-begins message.UnexpectedEof found = refl
+message-begins _ found = refl
+
+pub subject-limit : (d : Diagnostic) → found_of d.subject ≡ at_limit → d.subject ≡ of_limit
+subject-limit d e = on d.subject e
+  where
+    on : (s : Subject) → found_of s ≡ at_limit → s ≡ of_limit
+    on (of_text text) e = absurd cc
+    on of_end e = absurd cc
+    on of_limit e = refl
+
+-- the report of the token limit has its error
+pub token-limit-told : (n : ℕ) (r : Report) (d : Diagnostic) → r ≡ token_limit_report n → IsErrorOf r d → IsTokenLimit d
+token-limit-told n r d e h = let i : IsErrorOf (token_limit_report n) d = subst (λ (x : Report). IsErrorOf x d) e h in record { subject = subject-limit d i.subject; message = i.message }
+
+-- which is not that of the recursion limit
+pub no-recursion : (n : ℕ) (r : Report) (d : Diagnostic) → r ≡ token_limit_report n → IsErrorOf r d → IsRecursionLimit d → ⊥
+no-recursion n r d e h i = true≢false (sym (recursion-said r d h i) ∙ ap is_recursion_limit e)
+
+-- and the messages for bad text do too
+limit-otherwise : (message : Text) → begins_limit message ≡ true → begins_fault message ≡ false
+limit-otherwise [] h = refl
+limit-otherwise (c ∷ text) h = on c h
+  where
+    on : (c : ℕ) → eqb c 112 || eqb c 116 ≡ true → eqb c 78 || eqb c 85 || eqb c 105 || eqb c 117 ≡ false
+    on c h = elim (either (eqb c 112)) [
+      | inl e ↦ rw (eqb-true c 112 e) refl
+      | inr e ↦ rw (eqb-true c 116 (subst (λ (b : Bool). b || eqb c 116 ≡ true) e h)) refl
+    ]
+
+-- an error about something else, with another message
+other-worded : (d : Diagnostic) (found : Found) → found_of d.subject ≡ found → is_limit found ≡ false → (IsLimitMessage d.message → ⊥) → IsLimitWorded d
+other-worded d found e l n = record { limit = λ s. absurd (true≢false (sym (ap (λ (x : Subject). is_limit (found_of x)) s) ∙ (ap is_limit e ∙ l))); other = λ i. absurd (n i) }
+
+found-other : (x : Lexeme) → is_limit (found_at x) ≡ false
+found-other x = elim (is_end x.kind) as (λ b. is_limit (if b then at_end else at_text x.text) ≡ false) [ true ↦ refl | false ↦ refl ]
+
+any-text : (answers : List Answer) → AllTexts (λ text. ⊤) answers
+any-text [] = tt
+any-text (gives item ∷ answers) = (tt, any-text answers)
+any-text (limit_at index ∷ answers) = any-text answers
+
+pub limit-worded : {answers : List Answer} {rs : List Report} (ds : List Diagnostic) → Reported true answers rs → AllZip IsErrorOf rs ds → All IsLimitWorded ds
+limit-worded {answers = answers} ds h = each-error (λ text. ⊤) IsLimitWorded
+    (λ text index d i e. other-worded d (at_text text) e.subject refl (λ l. no-fault-message text d.message e.message (limit-otherwise d.message (limit-begins d.message l))))
+    (λ index d e. record { limit = λ s. inl e.message; other = λ i. subject-limit d e.subject })
+    (λ m x d i e. other-worded d (found_at x) e.subject (found-other x) (λ l. true≢false (sym (limit-begins d.message l) ∙ (ap begins_limit e.message ∙ message-begins m (found_at x)))))
+    (λ x d e. record { limit = λ s. inr e.message; other = λ i. subject-limit d e.subject })
+    ds h (any-text answers)
+
+-- each report has its error
+pub any-said : (P : Diagnostic → Type 0) (before after : List Report) (r : Report) (ds : List Diagnostic) → ((d : Diagnostic) → IsErrorOf r d → P d) → AllZip IsErrorOf (before ++ (r ∷ after)) ds → Any P ds
+any-said P [] after r [] h z = absurd z
+any-said P [] after r (d ∷ ds) h z = (0, d, omega arith, refl, h d z.0)
+any-said P (x ∷ before) after r [] h z = absurd z
+any-said P (x ∷ before) after r (d ∷ ds) h z =
+    let a = any-said P before after r ds h z.1 in
+    (suc a.0, a.1, omega (arith, a.2), a.3, a.4)
+
+-- one of a limit has that of a limit
+pub any-limit : (before after : List Report) (r : Report) (ds : List Diagnostic) → r.found ≡ at_limit → AllZip IsErrorOf (before ++ (r ∷ after)) ds → Any (λ (d : Diagnostic). d.subject ≡ of_limit) ds
+any-limit before after r ds e = any-said (λ (d : Diagnostic). d.subject ≡ of_limit) before after r ds (λ d h. subject-limit d (h.subject ∙ e))
+
+-- and one about a token that of its text
+
+-- what an error is about, by what its report found
+subject-text : (s : Subject) (text : Text) → found_of s ≡ at_text text → s ≡ of_text text
+subject-text (of_text x) text e = cc
+subject-text of_end text e = absurd cc
+subject-text of_limit text e = absurd cc
+
+subject-end : (s : Subject) → found_of s ≡ at_end → s ≡ of_end
+subject-end (of_text x) e = absurd cc
+subject-end of_end e = refl
+subject-end of_limit e = absurd cc
+
+subject-is : (b : Bool) (s : Subject) (text : Text) → found_of s ≡ (if b then at_end else at_text text) → s ≡ (if b then of_end else of_text text)
+subject-is true s text e = subject-end s e
+subject-is false s text e = subject-text s text e
+
+pub fault-text : (m : Message) (x : Lexeme) (d : Diagnostic) → is_end x.kind ≡ false → IsErrorOf (fault_report m x) d → d.subject ≡ of_text x.text
+fault-text m x d i h = subject-text d.subject x.text (h.subject ∙ ap (λ (b : Bool). if b then at_end else at_text x.text) i)
+
+-- ---- all errors
+
+-- the errors that say the reports of some answers
+pub errors-along : {taken : Bool} {answers : List Answer} {rs : List Report} → Reported taken answers rs → (ds : List Diagnostic) → AllZip IsErrorOf rs ds → ErrorsAlong taken answers ds
+errors-along no_more [] z = promise.no_more
+errors-along no_more (d ∷ ds) z = absurd z
+errors-along (bad_text e h) [] z = absurd z
+errors-along (bad_text {item = item} e h) (d ∷ ds) z =
+    promise.bad_text e (record { subject = subject-text d.subject item.text z.0.subject; index = z.0.index }) z.0.message (errors-along h ds z.1)
+errors-along (token_limit h) [] z = absurd z
+errors-along (token_limit h) (d ∷ ds) z =
+    let about = subject-limit d z.0.subject in
+    promise.token_limit (record { subject = about; index = z.0.index }) (record { subject = about; message = z.0.message }) (errors-along h ds z.1)
+errors-along (fault m e i h) [] z = absurd z
+errors-along (fault m {k = k} {item = item} e i h) (d ∷ ds) z =
+    promise.fault m e i (record { subject = subject-is (is_end k) d.subject item.text z.0.subject; index = z.0.index }) (z.0.message ∙ ap (message_text m) (sym z.0.subject)) (errors-along h ds z.1)
+errors-along (recursion_limit e i h) [] z = absurd z
+errors-along (recursion_limit e i h) (d ∷ ds) z =
+    let about = subject-limit d z.0.subject in
+    promise.recursion_limit e i (record { subject = about; index = z.0.index }) (record { subject = about; message = z.0.message }) (errors-along h ds z.1)
+errors-along (passed e h) ds z = promise.passed e (errors-along h ds z)

@@ -1,0 +1,3 @@
+pub mod Parses
+pub mod Errors
+pub mod Roots

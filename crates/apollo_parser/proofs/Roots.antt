@@ -1,0 +1,11 @@
+-- The root of the finished tree.
+use Rattle.std.proofs.Common.{◌≡◌, ◌∙◌, ap, [], ◌∷◌}
+use Rattle.document_grammar.specs.declared.kind.SyntaxKind.{SyntaxKind}
+use Rattle.document_grammar.specs.Forests.{none, node}
+use Rattle.document_grammar.specs.Builds.{close}
+use Rattle.parser_rules.specs.State.{State, add_all, finished}
+use Rattle.parser_rules.proofs.runs.Frame.{add_all-above}
+
+-- the finished tree is one node, of the kind of the node that was open first
+pub finished-node : (s : State) (k : SyntaxKind) → s.tree.above ≡ record { before = none; kind = k } ∷ [] → finished s ≡ node k (add_all s.pending s.tree).here none
+finished-node s k e = ap (λ above. (close (add_all s.pending s.tree).here above).here) (add_all-above s.pending s.tree ∙ e)

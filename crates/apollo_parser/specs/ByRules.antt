@@ -1,0 +1,27 @@
+-- What the tree of a parse comes from: the parser's own rules. No public call promises it; the promises are theorems on such runs.
+use Rattle.std.specs.Prelude.{◌≡◌, ◌<◌, ◌^◌, ℕ, List}
+use Rattle.std.specs.List.{AllZip}
+use Rattle.std.specs.Str.{IsUtf8}
+use Rattle.lexical_grammar.specs.Answers.{limited}
+use Rattle.lexical_grammar.specs.Cut.{Cut}
+use Rattle.lexical_grammar.specs.Reads.{items_of}
+use Rattle.document_grammar.specs.declared.kind.SyntaxKind.TheVariants as kind
+use Rattle.document_grammar.specs.Forests.{count}
+use Rattle.parser_rules.specs.State.{State, begun, finished}
+use Rattle.parser_rules.specs.Nodes.{Document}
+use Rattle.parser_rules.specs.RuleLanguage.{Call}
+use Rattle.parser_rules.specs.Runs.{Runs}
+use Rattle.apollo_parser.specs.Promise.{Parsed}
+use Rattle.parser_state.specs.Errors.{IsErrorOf}
+
+-- the document's rule ran over the items of the text, of which k are allowed, with the recursion limit r
+pub record ByRules (source : List ℕ) (r k : ℕ) (t : Parsed) : Type 0 where
+  pub last : State
+  pub cut : Cut source (items_of source)
+  pub characters : IsUtf8 source
+  pub run : Runs (Call Document) (begun (limited k (items_of source)) r kind.DOCUMENT) last
+  pub tree : t.tree ≡ finished last
+  pub counted : count t.tree < 2 ^ 64
+  pub errors : AllZip IsErrorOf last.errors t.errors
+  pub recursion_limit : t.recursion_limit ≡ record { current = last.depth; high = last.high; limit = last.limit }
+  pub token_limit : t.token_limit ≡ record { current = 0; high = last.asked; limit = k }

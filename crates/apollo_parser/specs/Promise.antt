@@ -1,0 +1,97 @@
+-- The words of `Parser::parse`'s contract that are not in the specs of `lexical_grammar` and `document_grammar`: what a parse gives, what its
+-- errors are, and what is promised with errors. The standard says nothing of errors, so these are this project's own promises.
+use Rattle.std.specs.Prelude.{◌≡◌, ◌⊎◌, ℕ, Bool, true, false, if◌then◌else◌, List, [], ◌∷◌, Some, None, ⊤}
+use Rattle.std.specs.List.{Any}
+use Rattle.lexical_grammar.specs.declared.TokenKind.{TokenKind}
+use Rattle.lexical_grammar.specs.Cut.{Item}
+use Rattle.lexical_grammar.specs.Answers.{Answer, gives, limit_at, is_end}
+use Rattle.document_grammar.specs.Forests.{Forest}
+use Rattle.document_grammar.specs.Leaves.{ignored}
+use Rattle.apollo_lexer.specs.declared.limit.LimitTracker.{LimitTracker}
+use Rattle.apollo_lexer.specs.Diagnostics.{of_text, of_end, of_limit, Subject, Diagnostic}
+use Rattle.apollo_lexer.specs.Faults.{IsFaultMessage}
+use Rattle.apollo_lexer.specs.Told.{limit_message}
+use Rattle.parser_rules.specs.declared.message.Message.{Message}
+use Rattle.parser_rules.specs.Messages.{Text, message_text, recursion_limit_message}
+use Rattle.parser_state.specs.Errors.{found_of}
+
+-- ---- what a parse gives
+
+-- A tree, the errors in the order in which they were found, and how the limits were used. An error has a message, what it is about, which is
+-- a text of the source, the end of the source or a limit, and the byte of the source where that begins.
+pub record Parsed : Type 0 where
+  pub tree : Forest
+  pub errors : List Diagnostic
+  pub recursion_limit : LimitTracker
+  pub token_limit : LimitTracker
+
+-- ---- the errors of limits
+
+-- A limit's error.
+abbrev pub IsLimit : Diagnostic → Type 0
+IsLimit error = error.subject ≡ of_limit
+
+-- The token limit's error.
+pub record IsTokenLimit (error : Diagnostic) : Type 0 where
+  pub subject : IsLimit error
+  pub message : error.message ≡ limit_message
+
+-- The recursion limit's error.
+pub record IsRecursionLimit (error : Diagnostic) : Type 0 where
+  pub subject : IsLimit error
+  pub message : error.message ≡ recursion_limit_message
+
+-- One of the two messages of limits.
+abbrev pub IsLimitMessage : Text → Type 0
+IsLimitMessage message = (message ≡ limit_message) ⊎ (message ≡ recursion_limit_message)
+
+-- A limit's error has a limit's message, and no other error has.
+pub record IsLimitWorded (error : Diagnostic) : Type 0 where
+  pub limit : IsLimit error → IsLimitMessage error.message
+  pub other : IsLimitMessage error.message → IsLimit error
+
+-- ---- all errors
+
+-- The error is about this, which begins at this byte.
+pub record IsAbout (subject : Subject) (index : ℕ) (error : Diagnostic) : Type 0 where
+  pub subject : error.subject ≡ subject
+  pub index : error.index ≡ index
+
+-- What an error at this token is about: its text, or the end.
+abbrev pub subject_at : TokenKind → Text → Subject
+subject_at kind text = if is_end kind then of_end else of_text text
+
+-- The errors of a lexer's answers, in their order, where the grammar's errors are still taken or no longer are.
+pub data ErrorsAlong : Bool → List Answer → List Diagnostic → Type 0 where
+  no_more : {taken : Bool} → ErrorsAlong taken [] []
+  -- bad text has one error, with its text
+  bad_text : {taken : Bool} {item : Item} {answers : List Answer} {error : Diagnostic} {errors : List Diagnostic} → item.kind ≡ None
+      → IsAbout (of_text item.text) item.index error → IsFaultMessage item.text error.message → ErrorsAlong taken answers errors → ErrorsAlong taken (gives item ∷ answers) (error ∷ errors)
+  -- the token limit has one where it is met, and none of the grammar's follows
+  token_limit : {taken : Bool} {index : ℕ} {answers : List Answer} {error : Diagnostic} {errors : List Diagnostic} → IsAbout of_limit index error → IsTokenLimit error
+      → ErrorsAlong false answers errors → ErrorsAlong taken (limit_at index ∷ answers) (error ∷ errors)
+  -- the grammar's are at significant tokens, with their texts, or at the end; a message may quote what is there
+  fault : (m : Message) {kind : TokenKind} {item : Item} {answers : List Answer} {error : Diagnostic} {errors : List Diagnostic} → item.kind ≡ Some kind → ignored kind ≡ None
+      → IsAbout (subject_at kind item.text) item.index error → error.message ≡ message_text m (found_of error.subject) → ErrorsAlong true (gives item ∷ answers) errors
+      → ErrorsAlong true (gives item ∷ answers) (error ∷ errors)
+  -- so is the recursion limit's, and none of the grammar's follows
+  recursion_limit : {kind : TokenKind} {item : Item} {answers : List Answer} {error : Diagnostic} {errors : List Diagnostic} → item.kind ≡ Some kind → ignored kind ≡ None
+      → IsAbout of_limit item.index error → IsRecursionLimit error → ErrorsAlong false (gives item ∷ answers) errors → ErrorsAlong true (gives item ∷ answers) (error ∷ errors)
+  -- a token, ignored or not, has no more
+  passed : {taken : Bool} {kind : TokenKind} {item : Item} {answers : List Answer} {errors : List Diagnostic} → item.kind ≡ Some kind → ErrorsAlong taken answers errors
+      → ErrorsAlong taken (gives item ∷ answers) errors
+
+-- The errors go along the answers.
+abbrev pub ErrorsOf : List Answer → List Diagnostic → Type 0
+ErrorsOf answers errors = ErrorsAlong true answers errors
+
+-- ---- the first error, and errors at places
+
+-- What holds of the first error, if there is one.
+abbrev pub OfFirst : (Diagnostic → Type 0) → List Diagnostic → Type 0
+OfFirst P [] = ⊤
+OfFirst P (error ∷ errors) = P error
+
+-- One of the errors is at the place, about the text there.
+abbrev pub HasError : List Diagnostic → ℕ → Text → Type 0
+HasError errors place text = Any (IsAbout (of_text text) place) errors

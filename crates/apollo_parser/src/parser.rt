@@ -1,0 +1,165 @@
+// The whole parse.
+ghost use Rattle.std.specs.Prelude.{◌≡◌, ◌≢◌, ◌≤◌, ◌<◌, ◌+◌, true, [], IfOk, length, min, take, map};
+ghost use Rattle.std.specs.Str.{IsAscii, IsUtf8};
+ghost use Rattle.std.specs.List.{Any, All};
+ghost use Rattle.std.specs.List.Sorted.{IsNonDecreasing};
+ghost use Rattle.lexical_grammar.specs.Answers.{limited, usize_max};
+ghost use Rattle.lexical_grammar.specs.Cut.{Cut, texts};
+ghost use Rattle.lexical_grammar.specs.Reads.{items_of};
+ghost use Rattle.apollo_lexer.specs.Answers.{answers_left};
+ghost use Rattle.apollo_lexer.specs.Diagnostics.{of_limit};
+ghost use Rattle.document_grammar.specs.declared.kind.SyntaxKind.TheVariants as kind;
+ghost use Rattle.document_grammar.specs.Forests.{Forest, none, node, text};
+ghost use Rattle.document_grammar.specs.Derivation.{document as document_sort, nest};
+ghost use Rattle.document_grammar.specs.Tree.{Tree};
+ghost use Rattle.document_grammar.specs.Sentence.{Sentence, FirstSentence, Within};
+ghost use Rattle.document_grammar.specs.Recovery.{Rowed, LeftOver, children_of};
+ghost use Rattle.document_grammar.specs.FirstError.{OnlyDerivation, NotLate, NotEarly, NotEarlyLimit, EndedNodesFit};
+ghost use Rattle.document_grammar.specs.Places.{bare, Placed};
+ghost use Rattle.document_grammar.specs.Numbered.{tree_of};
+ghost use Rattle.document_grammar.specs.Leaves.{leaves, OneLeafAnItem};
+ghost use Rattle.apollo_parser.specs.ByRules.{ByRules};
+ghost use Rattle.apollo_parser.specs.Promise.{ErrorsOf, IsRecursionLimit, IsLimitWorded, IsTokenLimit, OfFirst, HasError};
+
+use crate::syntax_tree::{DocumentRoot, SyntaxTree};
+use apollo_grammar::document;
+use apollo_lexer::Lexer;
+use document_grammar::SyntaxKind;
+use parser_state::ParserState;
+use std::alloc::{AllocError, Allocator};
+use std::marker::PhantomData;
+
+const DEFAULT_RECURSION_LIMIT: usize = 500;
+
+/// A parser of a text, with its limits.
+#[derive(Clone, Copy)]
+pub struct Parser<'i> {
+    source: &'i str,
+    recursion_limit: usize,
+    token_limit: usize,
+}
+
+impl<'i> Parser<'i> {
+    /// A parser of the text, with the recursion limit 500 and no token limit.
+    pub fn new(source: &'i str) -> Self
+        ensures source { result.source.now ≡ source.now }
+        ensures recursion_limit { result.recursion_limit ≡ 500 }
+        ensures token_limit { result.token_limit ≡ usize_max }
+    {
+        Parser {
+            source,
+            recursion_limit: DEFAULT_RECURSION_LIMIT,
+            token_limit: usize::MAX,
+        }
+    }
+
+    /// Sets the recursion limit: how deep selection sets, list types and values may nest.
+    pub fn recursion_limit(self, limit: usize) -> Self
+        ensures { result ≡ record self.entry { recursion_limit = limit } }
+    {
+        Parser {
+            recursion_limit: limit,
+            ..self
+        }
+    }
+
+    /// Sets the token limit: how many items of the text are read, ignored ones and the end among them.
+    pub fn token_limit(self, limit: usize) -> Self
+        ensures { result ≡ record self.entry { token_limit = limit } }
+    {
+        Parser {
+            token_limit: limit,
+            ..self
+        }
+    }
+
+    // A lexer of the text that has read nothing. It also says what the text is made of.
+    fn lexer(source: &'i str, token_limit: usize) -> Lexer<'i>
+        ensures answers { answers_left result ≡ limited token_limit (items_of source.now) }
+        ensures fresh { result.limit_tracker.high ≡ 0 }
+        ensures cut { Cut source.now (items_of source.now) }
+        ensures characters { IsUtf8 source.now }
+    {
+        Lexer::new(source).with_limit(token_limit)
+    }
+
+    // The parse, as a run of the document's rule over the items of the text.
+    fn run_document<A: Allocator + Copy>(
+        self,
+        alloc: A,
+    ) -> Result<SyntaxTree<DocumentRoot, A>, AllocError>
+        ensures { IfOk result (ByRules self.entry.source.now self.entry.recursion_limit self.entry.token_limit) }
+    {
+        let mut p = ParserState::new(
+            alloc,
+            Self::lexer(self.source, self.token_limit),
+            self.recursion_limit,
+            SyntaxKind::DOCUMENT,
+        )?;
+        document(&mut p)?;
+        let finished = p.finish(self.token_limit, self.source)?;
+        Ok(SyntaxTree {
+            tree: finished.tree,
+            errors: finished.errors,
+            recursion_limit: finished.recursion_limit,
+            token_limit: finished.token_limit,
+            root: PhantomData,
+        })
+    }
+
+    /// Parses a document (GraphQL October 2021, section 2.2, "Document").
+    ///
+    /// A text that is no document has a tree too: what cannot be read is in it as ERROR leaves, and the errors say why. It fails only where memory
+    /// is refused.
+    pub fn parse<A: Allocator + Copy>(
+        self,
+        alloc: A,
+    ) -> Result<SyntaxTree<DocumentRoot, A>, AllocError>
+        // the items of which the other clauses speak are a cut of the source
+        ensures cut { IfOk result (λ t. Cut self.entry.source.now (items_of self.entry.source.now)) }
+        // the tree's text is the source, or its first items where the token limit is met
+        ensures lossless { IfOk result (λ t. text t.tree ≡ texts (take self.entry.token_limit (items_of self.entry.source.now))) }
+        // the tree is one DOCUMENT, also where there are errors
+        ensures one_document { IfOk result (λ t. (kids : Forest) × (t.tree ≡ node kind.DOCUMENT kids none)) }
+        ensures one_leaf { IfOk result (λ t. OneLeafAnItem (limited self.entry.token_limit (items_of self.entry.source.now)) (leaves t.tree)) }
+        ensures recursion { IfOk result (λ t. (t.recursion_limit.current ≡ 0) × (t.recursion_limit.limit ≡ self.entry.recursion_limit) × (t.recursion_limit.high ≤ self.entry.recursion_limit + 1)) }
+        // with the recursion limit's error, more than the limit was asked for; by one, as long as that is a usize
+        ensures limit_met { IfOk result (λ t. Any IsRecursionLimit t.errors → min (self.entry.recursion_limit + 1) usize_max ≤ t.recursion_limit.high) }
+        // where more than the limit was asked for, there is a limit's error: the recursion limit's, or the token limit's before it
+        ensures past_limit { IfOk result (λ t. self.entry.recursion_limit < t.recursion_limit.high → Any (λ e. e.subject ≡ of_limit) t.errors) }
+        // the greatest depth that was asked for covers what the tree nests, also where there are errors
+        ensures nesting { IfOk result (λ t. nest (tree_of t.tree) ≤ t.recursion_limit.high) }
+        ensures tokens { IfOk result (λ t. (t.token_limit.limit ≡ self.entry.token_limit) × (t.token_limit.high ≡ min (length (items_of self.entry.source.now)) (self.entry.token_limit + 1))) }
+        // the errors go along the items: one for each bad text and for the token limit, in the lexer's words; the grammar's and the recursion
+        // limit's, word by word, at significant tokens or the end, and none of these after a limit error
+        ensures errors { IfOk result (λ t. ErrorsOf (limited self.entry.token_limit (items_of self.entry.source.now)) t.errors) }
+        // a limit's error has a limit's message, and no other error has one
+        ensures limit_messages { IfOk result (λ t. All IsLimitWorded t.errors) }
+        ensures ascii { IfOk result (λ t. IsAscii self.entry.source.now → All (λ e. IsAscii e.message) t.errors) }
+        ensures in_order { IfOk result (λ t. IsNonDecreasing (map (λ e. e.index) t.errors)) }
+        // without errors, the tree without its ignored leaves is the derivation of the text, which is a sentence within both limits
+        ensures sound { IfOk result (λ t. t.errors ≡ [] → Sentence self.entry.source.now (bare (tree_of t.tree)) document_sort × Within self.entry.source.now (bare (tree_of t.tree)) self.entry.recursion_limit self.entry.token_limit) }
+        // a sentence within both limits has no errors
+        ensures accepts { IfOk result (λ t. (u : Tree) → Sentence self.entry.source.now u document_sort → Within self.entry.source.now u self.entry.recursion_limit self.entry.token_limit → t.errors ≡ []) }
+        // without errors, there is no other derivation, and it nests as deep as was asked for
+        ensures only_derivation { IfOk result (λ t. t.errors ≡ [] → OnlyDerivation (items_of self.entry.source.now) (bare (tree_of t.tree)) × (t.recursion_limit.high ≡ nest (bare (tree_of t.tree)))) }
+        // a sentence of the first profile has no errors either, and the tree is its derivation
+        ensures still_a_sentence { IfOk result (λ t. (u : Tree) → FirstSentence self.entry.source.now u document_sort → Within self.entry.source.now u self.entry.recursion_limit self.entry.token_limit → (t.errors ≡ []) × (bare (tree_of t.tree) ≡ u)) }
+        // without errors, each ignored leaf is where the text fixes it
+        ensures placed { IfOk result (λ t. t.errors ≡ [] → Placed (tree_of t.tree)) }
+        // the text before the first error begins a sentence, unless it is the token limit's
+        ensures not_late { IfOk result (λ t. OfFirst (λ e. ¬ IsTokenLimit e → NotLate self.entry.source.now e.index) t.errors) }
+        // no sentence starts with the tokens before the first error, the one there and the next, if it is the grammar's
+        ensures not_early { IfOk result (λ t. OfFirst (λ e. e.subject ≢ of_limit → NotEarly self.entry.token_limit (items_of self.entry.source.now) e.index) t.errors) }
+        // no sentence that nests within the limit starts with the tokens before the first error and the one there, if it is the recursion limit's
+        ensures not_early_limit { IfOk result (λ t. OfFirst (λ e. IsRecursionLimit e → NotEarlyLimit self.entry.recursion_limit (items_of self.entry.source.now) e.index) t.errors) }
+        // each node that a significant token in front of the first error follows fits its row and the rules
+        ensures ended_nodes_fit { IfOk result (λ t. OfFirst (λ e. EndedNodesFit (items_of self.entry.source.now) e.index (tree_of t.tree)) t.errors) }
+        // also with errors, each child of a node is a symbol of its row, or an ERROR, SPREAD or ignored leaf
+        ensures row_symbols { IfOk result (λ t. Rowed (tree_of t.tree)) }
+        // where no limit is met, each token that was left over has its error, and is a child of the root or of a list, or its node's only one
+        ensures left_over { IfOk result (λ t. ¬ Any (λ e. e.subject ≡ of_limit) t.errors → LeftOver (HasError t.errors) (items_of self.entry.source.now) 0 (children_of (tree_of t.tree))) }
+    {
+        self.run_document(alloc)
+    }
+}

@@ -1,0 +1,5 @@
+pub mod Reading
+pub mod Building
+pub mod Keywords
+pub mod Leaves
+pub mod Reporting

@@ -1,0 +1,105 @@
+-- Steps of reading on.
+use Rattle.std.proofs.Common.{◌≡◌, ℕ, ◌+◌, ◌<◌, Option, Some, None, is_some, List, ◌∷◌, map, length, get_or, drop, refl, sym, ◌∙◌, ap, subst, true, false, Bool, suc, add-one, [], arith}
+use Rattle.std.proofs.Math.Seq.{drop-cons}
+use Rattle.lexical_grammar.specs.declared.TokenKind.{TokenKind}
+use Rattle.lexical_grammar.specs.Cut.{Item}
+use Rattle.document_grammar.specs.declared.kind.SyntaxKind.{SyntaxKind}
+use Rattle.lexical_grammar.specs.Answers.{Answer, gives, limit_at, AreAnswers}
+use Rattle.apollo_lexer.specs.Answers.{error_answer}
+use Rattle.document_grammar.specs.Builds.{Building, add_leaf}
+use Rattle.parser_state.specs.declared.state.PendingToken.{PendingToken}
+use Rattle.parser_state.specs.View.{pending_of}
+use Rattle.parser_rules.specs.State.{State, Text, Lexeme, ignored, bad, met, wait, lexeme, read_on, second, add_all}
+use Rattle.parser_state.specs.Reading.{Taken, IsAnswerText, refused}
+
+on_kind : List Answer → State → Item → TokenKind → Option SyntaxKind → State
+on_kind rest s item k found = elim found [
+  | Some kind ↦ read_on rest (wait kind item.text (record s { items = rest }))
+  | None ↦ record s { items = rest; current = Some (lexeme k item) }
+]
+
+on-is : (rest : List Answer) (s : State) (text : Text) (index : ℕ) (k : TokenKind)
+    → read_on (gives (record { kind = Some k; text = text; index = index }) ∷ rest) s ≡ on_kind rest s (record { kind = Some k; text = text; index = index }) k (ignored k)
+unfolding read_on on_kind
+on-is rest s text index k = refl
+
+-- bad text, or the limit
+pub read_bad : (s t u : State) (limit : Bool) (text : Text) (index : ℕ) → Taken (Some (error_answer limit text index)) s t → u ≡ refused limit text index t → read_on s.items s ≡ read_on u.items u
+unfolding read_on
+read_bad s t u true text index h e = ap (λ xs. read_on xs s) h.0 ∙ ap (λ w. read_on t.items (met index w)) (sym h.1) ∙ sym (ap (λ w. read_on w.items w) e)
+read_bad s t u false text index h e = ap (λ xs. read_on xs s) h.0 ∙ ap (λ w. read_on t.items (bad text index w)) (sym h.1) ∙ sym (ap (λ w. read_on w.items w) e)
+
+pub read-ignored : (s t u : State) (k : TokenKind) (text : Text) (index : ℕ) (kind : SyntaxKind) → Taken (Some (gives (record { kind = Some k; text = text; index = index }))) s t
+    → Some kind ≡ ignored k → u ≡ wait kind text t → read_on s.items s ≡ read_on u.items u
+unfolding on_kind
+read-ignored s t u k text index kind h i e =
+    let item : Item = record { kind = Some k; text = text; index = index } in
+    ap (λ xs. read_on xs s) h.0 ∙ on-is t.items s text index k ∙ sym (ap (on_kind t.items s item k) i) ∙ ap (λ w. read_on t.items (wait kind text w)) (sym h.1) ∙ sym (ap (λ w. read_on w.items w) e)
+
+pub read-token : (s t : State) (k : TokenKind) (text : Text) (index : ℕ) → Taken (Some (gives (record { kind = Some k; text = text; index = index }))) s t
+    → None ≡ ignored k → read_on s.items s ≡ record t { current = Some (record { kind = k; text = text; index = index }) }
+unfolding on_kind
+read-token s t k text index h i =
+    let item : Item = record { kind = Some k; text = text; index = index } in
+    ap (λ xs. read_on xs s) h.0 ∙ on-is t.items s text index k ∙ sym (ap (on_kind t.items s item k) i) ∙ sym (ap {A = State} (λ w. record w { current = Some (record { kind = k; text = text; index = index }) }) h.1)
+
+pub read_end : (s t : State) → Taken None s t → read_on s.items s ≡ record t { current = None }
+unfolding read_on
+read_end s t h = ap (λ xs. read_on xs s) h.0 ∙ sym (ap {A = State} (λ w. record w { current = None }) h.1)
+
+-- an answer that was taken has a text of its kind
+first-text : (answer : Answer) (rest items : List Answer) → items ≡ answer ∷ rest → AreAnswers items → IsAnswerText (Some answer)
+first-text (limit_at index) rest items e h = tt
+first-text (gives item) rest items e h = (subst AreAnswers e h).0
+
+pub taken-text : (r : Option Answer) (s t : State) → Taken r s t → AreAnswers s.items → IsAnswerText r
+taken-text None s t h k = tt
+taken-text (Some answer) s t h k = first-text answer t.items s.items h.0 k
+
+-- one leaf more
+pub one_more : (leaves : List PendingToken) (i : ℕ) (d : PendingToken) (b c : Building) → i < length leaves → c ≡ add_leaf (get_or leaves i d).kind (get_or leaves i d).text.now b
+    → add_all (map pending_of (drop i leaves)) b ≡ add_all (map pending_of (drop (i + 1) leaves)) c
+one_more leaves i d b c h e =
+    rw add-one (ap {A = List PendingToken} (λ ys. add_all (map pending_of ys) b) (drop-cons leaves i d h) ∙ ap (λ x. add_all (map pending_of (drop (suc i) leaves)) x) (sym e))
+
+-- ---- looking at what follows the current token
+
+pub one-less : (answer : Answer) (xs ys : List Answer) → xs ≡ answer ∷ ys → length ys < length xs
+one-less answer xs ys e = let n = ap length e in omega (arith, n)
+
+pub second-end : (xs : List Answer) → xs ≡ [] → second xs ≡ None
+unfolding second
+second-end xs e = ap second e
+
+on_second : List Answer → TokenKind → Item → Option SyntaxKind → Option Lexeme
+on_second rest k item found = elim found [ Some leaf ↦ second rest | None ↦ Some (lexeme k item) ]
+
+second-is : (rest : List Answer) (text : Text) (index : ℕ) (k : TokenKind)
+    → second (gives (record { kind = Some k; text = text; index = index }) ∷ rest) ≡ on_second rest k (record { kind = Some k; text = text; index = index }) (ignored k)
+unfolding second on_second
+second-is rest text index k = refl
+
+no_leaf : (o : Option SyntaxKind) → is_some o ≡ false → o ≡ None
+no_leaf None e = refl
+no_leaf (Some leaf) e = absurd cc
+
+some-leaf : (rest : List Answer) (k : TokenKind) (item : Item) (o : Option SyntaxKind) → is_some o ≡ true → on_second rest k item o ≡ second rest
+unfolding on_second
+some-leaf rest k item None e = absurd cc
+some-leaf rest k item (Some leaf) e = refl
+
+pub second-found : (xs rest : List Answer) (k : TokenKind) (text : Text) (index : ℕ) (found : Option SyntaxKind) → xs ≡ gives (record { kind = Some k; text = text; index = index }) ∷ rest
+    → found ≡ ignored k → is_some found ≡ false → second xs ≡ Some (record { kind = k; text = text; index = index })
+unfolding on_second
+second-found xs rest k text index found e f i =
+    ap second e ∙ second-is rest text index k ∙ ap (on_second rest k (record { kind = Some k; text = text; index = index })) (sym f ∙ no_leaf found i)
+
+pub second-ignored : (xs rest : List Answer) (k : TokenKind) (text : Text) (index : ℕ) (found : Option SyntaxKind) → xs ≡ gives (record { kind = Some k; text = text; index = index }) ∷ rest
+    → found ≡ ignored k → is_some found ≡ true → second xs ≡ second rest
+second-ignored xs rest k text index found e f i =
+    ap second e ∙ second-is rest text index k ∙ ap (on_second rest k (record { kind = Some k; text = text; index = index })) (sym f) ∙ some-leaf rest k (record { kind = Some k; text = text; index = index }) found i
+
+pub second-bad : (xs rest : List Answer) (limit : Bool) (text : Text) (index : ℕ) → xs ≡ error_answer limit text index ∷ rest → second xs ≡ second rest
+unfolding second
+second-bad xs rest true text index e = ap second e
+second-bad xs rest false text index e = ap second e

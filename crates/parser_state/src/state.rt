@@ -1,0 +1,146 @@
+// The state of a parser, and its steps. Each is a step of the parser's rules.
+#![tactic(auto, using(parser_rules::specs::Runs::does), unfolding(parser_rules::proofs::runs::Running::steps))]
+
+mod building;
+mod nesting;
+mod reading;
+mod reporting;
+mod tokens;
+
+ghost use Rattle.std.specs.Prelude.{◌≡◌, ◌<◌, ◌^◌, true, [], length, take, map, IfOk};
+ghost use Rattle.std.specs.List.{AllZip};
+ghost use Rattle.lexical_grammar.specs.declared.TokenKind.TheVariants as token;
+ghost use Rattle.document_grammar.specs.Forests.{count, none, text};
+ghost use Rattle.apollo_lexer.specs.Answers.{answers_left};
+ghost use Rattle.parser_rules.specs.State as state;
+ghost use Rattle.parser_rules.specs.Open.{IsRoot};
+ghost use Rattle.parser_state.specs.Errors.{IsErrorOf};
+ghost use Rattle.parser_state.specs.View.{current_of, pending_of, report_of};
+
+use crate::report::Report;
+use apollo_lexer::{Error, Lexer, LimitTracker, Token};
+use apollo_tree::{SpanBuilder, Subtree};
+use building::push_all;
+use document_grammar::SyntaxKind;
+use reporting::errors_of;
+use std::alloc::{AllocError, Allocator};
+use std::marker::Model;
+pub use tokens::{is_eof, is_kind, is_word};
+
+/// An ignored token or bad text, which waits for the next leaf.
+#[derive(Clone, Copy)]
+pub struct PendingToken<'i> {
+    pub kind: SyntaxKind,
+    pub text: &'i str,
+}
+
+/// What a parse leaves: the tree, the errors in the order in which they were found, and how the limits were used.
+#[derive(Drop)]
+pub struct Finished<A: Allocator> {
+    pub tree: Subtree<A>,
+    pub errors: Vec<Error<A>, A>,
+    pub recursion_limit: LimitTracker,
+    pub token_limit: LimitTracker,
+}
+
+/// The current token is always the next significant one, or the end, or none where nothing is left.
+#[derive(Drop)]
+pub struct ParserState<'i, A: Allocator> {
+    alloc: A,
+    lexer: Lexer<'i>,
+    current_token: Option<Token<'i>>,
+    builder: SpanBuilder<A>,
+    pending: Vec<PendingToken<'i>, A>,
+    reports: Vec<Report<'i>, A>,
+    recursion_limit: LimitTracker,
+    accept_errors: bool,
+}
+
+impl<'i, A: Allocator> Model for ParserState<'i, A> {
+    ghost use Rattle.std.specs.Prelude.{map};
+    ghost use Rattle.std.specs.Coded.{codes};
+    ghost use Rattle.apollo_tree.specs.Codes.{building_code};
+    ghost use Rattle.parser_rules.specs.State.{State};
+
+    ghost Value = { State };
+
+    ghost coded = { Prim.hlevel (codes, building_code) };
+
+    ghost use Rattle.apollo_lexer.specs.Answers.{answers_left, final_high};
+    ghost use Rattle.parser_state.specs.View.{current_of, pending_of, report_of};
+    ghost use Rattle.parser_rules.specs.State.{IsNow};
+
+    ghost view = { λ p. record {
+      items = answers_left p.lexer;
+      current = current_of p.current_token;
+      pending = map pending_of p.pending.items;
+      tree = p.builder;
+      errors = map report_of p.reports.items;
+      limit = p.recursion_limit.limit;
+      depth = p.recursion_limit.current;
+      high = p.recursion_limit.high;
+      accepts = p.accept_errors;
+      asked = final_high p.lexer;
+    } };
+
+    ghost invariant = { λ p. IsNow (current_of p.current_token) };
+}
+
+impl<'i, A: Allocator + Copy> ParserState<'i, A> {
+    /// Opens the root, and reads the first token.
+    pub fn new(
+        alloc: A,
+        lexer: Lexer<'i>,
+        recursion_limit: usize,
+        root: SyntaxKind,
+    ) -> Result<ParserState<'i, A>, AllocError>
+        requires { lexer.limit_tracker.high ≡ 0 }
+        ensures { IfOk result (λ p. p ≡ state.begun (answers_left lexer.entry) recursion_limit root) }
+    {
+        let mut builder = SpanBuilder::new(alloc);
+        builder.start_node(root)?;
+        let mut p = ParserState {
+            alloc,
+            lexer,
+            current_token: None,
+            builder,
+            pending: Vec::new(alloc),
+            reports: Vec::new(alloc),
+            recursion_limit: LimitTracker::new(recursion_limit),
+            accept_errors: true,
+        };
+        p.read_on()?;
+        Ok(p)
+    }
+
+    /// Takes in what waits, and closes the root. The token limit is the lexer's, and the source is what it reads.
+    pub fn finish(self, token_limit: usize, source: &str) -> Result<Finished<A>, AllocError>
+        requires source { take (length (text (state.finished self))) source.now ≡ text (state.finished self) }
+        requires open_root { IsRoot self.tree }
+        ensures tree { IfOk result (λ t. t.tree ≡ state.finished self.entry) }
+        ensures counted { IfOk result (λ t. count t.tree < 2 ^ 64) }
+        ensures errors { IfOk result (λ t. AllZip IsErrorOf self.entry.errors t.errors.items) }
+        ensures recursion_limit { IfOk result (λ t. t.recursion_limit ≡ record { current = self.entry.depth; high = self.entry.high; limit = self.entry.limit }) }
+        ensures token_limit { self.entry.items ≡ [] → IfOk result (λ t. t.token_limit ≡ record { current = 0; high = self.entry.asked; limit = token_limit }) }
+    {
+        let ParserState {
+            lexer,
+            pending,
+            mut builder,
+            reports,
+            alloc,
+            recursion_limit,
+            ..
+        } = self;
+        push_all(&mut builder, &pending)?;
+        builder.finish_node();
+        let mut tokens = LimitTracker::new(token_limit);
+        tokens.high = lexer.limit_tracker().high;
+        Ok(Finished {
+            tree: builder.finish(alloc, source)?,
+            errors: errors_of(alloc, &reports)?,
+            recursion_limit,
+            token_limit: tokens,
+        })
+    }
+}

@@ -1,0 +1,167 @@
+// Building: leaves and nodes of the tree.
+#![tactic(auto, using(parser_rules::specs::Runs::does), unfolding(parser_rules::proofs::runs::Running::steps))]
+
+ghost use Rattle.std.specs.Prelude.{◌≡◌, ◌<◌, true, false, map, OnOk, IfOk};
+ghost use Rattle.lexical_grammar.specs.declared.TokenKind.TheVariants as token;
+ghost use Rattle.document_grammar.specs.declared.kind.SyntaxKind.TheVariants as kind;
+ghost use Rattle.document_grammar.specs.Forests.{none, leaf as leaf_of};
+ghost use Rattle.document_grammar.specs.Builds.{built_count};
+ghost use Rattle.apollo_tree.specs.Sound.{Fits};
+ghost use Rattle.parser_rules.specs.State as state;
+ghost use Rattle.parser_rules.specs.Nodes.{Name, IntValue, StringValue, BooleanValue};
+ghost use Rattle.parser_rules.specs.RuleLanguage.{Here, At, holds, Bump, Do, Child};
+ghost use Rattle.parser_rules.specs.Runs.{Runs};
+ghost use Rattle.parser_rules.specs.Open.{IsOpen, IsMark};
+ghost use Rattle.parser_rules.specs.Rules as rules;
+ghost use Rattle.parser_state.specs.Reading as reading;
+ghost use Rattle.parser_state.specs.View.{pending_of};
+
+use super::{ParserState, PendingToken};
+use apollo_tree::{Checkpoint, SpanBuilder};
+use document_grammar::SyntaxKind;
+use std::alloc::{AllocError, Allocator};
+
+pub(super) fn push_all<A: Allocator + Copy>(
+    builder: &mut SpanBuilder<A>,
+    pending: &[PendingToken<'_>],
+) -> Result<(), AllocError>
+    ensures { OnOk result (builder.new ≡ state.add_all (map pending_of pending.now) builder.old) }
+{
+    for token in pending {
+        builder.token(token.kind, token.text)?;
+    }
+    Ok(())
+}
+
+impl<'i, A: Allocator + Copy> ParserState<'i, A> {
+    // What waits goes into the tree.
+    pub(super) fn push_pending(&mut self) -> Result<(), AllocError>
+        ensures { OnOk result (self.new ≡ state.flush self.old) }
+    {
+        push_all(&mut self.builder, &self.pending)?;
+        self.pending.clear();
+        Ok(())
+    }
+
+    /// Opens a node, after the pending tokens.
+    pub fn start_node(&mut self, kind: SyntaxKind) -> Result<(), AllocError>
+        ensures { OnOk result (self.new ≡ state.opened kind self.old) }
+    {
+        self.push_pending()?;
+        self.builder.start_node(kind)
+    }
+
+    /// Closes the innermost node.
+    pub fn finish_node(&mut self)
+        requires { IsOpen self.old.tree }
+        ensures { self.new ≡ state.closed self.old }
+    {
+        self.builder.finish_node();
+    }
+
+    fn push_token(&mut self, kind: SyntaxKind, text: &'i str) -> Result<(), AllocError>
+        ensures { OnOk result (self.new ≡ reading.added kind text.now self.old) }
+    {
+        self.builder.token(kind, text)
+    }
+
+    /// The current token becomes a leaf of the kind.
+    pub fn bump(&mut self, kind: SyntaxKind) -> Result<(), AllocError>
+        ensures { OnOk result (Runs (Do (Bump kind)) self.old self.new) }
+    {
+        let Some(current) = self.current_token else {
+            return Ok(());
+        };
+        self.push_pending()?;
+        self.push_token(kind, current.data())?;
+        self.read_on()
+    }
+
+    fn push_leaf_node(
+        &mut self,
+        node: SyntaxKind,
+        leaf: SyntaxKind,
+        text: &'i str,
+    ) -> Result<(), AllocError>
+        requires { Fits node (leaf_of leaf text.now none) }
+        ensures { OnOk result (self.new ≡ reading.leaf_node node leaf text.now self.old) }
+    {
+        self.builder.start_node(node)?;
+        self.builder.token(leaf, text)?;
+        self.builder.finish_node();
+        Ok(())
+    }
+
+    // The current token becomes a node of one leaf.
+    fn leaf_node(&mut self, node: SyntaxKind, leaf: SyntaxKind) -> Result<(), AllocError>
+        requires { true ≡ reading.is_leaf_of node leaf self.old.current }
+        ensures { OnOk result (self.new ≡ state.closed (state.bump leaf (state.opened node self.old))) }
+    {
+        let Some(token) = self.current_token else {
+            return Ok(());
+        };
+        self.push_pending()?;
+        self.push_leaf_node(node, leaf, token.data())?;
+        self.read_on()
+    }
+
+    /// The current token, which is a name, becomes a node.
+    #[tactic(auto, using(parser_rules::proofs::runs::Forms::leaf_run), unfolding(parser_rules::specs::Rules::inside, parser_rules::specs::RuleLanguage::holds))]
+    pub fn name(&mut self) -> Result<(), AllocError>
+        requires { true ≡ holds (At token.Name) self.old }
+        ensures { OnOk result (Runs (Child Name) self.old self.new) }
+    {
+        self.leaf_node(SyntaxKind::NAME, SyntaxKind::IDENT)?;
+        Ok(())
+    }
+
+    /// The current token, which is an integer, becomes a node.
+    #[tactic(auto, using(parser_rules::proofs::runs::Forms::leaf_run), unfolding(parser_rules::specs::Rules::inside, parser_rules::specs::RuleLanguage::holds))]
+    pub fn int_value(&mut self) -> Result<(), AllocError>
+        requires { true ≡ holds (At token.Int) self.old }
+        ensures { OnOk result (Runs (Child IntValue) self.old self.new) }
+    {
+        self.leaf_node(SyntaxKind::INT_VALUE, SyntaxKind::INT)?;
+        Ok(())
+    }
+
+    /// The current token, which is a string, becomes a node.
+    #[tactic(auto, using(parser_rules::proofs::runs::Forms::leaf_run), unfolding(parser_rules::specs::Rules::inside, parser_rules::specs::RuleLanguage::holds))]
+    pub fn string_value(&mut self) -> Result<(), AllocError>
+        requires { true ≡ holds (At token.StringValue) self.old }
+        ensures { OnOk result (Runs (Child StringValue) self.old self.new) }
+    {
+        self.leaf_node(SyntaxKind::STRING_VALUE, SyntaxKind::STRING)?;
+        Ok(())
+    }
+
+    /// The current token, which is `true` or `false`, becomes a node.
+    pub fn boolean_value(&mut self) -> Result<(), AllocError>
+        requires { true ≡ holds (Here rules.boolean) self.old }
+        ensures { OnOk result (Runs (Child BooleanValue) self.old self.new) }
+    {
+        if self.at_word(SyntaxKind::true_KW) {
+            self.leaf_node(SyntaxKind::BOOLEAN_VALUE, SyntaxKind::true_KW)?;
+        } else {
+            self.leaf_node(SyntaxKind::BOOLEAN_VALUE, SyntaxKind::false_KW)?;
+        }
+        Ok(())
+    }
+
+    /// The present place in the open node, after the pending tokens, for a later `wrap`.
+    pub fn checkpoint(&mut self) -> Result<Checkpoint, AllocError>
+        ensures flushed { OnOk result (self.new ≡ state.flush self.old) }
+        ensures place { IfOk result (λ c. c.place ≡ built_count self.new.tree) }
+    {
+        self.push_pending()?;
+        Ok(self.builder.checkpoint())
+    }
+
+    /// Opens a node around what was added to the open one since the checkpoint.
+    pub fn wrap(&mut self, checkpoint: Checkpoint, kind: SyntaxKind) -> Result<(), AllocError>
+        requires { IsMark checkpoint.place self.old.tree }
+        ensures { OnOk result (self.new ≡ state.wrapped_from checkpoint.place kind self.old) }
+    {
+        self.builder.wrap(checkpoint, kind)
+    }
+}

@@ -1,0 +1,147 @@
+// Reading: the current token, the next one, and what waits.
+#![tactic(auto, using(parser_rules::specs::Runs::does), unfolding(parser_rules::proofs::runs::Running::steps))]
+
+ghost use Rattle.std.specs.Prelude.{◌≡◌, ◌<◌, true, false, OnOk, option_map};
+ghost use Rattle.lexical_grammar.specs.declared.TokenKind.TheVariants as token;
+ghost use Rattle.document_grammar.specs.declared.kind.SyntaxKind.TheVariants as kind;
+ghost use Rattle.document_grammar.specs.Forests.{none};
+ghost use Rattle.apollo_lexer.specs.Answers.{answer_of, answers_left};
+ghost use Rattle.parser_rules.specs.State as state;
+ghost use Rattle.parser_rules.specs.RuleLanguage.{Kind, Here, At, Word, Ready, Next, holds};
+ghost use Rattle.document_grammar.specs.Choices.{is_keyword};
+ghost use Rattle.document_grammar.specs.Numbers.{number};
+ghost use Rattle.parser_rules.specs.Rules as rules;
+ghost use Rattle.parser_state.specs.Reading as reading;
+ghost use Rattle.parser_state.specs.View.{current_of};
+
+use super::tokens::{ignored, is_boolean, is_eof, is_kind, is_word};
+use super::{ParserState, PendingToken};
+use crate::report::Report;
+use apollo_lexer::{LexError, Lexer, Steps, Token};
+use document_grammar::SyntaxKind;
+use lexical_grammar::TokenKind;
+use std::alloc::{AllocError, Allocator};
+
+// The next significant token that the lexer gives.
+fn next_significant<'i>(lexer: Lexer<'i>) -> Option<Token<'i>>
+    ensures { current_of result ≡ state.second (answers_left lexer.entry) }
+{
+    let mut lexer = lexer;
+    while let Some(answer) = lexer.next_counted(&mut Steps::new()) {
+        if let Ok(token) = answer {
+            if ignored(token.kind()).is_none() {
+                return Some(token);
+            }
+        }
+    }
+    None
+}
+
+impl<'i, A: Allocator + Copy> ParserState<'i, A> {
+    /// The current token: the next significant one, or the end, or none where nothing is left.
+    pub fn current(&self) -> Option<Token<'i>>
+        ensures { current_of result ≡ self.now.current }
+    {
+        self.current_token
+    }
+
+    /// Whether the current token is of the kind.
+    pub fn at(&self, kind: TokenKind) -> bool
+        ensures { result ≡ holds (At kind) self.now }
+    {
+        is_kind(self.current_token, kind)
+    }
+
+    /// Whether the current token is the keyword.
+    pub fn at_word(&self, keyword: SyntaxKind) -> bool
+        requires { is_keyword (number keyword) ≡ true }
+        ensures { result ≡ holds (Word keyword) self.now }
+    {
+        is_word(self.current_token, keyword)
+    }
+
+    /// Whether the current token is `true` or `false`.
+    pub fn at_boolean(&self) -> bool
+        ensures { result ≡ holds (Here rules.boolean) self.now }
+    {
+        is_boolean(self.current())
+    }
+
+    /// The significant token after the current one, or the end. A copy of the lexer looks for it.
+    pub fn peek(&self) -> Option<Token<'i>>
+        ensures { current_of result ≡ state.second self.now.items }
+    {
+        next_significant(self.lexer)
+    }
+
+    /// Whether the significant token after the current one is of the kind.
+    pub fn next_is(&self, kind: TokenKind) -> bool
+        ensures { result ≡ holds (Next (Kind kind)) self.now }
+    {
+        is_kind(self.peek(), kind)
+    }
+
+    /// Whether a token is left besides the end.
+    pub fn is_ready(&self) -> bool
+        ensures { result ≡ holds Ready self.now }
+    {
+        match self.current_token {
+            Some(token) => !is_eof(token.kind()),
+            None => false,
+        }
+    }
+
+    fn wait(&mut self, kind: SyntaxKind, text: &'i str) -> Result<(), AllocError>
+        ensures { OnOk result (self.new ≡ state.wait kind text.now self.old) }
+    {
+        self.pending.push(PendingToken { kind, text })?;
+        Ok(())
+    }
+
+    // An error of the lexer, and the bad text that it is about.
+    fn push_lex_error(&mut self, error: LexError<'i>) -> Result<(), AllocError>
+        ensures { OnOk result (self.new ≡ reading.refused error.entry.is_limit error.entry.text.now error.entry.index self.old) }
+    {
+        self.reports.push(Report::Lexer(error))?;
+        if error.is_limit() {
+            self.accept_errors = false;
+            return Ok(());
+        }
+        self.wait(SyntaxKind::ERROR, error.data())
+    }
+
+    // The lexer's next answer.
+    fn next_answer(&mut self) -> Option<Result<Token<'i>, LexError<'i>>>
+        ensures taken { reading.Taken (option_map answer_of result) self.old self.new }
+        ensures text { reading.IsAnswerText (option_map answer_of result) }
+    {
+        self.lexer.next_counted(&mut Steps::new())
+    }
+
+    fn set_current(&mut self, token: Option<Token<'i>>)
+        requires { state.IsNow (current_of token) }
+        ensures { self.new ≡ record self.old { current = current_of token.entry } }
+    {
+        self.current_token = token;
+    }
+
+    // Reads up to the next token that is not ignored. What it passes waits.
+    pub(super) fn read_on(&mut self) -> Result<(), AllocError>
+        ensures { OnOk result (self.new ≡ state.read_on self.old.items self.old) }
+    {
+        while let Some(answer) = self.next_answer() {
+            match answer {
+                Err(error) => self.push_lex_error(error)?,
+                Ok(token) => match ignored(token.kind()) {
+                    Some(kind) => self.wait(kind, token.data())?,
+                    None => {
+                        self.set_current(Some(token));
+                        return Ok(());
+                    }
+                },
+            }
+        }
+        self.set_current(None);
+        Ok(())
+    }
+}

@@ -1,0 +1,142 @@
+// Reporting: what was found wrong, and the errors of it.
+#![tactic(auto, using(parser_rules::specs::Runs::does), unfolding(parser_rules::proofs::runs::Running::steps))]
+
+ghost use Rattle.std.specs.Prelude.{◌≡◌, ◌<◌, true, map, OnOk, IfOk};
+ghost use Rattle.std.specs.List.{AllZip};
+ghost use Rattle.lexical_grammar.specs.declared.TokenKind.TheVariants as token;
+ghost use Rattle.document_grammar.specs.declared.kind.SyntaxKind.TheVariants as kind;
+ghost use Rattle.parser_rules.specs.State as state;
+ghost use Rattle.parser_rules.specs.RuleLanguage.{At, Word, Ready, Note, Bump, Do, When, Skip, want, expect, expect_word, refuse};
+ghost use Rattle.parser_rules.specs.Runs.{Runs};
+ghost use Rattle.document_grammar.specs.Choices.{is_keyword};
+ghost use Rattle.document_grammar.specs.Numbers.{number};
+ghost use Rattle.parser_state.specs.Errors.{IsErrorOf};
+ghost use Rattle.parser_state.specs.View.{report_of};
+
+use super::ParserState;
+use crate::report::Report;
+use apollo_lexer::Error;
+use document_grammar::SyntaxKind;
+use lexical_grammar::TokenKind;
+use parser_rules::Message;
+use std::alloc::{AllocError, Allocator};
+
+// An error for each report.
+pub(super) fn errors_of<A: Allocator + Copy>(
+    alloc: A,
+    reports: &[Report<'_>],
+) -> Result<Vec<Error<A>, A>, AllocError>
+    ensures { IfOk result (λ errors. AllZip IsErrorOf (map report_of reports.now) errors.items) }
+{
+    let mut errors = Vec::new(alloc);
+    for report in reports {
+        errors.push(report.to_error(alloc)?)?;
+    }
+    Ok(errors)
+}
+
+impl<'i, A: Allocator + Copy> ParserState<'i, A> {
+    // After a limit error no more is reported.
+    pub(super) fn push_report(&mut self, report: Report<'i>) -> Result<(), AllocError>
+        ensures { OnOk result (self.new ≡ state.reported (report_of report.entry) self.old) }
+    {
+        if self.accept_errors {
+            self.reports.push(report)?;
+        }
+        Ok(())
+    }
+
+    /// Reports an error at the current token.
+    pub fn err(&mut self, message: Message) -> Result<(), AllocError>
+        ensures { OnOk result (Runs (Do (Note message)) self.old self.new) }
+    {
+        if let Some(token) = self.current_token {
+            self.push_report(Report::Fault(message, token))?;
+        }
+        Ok(())
+    }
+
+    /// Reports an error at the current token, and pops it: it becomes an ERROR leaf.
+    #[tactic(auto, using(parser_rules::proofs::runs::Running::sequence))]
+    pub fn err_and_pop(&mut self, message: Message) -> Result<(), AllocError>
+        ensures { OnOk result (Runs (refuse message) self.old self.new) }
+    {
+        self.err(message)?;
+        self.bump(SyntaxKind::ERROR)
+    }
+
+    /// The punctuator becomes a leaf, or an error reports that it is missing.
+    #[tactic(auto, using(parser_rules::proofs::runs::Running::sequence))]
+    pub fn expect(
+        &mut self,
+        token: TokenKind,
+        kind: SyntaxKind,
+        message: Message,
+    ) -> Result<(), AllocError>
+        ensures { OnOk result (Runs (expect token kind message) self.old self.new) }
+    {
+        if self.at(token) {
+            self.bump(kind)
+        } else {
+            self.err(message)
+        }
+    }
+
+    /// The keyword becomes a leaf, or an error reports that it is missing.
+    #[tactic(auto, using(parser_rules::proofs::runs::Running::sequence))]
+    pub fn expect_word(&mut self, keyword: SyntaxKind, message: Message) -> Result<(), AllocError>
+        requires { is_keyword (number keyword) ≡ true }
+        ensures { OnOk result (Runs (expect_word keyword message) self.old self.new) }
+    {
+        if self.at_word(keyword) {
+            self.bump(keyword)
+        } else {
+            self.err(message)
+        }
+    }
+
+    /// The punctuator becomes a leaf, if it is there.
+    #[tactic(auto, using(parser_rules::proofs::runs::Running::sequence))]
+    pub fn skip(&mut self, token: TokenKind, kind: SyntaxKind) -> Result<(), AllocError>
+        ensures { OnOk result (Runs (When (At token) (Do (Bump kind)) Skip) self.old self.new) }
+    {
+        if self.at(token) {
+            return self.bump(kind);
+        }
+        Ok(())
+    }
+
+    /// The keyword becomes a leaf, if it is there.
+    #[tactic(auto, using(parser_rules::proofs::runs::Running::sequence))]
+    pub fn skip_word(&mut self, keyword: SyntaxKind) -> Result<(), AllocError>
+        requires { is_keyword (number keyword) ≡ true }
+        ensures { OnOk result (Runs (When (Word keyword) (Do (Bump keyword)) Skip) self.old self.new) }
+    {
+        if self.at_word(keyword) {
+            return self.bump(keyword);
+        }
+        Ok(())
+    }
+
+    /// Reports an error where the current token is not of the kind.
+    #[tactic(auto, using(parser_rules::proofs::runs::Running::sequence))]
+    pub fn want(&mut self, kind: TokenKind, message: Message) -> Result<(), AllocError>
+        ensures { OnOk result (Runs (want (At kind) message) self.old self.new) }
+    {
+        if self.at(kind) {
+            return Ok(());
+        }
+        self.err(message)
+    }
+
+    /// Reports an error where no token is left.
+    #[tactic(auto, using(parser_rules::proofs::runs::Running::sequence))]
+    pub fn want_ready(&mut self, message: Message) -> Result<(), AllocError>
+        ensures { OnOk result (Runs (want Ready message) self.old self.new) }
+    {
+        if self.is_ready() {
+            return Ok(());
+        }
+        self.err(message)
+    }
+}
