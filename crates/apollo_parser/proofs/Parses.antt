@@ -13,7 +13,7 @@ use Rattle.parser_rules.proofs.recovery.RowSymbols.{rowed, document-rowed}
 use Rattle.parser_rules.proofs.recovery.LeftOver.{all-rowed, left-over, left-over-by, Told_at}
 use Rattle.parser_rules.proofs.soundness.Settled.{EndedFit}
 use Rattle.parser_rules.proofs.recovery.IgnoredPlaces.{placed}
-use Rattle.std.proofs.Common.{◌≡◌, ◌≢◌, ℕ, ◌+◌, ◌-◌, ◌^◌, ◌<◌, ◌≤◌, arith, min, true, List, [], length, map, take, drop, ◌++◌, Option, Some, None, refl, sym, ap, ◌∙◌, subst, ◌∷◌}
+use Rattle.std.proofs.Common.{inl, inr, ◌≡◌, ◌≢◌, ℕ, ◌+◌, ◌-◌, ◌^◌, ◌<◌, ◌≤◌, arith, min, true, List, [], length, map, take, drop, ◌++◌, Option, Some, None, refl, sym, ap, ◌∙◌, subst, ◌∷◌}
 use Rattle.std.specs.List.Sorted.{IsNonDecreasing}
 use Rattle.lexical_grammar.specs.Cut.{Cut, texts}
 use Rattle.lexical_grammar.specs.Reads.{items_of}
@@ -36,7 +36,7 @@ use Rattle.grammar_machine.proofs.SentenceTheorems.{one-derivation}
 use Rattle.apollo_lexer.specs.declared.limit.LimitTracker.{LimitTracker}
 use Rattle.apollo_lexer.proofs.Law.{limited-length}
 use Rattle.apollo_parser.specs.ByRules.{ByRules}
-use Rattle.apollo_parser.specs.Promise.{Parsed, ErrorsOf, IsRecursionLimit, IsLimitWorded, IsTokenLimit, OfFirst, HasError, IsAbout}
+use Rattle.apollo_parser.specs.Promise.{Parsed, ErrorsOf, IsRecursionLimit, IsLimitWorded, IsTokenLimit, OfFirst, HasError, IsAbout, Recovers, root_children}
 use Rattle.apollo_lexer.specs.Diagnostics.{Diagnostic, of_text, of_limit}
 use Rattle.parser_state.specs.Errors.{found_of, IsErrorOf}
 use Rattle.apollo_parser.proofs.Errors.{same-indices, none-said, none-told, token-limit-told, no-recursion, subject-limit, any-recursion, ascii-messages, source-ascii, limit-worded, any-limit, any-said, fault-text, errors-along}
@@ -57,6 +57,21 @@ use Rattle.parser_rules.proofs.reports.InOrder.{in-order}
 use Rattle.parser_rules.proofs.nesting.Nesting.{nesting}
 use Rattle.parser_rules.proofs.soundness.Soundness.{sound, clean}
 use Rattle.parser_rules.proofs.reports.AlongItems.{reported}
+use Rattle.std.specs.List.{list_all}
+use Rattle.std.specs.Prelude.{Bool}
+use Rattle.std.proofs.lemmas.List.Elements.{All-nil, All-cons}
+use Rattle.lexical_grammar.specs.Answers.{is_given}
+use Rattle.lexical_grammar.proofs.Limited.{given-within}
+use Rattle.document_grammar.specs.Forests as built
+use Rattle.document_grammar.specs.Recovery.{GoesOn}
+use Rattle.document_grammar.proofs.Booleans.{either}
+use Rattle.parser_rules.specs.Reports.{no_more, bad_text, token_limit, fault, recursion_limit, passed}
+use Rattle.parser_rules.proofs.reports.InOrder.{AllUpTo}
+use Rattle.parser_rules.proofs.reports.NoReport.{current_tokens, kind_tokens, end-kind}
+use Rattle.parser_rules.proofs.runs.Marked.{Reports, reports-then, read-reports, reports-along}
+use Rattle.parser_rules.proofs.runs.Reading.{reading}
+use Rattle.parser_rules.proofs.runs.Steps.{along}
+use Rattle.parser_rules.proofs.recovery.LaterChildren.{goes-on}
 
 all_read : (o : Option Lexeme) (items : List Answer) → EndNow o items → is_over o ≡ true → items ≡ []
 unfolding EndNow
@@ -265,3 +280,39 @@ left-over-of {source = source} {r = r} {k = k} {t = t} p n =
     (λ d z. record { subject = fault-text h.said h.token d h.some z ∙ ap of_text h.own; index = z.index ∙ h.index }) (subst (λ (rs : List Report). AllZip IsErrorOf rs t.errors) h.told.split p.errors) in
     subst (λ f. LeftOver (HasError t.errors) (items_of source) 0 (children_of (tree_of f))) (sym (one-tree p))
     (left-over-by (items_of source) (Told_at s.errors) (HasError t.errors) told 0 (numbered (add_all s.pending s.tree).here) (left-over source k (items_of source) s p.cut rec))
+
+has-later : (e r : Report) (rs : List Report) → Has rs e → Has (r ∷ rs) e
+has-later e r rs h = record { before = r ∷ h.before; after = h.after; split = ap (λ (l : List Report). r ∷ l) h.split }
+
+-- where no limit is reported, all items are read
+all-given-by : {taken : Bool} {xs : List Answer} {rs : List Report} → Reported taken xs rs → ((e : Report) → e.found ≡ at_limit → Has rs e → ⊥) → list_all is_given xs ≡ true
+all-given-by no_more n = refl
+all-given-by (bad_text {reports = rs} i h) n = all-given-by h (λ e f m. n e f (has-later e _ rs m))
+all-given-by (token_limit {reports = rs} h) n = absurd (n _ refl (record { before = []; after = rs; split = refl }))
+all-given-by (fault m {reports = rs} i j h) n = all-given-by h (λ e f k. n e f (has-later e _ rs k))
+all-given-by (recursion_limit {reports = rs} i j h) n = absurd (n _ refl (record { before = []; after = rs; split = refl }))
+all-given-by (passed i h) n = all-given-by h n
+
+over-tokens : (o : Option Lexeme) → is_over o ≡ true → current_tokens o ≡ []
+over-tokens None h = refl
+over-tokens (Some x) h = ap (λ k. kind_tokens k x.text) (end-kind x.kind h)
+
+below-all : (m : ℕ) (es : List Report) → AllUpTo m es → All (λ (n : ℕ). n ≤ m) (map (λ (e : Report). e.index) es)
+below-all m [] h = All-nil (λ (n : ℕ). n ≤ m)
+below-all m (e ∷ es) h = All-cons (λ (n : ℕ). n ≤ m) e.index (map (λ (e : Report). e.index) es) h.0 (below-all m es h.1)
+
+-- where what follows a child of the root is a document of its own, the later children are its derivation's, and no error is beyond its first token
+pub goes-on-of : {source : List ℕ} {r k : ℕ} {t : Parsed} → ByRules source r k t → (Any (λ e. e.subject ≡ of_limit) t.errors → ⊥) → GoesOn r (items_of source) (map (λ e. e.index) t.errors) (root_children t.tree)
+goes-on-of {source = source} {r = r} {k = k} {t = t} p n front later a u same whole spells nests =
+    let s : State = p.last in
+    let xs : List Answer = answers k source in
+    let none-met : (e : Report) → e.found ≡ at_limit → Has s.errors e → ⊥ = λ e f h. n (any-limit h.before h.after e t.errors f (subst (λ (rs : List Report). AllZip IsErrorOf rs t.errors) h.split p.errors)) in
+    let count : length (items_of source) ≤ k = given-within k (items_of source) (all-given-by (run-reported k r source s p.cut p.run) none-met) in
+    let b : Reports (fresh xs r kind.DOCUMENT) s = reports-then (fresh xs r kind.DOCUMENT) (begun xs r kind.DOCUMENT) s (read-reports (reading xs (fresh xs r kind.DOCUMENT))) (along reports-along p.run) in
+    let taken : s.accepts ≡ true = elim (either s.accepts) [ inl y ↦ y | inr y ↦ (let l = b.limited refl y in absurd (none-met l.0 l.1 (subst (λ (z : List Report). Has z l.0) (sym b.errors) l.2))) ] in
+    let here : (add_all s.pending s.tree).here ≡ built.join front later = sym (ap root_children (one-tree p)) ∙ same in
+    let g = goes-on r k source (items_of source) s p.cut p.run count taken (run-read k r source s p.cut p.run) (over-tokens s.current (document-over p.run)) front later a u here whole spells nests in
+    (g.0, λ m b' sig. subst (λ (is : List ℕ). All (λ (n : ℕ). n ≤ m) is) (sym (same-indices s.errors t.errors p.errors)) (below-all m s.errors (g.1 m b' sig)))
+
+pub recovers-of : {source : List ℕ} {r k : ℕ} {t : Parsed} → ByRules source r k t → (Any (λ e. e.subject ≡ of_limit) t.errors → ⊥) → Recovers r (items_of source) t
+recovers-of p n = record { left_over = left-over-of p n; row_symbols = all-rowed-of p; goes_on = goes-on-of p n }

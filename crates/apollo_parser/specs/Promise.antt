@@ -1,11 +1,13 @@
 -- The words of `Parser::parse`'s contract that are not in the specs of `lexical_grammar` and `document_grammar`: what a parse gives, what its
 -- errors are, and what is promised with errors. The standard says nothing of errors, so these are this project's own promises.
-use Rattle.std.specs.Prelude.{◌≡◌, ◌⊎◌, ℕ, Bool, true, false, if◌then◌else◌, List, [], ◌∷◌, Some, None, ⊤}
+use Rattle.std.specs.Prelude.{◌≡◌, ◌⊎◌, ℕ, Bool, true, false, if◌then◌else◌, List, [], ◌∷◌, Some, None, map, ⊤}
 use Rattle.std.specs.List.{Any}
 use Rattle.lexical_grammar.specs.declared.TokenKind.{TokenKind}
 use Rattle.lexical_grammar.specs.Cut.{Item}
 use Rattle.lexical_grammar.specs.Answers.{Answer, gives, limit_at, is_end}
-use Rattle.document_grammar.specs.Forests.{Forest}
+use Rattle.document_grammar.specs.Forests.{Forest, none, leaf, node}
+use Rattle.document_grammar.specs.Numbered.{tree_of}
+use Rattle.document_grammar.specs.Recovery.{children_of, LeftOver, Rowed, GoesOn}
 use Rattle.document_grammar.specs.Leaves.{ignored}
 use Rattle.apollo_lexer.specs.declared.limit.LimitTracker.{LimitTracker}
 use Rattle.apollo_lexer.specs.Diagnostics.{of_text, of_end, of_limit, Subject, Diagnostic}
@@ -53,9 +55,9 @@ pub record IsLimitWorded (error : Diagnostic) : Type 0 where
 -- ---- all errors
 
 -- The error is about this, which begins at this byte.
-pub record IsAbout (subject : Subject) (index : ℕ) (error : Diagnostic) : Type 0 where
-  pub subject : error.subject ≡ subject
-  pub index : error.index ≡ index
+pub record IsAbout (what : Subject) (place : ℕ) (error : Diagnostic) : Type 0 where
+  pub subject : error.subject ≡ what
+  pub index : error.index ≡ place
 
 -- What an error at this token is about: its text, or the end.
 abbrev pub subject_at : TokenKind → Text → Subject
@@ -95,3 +97,22 @@ OfFirst P (error ∷ errors) = P error
 -- One of the errors is at the place, about the text there.
 abbrev pub HasError : List Diagnostic → ℕ → Text → Type 0
 HasError errors place text = Any (IsAbout (of_text text) place) errors
+
+-- ---- after errors
+
+-- The children of the first tree, which is the root.
+abbrev pub root_children : Forest → Forest
+root_children none = none
+root_children (leaf k text rest) = none
+root_children (node k kids rest) = kids
+
+-- The parse goes on after its errors; `r` is the recursion limit, and the items are those of the text.
+pub record Recovers (r : ℕ) (items : List Item) (t : Parsed) : Type 0 where
+  -- each token that was left over has its error, with its place and its text, and is a child of the root, or of a list and not `]`, or its
+  -- node's only one
+  pub left_over : LeftOver (HasError t.errors) items 0 (children_of (tree_of t.tree))
+  -- each other child of a node but ignored, ERROR and SPREAD leaves is a symbol of its row
+  pub row_symbols : Rowed (tree_of t.tree)
+  -- where the items after a child of the root have no bad text and are a document of its own, which nests at most r deep, the later children,
+  -- without their ignored leaves, are its derivation's, and no error is beyond its first token
+  pub goes_on : GoesOn r items (map (λ (e : Diagnostic). e.index) t.errors) (root_children t.tree)

@@ -13,13 +13,13 @@ ghost use Rattle.document_grammar.specs.Forests.{Forest, none, node, text};
 ghost use Rattle.document_grammar.specs.Derivation.{document as document_sort, nest};
 ghost use Rattle.document_grammar.specs.Tree.{Tree};
 ghost use Rattle.document_grammar.specs.Sentence.{Sentence, FirstSentence, Within};
-ghost use Rattle.document_grammar.specs.Recovery.{Rowed, LeftOver, children_of};
+ghost use Rattle.document_grammar.specs.Recovery.{Rowed};
 ghost use Rattle.document_grammar.specs.FirstError.{OnlyDerivation, NotLate, NotEarly, NotEarlyLimit, EndedNodesFit};
 ghost use Rattle.document_grammar.specs.Places.{bare, Placed};
 ghost use Rattle.document_grammar.specs.Numbered.{tree_of};
 ghost use Rattle.document_grammar.specs.Leaves.{leaves, OneLeafAnItem};
 ghost use Rattle.apollo_parser.specs.ByRules.{ByRules};
-ghost use Rattle.apollo_parser.specs.Promise.{ErrorsOf, IsRecursionLimit, IsLimitWorded, IsTokenLimit, OfFirst, HasError};
+ghost use Rattle.apollo_parser.specs.Promise.{ErrorsOf, IsRecursionLimit, IsLimitWorded, IsTokenLimit, OfFirst, Recovers};
 
 use crate::syntax_tree::{DocumentRoot, SyntaxTree};
 use apollo_grammar::document;
@@ -157,8 +157,10 @@ impl<'i> Parser<'i> {
         ensures ended_nodes_fit { IfOk result (λ t. OfFirst (λ e. EndedNodesFit (items_of self.entry.source.now) e.index (tree_of t.tree)) t.errors) }
         // also with errors, each child of a node is a symbol of its row, or an ERROR, SPREAD or ignored leaf
         ensures row_symbols { IfOk result (λ t. Rowed (tree_of t.tree)) }
-        // where no limit is met, each token that was left over has its error, and is a child of the root or of a list, or its node's only one
-        ensures left_over { IfOk result (λ t. ¬ Any (λ e. e.subject ≡ of_limit) t.errors → LeftOver (HasError t.errors) (items_of self.entry.source.now) 0 (children_of (tree_of t.tree))) }
+        // where no limit is met: each token that was left over has its error, and is a child of the root or of a list, or its node's only one; and
+        // where what follows a child of the root is a document of its own, the later children are its derivation's, and no error is beyond its
+        // first token
+        ensures recovers { IfOk result (λ t. ¬ Any (λ e. e.subject ≡ of_limit) t.errors → Recovers self.entry.recursion_limit (items_of self.entry.source.now) t) }
     {
         self.run_document(alloc)
     }

@@ -1,5 +1,5 @@
 use Rattle.std.proofs.lemmas.Result.{IfOk-weaker}
-use Rattle.apollo_parser.proofs.Parses.{lossless, one-document, one-leaf, recursion, nested, tokens, errors, ascii_messages, limit-met, past-limit, limit-words, ordered, sound-tree, accepts, only-derivation, still-a-sentence, placed-leaves, not-late-of, not-early-of, not-early-limit-of, ended-nodes-of, all-rowed-of, left-over-of}
+use Rattle.apollo_parser.proofs.Parses.{lossless, one-document, one-leaf, recursion, nested, tokens, errors, ascii_messages, limit-met, past-limit, limit-words, ordered, sound-tree, accepts, only-derivation, still-a-sentence, placed-leaves, not-late-of, not-early-of, not-early-limit-of, ended-nodes-of, all-rowed-of, recovers-of}
 use Rattle.apollo_parser.proofs.parser.Parser.parse.Goals as goal
 
 pub returns-clause-cut : goal.returns-clause-cut
@@ -71,5 +71,5 @@ returns-clause-ended_nodes_fit g c = IfOk-weaker c.run_document.result _ _ (λ t
 pub returns-clause-row_symbols : goal.returns-clause-row_symbols
 returns-clause-row_symbols g c = IfOk-weaker c.run_document.result _ _ (λ t p. all-rowed-of p) c.run_document.ensures
 
-pub returns-clause-left_over : goal.returns-clause-left_over
-returns-clause-left_over g c = IfOk-weaker c.run_document.result _ _ (λ t p. left-over-of p) c.run_document.ensures
+pub returns-clause-recovers : goal.returns-clause-recovers
+returns-clause-recovers g c = IfOk-weaker c.run_document.result _ _ (λ t p. recovers-of p) c.run_document.ensures

@@ -1,4 +1,4 @@
-use Rattle.std.proofs.Common.{refl, ap, subst}
+use Rattle.std.proofs.Common.{refl, ap, subst, ◌∙◌}
 use Rattle.document_grammar.specs.declared.kind.SyntaxKind.TheVariants as kind
 use Rattle.document_grammar.specs.Numbers.{is_kind}
 use Rattle.apollo_lexer.specs.Answers.{answers_left}
@@ -22,6 +22,13 @@ finish-requires g c =
       source = run-begins c.args.self.token_limit r c.args.self.source.now c.document.new.p c.lexer.ensures.cut ran;
       open_root = root-kept xs r kind.DOCUMENT refl run;
     }
+
+pub invariant_of-result : goal.invariant_of-result
+invariant_of-result g c =
+    let xs = answers_left c.lexer.result in
+    let run = subst (λ s. Runs (Call Document) s c.document.new.p) c.in_ok-p.ensures c.in_ok-document.ensures in
+    let one = finished-node c.document.new.p kind.DOCUMENT (root-stays xs c.args.self.recursion_limit kind.DOCUMENT run) in
+    (ap (λ f. is_kind kind.DOCUMENT (root_kind f)) (c.in_ok-finished.ensures.tree ∙ one), tt)
 
 pub returns : goal.returns
 returns g c =
