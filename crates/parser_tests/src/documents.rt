@@ -1,8 +1,9 @@
 mod descriptions;
 mod executable;
-mod limits;
+mod own_limits;
 mod type_system;
 
+use crate::parsing::{parse, parse_by};
 use apollo_parser::{DocumentRoot, Parser, SyntaxTree};
 use std::alloc::{AllocError, Global};
 use std::process::Abort;
@@ -10,7 +11,7 @@ use std::test::Fail;
 
 // Each error's message, data and index, and then the tree's text and the greatest counts of nesting and of items.
 fn shown(alloc: Global, parser: Parser<'_>) -> Result<String, AllocError> {
-    let tree = parser.parse(alloc)?;
+    let tree = parse_by(alloc, parser)?;
     let mut lines = String::new(alloc);
     for error in tree.errors() {
         let message = error.message();
@@ -68,7 +69,7 @@ fn definitions<'t>(
 
 // Each error's message, data and index, then the greatest nesting that was asked for and how many definitions there are.
 fn found(alloc: Global, source: &str, nesting: usize) -> Result<String, AllocError> {
-    let tree = Parser::new(source).recursion_limit(nesting).parse(alloc)?;
+    let tree = parse_by(alloc, Parser::new(source).recursion_limit(nesting))?;
     let mut lines = String::new(alloc);
     for error in tree.errors() {
         let message = error.message();
@@ -96,7 +97,7 @@ fn expect_found(rt: &(impl Abort + AllocGlobal), rows: &[(&str, &str)]) -> Resul
 fn expect_printed(rt: &(impl Abort + AllocGlobal), rows: &[(&str, &str)]) -> Result<(), Fail> {
     for row in rows {
         let (source, wanted) = *row;
-        let tree = Parser::new(source).parse(rt.alloc())?;
+        let tree = parse(rt.alloc(), source)?;
         let printed = format!(in rt.alloc(); "{tree:?}")?;
         assert_eq!(rt; printed.as_str(), wanted);
     }
@@ -106,12 +107,12 @@ fn expect_printed(rt: &(impl Abort + AllocGlobal), rows: &[(&str, &str)]) -> Res
 #[test]
 fn definitions_behind_unknown_words(rt: HostRuntime) -> Result<(), Fail> {
     let alloc = rt.alloc();
-    let tree = Parser::new("\nuasdf21230jkdw\n\n{\n    pet\n    faveSnack\n}\n").parse(alloc)?;
+    let tree = parse(alloc, "\nuasdf21230jkdw\n\n{\n    pet\n    faveSnack\n}\n")?;
     assert_eq!(rt; tree.errors().len(), 1);
     assert!(rt;
         definitions(alloc, &tree)?.as_slice() == ["{\n    pet\n    faveSnack\n}"].as_slice()
     );
-    let tree = Parser::new("dtzt7777777777t7777777777z7").parse(alloc)?;
+    let tree = parse(alloc, "dtzt7777777777t7777777777z7")?;
     assert_eq!(rt; tree.errors().len(), 1);
     assert!(rt; definitions(alloc, &tree)?.is_empty());
     Ok(())
@@ -191,7 +192,7 @@ recursion limit: 500, high: 0",
         ),
     ];
     for (source, count, wanted) in rows {
-        let tree = Parser::new(source).parse(rt.alloc())?;
+        let tree = parse(rt.alloc(), source)?;
         assert_eq!(rt; tree.element_count(), count, "{source}");
         let printed = format!(in rt.alloc(); "{tree:?}")?;
         assert_eq!(rt; printed.as_str(), wanted);

@@ -4,4 +4,6 @@
 #[cfg(test)]
 mod documents;
 #[cfg(test)]
+mod parsing;
+#[cfg(test)]
 mod typed;

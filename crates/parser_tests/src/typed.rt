@@ -3,7 +3,7 @@ mod definitions;
 mod executable;
 mod literals;
 
-use apollo_parser::Parser;
+use crate::parsing::parse;
 use apollo_parser::cst::{Definition, Document, Field, OperationDefinition, Selection, Value};
 use std::alloc::{AllocError, Global};
 use std::test::Fail;
@@ -51,7 +51,7 @@ fn variables_of_a_query(rt: HostRuntime) -> Result<(), Fail> {
     }
   }
   ";
-    let tree = Parser::new(source).parse(alloc)?;
+    let tree = parse(alloc, source)?;
     assert_eq!(rt; tree.errors().len(), 0);
     let operation = first_operation(tree.document()).expect(&rt, "an operation");
     let name = operation.name().expect(&rt, "a name");
@@ -78,7 +78,7 @@ fn alias_and_name(document: Document<'_>) -> Option<(&str, &str)> {
 
 #[test]
 fn alias_and_name_of_a_field(rt: HostRuntime) -> Result<(), Fail> {
-    let tree = Parser::new("{ a , : b }").parse(rt.alloc())?;
+    let tree = parse(rt.alloc(), "{ a , : b }")?;
     assert_eq!(rt; tree.errors().len(), 0);
     let (alias, name) = alias_and_name(tree.document()).expect(&rt, "a field with an alias");
     assert_eq!(rt; alias, "a");
@@ -97,7 +97,7 @@ fn first_value(document: Document<'_>) -> Option<Value<'_>> {
 
 #[test]
 fn value_of_a_string(rt: HostRuntime) -> Result<(), Fail> {
-    let tree = Parser::new("{ a(b: \"one\\ntwo\\u00e9\") }").parse(rt.alloc())?;
+    let tree = parse(rt.alloc(), "{ a(b: \"one\\ntwo\\u00e9\") }")?;
     assert_eq!(rt; tree.errors().len(), 0);
     let Some(Value::StringValue(string)) = first_value(tree.document()) else {
         return Err(Fail::new("no string"));
@@ -108,7 +108,7 @@ fn value_of_a_string(rt: HostRuntime) -> Result<(), Fail> {
 
 #[test]
 fn value_of_an_integer(rt: HostRuntime) -> Result<(), Fail> {
-    let tree = Parser::new("{ a(b: -2147483648) }").parse(rt.alloc())?;
+    let tree = parse(rt.alloc(), "{ a(b: -2147483648) }")?;
     assert_eq!(rt; tree.errors().len(), 0);
     let Some(Value::IntValue(number)) = first_value(tree.document()) else {
         return Err(Fail::new("no integer"));
@@ -119,7 +119,7 @@ fn value_of_an_integer(rt: HostRuntime) -> Result<(), Fail> {
 
 #[test]
 fn value_of_a_boolean(rt: HostRuntime) -> Result<(), Fail> {
-    let tree = Parser::new("{ a(b: true) }").parse(rt.alloc())?;
+    let tree = parse(rt.alloc(), "{ a(b: true) }")?;
     assert_eq!(rt; tree.errors().len(), 0);
     let Some(Value::BooleanValue(truth)) = first_value(tree.document()) else {
         return Err(Fail::new("no boolean"));
@@ -131,7 +131,7 @@ fn value_of_a_boolean(rt: HostRuntime) -> Result<(), Fail> {
 // A tree with errors has its document too.
 #[test]
 fn document_of_a_faulty_text(rt: HostRuntime) -> Result<(), Fail> {
-    let tree = Parser::new("").parse(rt.alloc())?;
+    let tree = parse(rt.alloc(), "")?;
     assert_eq!(rt; tree.errors().len(), 1);
     assert!(rt; tree.document().definitions().next().is_none());
     Ok(())

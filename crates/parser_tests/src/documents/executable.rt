@@ -1,4 +1,5 @@
 use super::{expect_found, expect_printed, found};
+use crate::parsing::parse_by;
 use apollo_parser::Parser;
 use std::test::Fail;
 
@@ -146,7 +147,7 @@ fn nesting(rt: HostRuntime) -> Result<(), Fail> {
 
 #[test]
 fn spread_before_the_token_limit(rt: HostRuntime) -> Result<(), Fail> {
-    let tree = Parser::new("{ ...a }").token_limit(3).parse(rt.alloc())?;
+    let tree = parse_by(rt.alloc(), Parser::new("{ ...a }").token_limit(3))?;
     let mut errors = tree.errors();
     let first = errors.next().ok_or("the spread's error")?;
     assert_eq!(rt;
@@ -165,7 +166,7 @@ fn spread_before_the_token_limit(rt: HostRuntime) -> Result<(), Fail> {
 
 #[test]
 fn string_before_the_token_limit(rt: HostRuntime) -> Result<(), Fail> {
-    let tree = Parser::new("\"d\" {a}").token_limit(2).parse(rt.alloc())?;
+    let tree = parse_by(rt.alloc(), Parser::new("\"d\" {a}").token_limit(2))?;
     let mut errors = tree.errors();
     let first = errors.next().ok_or("the string's error")?;
     assert_eq!(rt;

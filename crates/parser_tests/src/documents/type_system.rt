@@ -1,5 +1,6 @@
 // Definitions and extensions of the type system.
 use super::{expect_found, expect_printed, shown};
+use crate::parsing::parse_by;
 use apollo_parser::Parser;
 use std::test::Fail;
 
@@ -251,7 +252,7 @@ fn limits(rt: HostRuntime) -> Result<(), Fail> {
 fn tree_before_the_token_limit(rt: HostRuntime) -> Result<(), Fail> {
     let source =
         "\n            type Query {\n                field(arg1: Int, missing_arg): Int\n                # limit reached here\n                field2: !String\n            } and then some garbage\n        ";
-    let tree = Parser::new(source).token_limit(22).parse(rt.alloc())?;
+    let tree = parse_by(rt.alloc(), Parser::new(source).token_limit(22))?;
     let printed = format!(in rt.alloc(); "{tree:?}")?;
     assert_eq!(rt;
         printed.as_str(),

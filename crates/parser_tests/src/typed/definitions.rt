@@ -1,6 +1,6 @@
 // Definitions and extensions of the type system.
 use super::{first_definition, first_operation};
-use apollo_parser::Parser;
+use crate::parsing::parse;
 use apollo_parser::cst::{
     CstNode, Definition, Document, EnumValueDefinition, InputValueDefinition, StringValue, Value,
 };
@@ -9,7 +9,7 @@ use std::test::Fail;
 #[test]
 fn members_of_a_union(rt: HostRuntime) -> Result<(), Fail> {
     let source = "union SearchResult = Photo | Person | Cat | Dog";
-    let tree = Parser::new(source).parse(rt.alloc())?;
+    let tree = parse(rt.alloc(), source)?;
     assert_eq!(rt; tree.errors().len(), 0);
     let Some(Definition::UnionTypeDefinition(union)) = first_definition(tree.document()) else {
         return Err(Fail::new("no union"));
@@ -34,7 +34,7 @@ type ProductDimension {
   weight: Float @tag(name: \"hi from inventory value type field\")
 }
 ";
-    let tree = Parser::new(source).parse(rt.alloc())?;
+    let tree = parse(rt.alloc(), source)?;
     assert_eq!(rt; tree.errors().len(), 0);
     let Some(Definition::ObjectTypeDefinition(object)) = first_definition(tree.document()) else {
         return Err(Fail::new("no object type"));
@@ -67,7 +67,7 @@ fn first_argument(document: Document<'_>) -> Option<InputValueDefinition<'_>> {
 #[test]
 fn argument_of_a_field(rt: HostRuntime) -> Result<(), Fail> {
     let source = "type Query { bestSellers(category: ProductCategory = ALL): [Product] }";
-    let tree = Parser::new(source).parse(rt.alloc())?;
+    let tree = parse(rt.alloc(), source)?;
     assert_eq!(rt; tree.errors().len(), 0);
     let argument = first_argument(tree.document()).expect(&rt, "an argument");
     let name = argument.name().expect(&rt, "a name");
@@ -106,7 +106,7 @@ fn kinds_of_definitions(rt: HostRuntime) -> Result<(), Fail> {
         ("extend enum E { A }", "EnumTypeExtension", Some("E")),
         ("extend input I @a", "InputObjectTypeExtension", Some("I")),
     ] {
-        let tree = Parser::new(source).parse(rt.alloc())?;
+        let tree = parse(rt.alloc(), source)?;
         assert_eq!(rt; tree.errors().len(), 0, "{source}");
         let definition = first_definition(tree.document()).expect(&rt, "a definition");
         assert_eq!(rt; definition.kind(), kind);
@@ -122,7 +122,7 @@ fn kinds_of_definitions(rt: HostRuntime) -> Result<(), Fail> {
 fn locations_of_a_directive(rt: HostRuntime) -> Result<(), Fail> {
     let source =
         "directive @example repeatable on\n| FIELD\n| FRAGMENT_SPREAD\n| INLINE_FRAGMENT\n";
-    let tree = Parser::new(source).parse(rt.alloc())?;
+    let tree = parse(rt.alloc(), source)?;
     assert_eq!(rt; tree.errors().len(), 0);
     let Some(Definition::DirectiveDefinition(directive)) = first_definition(tree.document()) else {
         return Err(Fail::new("no directive"));
@@ -163,7 +163,7 @@ fn first_string(value: EnumValueDefinition<'_>) -> Option<StringValue<'_>> {
 #[test]
 fn directive_of_an_enum_value(rt: HostRuntime) -> Result<(), Fail> {
     let source = "enum join__Graph { ACCOUNTS @join__graph(name: \"accounts\") }";
-    let tree = Parser::new(source).parse(rt.alloc())?;
+    let tree = parse(rt.alloc(), source)?;
     assert_eq!(rt; tree.errors().len(), 0);
     let definition = first_enum_value(tree.document()).expect(&rt, "an enum value");
     let value = definition.enum_value().expect(&rt, "its name");
@@ -176,7 +176,7 @@ fn directive_of_an_enum_value(rt: HostRuntime) -> Result<(), Fail> {
 // An enum value without a name is there, and has no text.
 #[test]
 fn enum_value_without_a_name(rt: HostRuntime) -> Result<(), Fail> {
-    let tree = Parser::new("enum E { \"d\" }").parse(rt.alloc())?;
+    let tree = parse(rt.alloc(), "enum E { \"d\" }")?;
     let mut errors = tree.errors();
     let error = errors.next().expect(&rt, "an error");
     assert_eq!(rt;
@@ -225,7 +225,7 @@ fn descriptions(rt: HostRuntime) -> Result<(), Fail> {
         ("\"e\" enum E { a }", "e"),
         ("\"i\" input I { a: B }", "i"),
     ] {
-        let tree = Parser::new(source).parse(rt.alloc())?;
+        let tree = parse(rt.alloc(), source)?;
         assert_eq!(rt; tree.errors().len(), 0, "{source}");
         let definition = first_definition(tree.document()).expect(&rt, "a definition");
         let value = description_of(definition).expect(&rt, "a description");
@@ -243,7 +243,7 @@ fn description_of_a_variable(document: Document<'_>) -> Option<StringValue<'_>> 
 
 #[test]
 fn description_before_a_variable(rt: HostRuntime) -> Result<(), Fail> {
-    let tree = Parser::new("query(\"v\" $v: Int) { a }").parse(rt.alloc())?;
+    let tree = parse(rt.alloc(), "query(\"v\" $v: Int) { a }")?;
     assert_eq!(rt; tree.errors().len(), 0);
     let value = description_of_a_variable(tree.document()).expect(&rt, "a description");
     assert_eq!(rt; value.to_string_in(rt.alloc())?.as_str(), "v");

@@ -1,6 +1,6 @@
 // Operations, selections and fragments.
 use super::{first_field, first_operation};
-use apollo_parser::Parser;
+use crate::parsing::parse;
 use apollo_parser::cst::{CstNode, Document, InlineFragment, Name, Selection, Type, Variable};
 use std::test::Fail;
 
@@ -20,7 +20,7 @@ fn type_of(fragment: InlineFragment<'_>) -> Option<Name<'_>> {
 #[test]
 fn selections_of_each_sort(rt: HostRuntime) -> Result<(), Fail> {
     let source = "{ animal ...snackSelection ... on Pet { playmates { count } } }";
-    let tree = Parser::new(source).parse(rt.alloc())?;
+    let tree = parse(rt.alloc(), source)?;
     assert_eq!(rt; tree.errors().len(), 0);
     let operation = first_operation(tree.document()).expect(&rt, "an operation");
     let mut selections = operation
@@ -50,7 +50,7 @@ fn first_variable(document: Document<'_>) -> Option<(Variable<'_>, Type<'_>)> {
 
 #[test]
 fn variable_and_its_type(rt: HostRuntime) -> Result<(), Fail> {
-    let tree = Parser::new("query GroceryStoreTrip($budget: Int) { name }").parse(rt.alloc())?;
+    let tree = parse(rt.alloc(), "query GroceryStoreTrip($budget: Int) { name }")?;
     assert_eq!(rt; tree.errors().len(), 0);
     let (variable, ty) = first_variable(tree.document()).expect(&rt, "a variable");
     assert_eq!(rt; variable.text().expect(&rt, "its name").as_str(), "budget");
@@ -64,7 +64,7 @@ fn variable_and_its_type(rt: HostRuntime) -> Result<(), Fail> {
 // A variable without a name is there, and has no text.
 #[test]
 fn variable_without_a_name(rt: HostRuntime) -> Result<(), Fail> {
-    let tree = Parser::new("query($: Int) { a }").parse(rt.alloc())?;
+    let tree = parse(rt.alloc(), "query($: Int) { a }")?;
     assert_eq!(rt; tree.errors().len(), 1);
     let (variable, _ty) = first_variable(tree.document()).expect(&rt, "a variable");
     assert!(rt; variable.text().is_none());
@@ -73,7 +73,7 @@ fn variable_without_a_name(rt: HostRuntime) -> Result<(), Fail> {
 
 #[test]
 fn a_query_without_a_keyword(rt: HostRuntime) -> Result<(), Fail> {
-    let tree = Parser::new("{ a }").parse(rt.alloc())?;
+    let tree = parse(rt.alloc(), "{ a }")?;
     let operation = first_operation(tree.document()).expect(&rt, "an operation");
     assert!(rt; operation.operation_type().is_none());
     assert!(rt; operation.name().is_none());
@@ -84,7 +84,7 @@ fn a_query_without_a_keyword(rt: HostRuntime) -> Result<(), Fail> {
 
 #[test]
 fn a_field_is_cloned(rt: HostRuntime) -> Result<(), Fail> {
-    let tree = Parser::new("{ a }").parse(rt.alloc())?;
+    let tree = parse(rt.alloc(), "{ a }")?;
     let field = first_field(tree.document()).expect(&rt, "a field");
     let copy = field.syntax().clone_subtree(rt.alloc())?;
     assert_eq!(rt; copy.root().text(), "a");
@@ -95,7 +95,7 @@ fn a_field_is_cloned(rt: HostRuntime) -> Result<(), Fail> {
 
 #[test]
 fn a_fragment_is_a_definition_with_a_name(rt: HostRuntime) -> Result<(), Fail> {
-    let tree = Parser::new("fragment F on T { a }").parse(rt.alloc())?;
+    let tree = parse(rt.alloc(), "fragment F on T { a }")?;
     assert_eq!(rt; tree.errors().len(), 0);
     let definition = tree
         .document()

@@ -1,6 +1,6 @@
 // The values of literals.
 use super::first_value;
-use apollo_parser::Parser;
+use crate::parsing::parse;
 use apollo_parser::cst::{LiteralError, Value};
 use std::alloc::{AllocError, Global};
 use std::test::Fail;
@@ -8,7 +8,7 @@ use std::test::Fail;
 // The value of a string that is the only argument of a field.
 fn string(alloc: Global, literal: &str) -> Result<Option<String>, AllocError> {
     let source = format!(in alloc; "{{ a(b: {literal}) }}")?;
-    let tree = Parser::new(source.as_str()).parse(alloc)?;
+    let tree = parse(alloc, source.as_str())?;
     match first_value(tree.document()) {
         Some(Value::StringValue(value)) => Ok(Some(value.to_string_in(alloc)?)),
         _ => Ok(None),
@@ -67,7 +67,7 @@ fn block_strings(rt: HostRuntime) -> Result<(), Fail> {
 
 fn integer(alloc: Global, literal: &str) -> Result<Option<Result<i32, LiteralError>>, AllocError> {
     let source = format!(in alloc; "{{ a(b: {literal}) }}")?;
-    let tree = Parser::new(source.as_str()).parse(alloc)?;
+    let tree = parse(alloc, source.as_str())?;
     match first_value(tree.document()) {
         Some(Value::IntValue(value)) => Ok(Some(i32::try_from(&value))),
         _ => Ok(None),
@@ -96,7 +96,7 @@ fn integers(rt: HostRuntime) -> Result<(), Fail> {
 #[test]
 fn booleans(rt: HostRuntime) -> Result<(), Fail> {
     for (source, truth) in [("{ a(b: true) }", true), ("{ a(b: false) }", false)] {
-        let tree = Parser::new(source).parse(rt.alloc())?;
+        let tree = parse(rt.alloc(), source)?;
         let Some(Value::BooleanValue(value)) = first_value(tree.document()) else {
             return Err(Fail::new("no boolean"));
         };

@@ -1,11 +1,12 @@
 // Sentences at their own greatest counts of nesting and of items, and below them.
+use crate::parsing::{parse, parse_by};
 use apollo_parser::Parser;
 use std::alloc::{AllocError, Global};
 use std::test::Fail;
 
 // How many errors there are, and how many of them are a limit's.
 fn counted(alloc: Global, parser: Parser<'_>) -> Result<(usize, usize), AllocError> {
-    let tree = parser.parse(alloc)?;
+    let tree = parse_by(alloc, parser)?;
     let limits = tree.errors().filter(|error| error.is_limit()).count();
     Ok((tree.errors().len(), limits))
 }
@@ -27,7 +28,7 @@ fn sentences_at_their_own_limits(rt: HostRuntime) -> Result<(), Fail> {
         "\u{FEFF}# a comment\n{ a }",
     ];
     for source in sources {
-        let tree = Parser::new(source).parse(rt.alloc())?;
+        let tree = parse(rt.alloc(), source)?;
         assert_eq!(rt; tree.errors().len(), 0, "{source}");
         let nesting = tree.recursion_limit().high;
         let items = tree.token_limit().high;
