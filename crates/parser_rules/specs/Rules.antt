@@ -25,10 +25,6 @@ type_start = Or (Kind token.Name) (Kind token.LBracket)
 abbrev pub operation_type : TokenTest
 operation_type = Or (Keyword kind.query_KW) (Or (Keyword kind.mutation_KW) (Keyword kind.subscription_KW))
 
--- an operation starts with it
-abbrev pub operation_start : TokenTest
-operation_start = Or (Kind token.LCurly) operation_type
-
 -- after `...` it makes an inline fragment
 abbrev pub inline_fragment : TokenTest
 inline_fragment = Or (Keyword kind.on_KW) (Or (Kind token.At) (Kind token.LCurly))

@@ -1,5 +1,4 @@
 -- Going on after reports: where the tokens that are left at a turn of the document's loop are a sentence's, its children follow, without a report.
--- These theorems are for the clause on the children that follow a report, which no contract has yet.
 use Rattle.std.proofs.Common.{◌≡◌, ℕ, ◌≤◌, Bool, true, is_some, List, [], ◌∷◌, ◌++◌, Option, Some, None, refl, sym, ap, ap₂, ◌∙◌, subst, ◌⊎◌, inl, inr, append-nil}
 use Rattle.lexical_grammar.specs.Cut.{Item, Cut}
 use Rattle.lexical_grammar.specs.Answers.{Answer, gives, limit_at, limited}

@@ -248,7 +248,3 @@ module _ (r k : ℕ) (source : List ℕ) (items : List Item) (s : State) (cut : 
         (i.0, subst (λ (n : ℕ). EndedFit n 0 (finished s)) i.1 (ended-root o.taken (add_all s.pending s.tree) (record { before = built.none; kind = root.0 }) (add_all-above s.pending s.tree ∙ root.2) (settled-added o.taken (added-all s.pending s.tree) o.settled))))
     | inr o ↦ no-cons (sym o.0 ∙ h)
   ]
-
-  -- No late fault, with the reason of the first report.
-  pub first-right : IsUtf8 source → (e : Report) (more : List Report) → s.errors ≡ e ∷ more → IsRight source items r k e
-  first-right u e more h = (first-told u e more h).0

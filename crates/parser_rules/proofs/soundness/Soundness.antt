@@ -253,7 +253,7 @@ not-within-one r xs w rest k h =
     let nests : nest h.1 ≡ nesting_all p.0 = ap nest (sym p.2) ∙ nest-show p.0 p.1.0 in
     omega (arith, deeper, nests, h.5)
 
--- ---- going on after reports: for the clause on the children that follow a report, which no contract has yet
+-- ---- going on after reports
 
 abbrev pub loops : Rule
 loops = While Ready (Call Definition)
