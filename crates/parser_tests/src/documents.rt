@@ -140,6 +140,19 @@ fn limits(rt: HostRuntime) -> Result<(), Fail> {
             100,
             "parser recursion limit reached||3\n{a{b}}|2|7",
         ),
+        // a spread and a string are judged by the token after them, which the limit keeps back
+        (
+            "{ ...a }",
+            500,
+            3,
+            "expected an Inline Fragment or a Fragment Spread|...|2\ntoken limit reached, aborting lexing||5\n{ ...|1|4",
+        ),
+        (
+            "\"d\" {a}",
+            500,
+            2,
+            "expected a definition after this StringValue|\"d\"|0\ntoken limit reached, aborting lexing||4\n\"d\" |0|3",
+        ),
     ];
     for (source, nesting, items, wanted) in rows {
         let parser = Parser::new(source)

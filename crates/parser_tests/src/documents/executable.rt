@@ -1,6 +1,4 @@
 use super::{expect_found, expect_printed, found};
-use crate::parsing::parse_by;
-use apollo_parser::Parser;
 use std::test::Fail;
 
 #[test]
@@ -142,39 +140,6 @@ fn nesting(rt: HostRuntime) -> Result<(), Fail> {
         let answer = found(rt.alloc(), source, limit)?;
         assert_eq!(rt; answer.as_str(), wanted, "{source}");
     }
-    Ok(())
-}
-
-#[test]
-fn spread_before_the_token_limit(rt: HostRuntime) -> Result<(), Fail> {
-    let tree = parse_by(rt.alloc(), Parser::new("{ ...a }").token_limit(3))?;
-    let mut errors = tree.errors();
-    let first = errors.next().ok_or("the spread's error")?;
-    assert_eq!(rt;
-        (first.message(), first.data(), first.index()),
-        ("expected an Inline Fragment or a Fragment Spread", "...", 2)
-    );
-    let second = errors.next().ok_or("the limit's error")?;
-    assert_eq!(rt;
-        (second.message(), second.is_limit(), second.index()),
-        ("token limit reached, aborting lexing", true, 5)
-    );
-    assert!(rt; errors.next().is_none());
-    assert_eq!(rt; tree.root().text(), "{ ...");
-    Ok(())
-}
-
-#[test]
-fn string_before_the_token_limit(rt: HostRuntime) -> Result<(), Fail> {
-    let tree = parse_by(rt.alloc(), Parser::new("\"d\" {a}").token_limit(2))?;
-    let mut errors = tree.errors();
-    let first = errors.next().ok_or("the string's error")?;
-    assert_eq!(rt;
-        (first.message(), first.data(), first.index()),
-        ("expected a definition after this StringValue", "\"d\"", 0)
-    );
-    assert!(rt; errors.next().ok_or("the limit's error")?.is_limit());
-    assert!(rt; errors.next().is_none());
     Ok(())
 }
 
