@@ -1,16 +1,39 @@
 use apollo_lexer::{
-    Error, Lexer, LimitTracker, Steps, answers_are_items, answers_count, answers_join,
+    Error, Lexer, LimitTracker, Steps, Token, answers_are_items, answers_count, answers_join,
     equal_errors_are_same,
 };
 use lexical_grammar::TokenKind;
 use std::alloc::{AllocError, Global};
 use std::fmt::Write;
 use std::hash::{DefaultHasher, Hash, Hasher};
+use std::process::Abort;
 use std::test::Fail;
 
 const QUERY: &str = "type Query { a a a a a a a a a }";
 
-// Each item in its printed form, on a line of its own.
+const UNLIMITED: usize = usize::MAX;
+
+// A text, the token limit that it is read under, and its items in their printed form, each on a line of its own.
+#[derive(Clone, Copy)]
+struct Case {
+    source: &'static str,
+    limit: usize,
+    lines: &'static str,
+}
+
+// The helpers below have no contracts, so the proof of a test does not carry what the lexer promises from call to call.
+fn lexer_of<'a>(source: &'a str, limit: usize) -> Lexer<'a> {
+    Lexer::new(source).with_limit(limit)
+}
+
+fn lex<'a>(
+    alloc: Global,
+    source: &'a str,
+    limit: usize,
+) -> Result<(Vec<Token<'a>>, Vec<Error>), AllocError> {
+    lexer_of(source, limit).lex(alloc)
+}
+
 fn printed(alloc: Global, lexer: Lexer) -> Result<String, AllocError> {
     let mut text = String::new(alloc);
     for item in lexer {
@@ -25,67 +48,166 @@ fn printed(alloc: Global, lexer: Lexer) -> Result<String, AllocError> {
     Ok(text)
 }
 
-#[test]
-fn items_are_printed(rt: HostRuntime) -> Result<(), Fail> {
-    let rows = [
-        (
-            "{a}",
-            "L_CURLY@0:1 \"{\"\nNAME@1:2 \"a\"\nR_CURLY@2:3 \"}\"\nEOF@3:3\n",
-        ),
-        (
-            "a,\u{FEFF}#é\r[]",
-            "NAME@0:1 \"a\"\nCOMMA@1:2 \",\"\nWHITESPACE@2:5 \"\\u{feff}\"\nCOMMENT@5:8 \"#é\"\nWHITESPACE@8:9 \"\\r\"\nL_BRACKET@9:10 \"[\"\nR_BRACKET@10:11 \"]\"\nEOF@11:11\n",
-        ),
-        (
-            "é}",
-            "ERROR@0:2 \"Unexpected character \\\"é\\\"\" é\nR_CURLY@2:3 \"}\"\nEOF@3:3\n",
-        ),
-        (
-            "!$&:=@()|",
-            "BANG@0:1 \"!\"\nDOLLAR@1:2 \"$\"\nAMP@2:3 \"&\"\nCOLON@3:4 \":\"\nEQ@4:5 \"=\"\nAT@5:6 \"@\"\nL_PAREN@6:7 \"(\"\nR_PAREN@7:8 \")\"\nPIPE@8:9 \"|\"\nEOF@9:9\n",
-        ),
-    ];
-    for (source, lines) in rows {
-        let text = printed(rt.alloc(), Lexer::new(source))?;
-        assert_eq!(rt; text.as_str(), lines);
+fn prints(rt: &impl Abort, alloc: Global, lexer: Lexer, lines: &str) -> Result<(), AllocError> {
+    let text = printed(alloc, lexer)?;
+    assert_eq!(rt; text.as_str(), lines);
+    Ok(())
+}
+
+fn all_print(rt: &impl Abort, alloc: Global, cases: &[Case]) -> Result<(), AllocError> {
+    for case in cases {
+        prints(rt, alloc, lexer_of(case.source, case.limit), case.lines)?;
     }
     Ok(())
 }
 
-#[test]
-fn limit_is_told(rt: HostRuntime) -> Result<(), Fail> {
-    let rows = [
-        (
+fn row(source: &'static str, limit: usize, lines: &'static str) -> Case {
+    Case {
+        source,
+        limit,
+        lines,
+    }
+}
+
+fn tokens() -> [Case; 5] {
+    [
+        row(
+            "{a}",
+            UNLIMITED,
+            "L_CURLY@0:1 \"{\"\nNAME@1:2 \"a\"\nR_CURLY@2:3 \"}\"\nEOF@3:3\n",
+        ),
+        row(
+            "a,\u{FEFF}#é\r[]",
+            UNLIMITED,
+            "NAME@0:1 \"a\"\nCOMMA@1:2 \",\"\nWHITESPACE@2:5 \"\\u{feff}\"\nCOMMENT@5:8 \"#é\"\nWHITESPACE@8:9 \"\\r\"\nL_BRACKET@9:10 \"[\"\nR_BRACKET@10:11 \"]\"\nEOF@11:11\n",
+        ),
+        row(
+            "é}",
+            UNLIMITED,
+            "ERROR@0:2 \"Unexpected character \\\"é\\\"\" é\nR_CURLY@2:3 \"}\"\nEOF@3:3\n",
+        ),
+        row(
+            "!$&:=@()|",
+            UNLIMITED,
+            "BANG@0:1 \"!\"\nDOLLAR@1:2 \"$\"\nAMP@2:3 \"&\"\nCOLON@3:4 \":\"\nEQ@4:5 \"=\"\nAT@5:6 \"@\"\nL_PAREN@6:7 \"(\"\nR_PAREN@7:8 \")\"\nPIPE@8:9 \"|\"\nEOF@9:9\n",
+        ),
+        row("-0e1", UNLIMITED, "FLOAT@0:4 \"-0e1\"\nEOF@4:4\n"),
+    ]
+}
+
+fn limits() -> [Case; 4] {
+    [
+        row(
             "{a}",
             3,
             "L_CURLY@0:1 \"{\"\nNAME@1:2 \"a\"\nR_CURLY@2:3 \"}\"\nERROR@2:2 \"token limit reached, aborting lexing\" \n",
         ),
-        (
+        row(
             "{a}",
             0,
             "ERROR@0:0 \"token limit reached, aborting lexing\" \n",
         ),
-        (
+        row(
             "",
             0,
             "ERROR@0:0 \"token limit reached, aborting lexing\" \n",
         ),
-        ("", 1, "EOF@0:0\n"),
-    ];
-    for (source, limit, lines) in rows {
-        let text = printed(rt.alloc(), Lexer::new(source).with_limit(limit))?;
-        assert_eq!(rt; text.as_str(), lines);
-    }
+        row("", 1, "EOF@0:0\n"),
+    ]
+}
+
+fn spreads_and_numbers() -> [Case; 4] {
+    [
+        row(
+            ".a ..b ...c",
+            UNLIMITED,
+            "ERROR@0:2 \"Unterminated spread operator\" .a\nWHITESPACE@2:3 \" \"\nERROR@3:5 \"Unterminated spread operator\" ..\nNAME@5:6 \"b\"\nWHITESPACE@6:7 \" \"\nSPREAD@7:10 \"...\"\nNAME@10:11 \"c\"\nEOF@11:11\n",
+        ),
+        row(
+            "0xF",
+            UNLIMITED,
+            "ERROR@0:2 \"Unexpected character `x` as integer suffix\" 0x\nNAME@2:3 \"F\"\nEOF@3:3\n",
+        ),
+        row(
+            "1.5.6",
+            UNLIMITED,
+            "ERROR@0:4 \"Unexpected character `.` as float suffix\" 1.5.\nINT@4:5 \"6\"\nEOF@5:5\n",
+        ),
+        row(
+            "1.5e",
+            UNLIMITED,
+            "ERROR@0:4 \"Unexpected EOF in float value\" 1.5e\nEOF@4:4\n",
+        ),
+    ]
+}
+
+fn bad_strings() -> [Case; 7] {
+    [
+        row(
+            "\"\\u{110000}\"",
+            UNLIMITED,
+            "ERROR@0:12 \"unicode escape sequence must specify a Unicode scalar value\" \"\\u{110000}\"\nEOF@12:12\n",
+        ),
+        row(
+            "\"",
+            UNLIMITED,
+            "ERROR@0:1 \"unexpected end of data while lexing string value\" \"\nEOF@1:1\n",
+        ),
+        row(
+            "\"\"\"a",
+            UNLIMITED,
+            "ERROR@0:4 \"unterminated string value\" \"\"\"a\nEOF@4:4\n",
+        ),
+        row(
+            "\"\n\"",
+            UNLIMITED,
+            "ERROR@0:3 \"unexpected line terminator\" \"\n\"\nEOF@3:3\n",
+        ),
+        row(
+            "\"\\uD83D\"",
+            UNLIMITED,
+            "ERROR@0:8 \"unpaired surrogate in unicode escape sequence\" \"\\uD83D\"\nEOF@8:8\n",
+        ),
+        row(
+            "\"\\u\\\"\" x",
+            UNLIMITED,
+            "ERROR@0:5 \"invalid unicode escape sequence\" \"\\u\\\"\nERROR@5:8 \"unterminated string value\" \" x\nEOF@8:8\n",
+        ),
+        row(
+            "\"\\uD83D\\\"\" x",
+            UNLIMITED,
+            "ERROR@0:10 \"unpaired surrogate in unicode escape sequence\" \"\\uD83D\\\"\"\nWHITESPACE@10:11 \" \"\nNAME@11:12 \"x\"\nEOF@12:12\n",
+        ),
+    ]
+}
+
+#[test]
+fn items_are_printed(rt: HostRuntime) -> Result<(), Fail> {
+    all_print(&rt, rt.alloc(), &tokens())?;
+    all_print(&rt, rt.alloc(), &limits())?;
+    all_print(&rt, rt.alloc(), &spreads_and_numbers())?;
+    all_print(&rt, rt.alloc(), &bad_strings())?;
     Ok(())
+}
+
+// A lexer that has given its only item.
+fn lexer_behind_an_item(source: &str) -> Lexer<'_> {
+    let mut lexer = lexer_of(source, 1);
+    let _item = lexer.next_counted(&mut Steps::new());
+    lexer
+}
+
+// A lexer that has told its limit, which a later limit does not open.
+fn lexer_behind_its_limit(source: &str) -> Lexer<'_> {
+    let mut lexer = lexer_behind_an_item(source);
+    let _error = lexer.next();
+    lexer.with_limit(5)
 }
 
 // A limit counts from the next item on, whatever the limit was before. After the limit error nothing more is given.
 #[test]
 fn limit_is_set_later(rt: HostRuntime) -> Result<(), Fail> {
-    let mut lexer = Lexer::new("a b c").with_limit(1);
-    let mut steps = Steps::new();
-    assert!(rt; lexer.next_counted(&mut steps).is_some());
-    let rows = [
+    for (limit, lines) in [
         (0, "ERROR@1:1 \"token limit reached, aborting lexing\" \n"),
         (
             2,
@@ -95,63 +217,92 @@ fn limit_is_set_later(rt: HostRuntime) -> Result<(), Fail> {
             5,
             "WHITESPACE@1:2 \" \"\nNAME@2:3 \"b\"\nWHITESPACE@3:4 \" \"\nNAME@4:5 \"c\"\nEOF@5:5\n",
         ),
-    ];
-    for (limit, lines) in rows {
-        let text = printed(rt.alloc(), lexer.with_limit(limit))?;
-        assert_eq!(rt; text.as_str(), lines);
+    ] {
+        let lexer = lexer_behind_an_item("a b c").with_limit(limit);
+        prints(&rt, rt.alloc(), lexer, lines)?;
     }
-    assert!(rt;
-        lexer
-            .next()
-            .is_some_and(|item| item.is_err_and(|e| e.is_limit()))
-    );
-    let text = printed(rt.alloc(), lexer.with_limit(5))?;
-    assert_eq!(rt; text.as_str(), "");
+    prints(
+        &rt,
+        rt.alloc(),
+        lexer_behind_an_item("a b c"),
+        "ERROR@1:1 \"token limit reached, aborting lexing\" \n",
+    )?;
+    prints(&rt, rt.alloc(), lexer_behind_its_limit("a b c"), "")?;
     Ok(())
 }
 
 #[test]
 fn lists_of_tokens_and_errors(rt: HostRuntime) -> Result<(), Fail> {
     for (limit, count, index) in [(10, 10, Some(17)), (26, 26, None), (25, 25, Some(31))] {
-        let (tokens, errors) = Lexer::new(QUERY).with_limit(limit).lex(rt.alloc())?;
+        let (tokens, errors) = lex(rt.alloc(), QUERY, limit)?;
         assert_eq!(rt; tokens.len(), count);
         assert_eq!(rt; errors.first().map(|e| e.index()), index);
         assert!(rt; errors.iter().all(|e| e.is_limit()));
     }
-    let (_, errors) = Lexer::new("\ntype Query {\n    name: String\n}\n/\n        ").lex(
-        rt.alloc(),
-    )?;
-    let message = String::from_str(rt.alloc(), "Unexpected character \"/\"")?;
-    let stray = Error::with_loc(message, String::from_str(rt.alloc(), "/")?, 33);
-    assert_eq!(rt; errors.len(), 1);
-    assert!(rt; errors[0] == stray);
     Ok(())
+}
+
+fn stray_slash(alloc: Global) -> Result<Error, AllocError> {
+    let message = String::from_str(alloc, "Unexpected character \"/\"")?;
+    Ok(Error::with_loc(message, String::from_str(alloc, "/")?, 33))
+}
+
+#[test]
+fn errors_have_their_text_and_place(rt: HostRuntime) -> Result<(), Fail> {
+    let source = "\ntype Query {\n    name: String\n}\n/\n        ";
+    let (_, errors) = lex(rt.alloc(), source, UNLIMITED)?;
+    assert_eq!(rt; errors.len(), 1);
+    assert!(rt; errors[0] == stray_slash(rt.alloc())?);
+    Ok(())
+}
+
+// Three errors that differ only in what they are about: a text, the end and a limit.
+fn about_a_text(alloc: Global) -> Result<Error, AllocError> {
+    let message = String::from_str(alloc, "m")?;
+    Ok(Error::with_loc(message, String::new(alloc), 5))
+}
+
+fn about_the_end(alloc: Global) -> Result<Error, AllocError> {
+    Ok(Error::eof(String::from_str(alloc, "m")?, 5))
+}
+
+fn about_a_limit(alloc: Global) -> Result<Error, AllocError> {
+    Ok(Error::limit(String::from_str(alloc, "m")?, 5))
+}
+
+fn hash_of(error: &Error) -> u64 {
+    let mut hasher = DefaultHasher::new();
+    error.hash(&mut hasher);
+    hasher.finish()
 }
 
 #[test]
 fn errors_differ(rt: HostRuntime) -> Result<(), Fail> {
-    let alloc = rt.alloc();
-    let text = Error::with_loc(
-        String::from_str(alloc, "m")?,
-        String::from_str(alloc, "")?,
-        5,
-    );
-    let end = Error::eof(String::from_str(alloc, "m")?, 5);
-    let limit = Error::limit(String::from_str(alloc, "m")?, 5);
-    let copy = end.try_clone(alloc)?;
-    assert!(rt; text != end && text != limit && end != limit && end == copy);
+    let text = about_a_text(rt.alloc())?;
+    let end = about_the_end(rt.alloc())?;
+    let limit = about_a_limit(rt.alloc())?;
+    assert!(rt; text != end && text != limit && end != limit);
     assert!(rt; end.is_eof() && !end.is_limit() && limit.is_limit() && !text.is_eof());
     assert!(rt; end.data() == "" && end.message() == "m" && end.index() == 5);
-    let mut first = DefaultHasher::new();
-    let mut second = DefaultHasher::new();
-    end.hash(&mut first);
-    copy.hash(&mut second);
-    assert_eq!(rt; first.finish(), second.finish());
-    let lines = format!(in alloc; "{text}|{end:?}|{limit}|")?;
-    assert_eq!(rt;
-        lines.as_str(),
-        "ERROR@5:5 \"m\" |ERROR@5:5 \"m\" EOF|ERROR@5:5 \"m\" |"
-    );
+    Ok(())
+}
+
+#[test]
+fn clones_are_equal_and_hash_equally(rt: HostRuntime) -> Result<(), Fail> {
+    let end = about_the_end(rt.alloc())?;
+    let copy = end.try_clone(rt.alloc())?;
+    assert!(rt; end == copy);
+    assert_eq!(rt; hash_of(&end), hash_of(&copy));
+    Ok(())
+}
+
+#[test]
+fn errors_are_printed(rt: HostRuntime) -> Result<(), Fail> {
+    let alloc = rt.alloc();
+    let text = format!(in alloc; "{}|{}", about_a_text(alloc)?, about_a_limit(alloc)?)?;
+    assert_eq!(rt; text.as_str(), "ERROR@5:5 \"m\" |ERROR@5:5 \"m\" ");
+    let end = format!(in alloc; "{:?}", about_the_end(alloc)?)?;
+    assert_eq!(rt; end.as_str(), "ERROR@5:5 \"m\" EOF");
     Ok(())
 }
 
@@ -174,91 +325,29 @@ fn trackers_count(rt: HostRuntime) -> Result<(), Fail> {
 
 #[test]
 fn copies_go_on_alike(rt: HostRuntime) -> Result<(), Fail> {
-    let mut lexer = Lexer::new("a b").with_limit(2);
-    let mut steps = Steps::new();
-    let first = lexer.next_counted(&mut steps);
+    let mut lexer = lexer_of("a b", 2);
+    let first = lexer.next().ok_or("an item")?.ok().ok_or("a token")?;
+    assert!(rt; first.data() == "a" && first.index() == 0);
     let mut copy = lexer;
-    assert!(rt;
-        first.is_some_and(|item| item.is_ok_and(|token| token.data() == "a" && token.index() == 0))
-    );
-    assert!(rt; lexer.next() == copy.next_counted(&mut steps));
-    let last = lexer.next();
-    assert!(rt;
-        last.is_some_and(|item| item.is_err_and(|e| e.is_limit()
-            && e.data() == ""
-            && e.index() == 2))
-    );
+    assert!(rt; lexer.next() == copy.next_counted(&mut Steps::new()));
+    let last = lexer.next().ok_or("an item")?.err().ok_or("an error")?;
+    assert!(rt; last.is_limit() && last.data() == "" && last.index() == 2);
     assert!(rt; lexer.next().is_none() && lexer.limit_tracker().high == 3);
-    answers_are_items(&lexer);
-    answers_join("a b");
-    answers_count();
-    equal_errors_are_same();
     Ok(())
 }
 
 #[test]
-fn strings_numbers_and_spreads(rt: HostRuntime) -> Result<(), Fail> {
-    let rows = [
-        (
-            ".a ..b ...c",
-            "ERROR@0:2 \"Unterminated spread operator\" .a\nWHITESPACE@2:3 \" \"\nERROR@3:5 \"Unterminated spread operator\" ..\nNAME@5:6 \"b\"\nWHITESPACE@6:7 \" \"\nSPREAD@7:10 \"...\"\nNAME@10:11 \"c\"\nEOF@11:11\n",
-        ),
-        (
-            "0xF",
-            "ERROR@0:2 \"Unexpected character `x` as integer suffix\" 0x\nNAME@2:3 \"F\"\nEOF@3:3\n",
-        ),
-        (
-            "1.5.6",
-            "ERROR@0:4 \"Unexpected character `.` as float suffix\" 1.5.\nINT@4:5 \"6\"\nEOF@5:5\n",
-        ),
-        (
-            "1.5e",
-            "ERROR@0:4 \"Unexpected EOF in float value\" 1.5e\nEOF@4:4\n",
-        ),
-        (
-            "\"\\u{110000}\"",
-            "ERROR@0:12 \"unicode escape sequence must specify a Unicode scalar value\" \"\\u{110000}\"\nEOF@12:12\n",
-        ),
-        (
-            "\"",
-            "ERROR@0:1 \"unexpected end of data while lexing string value\" \"\nEOF@1:1\n",
-        ),
-        (
-            "\"\"\"a",
-            "ERROR@0:4 \"unterminated string value\" \"\"\"a\nEOF@4:4\n",
-        ),
-        ("-0e1", "FLOAT@0:4 \"-0e1\"\nEOF@4:4\n"),
-        (
-            "\"\n\"",
-            "ERROR@0:3 \"unexpected line terminator\" \"\n\"\nEOF@3:3\n",
-        ),
-        (
-            "\"\\uD83D\"",
-            "ERROR@0:8 \"unpaired surrogate in unicode escape sequence\" \"\\uD83D\"\nEOF@8:8\n",
-        ),
-        (
-            "\"\\u\\\"\" x",
-            "ERROR@0:5 \"invalid unicode escape sequence\" \"\\u\\\"\nERROR@5:8 \"unterminated string value\" \" x\nEOF@8:8\n",
-        ),
-        (
-            "\"\\uD83D\\\"\" x",
-            "ERROR@0:10 \"unpaired surrogate in unicode escape sequence\" \"\\uD83D\\\"\"\nWHITESPACE@10:11 \" \"\nNAME@11:12 \"x\"\nEOF@12:12\n",
-        ),
-    ];
-    for (source, lines) in rows {
-        let text = printed(rt.alloc(), Lexer::new(source))?;
-        assert_eq!(rt; text.as_str(), lines);
-    }
-    Ok(())
+fn laws_are_called() {
+    answers_are_items(&lexer_of("a b", 2));
+    answers_join("a b");
+    answers_count();
+    equal_errors_are_same();
 }
 
 #[test]
 fn errors_count_as_items(rt: HostRuntime) -> Result<(), Fail> {
-    let (tokens, errors) = Lexer::new("type Query { ..a a a a a a a a a }")
-        .with_limit(10)
-        .lex(rt.alloc())?;
-    assert_eq!(rt; tokens.len(), 9);
-    assert_eq!(rt; errors.len(), 2);
+    let (tokens, errors) = lex(rt.alloc(), "type Query { ..a a a a a a a a a }", 10)?;
+    assert_eq!(rt; (tokens.len(), errors.len()), (9, 2));
     let (spread, limit) = (&errors[0], &errors[1]);
     assert_eq!(rt; spread.message(), "Unterminated spread operator");
     assert!(rt; spread.data() == ".." && spread.index() == 13);
@@ -266,15 +355,21 @@ fn errors_count_as_items(rt: HostRuntime) -> Result<(), Fail> {
     Ok(())
 }
 
-#[test]
-fn long_string_is_one_token(rt: HostRuntime) -> Result<(), Fail> {
-    let mut text = String::from_str(rt.alloc(), "\"")?;
+// A string of many characters past ASCII, in quotes.
+fn long_string(alloc: Global) -> Result<String, AllocError> {
+    let mut text = String::from_str(alloc, "\"")?;
     for _ in 0..1000 {
         text.push_str("é")?;
     }
     text.push_str("\"")?;
-    let item = Lexer::new(text.as_str()).next().ok_or("an item")?;
-    let token = item.ok().ok_or("a token")?;
+    Ok(text)
+}
+
+#[test]
+fn long_string_is_one_token(rt: HostRuntime) -> Result<(), Fail> {
+    let text = long_string(rt.alloc())?;
+    let (tokens, _) = lex(rt.alloc(), text.as_str(), UNLIMITED)?;
+    let token = tokens.first().ok_or("a token")?;
     assert!(rt; token.kind() == TokenKind::StringValue && token.data().len() == 2002);
     Ok(())
 }
@@ -284,7 +379,7 @@ fn items_join_to_the_source(rt: HostRuntime) -> Result<(), Fail> {
     let source =
         "\ntype Query {\n    name: String\n    format: String = \"Y-m-d\\\\TH:i:sP\"\n}\n        ";
     let mut joined = String::new(rt.alloc());
-    for item in Lexer::new(source) {
+    for item in lexer_of(source, UNLIMITED) {
         let token = item.ok().ok_or("a token")?;
         joined.push_str(token.data())?;
     }
@@ -296,12 +391,17 @@ fn items_join_to_the_source(rt: HostRuntime) -> Result<(), Fail> {
 fn quotes_inside_block_strings(rt: HostRuntime) -> Result<(), Fail> {
     let block =
         "\"\"\"\nNot an escape character:\n'/\\W/'\nEscape character:\n\\\"\"\"\n\\\"\"\"\\\"\"\"\nNot escape characters:\n\\\" \\\"\"\nEscape character followed by a quote:\n\\\"\"\"\"\n\"\"\"";
-    let (tokens, errors) = Lexer::new(block).lex(rt.alloc())?;
+    let (tokens, errors) = lex(rt.alloc(), block, UNLIMITED)?;
     assert!(rt; tokens.len() == 2 && errors.is_empty());
     assert_eq!(rt; tokens[0].data(), block);
+    Ok(())
+}
+
+#[test]
+fn block_strings_without_an_end(rt: HostRuntime) -> Result<(), Fail> {
     let source =
         "\n# String contents: \"\"\"\n\"\"\"\\\"\"\"\"\"\"\n# Unclosed block string\n\"\"\"\\\"\"\"\n        ";
-    let (tokens, errors) = Lexer::new(source).lex(rt.alloc())?;
+    let (tokens, errors) = lex(rt.alloc(), source, UNLIMITED)?;
     assert!(rt; tokens.len() > 3 && errors.len() == 1);
     assert_eq!(rt; tokens[3].data(), "\"\"\"\\\"\"\"\"\"\"");
     assert_eq!(rt; errors[0].message(), "unterminated string value");

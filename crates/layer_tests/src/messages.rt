@@ -1,10 +1,19 @@
 use apollo_lexer::Lexer;
+use std::alloc::Global;
+use std::process::Abort;
 use std::test::Fail;
 
-// the messages of the original, one for each fault; of several in one string the last counts
-#[test]
-fn first_messages(rt: HostRuntime) -> Result<(), Fail> {
-    for (text, message) in [
+// The message of the first item, which is bad text.
+fn first_message(alloc: Global, text: &str) -> Result<String, Fail> {
+    let mut lexer = Lexer::new(text);
+    let error = lexer.next().ok_or("an item")?.err().ok_or("bad text")?;
+    let told = error.to_error(alloc)?;
+    Ok(String::from_str(alloc, told.message())?)
+}
+
+// Bad texts that are no strings, and the original's message for each.
+fn outside_strings() -> [(&'static str, &'static str); 11] {
+    [
         ("/", "Unexpected character \"/\""),
         ("-", "Unexpected character \"-\""),
         ("-a", "Unexpected character `a`"),
@@ -19,6 +28,12 @@ fn first_messages(rt: HostRuntime) -> Result<(), Fail> {
         ("1e+a", "Unexpected character `a`, expected exponent digit"),
         ("1.5e", "Unexpected EOF in float value"),
         (".a", "Unterminated spread operator"),
+    ]
+}
+
+// Bad strings. Of several faults in one string the last counts.
+fn in_strings() -> [(&'static str, &'static str); 15] {
+    [
         ("\"", "unexpected end of data while lexing string value"),
         ("\"\"\"a", "unterminated string value"),
         ("\"a", "unterminated string value"),
@@ -43,11 +58,23 @@ fn first_messages(rt: HostRuntime) -> Result<(), Fail> {
         ),
         ("\"\\uD83D\\u12\"", "incomplete unicode escape sequence"),
         ("\"\\u12\n\"", "invalid unicode escape sequence"),
-    ] {
-        let mut lexer = Lexer::new(text);
-        let error = lexer.next().ok_or("an item")?.err().ok_or("bad text")?;
-        let told = error.to_error(rt.alloc())?;
-        assert_eq!(rt; told.message(), message, "at {text}");
+    ]
+}
+
+fn all_have_their_message(
+    rt: &impl Abort,
+    alloc: Global,
+    cases: &[(&str, &str)],
+) -> Result<(), Fail> {
+    for (text, message) in cases {
+        let told = first_message(alloc, text)?;
+        assert_eq!(rt; told.as_str(), *message, "at {text}");
     }
     Ok(())
+}
+
+#[test]
+fn first_messages(rt: HostRuntime) -> Result<(), Fail> {
+    all_have_their_message(&rt, rt.alloc(), &outside_strings())?;
+    all_have_their_message(&rt, rt.alloc(), &in_strings())
 }

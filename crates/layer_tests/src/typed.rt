@@ -3,28 +3,43 @@ use apollo_cst_core::{
     StringToken, WhitespaceToken, block_value, raw_value, reading_back,
 };
 use document_grammar::SyntaxKind;
+use std::alloc::{AllocError, Global};
 use std::process::Abort;
 use std::test::Fail;
 
-fn has_lines(rt: &impl Abort, text: &str, lines: &[&str]) {
-    let mut given = GraphQLLines::new(text);
-    for line in lines {
-        assert!(rt; given.next() == Some(*line), "{text}");
+// The lines, with a bar behind each.
+fn lines_of(alloc: Global, text: &str) -> Result<String, AllocError> {
+    let mut lines = String::new(alloc);
+    for line in GraphQLLines::new(text) {
+        lines.push_str(line)?;
+        lines.push_str("|")?;
     }
-    assert!(rt; given.next().is_none(), "{text}");
-    assert!(rt; given.next().is_none(), "{text}");
+    Ok(lines)
 }
 
 #[test]
-fn lines_end_at_any_terminator(rt: HostRuntime) {
-    has_lines(
-        &rt,
-        "with\nand\r\nand\rall in the same\r\nstring",
-        &["with", "and", "and", "all in the same", "string"],
-    );
-    has_lines(&rt, "", &[""]);
-    has_lines(&rt, "\n\r\r\n", &["", "", "", ""]);
-    has_lines(&rt, "é\ré", &["é", "é"]);
+fn lines_end_at_any_terminator(rt: HostRuntime) -> Result<(), Fail> {
+    let rows = [
+        (
+            "with\nand\r\nand\rall in the same\r\nstring",
+            "with|and|and|all in the same|string|",
+        ),
+        ("", "|"),
+        ("\n\r\r\n", "||||"),
+        ("é\ré", "é|é|"),
+    ];
+    for (text, lines) in rows {
+        assert_eq!(rt; lines_of(rt.alloc(), text)?.as_str(), lines, "{text}");
+    }
+    Ok(())
+}
+
+#[test]
+fn no_line_follows_the_last(rt: HostRuntime) {
+    let mut lines = GraphQLLines::new("é");
+    assert!(rt; lines.next() == Some("é"));
+    assert!(rt; lines.next().is_none());
+    assert!(rt; lines.next().is_none());
 }
 
 #[test]
