@@ -1,8 +1,5 @@
 use Rattle.std.proofs.Common.{refl}
-use Rattle.lexical_grammar.specs.declared.TokenKind.TheVariants as token
-use Rattle.parser_rules.specs.RuleLanguage.{Kind}
-use Rattle.parser_rules.specs.Rules.{named_start, variable_start}
-use Rattle.parser_rules.specs.Runs.{seq}
+use Rattle.parser_rules.specs.Rules.{variable_start}
 use Rattle.parser_rules.proofs.runs.Progress.{consuming, here-there, taken}
 use Rattle.apollo_grammar.proofs.grammar.variable.variable_definitions.Goals as goal
 
