@@ -1,13 +1,11 @@
 -- What the errors of a parse are, by the reports that they say.
-use Rattle.std.proofs.Common.{◌≡◌, ℕ, zero, suc, Bool, true, false, ◌&&◌, ◌||◌, if◌then◌else◌, eqb, List, [], ◌∷◌, ◌++◌, length, map, take, get_or, ◌+◌, ◌<◌, ◌⊎◌, add-one, arith, Option, Some, None, refl, sym, ◌∙◌, ap, ap₂, subst, inl, inr, true≢false}
+use Rattle.std.proofs.Common.{◌≡◌, ℕ, zero, suc, Bool, true, false, ◌&&◌, ◌||◌, if◌then◌else◌, eqb, List, [], ◌∷◌, ◌++◌, length, map, ◌+◌, ◌<◌, ◌⊎◌, arith, Option, Some, None, refl, sym, ◌∙◌, ap, ap₂, subst, inl, inr, true≢false}
 use Rattle.std.specs.Prelude.{codes, is_some, IsAscii, ⊤}
 use Rattle.std.specs.List.{AllZip, Any, All, list_all, list_any}
 use Rattle.std.specs.Char.{is_ascii}
 use Rattle.std.proofs.lemmas.Str.{IsAscii-append, IsAscii-take, IsAscii-drop}
-use Rattle.std.proofs.lemmas.List.{map-append}
 use Rattle.std.proofs.lemmas.List.Elements.{All-nil, All-cons}
-use Rattle.std.proofs.lemmas.Slice.Zip.{all_zipped_more}
-use Rattle.std.proofs.Math.Seq.{take-append_seam, drop-append_seam, take-suc}
+use Rattle.std.proofs.Math.Seq.{take-append_seam, drop-append_seam}
 use Rattle.lexical_grammar.specs.Answers.{Answer, gives, limit_at, limited, is_end}
 use Rattle.lexical_grammar.specs.Cut.{Item, texts}
 use Rattle.document_grammar.specs.Booleans.{◌and◌}
@@ -23,7 +21,7 @@ use Rattle.parser_rules.specs.Messages.{Text, Found, at_text, at_end, at_limit, 
 use Rattle.parser_rules.specs.State.{Report, Lexeme, bad_report, token_limit_report, recursion_limit_report, fault_report, found_at, lexeme}
 use Rattle.parser_rules.specs.Reports.{Reported, no_more, bad_text, token_limit, fault, recursion_limit, passed, is_recursion_limit}
 use Rattle.parser_rules.proofs.reports.Endings.{limited-none}
-use Rattle.apollo_parser.specs.Promise.{IsTokenLimit, IsRecursionLimit, IsLimitMessage, IsLimitWorded, subject_at, ErrorsAlong}
+use Rattle.apollo_parser.specs.Promise.{IsTokenLimit, IsRecursionLimit, IsLimitMessage, IsLimitWorded, ErrorsAlong}
 use Rattle.apollo_parser.specs.Promise as promise
 use Rattle.parser_state.specs.Errors.{found_of, IsWorded, IsErrorOf}
 

@@ -13,7 +13,7 @@ use Rattle.parser_rules.proofs.recovery.RowSymbols.{rowed, document-rowed}
 use Rattle.parser_rules.proofs.recovery.LeftOver.{all-rowed, left-over, left-over-by, Told_at}
 use Rattle.parser_rules.proofs.soundness.Settled.{EndedFit}
 use Rattle.parser_rules.proofs.recovery.IgnoredPlaces.{placed}
-use Rattle.std.proofs.Common.{inl, inr, ◌≡◌, ◌≢◌, ℕ, ◌+◌, ◌-◌, ◌^◌, ◌<◌, ◌≤◌, arith, min, true, List, [], length, map, take, drop, ◌++◌, Option, Some, None, refl, sym, ap, ◌∙◌, subst, ◌∷◌}
+use Rattle.std.proofs.Common.{inl, inr, ◌≡◌, ◌≢◌, ℕ, ◌+◌, ◌^◌, ◌<◌, ◌≤◌, arith, min, true, List, [], length, map, take, drop, ◌++◌, Option, Some, None, refl, sym, ap, ◌∙◌, subst, ◌∷◌}
 use Rattle.std.specs.List.Sorted.{IsNonDecreasing}
 use Rattle.lexical_grammar.specs.Cut.{Cut, texts}
 use Rattle.lexical_grammar.specs.Reads.{items_of}

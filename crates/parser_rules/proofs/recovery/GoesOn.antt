@@ -1,42 +1,39 @@
 -- Where the items behind a child of the root are those of a document, the later children are its derivation's: of the finished tree.
-use Rattle.std.proofs.Common.{◌≡◌, ◌≢◌, ℕ, zero, suc, ◌+◌, ◌-◌, ◌<◌, ◌≤◌, Bool, true, false, true≢false, not, ◌&&◌, ltb, List, [], ◌∷◌, ◌++◌, length, map, Option, Some, None, refl, sym, ap, ap₂, ◌∙◌, subst, inl, inr, ◌⊎◌, arith, is_some, append_assoc, append-nil, length-append}
-use Rattle.std.specs.List.{list_all, All}
+use Rattle.std.proofs.Common.{◌≡◌, ◌≢◌, ℕ, zero, suc, ◌+◌, ◌≤◌, Bool, true, false, true≢false, not, ◌&&◌, ltb, List, [], ◌∷◌, ◌++◌, length, Option, Some, None, refl, sym, ap, ◌∙◌, subst, inl, inr, ◌⊎◌, arith, is_some, append-nil, length-append}
+use Rattle.std.specs.List.{list_all}
 use Rattle.std.proofs.lemmas.Bool.{and_parts}
-use Rattle.std.proofs.lemmas.List.Elements.{All-nil, All-cons}
 use Rattle.lexical_grammar.specs.declared.TokenKind.{TokenKind}
 use Rattle.lexical_grammar.specs.declared.TokenKind.TheVariants as token_kind
-use Rattle.lexical_grammar.specs.Cut.{Item, Cut, CutFrom, texts, end_at, Significant, Word, significant_word}
+use Rattle.lexical_grammar.specs.Cut.{Item, CutFrom, texts, end_at, Significant, Word, significant_word}
 use Rattle.lexical_grammar.specs.Begins.{are_tokens}
-use Rattle.lexical_grammar.specs.Answers.{Answer, gives, limit_at, limited, is_given, is_end}
+use Rattle.lexical_grammar.specs.Answers.{Answer, gives, limit_at, limited, is_given}
 use Rattle.lexical_grammar.proofs.Places.{item-some}
 use Rattle.document_grammar.specs.declared.kind.SyntaxKind.TheVariants as kind
 use Rattle.document_grammar.specs.Numbers.{number}
 use Rattle.document_grammar.specs.Kinds.{ERROR, DOCUMENT}
 use Rattle.document_grammar.specs.Forests as built
-use Rattle.document_grammar.specs.Numbered.{numbered}
-use Rattle.document_grammar.specs.Places.{bares}
 use Rattle.document_grammar.specs.Tree.{Token, Tree}
 use Rattle.document_grammar.specs.Derivation.{document, Spells, nest}
 use Rattle.document_grammar.specs.FirstError.{tokens_of, At}
 use Rattle.document_grammar.specs.Booleans.{◌and◌}
-use Rattle.document_grammar.proofs.Booleans.{and-i, and-l, and-r, false-true}
-use Rattle.document_grammar.proofs.Shown.{index-at, item-then, not-the-end}
+use Rattle.document_grammar.proofs.Booleans.{and-i, and-r}
+use Rattle.document_grammar.proofs.Shown.{index-at, item-then}
 use Rattle.document_grammar.proofs.Joins.{join-assoc, join-none}
 use Rattle.parser_rules.specs.declared.message.Message.TheVariants as message
-use Rattle.parser_rules.specs.State.{State, Lexeme, Report, PendingToken, ignored, is_over, read_on, flush, note, add_all, fresh, begun}
+use Rattle.parser_rules.specs.State.{State, Lexeme, PendingToken, ignored, is_over, read_on, note, begun}
 use Rattle.parser_rules.specs.Nodes.{Definition, Document}
-use Rattle.parser_rules.specs.RuleLanguage.{Rule, While, Call, Ready, holds, step}
+use Rattle.parser_rules.specs.RuleLanguage.{Call, Ready, holds, step}
 use Rattle.parser_rules.specs.Rules.{body}
-use Rattle.parser_rules.specs.Runs.{Runs, skip, does, seq, yes, no, done, again, call, Turns, begin, turn}
+use Rattle.parser_rules.specs.Runs.{Runs, does, seq, no, done, again, call, Turns, turn}
 use Rattle.parser_rules.proofs.runs.Frame.{parts_forest, root-kept}
-use Rattle.parser_rules.proofs.runs.Marked.{Source, token, aside, text_of, Marked, none, leaf, node, append, erase, erase-append, erase-aside, flat, flat-append, set_aside, now_of, sources, source_at, source_of, to_come, Grown, grown-none, grown-then}
+use Rattle.parser_rules.proofs.runs.Marked.{Source, token, aside, text_of, Marked, none, leaf, node, append, erase, erase-append, erase-aside, flat, set_aside, now_of, sources, source_at, source_of, Grown, grown-none, grown-then}
 use Rattle.parser_rules.proofs.runs.Walk.{after_pending}
 use Rattle.parser_rules.proofs.runs.Reading.{ignored-leaf}
 use Rattle.parser_rules.proofs.soundness.WithoutIgnored.{all_ignored}
 use Rattle.parser_rules.proofs.soundness.Soundness.{accepted, loops}
 use Rattle.parser_rules.proofs.reports.NoReport.{answers_tokens, all_tokens, current_tokens, kind_tokens, item_tokens, ignored-tokens}
 use Rattle.parser_rules.proofs.recovery.OneChild.{One, one_leaf, one_node, One_more, turn-one}
-use Rattle.parser_rules.proofs.recovery.LeftOver.{bytes, bytes-append, source-text, cons-head, cons-tail}
+use Rattle.parser_rules.proofs.recovery.LeftOver.{bytes, source-text, cons-head, cons-tail}
 
 -- ---- no document is empty
 

@@ -1,42 +1,39 @@
 -- Where the items behind some of the root's children are those of a document, the later children are its derivation's, and no report is beyond
 -- its first token.
-use Rattle.std.proofs.Common.{◌≡◌, ◌≢◌, ℕ, ◌+◌, ◌≤◌, Bool, true, false, true≢false, List, [], ◌∷◌, ◌++◌, length, Option, Some, None, refl, sym, ap, ap₂, ◌∙◌, subst, inl, inr, ◌⊎◌, arith, append_assoc}
+use Rattle.std.proofs.Common.{◌≡◌, ◌≢◌, ℕ, ◌+◌, ◌≤◌, true, false, true≢false, List, [], ◌∷◌, ◌++◌, length, Option, refl, sym, ap, ap₂, ◌∙◌, subst, inl, inr, ◌⊎◌, arith, append_assoc}
 use Rattle.std.specs.List.{list_all}
-use Rattle.std.proofs.lemmas.Bool.{and_parts}
-use Rattle.lexical_grammar.specs.Cut.{Item, Cut, CutFrom, texts, Significant}
+use Rattle.lexical_grammar.specs.Cut.{Item, Cut, CutFrom, Significant}
 use Rattle.lexical_grammar.specs.Begins.{are_tokens}
-use Rattle.lexical_grammar.specs.Answers.{Answer, gives, limit_at, limited, is_given}
+use Rattle.lexical_grammar.specs.Answers.{Answer, limited, is_given}
 use Rattle.lexical_grammar.proofs.Limited.{all_given}
 use Rattle.document_grammar.specs.declared.kind.SyntaxKind.TheVariants as kind
 use Rattle.document_grammar.specs.Kinds.{DOCUMENT}
 use Rattle.document_grammar.specs.Forests as built
-use Rattle.document_grammar.specs.Numbered.{numbered}
 use Rattle.document_grammar.specs.Tree.{Token, Tree, node, Forest}
 use Rattle.document_grammar.specs.Derivation.{document, Spells, nest}
 use Rattle.document_grammar.specs.FirstError.{tokens_of, At}
 use Rattle.document_grammar.proofs.Booleans.{and-i, and-l, and-r}
-use Rattle.document_grammar.proofs.Built.{bares-numbered-join}
 use Rattle.document_grammar.proofs.Joins.{join-assoc}
 use Rattle.document_grammar.proofs.Shown.{index-at, cut-from}
 use Rattle.parser_rules.specs.declared.message.Message.TheVariants as message
-use Rattle.parser_rules.specs.State.{State, Lexeme, Report, PendingToken, read_on, flush, add_all, fresh, begun}
-use Rattle.parser_rules.specs.Nodes.{Definition, Document}
+use Rattle.parser_rules.specs.State.{State, Lexeme, Report, PendingToken, flush, add_all, fresh, begun}
+use Rattle.parser_rules.specs.Nodes.{Document}
 use Rattle.parser_rules.specs.RuleLanguage.{Rule, Skip, Do, Note, Call, Ready, holds, step}
 use Rattle.parser_rules.specs.Rules.{body}
-use Rattle.parser_rules.specs.Runs.{Runs, skip, does, seq, yes, no, done, again, call, Turns, begin}
+use Rattle.parser_rules.specs.Runs.{Runs, skip, does, seq, yes, no, done, again, call, begin}
 use Rattle.parser_rules.proofs.runs.Frame.{parts_forest, added-all, read-untouched, turned, begun-nesting}
 use Rattle.parser_rules.proofs.runs.Steps.{Holds_along, Keeps_reading, along-reading, along, turns-along}
 use Rattle.parser_rules.proofs.runs.Reading.{Reading, stops, cuts, bad_text, waits, shows, reading}
-use Rattle.parser_rules.proofs.runs.Marked.{Source, token, aside, Marked, none, append, erase, erase-append, erase-aside, flat, flat-append, set_aside, now_of, sources, to_come, read-to_come, Grown, grown-none, grown-note, grown-then}
+use Rattle.parser_rules.proofs.runs.Marked.{Source, token, aside, Marked, none, append, erase, erase-append, erase-aside, flat, flat-append, set_aside, now_of, sources, read-to_come, Grown, grown-none, grown-note, grown-then}
 use Rattle.parser_rules.proofs.runs.Flushed.{flushed}
 use Rattle.parser_rules.proofs.reports.Endings.{ends-well}
 use Rattle.parser_rules.proofs.reports.InOrder.{AllUpTo}
-use Rattle.parser_rules.proofs.reports.NoReport.{answers_tokens, all_tokens, current_tokens, kind_tokens, given as given_by}
+use Rattle.parser_rules.proofs.reports.NoReport.{answers_tokens, all_tokens, current_tokens}
 use Rattle.parser_rules.proofs.soundness.EndedNodes.{numbered-text}
 use Rattle.parser_rules.proofs.soundness.OverTexts.{all-given}
 use Rattle.parser_rules.proofs.soundness.Soundness.{given, loops, Turn, from_now, turn-of}
 use Rattle.parser_rules.proofs.soundness.WithoutIgnored.{strip, all_ignored}
-use Rattle.parser_rules.proofs.recovery.LeftOver.{bytes, bytes-append, tree-bytes}
+use Rattle.parser_rules.proofs.recovery.LeftOver.{bytes, tree-bytes}
 use Rattle.parser_rules.proofs.recovery.Recovers.{Recovered, recovers, none-beyond}
 use Rattle.parser_rules.proofs.recovery.GoesOn.{no-empty, loop, total, total-grown, Found, find, all_good, source_tokens, answers-sources, good-items, good-behind, good-aside, tokens-aside, tokens-now, good-answers, Left, left-at, same-place, first-index}
 
