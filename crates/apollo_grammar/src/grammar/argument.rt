@@ -10,10 +10,10 @@ ghost use Rattle.parser_rules.specs.Runs.{Runs};
 use super::description::{starts_named, want_named};
 use super::input::input_value_definition;
 use super::value::value;
-use parser_state::ParserState;
 use document_grammar::SyntaxKind;
 use lexical_grammar::TokenKind;
 use parser_rules::{Constness, Message};
+use parser_state::ParserState;
 use std::alloc::{AllocError, Allocator};
 
 /// Arguments (GraphQL October 2021, section 2.6, "Arguments"), where `(` comes next.

@@ -12,11 +12,11 @@ ghost use Rattle.parser_rules.specs.Runs.{Runs};
 use super::argument::{arguments, maybe_arguments_definition};
 use super::description::described;
 use super::name::name;
-use parser_state::{ParserState, is_word};
 use apollo_lexer::Token;
 use document_grammar::SyntaxKind;
 use lexical_grammar::TokenKind;
 use parser_rules::{Constness, Message};
+use parser_state::{ParserState, is_word};
 use std::alloc::{AllocError, Allocator};
 
 /// Directives (GraphQL October 2021, section 2.12, "Directives"), where `@` comes next.

@@ -19,11 +19,11 @@ use super::operation::{operation_definition, query_shorthand};
 use super::scalar::scalar_type_definition;
 use super::schema::schema_definition;
 use super::union_::union_type_definition;
-use parser_state::{ParserState, is_kind, is_word};
 use apollo_lexer::Token;
 use document_grammar::SyntaxKind;
 use lexical_grammar::TokenKind;
 use parser_rules::Message;
+use parser_state::{ParserState, is_kind, is_word};
 use std::alloc::{AllocError, Allocator};
 
 /// A document (GraphQL October 2021, section 2.2, "Document"), up to the end of the text.

@@ -16,10 +16,10 @@ use super::object::object_type_extension;
 use super::scalar::scalar_type_extension;
 use super::schema::schema_extension;
 use super::union_::union_type_extension;
-use parser_state::{ParserState, is_word};
 use document_grammar::SyntaxKind;
 use lexical_grammar::TokenKind;
 use parser_rules::{Constness, Message};
+use parser_state::{ParserState, is_word};
 use std::alloc::{AllocError, Allocator};
 
 /// An extension of the type system (GraphQL October 2021, section 3, "Type System Extensions"), where `extend` comes next.

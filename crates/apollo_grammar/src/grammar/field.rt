@@ -14,10 +14,10 @@ use super::directive::directives;
 use super::name::{aliased_name, name};
 use super::selection::selection_set;
 use super::ty::{starts_type, ty};
-use parser_state::ParserState;
 use document_grammar::SyntaxKind;
 use lexical_grammar::TokenKind;
 use parser_rules::{Constness, Message};
+use parser_state::ParserState;
 use std::alloc::{AllocError, Allocator};
 
 /// A field (GraphQL October 2021, section 2.5, "Fields").

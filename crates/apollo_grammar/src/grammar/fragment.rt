@@ -11,10 +11,10 @@ use super::description::described;
 use super::directive::directives;
 use super::selection::selection_set;
 use super::ty::named_type;
-use parser_state::ParserState;
 use document_grammar::SyntaxKind;
 use lexical_grammar::TokenKind;
 use parser_rules::{Constness, Message};
+use parser_state::ParserState;
 use std::alloc::{AllocError, Allocator};
 
 /// A fragment definition (GraphQL October 2021, section 2.8, "Fragments").

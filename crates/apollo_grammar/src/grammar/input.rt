@@ -13,10 +13,10 @@ use super::description::{described, maybe_description, starts_named, want_named}
 use super::directive::directives;
 use super::name::name;
 use super::variable::variable_type;
-use parser_state::ParserState;
 use document_grammar::SyntaxKind;
 use lexical_grammar::TokenKind;
 use parser_rules::{Constness, Message};
+use parser_state::ParserState;
 use std::alloc::{AllocError, Allocator};
 
 /// An input object (GraphQL October 2021, section 3.10, "Input Objects").

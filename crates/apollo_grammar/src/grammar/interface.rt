@@ -12,10 +12,10 @@ ghost use Rattle.parser_state.specs.View.{current_of};
 use super::description::described;
 use super::name::name;
 use super::object::{implementing, type_parts};
-use parser_state::ParserState;
 use document_grammar::SyntaxKind;
 use lexical_grammar::TokenKind;
 use parser_rules::{Constness, Message};
+use parser_state::ParserState;
 use std::alloc::{AllocError, Allocator};
 
 /// An interface (GraphQL October 2021, section 3.7, "Interfaces").

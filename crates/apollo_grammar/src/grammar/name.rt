@@ -7,10 +7,10 @@ ghost use Rattle.parser_rules.specs.Nodes as rule;
 ghost use Rattle.parser_rules.specs.RuleLanguage.{At, holds, Child, Call};
 ghost use Rattle.parser_rules.specs.Runs.{Runs};
 
-use parser_state::ParserState;
 use document_grammar::SyntaxKind;
 use lexical_grammar::TokenKind;
 use parser_rules::Message;
+use parser_state::ParserState;
 use std::alloc::{AllocError, Allocator};
 
 /// A name (GraphQL October 2021, section 2.1.9, "Names").

@@ -14,10 +14,10 @@ use super::directive::directives;
 use super::field::fields_definition;
 use super::name::name;
 use super::ty::named_type;
-use parser_state::ParserState;
 use document_grammar::SyntaxKind;
 use lexical_grammar::TokenKind;
 use parser_rules::{Constness, Message};
+use parser_state::ParserState;
 use std::alloc::{AllocError, Allocator};
 
 /// An object type (GraphQL October 2021, section 3.6, "Objects").

@@ -13,10 +13,10 @@ use super::directive::directives;
 use super::name::maybe_name;
 use super::selection::selection_set;
 use super::variable::variable_definitions;
-use parser_state::ParserState;
 use document_grammar::SyntaxKind;
 use lexical_grammar::TokenKind;
 use parser_rules::{Constness, Message};
+use parser_state::ParserState;
 use std::alloc::{AllocError, Allocator};
 
 /// An operation with its type (GraphQL October 2021, section 2.3, "Operations").

@@ -12,10 +12,10 @@ ghost use Rattle.parser_state.specs.View.{current_of};
 use super::description::described;
 use super::directive::directives;
 use super::name::name;
-use parser_state::ParserState;
 use document_grammar::SyntaxKind;
 use lexical_grammar::TokenKind;
 use parser_rules::{Constness, Message};
+use parser_state::ParserState;
 use std::alloc::{AllocError, Allocator};
 
 /// A scalar (GraphQL October 2021, section 3.5, "Scalars").

@@ -12,11 +12,11 @@ ghost use Rattle.parser_state.specs.View.{current_of};
 
 use super::field::field;
 use super::fragment;
-use parser_state::{ParserState, is_kind, is_word};
 use apollo_lexer::Token;
 use document_grammar::SyntaxKind;
 use lexical_grammar::TokenKind;
 use parser_rules::Message;
+use parser_state::{ParserState, is_kind, is_word};
 use std::alloc::{AllocError, Allocator};
 
 /// A selection set (GraphQL October 2021, section 2.4, "Selection Sets").

@@ -9,10 +9,10 @@ ghost use Rattle.parser_rules.specs.RuleLanguage.{Here, At, holds, Child, Call};
 ghost use Rattle.parser_rules.specs.Runs.{Runs};
 
 use super::name::name;
-use parser_state::ParserState;
 use document_grammar::SyntaxKind;
 use lexical_grammar::TokenKind;
 use parser_rules::Message;
+use parser_state::ParserState;
 use std::alloc::{AllocError, Allocator};
 
 /// Whether a type starts here.

@@ -13,10 +13,10 @@ use super::description::described;
 use super::directive::directives;
 use super::name::name;
 use super::ty::named_type;
-use parser_state::ParserState;
 use document_grammar::SyntaxKind;
 use lexical_grammar::TokenKind;
 use parser_rules::{Constness, Message};
+use parser_state::ParserState;
 use std::alloc::{AllocError, Allocator};
 
 /// A union (GraphQL October 2021, section 3.8, "Unions").

@@ -10,10 +10,10 @@ ghost use Rattle.parser_rules.specs.Runs.{Runs};
 
 use super::name::name;
 use super::variable::variable;
-use parser_state::ParserState;
 use document_grammar::SyntaxKind;
 use lexical_grammar::TokenKind;
 use parser_rules::{Constness, Message};
+use parser_state::ParserState;
 use std::alloc::{AllocError, Allocator};
 
 /// A value (GraphQL October 2021, section 2.9, "Input Values"). A token that starts none is reported, and popped where that is asked.

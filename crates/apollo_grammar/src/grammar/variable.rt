@@ -13,10 +13,10 @@ use super::directive::directives;
 use super::name::name;
 use super::ty::{starts_type, ty};
 use super::value::default_value;
-use parser_state::ParserState;
 use document_grammar::SyntaxKind;
 use lexical_grammar::TokenKind;
 use parser_rules::{Constness, Message};
+use parser_state::ParserState;
 use std::alloc::{AllocError, Allocator};
 
 /// Variable definitions (GraphQL October 2021, section 2.10, "Variables"), where `(` comes next.
