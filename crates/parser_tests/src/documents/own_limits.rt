@@ -2,13 +2,53 @@
 use crate::parsing::{parse, parse_by};
 use apollo_parser::Parser;
 use std::alloc::{AllocError, Global};
+use std::process::Abort;
 use std::test::Fail;
 
-// How many errors there are, and how many of them are a limit's.
-fn counted(alloc: Global, parser: Parser<'_>) -> Result<(usize, usize), AllocError> {
+// The greatest counts of nesting and of items of a sentence.
+fn own_limits(alloc: Global, source: &str) -> Result<Option<(usize, usize)>, AllocError> {
+    let tree = parse(alloc, source)?;
+    if tree.errors().len() > 0 {
+        return Ok(None);
+    }
+    Ok(Some((tree.recursion_limit().high, tree.token_limit().high)))
+}
+
+// How many errors there are within these limits, and how many of them are a limit's.
+fn counted(
+    alloc: Global,
+    source: &str,
+    nesting: usize,
+    items: usize,
+) -> Result<(usize, usize), AllocError> {
+    let parser = Parser::new(source)
+        .recursion_limit(nesting)
+        .token_limit(items);
     let tree = parse_by(alloc, parser)?;
     let limits = tree.errors().filter(|error| error.is_limit()).count();
     Ok((tree.errors().len(), limits))
+}
+
+fn expect_own_limits(rt: &(impl Abort + AllocGlobal), source: &str) -> Result<(), Fail> {
+    let alloc = rt.alloc();
+    let (nesting, items) = own_limits(alloc, source)?.ok_or("a sentence")?;
+    let fewer = items.saturating_sub(1);
+    assert!(rt;
+        counted(alloc, source, nesting, items)? == (0, 0),
+        "{source}"
+    );
+    assert!(rt;
+        counted(alloc, source, nesting, fewer)? == (1, 1),
+        "{source}"
+    );
+    if nesting > 0 {
+        let shallower = nesting.saturating_sub(1);
+        assert!(rt;
+            counted(alloc, source, shallower, items)? == (1, 1),
+            "{source}"
+        );
+    }
+    Ok(())
 }
 
 #[test]
@@ -28,21 +68,7 @@ fn sentences_at_their_own_limits(rt: HostRuntime) -> Result<(), Fail> {
         "\u{FEFF}# a comment\n{ a }",
     ];
     for source in sources {
-        let tree = parse(rt.alloc(), source)?;
-        assert_eq!(rt; tree.errors().len(), 0, "{source}");
-        let nesting = tree.recursion_limit().high;
-        let items = tree.token_limit().high;
-        let own = Parser::new(source)
-            .recursion_limit(nesting)
-            .token_limit(items);
-        assert!(rt; counted(rt.alloc(), own)? == (0, 0), "{source}");
-        assert!(rt; items > 0);
-        let fewer = own.token_limit(items.saturating_sub(1));
-        assert!(rt; counted(rt.alloc(), fewer)? == (1, 1), "{source}");
-        if nesting > 0 {
-            let shallower = own.recursion_limit(nesting.saturating_sub(1));
-            assert!(rt; counted(rt.alloc(), shallower)? == (1, 1), "{source}");
-        }
+        expect_own_limits(&rt, source)?;
     }
     Ok(())
 }
