@@ -5,4 +5,5 @@ pub mod Popped
 pub mod Recovers
 pub mod LeftOver
 pub mod OneChild
+pub mod GoesOn
 pub mod LaterChildren
