@@ -5,5 +5,4 @@ pub mod Popped
 pub mod Recovers
 pub mod LeftOver
 pub mod OneChild
-pub mod GoesOn
 pub mod LaterChildren

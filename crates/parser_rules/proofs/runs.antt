@@ -9,4 +9,3 @@ pub mod Forms
 pub mod Progress
 pub mod Anew
 pub mod Running
-pub mod Flushed

@@ -1,109 +1,91 @@
 -- What holds of a tree with reports, in the words of the definitions: which children a node has, and where tokens that were left over stand.
-use Rattle.std.proofs.Common.{◌≡◌, ◌≢◌, ℕ, zero, suc, ◌+◌, ◌<◌, ◌≤◌, Bool, true, false, true≢false, ◌&&◌, ◌||◌, cond, not, eqb, eqb-true, List, [], ◌∷◌, ◌++◌, length, Option, Some, None, refl, sym, ap, ap₂, ◌∙◌, subst, inl, inr, ◌⊎◌, arith, append_assoc, append-nil, length-append}
-use Rattle.std.specs.Prelude.{IsTrue}
+use Rattle.std.proofs.Common.{◌≡◌, ◌≢◌, ℕ, zero, suc, ◌+◌, ◌<◌, Bool, true, false, true≢false, ◌&&◌, ◌||◌, cond, not, eqb, eqb-true, eq-eqb, ne_eqb, List, [], ◌∷◌, ◌++◌, length, Option, Some, None, refl, sym, ap, ap₂, ◌∙◌, subst, inl, inr, arith, length-append}
+use Rattle.std.specs.Prelude.{⊤}
+use Rattle.std.proofs.lemmas.Bool.{and_right, or_left, or_right}
 use Rattle.lexical_grammar.specs.declared.TokenKind.{TokenKind}
 use Rattle.lexical_grammar.specs.declared.TokenKind.TheVariants as token_kind
-use Rattle.lexical_grammar.specs.Cut.{Item, Cut, CutFrom, texts, is_significant_kind}
+use Rattle.lexical_grammar.specs.Cut.{Item, Cut, CutFrom, is_significant_kind}
 use Rattle.lexical_grammar.specs.Answers.{limited, is_end}
 use Rattle.lexical_grammar.proofs.Places.{item-some}
 use Rattle.document_grammar.specs.declared.kind.SyntaxKind.{SyntaxKind}
 use Rattle.document_grammar.specs.declared.kind.SyntaxKind.TheVariants as kind
 use Rattle.document_grammar.specs.Numbers.{number}
 use Rattle.document_grammar.specs.Kinds.{ERROR, SPREAD, LIST_VALUE}
-use Rattle.document_grammar.specs.Choices.{is_ignored}
 use Rattle.document_grammar.specs.Forests as built
 use Rattle.document_grammar.specs.Numbered.{numbered}
 use Rattle.document_grammar.specs.Tree as tree
 use Rattle.document_grammar.specs.Tree.{Text, Forest, ◌▸◌}
-use Rattle.document_grammar.specs.Rows.{Row}
 use Rattle.document_grammar.specs.Pattern.{member}
 use Rattle.document_grammar.specs.Derivation.{texts as tree_texts}
 use Rattle.document_grammar.specs.Booleans.{◌and◌}
-use Rattle.document_grammar.specs.Recovery.{symbols, AllRowed, is_such, token_at, is_right_bracket, left_over, count_left_over, NoBracket, Spares, LeftOver}
-use Rattle.document_grammar.proofs.Booleans.{either, and-l, and-r, or-c, not-c, eqb-refl}
-use Rattle.document_grammar.proofs.Shown.{index-at, item-then}
+use Rattle.document_grammar.specs.Recovery.{MayStand, AllRowed, is_such, token_at, is_right_bracket, left_over, count_left_over, NoBracket, Spares, LeftOver}
+use Rattle.document_grammar.proofs.Booleans.{and-l, and-r, or-c, not-c}
+use Rattle.document_grammar.proofs.Shown.{index-at}
 use Rattle.parser_rules.specs.declared.message.Message.{Message}
 use Rattle.parser_rules.specs.State.{State, Lexeme, Report, fault_report, ignored, lexeme, is_at, same_kind, add_all}
 use Rattle.parser_rules.proofs.reports.Endings.{limited-none}
-use Rattle.parser_rules.proofs.reports.NoReport.{choose}
 use Rattle.parser_rules.proofs.leaves.LeafCheck.{is_error}
-use Rattle.parser_rules.proofs.recovery.RecoveryCheck.{is_list, of_row, leaf_of_row}
+use Rattle.parser_rules.proofs.recovery.RecoveryCheck.{of_row, leaf_of_row}
 use Rattle.parser_rules.proofs.recovery.RowSymbols.{rows}
 use Rattle.parser_rules.proofs.recovery.Popped as popped_of
 use Rattle.parser_rules.proofs.recovery.Popped.{Has, lexeme_of, popped, pops_of, Reported_at, Allowed, Recovers, Recovery}
 use Rattle.parser_rules.proofs.runs.Marked.{Source, token, aside, text_of, Marked, none, leaf, node, erase, flat, now_of, sources, source_at, source_of}
+use Rattle.parser_rules.proofs.runs.Reading.{ignored-kinds}
 
 -- ---- the symbols of rows
 
-among-first : (j a : ℕ) (l : List ℕ) → eqb j a ≡ true → member j (a ∷ l) ≡ true
+among-first : (n a : ℕ) (l : List ℕ) → eqb n a ≡ true → member n (a ∷ l) ≡ true
 unfolding member
-among-first j a l h = let e : a ≡ j = sym (eqb-true j a h) in rw (e, eqb-refl j) refl
+among-first n a l h = or_left (eqb a n) (member n l) (eq-eqb a n (sym (eqb-true n a h)))
 
-among-later : (j a : ℕ) (l : List ℕ) → member j l ≡ true → member j (a ∷ l) ≡ true
+among-later : (n a : ℕ) (l : List ℕ) → member n l ≡ true → member n (a ∷ l) ≡ true
 unfolding member
-among-later j a l h = rw h (either-way (eqb a j))
-  where
-    either-way : (b : Bool) → b || true ≡ true
-    either-way true = refl
-    either-way false = refl
+among-later n a l h = or_right (eqb a n) (member n l) h
 
-may-stand : (k : ℕ) (j : SyntaxKind) → leaf_of_row k j ≡ true → IsTrue (is_ignored (number j)) ⊎ IsTrue (member (number j) (ERROR ∷ SPREAD ∷ symbols (Row k)))
+may-stand : (k : ℕ) (j : SyntaxKind) (x : Text) → leaf_of_row k j ≡ true → MayStand k (tree.leaf (number j) x)
 unfolding leaf_of_row of_row
-may-stand k j h = elim (or-c _ _ h) [
-  | inl a ↦ elim (or-c _ _ a) [ inl i ↦ inl i | inr i ↦ inr (among-first (number j) ERROR (SPREAD ∷ symbols (Row k)) i) ]
-  | inr a ↦ elim (or-c _ _ a) [
-    | inl i ↦ inr (among-later (number j) ERROR (SPREAD ∷ symbols (Row k)) (among-first (number j) SPREAD (symbols (Row k)) i))
-    | inr i ↦ inr (among-later (number j) ERROR (SPREAD ∷ symbols (Row k)) (among-later (number j) SPREAD (symbols (Row k)) i))
-  ]
+may-stand k j x h = elim (or-c _ _ h) [
+  | inl a ↦ elim (or-c _ _ a) [ inl i ↦ inl i | inr i ↦ inr (among-first (number j) ERROR _ i) ]
+  | inr a ↦ inr (among-later (number j) ERROR _ (elim (or-c _ _ a) [ inl i ↦ among-first (number j) SPREAD _ i | inr i ↦ among-later (number j) SPREAD _ i ]))
 ]
 
 pub all-rowed : (k : ℕ) (f : built.Forest) → rows k f ≡ true → AllRowed k (numbered f)
 unfolding of_row
 all-rowed k built.none h = tt
-all-rowed k (built.leaf j x rest) h = (may-stand k j (and-l _ _ h), tt, all-rowed k rest (and-r _ _ h))
+all-rowed k (built.leaf j x rest) h = (may-stand k j x (and-l _ _ h), tt, all-rowed k rest (and-r _ _ h))
 all-rowed k (built.node j kids rest) h = let a = and-l _ _ h in (and-l _ _ a, all-rowed (number j) kids (and-r _ _ a), all-rowed k rest (and-r _ _ h))
 
 -- ---- tokens at places
 
-same-number : (m n : ℕ) → m ≢ n → eqb m n ≡ false
-same-number m n h = elim (either (eqb m n)) [ inl e ↦ absurd (h (eqb-true m n e)) | inr e ↦ e ]
+module _ (kinds : TokenKind → Bool) where
+  -- none begins before the first item
+  none-at : (place p : ℕ) (item : Item) (more : List Item) → CutFrom place (item ∷ more) → p < place → token_at kinds (item ∷ more) p ≡ false
+  none-at place p item [] cut h = rw (ne_eqb item.index p (λ z. omega (arith, z, index-at place [] item [] cut, h))) refl
+  none-at place p item (next ∷ more) cut h = rw (ne_eqb item.index p (λ z. omega (arith, z, cut.0, h))) (none-at (place + length item.text) p next more cut.2 (omega (arith, h)))
 
--- none begins before the first item
-none-at : (kinds : TokenKind → Bool) (place p : ℕ) (items : List Item) → CutFrom place items → p < place → token_at kinds items p ≡ false
-none-at kinds place p [] cut h = refl
-none-at kinds place p (item ∷ []) cut h =
-    let i = ap (λ (x : Item). x.index) cut in
-    let e = same-number item.index p (λ z. omega (arith, z, i, h)) in
-    rw e refl
-none-at kinds place p (item ∷ next ∷ items) cut h =
-    let i = cut.0 in
-    let e = same-number item.index p (λ z. omega (arith, z, i, h)) in
-    rw e (none-at kinds (place + length item.text) p (next ∷ items) cut.2 (omega (arith, h)))
+  -- at the first item's place none begins behind it
+  none-behind : (place : ℕ) (item : Item) (more : List Item) → CutFrom place (item ∷ more) → token_at kinds more place ≡ false
+  none-behind place item [] cut = refl
+  none-behind place item (next ∷ more) cut = none-at (place + length item.text) place next more cut.2 (omega (arith, item-some item.kind item.text _ cut.1))
 
--- the token of an item begins where it is
-first-there : (kinds : TokenKind → Bool) (p : ℕ) (item : Item) (more : List Item) → item.index ≡ p → token_at kinds more p ≡ false → token_at kinds (item ∷ more) p ≡ is_such kinds item.kind
-first-there kinds p item more i h = ap₂ (λ (a b : Bool). a && is_such kinds item.kind || b) (ap (λ (n : ℕ). eqb n p) i ∙ eqb-refl p) h ∙ on (is_such kinds item.kind)
-  where
-    on : (b : Bool) → true && b || false ≡ b
-    on true = refl
-    on false = refl
-
-behind-first : (kinds : TokenKind → Bool) (place p : ℕ) (item : Item) (more : List Item) → CutFrom place (item ∷ more) → p ≡ place → token_at kinds more p ≡ false
-behind-first kinds place p item [] cut e = refl
-behind-first kinds place p item (next ∷ more) cut e = let s = item-some item.kind item.text _ cut.1 in none-at kinds (place + length item.text) p (next ∷ more) cut.2 (omega (arith, s, e))
-
-token-there : (kinds : TokenKind → Bool) (place : ℕ) (before : List Item) (item : Item) (more : List Item) → CutFrom place (before ++ item ∷ more) → token_at kinds (before ++ item ∷ more) (place + length (texts before)) ≡ is_such kinds item.kind
-token-there kinds place [] item more cut = first-there kinds (place + 0) item more (index-at place [] item more cut) (behind-first kinds place (place + 0) item more cut (omega arith))
-token-there kinds place (first ∷ before) item more cut =
-    let r = item-then place before item more first cut in
-    let s = item-some first.kind first.text _ r.1 in
-    let i = r.0 in
-    let l = length-append first.text (texts before) in
-    let e = same-number first.index (place + length (first.text ++ texts before)) (λ z. omega (arith, z, i, s, l)) in
-    let z : place + length (first.text ++ texts before) ≡ (place + length first.text) + length (texts before) = omega (arith, l) in
-    ap₂ (λ (x : Bool) (n : ℕ). x && is_such kinds first.kind || token_at kinds (before ++ item ∷ more) n) e z ∙ token-there kinds (place + length first.text) before item more r.2
+  token-there : (place : ℕ) (item : Item) (more : List Item) → CutFrom place (item ∷ more) → token_at kinds (item ∷ more) place ≡ is_such kinds item.kind
+  token-there place item more cut =
+      let i = index-at place [] item more cut in
+      rw (eq-eqb item.index place (omega (arith, i)), none-behind place item more cut) (elim (is_such kinds item.kind) as (λ b. true && b || false ≡ b) [ true ↦ refl | false ↦ refl ])
 
 -- ---- the sources of leaves
+
+-- what is said of an item and what its leaf is made of, by the item's kind
+pub by-kind : (P : Option TokenKind → Source → Type 0) (item : Item) → P None (aside (record { kind = kind.ERROR; text = item.text })) → ((k : TokenKind) → ignored k ≡ None → P (Some k) (token (lexeme k item)))
+    → ((k : TokenKind) (own : SyntaxKind) → ignored k ≡ Some own → P (Some k) (aside (record { kind = own; text = item.text }))) → P item.kind (source_at item item.kind)
+by-kind P item bad shows waits = at item.kind
+  where
+    at : (found : Option TokenKind) → P found (source_at item found)
+    at None = bad
+    at (Some k) = (elim (ignored k) as (λ o. ignored k ≡ o → P (Some k) (source_of item k o)) [ None ↦ shows k | Some own ↦ waits k own ]) refl
+
+pub source-text : (item : Item) → text_of (source_at item item.kind) ≡ item.text
+source-text item = by-kind (λ found o. text_of o ≡ item.text) item refl (λ k i. refl) (λ k own i. refl)
 
 abbrev pub bytes : List Source → ℕ
 bytes [] = 0
@@ -111,91 +93,33 @@ bytes (o ∷ v) = length (text_of o) + bytes v
 
 pub bytes-append : (v w : List Source) → bytes (v ++ w) ≡ bytes v + bytes w
 bytes-append [] w = omega arith
-bytes-append (o ∷ v) w = let e = bytes-append v w in omega (arith, e)
+bytes-append (o ∷ v) w = omega (arith, bytes-append v w)
 
-pub source-text : (item : Item) (found : Option TokenKind) → text_of (source_at item found) ≡ item.text
-source-text item None = refl
-source-text item (Some k) = elim (ignored k) as (λ o. text_of (source_of item k o) ≡ item.text) [ None ↦ refl | Some own ↦ refl ]
+pub text-bytes : (f : Marked) → length (built.text (erase f)) ≡ bytes (flat f)
+text-bytes none = refl
+text-bytes (leaf o k rest) = omega (arith, text-bytes rest, length-append (text_of o) (built.text (erase rest)))
+text-bytes (node k kids rest) = omega (arith, text-bytes kids, text-bytes rest, bytes-append (flat kids) (flat rest), length-append (built.text (erase kids)) (built.text (erase rest)))
 
--- the item that a leaf is of
-pub record Origin (items : List Item) (front : List Source) (o : Source) : Type 0 where
-  pub before : List Item
-  pub item : Item
-  pub more : List Item
-  pub split : items ≡ before ++ item ∷ more
-  pub source : o ≡ source_at item item.kind
-  pub place : bytes front ≡ length (texts before)
+numbered-text : (f : built.Forest) → tree_texts (numbered f) ≡ built.text f
+numbered-text built.none = refl
+numbered-text (built.leaf k x rest) = ap (λ (s : Text). x ++ s) (numbered-text rest)
+numbered-text (built.node k kids rest) = ap₂ (λ (a b : Text). a ++ b) (numbered-text kids) (numbered-text rest)
 
-pub cons-head : {A : Type 0} {a b : A} {u v : List A} → a ∷ u ≡ b ∷ v → a ≡ b
-cons-head e = cc
+shown-kind : (k : TokenKind) → ignored k ≡ None → is_significant_kind k ≡ not (is_end k)
+shown-kind token_kind.Whitespace i = absurd cc
+shown-kind token_kind.Comment i = absurd cc
+shown-kind token_kind.Comma i = absurd cc
+shown-kind token_kind.Eof i = refl
+shown-kind _ i = refl
 
-pub cons-tail : {A : Type 0} {a b : A} {u v : List A} → a ∷ u ≡ b ∷ v → u ≡ v
-cons-tail e = cc
-
-none-split : {A : Type 0} (front : List Source) (o : Source) (rest : List Source) → [] ≡ front ++ o ∷ rest → A
-none-split [] o rest e = absurd cc
-none-split (f ∷ front) o rest e = absurd cc
-
-pub origin : (k : ℕ) (items : List Item) (front : List Source) (o : Source) (rest : List Source) → sources (limited k items) ≡ front ++ o ∷ rest → Origin items front o
-origin k [] front o rest e = none-split front o rest (sym (ap sources (limited-none k)) ∙ e)
-origin zero (item ∷ items) front o rest e = none-split front o rest e
-origin (suc k) (item ∷ items) [] o rest e = record { before = []; item = item; more = items; split = refl; source = sym (cons-head e); place = refl }
-origin (suc k) (item ∷ items) (f ∷ front) o rest e =
-    let r = origin k items front o rest (cons-tail e) in
-    let t = ap length (source-text item item.kind) in
-    let h = ap (λ (x : Source). length (text_of x)) (cons-head e) in
-    let p = r.place in
-    let l = length-append item.text (texts r.before) in
-    record { before = item ∷ r.before; item = r.item; more = r.more; split = ap (λ (l : List Item). item ∷ l) r.split; source = r.source; place = omega (arith, t, h, p, l) }
-
-abbrev real : Source → Bool
-real (token x) = not (is_end x.kind)
-real (aside p) = false
-
-real-kind : (item : Item) (k : TokenKind) → real (source_of item k (ignored k)) ≡ is_significant_kind k
-real-kind item token_kind.Whitespace = refl
-real-kind item token_kind.Comment = refl
-real-kind item token_kind.Comma = refl
-real-kind item token_kind.Eof = refl
-real-kind item _ = refl
-
-real-item : (item : Item) (found : Option TokenKind) → real (source_at item found) ≡ is_such is_significant_kind found
-real-item item None = refl
-real-item item (Some k) = real-kind item k
-
-error-number : (k : SyntaxKind) → is_error k ≡ eqb (number k) ERROR
+error-number : (k : SyntaxKind) → eqb (number k) ERROR ≡ is_error k
 error-number kind.ERROR = refl
 error-number _ = refl
 
-list-number : (k : SyntaxKind) → is_list k ≡ eqb (number k) LIST_VALUE
-list-number kind.LIST_VALUE = refl
-list-number _ = refl
-
-both-and : (a : Bool) (o : Source) (own : SyntaxKind) → a ≡ is_error own → a && real o ≡ popped o own
-unfolding ◌and◌
-both-and true (token x) own e = rw (sym e) refl
-both-and false (token x) own e = rw (sym e) refl
-both-and true (aside p) own e = refl
-both-and false (aside p) own e = refl
-
-bracket-kind : (k : TokenKind) → same_kind k token_kind.RBracket ≡ is_right_bracket k
+bracket-kind : (k : TokenKind) → is_right_bracket k ≡ same_kind k token_kind.RBracket
 unfolding same_kind
 bracket-kind token_kind.RBracket = refl
 bracket-kind _ = refl
-
--- of what a token is
-record Is_token (item : Item) (x : Lexeme) : Type 0 where
-  kind : item.kind ≡ Some x.kind
-  index : x.index ≡ item.index
-
-is-token : (item : Item) (found : Option TokenKind) (x : Lexeme) → item.kind ≡ found → token x ≡ source_at item found → Is_token item x
-is-token item None x i e = absurd cc
-is-token item (Some k) x i e = (elim (ignored k) as (λ o. token x ≡ source_of item k o → Is_token item x) [
-  | None ↦ λ e. (let s : x ≡ lexeme k item = cc in record { kind = i ∙ ap (λ (y : Lexeme). Some y.kind) (sym s); index = ap (λ (y : Lexeme). y.index) s })
-  | Some own ↦ λ e. absurd cc
-]) e
-
--- ---- trees that know their tokens
 
 -- a report tells the token that was left over
 pub record Told_at (errors : List Report) (place : ℕ) (text : Text) : Type 0 where
@@ -206,108 +130,85 @@ pub record Told_at (errors : List Report) (place : ℕ) (text : Text) : Type 0 w
   pub some : is_end token.kind ≡ false
   pub told : Has errors (fault_report said token)
 
-pub tree-bytes : (f : Marked) → length (tree_texts (numbered (erase f))) ≡ bytes (flat f)
-tree-bytes none = refl
-tree-bytes (leaf o k rest) = let e = tree-bytes rest in let l = length-append (text_of o) (tree_texts (numbered (erase rest))) in omega (arith, e, l)
-tree-bytes (node k kids rest) =
-    let a = tree-bytes kids in
-    let b = tree-bytes rest in
-    let c = bytes-append (flat kids) (flat rest) in
-    let l = length-append (tree_texts (numbered (erase kids))) (tree_texts (numbered (erase rest))) in
-    omega (arith, a, b, c, l)
+-- what is at the place of a source, and of each of some in a row
+abbrev pub Known : List Item → ℕ → Source → Type 0
+Known items b (token x) = (x.index ≡ b) × (ignored x.kind ≡ None) × ((kinds : TokenKind → Bool) → token_at kinds items b ≡ kinds x.kind)
+Known items b (aside p) = token_at is_significant_kind items b ≡ false
 
-module _ (source : List ℕ) (k : ℕ) (items : List Item) (cut : Cut source items) (errors : List Report) (whole tail : List Source) (all : sources (limited k items) ≡ whole ++ tail) where
-  at-leaf : (front back : List Source) (o : Source) → whole ≡ front ++ o ∷ back → Origin items front o
-  at-leaf front back o e = origin k items front o (back ++ tail) (all ∙ (ap (λ (v : List Source). v ++ tail) e ∙ append_assoc front (o ∷ back) tail))
+abbrev pub Known_all : List Item → ℕ → List Source → Type 0
+Known_all items b [] = ⊤
+Known_all items b (o ∷ v) = Known items b o × Known_all items (b + length (text_of o)) v
 
-  such : (kinds : TokenKind → Bool) (front : List Source) (o : Source) (r : Origin items front o) → token_at kinds items (bytes front) ≡ is_such kinds r.item.kind
-  such kinds front o r =
-      let place = r.place in
-      let p : bytes front ≡ 0 + length (texts r.before) = omega (arith, place) in
-      ap₂ (λ (is : List Item) (n : ℕ). token_at kinds is n) r.split p ∙ token-there kinds 0 r.before r.item r.more (subst (CutFrom 0) r.split cut.each)
+known-first : (place : ℕ) (item : Item) (more : List Item) → CutFrom place (item ∷ more) → Known (item ∷ more) place (source_at item item.kind)
+known-first place item more cut =
+    let i = index-at place [] item more cut in
+    by-kind (λ found o. ((kinds : TokenKind → Bool) → token_at kinds (item ∷ more) place ≡ is_such kinds found) → Known (item ∷ more) place o) item (λ t. t is_significant_kind) (λ k j t. (omega (arith, i), j, t))
+    (λ k own j t. t is_significant_kind ∙ ignored-kinds (λ k own. is_significant_kind k ≡ false) refl refl refl k own j) (λ kinds. token-there kinds place item more cut)
 
-  left-is : (front back : List Source) (o : Source) (own : SyntaxKind) (b : ℕ) → whole ≡ front ++ o ∷ back → b ≡ bytes front → left_over items b (number own) ≡ popped o own
-  left-is front back o own b e i =
-      let r = at-leaf front back o e in
-      let s : token_at is_significant_kind items b ≡ real o = ap (λ (n : ℕ). token_at is_significant_kind items n) i ∙ (such is_significant_kind front o r ∙ (sym (real-item r.item r.item.kind) ∙ ap real (sym r.source))) in
-      ap (λ (x : Bool). eqb (number own) ERROR && x) s ∙ both-and (eqb (number own) ERROR) o own (sym (error-number own))
+-- an item in front changes nothing
+known-behind : (item : Item) (items : List Item) (b : ℕ) (v : List Source) → item.index < b → Known_all items b v → Known_all (item ∷ items) b v
+known-behind item items b [] l h = tt
+known-behind item items b (token x ∷ v) l h =
+    ((h.0.0, h.0.1, λ kinds. rw (ne_eqb item.index b (λ z. omega (arith, z, l))) (h.0.2 kinds)), known-behind item items (b + length x.text) v (omega (arith, l)) h.1)
+known-behind item items b (aside p ∷ v) l h = (rw (ne_eqb item.index b (λ z. omega (arith, z, l))) h.0, known-behind item items (b + length p.text) v (omega (arith, l)) h.1)
 
-  -- the places of what follows
-  behind-leaf : (front : List Source) (o : Source) (rest : List Source) → whole ≡ front ++ o ∷ rest → whole ≡ (front ++ o ∷ []) ++ rest
-  behind-leaf front o rest e = e ∙ sym (append_assoc front (o ∷ []) rest)
+pub known : (place k : ℕ) (items : List Item) → CutFrom place items → Known_all items place (sources (limited k items))
+known place k [] cut = absurd cut
+known place zero (item ∷ items) cut = tt
+known place (suc k) (item ∷ []) cut = (known-first place item [] cut, subst (λ xs. Known_all (item ∷ []) (place + length (text_of (source_at item item.kind))) (sources xs)) (sym (limited-none k)) tt)
+known place (suc k) (item ∷ next ∷ items) cut =
+    let t = source-text item in
+    let rest : Known_all (next ∷ items) (place + length (text_of (source_at item item.kind))) (sources (limited k (next ∷ items))) =
+    subst (λ x. Known_all (next ∷ items) (place + length x) (sources (limited k (next ∷ items)))) (sym t) (known (place + length item.text) k (next ∷ items) cut.2) in
+    (known-first place item (next ∷ items) cut, known-behind item (next ∷ items) _ _ (omega (arith, cut.0, ap length t, item-some item.kind item.text _ cut.1)) rest)
 
-  bytes-leaf : (front : List Source) (o : Source) (b : ℕ) → b ≡ bytes front → b + length (text_of o) ≡ bytes (front ++ o ∷ [])
-  bytes-leaf front o b i = let e = bytes-append front (o ∷ []) in omega (arith, e, i)
+pub known-parts : (items : List Item) (b : ℕ) (v w : List Source) → Known_all items b (v ++ w) → Known_all items b v × Known_all items (b + bytes v) w
+known-parts items b [] w h = (tt, subst (λ n. Known_all items n w) (omega arith) h)
+known-parts items b (o ∷ v) w h = let r = known-parts items (b + length (text_of o)) v w h.1 in ((h.0, r.0), subst (λ n. Known_all items n w) (omega arith) r.1)
 
-  in-node : (front kids rest back : List Source) → whole ≡ front ++ ((kids ++ rest) ++ back) → whole ≡ front ++ (kids ++ (rest ++ back))
-  in-node front kids rest back e = e ∙ ap (λ (v : List Source). front ++ v) (append_assoc kids rest back)
+module _ (items : List Item) where
+  -- trees that know their tokens
+  left-is : (o : Source) (own : SyntaxKind) (b : ℕ) → Known items b o → left_over items b (number own) ≡ popped o own
+  unfolding ◌and◌
+  left-is (token x) own b h = ap₂ (λ (y z : Bool). y && z) (error-number own) (h.2 is_significant_kind ∙ shown-kind x.kind h.1)
+  left-is (aside p) own b h = and_right (eqb (number own) ERROR) _ h
 
-  behind-node : (front kids rest back : List Source) → whole ≡ front ++ ((kids ++ rest) ++ back) → whole ≡ (front ++ kids) ++ (rest ++ back)
-  behind-node front kids rest back e = in-node front kids rest back e ∙ sym (append_assoc front kids (rest ++ back))
+  -- the places in a node, and behind it
+  known-node : (b : ℕ) (kids : Marked) (w : List Source) → Known_all items b (flat kids ++ w) → Known_all items b (flat kids) × Known_all items (b + length (tree_texts (numbered (erase kids)))) w
+  known-node b kids w h = rw (ap length (numbered-text (erase kids)) ∙ text-bytes kids) (known-parts items b (flat kids) w h)
 
-  bytes-node : (front : List Source) (kids : Marked) (b : ℕ) → b ≡ bytes front → b + length (tree_texts (numbered (erase kids))) ≡ bytes (front ++ flat kids)
-  bytes-node front kids b i = let e = bytes-append front (flat kids) in let t = tree-bytes kids in omega (arith, e, t, i)
+  counted : (f : Marked) (b : ℕ) → Known_all items b (flat f) → count_left_over items b (numbered (erase f)) ≡ pops_of f
+  counted none b h = refl
+  counted (leaf o own rest) b h = ap₂ (λ (x : Bool) (n : ℕ). cond x 1 0 + n) (left-is o own b h.0) (counted rest (b + length (text_of o)) h.1)
+  counted (node j kids rest) b h = counted rest _ (known-node b kids (flat rest) h).1
 
-  counted : (f : Marked) (front back : List Source) (b : ℕ) → whole ≡ front ++ (flat f ++ back) → b ≡ bytes front → count_left_over items b (numbered (erase f)) ≡ pops_of f
-  counted none front back b e i = refl
-  counted (leaf o own rest) front back b e i =
-      ap₂ (λ (x : Bool) (n : ℕ). cond x 1 0 + n) (left-is front (flat rest ++ back) o own b e i) (counted rest (front ++ o ∷ []) back (b + length (text_of o)) (behind-leaf front o (flat rest ++ back) e) (bytes-leaf front o b i))
-  counted (node j kids rest) front back b e i = counted rest (front ++ flat kids) back (b + length (tree_texts (numbered (erase kids)))) (behind-node front (flat kids) (flat rest) back e) (bytes-node front kids b i)
-
-  no-bracket : (front back : List Source) (o : Source) (own : SyntaxKind) (b : ℕ) → whole ≡ front ++ o ∷ back → b ≡ bytes front → popped o own ≡ true → is_at token_kind.RBracket (lexeme_of o) ≡ false → token_at is_right_bracket items b ≡ false
-  no-bracket front back (aside p) own b e i z h = absurd (true≢false (sym z))
-  no-bracket front back (token x) own b e i z h =
-      let r = at-leaf front back (token x) e in
-      let t = is-token r.item r.item.kind x refl r.source in
-      ap (λ (n : ℕ). token_at is_right_bracket items n) i ∙ (such is_right_bracket front (token x) r ∙ (ap (is_such is_right_bracket) t.kind ∙ (sym (bracket-kind x.kind) ∙ h)))
-
-  spared : (f : Marked) (front back : List Source) (b : ℕ) → whole ≡ front ++ (flat f ++ back) → b ≡ bytes front → popped_of.NoBracket f → NoBracket items b (numbered (erase f))
-  spared none front back b e i h = tt
-  spared (leaf o own rest) front back b e i h = (
-    (λ z. let p : popped o own ≡ true = sym (left-is front (flat rest ++ back) o own b e i) ∙ z in no-bracket front (flat rest ++ back) o own b e i p (h.0 p)),
-    spared rest (front ++ o ∷ []) back (b + length (text_of o)) (behind-leaf front o (flat rest ++ back) e) (bytes-leaf front o b i) h.1,
-  )
-  spared (node j kids rest) front back b e i h = spared rest (front ++ flat kids) back (b + length (tree_texts (numbered (erase kids)))) (behind-node front (flat kids) (flat rest) back e) (bytes-node front kids b i) h
-
-  allowed : (j : SyntaxKind) (kids : Marked) (front back : List Source) (b : ℕ) → whole ≡ front ++ (flat kids ++ back) → b ≡ bytes front → Allowed j kids → Spares items b (number j) (numbered (erase kids))
-  allowed j kids front back b e i h = elim (either (is_list j)) [
-    | inl y ↦ ((λ z. spared kids front back b e i (subst (λ (c : Bool). choose c (popped_of.NoBracket kids) (pops_of kids ≤ 1)) y h)), λ z. absurd (z (eqb-true _ _ (sym (list-number j) ∙ y))))
-    | inr y ↦ (
-      (λ z. absurd (true≢false (sym (is-same z) ∙ (sym (list-number j) ∙ y)))),
-      λ z. let c = counted kids front back b e i in let l : pops_of kids ≤ 1 = subst (λ (c : Bool). choose c (popped_of.NoBracket kids) (pops_of kids ≤ 1)) y h in omega (arith, c, l),
-    )
-  ]
+  spared : (f : Marked) (b : ℕ) → Known_all items b (flat f) → popped_of.NoBracket f → NoBracket items b (numbered (erase f))
+  spared none b h n = tt
+  spared (leaf o own rest) b h n = ((λ z. on o h.0 (sym (left-is o own b h.0) ∙ z) n.0), spared rest (b + length (text_of o)) h.1 n.1)
     where
-      is-same : number j ≡ LIST_VALUE → eqb (number j) LIST_VALUE ≡ true
-      is-same z = rw z refl
+      on : (o : Source) → Known items b o → popped o own ≡ true → (popped o own ≡ true → is_at token_kind.RBracket (lexeme_of o) ≡ false) → token_at is_right_bracket items b ≡ false
+      on (token x) h z n = h.2 is_right_bracket ∙ bracket-kind x.kind ∙ n z
+      on (aside p) h z n = absurd (true≢false (sym z))
+  spared (node j kids rest) b h n = spared rest _ (known-node b kids (flat rest) h).1 n
 
-  told-leaf : (front back : List Source) (o : Source) (own : SyntaxKind) (b : ℕ) → whole ≡ front ++ o ∷ back → b ≡ bytes front → popped o own ≡ true → Reported_at errors (lexeme_of o) → Told_at errors b (text_of o)
-  told-leaf front back (aside p) own b e i z h = absurd (true≢false (sym z))
-  told-leaf front back (token x) own b e i z h =
-      let r = at-leaf front back (token x) e in
-      let t = is-token r.item r.item.kind x refl r.source in
-      let a = index-at 0 r.before r.item r.more (subst (CutFrom 0) r.split cut.each) in
-      let n = t.index in
-      let p = r.place in
-      record { said = h.0; token = x; index = omega (arith, a, n, p, i); own = refl; some = not-c _ (and-r _ _ z); told = h.1 }
+  allowed : (j : SyntaxKind) (kids : Marked) (b : ℕ) → Known_all items b (flat kids) → Allowed j kids → Spares items b (number j) (numbered (erase kids))
+  allowed kind.LIST_VALUE kids b h a = ((λ z. spared kids b h a), λ z. absurd (z refl))
+  allowed _ kids b h a = ((λ z. absurd (true≢false (sym (eq-eqb _ LIST_VALUE z)))), λ z. omega (arith, counted kids b h, a))
 
-  left-told : (f : Marked) (front back : List Source) (b : ℕ) → whole ≡ front ++ (flat f ++ back) → b ≡ bytes front → Recovers errors f → LeftOver (Told_at errors) items b (numbered (erase f))
-  left-told none front back b e i h = tt
-  left-told (leaf o own rest) front back b e i h = (
-    (λ z. let p : popped o own ≡ true = sym (left-is front (flat rest ++ back) o own b e i) ∙ z in told-leaf front (flat rest ++ back) o own b e i p (h.0 p)),
-    left-told rest (front ++ o ∷ []) back (b + length (text_of o)) (behind-leaf front o (flat rest ++ back) e) (bytes-leaf front o b i) h.1,
-  )
-  left-told (node j kids rest) front back b e i h = (
-    allowed j kids front (flat rest ++ back) b (in-node front (flat kids) (flat rest) back e) i h.0,
-    left-told kids front (flat rest ++ back) b (in-node front (flat kids) (flat rest) back e) i h.1,
-    left-told rest (front ++ flat kids) back (b + length (tree_texts (numbered (erase kids)))) (behind-node front (flat kids) (flat rest) back e) (bytes-node front kids b i) h.2,
-  )
+  left-told : (errors : List Report) (f : Marked) (b : ℕ) → Known_all items b (flat f) → Recovers errors f → LeftOver (Told_at errors) items b (numbered (erase f))
+  left-told errors none b h r = tt
+  left-told errors (leaf o own rest) b h r = ((λ z. on o h.0 (sym (left-is o own b h.0) ∙ z) r.0), left-told errors rest (b + length (text_of o)) h.1 r.1)
+    where
+      on : (o : Source) → Known items b o → popped o own ≡ true → (popped o own ≡ true → Reported_at errors (lexeme_of o)) → Told_at errors b (text_of o)
+      on (token x) h z r = record { said = (r z).0; token = x; index = h.0; own = refl; some = not-c _ (and-r _ _ z); told = (r z).1 }
+      on (aside p) h z r = absurd (true≢false (sym z))
+  left-told errors (node j kids rest) b h r = let k = known-node b kids (flat rest) h in (allowed j kids b k.0 r.0, left-told errors kids b k.0 r.1, left-told errors rest _ k.1 r.2)
 
 -- Each token that was left over is told, and stands where one may.
 pub left-over : (source : List ℕ) (k : ℕ) (items : List Item) (s : State) → Cut source items → Recovery (limited k items) s → LeftOver (Told_at s.errors) items 0 (numbered (add_all s.pending s.tree).here)
 left-over source k items s cut r =
     subst (λ (f : built.Forest). LeftOver (Told_at s.errors) items 0 (numbered f)) r.tree
-    (left-told source k items cut s.errors (flat r.marked) (now_of s.current ++ sources s.items) (sym r.order) r.marked [] [] 0 (sym (append-nil (flat r.marked))) refl r.recovers)
+    (left-told items s.errors r.marked 0 (known-parts items 0 (flat r.marked) (now_of s.current ++ sources s.items) (subst (Known_all items 0) (sym r.order) (known 0 k items cut.each))).0 r.recovers)
 
 -- what is said of each told token
 pub left-over-by : (items : List Item) (P Q : ℕ → Text → Type 0) → ((n : ℕ) (x : Text) → P n x → Q n x) → (place : ℕ) (f : Forest) → LeftOver P items place f → LeftOver Q items place f

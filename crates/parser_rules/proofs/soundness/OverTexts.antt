@@ -85,7 +85,7 @@ one-mark : (v : List Token) → take 1 (marks v) ≡ next_one v
 one-mark [] = refl
 one-mark (a ∷ v) = refl
 
-words-cons : (item : Item) (more : List Item) → tokens_of (item ∷ more) ≡ item_tokens item.kind item.text ++ tokens_of more
+pub words-cons : (item : Item) (more : List Item) → tokens_of (item ∷ more) ≡ item_tokens item.kind item.text ++ tokens_of more
 words-cons item more = map-append token_of (significant_word item.kind item.text) (Significant more) ∙ ap (λ (v : List Token). v ++ tokens_of more) (sym (item-words item.kind item.text))
 
 -- the next tokens are the text's, where those after the current one are
