@@ -1,0 +1,219 @@
+// The calls that take memory, each as an attempt with a request that is refused.
+use super::runs::run_once;
+use super::{Attempt, Heap};
+use crate::parsing::parse;
+use apollo_parser::cst::{Definition, Selection, StringValue, Value};
+use apollo_parser::{DocumentRoot, Lexer, Parser, SyntaxTree, TokenText};
+use gqlcst_run::Mode;
+use std::alloc::{AllocError, Global};
+use std::fmt::Write;
+
+#[derive(Clone, Copy, Debug)]
+pub enum Call {
+    /// All tokens and errors of a lexer.
+    Lex,
+    /// Each error of a lexer, with its message.
+    TellErrors,
+    Parse,
+    CloneTree,
+    CloneErrors,
+    /// The text of the root in memory of its own.
+    CopyText,
+    /// The root as a tree of its own.
+    CloneSubtree,
+    /// A text as that of a token, in memory of its own.
+    CopyToken,
+    /// The value of the string that is the first argument.
+    ReadString,
+    Check,
+    Tokens,
+    Tree,
+}
+
+fn lex(heap: &Heap, alloc: Global, source: &str, number: u64) -> Result<Attempt, AllocError> {
+    heap.refuse(number);
+    let answer = Lexer::new(source).lex(heap);
+    let beside = String::new(alloc);
+    let Ok((tokens, errors)) = answer else {
+        return Ok(Attempt {
+            given: None,
+            beside,
+        });
+    };
+    let mut printed = String::new(alloc);
+    for token in &tokens {
+        writeln!(printed, "{token}")?;
+    }
+    for error in &errors {
+        writeln!(printed, "{error}")?;
+    }
+    Ok(Attempt {
+        given: Some(printed),
+        beside,
+    })
+}
+
+// The tokens stand beside the errors: after a refusal the lexer gives its further items as before.
+fn tell_errors(
+    heap: &Heap,
+    alloc: Global,
+    source: &str,
+    number: u64,
+) -> Result<Attempt, AllocError> {
+    heap.refuse(number);
+    let mut errors = String::new(alloc);
+    let mut beside = String::new(alloc);
+    let mut is_refused = false;
+    for item in Lexer::new(source).with_limit(10) {
+        match item {
+            Ok(token) => writeln!(beside, "{token}")?,
+            Err(error) => match error.to_error(heap) {
+                Ok(error) => writeln!(errors, "{error}")?,
+                Err(AllocError) => is_refused = true,
+            },
+        }
+    }
+    let given = if is_refused { None } else { Some(errors) };
+    Ok(Attempt { given, beside })
+}
+
+fn print(alloc: Global, tree: &SyntaxTree<DocumentRoot, &Heap>) -> Result<String, AllocError> {
+    let items = tree.token_limit();
+    format!(in alloc; "{tree:?}, items: {items}")
+}
+
+fn parse_once(
+    heap: &Heap,
+    alloc: Global,
+    source: &str,
+    number: u64,
+) -> Result<Attempt, AllocError> {
+    heap.refuse(number);
+    let beside = String::new(alloc);
+    match parse(heap, Parser::new(source)) {
+        Ok(tree) => Ok(Attempt {
+            given: Some(print(alloc, &tree)?),
+            beside,
+        }),
+        Err(AllocError) => Ok(Attempt {
+            given: None,
+            beside,
+        }),
+    }
+}
+
+fn clone_tree<'h>(
+    heap: &'h Heap,
+    alloc: Global,
+    tree: &SyntaxTree<DocumentRoot, &'h Heap>,
+) -> Result<Option<String>, AllocError> {
+    match tree.try_clone(heap) {
+        Ok(copy) => Ok(Some(print(alloc, &copy)?)),
+        Err(AllocError) => Ok(None),
+    }
+}
+
+fn clone_errors(
+    heap: &Heap,
+    alloc: Global,
+    tree: &SyntaxTree<DocumentRoot, &Heap>,
+) -> Result<Option<String>, AllocError> {
+    let mut printed = String::new(alloc);
+    let mut is_refused = false;
+    for error in tree.errors() {
+        match error.try_clone(heap) {
+            Ok(copy) => writeln!(printed, "{copy}")?,
+            Err(AllocError) => is_refused = true,
+        }
+    }
+    Ok(if is_refused { None } else { Some(printed) })
+}
+
+fn clone_subtree(
+    heap: &Heap,
+    alloc: Global,
+    tree: &SyntaxTree<DocumentRoot, &Heap>,
+) -> Result<Option<String>, AllocError> {
+    match tree.root().clone_subtree(heap) {
+        Ok(copy) => Ok(Some(format!(in alloc; "{copy:?}")?)),
+        Err(AllocError) => Ok(None),
+    }
+}
+
+// The value of the first argument of the first field of a query, where it is a string.
+fn first_string<'t>(tree: &'t SyntaxTree<DocumentRoot, &Heap>) -> Option<StringValue<'t>> {
+    let Definition::OperationDefinition(operation) = tree.document().definitions().next()? else {
+        return None;
+    };
+    let Selection::Field(field) = operation.selection_set()?.selections().next()? else {
+        return None;
+    };
+    match field.arguments()?.arguments().next()?.value()? {
+        Value::StringValue(string) => Some(string),
+        _ => None,
+    }
+}
+
+// The same text in memory of its own.
+fn kept(
+    alloc: Global,
+    copy: Result<String<&Heap>, AllocError>,
+) -> Result<Option<String>, AllocError> {
+    match copy {
+        Ok(text) => Ok(Some(String::from_str(alloc, text.as_str())?)),
+        Err(AllocError) => Ok(None),
+    }
+}
+
+fn read_string(
+    heap: &Heap,
+    alloc: Global,
+    tree: &SyntaxTree<DocumentRoot, &Heap>,
+) -> Result<Option<String>, AllocError> {
+    match first_string(tree) {
+        Some(string) => kept(alloc, string.to_string_in(heap)),
+        None => Ok(None),
+    }
+}
+
+// A call over a tree that was parsed with ample memory. The tree stands beside it.
+fn use_tree(
+    heap: &Heap,
+    alloc: Global,
+    call: Call,
+    source: &str,
+    number: u64,
+) -> Result<Attempt, AllocError> {
+    heap.refuse(0);
+    let tree = parse(heap, Parser::new(source))?;
+    heap.refuse(number);
+    let given = match call {
+        Call::CloneTree => clone_tree(heap, alloc, &tree)?,
+        Call::CloneErrors => clone_errors(heap, alloc, &tree)?,
+        Call::CopyText => kept(alloc, tree.root().source_string(heap))?,
+        Call::CloneSubtree => clone_subtree(heap, alloc, &tree)?,
+        Call::CopyToken => kept(alloc, TokenText::new(tree.root().text()).to_string_in(heap))?,
+        _ => read_string(heap, alloc, &tree)?,
+    };
+    let beside = print(alloc, &tree)?;
+    Ok(Attempt { given, beside })
+}
+
+// The call, when the request with this number is refused. At 0 none is.
+pub fn attempt(
+    heap: &Heap,
+    alloc: Global,
+    call: Call,
+    source: &str,
+    number: u64,
+) -> Result<Attempt, AllocError> {
+    match call {
+        Call::Lex => lex(heap, alloc, source, number),
+        Call::TellErrors => tell_errors(heap, alloc, source, number),
+        Call::Parse => parse_once(heap, alloc, source, number),
+        Call::Check => run_once(heap, alloc, Mode::Check, source, number),
+        Call::Tokens => run_once(heap, alloc, Mode::Tokens, source, number),
+        Call::Tree => run_once(heap, alloc, Mode::Tree, source, number),
+        _ => use_tree(heap, alloc, call, source, number),
+    }
+}

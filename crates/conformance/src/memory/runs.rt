@@ -1,0 +1,32 @@
+// A run of the program, with a request that is refused.
+use super::{Attempt, Heap};
+use gqlcst_run::{Fault, Limits, Mode, StdSink, StdSource, run};
+use std::alloc::{AllocError, Global};
+
+// What was found and written. When memory was refused, what was written all the same stands beside it: that is to be nothing.
+pub fn run_once(
+    heap: &Heap,
+    alloc: Global,
+    mode: Mode,
+    source: &str,
+    number: u64,
+) -> Result<Attempt, AllocError> {
+    let mut written = Vec::new(alloc);
+    let mut reader = StdSource::new(source.as_bytes());
+    let mut writer = StdSink::new(&mut written);
+    heap.refuse(number);
+    let outcome = run(heap, &mut reader, &mut writer, mode, Limits::NONE_SET);
+    drop(writer);
+    let text = String::from_utf8_lossy(alloc, written.as_slice())?;
+    if outcome == Err(Fault::Memory) {
+        return Ok(Attempt {
+            given: None,
+            beside: text,
+        });
+    }
+    let given = format!(in alloc; "{outcome:?}\n{text}")?;
+    Ok(Attempt {
+        given: Some(given),
+        beside: String::new(alloc),
+    })
+}

@@ -1,0 +1,3 @@
+// Texts that nest deeply or go on for long, and texts that are cut short.
+mod cut;
+mod floods;
