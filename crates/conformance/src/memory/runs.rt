@@ -11,7 +11,8 @@ pub fn run_once(
     source: &str,
     number: u64,
 ) -> Result<Attempt, AllocError> {
-    let mut written = Vec::new(alloc);
+    // with room for all output, so that the writer asks for no more
+    let mut written = Vec::with_capacity(alloc, 65_536)?;
     let mut reader = StdSource::new(source.as_bytes());
     let mut writer = StdSink::new(&mut written);
     heap.refuse(number);

@@ -18,11 +18,14 @@ fn keeps_text_and_order(alloc: Global, source: &str) -> Result<bool, AllocError>
 }
 
 // Each beginning that ends with a character, the empty and the whole one too.
-fn expect_beginnings(rt: &(impl Abort + AllocGlobal), source: &str) -> Result<(), Fail> {
+fn expect_beginnings(rt: &(impl Abort + AllocGlobal), source: &str) -> Result<(), AllocError> {
     let bytes = source.as_bytes();
     for end in 0..=bytes.len() {
         if let Ok(front) = str::from_utf8(&bytes[..end]) {
-            assert!(rt; keeps_text_and_order(rt.alloc(), front)?, "{front}");
+            assert!(rt;
+                keeps_text_and_order(rt.alloc(), front)?,
+                "{end} of {source}"
+            );
         }
     }
     Ok(())
@@ -32,8 +35,7 @@ fn is_clean(alloc: Global, source: &str) -> Result<bool, AllocError> {
     Ok(parse(alloc, Parser::new(source))?.errors().len() == 0)
 }
 
-#[test]
-fn beginnings_of_sentences(rt: HostRuntime) -> Result<(), Fail> {
+fn expect_all(rt: &(impl Abort + AllocGlobal)) -> Result<(), AllocError> {
     let sources = [
         "{a}",
         "{a{b}}",
@@ -65,7 +67,16 @@ fn beginnings_of_sentences(rt: HostRuntime) -> Result<(), Fail> {
     ];
     for source in sources {
         assert!(rt; is_clean(rt.alloc(), source)?, "{source}");
-        expect_beginnings(&rt, source)?;
+        expect_beginnings(rt, source)?;
+    }
+    Ok(())
+}
+
+// A request that was refused to the test itself is granted the second time.
+#[test]
+fn beginnings_of_sentences(rt: HostRuntime) -> Result<(), Fail> {
+    if expect_all(&rt).is_err() {
+        expect_all(&rt)?;
     }
     Ok(())
 }

@@ -49,7 +49,7 @@ fn expect_found(
     wanted: &str,
     bytes: usize,
     highs: (usize, usize),
-) -> Result<(), Fail> {
+) -> Result<(), AllocError> {
     let tree = parse(rt.alloc(), Parser::new(source).token_limit(items))?;
     let found = errors(rt.alloc(), &tree)?;
     assert_eq!(rt; found.as_str(), wanted);
@@ -62,7 +62,7 @@ fn expect_found(
     Ok(())
 }
 
-fn expect_flood(rt: &(impl Abort + AllocGlobal), flood: Flood) -> Result<(), Fail> {
+fn expect_flood(rt: &(impl Abort + AllocGlobal), flood: Flood) -> Result<(), AllocError> {
     let middle = repeated(rt.alloc(), flood.piece, flood.count)?;
     let (front, back) = (flood.front, flood.back);
     let source = format!(in rt.alloc(); "{front}{middle}{back}")?;
@@ -88,8 +88,7 @@ fn commas(items: usize, errors: &'static str) -> Flood {
     }
 }
 
-#[test]
-fn floods(rt: HostRuntime) -> Result<(), Fail> {
+fn expect_floods(rt: &(impl Abort + AllocGlobal)) -> Result<(), AllocError> {
     let floods = [
         Flood {
             front: "",
@@ -136,18 +135,17 @@ fn floods(rt: HostRuntime) -> Result<(), Fail> {
         },
     ];
     for flood in floods {
-        expect_flood(&rt, flood)?;
+        expect_flood(rt, flood)?;
     }
     Ok(())
 }
 
 // Each of the 500 braces is missed at the end.
-#[test]
-fn braces_without_their_ends(rt: HostRuntime) -> Result<(), Fail> {
+fn expect_braces_without_their_ends(rt: &(impl Abort + AllocGlobal)) -> Result<(), AllocError> {
     let source = repeated(rt.alloc(), "{a", 500)?;
     let wanted = repeated(rt.alloc(), "expected R_CURLY, got EOF||1000\n", 500)?;
     expect_found(
-        &rt,
+        rt,
         (source.as_str(), ALL),
         wanted.as_str(),
         1000,
@@ -156,8 +154,7 @@ fn braces_without_their_ends(rt: HostRuntime) -> Result<(), Fail> {
 }
 
 // Of ten braces each but the first is met where a selection should be, and there its definition ends.
-#[test]
-fn braces_in_place_of_selections(rt: HostRuntime) -> Result<(), Fail> {
+fn expect_braces_in_place_of_selections(rt: &(impl Abort + AllocGlobal)) -> Result<(), AllocError> {
     let source = repeated(rt.alloc(), "{", 100)?;
     let mut wanted = String::new(rt.alloc());
     for index in 1..10 {
@@ -168,15 +165,14 @@ fn braces_in_place_of_selections(rt: HostRuntime) -> Result<(), Fail> {
         writeln!(wanted, "expected R_CURLY, got {{|{{|{index}")?;
     }
     wanted.push_str("token limit reached, aborting lexing||10\n")?;
-    expect_found(&rt, (source.as_str(), 10), wanted.as_str(), 10, (1, 11))
+    expect_found(rt, (source.as_str(), 10), wanted.as_str(), 10, (1, 11))
 }
 
 // After a faulty definition the next one is read.
-#[test]
-fn definitions_after_an_error(rt: HostRuntime) -> Result<(), Fail> {
+fn expect_definitions_after_an_error(rt: &(impl Abort + AllocGlobal)) -> Result<(), AllocError> {
     let source = "{ a(b) } scalar S";
     expect_found(
-        &rt,
+        rt,
         (source, ALL),
         "expected COLON, got )|)|5\n",
         17,
@@ -186,5 +182,21 @@ fn definitions_after_an_error(rt: HostRuntime) -> Result<(), Fail> {
     let mut definitions = tree.document().definitions();
     assert!(rt; definitions.next().is_some() && definitions.next().is_some());
     assert!(rt; definitions.next().is_none());
+    Ok(())
+}
+
+fn expect_all(rt: &(impl Abort + AllocGlobal)) -> Result<(), AllocError> {
+    expect_floods(rt)?;
+    expect_braces_without_their_ends(rt)?;
+    expect_braces_in_place_of_selections(rt)?;
+    expect_definitions_after_an_error(rt)
+}
+
+// A request that was refused to the test itself is granted the second time.
+#[test]
+fn floods(rt: HostRuntime) -> Result<(), Fail> {
+    if expect_all(&rt).is_err() {
+        expect_all(&rt)?;
+    }
     Ok(())
 }
