@@ -91,7 +91,7 @@ struct Row {
     written: &'static str,
 }
 
-// A run over so much of the text. Where memory was refused, nothing is learned of the devices.
+// A run over so much of the text. When memory was refused, nothing is learned of the devices.
 fn run_on(
     alloc: Global,
     row: Row,

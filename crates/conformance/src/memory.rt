@@ -79,7 +79,7 @@ const STRINGS: [&str; 3] = [
 fn expect_all(rt: &(impl Abort + AllocGlobal)) -> Result<(), AllocError> {
     for (call, sources) in [
         (Call::Lex, SOURCES.as_slice()),
-        (Call::TellErrors, BAD.as_slice()),
+        (Call::MakeErrors, BAD.as_slice()),
         (Call::Parse, SOURCES.as_slice()),
         (Call::CloneTree, SOURCES.as_slice()),
         (Call::CloneErrors, FAULTY.as_slice()),

@@ -2,7 +2,7 @@
 use std::alloc::{AllocError, Allocator};
 use std::cell::Cell;
 
-/// Passes each request for memory on, but for one, which it refuses when it is told to. Its calls take a `&` to it as their allocator.
+/// Passes each request for memory on, but for at most one, which it refuses. A `&` to it is an allocator that is `Copy`.
 pub struct RefusesOne<B: Allocator> {
     inner: B,
     // how many requests come up to the one to refuse, itself counted; 0 when there is none, or none any more

@@ -13,7 +13,7 @@ pub enum Call {
     /// All tokens and errors of a lexer.
     Lex,
     /// Each error of a lexer, with its message.
-    TellErrors,
+    MakeErrors,
     Parse,
     CloneTree,
     CloneErrors,
@@ -54,7 +54,7 @@ fn lex(heap: &Heap, alloc: Global, source: &str, number: u64) -> Result<Attempt,
 }
 
 // The tokens stand beside the errors: after a refusal the lexer gives its further items as before.
-fn tell_errors(
+fn make_errors(
     heap: &Heap,
     alloc: Global,
     source: &str,
@@ -140,7 +140,7 @@ fn clone_subtree(
     }
 }
 
-// The value of the first argument of the first field of a query, where it is a string.
+// The value of the first argument of the first field of a query, when it is a string.
 fn first_string<'t>(tree: &'t SyntaxTree<DocumentRoot, &Heap>) -> Option<StringValue<'t>> {
     let Definition::OperationDefinition(operation) = tree.document().definitions().next()? else {
         return None;
@@ -209,7 +209,7 @@ pub fn attempt(
 ) -> Result<Attempt, AllocError> {
     match call {
         Call::Lex => lex(heap, alloc, source, number),
-        Call::TellErrors => tell_errors(heap, alloc, source, number),
+        Call::MakeErrors => make_errors(heap, alloc, source, number),
         Call::Parse => parse_once(heap, alloc, source, number),
         Call::Check => run_once(heap, alloc, Mode::Check, source, number),
         Call::Tokens => run_once(heap, alloc, Mode::Tokens, source, number),

@@ -48,7 +48,7 @@ use Rattle.conformance.specs.contracts.refusing.RefusesOneAllocator.allocate.Key
 use Rattle.conformance.proofs.refusing.RefusesOneAllocator.allocate.Statement as stated
 use Rattle.conformance.proofs.refusing.RefusesOneAllocator.allocate.Code as code
 
--- The count, behind a `&`.
+-- What holds the count.
 abbrev Count : RattleType
 Count = cell.the_row u64
 
