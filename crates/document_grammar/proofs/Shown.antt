@@ -1,8 +1,8 @@
 -- What the items of a cut show: their significant tokens, and the end; and where each item of a cut is.
-use Rattle.std.proofs.Common.{◌≡◌, ◌≢◌, ℕ, zero, suc, ◌+◌, ◌-◌, ◌<◌, List, [], ◌∷◌, ◌++◌, length, take, true, Option, Some, None, refl, sym, ap, ap₂, ◌∙◌, subst, arith, append_assoc, length-append}
+use Rattle.std.proofs.Common.{◌≡◌, ◌≢◌, ℕ, ◌+◌, ◌<◌, List, [], ◌∷◌, ◌++◌, length, take, true, Option, Some, None, refl, sym, ap, ap₂, ◌∙◌, subst, arith, append_assoc, length-append}
 use Rattle.std.specs.Prelude.{map, is_some}
 use Rattle.std.proofs.lemmas.Bool.{and_parts}
-use Rattle.std.proofs.lemmas.List.{map-append, append_cancel_left, take_at}
+use Rattle.std.proofs.lemmas.List.{map-append, take_at}
 use Rattle.lexical_grammar.specs.declared.TokenKind.{TokenKind}
 use Rattle.lexical_grammar.specs.declared.TokenKind.TheVariants as token
 use Rattle.lexical_grammar.specs.Cut.{Item, IsItem, Cut, CutFrom, texts, Significant, significant_word}
@@ -108,39 +108,16 @@ pub record Between (before : List Item) (x : Item) (before' : List Item) : Type 
   pub mid : List Item
   pub split : before' ≡ before ++ x ∷ mid
 
-list-head : {A : Type 0} {a b : A} {u v : List A} → a ∷ u ≡ b ∷ v → a ≡ b
-list-head e = cc
-
-list-tail : {A : Type 0} {a b : A} {u v : List A} → a ∷ u ≡ b ∷ v → u ≡ v
-list-tail e = cc
-
 -- one that begins before another is before it
 pub earlier : (before : List Item) (x : Item) (more before' : List Item) (y : Item) (more' : List Item) → before ++ x ∷ more ≡ before' ++ y ∷ more' → length (texts before) < length (texts before') → Between before x before'
 earlier before x more [] y more' e h = absurd (omega (arith, h))
-earlier [] x more (b ∷ before') y more' e h = record { mid = before'; split = ap (λ (i : Item). i ∷ before') (sym (list-head e)) }
+earlier [] x more (b ∷ before') y more' e h = record { mid = before'; split = ap (λ (i : Item). i ∷ before') (cc) }
 earlier (c ∷ before) x more (b ∷ before') y more' e h =
-    let same : c ≡ b = list-head e in
+    let same : c ≡ b = cc in
     let t = ap (λ (i : Item). length i.text) same in
-    let r = earlier before x more before' y more' (list-tail e) (omega (arith, h, t, length-append c.text (texts before), length-append b.text (texts before'))) in
+    let r = earlier before x more before' y more' (cc) (omega (arith, h, t, length-append c.text (texts before), length-append b.text (texts before'))) in
     record { mid = r.mid; split = ap₂ (λ (i : Item) (is : List Item). i ∷ is) (sym same) r.split }
 
 pub tokens-before : (before : List Item) (more : List Item) → are_tokens (before ++ more) ≡ true → are_tokens before ≡ true
 tokens-before [] more h = refl
 tokens-before (item ∷ before) more h = let p = and_parts (is_some item.kind) (are_tokens (before ++ more)) h in (rw (p.0, tokens-before before more p.1) refl)
-
--- ---- among the first items
-
--- what the first k items show behind some of them
-pub among : (k : ℕ) (before rest : List Item) (l v : List Mark) → shown (take k (before ++ rest)) ≡ (shown before ++ l) ++ v → l ≢ [] → shown (take (k - length before) rest) ≡ l ++ v
-among k [] rest l v e n = let z : k - 0 ≡ k = omega arith in rw z e
-among zero (b ∷ before) rest l v e n = absurd (nothing (shown (b ∷ before)) l v e n)
-  where
-    nothing : (a l v : List Mark) → [] ≡ (a ++ l) ++ v → l ≢ [] → ⊥
-    nothing [] [] v e n = n refl
-    nothing [] (x ∷ l) v e n = absurd cc
-    nothing (x ∷ a) l v e n = absurd cc
-among (suc k) (b ∷ before) rest l v e n =
-    let z : suc k - suc (length before) ≡ k - length before = omega arith in
-    let s : List Mark = shown_item b.kind b.text in
-    let a : s ++ shown (take k (before ++ rest)) ≡ s ++ ((shown before ++ l) ++ v) = e ∙ (ap (λ (x : List Mark). x ++ v) (append_assoc s (shown before) l) ∙ append_assoc s (shown before ++ l) v) in
-    rw z (among k before rest l v (append_cancel_left s _ _ a) n)

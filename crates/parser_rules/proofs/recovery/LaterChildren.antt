@@ -3,6 +3,7 @@
 use Rattle.std.proofs.Common.{◌≡◌, ◌≢◌, ℕ, ◌+◌, ◌≤◌, Bool, true, false, true≢false, ◌&&◌, ltb, List, [], ◌∷◌, ◌++◌, length, map, Option, Some, None, refl, sym, ap, ap₂, ◌∙◌, subst, inl, inr, ◌⊎◌, arith, is_some, length-append}
 use Rattle.std.specs.List.{list_all}
 use Rattle.std.proofs.lemmas.Bool.{and_parts}
+use Rattle.std.proofs.lemmas.List.Elements.{All-map, All-weaker}
 use Rattle.lexical_grammar.specs.Cut.{Item, Cut, CutFrom, texts, end_at, Significant, significant_word}
 use Rattle.lexical_grammar.specs.Begins.{are_tokens}
 use Rattle.lexical_grammar.specs.Answers.{Answer, gives, limit_at, limited, is_given}
@@ -16,6 +17,7 @@ use Rattle.document_grammar.specs.Builds.{Building, add_leaf}
 use Rattle.document_grammar.specs.Tree.{Token, Tree, node}
 use Rattle.document_grammar.specs.Derivation.{document, Spells, nest}
 use Rattle.document_grammar.specs.FirstError.{tokens_of, At}
+use Rattle.document_grammar.specs.Recovery.{NoneBeyond}
 use Rattle.document_grammar.specs.Booleans.{◌and◌}
 use Rattle.document_grammar.proofs.Added.{added-leaf}
 use Rattle.document_grammar.proofs.Booleans.{and-i}
@@ -23,7 +25,7 @@ use Rattle.document_grammar.proofs.Joins.{join-none}
 use Rattle.document_grammar.proofs.Shown.{index-at, item-then, cut-from}
 use Rattle.grammar_machine.proofs.TableLemmas.{head-same, tail-same}
 use Rattle.parser_rules.specs.declared.message.Message.TheVariants as message
-use Rattle.parser_rules.specs.State.{State, Lexeme, Report, PendingToken, read_on, add_all, flush, note, fresh, begun}
+use Rattle.parser_rules.specs.State.{State, Lexeme, lexeme, Report, PendingToken, read_on, add_all, flush, note, fresh, begun}
 use Rattle.parser_rules.specs.Nodes.{Document, Definition}
 use Rattle.parser_rules.specs.RuleLanguage.{Rule, Skip, Do, Note, Call, Ready, holds, step}
 use Rattle.parser_rules.specs.Rules.{body}
@@ -38,7 +40,7 @@ use Rattle.parser_rules.proofs.reports.NoReport.{answers_tokens, all_tokens, cur
 use Rattle.parser_rules.proofs.soundness.OverTexts.{words-cons}
 use Rattle.parser_rules.proofs.soundness.Soundness.{accepted, loops, Turn, from_now, turn-of}
 use Rattle.parser_rules.proofs.soundness.WithoutIgnored.{strip, all_ignored}
-use Rattle.parser_rules.proofs.recovery.LeftOver.{by-kind, source-text, bytes, text-bytes, Known_all, known, known-parts}
+use Rattle.parser_rules.proofs.recovery.LeftOver.{by-kind, source-text, bytes, text-bytes}
 use Rattle.parser_rules.proofs.recovery.Recovers.{recovers, none-beyond}
 use Rattle.parser_rules.proofs.recovery.OneChild.{Kid, leaf_of, alone, turn-one, behind, added-behind, loop-alike, next-child}
 
@@ -73,10 +75,6 @@ join-cancel : (f g h : built.Forest) → built.join f g ≡ built.join f h → g
 join-cancel built.none g h e = e
 join-cancel (built.leaf k x f) g h e = let i : built.join f g ≡ built.join f h = cc in join-cancel f g h i
 join-cancel (built.node k kids f) g h e = let i : built.join f g ≡ built.join f h = cc in join-cancel f g h i
-
-up-to : (m n : ℕ) (es : List Report) → m ≤ n → AllUpTo m es → AllUpTo n es
-up-to m n [] l h = tt
-up-to m n (e ∷ es) l h = let a = h.0 in (omega (arith, a, l), up-to m n es l h.1)
 
 -- ---- the trees of a list
 
@@ -119,16 +117,20 @@ reads-left [] None v = refl
 reads-left [] (Some x) v = refl
 reads-left (q ∷ p) o v = ap (λ (z : Bool × List Token). (ltb (number q.kind) ERROR && z.0, z.1)) (reads-left p o v) ∙ (elim (ltb (number q.kind) ERROR) as (λ b. ◌≡◌ {A = Bool × List Token} (b && (all_ignored p && (reads v).0), current_tokens o ++ (reads v).1) ((b && all_ignored p) && (reads v).0, current_tokens o ++ (reads v).1)) [ true ↦ refl | false ↦ refl ])
 
--- what waits is before each significant token
-not-past : (p : List PendingToken) (before : List Item) (item : Item) (more : List Item) (w : List Source) → map source_item (before ++ item ∷ more) ≡ flat (set_aside p) ++ w → Significant (item ∷ []) ≢ [] → bytes (flat (set_aside p)) ≤ length (texts before)
-not-past [] before item more w e s = omega arith
-not-past (q ∷ p) [] item more w e s = absurd (s (by-kind (λ found o. o ≡ aside q → significant_word found item.text ++ [] ≡ []) item (λ z. refl) (λ k i z. absurd cc)
+token-index : (item : Item) (x : Lexeme) → source_item item ≡ token x → x.index ≡ item.index
+token-index item x = by-kind (λ found o. o ≡ token x → x.index ≡ item.index) item (λ z. absurd cc) (λ k i z. let same : x ≡ lexeme k item = cc in ap (λ (y : Lexeme). y.index) same) (λ k own i z. absurd cc)
+
+-- the first token that is not ignored is not beyond a significant one
+first-token : (place : ℕ) (p : List PendingToken) (x : Lexeme) (before : List Item) (item : Item) (more : List Item) (w : List Source) → CutFrom place (before ++ item ∷ more)
+    → map source_item (before ++ item ∷ more) ≡ flat (set_aside p) ++ token x ∷ w → Significant (item ∷ []) ≢ [] → x.index ≤ item.index
+first-token place [] x [] item more w cut e s = let i = token-index item x (head-same e) in omega (arith, i)
+first-token place [] x (c ∷ before) item more w cut e s =
+    let i = token-index c x (head-same e) in
+    let first = (item-then place before item more c cut).0 in
+    omega (arith, i, first, index-at place (c ∷ before) item more cut)
+first-token place (q ∷ p) x [] item more w cut e s = absurd (s (by-kind (λ found o. o ≡ aside q → significant_word found item.text ++ [] ≡ []) item (λ z. refl) (λ k i z. absurd cc)
     (λ k own i z. ignored-kinds (λ k own. significant_word (Some k) item.text ++ [] ≡ []) refl refl refl k own i) (head-same e)))
-not-past (q ∷ p) (c ∷ before) item more w e s =
-    let h = ap (λ (o : Source). length (text_of o)) (head-same e) in
-    let t = ap length (source-text c) in
-    let r = not-past p before item more w (tail-same e) s in
-    omega (arith, h, t, r, length-append c.text (texts before))
+first-token place (q ∷ p) x (c ∷ before) item more w cut e s = first-token (place + length c.text) p x before item more w (item-then place before item more c cut).2 (tail-same e) s
 
 given-sources : (items : List Item) → sources (map gives items) ≡ map source_item items
 given-sources [] = refl
@@ -156,7 +158,7 @@ module _ (r k : ℕ) (source : List ℕ) (items : List Item) (s : State) (cut : 
   b0 = begun xs r kind.DOCUMENT
 
   abbrev Goes : Type 0
-  Goes = (node DOCUMENT (strip later) ≡ u) × ((m : ℕ) (b : At (a.item ∷ a.more) m) → Significant (b.item ∷ []) ≢ [] → AllUpTo m s.errors)
+  Goes = (node DOCUMENT (strip later) ≡ u) × NoneBeyond (a.item ∷ a.more) (map (λ (e : Report). e.index) s.errors)
 
   -- no token is there
   nothing-there : tokens_of (a.item ∷ a.more) ≡ [] → Goes
@@ -209,16 +211,13 @@ module _ (r k : ℕ) (source : List ℕ) (items : List Item) (s : State) (cut : 
             let z = recovers here s t' u good.0 spelled (omega (arith, nests, limit)) all loop in
             let built_here : tree.here ≡ front = grown.trees.here ∙ (ap (λ x. built.join x (erase f)) started ∙ sym ends) in
             let l : later ≡ z.later = join-cancel front later z.later (sym whole ∙ (z.children ∙ ap (λ x. built.join x z.later) built_here)) in
-            let behind_trees = (known-parts items 0 (flat f) (to_come here) (subst (Known_all items 0) order (known 0 k items cut.each))).1 in
-            let known_here = (known-parts items (0 + bytes (flat f)) (flat (set_aside p)) (now_of st.current ++ sources st.items) behind_trees).1 in
-            let index : t.token.index ≡ (0 + bytes (flat f)) + bytes (flat (set_aside p)) = (subst (Known_all items ((0 + bytes (flat f)) + bytes (flat (set_aside p)))) now known_here).0.0 in
             let up : AllUpTo t.token.index s.errors = subst (λ (es : List Report). AllUpTo t.token.index es) (sym z.silent) (none-beyond r k source items q c st t cut all first turns) in (
               ap (λ x. node DOCUMENT (strip x)) l ∙ z.derived,
               λ m b sig. (
-                  let i = index-at _ b.before b.item b.more (subst (CutFrom _) b.split (cut-from 0 a.before a.item a.more each)) in
                   let j = b.index in
-                  let n = not-past p b.before b.item b.more _ (ap (map source_item) (sym b.split) ∙ left) sig in
-                  up-to t.token.index m s.errors (omega (arith, i, j, n, index, place)) up),
+                  let e : map source_item (b.before ++ b.item ∷ b.more) ≡ flat (set_aside p) ++ token t.token ∷ sources st.items = ap (map source_item) (sym b.split) ∙ left ∙ ap (λ (v : List Source). flat (set_aside p) ++ v) now in
+                  let n = first-token _ p t.token b.before b.item b.more (sources st.items) (subst (CutFrom _) b.split (cut-from 0 a.before a.item a.more each)) e sig in
+                  All-map (λ (n : ℕ). n ≤ m) (λ (e : Report). e.index) s.errors (All-weaker (λ (e : Report). e.index ≤ t.token.index) (λ (e : Report). e.index ≤ m) (λ e l. omega (arith, j, n, l)) s.errors up)),
             )
 
         here-goes : Goes

@@ -1,58 +1,42 @@
 -- What holds of a tree with reports, in the words of the definitions: which children a node has, and where tokens that were left over stand.
-use Rattle.std.proofs.Common.{◌≡◌, ◌≢◌, ℕ, zero, suc, ◌+◌, ◌<◌, Bool, true, false, true≢false, ◌&&◌, ◌||◌, cond, not, eqb, eqb-true, eq-eqb, ne_eqb, List, [], ◌∷◌, ◌++◌, length, Option, Some, None, refl, sym, ap, ap₂, ◌∙◌, subst, inl, inr, arith, length-append}
+use Rattle.std.proofs.Common.{◌≡◌, ◌≢◌, ℕ, zero, suc, ◌+◌, ◌<◌, Bool, true, false, true≢false, ◌&&◌, ◌||◌, cond, not, eqb, eq-eqb, ne_eqb, List, [], ◌∷◌, ◌++◌, length, Option, Some, None, refl, sym, ap, ap₂, ◌∙◌, subst, arith, length-append}
 use Rattle.std.specs.Prelude.{⊤}
-use Rattle.std.proofs.lemmas.Bool.{and_right, or_left, or_right}
+use Rattle.std.proofs.lemmas.Bool.{and_right}
 use Rattle.lexical_grammar.specs.declared.TokenKind.{TokenKind}
 use Rattle.lexical_grammar.specs.declared.TokenKind.TheVariants as token_kind
 use Rattle.lexical_grammar.specs.Cut.{Item, Cut, CutFrom, is_significant_kind}
 use Rattle.lexical_grammar.specs.Answers.{limited, is_end}
+use Rattle.lexical_grammar.proofs.Limited.{limited-end}
 use Rattle.lexical_grammar.proofs.Places.{item-some}
 use Rattle.document_grammar.specs.declared.kind.SyntaxKind.{SyntaxKind}
 use Rattle.document_grammar.specs.declared.kind.SyntaxKind.TheVariants as kind
 use Rattle.document_grammar.specs.Numbers.{number}
-use Rattle.document_grammar.specs.Kinds.{ERROR, SPREAD, LIST_VALUE}
+use Rattle.document_grammar.specs.Kinds.{ERROR, LIST_VALUE}
 use Rattle.document_grammar.specs.Forests as built
 use Rattle.document_grammar.specs.Numbered.{numbered}
 use Rattle.document_grammar.specs.Tree as tree
-use Rattle.document_grammar.specs.Tree.{Text, Forest, ◌▸◌}
-use Rattle.document_grammar.specs.Pattern.{member}
+use Rattle.document_grammar.specs.Tree.{Text, Forest}
 use Rattle.document_grammar.specs.Derivation.{texts as tree_texts}
 use Rattle.document_grammar.specs.Booleans.{◌and◌}
-use Rattle.document_grammar.specs.Recovery.{MayStand, AllRowed, is_such, token_at, is_right_bracket, left_over, count_left_over, NoBracket, Spares, LeftOver}
+use Rattle.document_grammar.specs.Recovery.{AllRowed, is_such, token_at, is_right_bracket, left_over, count_left_over, NoBracket, Spares, LeftOver}
 use Rattle.document_grammar.proofs.Booleans.{and-l, and-r, or-c, not-c}
 use Rattle.document_grammar.proofs.Shown.{index-at}
 use Rattle.parser_rules.specs.declared.message.Message.{Message}
 use Rattle.parser_rules.specs.State.{State, Lexeme, Report, fault_report, ignored, lexeme, is_at, same_kind, add_all}
-use Rattle.parser_rules.proofs.reports.Endings.{limited-none}
 use Rattle.parser_rules.proofs.leaves.LeafCheck.{is_error}
 use Rattle.parser_rules.proofs.recovery.RecoveryCheck.{of_row, leaf_of_row}
 use Rattle.parser_rules.proofs.recovery.RowSymbols.{rows}
 use Rattle.parser_rules.proofs.recovery.Popped as popped_of
-use Rattle.parser_rules.proofs.recovery.Popped.{Has, lexeme_of, popped, pops_of, Reported_at, Allowed, Recovers, Recovery}
-use Rattle.parser_rules.proofs.runs.Marked.{Source, token, aside, text_of, Marked, none, leaf, node, erase, flat, now_of, sources, source_at, source_of}
+use Rattle.parser_rules.proofs.recovery.Popped.{lexeme_of, popped, pops_of, Reported_at, Allowed, Recovers, Recovery}
+use Rattle.parser_rules.proofs.runs.Marked.{Has, Source, token, aside, text_of, Marked, none, leaf, node, erase, flat, now_of, sources, source_at, source_of}
 use Rattle.parser_rules.proofs.runs.Reading.{ignored-kinds}
 
 -- ---- the symbols of rows
 
-among-first : (n a : ℕ) (l : List ℕ) → eqb n a ≡ true → member n (a ∷ l) ≡ true
-unfolding member
-among-first n a l h = or_left (eqb a n) (member n l) (eq-eqb a n (sym (eqb-true n a h)))
-
-among-later : (n a : ℕ) (l : List ℕ) → member n l ≡ true → member n (a ∷ l) ≡ true
-unfolding member
-among-later n a l h = or_right (eqb a n) (member n l) h
-
-may-stand : (k : ℕ) (j : SyntaxKind) (x : Text) → leaf_of_row k j ≡ true → MayStand k (tree.leaf (number j) x)
-unfolding leaf_of_row of_row
-may-stand k j x h = elim (or-c _ _ h) [
-  | inl a ↦ elim (or-c _ _ a) [ inl i ↦ inl i | inr i ↦ inr (among-first (number j) ERROR _ i) ]
-  | inr a ↦ inr (among-later (number j) ERROR _ (elim (or-c _ _ a) [ inl i ↦ among-first (number j) SPREAD _ i | inr i ↦ among-later (number j) SPREAD _ i ]))
-]
-
 pub all-rowed : (k : ℕ) (f : built.Forest) → rows k f ≡ true → AllRowed k (numbered f)
-unfolding of_row
+unfolding of_row leaf_of_row
 all-rowed k built.none h = tt
-all-rowed k (built.leaf j x rest) h = (may-stand k j x (and-l _ _ h), tt, all-rowed k rest (and-r _ _ h))
+all-rowed k (built.leaf j x rest) h = (or-c _ _ (and-l _ _ h), tt, all-rowed k rest (and-r _ _ h))
 all-rowed k (built.node j kids rest) h = let a = and-l _ _ h in (and-l _ _ a, all-rowed (number j) kids (and-r _ _ a), all-rowed k rest (and-r _ _ h))
 
 -- ---- tokens at places
@@ -121,21 +105,12 @@ unfolding same_kind
 bracket-kind token_kind.RBracket = refl
 bracket-kind _ = refl
 
--- a report tells the token that was left over
-pub record Told_at (errors : List Report) (place : ℕ) (text : Text) : Type 0 where
-  pub said : Message
-  pub token : Lexeme
-  pub index : token.index ≡ place
-  pub own : token.text ≡ text
-  pub some : is_end token.kind ≡ false
-  pub told : Has errors (fault_report said token)
-
 -- what is at the place of a source, and of each of some in a row
-abbrev pub Known : List Item → ℕ → Source → Type 0
+abbrev Known : List Item → ℕ → Source → Type 0
 Known items b (token x) = (x.index ≡ b) × (ignored x.kind ≡ None) × ((kinds : TokenKind → Bool) → token_at kinds items b ≡ kinds x.kind)
 Known items b (aside p) = token_at is_significant_kind items b ≡ false
 
-abbrev pub Known_all : List Item → ℕ → List Source → Type 0
+abbrev Known_all : List Item → ℕ → List Source → Type 0
 Known_all items b [] = ⊤
 Known_all items b (o ∷ v) = Known items b o × Known_all items (b + length (text_of o)) v
 
@@ -152,19 +127,23 @@ known-behind item items b (token x ∷ v) l h =
     ((h.0.0, h.0.1, λ kinds. rw (ne_eqb item.index b (λ z. omega (arith, z, l))) (h.0.2 kinds)), known-behind item items (b + length x.text) v (omega (arith, l)) h.1)
 known-behind item items b (aside p ∷ v) l h = (rw (ne_eqb item.index b (λ z. omega (arith, z, l))) h.0, known-behind item items (b + length p.text) v (omega (arith, l)) h.1)
 
-pub known : (place k : ℕ) (items : List Item) → CutFrom place items → Known_all items place (sources (limited k items))
+known : (place k : ℕ) (items : List Item) → CutFrom place items → Known_all items place (sources (limited k items))
 known place k [] cut = absurd cut
 known place zero (item ∷ items) cut = tt
-known place (suc k) (item ∷ []) cut = (known-first place item [] cut, subst (λ xs. Known_all (item ∷ []) (place + length (text_of (source_at item item.kind))) (sources xs)) (sym (limited-none k)) tt)
+known place (suc k) (item ∷ []) cut = (known-first place item [] cut, subst (λ xs. Known_all (item ∷ []) (place + length (text_of (source_at item item.kind))) (sources xs)) (sym (limited-end k)) tt)
 known place (suc k) (item ∷ next ∷ items) cut =
     let t = source-text item in
     let rest : Known_all (next ∷ items) (place + length (text_of (source_at item item.kind))) (sources (limited k (next ∷ items))) =
     subst (λ x. Known_all (next ∷ items) (place + length x) (sources (limited k (next ∷ items)))) (sym t) (known (place + length item.text) k (next ∷ items) cut.2) in
     (known-first place item (next ∷ items) cut, known-behind item (next ∷ items) _ _ (omega (arith, cut.0, ap length t, item-some item.kind item.text _ cut.1)) rest)
 
-pub known-parts : (items : List Item) (b : ℕ) (v w : List Source) → Known_all items b (v ++ w) → Known_all items b v × Known_all items (b + bytes v) w
+known-parts : (items : List Item) (b : ℕ) (v w : List Source) → Known_all items b (v ++ w) → Known_all items b v × Known_all items (b + bytes v) w
 known-parts items b [] w h = (tt, subst (λ n. Known_all items n w) (omega arith) h)
 known-parts items b (o ∷ v) w h = let r = known-parts items (b + length (text_of o)) v w h.1 in ((h.0, r.0), subst (λ n. Known_all items n w) (omega arith) r.1)
+
+-- what is said of the place and the text of each token that has a report
+abbrev Said : List Report → (ℕ → Text → Type 0) → Type 0
+Said errors P = (m : Message) (x : Lexeme) → is_end x.kind ≡ false → Has errors (fault_report m x) → P x.index x.text
 
 module _ (items : List Item) where
   -- trees that know their tokens
@@ -195,23 +174,19 @@ module _ (items : List Item) where
   allowed kind.LIST_VALUE kids b h a = ((λ z. spared kids b h a), λ z. absurd (z refl))
   allowed _ kids b h a = ((λ z. absurd (true≢false (sym (eq-eqb _ LIST_VALUE z)))), λ z. omega (arith, counted kids b h, a))
 
-  left-told : (errors : List Report) (f : Marked) (b : ℕ) → Known_all items b (flat f) → Recovers errors f → LeftOver (Told_at errors) items b (numbered (erase f))
-  left-told errors none b h r = tt
-  left-told errors (leaf o own rest) b h r = ((λ z. on o h.0 (sym (left-is o own b h.0) ∙ z) r.0), left-told errors rest (b + length (text_of o)) h.1 r.1)
+  -- each token that was left over has a report, and so what is said of those that have one
+  left-said : (errors : List Report) (P : ℕ → Text → Type 0) → Said errors P → (f : Marked) (b : ℕ) → Known_all items b (flat f) → Recovers errors f → LeftOver P items b (numbered (erase f))
+  left-said errors P said none b h r = tt
+  left-said errors P said (leaf o own rest) b h r = ((λ z. on o h.0 (sym (left-is o own b h.0) ∙ z) r.0), left-said errors P said rest (b + length (text_of o)) h.1 r.1)
     where
-      on : (o : Source) → Known items b o → popped o own ≡ true → (popped o own ≡ true → Reported_at errors (lexeme_of o)) → Told_at errors b (text_of o)
-      on (token x) h z r = record { said = (r z).0; token = x; index = h.0; own = refl; some = not-c _ (and-r _ _ z); told = (r z).1 }
+      on : (o : Source) → Known items b o → popped o own ≡ true → (popped o own ≡ true → Reported_at errors (lexeme_of o)) → P b (text_of o)
+      on (token x) h z r = subst (λ (n : ℕ). P n x.text) h.0 (said (r z).0 x (not-c _ (and-r _ _ z)) (r z).1)
       on (aside p) h z r = absurd (true≢false (sym z))
-  left-told errors (node j kids rest) b h r = let k = known-node b kids (flat rest) h in (allowed j kids b k.0 r.0, left-told errors kids b k.0 r.1, left-told errors rest _ k.1 r.2)
+  left-said errors P said (node j kids rest) b h r =
+      let k = known-node b kids (flat rest) h in (allowed j kids b k.0 r.0, left-said errors P said kids b k.0 r.1, left-said errors P said rest _ k.1 r.2)
 
--- Each token that was left over is told, and stands where one may.
-pub left-over : (source : List ℕ) (k : ℕ) (items : List Item) (s : State) → Cut source items → Recovery (limited k items) s → LeftOver (Told_at s.errors) items 0 (numbered (add_all s.pending s.tree).here)
-left-over source k items s cut r =
-    subst (λ (f : built.Forest). LeftOver (Told_at s.errors) items 0 (numbered f)) r.tree
-    (left-told items s.errors r.marked 0 (known-parts items 0 (flat r.marked) (now_of s.current ++ sources s.items) (subst (Known_all items 0) (sym r.order) (known 0 k items cut.each))).0 r.recovers)
-
--- what is said of each told token
-pub left-over-by : (items : List Item) (P Q : ℕ → Text → Type 0) → ((n : ℕ) (x : Text) → P n x → Q n x) → (place : ℕ) (f : Forest) → LeftOver P items place f → LeftOver Q items place f
-left-over-by items P Q h place tree.none a = tt
-left-over-by items P Q h place (tree.leaf k x ▸ f) a = ((λ z. h place x (a.0 z)), left-over-by items P Q h (place + length x) f a.1)
-left-over-by items P Q h place (tree.node k g ▸ f) a = (a.0, left-over-by items P Q h place g a.1, left-over-by items P Q h (place + length (tree_texts g)) f a.2)
+-- Each token that was left over is where one may be, and what is said of reported tokens holds of it.
+pub left-over : (source : List ℕ) (k : ℕ) (items : List Item) (s : State) → Cut source items → (P : ℕ → Text → Type 0) → Said s.errors P → Recovery (limited k items) s → LeftOver P items 0 (numbered (add_all s.pending s.tree).here)
+left-over source k items s cut P said r =
+    let each : Known_all items 0 (flat r.marked ++ (now_of s.current ++ sources s.items)) = subst (Known_all items 0) (sym r.order) (known 0 k items cut.each) in
+    subst (λ (f : built.Forest). LeftOver P items 0 (numbered f)) r.tree (left-said items s.errors P said r.marked 0 (known-parts items 0 (flat r.marked) _ each).0 r.recovers)

@@ -9,7 +9,7 @@ use Rattle.document_grammar.specs.declared.kind.SyntaxKind.TheVariants as kind
 use Rattle.document_grammar.specs.Booleans.{◌and◌, ◌or◌}
 use Rattle.document_grammar.proofs.Booleans.{false-true, and-l, and-r, or-c, not-c, either}
 use Rattle.parser_rules.specs.declared.message.Message.{Message}
-use Rattle.parser_rules.specs.State.{State, Lexeme, PendingToken, Report, at_limit, fault_report, second, add_all, flush, opened, closed, wrapped_from, moved, noted, note, too_deep, enter, leave, is_at, fresh, begun}
+use Rattle.parser_rules.specs.State.{State, Lexeme, PendingToken, Report, fault_report, second, add_all, flush, opened, closed, wrapped_from, moved, noted, note, too_deep, enter, leave, is_at, fresh, begun}
 use Rattle.parser_rules.specs.Nodes.{kind_of, Document}
 use Rattle.parser_rules.specs.RuleLanguage.{Kind, Test, Here, HasNext, Not, Both, holds, Call}
 use Rattle.parser_rules.specs.Runs.{Runs}
@@ -17,12 +17,11 @@ use Rattle.std.proofs.lemmas.Bool.{and_parts}
 use Rattle.parser_rules.proofs.recovery.RecoveryCheck.{is_list, excludes, asks_next, Room, any_token, no_bracket, one_token, no_token, same_room, room_of, Popping, unknown, pop, pop_check}
 use Rattle.parser_rules.proofs.NodeChecks.{node-passes, document_passes}
 use Rattle.parser_rules.proofs.runs.Reading.{Reading, stops, cuts, bad_text, waits, shows, reading}
-use Rattle.parser_rules.proofs.runs.Marked.{Source, token, aside, Marked, none, leaf, node, append, append-none, erase, flat, set_aside, now_of, sources, moved_on, has-more, Reports, reports-then, read-reports, Grown, grown-note, grown-deep}
+use Rattle.parser_rules.proofs.runs.Marked.{Source, token, aside, Marked, none, leaf, node, append, append-none, erase, flat, set_aside, now_of, sources, moved_on, has-more, Has, Limited, Reports, read-reports, taken-or-limited, Grown, grown-note, grown-deep}
 use Rattle.parser_rules.proofs.runs.Walk.{after_pending, always, Goes, Sound, walked_whole}
 use Rattle.parser_rules.proofs.runs.Reporting.{after-note, after-too-deep}
 use Rattle.parser_rules.proofs.reports.NoReport.{Now, EndsWell, choose, ignored-end, Stood, reading-stood, stands-along}
 use Rattle.parser_rules.proofs.leaves.LeafCheck.{is_error}
-pub use Rattle.parser_rules.proofs.runs.Marked.{Has}
 
 -- ---- popped tokens
 
@@ -323,10 +322,9 @@ pub record Recovery (xs : List Answer) (s : State) : Type 0 where
 
 -- Where no limit is reported, each popped token has a report with its text and index, and is a child of the root, or of a LIST_VALUE and not
 -- `]`, or its node's only popped token.
-pub document-recovers : (r : ℕ) (xs : List Answer) (s : State) → EndsWell xs → Runs (Call Document) (begun xs r kind.DOCUMENT) s → ((r : Report) → r.found ≡ at_limit → Has s.errors r → ⊥) → Recovery xs s
+pub document-recovers : (r : ℕ) (xs : List Answer) (s : State) → EndsWell xs → Runs (Call Document) (begun xs r kind.DOCUMENT) s → (Limited s.errors → ⊥) → Recovery xs s
 document-recovers r xs s en run none-limited =
     let o : State = fresh xs r kind.DOCUMENT in
     let (f, a, e, h, g, w) = walked_whole pop_check Held sound xs r kind.DOCUMENT (unknown any_token) always run document_passes.errors (held any_token (begun xs r kind.DOCUMENT) (begun xs r kind.DOCUMENT) none (reading-stood (reading xs o) en) (λ y. (tt, tt))) in
-    let p = reports-then o (begun xs r kind.DOCUMENT) s (read-reports (reading xs o)) g.reports in
-    let taken : s.accepts ≡ true = elim (either s.accepts) [ inl y ↦ y | inr y ↦ (let l = p.limited refl y in absurd (none-limited l.0 l.1 (subst (λ (z : List Report). Has z l.0) (sym p.errors) l.2))) ] in
+    let taken : s.accepts ≡ true = elim (taken-or-limited xs r kind.DOCUMENT s g.reports) [ inl y ↦ y | inr l ↦ absurd (none-limited l) ] in
     record { marked = append f (set_aside s.pending); tree = w.tree; order = w.order; recovers = recovers-append s.errors f (set_aside s.pending) (h.right taken).0 (recovers-aside s.errors s.pending) }

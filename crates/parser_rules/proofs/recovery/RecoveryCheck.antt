@@ -1,11 +1,12 @@
 -- The computed checks of a rule that hold whatever is reported: which tokens become ERROR leaves, which symbols stand in a node, and that no
 -- token becomes an ignored leaf.
-use Rattle.std.proofs.Common.{ℕ, Bool, true, false, cond, eqb, ltb, not}
+use Rattle.std.proofs.Common.{ℕ, ◌∷◌, Bool, true, false, cond, eqb, ltb, not}
 use Rattle.lexical_grammar.specs.declared.TokenKind.TheVariants as token
 use Rattle.document_grammar.specs.declared.kind.SyntaxKind.{SyntaxKind}
 use Rattle.document_grammar.specs.declared.kind.SyntaxKind.TheVariants as kind
 use Rattle.document_grammar.specs.Numbers.{number}
 use Rattle.document_grammar.specs.Kinds.{ERROR, SPREAD, NON_NULL_TYPE, DOCUMENT}
+use Rattle.document_grammar.specs.Choices.{is_ignored}
 use Rattle.document_grammar.specs.Pattern.{member}
 use Rattle.document_grammar.specs.Recovery.{symbols}
 use Rattle.document_grammar.specs.Rows.{Row}
@@ -95,7 +96,7 @@ of_row k j = member (number j) (symbols (Row k))
 
 -- an ignored leaf, an ERROR or a SPREAD, or a symbol of the row
 unfoldable pub leaf_of_row : ℕ → SyntaxKind → Bool
-leaf_of_row k j = (ltb (number j) ERROR or eqb (number j) ERROR) or (eqb (number j) SPREAD or of_row k j)
+leaf_of_row k j = is_ignored (number j) or member (number j) (ERROR ∷ SPREAD ∷ symbols (Row k))
 
 -- the row of the open node, and a second one that a type's children fit too: it may be wrapped later
 pub record Two_rows : Type 0 where

@@ -1,13 +1,14 @@
 -- Whatever is reported, a node's children are symbols of its row, but for ignored, ERROR and SPREAD leaves: a computed check of the rules.
-use Rattle.std.proofs.Common.{◌≡◌, ℕ, Bool, true, eqb, ltb, List, [], ◌∷◌, Some, refl, sym, subst, eqb-true, true≢false}
+use Rattle.std.proofs.Common.{◌≡◌, ℕ, Bool, true, List, [], ◌∷◌, Some, refl, sym, subst, eqb-true, true≢false}
 use Rattle.lexical_grammar.specs.Answers.{Answer}
 use Rattle.document_grammar.specs.declared.kind.SyntaxKind.{SyntaxKind}
 use Rattle.document_grammar.specs.declared.kind.SyntaxKind.TheVariants as kind
 use Rattle.document_grammar.specs.Numbers.{number}
-use Rattle.document_grammar.specs.Kinds.{ERROR, DOCUMENT}
+use Rattle.document_grammar.specs.Pattern.{member}
+use Rattle.document_grammar.specs.Kinds.{DOCUMENT}
 use Rattle.document_grammar.specs.Forests as built
 use Rattle.document_grammar.specs.Booleans.{◌and◌, ◌or◌}
-use Rattle.document_grammar.proofs.Booleans.{and-i, and-l, and-r, or-l}
+use Rattle.document_grammar.proofs.Booleans.{and-i, and-l, and-r}
 use Rattle.parser_rules.specs.State.{State, PendingToken, flush, opened, closed, wrapped_from, moved, add_all, enter, leave, fresh, begun}
 use Rattle.parser_rules.specs.Nodes.{Document}
 use Rattle.parser_rules.specs.RuleLanguage.{Call}
@@ -36,26 +37,24 @@ rows-join k (built.node j kids rest) g a b = and-i (and-l _ _ a) (rows-join k re
 rows-append : (k : ℕ) (f g : Marked) → rows k (erase f) ≡ true → rows k (erase g) ≡ true → rows k (erase (append f g)) ≡ true
 rows-append k f g a b = subst (λ (x : built.Forest). rows k x ≡ true) (sym (erase-append f g)) (rows-join k (erase f) (erase g) a b)
 
--- what waits is ignored or bad text
-abbrev all_aside : List PendingToken → Bool
-all_aside = all_kinds (λ k. ltb (number k) ERROR or eqb (number k) ERROR)
+-- what waits is ignored or bad text, which each node may have
+abbrev Waits : List PendingToken → Type 0
+Waits parts = (k : ℕ) → all_kinds (leaf_of_row k) parts ≡ true
 
-rows-aside : (k : ℕ) (parts : List PendingToken) → all_aside parts ≡ true → rows k (erase (set_aside parts)) ≡ true
-unfolding leaf_of_row
+rows-aside : (k : ℕ) (parts : List PendingToken) → Waits parts → rows k (erase (set_aside parts)) ≡ true
 rows-aside k [] h = refl
-rows-aside k (p ∷ parts) h = and-i (or-l _ _ (and-l _ _ h)) (rows-aside k parts (and-r _ _ h))
+rows-aside k (p ∷ parts) h = and-i (and-l _ _ (h k)) (rows-aside k parts (λ j. and-r _ _ (h j)))
 
--- reading on sets only such aside
-read-aside : {xs : List Answer} {s t : State} → Reading xs s t → all_aside s.pending ≡ true → all_aside t.pending ≡ true
-unfolding ◌or◌
-read-aside = reading-waits (λ k. ltb (number k) ERROR or eqb (number k) ERROR) refl refl refl refl
+read-aside : {xs : List Answer} {s t : State} → Reading xs s t → Waits s.pending → Waits t.pending
+unfolding ◌or◌ leaf_of_row member
+read-aside r h k = reading-waits (leaf_of_row k) refl refl refl refl r (h k)
 
 -- ---- runs
 
 abbrev pub Fit : Two_rows → State → State → Marked → Type 0
-Fit a b s f = record { own : rows a.own (erase f) ≡ true; later : rows a.later (erase f) ≡ true; waits : all_aside s.pending ≡ true }
+Fit a b s f = record { own : rows a.own (erase f) ≡ true; later : rows a.later (erase f) ≡ true; waits : Waits s.pending }
 
-grows : (a : Two_rows) (b s t : State) (f g : Marked) → Fit a b s f → rows a.own (erase g) ≡ true → rows a.later (erase g) ≡ true → all_aside t.pending ≡ true → Fit a b t (append f (after_pending s g))
+grows : (a : Two_rows) (b s t : State) (f g : Marked) → Fit a b s f → rows a.own (erase g) ≡ true → rows a.later (erase g) ≡ true → Waits t.pending → Fit a b t (append f (after_pending s g))
 grows a b s t f g h i j w = record {
   own = rows-append a.own f (after_pending s g) h.own (rows-append a.own (set_aside s.pending) g (rows-aside a.own s.pending h.waits) i);
   later = rows-append a.later f (after_pending s g) h.later (rows-append a.later (set_aside s.pending) g (rows-aside a.later s.pending h.waits) j);
@@ -65,7 +64,7 @@ grows a b s t f g h i j w = record {
 pub sound : Sound row_check Fit
 unfolding row_check flush opened closed wrapped_from enter leave
 sound = record {
-  leaf = λ own a k b s f x e c h g. let d = and-l _ _ c in (a, and-r _ _ c, grows a b s (moved own s (Some x)) f (leaf (token x) own none) h (and-i (and-l _ _ d) refl) (and-i (and-r _ _ d) refl) (read-aside (reading s.items (moved_on own x (flush s))) refl));
+  leaf = λ own a k b s f x e c h g. let d = and-l _ _ c in (a, and-r _ _ c, grows a b s (moved own s (Some x)) f (leaf (token x) own none) h (and-i (and-l _ _ d) refl) (and-i (and-r _ _ d) refl) (read-aside (reading s.items (moved_on own x (flush s))) (λ k. refl)));
   no_leaf = λ own a k b s f e c h. (a, and-r _ _ c, h);
   report = λ m a b s f h. after-note (λ t. Fit a b t f) m s (λ errors. h);
   limit = λ a k b s f d c h. (a, c, after-too-deep (λ t. Fit a b t f) s (λ errors accepts. h));
@@ -74,7 +73,7 @@ sound = record {
   turn = λ a b s f h. h;
   settles = λ a. refl;
   keeps = λ a c b s f e h. record { own = subst (λ k. rows k (erase f) ≡ true) (eqb-true _ _ (and-l _ _ e)) h.own; later = subst (λ k. rows k (erase f) ≡ true) (eqb-true _ _ (and-r _ _ e)) h.later; waits = h.waits };
-  opens = λ n a b s f c h. record { own = refl; later = refl; waits = refl };
+  opens = λ n a b s f c h. record { own = refl; later = refl; waits = λ k. refl };
   closes = λ j a e k b s u f g c d h i l.
       let r = subst (λ n. rows n (erase g) ≡ true) (eqb-true _ _ c) i.own in
       let o = and-l _ _ d in
@@ -83,7 +82,7 @@ sound = record {
   inlined = λ n a e b s u f g c h i. absurd (true≢false (sym c));
   enters = λ a k b s f w c h. (a, c, h);
   leaves = λ a k b s f c h. (a, c, h);
-  types = λ a b s f h. record { own = refl; later = refl; waits = refl };
+  types = λ a b s f h. record { own = refl; later = refl; waits = λ k. refl };
   plain = λ a e k b s u f g c h i l.
       let d = and-l _ _ c in
       let r = subst (λ n. rows n (erase g) ≡ true) (eqb-true _ _ (and-l _ _ d)) i.own in
@@ -96,5 +95,5 @@ sound = record {
 pub document-rowed : (r : ℕ) (xs : List Answer) (s : State) → Runs (Call Document) (begun xs r kind.DOCUMENT) s → rowed kind.DOCUMENT (add_all s.pending s.tree).here ≡ true
 unfolding row_check
 document-rowed r xs s run =
-    let (f, a, e, h, g, w) = walked_whole row_check Fit sound xs r kind.DOCUMENT _ _ run document_passes.row (record { own = refl; later = refl; waits = read-aside (reading xs (fresh xs r kind.DOCUMENT)) refl }) in
+    let (f, a, e, h, g, w) = walked_whole row_check Fit sound xs r kind.DOCUMENT _ _ run document_passes.row (record { own = refl; later = refl; waits = read-aside (reading xs (fresh xs r kind.DOCUMENT)) (λ k. refl) }) in
     subst (λ (x : built.Forest). rows DOCUMENT x ≡ true) w.tree (subst (λ n. rows n (erase (append f (set_aside s.pending))) ≡ true) (eqb-true _ _ e) (rows-append a.own f (set_aside s.pending) h.own (rows-aside a.own s.pending h.waits)))

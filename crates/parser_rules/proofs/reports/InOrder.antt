@@ -1,17 +1,18 @@
 -- Reports come in the order of the text.
 use Rattle.std.proofs.Common.{◌≡◌, ℕ, zero, suc, Bool, ◌+◌, ◌-◌, ◌≤◌, List, [], ◌∷◌, ◌++◌, length, map, Option, Some, None, get_or, sym, ap, subst, arith}
 use Rattle.std.specs.Prelude.{⊤}
-use Rattle.std.specs.List.{AllAdjacentBelow}
+use Rattle.std.specs.List.{All, AllAdjacentBelow}
 use Rattle.std.specs.List.Sorted.{IsNonDecreasing}
+use Rattle.std.proofs.lemmas.List.Elements.{All-nil, All-cons}
 use Rattle.std.proofs.lemmas.List.Sorted.{IsNonDecreasingBy-from_all_adjacent}
 use Rattle.lexical_grammar.specs.declared.TokenKind.{TokenKind}
 use Rattle.lexical_grammar.specs.declared.TokenKind.TheVariants as token
 use Rattle.lexical_grammar.specs.Cut.{Item, Cut, CutFrom, texts}
 use Rattle.lexical_grammar.specs.Answers.{Answer, gives, limit_at, limit_index_at, limited}
+use Rattle.lexical_grammar.proofs.Limited.{limited-end}
 use Rattle.lexical_grammar.proofs.Places.{item-some}
 use Rattle.parser_rules.specs.State.{Report}
 use Rattle.parser_rules.specs.Reports.{Reported, no_more, bad_text, token_limit, fault, recursion_limit, passed}
-use Rattle.parser_rules.proofs.reports.Endings.{limited-none}
 
 abbrev place_of : Answer → ℕ
 place_of (gives item) = item.index
@@ -52,7 +53,7 @@ cut-rises k place low [] h cut = absurd cut
 cut-rises zero place low (item ∷ []) h cut = subst (λ (i : Item). Rises low (places (limited zero (i ∷ [])))) (sym cut) (h, tt)
 cut-rises (suc k) place low (item ∷ []) h cut =
     let at : item.index ≡ place = ap (λ (i : Item). i.index) cut in
-    (omega (arith, at), subst (λ answers. Rises item.index (places answers)) (sym (limited-none k)) tt)
+    (omega (arith, at), subst (λ answers. Rises item.index (places answers)) (sym (limited-end k)) tt)
 cut-rises zero place low (item ∷ next ∷ items) h cut =
     let at = cut.0 in
     let above = limit-above item.kind item.index in
@@ -78,12 +79,11 @@ in-order {reports = reports} k source items cut h =
 
 -- reports up to a place
 abbrev pub AllUpTo : ℕ → List Report → Type 0
-AllUpTo n [] = ⊤
-AllUpTo n (e ∷ more) = (e.index ≤ n) × AllUpTo n more
+AllUpTo n = All (λ (e : Report). e.index ≤ n)
 
 up-to-last : (low : ℕ) (es : List Report) (r : Report) → Rises low (indices (es ++ r ∷ [])) → (low ≤ r.index) × AllUpTo r.index es
-up-to-last low [] r h = (h.0, tt)
-up-to-last low (e ∷ es) r h = let l = h.0 in let a = up-to-last e.index es r h.1 in let b = a.0 in (omega (arith, l, b), (a.0, a.1))
+up-to-last low [] r h = (h.0, All-nil (λ (x : Report). x.index ≤ r.index))
+up-to-last low (e ∷ es) r h = let l = h.0 in let (b, a) = up-to-last e.index es r h.1 in (omega (arith, l, b), All-cons (λ (x : Report). x.index ≤ r.index) e es b a)
 
 pub before-last : {taken : Bool} (k : ℕ) (source : List ℕ) (items : List Item) (es : List Report) (r : Report) → Cut source items → Reported taken (limited k items) (es ++ r ∷ []) → AllUpTo r.index es
 before-last k source items es r cut h = (up-to-last 0 es r (reports-rise 0 h (cut-rises k 0 0 items (omega arith) cut.each))).1

@@ -10,13 +10,13 @@ use Rattle.document_grammar.specs.declared.kind.SyntaxKind.TheVariants as kind
 use Rattle.document_grammar.specs.Booleans.{◌or◌}
 use Rattle.document_grammar.proofs.Booleans.{either, false-true, and-l, and-r, or-c, not-c, implies}
 use Rattle.parser_rules.specs.declared.message.Message.{Message}
-use Rattle.parser_rules.specs.State.{State, Lexeme, Report, fault_report, recursion_limit_report, read_on, flush, opened, closed, wrapped_from, moved, noted, note, is_deep, enter, leave, deepened, limited_at, too_deep, is_over, same_kind, begun, fresh}
+use Rattle.parser_rules.specs.State.{State, Lexeme, fault_report, recursion_limit_report, read_on, flush, opened, closed, wrapped_from, moved, noted, note, is_deep, enter, leave, deepened, limited_at, too_deep, is_over, same_kind, begun, fresh}
 use Rattle.parser_rules.specs.Nodes.{Node, kind_of, Document}
 use Rattle.parser_rules.specs.RuleLanguage.{TokenTest, Kind, Keyword, Or, fits, Test, Here, Ready, Both, holds, Call}
 use Rattle.parser_rules.specs.Runs.{Runs}
 use Rattle.parser_rules.proofs.runs.Reading.{reading, found}
 use Rattle.parser_rules.proofs.runs.Marked as marked
-use Rattle.parser_rules.proofs.runs.Marked.{Marked, append, Limited, Has, Reports, reports-then, read-reports, moved_on}
+use Rattle.parser_rules.proofs.runs.Marked.{Marked, append, Limited, Reports, taken-or-limited, moved_on}
 use Rattle.parser_rules.proofs.runs.Walk.{after_pending, always, Sound, walked_whole}
 use Rattle.parser_rules.proofs.runs.Frame.{read-untouched}
 use Rattle.parser_rules.proofs.reports.NoReport.{choose, EndsWell, Stood, reading-stood, stands-along}
@@ -199,11 +199,7 @@ limit-reported r xs s en run more =
     let b : State = begun xs r kind.DOCUMENT in
     let none-asked : b.high ≡ 0 = (read-untouched xs o).high in
     let (f, a, e, h, g, w) = walked_whole limit_check Held sound xs r kind.DOCUMENT unknown always run document_passes.limits (record { stood = reading-stood (reading xs o) en; bounded = λ y. omega (arith, none-asked); token = λ y. refl }) in
-    let p = reports-then o b s (read-reports (reading xs o)) g.reports in
-    elim (either s.accepts) [
-      | inl y ↦ absurd (over (h.bounded y))
-      | inr y ↦ (let l = p.limited refl y in (l.0, l.1, subst (λ (z : List Report). Has z l.0) (sym p.errors) l.2))
-    ]
+    elim (taken-or-limited xs r kind.DOCUMENT s g.reports) [ inl y ↦ absurd (over (h.bounded y)) | inr l ↦ l ]
   where
     over : s.high ≤ s.limit → ⊥
     over i = omega (arith, i, more)

@@ -1,5 +1,5 @@
 -- Trees that know which token each leaf is, and what a run adds: its trees, what they are made of, and its reports.
-use Rattle.std.proofs.Common.{◌≡◌, ℕ, true, false, List, [], ◌∷◌, ◌++◌, Option, Some, None, refl, sym, ap, ap₂, ◌∙◌, subst, append_assoc, append-nil, inl, inr}
+use Rattle.std.proofs.Common.{◌≡◌, ℕ, true, false, List, [], ◌∷◌, ◌++◌, Option, Some, None, refl, sym, ap, ap₂, ◌∙◌, subst, append_assoc, append-nil, ◌⊎◌, inl, inr}
 use Rattle.lexical_grammar.specs.declared.TokenKind.{TokenKind}
 use Rattle.lexical_grammar.specs.Cut.{Item}
 use Rattle.lexical_grammar.specs.Answers.{Answer, gives, limit_at}
@@ -122,6 +122,9 @@ has-later errors more r h = record { before = errors ++ h.before; after = h.afte
 abbrev pub Limited : List Report → Type 0
 Limited errors = (r : Report) × (r.found ≡ at_limit) × Has errors r
 
+pub limited-later : (errors more : List Report) → Limited more → Limited (errors ++ more)
+limited-later errors more l = (l.0, l.1, has-later errors more l.0 l.2)
+
 -- the reports go on, and the grammar's are taken until a limit is reported
 abbrev pub Reports : State → State → Type 0
 Reports s t = record { more : List Report; errors : t.errors ≡ s.errors ++ more; keeps : t.accepts ≡ true → s.accepts ≡ true; limited : s.accepts ≡ true → t.accepts ≡ false → Limited more }
@@ -134,7 +137,7 @@ reports-then s t u h k = record {
   more = h.more ++ k.more;
   errors = k.errors ∙ (ap (λ (z : List Report). z ++ k.more) h.errors ∙ append_assoc s.errors h.more k.more);
   keeps = λ z. h.keeps (k.keeps z);
-  limited = λ z y. elim (either t.accepts) [ inl a ↦ (let l = k.limited a y in (l.0, l.1, has-later h.more k.more l.0 l.2)) | inr a ↦ (let l = h.limited z a in (l.0, l.1, has-more h.more k.more l.0 l.2)) ];
+  limited = λ z y. elim (either t.accepts) [ inl a ↦ limited-later h.more k.more (k.limited a y) | inr a ↦ (let l = h.limited z a in (l.0, l.1, has-more h.more k.more l.0 l.2)) ];
 }
 
 -- one report more, of a limit or not
@@ -150,6 +153,12 @@ read-reports {s = s} {t = t} (cuts {index = index} {xs = xs} h) = let u : State 
 read-reports {s = s} {t = t} (bad_text {item = item} {xs = xs} e h) = let u : State = bad item.text item.index (record s { items = xs }) in reports-then s u t (reports-more s u (bad_report item.text item.index) refl refl) (read-reports h)
 read-reports (waits e i h) = read-reports h
 read-reports {s = s} (shows e i) = reports-same s s refl refl
+
+-- at the end of a run from the beginning on the grammar's reports are taken, or a limit is reported
+pub taken-or-limited : (xs : List Answer) (r : ℕ) (k : SyntaxKind) (s : State) → Reports (begun xs r k) s → (s.accepts ≡ true) ⊎ Limited s.errors
+taken-or-limited xs r k s h =
+    let p = reports-then (fresh xs r k) (begun xs r k) s (read-reports (reading xs (fresh xs r k))) h in
+    elim (either s.accepts) [ inl y ↦ inl y | inr y ↦ inr (subst Limited (sym p.errors) (p.limited refl y)) ]
 
 -- the current token is in the tree, and the next one is not read yet
 abbrev pub moved_on : SyntaxKind → Lexeme → State → State

@@ -11,6 +11,7 @@ use Rattle.std.proofs.lemmas.List.{map-append, length-append}
 use Rattle.grammar_machine.proofs.SentenceTheorems.{not-starts, read-map, two-marks, one-sentence}
 use Rattle.lexical_grammar.specs.Cut.{Item, Cut, texts, Significant, significant_word}
 use Rattle.lexical_grammar.specs.Begins.{are_tokens}
+use Rattle.lexical_grammar.proofs.Limited.{limited-end}
 use Rattle.lexical_grammar.specs.Answers.{Answer, gives, limited, is_token, limit_at, limit_index, is_end}
 use Rattle.document_grammar.specs.declared.kind.SyntaxKind.TheVariants as kind
 use Rattle.document_grammar.specs.Derivation.{document, Spells, Mark, word, marks, Starts, StartsWithin}
@@ -27,7 +28,7 @@ use Rattle.parser_rules.specs.Runs.{Runs}
 use Rattle.parser_rules.specs.declared.message.Message.{Message}
 use Rattle.parser_rules.specs.State.{State, Report, begun, Lexeme, fault_report, recursion_limit_report, token_limit_report, bad_report, finished, second, lexeme, add_all, ignored}
 use Rattle.parser_rules.proofs.reports.NoReport.{Passed, all_tokens, answers_tokens, item_tokens, report_of, given as given_by, Now, choose, EndsWell, kind_tokens, significant, ignored-tokens, ignored-end}
-use Rattle.parser_rules.proofs.reports.Endings.{ends-well, limited-none}
+use Rattle.parser_rules.proofs.reports.Endings.{ends-well}
 use Rattle.document_grammar.specs.Forests as built
 use Rattle.parser_rules.proofs.runs.Reading.{Reading, stops, cuts, bad_text as bad_item, waits, shows, looks}
 use Rattle.parser_rules.proofs.runs.Frame.{add_all-above, added-all}
@@ -112,7 +113,7 @@ behind-one (suc k) (item ∷ more) (waits {k = j} {own = own} i n r) e h =
 behind-one (suc k) (item ∷ more) (shows {k = j} i n) e h = ap (λ (v : List Token). take 1 (marks v)) (words-cons item more) ∙ rw i (next-marks 0 k (lexeme j item) more (n, rw i at e) (λ e. refl))
 
 pub before-at : (k : ℕ) (items : List Item) (front : List Answer) (x : Answer) (ys : List Answer) → limited k items ≡ front ++ x ∷ ys → all_tokens front ≡ true → Before k items front x ys
-before-at k [] front x ys e h = none-there x front ys (sym (limited-none k) ∙ e)
+before-at k [] front x ys e h = none-there x front ys (sym (limited-end k) ∙ e)
 before-at k (item ∷ items) [] x ys e h = record { before = []; item = item; more = items; split = refl; tokens = refl; words = refl; answers = (let n : k - 0 ≡ k = omega arith in rw n e) }
 before-at zero (item ∷ items) (f ∷ front) x ys e h = none-there x front ys (tail-same e)
 before-at (suc k) (item ∷ items) (f ∷ front) x ys e h =
