@@ -1,5 +1,5 @@
 -- What the errors of a parse are, by the reports that they say.
-use Rattle.std.proofs.Common.{◌≡◌, ℕ, zero, suc, Bool, true, false, ◌&&◌, ◌||◌, if◌then◌else◌, eqb, List, [], ◌∷◌, ◌++◌, length, map, ◌+◌, ◌<◌, ◌⊎◌, arith, Option, Some, None, refl, sym, ◌∙◌, ap, ap₂, subst, inl, inr, true≢false}
+use Rattle.std.proofs.Common.{◌≡◌, ℕ, zero, suc, Bool, true, false, ◌&&◌, ◌||◌, if◌then◌else◌, eqb, List, [], ◌∷◌, ◌++◌, length, map, arith, Option, Some, None, refl, sym, ◌∙◌, ap, ap₂, subst, inl, inr, true≢false}
 use Rattle.std.specs.Prelude.{codes, is_some, IsAscii, ⊤}
 use Rattle.std.specs.List.{AllZip, Any, All, list_all, list_any}
 use Rattle.std.specs.Char.{is_ascii}
@@ -8,9 +8,10 @@ use Rattle.std.proofs.lemmas.List.Elements.{All-nil, All-cons}
 use Rattle.std.proofs.Math.Seq.{take-append_seam, drop-append_seam}
 use Rattle.lexical_grammar.specs.Answers.{Answer, gives, limit_at, limited, is_end}
 use Rattle.lexical_grammar.specs.Cut.{Item, texts}
+use Rattle.lexical_grammar.proofs.Limited.{limited-end}
 use Rattle.document_grammar.specs.Booleans.{◌and◌}
 use Rattle.document_grammar.proofs.Booleans.{either}
-use Rattle.std.proofs.lemmas.Bool.{eqb-true}
+use Rattle.std.proofs.lemmas.Bool.{eqb-true, or_left, or_right}
 use Rattle.apollo_lexer.specs.Diagnostics.{Subject, Diagnostic, of_text, of_end, of_limit}
 use Rattle.apollo_lexer.specs.Told.{limit_message}
 use Rattle.apollo_lexer.proofs.Messages.{ascii-text, fault-ascii, begins_fault, no-fault-message}
@@ -20,8 +21,9 @@ use Rattle.parser_rules.specs.declared.message.Message.TheVariants as message
 use Rattle.parser_rules.specs.Messages.{Text, Found, at_text, at_end, at_limit, is_limit, description, names_found, found_text, message_text, recursion_limit_message}
 use Rattle.parser_rules.specs.State.{Report, Lexeme, bad_report, token_limit_report, recursion_limit_report, fault_report, found_at, lexeme}
 use Rattle.parser_rules.specs.Reports.{Reported, no_more, bad_text, token_limit, fault, recursion_limit, passed, is_recursion_limit}
-use Rattle.parser_rules.proofs.reports.Endings.{limited-none}
-use Rattle.apollo_parser.specs.Promise.{IsTokenLimit, IsRecursionLimit, IsLimitMessage, IsLimitWorded, ErrorsAlong}
+use Rattle.parser_rules.proofs.reports.AtTheLimit.{found-other}
+use Rattle.parser_rules.proofs.runs.Marked.{Has, Limited}
+use Rattle.apollo_parser.specs.Promise.{IsLimit, IsTokenLimit, IsRecursionLimit, IsLimitMessage, IsLimitWorded, ErrorsAlong}
 use Rattle.apollo_parser.specs.Promise as promise
 use Rattle.parser_state.specs.Errors.{found_of, IsWorded, IsErrorOf}
 
@@ -56,25 +58,12 @@ recursion-said r d h e =
     let l : is_limit r.found ≡ true = ap is_limit (sym h.subject ∙ ap found_of e.subject) in
     ap₂ (λ (a b : Bool). a && b) l (own-words r.found r.message d.message l h.message e.message)
 
-any-cases : {X : Type 0} (P : X → Type 0) (x : X) (xs : List X) → Any P (x ∷ xs) → P x ⊎ Any P xs
-any-cases P x xs (zero, y, l, e, p) = inl (subst P (sym e) p)
-any-cases P x xs (suc k, y, l, e, p) = inr (k, y, omega (arith, l), e, p)
-
-nothing-below : (k : ℕ) → k < 0 → ⊥
-nothing-below k l = omega (arith, l)
-
 pub any-recursion : (rs : List Report) (ds : List Diagnostic) → AllZip IsErrorOf rs ds → Any IsRecursionLimit ds → list_any is_recursion_limit rs ≡ true
-any-recursion [] [] h (k, d, l, e, p) = absurd (nothing-below k l)
-any-recursion [] (d ∷ ds) h e = absurd h
-any-recursion (r ∷ rs) [] h e = absurd h
-any-recursion (r ∷ rs) (d ∷ ds) h e = elim (any-cases IsRecursionLimit d ds e) [
-  | inl a ↦ ap (λ (b : Bool). b || list_any is_recursion_limit rs) (recursion-said r d h.0 a)
-  | inr b ↦ ap (λ (c : Bool). is_recursion_limit r || c) (any-recursion rs ds h.1 b) ∙ either-way (is_recursion_limit r)
-]
-  where
-    either-way : (b : Bool) → b || true ≡ true
-    either-way true = refl
-    either-way false = refl
+any-recursion [] [] z (i, d, l, e, p) = absurd (omega (arith, l))
+any-recursion [] (d ∷ ds) z h = absurd z
+any-recursion (r ∷ rs) [] z h = absurd z
+any-recursion (r ∷ rs) (d ∷ ds) z (zero, f, l, e, p) = or_left _ _ (recursion-said r d z.0 (subst IsRecursionLimit (sym e) p))
+any-recursion (r ∷ rs) (d ∷ ds) z (suc i, f, l, e, p) = or_right (is_recursion_limit r) _ (any-recursion rs ds z.1 (i, f, omega (arith, l), e, p))
 
 -- ---- ASCII
 
@@ -129,14 +118,11 @@ ascii-messages = each-error IsAscii AsciiMessage
     (λ x d e. worded-ascii recursion_limit_message d.message (ascii-text recursion_limit_message refl) e.message)
 
 -- the items of an ASCII text are ASCII
-limited-ascii : (k : ℕ) (items : List Item) → IsAscii (texts items) → AllTexts IsAscii (limited k items)
-limited-ascii k [] h = subst (AllTexts IsAscii) (sym (limited-none k)) tt
+pub limited-ascii : (k : ℕ) (items : List Item) → IsAscii (texts items) → AllTexts IsAscii (limited k items)
+limited-ascii k [] h = subst (AllTexts IsAscii) (sym (limited-end k)) tt
 limited-ascii zero (item ∷ items) h = tt
 limited-ascii (suc k) (item ∷ items) h =
     (subst IsAscii (take-append_seam item.text (texts items)) (IsAscii-take _ (length item.text) h), limited-ascii k items (subst IsAscii (drop-append_seam item.text (texts items)) (IsAscii-drop _ (length item.text) h)))
-
-pub source-ascii : (k : ℕ) (source : Text) (items : List Item) → texts items ≡ source → IsAscii source → AllTexts IsAscii (limited k items)
-source-ascii k source items e h = limited-ascii k items (subst IsAscii (sym e) h)
 
 -- ---- the messages of limits
 
@@ -154,13 +140,19 @@ message-begins : (m : Message) (found : Found) → begins_limit (message_text m 
 message-begins message.UnexpectedEof found = refl
 message-begins _ found = refl
 
+-- what an error is about, by what its report found
+abbrev subject_of : Found → Subject
+subject_of (at_text text) = of_text text
+subject_of at_end = of_end
+subject_of at_limit = of_limit
+
+subject-is : (s : Subject) (found : Found) → found_of s ≡ found → s ≡ subject_of found
+subject-is (of_text text) found e = ap subject_of e
+subject-is of_end found e = ap subject_of e
+subject-is of_limit found e = ap subject_of e
+
 pub subject-limit : (d : Diagnostic) → found_of d.subject ≡ at_limit → d.subject ≡ of_limit
-subject-limit d e = on d.subject e
-  where
-    on : (s : Subject) → found_of s ≡ at_limit → s ≡ of_limit
-    on (of_text text) e = absurd cc
-    on of_end e = absurd cc
-    on of_limit e = refl
+subject-limit d e = subject-is d.subject at_limit e
 
 -- the report of the token limit has its error
 pub token-limit-told : (n : ℕ) (r : Report) (d : Diagnostic) → r ≡ token_limit_report n → IsErrorOf r d → IsTokenLimit d
@@ -185,9 +177,6 @@ limit-otherwise (c ∷ text) h = on c h
 other-worded : (d : Diagnostic) (found : Found) → found_of d.subject ≡ found → is_limit found ≡ false → (IsLimitMessage d.message → ⊥) → IsLimitWorded d
 other-worded d found e l n = record { limit = λ s. absurd (true≢false (sym (ap (λ (x : Subject). is_limit (found_of x)) s) ∙ (ap is_limit e ∙ l))); other = λ i. absurd (n i) }
 
-found-other : (x : Lexeme) → is_limit (found_at x) ≡ false
-found-other x = elim (is_end x.kind) as (λ b. is_limit (if b then at_end else at_text x.text) ≡ false) [ true ↦ refl | false ↦ refl ]
-
 any-text : (answers : List Answer) → AllTexts (λ text. ⊤) answers
 any-text [] = tt
 any-text (gives item ∷ answers) = (tt, any-text answers)
@@ -202,37 +191,26 @@ limit-worded {answers = answers} ds h = each-error (λ text. ⊤) IsLimitWorded
     ds h (any-text answers)
 
 -- each report has its error
-pub any-said : (P : Diagnostic → Type 0) (before after : List Report) (r : Report) (ds : List Diagnostic) → ((d : Diagnostic) → IsErrorOf r d → P d) → AllZip IsErrorOf (before ++ (r ∷ after)) ds → Any P ds
-any-said P [] after r [] h z = absurd z
-any-said P [] after r (d ∷ ds) h z = (0, d, omega arith, refl, h d z.0)
-any-said P (x ∷ before) after r [] h z = absurd z
-any-said P (x ∷ before) after r (d ∷ ds) h z =
-    let a = any-said P before after r ds h z.1 in
-    (suc a.0, a.1, omega (arith, a.2), a.3, a.4)
+pub any-said : (P : Diagnostic → Type 0) (rs : List Report) (ds : List Diagnostic) (r : Report) → Has rs r → ((d : Diagnostic) → IsErrorOf r d → P d) → AllZip IsErrorOf rs ds → Any P ds
+any-said P rs ds r h f z = on h.before ds (subst (λ (all : List Report). AllZip IsErrorOf all ds) h.split z)
+  where
+    on : (before : List Report) (ds : List Diagnostic) → AllZip IsErrorOf (before ++ r ∷ h.after) ds → Any P ds
+    on [] [] z = absurd z
+    on [] (d ∷ ds) z = (0, d, omega arith, refl, f d z.0)
+    on (x ∷ before) [] z = absurd z
+    on (x ∷ before) (d ∷ ds) z = let (i, e, l, s, p) = on before ds z.1 in (suc i, e, omega (arith, l), s, p)
 
 -- one of a limit has that of a limit
-pub any-limit : (before after : List Report) (r : Report) (ds : List Diagnostic) → r.found ≡ at_limit → AllZip IsErrorOf (before ++ (r ∷ after)) ds → Any (λ (d : Diagnostic). d.subject ≡ of_limit) ds
-any-limit before after r ds e = any-said (λ (d : Diagnostic). d.subject ≡ of_limit) before after r ds (λ d h. subject-limit d (h.subject ∙ e))
+pub any-limit : (rs : List Report) (ds : List Diagnostic) → AllZip IsErrorOf rs ds → Limited rs → Any IsLimit ds
+any-limit rs ds z (r, e, h) = any-said IsLimit rs ds r h (λ d i. subject-limit d (i.subject ∙ e)) z
 
--- and one about a token that of its text
+subject-here : (b : Bool) (s : Subject) (text : Text) → found_of s ≡ (if b then at_end else at_text text) → s ≡ (if b then of_end else of_text text)
+subject-here true s text e = subject-is s at_end e
+subject-here false s text e = subject-is s (at_text text) e
 
--- what an error is about, by what its report found
-subject-text : (s : Subject) (text : Text) → found_of s ≡ at_text text → s ≡ of_text text
-subject-text (of_text x) text e = cc
-subject-text of_end text e = absurd cc
-subject-text of_limit text e = absurd cc
-
-subject-end : (s : Subject) → found_of s ≡ at_end → s ≡ of_end
-subject-end (of_text x) e = absurd cc
-subject-end of_end e = refl
-subject-end of_limit e = absurd cc
-
-subject-is : (b : Bool) (s : Subject) (text : Text) → found_of s ≡ (if b then at_end else at_text text) → s ≡ (if b then of_end else of_text text)
-subject-is true s text e = subject-end s e
-subject-is false s text e = subject-text s text e
-
+-- and one of a token that of its text
 pub fault-text : (m : Message) (x : Lexeme) (d : Diagnostic) → is_end x.kind ≡ false → IsErrorOf (fault_report m x) d → d.subject ≡ of_text x.text
-fault-text m x d i h = subject-text d.subject x.text (h.subject ∙ ap (λ (b : Bool). if b then at_end else at_text x.text) i)
+fault-text m x d i h = subject-is d.subject (at_text x.text) (h.subject ∙ ap (λ (b : Bool). if b then at_end else at_text x.text) i)
 
 -- ---- all errors
 
@@ -242,14 +220,14 @@ errors-along no_more [] z = promise.no_more
 errors-along no_more (d ∷ ds) z = absurd z
 errors-along (bad_text e h) [] z = absurd z
 errors-along (bad_text {item = item} e h) (d ∷ ds) z =
-    promise.bad_text e (record { subject = subject-text d.subject item.text z.0.subject; index = z.0.index }) z.0.message (errors-along h ds z.1)
+    promise.bad_text e (record { subject = subject-is d.subject (at_text item.text) z.0.subject; index = z.0.index }) z.0.message (errors-along h ds z.1)
 errors-along (token_limit h) [] z = absurd z
 errors-along (token_limit h) (d ∷ ds) z =
     let about = subject-limit d z.0.subject in
     promise.token_limit (record { subject = about; index = z.0.index }) (record { subject = about; message = z.0.message }) (errors-along h ds z.1)
 errors-along (fault m e i h) [] z = absurd z
 errors-along (fault m {k = k} {item = item} e i h) (d ∷ ds) z =
-    promise.fault m e i (record { subject = subject-is (is_end k) d.subject item.text z.0.subject; index = z.0.index }) (z.0.message ∙ ap (message_text m) (sym z.0.subject)) (errors-along h ds z.1)
+    promise.fault m e i (record { subject = subject-here (is_end k) d.subject item.text z.0.subject; index = z.0.index }) (z.0.message ∙ ap (message_text m) (sym z.0.subject)) (errors-along h ds z.1)
 errors-along (recursion_limit e i h) [] z = absurd z
 errors-along (recursion_limit e i h) (d ∷ ds) z =
     let about = subject-limit d z.0.subject in

@@ -10,17 +10,12 @@ use Rattle.document_grammar.specs.Builds.{Building, add_leaf}
 use Rattle.parser_state.specs.declared.state.PendingToken.{PendingToken}
 use Rattle.parser_state.specs.View.{pending_of}
 use Rattle.parser_rules.specs.State.{State, Text, Lexeme, ignored, bad, met, wait, lexeme, read_on, second, add_all}
+use Rattle.parser_rules.proofs.runs.Reading.{on_kind}
 use Rattle.parser_state.specs.Reading.{Taken, IsAnswerText, refused}
-
-on_kind : List Answer → State → Item → TokenKind → Option SyntaxKind → State
-on_kind rest s item k found = elim found [
-  | Some kind ↦ read_on rest (wait kind item.text (record s { items = rest }))
-  | None ↦ record s { items = rest; current = Some (lexeme k item) }
-]
 
 on-is : (rest : List Answer) (s : State) (text : Text) (index : ℕ) (k : TokenKind)
     → read_on (gives (record { kind = Some k; text = text; index = index }) ∷ rest) s ≡ on_kind rest s (record { kind = Some k; text = text; index = index }) k (ignored k)
-unfolding read_on on_kind
+unfolding read_on
 on-is rest s text index k = refl
 
 -- bad text, or the limit
@@ -31,14 +26,12 @@ read_bad s t u false text index h e = ap (λ xs. read_on xs s) h.0 ∙ ap (λ w.
 
 pub read-ignored : (s t u : State) (k : TokenKind) (text : Text) (index : ℕ) (kind : SyntaxKind) → Taken (Some (gives (record { kind = Some k; text = text; index = index }))) s t
     → Some kind ≡ ignored k → u ≡ wait kind text t → read_on s.items s ≡ read_on u.items u
-unfolding on_kind
 read-ignored s t u k text index kind h i e =
     let item : Item = record { kind = Some k; text = text; index = index } in
     ap (λ xs. read_on xs s) h.0 ∙ on-is t.items s text index k ∙ sym (ap (on_kind t.items s item k) i) ∙ ap (λ w. read_on t.items (wait kind text w)) (sym h.1) ∙ sym (ap (λ w. read_on w.items w) e)
 
 pub read-token : (s t : State) (k : TokenKind) (text : Text) (index : ℕ) → Taken (Some (gives (record { kind = Some k; text = text; index = index }))) s t
     → None ≡ ignored k → read_on s.items s ≡ record t { current = Some (record { kind = k; text = text; index = index }) }
-unfolding on_kind
 read-token s t k text index h i =
     let item : Item = record { kind = Some k; text = text; index = index } in
     ap (λ xs. read_on xs s) h.0 ∙ on-is t.items s text index k ∙ sym (ap (on_kind t.items s item k) i) ∙ sym (ap {A = State} (λ w. record w { current = Some (record { kind = k; text = text; index = index }) }) h.1)

@@ -1,5 +1,5 @@
 -- A turn of the document's loop adds one child to the root, after what waited; also where some of that is in the tree already.
-use Rattle.std.proofs.Common.{◌≡◌, ℕ, suc, Bool, true, false, true≢false, not, ◌&&◌, if◌then◌else◌, [], ◌∷◌, ◌++◌, Some, None, refl, sym, ap, ap₂, ◌∙◌, subst, ◌⊎◌, inl, inr}
+use Rattle.std.proofs.Common.{◌≡◌, ℕ, suc, Bool, true, false, true≢false, not, if◌then◌else◌, [], ◌∷◌, ◌++◌, Some, None, refl, sym, ap, ◌∙◌, subst, ◌⊎◌, inl, inr}
 use Rattle.document_grammar.specs.declared.kind.SyntaxKind.{SyntaxKind}
 use Rattle.document_grammar.specs.Booleans.{◌and◌}
 use Rattle.document_grammar.specs.Forests as built
@@ -7,9 +7,9 @@ use Rattle.document_grammar.proofs.Added.{Added, added-then}
 use Rattle.document_grammar.proofs.Booleans.{false-true, and-l, and-r}
 use Rattle.document_grammar.proofs.Joins.{join-assoc, join-none}
 use Rattle.parser_rules.specs.declared.message.Message.{Message}
-use Rattle.parser_rules.specs.State.{State, Lexeme, fault_report, add_all, flush, opened, moved, bump, noted, note, is_deep, is_over}
+use Rattle.parser_rules.specs.State.{State, Lexeme, fault_report, add_all, flush, opened, moved, bump, noted, note, is_over}
 use Rattle.parser_rules.specs.Nodes.{kind_of, Definition}
-use Rattle.parser_rules.specs.RuleLanguage.{Test, Not, Both, Ready, holds, Bump, Note, step, Rule, Do, Seq, When, Child, Call}
+use Rattle.parser_rules.specs.RuleLanguage.{Test, Ready, holds, Bump, Note, step, Rule, Do, Seq, When, Child, Call}
 use Rattle.parser_rules.specs.Rules.{body}
 use Rattle.parser_rules.specs.Runs.{Runs, does, seq, yes, no, done, again, child, call}
 use Rattle.parser_rules.proofs.NodeChecks.{node-passes}
@@ -18,19 +18,15 @@ use Rattle.parser_rules.proofs.recovery.RowSymbols.{Fit, sound}
 use Rattle.parser_rules.proofs.runs.Frame.{parts_forest, added-all}
 use Rattle.parser_rules.proofs.runs.Marked.{Source, token, Marked, none, leaf, node, append, erase, erase-append, Grown, grown-none, grown-then, grown-leaf, grown-note, grown-node}
 use Rattle.parser_rules.proofs.runs.Walk.{walked}
+use Rattle.parser_rules.proofs.runs.Anew.{built_of, test-same}
 use Rattle.parser_rules.proofs.runs.Reporting.{after-note}
 use Rattle.parser_rules.proofs.soundness.Soundness.{loops}
 
 -- ---- what waits goes into the tree
 
-test-flush : (q : Test) (s : State) → holds q (flush s) ≡ holds q s
-unfolding holds is_deep flush
-test-flush (Not q) s = ap not (test-flush q s)
-test-flush (Both p q) s = ap₂ (λ (x y : Bool). x && y) (test-flush p s) (test-flush q s)
-test-flush _ s = refl
-
 pub same-test : (q : Test) (s z : State) → flush z ≡ flush s → holds q s ≡ holds q z
-same-test q s z f = sym (test-flush q s) ∙ ap (holds q) (sym f) ∙ test-flush q z
+unfolding flush
+same-test q s z f = sym (test-same q s (built_of (flush s)) []) ∙ ap (holds q) (sym f) ∙ test-same q z (built_of (flush z)) []
 
 note-flush : (m : Message) (s : State) → note m (flush s) ≡ flush (note m s)
 unfolding note flush

@@ -5,9 +5,8 @@ use Rattle.std.proofs.lemmas.List.Folds.{list_any-append}
 use Rattle.lexical_grammar.specs.Answers.{Answer, is_end, usize_max}
 use Rattle.document_grammar.specs.declared.kind.SyntaxKind.{SyntaxKind}
 use Rattle.document_grammar.specs.Builds.{add_leaf}
-use Rattle.parser_rules.specs.declared.message.Message.{Message}
 use Rattle.parser_rules.specs.Messages.{is_limit}
-use Rattle.parser_rules.specs.State.{State, Lexeme, Report, at_end, at_text, bad_report, token_limit_report, flush, closed, wrapped_from, fault_report, enter, leave, begun, fresh}
+use Rattle.parser_rules.specs.State.{State, Lexeme, Report, at_end, at_text, found_at, bad_report, token_limit_report, flush, closed, wrapped_from, fault_report, enter, leave, begun, fresh}
 use Rattle.parser_rules.specs.Reports.{is_recursion_limit}
 use Rattle.parser_rules.specs.RuleLanguage.{Rule}
 use Rattle.parser_rules.specs.Runs.{Runs}
@@ -27,8 +26,9 @@ other-report s r e h = omit (list_any is_recursion_limit s.errors) (sym (list_an
     omit true e = refl
     omit false e = e
 
-fault-other : (m : Message) (x : Lexeme) → is_recursion_limit (fault_report m x) ≡ false
-fault-other m x = elim (is_end x.kind) as (λ b. is_limit (if b then at_end else at_text x.text) && true ≡ false) [ true ↦ refl | false ↦ refl ]
+-- what is found at a token is no limit
+pub found-other : (x : Lexeme) → is_limit (found_at x) ≡ false
+found-other x = elim (is_end x.kind) as (λ b. is_limit (if b then at_end else at_text x.text) ≡ false) [ true ↦ refl | false ↦ refl ]
 
 read-limited : {xs : List Answer} {s t : State} → Reading xs s t → IsLimited t → IsLimited s
 read-limited stops h = h
@@ -49,7 +49,7 @@ tells-along = record {
   flushes = λ s h. h;
   moves = λ leaf x s e w h i.
       let t : State = record s { tree = add_leaf leaf x.text s.tree } in let u = read-untouched s.items t in let l = u.limit in let g = u.high in let p = h (read-limited (reading s.items t) i) in omega (arith, l, g, p);
-  reports = λ m x s e a h i. h (other-report s (fault_report m x) (fault-other m x) i);
+  reports = λ m x s e a h i. h (other-report s (fault_report m x) (ap (λ (b : Bool). b && true) (found-other x)) i);
   limits = λ x s e a d h i. d;
   asks = λ s h i. let p = h i in omega (arith, p);
   nodes = λ k s u h. h;

@@ -43,10 +43,11 @@ reports-rise low (passed {item = item} {answers = answers} e h) rise = reports-r
 
 -- ---- the answers of a cut
 
-limit-above : (found : Option TokenKind) (place : ℕ) → place - 1 ≤ limit_index_at found place
-limit-above None place = omega arith
-limit-above (Some token.Eof) place = omega arith
-limit-above (Some _) place = omega arith
+-- the limit is reported at the item's place, or one byte before it
+pub limit-near : (found : Option TokenKind) (place : ℕ) → (place - 1 ≤ limit_index_at found place) × (limit_index_at found place ≤ place)
+limit-near None place = (omega arith, omega arith)
+limit-near (Some token.Eof) place = (omega arith, omega arith)
+limit-near (Some _) place = (omega arith, omega arith)
 
 cut-rises : (k place low : ℕ) (items : List Item) → low ≤ place - 1 → CutFrom place items → Rises low (places (limited k items))
 cut-rises k place low [] h cut = absurd cut
@@ -56,7 +57,7 @@ cut-rises (suc k) place low (item ∷ []) h cut =
     (omega (arith, at), subst (λ answers. Rises item.index (places answers)) (sym (limited-end k)) tt)
 cut-rises zero place low (item ∷ next ∷ items) h cut =
     let at = cut.0 in
-    let above = limit-above item.kind item.index in
+    let above = (limit-near item.kind item.index).0 in
     (omega (arith, at, above), tt)
 cut-rises (suc k) place low (item ∷ next ∷ items) h cut =
     let at = cut.0 in

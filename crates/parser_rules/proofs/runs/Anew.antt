@@ -9,7 +9,7 @@ use Rattle.document_grammar.specs.Forests as built
 use Rattle.document_grammar.specs.Builds.{Building, start, add_leaf, finish, wrap, built_count}
 use Rattle.document_grammar.proofs.Added.{Added, added-none, added-leaf, added-then, added-node, added-wrap}
 use Rattle.parser_rules.specs.declared.message.Message.{Message}
-use Rattle.parser_rules.specs.State.{State, Lexeme, Report, bad_report, token_limit_report, recursion_limit_report, fault_report, add_all, flush, opened, closed, wrapped_from, moved, bump, reported, noted, note, is_deep, deepened, limited_at, too_deep, enter, leave}
+use Rattle.parser_rules.specs.State.{State, Lexeme, PendingToken, Report, bad_report, token_limit_report, recursion_limit_report, fault_report, add_all, flush, opened, closed, wrapped_from, moved, bump, reported, noted, note, is_deep, deepened, limited_at, too_deep, enter, leave}
 use Rattle.parser_rules.specs.Nodes.{kind_of}
 use Rattle.parser_rules.specs.RuleLanguage.{Test, At, Not, Both, holds, Prim, Bump, Note, step, Rule, Do, TooDeep, Nested}
 use Rattle.parser_rules.specs.Runs.{Runs, skip, does, seq, yes, no, done, again, child, limited, deeper, refused, call, plain, wrapped}
@@ -126,11 +126,12 @@ unfolding step
 stepping (Bump own) s d = bumping own s d
 stepping (Note m) s d = noting m s d
 
-test-same : (q : Test) (s : State) (d : Built) → holds q (on s d) ≡ holds q s
+-- no test sees what was built and reported, or what waits
+pub test-same : (q : Test) (s : State) (d : Built) (parts : List PendingToken) → holds q (record s { tree = d.tree; errors = d.errors; high = d.high; pending = parts }) ≡ holds q s
 unfolding holds is_deep
-test-same (Not q) s d = ap not (test-same q s d)
-test-same (Both p q) s d = ap₂ (λ (x y : Bool). x && y) (test-same p s d) (test-same q s d)
-test-same _ s d = refl
+test-same (Not q) s d parts = ap not (test-same q s d parts)
+test-same (Both p q) s d parts = ap₂ (λ (x y : Bool). x && y) (test-same p s d parts) (test-same q s d parts)
+test-same _ s d parts = refl
 
 -- ---- nodes
 
@@ -175,10 +176,10 @@ unfolding is_deep flush opened closed enter leave wrapped_from
 anew {s = s} skip d = (d, skip, still (built_of s) d)
 anew {s = s} (does {a = p} e) d = let k = stepping p s d in subst (λ (z : State). Anew (Do p) s z d) (sym e) (k.0, does (sym k.1), k.2)
 anew {s = s} {t = u} (seq {t = t} h k) d = let i = anew h d in let j = anew k i.0 in (j.0, seq i.1 j.1, then_on (built_of s) (built_of t) (built_of u) d i.0 j.0 i.2 j.2)
-anew {s = s} (yes {q = q} e h) d = let i = anew h d in (i.0, yes (e ∙ sym (test-same q s d)) i.1, i.2)
-anew {s = s} (no {q = q} e h) d = let i = anew h d in (i.0, no (e ∙ sym (test-same q s d)) i.1, i.2)
-anew {s = s} (done {q = q} e) d = (d, done (e ∙ sym (test-same q s d)), still (built_of s) d)
-anew {s = s} {t = u} (again {q = q} {t = t} e h k) d = let i = anew h d in let j = anew k i.0 in (j.0, again (e ∙ sym (test-same q s d)) i.1 j.1, then_on (built_of s) (built_of t) (built_of u) d i.0 j.0 i.2 j.2)
+anew {s = s} (yes {q = q} e h) d = let i = anew h d in (i.0, yes (e ∙ sym (test-same q s d s.pending)) i.1, i.2)
+anew {s = s} (no {q = q} e h) d = let i = anew h d in (i.0, no (e ∙ sym (test-same q s d s.pending)) i.1, i.2)
+anew {s = s} (done {q = q} e) d = (d, done (e ∙ sym (test-same q s d s.pending)), still (built_of s) d)
+anew {s = s} {t = u} (again {q = q} {t = t} e h k) d = let i = anew h d in let j = anew k i.0 in (j.0, again (e ∙ sym (test-same q s d s.pending)) i.1 j.1, then_on (built_of s) (built_of t) (built_of u) d i.0 j.0 i.2 j.2)
 anew {s = s} (child {n = n} {t = t} {u = u} e k h) d =
     let o : Built = opened_on (kind_of n) s d in
     let i = anew h o in
@@ -196,7 +197,7 @@ anew (call h) d = let i = anew h d in (i.0, call i.1, i.2)
 anew {s = s} {t = u} (plain {t = t} e h n) d =
     let i = anew h (flushed s d) in
     let f = subst (λ (z : State). Same_steps (built_of s) (built_of z) d (flushed s d)) (sym e) (flushing s d) in
-    (i.0, plain (ap (λ (z : State). on z (flushed s d)) e) i.1 (n ∙ sym (test-same (At token.Bang) u i.0)), then_on (built_of s) (built_of t) (built_of u) d (flushed s d) i.0 f i.2)
+    (i.0, plain (ap (λ (z : State). on z (flushed s d)) e) i.1 (n ∙ sym (test-same (At token.Bang) u i.0 u.pending)), then_on (built_of s) (built_of t) (built_of u) d (flushed s d) i.0 f i.2)
 anew {s = s} (wrapped {t = t} {u = u} {v = v} {w = w} e p m c h n l) d =
     let k : SyntaxKind = kind.NON_NULL_TYPE in
     let i = anew h (flushed s d) in
@@ -206,4 +207,4 @@ anew {s = s} (wrapped {t = t} {u = u} {v = v} {w = w} e p m c h n l) d =
     let first = wrapping s u d i.0 (subst (λ (z : State). Same_steps (built_of z) (built_of u) (flushed s d) i.0) e i.2) in
     let inside = then_on (built_of (opened k s)) (built_of (around s u)) (built_of w) (opened_on k s d) o j.0 first (subst (λ (z : State). Same_steps (built_of z) (built_of w) o j.0) there j.2) in
     let x : Built = closed_on j.0 in
-    (x, wrapped (ap (λ (z : State). on z (flushed s d)) e) refl (ap (λ (z : State). on z o) there) (ap (λ (z : State). on z x) c) i.1 (n ∙ sym (test-same (At token.Bang) u i.0)) j.1, subst (λ (z : State). Same_steps (built_of s) (built_of z) d x) (sym c) (noding k s w d j.0 inside))
+    (x, wrapped (ap (λ (z : State). on z (flushed s d)) e) refl (ap (λ (z : State). on z o) there) (ap (λ (z : State). on z x) c) i.1 (n ∙ sym (test-same (At token.Bang) u i.0 u.pending)) j.1, subst (λ (z : State). Same_steps (built_of s) (built_of z) d x) (sym c) (noding k s w d j.0 inside))

@@ -13,7 +13,7 @@ use Rattle.document_grammar.specs.Numbers.{number}
 use Rattle.document_grammar.specs.Kinds.{ERROR}
 use Rattle.parser_rules.specs.State.{PendingToken, State, Lexeme, ignored, bad, met, wait, lexeme, read_on, second, fresh}
 
-abbrev on_kind : List Answer → State → Item → TokenKind → Option SyntaxKind → State
+abbrev pub on_kind : List Answer → State → Item → TokenKind → Option SyntaxKind → State
 on_kind rest s item k found = elim found [
   | Some leaf ↦ read_on rest (wait leaf item.text (record s { items = rest }))
   | None ↦ record s { items = rest; current = Some (lexeme k item) }

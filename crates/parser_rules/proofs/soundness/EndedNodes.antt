@@ -6,7 +6,7 @@ use Rattle.lexical_grammar.specs.declared.TokenKind.{TokenKind}
 use Rattle.lexical_grammar.specs.declared.TokenKind.TheVariants as token
 use Rattle.lexical_grammar.specs.Cut.{Item, Cut, CutFrom, texts, Significant, Word, significant_word}
 use Rattle.lexical_grammar.specs.Begins.{are_tokens}
-use Rattle.lexical_grammar.specs.Answers.{limited, limit_index, limit_index_at, is_end}
+use Rattle.lexical_grammar.specs.Answers.{limited, limit_index, is_end}
 use Rattle.document_grammar.specs.Kinds.{ERROR}
 use Rattle.document_grammar.specs.Numbers.{number}
 use Rattle.document_grammar.specs.declared.kind.SyntaxKind.{SyntaxKind}
@@ -20,6 +20,7 @@ use Rattle.document_grammar.specs.Leaves.{leaves, IsLeafOf, IsLeafOfToken, OneLe
 use Rattle.document_grammar.proofs.Shown.{index-at, item-then, not-the-end, significant-some, tokens-append, earlier, tokens-before}
 use Rattle.parser_rules.specs.State.{PendingToken, Report, ignored}
 use Rattle.parser_rules.proofs.runs.Reading.{ignored-leaf}
+use Rattle.parser_rules.proofs.reports.InOrder.{limit-near}
 use Rattle.parser_rules.proofs.reports.NoReport.{kind_tokens, item_tokens, end-kind, significant}
 use Rattle.parser_rules.proofs.soundness.Settled as counted
 use Rattle.parser_rules.proofs.soundness.Soundness.{item-words}
@@ -82,11 +83,6 @@ some-word : (w : List Word) → w ++ [] ≢ [] → 0 < length (map token_of w)
 some-word [] h = absurd (h refl)
 some-word (a ∷ w) h = omega arith
 
-limit-below : (found : Option TokenKind) (place : ℕ) → limit_index_at found place ≤ place
-limit-below None place = omega arith
-limit-below (Some token.Eof) place = omega arith
-limit-below (Some _) place = omega arith
-
 first-ended : (m : ℕ) (f : built.Forest) → AllEndedFit m 0 (numbered f) → EndedFit m 0 (tree_of f)
 first-ended m built.none h = tt
 first-ended m (built.leaf k x rest) h = tt
@@ -100,7 +96,7 @@ ended-nodes {items = items} {k = k} {e = e} f cut i h c m a s l =
     let own = index-at 0 i.before i.item i.more (subst (CutFrom 0) i.split cut.each) in
     let at = a.index in
     let below : e.index ≤ i.item.index = elim (place-is i.reason) [
-      | inl z ↦ (let y : e.index ≡ limit_index i.item = ap (λ (x : Report). x.index) z in let b = limit-below i.item.kind i.item.index in omega (arith, y, b))
+      | inl z ↦ (let y : e.index ≡ limit_index i.item = ap (λ (x : Report). x.index) z in let b = (limit-near i.item.kind i.item.index).1 in omega (arith, y, b))
       | inr z ↦ omega (arith, z)
     ] in
     let b = earlier a.before a.item a.more i.before i.item i.more (sym a.split ∙ i.split) (omega (arith, l, below, there, own, at)) in

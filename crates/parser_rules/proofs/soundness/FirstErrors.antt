@@ -1,5 +1,5 @@
 -- What the first report of a text means, in the words of the definitions.
-use Rattle.std.proofs.Common.{◌≡◌, ◌≢◌, ℕ, zero, suc, ◌+◌, ◌-◌, Bool, true, false, true≢false, if◌then◌else◌, List, [], ◌∷◌, ◌++◌, length, take, Option, Some, None, refl, sym, ap, ap₂, ◌∙◌, subst, ◌⊎◌, inl, inr, arith, is_some, length-append, length-take, ◌≤◌, ◌<◌}
+use Rattle.std.proofs.Common.{◌≡◌, ◌≢◌, ℕ, zero, suc, ◌+◌, ◌-◌, true, false, true≢false, List, [], ◌∷◌, ◌++◌, length, take, Some, None, refl, sym, ap, ap₂, ◌∙◌, subst, ◌⊎◌, inl, inr, arith, is_some, length-append, length-take, ◌≤◌, ◌<◌}
 use Rattle.std.specs.Prelude.{map}
 use Rattle.lexical_grammar.specs.declared.TokenKind.{TokenKind}
 use Rattle.lexical_grammar.specs.declared.TokenKind.TheVariants as token
@@ -11,19 +11,15 @@ use Rattle.document_grammar.specs.Sentence.{Begins, StartSentence, StartSentence
 use Rattle.document_grammar.specs.Tree.{Text, Token}
 use Rattle.document_grammar.specs.FirstError.{tokens_of, At, shown_kind, shown_item, shown, AreAmong, NotLate, NotEarly, NotEarlyLimit}
 use Rattle.document_grammar.proofs.Shown.{cut-shown, before-shown, cut-from, text-before}
-use Rattle.parser_rules.specs.State.{Report, Lexeme, at_text, at_end, at_limit, found_at, token_limit_report, second, ignored}
+use Rattle.parser_rules.specs.State.{Report, Lexeme, at_limit, token_limit_report, second, ignored}
+use Rattle.parser_rules.specs.Messages.{is_limit}
 use Rattle.parser_rules.proofs.runs.Reading.{ignored-kinds}
-use Rattle.parser_rules.proofs.soundness.OverTexts.{Answered, item_of, Reason, fault, too_deep, bad_text, too_many, IsRight}
+use Rattle.parser_rules.proofs.reports.AlongItems.{item_of}
+use Rattle.parser_rules.proofs.reports.AtTheLimit.{found-other}
+use Rattle.parser_rules.proofs.reports.NoReport.{ends}
+use Rattle.parser_rules.proofs.soundness.OverTexts.{Answered, Reason, fault, too_deep, bad_text, too_many, IsRight}
 
 -- ---- what is shown behind the current token was answered
-
-ends : Option TokenKind → Bool
-ends None = false
-ends (Some k) = is_end k
-
--- a fault is no limit
-no-limit : (t : Lexeme) → found_at t ≢ at_limit
-no-limit t = elim (is_end t.kind) as (λ b. (if b then at_end else at_text t.text) ≢ at_limit) [ true ↦ λ z. absurd cc | false ↦ λ z. absurd cc ]
 
 -- any but an ignored token shows one mark
 one-shown : (k : TokenKind) (text : Text) → ignored k ≡ None → length (shown_kind k text) ≡ 1
@@ -60,7 +56,6 @@ marks-some (a ∷ w) = omega arith
 
 -- something is shown behind a token that is not the end
 more-shown : (place : ℕ) (t : Lexeme) (more : List Item) → CutFrom place (item_of t ∷ more) → is_end t.kind ≡ false → 0 < length (shown more)
-unfolding ends
 more-shown place t [] cut e = absurd (true≢false (sym (ap ends (ap (λ (i : Item). i.kind) cut)) ∙ e))
 more-shown place t (next ∷ more) cut e = let m = ap length (cut-shown _ (next ∷ more) cut.2) in omega (arith, m, marks-some (tokens_of (next ∷ more)))
 
@@ -123,7 +118,7 @@ module _ {source : List ℕ} {items : List Item} {r k : ℕ} {e : Report} (cut :
   not-early-limit = on i.reason
     where
       on : {d : Report} → Reason items r k i.before i.item i.more d → d.found ≡ at_limit → ((n : ℕ) → d ≢ token_limit_report n) → NotEarlyLimit r items d.index
-      on (fault said t same now h) f n = absurd (no-limit t f)
+      on (fault said t same now h) f n = absurd (true≢false (sym (ap is_limit f) ∙ found-other t))
       on (too_deep t same h) f n = (here t.index (ap (λ (j : Item). j.index) (sym same)), λ starts. h (subst (StartSentenceWithin r) (up 1) starts))
       on (bad_text h) f n = absurd cc
       on too_many f n = absurd (n _ refl)

@@ -28,6 +28,7 @@ use Rattle.parser_rules.specs.Runs.{Runs}
 use Rattle.parser_rules.specs.declared.message.Message.{Message}
 use Rattle.parser_rules.specs.State.{State, Report, begun, Lexeme, fault_report, recursion_limit_report, token_limit_report, bad_report, finished, second, lexeme, add_all, ignored}
 use Rattle.parser_rules.proofs.reports.NoReport.{Passed, all_tokens, answers_tokens, item_tokens, report_of, given as given_by, Now, choose, EndsWell, kind_tokens, significant, ignored-tokens, ignored-end}
+use Rattle.parser_rules.proofs.reports.AlongItems.{item_of}
 use Rattle.parser_rules.proofs.reports.Endings.{ends-well}
 use Rattle.document_grammar.specs.Forests as built
 use Rattle.parser_rules.proofs.runs.Reading.{Reading, stops, cuts, bad_text as bad_item, waits, shows, looks}
@@ -45,10 +46,6 @@ all-given zero (item ∷ items) c h = absurd (omega arith)
 all-given (suc k) (item ∷ items) c h = let p = and_parts (is_some item.kind) (are_tokens items) h in and-i p.0 (all-given k items (omega arith) p.1)
 
 -- ---- the place of an answer in the text
-
--- the item of a token
-abbrev pub item_of : Lexeme → Item
-item_of t = record { kind = Some t.kind; text = t.text; index = t.index }
 
 -- the token is the end, or a significant token or the end follows it within the token limit
 abbrev pub Answered : ℕ → List Item → List Item → Lexeme → Type 0
