@@ -29,9 +29,8 @@ use Rattle.parser_state.specs.Errors.{found_of, IsWorded, IsErrorOf}
 
 pub same-indices : (rs : List Report) (ds : List Diagnostic) → AllZip IsErrorOf rs ds → map (λ (d : Diagnostic). d.index) ds ≡ map (λ (r : Report). r.index) rs
 same-indices [] [] h = refl
-same-indices [] (d ∷ ds) h = absurd h
-same-indices (r ∷ rs) [] h = absurd h
 same-indices (r ∷ rs) (d ∷ ds) h = ap₂ (λ (i : ℕ) (is : List ℕ). i ∷ is) h.0.index (same-indices rs ds h.1)
+same-indices _ _ h = absurd h
 
 pub none-said : (rs : List Report) (ds : List Diagnostic) → AllZip IsErrorOf rs ds → ds ≡ [] → rs ≡ []
 none-said [] ds h e = refl
@@ -60,10 +59,9 @@ recursion-said r d h e =
 
 pub any-recursion : (rs : List Report) (ds : List Diagnostic) → AllZip IsErrorOf rs ds → Any IsRecursionLimit ds → list_any is_recursion_limit rs ≡ true
 any-recursion [] [] z (i, d, l, e, p) = absurd (omega (arith, l))
-any-recursion [] (d ∷ ds) z h = absurd z
-any-recursion (r ∷ rs) [] z h = absurd z
 any-recursion (r ∷ rs) (d ∷ ds) z (zero, f, l, e, p) = or_left _ _ (recursion-said r d z.0 (subst IsRecursionLimit (sym e) p))
 any-recursion (r ∷ rs) (d ∷ ds) z (suc i, f, l, e, p) = or_right (is_recursion_limit r) _ (any-recursion rs ds z.1 (i, f, omega (arith, l), e, p))
+any-recursion _ _ z h = absurd z
 
 -- ---- ASCII
 
@@ -218,18 +216,15 @@ fault-text m x d i h = subject-is d.subject (at_text x.text) (h.subject ∙ ap (
 pub errors-along : {taken : Bool} {answers : List Answer} {rs : List Report} → Reported taken answers rs → (ds : List Diagnostic) → AllZip IsErrorOf rs ds → ErrorsAlong taken answers ds
 errors-along no_more [] z = promise.no_more
 errors-along no_more (d ∷ ds) z = absurd z
-errors-along (bad_text e h) [] z = absurd z
 errors-along (bad_text {item = item} e h) (d ∷ ds) z =
     promise.bad_text e (record { subject = subject-is d.subject (at_text item.text) z.0.subject; index = z.0.index }) z.0.message (errors-along h ds z.1)
-errors-along (token_limit h) [] z = absurd z
 errors-along (token_limit h) (d ∷ ds) z =
     let about = subject-limit d z.0.subject in
     promise.token_limit (record { subject = about; index = z.0.index }) (record { subject = about; message = z.0.message }) (errors-along h ds z.1)
-errors-along (fault m e i h) [] z = absurd z
 errors-along (fault m {k = k} {item = item} e i h) (d ∷ ds) z =
     promise.fault m e i (record { subject = subject-here (is_end k) d.subject item.text z.0.subject; index = z.0.index }) (z.0.message ∙ ap (message_text m) (sym z.0.subject)) (errors-along h ds z.1)
-errors-along (recursion_limit e i h) [] z = absurd z
 errors-along (recursion_limit e i h) (d ∷ ds) z =
     let about = subject-limit d z.0.subject in
     promise.recursion_limit e i (record { subject = about; index = z.0.index }) (record { subject = about; message = z.0.message }) (errors-along h ds z.1)
 errors-along (passed e h) ds z = promise.passed e (errors-along h ds z)
+errors-along _ [] z = absurd z

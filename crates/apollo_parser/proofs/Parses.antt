@@ -40,7 +40,7 @@ use Rattle.apollo_lexer.specs.Diagnostics.{Diagnostic, of_text, of_limit}
 use Rattle.parser_state.specs.Errors.{found_of, IsErrorOf}
 use Rattle.apollo_parser.proofs.Errors.{same-indices, none-said, none-told, token-limit-told, no-recursion, subject-limit, any-recursion, ascii-messages, limited-ascii, limit-worded, any-limit, any-said, fault-text, errors-along}
 use Rattle.apollo_parser.proofs.Roots.{finished-node}
-use Rattle.parser_rules.specs.State.{State, Lexeme, Report, fault_report, is_over, fresh, begun, finished, add_all}
+use Rattle.parser_rules.specs.State.{State, Lexeme, Report, fault_report, is_over, begun, finished, add_all}
 use Rattle.parser_rules.specs.Nodes.{Document}
 use Rattle.parser_rules.specs.RuleLanguage.{Call}
 use Rattle.parser_rules.specs.Runs.{Runs}
@@ -49,9 +49,8 @@ use Rattle.parser_rules.specs.Reports.{Reported, no_more, bad_text, token_limit,
 use Rattle.parser_rules.proofs.reports.AtTheLimit.{asked-past}
 use Rattle.parser_rules.proofs.reports.PastTheLimit.{limit-reported}
 use Rattle.parser_rules.proofs.reports.Endings.{ends-well}
-use Rattle.parser_rules.proofs.runs.AtTheEnd.{EndNow, ends, read-ends}
 use Rattle.parser_rules.proofs.runs.Frame.{root-kept, root-stays, begun-nesting, begun-asked}
-use Rattle.parser_rules.proofs.leaves.OneLeaf.{document-leaves, document-over, leaves-text}
+use Rattle.parser_rules.proofs.leaves.OneLeaf.{document-leaves, document-over, document-read, leaves-text}
 use Rattle.parser_rules.proofs.reports.InOrder.{in-order}
 use Rattle.parser_rules.proofs.nesting.Nesting.{nesting}
 use Rattle.parser_rules.proofs.soundness.Soundness.{sound, clean}
@@ -60,11 +59,6 @@ use Rattle.document_grammar.specs.Forests as built
 use Rattle.parser_rules.proofs.runs.Marked.{reports-along, Has, Limited, limited-later, taken-or-limited}
 use Rattle.parser_rules.proofs.runs.Steps.{along}
 use Rattle.parser_rules.specs.declared.message.Message.{Message}
-
-all_read : (o : Option Lexeme) (items : List Answer) → EndNow o items → is_over o ≡ true → items ≡ []
-unfolding EndNow
-all_read None items h e = h
-all_read (Some x) items h e = h e
 
 -- the answers to a parser of the text, where k items are allowed
 abbrev pub answers : ℕ → List ℕ → List Answer
@@ -90,9 +84,7 @@ module _ (k r : ℕ) (source : List ℕ) (s : State) (cut : Cut source (items_of
       ap (λ t. take (length t) source) run-text ∙ ap (take (length front)) (sym joined) ∙ take-append_seam front back ∙ sym run-text
 
   pub run-read : s.items ≡ []
-  run-read =
-      let first = read-ends (answers k source) (fresh (answers k source) r kind.DOCUMENT) refl (limited-answers k source (items_of source) cut) in
-      all_read s.current s.items (ends run first).now (document-over run)
+  run-read = document-read (answers k source) r (limited-answers k source (items_of source) cut) run
 
 over-tokens : (o : Option Lexeme) → is_over o ≡ true → current_tokens o ≡ []
 over-tokens None h = refl

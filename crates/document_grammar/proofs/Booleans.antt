@@ -1,11 +1,15 @@
 -- Lemmas on Booleans, and std's lemmas on `&&` and `||` for the `and` and `or` that proofs unfold.
-use Rattle.std.proofs.Common.{◌≡◌, ℕ, Bool, true, false, cond, not, eqb, refl, sym, ◌⊎◌}
+use Rattle.std.proofs.Common.{◌≡◌, ℕ, Bool, true, false, cond, not, eqb, Option, Some, None, is_some, refl, sym, ◌⊎◌}
 use Rattle.std.proofs.lemmas.Bool.{both_ways, and_parts, and_from, and_left, and_right, or_cases, or_left, or_right, or_from, or_parts, eq-eqb}
 pub use Rattle.std.proofs.lemmas.Bool.{cases_Bool as either, not-true as not-c}
 use Rattle.document_grammar.specs.Booleans.{◌and◌, ◌or◌}
 
 pub false-true : {A : Type 0} {b : Bool} → b ≡ false → b ≡ true → A
 false-true {b = b} e f = absurd (both_ways b e f)
+
+pub not-some : {A : Type 0} (o : Option A) → is_some o ≡ false → o ≡ None
+not-some None e = refl
+not-some (Some x) e = false-true e refl
 
 pub and-l : (a b : Bool) → a and b ≡ true → a ≡ true
 unfolding ◌and◌

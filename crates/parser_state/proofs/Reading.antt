@@ -10,6 +10,7 @@ use Rattle.document_grammar.specs.Builds.{Building, add_leaf}
 use Rattle.parser_state.specs.declared.state.PendingToken.{PendingToken}
 use Rattle.parser_state.specs.View.{pending_of}
 use Rattle.parser_rules.specs.State.{State, Text, Lexeme, ignored, bad, met, wait, lexeme, read_on, second, add_all}
+use Rattle.document_grammar.proofs.Booleans.{not-some}
 use Rattle.parser_rules.proofs.runs.Reading.{on_kind}
 use Rattle.parser_state.specs.Reading.{Taken, IsAnswerText, refused}
 
@@ -72,10 +73,6 @@ second-is : (rest : List Answer) (text : Text) (index : ℕ) (k : TokenKind)
 unfolding second on_second
 second-is rest text index k = refl
 
-no_leaf : (o : Option SyntaxKind) → is_some o ≡ false → o ≡ None
-no_leaf None e = refl
-no_leaf (Some leaf) e = absurd cc
-
 some-leaf : (rest : List Answer) (k : TokenKind) (item : Item) (o : Option SyntaxKind) → is_some o ≡ true → on_second rest k item o ≡ second rest
 unfolding on_second
 some-leaf rest k item None e = absurd cc
@@ -85,7 +82,7 @@ pub second-found : (xs rest : List Answer) (k : TokenKind) (text : Text) (index 
     → found ≡ ignored k → is_some found ≡ false → second xs ≡ Some (record { kind = k; text = text; index = index })
 unfolding on_second
 second-found xs rest k text index found e f i =
-    ap second e ∙ second-is rest text index k ∙ ap (on_second rest k (record { kind = Some k; text = text; index = index })) (sym f ∙ no_leaf found i)
+    ap second e ∙ second-is rest text index k ∙ ap (on_second rest k (record { kind = Some k; text = text; index = index })) (sym f ∙ not-some found i)
 
 pub second-ignored : (xs rest : List Answer) (k : TokenKind) (text : Text) (index : ℕ) (found : Option SyntaxKind) → xs ≡ gives (record { kind = Some k; text = text; index = index }) ∷ rest
     → found ≡ ignored k → is_some found ≡ true → second xs ≡ second rest

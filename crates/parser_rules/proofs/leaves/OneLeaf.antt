@@ -234,13 +234,17 @@ pub document-over : {s t : State} → Runs (Call rule.Document) s t → is_over 
 unfolding body
 document-over (call h) = wanted-over h
 
+-- all that is answered to a document is read
+pub document-read : {t : State} (items : List Answer) (limit : ℕ) → AreAnswers items → Runs (Call rule.Document) (begun items limit kind.DOCUMENT) t → t.items ≡ []
+document-read {t = t} items limit are run = none-left t.current t.items (ends run (read-ends items (fresh items limit kind.DOCUMENT) refl are)).now (document-over run)
+
 -- the leaves of a document's tree are one for one the items that were answered
 pub document-leaves : {t : State} (items : List Answer) (limit : ℕ) → AreAnswers items → Runs (Call rule.Document) (begun items limit kind.DOCUMENT) t → OneLeafAnItem items (leaves (finished t))
 document-leaves {t = t} items limit are run =
     let s = begun items limit kind.DOCUMENT in
     let shown = (found (reading items (fresh items limit kind.DOCUMENT))).shown in
     let (f, a, e, h, g, w) = walked_whole leaf_check Held sound items limit kind.DOCUMENT anything always run document_passes.leaves (record { shown = shown; seen = seen-any s shown; fits = no_more }) in
-    let last = none-left t.current t.items (ends run (read-ends items (fresh items limit kind.DOCUMENT) refl are)).now (document-over run) in
+    let last = document-read items limit are run in
     let order : flat (append f (set_aside t.pending)) ++ now_of t.current ≡ sources items = ap (λ (v : List Source). flat (append f (set_aside t.pending)) ++ v) (sym (ap (λ (xs : List Answer). now_of t.current ++ sources xs) last ∙ append-nil (now_of t.current))) ∙ w.order in
     let each = each-item items t.current (document-over run) (fit-append f (set_aside t.pending) h.fits (fit-aside t.pending)) order in
     subst (λ (ls : List PendingToken). OneLeafAnItem items ls) (ap leaves w.tree ∙ sym (finished-leaves t (root-kept items limit kind.DOCUMENT refl run))) each

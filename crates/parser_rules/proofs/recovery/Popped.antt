@@ -1,19 +1,20 @@
 -- Tokens that become ERROR leaves: where no limit was reported, each has a report with its text and index, and it is a child of the root, or
 -- of a LIST_VALUE and not `]`, or its node's only one.
 use Rattle.std.specs.Prelude.{⊤}
-use Rattle.std.proofs.Common.{◌≡◌, ℕ, ◌+◌, ◌≤◌, Bool, true, false, cond, not, is_some, List, [], ◌∷◌, ◌++◌, Option, Some, None, refl, sym, ◌∙◌, subst, inl, inr, arith, true≢false}
+use Rattle.std.proofs.Common.{◌≡◌, ℕ, ◌+◌, ◌≤◌, Bool, true, false, cond, not, List, [], ◌∷◌, ◌++◌, Option, Some, None, refl, sym, ◌∙◌, subst, inl, inr, arith, true≢false}
 use Rattle.lexical_grammar.specs.declared.TokenKind.TheVariants as token_kind
 use Rattle.lexical_grammar.specs.Answers.{Answer, is_end}
 use Rattle.document_grammar.specs.declared.kind.SyntaxKind.{SyntaxKind}
 use Rattle.document_grammar.specs.declared.kind.SyntaxKind.TheVariants as kind
 use Rattle.document_grammar.specs.Booleans.{◌and◌, ◌or◌}
-use Rattle.document_grammar.proofs.Booleans.{false-true, and-l, and-r, or-c, not-c, either}
+use Rattle.document_grammar.proofs.Booleans.{false-true, and-l, and-r, or-c, not-c, not-some, either}
 use Rattle.parser_rules.specs.declared.message.Message.{Message}
 use Rattle.parser_rules.specs.State.{State, Lexeme, PendingToken, Report, fault_report, second, add_all, flush, opened, closed, wrapped_from, moved, noted, note, too_deep, enter, leave, is_at, fresh, begun}
 use Rattle.parser_rules.specs.Nodes.{kind_of, Document}
 use Rattle.parser_rules.specs.RuleLanguage.{Kind, Test, Here, HasNext, Not, Both, holds, Call}
 use Rattle.parser_rules.specs.Runs.{Runs}
 use Rattle.std.proofs.lemmas.Bool.{and_parts}
+use Rattle.std.proofs.lemmas.Option.{none-some}
 use Rattle.parser_rules.proofs.recovery.RecoveryCheck.{is_list, excludes, asks_next, Room, any_token, no_bracket, one_token, no_token, same_room, room_of, Popping, unknown, pop, pop_check}
 use Rattle.parser_rules.proofs.NodeChecks.{node-passes, document_passes}
 use Rattle.parser_rules.proofs.runs.Reading.{Reading, stops, cuts, bad_text, waits, shows, reading}
@@ -159,16 +160,9 @@ cut-off stops e h a = e
 cut-off (cuts r) e h a = true≢false (sym ((read-reports r).keeps a))
 cut-off (bad_text i r) e h a = cut-off r (rw i at e) (rw i at h) a
 cut-off (waits {k = k} {own = own} i j r) e h a = cut-off r (rw (i, ignored-end k own j) at e) (rw (i, j) at h) a
-cut-off (shows i j) e h a = absurd (none (rw (i, j) at h))
-  where
-    none : {x : Lexeme} → Some x ≡ None → ⊥
-    none e = absurd cc
+cut-off (shows i j) e h a = absurd (none-some _ (sym (rw (i, j) at h)))
 
 -- ---- tests
-
-none-there : (o : Option Lexeme) → false ≡ is_some o → o ≡ None
-none-there None e = refl
-none-there (Some x) e = absurd (true≢false (sym e))
 
 no-bracket : (q : Test) (s : State) → excludes q ≡ true → true ≡ holds q s → is_at token_kind.RBracket s.current ≡ false
 unfolding holds ◌or◌
@@ -178,7 +172,7 @@ no-bracket _ s e h = false-true refl e
 
 none-next : (q : Test) (s : State) → asks_next q ≡ true → false ≡ holds q s → second s.items ≡ None
 unfolding holds
-none-next HasNext s e h = none-there (second s.items) h
+none-next HasNext s e h = not-some (second s.items) (sym h)
 none-next _ s e h = false-true refl e
 
 -- ---- runs

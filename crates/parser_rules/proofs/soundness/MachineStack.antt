@@ -63,9 +63,6 @@ put-image s q p f t fs = sym (ap (λ (z : Forest). lay s z (image fs)) (shows-sn
 pub image-node : (j q : ℕ) (g : Forest) (fs : List Frame) → eqb j TYPE ≡ false → image (frame j q g ∷ fs) ≡ (label j, shows g) ∷ image fs
 image-node j q g fs e = rw e refl
 
-pub show-node : (s : ℕ) (f : Forest) → eqb s TYPE ≡ false → show (node s f) ≡ node (label s) (shows f)
-show-node s f p = rw p refl
-
 -- ---- a type
 
 type-exits : (exits BANG (λ e. eqb e 0) ≡ true) × (exits NAMED_TYPE (λ e. eqb e 0) ≡ true) × (exits LIST_TYPE (λ e. eqb e 0) ≡ true)

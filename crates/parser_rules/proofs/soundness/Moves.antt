@@ -15,7 +15,7 @@ use Rattle.grammar_machine.proofs.TableLemmas.{holds-subset, holds-disjoint, arc
 use Rattle.grammar_machine.proofs.Checks.{subset}
 use Rattle.grammar_machine.proofs.Depth.{count_in, nesting_all, left-depth}
 use Rattle.grammar_machine.proofs.Patterns.{label}
-use Rattle.grammar_machine.proofs.FromMachineTree.{shows, show}
+use Rattle.grammar_machine.proofs.FromMachineTree.{shows, show, show-root}
 use Rattle.grammar_machine.proofs.Sound.{any, second-any, spent, reach-sound, move-ends, move-has, move-fires}
 use Rattle.grammar_machine.proofs.Run.{next}
 use Rattle.grammar_machine.proofs.MachineTheorems.{Parse, fault, never-stuck, on-the-way, no-leaf as start-no-leaf, fault-left}
@@ -32,7 +32,7 @@ use Rattle.parser_rules.proofs.lookahead.MachineClasses.{Next, sees-next}
 use Rattle.parser_rules.proofs.lookahead.Split.{Level, low, Sure, loose, firm, full, Spot, spot, lost}
 use Rattle.parser_rules.proofs.runs.Reading.{second-shown, reading, found}
 use Rattle.parser_rules.proofs.lookahead.TokenSets.{edges, class_of, of-any, over, Seen, seen-any}
-use Rattle.parser_rules.proofs.soundness.MachineStack.{image, image-some, shows-snoc, put-image, image-node, show-node, lay, lay-put}
+use Rattle.parser_rules.proofs.soundness.MachineStack.{image, image-some, shows-snoc, put-image, image-node, lay, lay-put}
 use Rattle.parser_rules.proofs.soundness.Settled.{Fitting, settled-at}
 use Rattle.parser_rules.proofs.soundness.TableCheck.{Then, behind, raised, own, levels, leaf_of, loses, takes, ends_at, after, closing, losing, counted, limits_at, reports, is_node, ends_well, follows_table, no_brace, leaves_well, deepens}
 use Rattle.parser_rules.proofs.NodeChecks.{node-passes}
@@ -257,7 +257,7 @@ module _ (R : Reading) where
   unfolding closed
   closed-built {s = s} {q = q} {p = p} {f = f} {fs = fs} {v = v} c i =
       let gs : List Frame = frame s q f ∷ fs in
-      stack-finish v.tree (label (symbol c), shows i.children) (image gs) (image-some gs) (i.built ∙ image-node (symbol c) p i.children gs (node-is c).1) ∙ ap (λ (t : Tree). put (t ▸ none) (image gs)) (sym (show-node (symbol c) i.children (node-is c).1))
+      stack-finish v.tree (label (symbol c), shows i.children) (image gs) (image-some gs) (i.built ∙ image-node (symbol c) p i.children gs (node-is c).1) ∙ ap (λ (t : Tree). put (t ▸ none) (image gs)) (sym (show-root (symbol c) i.children (node-is c).1))
 
   pub tell-closed : (u : State) → Tells R u → Tells R (closed u)
   tell-closed u o = tell-on R u (closed u) (idle-grows (closed-alike u).idle) o

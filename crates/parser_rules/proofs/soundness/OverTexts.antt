@@ -18,7 +18,7 @@ use Rattle.document_grammar.specs.Derivation.{document, Spells, Mark, word, mark
 use Rattle.document_grammar.specs.Sentence.{token_of, Sentence, Within, Begins, StartSentence, StartSentenceWithin, leaf_number}
 use Rattle.document_grammar.specs.Tree.{Token, Tree}
 use Rattle.document_grammar.specs.FirstError.{tokens_of}
-use Rattle.document_grammar.proofs.Booleans.{and-i, and-l, and-r, either}
+use Rattle.document_grammar.proofs.Booleans.{and-i, and-l, and-r, either, not-some}
 use Rattle.grammar_machine.proofs.Beginnings.{begins-text}
 use Rattle.document_grammar.proofs.Texts.{one-cut, sentence-starts, sentence-starts-within}
 use Rattle.parser_rules.specs.Open.{IsRoot}
@@ -181,9 +181,6 @@ pub record IsRight (source : List ℕ) (items : List Item) (r k : ℕ) (e : Repo
 from-words : (front before : List Token) (l m : List Mark) → front ≡ before → l ≡ m → map word before ++ l ≡ read front ++ m
 from-words front before l m e f = ap₂ (λ (l m : List Mark). l ++ m) (read-map before ∙ ap read (sym e)) f
 
-no-kind : (item : Item) → is_token (gives item) ≡ false → item.kind ≡ None
-no-kind item h = (elim item.kind as (λ found. is_some found ≡ false → found ≡ None) [ None ↦ λ h. refl | Some k ↦ λ h. absurd (true≢false h) ]) h
-
 module _ (r k : ℕ) (source : List ℕ) (items : List Item) (s : State) (cut : Cut source items) (root : IsRoot s.tree) (run : Runs (Call Document) (begun (limited k items) r kind.DOCUMENT) s) where
   -- Acceptance.
   pub accepts-text : (t : Tree) → Sentence source t document → Within source t r k → s.errors ≡ []
@@ -226,7 +223,7 @@ module _ (r k : ℕ) (source : List ℕ) (items : List Item) (s : State) (cut : 
   other-reason front (limit_at n) ys h b = subst (λ (m : ℕ). Reason items r k b.before b.item b.more (token_limit_report m)) (sym (limit-is _ n b.item b.more ys b.answers)) too_many
   other-reason front (gives item) ys h b =
       let same : item ≡ b.item = (given-is _ b.item item b.more ys b.answers).0 in
-      subst (λ (i : Item). Reason items r k b.before b.item b.more (bad_report i.text i.index)) (sym same) (bad_text (subst (λ (i : Item). i.kind ≡ None) same (no-kind item h)))
+      subst (λ (i : Item). Reason items r k b.before b.item b.more (bad_report i.text i.index)) (sym same) (bad_text (subst (λ (i : Item). i.kind ≡ None) same (not-some item.kind h)))
 
   told : IsUtf8 source → (e : Report) (m : ℕ) → Right document xs r (answers_tokens xs) e m → Told_right e m
   unfolding xs
