@@ -64,10 +64,7 @@ use Rattle.parser_rules.specs.declared.message.Message.{Message}
 abbrev pub answers : ℕ → List ℕ → List Answer
 answers k source = limited k (items_of source)
 
-abbrev pub Ran : ℕ → ℕ → List ℕ → State → Type 0
-Ran k r source s = Runs (Call Document) (begun (answers k source) r kind.DOCUMENT) s
-
-module _ (k r : ℕ) (source : List ℕ) (s : State) (cut : Cut source (items_of source)) (run : Ran k r source s) where
+module _ (k r : ℕ) (source : List ℕ) (s : State) (cut : Cut source (items_of source)) (run : Runs (Call Document) (begun (answers k source) r kind.DOCUMENT) s) where
   pub run-leaves : OneLeafAnItem (answers k source) (leaves (finished s))
   run-leaves = document-leaves (answers k source) r (limited-answers k source (items_of source) cut) run
 

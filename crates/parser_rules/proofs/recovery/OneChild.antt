@@ -133,5 +133,4 @@ next-child a t f g later x e =
     cases : (a : Kid) (t : built.Tree) → built.join (built.first t g) later ≡ built.join (erase (alone a)) x → (built.first t g ≡ built.join (erase (alone a)) g) × (built.join g later ≡ x)
     cases (leaf_of o k) (built.Leaf j y) e = (cc, cc)
     cases (node_of k l) (built.Node j kids) e = (cc, cc)
-    cases (leaf_of o k) (built.Node j kids) e = absurd cc
-    cases (node_of k l) (built.Leaf j y) e = absurd cc
+    cases _ _ e = absurd cc

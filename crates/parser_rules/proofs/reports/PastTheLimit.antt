@@ -8,9 +8,9 @@ use Rattle.lexical_grammar.specs.Answers.{Answer, is_end}
 use Rattle.document_grammar.specs.declared.kind.SyntaxKind.{SyntaxKind}
 use Rattle.document_grammar.specs.declared.kind.SyntaxKind.TheVariants as kind
 use Rattle.document_grammar.specs.Booleans.{◌or◌}
-use Rattle.document_grammar.proofs.Booleans.{either, false-true, and-l, and-r, or-c, not-c, implies}
+use Rattle.document_grammar.proofs.Booleans.{either, false-true, and-l, and-r, or-c, not-c, not-some, implies}
 use Rattle.parser_rules.specs.declared.message.Message.{Message}
-use Rattle.parser_rules.specs.State.{State, Lexeme, fault_report, recursion_limit_report, read_on, flush, opened, closed, wrapped_from, moved, noted, note, is_deep, enter, leave, deepened, limited_at, too_deep, is_over, same_kind, begun, fresh}
+use Rattle.parser_rules.specs.State.{State, Lexeme, recursion_limit_report, read_on, flush, opened, closed, wrapped_from, moved, note, is_deep, enter, leave, deepened, limited_at, too_deep, is_over, same_kind, begun, fresh}
 use Rattle.parser_rules.specs.Nodes.{Node, kind_of, Document}
 use Rattle.parser_rules.specs.RuleLanguage.{TokenTest, Kind, Keyword, Or, fits, Test, Here, Ready, Both, holds, Call}
 use Rattle.parser_rules.specs.Runs.{Runs}
@@ -19,6 +19,7 @@ use Rattle.parser_rules.proofs.runs.Marked as marked
 use Rattle.parser_rules.proofs.runs.Marked.{Marked, append, Limited, Reports, taken-or-limited, moved_on}
 use Rattle.parser_rules.proofs.runs.Walk.{after_pending, always, Sound, walked_whole}
 use Rattle.parser_rules.proofs.runs.Frame.{read-untouched}
+use Rattle.parser_rules.proofs.runs.Reporting.{after-note}
 use Rattle.parser_rules.proofs.reports.NoReport.{choose, EndsWell, Stood, reading-stood, stands-along}
 use Rattle.parser_rules.proofs.recovery.Popped.{cut-off}
 use Rattle.parser_rules.proofs.reports.LimitCheck.{Current, unknown, present, inner, is_inner, known, fits_inner, tells_inner, after_token, is_known, same_inner, begins_level, limit_check}
@@ -78,11 +79,7 @@ unfolding is_inner
 next-present x s u n i y =
     let r = reading u.items u in
     let ends : EndsWell u.items = subst (λ (b : Bool). choose b (u.items ≡ []) (EndsWell u.items)) (not-c _ i) n.1 in
-    there (read_on u.items u).current (λ e. cut-off r ends (sym (found r).next ∙ e) y)
-  where
-    there : (o : Option Lexeme) → (o ≡ None → ⊥) → is_some o ≡ true
-    there None h = absurd (h refl)
-    there (Some t) h = refl
+    elim (either (is_some (read_on u.items u).current)) [ inl z ↦ z | inr z ↦ absurd (cut-off r ends (sym (found r).next ∙ not-some _ z) y) ]
 
 module _ (own : SyntaxKind) (a : Current) (b s : State) (f : Marked) (x : Lexeme) (e : s.current ≡ Some x) (h : Held a b s f) where
   abbrev after : State
@@ -112,15 +109,7 @@ module _ (own : SyntaxKind) (a : Current) (b s : State) (f : Marked) (x : Lexeme
   }
 
 noted-held : (m : Message) (a : Current) (b s : State) (f : Marked) → Held a b s f → Held a b (note m s) f
-unfolding note
-noted-held m a b s f h = on s.current
-  where
-    on : (o : Option Lexeme) → Held a b (noted m s o) f
-    on None = h
-    on (Some x) = elim s.accepts as (λ v. Held a b (if v then record s { errors = s.errors ++ fault_report m x ∷ [] } else s) f) [
-      | true ↦ record { stood = h.stood; bounded = h.bounded; token = h.token }
-      | false ↦ h
-    ]
+noted-held m a b s f h = after-note (λ (t : State). Held a b t f) m s (λ errors. record { stood = h.stood; bounded = h.bounded; token = h.token })
 
 -- where a token is certain, the limit is reported
 limit-held : (a : Current) (b s : State) (f : Marked) → is_known a ≡ true → Held a b s f → Held a b (too_deep s) f

@@ -84,9 +84,8 @@ some-word [] h = absurd (h refl)
 some-word (a ∷ w) h = omega arith
 
 first-ended : (m : ℕ) (f : built.Forest) → AllEndedFit m 0 (numbered f) → EndedFit m 0 (tree_of f)
-first-ended m built.none h = tt
-first-ended m (built.leaf k x rest) h = tt
 first-ended m (built.node k kids rest) h = h.0
+first-ended m _ h = tt
 
 -- Each node that a significant token in front of the first report follows fits.
 pub ended-nodes : {source : List ℕ} {items : List Item} {r k : ℕ} {e : Report} (f : built.Forest) (cut : Cut source items) (i : IsRight source items r k e) → OneLeafAnItem (limited k items) (leaves f) → counted.EndedFit (length (tokens_of i.before)) 0 f → EndedNodesFit items e.index (tree_of f)
