@@ -1,5 +1,5 @@
 -- A turn of the document's loop adds one child to the root, after what waited; also where some of that is in the tree already.
-use Rattle.std.proofs.Common.{◌≡◌, ℕ, suc, Bool, true, false, true≢false, not, if◌then◌else◌, [], ◌∷◌, ◌++◌, Some, None, refl, sym, ap, ◌∙◌, subst, ◌⊎◌, inl, inr}
+use Rattle.std.proofs.Common.{◌≡◌, ℕ, suc, Bool, true, false, if◌then◌else◌, [], ◌∷◌, ◌++◌, Some, None, refl, sym, ap, ◌∙◌, subst, ◌⊎◌, inl, inr}
 use Rattle.document_grammar.specs.declared.kind.SyntaxKind.{SyntaxKind}
 use Rattle.document_grammar.specs.Booleans.{◌and◌}
 use Rattle.document_grammar.specs.Forests as built
@@ -7,7 +7,7 @@ use Rattle.document_grammar.proofs.Added.{Added, added-then}
 use Rattle.document_grammar.proofs.Booleans.{false-true, and-l, and-r}
 use Rattle.document_grammar.proofs.Joins.{join-assoc, join-none}
 use Rattle.parser_rules.specs.declared.message.Message.{Message}
-use Rattle.parser_rules.specs.State.{State, Lexeme, fault_report, add_all, flush, opened, moved, bump, noted, note, is_over}
+use Rattle.parser_rules.specs.State.{State, Lexeme, fault_report, add_all, flush, opened, moved, bump, noted, note}
 use Rattle.parser_rules.specs.Nodes.{kind_of, Definition}
 use Rattle.parser_rules.specs.RuleLanguage.{Test, Ready, holds, Bump, Note, step, Rule, Do, Seq, When, Child, Call}
 use Rattle.parser_rules.specs.Rules.{body}
@@ -19,6 +19,7 @@ use Rattle.parser_rules.proofs.runs.Frame.{parts_forest, added-all}
 use Rattle.parser_rules.proofs.runs.Marked.{Source, token, Marked, none, leaf, node, append, erase, erase-append, Grown, grown-none, grown-then, grown-leaf, grown-note, grown-node}
 use Rattle.parser_rules.proofs.runs.Walk.{walked}
 use Rattle.parser_rules.proofs.runs.Anew.{built_of, test-same}
+use Rattle.parser_rules.proofs.runs.Progress.{ready-there}
 use Rattle.parser_rules.proofs.runs.Reporting.{after-note}
 use Rattle.parser_rules.proofs.soundness.Soundness.{loops}
 
@@ -100,11 +101,7 @@ definition-checked = refl
 
 -- a turn
 pub turn-one : {s t : State} → true ≡ holds Ready s → Runs (Call Definition) s t → One_more (Call Definition) s t
-unfolding holds
-turn-one {s = s} {t = t} r h = (elim s.current as (λ o. s.current ≡ o → true ≡ not (is_over o) → One_more (Call Definition) s t) [
-  | None ↦ λ e z. absurd (true≢false z)
-  | Some x ↦ λ e z. one-more h 4 x definition-checked e
-]) refl r
+turn-one {s = s} r h = let i = ready-there s r in one-more h 4 i.token definition-checked i.is
 
 -- ---- the loop
 

@@ -1,7 +1,7 @@
 -- A run of the document's rule over a text: its first report is right; or it reports nothing, and the text is a sentence within both
 -- limits, whose derivation is the tree without its ignored leaves.
 use Rattle.parser_rules.proofs.runs.Steps.{along, turns-along}
-use Rattle.std.proofs.Common.{◌≡◌, ℕ, zero, suc, ◌≤◌, Bool, cond, true, false, List, [], ◌∷◌, ◌++◌, Option, Some, None, if◌then◌else◌, length, refl, sym, ap, ap₂, ◌∙◌, subst, ◌⊎◌, inl, inr, true≢false, is_some, eqb-true, append-nil, append_assoc, arith, not}
+use Rattle.std.proofs.Common.{◌≡◌, ℕ, zero, suc, ◌≤◌, Bool, cond, true, false, List, [], ◌∷◌, ◌++◌, Option, Some, None, if◌then◌else◌, length, refl, sym, ap, ap₂, ◌∙◌, subst, ◌⊎◌, inl, inr, true≢false, is_some, eqb-true, append-nil, append_assoc, arith}
 use Rattle.std.specs.Prelude.{map}
 use Rattle.std.proofs.lemmas.Bool.{and_from}
 use Rattle.std.proofs.lemmas.List.{map-append, append_cancel_right}
@@ -34,7 +34,7 @@ use Rattle.grammar_machine.proofs.Sound.{any, AllSpelt}
 use Rattle.grammar_machine.proofs.Starts.{read, next_one, after-one}
 use Rattle.grammar_machine.proofs.Steps.{closes-move}
 use Rattle.grammar_machine.proofs.MachineTheorems.{Parse, done, document-begins}
-use Rattle.parser_rules.specs.State.{State, Lexeme, Report, add_all, fresh, begun, finished, is_over}
+use Rattle.parser_rules.specs.State.{State, Lexeme, Report, add_all, fresh, begun, finished}
 use Rattle.parser_rules.specs.Nodes.{Definition, Document}
 use Rattle.parser_rules.specs.RuleLanguage.{Rule, Call, While, Ready, holds}
 use Rattle.parser_rules.specs.Runs.{Runs, Turns}
@@ -42,6 +42,7 @@ use Rattle.parser_rules.specs.Open.{IsRoot}
 use Rattle.parser_rules.proofs.runs.Frame.{Untouched, read-untouched, add_all-above, turned, begun-nesting}
 use Rattle.parser_rules.proofs.soundness.WithoutIgnored.{stack, strip, layers, stack-flush}
 use Rattle.parser_rules.proofs.reports.NoReport.{Stood, reading-stood, stands-along, answers_tokens, all_tokens, rest, current_tokens, item_tokens, EndsWell, Now, standing, given as given_by, Held, all_tokens-append, Blames, read-on}
+use Rattle.parser_rules.proofs.runs.Progress.{ready-there}
 use Rattle.parser_rules.proofs.runs.Reading.{reading}
 use Rattle.parser_rules.proofs.lookahead.TokenSets.{class_of, seen-any, over, ready, not-zero}
 use Rattle.parser_rules.proofs.lookahead.Split.{Level, low, high, past, loose, spot, lost}
@@ -276,18 +277,15 @@ now_words st c = answers_tokens (from_now st c)
 
 -- a turn of the document's loop over a text, while the grammar's reports are taken
 pub turn-of : (r : ℕ) (xs : List Answer) (first_rule : Rule) (b st : State) → EndsWell xs → Runs first_rule (begun xs r kind.DOCUMENT) b → Turns Ready (Call Definition) b st → true ≡ holds Ready st → st.accepts ≡ true → Turn st
-unfolding holds
-turn-of r xs first_rule b st en run turns rd ac = at st.current refl stood rd
+turn-of r xs first_rule b st en run turns rd ac =
+    let i = ready-there st rd in
+    record { token = i.token; current = i.is; now = subst (λ (o : Option Lexeme). Stood o st.items) i.is stood; is_ready = rd; accepts = ac; no_level = depth }
   where
     stood : Stood st.current st.items
     stood = turns-along stands-along turns (along stands-along run (reading-stood (reading xs (fresh xs r kind.DOCUMENT)) en))
 
     depth : st.depth ≡ 0
     depth = (turned turns).depth ∙ (begun-nesting xs r kind.DOCUMENT run).0
-
-    at : (o : Option Lexeme) → st.current ≡ o → Stood o st.items → true ≡ not (is_over o) → Turn st
-    at None e h g = absurd (true≢false g)
-    at (Some t) e h g = record { token = t; current = e; now = h; is_ready = rd; accepts = ac; no_level = depth }
 
 -- ---- acceptance
 
