@@ -102,18 +102,12 @@ module _ (Text_is : Text → Type 0) (P : Diagnostic → Type 0)
   each-error (d ∷ ds) (recursion_limit {k = k} {item = item} e i h) a z = All-cons P d ds (of_depth (lexeme k item) d z.0) (each-error ds h a z.1)
   each-error (d ∷ ds) (passed e h) a z = each-error (d ∷ ds) h a.1 z
 
-abbrev AsciiMessage : Diagnostic → Type 0
-AsciiMessage d = IsAscii d.message
-
-worded-ascii : (text message : Text) → IsAscii text → message ≡ text → IsAscii message
-worded-ascii text message h e = subst IsAscii (sym e) h
-
-pub ascii-messages : {answers : List Answer} {rs : List Report} (ds : List Diagnostic) → Reported true answers rs → AllTexts IsAscii answers → AllZip IsErrorOf rs ds → All AsciiMessage ds
-ascii-messages = each-error IsAscii AsciiMessage
+pub ascii-messages : {answers : List Answer} {rs : List Report} (ds : List Diagnostic) → Reported true answers rs → AllTexts IsAscii answers → AllZip IsErrorOf rs ds → All (λ (d : Diagnostic). IsAscii d.message) ds
+ascii-messages = each-error IsAscii (λ d. IsAscii d.message)
     (λ text index d h e. fault-ascii text d.message e.message h)
-    (λ index d e. worded-ascii limit_message d.message (ascii-text limit_message refl) e.message)
-    (λ m x d h e. worded-ascii (message_text m (found_at x)) d.message (message-ascii m (found_at x) (found-ascii x h)) e.message)
-    (λ x d e. worded-ascii recursion_limit_message d.message (ascii-text recursion_limit_message refl) e.message)
+    (λ index d e. subst IsAscii (sym e.message) (ascii-text limit_message refl))
+    (λ m x d h e. subst IsAscii (sym e.message) (message-ascii m (found_at x) (found-ascii x h)))
+    (λ x d e. subst IsAscii (sym e.message) (ascii-text recursion_limit_message refl))
 
 -- the items of an ASCII text are ASCII
 pub limited-ascii : (k : ℕ) (items : List Item) → IsAscii (texts items) → AllTexts IsAscii (limited k items)
