@@ -1,5 +1,5 @@
 -- What holds of a tree with reports, in the words of the definitions: which children a node has, and where tokens that were left over stand.
-use Rattle.std.proofs.Common.{◌≡◌, ◌≢◌, ℕ, zero, suc, ◌+◌, ◌<◌, Bool, true, false, true≢false, ◌&&◌, ◌||◌, cond, not, eqb, eq-eqb, ne_eqb, List, [], ◌∷◌, ◌++◌, length, Option, Some, None, refl, sym, ap, ap₂, ◌∙◌, subst, arith, length-append}
+use Rattle.std.proofs.Common.{◌≡◌, ◌≢◌, ℕ, zero, suc, ◌+◌, ◌<◌, Bool, true, false, true≢false, ◌&&◌, ◌||◌, cond, eqb, eq-eqb, ne_eqb, List, [], ◌∷◌, ◌++◌, length, Option, Some, None, refl, sym, ap, ap₂, ◌∙◌, subst, arith, length-append}
 use Rattle.std.specs.Prelude.{⊤}
 use Rattle.std.proofs.lemmas.Bool.{and_right}
 use Rattle.lexical_grammar.specs.declared.TokenKind.{TokenKind}
@@ -23,6 +23,7 @@ use Rattle.document_grammar.proofs.Booleans.{and-l, and-r, or-c, not-c}
 use Rattle.document_grammar.proofs.Shown.{index-at}
 use Rattle.parser_rules.specs.declared.message.Message.{Message}
 use Rattle.parser_rules.specs.State.{State, Lexeme, Report, fault_report, ignored, lexeme, is_at, same_kind, add_all}
+use Rattle.parser_rules.proofs.reports.NoReport.{shown-kind}
 use Rattle.parser_rules.proofs.leaves.LeafCheck.{is_error}
 use Rattle.parser_rules.proofs.recovery.RecoveryCheck.{of_row, leaf_of_row}
 use Rattle.parser_rules.proofs.recovery.RowSymbols.{rows}
@@ -88,13 +89,6 @@ numbered-text : (f : built.Forest) → tree_texts (numbered f) ≡ built.text f
 numbered-text built.none = refl
 numbered-text (built.leaf k x rest) = ap (λ (s : Text). x ++ s) (numbered-text rest)
 numbered-text (built.node k kids rest) = ap₂ (λ (a b : Text). a ++ b) (numbered-text kids) (numbered-text rest)
-
-shown-kind : (k : TokenKind) → ignored k ≡ None → is_significant_kind k ≡ not (is_end k)
-shown-kind token_kind.Whitespace i = absurd cc
-shown-kind token_kind.Comment i = absurd cc
-shown-kind token_kind.Comma i = absurd cc
-shown-kind token_kind.Eof i = refl
-shown-kind _ i = refl
 
 error-number : (k : SyntaxKind) → eqb (number k) ERROR ≡ is_error k
 error-number kind.ERROR = refl

@@ -1,5 +1,5 @@
 -- A state without a new report: what is left to read, and that reading on keeps it so or reports.
-use Rattle.std.proofs.Common.{◌≡◌, ℕ, Bool, true, false, if◌then◌else◌, List, [], ◌∷◌, ◌++◌, Option, Some, None, refl, sym, ap, ap₂, ◌∙◌, subst, ◌⊎◌, inl, inr, append_assoc}
+use Rattle.std.proofs.Common.{◌≡◌, ℕ, Bool, true, false, not, if◌then◌else◌, List, [], ◌∷◌, ◌++◌, Option, Some, None, refl, sym, ap, ap₂, ◌∙◌, subst, ◌⊎◌, inl, inr, append_assoc}
 use Rattle.std.specs.Prelude.{⊤}
 use Rattle.lexical_grammar.specs.declared.TokenKind.{TokenKind}
 use Rattle.lexical_grammar.specs.declared.TokenKind.TheVariants as token
@@ -99,12 +99,15 @@ pub end-kind : (k : TokenKind) → is_end k ≡ true → k ≡ token.Eof
 end-kind token.Eof e = refl
 end-kind _ e = absurd cc
 
+pub shown-kind : (k : TokenKind) → ignored k ≡ None → is_significant_kind k ≡ not (is_end k)
+shown-kind token.Whitespace i = absurd cc
+shown-kind token.Comment i = absurd cc
+shown-kind token.Comma i = absurd cc
+shown-kind token.Eof i = refl
+shown-kind _ i = refl
+
 pub significant : (k : TokenKind) (text : Text) → is_end k ≡ false → ignored k ≡ None → kind_tokens k text ≡ (leaf_number k, text) ∷ []
-significant token.Whitespace text e i = absurd cc
-significant token.Comment text e i = absurd cc
-significant token.Comma text e i = absurd cc
-significant token.Eof text e i = absurd cc
-significant _ text e i = refl
+significant k text e i = ap (λ (b : Bool). if b then token_of (record { kind = k; text = text }) ∷ [] else []) (shown-kind k i ∙ ap not e)
 
 -- the current token is the end, and nothing is left; or it is the first that is left
 pub record AtEnd (t : Lexeme) (items : List Answer) : Type 0 where

@@ -1,5 +1,5 @@
 -- What the first report of a text means, in the words of the definitions.
-use Rattle.std.proofs.Common.{◌≡◌, ◌≢◌, ℕ, zero, suc, ◌+◌, ◌-◌, true, false, true≢false, List, [], ◌∷◌, ◌++◌, length, take, Some, None, refl, sym, ap, ap₂, ◌∙◌, subst, ◌⊎◌, inl, inr, arith, is_some, length-append, length-take, ◌≤◌, ◌<◌}
+use Rattle.std.proofs.Common.{◌≡◌, ◌≢◌, ℕ, zero, suc, ◌+◌, ◌-◌, true, false, true≢false, List, [], ◌∷◌, ◌++◌, length, take, Option, None, refl, sym, ap, ap₂, ◌∙◌, subst, ◌⊎◌, inl, inr, arith, is_some, length-append, length-take, ◌≤◌, ◌<◌}
 use Rattle.std.specs.Prelude.{map}
 use Rattle.lexical_grammar.specs.declared.TokenKind.{TokenKind}
 use Rattle.lexical_grammar.specs.declared.TokenKind.TheVariants as token
@@ -11,9 +11,9 @@ use Rattle.document_grammar.specs.Sentence.{Begins, StartSentence, StartSentence
 use Rattle.document_grammar.specs.Tree.{Text, Token}
 use Rattle.document_grammar.specs.FirstError.{tokens_of, At, shown_kind, shown_item, shown, AreAmong, NotLate, NotEarly, NotEarlyLimit}
 use Rattle.document_grammar.proofs.Shown.{cut-shown, before-shown, cut-from, text-before}
-use Rattle.parser_rules.specs.State.{Report, Lexeme, at_limit, token_limit_report, second, ignored}
+use Rattle.parser_rules.specs.State.{State, Report, Lexeme, at_limit, token_limit_report, ignored}
 use Rattle.parser_rules.specs.Messages.{is_limit}
-use Rattle.parser_rules.proofs.runs.Reading.{ignored-kinds}
+use Rattle.parser_rules.proofs.runs.Reading.{Reading, bad_text as bad_item, waits, shows, looks, ignored-kinds}
 use Rattle.parser_rules.proofs.reports.AlongItems.{item_of}
 use Rattle.parser_rules.proofs.reports.AtTheLimit.{found-other}
 use Rattle.parser_rules.proofs.reports.NoReport.{ends}
@@ -28,17 +28,12 @@ one-shown token.Comment text h = absurd cc
 one-shown token.Comma text h = absurd cc
 one-shown _ text h = refl
 
-second-there : (n : ℕ) (more : List Item) → 0 < length (shown (take n more)) → is_some (second (limited n more)) ≡ true
-unfolding second
-second-there zero more h = absurd (omega (arith, h))
-second-there (suc n) [] h = absurd (omega (arith, h))
-second-there (suc n) (item ∷ more) h = (elim item.kind as (λ found. item.kind ≡ found → is_some (second (limited (suc n) (item ∷ more))) ≡ true) [
-  | None ↦ λ e. rw e (second-there n more (rw e at h))
-  | Some k ↦ λ e. (elim (ignored k) as (λ found. ignored k ≡ found → is_some (second (limited (suc n) (item ∷ more))) ≡ true) [
-    | Some own ↦ λ i. rw (e, i) (second-there n more (rw (e, ignored-kinds (λ k own. shown_kind k item.text ≡ []) refl refl refl k own i) at h))
-    | None ↦ λ i. rw (e, i) refl
-  ]) refl
-]) refl
+second-there : (n : ℕ) (more : List Item) {s t : State} → Reading (limited n more) s t → 0 < length (shown (take n more)) → is_some t.current ≡ true
+second-there zero more r h = absurd (omega (arith, h))
+second-there (suc n) [] r h = absurd (omega (arith, h))
+second-there (suc n) (item ∷ more) (bad_item i r) h = second-there n more r (rw i at h)
+second-there (suc n) (item ∷ more) (waits {k = k} {own = own} i j r) h = second-there n more r (rw (i, ignored-kinds (λ k own. shown_kind k item.text ≡ []) refl refl refl k own j) at h)
+second-there (suc n) (item ∷ more) (shows i j) h = refl
 
 -- what the first k items show: no more than is before an item, of it, and behind it
 count-shown : (k : ℕ) (before : List Item) (item : Item) (more : List Item)
@@ -68,7 +63,9 @@ answered k place before t more cut now (v, e) = elim (either (is_end t.kind)) [
       let next = more-shown _ t more (cut-from place before (item_of t) more cut) i in
       let two = length-take 2 (shown (item_of t ∷ more)) in
       let all = ap length e ∙ length-append (shown before ++ take 2 (shown (item_of t ∷ more))) v in
-      inr (second-there (k - suc (length before)) more (omega (arith, one, own, next, two, all, count-shown k before (item_of t) more, length-append (shown before) (take 2 (shown (item_of t ∷ more)))))))
+      let few : 0 < length (shown (take (k - suc (length before)) more)) = omega (arith, one, own, next, two, all, count-shown k before (item_of t) more, length-append (shown before) (take 2 (shown (item_of t ∷ more)))) in
+      let l = looks (limited (k - suc (length before)) more) in
+      inr (subst (λ (o : Option Lexeme). is_some o ≡ true) l.3 (second-there (k - suc (length before)) more l.2 few)))
 ]
 
 -- ---- the clauses
