@@ -36,7 +36,7 @@ use Rattle.parser_rules.proofs.runs.Frame.{add_all-above, root-kept}
 use Rattle.parser_rules.proofs.runs.AtTheEnd.{EndNow, ends, read-ends}
 use Rattle.parser_rules.proofs.runs.Reading.{Reading, found, Shown, second-shown, reading}
 use Rattle.parser_rules.proofs.runs.Marked as marked
-use Rattle.parser_rules.proofs.runs.Marked.{Source, token, aside, Marked, append, erase, erase-append, flat, flat-append, set_aside, source_at, source_of, now_of, sources, moved_on}
+use Rattle.parser_rules.proofs.runs.Marked.{by-kind, Source, token, aside, Marked, append, erase, erase-append, flat, flat-append, set_aside, source_at, now_of, sources, moved_on}
 use Rattle.parser_rules.proofs.runs.Walk.{after_pending, always, Goes, Sound, walked_whole}
 use Rattle.parser_rules.proofs.runs.Reporting.{after-note, after-too-deep}
 use Rattle.parser_rules.proofs.reports.NoReport.{end-kind}
@@ -187,20 +187,15 @@ sound = record {
 
 -- ---- the whole
 
-leaf-item : (item : Item) (found : Option TokenKind) (l : PendingToken) → LeafOf (source_at item found) l → (l.text ≡ item.text) × IsLeafOf found l
-leaf-item item None l h = h
-leaf-item item (Some k) l h = (elim (ignored k) as (λ found. ignored k ≡ found → LeafOf (source_of item k found) l → (l.text ≡ item.text) × IsLeafOf (Some k) l) [
-  | None ↦ λ i h. h
-  | Some own ↦ λ i h. (h.0, subst (λ found. IsLeafOfToken k found l) (sym i) h.1)
-]) refl h
+leaf-item : (item : Item) (l : PendingToken) → LeafOf (source_at item item.kind) l → (l.text ≡ item.text) × IsLeafOf item.kind l
+leaf-item item l = by-kind (λ found o. LeafOf o l → (l.text ≡ item.text) × IsLeafOf found l) item (λ h. h) (λ k i h. h) (λ k own i h. (h.0, subst (λ found. IsLeafOfToken k found l) (sym i) h.1))
 
 abbrev ends_text : Source → Bool
 ends_text (token x) = is_end x.kind
 ends_text (aside p) = false
 
-end-item : (item : Item) (found : Option TokenKind) → ends_text (source_at item found) ≡ true → found ≡ Some token_kind.Eof
-end-item item None h = absurd cc
-end-item item (Some k) h = elim (ignored k) as (λ found. ends_text (source_of item k found) ≡ true → Some k ≡ Some token_kind.Eof) [ None ↦ λ h. ap Some (end-kind k h) | Some own ↦ λ h. absurd cc ] h
+end-item : (item : Item) → ends_text (source_at item item.kind) ≡ true → item.kind ≡ Some token_kind.Eof
+end-item item = by-kind (λ found o. ends_text o ≡ true → found ≡ Some token_kind.Eof) item (λ h. absurd cc) (λ k i h. ap Some (end-kind k h)) (λ k own i h. absurd cc)
 
 -- each item has a leaf, but for the end
 each-item : (xs : List Answer) {v : List Source} {ls : List PendingToken} (o : Option Lexeme) → is_over o ≡ true → LeavesOf v ls → v ++ now_of o ≡ sources xs → OneLeafAnItem xs ls
@@ -208,8 +203,8 @@ each-item [] o h no_more e = nothing
 each-item [] o h (one_more i l) e = absurd cc
 each-item (limit_at index ∷ xs) o h l e = the_limit (each-item xs o h l e)
 each-item (gives item ∷ xs) None h no_more e = absurd cc
-each-item (gives item ∷ xs) (Some x) h no_more e = the_end (end-item item item.kind (ap ends_text (sym (head-same e)) ∙ h)) (each-item xs None refl no_more (tail-same e))
-each-item (gives item ∷ xs) o h (one_more {l = l} i m) e = let f = leaf-item item item.kind l (subst (λ x. LeafOf x l) (head-same e) i) in one f.0 f.1 (each-item xs o h m (tail-same e))
+each-item (gives item ∷ xs) (Some x) h no_more e = the_end (end-item item (ap ends_text (sym (head-same e)) ∙ h)) (each-item xs None refl no_more (tail-same e))
+each-item (gives item ∷ xs) o h (one_more {l = l} i m) e = let f = leaf-item item l (subst (λ x. LeafOf x l) (head-same e) i) in one f.0 f.1 (each-item xs o h m (tail-same e))
 
 finished-leaves : (s : State) → IsRoot s.tree → leaves (finished s) ≡ leaves (add_all s.pending s.tree).here
 finished-leaves s h = let here = (add_all s.pending s.tree).here in ap (λ (above : List Open). leaves (close here above).here) (add_all-above s.pending s.tree ∙ h.2) ∙ append-nil (leaves here)

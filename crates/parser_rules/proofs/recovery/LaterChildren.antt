@@ -33,14 +33,14 @@ use Rattle.parser_rules.specs.Runs.{Runs, skip, does, seq, yes, no, done, again,
 use Rattle.parser_rules.proofs.runs.Frame.{parts_forest, read-untouched, root-kept, turned, begun-nesting}
 use Rattle.parser_rules.proofs.runs.Steps.{Holds_along, Keeps_reading, along-reading, along, turns-along}
 use Rattle.parser_rules.proofs.runs.Reading.{Reading, stops, cuts, bad_text, waits, shows, reading, ignored-kinds, ignored-leaf}
-use Rattle.parser_rules.proofs.runs.Marked.{Source, token, aside, text_of, Marked, none, append, erase, flat, set_aside, now_of, source_at, sources, to_come, read-to_come, reports-along, Grown, grown-none, grown-then, grown-note, reports-same}
+use Rattle.parser_rules.proofs.runs.Marked.{by-kind, Source, token, aside, text_of, Marked, none, append, erase, flat, set_aside, now_of, source_at, sources, to_come, read-to_come, reports-along, Grown, grown-none, grown-then, grown-note, reports-same}
 use Rattle.parser_rules.proofs.reports.Endings.{ends-well}
 use Rattle.parser_rules.proofs.reports.InOrder.{AllUpTo}
 use Rattle.parser_rules.proofs.reports.NoReport.{answers_tokens, all_tokens, current_tokens, kind_tokens, item_tokens, ignored-tokens}
 use Rattle.parser_rules.proofs.soundness.OverTexts.{words-cons}
 use Rattle.parser_rules.proofs.soundness.Soundness.{accepted, loops, Turn, from_now, turn-of}
 use Rattle.parser_rules.proofs.soundness.WithoutIgnored.{strip, all_ignored}
-use Rattle.parser_rules.proofs.recovery.LeftOver.{by-kind, source-text, bytes, text-bytes}
+use Rattle.parser_rules.proofs.recovery.LeftOver.{source-text, bytes, text-bytes}
 use Rattle.parser_rules.proofs.recovery.Recovers.{recovers, none-beyond}
 use Rattle.parser_rules.proofs.recovery.OneChild.{Kid, leaf_of, alone, turn-one, behind, added-behind, loop-alike, next-child}
 

@@ -1,5 +1,5 @@
 -- What holds of a tree with reports, in the words of the definitions: which children a node has, and where tokens that were left over stand.
-use Rattle.std.proofs.Common.{◌≡◌, ◌≢◌, ℕ, zero, suc, ◌+◌, ◌<◌, Bool, true, false, true≢false, ◌&&◌, ◌||◌, cond, eqb, eq-eqb, ne_eqb, List, [], ◌∷◌, ◌++◌, length, Option, Some, None, refl, sym, ap, ap₂, ◌∙◌, subst, arith, length-append}
+use Rattle.std.proofs.Common.{◌≡◌, ◌≢◌, ℕ, zero, suc, ◌+◌, ◌<◌, Bool, true, false, true≢false, ◌&&◌, ◌||◌, cond, eqb, eq-eqb, ne_eqb, List, [], ◌∷◌, ◌++◌, length, None, refl, sym, ap, ap₂, ◌∙◌, subst, arith, length-append}
 use Rattle.std.specs.Prelude.{⊤}
 use Rattle.std.proofs.lemmas.Bool.{and_right}
 use Rattle.lexical_grammar.specs.declared.TokenKind.{TokenKind}
@@ -22,14 +22,14 @@ use Rattle.document_grammar.specs.Recovery.{AllRowed, is_such, token_at, is_righ
 use Rattle.document_grammar.proofs.Booleans.{and-l, and-r, or-c, not-c}
 use Rattle.document_grammar.proofs.Shown.{index-at}
 use Rattle.parser_rules.specs.declared.message.Message.{Message}
-use Rattle.parser_rules.specs.State.{State, Lexeme, Report, fault_report, ignored, lexeme, is_at, same_kind, add_all}
+use Rattle.parser_rules.specs.State.{State, Lexeme, Report, fault_report, ignored, is_at, same_kind, add_all}
 use Rattle.parser_rules.proofs.reports.NoReport.{shown-kind}
 use Rattle.parser_rules.proofs.leaves.LeafCheck.{is_error}
 use Rattle.parser_rules.proofs.recovery.RecoveryCheck.{of_row, leaf_of_row}
 use Rattle.parser_rules.proofs.recovery.RowSymbols.{rows}
 use Rattle.parser_rules.proofs.recovery.Popped as popped_of
 use Rattle.parser_rules.proofs.recovery.Popped.{lexeme_of, popped, pops_of, Reported_at, Allowed, Recovers, Recovery}
-use Rattle.parser_rules.proofs.runs.Marked.{Has, Source, token, aside, text_of, Marked, none, leaf, node, erase, flat, now_of, sources, source_at, source_of}
+use Rattle.parser_rules.proofs.runs.Marked.{by-kind, Has, Source, token, aside, text_of, Marked, none, leaf, node, erase, flat, now_of, sources, source_at}
 use Rattle.parser_rules.proofs.runs.Reading.{ignored-kinds}
 
 -- ---- the symbols of rows
@@ -59,15 +59,6 @@ module _ (kinds : TokenKind → Bool) where
       rw (eq-eqb item.index place (omega (arith, i)), none-behind place item more cut) (elim (is_such kinds item.kind) as (λ b. true && b || false ≡ b) [ true ↦ refl | false ↦ refl ])
 
 -- ---- the sources of leaves
-
--- what is said of an item and what its leaf is made of, by the item's kind
-pub by-kind : (P : Option TokenKind → Source → Type 0) (item : Item) → P None (aside (record { kind = kind.ERROR; text = item.text })) → ((k : TokenKind) → ignored k ≡ None → P (Some k) (token (lexeme k item)))
-    → ((k : TokenKind) (own : SyntaxKind) → ignored k ≡ Some own → P (Some k) (aside (record { kind = own; text = item.text }))) → P item.kind (source_at item item.kind)
-by-kind P item bad shows waits = at item.kind
-  where
-    at : (found : Option TokenKind) → P found (source_at item found)
-    at None = bad
-    at (Some k) = (elim (ignored k) as (λ o. ignored k ≡ o → P (Some k) (source_of item k o)) [ None ↦ shows k | Some own ↦ waits k own ]) refl
 
 pub source-text : (item : Item) → text_of (source_at item item.kind) ≡ item.text
 source-text item = by-kind (λ found o. text_of o ≡ item.text) item refl (λ k i. refl) (λ k own i. refl)

@@ -85,6 +85,15 @@ abbrev pub source_at : Item → Option TokenKind → Source
 source_at item None = aside (record { kind = kind.ERROR; text = item.text })
 source_at item (Some k) = source_of item k (ignored k)
 
+-- what is said of an item and what its leaf is made of, by the item's kind
+pub by-kind : (P : Option TokenKind → Source → Type 0) (item : Item) → P None (aside (record { kind = kind.ERROR; text = item.text })) → ((k : TokenKind) → ignored k ≡ None → P (Some k) (token (lexeme k item)))
+    → ((k : TokenKind) (own : SyntaxKind) → ignored k ≡ Some own → P (Some k) (aside (record { kind = own; text = item.text }))) → P item.kind (source_at item item.kind)
+by-kind P item of_bad of_token of_ignored = at item.kind
+  where
+    at : (found : Option TokenKind) → P found (source_at item found)
+    at None = of_bad
+    at (Some k) = (elim (ignored k) as (λ o. ignored k ≡ o → P (Some k) (source_of item k o)) [ None ↦ of_token k | Some own ↦ of_ignored k own ]) refl
+
 -- what the answers are: the significant tokens, and what is between
 abbrev pub sources : List Answer → List Source
 sources [] = []
