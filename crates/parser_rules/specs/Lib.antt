@@ -4,5 +4,6 @@ pub mod Nodes
 pub mod RuleLanguage
 pub mod Rules
 pub mod Runs
+pub mod Fragments
 pub mod Open
 pub mod Reports

@@ -36,8 +36,8 @@ use Rattle.parser_rules.proofs.runs.Frame.{add_all-above, root-kept}
 use Rattle.parser_rules.proofs.runs.AtTheEnd.{EndNow, ends, read-ends}
 use Rattle.parser_rules.proofs.runs.Reading.{Reading, found, Shown, second-shown, reading}
 use Rattle.parser_rules.proofs.runs.Marked as marked
-use Rattle.parser_rules.proofs.runs.Marked.{by-kind, Source, token, aside, Marked, append, erase, erase-append, flat, flat-append, set_aside, source_at, now_of, sources, moved_on}
-use Rattle.parser_rules.proofs.runs.Walk.{after_pending, always, Goes, Sound, walked_whole}
+use Rattle.parser_rules.proofs.runs.Marked.{by-kind, Source, token, aside, Marked, append, erase, erase-append, flat, flat-append, set_aside, source_at, now_of, sources, moved_on, to_come, first-part}
+use Rattle.parser_rules.proofs.runs.Walk.{after_pending, always, Goes, Sound, walked_whole, walk, walked_root}
 use Rattle.parser_rules.proofs.runs.Reporting.{after-note, after-too-deep}
 use Rattle.parser_rules.proofs.reports.NoReport.{end-kind}
 use Rattle.parser_rules.proofs.lookahead.TokenSets.{absent, over, class_of, of-any, Seen, seen-any, seen-more, edges, flip}
@@ -271,3 +271,40 @@ joined-answers (the_limit {answers = xs} h) are = joined-answers h (subst AreAns
 -- where each item is a leaf, the text is that of the items
 pub leaves-text : (f : Forest) {xs : List Answer} → OneLeafAnItem xs (leaves f) → AreAnswers xs → text f ≡ answers_text xs
 leaves-text f h are = text-leaves f ∙ joined-answers h are
+
+-- ---- the first of the items
+
+-- the leaves are one for one the first items
+pub record FirstLeaves (xs : List Answer) (ls : List PendingToken) : Type 0 where
+  pub front : List Answer
+  pub back : List Answer
+  pub split : xs ≡ front ++ back
+  pub leaves : OneLeafAnItem front ls
+  pub text : joined ls ≡ answers_text front
+
+first-leaves : (xs : List Answer) {v : List Source} (w : List Source) {ls : List PendingToken} → LeavesOf v ls → v ++ w ≡ sources xs → FirstLeaves xs ls
+first-leaves xs w no_more e = record { front = []; back = xs; split = refl; leaves = nothing; text = refl }
+first-leaves [] w (one_more i m) e = absurd cc
+first-leaves (limit_at index ∷ xs) w (one_more i m) e =
+    let f = first-leaves xs w (one_more i m) e in
+    record { front = limit_at index ∷ f.front; back = f.back; split = ap (λ (l : List Answer). limit_at index ∷ l) f.split; leaves = the_limit f.leaves; text = f.text }
+first-leaves (gives item ∷ xs) w (one_more {l = l} {ls = ls} i m) e =
+    let f = first-leaves xs w m (tail-same e) in
+    let o = leaf-item item l (subst (λ x. LeafOf x l) (head-same e) i) in
+    record {
+      front = gives item ∷ f.front;
+      back = f.back;
+      split = ap (λ (l : List Answer). gives item ∷ l) f.split;
+      leaves = one o.0 o.1 f.leaves;
+      text = ap₂ (λ (a b : Text). a ++ b) o.0 f.text;
+    }
+
+-- the leaves of a root that was not left are one for one the first items
+pub root-leaves : {q : Rule} {t : State} (items : List Answer) (limit : ℕ) (k : SyntaxKind) → walk leaf_check 5 q anything always ≡ true → Runs q (flush (begun items limit k)) t → FirstLeaves items (leaves t.tree.here)
+unfolding flush
+root-leaves {t = t} items limit k c run =
+    let b : State = begun items limit k in
+    let shown = (found (reading items (fresh items limit k))).shown in
+    let (f, a, e, h, g) = walked_root leaf_check Held sound items limit k anything always run c (record { shown = shown; seen = seen-any (flush b) shown; fits = no_more }) in
+    let p = first-part items limit k t (append (set_aside b.pending) f) g in
+    subst (λ (x : Forest). FirstLeaves items (leaves x)) p.tree (first-leaves items (to_come t) (fit-append (set_aside b.pending) f (fit-aside b.pending) h.fits) p.order)

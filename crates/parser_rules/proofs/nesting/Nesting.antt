@@ -1,5 +1,5 @@
 -- The greatest depth that was asked for covers what every tree nests, whatever is reported.
-use Rattle.std.proofs.Common.{◌≡◌, ℕ, suc, ◌+◌, ◌≤◌, max, min, Bool, true, List, [], ◌∷◌, Some, refl, sym, ap, ◌∙◌, eqb-true, leb-true, arith}
+use Rattle.std.proofs.Common.{◌≡◌, ℕ, suc, ◌+◌, ◌≤◌, max, min, Bool, true, List, [], ◌∷◌, Some, refl, sym, ap, ◌∙◌, eqb, leb, eqb-true, leb-true, arith}
 use Rattle.lexical_grammar.specs.Answers.{Answer, usize_max}
 use Rattle.document_grammar.specs.declared.kind.SyntaxKind.{SyntaxKind}
 use Rattle.document_grammar.specs.declared.kind.SyntaxKind.TheVariants as kind
@@ -16,13 +16,13 @@ use Rattle.document_grammar.proofs.Booleans.{false-true, and-l, and-r}
 use Rattle.parser_rules.specs.State.{State, PendingToken, add_all, flush, opened, closed, wrapped_from, moved, enter, leave, fresh, begun, finished}
 use Rattle.document_grammar.proofs.Nested.{uncounted, is_bare, weight, weight-none, inner, inner-join, inner-none, inner-leaf, inner-node, inner-same, inner-count}
 use Rattle.parser_rules.specs.Nodes.{Document, kind_of}
-use Rattle.parser_rules.specs.RuleLanguage.{Call}
+use Rattle.parser_rules.specs.RuleLanguage.{Rule, Call}
 use Rattle.parser_rules.specs.Runs.{Runs}
 use Rattle.parser_rules.proofs.runs.Frame.{read-untouched, add_all-above, root-stays}
 use Rattle.parser_rules.proofs.runs.Reading.{Reading, reading, all_kinds, reading-waits}
 use Rattle.parser_rules.proofs.runs.Marked as marked
-use Rattle.parser_rules.proofs.runs.Marked.{Marked, append, token, erase, erase-append, set_aside, moved_on}
-use Rattle.parser_rules.proofs.runs.Walk.{after_pending, Sound, walked_whole}
+use Rattle.parser_rules.proofs.runs.Marked.{Marked, append, token, erase, erase-append, set_aside, moved_on, first-part}
+use Rattle.parser_rules.proofs.runs.Walk.{after_pending, Sound, walk, walked_whole, walked_root}
 use Rattle.parser_rules.proofs.runs.Reporting.{after-note, after-too-deep}
 use Rattle.parser_rules.proofs.soundness.TableCheck.{own}
 use Rattle.parser_rules.proofs.nesting.LevelCheck.{Depth, at_first, level_check}
@@ -193,3 +193,29 @@ nesting items limit s run c =
     let y = eqb-true _ _ (and-r _ _ (and-r _ _ e)) in
     let p = h.peak in let q = h.depth in let z = h.deep in let u = no-weight.0 in
     omega (arith, n, m, l, t, j, o, k, x, y, p, q, z, u, c, d)
+
+-- the same of a root of another kind, where what waits at the end is left out
+pub root-nesting : {q : Rule} (items : List Answer) (limit : ℕ) (k : SyntaxKind) (s : State) → eqb (weight DOCUMENT (number k)) (own (number k)) and leb (own (number k)) 1 ≡ true → walk level_check 5 q (at_first (number k)) (level_check.ends k) ≡ true
+    → Runs q (flush (begun items limit k)) s → count (built.node k s.tree.here built.none) ≤ usize_max → nest (tree_of (built.node k s.tree.here built.none)) ≤ s.high
+unfolding level_check flush
+root-nesting items limit k s heavy check run c =
+    let b : State = begun items limit k in
+    let waits = read-waits (reading items (fresh items limit k)) refl in
+    let still = read-untouched items (fresh items limit k) in
+    let d = still.depth in
+    let first = inner-none (number k) in
+    let (f, a, e, h, g) = walked_root level_check Held sound items limit k (at_first (number k)) _ run check
+    (record { depth = omega arith; deep = omega (arith, d); higher = omega arith; peak = omega (arith, first); waits = refl }) in
+    let here : Forest = s.tree.here in
+    let n = one-node k here in
+    let m : inner (number k) here ≤ count here = inner-count (number k) here in
+    let t = ap (inner (number k)) (sym (first-part items limit k s (append (set_aside b.pending) f) g).tree ∙ erase-append (set_aside b.pending) f) in
+    let j = inner-join (number k) (erase (set_aside b.pending)) (erase f) in
+    let o = inner-aside (number k) b.pending waits in
+    let i = ap (λ (n : ℕ). inner n (erase f)) (eqb-true _ _ (and-l _ _ (and-l _ _ e))) in
+    let v = eqb-true _ _ (and-r _ _ (and-l _ _ e)) in
+    let x = eqb-true _ _ (and-l _ _ (and-r _ _ e)) in
+    let y = eqb-true _ _ (and-r _ _ (and-r _ _ e)) in
+    let p = h.peak in let q = h.depth in let z = h.deep in
+    let u = eqb-true _ _ (and-l _ _ heavy) in let w = leb-true _ _ (and-r _ _ heavy) in
+    omega (arith, n, m, t, j, o, i, v, x, y, p, q, z, u, w, c, d)

@@ -51,7 +51,7 @@ read-onward {s = s} (shows {item = item} {k = k} {xs = xs} i j) e =
 
 -- ---- along a run
 
-abbrev Tells : State → State → Type 0
+abbrev pub Tells : State → State → Type 0
 Tells s t = Shown s.current → Onward s.accepts (ahead s) s.errors t
 
 tells-on : (s t u : State) → Tells s t → Tells t u → Tells s u
@@ -65,7 +65,7 @@ tells-on s t u h k i =
       shown = g.shown;
     }
 
-tells-along : Holds_along Tells
+pub tells-along : Holds_along Tells
 unfolding flush closed enter leave wrapped_from
 tells-along = record {
   same = stands;
@@ -82,7 +82,7 @@ tells-along = record {
 }
 
 -- the reports so far, from the first answer on
-so_far : (items : List Answer) (limit : ℕ) (k : SyntaxKind) (s : State) → Tells (begun items limit k) s → Onward true items [] s
+pub so_far : (items : List Answer) (limit : ℕ) (k : SyntaxKind) (s : State) → Tells (begun items limit k) s → Onward true items [] s
 so_far items limit k s h = tells-on (fresh items limit k) (begun items limit k) s (λ i. read-onward (reading items (fresh items limit k)) refl) h tt
 
 -- where all is read, the reports are those of the answers

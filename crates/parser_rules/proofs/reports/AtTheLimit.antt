@@ -15,7 +15,7 @@ use Rattle.parser_rules.proofs.runs.Reading.{Reading, stops, cuts, bad_text, wai
 use Rattle.parser_rules.proofs.runs.Frame.{read-untouched, begun-nesting}
 
 -- the recursion limit is reported
-abbrev IsLimited : State → Type 0
+abbrev pub IsLimited : State → Type 0
 IsLimited s = list_any is_recursion_limit s.errors ≡ true
 
 -- another report does not change that
@@ -38,12 +38,12 @@ read-limited (waits e i r) h = read-limited r h
 read-limited (shows e i) h = h
 
 -- where it is reported, more than the limit was asked for
-abbrev Told : State → Type 0
+abbrev pub Told : State → Type 0
 Told s = IsLimited s → PastLimit s
 
-tells-along : Holds_along (λ s t. Told s → Told t)
+pub limits-along : Holds_along (λ s t. Told s → Told t)
 unfolding flush closed enter leave wrapped_from
-tells-along = record {
+limits-along = record {
   same = λ s h. h;
   next = λ s t u h k e. k (h e);
   flushes = λ s h. h;
@@ -58,8 +58,10 @@ tells-along = record {
 }
 
 -- the limit is one below the greatest depth that was asked for, where it is reported
-pub asked-past : {r : Rule} {t : State} (items : List Answer) (limit : ℕ) (k : SyntaxKind) → Runs r (begun items limit k) t → list_any is_recursion_limit t.errors ≡ true → min (limit + 1) usize_max ≤ t.high
-asked-past {t = t} items limit k run h =
-    let l = (begun-nesting items limit k run).1 in
-    let p = along tells-along run (λ i. absurd (true≢false (sym (read-limited (reading items (fresh items limit k)) i)))) h in
+pub asked-since : (items : List Answer) (limit : ℕ) (k : SyntaxKind) (t : State) → t.limit ≡ limit → (Told (begun items limit k) → Told t) → list_any is_recursion_limit t.errors ≡ true → min (limit + 1) usize_max ≤ t.high
+asked-since items limit k t l told h =
+    let p = told (λ i. absurd (true≢false (sym (read-limited (reading items (fresh items limit k)) i)))) h in
     omega (arith, l, p)
+
+pub asked-past : {r : Rule} {t : State} (items : List Answer) (limit : ℕ) (k : SyntaxKind) → Runs r (begun items limit k) t → list_any is_recursion_limit t.errors ≡ true → min (limit + 1) usize_max ≤ t.high
+asked-past {t = t} items limit k run = asked-since items limit k t (begun-nesting items limit k run).1 (along limits-along run)

@@ -1,5 +1,5 @@
 -- Reports come in the order of the text.
-use Rattle.std.proofs.Common.{◌≡◌, ℕ, zero, suc, Bool, ◌+◌, ◌-◌, ◌≤◌, List, [], ◌∷◌, ◌++◌, length, map, Option, Some, None, get_or, sym, ap, subst, arith}
+use Rattle.std.proofs.Common.{◌≡◌, ℕ, zero, suc, Bool, ◌+◌, ◌-◌, ◌≤◌, List, [], ◌∷◌, ◌++◌, length, map, Option, Some, None, get_or, sym, ap, subst, append-nil, arith}
 use Rattle.std.specs.Prelude.{⊤}
 use Rattle.std.specs.List.{All, AllAdjacentBelow}
 use Rattle.std.specs.List.Sorted.{IsNonDecreasing}
@@ -74,9 +74,17 @@ adjacent low (m ∷ n ∷ ns) rise (suc k) d h =
     let next : suc (k + 1) ≡ suc k + 1 = omega arith in
     subst (λ j. get_or (n ∷ ns) k d ≤ get_or (m ∷ n ∷ ns) j d) next (adjacent m (n ∷ ns) rise.1 k d (omega arith))
 
+front-rises : (low : ℕ) (es later : List Report) → Rises low (indices (es ++ later)) → Rises low (indices es)
+front-rises low [] later h = tt
+front-rises low (e ∷ es) later h = (h.0, front-rises e.index es later h.1)
+
+-- also the first of them
+pub in-order-front : {taken : Bool} (k : ℕ) (source : List ℕ) (items : List Item) (es later : List Report) → Cut source items → Reported taken (limited k items) (es ++ later) → IsNonDecreasing (map (λ (r : Report). r.index) es)
+in-order-front k source items es later cut h =
+    IsNonDecreasingBy-from_all_adjacent (λ (n : ℕ). n) (indices es) (adjacent 0 (indices es) (front-rises 0 es later (reports-rise 0 h (cut-rises k 0 0 items (omega arith) cut.each))))
+
 pub in-order : {taken : Bool} {reports : List Report} (k : ℕ) (source : List ℕ) (items : List Item) → Cut source items → Reported taken (limited k items) reports → IsNonDecreasing (map (λ (r : Report). r.index) reports)
-in-order {reports = reports} k source items cut h =
-    IsNonDecreasingBy-from_all_adjacent (λ (n : ℕ). n) (indices reports) (adjacent 0 (indices reports) (reports-rise 0 h (cut-rises k 0 0 items (omega arith) cut.each)))
+in-order {taken = taken} {reports = reports} k source items cut h = in-order-front k source items reports [] cut (subst (Reported taken (limited k items)) (sym (append-nil reports)) h)
 
 -- reports up to a place
 abbrev pub AllUpTo : ℕ → List Report → Type 0

@@ -10,14 +10,14 @@ use Rattle.document_grammar.specs.declared.kind.SyntaxKind.TheVariants as kind
 use Rattle.document_grammar.specs.Booleans.{◌or◌}
 use Rattle.document_grammar.proofs.Booleans.{either, false-true, and-l, and-r, or-c, not-c, not-some, implies}
 use Rattle.parser_rules.specs.declared.message.Message.{Message}
-use Rattle.parser_rules.specs.State.{State, Lexeme, recursion_limit_report, read_on, flush, opened, closed, wrapped_from, moved, note, is_deep, enter, leave, deepened, limited_at, too_deep, is_over, same_kind, begun, fresh}
+use Rattle.parser_rules.specs.State.{State, Lexeme, Report, recursion_limit_report, read_on, flush, opened, closed, wrapped_from, moved, note, is_deep, enter, leave, deepened, limited_at, too_deep, is_over, same_kind, begun, fresh}
 use Rattle.parser_rules.specs.Nodes.{Node, kind_of, Document}
-use Rattle.parser_rules.specs.RuleLanguage.{TokenTest, Kind, Keyword, Or, fits, Test, Here, Ready, Both, holds, Call}
+use Rattle.parser_rules.specs.RuleLanguage.{TokenTest, Kind, Keyword, Or, fits, Test, Here, Ready, Both, holds, Rule, Call}
 use Rattle.parser_rules.specs.Runs.{Runs}
 use Rattle.parser_rules.proofs.runs.Reading.{reading, found}
 use Rattle.parser_rules.proofs.runs.Marked as marked
-use Rattle.parser_rules.proofs.runs.Marked.{Marked, append, Limited, Reports, taken-or-limited, moved_on}
-use Rattle.parser_rules.proofs.runs.Walk.{after_pending, always, Sound, walked_whole}
+use Rattle.parser_rules.proofs.runs.Marked.{Marked, append, Limited, Reports, taken-or-limited, moved_on, Has, reports-then, read-reports}
+use Rattle.parser_rules.proofs.runs.Walk.{after_pending, always, Sound, walked_whole, walk, walked_root}
 use Rattle.parser_rules.proofs.runs.Frame.{read-untouched}
 use Rattle.parser_rules.proofs.runs.Reporting.{after-note}
 use Rattle.parser_rules.proofs.reports.NoReport.{choose, EndsWell, Stood, reading-stood, stands-along}
@@ -189,6 +189,33 @@ limit-reported r xs s en run more =
     let none-asked : b.high ≡ 0 = (read-untouched xs o).high in
     let (f, a, e, h, g, w) = walked_whole limit_check Held sound xs r kind.DOCUMENT unknown always run document_passes.limits (record { stood = reading-stood (reading xs o) en; bounded = λ y. omega (arith, none-asked); token = λ y. refl }) in
     elim (taken-or-limited xs r kind.DOCUMENT s g.reports) [ inl y ↦ absurd (over (h.bounded y)) | inr l ↦ l ]
+  where
+    over : s.high ≤ s.limit → ⊥
+    over i = omega (arith, i, more)
+
+-- the first token is there, or the token limit is met before it
+first-known : (r : ℕ) (xs : List Answer) (k : SyntaxKind) → EndsWell xs → (begun xs r k).accepts ≡ true → known present (begun xs r k).current ≡ true
+first-known r xs k en y =
+    let o : State = fresh xs r k in
+    there (begun xs r k).current (λ e. cut-off (reading xs o) en (sym (found (reading xs o)).next ∙ e) y)
+  where
+    there : (o : Option Lexeme) → (o ≡ None → ⊥) → is_some o ≡ true
+    there None h = absurd (h refl)
+    there (Some t) h = refl
+
+-- the same of a root of another kind
+pub root-limited : {q : Rule} (r : ℕ) (xs : List Answer) (k : SyntaxKind) (s : State) → EndsWell xs → walk limit_check 5 q present always ≡ true → Runs q (flush (begun xs r k)) s → s.limit < s.high → Limited s.errors
+unfolding flush
+root-limited r xs k s en check run more =
+    let o : State = fresh xs r k in
+    let b : State = begun xs r k in
+    let none-asked : b.high ≡ 0 = (read-untouched xs o).high in
+    let (f, a, e, h, g) = walked_root limit_check Held sound xs r k present always run check (record { stood = reading-stood (reading xs o) en; bounded = λ y. omega (arith, none-asked); token = first-known r xs k en }) in
+    let p = reports-then o b s (read-reports (reading xs o)) g.reports in
+    elim (either s.accepts) [
+      | inl y ↦ absurd (over (h.bounded y))
+      | inr y ↦ (let l = p.limited refl y in (l.0, l.1, subst (λ (z : List Report). Has z l.0) (sym p.errors) l.2))
+    ]
   where
     over : s.high ≤ s.limit → ⊥
     over i = omega (arith, i, more)

@@ -116,7 +116,7 @@ levels s u q h = record {
   bound = λ d c. let n = not-deep s q in h.bound (omega arith) (omega arith);
 }
 
-abbrev keeps_along : Holds_along Keeps
+pub keeps_along : Holds_along Keeps
 unfolding left flush closed wrapped_from
 keeps_along = record {
   same = same;
@@ -163,7 +163,7 @@ add_all-above parts b = (added-all parts b).above
 pub added-read : (k : SyntaxKind) (x : Text) (s : State) → Added (built.leaf k x built.none) s.tree (read_on s.items (record s { tree = add_leaf k x s.tree })).tree
 added-read k x s = subst (Added (built.leaf k x built.none) s.tree) (sym (read-untouched s.items (record s { tree = add_leaf k x s.tree })).tree) (added-leaf k x s.tree)
 
-abbrev adds_along : Holds_along Adds
+abbrev pub adds_along : Holds_along Adds
 unfolding flush enter leave closed wrapped_from
 adds_along = record {
   same = λ s. record { more = built.none; trees = added-none s.tree };
@@ -244,7 +244,7 @@ ended h q = onto h (done q)
 
 -- ---- the root
 
-root-open : (items : List Answer) (limit : ℕ) (k : SyntaxKind) → (begun items limit k).tree ≡ start k nothing
+pub root-open : (items : List Answer) (limit : ℕ) (k : SyntaxKind) → (begun items limit k).tree ≡ start k nothing
 root-open items limit k = (read-untouched items (fresh items limit k)).tree
 
 -- the root is open to the end, and no other node
@@ -255,15 +255,17 @@ pub root-kept : {r : Rule} {t : State} (items : List Answer) (limit : ℕ) (k : 
 root-kept items limit k free h = (k, free, root-stays items limit k h)
 
 -- the nesting is taken back, the limit is the one that was set, and at most one level more than it was asked for
-pub begun-nesting : {r : Rule} {t : State} (items : List Answer) (limit : ℕ) (k : SyntaxKind) → Runs r (begun items limit k) t → (t.depth ≡ 0) × (t.limit ≡ limit) × (t.high ≤ limit + 1)
-begun-nesting items limit k h =
+pub kept-nesting : (items : List Answer) (limit : ℕ) (k : SyntaxKind) (t : State) → Keeps (begun items limit k) t → (t.depth ≡ 0) × (t.limit ≡ limit) × (t.high ≤ limit + 1)
+kept-nesting items limit k t n =
     let b = read-untouched items (fresh items limit k) in
-    let n = keeps h in
     let d = b.depth in
     let l = b.limit in
     let g = b.high in
     let bound = n.bound (omega (arith, d, l)) (omega (arith, g, l)) in
     (n.depth ∙ d, n.limit ∙ l, omega (arith, bound, l))
+
+pub begun-nesting : {r : Rule} {t : State} (items : List Answer) (limit : ℕ) (k : SyntaxKind) → Runs r (begun items limit k) t → (t.depth ≡ 0) × (t.limit ≡ limit) × (t.high ≤ limit + 1)
+begun-nesting {t = t} items limit k h = kept-nesting items limit k t (keeps h)
 
 pub begun-asked : {r : Rule} {t : State} (items : List Answer) (limit : ℕ) (k : SyntaxKind) → Runs r (begun items limit k) t → t.asked ≡ length items
 begun-asked items limit k h = (keeps h).asked ∙ (read-untouched items (fresh items limit k)).asked

@@ -255,3 +255,14 @@ whole xs r k s f h =
       tree = sym (g.trees.here ∙ ap (λ (t : Building). built.join t.here (erase (append f (set_aside s.pending)))) (read-untouched xs (fresh xs r k)).tree);
       order = g.order ∙ read-to_come (reading xs (fresh xs r k)) refl;
     }
+
+-- the same, where the text before the first token is in the root and what waits at the end is left out
+pub record FirstPart (xs : List Answer) (s : State) (f : Marked) : Type 0 where
+  pub tree : erase f ≡ s.tree.here
+  pub order : flat f ++ to_come s ≡ sources xs
+
+pub first-part : (xs : List Answer) (r : ℕ) (k : SyntaxKind) (s : State) (f : Marked) → Grown (begun xs r k) s f → FirstPart xs s f
+first-part xs r k s f h = record {
+  tree = sym (h.trees.here ∙ ap (λ (t : Building). built.join t.here (erase f)) (read-untouched xs (fresh xs r k)).tree);
+  order = h.order ∙ read-to_come (reading xs (fresh xs r k)) refl;
+}

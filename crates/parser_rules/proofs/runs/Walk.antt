@@ -215,3 +215,11 @@ module _ {K : Type 0} (d : Domain K) (Held : K → State → State → Marked �
     pub walked_whole : {q : Rule} {s : State} (xs : List Answer) (l : ℕ) (j : SyntaxKind) (a : K) (k : K → Bool) → Runs q (begun xs l j) s → walk d 5 q a k ≡ true → Held a (begun xs l j) (begun xs l j) none
         → (f : Marked) × (c : K) × (k c ≡ true) × Held c (begun xs l j) s f × Grown (begun xs l j) s f × Whole xs s (append f (set_aside s.pending))
     walked_whole {s = s} xs l j a k run h i = let b : State = begun xs l j in let m = walked run 5 a k b none h (grown-none b) i in (m.0, m.2.0, m.2.1, m.2.2, m.1, whole xs l j s m.0 m.1)
+
+    -- a part of a text: what comes before the first token is in the root
+    pub walked_root : {q : Rule} {s : State} (xs : List Answer) (l : ℕ) (j : SyntaxKind) (a : K) (k : K → Bool) → Runs q (flush (begun xs l j)) s → walk d 5 q a k ≡ true → Held a (flush (begun xs l j)) (flush (begun xs l j)) none
+        → (f : Marked) × (c : K) × (k c ≡ true) × Held c (flush (begun xs l j)) s f × Grown (begun xs l j) s (append (set_aside (begun xs l j).pending) f)
+    walked_root {s = s} xs l j a k run h i =
+        let b : State = begun xs l j in
+        let m = walked run 5 a k (flush b) none h (grown-none (flush b)) i in
+        (m.0, m.2.0, m.2.1, m.2.2, grown-then b (flush b) s (set_aside b.pending) m.0 (grown-flush b) m.1)

@@ -1,0 +1,3 @@
+pub mod RootChecks
+pub mod FrontReports
+pub mod RootRuns
