@@ -4,3 +4,4 @@
 mod grammar;
 
 pub use grammar::document::document;
+pub use grammar::selection::field_set;

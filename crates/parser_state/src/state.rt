@@ -7,7 +7,7 @@ mod reading;
 mod reporting;
 mod tokens;
 
-ghost use Rattle.std.specs.Prelude.{◌≡◌, ◌<◌, ◌^◌, true, [], length, take, map, IfOk};
+ghost use Rattle.std.specs.Prelude.{◌≡◌, ◌≤◌, ◌<◌, ◌^◌, true, [], length, take, map, IfOk};
 ghost use Rattle.std.specs.List.{AllZip};
 ghost use Rattle.lexical_grammar.specs.declared.TokenKind.TheVariants as token;
 ghost use Rattle.document_grammar.specs.Forests.{count, none, text};
@@ -121,6 +121,7 @@ impl<'i, A: Allocator + Copy> ParserState<'i, A> {
         ensures counted { IfOk result (λ t. count t.tree < 2 ^ 64) }
         ensures errors { IfOk result (λ t. AllZip IsErrorOf self.entry.errors t.errors.items) }
         ensures recursion_limit { IfOk result (λ t. t.recursion_limit ≡ record { current = self.entry.depth; high = self.entry.high; limit = self.entry.limit }) }
+        ensures allowed { IfOk result (λ t. (t.token_limit.current ≡ 0) × (t.token_limit.limit ≡ token_limit) × (t.token_limit.high ≤ self.entry.asked)) }
         ensures token_limit { self.entry.items ≡ [] → IfOk result (λ t. t.token_limit ≡ record { current = 0; high = self.entry.asked; limit = token_limit }) }
     {
         let ParserState {

@@ -5,8 +5,9 @@ ghost use Rattle.std.specs.Prelude.{◌≡◌, true, OnOk};
 ghost use Rattle.lexical_grammar.specs.declared.TokenKind.TheVariants as token;
 ghost use Rattle.parser_rules.specs.Nodes as rule;
 ghost use Rattle.parser_rules.specs.Rules as rules;
+ghost use Rattle.parser_rules.specs.Fragments as fragments;
 ghost use Rattle.parser_rules.specs.declared.message.Message.TheVariants as message;
-ghost use Rattle.parser_rules.specs.RuleLanguage.{fits, Here, At, holds, want, Child, Call};
+ghost use Rattle.parser_rules.specs.RuleLanguage.{fits, Here, At, holds, want, Child, Call, Nested, Skip};
 ghost use Rattle.parser_rules.specs.Runs.{Runs};
 ghost use Rattle.parser_state.specs.View.{current_of};
 
@@ -26,11 +27,20 @@ pub fn selection_set<A: Allocator + Copy>(p: &mut ParserState<'_, A>) -> Result<
     ensures { OnOk result (Runs (Child rule.SelectionSet) p.old p.new) }
 {
     p.start_node(SyntaxKind::SELECTION_SET)?;
+    braced(p)?;
+    p.finish_node();
+    Ok(())
+}
+
+// What is in a selection set, its braces too.
+#[cycle(selection)]
+fn braced<A: Allocator + Copy>(p: &mut ParserState<'_, A>) -> Result<(), AllocError>
+    requires { true ≡ holds (At token.LCurly) p.old }
+    ensures { OnOk result (Runs (rules.inside rule.SelectionSet) p.old p.new) }
+{
     p.bump(SyntaxKind::L_CURLY)?;
     if p.is_too_deep() {
-        p.too_deep()?;
-        p.finish_node();
-        return Ok(());
+        return p.too_deep();
     }
     p.enter();
     selections(p)?;
@@ -39,9 +49,30 @@ pub fn selection_set<A: Allocator + Copy>(p: &mut ParserState<'_, A>) -> Result<
         TokenKind::RCurly,
         SyntaxKind::R_CURLY,
         Message::ExpectedRCurly,
-    )?;
-    p.finish_node();
+    )
+}
+
+// The selections of a root that has no braces.
+fn unbraced<A: Allocator + Copy>(p: &mut ParserState<'_, A>) -> Result<(), AllocError>
+    ensures { OnOk result (Runs (Nested (Call rule.Selections) Skip) p.old p.new) }
+{
+    if p.is_too_deep() {
+        return p.too_deep();
+    }
+    p.enter();
+    selections(p)?;
+    p.leave();
     Ok(())
+}
+
+/// The root of a selection set that is parsed by itself, with or without its braces.
+pub fn field_set<A: Allocator + Copy>(p: &mut ParserState<'_, A>) -> Result<(), AllocError>
+    ensures { OnOk result (Runs fragments.selections_root p.old p.new) }
+{
+    if p.at(TokenKind::LCurly) {
+        return braced(p);
+    }
+    unbraced(p)
 }
 
 // The selections of a set, one at least.

@@ -13,6 +13,7 @@ ghost use Rattle.parser_rules.specs.RuleLanguage.{Here, At, holds, Bump, Do, Chi
 ghost use Rattle.parser_rules.specs.Runs.{Runs};
 ghost use Rattle.parser_rules.specs.Open.{IsOpen, IsMark};
 ghost use Rattle.parser_rules.specs.Rules as rules;
+ghost use Rattle.parser_rules.specs.Fragments as fragments;
 ghost use Rattle.parser_state.specs.Reading as reading;
 ghost use Rattle.parser_state.specs.View.{pending_of};
 
@@ -34,13 +35,20 @@ pub(super) fn push_all<A: Allocator + Copy>(
 }
 
 impl<'i, A: Allocator + Copy> ParserState<'i, A> {
-    // What waits goes into the tree.
-    pub(super) fn push_pending(&mut self) -> Result<(), AllocError>
+    /// What waits goes into the tree.
+    pub fn push_pending(&mut self) -> Result<(), AllocError>
         ensures { OnOk result (self.new ≡ state.flush self.old) }
     {
         push_all(&mut self.builder, &self.pending)?;
         self.pending.clear();
         Ok(())
+    }
+
+    /// What waits is left out.
+    pub fn drop_pending(&mut self)
+        ensures { self.new ≡ fragments.left_out self.old }
+    {
+        self.pending.clear();
     }
 
     /// Opens a node, after the pending tokens.

@@ -1,10 +1,11 @@
-use Rattle.std.proofs.Common.{refl, arith}
+use Rattle.std.proofs.Common.{refl, ap, arith}
 use Rattle.lexical_grammar.specs.declared.TokenKind.TheVariants as token
 use Rattle.document_grammar.specs.declared.kind.SyntaxKind.TheVariants as kind
 use Rattle.parser_rules.specs.RuleLanguage.{Kind}
+use Rattle.parser_rules.specs.State.{opened, flush}
 use Rattle.parser_rules.specs.Rules.{selection_start}
 use Rattle.apollo_grammar.proofs.Looks.{other-at}
-use Rattle.parser_rules.proofs.runs.Frame.{fewer, turned}
+use Rattle.parser_rules.proofs.runs.Frame.{fewer, turned, left, still-at}
 use Rattle.parser_rules.proofs.runs.Progress.{consuming, here-there, taken, opened-takes, entered-left}
 use Rattle.apollo_grammar.proofs.grammar.+selection.Goals as goal
 
@@ -24,10 +25,16 @@ fragment::inline_fragment-selection_set-requires g t c =
     let l = fewer c.in_ok-directives.ensures in
     λ κs w. (omega (arith, h, k, l, c.decreases), (w, c.if-at.ensures))
 
-pub selection::selection_set-selections-requires : goal.selection::selection_set-selections-requires
+pub selection::selection_set-braced-requires : goal.selection::selection_set-braced-requires
+unfolding left opened flush
+selection::selection_set-braced-requires g t c =
+    let h = ap left c.in_ok-start_node.ensures in
+    λ κs w. (omega (arith, h, c.decreases), (w, still-at kind.SELECTION_SET token.LCurly _ c.requires c.in_ok-start_node.ensures))
+
+pub selection::braced-selections-requires : goal.selection::braced-selections-requires
 unfolding consuming
-selection::selection_set-selections-requires g t c =
-    let h = opened-takes kind.SELECTION_SET _ c.in_ok-start_node.ensures c.in_ok-bump.ensures (here-there (Kind token.LCurly) _ c.requires) refl in
+selection::braced-selections-requires g t c =
+    let h = taken c.in_ok-bump.ensures (here-there (Kind token.LCurly) _ c.requires) refl in
     let k = entered-left _ c.enter.ensures in
     λ κs w. (omega (arith, h, k, c.decreases), w)
 

@@ -13,7 +13,10 @@ abbrev pub decreases-fragment::inline_fragment : goal.decreases-fragment::inline
 decreases-fragment::inline_fragment g l = 5 * left l.p.now + 1
 
 abbrev pub decreases-selection::selection_set : goal.decreases-selection::selection_set
-decreases-selection::selection_set g l = 5 * left l.p.now
+decreases-selection::selection_set g l = 5 * left l.p.now + 5
+
+abbrev pub decreases-selection::braced : goal.decreases-selection::braced
+decreases-selection::braced g l = 5 * left l.p.now
 
 abbrev pub decreases-selection::selections : goal.decreases-selection::selections
 decreases-selection::selections g l = 5 * left l.p.now + 4
