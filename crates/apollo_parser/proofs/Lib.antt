@@ -1,3 +1,4 @@
 pub mod Parses
+pub mod RootParses
 pub mod Errors
 pub mod Roots

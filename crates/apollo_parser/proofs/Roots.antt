@@ -1,5 +1,7 @@
 -- The root of the finished tree.
-use Rattle.std.proofs.Common.{◌≡◌, ◌∙◌, ap, [], ◌∷◌}
+use Rattle.std.proofs.Common.{◌≡◌, ◌∙◌, ap, [], ◌∷◌, Bool, true, Option, Some, None, refl}
+use Rattle.std.specs.Option.{IsSome}
+use Rattle.apollo_cst_core.specs.Cast.{CastsTo}
 use Rattle.document_grammar.specs.declared.kind.SyntaxKind.{SyntaxKind}
 use Rattle.document_grammar.specs.Forests.{none, node}
 use Rattle.document_grammar.specs.Builds.{close}
@@ -9,3 +11,8 @@ use Rattle.parser_rules.proofs.runs.Frame.{add_all-above}
 -- the finished tree is one node, of the kind of the node that was open first
 pub finished-node : (s : State) (k : SyntaxKind) → s.tree.above ≡ record { before = none; kind = k } ∷ [] → finished s ≡ node k (add_all s.pending s.tree).here none
 finished-node s k e = ap (λ above. (close (add_all s.pending s.tree).here above).here) (add_all-above s.pending s.tree ∙ e)
+
+-- what can be cast is cast
+pub cast-is-some : {T S : Type 0} (can : Bool) (syntax : T → S) (n : S) (r : Option T) → CastsTo can syntax n r → can ≡ true → IsSome r
+cast-is-some can syntax n (Some x) h e = refl
+cast-is-some can syntax n None h e = absurd cc

@@ -1,5 +1,6 @@
 -- What a parse promises, and what the clauses of this crate's calls cite.
 pub mod Promise
+pub mod Parts
 pub mod Roots
 pub mod ByRules
 pub use Rattle.lexical_grammar.specs.Tokens

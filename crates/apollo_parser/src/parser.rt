@@ -18,11 +18,13 @@ ghost use Rattle.document_grammar.specs.FirstError.{OnlyDerivation, NotLate, Not
 ghost use Rattle.document_grammar.specs.Places.{bare, Placed};
 ghost use Rattle.document_grammar.specs.Numbered.{tree_of};
 ghost use Rattle.document_grammar.specs.Leaves.{leaves, OneLeafAnItem};
-ghost use Rattle.apollo_parser.specs.ByRules.{ByRules};
+ghost use Rattle.apollo_parser.specs.ByRules.{ByRules, ByRootRule};
+ghost use Rattle.apollo_parser.specs.Parts.{FirstLeaves, FirstErrors};
+ghost use Rattle.parser_rules.specs.Fragments.{selections_root};
 ghost use Rattle.apollo_parser.specs.Promise.{ErrorsOf, IsRecursionLimit, IsLimitWorded, IsTokenLimit, OfFirst, Recovers};
 
-use crate::syntax_tree::{DocumentRoot, SyntaxTree};
-use apollo_grammar::document;
+use crate::syntax_tree::{DocumentRoot, SelectionSetRoot, SyntaxTree};
+use apollo_grammar::{document, field_set};
 use apollo_lexer::Lexer;
 use document_grammar::SyntaxKind;
 use parser_state::ParserState;
@@ -163,5 +165,64 @@ impl<'i> Parser<'i> {
         ensures recovers { IfOk result (λ t. ¬ Any (λ e. e.subject ≡ of_limit) t.errors → Recovers self.entry.recursion_limit (items_of self.entry.source.now) t) }
     {
         self.run_document(alloc)
+    }
+
+    // The parse, as a run of the root's rule over the items of the text.
+    fn run_selection_set<A: Allocator + Copy>(
+        self,
+        alloc: A,
+    ) -> Result<SyntaxTree<SelectionSetRoot, A>, AllocError>
+        ensures { IfOk result (ByRootRule kind.SELECTION_SET selections_root self.entry.source.now self.entry.recursion_limit self.entry.token_limit) }
+    {
+        let mut p = ParserState::new(
+            alloc,
+            Self::lexer(self.source, self.token_limit),
+            self.recursion_limit,
+            SyntaxKind::SELECTION_SET,
+        )?;
+        p.push_pending()?;
+        field_set(&mut p)?;
+        p.drop_pending();
+        let finished = p.finish(self.token_limit, self.source)?;
+        Ok(SyntaxTree {
+            tree: finished.tree,
+            errors: finished.errors,
+            recursion_limit: finished.recursion_limit,
+            token_limit: finished.token_limit,
+            root: PhantomData,
+        })
+    }
+
+    /// Parses a selection set (GraphQL October 2021, section 2.4, "Selection Sets"), with its outer braces or with both left away.
+    ///
+    /// What follows the selection set is not in the tree. It fails only where memory is refused.
+    pub fn parse_selection_set<A: Allocator + Copy>(
+        self,
+        alloc: A,
+    ) -> Result<SyntaxTree<SelectionSetRoot, A>, AllocError>
+        // the items of which the other clauses speak are a cut of the source
+        ensures cut { IfOk result (λ t. Cut self.entry.source.now (items_of self.entry.source.now)) }
+        // the source begins with the tree's text
+        ensures beginning { IfOk result (λ t. take (length (text t.tree)) self.entry.source.now ≡ text t.tree) }
+        // the tree is one SELECTION_SET, also where there are errors
+        ensures one_selection_set { IfOk result (λ t. (kids : Forest) × (t.tree ≡ node kind.SELECTION_SET kids none)) }
+        // its leaves are, one for one, the first items
+        ensures one_leaf { IfOk result (λ t. FirstLeaves (limited self.entry.token_limit (items_of self.entry.source.now)) (leaves t.tree)) }
+        ensures recursion { IfOk result (λ t. (t.recursion_limit.current ≡ 0) × (t.recursion_limit.limit ≡ self.entry.recursion_limit) × (t.recursion_limit.high ≤ self.entry.recursion_limit + 1)) }
+        // with the recursion limit's error, more than the limit was asked for; by one, as long as that is a usize
+        ensures limit_met { IfOk result (λ t. Any IsRecursionLimit t.errors → min (self.entry.recursion_limit + 1) usize_max ≤ t.recursion_limit.high) }
+        // where more than the limit was asked for, there is a limit's error: the recursion limit's, or the token limit's before it
+        ensures past_limit { IfOk result (λ t. self.entry.recursion_limit < t.recursion_limit.high → Any (λ e. e.subject ≡ of_limit) t.errors) }
+        // the greatest depth that was asked for covers what the tree nests, also where there are errors
+        ensures nesting { IfOk result (λ t. nest (tree_of t.tree) ≤ t.recursion_limit.high) }
+        ensures tokens { IfOk result (λ t. (t.token_limit.limit ≡ self.entry.token_limit) × (t.token_limit.high ≤ min (length (items_of self.entry.source.now)) (self.entry.token_limit + 1))) }
+        // the errors go along the first items, as those of a document do along all
+        ensures errors { IfOk result (λ t. FirstErrors (limited self.entry.token_limit (items_of self.entry.source.now)) t.errors) }
+        // a limit's error has a limit's message, and no other error has one
+        ensures limit_messages { IfOk result (λ t. All IsLimitWorded t.errors) }
+        ensures ascii { IfOk result (λ t. IsAscii self.entry.source.now → All (λ e. IsAscii e.message) t.errors) }
+        ensures in_order { IfOk result (λ t. IsNonDecreasing (map (λ e. e.index) t.errors)) }
+    {
+        self.run_selection_set(alloc)
     }
 }

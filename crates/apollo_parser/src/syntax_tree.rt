@@ -1,12 +1,13 @@
 // What a parse gives.
 ghost use Rattle.std.specs.Prelude.{◌≡◌, Bool, true};
 ghost use Rattle.document_grammar.specs.declared.kind.SyntaxKind.{SyntaxKind};
-ghost use Rattle.document_grammar.specs.declared.kind.SyntaxKind.TheVariants.{DOCUMENT};
+ghost use Rattle.document_grammar.specs.declared.kind.SyntaxKind.TheVariants.{DOCUMENT, SELECTION_SET};
 ghost use Rattle.document_grammar.specs.Numbers.{is_kind};
 ghost use Rattle.apollo_parser.specs.Roots.{root_kind};
 
 use apollo_cst_core::CstNode;
 use apollo_cst_document::Document;
+use apollo_cst_exec::SelectionSet;
 use apollo_lexer::{Error, LimitTracker};
 use apollo_tree::{Subtree, SyntaxNode};
 use std::alloc::{AllocError, Allocator, Global};
@@ -24,6 +25,13 @@ pub struct DocumentRoot;
 
 impl Root for DocumentRoot {
     ghost roots = { is_kind DOCUMENT };
+}
+
+/// Marks the tree of a selection set, whose root is a SELECTION_SET.
+pub struct SelectionSetRoot;
+
+impl Root for SelectionSetRoot {
+    ghost roots = { is_kind SELECTION_SET };
 }
 
 /// The tree of a text, the errors that were found in it, and how the limits were used. `R` marks what the root is.
@@ -102,6 +110,18 @@ impl<A: Allocator> SyntaxTree<DocumentRoot, A> {
         ensures { node_place result.syntax ≡ record { whole = self.now.tree; index = 0 } }
     {
         Document::cast(self.tree.root()).unwrap()
+    }
+}
+
+impl<A: Allocator> SyntaxTree<SelectionSetRoot, A> {
+    ghost use Rattle.apollo_tree.specs.References.{node_place};
+
+    /// The selection set (GraphQL October 2021, section 2.4), as the typed node of the root. Every tree of `parse_selection_set` has it, also
+    /// with errors.
+    pub fn field_set(&self) -> SelectionSet<'_>
+        ensures { node_place result.syntax ≡ record { whole = self.now.tree; index = 0 } }
+    {
+        SelectionSet::cast(self.tree.root()).unwrap()
     }
 }
 

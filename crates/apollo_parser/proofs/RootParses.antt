@@ -1,0 +1,131 @@
+-- What a run of a root's rule over the items of a text comes to, and so what the parse of a part of a document promises.
+use Rattle.std.proofs.Common.{◌≡◌, ℕ, ◌+◌, ◌^◌, ◌<◌, ◌≤◌, arith, min, List, [], ◌∷◌, ◌++◌, length, map, take, drop, refl, sym, ap, ◌∙◌, subst, append_assoc, append-nil}
+use Rattle.std.specs.Str.{IsAscii}
+use Rattle.std.specs.List.{Any, All}
+use Rattle.std.specs.List.Sorted.{IsNonDecreasing}
+use Rattle.std.proofs.lemmas.List.{take-append-drop}
+use Rattle.std.proofs.Math.Seq.{take-append_seam}
+use Rattle.lexical_grammar.specs.Cut.{Cut, texts}
+use Rattle.lexical_grammar.specs.Reads.{items_of}
+use Rattle.lexical_grammar.specs.Answers.{Answer, gives, limit_at, answer_text, answers_text, usize_max}
+use Rattle.lexical_grammar.proofs.Limited.{limited-text}
+use Rattle.lexical_grammar.proofs.Cuts.{texts-append}
+use Rattle.document_grammar.specs.declared.kind.SyntaxKind.{SyntaxKind}
+use Rattle.document_grammar.specs.Derivation.{nest}
+use Rattle.document_grammar.specs.Forests.{Forest, none, node, text, count}
+use Rattle.document_grammar.specs.Numbered.{tree_of}
+use Rattle.document_grammar.specs.Leaves.{leaves}
+use Rattle.apollo_lexer.specs.declared.limit.LimitTracker.{LimitTracker}
+use Rattle.apollo_lexer.specs.Diagnostics.{of_limit}
+use Rattle.apollo_lexer.proofs.Law.{limited-length}
+use Rattle.parser_rules.specs.State.{State, finished}
+use Rattle.parser_rules.specs.Fragments.{started, left_out}
+use Rattle.parser_rules.specs.RuleLanguage.{Rule}
+use Rattle.parser_rules.specs.Runs.{Runs}
+use Rattle.parser_rules.proofs.reports.Endings.{ends-well}
+use Rattle.parser_rules.proofs.reports.PastTheLimit.{root-limited}
+use Rattle.parser_rules.proofs.leaves.OneLeaf as one_leaf
+use Rattle.parser_rules.proofs.leaves.OneLeaf.{root-leaves, joined, text-leaves}
+use Rattle.parser_rules.proofs.nesting.Nesting.{root-nesting}
+use Rattle.parser_rules.proofs.fragments.RootChecks.{RootRule}
+use Rattle.parser_rules.proofs.fragments.RootRuns.{root-above, levels-left, all-asked, limit-passed, front-reported, ordered-front}
+use Rattle.apollo_parser.specs.ByRules.{ByRootRule}
+use Rattle.apollo_parser.specs.Promise.{Parsed, IsRecursionLimit, IsLimitWorded}
+use Rattle.apollo_parser.specs.Parts.{FirstLeaves, FirstErrors}
+use Rattle.apollo_parser.proofs.Errors.{AllTexts, same-indices, any-recursion, ascii-messages, limited-ascii, limit-worded, any-limit, errors-along}
+use Rattle.apollo_parser.proofs.Roots.{finished-node}
+use Rattle.apollo_parser.proofs.Parses.{answers}
+
+text-append : (xs ys : List Answer) → answers_text (xs ++ ys) ≡ answers_text xs ++ answers_text ys
+text-append [] ys = refl
+text-append (x ∷ xs) ys = ap (λ (t : List ℕ). answer_text x ++ t) (text-append xs ys) ∙ sym (append_assoc (answer_text x) (answers_text xs) (answers_text ys))
+
+texts-front : (P : List ℕ → Type 0) (xs ys : List Answer) → AllTexts P (xs ++ ys) → AllTexts P xs
+texts-front P [] ys h = tt
+texts-front P (gives item ∷ xs) ys h = (h.0, texts-front P xs ys h.1)
+texts-front P (limit_at index ∷ xs) ys h = texts-front P xs ys h
+
+module _ {q : Rule} (j : SyntaxKind) (k r : ℕ) (source : List ℕ) (s : State) (run : Runs q (started (answers k source) r j) s) where
+  pub root-is : finished (left_out s) ≡ node j s.tree.here none
+  root-is = finished-node (left_out s) j (root-above (answers k source) r j run)
+
+  module _ (passes : RootRule j q) where
+    first : one_leaf.FirstLeaves (answers k source) (leaves s.tree.here)
+    first = root-leaves (answers k source) r j passes.leaves run
+
+    leaves-are : leaves (finished (left_out s)) ≡ leaves s.tree.here
+    leaves-are = ap leaves root-is ∙ append-nil (leaves s.tree.here)
+
+    pub root-first : FirstLeaves (answers k source) (leaves (finished (left_out s)))
+    root-first = record { front = first.front; back = first.back; split = first.split; leaves = rw leaves-are first.leaves }
+
+    -- the source begins with the tree's text
+    pub root-begins : Cut source (items_of source) → take (length (text (finished (left_out s)))) source ≡ text (finished (left_out s))
+    root-begins cut =
+        let items = items_of source in
+        let front = answers_text first.front in
+        let rest = answers_text first.back ++ texts (drop k items) in
+        let is : text (finished (left_out s)) ≡ front = text-leaves (finished (left_out s)) ∙ ap joined leaves-are ∙ first.text in
+        let taken : front ++ answers_text first.back ≡ texts (take k items) = sym (text-append first.front first.back) ∙ ap answers_text (sym first.split) ∙ limited-text k items in
+        let whole : texts (take k items) ++ texts (drop k items) ≡ source = sym (texts-append (take k items) (drop k items)) ∙ ap texts (take-append-drop k items) ∙ cut.joined in
+        let joins : front ++ rest ≡ source = sym (append_assoc front (answers_text first.back) (texts (drop k items))) ∙ ap (λ (t : List ℕ). t ++ texts (drop k items)) taken ∙ whole in
+        ap (λ (t : List ℕ). take (length t) source) is ∙ ap (take (length front)) (sym joins) ∙ take-append_seam front rest ∙ sym is
+
+    pub root-nested : count (finished (left_out s)) < 2 ^ 64 → nest (tree_of (finished (left_out s))) ≤ s.high
+    root-nested c =
+        let n = ap count root-is in
+        subst (λ f. nest (tree_of f) ≤ s.high) (sym root-is) (root-nesting (answers k source) r j s passes.heavy passes.levels run (omega (arith, c, n)))
+
+-- ---- a parse
+
+module _ {j : SyntaxKind} {q : Rule} {source : List ℕ} {r k : ℕ} {t : Parsed} (p : ByRootRule j q source r k t) where
+  pub part-root : (kids : Forest) × (t.tree ≡ node j kids none)
+  part-root = (p.last.tree.here, p.tree ∙ root-is j k r source p.last p.run)
+
+  pub part-recursion : (t.recursion_limit.current ≡ 0) × (t.recursion_limit.limit ≡ r) × (t.recursion_limit.high ≤ r + 1)
+  part-recursion = subst (λ (l : LimitTracker). (l.current ≡ 0) × (l.limit ≡ r) × (l.high ≤ r + 1)) (sym p.recursion_limit) (levels-left (answers k source) r j p.run)
+
+  pub part-limit-met : Any IsRecursionLimit t.errors → min (r + 1) usize_max ≤ t.recursion_limit.high
+  part-limit-met h =
+      subst (λ (l : LimitTracker). min (r + 1) usize_max ≤ l.high) (sym p.recursion_limit) (limit-passed (answers k source) r j p.run (any-recursion p.last.errors t.errors p.errors h))
+
+  pub part-tokens : (t.token_limit.limit ≡ k) × (t.token_limit.high ≤ min (length (items_of source)) (k + 1))
+  part-tokens =
+      let a = all-asked (answers k source) r j p.run ∙ limited-length k (items_of source) in
+      let h = p.token_limit.2 in
+      (p.token_limit.1, omega (arith, a, h))
+
+  pub part-errors : FirstErrors (answers k source) t.errors
+  part-errors = let f = front-reported (answers k source) r j p.run in record { front = f.front; back = f.back; split = f.split; errors = errors-along f.reported t.errors p.errors }
+
+  pub part-limit-words : All IsLimitWorded t.errors
+  part-limit-words = limit-worded t.errors (front-reported (answers k source) r j p.run).reported p.errors
+
+  pub part-ascii : IsAscii source → All (λ e. IsAscii e.message) t.errors
+  part-ascii h =
+      let f = front-reported (answers k source) r j p.run in
+      let all : AllTexts IsAscii (f.front ++ f.back) = subst (AllTexts IsAscii) f.split (limited-ascii k (items_of source) (rw p.cut.joined h)) in
+      ascii-messages t.errors f.reported (texts-front IsAscii f.front f.back all) p.errors
+
+  pub part-in-order : IsNonDecreasing (map (λ e. e.index) t.errors)
+  part-in-order = subst IsNonDecreasing (sym (same-indices p.last.errors t.errors p.errors)) (ordered-front k source (items_of source) r j p.run p.cut)
+
+  module _ (passes : RootRule j q) where
+    pub part-begins : take (length (text t.tree)) source ≡ text t.tree
+    part-begins = subst (λ f. take (length (text f)) source ≡ text f) (sym p.tree) (root-begins j k r source p.last p.run passes p.cut)
+
+    pub part-leaves : FirstLeaves (answers k source) (leaves t.tree)
+    part-leaves = subst (λ f. FirstLeaves (answers k source) (leaves f)) (sym p.tree) (root-first j k r source p.last p.run passes)
+
+    pub part-nested : nest (tree_of t.tree) ≤ t.recursion_limit.high
+    part-nested =
+        subst (λ f. nest (tree_of f) ≤ t.recursion_limit.high) (sym p.tree)
+        (subst (λ (l : LimitTracker). nest (tree_of (finished (left_out p.last))) ≤ l.high) (sym p.recursion_limit)
+        (root-nested j k r source p.last p.run passes (subst (λ f. count f < 2 ^ 64) p.tree p.counted)))
+
+    pub part-past-limit : r < t.recursion_limit.high → Any (λ e. e.subject ≡ of_limit) t.errors
+    part-past-limit more =
+        let limit : p.last.limit ≡ r = (levels-left (answers k source) r j p.run).1 in
+        let high : r < p.last.high = subst (λ (l : LimitTracker). r < l.high) p.recursion_limit more in
+        any-limit p.last.errors t.errors p.errors
+        (root-limited r (answers k source) j p.last (ends-well k 0 (items_of source) p.cut.each) passes.limits p.run (subst (λ (n : ℕ). n < p.last.high) (sym limit) high))
