@@ -1,9 +1,9 @@
 -- Where not all of a text is read, the reports are those of the answers up to a place.
-use Rattle.std.proofs.Common.{◌≡◌, Bool, true, false, List, [], ◌∷◌, ◌++◌, Option, Some, None, refl, sym, ap, ◌∙◌, subst}
+use Rattle.std.proofs.Common.{◌≡◌, Bool, true, false, List, [], ◌∷◌, ◌++◌, Option, Some, None, refl, sym, ap, subst}
 use Rattle.lexical_grammar.specs.declared.TokenKind.{TokenKind}
 use Rattle.lexical_grammar.specs.Cut.{Item}
 use Rattle.lexical_grammar.specs.Answers.{Answer, gives, limit_at}
-use Rattle.parser_rules.specs.State.{State, Report, bad_report, token_limit_report, recursion_limit_report, fault_report, lexeme}
+use Rattle.parser_rules.specs.State.{State, Report, bad_report, token_limit_report}
 use Rattle.parser_rules.specs.Reports.{Reported, no_more, bad_text, token_limit, fault, recursion_limit, passed}
 use Rattle.parser_rules.proofs.reports.AlongItems.{Onward, ahead}
 use Rattle.grammar_machine.proofs.TableLemmas.{head-same, tail-same}

@@ -1,5 +1,5 @@
 -- What holds of every run of a root's rule: it begins where the root is open and the text before the first token is in it.
-use Rattle.std.proofs.Common.{◌≡◌, ℕ, ◌+◌, ◌≤◌, min, Bool, true, List, [], ◌∷◌, ◌++◌, length, map, ap, ◌∙◌, refl}
+use Rattle.std.proofs.Common.{◌≡◌, ℕ, ◌+◌, ◌≤◌, min, true, List, [], ◌∷◌, ◌++◌, length, map, ap, ◌∙◌, refl}
 use Rattle.std.specs.List.{list_any}
 use Rattle.std.specs.List.Sorted.{IsNonDecreasing}
 use Rattle.lexical_grammar.specs.Cut.{Item, Cut}
@@ -14,7 +14,7 @@ use Rattle.parser_rules.specs.RuleLanguage.{Rule}
 use Rattle.parser_rules.specs.Runs.{Runs}
 use Rattle.parser_rules.specs.Fragments.{started}
 use Rattle.parser_rules.proofs.runs.Steps.{Holds_along, along}
-use Rattle.parser_rules.proofs.runs.Frame.{Keeps, keeps_along, Adds, adds_along, root-open, kept-nesting, read-untouched}
+use Rattle.parser_rules.proofs.runs.Frame.{keeps_along, adds_along, root-open, kept-nesting, read-untouched}
 use Rattle.parser_rules.proofs.reports.AlongItems.{tells-along, so_far}
 use Rattle.parser_rules.proofs.reports.AtTheLimit.{limits-along, asked-since}
 use Rattle.parser_rules.proofs.reports.InOrder.{in-order-front}
