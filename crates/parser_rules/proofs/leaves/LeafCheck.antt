@@ -1,8 +1,9 @@
 -- Each token gets a leaf of its kind, or an ERROR: the check of a rule, which is walked with sets of classes of the next two tokens.
-use Rattle.std.proofs.Common.{ℕ, Bool, true, false, cond, eqb}
+use Rattle.std.proofs.Common.{ℕ, Bool, true, cond, eqb}
 use Rattle.document_grammar.specs.declared.kind.SyntaxKind.{SyntaxKind}
 use Rattle.document_grammar.specs.declared.kind.SyntaxKind.TheVariants as kind
 use Rattle.document_grammar.specs.Numbers.{number}
+use Rattle.document_grammar.specs.Kinds.{ERROR}
 use Rattle.document_grammar.specs.Booleans.{◌and◌}
 use Rattle.grammar_machine.specs.Machine.{is_leaf}
 use Rattle.grammar_machine.proofs.Checks.{subset, disjoint}
@@ -15,8 +16,7 @@ use Rattle.parser_rules.proofs.lookahead.Split.{split}
 use Rattle.parser_rules.proofs.lookahead.FirstSets.{first_in, second_of, inlined}
 
 abbrev pub is_error : SyntaxKind → Bool
-is_error kind.ERROR = true
-is_error _ = false
+is_error k = eqb (number k) ERROR
 
 -- a token of these classes may become a leaf of the kind
 unfoldable pub belongs : ℕ → SyntaxKind → Bool

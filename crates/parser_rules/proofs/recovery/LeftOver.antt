@@ -24,7 +24,6 @@ use Rattle.document_grammar.proofs.Shown.{index-at}
 use Rattle.parser_rules.specs.declared.message.Message.{Message}
 use Rattle.parser_rules.specs.State.{State, Lexeme, Report, fault_report, ignored, is_at, same_kind, add_all}
 use Rattle.parser_rules.proofs.reports.NoReport.{shown-kind}
-use Rattle.parser_rules.proofs.leaves.LeafCheck.{is_error}
 use Rattle.parser_rules.proofs.recovery.RecoveryCheck.{of_row, leaf_of_row}
 use Rattle.parser_rules.proofs.recovery.RowSymbols.{rows}
 use Rattle.parser_rules.proofs.recovery.Popped as popped_of
@@ -81,10 +80,6 @@ numbered-text built.none = refl
 numbered-text (built.leaf k x rest) = ap (λ (s : Text). x ++ s) (numbered-text rest)
 numbered-text (built.node k kids rest) = ap₂ (λ (a b : Text). a ++ b) (numbered-text kids) (numbered-text rest)
 
-error-number : (k : SyntaxKind) → eqb (number k) ERROR ≡ is_error k
-error-number kind.ERROR = refl
-error-number _ = refl
-
 bracket-kind : (k : TokenKind) → is_right_bracket k ≡ same_kind k token_kind.RBracket
 unfolding same_kind
 bracket-kind token_kind.RBracket = refl
@@ -134,7 +129,7 @@ module _ (items : List Item) where
   -- trees that know their tokens
   left-is : (o : Source) (own : SyntaxKind) (b : ℕ) → Known items b o → left_over items b (number own) ≡ popped o own
   unfolding ◌and◌
-  left-is (token x) own b h = ap₂ (λ (y z : Bool). y && z) (error-number own) (h.2 is_significant_kind ∙ shown-kind x.kind h.1)
+  left-is (token x) own b h = ap (λ (z : Bool). eqb (number own) ERROR && z) (h.2 is_significant_kind ∙ shown-kind x.kind h.1)
   left-is (aside p) own b h = and_right (eqb (number own) ERROR) _ h
 
   -- the places in a node, and behind it

@@ -95,13 +95,10 @@ one-more {s = s} (seq {a = Do (Note m)} {b = Do (Bump own)} (does e) (does f)) n
 one-more (call {p = p} h) (suc n) x c i = let o = one-more h n x c i in (o.0, o.1, λ z f. call (o.2 z f))
 one-more _ n x c i = false-true refl c
 
-definition-checked : one_child 4 (Call Definition) ≡ true
-unfolding one_child body ◌and◌
-definition-checked = refl
-
 -- a turn
 pub turn-one : {s t : State} → true ≡ holds Ready s → Runs (Call Definition) s t → One_more (Call Definition) s t
-turn-one {s = s} r h = let i = ready-there s r in one-more h 4 i.token definition-checked i.is
+unfolding one_child body ◌and◌
+turn-one {s = s} r h = let i = ready-there s r in one-more h 4 i.token refl i.is
 
 -- ---- the loop
 
