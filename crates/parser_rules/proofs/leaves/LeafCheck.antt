@@ -1,7 +1,6 @@
 -- Each token gets a leaf of its kind, or an ERROR: the check of a rule, which is walked with sets of classes of the next two tokens.
 use Rattle.std.proofs.Common.{ℕ, Bool, true, cond, eqb}
 use Rattle.document_grammar.specs.declared.kind.SyntaxKind.{SyntaxKind}
-use Rattle.document_grammar.specs.declared.kind.SyntaxKind.TheVariants as kind
 use Rattle.document_grammar.specs.Numbers.{number}
 use Rattle.document_grammar.specs.Kinds.{ERROR}
 use Rattle.document_grammar.specs.Booleans.{◌and◌}

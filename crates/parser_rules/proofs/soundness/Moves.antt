@@ -23,7 +23,6 @@ use Rattle.grammar_machine.proofs.OneTokenLookahead.{Firm, firm-shift, firm-clos
 use Rattle.grammar_machine.proofs.Steps.{goes, sticks, goes-move, closes-move, sticks-move, misses-fires, misses}
 use Rattle.parser_rules.specs.State.{State, Lexeme, second, flush, opened, closed, moved, bump, is_deep, add_all, read_on}
 use Rattle.parser_rules.specs.Nodes.{Node, symbol, kind_of}
-use Rattle.parser_rules.specs.RuleLanguage.{Prim}
 use Rattle.parser_rules.proofs.runs.Frame.{Untouched, read-untouched}
 use Rattle.parser_rules.proofs.soundness.WithoutIgnored.{Stack, stack, put, stack-leaf, stack-finish, stack-flush}
 use Rattle.parser_rules.proofs.reports.NoReport.{Now, choose, EndsWell, rest, answers_tokens, current_tokens, AtToken, standing, given, passed-one, Held, read-on}
