@@ -28,16 +28,17 @@ fn expect_refusals(
 ) -> Result<(), AllocError> {
     let alloc = rt.alloc();
     let heap = Heap::new(alloc);
-    let ample = attempt(&heap, alloc, call, source, 0)?;
+    let Attempt { given, beside } = attempt(&heap, alloc, call, source, 0)?;
+    let wanted = given.ok_or(AllocError)?;
     for number in 1..u64::MAX {
         let refused = attempt(&heap, alloc, call, source, number)?;
         assert!(rt;
-            refused.beside == ample.beside,
+            refused.beside == beside,
             "beside {call:?} of {source} without request {number}"
         );
         if heap.is_waiting() {
             let given = refused.given.ok_or(AllocError)?;
-            assert_eq!(rt; Some(given), ample.given, "{call:?} of {source}");
+            assert_eq!(rt; given, wanted, "{call:?} of {source}");
             assert!(rt; number > 1, "{call:?} of {source} asks for nothing");
             return Ok(());
         }
