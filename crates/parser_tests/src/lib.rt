@@ -6,4 +6,6 @@ mod documents;
 #[cfg(test)]
 mod parsing;
 #[cfg(test)]
+mod parts;
+#[cfg(test)]
 mod typed;

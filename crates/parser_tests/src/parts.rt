@@ -1,0 +1,52 @@
+// Tests of parses of parts of documents.
+use apollo_parser::cst::CstNode;
+use apollo_parser::{Parser, SelectionSetRoot, SyntaxTree};
+use std::alloc::{AllocError, Global};
+use std::test::Fail;
+
+// It has no contract, so that the proofs of the tests are not burdened by that of the parse.
+fn parse_selections(
+    alloc: Global,
+    parser: Parser<'_>,
+) -> Result<SyntaxTree<SelectionSetRoot, Global>, AllocError> {
+    parser.parse_selection_set(alloc)
+}
+
+// Each error's message, data and index, and then the tree's text and the greatest count of nesting.
+fn shown(alloc: Global, parser: Parser<'_>) -> Result<String, AllocError> {
+    let tree = parse_selections(alloc, parser)?;
+    let mut lines = String::new(alloc);
+    for error in tree.errors() {
+        let message = error.message();
+        let data = error.data();
+        let index = error.index();
+        writeln!(lines, "{message}|{data}|{index}")?;
+    }
+    let root = tree.field_set().syntax().kind();
+    let text = tree.root().text();
+    let nesting = tree.recursion_limit().high;
+    format!(in alloc; "{lines}{root:?}|{text}|{nesting}")
+}
+
+#[test]
+fn selection_sets(rt: HostRuntime) -> Result<(), Fail> {
+    let rows = [
+        ("a b { c }", "SELECTION_SET|a b { c }|2"),
+        (" { a }", "SELECTION_SET| { a }|1"),
+        (
+            "",
+            "expected at least one Selection in Selection Set||0\nSELECTION_SET||1",
+        ),
+        ("{ a", "expected R_CURLY, got EOF||3\nSELECTION_SET|{ a|1"),
+        (
+            "é { a }",
+            "Unexpected character \"é\"|é|0\nSELECTION_SET|é { a }|1",
+        ),
+        ("{ a } b", "SELECTION_SET|{ a }|1"),
+    ];
+    for (source, wanted) in rows {
+        let answer = shown(rt.alloc(), Parser::new(source))?;
+        assert_eq!(rt; answer.as_str(), wanted, "{source}");
+    }
+    Ok(())
+}
