@@ -93,7 +93,7 @@ LeftOver Told items place (node k g ▸ f) = Spares items place k g × LeftOver 
 abbrev pub NoneBeyond : List Item → List ℕ → Type 0
 NoneBeyond items places = (m : ℕ) (b : At items m) → Significant (b.item ∷ []) ≢ [] → All (λ n. n ≤ m) places
 
--- Where the items behind some of the root's children are a document of its own, which nests at most r deep, the later children are its
+-- Where the items after some of the root's children are a document of its own, which nests at most r deep, the later children are its
 -- derivation's, and no error is beyond its first token.
 abbrev pub GoesOn : ℕ → List Item → List ℕ → built.Forest → Type 0
 GoesOn r items places kids =

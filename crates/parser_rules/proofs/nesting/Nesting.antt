@@ -5,7 +5,7 @@ use Rattle.document_grammar.specs.declared.kind.SyntaxKind.{SyntaxKind}
 use Rattle.document_grammar.specs.declared.kind.SyntaxKind.TheVariants as kind
 use Rattle.document_grammar.specs.Kinds.{DOCUMENT, NON_NULL_TYPE}
 use Rattle.document_grammar.specs.Numbers.{number}
-use Rattle.document_grammar.specs.Forests.{Forest, count, join}
+use Rattle.document_grammar.specs.Forests.{Forest, count}
 use Rattle.document_grammar.specs.Forests as built
 use Rattle.document_grammar.specs.Builds.{Open, close}
 use Rattle.document_grammar.specs.Numbered.{tree_of}

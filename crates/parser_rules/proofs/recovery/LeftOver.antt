@@ -14,7 +14,6 @@ use Rattle.document_grammar.specs.Numbers.{number}
 use Rattle.document_grammar.specs.Kinds.{ERROR, LIST_VALUE}
 use Rattle.document_grammar.specs.Forests as built
 use Rattle.document_grammar.specs.Numbered.{numbered}
-use Rattle.document_grammar.specs.Tree as tree
 use Rattle.document_grammar.specs.Tree.{Text, Forest}
 use Rattle.document_grammar.specs.Derivation.{texts as tree_texts}
 use Rattle.document_grammar.specs.Booleans.{◌and◌}
