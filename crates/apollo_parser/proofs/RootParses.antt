@@ -1,5 +1,5 @@
 -- What a run of a root's rule over the items of a text comes to, and so what the parse of a part of a document promises.
-use Rattle.std.proofs.Common.{◌≡◌, ℕ, ◌+◌, ◌^◌, ◌<◌, ◌≤◌, arith, min, List, [], ◌∷◌, ◌++◌, length, map, take, drop, refl, sym, ap, ◌∙◌, subst, append_assoc, append-nil}
+use Rattle.std.proofs.Common.{◌≡◌, ℕ, ◌+◌, ◌^◌, ◌<◌, ◌≤◌, arith, min, true, List, [], ◌∷◌, ◌++◌, length, map, take, drop, refl, sym, ap, ◌∙◌, subst, append_assoc, append-nil}
 use Rattle.std.specs.Str.{IsAscii}
 use Rattle.std.specs.List.{Any, All}
 use Rattle.std.specs.List.Sorted.{IsNonDecreasing}
@@ -11,7 +11,10 @@ use Rattle.lexical_grammar.specs.Answers.{Answer, gives, limit_at, answer_text, 
 use Rattle.lexical_grammar.proofs.Limited.{limited-text}
 use Rattle.lexical_grammar.proofs.Cuts.{texts-append}
 use Rattle.document_grammar.specs.declared.kind.SyntaxKind.{SyntaxKind}
-use Rattle.document_grammar.specs.Derivation.{nest}
+use Rattle.document_grammar.specs.Derivation.{Sort, nest}
+use Rattle.document_grammar.specs.Places.{bare}
+use Rattle.document_grammar.specs.Sentence.{Sentence, Within}
+use Rattle.document_grammar.specs.Tree.{Tree}
 use Rattle.document_grammar.specs.Forests.{Forest, none, node, text, count}
 use Rattle.document_grammar.specs.Numbered.{tree_of}
 use Rattle.document_grammar.specs.Leaves.{leaves}
@@ -28,11 +31,14 @@ use Rattle.parser_rules.proofs.leaves.OneLeaf as one_leaf
 use Rattle.parser_rules.proofs.leaves.OneLeaf.{root-leaves, joined, text-leaves}
 use Rattle.parser_rules.proofs.nesting.Nesting.{root-nesting}
 use Rattle.parser_rules.proofs.fragments.RootChecks.{RootRule}
+use Rattle.parser_rules.specs.Open.{is_free}
+use Rattle.parser_rules.proofs.fragments.Parts.{Follows}
+use Rattle.parser_rules.proofs.fragments.PartTexts.{sound-part, accepts-part}
 use Rattle.parser_rules.proofs.fragments.RootRuns.{root-above, levels-left, all-asked, limit-passed, front-reported, ordered-front}
 use Rattle.apollo_parser.specs.ByRules.{ByRootRule}
 use Rattle.apollo_parser.specs.Promise.{Parsed, IsRecursionLimit, IsLimitWorded}
 use Rattle.apollo_parser.specs.Parts.{FirstLeaves, FirstErrors}
-use Rattle.apollo_parser.proofs.Errors.{AllTexts, same-indices, any-recursion, ascii-messages, limited-ascii, limit-worded, any-limit, errors-along}
+use Rattle.apollo_parser.proofs.Errors.{AllTexts, none-said, none-told, same-indices, any-recursion, ascii-messages, limited-ascii, limit-worded, any-limit, errors-along}
 use Rattle.apollo_parser.proofs.Roots.{finished-node}
 use Rattle.apollo_parser.proofs.Parses.{answers}
 
@@ -129,3 +135,16 @@ module _ {j : SyntaxKind} {q : Rule} {source : List ℕ} {r k : ℕ} {t : Parsed
         let high : r < p.last.high = subst (λ (l : LimitTracker). r < l.high) p.recursion_limit more in
         any-limit p.last.errors t.errors p.errors
         (root-limited r (answers k source) j p.last (ends-well k 0 (items_of source) p.cut.each) passes.limits p.run (subst (λ (n : ℕ). n < p.last.high) (sym limit) high))
+
+  module _ (sort : Sort) (passes : RootRule j q) (free : is_free j ≡ true) (follows : Follows sort r (answers k source) j q) where
+    -- without errors, the tree's text is a sentence, and the tree its derivation
+    pub part-sentence : t.errors ≡ [] → Sentence (text t.tree) (bare (tree_of t.tree)) sort × (nest (bare (tree_of t.tree)) ≤ r) × (t.recursion_limit.high ≡ nest (bare (tree_of t.tree)))
+    part-sentence nil =
+        let c = sound-part sort j r k source (items_of source) p.last p.cut passes free follows p.run (none-said p.last.errors t.errors p.errors nil) in
+        rw (p.tree, p.recursion_limit) (c.sentence, c.nesting, c.high)
+
+    -- a sentence within both limits has no errors, and the tree is its derivation
+    pub part-accepts : (u : Tree) → Sentence source u sort → Within source u r k → (t.errors ≡ []) × (bare (tree_of t.tree) ≡ u)
+    part-accepts u h n =
+        let c = accepts-part sort j r k source (items_of source) p.last p.cut passes free follows p.run u h n in
+        (none-told p.last.errors t.errors p.errors c.0, rw p.tree c.1)

@@ -10,7 +10,7 @@ ghost use Rattle.apollo_lexer.specs.Answers.{answers_left};
 ghost use Rattle.apollo_lexer.specs.Diagnostics.{of_limit};
 ghost use Rattle.document_grammar.specs.declared.kind.SyntaxKind.TheVariants as kind;
 ghost use Rattle.document_grammar.specs.Forests.{Forest, none, node, text};
-ghost use Rattle.document_grammar.specs.Derivation.{document as document_sort, nest};
+ghost use Rattle.document_grammar.specs.Derivation.{document as document_sort, selections as selections_sort, nest};
 ghost use Rattle.document_grammar.specs.Tree.{Tree};
 ghost use Rattle.document_grammar.specs.Sentence.{Sentence, FirstSentence, Within};
 ghost use Rattle.document_grammar.specs.Recovery.{Rowed};
@@ -222,6 +222,11 @@ impl<'i> Parser<'i> {
         ensures limit_messages { IfOk result (λ t. All IsLimitWorded t.errors) }
         ensures ascii { IfOk result (λ t. IsAscii self.entry.source.now → All (λ e. IsAscii e.message) t.errors) }
         ensures in_order { IfOk result (λ t. IsNonDecreasing (map (λ e. e.index) t.errors)) }
+        // without errors, the tree's text is a sentence, and the tree without its ignored leaves is its derivation; it nests within the limit, and as
+        // deep as was asked for
+        ensures sound { IfOk result (λ t. t.errors ≡ [] → Sentence (text t.tree) (bare (tree_of t.tree)) selections_sort × (nest (bare (tree_of t.tree)) ≤ self.entry.recursion_limit) × (t.recursion_limit.high ≡ nest (bare (tree_of t.tree)))) }
+        // a sentence within both limits has no errors, and the tree is its derivation, so it holds every significant token
+        ensures accepts { IfOk result (λ t. (u : Tree) → Sentence self.entry.source.now u selections_sort → Within self.entry.source.now u self.entry.recursion_limit self.entry.token_limit → (t.errors ≡ []) × (bare (tree_of t.tree) ≡ u)) }
     {
         self.run_selection_set(alloc)
     }

@@ -16,6 +16,7 @@ pub mod Classes
 pub mod Starts
 pub mod OneTokenLookahead
 pub mod Depth
+pub mod Makes
 pub mod SentenceTheorems
 pub mod Worked
 pub mod Beginnings

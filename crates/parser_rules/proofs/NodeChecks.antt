@@ -17,7 +17,7 @@ use Rattle.parser_rules.specs.RuleLanguage.{While, Ready, Call}
 use Rattle.parser_rules.proofs.runs.Progress.{consuming}
 use Rattle.parser_rules.proofs.lookahead.Split.{split, divide}
 use Rattle.parser_rules.proofs.lookahead.FirstSets.{first_of, first_in, second_of, looks, inlined}
-use Rattle.parser_rules.proofs.soundness.TableCheck.{own, covered, turns, levels, leaf_of, loses, lacks, leaves_well, takes, ends_at, closing, child_goes, child_sticks, child_at, limits_at, nests, typed, type_at, reports, is_node, ok, ends_well, follows_table, root_ends, document_follows, turns_follow}
+use Rattle.parser_rules.proofs.soundness.TableCheck.{own, covered, turns, levels, leaf_of, loses, lacks, leaves_well, takes, ends_at, closing, child_goes, child_sticks, child_at, limits_at, nests, typed, type_at, reports, is_node, ok, ends_well, follows_table, root_ends, part_ends, document_follows, turns_follow}
 use Rattle.parser_rules.proofs.leaves.LeafCheck.{belongs, anything, leaf_check}
 use Rattle.parser_rules.proofs.nesting.LevelCheck.{at_first, level_check}
 use Rattle.parser_rules.proofs.reports.LimitCheck.{unknown as unknown_token, limit_check}
@@ -57,7 +57,7 @@ faults c =
 
 -- all that the checks compute with
 unfoldable pub computing : Unit {0}
-unfolding ◌and◌ ◌or◌ is_leaf at ends exit arcs target entries rows firsts goes closes sticks label labels member Row symbol consuming split divide first_of first_in second_of looks inlined own covered turns levels leaf_of loses lacks leaves_well exits row_of takes ends_at closing child_goes child_sticks child_at limits_at nests typed type_at reports is_node ok ends_well root_ends belongs leaf_check weight walk pop_check row_check tidy_check of_row leaf_of_row follows_table level_check limit_check document_follows turns_follow
+unfolding ◌and◌ ◌or◌ is_leaf at ends exit arcs target entries rows firsts goes closes sticks label labels member Row symbol consuming split divide first_of first_in second_of looks inlined own covered turns levels leaf_of loses lacks leaves_well exits row_of takes ends_at closing child_goes child_sticks child_at limits_at nests typed type_at reports is_node ok ends_well root_ends part_ends belongs leaf_check weight walk pop_check row_check tidy_check of_row leaf_of_row follows_table level_check limit_check document_follows turns_follow
 computing = tt
 
 -- No node's rule is at fault. A node with a place is looked at in both.

@@ -6,6 +6,7 @@ pub mod FirstReport
 pub mod Positions
 pub mod Moves
 pub mod Simulation
+pub mod Roots
 pub mod Soundness
 pub mod OverTexts
 pub mod FirstErrors

@@ -36,7 +36,7 @@ use Rattle.parser_rules.proofs.runs.Frame.{add_all-above, root-kept}
 use Rattle.parser_rules.proofs.runs.AtTheEnd.{EndNow, ends, read-ends}
 use Rattle.parser_rules.proofs.runs.Reading.{Reading, found, Shown, second-shown, reading}
 use Rattle.parser_rules.proofs.runs.Marked as marked
-use Rattle.parser_rules.proofs.runs.Marked.{by-kind, Source, token, aside, Marked, append, erase, erase-append, flat, flat-append, set_aside, source_at, now_of, sources, moved_on, to_come, first-part}
+use Rattle.parser_rules.proofs.runs.Marked.{by-kind, Source, token, aside, Marked, append, erase, erase-append, flat, flat-append, set_aside, source_at, now_of, sources, moved_on, to_come, FirstPart, first-part}
 use Rattle.parser_rules.proofs.runs.Walk.{after_pending, always, Goes, Sound, walked_whole, walk, walked_root}
 use Rattle.parser_rules.proofs.runs.Reporting.{after-note, after-too-deep}
 use Rattle.parser_rules.proofs.reports.NoReport.{end-kind}
@@ -53,11 +53,11 @@ leaves-join (leaf k s rest) g = ap (λ l. record { kind = k; text = s } ∷ l) (
 leaves-join (node k kids rest) g = ap (λ l. leaves kids ++ l) (leaves-join rest g) ∙ sym (append_assoc (leaves kids) (leaves rest) (leaves g))
 
 -- the leaf of a token belongs to it, and what waited is a leaf as it was
-abbrev LeafOf : Source → PendingToken → Type 0
+abbrev pub LeafOf : Source → PendingToken → Type 0
 LeafOf (token x) l = (l.text ≡ x.text) × IsLeafOf (Some x.kind) l
 LeafOf (aside p) l = (l.text ≡ p.text) × (l.kind ≡ p.kind)
 
-data LeavesOf : List Source → List PendingToken → Type 0 where
+pub data LeavesOf : List Source → List PendingToken → Type 0 where
   no_more : LeavesOf [] []
   one_more : {o : Source} {l : PendingToken} {v : List Source} {ls : List PendingToken} → LeafOf o l → LeavesOf v ls → LeavesOf (o ∷ v) (l ∷ ls)
 
@@ -65,7 +65,7 @@ leaves-append : {v w : List Source} {ls ms : List PendingToken} → LeavesOf v l
 leaves-append no_more k = k
 leaves-append (one_more i h) k = one_more i (leaves-append h k)
 
-abbrev Fit : Marked → Type 0
+abbrev pub Fit : Marked → Type 0
 Fit f = LeavesOf (flat f) (leaves (erase f))
 
 fit-append : (f g : Marked) → Fit f → Fit g → Fit (append f g)
@@ -299,12 +299,15 @@ first-leaves (gives item ∷ xs) w (one_more {l = l} {ls = ls} i m) e =
       text = ap₂ (λ (a b : Text). a ++ b) o.0 f.text;
     }
 
--- the leaves of a root that was not left are one for one the first items
-pub root-leaves : {q : Rule} {t : State} (items : List Answer) (limit : ℕ) (k : SyntaxKind) → walk leaf_check 5 q anything always ≡ true → Runs q (flush (begun items limit k)) t → FirstLeaves items (leaves t.tree.here)
+-- what the leaves of a root that was not left are made of
+pub root-part : {q : Rule} {t : State} (items : List Answer) (limit : ℕ) (k : SyntaxKind) → walk leaf_check 5 q anything always ≡ true → Runs q (flush (begun items limit k)) t → (f : Marked) × FirstPart items t f × Fit f
 unfolding flush
-root-leaves {t = t} items limit k c run =
+root-part {t = t} items limit k c run =
     let b : State = begun items limit k in
     let shown = (found (reading items (fresh items limit k))).shown in
     let (f, a, e, h, g) = walked_root leaf_check Held sound items limit k anything always run c (record { shown = shown; seen = seen-any (flush b) shown; fits = no_more }) in
-    let p = first-part items limit k t (append (set_aside b.pending) f) g in
-    subst (λ (x : Forest). FirstLeaves items (leaves x)) p.tree (first-leaves items (to_come t) (fit-append (set_aside b.pending) f (fit-aside b.pending) h.fits) p.order)
+    (append (set_aside b.pending) f, first-part items limit k t (append (set_aside b.pending) f) g, fit-append (set_aside b.pending) f (fit-aside b.pending) h.fits)
+
+-- they are one for one the first items
+pub root-leaves : {q : Rule} {t : State} (items : List Answer) (limit : ℕ) (k : SyntaxKind) → walk leaf_check 5 q anything always ≡ true → Runs q (flush (begun items limit k)) t → FirstLeaves items (leaves t.tree.here)
+root-leaves {t = t} items limit k c run = let p = root-part items limit k c run in subst (λ (x : Forest). FirstLeaves items (leaves x)) p.1.tree (first-leaves items (to_come t) p.2 p.1.order)

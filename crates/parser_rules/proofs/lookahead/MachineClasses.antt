@@ -1,6 +1,7 @@
 -- The machine's classes of the next two tokens, where the rules' sets hold the current one and the one after it.
-use Rattle.std.proofs.Common.{◌≡◌, ℕ, ◌^◌, true, false, List, [], ◌++◌, Option, Some, None, refl, sym, subst, inl, inr}
+use Rattle.std.proofs.Common.{◌≡◌, ℕ, ◌^◌, Bool, true, false, cond, ap, ◌∙◌, List, [], ◌++◌, Option, Some, None, refl, sym, subst, inl, inr}
 use Rattle.lexical_grammar.specs.Answers.{Answer, is_end}
+use Rattle.lexical_grammar.specs.declared.TokenKind.{TokenKind}
 use Rattle.document_grammar.specs.Sentence.{leaf_number}
 use Rattle.document_grammar.specs.Tree.{Token}
 use Rattle.grammar_machine.specs.Machine.{holds as within, class, first as first_class, second as second_class}
@@ -8,7 +9,7 @@ use Rattle.grammar_machine.proofs.Checks.{disjoint}
 use Rattle.document_grammar.proofs.Booleans.{either, false-true}
 use Rattle.grammar_machine.proofs.TableLemmas.{holds-disjoint, holds-or}
 use Rattle.parser_rules.specs.State.{State, Lexeme, second}
-use Rattle.parser_rules.proofs.lookahead.TokenSets.{edges, absent, class_of, ready, not-zero, holds-minus, Seen}
+use Rattle.parser_rules.proofs.lookahead.TokenSets.{edges, absent, lexeme_class, class_of, ready, not-zero, holds-minus, Seen}
 use Rattle.parser_rules.proofs.reports.NoReport.{EndsWell, Now, rest, answers_tokens, current_tokens, ignored-tokens, ignored-end, end-kind, significant, standing}
 use Rattle.parser_rules.proofs.runs.Reading.{Reading, stops, cuts, bad_text, waits, shows, reading-none, looks}
 use Rattle.parser_rules.proofs.lookahead.FirstSets.{without}
@@ -46,6 +47,15 @@ sees (waits {item = item} {k = k} {own = own} i j r) y e h = rw (i, ignored-toke
 sees (shows {item = item} {k = k} {xs = xs} i j) y e h = elim (either (is_end k)) [
   | inl z ↦ (let n : xs ≡ [] = rw (i, z) at e in rw (i, n, end-kind k z) (behind-in 0 y edges.end_none (rw z at h)))
   | inr z ↦ (let b : Token = (leaf_number k, item.text) in rw (i, significant k item.text z j) (behind-in (class b) y (class-shown b) (rw z at h)))
+]
+
+-- the current token's class is the machine's class of the first token that is left
+pub current-class : (o : Option Lexeme) (items : List Answer) → Now o items → class_of o ≡ first_class (current_tokens o ++ answers_tokens items)
+unfolding first_class
+current-class None items n = absurd n
+current-class (Some t) items n = elim (standing t items n) [
+  | inl a ↦ ap (λ (k : TokenKind). lexeme_class k t.text) a.kind ∙ sym (ap first_class a.nothing)
+  | inr a ↦ ap (λ (b : Bool). cond b 0 (class (leaf_number t.kind, t.text))) a.is_end ∙ sym (ap first_class a.first)
 ]
 
 -- ---- the next two

@@ -1,5 +1,5 @@
 -- What holds of a tree with reports, in the words of the definitions: which children a node has, and where tokens that were left over stand.
-use Rattle.std.proofs.Common.{◌≡◌, ◌≢◌, ℕ, zero, suc, ◌+◌, ◌<◌, Bool, true, false, true≢false, ◌&&◌, ◌||◌, cond, eqb, eq-eqb, ne_eqb, List, [], ◌∷◌, ◌++◌, length, None, refl, sym, ap, ap₂, ◌∙◌, subst, arith, length-append}
+use Rattle.std.proofs.Common.{◌≡◌, ℕ, zero, suc, ◌+◌, ◌<◌, Bool, true, false, true≢false, ◌&&◌, ◌||◌, cond, eqb, eq-eqb, ne_eqb, List, [], ◌∷◌, ◌++◌, length, None, refl, sym, ap, ap₂, ◌∙◌, subst, arith, length-append}
 use Rattle.std.specs.Prelude.{⊤}
 use Rattle.std.proofs.lemmas.Bool.{and_right}
 use Rattle.lexical_grammar.specs.declared.TokenKind.{TokenKind}
@@ -14,7 +14,7 @@ use Rattle.document_grammar.specs.Numbers.{number}
 use Rattle.document_grammar.specs.Kinds.{ERROR, LIST_VALUE}
 use Rattle.document_grammar.specs.Forests as built
 use Rattle.document_grammar.specs.Numbered.{numbered}
-use Rattle.document_grammar.specs.Tree.{Text, Forest}
+use Rattle.document_grammar.specs.Tree.{Text}
 use Rattle.document_grammar.specs.Derivation.{texts as tree_texts}
 use Rattle.document_grammar.specs.Booleans.{◌and◌}
 use Rattle.document_grammar.specs.Recovery.{AllRowed, is_such, token_at, is_right_bracket, left_over, count_left_over, NoBracket, Spares, LeftOver}

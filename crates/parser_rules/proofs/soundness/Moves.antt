@@ -1,10 +1,9 @@
 -- The machine's moves along a rule: where it is stuck, where the limit is reached, and how it takes a token, begins a node and ends one.
-use Rattle.std.proofs.Common.{◌≡◌, ℕ, ◌+◌, ◌<◌, Bool, true, false, cond, eqb, not, List, [], ◌∷◌, ◌++◌, length, Option, Some, None, refl, sym, ap, ap₂, ◌∙◌, subst, ◌⊎◌, inl, inr, eqb-true, arith, leb-true}
+use Rattle.std.proofs.Common.{◌≡◌, ℕ, ◌+◌, ◌≤◌, ◌<◌, Bool, true, false, cond, eqb, not, List, [], ◌∷◌, ◌++◌, length, Option, Some, None, refl, sym, ap, ap₂, ◌∙◌, subst, ◌⊎◌, inl, inr, eqb-true, arith, leb-true}
 use Rattle.lexical_grammar.specs.Answers.{is_end}
 use Rattle.document_grammar.specs.declared.kind.SyntaxKind.{SyntaxKind}
 use Rattle.document_grammar.specs.Numbers.{number}
 use Rattle.document_grammar.specs.Sentence.{leaf_number}
-use Rattle.document_grammar.specs.Kinds.{DOCUMENT}
 use Rattle.grammar_machine.specs.Symbols.{TYPE}
 use Rattle.document_grammar.specs.Builds.{add_leaf}
 use Rattle.document_grammar.specs.Tree.{Token, Tree, leaf, node, Forest, none, ◌▸◌, ◌+++◌}
@@ -13,7 +12,8 @@ use Rattle.grammar_machine.specs.Machine.{holds as within, is_leaf, ends, exit, 
 use Rattle.document_grammar.proofs.Booleans.{false-true, and-l, and-r, or-c, not-c, implies}
 use Rattle.grammar_machine.proofs.TableLemmas.{holds-subset, holds-disjoint, arcs-at}
 use Rattle.grammar_machine.proofs.Checks.{subset}
-use Rattle.grammar_machine.proofs.Depth.{count_in, nesting_all, left-depth}
+use Rattle.grammar_machine.proofs.Depth.{count_in, nesting_all, depth, left-depth}
+use Rattle.grammar_machine.proofs.Makes.{makes-on, makes-depth, makes-stuck}
 use Rattle.grammar_machine.proofs.Patterns.{label}
 use Rattle.grammar_machine.proofs.FromMachineTree.{shows, show, show-root}
 use Rattle.grammar_machine.proofs.Sound.{any, second-any, spent, reach-sound, move-ends, move-has, move-fires}
@@ -33,9 +33,9 @@ use Rattle.parser_rules.proofs.runs.Reading.{second-shown, reading, found}
 use Rattle.parser_rules.proofs.lookahead.TokenSets.{edges, class_of, of-any, over, Seen, seen-any}
 use Rattle.parser_rules.proofs.soundness.MachineStack.{image, image-some, shows-snoc, put-image, image-node, lay, lay-put}
 use Rattle.parser_rules.proofs.soundness.Settled.{Fitting, settled-at}
-use Rattle.parser_rules.proofs.soundness.TableCheck.{Then, behind, raised, own, levels, leaf_of, loses, takes, ends_at, after, closing, losing, counted, limits_at, reports, is_node, ends_well, follows_table, no_brace, leaves_well, deepens}
+use Rattle.parser_rules.proofs.soundness.TableCheck.{Then, behind, raised, own, lone, levels, leaf_of, loses, takes, ends_at, after, closing, losing, counted, limits_at, reports, is_node, ends_well, follows_table, no_brace, leaves_well, deepens}
 use Rattle.parser_rules.proofs.NodeChecks.{node-passes}
-use Rattle.parser_rules.proofs.soundness.Positions.{Reading, Alike, opened-alike, closed-alike, idle-rest, idle-grows, top, Place, Stands, Lost, Known, StandsAt, Rightly, Still_calm, Tells, Fits, Way, Out, tell-on, known-firm, start_good, shown, spent-behind, fitting, stands-taken, idle-lost, leveled-leaf, leveled-begin, leveled-end, still-leveled, moved-on}
+use Rattle.parser_rules.proofs.soundness.Positions.{Reading, Alike, opened-alike, closed-alike, idle-rest, idle-grows, top, Place, Stands, Lost, Known, StandsAt, Rightly, Still_calm, Tells, Made, Fits, Way, Out, tell-on, known-firm, start_good, shown, spent-behind, fitting, stands-taken, idle-lost, leveled-leaf, leveled-begin, leveled-end, still-leveled, moved-on}
 
 module _ (R : Reading) where
   open R use {sort, answers, limit as lim, words as w}
@@ -55,7 +55,7 @@ module _ (R : Reading) where
       ((fault (top R) (start_good R) w s q c.children fs (rest st) c.place.reach (sticks-move s q x (behind y) _ _ h n.near n.far), (frame s q c.children ∷ fs, c.place.reach)), stands-taken R c)
 
   -- the root may end here, and tokens are left
-  pub root-stuck : {s q : ℕ} {l : Level} {f : Forest} {fs : List Frame} {st : State} → Place R s q l f fs st → eqb s DOCUMENT ≡ true → next s q (rest st) ≡ close → (first_class (rest st) ≡ 0 → ⊥) → Stuck sort answers lim w (rest st)
+  pub root-stuck : {s q : ℕ} {l : Level} {f : Forest} {fs : List Frame} {st : State} → Place R s q l f fs st → lone s ≡ true → next s q (rest st) ≡ close → (first_class (rest st) ≡ 0 → ⊥) → Stuck sort answers lim w (rest st)
   root-stuck {s = s} {q = q} {f = f} {fs = fs} {st = st} c h m z =
       let alone : Reach (top R) w (frame s q f ∷ []) (rest st) = subst (λ (z : List Frame). Reach (top R) w (frame s q f ∷ z) (rest st)) (c.alone h) c.reach in
       let e : s ≡ (top R) = (reach-sound (start-no-leaf (top R) (start_good R)) alone).2 in
@@ -79,12 +79,27 @@ module _ (R : Reading) where
 
   -- ---- the limit
 
+  -- where the machine comes before the tokens `v` of `u`, the tree nests as deep as the open nodes, and the machine is not stuck
+  pub record Passes (u v : List Token) (t : Tree) : Type 0 where
+    pub deep : (gs : List Frame) → Reach (top R) u gs v → depth gs ≤ nesting_all t
+    pub goes : (s q : ℕ) (f : Forest) (fs : List Frame) → Reach (top R) u (frame s q f ∷ fs) v → next s q v ≡ stuck → ⊥
+
+  -- so it is for a tree of the tokens, and for the tree that the machine makes
+  pub parse-passes : (u v : List Token) (t : Tree) → Parse (top R) t u → Passes u v t
+  parse-passes u v t p = record {
+    deep = λ gs r. left-depth gs v t (on-the-way (top R) (start_good R) t u gs v p r);
+    goes = λ s q f fs r m. never-stuck (top R) (start_good R) t u s q f fs v p r m;
+  }
+
+  pub made-passes : (v : List Token) (t : Tree) → Made R t → Passes w v t
+  made-passes v t p = record { deep = λ gs r. makes-depth (makes-on r p); goes = λ s q f fs r m. makes-stuck (makes-on r p) m }
+
   -- where the check lets a level be entered, each tree that goes on nests deeper
-  pub goes-deeper : {s q : ℕ} {l : Level} {f : Forest} {fs : List Frame} {st : State} (x : ℕ) (t : Tree) (v u : List Token) → deepens s q l x ≡ true → Place R s q l f fs st → Parse (top R) t u → within (first_class v) x ≡ true → Reach (top R) u (frame s q f ∷ fs) v → st.depth < nesting_all t
+  pub goes-deeper : {s q : ℕ} {l : Level} {f : Forest} {fs : List Frame} {st : State} (x : ℕ) (t : Tree) (v u : List Token) → deepens s q l x ≡ true → Place R s q l f fs st → Passes u v t → within (first_class v) x ≡ true → Reach (top R) u (frame s q f ∷ fs) v → st.depth < nesting_all t
   unfolding has fires
   goes-deeper {s = s} {q = q} {l = l} {f = f} {fs = fs} {st = st} x t v u h c p hx r = elim (or-c _ _ (and-r _ _ h)) [
     | inl i ↦ (
-        let a = left-depth gs v t (on-the-way (top R) (start_good R) t u gs v p r) in
+        let a = p.deep gs r in
         let o = eqb-true _ _ i in
         omega (arith, a, o, low_level, c.leveled.level))
     | inr i ↦ on (next s q v) refl (eqb-true _ _ (and-l _ _ i)) (and-r _ _ i)
@@ -98,11 +113,11 @@ module _ (R : Reading) where
 
       on : (m : Move) → next s q v ≡ m → own s ≡ 0 → counted s (arcs s q) x any and not (ends s q) ≡ true → st.depth < nesting_all t
       on close m o i = false-true (not-c _ (and-r _ _ i)) (move-ends s q _ _ m)
-      on stuck m o i = absurd (never-stuck (top R) (start_good R) t u s q f fs v p r m)
+      on stuck m o i = absurd (p.goes s q f fs r m)
       on (go k) m o i = elim (or-c _ _ (arcs-at (arcs s q) (λ k q'. misses k x any or (eqb (count_in s k) 1 and not (is_leaf k))) k (and-l _ _ i) (move-has s q _ _ k m))) [
         | inl z ↦ false-true (misses-fires (entries k) x any _ _ z hx (second-any v)) (move-fires s q _ _ k m)
         | inr z ↦ (
-            let a = left-depth (frame k 0 none ∷ gs) v t (on-the-way (top R) (start_good R) t u (frame k 0 none ∷ gs) v p (open' r m (not-c _ (and-r _ _ z)))) in
+            let a = p.deep (frame k 0 none ∷ gs) (open' r m (not-c _ (and-r _ _ z))) in
             let b = eqb-true _ _ (and-l _ _ z) in
             omega (arith, a, b, o, low_level, c.leveled.level))
       ]
@@ -121,7 +136,7 @@ module _ (R : Reading) where
         comes = (frame s q g.stands.0.children ∷ fs, c.reach);
         deeper = λ t v p e.
             let a = leb-true st.limit st.depth g.stands.1.1 in
-            let b = goes-deeper x t v (k.before ++ v) (and-r _ _ h) c p (subst (λ (n : ℕ). within n x ≡ true) e (fits-next g).near) (k.firm v e) in
+            let b = goes-deeper x t v (k.before ++ v) (and-r _ _ h) c (parse-passes (k.before ++ v) v t p) (subst (λ (n : ℕ). within n x ≡ true) e (fits-next g).near) (k.firm v e) in
             omega (arith, a, b, c.leveled.bounds.limit);
       }
 
@@ -203,7 +218,7 @@ module _ (R : Reading) where
   -- ---- a node begins and ends
 
   -- a node of the symbol `j` begins
-  pub begun : {s q x y : ℕ} {l : Level} {d : Sure} {fs : List Frame} {st v : State} (j : ℕ) (g : Fits R s (spot q l d) x y fs st) → is_leaf j ≡ false → eqb j DOCUMENT ≡ false → goes s q x (behind y) j ≡ true → levels s l j ≡ true → Alike st v
+  pub begun : {s q x y : ℕ} {l : Level} {d : Sure} {fs : List Frame} {st v : State} (j : ℕ) (g : Fits R s (spot q l d) x y fs st) → is_leaf j ≡ false → lone j ≡ false → goes s q x (behind y) j ≡ true → levels s l j ≡ true → Alike st v
       → (stack st.tree ≡ image (frame s q g.stands.0.children ∷ fs) → stack v.tree ≡ image (frame j 0 none ∷ frame s q g.stands.0.children ∷ fs)) → Fits R j (spot 0 low loose) x y (frame s q g.stands.0.children ∷ fs) v
   begun j g i ro m h e b =
       let c = g.stands.0 in
@@ -216,8 +231,8 @@ module _ (R : Reading) where
         tt,
       )
 
-  -- a node is none of a leaf, a type and the document, and its symbol's kind is its own
-  pub node-is : (c : Node) → (is_leaf (symbol c) ≡ false) × (eqb (symbol c) TYPE ≡ false) × (eqb (symbol c) DOCUMENT ≡ false) × (label (symbol c) ≡ number (kind_of c))
+  -- a node is none of a leaf, a type and what only a root is, and its symbol's kind is its own
+  pub node-is : (c : Node) → (is_leaf (symbol c) ≡ false) × (eqb (symbol c) TYPE ≡ false) × (lone (symbol c) ≡ false) × (label (symbol c) ≡ number (kind_of c))
   unfolding follows_table is_node
   node-is c = let h = and-l _ _ (node-passes c).table in let r = and-r _ _ h in (not-c _ (and-l _ _ h), not-c _ (and-l _ _ r), not-c _ (and-l _ _ (and-r _ _ r)), eqb-true _ _ (and-r _ _ (and-r _ _ r)))
 

@@ -12,9 +12,9 @@ use Rattle.grammar_machine.proofs.SentenceTheorems.{not-starts, read-map, two-ma
 use Rattle.lexical_grammar.specs.Cut.{Item, Cut, texts, Significant, significant_word}
 use Rattle.lexical_grammar.specs.Begins.{are_tokens}
 use Rattle.lexical_grammar.proofs.Limited.{limited-end}
-use Rattle.lexical_grammar.specs.Answers.{Answer, gives, limited, is_token, limit_at, limit_index, is_end}
+use Rattle.lexical_grammar.specs.Answers.{Answer, gives, limited, is_token, limit_at, limit_index, is_end, answers_text}
 use Rattle.document_grammar.specs.declared.kind.SyntaxKind.TheVariants as kind
-use Rattle.document_grammar.specs.Derivation.{document, Spells, Mark, word, marks, Starts, StartsWithin}
+use Rattle.document_grammar.specs.Derivation.{Sort, document, Spells, Mark, word, marks, Starts, StartsWithin}
 use Rattle.document_grammar.specs.Sentence.{token_of, Sentence, Within, Begins, StartSentence, StartSentenceWithin, leaf_number}
 use Rattle.document_grammar.specs.Tree.{Token, Tree}
 use Rattle.document_grammar.specs.FirstError.{tokens_of}
@@ -45,6 +45,17 @@ all-given (suc k) [] c h = refl
 all-given zero (item ∷ items) c h = absurd (omega arith)
 all-given (suc k) (item ∷ items) c h = let p = and_parts (is_some item.kind) (are_tokens items) h in and-i p.0 (all-given k items (omega arith) p.1)
 
+-- over a sentence within both limits, its tokens are answered, and all answers are tokens
+pub sentence-answers : (sort : Sort) (r k : ℕ) (source : List ℕ) (items : List Item) (t : Tree) → Cut source items → Sentence source t sort → Within source t r k
+    → (all_tokens (limited k items) ≡ true) × Spells (answers_tokens (limited k items)) t sort
+sentence-answers sort r k source items t cut h n =
+    let same : h.items ≡ items = one-cut source h.items items h.cut cut h.tokens in
+    let tokens : are_tokens items ≡ true = subst (λ (l : List Item). are_tokens l ≡ true) same h.tokens in
+    let other : items ≡ n.items = one-cut source items n.items cut n.cut tokens in
+    let count : length items ≤ k = subst (λ (l : List Item). length l ≤ k) (sym other) n.count in
+    let all : all_tokens (limited k items) ≡ true = all-given k items count tokens in
+    (all, (h.derivation, h.yield ∙ (ap (λ (l : List Item). map token_of (Significant l)) same ∙ sym (given k items all).words)))
+
 -- ---- the place of an answer in the text
 
 -- the token is the end, or a significant token or the end follows it within the token limit
@@ -60,6 +71,7 @@ pub record Before (k : ℕ) (items : List Item) (front : List Answer) (x : Answe
   pub words : answers_tokens front ≡ tokens_of before
   -- what was answered from there on, up to the token limit
   pub answers : limited (k - length before) (item ∷ more) ≡ x ∷ ys
+  pub text : answers_text front ≡ texts before
 
 -- an item that was answered, and what follows it; and the limit
 pub given-is : (n : ℕ) (item i : Item) (more : List Item) (ys : List Answer) → limited n (item ∷ more) ≡ gives i ∷ ys → (i ≡ item) × (limited (n - 1) more ≡ ys)
@@ -111,7 +123,7 @@ behind-one (suc k) (item ∷ more) (shows {k = j} i n) e h = ap (λ (v : List To
 
 pub before-at : (k : ℕ) (items : List Item) (front : List Answer) (x : Answer) (ys : List Answer) → limited k items ≡ front ++ x ∷ ys → all_tokens front ≡ true → Before k items front x ys
 before-at k [] front x ys e h = none-there x front ys (sym (limited-end k) ∙ e)
-before-at k (item ∷ items) [] x ys e h = record { before = []; item = item; more = items; split = refl; tokens = refl; words = refl; answers = (let n : k - 0 ≡ k = omega arith in rw n e) }
+before-at k (item ∷ items) [] x ys e h = record { before = []; item = item; more = items; split = refl; tokens = refl; words = refl; answers = (let n : k - 0 ≡ k = omega arith in rw n e); text = refl }
 before-at zero (item ∷ items) (f ∷ front) x ys e h = none-there x front ys (tail-same e)
 before-at (suc k) (item ∷ items) (f ∷ front) x ys e h =
     let first : gives item ≡ f = head-same e in
@@ -124,6 +136,7 @@ before-at (suc k) (item ∷ items) (f ∷ front) x ys e h =
       tokens = and_from _ _ (subst (λ (a : Answer). is_token a ≡ true) (sym first) (and-l _ _ h)) r.tokens;
       words = ap (λ (a : Answer). answers_tokens (a ∷ front)) (sym first) ∙ (ap₂ (λ (v u : List Token). v ++ u) (item-words item.kind item.text) r.words ∙ sym (map-append token_of (significant_word item.kind item.text) (Significant r.before)));
       answers = (let n : suc k - suc (length r.before) ≡ k - length r.before = omega arith in rw n r.answers);
+      text = ap (λ (a : Answer). answers_text (a ∷ front)) (sym first) ∙ ap (λ (v : List ℕ). item.text ++ v) r.text;
     }
 
 module _ {k : ℕ} {items : List Item} {front ys : List Answer} (t : Lexeme) (b : Before k items front (given_by t) ys) where
@@ -185,13 +198,8 @@ module _ (r k : ℕ) (source : List ℕ) (items : List Item) (s : State) (cut : 
   -- Acceptance.
   pub accepts-text : (t : Tree) → Sentence source t document → Within source t r k → s.errors ≡ []
   accepts-text t h n =
-      let same : h.items ≡ items = one-cut source h.items items h.cut cut h.tokens in
-      let tokens : are_tokens items ≡ true = subst (λ (l : List Item). are_tokens l ≡ true) same h.tokens in
-      let other : items ≡ n.items = one-cut source items n.items cut n.cut tokens in
-      let count : length items ≤ k = subst (λ (l : List Item). length l ≤ k) (sym other) n.count in
-      let all : all_tokens (limited k items) ≡ true = all-given k items count tokens in
-      let spells : Spells (answers_tokens (limited k items)) t document = (h.derivation, h.yield ∙ (ap (λ (l : List Item). map token_of (Significant l)) same ∙ sym (given k items all).words)) in
-      accepted r (limited k items) s t (ends-well k 0 items cut.each) root run spells n.nesting all
+      let a = sentence-answers document r k source items t cut h n in
+      accepted r (limited k items) s t (ends-well k 0 items cut.each) root run a.1 n.nesting a.0
 
   -- The tree that is built then is the derivation.
   pub accepts-tree : (t : Tree) → Sentence source t document → Within source t r k → bare (tree_of (finished s)) ≡ t

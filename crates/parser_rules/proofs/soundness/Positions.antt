@@ -4,7 +4,8 @@ use Rattle.std.specs.Prelude.{⊤}
 use Rattle.lexical_grammar.specs.Answers.{Answer}
 use Rattle.document_grammar.specs.declared.kind.SyntaxKind.{SyntaxKind}
 use Rattle.document_grammar.specs.declared.kind.SyntaxKind.TheVariants as kind
-use Rattle.document_grammar.specs.Kinds.{DOCUMENT, SELECTION_SET, LIST_TYPE}
+use Rattle.document_grammar.specs.Kinds.{SELECTION_SET, LIST_TYPE}
+use Rattle.grammar_machine.specs.Symbols.{BARE_SELECTIONS}
 use Rattle.document_grammar.specs.Builds.{Building}
 use Rattle.document_grammar.specs.Tree.{Text, Token, Tree, leaf, node, Forest, none, ◌▸◌, ◌+++◌}
 use Rattle.document_grammar.specs.Booleans.{◌or◌}
@@ -12,7 +13,8 @@ use Rattle.grammar_machine.specs.Machine.{is_leaf, first as first_class, Frame, 
 use Rattle.document_grammar.proofs.Booleans.{false-true, and-l, and-r}
 use Rattle.grammar_machine.proofs.Depth.{depth_above, nesting_all, peak, peak-open, peak-close, peak-shift}
 use Rattle.grammar_machine.proofs.Sound.{spent, reach-sound, reach-spent}
-use Rattle.grammar_machine.proofs.MachineTheorems.{Parse, begins_parse, no-leaf as start-no-leaf}
+use Rattle.grammar_machine.proofs.MachineTheorems.{begins_parse, no-leaf as start-no-leaf}
+use Rattle.grammar_machine.proofs.Makes.{Makes}
 use Rattle.grammar_machine.proofs.Starts.{opens}
 use Rattle.grammar_machine.proofs.OneTokenLookahead.{Firm}
 use Rattle.document_grammar.specs.Derivation.{Sort}
@@ -34,13 +36,13 @@ use Rattle.parser_rules.proofs.runs.Reading.{Shown}
 use Rattle.parser_rules.proofs.lookahead.TokenSets.{Seen, seen-same}
 use Rattle.parser_rules.proofs.soundness.MachineStack.{image}
 use Rattle.parser_rules.proofs.soundness.Settled.{Settled, Fitting, fitting-image, settled-at, settled-added, settled-start, settled-finish, settled-wrap}
-use Rattle.parser_rules.proofs.soundness.TableCheck.{Then, raised, own, owed, is_firm, weak, levels}
+use Rattle.parser_rules.proofs.soundness.TableCheck.{Then, raised, own, lone, owed, is_firm, weak, levels}
 
 -- ---- levels, on plain numbers
 
 owed-le : (s : ℕ) (l : Level) → owed s l ≤ 1
 unfolding own
-owed-le s low = elim (eqb s SELECTION_SET or eqb s LIST_TYPE) as (λ b. cond b 1 0 ≤ 1) [ true ↦ omega arith | false ↦ omega arith ]
+owed-le s low = elim (eqb s SELECTION_SET or (eqb s LIST_TYPE or eqb s BARE_SELECTIONS)) as (λ b. cond b 1 0 ≤ 1) [ true ↦ omega arith | false ↦ omega arith ]
 owed-le s high = omega arith
 owed-le s past = omega arith
 
@@ -121,10 +123,14 @@ module _ (R : Reading) where
   abbrev pub top : ℕ
   top = start_symbol sort w
 
-  -- The greatest depth is within the limit, and each tree of all the tokens nests as deep.
+  -- the machine makes the tree, whatever tokens it leaves
+  abbrev pub Made : Tree → Type 0
+  Made t = Makes (frame top 0 none ∷ []) w t
+
+  -- The greatest depth is within the limit, and the tree that the machine makes nests as deep.
   pub record Bounded (most bound : ℕ) : Type 0 where
     pub kept : most ≤ lim
-    pub nested : (t : Tree) → Parse top t w → most ≤ nesting_all t
+    pub nested : (t : Tree) → Made t → most ≤ nesting_all t
     pub limit : bound ≡ lim
 
   -- The depth agrees with the open nodes; the greatest depth covers what they nest.
@@ -139,7 +145,7 @@ module _ (R : Reading) where
   pub record Place (s q : ℕ) (l : Level) (f : Forest) (fs : List Frame) (st : State) : Type 0 where
     pub reach : Reach top w (frame s q f ∷ fs) (rest st)
     pub leveled : Leveled s q l f fs st.depth st.high st.limit
-    pub alone : eqb s DOCUMENT ≡ true → fs ≡ []
+    pub alone : lone s ≡ true → fs ≡ []
 
   -- The builder has the same nodes.
   pub record Stands (s q : ℕ) (l : Level) (fs : List Frame) (st : State) : Type 0 where
@@ -258,7 +264,7 @@ module _ (R : Reading) where
 
   -- ---- levels
 
-  pub leveled-enter : {s q : ℕ} {l : Level} {f : Forest} {fs : List Frame} {d h m : ℕ} → raised l ≡ 0 → suc d ≤ m → ((t : Tree) → Parse top t w → d < nesting_all t) → Leveled s q l f fs d h m → Leveled s q high f fs (d + 1) (max h (d + 1)) m
+  pub leveled-enter : {s q : ℕ} {l : Level} {f : Forest} {fs : List Frame} {d h m : ℕ} → raised l ≡ 0 → suc d ≤ m → ((t : Tree) → Made t → d < nesting_all t) → Leveled s q l f fs d h m → Leveled s q high f fs (d + 1) (max h (d + 1)) m
   leveled-enter {s = s} {l = l} r b n v = record {
     level = omega (arith, r);
     entered = omega arith;

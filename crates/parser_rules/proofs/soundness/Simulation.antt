@@ -13,7 +13,7 @@ use Rattle.grammar_machine.proofs.Checks.{subset}
 use Rattle.grammar_machine.proofs.Depth.{nesting_all}
 use Rattle.grammar_machine.proofs.FromMachineTree.{shows, show}
 use Rattle.grammar_machine.proofs.Sound.{any, reach-sound}
-use Rattle.grammar_machine.proofs.MachineTheorems.{Parse, no-leaf as start-no-leaf}
+use Rattle.grammar_machine.proofs.MachineTheorems.{no-leaf as start-no-leaf}
 use Rattle.std.specs.Prelude.{⊤}
 use Rattle.parser_rules.specs.State.{State, flush, opened, closed, wrapped_from, bump, is_deep, enter, leave}
 use Rattle.parser_rules.specs.Nodes.{Node, symbol, kind_of}
@@ -31,8 +31,8 @@ use Rattle.parser_rules.proofs.soundness.MachineStack.{image, image-some, image-
 use Rattle.parser_rules.proofs.soundness.Settled.{fitting-image, fitting-path}
 use Rattle.parser_rules.proofs.soundness.TableCheck.{Mark, Then, same_level, same_sure, weak, same_spot, covered, turns, levels, is_high, lowered, takes, after, closing, losing, child_goes, child_sticks, child_at, limits_at, nests, typed, type_at, ok, ends_well, follows_table, bang_next, no_bang}
 use Rattle.parser_rules.proofs.NodeChecks.{node-passes}
-use Rattle.parser_rules.proofs.soundness.Positions.{Reading, idle-rest, Alike, same-alike, flush-alike, opened-alike, closed-alike, wrapped-alike, renested, left-idle, idle-seen, idle-grows, run-grows, top, Stands, StandsAt, Fits, Way, Out, tell-on, fills, known-weak, start_good, idle-calm, shown, note-told, deep-told, taken-at, idle-lost, leveled-enter, leveled-leave, still-leveled, moved-on}
-use Rattle.parser_rules.proofs.soundness.Moves.{fits-next, lost-at, note-right, goes-deeper, too-many, flushed, Shaped, token-taken, bump-out, begun, begun-in, ended, ended-here, tell-closed, with-sets, node-out, walked-out, lost-out}
+use Rattle.parser_rules.proofs.soundness.Positions.{Reading, idle-rest, Alike, same-alike, flush-alike, opened-alike, closed-alike, wrapped-alike, renested, left-idle, idle-seen, idle-grows, run-grows, top, Made, Stands, StandsAt, Fits, Way, Out, tell-on, fills, known-weak, start_good, idle-calm, shown, note-told, deep-told, taken-at, idle-lost, leveled-enter, leveled-leave, still-leveled, moved-on}
+use Rattle.parser_rules.proofs.soundness.Moves.{fits-next, lost-at, note-right, made-passes, goes-deeper, too-many, flushed, Shaped, token-taken, bump-out, begun, begun-in, ended, ended-here, tell-closed, with-sets, node-out, walked-out, lost-out}
 
 module _ (R : Reading) where
   open R use {words as w}
@@ -257,8 +257,8 @@ module _ (R : Reading) where
       inner : Then
       inner p x y = is_high p and ok n s (lowered p) x y b k
 
-      deeper_tree : (t : Tree) → Parse (top R) t w → st.depth < nesting_all t
-      deeper_tree t p = goes-deeper R x t (rest st) w (and-r _ _ (and-l _ _ h)) c.place p (fits-next R g).near c.place.reach
+      deeper_tree : (t : Tree) → Made R t → st.depth < nesting_all t
+      deeper_tree t p = goes-deeper R x t (rest st) w (and-r _ _ (and-l _ _ h)) c.place (made-passes R (rest st) t p) (fits-next R g).near c.place.reach
 
       within_it : StandsAt R s (spot q high (weak d)) fs (enter st)
       within_it = (

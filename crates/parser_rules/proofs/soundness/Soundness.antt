@@ -22,36 +22,36 @@ use Rattle.document_grammar.specs.Derivation.{document, Spells, nest, StartsWith
 use Rattle.document_grammar.specs.Places.{bare}
 use Rattle.document_grammar.specs.Sentence.{token_of, leaf_number, Sentence, Within}
 use Rattle.document_grammar.specs.Booleans.{◌and◌, ◌or◌}
-use Rattle.grammar_machine.specs.Machine.{holds as within, is_leaf, class, first, second, frame, yields, Reach, start, close as closes_move}
+use Rattle.grammar_machine.specs.Machine.{holds as within, is_leaf, class, first, second, yields, close as closes_move}
 use Rattle.document_grammar.proofs.Booleans.{false-true, and-l, and-r}
 use Rattle.grammar_machine.proofs.TableLemmas.{holds-subset, holds-disjoint, head-same, no-cons}
-use Rattle.grammar_machine.proofs.Depth.{count_in, nest-show, nesting_all, peak-end, peak-start}
-use Rattle.grammar_machine.proofs.SentenceTheorems.{sentence-parse, sound as ended_sound, accepts, begins-at}
+use Rattle.grammar_machine.proofs.Depth.{count_in, nest-show, nesting_all}
+use Rattle.grammar_machine.proofs.SentenceTheorems.{sentence-parse, begins-at}
 use Rattle.grammar_machine.proofs.Patterns.{label}
 use Rattle.grammar_machine.proofs.Run.{next}
 use Rattle.grammar_machine.proofs.FromMachineTree.{show, shows}
 use Rattle.grammar_machine.proofs.Sound.{any, AllSpelt}
 use Rattle.grammar_machine.proofs.Starts.{read, next_one, after-one}
 use Rattle.grammar_machine.proofs.Steps.{closes-move}
-use Rattle.grammar_machine.proofs.MachineTheorems.{Parse, done, document-begins}
 use Rattle.parser_rules.specs.State.{State, Lexeme, Report, add_all, fresh, begun, finished}
 use Rattle.parser_rules.specs.Nodes.{Definition, Document}
 use Rattle.parser_rules.specs.RuleLanguage.{Rule, Call, While, Ready, holds}
 use Rattle.parser_rules.specs.Runs.{Runs, Turns}
 use Rattle.parser_rules.specs.Open.{IsRoot}
-use Rattle.parser_rules.proofs.runs.Frame.{Untouched, read-untouched, add_all-above, turned, begun-nesting}
+use Rattle.parser_rules.proofs.runs.Frame.{Untouched, add_all-above, turned, begun-nesting}
 use Rattle.parser_rules.proofs.soundness.WithoutIgnored.{stack, strip, layers, stack-flush}
-use Rattle.parser_rules.proofs.reports.NoReport.{Stood, reading-stood, stands-along, answers_tokens, all_tokens, rest, current_tokens, item_tokens, EndsWell, Now, standing, given as given_by, Held, all_tokens-append, Blames, read-on}
+use Rattle.parser_rules.proofs.reports.NoReport.{Stood, reading-stood, stands-along, answers_tokens, all_tokens, rest, current_tokens, item_tokens, EndsWell, Now, standing, given as given_by, Held, all_tokens-append}
 use Rattle.parser_rules.proofs.runs.Progress.{ready-there}
 use Rattle.parser_rules.proofs.runs.Reading.{reading}
-use Rattle.parser_rules.proofs.lookahead.TokenSets.{class_of, seen-any, over, ready, not-zero}
+use Rattle.parser_rules.proofs.lookahead.TokenSets.{class_of, over, ready, not-zero}
 use Rattle.parser_rules.proofs.lookahead.Split.{Level, low, high, past, loose, spot, lost}
 use Rattle.parser_rules.proofs.lookahead.MachineClasses.{Next}
 use Rattle.parser_rules.proofs.soundness.TableCheck.{ok, raised, own, owed, behind, root_ends, document_follows}
 use Rattle.parser_rules.proofs.NodeChecks.{document_passes}
-use Rattle.parser_rules.proofs.soundness.FirstReport.{Viable, TooMany, Right, stuck_here, deep_here, no_token}
-use Rattle.parser_rules.proofs.soundness.Positions.{StandsAt, Reading, run-grows, Leveled, Place, Fits, Out, Tells, Rightly, tell-on, shown}
+use Rattle.parser_rules.proofs.soundness.FirstReport.{Viable, TooMany, Right}
+use Rattle.parser_rules.proofs.soundness.Positions.{StandsAt, Reading, run-grows, Place, Fits, Out, Tells, tell-on}
 use Rattle.parser_rules.proofs.soundness.Moves.{fits-next}
+use Rattle.parser_rules.proofs.soundness.Roots.{whole_of, IsRootSymbol, root-opened, root-starts, root-ended, never-right}
 use Rattle.parser_rules.proofs.soundness.Simulation.{good, link}
 
 -- ---- what was answered, where all answers are tokens
@@ -86,43 +86,25 @@ document-label = (refl, refl, refl, refl)
 
 -- all the answers, to a parser with nothing reported
 abbrev pub whole : ℕ → List Answer → Reading
-whole r xs = record { sort = document; answers = xs; limit = r; words = answers_tokens xs }
+whole r xs = whole_of document r xs
 
-pub start-level : (r : ℕ) (xs : List Answer) → Leveled (whole r xs) DOCUMENT 0 low none [] 0 0 r
-start-level r xs = record {
-  level = omega (arith, document-label.1, document-label.3);
-  entered = omega arith;
-  most_open = omega (arith, peak-start DOCUMENT, document-label.3);
-  above = omega arith;
-  bounds = record { kept = omega arith; nested = λ t p. omega arith; limit = refl };
-}
+pub document-root : IsRootSymbol DOCUMENT kind.DOCUMENT
+unfolding label labels own ◌or◌ member
+document-root = record { shown = refl; counted = refl; no_type = refl }
 
 -- where the root is open, nothing is built, and all the tokens are left
 pub root-stands : (r n : ℕ) (xs ys : List Answer) (s : State) → Untouched (record (fresh ys r kind.DOCUMENT) { asked = n }) s → rest s ≡ answers_tokens xs → StandsAt (whole r xs) DOCUMENT (spot 0 low loose) [] s
-root-stands r n xs ys s u e = (
-  record {
-    children = none;
-    place = record { reach = subst (λ (z : List Token). Reach DOCUMENT (answers_tokens xs) (frame DOCUMENT 0 none ∷ []) z) (sym e) start; leveled = rw (u.depth, u.high, u.limit) (start-level r xs); alone = λ e. refl };
-    built = ap stack u.tree ∙ ap (λ (k : ℕ). (k, none) ∷ ((0, none) ∷ [])) (sym document-label.0);
-  },
-  tt,
-)
+root-stands r n xs ys s u e = let o = root-opened document r xs kind.DOCUMENT document-root n ys s u e in (o.0, tt)
 
 start-fits : (r : ℕ) (xs : List Answer) → EndsWell xs → Tells (whole r xs) (begun xs r kind.DOCUMENT) ⊎ Fits (whole r xs) DOCUMENT (spot 0 low loose) any any [] (begun xs r kind.DOCUMENT)
-start-fits r xs e =
-    let s : State = fresh xs r kind.DOCUMENT in
-    let b : State = begun xs r kind.DOCUMENT in
-    elim (read-on xs (Rightly (whole r xs)) (reading xs s) 0 (record { clean = refl; accepts = refl; waits = refl }) e (record { front = []; split = refl; tokens = refl }) blame (omega arith, tt, (tt, tt))) [
-      | inl o ↦ inl o
-      | inr o ↦ inr (record { calm = o.0; seen = seen-any b (shown (whole r xs) b o.0); stands = root-stands r s.asked xs xs b (read-untouched xs s) o.1 })
-    ]
-  where
-    blame : Blames xs (Rightly (whole r xs)) 0 (answers_tokens xs)
-    blame x ys p n z = no_token p n (frame DOCUMENT 0 none ∷ [], subst (λ (u : List Token). Reach DOCUMENT (answers_tokens xs) (frame DOCUMENT 0 none ∷ []) u) (sym z) start) (let e = ap length z in omega (arith, e))
+start-fits r xs e = elim (root-starts document r xs kind.DOCUMENT document-root e) [
+  | inl o ↦ inl o
+  | inr g ↦ inr (record { calm = g.0.calm; seen = g.0.seen; stands = (g.0.stands.0, tt) })
+]
 
 -- ---- the end
 
-finished-tree : (s : State) (layer : ℕ × Forest) (more : List (ℕ × Forest)) → IsRoot s.tree → stack (add_all s.pending s.tree) ≡ layer ∷ more → bare (tree_of (finished s)) ≡ node layer.0 layer.1
+pub finished-tree : (s : State) (layer : ℕ × Forest) (more : List (ℕ × Forest)) → IsRoot s.tree → stack (add_all s.pending s.tree) ≡ layer ∷ more → bare (tree_of (finished s)) ≡ node layer.0 layer.1
 finished-tree s layer more root e =
     let b : Building = add_all s.pending s.tree in
     let o : Open = record { before = built.none; kind = root.0 } in
@@ -183,21 +165,15 @@ root-out r xs s (inr (spot q l d, x, y, h, g)) =
     let n : Next x y (rest s) = fits-next (whole r xs) g in
     let left = nothing-left s.current s.items g.calm.now (holds-subset (class_of s.current) x over (and-r _ _ (and-l _ _ h)) g.seen.near) in
     let m : next DOCUMENT q (rest s) ≡ closes_move = closes-move DOCUMENT q x (behind y) (first (rest s)) (second (rest s)) (and-l _ _ (and-l _ _ h)) n.near n.far in
-    let d = ended_sound document (answers_tokens xs) f (rest s) (q, i.reach, m) in
-    let words : yields f ≡ answers_tokens xs = sym (append-nil (yields f)) ∙ sym (d.0 ∙ ap (λ (v : List Token). yields f ++ v) left.0) in
-    let lv = i.leveled in
-    let low_again : raised l ≡ 0 = eqb-true _ _ (and-r _ _ h) in
-    let owes = owed-none l low_again in
-    let p = (done DOCUMENT document-begins (answers_tokens xs) q f (rest s) i.reach m).1 in
-    let nests = nest-show (node DOCUMENT f) p.0 in
-    let end = peak-end DOCUMENT q f in
+    let d = root-ended (whole r xs) i m (owed-none l (eqb-true _ _ (and-r _ _ h))) in
+    let words : yields f ≡ answers_tokens xs = sym (append-nil (yields f)) ∙ sym (d.split ∙ ap (λ (v : List Token). yields f ++ v) left.0) in
     inr (record {
       silent = g.calm.quiet.clean;
       children = f;
       clean = record {
-        spells = subst (λ (v : List Token). Spells v (show (node DOCUMENT f)) document) words d.1;
-        nesting = omega (arith, document-label.1, document-label.3, lv.level, lv.most_open, low_again, owes, nests, end, lv.bounds.kept);
-        high = omega (arith, document-label.1, document-label.3, lv.level, lv.most_open, low_again, owes, nests, end, lv.bounds.nested (node DOCUMENT f) (p.0, p.1, words));
+        spells = subst (λ (v : List Token). Spells v (show (node DOCUMENT f)) document) words d.spells;
+        nesting = d.nesting;
+        high = d.high;
         tokens = all-read xs s.current s.items g.calm.now g.calm.held left.1;
       };
       built = stack-flush s.pending s.tree g.calm.quiet.waits ∙ st.built;
@@ -289,19 +265,9 @@ turn-of r xs first_rule b st en run turns rd ac =
 
 -- ---- acceptance
 
-token-of-all : (front items : List Answer) (x : Answer) → all_tokens (front ++ x ∷ items) ≡ true → is_token x ≡ true
-token-of-all [] items x h = and-l _ _ h
-token-of-all (y ∷ front) items x h = token-of-all front items x (and-r _ _ h)
-
 -- over a sentence within the limits no report is right
 pub none-right : (r : ℕ) (xs : List Answer) (e : Report) (m : ℕ) (t : Tree) → Spells (answers_tokens xs) t document → nest t ≤ r → all_tokens xs ≡ true → Right document xs r (answers_tokens xs) e m → ⊥
-none-right r xs e m t h n a (stuck_here said {t = lexeme} {items = items} now q k c) = accepts document (answers_tokens xs) (answers_tokens (given_by lexeme ∷ items)) t h k.0
-none-right r xs e m t h n a (deep_here {t = lexeme} {items = items} now q k c) =
-    let u = sentence-parse document (answers_tokens xs) t h in
-    let d = k.deeper u.0 (answers_tokens (given_by lexeme ∷ items)) (subst (λ (z : List Token). Parse DOCUMENT u.0 z) k.split u.1) refl in
-    let nests : nest t ≡ nesting_all u.0 = ap nest (sym u.2) ∙ nest-show u.0 u.1.0 in
-    absurd (omega (arith, d, nests, n))
-none-right r xs e m t h n a (no_token {x = x} {items = items} q other_one v c) = false-true other_one (token-of-all q.front items x (subst (λ (z : List Answer). all_tokens z ≡ true) q.split a))
+none-right = never-right document
 
 -- Acceptance: a sentence within the limits gets no report.
 pub accepted : (r : ℕ) (xs : List Answer) (s : State) (t : Tree) → EndsWell xs → IsRoot s.tree → Runs (Call Document) (begun xs r kind.DOCUMENT) s → Spells (answers_tokens xs) t document → nest t ≤ r → all_tokens xs ≡ true → s.errors ≡ []

@@ -6,7 +6,7 @@ use Rattle.std.specs.Int.Bits.{bit_xor}
 use Rattle.lexical_grammar.specs.declared.TokenKind.TheVariants as token
 use Rattle.document_grammar.specs.declared.kind.SyntaxKind.TheVariants as kind
 use Rattle.document_grammar.specs.Kinds.{ERROR, SELECTION_SET, LIST_TYPE, DOCUMENT, BANG}
-use Rattle.grammar_machine.specs.Symbols.{TYPE, IDENT_FOR_FRAGMENT, IDENT_FOR_ENUM, NAME_FOR_FRAGMENT, NAME_FOR_ENUM}
+use Rattle.grammar_machine.specs.Symbols.{TYPE, IDENT_FOR_FRAGMENT, IDENT_FOR_ENUM, NAME_FOR_FRAGMENT, NAME_FOR_ENUM, BARE_SELECTIONS}
 use Rattle.document_grammar.specs.Numbers.{number}
 use Rattle.document_grammar.specs.Booleans.{◌and◌, ◌or◌}
 use Rattle.grammar_machine.specs.Machine.{is_leaf, ends, exit, arcs, target}
@@ -42,7 +42,11 @@ raised past = 0
 
 -- the nodes that are counted where they begin, before the level is entered in them
 unfoldable pub own : ℕ → ℕ
-own s = cond (eqb s SELECTION_SET or eqb s LIST_TYPE) 1 0
+own s = cond (eqb s SELECTION_SET or (eqb s LIST_TYPE or eqb s BARE_SELECTIONS)) 1 0
+
+-- the symbols of roots alone
+abbrev pub lone : ℕ → Bool
+lone s = cond (eqb s DOCUMENT) true (eqb s BARE_SELECTIONS)
 
 -- the level that the node still owes
 abbrev pub owed : ℕ → Level → ℕ
@@ -202,13 +206,13 @@ unfoldable pub type_at : ℕ → Spot → ℕ → ℕ → Then → (Then → Boo
 type_at s (spot q l d) x y k walk = (goes s q x (behind y) TYPE and (levels s l TYPE and not (eqb s TYPE))) and walk (typed (spot (target s q TYPE) l firm) k)
 type_at s lost x y k walk = false
 
--- a report is right here: the machine goes on with nothing, and the node cannot end, or it is the root and tokens are left
+-- a report is right here: the machine goes on with nothing, and the node cannot end, or it is the root, and tokens are left
 unfoldable pub reports : ℕ → Spot → ℕ → ℕ → Bool
-reports s (spot q l d) x y = all_arcs (arcs s q) (λ k q'. misses k x (behind y)) and (not (ends s q) or (eqb s DOCUMENT and disjoint x 1))
+reports s (spot q l d) x y = all_arcs (arcs s q) (λ k q'. misses k x (behind y)) and (not (ends s q) or (lone s and disjoint x 1))
 reports s lost x y = true
 
 unfoldable pub is_node : Node → Bool
-is_node c = not (is_leaf (symbol c)) and (not (eqb (symbol c) TYPE) and (not (eqb (symbol c) DOCUMENT) and (eqb (label (symbol c)) (number (kind_of c)))))
+is_node c = not (is_leaf (symbol c)) and (not (eqb (symbol c) TYPE) and (not (lone (symbol c)) and (eqb (label (symbol c)) (number (kind_of c)))))
 
 -- `ok n s p x y r k`: from this mark in a node of the symbol `s`, each run of `r` keeps to the machine and ends at a mark of `k`, or
 -- reports where the machine is stuck
@@ -239,6 +243,11 @@ follows_table c = is_node c and ok 5 (symbol c) (spot 0 low loose) (first_of c) 
 unfoldable pub root_ends : Spot → ℕ → ℕ → Bool
 root_ends (spot q l d) x y = (closes DOCUMENT q x (behind y) and subset x over) and eqb (raised l) 0
 root_ends lost x y = false
+
+-- a part of a document ends, whatever follows it
+unfoldable pub part_ends : ℕ → Then
+part_ends s (spot q l d) x y = closes s q x (behind y) and (eqb (raised l) 0 and eqb (owed s l) 0)
+part_ends s lost x y = false
 
 -- the check of the whole
 unfoldable pub document_follows : Rule → Bool

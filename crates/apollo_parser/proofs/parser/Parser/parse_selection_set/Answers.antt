@@ -1,6 +1,9 @@
 use Rattle.std.proofs.lemmas.Result.{IfOk-weaker}
+use Rattle.std.proofs.Common.{refl}
+use Rattle.document_grammar.specs.Derivation.{selections}
+use Rattle.parser_rules.proofs.fragments.Parts.{selections-root}
 use Rattle.parser_rules.proofs.fragments.RootChecks.{selections_pass}
-use Rattle.apollo_parser.proofs.RootParses.{part-root, part-begins, part-leaves, part-recursion, part-limit-met, part-past-limit, part-nested, part-tokens, part-errors, part-limit-words, part-ascii, part-in-order}
+use Rattle.apollo_parser.proofs.RootParses.{part-root, part-begins, part-leaves, part-recursion, part-limit-met, part-past-limit, part-nested, part-tokens, part-errors, part-limit-words, part-ascii, part-in-order, part-sentence, part-accepts}
 use Rattle.apollo_parser.proofs.parser.Parser.parse_selection_set.Goals as goal
 
 pub returns-clause-cut : goal.returns-clause-cut
@@ -41,3 +44,9 @@ returns-clause-ascii g c = IfOk-weaker c.run_selection_set.result _ _ (λ t p. p
 
 pub returns-clause-in_order : goal.returns-clause-in_order
 returns-clause-in_order g c = IfOk-weaker c.run_selection_set.result _ _ (λ t p. part-in-order p) c.run_selection_set.ensures
+
+pub returns-clause-sound : goal.returns-clause-sound
+returns-clause-sound g c = IfOk-weaker c.run_selection_set.result _ _ (λ t p. part-sentence p selections selections_pass refl (selections-root _ _)) c.run_selection_set.ensures
+
+pub returns-clause-accepts : goal.returns-clause-accepts
+returns-clause-accepts g c = IfOk-weaker c.run_selection_set.result _ _ (λ t p. part-accepts p selections selections_pass refl (selections-root _ _)) c.run_selection_set.ensures

@@ -1,0 +1,166 @@
+-- A run of a root's rule over the answers, where a part of a document is parsed by itself: its first report is right; or it reports nothing,
+-- and the tree without its ignored leaves is a derivation of the tokens that were taken. More may follow them.
+use Rattle.std.proofs.Common.{◌≡◌, ℕ, ◌≤◌, true, eqb, List, [], ◌∷◌, ◌++◌, Option, Some, None, refl, sym, ap, ◌∙◌, subst, ◌⊎◌, inl, inr, eqb-true}
+use Rattle.std.proofs.lemmas.Bool.{eqb-false}
+use Rattle.lexical_grammar.specs.Answers.{Answer}
+use Rattle.lexical_grammar.specs.declared.TokenKind.TheVariants as token
+use Rattle.document_grammar.specs.Booleans.{◌or◌}
+use Rattle.document_grammar.specs.Pattern.{member}
+use Rattle.document_grammar.specs.Derivation.{Sort, selections, Spells, nest}
+use Rattle.document_grammar.specs.Kinds.{L_CURLY}
+use Rattle.document_grammar.specs.Numbered.{tree_of}
+use Rattle.document_grammar.specs.Places.{bare}
+use Rattle.document_grammar.specs.Tree.{Token, Tree, node, Forest, none}
+use Rattle.document_grammar.specs.declared.kind.SyntaxKind.{SyntaxKind}
+use Rattle.document_grammar.specs.declared.kind.SyntaxKind.TheVariants as kind
+use Rattle.document_grammar.proofs.Booleans.{either, false-true, and-l, and-r}
+use Rattle.grammar_machine.proofs.FromMachineTree.{shows, show, show-root}
+use Rattle.grammar_machine.proofs.generated.Labels.{labels}
+use Rattle.grammar_machine.proofs.Patterns.{label}
+use Rattle.grammar_machine.proofs.Run.{next}
+use Rattle.grammar_machine.proofs.Sound.{any, holds-one, first-any}
+use Rattle.grammar_machine.proofs.Steps.{closes-move}
+use Rattle.grammar_machine.proofs.TableLemmas.{no-cons}
+use Rattle.grammar_machine.specs.Machine.{holds as within, first as first_class, second as second_class, yields, opening, close as closes_move, frame}
+use Rattle.parser_rules.specs.Fragments.{started, left_out, selections_root}
+use Rattle.parser_rules.specs.Open.{IsRoot}
+use Rattle.parser_rules.specs.RuleLanguage.{Rule}
+use Rattle.parser_rules.specs.Runs.{Runs}
+use Rattle.parser_rules.specs.State.{State, Lexeme, ignored, flush, begun, finished}
+use Rattle.parser_rules.proofs.fragments.RootChecks.{follows_part, selections_follow}
+use Rattle.parser_rules.proofs.lookahead.MachineClasses.{Next, current-class}
+use Rattle.parser_rules.proofs.lookahead.Split.{low, firm, spot, lost}
+use Rattle.parser_rules.proofs.lookahead.TokenSets.{class_of, kind_set, holds-minus}
+use Rattle.parser_rules.proofs.reports.NoReport.{answers_tokens, all_tokens, rest, given as given_by, EndsWell}
+use Rattle.parser_rules.proofs.soundness.MachineStack.{image-node}
+use Rattle.parser_rules.proofs.soundness.Moves.{fits-next, with-sets, flushed}
+use Rattle.parser_rules.proofs.soundness.Positions.{Reading, top, StandsAt, Fits, Tells, Out, tell-on, run-grows, current, Alike, flush-alike, idle-rest, idle-grows, known-weak, still-leveled, moved-on}
+use Rattle.parser_rules.proofs.soundness.Roots.{whole_of, IsRootSymbol, root-starts, root-ended, never-right}
+use Rattle.parser_rules.proofs.soundness.Simulation.{good, link}
+use Rattle.parser_rules.proofs.soundness.Soundness.{finished-tree, words-before}
+use Rattle.parser_rules.proofs.soundness.TableCheck.{own, behind, no_brace, part_ends}
+use Rattle.parser_rules.proofs.soundness.WithoutIgnored.{stack}
+
+-- All answers before the current token are tokens; a derivation of the sort spells them. It nests within the limit, and as deep as the
+-- greatest depth.
+pub record PartAs (sort : Sort) (r : ℕ) (xs : List Answer) (s : State) (t : Tree) : Type 0 where
+  pub front : List Answer
+  pub lexeme : Lexeme
+  pub current : s.current ≡ Some lexeme
+  pub shown : ignored lexeme.kind ≡ None
+  pub split : xs ≡ front ++ given_by lexeme ∷ s.items
+  pub tokens : all_tokens front ≡ true
+  pub spells : Spells (answers_tokens front) t sort
+  pub nesting : nest t ≤ r
+  pub high : s.high ≡ nest t
+  -- over a sentence it is the sentence's derivation
+  pub all : (u : Tree) → Spells (answers_tokens xs) u sort → t ≡ u
+
+-- What a run that reports nothing comes to: the derivation is the tree.
+abbrev pub Part : Sort → ℕ → List Answer → State → Type 0
+Part sort r xs s = PartAs sort r xs s (bare (tree_of (finished (left_out s))))
+
+-- ---- any root
+
+module _ (sort : Sort) (r : ℕ) (xs : List Answer) (k : SyntaxKind) where
+  abbrev R : Reading
+  R = whole_of sort r xs
+
+  -- the rule of a root of the symbol, after a first token whose class is in a set, keeps to the machine
+  pub record Follows (q : Rule) : Type 0 where
+    pub symbol : IsRootSymbol (top R) k
+    pub set : ℕ
+    pub follows : follows_part (top R) set q
+    pub first : within (first_class (answers_tokens xs)) set ≡ true
+
+  part-starts : {q : Rule} (p : Follows q) → EndsWell xs → Tells R (started xs r k) ⊎ Fits R (top R) (spot 0 low firm) p.set any [] (started xs r k)
+  unfolding flush
+  part-starts p e =
+      let b : State = begun xs r k in
+      let a : Alike b (flush b) = flush-alike b in
+      elim (root-starts sort r xs k p.symbol e) [
+        | inl o ↦ inl (tell-on R b (flush b) (idle-grows a.idle) o)
+        | inr g ↦ (
+            let c = g.0.stands.0 in
+            let stands : StandsAt R (top R) (spot 0 low firm) [] (flush b) = (
+              record { children = c.children; place = record { reach = rw (idle-rest a.idle) c.place.reach; leveled = still-leveled R a c.place.leveled; alone = c.place.alone }; built = flushed R b g.0.calm ∙ c.built },
+              known-weak R firm (frame (top R) 0 c.children ∷ []) b (flush b) (idle-rest a.idle) g.0.stands.1,
+            ) in
+            let near : within (class_of b.current) p.set ≡ true = rw (current-class b.current b.items g.0.calm.now, g.1) p.first in
+            inr (moved-on R (with-sets R g.0 (record { near = near; far = g.0.seen.far })) a.idle stands))
+      ]
+
+  part-out : (s : State) → IsRootSymbol (top R) k → IsRoot s.tree → Out R (top R) [] (part_ends (top R)) s → Tells R s ⊎ ((s.errors ≡ []) × Part sort r xs s)
+  unfolding part_ends
+  part-out s o root (inl t) = inl t
+  part-out s o root (inr (lost, x, y, h, g)) = false-true refl h
+  part-out s o root (inr (spot q l d, x, y, h, g)) =
+      let c = g.stands.0 in
+      let f : Forest = c.children in
+      let n : Next x y (rest s) = fits-next R g in
+      let m : next (top R) q (rest s) ≡ closes_move = closes-move (top R) q x (behind y) (first_class (rest s)) (second_class (rest s)) (and-l _ _ h) n.near n.far in
+      let e = root-ended R c.place m (eqb-true _ _ (and-r _ _ (and-r _ _ h))) in
+      let t = current R s g.calm in
+      let words : answers_tokens xs ≡ yields f ++ answers_tokens (given_by t.0 ∷ s.items) = e.split ∙ ap (λ (z : Option Lexeme). yields f ++ rest (record s { current = z })) t.1 in
+      let built : stack s.tree ≡ (label (top R), shows f) ∷ ((0, none) ∷ []) = c.built ∙ image-node (top R) q f [] o.no_type in
+      let tree : bare (tree_of (finished (left_out s))) ≡ show (node (top R) f) = finished-tree (left_out s) (label (top R), shows f) ((0, none) ∷ []) root built ∙ sym (show-root (top R) f o.no_type) in
+      let held = t.3 in
+      inr (
+        g.calm.quiet.clean,
+        rw tree (record {
+          front = held.front;
+          lexeme = t.0;
+          current = t.1;
+          shown = t.2.0;
+          split = held.split;
+          tokens = held.tokens;
+          spells = subst (λ (v : List Token). Spells v (show (node (top R) f)) sort) (words-before xs held.front (given_by t.0 ∷ s.items) (yields f) held.split words) e.spells;
+          nesting = e.nesting;
+          high = e.high;
+          all = λ u h. (e.all u h).1;
+        }),
+      )
+
+  pub part-parsed : {q : Rule} {s : State} → Follows q → EndsWell xs → IsRoot s.tree → Runs q (started xs r k) s → Tells R s ⊎ ((s.errors ≡ []) × Part sort r xs s)
+  part-parsed {q = q} {s = s} p e root run = elim (part-starts p e) [
+    | inl o ↦ inl (tell-on R (started xs r k) s (run-grows run) o)
+    | inr g ↦ part-out s p.symbol root (link R run 5 (top R) (spot 0 low firm) p.set any [] (part_ends (top R)) (good R 5 (top R) (spot 0 low firm) p.set any q (part_ends (top R)) p.follows) g)
+  ]
+
+  -- Soundness.
+  pub part-sound : {q : Rule} {s : State} → Follows q → EndsWell xs → IsRoot s.tree → Runs q (started xs r k) s → s.errors ≡ [] → Part sort r xs s
+  part-sound p e root run h = elim (part-parsed p e root run) [ inl o ↦ no-cons (sym h ∙ o.reported) | inr o ↦ o.1 ]
+
+  -- Acceptance.
+  pub part-accepted : {q : Rule} {s : State} → Follows q → EndsWell xs → IsRoot s.tree → Runs q (started xs r k) s → (t : Tree) → Spells (answers_tokens xs) t sort → nest t ≤ r → all_tokens xs ≡ true → s.errors ≡ []
+  part-accepted p e root run t h n a = elim (part-parsed p e root run) [ inl o ↦ absurd (never-right sort r xs o.report o.taken t h n a o.right) | inr o ↦ o.0 ]
+
+-- ---- selection sets
+
+-- with braces, or without
+record Opens (s a : ℕ) : Type 0 where
+  symbol : IsRootSymbol s kind.SELECTION_SET
+  set : ℕ
+  follows : follows_part s set selections_root
+  first : within a set ≡ true
+
+brace : within L_CURLY (kind_set token.LCurly) ≡ true
+unfolding within
+brace = refl
+
+opens-by-class : (a : ℕ) → within a any ≡ true → Opens (opening selections a) a
+unfolding label labels own ◌or◌ member
+opens-by-class a h = elim (either (eqb a L_CURLY)) [
+  | inl p ↦ rw p (record { symbol = record { shown = refl; counted = refl; no_type = refl }; set = kind_set token.LCurly; follows = selections_follow.0; first = rw (eqb-true a L_CURLY p) brace })
+  | inr p ↦ rw p (record {
+    symbol = record { shown = refl; counted = refl; no_type = refl };
+    set = no_brace;
+    follows = selections_follow.1;
+    first = holds-minus a any (kind_set token.LCurly) h (elim (either (within a (kind_set token.LCurly))) [ inl q ↦ absurd (eqb-false a L_CURLY p (holds-one a L_CURLY q)) | inr q ↦ q ]);
+  })
+]
+
+pub selections-root : (r : ℕ) (xs : List Answer) → Follows selections r xs kind.SELECTION_SET selections_root
+selections-root r xs =
+    let o = opens-by-class (first_class (answers_tokens xs)) (first-any (answers_tokens xs)) in
+    record { symbol = o.symbol; set = o.set; follows = o.follows; first = o.first }

@@ -1,0 +1,121 @@
+-- A root where it is opened, and where the machine ends it: for each sort of what is parsed.
+use Rattle.std.proofs.Common.{◌≡◌, ℕ, ◌≤◌, true, false, eqb, List, [], ◌∷◌, ◌++◌, length, refl, sym, ap, ◌∙◌, subst, ◌⊎◌, inl, inr, arith}
+use Rattle.lexical_grammar.specs.Answers.{Answer, is_token}
+use Rattle.document_grammar.proofs.Booleans.{false-true, and-l, and-r}
+use Rattle.document_grammar.specs.declared.kind.SyntaxKind.{SyntaxKind}
+use Rattle.document_grammar.specs.Numbers.{number}
+use Rattle.document_grammar.specs.Kinds.{DOCUMENT}
+use Rattle.document_grammar.specs.Tree.{Token, Tree, node, Forest, none}
+use Rattle.document_grammar.specs.Derivation.{Sort, Spells, nest}
+use Rattle.grammar_machine.specs.Symbols.{TYPE}
+use Rattle.grammar_machine.specs.Machine.{yields, frame, Reach, start, close as closes_move}
+use Rattle.grammar_machine.proofs.Depth.{count_in, nesting_all, nest-show, peak-end, peak-start}
+use Rattle.grammar_machine.proofs.FromMachineTree.{show}
+use Rattle.grammar_machine.proofs.Makes.{made, makes-from}
+use Rattle.grammar_machine.proofs.MachineTheorems.{Parse, done}
+use Rattle.grammar_machine.proofs.Patterns.{label}
+use Rattle.grammar_machine.proofs.Run.{next}
+use Rattle.grammar_machine.proofs.SentenceTheorems.{start_symbol, sentence-parse, accepts, sound as ended_sound, sound-all}
+use Rattle.grammar_machine.proofs.Sound.{any}
+use Rattle.parser_rules.specs.State.{State, Report, fresh, begun}
+use Rattle.parser_rules.proofs.runs.Frame.{Untouched, read-untouched}
+use Rattle.parser_rules.proofs.runs.Reading.{reading}
+use Rattle.parser_rules.proofs.reports.NoReport.{answers_tokens, all_tokens, rest, given as given_by, EndsWell, Blames, read-on}
+use Rattle.parser_rules.proofs.lookahead.TokenSets.{seen-any}
+use Rattle.parser_rules.proofs.lookahead.Split.{Level, low, firm, spot}
+use Rattle.parser_rules.proofs.soundness.WithoutIgnored.{stack}
+use Rattle.parser_rules.proofs.soundness.MachineStack.{image-node}
+use Rattle.parser_rules.proofs.soundness.TableCheck.{own, owed}
+use Rattle.parser_rules.proofs.soundness.FirstReport.{Right, stuck_here, deep_here, no_token}
+use Rattle.parser_rules.proofs.soundness.Positions.{Reading, top, start_good, Leveled, Place, StandsAt, Fits, Tells, Rightly, shown}
+
+-- all the answers, to a parser with nothing reported
+abbrev pub whole_of : Sort → ℕ → List Answer → Reading
+whole_of sort r xs = record { sort = sort; answers = xs; limit = r; words = answers_tokens xs }
+
+-- The symbol is that of a root, whose node is of the kind.
+pub record IsRootSymbol (s : ℕ) (k : SyntaxKind) : Type 0 where
+  pub shown : label s ≡ number k
+  pub counted : count_in DOCUMENT s ≡ own s
+  pub no_type : eqb s TYPE ≡ false
+
+-- ---- the beginning
+
+module _ (sort : Sort) (r : ℕ) (xs : List Answer) (k : SyntaxKind) where
+  abbrev R : Reading
+  R = whole_of sort r xs
+
+  pub root-level : IsRootSymbol (top R) k → Leveled R (top R) 0 low none [] 0 0 r
+  root-level o = record {
+    level = omega (arith, o.counted);
+    entered = omega arith;
+    most_open = omega (arith, peak-start (top R), o.counted);
+    above = omega arith;
+    bounds = record { kept = omega arith; nested = λ t p. omega arith; limit = refl };
+  }
+
+  -- where the root is open, nothing is built, and all the tokens are left
+  pub root-opened : IsRootSymbol (top R) k → (n : ℕ) (ys : List Answer) (s : State) → Untouched (record (fresh ys r k) { asked = n }) s → rest s ≡ answers_tokens xs → StandsAt R (top R) (spot 0 low firm) [] s
+  root-opened o n ys s u e = (
+    record {
+      children = none;
+      place = record { reach = subst (λ (z : List Token). Reach (top R) (answers_tokens xs) (frame (top R) 0 none ∷ []) z) (sym e) start; leveled = rw (u.depth, u.high, u.limit) (root-level o); alone = λ e. refl };
+      built = ap stack u.tree ∙ ap (λ (j : ℕ). (j, none) ∷ ((0, none) ∷ [])) (sym o.shown) ∙ sym (image-node (top R) 0 none [] o.no_type);
+    },
+    record { before = []; split = sym e; firm = λ v f. start },
+  )
+
+  pub root-starts : IsRootSymbol (top R) k → EndsWell xs → Tells R (begun xs r k) ⊎ (Fits R (top R) (spot 0 low firm) any any [] (begun xs r k) × (rest (begun xs r k) ≡ answers_tokens xs))
+  root-starts o e =
+      let s : State = fresh xs r k in
+      let b : State = begun xs r k in
+      elim (read-on xs (Rightly R) (reading xs s) 0 (record { clean = refl; accepts = refl; waits = refl }) e (record { front = []; split = refl; tokens = refl }) blame (omega arith, tt, (tt, tt))) [
+        | inl o' ↦ inl o'
+        | inr o' ↦ inr (record { calm = o'.0; seen = seen-any b (shown R b o'.0); stands = root-opened o s.asked xs b (read-untouched xs s) o'.1 }, o'.1)
+      ]
+    where
+      blame : Blames xs (Rightly R) 0 (answers_tokens xs)
+      blame x ys p n z = no_token p n (frame (top R) 0 none ∷ [], subst (λ (u : List Token). Reach (top R) (answers_tokens xs) (frame (top R) 0 none ∷ []) u) (sym z) start) (let e = ap length z in omega (arith, e))
+
+-- ---- the end
+
+-- The root's node is a derivation of the tokens before what is left; it nests within the limit, and as deep as the greatest depth.
+pub record IsEnded (R : Reading) (f : Forest) (s : State) : Type 0 where
+  pub split : R.words ≡ yields f ++ rest s
+  pub spells : Spells (yields f) (show (node (top R) f)) R.sort
+  pub nesting : nest (show (node (top R) f)) ≤ R.limit
+  pub high : s.high ≡ nest (show (node (top R) f))
+  -- over a sentence all is taken, and it is the sentence's derivation
+  pub all : (t : Tree) → Spells R.words t R.sort → (rest s ≡ []) × (show (node (top R) f) ≡ t)
+
+pub root-ended : (R : Reading) {q : ℕ} {l : Level} {f : Forest} {s : State} → Place R (top R) q l f [] s → next (top R) q (rest s) ≡ closes_move → owed (top R) l ≡ 0 → IsEnded R f s
+root-ended R {q = q} {l = l} {f = f} {s = s} i m owes =
+    let d = ended_sound R.sort R.words f (rest s) (q, i.reach, m) in
+    let p = (done (top R) (start_good R) R.words q f (rest s) i.reach m).1 in
+    let nests = nest-show (node (top R) f) p.0 in
+    let end = peak-end (top R) q f in
+    let lv = i.leveled in
+    let deepest = lv.bounds.nested (node (top R) f) (makes-from i.reach (made m)) in
+    record {
+      split = d.0;
+      spells = d.1;
+      nesting = omega (arith, lv.most_open, lv.above, owes, nests, end, lv.bounds.kept);
+      high = omega (arith, lv.most_open, lv.above, owes, nests, end, deepest);
+      all = λ t h. sound-all R.sort R.words t f (rest s) h (q, i.reach, m);
+    }
+
+-- ---- acceptance
+
+token-of-all : (front items : List Answer) (x : Answer) → all_tokens (front ++ x ∷ items) ≡ true → is_token x ≡ true
+token-of-all [] items x h = and-l _ _ h
+token-of-all (y ∷ front) items x h = token-of-all front items x (and-r _ _ h)
+
+-- over a sentence within the limits no report is right
+pub never-right : (sort : Sort) (r : ℕ) (xs : List Answer) (e : Report) (m : ℕ) (t : Tree) → Spells (answers_tokens xs) t sort → nest t ≤ r → all_tokens xs ≡ true → Right sort xs r (answers_tokens xs) e m → ⊥
+never-right sort r xs e m t h n a (stuck_here said {t = lexeme} {items = items} now q k c) = accepts sort (answers_tokens xs) (answers_tokens (given_by lexeme ∷ items)) t h k.0
+never-right sort r xs e m t h n a (deep_here {t = lexeme} {items = items} now q k c) =
+    let u = sentence-parse sort (answers_tokens xs) t h in
+    let d = k.deeper u.0 (answers_tokens (given_by lexeme ∷ items)) (subst (λ (z : List Token). Parse (start_symbol sort (answers_tokens xs)) u.0 z) k.split u.1) refl in
+    let nests : nest t ≡ nesting_all u.0 = ap nest (sym u.2) ∙ nest-show u.0 u.1.0 in
+    absurd (omega (arith, d, nests, n))
+never-right sort r xs e m t h n a (no_token {x = x} {items = items} q other_one v c) = false-true other_one (token-of-all q.front items x (subst (λ (z : List Answer). all_tokens z ≡ true) q.split a))
