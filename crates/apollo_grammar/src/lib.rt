@@ -5,3 +5,4 @@ mod grammar;
 
 pub use grammar::document::document;
 pub use grammar::selection::field_set;
+pub use grammar::ty::type_root;

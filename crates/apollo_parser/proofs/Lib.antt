@@ -1,4 +1,5 @@
 pub mod Parses
 pub mod RootParses
+pub mod TypeParses
 pub mod Errors
 pub mod Roots

@@ -1,5 +1,5 @@
 -- What a run of a root's rule over the items of a text comes to, and so what the parse of a part of a document promises.
-use Rattle.std.proofs.Common.{◌≡◌, ℕ, ◌+◌, ◌^◌, ◌<◌, ◌≤◌, arith, min, true, List, [], ◌∷◌, ◌++◌, length, map, take, drop, refl, sym, ap, ◌∙◌, subst, append_assoc, append-nil}
+use Rattle.std.proofs.Common.{◌≡◌, ℕ, ◌+◌, ◌^◌, ◌<◌, ◌≤◌, arith, min, List, [], ◌∷◌, ◌++◌, length, map, take, drop, refl, sym, ap, ◌∙◌, subst, append_assoc, append-nil}
 use Rattle.std.specs.Str.{IsAscii}
 use Rattle.std.specs.List.{Any, All}
 use Rattle.std.specs.List.Sorted.{IsNonDecreasing}
@@ -31,9 +31,7 @@ use Rattle.parser_rules.proofs.leaves.OneLeaf as one_leaf
 use Rattle.parser_rules.proofs.leaves.OneLeaf.{root-leaves, joined, text-leaves}
 use Rattle.parser_rules.proofs.nesting.Nesting.{root-nesting}
 use Rattle.parser_rules.proofs.fragments.RootChecks.{RootRule}
-use Rattle.parser_rules.specs.Open.{is_free}
-use Rattle.parser_rules.proofs.fragments.Parts.{Follows}
-use Rattle.parser_rules.proofs.fragments.PartTexts.{sound-part, accepts-part}
+use Rattle.parser_rules.proofs.fragments.PartTexts.{IsSoundPart}
 use Rattle.parser_rules.proofs.fragments.RootRuns.{root-above, levels-left, all-asked, limit-passed, front-reported, ordered-front}
 use Rattle.apollo_parser.specs.ByRules.{ByRootRule}
 use Rattle.apollo_parser.specs.Promise.{Parsed, IsRecursionLimit, IsLimitWorded}
@@ -136,15 +134,16 @@ module _ {j : SyntaxKind} {q : Rule} {source : List ℕ} {r k : ℕ} {t : Parsed
         any-limit p.last.errors t.errors p.errors
         (root-limited r (answers k source) j p.last (ends-well k 0 (items_of source) p.cut.each) passes.limits p.run (subst (λ (n : ℕ). n < p.last.high) (sym limit) high))
 
-  module _ (sort : Sort) (passes : RootRule j q) (free : is_free j ≡ true) (follows : Follows sort r (answers k source) j q) where
-    -- without errors, the tree's text is a sentence, and the tree its derivation
-    pub part-sentence : t.errors ≡ [] → Sentence (text t.tree) (bare (tree_of t.tree)) sort × (nest (bare (tree_of t.tree)) ≤ r) × (t.recursion_limit.high ≡ nest (bare (tree_of t.tree)))
-    part-sentence nil =
-        let c = sound-part sort j r k source (items_of source) p.last p.cut passes free follows p.run (none-said p.last.errors t.errors p.errors nil) in
-        rw (p.tree, p.recursion_limit) (c.sentence, c.nesting, c.high)
+  -- without errors, the tree's text is a sentence, and the tree its derivation
+  pub part-sentence : (sort : Sort) → (p.last.errors ≡ [] → IsSoundPart sort r p.last)
+      → t.errors ≡ [] → Sentence (text t.tree) (bare (tree_of t.tree)) sort × (nest (bare (tree_of t.tree)) ≤ r) × (t.recursion_limit.high ≡ nest (bare (tree_of t.tree)))
+  part-sentence sort sound nil =
+      let c = sound (none-said p.last.errors t.errors p.errors nil) in
+      rw (p.tree, p.recursion_limit) (c.sentence, c.nesting, c.high)
 
-    -- a sentence within both limits has no errors, and the tree is its derivation
-    pub part-accepts : (u : Tree) → Sentence source u sort → Within source u r k → (t.errors ≡ []) × (bare (tree_of t.tree) ≡ u)
-    part-accepts u h n =
-        let c = accepts-part sort j r k source (items_of source) p.last p.cut passes free follows p.run u h n in
-        (none-told p.last.errors t.errors p.errors c.0, rw p.tree c.1)
+  -- a sentence within both limits has no errors, and the tree is its derivation
+  pub part-accepts : (sort : Sort) → ((u : Tree) → Sentence source u sort → Within source u r k → (p.last.errors ≡ []) × (bare (tree_of (finished (left_out p.last))) ≡ u))
+      → (u : Tree) → Sentence source u sort → Within source u r k → (t.errors ≡ []) × (bare (tree_of t.tree) ≡ u)
+  part-accepts sort accepts u h n =
+      let c = accepts u h n in
+      (none-told p.last.errors t.errors p.errors c.0, rw p.tree c.1)

@@ -1,5 +1,5 @@
 -- The root of the finished tree.
-use Rattle.std.proofs.Common.{◌≡◌, ◌∙◌, ap, [], ◌∷◌, Bool, true, Option, Some, None, refl}
+use Rattle.std.proofs.Common.{◌≡◌, ◌∙◌, sym, ap, [], ◌∷◌, Bool, true, Option, Some, None, refl}
 use Rattle.std.specs.Option.{IsSome}
 use Rattle.apollo_cst_core.specs.Cast.{CastsTo}
 use Rattle.document_grammar.specs.declared.kind.SyntaxKind.{SyntaxKind}
@@ -16,3 +16,8 @@ finished-node s k e = ap (λ above. (close (add_all s.pending s.tree).here above
 pub cast-is-some : {T S : Type 0} (can : Bool) (syntax : T → S) (n : S) (r : Option T) → CastsTo can syntax n r → can ≡ true → IsSome r
 cast-is-some can syntax n (Some x) h e = refl
 cast-is-some can syntax n None h e = absurd cc
+
+-- a cast of the root, in words of its place
+pub cast-place : {T S P : Type 0} {can may : Bool} {n : S} {m : P} (syntax : T → S) (place : S → P) → can ≡ may → place n ≡ m → (r : Option T) → CastsTo can syntax n r → CastsTo may (λ x. place (syntax x)) m r
+cast-place syntax place e is (Some x) h = (sym e ∙ h.0, ap place h.1 ∙ is)
+cast-place syntax place e is None h = sym e ∙ h

@@ -12,7 +12,7 @@ use Rattle.parser_rules.specs.State.{State, begun, finished}
 use Rattle.parser_rules.specs.Nodes.{Document}
 use Rattle.parser_rules.specs.RuleLanguage.{Rule, Call}
 use Rattle.parser_rules.specs.Runs.{Runs}
-use Rattle.parser_rules.specs.Fragments.{started, left_out}
+use Rattle.parser_rules.specs.Fragments.{started, unopened, left_out, IsTypeRoot, MakesType}
 use Rattle.apollo_parser.specs.Promise.{Parsed}
 use Rattle.parser_state.specs.Errors.{IsErrorOf}
 
@@ -38,3 +38,11 @@ pub record ByRootRule (root : SyntaxKind) (rule : Rule) (source : List ℕ) (r k
   pub errors : AllZip IsErrorOf last.errors t.errors
   pub recursion_limit : t.recursion_limit ≡ record { current = last.depth; high = last.high; limit = last.limit }
   pub token_limit : (t.token_limit.current ≡ 0) × (t.token_limit.limit ≡ k) × (t.token_limit.high ≤ last.asked)
+
+-- the same for a type, whose root is what its first token and a `!` after it say
+pub record ByTypeRule (source : List ℕ) (r k : ℕ) (t : Parsed) : Type 0 where
+  pub kind : SyntaxKind
+  pub rule : Rule
+  pub is : IsTypeRoot (unopened (limited k (items_of source)) r) kind rule
+  pub root : ByRootRule kind rule source r k t
+  pub made : MakesType (unopened (limited k (items_of source)) r) root.last

@@ -13,4 +13,4 @@ pub use apollo_tree::{
 pub use document_grammar::SyntaxKind;
 pub use lexical_grammar::TokenKind;
 pub use parser::Parser;
-pub use syntax_tree::{DocumentRoot, Root, SelectionSetRoot, SyntaxTree};
+pub use syntax_tree::{DocumentRoot, Root, SelectionSetRoot, SyntaxTree, TypeRoot};

@@ -10,7 +10,7 @@ ghost use Rattle.apollo_lexer.specs.Answers.{answers_left};
 ghost use Rattle.apollo_lexer.specs.Diagnostics.{of_limit};
 ghost use Rattle.document_grammar.specs.declared.kind.SyntaxKind.TheVariants as kind;
 ghost use Rattle.document_grammar.specs.Forests.{Forest, none, node, text};
-ghost use Rattle.document_grammar.specs.Derivation.{document as document_sort, selections as selections_sort, nest};
+ghost use Rattle.document_grammar.specs.Derivation.{document as document_sort, selections as selections_sort, type as type_sort, nest};
 ghost use Rattle.document_grammar.specs.Tree.{Tree};
 ghost use Rattle.document_grammar.specs.Sentence.{Sentence, FirstSentence, Within};
 ghost use Rattle.document_grammar.specs.Recovery.{Rowed};
@@ -18,13 +18,13 @@ ghost use Rattle.document_grammar.specs.FirstError.{OnlyDerivation, NotLate, Not
 ghost use Rattle.document_grammar.specs.Places.{bare, Placed};
 ghost use Rattle.document_grammar.specs.Numbered.{tree_of};
 ghost use Rattle.document_grammar.specs.Leaves.{leaves, OneLeafAnItem};
-ghost use Rattle.apollo_parser.specs.ByRules.{ByRules, ByRootRule};
-ghost use Rattle.apollo_parser.specs.Parts.{FirstLeaves, FirstErrors};
+ghost use Rattle.apollo_parser.specs.ByRules.{ByRules, ByRootRule, ByTypeRule};
+ghost use Rattle.apollo_parser.specs.Parts.{FirstLeaves, FirstErrors, OneType, first_kind};
 ghost use Rattle.parser_rules.specs.Fragments.{selections_root};
 ghost use Rattle.apollo_parser.specs.Promise.{ErrorsOf, IsRecursionLimit, IsLimitWorded, IsTokenLimit, OfFirst, Recovers};
 
-use crate::syntax_tree::{DocumentRoot, SelectionSetRoot, SyntaxTree};
-use apollo_grammar::{document, field_set};
+use crate::syntax_tree::{DocumentRoot, SelectionSetRoot, SyntaxTree, TypeRoot};
+use apollo_grammar::{document, field_set, type_root};
 use apollo_lexer::Lexer;
 use document_grammar::SyntaxKind;
 use parser_state::ParserState;
@@ -229,5 +229,65 @@ impl<'i> Parser<'i> {
         ensures accepts { IfOk result (λ t. (u : Tree) → Sentence self.entry.source.now u selections_sort → Within self.entry.source.now u self.entry.recursion_limit self.entry.token_limit → (t.errors ≡ []) × (bare (tree_of t.tree) ≡ u)) }
     {
         self.run_selection_set(alloc)
+    }
+
+    // The parse, as a run of the root's rule over the items of the text.
+    fn run_type<A: Allocator + Copy>(self, alloc: A) -> Result<SyntaxTree<TypeRoot, A>, AllocError>
+        ensures { IfOk result (ByTypeRule self.entry.source.now self.entry.recursion_limit self.entry.token_limit) }
+    {
+        let (mut p, first) = ParserState::unopened(
+            alloc,
+            Self::lexer(self.source, self.token_limit),
+            self.recursion_limit,
+        )?;
+        type_root(&mut p, first)?;
+        p.drop_pending();
+        let finished = p.finish(self.token_limit, self.source)?;
+        Ok(SyntaxTree {
+            tree: finished.tree,
+            errors: finished.errors,
+            recursion_limit: finished.recursion_limit,
+            token_limit: finished.token_limit,
+            root: PhantomData,
+        })
+    }
+
+    /// Parses a type (GraphQL October 2021, section 2.11, "Type References").
+    ///
+    /// What follows the type is not in the tree. It fails only where memory is refused.
+    pub fn parse_type<A: Allocator + Copy>(
+        self,
+        alloc: A,
+    ) -> Result<SyntaxTree<TypeRoot, A>, AllocError>
+        // the items of which the other clauses speak are a cut of the source
+        ensures cut { IfOk result (λ t. Cut self.entry.source.now (items_of self.entry.source.now)) }
+        // the source begins with the tree's text
+        ensures beginning { IfOk result (λ t. take (length (text t.tree)) self.entry.source.now ≡ text t.tree) }
+        // the tree is one NAMED_TYPE, LIST_TYPE or NON_NULL_TYPE, also where there are errors; or an ERROR, where the first significant token
+        // starts no type
+        ensures one_type { IfOk result (λ t. OneType (first_kind (limited self.entry.token_limit (items_of self.entry.source.now))) t.tree) }
+        // its leaves are, one for one, the first items
+        ensures one_leaf { IfOk result (λ t. FirstLeaves (limited self.entry.token_limit (items_of self.entry.source.now)) (leaves t.tree)) }
+        ensures recursion { IfOk result (λ t. (t.recursion_limit.current ≡ 0) × (t.recursion_limit.limit ≡ self.entry.recursion_limit) × (t.recursion_limit.high ≤ self.entry.recursion_limit + 1)) }
+        // with the recursion limit's error, more than the limit was asked for; by one, as long as that is a usize
+        ensures limit_met { IfOk result (λ t. Any IsRecursionLimit t.errors → min (self.entry.recursion_limit + 1) usize_max ≤ t.recursion_limit.high) }
+        // where more than the limit was asked for, there is a limit's error: the recursion limit's, or the token limit's before it
+        ensures past_limit { IfOk result (λ t. self.entry.recursion_limit < t.recursion_limit.high → Any (λ e. e.subject ≡ of_limit) t.errors) }
+        // the greatest depth that was asked for covers what the tree nests, also where there are errors
+        ensures nesting { IfOk result (λ t. nest (tree_of t.tree) ≤ t.recursion_limit.high) }
+        ensures tokens { IfOk result (λ t. (t.token_limit.limit ≡ self.entry.token_limit) × (t.token_limit.high ≤ min (length (items_of self.entry.source.now)) (self.entry.token_limit + 1))) }
+        // the errors go along the first items, as those of a document do along all
+        ensures errors { IfOk result (λ t. FirstErrors (limited self.entry.token_limit (items_of self.entry.source.now)) t.errors) }
+        // a limit's error has a limit's message, and no other error has one
+        ensures limit_messages { IfOk result (λ t. All IsLimitWorded t.errors) }
+        ensures ascii { IfOk result (λ t. IsAscii self.entry.source.now → All (λ e. IsAscii e.message) t.errors) }
+        ensures in_order { IfOk result (λ t. IsNonDecreasing (map (λ e. e.index) t.errors)) }
+        // without errors, the tree's text is a sentence, and the tree without its ignored leaves is its derivation; it nests within the limit, and as
+        // deep as was asked for
+        ensures sound { IfOk result (λ t. t.errors ≡ [] → Sentence (text t.tree) (bare (tree_of t.tree)) type_sort × (nest (bare (tree_of t.tree)) ≤ self.entry.recursion_limit) × (t.recursion_limit.high ≡ nest (bare (tree_of t.tree)))) }
+        // a sentence within both limits has no errors, and the tree is its derivation, so it holds every significant token
+        ensures accepts { IfOk result (λ t. (u : Tree) → Sentence self.entry.source.now u type_sort → Within self.entry.source.now u self.entry.recursion_limit self.entry.token_limit → (t.errors ≡ []) × (bare (tree_of t.tree) ≡ u)) }
+    {
+        self.run_type(alloc)
     }
 }

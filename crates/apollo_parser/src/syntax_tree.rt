@@ -1,13 +1,16 @@
 // What a parse gives.
-ghost use Rattle.std.specs.Prelude.{◌≡◌, Bool, true};
+ghost use Rattle.std.specs.Prelude.{◌≡◌, ◌||◌, Bool, true};
 ghost use Rattle.document_grammar.specs.declared.kind.SyntaxKind.{SyntaxKind};
-ghost use Rattle.document_grammar.specs.declared.kind.SyntaxKind.TheVariants.{DOCUMENT, SELECTION_SET};
+ghost use Rattle.document_grammar.specs.declared.kind.SyntaxKind.TheVariants.{DOCUMENT, SELECTION_SET, ERROR};
+ghost use Rattle.document_grammar.specs.Choices.{Types};
+ghost use Rattle.apollo_cst_core.specs.Cast.{one_of};
 ghost use Rattle.document_grammar.specs.Numbers.{is_kind};
 ghost use Rattle.apollo_parser.specs.Roots.{root_kind};
 
 use apollo_cst_core::CstNode;
 use apollo_cst_document::Document;
 use apollo_cst_exec::SelectionSet;
+use apollo_cst_value::Ty;
 use apollo_lexer::{Error, LimitTracker};
 use apollo_tree::{Subtree, SyntaxNode};
 use std::alloc::{AllocError, Allocator, Global};
@@ -32,6 +35,13 @@ pub struct SelectionSetRoot;
 
 impl Root for SelectionSetRoot {
     ghost roots = { is_kind SELECTION_SET };
+}
+
+/// Marks the tree of a type, whose root is a type, or an ERROR where none starts.
+pub struct TypeRoot;
+
+impl Root for TypeRoot {
+    ghost roots = { λ k. one_of Types k || is_kind ERROR k };
 }
 
 /// The tree of a text, the errors that were found in it, and how the limits were used. `R` marks what the root is.
@@ -122,6 +132,19 @@ impl<A: Allocator> SyntaxTree<SelectionSetRoot, A> {
         ensures { node_place result.syntax ≡ record { whole = self.now.tree; index = 0 } }
     {
         SelectionSet::cast(self.tree.root()).unwrap()
+    }
+}
+
+impl<A: Allocator> SyntaxTree<TypeRoot, A> {
+    ghost use Rattle.apollo_cst_core.specs.Cast.{CastsTo};
+    ghost use Rattle.apollo_cst_value.specs.Ty.{ty_node};
+    ghost use Rattle.apollo_tree.specs.References.{node_place};
+
+    /// The type (GraphQL October 2021, section 2.11), as the typed node of the root. `None` only where no type starts.
+    pub fn ty(&self) -> Option<Ty<'_>>
+        ensures { CastsTo (one_of Types (root_kind self.now.tree)) (λ t. node_place (ty_node t)) (record { whole = self.now.tree; index = 0 }) result }
+    {
+        Ty::cast(self.tree.root())
     }
 }
 

@@ -1,16 +1,24 @@
 -- A part of a document that is parsed by itself: its root, and the rules of the root.
-use Rattle.std.specs.Prelude.{ℕ, List, []}
+use Rattle.std.specs.Prelude.{◌≡◌, ℕ, true, false, List, []}
 use Rattle.lexical_grammar.specs.declared.TokenKind.TheVariants as token
 use Rattle.lexical_grammar.specs.Answers.{Answer}
 use Rattle.document_grammar.specs.declared.kind.SyntaxKind.{SyntaxKind}
-use Rattle.parser_rules.specs.State.{State, begun, flush}
-use Rattle.parser_rules.specs.Nodes.{SelectionSet, Selections}
-use Rattle.parser_rules.specs.RuleLanguage.{At, Rule, Skip, When, Nested, Call}
-use Rattle.parser_rules.specs.Rules.{inside}
+use Rattle.document_grammar.specs.declared.kind.SyntaxKind.TheVariants as kind
+use Rattle.document_grammar.specs.Builds.{nothing, built_count}
+use Rattle.parser_rules.specs.declared.message.Message.TheVariants as message
+use Rattle.parser_rules.specs.State.{State, fresh, read_on, begun, flush, closed, wrapped_from}
+use Rattle.parser_rules.specs.Nodes.{SelectionSet, Selections, ListType, NamedType}
+use Rattle.parser_rules.specs.RuleLanguage.{Here, At, holds, Bump, Note, Rule, Skip, Do, When, Nested, Call, ◌>◌, expect, refuse}
+use Rattle.parser_rules.specs.Rules.{type_start, inside, nullable_type}
+use Rattle.parser_rules.specs.Runs.{Runs}
 
 -- the root is open, the first token is read, and what comes before it is in the root
 abbrev pub started : List Answer → ℕ → SyntaxKind → State
 started items limit root = flush (begun items limit root)
+
+-- the same, where the root is not open yet
+abbrev pub unopened : List Answer → ℕ → State
+unopened items limit = flush (read_on items (record (fresh items limit kind.ERROR) { tree = nothing }))
 
 -- what waits after the root is left out
 abbrev pub left_out : State → State
@@ -19,3 +27,35 @@ left_out s = record s { pending = [] }
 -- SelectionSet (2.4), or what is between its braces
 abbrev pub selections_root : Rule
 selections_root = When (At token.LCurly) (inside SelectionSet) (Nested (Call Selections) Skip)
+
+-- Type (2.11) : the root's rule for each kind of type, and where no type stands. The rule of a list runs at `[` alone.
+abbrev pub list_root : Rule
+list_root = When (At token.LBracket) (inside ListType) (Nested (Do (Note message.ExpectedFieldType)) Skip)
+
+abbrev pub named_root : Rule
+named_root = inside NamedType
+
+abbrev pub non_null_root : Rule
+non_null_root = nullable_type > expect token.Bang kind.BANG message.ExpectedFieldType
+
+abbrev pub no_type_root : Rule
+no_type_root = refuse message.ExpectedFieldType
+
+-- the kinds and the rules of such roots, by the first token
+pub data IsTypeRoot (s : State) : SyntaxKind → Rule → Type 0 where
+  a_list : true ≡ holds (At token.LBracket) s → IsTypeRoot s kind.LIST_TYPE list_root
+  a_name : true ≡ holds (At token.Name) s → IsTypeRoot s kind.NAMED_TYPE named_root
+  not_null : true ≡ holds (Here type_start) s → IsTypeRoot s kind.NON_NULL_TYPE non_null_root
+  no_type : false ≡ holds (Here type_start) s → IsTypeRoot s kind.ERROR no_type_root
+
+-- the root opened around all that was built: one of the kind, or where `!` came next a NON_NULL_TYPE around a type of the kind, from the place
+-- on, and the `!`
+pub data ClosesType (place : ℕ) (k : SyntaxKind) (s t : State) : Type 0 where
+  nullable : false ≡ holds (At token.Bang) s → t ≡ wrapped_from 0 k s → ClosesType place k s t
+  non_null : {u : State} → true ≡ holds (At token.Bang) s → Runs (Do (Bump kind.BANG)) (closed (wrapped_from place k s)) u → t ≡ wrapped_from 0 kind.NON_NULL_TYPE u → ClosesType place k s t
+
+-- a type's rule ran where no root is open, and the root opened around what was built; or no type stands there
+pub data MakesType (s t : State) : Type 0 where
+  makes_list : {u : State} → true ≡ holds (At token.LBracket) s → Runs (inside ListType) s u → ClosesType (built_count s.tree) kind.LIST_TYPE u t → MakesType s t
+  makes_name : {u : State} → false ≡ holds (At token.LBracket) s → true ≡ holds (At token.Name) s → Runs (inside NamedType) s u → ClosesType (built_count s.tree) kind.NAMED_TYPE u t → MakesType s t
+  makes_none : {u : State} → false ≡ holds (Here type_start) s → Runs no_type_root s u → t ≡ wrapped_from 0 kind.ERROR u → MakesType s t

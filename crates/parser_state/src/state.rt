@@ -13,13 +13,14 @@ ghost use Rattle.lexical_grammar.specs.declared.TokenKind.TheVariants as token;
 ghost use Rattle.document_grammar.specs.Forests.{count, none, text};
 ghost use Rattle.apollo_lexer.specs.Answers.{answers_left};
 ghost use Rattle.parser_rules.specs.State as state;
+ghost use Rattle.parser_rules.specs.Fragments as fragments;
 ghost use Rattle.parser_rules.specs.Open.{IsRoot};
 ghost use Rattle.parser_state.specs.Errors.{IsErrorOf};
 ghost use Rattle.parser_state.specs.View.{current_of, pending_of, report_of};
 
 use crate::report::Report;
 use apollo_lexer::{Error, Lexer, LimitTracker, Token};
-use apollo_tree::{SpanBuilder, Subtree};
+use apollo_tree::{Checkpoint, SpanBuilder, Subtree};
 use building::push_all;
 use document_grammar::SyntaxKind;
 use reporting::errors_of;
@@ -111,6 +112,33 @@ impl<'i, A: Allocator + Copy> ParserState<'i, A> {
         };
         p.read_on()?;
         Ok(p)
+    }
+
+    /// Reads the first token, where no root is open, and takes in what comes before it. The checkpoint is the place before all that is built.
+    pub fn unopened(
+        alloc: A,
+        lexer: Lexer<'i>,
+        recursion_limit: usize,
+    ) -> Result<(ParserState<'i, A>, Checkpoint), AllocError>
+        requires { lexer.limit_tracker.high ≡ 0 }
+        ensures state { IfOk result (λ p. p.0 ≡ fragments.unopened (answers_left lexer.entry) recursion_limit) }
+        ensures place { IfOk result (λ p. p.1.place ≡ 0) }
+    {
+        let builder = SpanBuilder::new(alloc);
+        let place = builder.checkpoint();
+        let mut p = ParserState {
+            alloc,
+            lexer,
+            current_token: None,
+            builder,
+            pending: Vec::new(alloc),
+            reports: Vec::new(alloc),
+            recursion_limit: LimitTracker::new(recursion_limit),
+            accept_errors: true,
+        };
+        p.read_on()?;
+        p.push_pending()?;
+        Ok((p, place))
     }
 
     /// Takes in what waits, and closes the root. The token limit is the lexer's, and the source is what it reads.

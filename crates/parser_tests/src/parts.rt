@@ -1,6 +1,6 @@
 // Tests of parses of parts of documents.
 use apollo_parser::cst::CstNode;
-use apollo_parser::{Parser, SelectionSetRoot, SyntaxTree};
+use apollo_parser::{Parser, SelectionSetRoot, SyntaxTree, TypeRoot};
 use std::alloc::{AllocError, Global};
 use std::test::Fail;
 
@@ -46,6 +46,53 @@ fn selection_sets(rt: HostRuntime) -> Result<(), Fail> {
     ];
     for (source, wanted) in rows {
         let answer = shown(rt.alloc(), Parser::new(source))?;
+        assert_eq!(rt; answer.as_str(), wanted, "{source}");
+    }
+    Ok(())
+}
+
+fn parse_type(
+    alloc: Global,
+    parser: Parser<'_>,
+) -> Result<SyntaxTree<TypeRoot, Global>, AllocError> {
+    parser.parse_type(alloc)
+}
+
+// The same of a type, with whether there is one.
+fn shown_type(alloc: Global, parser: Parser<'_>) -> Result<String, AllocError> {
+    let tree = parse_type(alloc, parser)?;
+    let mut lines = String::new(alloc);
+    for error in tree.errors() {
+        let message = error.message();
+        let data = error.data();
+        let index = error.index();
+        writeln!(lines, "{message}|{data}|{index}")?;
+    }
+    let root = tree.root();
+    let kind = root.kind();
+    let text = root.text();
+    let is_some = tree.ty().is_some();
+    let nesting = tree.recursion_limit().high;
+    format!(in alloc; "{lines}{kind:?}|{text}|{is_some}|{nesting}")
+}
+
+#[test]
+fn types(rt: HostRuntime) -> Result<(), Fail> {
+    let rows = [
+        ("", "expected a type||0\nERROR||false|0"),
+        ("!", "expected a type|!|0\nERROR|!|false|0"),
+        (" [Int!]! ", "NON_NULL_TYPE| [Int!]!|true|1"),
+        (" Int", "NAMED_TYPE| Int|true|0"),
+        (
+            "[Int",
+            "expected R_BRACK, got EOF||4\nLIST_TYPE|[Int|true|1",
+        ),
+        ("Int Int", "NAMED_TYPE|Int|true|0"),
+        ("[!]", "expected item type|!|1\nLIST_TYPE|[!]|true|1"),
+        ("[Int] !", "NON_NULL_TYPE|[Int] !|true|1"),
+    ];
+    for (source, wanted) in rows {
+        let answer = shown_type(rt.alloc(), Parser::new(source))?;
         assert_eq!(rt; answer.as_str(), wanted, "{source}");
     }
     Ok(())

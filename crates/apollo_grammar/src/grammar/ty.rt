@@ -1,14 +1,17 @@
 // Types.
 #![tactic(auto, using(parser_rules::proofs::runs::Running::nesting), unfolding(parser_rules::specs::Rules::inside, parser_rules::specs::Rules::body))]
 
-ghost use Rattle.std.specs.Prelude.{◌≡◌, true, OnOk};
+ghost use Rattle.std.specs.Prelude.{◌≡◌, true, [], OnOk};
 ghost use Rattle.lexical_grammar.specs.declared.TokenKind.TheVariants as token;
 ghost use Rattle.parser_rules.specs.Nodes as rule;
 ghost use Rattle.parser_rules.specs.Rules as rules;
+ghost use Rattle.parser_rules.specs.Fragments as fragments;
+ghost use Rattle.parser_rules.specs.State.{flush};
 ghost use Rattle.parser_rules.specs.RuleLanguage.{Here, At, holds, Child, Call};
 ghost use Rattle.parser_rules.specs.Runs.{Runs};
 
 use super::name::name;
+use apollo_tree::Checkpoint;
 use document_grammar::SyntaxKind;
 use lexical_grammar::TokenKind;
 use parser_rules::Message;
@@ -54,11 +57,20 @@ fn list_type<A: Allocator + Copy>(p: &mut ParserState<'_, A>) -> Result<(), Allo
     ensures { OnOk result (Runs (Child rule.ListType) p.old p.new) }
 {
     p.start_node(SyntaxKind::LIST_TYPE)?;
+    bracketed(p)?;
+    p.finish_node();
+    Ok(())
+}
+
+// What is in a list type, its brackets too.
+#[cycle(ty)]
+fn bracketed<A: Allocator + Copy>(p: &mut ParserState<'_, A>) -> Result<(), AllocError>
+    requires { true ≡ holds (At token.LBracket) p.old }
+    ensures { OnOk result (Runs (rules.inside rule.ListType) p.old p.new) }
+{
     p.bump(SyntaxKind::L_BRACK)?;
     if p.is_too_deep() {
-        p.too_deep()?;
-        p.finish_node();
-        return Ok(());
+        return p.too_deep();
     }
     p.enter();
     item_type(p)?;
@@ -67,9 +79,7 @@ fn list_type<A: Allocator + Copy>(p: &mut ParserState<'_, A>) -> Result<(), Allo
         TokenKind::RBracket,
         SyntaxKind::R_BRACK,
         Message::ExpectedRBracket,
-    )?;
-    p.finish_node();
-    Ok(())
+    )
 }
 
 // The type of a list's items. A token that starts none is popped.
@@ -91,4 +101,26 @@ pub fn named_type<A: Allocator + Copy>(p: &mut ParserState<'_, A>) -> Result<(),
     name(p)?;
     p.finish_node();
     Ok(())
+}
+
+/// The root of a type that is parsed by itself, which opens around what is there. The checkpoint is the place before the leading text.
+pub fn type_root<A: Allocator + Copy>(
+    p: &mut ParserState<'_, A>,
+    first: Checkpoint,
+) -> Result<(), AllocError>
+    requires first { first.place ≡ 0 }
+    requires not_open { p.old.tree.above ≡ [] }
+    ensures { OnOk result (fragments.MakesType (flush p.old) p.new) }
+{
+    let place = p.checkpoint()?;
+    if p.at(TokenKind::LBracket) {
+        bracketed(p)?;
+        return p.close_type(first, place, SyntaxKind::LIST_TYPE);
+    }
+    if p.at(TokenKind::Name) {
+        name(p)?;
+        return p.close_type(first, place, SyntaxKind::NAMED_TYPE);
+    }
+    p.err_and_pop(Message::ExpectedFieldType)?;
+    p.wrap(first, SyntaxKind::ERROR)
 }

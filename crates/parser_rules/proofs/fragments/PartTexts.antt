@@ -7,7 +7,7 @@ use Rattle.lexical_grammar.specs.Cut.{Item, Word, Cut, Significant, texts, end_a
 use Rattle.lexical_grammar.proofs.Cuts.{front-cut, significant-append, tokens-append}
 use Rattle.document_grammar.specs.Booleans.{◌and◌}
 use Rattle.document_grammar.specs.Builds.{Open, close}
-use Rattle.document_grammar.specs.Derivation.{Sort, selections, nest}
+use Rattle.document_grammar.specs.Derivation.{Sort, selections, type, nest}
 use Rattle.document_grammar.specs.Forests.{text}
 use Rattle.document_grammar.specs.Numbered.{tree_of}
 use Rattle.document_grammar.specs.Places.{bare}
@@ -17,17 +17,19 @@ use Rattle.document_grammar.specs.declared.kind.SyntaxKind.{SyntaxKind}
 use Rattle.document_grammar.specs.declared.kind.SyntaxKind.TheVariants as kind
 use Rattle.document_grammar.proofs.Booleans.{and-l, and-r, and-i}
 use Rattle.grammar_machine.proofs.TableLemmas.{head-same, tail-same}
-use Rattle.parser_rules.specs.Fragments.{started, left_out, selections_root}
+use Rattle.parser_rules.specs.Fragments.{started, unopened, left_out, selections_root, MakesType}
 use Rattle.parser_rules.specs.Open.{is_free, IsRoot}
 use Rattle.parser_rules.specs.RuleLanguage.{Rule}
 use Rattle.parser_rules.specs.Runs.{Runs}
 use Rattle.parser_rules.specs.State.{State, Lexeme, PendingToken, ignored, finished}
-use Rattle.parser_rules.proofs.fragments.Parts.{Part, Follows, part-sound, part-accepted, selections-root}
-use Rattle.parser_rules.proofs.fragments.RootChecks.{RootRule, selections_pass}
+use Rattle.parser_rules.proofs.fragments.Parts.{Part, Outcome, Follows, outcome-sound, outcome-accepted, part-parsed, selections-root}
+use Rattle.parser_rules.proofs.fragments.RootChecks.{RootRule, selections_pass, type_passes, type-free}
 use Rattle.parser_rules.proofs.fragments.RootRuns.{is-root}
+use Rattle.parser_rules.proofs.fragments.TypeParts.{type-parsed}
+use Rattle.parser_rules.proofs.fragments.TypeRoots.{made-run}
 use Rattle.parser_rules.proofs.leaves.OneLeaf.{root-part}
 use Rattle.parser_rules.proofs.reports.Endings.{ends-well}
-use Rattle.parser_rules.proofs.reports.NoReport.{answers_tokens, all_tokens, item_tokens, given as given_by, ignored-tokens}
+use Rattle.parser_rules.proofs.reports.NoReport.{answers_tokens, all_tokens, item_tokens, given as given_by, ignored-tokens, EndsWell}
 use Rattle.parser_rules.proofs.runs.Marked.{Marked, none, leaf, node, Source, aside, text_of, erase, flat, set_aside, by-kind, now_of, sources, source_at, FirstPart}
 use Rattle.parser_rules.proofs.soundness.OverTexts.{before-at, sentence-answers}
 use Rattle.parser_rules.proofs.soundness.Soundness.{answers-append}
@@ -150,23 +152,35 @@ is-sound sort r k source items s cut root c f p =
       high = c.high;
     }
 
-module _ (sort : Sort) (j : SyntaxKind) {q : Rule} (r k : ℕ) (source : List ℕ) (items : List Item) (s : State) (cut : Cut source items) (passes : RootRule j q) (free : is_free j ≡ true) (follows : Follows sort r (limited k items) j q) (run : Runs q (started (limited k items) r j) s) where
+-- a run of a root's rule, from what it comes to over the answers
+module _ (sort : Sort) (j : SyntaxKind) {q : Rule} (r k : ℕ) (source : List ℕ) (items : List Item) (s : State) (cut : Cut source items) (passes : RootRule j q) (free : is_free j ≡ true) (run : Runs q (started (limited k items) r j) s)
+    (outcome : EndsWell (limited k items) → IsRoot s.tree → Outcome sort r (limited k items) s) where
   root : IsRoot s.tree
   root = is-root (limited k items) r j run free
 
-  part : s.errors ≡ [] → Part sort r (limited k items) s
-  part h = part-sound sort r (limited k items) j follows (ends-well k 0 items cut.each) root run h
+  comes : Outcome sort r (limited k items) s
+  comes = outcome (ends-well k 0 items cut.each) root
 
   -- Soundness.
-  pub sound-part : s.errors ≡ [] → IsSoundPart sort r s
-  sound-part h = let p = root-part (limited k items) r j passes.leaves run in is-sound sort r k source items s cut root (part h) p.0 p.1
+  pub outcome-text : s.errors ≡ [] → IsSoundPart sort r s
+  outcome-text h = let p = root-part (limited k items) r j passes.leaves run in is-sound sort r k source items s cut root (outcome-sound sort r (limited k items) comes h) p.0 p.1
 
   -- Acceptance: nothing is reported, and the tree is the sentence's derivation.
-  pub accepts-part : (t : Tree) → Sentence source t sort → Within source t r k → (s.errors ≡ []) × (bare (tree_of (finished (left_out s))) ≡ t)
-  accepts-part t h n =
+  pub outcome-accepts : (t : Tree) → Sentence source t sort → Within source t r k → (s.errors ≡ []) × (bare (tree_of (finished (left_out s))) ≡ t)
+  outcome-accepts t h n =
       let a = sentence-answers sort r k source items t cut h n in
-      let e = part-accepted sort r (limited k items) j follows (ends-well k 0 items cut.each) root run t a.1 n.nesting a.0 in
-      (e, (part e).all t a.1)
+      let e = outcome-accepted sort r (limited k items) comes t a.1 n.nesting a.0 in
+      (e, (outcome-sound sort r (limited k items) comes e).all t a.1)
+
+module _ (sort : Sort) (j : SyntaxKind) {q : Rule} (r k : ℕ) (source : List ℕ) (items : List Item) (s : State) (cut : Cut source items) (passes : RootRule j q) (free : is_free j ≡ true) (follows : Follows sort r (limited k items) j q) (run : Runs q (started (limited k items) r j) s) where
+  outcome : EndsWell (limited k items) → IsRoot s.tree → Outcome sort r (limited k items) s
+  outcome ends open_root = part-parsed sort r (limited k items) j follows ends open_root run
+
+  pub sound-part : s.errors ≡ [] → IsSoundPart sort r s
+  sound-part = outcome-text sort j r k source items s cut passes free run outcome
+
+  pub accepts-part : (t : Tree) → Sentence source t sort → Within source t r k → (s.errors ≡ []) × (bare (tree_of (finished (left_out s))) ≡ t)
+  accepts-part = outcome-accepts sort j r k source items s cut passes free run outcome
 
 -- ---- selection sets
 
@@ -176,3 +190,15 @@ module _ (r k : ℕ) (source : List ℕ) (items : List Item) (s : State) (cut : 
 
   pub selections-accepted : (t : Tree) → Sentence source t selections → Within source t r k → (s.errors ≡ []) × (bare (tree_of (finished (left_out s))) ≡ t)
   selections-accepted = accepts-part selections kind.SELECTION_SET r k source items s cut selections_pass refl (selections-root r (limited k items)) run
+
+-- ---- types
+
+module _ (r k : ℕ) (source : List ℕ) (items : List Item) (s : State) (cut : Cut source items) (made : MakesType (unopened (limited k items) r) s) where
+  type-outcome : EndsWell (limited k items) → IsRoot s.tree → Outcome type r (limited k items) s
+  type-outcome ends _ = type-parsed r (limited k items) ends made
+
+  pub types-sound : s.errors ≡ [] → IsSoundPart type r s
+  types-sound = let m = made-run (limited k items) r made in outcome-text type m.kind r k source items s cut (type_passes m.is) (type-free m.is) m.run type-outcome
+
+  pub types-accepted : (t : Tree) → Sentence source t type → Within source t r k → (s.errors ≡ []) × (bare (tree_of (finished (left_out s))) ≡ t)
+  types-accepted = let m = made-run (limited k items) r made in outcome-accepts type m.kind r k source items s cut (type_passes m.is) (type-free m.is) m.run type-outcome

@@ -8,6 +8,7 @@ use Rattle.document_grammar.specs.Booleans.{◌or◌}
 use Rattle.document_grammar.specs.Pattern.{member}
 use Rattle.document_grammar.specs.Derivation.{Sort, selections, Spells, nest}
 use Rattle.document_grammar.specs.Kinds.{L_CURLY}
+use Rattle.document_grammar.specs.Builds.{Building, nothing, start}
 use Rattle.document_grammar.specs.Numbered.{tree_of}
 use Rattle.document_grammar.specs.Places.{bare}
 use Rattle.document_grammar.specs.Tree.{Token, Tree, node, Forest, none}
@@ -26,19 +27,20 @@ use Rattle.parser_rules.specs.Fragments.{started, left_out, selections_root}
 use Rattle.parser_rules.specs.Open.{IsRoot}
 use Rattle.parser_rules.specs.RuleLanguage.{Rule}
 use Rattle.parser_rules.specs.Runs.{Runs}
-use Rattle.parser_rules.specs.State.{State, Lexeme, ignored, flush, begun, finished}
+use Rattle.parser_rules.specs.State.{State, Lexeme, ignored, read_on, flush, finished}
 use Rattle.parser_rules.proofs.fragments.RootChecks.{follows_part, selections_follow}
 use Rattle.parser_rules.proofs.lookahead.MachineClasses.{Next, current-class}
 use Rattle.parser_rules.proofs.lookahead.Split.{low, firm, spot, lost}
 use Rattle.parser_rules.proofs.lookahead.TokenSets.{class_of, kind_set, holds-minus}
+use Rattle.parser_rules.proofs.runs.Frame.{read-untouched}
 use Rattle.parser_rules.proofs.reports.NoReport.{answers_tokens, all_tokens, rest, given as given_by, EndsWell}
-use Rattle.parser_rules.proofs.soundness.MachineStack.{image-node}
+use Rattle.parser_rules.proofs.soundness.MachineStack.{image, image-node}
 use Rattle.parser_rules.proofs.soundness.Moves.{fits-next, with-sets, flushed}
 use Rattle.parser_rules.proofs.soundness.Positions.{Reading, top, StandsAt, Fits, Tells, Out, tell-on, run-grows, current, Alike, flush-alike, idle-rest, idle-grows, known-weak, still-leveled, moved-on}
-use Rattle.parser_rules.proofs.soundness.Roots.{whole_of, IsRootSymbol, root-starts, root-ended, never-right}
+use Rattle.parser_rules.proofs.soundness.Roots.{whole_of, IsRootSymbol, Begins, symbol-begins, first_state, root-starts, root-ended, never-right}
 use Rattle.parser_rules.proofs.soundness.Simulation.{good, link}
 use Rattle.parser_rules.proofs.soundness.Soundness.{finished-tree, words-before}
-use Rattle.parser_rules.proofs.soundness.TableCheck.{own, behind, no_brace, part_ends}
+use Rattle.parser_rules.proofs.soundness.TableCheck.{Then, own, behind, no_brace, part_ends, ok}
 use Rattle.parser_rules.proofs.soundness.WithoutIgnored.{stack}
 
 -- All answers before the current token are tokens; a derivation of the sort spells them. It nests within the limit, and as deep as the
@@ -62,39 +64,63 @@ Part sort r xs s = PartAs sort r xs s (bare (tree_of (finished (left_out s))))
 
 -- ---- any root
 
-module _ (sort : Sort) (r : ℕ) (xs : List Answer) (k : SyntaxKind) where
+module _ (sort : Sort) (r : ℕ) (xs : List Answer) where
   abbrev R : Reading
   R = whole_of sort r xs
 
-  -- the rule of a root of the symbol, after a first token whose class is in a set, keeps to the machine
-  pub record Follows (q : Rule) : Type 0 where
-    pub symbol : IsRootSymbol (top R) k
+  -- A rule keeps to the machine from where this is built, after a first token whose class is in a set.
+  pub record Keeps (b : Building) (k : Then) (q : Rule) : Type 0 where
+    pub begins : Begins (top R) b
     pub set : ℕ
-    pub follows : follows_part (top R) set q
+    pub follows : ok 5 (top R) (spot 0 low firm) set any q k ≡ true
     pub first : within (first_class (answers_tokens xs)) set ≡ true
 
-  part-starts : {q : Rule} (p : Follows q) → EndsWell xs → Tells R (started xs r k) ⊎ Fits R (top R) (spot 0 low firm) p.set any [] (started xs r k)
+  -- the first token is read, and what comes before it is built
+  abbrev pub first_token : Building → State
+  first_token b = flush (read_on xs (first_state xs r b))
+
+  -- no token is built there
+  pub record Starts (b : Building) (set : ℕ) : Type 0 where
+    pub fits : Fits R (top R) (spot 0 low firm) set any [] (first_token b)
+    pub built : stack (first_token b).tree ≡ stack b
+
+  pub part-starts : {b : Building} {k : Then} {q : Rule} (p : Keeps b k q) → EndsWell xs → Tells R (first_token b) ⊎ Starts b p.set
   unfolding flush
-  part-starts p e =
-      let b : State = begun xs r k in
-      let a : Alike b (flush b) = flush-alike b in
-      elim (root-starts sort r xs k p.symbol e) [
-        | inl o ↦ inl (tell-on R b (flush b) (idle-grows a.idle) o)
+  part-starts {b = b} p e =
+      let s : State = read_on xs (first_state xs r b) in
+      let a : Alike s (flush s) = flush-alike s in
+      elim (root-starts sort r xs p.begins e) [
+        | inl o ↦ inl (tell-on R s (flush s) (idle-grows a.idle) o)
         | inr g ↦ (
             let c = g.0.stands.0 in
-            let stands : StandsAt R (top R) (spot 0 low firm) [] (flush b) = (
-              record { children = c.children; place = record { reach = rw (idle-rest a.idle) c.place.reach; leveled = still-leveled R a c.place.leveled; alone = c.place.alone }; built = flushed R b g.0.calm ∙ c.built },
-              known-weak R firm (frame (top R) 0 c.children ∷ []) b (flush b) (idle-rest a.idle) g.0.stands.1,
+            let stands : StandsAt R (top R) (spot 0 low firm) [] (flush s) = (
+              record { children = c.children; place = record { reach = rw (idle-rest a.idle) c.place.reach; leveled = still-leveled R a c.place.leveled; alone = c.place.alone }; built = flushed R s g.0.calm ∙ c.built },
+              known-weak R firm (frame (top R) 0 c.children ∷ []) s (flush s) (idle-rest a.idle) g.0.stands.1,
             ) in
-            let near : within (class_of b.current) p.set ≡ true = rw (current-class b.current b.items g.0.calm.now, g.1) p.first in
-            inr (moved-on R (with-sets R g.0 (record { near = near; far = g.0.seen.far })) a.idle stands))
+            let near : within (class_of s.current) p.set ≡ true = rw (current-class s.current s.items g.0.calm.now, g.1) p.first in
+            inr (record {
+              fits = moved-on R (with-sets R g.0 (record { near = near; far = g.0.seen.far })) a.idle stands;
+              built = flushed R s g.0.calm ∙ ap stack (read-untouched xs (first_state xs r b)).tree;
+            }))
       ]
 
-  part-out : (s : State) → IsRootSymbol (top R) k → IsRoot s.tree → Out R (top R) [] (part_ends (top R)) s → Tells R s ⊎ ((s.errors ≡ []) × Part sort r xs s)
+  pub part-runs : {b : Building} {k : Then} {q : Rule} {s : State} (p : Keeps b k q) → Starts b p.set → Runs q (first_token b) s → Out R (top R) [] k s
+  part-runs {k = k} {q = q} p g run = link R run 5 (top R) (spot 0 low firm) p.set any [] k (good R 5 (top R) (spot 0 low firm) p.set any q k p.follows) g.fits
+
+  -- Nothing is reported, and the machine's root may end.
+  pub record Ended (s : State) : Type 0 where
+    pub silent : s.errors ≡ []
+    pub state : ℕ
+    pub children : Forest
+    pub built : stack s.tree ≡ image (frame (top R) state children ∷ [])
+    -- whatever is built of it
+    pub part : (b : Building) → PartAs sort r xs (record s { tree = b }) (show (node (top R) children))
+
+  pub part-out : (s : State) → Out R (top R) [] (part_ends (top R)) s → Tells R s ⊎ Ended s
   unfolding part_ends
-  part-out s o root (inl t) = inl t
-  part-out s o root (inr (lost, x, y, h, g)) = false-true refl h
-  part-out s o root (inr (spot q l d, x, y, h, g)) =
+  part-out s (inl t) = inl t
+  part-out s (inr (lost, x, y, h, g)) = false-true refl h
+  part-out s (inr (spot q l d, x, y, h, g)) =
       let c = g.stands.0 in
       let f : Forest = c.children in
       let n : Next x y (rest s) = fits-next R g in
@@ -102,12 +128,13 @@ module _ (sort : Sort) (r : ℕ) (xs : List Answer) (k : SyntaxKind) where
       let e = root-ended R c.place m (eqb-true _ _ (and-r _ _ (and-r _ _ h))) in
       let t = current R s g.calm in
       let words : answers_tokens xs ≡ yields f ++ answers_tokens (given_by t.0 ∷ s.items) = e.split ∙ ap (λ (z : Option Lexeme). yields f ++ rest (record s { current = z })) t.1 in
-      let built : stack s.tree ≡ (label (top R), shows f) ∷ ((0, none) ∷ []) = c.built ∙ image-node (top R) q f [] o.no_type in
-      let tree : bare (tree_of (finished (left_out s))) ≡ show (node (top R) f) = finished-tree (left_out s) (label (top R), shows f) ((0, none) ∷ []) root built ∙ sym (show-root (top R) f o.no_type) in
       let held = t.3 in
-      inr (
-        g.calm.quiet.clean,
-        rw tree (record {
+      inr (record {
+        silent = g.calm.quiet.clean;
+        state = q;
+        children = f;
+        built = c.built;
+        part = λ b. record {
           front = held.front;
           lexeme = t.0;
           current = t.1;
@@ -118,22 +145,43 @@ module _ (sort : Sort) (r : ℕ) (xs : List Answer) (k : SyntaxKind) where
           nesting = e.nesting;
           high = e.high;
           all = λ u h. (e.all u h).1;
-        }),
-      )
+        };
+      })
 
-  pub part-parsed : {q : Rule} {s : State} → Follows q → EndsWell xs → IsRoot s.tree → Runs q (started xs r k) s → Tells R s ⊎ ((s.errors ≡ []) × Part sort r xs s)
-  part-parsed {q = q} {s = s} p e root run = elim (part-starts p e) [
-    | inl o ↦ inl (tell-on R (started xs r k) s (run-grows run) o)
-    | inr g ↦ part-out s p.symbol root (link R run 5 (top R) (spot 0 low firm) p.set any [] (part_ends (top R)) (good R 5 (top R) (spot 0 low firm) p.set any q (part_ends (top R)) p.follows) g)
-  ]
+  -- What a run comes to: a report, of which the first is right; or none, and the tree is a derivation.
+  abbrev pub Outcome : State → Type 0
+  Outcome s = Tells R s ⊎ ((s.errors ≡ []) × Part sort r xs s)
 
   -- Soundness.
-  pub part-sound : {q : Rule} {s : State} → Follows q → EndsWell xs → IsRoot s.tree → Runs q (started xs r k) s → s.errors ≡ [] → Part sort r xs s
-  part-sound p e root run h = elim (part-parsed p e root run) [ inl o ↦ no-cons (sym h ∙ o.reported) | inr o ↦ o.1 ]
+  pub outcome-sound : {s : State} → Outcome s → s.errors ≡ [] → Part sort r xs s
+  outcome-sound o h = elim o [ inl o ↦ no-cons (sym h ∙ o.reported) | inr o ↦ o.1 ]
 
   -- Acceptance.
-  pub part-accepted : {q : Rule} {s : State} → Follows q → EndsWell xs → IsRoot s.tree → Runs q (started xs r k) s → (t : Tree) → Spells (answers_tokens xs) t sort → nest t ≤ r → all_tokens xs ≡ true → s.errors ≡ []
-  part-accepted p e root run t h n a = elim (part-parsed p e root run) [ inl o ↦ absurd (never-right sort r xs o.report o.taken t h n a o.right) | inr o ↦ o.0 ]
+  pub outcome-accepted : {s : State} → Outcome s → (t : Tree) → Spells (answers_tokens xs) t sort → nest t ≤ r → all_tokens xs ≡ true → s.errors ≡ []
+  outcome-accepted o t h n a = elim o [ inl o ↦ absurd (never-right sort r xs o.report o.taken t h n a o.right) | inr o ↦ o.0 ]
+
+-- ---- a root that is open from the beginning
+
+module _ (sort : Sort) (r : ℕ) (xs : List Answer) (k : SyntaxKind) where
+  abbrev S : ℕ
+  S = top (whole_of sort r xs)
+
+  pub record Follows (q : Rule) : Type 0 where
+    pub symbol : IsRootSymbol S k
+    pub keeps : Keeps sort r xs (start k nothing) (part_ends S) q
+
+  pub part-parsed : {q : Rule} {s : State} → Follows q → EndsWell xs → IsRoot s.tree → Runs q (started xs r k) s → Outcome sort r xs s
+  part-parsed {s = s} p e root run = elim (part-starts sort r xs p.keeps e) [
+    | inl o ↦ inl (tell-on (whole_of sort r xs) (started xs r k) s (run-grows run) o)
+    | inr g ↦ elim (part-out sort r xs s (part-runs sort r xs p.keeps g run)) [
+      | inl o ↦ inl o
+      | inr o ↦ (
+          let f : Forest = o.children in
+          let built : stack s.tree ≡ (label S, shows f) ∷ ((0, none) ∷ []) = o.built ∙ image-node S o.state f [] p.symbol.no_type in
+          let tree : bare (tree_of (finished (left_out s))) ≡ show (node S f) = finished-tree (left_out s) (label S, shows f) ((0, none) ∷ []) root built ∙ sym (show-root S f p.symbol.no_type) in
+          inr (o.silent, rw tree (o.part s.tree)))
+    ]
+  ]
 
 -- ---- selection sets
 
@@ -163,4 +211,4 @@ opens-by-class a h = elim (either (eqb a L_CURLY)) [
 pub selections-root : (r : ℕ) (xs : List Answer) → Follows selections r xs kind.SELECTION_SET selections_root
 selections-root r xs =
     let o = opens-by-class (first_class (answers_tokens xs)) (first-any (answers_tokens xs)) in
-    record { symbol = o.symbol; set = o.set; follows = o.follows; first = o.first }
+    record { symbol = o.symbol; keeps = record { begins = symbol-begins o.symbol; set = o.set; follows = o.follows; first = o.first } }

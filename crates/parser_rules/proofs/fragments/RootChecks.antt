@@ -1,5 +1,5 @@
 -- The rules of the roots of fragment parses pass the checks.
-use Rattle.std.proofs.Common.{◌≡◌, true, eqb, leb, refl}
+use Rattle.std.proofs.Common.{◌≡◌, true, false, eqb, leb, refl}
 use Rattle.document_grammar.specs.declared.kind.SyntaxKind.{SyntaxKind}
 use Rattle.document_grammar.specs.declared.kind.SyntaxKind.TheVariants as kind
 use Rattle.document_grammar.specs.Booleans.{◌and◌}
@@ -8,14 +8,17 @@ use Rattle.document_grammar.proofs.Nested.{weight}
 use Rattle.std.specs.Prelude.{ℕ}
 use Rattle.lexical_grammar.specs.declared.TokenKind.TheVariants as token
 use Rattle.document_grammar.specs.Kinds.{SELECTION_SET}
-use Rattle.grammar_machine.specs.Symbols.{BARE_SELECTIONS}
+use Rattle.grammar_machine.specs.Symbols.{TYPE, BARE_SELECTIONS}
 use Rattle.grammar_machine.proofs.Sound.{any}
 use Rattle.parser_rules.proofs.lookahead.TokenSets.{kind_set}
 use Rattle.parser_rules.proofs.lookahead.Split.{low, firm, spot}
-use Rattle.parser_rules.proofs.soundness.TableCheck.{own, no_brace, part_ends, ok}
+use Rattle.parser_rules.proofs.soundness.TableCheck.{Then, own, no_brace, part_ends, ok}
 use Rattle.document_grammar.specs.Numbers.{number}
-use Rattle.parser_rules.specs.Fragments.{selections_root}
-use Rattle.parser_rules.specs.RuleLanguage.{Rule}
+use Rattle.parser_rules.specs.Fragments.{selections_root, list_root, named_root, non_null_root, no_type_root, IsTypeRoot, a_list, a_name, not_null, no_type}
+use Rattle.parser_rules.specs.Open.{is_free}
+use Rattle.parser_rules.specs.State.{State}
+use Rattle.parser_rules.specs.RuleLanguage.{Here, At, Ready, Bump, Rule, Skip, Do, When, While, ◌>◌}
+use Rattle.parser_rules.specs.Rules.{type_start, nullable_type}
 use Rattle.parser_rules.proofs.runs.Walk.{walk, always}
 use Rattle.parser_rules.proofs.leaves.LeafCheck.{anything, leaf_check}
 use Rattle.parser_rules.proofs.nesting.LevelCheck.{at_first, level_check}
@@ -34,9 +37,52 @@ pub selections_pass : RootRule kind.SELECTION_SET selections_root
 unfolding computing
 selections_pass = record { leaves = refl; levels = refl; heavy = refl; limits = refl }
 
+pub list_passes : RootRule kind.LIST_TYPE list_root
+unfolding computing
+list_passes = record { leaves = refl; levels = refl; heavy = refl; limits = refl }
+
+pub named_passes : RootRule kind.NAMED_TYPE named_root
+unfolding computing
+named_passes = record { leaves = refl; levels = refl; heavy = refl; limits = refl }
+
+pub non_null_passes : RootRule kind.NON_NULL_TYPE non_null_root
+unfolding computing
+non_null_passes = record { leaves = refl; levels = refl; heavy = refl; limits = refl }
+
+pub no_type_passes : RootRule kind.ERROR no_type_root
+unfolding computing
+no_type_passes = record { leaves = refl; levels = refl; heavy = refl; limits = refl }
+
+pub type_passes : {s : State} {k : SyntaxKind} {q : Rule} → IsTypeRoot s k q → RootRule k q
+type_passes (a_list e) = list_passes
+type_passes (a_name e) = named_passes
+type_passes (not_null e) = non_null_passes
+type_passes (no_type e) = no_type_passes
+
+pub type-free : {s : State} {k : SyntaxKind} {q : Rule} → IsTypeRoot s k q → is_free k ≡ true
+type-free (a_list e) = refl
+type-free (a_name e) = refl
+type-free (not_null e) = refl
+type-free (no_type e) = refl
+
 -- a rule of a root of the symbol keeps to the machine, where the class of the first token is in the set
 abbrev pub follows_part : ℕ → ℕ → Rule → Type 0
 follows_part s x q = ok 5 s (spot 0 low firm) x any q (part_ends s) ≡ true
+
+-- a type where no root is open
+abbrev pub type_rule : Rule
+type_rule = When (Here type_start) (nullable_type > When (At token.Bang) (Do (Bump kind.BANG)) Skip) no_type_root
+
+-- what comes where no type stands: nothing follows the other branch, which does not end
+abbrev pub absent_rule : Rule
+absent_rule = When (Here type_start) (While Ready Skip) no_type_root
+
+abbrev pub never : Then
+never p x y = false
+
+pub type_follows : follows_part TYPE any type_rule × (ok 5 TYPE (spot 0 low firm) any any absent_rule never ≡ true)
+unfolding computing
+type_follows = (refl, refl)
 
 -- with braces and without
 pub selections_follow : follows_part SELECTION_SET (kind_set token.LCurly) selections_root × follows_part BARE_SELECTIONS no_brace selections_root

@@ -1,6 +1,6 @@
 -- A run does not depend on what was built and reported before: from the same state with other trees and reports there is a run that adds the
 -- same trees and reports.
-use Rattle.std.proofs.Common.{◌≡◌, ℕ, ◌+◌, max, min, Bool, true, false, not, ◌&&◌, if◌then◌else◌, List, [], ◌∷◌, ◌++◌, Option, Some, None, refl, sym, ap, ap₂, ◌∙◌, subst, append_assoc, append-nil}
+use Rattle.std.proofs.Common.{◌≡◌, ℕ, ◌+◌, max, min, Bool, true, false, not, ◌&&◌, if◌then◌else◌, List, [], ◌∷◌, ◌++◌, Option, Some, None, refl, sym, ap, ap₂, ◌∙◌, subst, append_assoc, append-nil, arith}
 use Rattle.lexical_grammar.specs.declared.TokenKind.TheVariants as token
 use Rattle.lexical_grammar.specs.Answers.{Answer, usize_max}
 use Rattle.document_grammar.specs.declared.kind.SyntaxKind.{SyntaxKind}
@@ -30,38 +30,65 @@ built_of s = record { tree = s.tree; errors = s.errors; high = s.high }
 abbrev pub on : State → Built → State
 on s d = record s { tree = d.tree; errors = d.errors; high = d.high }
 
--- `c` has the trees and the reports more than `b`
-abbrev pub More : built.Forest → List Report → Built → Built → Type 0
-More f r b c = record { trees : Added f b.tree c.tree; errors : c.errors ≡ b.errors ++ r }
+-- `c` has the trees and the reports more than `b`, and the depth `h` was asked for
+abbrev pub More : built.Forest → List Report → ℕ → Built → Built → Type 0
+More f r h b c = record { trees : Added f b.tree c.tree; errors : c.errors ≡ b.errors ++ r; high : c.high ≡ max b.high h }
 
--- `c` comes of `b` as `c'` of `b'`: the same trees are added to the open node, and the same reports.
+-- `c` comes of `b` as `c'` of `b'`: the same trees are added to the open node, and the same reports, and the same depth is asked for.
 abbrev pub Same_steps : Built → Built → Built → Built → Type 0
-Same_steps b c b' c' = record { more : built.Forest; reports : List Report; one : More more reports b c; other : More more reports b' c' }
+Same_steps b c b' c' = record { more : built.Forest; reports : List Report; asked : ℕ; one : More more reports asked b c; other : More more reports asked b' c' }
 
-more-then : (f g : built.Forest) (r q : List Report) (b c d : Built) → More f r b c → More g q c d → More (built.join f g) (r ++ q) b d
-more-then f g r q b c d h k = record { trees = added-then h.trees k.trees; errors = k.errors ∙ (ap (λ (z : List Report). z ++ q) h.errors ∙ append_assoc b.errors r q) }
+more-then : (f g : built.Forest) (r q : List Report) (m n : ℕ) (b c d : Built) → More f r m b c → More g q n c d → More (built.join f g) (r ++ q) (max m n) b d
+more-then f g r q m n b c d h k = record {
+  trees = added-then h.trees k.trees;
+  errors = k.errors ∙ (ap (λ (z : List Report). z ++ q) h.errors ∙ append_assoc b.errors r q);
+  high = let x = h.high in let y = k.high in omega (arith, x, y);
+}
 
 then_on : (b c d b' c' d' : Built) → Same_steps b c b' c' → Same_steps c d c' d' → Same_steps b d b' d'
 then_on b c d b' c' d' h k = record {
   more = built.join h.more k.more;
   reports = h.reports ++ k.reports;
-  one = more-then h.more k.more h.reports k.reports b c d h.one k.one;
-  other = more-then h.more k.more h.reports k.reports b' c' d' h.other k.other;
+  asked = max h.asked k.asked;
+  one = more-then h.more k.more h.reports k.reports h.asked k.asked b c d h.one k.one;
+  other = more-then h.more k.more h.reports k.reports h.asked k.asked b' c' d' h.other k.other;
 }
 
 -- trees more, and no report
-grown : (f : built.Forest) (b c b' c' : Built) → Added f b.tree c.tree → Added f b'.tree c'.tree → c.errors ≡ b.errors → c'.errors ≡ b'.errors → Same_steps b c b' c'
-grown f b c b' c' h k e e' = record { more = f; reports = []; one = record { trees = h; errors = e ∙ sym (append-nil b.errors) }; other = record { trees = k; errors = e' ∙ sym (append-nil b'.errors) } }
+grown : (f : built.Forest) (b c b' c' : Built) → Added f b.tree c.tree → Added f b'.tree c'.tree → c.errors ≡ b.errors → c'.errors ≡ b'.errors → c.high ≡ b.high → c'.high ≡ b'.high → Same_steps b c b' c'
+grown f b c b' c' h k e e' n n' = record {
+  more = f;
+  reports = [];
+  asked = 0;
+  one = record { trees = h; errors = e ∙ sym (append-nil b.errors); high = omega (arith, n) };
+  other = record { trees = k; errors = e' ∙ sym (append-nil b'.errors); high = omega (arith, n') };
+}
 
 still : (b b' : Built) → Same_steps b b b' b'
-still b b' = grown built.none b b b' b' (added-none b.tree) (added-none b'.tree) refl refl
+still b b' = grown built.none b b b' b' (added-none b.tree) (added-none b'.tree) refl refl refl refl
+
+-- a depth is asked for
+deeper-on : (n : ℕ) (b b' : Built) → Same_steps b (record b { high = max b.high n }) b' (record b' { high = max b'.high n })
+deeper-on n b b' = record {
+  more = built.none;
+  reports = [];
+  asked = n;
+  one = record { trees = added-none b.tree; errors = sym (append-nil b.errors); high = refl };
+  other = record { trees = added-none b'.tree; errors = sym (append-nil b'.errors); high = refl };
+}
 
 -- a report more
 abbrev tell : Report → Built → Built
 tell r b = record b { errors = b.errors ++ r ∷ [] }
 
 told : (r : Report) (b b' : Built) → Same_steps b (tell r b) b' (tell r b')
-told r b b' = record { more = built.none; reports = r ∷ []; one = record { trees = added-none b.tree; errors = refl }; other = record { trees = added-none b'.tree; errors = refl } }
+told r b b' = record {
+  more = built.none;
+  reports = r ∷ [];
+  asked = 0;
+  one = record { trees = added-none b.tree; errors = refl; high = omega arith };
+  other = record { trees = added-none b'.tree; errors = refl; high = omega arith };
+}
 
 -- ---- steps
 
@@ -87,7 +114,7 @@ flushed s d = record d { tree = add_all s.pending d.tree }
 
 flushing : (s : State) (d : Built) → Same_steps (built_of s) (built_of (flush s)) d (flushed s d)
 unfolding flush
-flushing s d = grown (parts_forest s.pending) (built_of s) (built_of (flush s)) d (flushed s d) (added-all s.pending s.tree) (added-all s.pending d.tree) refl refl
+flushing s d = grown (parts_forest s.pending) (built_of s) (built_of (flush s)) d (flushed s d) (added-all s.pending s.tree) (added-all s.pending d.tree) refl refl refl refl
 
 bumping : (own : SyntaxKind) (s : State) (d : Built) → Stepping (bump own) s d
 unfolding bump flush
@@ -100,7 +127,7 @@ bumping own s d = at s.current
         let u : State = moved_on own x f in
         let e : Built = record d { tree = add_leaf own x.text (add_all s.pending d.tree) } in
         let k = reading-on (reading s.items u) e in
-        let leafed = grown (built.leaf own x.text built.none) (built_of f) (built_of u) (flushed s d) e (added-leaf own x.text f.tree) (added-leaf own x.text (add_all s.pending d.tree)) refl refl in
+        let leafed = grown (built.leaf own x.text built.none) (built_of f) (built_of u) (flushed s d) e (added-leaf own x.text f.tree) (added-leaf own x.text (add_all s.pending d.tree)) refl refl refl refl in
         let first = then_on (built_of s) (built_of f) (built_of u) d (flushed s d) e (flushing s d) leafed in
         (k.0, (found k.1).is, then_on (built_of s) (built_of u) (built_of (moved own s (Some x))) d e k.0 first k.2)
 
@@ -117,8 +144,8 @@ noting m s d = elim s.current as (λ o. (e : Built) × (noted m (on s d) o ≡ o
 limiting : (s : State) (d : Built) → Stepping too_deep s d
 unfolding too_deep
 limiting s d = elim s.current as (λ o. (e : Built) × (limited_at (deepened (on s d)) o ≡ on (limited_at (deepened s) o) e) × Same_steps (built_of s) (built_of (limited_at (deepened s) o)) d e) [
-  | None ↦ (record d { high = max d.high (min (s.depth + 1) usize_max) }, refl, still (built_of s) d)
-  | Some x ↦ (let k = reporting (recursion_limit_report x) (deepened s) (record d { high = max d.high (min (s.depth + 1) usize_max) }) in (k.0, ap (λ (z : State). record z { accepts = false }) k.1, k.2))
+  | None ↦ (record d { high = max d.high (min (s.depth + 1) usize_max) }, refl, deeper-on (min (s.depth + 1) usize_max) (built_of s) d)
+  | Some x ↦ (let k = reporting (recursion_limit_report x) (deepened s) (record d { high = max d.high (min (s.depth + 1) usize_max) }) in (k.0, ap (λ (z : State). record z { accepts = false }) k.1, then_on (built_of s) (built_of (deepened s)) (built_of (limited_at (deepened s) (Some x))) d (record d { high = max d.high (min (s.depth + 1) usize_max) }) k.0 (deeper-on (min (s.depth + 1) usize_max) (built_of s) d) k.2))
 ]
 
 stepping : (p : Prim) (s : State) (d : Built) → Stepping (step p) s d
@@ -146,8 +173,9 @@ unfolding opened closed flush
 noding k s u d e i = then_on (built_of s) (built_of (flush s)) (built_of (closed u)) d (flushed s d) (closed_on e) (flushing s d) (record {
   more = built.node k i.more built.none;
   reports = i.reports;
-  one = record { trees = added-node k i.one.trees; errors = i.one.errors };
-  other = record { trees = added-node k i.other.trees; errors = i.other.errors };
+  asked = i.asked;
+  one = record { trees = added-node k i.one.trees; errors = i.one.errors; high = i.one.high };
+  other = record { trees = added-node k i.other.trees; errors = i.other.errors; high = i.other.high };
 })
 
 -- the state where a node around what was added since the type began is open
@@ -162,8 +190,9 @@ unfolding wrapped_from opened flush
 wrapping s u d e h = record {
   more = h.more;
   reports = h.reports;
-  one = record { trees = added-wrap kind.NON_NULL_TYPE h.one.trees; errors = h.one.errors };
-  other = record { trees = added-wrap kind.NON_NULL_TYPE h.other.trees; errors = h.other.errors };
+  asked = h.asked;
+  one = record { trees = added-wrap kind.NON_NULL_TYPE h.one.trees; errors = h.one.errors; high = h.one.high };
+  other = record { trees = added-wrap kind.NON_NULL_TYPE h.other.trees; errors = h.other.errors; high = h.other.high };
 }
 
 -- ---- runs
@@ -189,7 +218,8 @@ anew {s = s} {t = w} (deeper {t = t} {u = u} {v = v} q e k h l) d =
     let o : Built = record d { high = max d.high (s.depth + 1) } in
     let i = anew h o in
     let j = anew l i.0 in
-    let c = subst (λ (z : State). Same_steps (built_of s) (built_of z) d i.0) (sym k) (subst (λ (z : State). Same_steps (built_of z) (built_of u) o i.0) e i.2) in
+    let inside : Same_steps (built_of s) (built_of u) d i.0 = then_on (built_of s) (built_of (enter s)) (built_of u) d o i.0 (deeper-on (s.depth + 1) (built_of s) d) (subst (λ (z : State). Same_steps (built_of z) (built_of u) o i.0) e i.2) in
+    let c = subst (λ (z : State). Same_steps (built_of s) (built_of z) d i.0) (sym k) inside in
     (j.0, deeper q (ap (λ (z : State). on z o) e) (ap (λ (z : State). on z i.0) k) i.1 j.1, then_on (built_of s) (built_of v) (built_of w) d i.0 j.0 c j.2)
 anew {s = s} (limited q e) d = let k = limiting s d in subst (λ (z : State). Anew TooDeep s z d) (sym e) (k.0, limited q (sym k.1), k.2)
 anew {s = s} (refused {a = a} {b = b} q e) d = let k = limiting s d in subst (λ (z : State). Anew (Nested a b) s z d) (sym e) (k.0, refused q (sym k.1), k.2)

@@ -3,7 +3,6 @@ use Rattle.std.proofs.Common.{◌≡◌, ℕ, suc, ◌+◌, ◌-◌, ◌≤◌, 
 use Rattle.std.specs.Prelude.{⊤}
 use Rattle.lexical_grammar.specs.Answers.{Answer}
 use Rattle.document_grammar.specs.declared.kind.SyntaxKind.{SyntaxKind}
-use Rattle.document_grammar.specs.declared.kind.SyntaxKind.TheVariants as kind
 use Rattle.document_grammar.specs.Kinds.{SELECTION_SET, LIST_TYPE}
 use Rattle.grammar_machine.specs.Symbols.{BARE_SELECTIONS}
 use Rattle.document_grammar.specs.Builds.{Building}
@@ -83,9 +82,9 @@ pub closed-alike : (st : State) → Alike st (closed st)
 unfolding closed
 closed-alike st = rebuilt st st.pending _ (λ z. z) (λ m z. settled-finish m st.tree z)
 
-pub wrapped-alike : (place : ℕ) (st : State) → Alike st (wrapped_from place kind.NON_NULL_TYPE st)
+pub wrapped-alike : (place : ℕ) (k : SyntaxKind) (st : State) → Alike st (wrapped_from place k st)
 unfolding wrapped_from
-wrapped-alike place st = rebuilt st st.pending _ (λ z. z) (λ m z. settled-wrap m place kind.NON_NULL_TYPE st.tree z)
+wrapped-alike place k st = rebuilt st st.pending _ (λ z. z) (λ m z. settled-wrap m place k st.tree z)
 
 -- the depth and the greatest depth are all that changes
 pub renested : (st : State) (d h : ℕ) → Idle st (record st { depth = d; high = h })

@@ -3,11 +3,13 @@ use Rattle.std.proofs.Common.{◌≡◌, ℕ, ◌≤◌, true, false, eqb, List,
 use Rattle.lexical_grammar.specs.Answers.{Answer, is_token}
 use Rattle.document_grammar.proofs.Booleans.{false-true, and-l, and-r}
 use Rattle.document_grammar.specs.declared.kind.SyntaxKind.{SyntaxKind}
+use Rattle.document_grammar.specs.declared.kind.SyntaxKind.TheVariants as kind
 use Rattle.document_grammar.specs.Numbers.{number}
 use Rattle.document_grammar.specs.Kinds.{DOCUMENT}
 use Rattle.document_grammar.specs.Tree.{Token, Tree, node, Forest, none}
 use Rattle.document_grammar.specs.Derivation.{Sort, Spells, nest}
 use Rattle.grammar_machine.specs.Symbols.{TYPE}
+use Rattle.document_grammar.specs.Builds.{Building, nothing, start as start_node}
 use Rattle.grammar_machine.specs.Machine.{yields, frame, Reach, start, close as closes_move}
 use Rattle.grammar_machine.proofs.Depth.{count_in, nesting_all, nest-show, peak-end, peak-start}
 use Rattle.grammar_machine.proofs.FromMachineTree.{show}
@@ -17,17 +19,18 @@ use Rattle.grammar_machine.proofs.Patterns.{label}
 use Rattle.grammar_machine.proofs.Run.{next}
 use Rattle.grammar_machine.proofs.SentenceTheorems.{start_symbol, sentence-parse, accepts, sound as ended_sound, sound-all}
 use Rattle.grammar_machine.proofs.Sound.{any}
-use Rattle.parser_rules.specs.State.{State, Report, fresh, begun}
+use Rattle.parser_rules.specs.State.{State, Report, read_on, fresh}
 use Rattle.parser_rules.proofs.runs.Frame.{Untouched, read-untouched}
 use Rattle.parser_rules.proofs.runs.Reading.{reading}
 use Rattle.parser_rules.proofs.reports.NoReport.{answers_tokens, all_tokens, rest, given as given_by, EndsWell, Blames, read-on}
 use Rattle.parser_rules.proofs.lookahead.TokenSets.{seen-any}
 use Rattle.parser_rules.proofs.lookahead.Split.{Level, low, firm, spot}
 use Rattle.parser_rules.proofs.soundness.WithoutIgnored.{stack}
-use Rattle.parser_rules.proofs.soundness.MachineStack.{image-node}
+use Rattle.parser_rules.proofs.soundness.MachineStack.{image, image-node}
+use Rattle.parser_rules.proofs.soundness.Settled.{Settled, settled-at}
 use Rattle.parser_rules.proofs.soundness.TableCheck.{own, owed}
 use Rattle.parser_rules.proofs.soundness.FirstReport.{Right, stuck_here, deep_here, no_token}
-use Rattle.parser_rules.proofs.soundness.Positions.{Reading, top, start_good, Leveled, Place, StandsAt, Fits, Tells, Rightly, shown}
+use Rattle.parser_rules.proofs.soundness.Positions.{Reading, top, start_good, Leveled, Place, StandsAt, Fits, Tells, Rightly, shown, fitting}
 
 -- all the answers, to a parser with nothing reported
 abbrev pub whole_of : Sort → ℕ → List Answer → Reading
@@ -39,43 +42,60 @@ pub record IsRootSymbol (s : ℕ) (k : SyntaxKind) : Type 0 where
   pub counted : count_in DOCUMENT s ≡ own s
   pub no_type : eqb s TYPE ≡ false
 
+-- Where this alone is built, the machine begins with the symbol.
+pub record Begins (s : ℕ) (b : Building) : Type 0 where
+  pub counted : count_in DOCUMENT s ≡ own s
+  pub built : stack b ≡ image (frame s 0 none ∷ [])
+
+-- the root is open
+pub symbol-begins : {s : ℕ} {k : SyntaxKind} → IsRootSymbol s k → Begins s (start_node k nothing)
+symbol-begins {s = s} o = record { counted = o.counted; built = ap (λ (j : ℕ). (j, none) ∷ ((0, none) ∷ [])) (sym o.shown) ∙ sym (image-node s 0 none [] o.no_type) }
+
+-- this is built, and nothing is read
+abbrev pub first_state : List Answer → ℕ → Building → State
+first_state xs r b = record (fresh xs r kind.ERROR) { tree = b }
+
 -- ---- the beginning
 
-module _ (sort : Sort) (r : ℕ) (xs : List Answer) (k : SyntaxKind) where
+module _ (sort : Sort) (r : ℕ) (xs : List Answer) where
   abbrev R : Reading
   R = whole_of sort r xs
 
-  pub root-level : IsRootSymbol (top R) k → Leveled R (top R) 0 low none [] 0 0 r
-  root-level o = record {
-    level = omega (arith, o.counted);
-    entered = omega arith;
-    most_open = omega (arith, peak-start (top R), o.counted);
-    above = omega arith;
-    bounds = record { kept = omega arith; nested = λ t p. omega arith; limit = refl };
-  }
+  module _ {b : Building} (o : Begins (top R) b) where
+    pub root-level : Leveled R (top R) 0 low none [] 0 0 r
+    root-level = record {
+      level = omega (arith, o.counted);
+      entered = omega arith;
+      most_open = omega (arith, peak-start (top R), o.counted);
+      above = omega arith;
+      bounds = record { kept = omega arith; nested = λ t p. omega arith; limit = refl };
+    }
 
-  -- where the root is open, nothing is built, and all the tokens are left
-  pub root-opened : IsRootSymbol (top R) k → (n : ℕ) (ys : List Answer) (s : State) → Untouched (record (fresh ys r k) { asked = n }) s → rest s ≡ answers_tokens xs → StandsAt R (top R) (spot 0 low firm) [] s
-  root-opened o n ys s u e = (
-    record {
-      children = none;
-      place = record { reach = subst (λ (z : List Token). Reach (top R) (answers_tokens xs) (frame (top R) 0 none ∷ []) z) (sym e) start; leveled = rw (u.depth, u.high, u.limit) (root-level o); alone = λ e. refl };
-      built = ap stack u.tree ∙ ap (λ (j : ℕ). (j, none) ∷ ((0, none) ∷ [])) (sym o.shown) ∙ sym (image-node (top R) 0 none [] o.no_type);
-    },
-    record { before = []; split = sym e; firm = λ v f. start },
-  )
+    -- where nothing else is built, and all the tokens are left
+    pub root-opened : (n : ℕ) (ys : List Answer) (s : State) → Untouched (record (first_state ys r b) { asked = n }) s → rest s ≡ answers_tokens xs → StandsAt R (top R) (spot 0 low firm) [] s
+    root-opened n ys s u e = (
+      record {
+        children = none;
+        place = record { reach = subst (λ (z : List Token). Reach (top R) (answers_tokens xs) (frame (top R) 0 none ∷ []) z) (sym e) start; leveled = rw (u.depth, u.high, u.limit) root-level; alone = λ e. refl };
+        built = ap stack u.tree ∙ o.built;
+      },
+      record { before = []; split = sym e; firm = λ v f. start },
+    )
 
-  pub root-starts : IsRootSymbol (top R) k → EndsWell xs → Tells R (begun xs r k) ⊎ (Fits R (top R) (spot 0 low firm) any any [] (begun xs r k) × (rest (begun xs r k) ≡ answers_tokens xs))
-  root-starts o e =
-      let s : State = fresh xs r k in
-      let b : State = begun xs r k in
-      elim (read-on xs (Rightly R) (reading xs s) 0 (record { clean = refl; accepts = refl; waits = refl }) e (record { front = []; split = refl; tokens = refl }) blame (omega arith, tt, (tt, tt))) [
-        | inl o' ↦ inl o'
-        | inr o' ↦ inr (record { calm = o'.0; seen = seen-any b (shown R b o'.0); stands = root-opened o s.asked xs b (read-untouched xs s) o'.1 }, o'.1)
-      ]
-    where
-      blame : Blames xs (Rightly R) 0 (answers_tokens xs)
-      blame x ys p n z = no_token p n (frame (top R) 0 none ∷ [], subst (λ (u : List Token). Reach (top R) (answers_tokens xs) (frame (top R) 0 none ∷ []) u) (sym z) start) (let e = ap length z in omega (arith, e))
+    pub root-starts : EndsWell xs → let s = read_on xs (first_state xs r b) in Tells R s ⊎ (Fits R (top R) (spot 0 low firm) any any [] s × (rest s ≡ answers_tokens xs))
+    root-starts e =
+        let s : State = first_state xs r b in
+        let t : State = read_on xs s in
+        elim (read-on xs (Rightly R) (reading xs s) 0 (record { clean = refl; accepts = refl; waits = refl }) e (record { front = []; split = refl; tokens = refl }) blame settled) [
+          | inl o' ↦ inl o'
+          | inr o' ↦ inr (record { calm = o'.0; seen = seen-any t (shown R t o'.0); stands = root-opened s.asked xs t (read-untouched xs s) o'.1 }, o'.1)
+        ]
+      where
+        settled : Settled 0 b
+        settled = settled-at 0 b (image (frame (top R) 0 none ∷ [])) o.built (fitting R (frame (top R) 0 none ∷ []) (answers_tokens xs) start)
+
+        blame : Blames xs (Rightly R) 0 (answers_tokens xs)
+        blame x ys p n z = no_token p n (frame (top R) 0 none ∷ [], subst (λ (u : List Token). Reach (top R) (answers_tokens xs) (frame (top R) 0 none ∷ []) u) (sym z) start) (let e = ap length z in omega (arith, e))
 
 -- ---- the end
 

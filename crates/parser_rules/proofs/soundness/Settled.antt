@@ -90,12 +90,25 @@ ended-later m n built.none h = tt
 ended-later m n (built.leaf k x rest) h = ended-later m (n + cond (ltb (number k) ERROR) 0 1) rest (omega (arith, h))
 ended-later m n (built.node k kids rest) h = (λ g. absurd (omega (arith, h, g)), ended-later m n kids h, ended-later m (n + tokens kids) rest (omega (arith, h)))
 
+added-is : {f : built.Forest} {b c : Building} → Added f b c → c ≡ record { here = built.join b.here f; above = b.above }
+added-is a = ap₂ (λ (here : built.Forest) (above : List Open). record { here = here; above = above }) a.here a.above
+
 pub settled-added : (m : ℕ) {f : built.Forest} {b c : Building} → Added f b c → Settled m b → Settled m c
 settled-added m {f = f} {b = b} a h =
     let e = tokens-join b.here f in
     let c = h.0 in
-    subst (Settled m) (sym (ap₂ (λ (here : built.Forest) (above : List Open). record { here = here; above = above }) a.here a.above))
-    (omega (arith, c, e), ended-join m (open_tokens b.above) _ b.here f refl h.1 (ended-later m _ f h.0), h.2)
+    subst (Settled m) (sym (added-is a)) (omega (arith, c, e), ended-join m (open_tokens b.above) _ b.here f refl h.1 (ended-later m _ f h.0), h.2)
+
+-- the same without the node around the last trees
+pub settled-unwrapped : (m : ℕ) {k : SyntaxKind} {f : built.Forest} {b c d : Building} → Added (built.node k f built.none) b c → Added f b d → Settled m c → Settled m d
+settled-unwrapped m {k = k} {f = f} {b = b} a o h =
+    let t : built.Forest = built.node k f built.none in
+    let s = subst (Settled m) (added-is a) h in
+    let p = ended-parts m (open_tokens b.above) _ b.here t refl s.1 in
+    let c = s.0 in
+    let e = tokens-join b.here t in
+    let i = tokens-join b.here f in
+    subst (Settled m) (sym (added-is o)) (omega (arith, c, e, i), ended-join m (open_tokens b.above) _ b.here f refl p.0 p.1.1, s.2)
 
 pub settled-start : (m : ℕ) (k : SyntaxKind) (b : Building) → Settled m b → Settled m (start k b)
 settled-start m k b h = (let c = h.0 in omega (arith, c), tt, (h.1, h.2))

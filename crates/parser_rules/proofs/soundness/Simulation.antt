@@ -206,7 +206,7 @@ module _ (R : Reading) where
       none_equal = not-c _ (and-r _ _ (and-r _ _ (and-l _ _ h)))
 
       al : Alike u v
-      al = rw i (wrapped-alike (built_count t.tree) u)
+      al = rw i (wrapped-alike (built_count t.tree) kind.NON_NULL_TYPE u)
 
       -- the builder's open nodes: that of the `!` and of what it follows is new
       shape : Forest → Stack

@@ -51,7 +51,7 @@ use Rattle.parser_rules.proofs.NodeChecks.{document_passes}
 use Rattle.parser_rules.proofs.soundness.FirstReport.{Viable, TooMany, Right}
 use Rattle.parser_rules.proofs.soundness.Positions.{StandsAt, Reading, run-grows, Place, Fits, Out, Tells, tell-on}
 use Rattle.parser_rules.proofs.soundness.Moves.{fits-next}
-use Rattle.parser_rules.proofs.soundness.Roots.{whole_of, IsRootSymbol, root-opened, root-starts, root-ended, never-right}
+use Rattle.parser_rules.proofs.soundness.Roots.{whole_of, IsRootSymbol, symbol-begins, root-opened, root-starts, root-ended, never-right}
 use Rattle.parser_rules.proofs.soundness.Simulation.{good, link}
 
 -- ---- what was answered, where all answers are tokens
@@ -94,10 +94,10 @@ document-root = record { shown = refl; counted = refl; no_type = refl }
 
 -- where the root is open, nothing is built, and all the tokens are left
 pub root-stands : (r n : ℕ) (xs ys : List Answer) (s : State) → Untouched (record (fresh ys r kind.DOCUMENT) { asked = n }) s → rest s ≡ answers_tokens xs → StandsAt (whole r xs) DOCUMENT (spot 0 low loose) [] s
-root-stands r n xs ys s u e = let o = root-opened document r xs kind.DOCUMENT document-root n ys s u e in (o.0, tt)
+root-stands r n xs ys s u e = let o = root-opened document r xs (symbol-begins document-root) n ys s u e in (o.0, tt)
 
 start-fits : (r : ℕ) (xs : List Answer) → EndsWell xs → Tells (whole r xs) (begun xs r kind.DOCUMENT) ⊎ Fits (whole r xs) DOCUMENT (spot 0 low loose) any any [] (begun xs r kind.DOCUMENT)
-start-fits r xs e = elim (root-starts document r xs kind.DOCUMENT document-root e) [
+start-fits r xs e = elim (root-starts document r xs (symbol-begins document-root) e) [
   | inl o ↦ inl o
   | inr g ↦ inr (record { calm = g.0.calm; seen = g.0.seen; stands = (g.0.stands.0, tt) })
 ]

@@ -1,7 +1,7 @@
 // Building: leaves and nodes of the tree.
 #![tactic(auto, using(parser_rules::specs::Runs::does), unfolding(parser_rules::proofs::runs::Running::steps))]
 
-ghost use Rattle.std.specs.Prelude.{◌≡◌, ◌<◌, true, false, map, OnOk, IfOk};
+ghost use Rattle.std.specs.Prelude.{◌≡◌, ◌<◌, true, false, map, [], OnOk, IfOk};
 ghost use Rattle.lexical_grammar.specs.declared.TokenKind.TheVariants as token;
 ghost use Rattle.document_grammar.specs.declared.kind.SyntaxKind.TheVariants as kind;
 ghost use Rattle.document_grammar.specs.Forests.{none, leaf as leaf_of};
@@ -11,7 +11,7 @@ ghost use Rattle.parser_rules.specs.State as state;
 ghost use Rattle.parser_rules.specs.Nodes.{Name, IntValue, StringValue, BooleanValue};
 ghost use Rattle.parser_rules.specs.RuleLanguage.{Here, At, holds, Bump, Do, Child};
 ghost use Rattle.parser_rules.specs.Runs.{Runs};
-ghost use Rattle.parser_rules.specs.Open.{IsOpen, IsMark};
+ghost use Rattle.parser_rules.specs.Open.{is_free, IsOpen, IsMark};
 ghost use Rattle.parser_rules.specs.Rules as rules;
 ghost use Rattle.parser_rules.specs.Fragments as fragments;
 ghost use Rattle.parser_state.specs.Reading as reading;
@@ -20,6 +20,7 @@ ghost use Rattle.parser_state.specs.View.{pending_of};
 use super::{ParserState, PendingToken};
 use apollo_tree::{Checkpoint, SpanBuilder};
 use document_grammar::SyntaxKind;
+use lexical_grammar::TokenKind;
 use std::alloc::{AllocError, Allocator};
 
 pub(super) fn push_all<A: Allocator + Copy>(
@@ -171,5 +172,29 @@ impl<'i, A: Allocator + Copy> ParserState<'i, A> {
         ensures { OnOk result (self.new ≡ state.wrapped_from checkpoint.place kind self.old) }
     {
         self.builder.wrap(checkpoint, kind)
+    }
+
+    /// Opens the root around all that is built: a type of the kind, or where `!` comes next a NON_NULL_TYPE around the type, which begins at the
+    /// place, and the `!`.
+    #[tactic(auto, using(parser_rules::specs::Fragments::nullable, parser_rules::specs::Fragments::non_null))]
+    pub fn close_type(
+        &mut self,
+        first: Checkpoint,
+        place: Checkpoint,
+        kind: SyntaxKind,
+    ) -> Result<(), AllocError>
+        requires first { first.place ≡ 0 }
+        requires not_open { self.old.tree.above ≡ [] }
+        requires mark { IsMark place.place self.old.tree }
+        requires free { is_free kind ≡ true }
+        ensures { OnOk result (fragments.ClosesType place.place kind self.old self.new) }
+    {
+        if !self.at(TokenKind::Bang) {
+            return self.wrap(first, kind);
+        }
+        self.wrap(place, kind)?;
+        self.finish_node();
+        self.bump(SyntaxKind::BANG)?;
+        self.wrap(first, SyntaxKind::NON_NULL_TYPE)
     }
 }

@@ -1,9 +1,10 @@
-use Rattle.std.proofs.Common.{refl, arith}
+use Rattle.std.proofs.Common.{refl, ap, arith}
 use Rattle.lexical_grammar.specs.declared.TokenKind.TheVariants as token
 use Rattle.document_grammar.specs.declared.kind.SyntaxKind.TheVariants as kind
+use Rattle.parser_rules.specs.State.{opened, flush}
 use Rattle.parser_rules.specs.RuleLanguage.{Kind}
-use Rattle.parser_rules.proofs.runs.Frame.{is-mark, still-mark, still-open, open-wrapped}
-use Rattle.parser_rules.proofs.runs.Progress.{consuming, here-there, opened-takes, entered-left, flushed-left}
+use Rattle.parser_rules.proofs.runs.Frame.{left, is-mark, still-mark, still-open, still-at, open-wrapped}
+use Rattle.parser_rules.proofs.runs.Progress.{consuming, here-there, taken, entered-left, flushed-left}
 use Rattle.apollo_grammar.proofs.grammar.ty.+ty.Goals as goal
 
 pub ty-nullable_type-requires : goal.ty-nullable_type-requires
@@ -11,10 +12,16 @@ ty-nullable_type-requires g t c =
     let h = flushed-left _ c.in_ok-checkpoint.ensures.flushed in
     λ κs w. (omega (arith, h, c.decreases), w)
 
-pub list_type-item_type-requires : goal.list_type-item_type-requires
+pub list_type-bracketed-requires : goal.list_type-bracketed-requires
+unfolding left opened flush
+list_type-bracketed-requires g t c =
+    let h = ap left c.in_ok-start_node.ensures in
+    λ κs w. (omega (arith, h, c.decreases), (w, still-at kind.LIST_TYPE token.LBracket _ c.requires c.in_ok-start_node.ensures))
+
+pub bracketed-item_type-requires : goal.bracketed-item_type-requires
 unfolding consuming
-list_type-item_type-requires g t c =
-    let h = opened-takes kind.LIST_TYPE _ c.in_ok-start_node.ensures c.in_ok-bump.ensures (here-there (Kind token.LBracket) _ c.requires) refl in
+bracketed-item_type-requires g t c =
+    let h = taken c.in_ok-bump.ensures (here-there (Kind token.LBracket) _ c.requires) refl in
     let k = entered-left _ c.enter.ensures in
     λ κs w. (omega (arith, h, k, c.decreases), w)
 

@@ -3,13 +3,16 @@ use Rattle.parser_rules.proofs.runs.Frame.{left}
 use Rattle.apollo_grammar.proofs.grammar.ty.+ty.Given as goal
 
 abbrev pub decreases-ty : goal.decreases-ty
-decreases-ty g l = 4 * left l.p.now + 2
+decreases-ty g l = 5 * left l.p.now + 3
 
 abbrev pub decreases-nullable_type : goal.decreases-nullable_type
-decreases-nullable_type g l = 4 * left l.p.now + 1
+decreases-nullable_type g l = 5 * left l.p.now + 2
 
 abbrev pub decreases-list_type : goal.decreases-list_type
-decreases-list_type g l = 4 * left l.p.now
+decreases-list_type g l = 5 * left l.p.now + 1
+
+abbrev pub decreases-bracketed : goal.decreases-bracketed
+decreases-bracketed g l = 5 * left l.p.now
 
 abbrev pub decreases-item_type : goal.decreases-item_type
-decreases-item_type g l = 4 * left l.p.now + 3
+decreases-item_type g l = 5 * left l.p.now + 4

@@ -1,7 +1,6 @@
 use Rattle.std.proofs.lemmas.Result.{IfOk-weaker}
-use Rattle.std.proofs.Common.{refl}
 use Rattle.document_grammar.specs.Derivation.{selections}
-use Rattle.parser_rules.proofs.fragments.Parts.{selections-root}
+use Rattle.parser_rules.proofs.fragments.PartTexts.{selections-sound, selections-accepted}
 use Rattle.parser_rules.proofs.fragments.RootChecks.{selections_pass}
 use Rattle.apollo_parser.proofs.RootParses.{part-root, part-begins, part-leaves, part-recursion, part-limit-met, part-past-limit, part-nested, part-tokens, part-errors, part-limit-words, part-ascii, part-in-order, part-sentence, part-accepts}
 use Rattle.apollo_parser.proofs.parser.Parser.parse_selection_set.Goals as goal
@@ -46,7 +45,7 @@ pub returns-clause-in_order : goal.returns-clause-in_order
 returns-clause-in_order g c = IfOk-weaker c.run_selection_set.result _ _ (λ t p. part-in-order p) c.run_selection_set.ensures
 
 pub returns-clause-sound : goal.returns-clause-sound
-returns-clause-sound g c = IfOk-weaker c.run_selection_set.result _ _ (λ t p. part-sentence p selections selections_pass refl (selections-root _ _)) c.run_selection_set.ensures
+returns-clause-sound g c = IfOk-weaker c.run_selection_set.result _ _ (λ t p. part-sentence p selections (selections-sound _ _ _ _ p.last p.cut p.run)) c.run_selection_set.ensures
 
 pub returns-clause-accepts : goal.returns-clause-accepts
-returns-clause-accepts g c = IfOk-weaker c.run_selection_set.result _ _ (λ t p. part-accepts p selections selections_pass refl (selections-root _ _)) c.run_selection_set.ensures
+returns-clause-accepts g c = IfOk-weaker c.run_selection_set.result _ _ (λ t p. part-accepts p selections (selections-accepted _ _ _ _ p.last p.cut p.run)) c.run_selection_set.ensures
