@@ -3,3 +3,4 @@ pub mod RootParses
 pub mod TypeParses
 pub mod Errors
 pub mod Roots
+pub mod Allowances

@@ -1,5 +1,5 @@
 // The whole parse.
-ghost use Rattle.std.specs.Prelude.{◌≡◌, ◌≢◌, ◌≤◌, ◌<◌, ◌+◌, true, [], IfOk, length, min, take, map};
+ghost use Rattle.std.specs.Prelude.{◌≡◌, ◌≢◌, ◌≤◌, ◌<◌, ◌+◌, ◌*◌, true, [], OnOk, IfOk, length, min, take, map};
 ghost use Rattle.std.specs.Str.{IsAscii, IsUtf8};
 ghost use Rattle.std.specs.List.{Any, All};
 ghost use Rattle.std.specs.List.Sorted.{IsNonDecreasing};
@@ -21,15 +21,20 @@ ghost use Rattle.document_grammar.specs.Leaves.{leaves, OneLeafAnItem};
 ghost use Rattle.apollo_parser.specs.ByRules.{ByRules, ByRootRule, ByTypeRule};
 ghost use Rattle.apollo_parser.specs.Parts.{FirstLeaves, FirstErrors, OneType, first_kind};
 ghost use Rattle.parser_rules.specs.Fragments.{selections_root};
+ghost use Rattle.parser_rules.specs.Nodes.{Document};
+ghost use Rattle.parser_rules.specs.RuleLanguage.{Call};
+ghost use Rattle.parser_rules.specs.Runs.{Runs};
+ghost use Rattle.parser_state.specs.Reading.{rooted};
 ghost use Rattle.apollo_parser.specs.Promise.{ErrorsOf, IsRecursionLimit, IsLimitWorded, IsTokenLimit, OfFirst, Recovers};
 
 use crate::syntax_tree::{DocumentRoot, SelectionSetRoot, SyntaxTree, TypeRoot};
 use apollo_grammar::{document, field_set, type_root};
-use apollo_lexer::Lexer;
+use apollo_lexer::{Lexer, Steps};
 use document_grammar::SyntaxKind;
 use parser_state::ParserState;
 use std::alloc::{AllocError, Allocator};
 use std::marker::PhantomData;
+use std::mem;
 
 const DEFAULT_RECURSION_LIMIT: usize = 500;
 
@@ -79,27 +84,43 @@ impl<'i> Parser<'i> {
     fn lexer(source: &'i str, token_limit: usize) -> Lexer<'i>
         ensures answers { answers_left result ≡ limited token_limit (items_of source.now) }
         ensures fresh { result.limit_tracker.high ≡ 0 }
+        ensures limit { result.limit_tracker.limit ≡ token_limit }
         ensures cut { Cut source.now (items_of source.now) }
         ensures characters { IsUtf8 source.now }
     {
         Lexer::new(source).with_limit(token_limit)
     }
 
-    // The parse, as a run of the document's rule over the items of the text.
+    // Opens the root, and parses the document.
+    fn read_document<A: Allocator + Copy>(p: &mut ParserState<'_, A>) -> Result<(), AllocError>
+        ensures runs { OnOk result (Runs (Call Document) (rooted kind.DOCUMENT p.old) p.new) }
+        ensures budget { p.new.budget ≡ p.old.budget }
+    {
+        p.open(SyntaxKind::DOCUMENT)?;
+        document(p)
+    }
+
+    // The parse, as a run of the document's rule over the items of the text. The steps are counted on, whatever it answers.
     fn run_document<A: Allocator + Copy>(
         self,
         alloc: A,
+        steps: &mut Steps,
     ) -> Result<SyntaxTree<DocumentRoot, A>, AllocError>
-        ensures { IfOk result (ByRules self.entry.source.now self.entry.recursion_limit self.entry.token_limit) }
+        ensures run { IfOk result (ByRules self.entry.source.now self.entry.recursion_limit self.entry.token_limit) }
+        ensures lookahead { steps.new.count ≤ steps.old.count + 2 * min (length (items_of self.entry.source.now)) self.entry.token_limit }
     {
+        let before = mem::replace(steps, Steps::new());
         let mut p = ParserState::new(
             alloc,
             Self::lexer(self.source, self.token_limit),
             self.recursion_limit,
-            SyntaxKind::DOCUMENT,
-        )?;
-        document(&mut p)?;
-        let finished = p.finish(self.token_limit, self.source)?;
+            before,
+        );
+        if let Err(error) = Self::read_document(&mut p) {
+            *steps = p.into_steps();
+            return Err(error);
+        }
+        let finished = p.finish(self.token_limit, self.source, steps)?;
         Ok(SyntaxTree {
             tree: finished.tree,
             errors: finished.errors,
@@ -164,7 +185,65 @@ impl<'i> Parser<'i> {
         // first token
         ensures recovers { IfOk result (λ t. ¬ Any (λ e. e.subject ≡ of_limit) t.errors → Recovers self.entry.recursion_limit (items_of self.entry.source.now) t) }
     {
-        self.run_document(alloc)
+        self.parse_counted(alloc, &mut Steps::new())
+    }
+
+    /// Answers as `parse`, and counts each item that is cut, by the parser's lexer or by a copy of it that looks ahead.
+    pub fn parse_counted<A: Allocator + Copy>(
+        self,
+        alloc: A,
+        steps: &mut Steps,
+    ) -> Result<SyntaxTree<DocumentRoot, A>, AllocError>
+        // whatever it answers, each item of the text is cut at most twice, and no more items are cut than twice the token limit
+        ensures lookahead { steps.new.count ≤ steps.old.count + 2 * min (length (items_of self.entry.source.now)) self.entry.token_limit }
+        // the items of which the other clauses speak are a cut of the source
+        ensures cut { IfOk result (λ t. Cut self.entry.source.now (items_of self.entry.source.now)) }
+        // the tree's text is the source, or its first items where the token limit is met
+        ensures lossless { IfOk result (λ t. text t.tree ≡ texts (take self.entry.token_limit (items_of self.entry.source.now))) }
+        // the tree is one DOCUMENT, also where there are errors
+        ensures one_document { IfOk result (λ t. (kids : Forest) × (t.tree ≡ node kind.DOCUMENT kids none)) }
+        ensures one_leaf { IfOk result (λ t. OneLeafAnItem (limited self.entry.token_limit (items_of self.entry.source.now)) (leaves t.tree)) }
+        ensures recursion { IfOk result (λ t. (t.recursion_limit.current ≡ 0) × (t.recursion_limit.limit ≡ self.entry.recursion_limit) × (t.recursion_limit.high ≤ self.entry.recursion_limit + 1)) }
+        // with the recursion limit's error, more than the limit was asked for; by one, as long as that is a usize
+        ensures limit_met { IfOk result (λ t. Any IsRecursionLimit t.errors → min (self.entry.recursion_limit + 1) usize_max ≤ t.recursion_limit.high) }
+        // where more than the limit was asked for, there is a limit's error: the recursion limit's, or the token limit's before it
+        ensures past_limit { IfOk result (λ t. self.entry.recursion_limit < t.recursion_limit.high → Any (λ e. e.subject ≡ of_limit) t.errors) }
+        // the greatest depth that was asked for covers what the tree nests, also where there are errors
+        ensures nesting { IfOk result (λ t. nest (tree_of t.tree) ≤ t.recursion_limit.high) }
+        ensures tokens { IfOk result (λ t. (t.token_limit.limit ≡ self.entry.token_limit) × (t.token_limit.high ≡ min (length (items_of self.entry.source.now)) (self.entry.token_limit + 1))) }
+        // the errors go along the items: one for each bad text and for the token limit, in the lexer's words; the grammar's and the recursion
+        // limit's, word by word, at significant tokens or the end, and none of these after a limit error
+        ensures errors { IfOk result (λ t. ErrorsOf (limited self.entry.token_limit (items_of self.entry.source.now)) t.errors) }
+        // a limit's error has a limit's message, and no other error has one
+        ensures limit_messages { IfOk result (λ t. All IsLimitWorded t.errors) }
+        ensures ascii { IfOk result (λ t. IsAscii self.entry.source.now → All (λ e. IsAscii e.message) t.errors) }
+        ensures in_order { IfOk result (λ t. IsNonDecreasing (map (λ e. e.index) t.errors)) }
+        // without errors, the tree without its ignored leaves is the derivation of the text, which is a sentence within both limits
+        ensures sound { IfOk result (λ t. t.errors ≡ [] → Sentence self.entry.source.now (bare (tree_of t.tree)) document_sort × Within self.entry.source.now (bare (tree_of t.tree)) self.entry.recursion_limit self.entry.token_limit) }
+        // a sentence within both limits has no errors
+        ensures accepts { IfOk result (λ t. (u : Tree) → Sentence self.entry.source.now u document_sort → Within self.entry.source.now u self.entry.recursion_limit self.entry.token_limit → t.errors ≡ []) }
+        // without errors, there is no other derivation, and it nests as deep as was asked for
+        ensures only_derivation { IfOk result (λ t. t.errors ≡ [] → OnlyDerivation (items_of self.entry.source.now) (bare (tree_of t.tree)) × (t.recursion_limit.high ≡ nest (bare (tree_of t.tree)))) }
+        // a sentence of the first profile has no errors either, and the tree is its derivation
+        ensures still_a_sentence { IfOk result (λ t. (u : Tree) → FirstSentence self.entry.source.now u document_sort → Within self.entry.source.now u self.entry.recursion_limit self.entry.token_limit → (t.errors ≡ []) × (bare (tree_of t.tree) ≡ u)) }
+        // without errors, each ignored leaf is where the text fixes it
+        ensures placed { IfOk result (λ t. t.errors ≡ [] → Placed (tree_of t.tree)) }
+        // the text before the first error begins a sentence, unless it is the token limit's
+        ensures not_late { IfOk result (λ t. OfFirst (λ e. ¬ IsTokenLimit e → NotLate self.entry.source.now e.index) t.errors) }
+        // no sentence starts with the tokens before the first error, the one there and the next, if it is the grammar's
+        ensures not_early { IfOk result (λ t. OfFirst (λ e. e.subject ≢ of_limit → NotEarly self.entry.token_limit (items_of self.entry.source.now) e.index) t.errors) }
+        // no sentence that nests within the limit starts with the tokens before the first error and the one there, if it is the recursion limit's
+        ensures not_early_limit { IfOk result (λ t. OfFirst (λ e. IsRecursionLimit e → NotEarlyLimit self.entry.recursion_limit (items_of self.entry.source.now) e.index) t.errors) }
+        // each node that a significant token in front of the first error follows fits its row and the rules
+        ensures ended_nodes_fit { IfOk result (λ t. OfFirst (λ e. EndedNodesFit (items_of self.entry.source.now) e.index (tree_of t.tree)) t.errors) }
+        // also with errors, each child of a node is a symbol of its row, or an ERROR, SPREAD or ignored leaf
+        ensures row_symbols { IfOk result (λ t. Rowed (tree_of t.tree)) }
+        // where no limit is met: each token that was left over has its error, and is a child of the root or of a list, or its node's only one; and
+        // where what follows a child of the root is a document of its own, the later children are its derivation's, and no error is beyond its
+        // first token
+        ensures recovers { IfOk result (λ t. ¬ Any (λ e. e.subject ≡ of_limit) t.errors → Recovers self.entry.recursion_limit (items_of self.entry.source.now) t) }
+    {
+        self.run_document(alloc, steps)
     }
 
     // The parse, as a run of the root's rule over the items of the text.
@@ -178,12 +257,13 @@ impl<'i> Parser<'i> {
             alloc,
             Self::lexer(self.source, self.token_limit),
             self.recursion_limit,
-            SyntaxKind::SELECTION_SET,
-        )?;
+            Steps::new(),
+        );
+        p.open(SyntaxKind::SELECTION_SET)?;
         p.push_pending()?;
         field_set(&mut p)?;
         p.drop_pending();
-        let finished = p.finish(self.token_limit, self.source)?;
+        let finished = p.finish(self.token_limit, self.source, &mut Steps::new())?;
         Ok(SyntaxTree {
             tree: finished.tree,
             errors: finished.errors,
@@ -235,14 +315,16 @@ impl<'i> Parser<'i> {
     fn run_type<A: Allocator + Copy>(self, alloc: A) -> Result<SyntaxTree<TypeRoot, A>, AllocError>
         ensures { IfOk result (ByTypeRule self.entry.source.now self.entry.recursion_limit self.entry.token_limit) }
     {
-        let (mut p, first) = ParserState::unopened(
+        let mut p = ParserState::new(
             alloc,
             Self::lexer(self.source, self.token_limit),
             self.recursion_limit,
-        )?;
+            Steps::new(),
+        );
+        let first = p.read_first()?;
         type_root(&mut p, first)?;
         p.drop_pending();
-        let finished = p.finish(self.token_limit, self.source)?;
+        let finished = p.finish(self.token_limit, self.source, &mut Steps::new())?;
         Ok(SyntaxTree {
             tree: finished.tree,
             errors: finished.errors,

@@ -9,3 +9,4 @@ pub mod Forms
 pub mod Progress
 pub mod Anew
 pub mod Running
+pub mod Budget

@@ -53,7 +53,8 @@ abbrev pub fault_report : Message → Lexeme → Report
 fault_report m t = record { found = found_at t; index = t.index; message = Some (message_text m (found_at t)) }
 
 -- the answers that are left, the current token, what waits, what is built, the reports, the recursion limit with its count and the
--- greatest count that was asked for, whether the grammar's reports are still taken, and how many answers there are in all
+-- greatest count that was asked for, whether the grammar's reports are still taken, how many answers there are in all, and how many items
+-- may be cut, by the reader and by copies that look ahead
 pub record State : Type 0 where
   pub items : List Answer
   pub current : Option Lexeme
@@ -65,6 +66,7 @@ pub record State : Type 0 where
   pub high : ℕ
   pub accepts : Bool
   pub asked : ℕ
+  pub budget : ℕ
 
 -- `==` on kinds
 unfoldable pub same_kind : TokenKind → TokenKind → Bool
@@ -201,7 +203,7 @@ is_over (Some t) = is_end t.kind
 
 -- the root is open, and nothing is read
 abbrev pub fresh : List Answer → ℕ → SyntaxKind → State
-fresh items limit root = record { items = items; current = None; pending = []; tree = start root nothing; errors = []; limit = limit; depth = 0; high = 0; accepts = true; asked = length items }
+fresh items limit root = record { items = items; current = None; pending = []; tree = start root nothing; errors = []; limit = limit; depth = 0; high = 0; accepts = true; asked = length items; budget = 0 }
 
 -- the root is open, and the first token is read
 abbrev pub begun : List Answer → ℕ → SyntaxKind → State

@@ -3,3 +3,4 @@ pub mod Building
 pub mod Keywords
 pub mod Leaves
 pub mod Reporting
+pub mod Lookahead

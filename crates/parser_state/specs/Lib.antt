@@ -1,3 +1,4 @@
 pub mod View
 pub mod Errors
 pub mod Reading
+pub mod Lookahead

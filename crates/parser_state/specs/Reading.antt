@@ -1,11 +1,11 @@
 -- What one call of a lexer answers to a parser.
-use Rattle.std.specs.Prelude.{◌≡◌, ℕ, Bool, true, false, [], ◌∷◌, Option, Some, None, ⊤}
+use Rattle.std.specs.Prelude.{◌≡◌, ℕ, Bool, true, false, List, [], ◌∷◌, length, Option, Some, None, ⊤}
 use Rattle.lexical_grammar.specs.declared.TokenKind.TheVariants as token
 use Rattle.lexical_grammar.specs.Answers.{Answer, gives, limit_at, IsItemText}
 use Rattle.document_grammar.specs.declared.kind.SyntaxKind.{SyntaxKind}
 use Rattle.document_grammar.specs.declared.kind.SyntaxKind.TheVariants as kind
-use Rattle.document_grammar.specs.Builds.{start, add_leaf, finish}
-use Rattle.parser_rules.specs.State.{State, Text, Lexeme, is_at, is_word, bad, met}
+use Rattle.document_grammar.specs.Builds.{nothing, start, add_leaf, finish}
+use Rattle.parser_rules.specs.State.{State, Text, Lexeme, is_at, is_word, bad, met, read_on}
 
 -- an answer was taken
 abbrev pub Taken : Option Answer → State → State → Type 0
@@ -39,3 +39,11 @@ is_leaf_of kind.STRING_VALUE kind.STRING now = is_at token.StringValue now
 is_leaf_of kind.BOOLEAN_VALUE kind.true_KW now = is_word kind.true_KW now
 is_leaf_of kind.BOOLEAN_VALUE kind.false_KW now = is_word kind.false_KW now
 is_leaf_of _ _ now = false
+
+-- nothing is read or built, and so many items may be cut
+abbrev pub unread : List Answer → ℕ → ℕ → State
+unread items limit budget = record { items = items; current = None; pending = []; tree = nothing; errors = []; limit = limit; depth = 0; high = 0; accepts = true; asked = length items; budget = budget }
+
+-- the root is open, and the first token is read
+abbrev pub rooted : SyntaxKind → State → State
+rooted root s = read_on s.items (record s { tree = start root s.tree })

@@ -3,26 +3,30 @@
 
 mod building;
 mod nesting;
+mod reader;
 mod reading;
 mod reporting;
+mod start;
 mod tokens;
 
-ghost use Rattle.std.specs.Prelude.{◌≡◌, ◌≤◌, ◌<◌, ◌^◌, true, [], length, take, map, IfOk};
+ghost use Rattle.std.specs.Prelude.{◌≡◌, ◌≤◌, ◌<◌, ◌^◌, ◌+◌, ◌*◌, true, [], length, take, map, min, OnOk, IfOk};
 ghost use Rattle.std.specs.List.{AllZip};
 ghost use Rattle.lexical_grammar.specs.declared.TokenKind.TheVariants as token;
+ghost use Rattle.document_grammar.specs.Builds.{nothing};
 ghost use Rattle.document_grammar.specs.Forests.{count, none, text};
 ghost use Rattle.apollo_lexer.specs.Answers.{answers_left};
 ghost use Rattle.parser_rules.specs.State as state;
-ghost use Rattle.parser_rules.specs.Fragments as fragments;
 ghost use Rattle.parser_rules.specs.Open.{IsRoot};
 ghost use Rattle.parser_state.specs.Errors.{IsErrorOf};
+ghost use Rattle.parser_state.specs.Reading as reading;
 ghost use Rattle.parser_state.specs.View.{current_of, pending_of, report_of};
 
 use crate::report::Report;
-use apollo_lexer::{Error, Lexer, LimitTracker, Token};
+use apollo_lexer::{Error, Lexer, LimitTracker, Steps, Token};
 use apollo_tree::{Checkpoint, SpanBuilder, Subtree};
 use building::push_all;
 use document_grammar::SyntaxKind;
+use reader::Reader;
 use reporting::errors_of;
 use std::alloc::{AllocError, Allocator};
 use std::marker::Model;
@@ -48,7 +52,7 @@ pub struct Finished<A: Allocator> {
 #[derive(Drop)]
 pub struct ParserState<'i, A: Allocator> {
     alloc: A,
-    lexer: Lexer<'i>,
+    reader: Reader<'i>,
     current_token: Option<Token<'i>>,
     builder: SpanBuilder<A>,
     pending: Vec<PendingToken<'i>, A>,
@@ -58,7 +62,7 @@ pub struct ParserState<'i, A: Allocator> {
 }
 
 impl<'i, A: Allocator> Model for ParserState<'i, A> {
-    ghost use Rattle.std.specs.Prelude.{map};
+    ghost use Rattle.std.specs.Prelude.{map, ◌+◌, ◌*◌};
     ghost use Rattle.std.specs.Coded.{codes};
     ghost use Rattle.apollo_tree.specs.Codes.{building_code};
     ghost use Rattle.parser_rules.specs.State.{State};
@@ -68,11 +72,12 @@ impl<'i, A: Allocator> Model for ParserState<'i, A> {
     ghost coded = { Prim.hlevel (codes, building_code) };
 
     ghost use Rattle.apollo_lexer.specs.Answers.{answers_left, final_high};
+    ghost use Rattle.parser_state.specs.Lookahead.{all_given};
     ghost use Rattle.parser_state.specs.View.{current_of, pending_of, report_of};
     ghost use Rattle.parser_rules.specs.State.{IsNow};
 
     ghost view = { λ p. record {
-      items = answers_left p.lexer;
+      items = answers_left p.reader.lexer;
       current = current_of p.current_token;
       pending = map pending_of p.pending.items;
       tree = p.builder;
@@ -81,68 +86,73 @@ impl<'i, A: Allocator> Model for ParserState<'i, A> {
       depth = p.recursion_limit.current;
       high = p.recursion_limit.high;
       accepts = p.accept_errors;
-      asked = final_high p.lexer;
+      asked = final_high p.reader.lexer;
+      budget = p.reader.start.count + 2 * all_given p.reader.lexer;
     } };
 
     ghost invariant = { λ p. IsNow (current_of p.current_token) };
 }
 
 impl<'i, A: Allocator + Copy> ParserState<'i, A> {
-    /// Opens the root, and reads the first token.
+    /// Before anything is read or built. The items that are cut are counted on from these steps.
     pub fn new(
         alloc: A,
         lexer: Lexer<'i>,
         recursion_limit: usize,
-        root: SyntaxKind,
-    ) -> Result<ParserState<'i, A>, AllocError>
+        steps: Steps,
+    ) -> ParserState<'i, A>
         requires { lexer.limit_tracker.high ≡ 0 }
-        ensures { IfOk result (λ p. p ≡ state.begun (answers_left lexer.entry) recursion_limit root) }
+        ensures { result ≡ reading.unread (answers_left lexer.entry) recursion_limit (steps.count + 2 * min (length (answers_left lexer.entry)) lexer.entry.limit_tracker.limit) }
     {
-        let mut builder = SpanBuilder::new(alloc);
-        builder.start_node(root)?;
-        let mut p = ParserState {
+        ParserState {
             alloc,
-            lexer,
+            reader: Reader::new(lexer, steps),
             current_token: None,
-            builder,
+            builder: SpanBuilder::new(alloc),
             pending: Vec::new(alloc),
             reports: Vec::new(alloc),
             recursion_limit: LimitTracker::new(recursion_limit),
             accept_errors: true,
-        };
-        p.read_on()?;
-        Ok(p)
+        }
+    }
+
+    /// Opens the root, and reads the first token.
+    pub fn open(&mut self, root: SyntaxKind) -> Result<(), AllocError>
+        ensures step { OnOk result (self.new ≡ reading.rooted root self.old) }
+        ensures budget { self.new.budget ≡ self.old.budget }
+    {
+        self.builder.start_node(root)?;
+        self.read_on()
     }
 
     /// Reads the first token, where no root is open, and takes in what comes before it. The checkpoint is the place before all that is built.
-    pub fn unopened(
-        alloc: A,
-        lexer: Lexer<'i>,
-        recursion_limit: usize,
-    ) -> Result<(ParserState<'i, A>, Checkpoint), AllocError>
-        requires { lexer.limit_tracker.high ≡ 0 }
-        ensures state { IfOk result (λ p. p.0 ≡ fragments.unopened (answers_left lexer.entry) recursion_limit) }
-        ensures place { IfOk result (λ p. p.1.place ≡ 0) }
+    pub fn read_first(&mut self) -> Result<Checkpoint, AllocError>
+        requires { self.old.tree ≡ nothing }
+        ensures step { OnOk result (self.new ≡ state.flush (state.read_on self.old.items self.old)) }
+        ensures place { IfOk result (λ c. c.place ≡ 0) }
+        ensures budget { self.new.budget ≡ self.old.budget }
     {
-        let builder = SpanBuilder::new(alloc);
-        let place = builder.checkpoint();
-        let mut p = ParserState {
-            alloc,
-            lexer,
-            current_token: None,
-            builder,
-            pending: Vec::new(alloc),
-            reports: Vec::new(alloc),
-            recursion_limit: LimitTracker::new(recursion_limit),
-            accept_errors: true,
-        };
-        p.read_on()?;
-        p.push_pending()?;
-        Ok((p, place))
+        let place = self.builder.checkpoint();
+        self.read_on()?;
+        self.push_pending()?;
+        Ok(place)
     }
 
-    /// Takes in what waits, and closes the root. The token limit is the lexer's, and the source is what it reads.
-    pub fn finish(self, token_limit: usize, source: &str) -> Result<Finished<A>, AllocError>
+    /// What was cut.
+    pub fn into_steps(self) -> Steps
+        ensures { result.count ≤ self.entry.budget }
+    {
+        self.reader.into_steps()
+    }
+
+    /// Takes in what waits, and closes the root. The token limit is the lexer's, and the source is what it reads. The steps become those of the
+    /// parse, whatever it answers.
+    pub fn finish(
+        self,
+        token_limit: usize,
+        source: &str,
+        steps: &mut Steps,
+    ) -> Result<Finished<A>, AllocError>
         requires source { take (length (text (state.finished self))) source.now ≡ text (state.finished self) }
         requires open_root { IsRoot self.tree }
         ensures tree { IfOk result (λ t. t.tree ≡ state.finished self.entry) }
@@ -150,10 +160,11 @@ impl<'i, A: Allocator + Copy> ParserState<'i, A> {
         ensures errors { IfOk result (λ t. AllZip IsErrorOf self.entry.errors t.errors.items) }
         ensures recursion_limit { IfOk result (λ t. t.recursion_limit ≡ record { current = self.entry.depth; high = self.entry.high; limit = self.entry.limit }) }
         ensures allowed { IfOk result (λ t. (t.token_limit.current ≡ 0) × (t.token_limit.limit ≡ token_limit) × (t.token_limit.high ≤ self.entry.asked)) }
+        ensures steps { steps.new.count ≤ self.entry.budget }
         ensures token_limit { self.entry.items ≡ [] → IfOk result (λ t. t.token_limit ≡ record { current = 0; high = self.entry.asked; limit = token_limit }) }
     {
         let ParserState {
-            lexer,
+            reader,
             pending,
             mut builder,
             reports,
@@ -161,10 +172,12 @@ impl<'i, A: Allocator + Copy> ParserState<'i, A> {
             recursion_limit,
             ..
         } = self;
+        let asked = reader.asked();
+        *steps = reader.into_steps();
         push_all(&mut builder, &pending)?;
         builder.finish_node();
         let mut tokens = LimitTracker::new(token_limit);
-        tokens.high = lexer.limit_tracker().high;
+        tokens.high = asked;
         Ok(Finished {
             tree: builder.finish(alloc, source)?,
             errors: errors_of(alloc, &reports)?,

@@ -3,7 +3,7 @@ mod executable;
 mod own_limits;
 mod type_system;
 
-use crate::parsing::{parse, parse_by};
+use crate::parsing::{parse, parse_by, parse_counted};
 use apollo_parser::{DocumentRoot, Parser, SyntaxTree};
 use std::alloc::{AllocError, Global};
 use std::process::Abort;
@@ -51,6 +51,19 @@ fn documents(rt: HostRuntime) -> Result<(), Fail> {
     for (source, wanted) in rows {
         let answer = shown(rt.alloc(), Parser::new(source))?;
         assert_eq!(rt; answer.as_str(), wanted, "{source}");
+    }
+    Ok(())
+}
+
+#[test]
+fn counting_changes_no_answer(rt: HostRuntime) -> Result<(), Fail> {
+    let sources = ["{ a: b ...c }", "\"d\" type A", "extend type A @b", "{ a é"];
+    for source in sources {
+        let counted = parse_counted(rt.alloc(), source)?;
+        let counted = format!(in rt.alloc(); "{counted:?}")?;
+        let plain = parse(rt.alloc(), source)?;
+        let plain = format!(in rt.alloc(); "{plain:?}")?;
+        assert_eq!(rt; counted.as_str(), plain.as_str(), "{source}");
     }
     Ok(())
 }

@@ -21,7 +21,8 @@ pub fn arguments<A: Allocator + Copy>(
     p: &mut ParserState<'_, A>,
     constness: Constness,
 ) -> Result<(), AllocError>
-    ensures { OnOk result (Runs (Call (rule.MaybeArguments constness)) p.old p.new) }
+    ensures runs { OnOk result (Runs (Call (rule.MaybeArguments constness)) p.old p.new) }
+    ensures budget { p.new.budget ≡ p.old.budget }
 {
     if !p.at(TokenKind::LParen) {
         return Ok(());
@@ -46,7 +47,8 @@ fn argument<A: Allocator + Copy>(
     constness: Constness,
 ) -> Result<(), AllocError>
     requires { true ≡ holds (At token.Name) p.old }
-    ensures { OnOk result (Runs (Child (rule.Argument constness)) p.old p.new) }
+    ensures runs { OnOk result (Runs (Child (rule.Argument constness)) p.old p.new) }
+    ensures budget { p.new.budget ≡ p.old.budget }
 {
     p.start_node(SyntaxKind::ARGUMENT)?;
     p.name()?;
@@ -65,7 +67,8 @@ pub fn arguments_definition<A: Allocator + Copy>(
     p: &mut ParserState<'_, A>,
 ) -> Result<(), AllocError>
     requires { true ≡ holds (At token.LParen) p.old }
-    ensures { OnOk result (Runs (Child rule.ArgumentsDefinition) p.old p.new) }
+    ensures runs { OnOk result (Runs (Child rule.ArgumentsDefinition) p.old p.new) }
+    ensures budget { p.new.budget ≡ p.old.budget }
 {
     p.start_node(SyntaxKind::ARGUMENTS_DEFINITION)?;
     p.bump(SyntaxKind::L_PAREN)?;
@@ -86,7 +89,8 @@ pub fn arguments_definition<A: Allocator + Copy>(
 pub fn maybe_arguments_definition<A: Allocator + Copy>(
     p: &mut ParserState<'_, A>,
 ) -> Result<(), AllocError>
-    ensures { OnOk result (Runs (Call rule.MaybeArgumentsDefinition) p.old p.new) }
+    ensures runs { OnOk result (Runs (Call rule.MaybeArgumentsDefinition) p.old p.new) }
+    ensures budget { p.new.budget ≡ p.old.budget }
 {
     if p.at(TokenKind::LParen) {
         return arguments_definition(p);

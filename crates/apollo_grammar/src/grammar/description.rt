@@ -20,7 +20,8 @@ use std::alloc::{AllocError, Allocator};
 /// A description (GraphQL October 2021, section 3, "Descriptions"), where a string comes next.
 pub fn description<A: Allocator + Copy>(p: &mut ParserState<'_, A>) -> Result<(), AllocError>
     requires { true ≡ holds (At token.StringValue) p.old }
-    ensures { OnOk result (Runs (Child rule.Description) p.old p.new) }
+    ensures runs { OnOk result (Runs (Child rule.Description) p.old p.new) }
+    ensures budget { p.new.budget ≡ p.old.budget }
 {
     p.start_node(SyntaxKind::DESCRIPTION)?;
     p.string_value()?;
@@ -30,7 +31,8 @@ pub fn description<A: Allocator + Copy>(p: &mut ParserState<'_, A>) -> Result<()
 
 /// A description, where a string comes next.
 pub fn maybe_description<A: Allocator + Copy>(p: &mut ParserState<'_, A>) -> Result<(), AllocError>
-    ensures { OnOk result (Runs (Call rule.MaybeDescription) p.old p.new) }
+    ensures runs { OnOk result (Runs (Call rule.MaybeDescription) p.old p.new) }
+    ensures budget { p.new.budget ≡ p.old.budget }
 {
     if p.at(TokenKind::StringValue) {
         return description(p);
@@ -44,7 +46,8 @@ pub fn described<A: Allocator + Copy>(
     keyword: SyntaxKind,
 ) -> Result<(), AllocError>
     requires { is_keyword (number keyword) ≡ true }
-    ensures { OnOk result (Runs (rules.described keyword) p.old p.new) }
+    ensures runs { OnOk result (Runs (rules.described keyword) p.old p.new) }
+    ensures budget { p.new.budget ≡ p.old.budget }
 {
     maybe_description(p)?;
     if p.at_word(keyword) {
@@ -66,7 +69,8 @@ pub fn want_named<A: Allocator + Copy>(
     p: &mut ParserState<'_, A>,
     message: Message,
 ) -> Result<(), AllocError>
-    ensures { OnOk result (Runs (want (Here rules.named_start) message) p.old p.new) }
+    ensures runs { OnOk result (Runs (want (Here rules.named_start) message) p.old p.new) }
+    ensures budget { p.new.budget ≡ p.old.budget }
 {
     if starts_named(p) {
         return Ok(());

@@ -24,7 +24,8 @@ pub fn directives<A: Allocator + Copy>(
     p: &mut ParserState<'_, A>,
     constness: Constness,
 ) -> Result<(), AllocError>
-    ensures { OnOk result (Runs (Call (rule.MaybeDirectives constness)) p.old p.new) }
+    ensures runs { OnOk result (Runs (Call (rule.MaybeDirectives constness)) p.old p.new) }
+    ensures budget { p.new.budget ≡ p.old.budget }
 {
     if !p.at(TokenKind::At) {
         return Ok(());
@@ -41,7 +42,8 @@ fn directive<A: Allocator + Copy>(
     p: &mut ParserState<'_, A>,
     constness: Constness,
 ) -> Result<(), AllocError>
-    ensures { OnOk result (Runs (Child (rule.Directive constness)) p.old p.new) }
+    ensures runs { OnOk result (Runs (Child (rule.Directive constness)) p.old p.new) }
+    ensures budget { p.new.budget ≡ p.old.budget }
 {
     p.start_node(SyntaxKind::DIRECTIVE)?;
     p.bump(SyntaxKind::AT)?;
@@ -55,7 +57,8 @@ fn directive<A: Allocator + Copy>(
 pub fn directive_definition<A: Allocator + Copy>(
     p: &mut ParserState<'_, A>,
 ) -> Result<(), AllocError>
-    ensures { OnOk result (Runs (Child rule.DirectiveDefinition) p.old p.new) }
+    ensures runs { OnOk result (Runs (Child rule.DirectiveDefinition) p.old p.new) }
+    ensures budget { p.new.budget ≡ p.old.budget }
 {
     p.start_node(SyntaxKind::DIRECTIVE_DEFINITION)?;
     described(p, SyntaxKind::directive_KW)?;
@@ -69,7 +72,8 @@ pub fn directive_definition<A: Allocator + Copy>(
 
 // The name of a directive that is defined, after `@`.
 fn directive_name<A: Allocator + Copy>(p: &mut ParserState<'_, A>) -> Result<(), AllocError>
-    ensures { OnOk result (Runs (Call rule.DirectiveName) p.old p.new) }
+    ensures runs { OnOk result (Runs (Call rule.DirectiveName) p.old p.new) }
+    ensures budget { p.new.budget ≡ p.old.budget }
 {
     p.expect(TokenKind::At, SyntaxKind::AT, Message::ExpectedAt)?;
     name(p)
@@ -77,7 +81,8 @@ fn directive_name<A: Allocator + Copy>(p: &mut ParserState<'_, A>) -> Result<(),
 
 // The places where the directive may be, after `on`.
 fn on_locations<A: Allocator + Copy>(p: &mut ParserState<'_, A>) -> Result<(), AllocError>
-    ensures { OnOk result (Runs (Call rule.OnLocations) p.old p.new) }
+    ensures runs { OnOk result (Runs (Call rule.OnLocations) p.old p.new) }
+    ensures budget { p.new.budget ≡ p.old.budget }
 {
     p.expect_word(SyntaxKind::on_KW, Message::ExpectedLocations)?;
     if starts_locations(p) {
@@ -95,7 +100,8 @@ fn starts_locations<A: Allocator + Copy>(p: &ParserState<'_, A>) -> bool
 
 // The places where a directive may be.
 fn directive_locations<A: Allocator + Copy>(p: &mut ParserState<'_, A>) -> Result<(), AllocError>
-    ensures { OnOk result (Runs (Child rule.DirectiveLocations) p.old p.new) }
+    ensures runs { OnOk result (Runs (Child rule.DirectiveLocations) p.old p.new) }
+    ensures budget { p.new.budget ≡ p.old.budget }
 {
     p.start_node(SyntaxKind::DIRECTIVE_LOCATIONS)?;
     p.skip(TokenKind::Pipe, SyntaxKind::PIPE)?;
@@ -110,7 +116,8 @@ fn directive_locations<A: Allocator + Copy>(p: &mut ParserState<'_, A>) -> Resul
 
 // A place where a directive may be.
 fn location<A: Allocator + Copy>(p: &mut ParserState<'_, A>) -> Result<(), AllocError>
-    ensures { OnOk result (Runs (Call rule.Location) p.old p.new) }
+    ensures runs { OnOk result (Runs (Call rule.Location) p.old p.new) }
+    ensures budget { p.new.budget ≡ p.old.budget }
 {
     if at_location(p) {
         return directive_location(p);
@@ -158,7 +165,8 @@ fn is_type_system_location(token: Option<Token<'_>>) -> bool
 }
 
 fn directive_location<A: Allocator + Copy>(p: &mut ParserState<'_, A>) -> Result<(), AllocError>
-    ensures { OnOk result (Runs (Child rule.DirectiveLocation) p.old p.new) }
+    ensures runs { OnOk result (Runs (Child rule.DirectiveLocation) p.old p.new) }
+    ensures budget { p.new.budget ≡ p.old.budget }
 {
     p.start_node(SyntaxKind::DIRECTIVE_LOCATION)?;
     executable_location(p)?;
@@ -167,7 +175,8 @@ fn directive_location<A: Allocator + Copy>(p: &mut ParserState<'_, A>) -> Result
 }
 
 fn executable_location<A: Allocator + Copy>(p: &mut ParserState<'_, A>) -> Result<(), AllocError>
-    ensures { OnOk result (Runs (rules.word_of rules.executable_locations (rules.word_of rules.type_system_locations (Do (Note message.ExpectedLocation)))) p.old p.new) }
+    ensures runs { OnOk result (Runs (rules.word_of rules.executable_locations (rules.word_of rules.type_system_locations (Do (Note message.ExpectedLocation)))) p.old p.new) }
+    ensures budget { p.new.budget ≡ p.old.budget }
 {
     if p.at_word(SyntaxKind::QUERY_KW) {
         return p.bump(SyntaxKind::QUERY_KW);
@@ -197,7 +206,8 @@ fn executable_location<A: Allocator + Copy>(p: &mut ParserState<'_, A>) -> Resul
 }
 
 fn type_system_location<A: Allocator + Copy>(p: &mut ParserState<'_, A>) -> Result<(), AllocError>
-    ensures { OnOk result (Runs (rules.word_of rules.type_system_locations (Do (Note message.ExpectedLocation))) p.old p.new) }
+    ensures runs { OnOk result (Runs (rules.word_of rules.type_system_locations (Do (Note message.ExpectedLocation))) p.old p.new) }
+    ensures budget { p.new.budget ≡ p.old.budget }
 {
     if p.at_word(SyntaxKind::SCHEMA_KW) {
         return p.bump(SyntaxKind::SCHEMA_KW);
@@ -224,7 +234,8 @@ fn type_system_location<A: Allocator + Copy>(p: &mut ParserState<'_, A>) -> Resu
 }
 
 fn enum_or_input_location<A: Allocator + Copy>(p: &mut ParserState<'_, A>) -> Result<(), AllocError>
-    ensures { OnOk result (Runs (rules.word_of rules.enum_and_input_locations (Do (Note message.ExpectedLocation))) p.old p.new) }
+    ensures runs { OnOk result (Runs (rules.word_of rules.enum_and_input_locations (Do (Note message.ExpectedLocation))) p.old p.new) }
+    ensures budget { p.new.budget ≡ p.old.budget }
 {
     if p.at_word(SyntaxKind::ENUM_KW) {
         return p.bump(SyntaxKind::ENUM_KW);

@@ -6,6 +6,7 @@ ghost use Rattle.parser_rules.specs.Nodes as rule;
 ghost use Rattle.parser_rules.specs.Rules as rules;
 ghost use Rattle.parser_rules.specs.RuleLanguage.{fits, Here, Next, holds, Call};
 ghost use Rattle.parser_rules.specs.Runs.{Runs};
+ghost use Rattle.parser_rules.specs.State.{second};
 ghost use Rattle.parser_state.specs.View.{current_of};
 
 use super::directive::directive_definition;
@@ -28,7 +29,8 @@ use std::alloc::{AllocError, Allocator};
 
 /// A document (GraphQL October 2021, section 2.2, "Document"), up to the end of the text.
 pub fn document<A: Allocator + Copy>(p: &mut ParserState<'_, A>) -> Result<(), AllocError>
-    ensures { OnOk result (Runs (Call rule.Document) p.old p.new) }
+    ensures runs { OnOk result (Runs (Call rule.Document) p.old p.new) }
+    ensures budget { p.new.budget ≡ p.old.budget }
 {
     p.want_ready(Message::UnexpectedEof)?;
     while p.is_ready() {
@@ -39,7 +41,8 @@ pub fn document<A: Allocator + Copy>(p: &mut ParserState<'_, A>) -> Result<(), A
 
 // A definition, or a token in its place that is popped.
 fn definition<A: Allocator + Copy>(p: &mut ParserState<'_, A>) -> Result<(), AllocError>
-    ensures { OnOk result (Runs (Call rule.Definition) p.old p.new) }
+    ensures runs { OnOk result (Runs (Call rule.Definition) p.old p.new) }
+    ensures budget { p.new.budget ≡ p.old.budget }
 {
     if starts_operation(p) {
         return operation_definition(p);
@@ -58,7 +61,8 @@ fn definition<A: Allocator + Copy>(p: &mut ParserState<'_, A>) -> Result<(), All
 
 // A definition of the type system by its keyword, or a token in the place of a definition that is popped.
 fn type_system_definition<A: Allocator + Copy>(p: &mut ParserState<'_, A>) -> Result<(), AllocError>
-    ensures { OnOk result (Runs (rules.type_system Here rules.no_definition) p.old p.new) }
+    ensures runs { OnOk result (Runs (rules.type_system Here rules.no_definition) p.old p.new) }
+    ensures budget { p.new.budget ≡ p.old.budget }
 {
     if p.at_word(SyntaxKind::schema_KW) {
         return schema_definition(p);
@@ -71,7 +75,8 @@ fn type_system_definition<A: Allocator + Copy>(p: &mut ParserState<'_, A>) -> Re
 
 // The same for the definition of a type.
 fn type_definition<A: Allocator + Copy>(p: &mut ParserState<'_, A>) -> Result<(), AllocError>
-    ensures { OnOk result (Runs (rules.type_definition Here rules.no_definition) p.old p.new) }
+    ensures runs { OnOk result (Runs (rules.type_definition Here rules.no_definition) p.old p.new) }
+    ensures budget { p.new.budget ≡ p.old.budget }
 {
     if p.at_word(SyntaxKind::scalar_KW) {
         return scalar_type_definition(p);
@@ -96,7 +101,8 @@ fn type_definition<A: Allocator + Copy>(p: &mut ParserState<'_, A>) -> Result<()
 
 // A token in the place of a definition.
 fn no_definition<A: Allocator + Copy>(p: &mut ParserState<'_, A>) -> Result<(), AllocError>
-    ensures { OnOk result (Runs rules.no_definition p.old p.new) }
+    ensures runs { OnOk result (Runs rules.no_definition p.old p.new) }
+    ensures budget { p.new.budget ≡ p.old.budget }
 {
     if p.at(TokenKind::Name) {
         return p.err_and_pop(Message::ExpectedDefinition);
@@ -127,9 +133,23 @@ fn starts_operation<A: Allocator + Copy>(p: &ParserState<'_, A>) -> bool
 // A definition with its description: the token after the string says which.
 #[tactic(auto, using(crate::proofs::Looks::looking), unfolding(parser_rules::specs::Rules::body, parser_rules::specs::RuleLanguage::holds))]
 fn described<A: Allocator + Copy>(p: &mut ParserState<'_, A>) -> Result<(), AllocError>
-    ensures { OnOk result (Runs (Call rule.Described) p.old p.new) }
+    ensures runs { OnOk result (Runs (Call rule.Described) p.old p.new) }
+    ensures budget { p.new.budget ≡ p.old.budget }
 {
     let next = p.peek();
+    described_by(p, next)
+}
+
+// The same, where the token after the string is known.
+#[tactic(auto, using(crate::proofs::Looks::looking), unfolding(parser_rules::specs::Rules::body, parser_rules::specs::RuleLanguage::holds))]
+fn described_by<A: Allocator + Copy>(
+    p: &mut ParserState<'_, A>,
+    next: Option<Token<'_>>,
+) -> Result<(), AllocError>
+    requires { current_of next ≡ second p.old.items }
+    ensures runs { OnOk result (Runs (Call rule.Described) p.old p.new) }
+    ensures budget { p.new.budget ≡ p.old.budget }
+{
     if is_operation_type(next) {
         return operation_definition(p);
     }
@@ -142,30 +162,38 @@ fn described<A: Allocator + Copy>(p: &mut ParserState<'_, A>) -> Result<(), Allo
     if is_word(next, SyntaxKind::extend_KW) {
         return p.err_and_pop(Message::InvalidExtension);
     }
-    described_type_system(p)
+    described_type_system(p, next)
 }
 
 // The same for the type system.
 #[tactic(auto, using(crate::proofs::Looks::looking), unfolding(parser_rules::specs::Rules::body, parser_rules::specs::RuleLanguage::holds))]
-fn described_type_system<A: Allocator + Copy>(p: &mut ParserState<'_, A>) -> Result<(), AllocError>
-    ensures { OnOk result (Runs (rules.type_system Next rules.no_described) p.old p.new) }
+fn described_type_system<A: Allocator + Copy>(
+    p: &mut ParserState<'_, A>,
+    next: Option<Token<'_>>,
+) -> Result<(), AllocError>
+    requires { current_of next ≡ second p.old.items }
+    ensures runs { OnOk result (Runs (rules.type_system Next rules.no_described) p.old p.new) }
+    ensures budget { p.new.budget ≡ p.old.budget }
 {
-    let next = p.peek();
     if is_word(next, SyntaxKind::schema_KW) {
         return schema_definition(p);
     }
     if is_word(next, SyntaxKind::directive_KW) {
         return directive_definition(p);
     }
-    described_type(p)
+    described_type(p, next)
 }
 
 // The same for the definition of a type. Before another token the string is popped.
 #[tactic(auto, using(crate::proofs::Looks::looking), unfolding(parser_rules::specs::Rules::body, parser_rules::specs::RuleLanguage::holds))]
-fn described_type<A: Allocator + Copy>(p: &mut ParserState<'_, A>) -> Result<(), AllocError>
-    ensures { OnOk result (Runs (rules.type_definition Next rules.no_described) p.old p.new) }
+fn described_type<A: Allocator + Copy>(
+    p: &mut ParserState<'_, A>,
+    next: Option<Token<'_>>,
+) -> Result<(), AllocError>
+    requires { current_of next ≡ second p.old.items }
+    ensures runs { OnOk result (Runs (rules.type_definition Next rules.no_described) p.old p.new) }
+    ensures budget { p.new.budget ≡ p.old.budget }
 {
-    let next = p.peek();
     if is_word(next, SyntaxKind::scalar_KW) {
         return scalar_type_definition(p);
     }

@@ -23,7 +23,8 @@ use std::alloc::{AllocError, Allocator};
 pub fn enum_type_definition<A: Allocator + Copy>(
     p: &mut ParserState<'_, A>,
 ) -> Result<(), AllocError>
-    ensures { OnOk result (Runs (Child rule.EnumTypeDefinition) p.old p.new) }
+    ensures runs { OnOk result (Runs (Child rule.EnumTypeDefinition) p.old p.new) }
+    ensures budget { p.new.budget ≡ p.old.budget }
 {
     p.start_node(SyntaxKind::ENUM_TYPE_DEFINITION)?;
     described(p, SyntaxKind::enum_KW)?;
@@ -40,7 +41,8 @@ pub fn enum_type_definition<A: Allocator + Copy>(
 pub fn enum_type_extension<A: Allocator + Copy>(
     p: &mut ParserState<'_, A>,
 ) -> Result<(), AllocError>
-    ensures { OnOk result (Runs (Child rule.EnumTypeExtension) p.old p.new) }
+    ensures runs { OnOk result (Runs (Child rule.EnumTypeExtension) p.old p.new) }
+    ensures budget { p.new.budget ≡ p.old.budget }
 {
     p.start_node(SyntaxKind::ENUM_TYPE_EXTENSION)?;
     p.bump(SyntaxKind::extend_KW)?;
@@ -63,7 +65,8 @@ pub fn enum_type_extension<A: Allocator + Copy>(
 // The values of an enum, where `{` comes next.
 fn enum_values_definition<A: Allocator + Copy>(p: &mut ParserState<'_, A>) -> Result<(), AllocError>
     requires { true ≡ holds (At token.LCurly) p.old }
-    ensures { OnOk result (Runs (Child rule.EnumValuesDefinition) p.old p.new) }
+    ensures runs { OnOk result (Runs (Child rule.EnumValuesDefinition) p.old p.new) }
+    ensures budget { p.new.budget ≡ p.old.budget }
 {
     p.start_node(SyntaxKind::ENUM_VALUES_DEFINITION)?;
     p.bump(SyntaxKind::L_CURLY)?;
@@ -82,7 +85,8 @@ fn enum_values_definition<A: Allocator + Copy>(p: &mut ParserState<'_, A>) -> Re
 
 // The definition of an enum's value.
 fn enum_value_definition<A: Allocator + Copy>(p: &mut ParserState<'_, A>) -> Result<(), AllocError>
-    ensures { OnOk result (Runs (Child rule.EnumValueDefinition) p.old p.new) }
+    ensures runs { OnOk result (Runs (Child rule.EnumValueDefinition) p.old p.new) }
+    ensures budget { p.new.budget ≡ p.old.budget }
 {
     p.start_node(SyntaxKind::ENUM_VALUE_DEFINITION)?;
     maybe_description(p)?;

@@ -7,6 +7,7 @@ ghost use Rattle.parser_rules.specs.Nodes as rule;
 ghost use Rattle.parser_rules.specs.Rules as rules;
 ghost use Rattle.parser_rules.specs.RuleLanguage.{Here, At, Word, fits, holds, Child, Call, When, Do, Bump, Skip};
 ghost use Rattle.parser_rules.specs.Runs.{Runs};
+ghost use Rattle.parser_rules.specs.State.{second};
 ghost use Rattle.parser_state.specs.View.{current_of};
 
 use super::enum_::enum_type_extension;
@@ -16,6 +17,7 @@ use super::object::object_type_extension;
 use super::scalar::scalar_type_extension;
 use super::schema::schema_extension;
 use super::union_::union_type_extension;
+use apollo_lexer::Token;
 use document_grammar::SyntaxKind;
 use lexical_grammar::TokenKind;
 use parser_rules::{Constness, Message};
@@ -24,9 +26,22 @@ use std::alloc::{AllocError, Allocator};
 
 /// An extension of the type system (GraphQL October 2021, section 3, "Type System Extensions"), where `extend` comes next.
 pub fn extensions<A: Allocator + Copy>(p: &mut ParserState<'_, A>) -> Result<(), AllocError>
-    ensures { OnOk result (Runs (Call rule.Extension) p.old p.new) }
+    ensures runs { OnOk result (Runs (Call rule.Extension) p.old p.new) }
+    ensures budget { p.new.budget ≡ p.old.budget }
 {
     let next = p.peek();
+    extension(p, next)
+}
+
+// The same, where the word after `extend` is known.
+fn extension<A: Allocator + Copy>(
+    p: &mut ParserState<'_, A>,
+    next: Option<Token<'_>>,
+) -> Result<(), AllocError>
+    requires { current_of next ≡ second p.old.items }
+    ensures runs { OnOk result (Runs (Call rule.Extension) p.old p.new) }
+    ensures budget { p.new.budget ≡ p.old.budget }
+{
     if is_word(next, SyntaxKind::schema_KW) {
         return schema_extension(p);
     }

@@ -24,7 +24,8 @@ use std::alloc::{AllocError, Allocator};
 #[cycle(selection)]
 pub fn field<A: Allocator + Copy>(p: &mut ParserState<'_, A>) -> Result<(), AllocError>
     requires { true ≡ holds (At token.Name) p.old }
-    ensures { OnOk result (Runs (Child rule.Field) p.old p.new) }
+    ensures runs { OnOk result (Runs (Child rule.Field) p.old p.new) }
+    ensures budget { p.new.budget ≡ p.old.budget }
 {
     p.start_node(SyntaxKind::FIELD)?;
     aliased_name(p)?;
@@ -40,7 +41,8 @@ pub fn field<A: Allocator + Copy>(p: &mut ParserState<'_, A>) -> Result<(), Allo
 /// The fields of a type (GraphQL October 2021, section 3.6, "Objects"), where `{` comes next.
 pub fn fields_definition<A: Allocator + Copy>(p: &mut ParserState<'_, A>) -> Result<(), AllocError>
     requires { true ≡ holds (At token.LCurly) p.old }
-    ensures { OnOk result (Runs (Child rule.FieldsDefinition) p.old p.new) }
+    ensures runs { OnOk result (Runs (Child rule.FieldsDefinition) p.old p.new) }
+    ensures budget { p.new.budget ≡ p.old.budget }
 {
     p.start_node(SyntaxKind::FIELDS_DEFINITION)?;
     p.bump(SyntaxKind::L_CURLY)?;
@@ -60,7 +62,8 @@ pub fn fields_definition<A: Allocator + Copy>(p: &mut ParserState<'_, A>) -> Res
 // The definition of a field.
 fn field_definition<A: Allocator + Copy>(p: &mut ParserState<'_, A>) -> Result<(), AllocError>
     requires { true ≡ holds (Here rules.named_start) p.old }
-    ensures { OnOk result (Runs (Child rule.FieldDefinition) p.old p.new) }
+    ensures runs { OnOk result (Runs (Child rule.FieldDefinition) p.old p.new) }
+    ensures budget { p.new.budget ≡ p.old.budget }
 {
     p.start_node(SyntaxKind::FIELD_DEFINITION)?;
     maybe_description(p)?;
@@ -78,7 +81,8 @@ fn field_definition<A: Allocator + Copy>(p: &mut ParserState<'_, A>) -> Result<(
 
 // What follows a field's `:`.
 fn field_type<A: Allocator + Copy>(p: &mut ParserState<'_, A>) -> Result<(), AllocError>
-    ensures { OnOk result (Runs (Call rule.FieldType) p.old p.new) }
+    ensures runs { OnOk result (Runs (Call rule.FieldType) p.old p.new) }
+    ensures budget { p.new.budget ≡ p.old.budget }
 {
     if !starts_type(p) {
         return p.err(Message::ExpectedType);

@@ -21,7 +21,8 @@ use std::alloc::{AllocError, Allocator};
 pub fn fragment_definition<A: Allocator + Copy>(
     p: &mut ParserState<'_, A>,
 ) -> Result<(), AllocError>
-    ensures { OnOk result (Runs (Child rule.FragmentDefinition) p.old p.new) }
+    ensures runs { OnOk result (Runs (Child rule.FragmentDefinition) p.old p.new) }
+    ensures budget { p.new.budget ≡ p.old.budget }
 {
     p.start_node(SyntaxKind::FRAGMENT_DEFINITION)?;
     described(p, SyntaxKind::fragment_KW)?;
@@ -39,7 +40,8 @@ pub fn fragment_definition<A: Allocator + Copy>(
 
 // The name of a fragment, which is not `on`.
 fn fragment_name<A: Allocator + Copy>(p: &mut ParserState<'_, A>) -> Result<(), AllocError>
-    ensures { OnOk result (Runs (Child rule.FragmentName) p.old p.new) }
+    ensures runs { OnOk result (Runs (Child rule.FragmentName) p.old p.new) }
+    ensures budget { p.new.budget ≡ p.old.budget }
 {
     p.start_node(SyntaxKind::FRAGMENT_NAME)?;
     if p.at_word(SyntaxKind::on_KW) {
@@ -55,7 +57,8 @@ fn fragment_name<A: Allocator + Copy>(p: &mut ParserState<'_, A>) -> Result<(), 
 
 // A type condition (section 2.8.1, "Type Conditions").
 fn type_condition<A: Allocator + Copy>(p: &mut ParserState<'_, A>) -> Result<(), AllocError>
-    ensures { OnOk result (Runs (Child rule.TypeCondition) p.old p.new) }
+    ensures runs { OnOk result (Runs (Child rule.TypeCondition) p.old p.new) }
+    ensures budget { p.new.budget ≡ p.old.budget }
 {
     p.start_node(SyntaxKind::TYPE_CONDITION)?;
     p.expect_word(SyntaxKind::on_KW, Message::ExpectedOn)?;
@@ -70,7 +73,8 @@ fn type_condition<A: Allocator + Copy>(p: &mut ParserState<'_, A>) -> Result<(),
 
 // A type condition, where a name comes next.
 fn maybe_type_condition<A: Allocator + Copy>(p: &mut ParserState<'_, A>) -> Result<(), AllocError>
-    ensures { OnOk result (Runs (Call rule.MaybeTypeCondition) p.old p.new) }
+    ensures runs { OnOk result (Runs (Call rule.MaybeTypeCondition) p.old p.new) }
+    ensures budget { p.new.budget ≡ p.old.budget }
 {
     if p.at(TokenKind::Name) {
         return type_condition(p);
@@ -82,7 +86,8 @@ fn maybe_type_condition<A: Allocator + Copy>(p: &mut ParserState<'_, A>) -> Resu
 #[cycle(selection)]
 pub fn inline_fragment<A: Allocator + Copy>(p: &mut ParserState<'_, A>) -> Result<(), AllocError>
     requires { true ≡ holds (At token.Spread) p.old }
-    ensures { OnOk result (Runs (Child rule.InlineFragment) p.old p.new) }
+    ensures runs { OnOk result (Runs (Child rule.InlineFragment) p.old p.new) }
+    ensures budget { p.new.budget ≡ p.old.budget }
 {
     p.start_node(SyntaxKind::INLINE_FRAGMENT)?;
     p.bump(SyntaxKind::SPREAD)?;
@@ -99,7 +104,8 @@ pub fn inline_fragment<A: Allocator + Copy>(p: &mut ParserState<'_, A>) -> Resul
 
 /// A fragment spread (GraphQL October 2021, section 2.8, "Fragments").
 pub fn fragment_spread<A: Allocator + Copy>(p: &mut ParserState<'_, A>) -> Result<(), AllocError>
-    ensures { OnOk result (Runs (Child rule.FragmentSpread) p.old p.new) }
+    ensures runs { OnOk result (Runs (Child rule.FragmentSpread) p.old p.new) }
+    ensures budget { p.new.budget ≡ p.old.budget }
 {
     p.start_node(SyntaxKind::FRAGMENT_SPREAD)?;
     p.bump(SyntaxKind::SPREAD)?;

@@ -23,7 +23,8 @@ use std::alloc::{AllocError, Allocator};
 pub fn input_object_type_definition<A: Allocator + Copy>(
     p: &mut ParserState<'_, A>,
 ) -> Result<(), AllocError>
-    ensures { OnOk result (Runs (Child rule.InputObjectTypeDefinition) p.old p.new) }
+    ensures runs { OnOk result (Runs (Child rule.InputObjectTypeDefinition) p.old p.new) }
+    ensures budget { p.new.budget ≡ p.old.budget }
 {
     p.start_node(SyntaxKind::INPUT_OBJECT_TYPE_DEFINITION)?;
     described(p, SyntaxKind::input_KW)?;
@@ -40,7 +41,8 @@ pub fn input_object_type_definition<A: Allocator + Copy>(
 pub fn input_object_type_extension<A: Allocator + Copy>(
     p: &mut ParserState<'_, A>,
 ) -> Result<(), AllocError>
-    ensures { OnOk result (Runs (Child rule.InputObjectTypeExtension) p.old p.new) }
+    ensures runs { OnOk result (Runs (Child rule.InputObjectTypeExtension) p.old p.new) }
+    ensures budget { p.new.budget ≡ p.old.budget }
 {
     p.start_node(SyntaxKind::INPUT_OBJECT_TYPE_EXTENSION)?;
     p.bump(SyntaxKind::extend_KW)?;
@@ -65,7 +67,8 @@ fn input_fields_definition<A: Allocator + Copy>(
     p: &mut ParserState<'_, A>,
 ) -> Result<(), AllocError>
     requires { true ≡ holds (At token.LCurly) p.old }
-    ensures { OnOk result (Runs (Child rule.InputFieldsDefinition) p.old p.new) }
+    ensures runs { OnOk result (Runs (Child rule.InputFieldsDefinition) p.old p.new) }
+    ensures budget { p.new.budget ≡ p.old.budget }
 {
     p.start_node(SyntaxKind::INPUT_FIELDS_DEFINITION)?;
     p.bump(SyntaxKind::L_CURLY)?;
@@ -87,7 +90,8 @@ pub fn input_value_definition<A: Allocator + Copy>(
     p: &mut ParserState<'_, A>,
 ) -> Result<(), AllocError>
     requires { true ≡ holds (Here rules.named_start) p.old }
-    ensures { OnOk result (Runs (Child rule.InputValueDefinition) p.old p.new) }
+    ensures runs { OnOk result (Runs (Child rule.InputValueDefinition) p.old p.new) }
+    ensures budget { p.new.budget ≡ p.old.budget }
 {
     p.start_node(SyntaxKind::INPUT_VALUE_DEFINITION)?;
     maybe_description(p)?;

@@ -6,16 +6,20 @@ ghost use Rattle.lexical_grammar.specs.declared.TokenKind.TheVariants as token;
 ghost use Rattle.parser_rules.specs.Nodes as rule;
 ghost use Rattle.parser_rules.specs.RuleLanguage.{At, holds, Child, Call};
 ghost use Rattle.parser_rules.specs.Runs.{Runs};
+ghost use Rattle.parser_rules.specs.State.{second};
+ghost use Rattle.parser_state.specs.View.{current_of};
 
+use apollo_lexer::Token;
 use document_grammar::SyntaxKind;
 use lexical_grammar::TokenKind;
 use parser_rules::Message;
-use parser_state::ParserState;
+use parser_state::{ParserState, is_kind};
 use std::alloc::{AllocError, Allocator};
 
 /// A name (GraphQL October 2021, section 2.1.9, "Names").
 pub fn name<A: Allocator + Copy>(p: &mut ParserState<'_, A>) -> Result<(), AllocError>
-    ensures { OnOk result (Runs (Call rule.Named) p.old p.new) }
+    ensures runs { OnOk result (Runs (Call rule.Named) p.old p.new) }
+    ensures budget { p.new.budget ≡ p.old.budget }
 {
     if p.at(TokenKind::Name) {
         return p.name();
@@ -25,7 +29,8 @@ pub fn name<A: Allocator + Copy>(p: &mut ParserState<'_, A>) -> Result<(), Alloc
 
 /// A name, where one comes next.
 pub fn maybe_name<A: Allocator + Copy>(p: &mut ParserState<'_, A>) -> Result<(), AllocError>
-    ensures { OnOk result (Runs (Call rule.MaybeName) p.old p.new) }
+    ensures runs { OnOk result (Runs (Call rule.MaybeName) p.old p.new) }
+    ensures budget { p.new.budget ≡ p.old.budget }
 {
     if p.at(TokenKind::Name) {
         return p.name();
@@ -36,7 +41,8 @@ pub fn maybe_name<A: Allocator + Copy>(p: &mut ParserState<'_, A>) -> Result<(),
 /// A field's alias (GraphQL October 2021, section 2.7, "Field Alias").
 fn alias<A: Allocator + Copy>(p: &mut ParserState<'_, A>) -> Result<(), AllocError>
     requires { true ≡ holds (At token.Name) p.old }
-    ensures { OnOk result (Runs (Child rule.Alias) p.old p.new) }
+    ensures runs { OnOk result (Runs (Child rule.Alias) p.old p.new) }
+    ensures budget { p.new.budget ≡ p.old.budget }
 {
     p.start_node(SyntaxKind::ALIAS)?;
     p.name()?;
@@ -48,9 +54,25 @@ fn alias<A: Allocator + Copy>(p: &mut ParserState<'_, A>) -> Result<(), AllocErr
 /// A field's name, with its alias.
 pub fn aliased_name<A: Allocator + Copy>(p: &mut ParserState<'_, A>) -> Result<(), AllocError>
     requires { true ≡ holds (At token.Name) p.old }
-    ensures { OnOk result (Runs (Call rule.AliasedName) p.old p.new) }
+    ensures runs { OnOk result (Runs (Call rule.AliasedName) p.old p.new) }
+    ensures budget { p.new.budget ≡ p.old.budget }
 {
-    if p.next_is(TokenKind::Colon) {
+    let next = p.peek();
+    name_before(p, next)
+}
+
+// The same, where the token after the first name is known.
+#[tactic(auto, using(parser_rules::proofs::runs::Running::running), unfolding(parser_rules::specs::Rules::inside, parser_rules::specs::Rules::body, parser_rules::specs::RuleLanguage::holds))]
+fn name_before<A: Allocator + Copy>(
+    p: &mut ParserState<'_, A>,
+    next: Option<Token<'_>>,
+) -> Result<(), AllocError>
+    requires at { true ≡ holds (At token.Name) p.old }
+    requires after { current_of next ≡ second p.old.items }
+    ensures runs { OnOk result (Runs (Call rule.AliasedName) p.old p.new) }
+    ensures budget { p.new.budget ≡ p.old.budget }
+{
+    if is_kind(next, TokenKind::Colon) {
         alias(p)?;
         return name(p);
     }

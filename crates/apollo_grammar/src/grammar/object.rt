@@ -24,7 +24,8 @@ use std::alloc::{AllocError, Allocator};
 pub fn object_type_definition<A: Allocator + Copy>(
     p: &mut ParserState<'_, A>,
 ) -> Result<(), AllocError>
-    ensures { OnOk result (Runs (Child rule.ObjectTypeDefinition) p.old p.new) }
+    ensures runs { OnOk result (Runs (Child rule.ObjectTypeDefinition) p.old p.new) }
+    ensures budget { p.new.budget ≡ p.old.budget }
 {
     p.start_node(SyntaxKind::OBJECT_TYPE_DEFINITION)?;
     described(p, SyntaxKind::type_KW)?;
@@ -36,7 +37,8 @@ pub fn object_type_definition<A: Allocator + Copy>(
 
 // The name of an object type.
 fn type_name<A: Allocator + Copy>(p: &mut ParserState<'_, A>) -> Result<(), AllocError>
-    ensures { OnOk result (Runs (Call rule.TypeName) p.old p.new) }
+    ensures runs { OnOk result (Runs (Call rule.TypeName) p.old p.new) }
+    ensures budget { p.new.budget ≡ p.old.budget }
 {
     if p.at(TokenKind::Name) {
         return p.name();
@@ -48,7 +50,8 @@ fn type_name<A: Allocator + Copy>(p: &mut ParserState<'_, A>) -> Result<(), Allo
 pub fn object_type_extension<A: Allocator + Copy>(
     p: &mut ParserState<'_, A>,
 ) -> Result<(), AllocError>
-    ensures { OnOk result (Runs (Child rule.ObjectTypeExtension) p.old p.new) }
+    ensures runs { OnOk result (Runs (Child rule.ObjectTypeExtension) p.old p.new) }
+    ensures budget { p.new.budget ≡ p.old.budget }
 {
     p.start_node(SyntaxKind::OBJECT_TYPE_EXTENSION)?;
     p.bump(SyntaxKind::extend_KW)?;
@@ -64,7 +67,8 @@ pub fn implementing<A: Allocator + Copy>(
     p: &mut ParserState<'_, A>,
     message: Message,
 ) -> Result<(), AllocError>
-    ensures { OnOk result (Runs (rules.implementing message) p.old p.new) }
+    ensures runs { OnOk result (Runs (rules.implementing message) p.old p.new) }
+    ensures budget { p.new.budget ≡ p.old.budget }
 {
     if p.at_word(SyntaxKind::implements_KW) {
         implements_interfaces(p)?;
@@ -89,7 +93,8 @@ pub fn implementing<A: Allocator + Copy>(
 
 /// What follows the name of an object type or of an interface that is defined.
 pub fn type_parts<A: Allocator + Copy>(p: &mut ParserState<'_, A>) -> Result<(), AllocError>
-    ensures { OnOk result (Runs rules.type_parts p.old p.new) }
+    ensures runs { OnOk result (Runs rules.type_parts p.old p.new) }
+    ensures budget { p.new.budget ≡ p.old.budget }
 {
     maybe_implements(p)?;
     directives(p, Constness::Const)?;
@@ -101,7 +106,8 @@ pub fn type_parts<A: Allocator + Copy>(p: &mut ParserState<'_, A>) -> Result<(),
 
 // The interfaces that a type implements, where `implements` comes next.
 fn maybe_implements<A: Allocator + Copy>(p: &mut ParserState<'_, A>) -> Result<(), AllocError>
-    ensures { OnOk result (Runs (Call rule.MaybeImplements) p.old p.new) }
+    ensures runs { OnOk result (Runs (Call rule.MaybeImplements) p.old p.new) }
+    ensures budget { p.new.budget ≡ p.old.budget }
 {
     if p.at_word(SyntaxKind::implements_KW) {
         return implements_interfaces(p);
@@ -111,7 +117,8 @@ fn maybe_implements<A: Allocator + Copy>(p: &mut ParserState<'_, A>) -> Result<(
 
 // The interfaces that a type implements.
 fn implements_interfaces<A: Allocator + Copy>(p: &mut ParserState<'_, A>) -> Result<(), AllocError>
-    ensures { OnOk result (Runs (Child rule.ImplementsInterfaces) p.old p.new) }
+    ensures runs { OnOk result (Runs (Child rule.ImplementsInterfaces) p.old p.new) }
+    ensures budget { p.new.budget ≡ p.old.budget }
 {
     p.start_node(SyntaxKind::IMPLEMENTS_INTERFACES)?;
     p.bump(SyntaxKind::implements_KW)?;
@@ -127,7 +134,8 @@ fn implements_interfaces<A: Allocator + Copy>(p: &mut ParserState<'_, A>) -> Res
 
 // The name of an interface.
 fn interface_name<A: Allocator + Copy>(p: &mut ParserState<'_, A>) -> Result<(), AllocError>
-    ensures { OnOk result (Runs (Call rule.InterfaceName) p.old p.new) }
+    ensures runs { OnOk result (Runs (Call rule.InterfaceName) p.old p.new) }
+    ensures budget { p.new.budget ≡ p.old.budget }
 {
     if p.at(TokenKind::Name) {
         return named_type(p);

@@ -23,7 +23,8 @@ use std::alloc::{AllocError, Allocator};
 pub fn operation_definition<A: Allocator + Copy>(
     p: &mut ParserState<'_, A>,
 ) -> Result<(), AllocError>
-    ensures { OnOk result (Runs (Child rule.Operation) p.old p.new) }
+    ensures runs { OnOk result (Runs (Child rule.Operation) p.old p.new) }
+    ensures budget { p.new.budget ≡ p.old.budget }
 {
     p.start_node(SyntaxKind::OPERATION_DEFINITION)?;
     operation_head(p)?;
@@ -42,7 +43,8 @@ pub fn operation_definition<A: Allocator + Copy>(
 /// A query that is a selection set alone (GraphQL October 2021, section 2.3, "Operations", "Query shorthand").
 pub fn query_shorthand<A: Allocator + Copy>(p: &mut ParserState<'_, A>) -> Result<(), AllocError>
     requires { true ≡ holds (At token.LCurly) p.old }
-    ensures { OnOk result (Runs (Child rule.ShortQuery) p.old p.new) }
+    ensures runs { OnOk result (Runs (Child rule.ShortQuery) p.old p.new) }
+    ensures budget { p.new.budget ≡ p.old.budget }
 {
     p.start_node(SyntaxKind::OPERATION_DEFINITION)?;
     selection_set(p)?;
@@ -52,7 +54,8 @@ pub fn query_shorthand<A: Allocator + Copy>(p: &mut ParserState<'_, A>) -> Resul
 
 // An operation's description, where it has one, and its type.
 fn operation_head<A: Allocator + Copy>(p: &mut ParserState<'_, A>) -> Result<(), AllocError>
-    ensures { OnOk result (Runs rules.operation_head p.old p.new) }
+    ensures runs { OnOk result (Runs rules.operation_head p.old p.new) }
+    ensures budget { p.new.budget ≡ p.old.budget }
 {
     maybe_description(p)?;
     operation_type(p)
@@ -60,7 +63,8 @@ fn operation_head<A: Allocator + Copy>(p: &mut ParserState<'_, A>) -> Result<(),
 
 /// The type of an operation (GraphQL October 2021, section 2.3, "Operations").
 pub fn operation_type<A: Allocator + Copy>(p: &mut ParserState<'_, A>) -> Result<(), AllocError>
-    ensures { OnOk result (Runs (Child rule.OperationType) p.old p.new) }
+    ensures runs { OnOk result (Runs (Child rule.OperationType) p.old p.new) }
+    ensures budget { p.new.budget ≡ p.old.budget }
 {
     p.start_node(SyntaxKind::OPERATION_TYPE)?;
     operation_word(p)?;
@@ -69,7 +73,8 @@ pub fn operation_type<A: Allocator + Copy>(p: &mut ParserState<'_, A>) -> Result
 }
 
 fn operation_word<A: Allocator + Copy>(p: &mut ParserState<'_, A>) -> Result<(), AllocError>
-    ensures { OnOk result (Runs rules.operation_word p.old p.new) }
+    ensures runs { OnOk result (Runs rules.operation_word p.old p.new) }
+    ensures budget { p.new.budget ≡ p.old.budget }
 {
     if p.at_word(SyntaxKind::query_KW) {
         return p.bump(SyntaxKind::query_KW);

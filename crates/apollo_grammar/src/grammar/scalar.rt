@@ -22,7 +22,8 @@ use std::alloc::{AllocError, Allocator};
 pub fn scalar_type_definition<A: Allocator + Copy>(
     p: &mut ParserState<'_, A>,
 ) -> Result<(), AllocError>
-    ensures { OnOk result (Runs (Child rule.ScalarTypeDefinition) p.old p.new) }
+    ensures runs { OnOk result (Runs (Child rule.ScalarTypeDefinition) p.old p.new) }
+    ensures budget { p.new.budget ≡ p.old.budget }
 {
     p.start_node(SyntaxKind::SCALAR_TYPE_DEFINITION)?;
     described(p, SyntaxKind::scalar_KW)?;
@@ -36,7 +37,8 @@ pub fn scalar_type_definition<A: Allocator + Copy>(
 pub fn scalar_type_extension<A: Allocator + Copy>(
     p: &mut ParserState<'_, A>,
 ) -> Result<(), AllocError>
-    ensures { OnOk result (Runs (Child rule.ScalarTypeExtension) p.old p.new) }
+    ensures runs { OnOk result (Runs (Child rule.ScalarTypeExtension) p.old p.new) }
+    ensures budget { p.new.budget ≡ p.old.budget }
 {
     p.start_node(SyntaxKind::SCALAR_TYPE_EXTENSION)?;
     p.bump(SyntaxKind::extend_KW)?;

@@ -21,7 +21,8 @@ use std::alloc::{AllocError, Allocator};
 
 /// A schema (GraphQL October 2021, section 3.3, "Schema").
 pub fn schema_definition<A: Allocator + Copy>(p: &mut ParserState<'_, A>) -> Result<(), AllocError>
-    ensures { OnOk result (Runs (Child rule.SchemaDefinition) p.old p.new) }
+    ensures runs { OnOk result (Runs (Child rule.SchemaDefinition) p.old p.new) }
+    ensures budget { p.new.budget ≡ p.old.budget }
 {
     p.start_node(SyntaxKind::SCHEMA_DEFINITION)?;
     described(p, SyntaxKind::schema_KW)?;
@@ -37,7 +38,8 @@ pub fn schema_definition<A: Allocator + Copy>(p: &mut ParserState<'_, A>) -> Res
 
 /// An extension of the schema (GraphQL October 2021, section 3.3.2, "Schema Extension").
 pub fn schema_extension<A: Allocator + Copy>(p: &mut ParserState<'_, A>) -> Result<(), AllocError>
-    ensures { OnOk result (Runs (Child rule.SchemaExtension) p.old p.new) }
+    ensures runs { OnOk result (Runs (Child rule.SchemaExtension) p.old p.new) }
+    ensures budget { p.new.budget ≡ p.old.budget }
 {
     p.start_node(SyntaxKind::SCHEMA_EXTENSION)?;
     p.bump(SyntaxKind::extend_KW)?;
@@ -61,7 +63,8 @@ fn root_operations<A: Allocator + Copy>(
     p: &mut ParserState<'_, A>,
     message: Message,
 ) -> Result<(), AllocError>
-    ensures { OnOk result (Runs (rules.root_operations message) p.old p.new) }
+    ensures runs { OnOk result (Runs (rules.root_operations message) p.old p.new) }
+    ensures budget { p.new.budget ≡ p.old.budget }
 {
     p.bump(SyntaxKind::L_CURLY)?;
     p.want(TokenKind::Name, message)?;
@@ -79,7 +82,8 @@ fn root_operations<A: Allocator + Copy>(
 fn root_operation_type_definition<A: Allocator + Copy>(
     p: &mut ParserState<'_, A>,
 ) -> Result<(), AllocError>
-    ensures { OnOk result (Runs (Child rule.RootOperationTypeDefinition) p.old p.new) }
+    ensures runs { OnOk result (Runs (Child rule.RootOperationTypeDefinition) p.old p.new) }
+    ensures budget { p.new.budget ≡ p.old.budget }
 {
     p.start_node(SyntaxKind::ROOT_OPERATION_TYPE_DEFINITION)?;
     operation_type(p)?;
@@ -95,7 +99,8 @@ fn root_operation_type_definition<A: Allocator + Copy>(
 
 // What follows a root operation's `:`.
 fn root_type<A: Allocator + Copy>(p: &mut ParserState<'_, A>) -> Result<(), AllocError>
-    ensures { OnOk result (Runs (Call rule.RootType) p.old p.new) }
+    ensures runs { OnOk result (Runs (Call rule.RootType) p.old p.new) }
+    ensures budget { p.new.budget ≡ p.old.budget }
 {
     if p.at(TokenKind::Name) {
         return named_type(p);

@@ -9,6 +9,7 @@ ghost use Rattle.parser_rules.specs.Fragments as fragments;
 ghost use Rattle.parser_rules.specs.declared.message.Message.TheVariants as message;
 ghost use Rattle.parser_rules.specs.RuleLanguage.{fits, Here, At, holds, want, Child, Call, Nested, Skip};
 ghost use Rattle.parser_rules.specs.Runs.{Runs};
+ghost use Rattle.parser_rules.specs.State.{second};
 ghost use Rattle.parser_state.specs.View.{current_of};
 
 use super::field::field;
@@ -24,7 +25,8 @@ use std::alloc::{AllocError, Allocator};
 #[cycle(selection)]
 pub fn selection_set<A: Allocator + Copy>(p: &mut ParserState<'_, A>) -> Result<(), AllocError>
     requires { true ≡ holds (At token.LCurly) p.old }
-    ensures { OnOk result (Runs (Child rule.SelectionSet) p.old p.new) }
+    ensures runs { OnOk result (Runs (Child rule.SelectionSet) p.old p.new) }
+    ensures budget { p.new.budget ≡ p.old.budget }
 {
     p.start_node(SyntaxKind::SELECTION_SET)?;
     braced(p)?;
@@ -36,7 +38,8 @@ pub fn selection_set<A: Allocator + Copy>(p: &mut ParserState<'_, A>) -> Result<
 #[cycle(selection)]
 fn braced<A: Allocator + Copy>(p: &mut ParserState<'_, A>) -> Result<(), AllocError>
     requires { true ≡ holds (At token.LCurly) p.old }
-    ensures { OnOk result (Runs (rules.inside rule.SelectionSet) p.old p.new) }
+    ensures runs { OnOk result (Runs (rules.inside rule.SelectionSet) p.old p.new) }
+    ensures budget { p.new.budget ≡ p.old.budget }
 {
     p.bump(SyntaxKind::L_CURLY)?;
     if p.is_too_deep() {
@@ -54,7 +57,8 @@ fn braced<A: Allocator + Copy>(p: &mut ParserState<'_, A>) -> Result<(), AllocEr
 
 // The selections of a root that has no braces.
 fn unbraced<A: Allocator + Copy>(p: &mut ParserState<'_, A>) -> Result<(), AllocError>
-    ensures { OnOk result (Runs (Nested (Call rule.Selections) Skip) p.old p.new) }
+    ensures runs { OnOk result (Runs (Nested (Call rule.Selections) Skip) p.old p.new) }
+    ensures budget { p.new.budget ≡ p.old.budget }
 {
     if p.is_too_deep() {
         return p.too_deep();
@@ -67,7 +71,8 @@ fn unbraced<A: Allocator + Copy>(p: &mut ParserState<'_, A>) -> Result<(), Alloc
 
 /// The root of a selection set that is parsed by itself, with or without its braces.
 pub fn field_set<A: Allocator + Copy>(p: &mut ParserState<'_, A>) -> Result<(), AllocError>
-    ensures { OnOk result (Runs fragments.selections_root p.old p.new) }
+    ensures runs { OnOk result (Runs fragments.selections_root p.old p.new) }
+    ensures budget { p.new.budget ≡ p.old.budget }
 {
     if p.at(TokenKind::LCurly) {
         return braced(p);
@@ -78,7 +83,8 @@ pub fn field_set<A: Allocator + Copy>(p: &mut ParserState<'_, A>) -> Result<(), 
 // The selections of a set, one at least.
 #[cycle(selection)]
 fn selections<A: Allocator + Copy>(p: &mut ParserState<'_, A>) -> Result<(), AllocError>
-    ensures { OnOk result (Runs (Call rule.Selections) p.old p.new) }
+    ensures runs { OnOk result (Runs (Call rule.Selections) p.old p.new) }
+    ensures budget { p.new.budget ≡ p.old.budget }
 {
     want_selection(p)?;
     while starts_selection(p) {
@@ -97,7 +103,8 @@ fn starts_selection<A: Allocator + Copy>(p: &ParserState<'_, A>) -> bool
 
 // Reports an error where no selection starts.
 fn want_selection<A: Allocator + Copy>(p: &mut ParserState<'_, A>) -> Result<(), AllocError>
-    ensures { OnOk result (Runs (want (Here rules.selection_start) message.ExpectedSelection) p.old p.new) }
+    ensures runs { OnOk result (Runs (want (Here rules.selection_start) message.ExpectedSelection) p.old p.new) }
+    ensures budget { p.new.budget ≡ p.old.budget }
 {
     if starts_selection(p) {
         return Ok(());
@@ -108,7 +115,8 @@ fn want_selection<A: Allocator + Copy>(p: &mut ParserState<'_, A>) -> Result<(),
 #[cycle(selection)]
 fn selection<A: Allocator + Copy>(p: &mut ParserState<'_, A>) -> Result<(), AllocError>
     requires { true ≡ holds (Here rules.selection_start) p.old }
-    ensures { OnOk result (Runs (Call rule.Selection) p.old p.new) }
+    ensures runs { OnOk result (Runs (Call rule.Selection) p.old p.new) }
+    ensures budget { p.new.budget ≡ p.old.budget }
 {
     if p.at(TokenKind::Name) {
         return field(p);
@@ -130,9 +138,25 @@ fn is_inline(next: Option<Token<'_>>) -> bool
 #[tactic(auto, using(crate::proofs::Looks::looking), unfolding(parser_rules::specs::Rules::body, parser_rules::specs::RuleLanguage::holds))]
 fn spread<A: Allocator + Copy>(p: &mut ParserState<'_, A>) -> Result<(), AllocError>
     requires { true ≡ holds (At token.Spread) p.old }
-    ensures { OnOk result (Runs (Call rule.Spread) p.old p.new) }
+    ensures runs { OnOk result (Runs (Call rule.Spread) p.old p.new) }
+    ensures budget { p.new.budget ≡ p.old.budget }
 {
     let next = p.peek();
+    spread_before(p, next)
+}
+
+// The same, where the token after the `...` is known.
+#[cycle(selection)]
+#[tactic(auto, using(crate::proofs::Looks::looking), unfolding(parser_rules::specs::Rules::body, parser_rules::specs::RuleLanguage::holds))]
+fn spread_before<A: Allocator + Copy>(
+    p: &mut ParserState<'_, A>,
+    next: Option<Token<'_>>,
+) -> Result<(), AllocError>
+    requires at { true ≡ holds (At token.Spread) p.old }
+    requires after { current_of next ≡ second p.old.items }
+    ensures runs { OnOk result (Runs (Call rule.Spread) p.old p.new) }
+    ensures budget { p.new.budget ≡ p.old.budget }
+{
     if is_inline(next) {
         return fragment::inline_fragment(p);
     }

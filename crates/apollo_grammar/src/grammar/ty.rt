@@ -29,7 +29,8 @@ pub fn starts_type<A: Allocator + Copy>(p: &ParserState<'_, A>) -> bool
 /// A type (GraphQL October 2021, section 2.11, "Type References"). Whether it is a non-null type is known at its end.
 #[cycle(ty)]
 pub fn ty<A: Allocator + Copy>(p: &mut ParserState<'_, A>) -> Result<(), AllocError>
-    ensures { OnOk result (Runs (Call rule.TypeOf) p.old p.new) }
+    ensures runs { OnOk result (Runs (Call rule.TypeOf) p.old p.new) }
+    ensures budget { p.new.budget ≡ p.old.budget }
 {
     let checkpoint = p.checkpoint()?;
     nullable_type(p)?;
@@ -43,7 +44,8 @@ pub fn ty<A: Allocator + Copy>(p: &mut ParserState<'_, A>) -> Result<(), AllocEr
 
 #[cycle(ty)]
 fn nullable_type<A: Allocator + Copy>(p: &mut ParserState<'_, A>) -> Result<(), AllocError>
-    ensures { OnOk result (Runs rules.nullable_type p.old p.new) }
+    ensures runs { OnOk result (Runs rules.nullable_type p.old p.new) }
+    ensures budget { p.new.budget ≡ p.old.budget }
 {
     if p.at(TokenKind::LBracket) {
         return list_type(p);
@@ -54,7 +56,8 @@ fn nullable_type<A: Allocator + Copy>(p: &mut ParserState<'_, A>) -> Result<(), 
 #[cycle(ty)]
 fn list_type<A: Allocator + Copy>(p: &mut ParserState<'_, A>) -> Result<(), AllocError>
     requires { true ≡ holds (At token.LBracket) p.old }
-    ensures { OnOk result (Runs (Child rule.ListType) p.old p.new) }
+    ensures runs { OnOk result (Runs (Child rule.ListType) p.old p.new) }
+    ensures budget { p.new.budget ≡ p.old.budget }
 {
     p.start_node(SyntaxKind::LIST_TYPE)?;
     bracketed(p)?;
@@ -66,7 +69,8 @@ fn list_type<A: Allocator + Copy>(p: &mut ParserState<'_, A>) -> Result<(), Allo
 #[cycle(ty)]
 fn bracketed<A: Allocator + Copy>(p: &mut ParserState<'_, A>) -> Result<(), AllocError>
     requires { true ≡ holds (At token.LBracket) p.old }
-    ensures { OnOk result (Runs (rules.inside rule.ListType) p.old p.new) }
+    ensures runs { OnOk result (Runs (rules.inside rule.ListType) p.old p.new) }
+    ensures budget { p.new.budget ≡ p.old.budget }
 {
     p.bump(SyntaxKind::L_BRACK)?;
     if p.is_too_deep() {
@@ -85,7 +89,8 @@ fn bracketed<A: Allocator + Copy>(p: &mut ParserState<'_, A>) -> Result<(), Allo
 // The type of a list's items. A token that starts none is popped.
 #[cycle(ty)]
 fn item_type<A: Allocator + Copy>(p: &mut ParserState<'_, A>) -> Result<(), AllocError>
-    ensures { OnOk result (Runs (Call rule.ItemType) p.old p.new) }
+    ensures runs { OnOk result (Runs (Call rule.ItemType) p.old p.new) }
+    ensures budget { p.new.budget ≡ p.old.budget }
 {
     if starts_type(p) {
         return ty(p);
@@ -95,7 +100,8 @@ fn item_type<A: Allocator + Copy>(p: &mut ParserState<'_, A>) -> Result<(), Allo
 
 /// A named type.
 pub fn named_type<A: Allocator + Copy>(p: &mut ParserState<'_, A>) -> Result<(), AllocError>
-    ensures { OnOk result (Runs (Child rule.NamedType) p.old p.new) }
+    ensures runs { OnOk result (Runs (Child rule.NamedType) p.old p.new) }
+    ensures budget { p.new.budget ≡ p.old.budget }
 {
     p.start_node(SyntaxKind::NAMED_TYPE)?;
     name(p)?;
@@ -110,7 +116,8 @@ pub fn type_root<A: Allocator + Copy>(
 ) -> Result<(), AllocError>
     requires first { first.place ≡ 0 }
     requires not_open { p.old.tree.above ≡ [] }
-    ensures { OnOk result (fragments.MakesType (flush p.old) p.new) }
+    ensures runs { OnOk result (fragments.MakesType (flush p.old) p.new) }
+    ensures budget { p.new.budget ≡ p.old.budget }
 {
     let place = p.checkpoint()?;
     if p.at(TokenKind::LBracket) {

@@ -23,7 +23,8 @@ use std::alloc::{AllocError, Allocator};
 pub fn union_type_definition<A: Allocator + Copy>(
     p: &mut ParserState<'_, A>,
 ) -> Result<(), AllocError>
-    ensures { OnOk result (Runs (Child rule.UnionTypeDefinition) p.old p.new) }
+    ensures runs { OnOk result (Runs (Child rule.UnionTypeDefinition) p.old p.new) }
+    ensures budget { p.new.budget ≡ p.old.budget }
 {
     p.start_node(SyntaxKind::UNION_TYPE_DEFINITION)?;
     described(p, SyntaxKind::union_KW)?;
@@ -40,7 +41,8 @@ pub fn union_type_definition<A: Allocator + Copy>(
 pub fn union_type_extension<A: Allocator + Copy>(
     p: &mut ParserState<'_, A>,
 ) -> Result<(), AllocError>
-    ensures { OnOk result (Runs (Child rule.UnionTypeExtension) p.old p.new) }
+    ensures runs { OnOk result (Runs (Child rule.UnionTypeExtension) p.old p.new) }
+    ensures budget { p.new.budget ≡ p.old.budget }
 {
     p.start_node(SyntaxKind::UNION_TYPE_EXTENSION)?;
     p.bump(SyntaxKind::extend_KW)?;
@@ -62,7 +64,8 @@ pub fn union_type_extension<A: Allocator + Copy>(
 
 // The members of a union, where `=` comes next.
 fn union_member_types<A: Allocator + Copy>(p: &mut ParserState<'_, A>) -> Result<(), AllocError>
-    ensures { OnOk result (Runs (Child rule.UnionMemberTypes) p.old p.new) }
+    ensures runs { OnOk result (Runs (Child rule.UnionMemberTypes) p.old p.new) }
+    ensures budget { p.new.budget ≡ p.old.budget }
 {
     p.start_node(SyntaxKind::UNION_MEMBER_TYPES)?;
     p.bump(SyntaxKind::EQ)?;
@@ -78,7 +81,8 @@ fn union_member_types<A: Allocator + Copy>(p: &mut ParserState<'_, A>) -> Result
 
 // A member of a union.
 fn union_member<A: Allocator + Copy>(p: &mut ParserState<'_, A>) -> Result<(), AllocError>
-    ensures { OnOk result (Runs (Call rule.UnionMember) p.old p.new) }
+    ensures runs { OnOk result (Runs (Call rule.UnionMember) p.old p.new) }
+    ensures budget { p.new.budget ≡ p.old.budget }
 {
     if p.at(TokenKind::Name) {
         return named_type(p);

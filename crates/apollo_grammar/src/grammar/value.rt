@@ -23,7 +23,8 @@ pub fn value<A: Allocator + Copy>(
     constness: Constness,
     pop_on_error: bool,
 ) -> Result<(), AllocError>
-    ensures { OnOk result (Runs (Call (rule.ValueOf constness pop_on_error)) p.old p.new) }
+    ensures runs { OnOk result (Runs (Call (rule.ValueOf constness pop_on_error)) p.old p.new) }
+    ensures budget { p.new.budget ≡ p.old.budget }
 {
     if p.at(TokenKind::Dollar) {
         return variable_value(p, constness);
@@ -54,7 +55,8 @@ fn variable_value<A: Allocator + Copy>(
     p: &mut ParserState<'_, A>,
     constness: Constness,
 ) -> Result<(), AllocError>
-    ensures { OnOk result (Runs (rules.variable_of constness) p.old p.new) }
+    ensures runs { OnOk result (Runs (rules.variable_of constness) p.old p.new) }
+    ensures budget { p.new.budget ≡ p.old.budget }
 {
     if let Constness::Const = constness {
         p.err(Message::VariableInConst)?;
@@ -66,7 +68,8 @@ fn no_value<A: Allocator + Copy>(
     p: &mut ParserState<'_, A>,
     pop_on_error: bool,
 ) -> Result<(), AllocError>
-    ensures { OnOk result (Runs (rules.no_value pop_on_error) p.old p.new) }
+    ensures runs { OnOk result (Runs (rules.no_value pop_on_error) p.old p.new) }
+    ensures budget { p.new.budget ≡ p.old.budget }
 {
     if pop_on_error {
         return p.err_and_pop(Message::ExpectedValue);
@@ -75,7 +78,8 @@ fn no_value<A: Allocator + Copy>(
 }
 
 fn float_value<A: Allocator + Copy>(p: &mut ParserState<'_, A>) -> Result<(), AllocError>
-    ensures { OnOk result (Runs (Child rule.FloatValue) p.old p.new) }
+    ensures runs { OnOk result (Runs (Child rule.FloatValue) p.old p.new) }
+    ensures budget { p.new.budget ≡ p.old.budget }
 {
     p.start_node(SyntaxKind::FLOAT_VALUE)?;
     p.bump(SyntaxKind::FLOAT)?;
@@ -86,7 +90,8 @@ fn float_value<A: Allocator + Copy>(p: &mut ParserState<'_, A>) -> Result<(), Al
 // A value that is a word: a boolean, null, or an enum's value.
 fn word_value<A: Allocator + Copy>(p: &mut ParserState<'_, A>) -> Result<(), AllocError>
     requires { true ≡ holds (At token.Name) p.old }
-    ensures { OnOk result (Runs (Call rule.WordValue) p.old p.new) }
+    ensures runs { OnOk result (Runs (Call rule.WordValue) p.old p.new) }
+    ensures budget { p.new.budget ≡ p.old.budget }
 {
     if p.at_boolean() {
         return p.boolean_value();
@@ -98,7 +103,8 @@ fn word_value<A: Allocator + Copy>(p: &mut ParserState<'_, A>) -> Result<(), All
 }
 
 fn null_value<A: Allocator + Copy>(p: &mut ParserState<'_, A>) -> Result<(), AllocError>
-    ensures { OnOk result (Runs (Child rule.NullValue) p.old p.new) }
+    ensures runs { OnOk result (Runs (Child rule.NullValue) p.old p.new) }
+    ensures budget { p.new.budget ≡ p.old.budget }
 {
     p.start_node(SyntaxKind::NULL_VALUE)?;
     p.bump(SyntaxKind::null_KW)?;
@@ -108,7 +114,8 @@ fn null_value<A: Allocator + Copy>(p: &mut ParserState<'_, A>) -> Result<(), All
 
 /// An enum value (GraphQL October 2021, section 2.9.6, "Enum Value"), or a report of what is there in its place.
 pub fn enum_value<A: Allocator + Copy>(p: &mut ParserState<'_, A>) -> Result<(), AllocError>
-    ensures { OnOk result (Runs (Child rule.EnumValue) p.old p.new) }
+    ensures runs { OnOk result (Runs (Child rule.EnumValue) p.old p.new) }
+    ensures budget { p.new.budget ≡ p.old.budget }
 {
     p.start_node(SyntaxKind::ENUM_VALUE)?;
     if at_reserved(p) {
@@ -137,7 +144,8 @@ fn nested_value<A: Allocator + Copy>(
     p: &mut ParserState<'_, A>,
     constness: Constness,
 ) -> Result<(), AllocError>
-    ensures { OnOk result (Runs (Call (rule.NestedValue constness)) p.old p.new) }
+    ensures runs { OnOk result (Runs (Call (rule.NestedValue constness)) p.old p.new) }
+    ensures budget { p.new.budget ≡ p.old.budget }
 {
     if p.is_too_deep() {
         return p.too_deep();
@@ -155,7 +163,8 @@ fn list_value<A: Allocator + Copy>(
     constness: Constness,
 ) -> Result<(), AllocError>
     requires { true ≡ holds (At token.LBracket) p.old }
-    ensures { OnOk result (Runs (Child (rule.ListValue constness)) p.old p.new) }
+    ensures runs { OnOk result (Runs (Child (rule.ListValue constness)) p.old p.new) }
+    ensures budget { p.new.budget ≡ p.old.budget }
 {
     p.start_node(SyntaxKind::LIST_VALUE)?;
     p.bump(SyntaxKind::L_BRACK)?;
@@ -170,7 +179,8 @@ fn list_items<A: Allocator + Copy>(
     p: &mut ParserState<'_, A>,
     constness: Constness,
 ) -> Result<(), AllocError>
-    ensures { OnOk result (Runs (Call (rule.ListItems constness)) p.old p.new) }
+    ensures runs { OnOk result (Runs (Call (rule.ListItems constness)) p.old p.new) }
+    ensures budget { p.new.budget ≡ p.old.budget }
 {
     while has_item(p) {
         nested_value(p, constness)?;
@@ -199,7 +209,8 @@ fn object_value<A: Allocator + Copy>(
     constness: Constness,
 ) -> Result<(), AllocError>
     requires { true ≡ holds (At token.LCurly) p.old }
-    ensures { OnOk result (Runs (Child (rule.ObjectValue constness)) p.old p.new) }
+    ensures runs { OnOk result (Runs (Child (rule.ObjectValue constness)) p.old p.new) }
+    ensures budget { p.new.budget ≡ p.old.budget }
 {
     p.start_node(SyntaxKind::OBJECT_VALUE)?;
     p.bump(SyntaxKind::L_CURLY)?;
@@ -221,7 +232,8 @@ fn object_field<A: Allocator + Copy>(
     constness: Constness,
 ) -> Result<(), AllocError>
     requires { true ≡ holds (At token.Name) p.old }
-    ensures { OnOk result (Runs (Child (rule.ObjectField constness)) p.old p.new) }
+    ensures runs { OnOk result (Runs (Child (rule.ObjectField constness)) p.old p.new) }
+    ensures budget { p.new.budget ≡ p.old.budget }
 {
     p.start_node(SyntaxKind::OBJECT_FIELD)?;
     p.name()?;
@@ -237,7 +249,8 @@ fn object_field<A: Allocator + Copy>(
 
 /// A default value (GraphQL October 2021, section 2.10, "Variables"), where `=` comes next.
 pub fn default_value<A: Allocator + Copy>(p: &mut ParserState<'_, A>) -> Result<(), AllocError>
-    ensures { OnOk result (Runs (Call rule.MaybeDefaultValue) p.old p.new) }
+    ensures runs { OnOk result (Runs (Call rule.MaybeDefaultValue) p.old p.new) }
+    ensures budget { p.new.budget ≡ p.old.budget }
 {
     if !p.at(TokenKind::Eq) {
         return Ok(());

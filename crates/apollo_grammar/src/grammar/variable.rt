@@ -23,7 +23,8 @@ use std::alloc::{AllocError, Allocator};
 pub fn variable_definitions<A: Allocator + Copy>(
     p: &mut ParserState<'_, A>,
 ) -> Result<(), AllocError>
-    ensures { OnOk result (Runs (Call rule.MaybeVariableDefinitions) p.old p.new) }
+    ensures runs { OnOk result (Runs (Call rule.MaybeVariableDefinitions) p.old p.new) }
+    ensures budget { p.new.budget ≡ p.old.budget }
 {
     if !p.at(TokenKind::LParen) {
         return Ok(());
@@ -44,7 +45,8 @@ pub fn variable_definitions<A: Allocator + Copy>(
 }
 
 fn variable_definition<A: Allocator + Copy>(p: &mut ParserState<'_, A>) -> Result<(), AllocError>
-    ensures { OnOk result (Runs (Child rule.VariableDefinition) p.old p.new) }
+    ensures runs { OnOk result (Runs (Child rule.VariableDefinition) p.old p.new) }
+    ensures budget { p.new.budget ≡ p.old.budget }
 {
     p.start_node(SyntaxKind::VARIABLE_DEFINITION)?;
     if p.at(TokenKind::StringValue) {
@@ -63,7 +65,8 @@ fn variable_definition<A: Allocator + Copy>(p: &mut ParserState<'_, A>) -> Resul
 
 // A variable definition after its description.
 fn typed_variable<A: Allocator + Copy>(p: &mut ParserState<'_, A>) -> Result<(), AllocError>
-    ensures { OnOk result (Runs (Call rule.TypedVariable) p.old p.new) }
+    ensures runs { OnOk result (Runs (Call rule.TypedVariable) p.old p.new) }
+    ensures budget { p.new.budget ≡ p.old.budget }
 {
     variable(p)?;
     if p.at(TokenKind::Colon) {
@@ -83,7 +86,8 @@ fn starts_variable<A: Allocator + Copy>(p: &ParserState<'_, A>) -> bool
 
 // Reports an error where no variable definition starts.
 fn want_variable<A: Allocator + Copy>(p: &mut ParserState<'_, A>) -> Result<(), AllocError>
-    ensures { OnOk result (Runs (want (Here rules.variable_start) message.ExpectedVariableDefinition) p.old p.new) }
+    ensures runs { OnOk result (Runs (want (Here rules.variable_start) message.ExpectedVariableDefinition) p.old p.new) }
+    ensures budget { p.new.budget ≡ p.old.budget }
 {
     if starts_variable(p) {
         return Ok(());
@@ -93,7 +97,8 @@ fn want_variable<A: Allocator + Copy>(p: &mut ParserState<'_, A>) -> Result<(), 
 
 /// What follows the `:` of a variable, of an argument or of an input field.
 pub fn variable_type<A: Allocator + Copy>(p: &mut ParserState<'_, A>) -> Result<(), AllocError>
-    ensures { OnOk result (Runs (Call rule.VariableType) p.old p.new) }
+    ensures runs { OnOk result (Runs (Call rule.VariableType) p.old p.new) }
+    ensures budget { p.new.budget ≡ p.old.budget }
 {
     if !starts_type(p) {
         return p.err(Message::ExpectedType);
@@ -105,7 +110,8 @@ pub fn variable_type<A: Allocator + Copy>(p: &mut ParserState<'_, A>) -> Result<
 
 /// A variable (GraphQL October 2021, section 2.10, "Variables").
 pub fn variable<A: Allocator + Copy>(p: &mut ParserState<'_, A>) -> Result<(), AllocError>
-    ensures { OnOk result (Runs (Child rule.Variable) p.old p.new) }
+    ensures runs { OnOk result (Runs (Child rule.Variable) p.old p.new) }
+    ensures budget { p.new.budget ≡ p.old.budget }
 {
     p.start_node(SyntaxKind::VARIABLE)?;
     p.bump(SyntaxKind::DOLLAR)?;

@@ -54,9 +54,6 @@ starts-none s e f = ap₂ (λ (a b : Bool). a || b) f e
 
 -- ---- where the root opens
 
-pub at-first : (first place : ℕ) (k : SyntaxKind) (s : State) {t : State} → first ≡ 0 → false ≡ holds (At token.Bang) s → t ≡ wrapped_from first k s → ClosesType place k s t
-at-first first place k s zero b e = nullable b (e ∙ ap (λ (n : ℕ). wrapped_from n k s) zero)
-
 pub from-place : (first place : ℕ) (k : SyntaxKind) (s : State) {t u v w : State} → first ≡ 0 → true ≡ holds (At token.Bang) s → t ≡ wrapped_from place k s → u ≡ closed t → Runs (Do (Bump kind.BANG)) u v → w ≡ wrapped_from first kind.NON_NULL_TYPE v
     → ClosesType place k s w
 from-place first place k s {v = v} zero b e f run a = non_null b (subst (λ (z : State). Runs (Do (Bump kind.BANG)) z v) (f ∙ ap closed e) run) (a ∙ ap (λ (n : ℕ). wrapped_from n kind.NON_NULL_TYPE v) zero)

@@ -52,7 +52,7 @@ afresh-fits st c i = record {
     held = subst (λ (o : Option Lexeme). Held (from_now st c) o st.items) (sym c.current) (record { front = []; split = refl; tokens = refl });
   };
   seen = record { near = sym (c.is_ready ∙ ready-is st.current shown_now); far = of-any (second_of st.items) (second-shown st.items) };
-  stands = root-stands st.limit st.asked (from_now st c) st.items (afresh st) (record { tree = refl; depth = c.no_level; limit = refl; high = refl; asked = refl }) (ap (λ (o : Option Lexeme). current_tokens o ++ answers_tokens st.items) c.current);
+  stands = root-stands st.limit st.asked st.budget (from_now st c) st.items (afresh st) (record { tree = refl; depth = c.no_level; limit = refl; high = refl; asked = refl; budget = refl }) (ap (λ (o : Option Lexeme). current_tokens o ++ answers_tokens st.items) c.current);
 }
   where
     shown_now : Shown st.current

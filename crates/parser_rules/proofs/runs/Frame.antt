@@ -19,14 +19,14 @@ use Rattle.parser_rules.proofs.runs.Steps.{Holds_along, along, turns-along}
 
 -- what reading on leaves as it is
 abbrev pub Untouched : State → State → Type 0
-Untouched s t = record { tree : t.tree ≡ s.tree; depth : t.depth ≡ s.depth; limit : t.limit ≡ s.limit; high : t.high ≡ s.high; asked : t.asked ≡ s.asked }
+Untouched s t = record { tree : t.tree ≡ s.tree; depth : t.depth ≡ s.depth; limit : t.limit ≡ s.limit; high : t.high ≡ s.high; asked : t.asked ≡ s.asked; budget : t.budget ≡ s.budget }
 
 pub untouched : {xs : List Answer} {s t : State} → Reading xs s t → Untouched s t
-untouched stops = record { tree = refl; depth = refl; limit = refl; high = refl; asked = refl }
+untouched stops = record { tree = refl; depth = refl; limit = refl; high = refl; asked = refl; budget = refl }
 untouched (cuts h) = untouched h
 untouched (bad_text e h) = untouched h
 untouched (waits e i h) = untouched h
-untouched (shows e i) = record { tree = refl; depth = refl; limit = refl; high = refl; asked = refl }
+untouched (shows e i) = record { tree = refl; depth = refl; limit = refl; high = refl; asked = refl; budget = refl }
 
 pub read-untouched : (xs : List Answer) (s : State) → Untouched s (read_on xs s)
 read-untouched xs s = untouched (reading xs s)
@@ -74,15 +74,16 @@ Keeps s t = record {
   depth : t.depth ≡ s.depth;
   limit : t.limit ≡ s.limit;
   asked : t.asked ≡ s.asked;
+  budget : t.budget ≡ s.budget;
   higher : s.high ≤ t.high;
   bound : s.depth ≤ s.limit → s.high ≤ s.limit + 1 → t.high ≤ s.limit + 1;
 }
 
-calm : (s t : State) → left t ≤ left s → t.depth ≡ s.depth → t.limit ≡ s.limit → t.high ≡ s.high → t.asked ≡ s.asked → Keeps s t
-calm s t f d l h n = record { fewer = f; depth = d; limit = l; asked = n; higher = omega arith; bound = λ b c. omega arith }
+calm : (s t : State) → left t ≤ left s → t.depth ≡ s.depth → t.limit ≡ s.limit → t.high ≡ s.high → t.asked ≡ s.asked → t.budget ≡ s.budget → Keeps s t
+calm s t f d l h n b = record { fewer = f; depth = d; limit = l; asked = n; budget = b; higher = omega arith; bound = λ y c. omega arith }
 
 same : (s : State) → Keeps s s
-same s = calm s s (omega arith) refl refl refl refl
+same s = calm s s (omega arith) refl refl refl refl refl
 
 next : (s t u : State) → Keeps s t → Keeps t u → Keeps s u
 next s t u h k = record {
@@ -90,6 +91,7 @@ next s t u h k = record {
   depth = k.depth ∙ h.depth;
   limit = k.limit ∙ h.limit;
   asked = k.asked ∙ h.asked;
+  budget = k.budget ∙ h.budget;
   higher = let a = h.higher in let b = k.higher in omega (arith, a, b);
   bound = λ d c. let e = h.depth in let l = h.limit in let b = h.bound d c in let g = k.bound (omega arith) (omega arith) in omega arith;
 }
@@ -99,7 +101,7 @@ moves leaf x s e =
     let t : State = record s { tree = add_leaf leaf x.text s.tree } in
     let u = read-untouched s.items t in
     let f = moved-left leaf x s e in
-    calm s (read_on s.items t) (omega (arith, f)) u.depth u.limit u.high u.asked
+    calm s (read_on s.items t) (omega (arith, f)) u.depth u.limit u.high u.asked u.budget
 
 pub not-deep : (s : State) → false ≡ is_deep s → s.depth < s.limit
 unfolding is_deep
@@ -112,6 +114,7 @@ levels s u q h = record {
   depth = let d = h.depth in omega (arith, d);
   limit = h.limit;
   asked = h.asked;
+  budget = h.budget;
   higher = let a = h.higher in omega (arith, a);
   bound = λ d c. let n = not-deep s q in h.bound (omega arith) (omega arith);
 }
@@ -125,7 +128,7 @@ keeps_along = record {
   moves = λ leaf x s e w. moves leaf x s e;
   reports = λ m x s c a. same s;
   limits = λ x s c a d. same s;
-  asks = λ s. record { fewer = omega arith; depth = refl; limit = refl; asked = refl; higher = omega arith; bound = λ d c. omega arith };
+  asks = λ s. record { fewer = omega arith; depth = refl; limit = refl; asked = refl; budget = refl; higher = omega arith; bound = λ d c. omega arith };
   nodes = λ k s u h. h;
   levels = levels;
   wraps = λ k t u w h l. next t u w h l;
@@ -137,6 +140,10 @@ keeps h = along keeps_along h
 
 pub turned : {q : Test} {a : Rule} {s t : State} → Turns q a s t → Keeps s t
 turned h = turns-along keeps_along h
+
+-- also where a loop ends early
+pub budget-in-loop : {q : Test} {a : Rule} {s t : State} → Turns q a s t → t.budget ≡ s.budget
+budget-in-loop h = (turned h).budget
 
 pub fewer : {r : Rule} {s t : State} → Runs r s t → left t ≤ left s
 fewer h = (keeps h).fewer

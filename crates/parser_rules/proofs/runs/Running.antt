@@ -4,7 +4,7 @@ use Rattle.parser_rules.specs.RuleLanguage.{holds, step}
 use Rattle.parser_rules.specs.Open.{IsInside, IsMark}
 use Rattle.parser_rules.specs.Runs.{skip, does, seq, yes, no, child, deeper, refused, call, plain, wrapped, begin, turn}
 use Rattle.parser_rules.proofs.runs.Forms.{wanted, chosen, optional, for-fragment, for-enum}
-use Rattle.parser_rules.proofs.runs.Frame.{ended, is-open, still-open, open-in-loop, open-too-deep, open-inside, open-outside, is-inside, still-inside, still-at}
+use Rattle.parser_rules.proofs.runs.Frame.{ended, is-open, still-open, open-in-loop, budget-in-loop, open-too-deep, open-inside, open-outside, is-inside, still-inside, still-at}
 
 -- a step, and one rule after the other
 pub ruleset sequence = (skip, seq, yes, no)
@@ -13,7 +13,7 @@ pub ruleset sequence = (skip, seq, yes, no)
 pub ruleset running = (sequence, child, call, wanted, chosen, optional, for-fragment, for-enum, is-open, still-open, still-at)
 
 -- the same, with a loop
-pub ruleset looping = (running, begin, turn, ended, open-in-loop)
+pub ruleset looping = (running, begin, turn, ended, open-in-loop, budget-in-loop)
 
 -- the same, one level deeper
 pub ruleset nesting = (looping, deeper, refused, plain, wrapped, open-too-deep, open-inside, open-outside, is-inside, still-inside)

@@ -72,8 +72,8 @@ module _ (sort : Sort) (r : ℕ) (xs : List Answer) where
     }
 
     -- where nothing else is built, and all the tokens are left
-    pub root-opened : (n : ℕ) (ys : List Answer) (s : State) → Untouched (record (first_state ys r b) { asked = n }) s → rest s ≡ answers_tokens xs → StandsAt R (top R) (spot 0 low firm) [] s
-    root-opened n ys s u e = (
+    pub root-opened : (n m : ℕ) (ys : List Answer) (s : State) → Untouched (record (first_state ys r b) { asked = n; budget = m }) s → rest s ≡ answers_tokens xs → StandsAt R (top R) (spot 0 low firm) [] s
+    root-opened n m ys s u e = (
       record {
         children = none;
         place = record { reach = subst (λ (z : List Token). Reach (top R) (answers_tokens xs) (frame (top R) 0 none ∷ []) z) (sym e) start; leveled = rw (u.depth, u.high, u.limit) root-level; alone = λ e. refl };
@@ -88,7 +88,7 @@ module _ (sort : Sort) (r : ℕ) (xs : List Answer) where
         let t : State = read_on xs s in
         elim (read-on xs (Rightly R) (reading xs s) 0 (record { clean = refl; accepts = refl; waits = refl }) e (record { front = []; split = refl; tokens = refl }) blame settled) [
           | inl o' ↦ inl o'
-          | inr o' ↦ inr (record { calm = o'.0; seen = seen-any t (shown R t o'.0); stands = root-opened s.asked xs t (read-untouched xs s) o'.1 }, o'.1)
+          | inr o' ↦ inr (record { calm = o'.0; seen = seen-any t (shown R t o'.0); stands = root-opened s.asked s.budget xs t (read-untouched xs s) o'.1 }, o'.1)
         ]
       where
         settled : Settled 0 b

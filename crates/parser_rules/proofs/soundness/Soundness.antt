@@ -93,8 +93,8 @@ unfolding label labels own ◌or◌ member
 document-root = record { shown = refl; counted = refl; no_type = refl }
 
 -- where the root is open, nothing is built, and all the tokens are left
-pub root-stands : (r n : ℕ) (xs ys : List Answer) (s : State) → Untouched (record (fresh ys r kind.DOCUMENT) { asked = n }) s → rest s ≡ answers_tokens xs → StandsAt (whole r xs) DOCUMENT (spot 0 low loose) [] s
-root-stands r n xs ys s u e = let o = root-opened document r xs (symbol-begins document-root) n ys s u e in (o.0, tt)
+pub root-stands : (r n m : ℕ) (xs ys : List Answer) (s : State) → Untouched (record (fresh ys r kind.DOCUMENT) { asked = n; budget = m }) s → rest s ≡ answers_tokens xs → StandsAt (whole r xs) DOCUMENT (spot 0 low loose) [] s
+root-stands r n m xs ys s u e = let o = root-opened document r xs (symbol-begins document-root) n m ys s u e in (o.0, tt)
 
 start-fits : (r : ℕ) (xs : List Answer) → EndsWell xs → Tells (whole r xs) (begun xs r kind.DOCUMENT) ⊎ Fits (whole r xs) DOCUMENT (spot 0 low loose) any any [] (begun xs r kind.DOCUMENT)
 start-fits r xs e = elim (root-starts document r xs (symbol-begins document-root) e) [

@@ -38,7 +38,8 @@ pub(super) fn push_all<A: Allocator + Copy>(
 impl<'i, A: Allocator + Copy> ParserState<'i, A> {
     /// What waits goes into the tree.
     pub fn push_pending(&mut self) -> Result<(), AllocError>
-        ensures { OnOk result (self.new ≡ state.flush self.old) }
+        ensures step { OnOk result (self.new ≡ state.flush self.old) }
+        ensures budget { self.new.budget ≡ self.old.budget }
     {
         push_all(&mut self.builder, &self.pending)?;
         self.pending.clear();
@@ -47,14 +48,16 @@ impl<'i, A: Allocator + Copy> ParserState<'i, A> {
 
     /// What waits is left out.
     pub fn drop_pending(&mut self)
-        ensures { self.new ≡ fragments.left_out self.old }
+        ensures step { self.new ≡ fragments.left_out self.old }
+        ensures budget { self.new.budget ≡ self.old.budget }
     {
         self.pending.clear();
     }
 
     /// Opens a node, after the pending tokens.
     pub fn start_node(&mut self, kind: SyntaxKind) -> Result<(), AllocError>
-        ensures { OnOk result (self.new ≡ state.opened kind self.old) }
+        ensures step { OnOk result (self.new ≡ state.opened kind self.old) }
+        ensures budget { self.new.budget ≡ self.old.budget }
     {
         self.push_pending()?;
         self.builder.start_node(kind)
@@ -63,20 +66,23 @@ impl<'i, A: Allocator + Copy> ParserState<'i, A> {
     /// Closes the innermost node.
     pub fn finish_node(&mut self)
         requires { IsOpen self.old.tree }
-        ensures { self.new ≡ state.closed self.old }
+        ensures step { self.new ≡ state.closed self.old }
+        ensures budget { self.new.budget ≡ self.old.budget }
     {
         self.builder.finish_node();
     }
 
     fn push_token(&mut self, kind: SyntaxKind, text: &'i str) -> Result<(), AllocError>
-        ensures { OnOk result (self.new ≡ reading.added kind text.now self.old) }
+        ensures step { OnOk result (self.new ≡ reading.added kind text.now self.old) }
+        ensures budget { self.new.budget ≡ self.old.budget }
     {
         self.builder.token(kind, text)
     }
 
     /// The current token becomes a leaf of the kind.
     pub fn bump(&mut self, kind: SyntaxKind) -> Result<(), AllocError>
-        ensures { OnOk result (Runs (Do (Bump kind)) self.old self.new) }
+        ensures runs { OnOk result (Runs (Do (Bump kind)) self.old self.new) }
+        ensures budget { self.new.budget ≡ self.old.budget }
     {
         let Some(current) = self.current_token else {
             return Ok(());
@@ -93,7 +99,8 @@ impl<'i, A: Allocator + Copy> ParserState<'i, A> {
         text: &'i str,
     ) -> Result<(), AllocError>
         requires { Fits node (leaf_of leaf text.now none) }
-        ensures { OnOk result (self.new ≡ reading.leaf_node node leaf text.now self.old) }
+        ensures step { OnOk result (self.new ≡ reading.leaf_node node leaf text.now self.old) }
+        ensures budget { self.new.budget ≡ self.old.budget }
     {
         self.builder.start_node(node)?;
         self.builder.token(leaf, text)?;
@@ -104,7 +111,8 @@ impl<'i, A: Allocator + Copy> ParserState<'i, A> {
     // The current token becomes a node of one leaf.
     fn leaf_node(&mut self, node: SyntaxKind, leaf: SyntaxKind) -> Result<(), AllocError>
         requires { true ≡ reading.is_leaf_of node leaf self.old.current }
-        ensures { OnOk result (self.new ≡ state.closed (state.bump leaf (state.opened node self.old))) }
+        ensures step { OnOk result (self.new ≡ state.closed (state.bump leaf (state.opened node self.old))) }
+        ensures budget { self.new.budget ≡ self.old.budget }
     {
         let Some(token) = self.current_token else {
             return Ok(());
@@ -118,7 +126,8 @@ impl<'i, A: Allocator + Copy> ParserState<'i, A> {
     #[tactic(auto, using(parser_rules::proofs::runs::Forms::leaf_run), unfolding(parser_rules::specs::Rules::inside, parser_rules::specs::RuleLanguage::holds))]
     pub fn name(&mut self) -> Result<(), AllocError>
         requires { true ≡ holds (At token.Name) self.old }
-        ensures { OnOk result (Runs (Child Name) self.old self.new) }
+        ensures runs { OnOk result (Runs (Child Name) self.old self.new) }
+        ensures budget { self.new.budget ≡ self.old.budget }
     {
         self.leaf_node(SyntaxKind::NAME, SyntaxKind::IDENT)?;
         Ok(())
@@ -128,7 +137,8 @@ impl<'i, A: Allocator + Copy> ParserState<'i, A> {
     #[tactic(auto, using(parser_rules::proofs::runs::Forms::leaf_run), unfolding(parser_rules::specs::Rules::inside, parser_rules::specs::RuleLanguage::holds))]
     pub fn int_value(&mut self) -> Result<(), AllocError>
         requires { true ≡ holds (At token.Int) self.old }
-        ensures { OnOk result (Runs (Child IntValue) self.old self.new) }
+        ensures runs { OnOk result (Runs (Child IntValue) self.old self.new) }
+        ensures budget { self.new.budget ≡ self.old.budget }
     {
         self.leaf_node(SyntaxKind::INT_VALUE, SyntaxKind::INT)?;
         Ok(())
@@ -138,7 +148,8 @@ impl<'i, A: Allocator + Copy> ParserState<'i, A> {
     #[tactic(auto, using(parser_rules::proofs::runs::Forms::leaf_run), unfolding(parser_rules::specs::Rules::inside, parser_rules::specs::RuleLanguage::holds))]
     pub fn string_value(&mut self) -> Result<(), AllocError>
         requires { true ≡ holds (At token.StringValue) self.old }
-        ensures { OnOk result (Runs (Child StringValue) self.old self.new) }
+        ensures runs { OnOk result (Runs (Child StringValue) self.old self.new) }
+        ensures budget { self.new.budget ≡ self.old.budget }
     {
         self.leaf_node(SyntaxKind::STRING_VALUE, SyntaxKind::STRING)?;
         Ok(())
@@ -147,7 +158,8 @@ impl<'i, A: Allocator + Copy> ParserState<'i, A> {
     /// The current token, which is `true` or `false`, becomes a node.
     pub fn boolean_value(&mut self) -> Result<(), AllocError>
         requires { true ≡ holds (Here rules.boolean) self.old }
-        ensures { OnOk result (Runs (Child BooleanValue) self.old self.new) }
+        ensures runs { OnOk result (Runs (Child BooleanValue) self.old self.new) }
+        ensures budget { self.new.budget ≡ self.old.budget }
     {
         if self.at_word(SyntaxKind::true_KW) {
             self.leaf_node(SyntaxKind::BOOLEAN_VALUE, SyntaxKind::true_KW)?;
@@ -161,6 +173,7 @@ impl<'i, A: Allocator + Copy> ParserState<'i, A> {
     pub fn checkpoint(&mut self) -> Result<Checkpoint, AllocError>
         ensures flushed { OnOk result (self.new ≡ state.flush self.old) }
         ensures place { IfOk result (λ c. c.place ≡ built_count self.new.tree) }
+        ensures budget { self.new.budget ≡ self.old.budget }
     {
         self.push_pending()?;
         Ok(self.builder.checkpoint())
@@ -169,7 +182,8 @@ impl<'i, A: Allocator + Copy> ParserState<'i, A> {
     /// Opens a node around what was added to the open one since the checkpoint.
     pub fn wrap(&mut self, checkpoint: Checkpoint, kind: SyntaxKind) -> Result<(), AllocError>
         requires { IsMark checkpoint.place self.old.tree }
-        ensures { OnOk result (self.new ≡ state.wrapped_from checkpoint.place kind self.old) }
+        ensures step { OnOk result (self.new ≡ state.wrapped_from checkpoint.place kind self.old) }
+        ensures budget { self.new.budget ≡ self.old.budget }
     {
         self.builder.wrap(checkpoint, kind)
     }
@@ -187,7 +201,8 @@ impl<'i, A: Allocator + Copy> ParserState<'i, A> {
         requires not_open { self.old.tree.above ≡ [] }
         requires mark { IsMark place.place self.old.tree }
         requires free { is_free kind ≡ true }
-        ensures { OnOk result (fragments.ClosesType place.place kind self.old self.new) }
+        ensures step { OnOk result (fragments.ClosesType place.place kind self.old self.new) }
+        ensures budget { self.new.budget ≡ self.old.budget }
     {
         if !self.at(TokenKind::Bang) {
             return self.wrap(first, kind);

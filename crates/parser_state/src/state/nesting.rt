@@ -20,7 +20,8 @@ impl<'i, A: Allocator + Copy> ParserState<'i, A> {
     /// Enters a level of nesting.
     pub fn enter(&mut self)
         requires { false ≡ state.is_deep self.old }
-        ensures { self.new ≡ state.enter self.old }
+        ensures step { self.new ≡ state.enter self.old }
+        ensures budget { self.new.budget ≡ self.old.budget }
     {
         let tracker = &mut self.recursion_limit;
         if tracker.current() < tracker.limit {
@@ -31,13 +32,15 @@ impl<'i, A: Allocator + Copy> ParserState<'i, A> {
     /// Leaves a level of nesting.
     pub fn leave(&mut self)
         requires { IsInside self.old }
-        ensures { self.new ≡ state.leave self.old }
+        ensures step { self.new ≡ state.leave self.old }
+        ensures budget { self.new.budget ≡ self.old.budget }
     {
         self.recursion_limit.decrement();
     }
 
     fn limit_err(&mut self) -> Result<(), AllocError>
-        ensures { OnOk result (self.new ≡ state.limited_at self.old self.old.current) }
+        ensures step { OnOk result (self.new ≡ state.limited_at self.old self.old.current) }
+        ensures budget { self.new.budget ≡ self.old.budget }
     {
         if let Some(token) = self.current_token {
             self.push_report(Report::RecursionLimit(token))?;
@@ -48,7 +51,8 @@ impl<'i, A: Allocator + Copy> ParserState<'i, A> {
 
     /// Reports that one level more is above the recursion limit.
     pub fn too_deep(&mut self) -> Result<(), AllocError>
-        ensures { OnOk result (self.new ≡ state.too_deep self.old) }
+        ensures step { OnOk result (self.new ≡ state.too_deep self.old) }
+        ensures budget { self.new.budget ≡ self.old.budget }
     {
         let asked = self.recursion_limit.current().saturating_add(1);
         self.recursion_limit.high = self.recursion_limit.high.max(asked);

@@ -7,7 +7,7 @@ ghost use Rattle.document_grammar.specs.declared.kind.SyntaxKind.TheVariants as 
 ghost use Rattle.document_grammar.specs.Forests.{none};
 ghost use Rattle.apollo_lexer.specs.Answers.{answer_of, answers_left};
 ghost use Rattle.parser_rules.specs.State as state;
-ghost use Rattle.parser_rules.specs.RuleLanguage.{Kind, Here, At, Word, Ready, Next, holds};
+ghost use Rattle.parser_rules.specs.RuleLanguage.{Here, At, Word, Ready, holds};
 ghost use Rattle.document_grammar.specs.Choices.{is_keyword};
 ghost use Rattle.document_grammar.specs.Numbers.{number};
 ghost use Rattle.parser_rules.specs.Rules as rules;
@@ -17,25 +17,10 @@ ghost use Rattle.parser_state.specs.View.{current_of};
 use super::tokens::{ignored, is_boolean, is_eof, is_kind, is_word};
 use super::{ParserState, PendingToken};
 use crate::report::Report;
-use apollo_lexer::{LexError, Lexer, Steps, Token};
+use apollo_lexer::{LexError, Token};
 use document_grammar::SyntaxKind;
 use lexical_grammar::TokenKind;
 use std::alloc::{AllocError, Allocator};
-
-// The next significant token that the lexer gives.
-fn next_significant<'i>(lexer: Lexer<'i>) -> Option<Token<'i>>
-    ensures { current_of result ≡ state.second (answers_left lexer.entry) }
-{
-    let mut lexer = lexer;
-    while let Some(answer) = lexer.next_counted(&mut Steps::new()) {
-        if let Ok(token) = answer {
-            if ignored(token.kind()).is_none() {
-                return Some(token);
-            }
-        }
-    }
-    None
-}
 
 impl<'i, A: Allocator + Copy> ParserState<'i, A> {
     /// The current token: the next significant one, or the end, or none where nothing is left.
@@ -67,18 +52,13 @@ impl<'i, A: Allocator + Copy> ParserState<'i, A> {
         is_boolean(self.current())
     }
 
-    /// The significant token after the current one, or the end. A copy of the lexer looks for it.
-    pub fn peek(&self) -> Option<Token<'i>>
-        ensures { current_of result ≡ state.second self.now.items }
+    /// The significant token after the current one, or the end. A copy of the lexer looks for it, once.
+    pub fn peek(&mut self) -> Option<Token<'i>>
+        ensures found { current_of result ≡ state.second self.new.items }
+        ensures same { self.new ≡ self.old }
+        ensures budget { self.new.budget ≡ self.old.budget }
     {
-        next_significant(self.lexer)
-    }
-
-    /// Whether the significant token after the current one is of the kind.
-    pub fn next_is(&self, kind: TokenKind) -> bool
-        ensures { result ≡ holds (Next (Kind kind)) self.now }
-    {
-        is_kind(self.peek(), kind)
+        self.reader.peek()
     }
 
     /// Whether a token is left besides the end.
@@ -92,7 +72,8 @@ impl<'i, A: Allocator + Copy> ParserState<'i, A> {
     }
 
     fn wait(&mut self, kind: SyntaxKind, text: &'i str) -> Result<(), AllocError>
-        ensures { OnOk result (self.new ≡ state.wait kind text.now self.old) }
+        ensures step { OnOk result (self.new ≡ state.wait kind text.now self.old) }
+        ensures budget { self.new.budget ≡ self.old.budget }
     {
         self.pending.push(PendingToken { kind, text })?;
         Ok(())
@@ -100,7 +81,8 @@ impl<'i, A: Allocator + Copy> ParserState<'i, A> {
 
     // An error of the lexer, and the bad text that it is about.
     fn push_lex_error(&mut self, error: LexError<'i>) -> Result<(), AllocError>
-        ensures { OnOk result (self.new ≡ reading.refused error.entry.is_limit error.entry.text.now error.entry.index self.old) }
+        ensures step { OnOk result (self.new ≡ reading.refused error.entry.is_limit error.entry.text.now error.entry.index self.old) }
+        ensures budget { self.new.budget ≡ self.old.budget }
     {
         self.reports.push(Report::Lexer(error))?;
         if error.is_limit() {
@@ -114,20 +96,23 @@ impl<'i, A: Allocator + Copy> ParserState<'i, A> {
     fn next_answer(&mut self) -> Option<Result<Token<'i>, LexError<'i>>>
         ensures taken { reading.Taken (option_map answer_of result) self.old self.new }
         ensures text { reading.IsAnswerText (option_map answer_of result) }
+        ensures budget { self.new.budget ≡ self.old.budget }
     {
-        self.lexer.next_counted(&mut Steps::new())
+        self.reader.next_answer()
     }
 
     fn set_current(&mut self, token: Option<Token<'i>>)
         requires { state.IsNow (current_of token) }
-        ensures { self.new ≡ record self.old { current = current_of token.entry } }
+        ensures step { self.new ≡ record self.old { current = current_of token.entry } }
+        ensures budget { self.new.budget ≡ self.old.budget }
     {
         self.current_token = token;
     }
 
     // Reads up to the next token that is not ignored. What it passes waits.
     pub(super) fn read_on(&mut self) -> Result<(), AllocError>
-        ensures { OnOk result (self.new ≡ state.read_on self.old.items self.old) }
+        ensures step { OnOk result (self.new ≡ state.read_on self.old.items self.old) }
+        ensures budget { self.new.budget ≡ self.old.budget }
     {
         while let Some(answer) = self.next_answer() {
             match answer {

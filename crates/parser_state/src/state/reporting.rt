@@ -38,7 +38,8 @@ pub(super) fn errors_of<A: Allocator + Copy>(
 impl<'i, A: Allocator + Copy> ParserState<'i, A> {
     // After a limit error no more is reported.
     pub(super) fn push_report(&mut self, report: Report<'i>) -> Result<(), AllocError>
-        ensures { OnOk result (self.new ≡ state.reported (report_of report.entry) self.old) }
+        ensures step { OnOk result (self.new ≡ state.reported (report_of report.entry) self.old) }
+        ensures budget { self.new.budget ≡ self.old.budget }
     {
         if self.accept_errors {
             self.reports.push(report)?;
@@ -48,7 +49,8 @@ impl<'i, A: Allocator + Copy> ParserState<'i, A> {
 
     /// Reports an error at the current token.
     pub fn err(&mut self, message: Message) -> Result<(), AllocError>
-        ensures { OnOk result (Runs (Do (Note message)) self.old self.new) }
+        ensures runs { OnOk result (Runs (Do (Note message)) self.old self.new) }
+        ensures budget { self.new.budget ≡ self.old.budget }
     {
         if let Some(token) = self.current_token {
             self.push_report(Report::Fault(message, token))?;
@@ -59,7 +61,8 @@ impl<'i, A: Allocator + Copy> ParserState<'i, A> {
     /// Reports an error at the current token, and pops it: it becomes an ERROR leaf.
     #[tactic(auto, using(parser_rules::proofs::runs::Running::sequence))]
     pub fn err_and_pop(&mut self, message: Message) -> Result<(), AllocError>
-        ensures { OnOk result (Runs (refuse message) self.old self.new) }
+        ensures runs { OnOk result (Runs (refuse message) self.old self.new) }
+        ensures budget { self.new.budget ≡ self.old.budget }
     {
         self.err(message)?;
         self.bump(SyntaxKind::ERROR)
@@ -73,7 +76,8 @@ impl<'i, A: Allocator + Copy> ParserState<'i, A> {
         kind: SyntaxKind,
         message: Message,
     ) -> Result<(), AllocError>
-        ensures { OnOk result (Runs (expect token kind message) self.old self.new) }
+        ensures runs { OnOk result (Runs (expect token kind message) self.old self.new) }
+        ensures budget { self.new.budget ≡ self.old.budget }
     {
         if self.at(token) {
             self.bump(kind)
@@ -86,7 +90,8 @@ impl<'i, A: Allocator + Copy> ParserState<'i, A> {
     #[tactic(auto, using(parser_rules::proofs::runs::Running::sequence))]
     pub fn expect_word(&mut self, keyword: SyntaxKind, message: Message) -> Result<(), AllocError>
         requires { is_keyword (number keyword) ≡ true }
-        ensures { OnOk result (Runs (expect_word keyword message) self.old self.new) }
+        ensures runs { OnOk result (Runs (expect_word keyword message) self.old self.new) }
+        ensures budget { self.new.budget ≡ self.old.budget }
     {
         if self.at_word(keyword) {
             self.bump(keyword)
@@ -98,7 +103,8 @@ impl<'i, A: Allocator + Copy> ParserState<'i, A> {
     /// The punctuator becomes a leaf, if it is there.
     #[tactic(auto, using(parser_rules::proofs::runs::Running::sequence))]
     pub fn skip(&mut self, token: TokenKind, kind: SyntaxKind) -> Result<(), AllocError>
-        ensures { OnOk result (Runs (When (At token) (Do (Bump kind)) Skip) self.old self.new) }
+        ensures runs { OnOk result (Runs (When (At token) (Do (Bump kind)) Skip) self.old self.new) }
+        ensures budget { self.new.budget ≡ self.old.budget }
     {
         if self.at(token) {
             return self.bump(kind);
@@ -110,7 +116,8 @@ impl<'i, A: Allocator + Copy> ParserState<'i, A> {
     #[tactic(auto, using(parser_rules::proofs::runs::Running::sequence))]
     pub fn skip_word(&mut self, keyword: SyntaxKind) -> Result<(), AllocError>
         requires { is_keyword (number keyword) ≡ true }
-        ensures { OnOk result (Runs (When (Word keyword) (Do (Bump keyword)) Skip) self.old self.new) }
+        ensures runs { OnOk result (Runs (When (Word keyword) (Do (Bump keyword)) Skip) self.old self.new) }
+        ensures budget { self.new.budget ≡ self.old.budget }
     {
         if self.at_word(keyword) {
             return self.bump(keyword);
@@ -121,7 +128,8 @@ impl<'i, A: Allocator + Copy> ParserState<'i, A> {
     /// Reports an error where the current token is not of the kind.
     #[tactic(auto, using(parser_rules::proofs::runs::Running::sequence))]
     pub fn want(&mut self, kind: TokenKind, message: Message) -> Result<(), AllocError>
-        ensures { OnOk result (Runs (want (At kind) message) self.old self.new) }
+        ensures runs { OnOk result (Runs (want (At kind) message) self.old self.new) }
+        ensures budget { self.new.budget ≡ self.old.budget }
     {
         if self.at(kind) {
             return Ok(());
@@ -132,7 +140,8 @@ impl<'i, A: Allocator + Copy> ParserState<'i, A> {
     /// Reports an error where no token is left.
     #[tactic(auto, using(parser_rules::proofs::runs::Running::sequence))]
     pub fn want_ready(&mut self, message: Message) -> Result<(), AllocError>
-        ensures { OnOk result (Runs (want Ready message) self.old self.new) }
+        ensures runs { OnOk result (Runs (want Ready message) self.old self.new) }
+        ensures budget { self.new.budget ≡ self.old.budget }
     {
         if self.is_ready() {
             return Ok(());

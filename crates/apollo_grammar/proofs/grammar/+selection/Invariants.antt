@@ -7,25 +7,28 @@ use Rattle.parser_rules.proofs.runs.Frame.{left}
 use Rattle.apollo_grammar.proofs.grammar.+selection.Given as goal
 
 abbrev pub decreases-field::field : goal.decreases-field::field
-decreases-field::field g l = 5 * left l.p.now + 1
+decreases-field::field g l = 6 * left l.p.now + 1
 
 abbrev pub decreases-fragment::inline_fragment : goal.decreases-fragment::inline_fragment
-decreases-fragment::inline_fragment g l = 5 * left l.p.now + 1
+decreases-fragment::inline_fragment g l = 6 * left l.p.now + 1
 
 abbrev pub decreases-selection::selection_set : goal.decreases-selection::selection_set
-decreases-selection::selection_set g l = 5 * left l.p.now + 5
+decreases-selection::selection_set g l = 6 * left l.p.now + 6
 
 abbrev pub decreases-selection::braced : goal.decreases-selection::braced
-decreases-selection::braced g l = 5 * left l.p.now
+decreases-selection::braced g l = 6 * left l.p.now
 
 abbrev pub decreases-selection::selections : goal.decreases-selection::selections
-decreases-selection::selections g l = 5 * left l.p.now + 4
+decreases-selection::selections g l = 6 * left l.p.now + 5
 
 abbrev pub decreases-selection::selection : goal.decreases-selection::selection
-decreases-selection::selection g l = 5 * left l.p.now + 3
+decreases-selection::selection g l = 6 * left l.p.now + 4
 
 abbrev pub decreases-selection::spread : goal.decreases-selection::spread
-decreases-selection::spread g l = 5 * left l.p.now + 2
+decreases-selection::spread g l = 6 * left l.p.now + 3
+
+abbrev pub decreases-selection::spread_before : goal.decreases-selection::spread_before
+decreases-selection::spread_before g l = 6 * left l.p.now + 2
 
 abbrev pub invariant-selection::selections-loop-p : goal.invariant-selection::selections-loop-p
 invariant-selection::selections-loop-p g l = Turns (Here selection_start) (Call Selection) l.initial.p l.p

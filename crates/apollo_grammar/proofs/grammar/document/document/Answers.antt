@@ -4,4 +4,4 @@ use Rattle.apollo_grammar.proofs.grammar.document.document.Goals as goal
 
 pub loop-p-smaller : goal.loop-p-smaller
 unfolding consuming
-loop-p-smaller g c = taken c.in_ok-definition.ensures (ready-there _ c.loop-p-test.ensures) refl
+loop-p-smaller g c = taken c.in_ok-definition.ensures.runs (ready-there _ c.loop-p-test.ensures) refl

@@ -5,4 +5,4 @@ use Rattle.apollo_grammar.proofs.grammar.field.fields_definition.Goals as goal
 
 pub loop-p-smaller : goal.loop-p-smaller
 unfolding consuming
-loop-p-smaller g c = taken c.in_ok-field_definition.ensures (here-there named_start _ c.loop-p-test.ensures) refl
+loop-p-smaller g c = taken c.in_ok-field_definition.ensures.runs (here-there named_start _ c.loop-p-test.ensures) refl

@@ -15,18 +15,18 @@ ty-nullable_type-requires g t c =
 pub list_type-bracketed-requires : goal.list_type-bracketed-requires
 unfolding left opened flush
 list_type-bracketed-requires g t c =
-    let h = ap left c.in_ok-start_node.ensures in
-    λ κs w. (omega (arith, h, c.decreases), (w, still-at kind.LIST_TYPE token.LBracket _ c.requires c.in_ok-start_node.ensures))
+    let h = ap left c.in_ok-start_node.ensures.step in
+    λ κs w. (omega (arith, h, c.decreases), (w, still-at kind.LIST_TYPE token.LBracket _ c.requires c.in_ok-start_node.ensures.step))
 
 pub bracketed-item_type-requires : goal.bracketed-item_type-requires
 unfolding consuming
 bracketed-item_type-requires g t c =
-    let h = taken c.in_ok-bump.ensures (here-there (Kind token.LBracket) _ c.requires) refl in
-    let k = entered-left _ c.enter.ensures in
+    let h = taken c.in_ok-bump.ensures.runs (here-there (Kind token.LBracket) _ c.requires) refl in
+    let k = entered-left _ c.enter.ensures.step in
     λ κs w. (omega (arith, h, k, c.decreases), w)
 
 pub ty-wrap-requires : goal.ty-wrap-requires
-ty-wrap-requires g t c = still-mark _ c.in_ok-nullable_type.ensures (is-mark c.checkpoint.new.self _ c.in_ok-checkpoint.ensures.place)
+ty-wrap-requires g t c = still-mark _ c.in_ok-nullable_type.ensures.runs (is-mark c.checkpoint.new.self _ c.in_ok-checkpoint.ensures.place)
 
 pub ty-finish_node-requires : goal.ty-finish_node-requires
-ty-finish_node-requires g t c = still-open c.in_ok-bump.ensures (open-wrapped kind.NON_NULL_TYPE _ _ refl c.in_ok-wrap.ensures)
+ty-finish_node-requires g t c = still-open c.in_ok-bump.ensures.runs (open-wrapped kind.NON_NULL_TYPE _ _ refl c.in_ok-wrap.ensures.step)

@@ -7,27 +7,27 @@ use Rattle.apollo_grammar.proofs.grammar.ty.type_root.Goals as goal
 pub close_type-requires : goal.close_type-requires
 close_type-requires g c = record {
   first = c.requires.first;
-  not_open = still-none c.in_ok-bracketed.ensures (flushed-none c.args.p.now c.in_ok-place.ensures.flushed c.requires.not_open);
-  mark = still-mark _ c.in_ok-bracketed.ensures (is-mark c.checkpoint.new.self _ c.in_ok-place.ensures.place);
+  not_open = still-none c.in_ok-bracketed.ensures.runs (flushed-none c.args.p.now c.in_ok-place.ensures.flushed c.requires.not_open);
+  mark = still-mark _ c.in_ok-bracketed.ensures.runs (is-mark c.checkpoint.new.self _ c.in_ok-place.ensures.place);
   free = refl;
 }
 
 pub close_type-requires-then-at-2 : goal.close_type-requires-then-at-2
 close_type-requires-then-at-2 g c = record {
   first = c.requires.first;
-  not_open = still-none c.in_ok-name.ensures (flushed-none c.args.p.now c.in_ok-place.ensures.flushed c.requires.not_open);
-  mark = still-mark _ c.in_ok-name.ensures (is-mark c.checkpoint.new.self _ c.in_ok-place.ensures.place);
+  not_open = still-none c.in_ok-name.ensures.runs (flushed-none c.args.p.now c.in_ok-place.ensures.flushed c.requires.not_open);
+  mark = still-mark _ c.in_ok-name.ensures.runs (is-mark c.checkpoint.new.self _ c.in_ok-place.ensures.place);
   free = refl;
 }
 
 pub wrap-requires : goal.wrap-requires
-wrap-requires g c = root-mark c.args.first.place c.err_and_pop.new.self c.requires.first (still-none c.in_ok-err_and_pop.ensures (flushed-none c.args.p.now c.in_ok-place.ensures.flushed c.requires.not_open))
+wrap-requires g c = root-mark c.args.first.place c.err_and_pop.new.self c.requires.first (still-none c.in_ok-err_and_pop.ensures.runs (flushed-none c.args.p.now c.in_ok-place.ensures.flushed c.requires.not_open))
 
-pub returns-then-at : goal.returns-then-at
-returns-then-at g c = on_ok_weaker _ (λ e. list-made c.args.p.now _ c.in_ok-place.ensures.flushed c.in_ok-place.ensures.place c.if-at.ensures c.in_ok-bracketed.ensures e) c.close_type.ensures
+pub returns-then-at-clause-runs : goal.returns-then-at-clause-runs
+returns-then-at-clause-runs g c = on_ok_weaker _ (λ e. list-made c.args.p.now _ c.in_ok-place.ensures.flushed c.in_ok-place.ensures.place c.if-at.ensures c.in_ok-bracketed.ensures.runs e) c.close_type.ensures.step
 
-pub returns-then-at-2 : goal.returns-then-at-2
-returns-then-at-2 g c = on_ok_weaker _ (λ e. name-made c.args.p.now _ c.in_ok-place.ensures.flushed c.in_ok-place.ensures.place c.if-at.ensures c.if-at-2.ensures c.in_ok-name.ensures e) c.close_type-then-at-2.ensures
+pub returns-then-at-2-clause-runs : goal.returns-then-at-2-clause-runs
+returns-then-at-2-clause-runs g c = on_ok_weaker _ (λ e. name-made c.args.p.now _ c.in_ok-place.ensures.flushed c.in_ok-place.ensures.place c.if-at.ensures c.if-at-2.ensures c.in_ok-name.ensures.runs e) c.close_type-then-at-2.ensures.step
 
-pub returns : goal.returns
-returns g c = on_ok_weaker _ (λ e. none-made c.args.p.now c.args.first.place c.requires.first c.in_ok-place.ensures.flushed c.if-at.ensures c.if-at-2.ensures c.in_ok-err_and_pop.ensures e) c.wrap.ensures
+pub returns-clause-runs : goal.returns-clause-runs
+returns-clause-runs g c = on_ok_weaker _ (λ e. none-made c.args.p.now c.args.first.place c.requires.first c.in_ok-place.ensures.flushed c.if-at.ensures c.if-at-2.ensures c.in_ok-err_and_pop.ensures.runs e) c.wrap.ensures.step

@@ -13,16 +13,17 @@ use Rattle.parser_rules.proofs.fragments.RootChecks.{selections_pass}
 use Rattle.parser_rules.proofs.fragments.RootRuns.{is-root}
 use Rattle.apollo_parser.specs.Roots.{root_kind}
 use Rattle.apollo_parser.proofs.RootParses.{root-is, root-begins}
+use Rattle.apollo_parser.proofs.Allowances.{none, from-started}
 use Rattle.apollo_parser.proofs.parser.Parser.run_selection_set.Goals as goal
 
 pub finish-requires : goal.finish-requires
 finish-requires g c =
-    let s : State = c.field_set.new.p in
+    let s : State = none c.field_set.new.p in
     let xs = answers_left c.lexer.result in
     let r = c.args.self.recursion_limit in
-    let left : c.drop_pending.new.self ≡ left_out s = c.drop_pending.ensures in
-    let first = c.in_ok-push_pending.ensures ∙ ap flush c.in_ok-p.ensures in
-    let run = subst (λ b. Runs selections_root b s) first c.in_ok-field_set.ensures in
+    let left : c.drop_pending.new.self ≡ left_out c.field_set.new.p = c.drop_pending.ensures.step in
+    let first = c.in_ok-push_pending.ensures.step ∙ ap flush c.in_ok-open.ensures.step in
+    let run = from-started xs r _ kind.SELECTION_SET c.new-p.ensures (subst (λ b. Runs selections_root b c.field_set.new.p) first c.in_ok-field_set.ensures.runs) in
     let ran = subst (λ answers. Runs selections_root (started answers r kind.SELECTION_SET) s) c.lexer.ensures.answers run in
     record {
       source = subst (λ (t : State). take (length (text (finished t))) c.args.self.source.now ≡ text (finished t)) (sym left) (root-begins kind.SELECTION_SET c.args.self.token_limit r c.args.self.source.now s ran selections_pass c.lexer.ensures.cut);
@@ -31,22 +32,22 @@ finish-requires g c =
 
 pub invariant_of-result : goal.invariant_of-result
 invariant_of-result g c =
-    let s : State = c.field_set.new.p in
+    let s : State = none c.field_set.new.p in
     let k = c.args.self.token_limit in
     let r = c.args.self.recursion_limit in
-    let left : c.drop_pending.new.self ≡ left_out s = c.drop_pending.ensures in
-    let first = c.in_ok-push_pending.ensures ∙ ap flush c.in_ok-p.ensures in
-    let ran = subst (λ answers. Runs selections_root (started answers r kind.SELECTION_SET) s) c.lexer.ensures.answers (subst (λ b. Runs selections_root b s) first c.in_ok-field_set.ensures) in
+    let left : c.drop_pending.new.self ≡ left_out c.field_set.new.p = c.drop_pending.ensures.step in
+    let first = c.in_ok-push_pending.ensures.step ∙ ap flush c.in_ok-open.ensures.step in
+    let ran = subst (λ answers. Runs selections_root (started answers r kind.SELECTION_SET) s) c.lexer.ensures.answers (from-started (answers_left c.lexer.result) r _ kind.SELECTION_SET c.new-p.ensures (subst (λ b. Runs selections_root b c.field_set.new.p) first c.in_ok-field_set.ensures.runs)) in
     (ap (λ f. is_kind kind.SELECTION_SET (root_kind f)) (c.in_ok-finished.ensures.tree ∙ ap finished left ∙ root-is kind.SELECTION_SET k r c.args.self.source.now s ran), tt)
 
 pub returns : goal.returns
 returns g c =
-    let s : State = c.field_set.new.p in
+    let s : State = none c.field_set.new.p in
     let k = c.args.self.token_limit in
     let r = c.args.self.recursion_limit in
-    let left : c.drop_pending.new.self ≡ left_out s = c.drop_pending.ensures in
-    let first = c.in_ok-push_pending.ensures ∙ ap flush c.in_ok-p.ensures in
-    let ran = subst (λ answers. Runs selections_root (started answers r kind.SELECTION_SET) s) c.lexer.ensures.answers (subst (λ b. Runs selections_root b s) first c.in_ok-field_set.ensures) in
+    let left : c.drop_pending.new.self ≡ left_out c.field_set.new.p = c.drop_pending.ensures.step in
+    let first = c.in_ok-push_pending.ensures.step ∙ ap flush c.in_ok-open.ensures.step in
+    let ran = subst (λ answers. Runs selections_root (started answers r kind.SELECTION_SET) s) c.lexer.ensures.answers (from-started (answers_left c.lexer.result) r _ kind.SELECTION_SET c.new-p.ensures (subst (λ b. Runs selections_root b c.field_set.new.p) first c.in_ok-field_set.ensures.runs)) in
     let e = c.in_ok-finished.ensures in
     record {
       last = s;

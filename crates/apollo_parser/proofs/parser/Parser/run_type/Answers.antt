@@ -1,4 +1,4 @@
-use Rattle.std.proofs.Common.{◌≡◌, ℕ, ◌≤◌, ◌||◌, sym, ap, subst, ◌∙◌, take, length, List}
+use Rattle.std.proofs.Common.{◌≡◌, ℕ, ◌≤◌, ◌||◌, refl, sym, ap, subst, ◌∙◌, take, length, List}
 use Rattle.std.specs.List.{AllZip}
 use Rattle.lexical_grammar.specs.Answers.{Answer}
 use Rattle.document_grammar.specs.Choices.{Types}
@@ -7,32 +7,32 @@ use Rattle.document_grammar.specs.declared.kind.SyntaxKind.TheVariants as kind
 use Rattle.document_grammar.specs.Numbers.{is_kind}
 use Rattle.apollo_cst_core.specs.Cast.{one_of}
 use Rattle.parser_state.specs.Errors.{IsErrorOf}
-use Rattle.parser_rules.specs.State.{State, finished}
+use Rattle.parser_rules.specs.State.{State, flush, finished}
 use Rattle.parser_rules.specs.Open.{IsRoot}
-use Rattle.parser_rules.specs.Fragments.{unopened, left_out}
+use Rattle.parser_rules.specs.Fragments.{unopened, left_out, MakesType}
 use Rattle.parser_rules.proofs.fragments.RootChecks.{type_passes, type-free}
 use Rattle.parser_rules.proofs.fragments.RootRuns.{is-root}
-use Rattle.parser_rules.proofs.fragments.TypeRoots.{TypeRun, type-run, makes-unopened, unopened-none}
+use Rattle.parser_rules.proofs.fragments.TypeRoots.{TypeRun, type-run, makes-unopened}
 use Rattle.apollo_parser.specs.Roots.{root_kind}
 use Rattle.apollo_parser.proofs.RootParses.{root-is, root-begins}
 use Rattle.apollo_parser.proofs.Parses.{answers}
 use Rattle.apollo_parser.proofs.TypeParses.{type-rooted}
+use Rattle.apollo_lexer.specs.Answers.{answers_left}
+use Rattle.apollo_parser.proofs.Allowances.{none, from-unopened, not-open}
 use Rattle.apollo_parser.proofs.parser.Parser.run_type.Goals as goal
 
 pub type_root-requires : goal.type_root-requires
-type_root-requires g c = record {
-  first = c.in_ok-p.ensures.place;
-  not_open = ap (λ (s : State). s.tree.above) c.in_ok-p.ensures.state ∙ unopened-none _ c.args.self.recursion_limit;
-}
+type_root-requires g c = record { first = c.in_ok-first.ensures.place; not_open = not-open _ _ _ c.new-p.ensures c.in_ok-first.ensures.step }
 
 pub finish-requires : goal.finish-requires
 finish-requires g c =
-    let s : State = c.type_root.new.p in
+    let s : State = none c.type_root.new.p in
     let k = c.args.self.token_limit in
     let r = c.args.self.recursion_limit in
-    let left : c.drop_pending.new.self ≡ left_out s = c.drop_pending.ensures in
-    let first = c.in_ok-p.ensures.state ∙ ap (λ (xs : List Answer). unopened xs r) c.lexer.ensures.answers in
-    let m : TypeRun (answers k c.args.self.source.now) r s = type-run (answers k c.args.self.source.now) r first c.in_ok-type_root.ensures in
+    let left : c.drop_pending.new.self ≡ left_out c.type_root.new.p = c.drop_pending.ensures.step in
+    let xs = answers_left c.lexer.result in
+    let made = subst (λ (z : State). MakesType (flush z) c.type_root.new.p) c.in_ok-first.ensures.step c.in_ok-type_root.ensures.runs in
+    let m : TypeRun (answers k c.args.self.source.now) r s = subst (λ (ys : List Answer). TypeRun ys r s) c.lexer.ensures.answers (type-run xs r refl (from-unopened xs r _ c.new-p.ensures made)) in
     record {
       source = subst (λ (t : State). take (length (text (finished t))) c.args.self.source.now ≡ text (finished t)) (sym left) (root-begins m.kind k r c.args.self.source.now s m.run (type_passes m.is) c.lexer.ensures.cut);
       open_root = subst (λ (t : State). IsRoot t.tree) (sym left) (is-root (answers k c.args.self.source.now) r m.kind m.run (type-free m.is));
@@ -40,23 +40,25 @@ finish-requires g c =
 
 pub invariant_of-result : goal.invariant_of-result
 invariant_of-result g c =
-    let s : State = c.type_root.new.p in
+    let s : State = none c.type_root.new.p in
     let k = c.args.self.token_limit in
     let r = c.args.self.recursion_limit in
-    let left : c.drop_pending.new.self ≡ left_out s = c.drop_pending.ensures in
-    let first = c.in_ok-p.ensures.state ∙ ap (λ (xs : List Answer). unopened xs r) c.lexer.ensures.answers in
-    let m : TypeRun (answers k c.args.self.source.now) r s = type-run (answers k c.args.self.source.now) r first c.in_ok-type_root.ensures in
+    let left : c.drop_pending.new.self ≡ left_out c.type_root.new.p = c.drop_pending.ensures.step in
+    let xs = answers_left c.lexer.result in
+    let made = subst (λ (z : State). MakesType (flush z) c.type_root.new.p) c.in_ok-first.ensures.step c.in_ok-type_root.ensures.runs in
+    let m : TypeRun (answers k c.args.self.source.now) r s = subst (λ (ys : List Answer). TypeRun ys r s) c.lexer.ensures.answers (type-run xs r refl (from-unopened xs r _ c.new-p.ensures made)) in
     let tree = c.in_ok-finished.ensures.tree ∙ ap finished left ∙ root-is m.kind k r c.args.self.source.now s m.run in
     (ap (λ f. one_of Types (root_kind f) || is_kind kind.ERROR (root_kind f)) tree ∙ type-rooted m.is, tt)
 
 pub returns : goal.returns
 returns g c =
-    let s : State = c.type_root.new.p in
+    let s : State = none c.type_root.new.p in
     let k = c.args.self.token_limit in
     let r = c.args.self.recursion_limit in
-    let left : c.drop_pending.new.self ≡ left_out s = c.drop_pending.ensures in
-    let first = c.in_ok-p.ensures.state ∙ ap (λ (xs : List Answer). unopened xs r) c.lexer.ensures.answers in
-    let m : TypeRun (answers k c.args.self.source.now) r s = type-run (answers k c.args.self.source.now) r first c.in_ok-type_root.ensures in
+    let left : c.drop_pending.new.self ≡ left_out c.type_root.new.p = c.drop_pending.ensures.step in
+    let xs = answers_left c.lexer.result in
+    let made = subst (λ (z : State). MakesType (flush z) c.type_root.new.p) c.in_ok-first.ensures.step c.in_ok-type_root.ensures.runs in
+    let m : TypeRun (answers k c.args.self.source.now) r s = subst (λ (ys : List Answer). TypeRun ys r s) c.lexer.ensures.answers (type-run xs r refl (from-unopened xs r _ c.new-p.ensures made)) in
     let e = c.in_ok-finished.ensures in
     record {
       kind = m.kind;
@@ -72,5 +74,5 @@ returns g c =
         recursion_limit = e.recursion_limit ∙ ap (λ (t : State). record { current = t.depth; high = t.high; limit = t.limit }) left;
         token_limit = (e.allowed.0, e.allowed.1, subst (λ (n : ℕ). c.in_ok-finished.finished.token_limit.high ≤ n) (ap (λ (t : State). t.asked) left) e.allowed.2);
       };
-      made = makes-unopened (answers k c.args.self.source.now) r first c.in_ok-type_root.ensures;
+      made = subst (λ (ys : List Answer). MakesType (unopened ys r) s) c.lexer.ensures.answers (makes-unopened xs r refl (from-unopened xs r _ c.new-p.ensures made));
     }

@@ -1,0 +1,115 @@
+// What a parser reads from: its lexer, what a copy of that found ahead, and the count of what both cut.
+#![tactic(auto)]
+
+ghost use Rattle.std.specs.Prelude.{◌≡◌, ◌≤◌, ◌+◌, ◌*◌};
+ghost use Rattle.std.specs.Iterator.{YieldsFirstBy};
+ghost use Rattle.lexical_grammar.specs.declared.TokenKind.TheVariants as token;
+ghost use Rattle.apollo_lexer.specs.Answers.{answer_of, answers_left, final_high};
+ghost use Rattle.document_grammar.specs.declared.kind.SyntaxKind.TheVariants as kind;
+ghost use Rattle.parser_rules.specs.State.{second};
+ghost use Rattle.std.specs.Coded.{codes};
+ghost use Rattle.parser_state.specs.View.{current_of};
+ghost use Rattle.parser_state.specs.Lookahead.{given, looked, shown, spared, all_given};
+
+use super::start::Start;
+use super::tokens::ignored;
+use apollo_lexer::{LexError, Lexer, Steps, Token};
+
+/// The significant token after the current one, as far as it is known.
+#[derive(Clone, Copy)]
+pub enum Ahead<'i> {
+    /// No copy of the lexer has looked for it.
+    Unknown,
+    /// What a copy found.
+    Known(Option<Token<'i>>),
+}
+
+/// It cuts each item once, and copies of its lexer cut each item at most once more.
+#[derive(Drop)]
+pub struct Reader<'i> {
+    lexer: Lexer<'i>,
+    ahead: Ahead<'i>,
+    steps: Steps,
+    start: Start,
+    // what a copy found is the token there
+    ghost known: { shown ahead (second (answers_left lexer)) ≡ second (answers_left lexer) } by { Prim.hlevel codes },
+    // What was cut, and twice the items that are left, are no more than twice all items; those that a copy has cut already are cut only once
+    // more.
+    ghost within: { steps.count + 2 * given (answers_left lexer) ≤ start.count + 2 * all_given lexer + spared ahead (answers_left lexer) },
+}
+
+// The next significant token that the lexer gives.
+fn next_significant<'i>(lexer: Lexer<'i>, steps: &mut Steps) -> Option<Token<'i>>
+    ensures found { current_of result ≡ second (answers_left lexer.entry) }
+    ensures count { steps.new.count ≡ steps.old.count + looked (answers_left lexer.entry) }
+{
+    let mut lexer = lexer;
+    while let Some(answer) = lexer.next_counted(steps) {
+        if let Ok(token) = answer {
+            if ignored(token.kind()).is_none() {
+                return Some(token);
+            }
+        }
+    }
+    None
+}
+
+impl<'i> Reader<'i> {
+    /// Reads what the lexer gives, and goes on with this count.
+    pub(super) fn new(lexer: Lexer<'i>, steps: Steps) -> Self
+        ensures lexer { result.lexer ≡ lexer.entry }
+        ensures start { result.start.count ≡ steps.count }
+    {
+        let start = Start::of(&steps);
+        Reader {
+            lexer,
+            ahead: Ahead::Unknown,
+            steps,
+            start,
+        }
+    }
+
+    /// How many answers were asked of the lexer.
+    pub(super) fn asked(&self) -> usize
+        ensures { result ≡ self.now.lexer.limit_tracker.high }
+    {
+        self.lexer.limit_tracker().high
+    }
+
+    /// What was cut.
+    pub(super) fn into_steps(self) -> Steps
+        ensures { result.count ≤ self.entry.start.count + 2 * all_given self.entry.lexer }
+    {
+        self.steps
+    }
+
+    /// The lexer's next answer.
+    pub(super) fn next_answer(&mut self) -> Option<Result<Token<'i>, LexError<'i>>>
+        ensures answers { YieldsFirstBy answer_of answers_left self.old.lexer result self.new.lexer }
+        ensures high { final_high self.new.lexer ≡ final_high self.old.lexer }
+        ensures limit { self.new.lexer.limit_tracker.limit ≡ self.old.lexer.limit_tracker.limit }
+        ensures start { self.new.start ≡ self.old.start }
+    {
+        let answer = self.lexer.next_counted(&mut self.steps)?;
+        if let Ok(token) = answer {
+            if ignored(token.kind()).is_none() {
+                self.ahead = Ahead::Unknown;
+            }
+        }
+        Some(answer)
+    }
+
+    /// The significant token after the current one. A copy of the lexer looks for it, once.
+    pub(super) fn peek(&mut self) -> Option<Token<'i>>
+        ensures found { current_of result ≡ second (answers_left self.old.lexer) }
+        ensures lexer { self.new.lexer ≡ self.old.lexer }
+        ensures start { self.new.start ≡ self.old.start }
+    {
+        if let Ahead::Known(found) = self.ahead {
+            return found;
+        }
+        let found = next_significant(self.lexer, &mut self.steps);
+        self.ahead = Ahead::Known(found);
+        found
+    }
+}
