@@ -77,11 +77,17 @@ const STRINGS: [&str; 3] = [
     "{ a(b: \"\"\"  a\n    b\n\t\n\"\"\") }",
 ];
 
+const SELECTIONS: [&str; 3] = ["a b { c }", " { a }", ""];
+
+const TYPES: [&str; 3] = ["", "!", " [Int!]! "];
+
 fn expect_all(rt: &(impl Abort + AllocGlobal)) -> Result<(), AllocError> {
     for (call, sources) in [
         (Call::Lex, SOURCES.as_slice()),
         (Call::MakeErrors, BAD.as_slice()),
         (Call::Parse, SOURCES.as_slice()),
+        (Call::ParseSelections, SELECTIONS.as_slice()),
+        (Call::ParseType, TYPES.as_slice()),
         (Call::CloneTree, SOURCES.as_slice()),
         (Call::CloneErrors, FAULTY.as_slice()),
         (Call::CopyText, SOURCES.as_slice()),

@@ -1,5 +1,5 @@
 // Tests of parses of parts of documents.
-use apollo_parser::cst::CstNode;
+use apollo_parser::cst::{CstNode, Name, Selection, SelectionSet, Type};
 use apollo_parser::{Parser, SelectionSetRoot, SyntaxTree, TypeRoot};
 use std::alloc::{AllocError, Global};
 use std::test::Fail;
@@ -51,6 +51,25 @@ fn selection_sets(rt: HostRuntime) -> Result<(), Fail> {
     Ok(())
 }
 
+// The name of the first selection, when it is a field.
+fn first_name<'t>(selections: &SelectionSet<'t>) -> Option<Name<'t>> {
+    match selections.selections().next()? {
+        Selection::Field(field) => field.name(),
+        _ => None,
+    }
+}
+
+#[test]
+fn field_of_a_field_set(rt: HostRuntime) -> Result<(), Fail> {
+    for source in ["{ a }", "a { a }"] {
+        let tree = parse_selections(rt.alloc(), Parser::new(source))?;
+        assert_eq!(rt; tree.errors().len(), 0, "{source}");
+        let name = first_name(&tree.field_set()).expect(&rt, "a name");
+        assert_eq!(rt; name.text().as_str(), "a", "{source}");
+    }
+    Ok(())
+}
+
 fn parse_type(
     alloc: Global,
     parser: Parser<'_>,
@@ -95,5 +114,16 @@ fn types(rt: HostRuntime) -> Result<(), Fail> {
         let answer = shown_type(rt.alloc(), Parser::new(source))?;
         assert_eq!(rt; answer.as_str(), wanted, "{source}");
     }
+    Ok(())
+}
+
+#[test]
+fn name_of_a_type(rt: HostRuntime) -> Result<(), Fail> {
+    let tree = parse_type(rt.alloc(), Parser::new("Int Int"))?;
+    let Some(Type::NamedType(named)) = tree.ty() else {
+        return Err(Fail::new("no named type"));
+    };
+    let name = named.name().expect(&rt, "a name");
+    assert_eq!(rt; name.text().as_str(), "Int");
     Ok(())
 }

@@ -1,9 +1,9 @@
 // The calls that take memory, each as an attempt with a request that is refused.
 use super::runs::run_once;
 use super::{Attempt, Heap};
-use crate::parsing::parse;
+use crate::parsing::{parse, parse_selections, parse_type};
 use apollo_parser::cst::{Definition, Selection, StringValue, Value};
-use apollo_parser::{DocumentRoot, Lexer, Parser, SyntaxTree, TokenText};
+use apollo_parser::{DocumentRoot, Lexer, Parser, Root, SyntaxTree, TokenText};
 use gqlcst_run::Mode;
 use std::alloc::{AllocError, Global};
 use std::fmt::Write;
@@ -15,6 +15,8 @@ pub enum Call {
     /// Each error of a lexer, with its message.
     MakeErrors,
     Parse,
+    ParseSelections,
+    ParseType,
     CloneTree,
     CloneErrors,
     /// The text of the root in memory of its own.
@@ -77,29 +79,38 @@ fn make_errors(
     Ok(Attempt { given, beside })
 }
 
-fn print(alloc: Global, tree: &SyntaxTree<DocumentRoot, &Heap>) -> Result<String, AllocError> {
+fn print<R: Root>(alloc: Global, tree: &SyntaxTree<R, &Heap>) -> Result<String, AllocError> {
     let items = tree.token_limit();
     format!(in alloc; "{tree:?}, items: {items}")
+}
+
+// The tree of a parse, printed.
+fn parsed<R: Root>(
+    alloc: Global,
+    answer: Result<SyntaxTree<R, &Heap>, AllocError>,
+) -> Result<Option<String>, AllocError> {
+    match answer {
+        Ok(tree) => Ok(Some(print(alloc, &tree)?)),
+        Err(AllocError) => Ok(None),
+    }
 }
 
 fn parse_once(
     heap: &Heap,
     alloc: Global,
+    call: Call,
     source: &str,
     number: u64,
 ) -> Result<Attempt, AllocError> {
     heap.refuse(number);
+    let parser = Parser::new(source);
+    let given = match call {
+        Call::ParseSelections => parsed(alloc, parse_selections(heap, parser))?,
+        Call::ParseType => parsed(alloc, parse_type(heap, parser))?,
+        _ => parsed(alloc, parse(heap, parser))?,
+    };
     let beside = String::new(alloc);
-    match parse(heap, Parser::new(source)) {
-        Ok(tree) => Ok(Attempt {
-            given: Some(print(alloc, &tree)?),
-            beside,
-        }),
-        Err(AllocError) => Ok(Attempt {
-            given: None,
-            beside,
-        }),
-    }
+    Ok(Attempt { given, beside })
 }
 
 fn clone_tree<'h>(
@@ -210,7 +221,9 @@ pub fn attempt(
     match call {
         Call::Lex => lex(heap, alloc, source, number),
         Call::MakeErrors => make_errors(heap, alloc, source, number),
-        Call::Parse => parse_once(heap, alloc, source, number),
+        Call::Parse | Call::ParseSelections | Call::ParseType => {
+            parse_once(heap, alloc, call, source, number)
+        }
         Call::Check => run_once(heap, alloc, Mode::Check, source, number),
         Call::Tokens => run_once(heap, alloc, Mode::Tokens, source, number),
         Call::Tree => run_once(heap, alloc, Mode::Tree, source, number),
