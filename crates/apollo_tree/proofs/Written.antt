@@ -17,9 +17,12 @@ brackets-join (node k kids rest) g =
 pub written-start : (k : SyntaxKind) (b : Building) → written (start k b) ≡ written b ++ Opening k ∷ []
 written-start k b = append-nil _ ∙ sym (append_assoc (open_brackets b.above) (brackets b.here) (Opening k ∷ []))
 
+-- whole trees
+pub written-joined : (f : Forest) (b : Building) → written (record b { here = join b.here f }) ≡ written b ++ brackets f
+written-joined f b = ap (λ x. open_brackets b.above ++ x) (brackets-join b.here f) ∙ sym (append_assoc (open_brackets b.above) (brackets b.here) _)
+
 pub written-leaf : (k : SyntaxKind) (s : List ℕ) (b : Building) → written (add_leaf k s b) ≡ written b ++ Single k s ∷ []
-written-leaf k s b =
-    ap (λ x. open_brackets b.above ++ x) (brackets-join b.here (leaf k s none)) ∙ sym (append_assoc (open_brackets b.above) (brackets b.here) _)
+written-leaf k s b = written-joined (leaf k s none) b
 
 close-written : (here : Forest) (above : List Open) → FitsInnermost here above → written (close here above) ≡ (open_brackets above ++ brackets here) ++ Closing ∷ []
 close-written here [] h = absurd h

@@ -1,10 +1,10 @@
-ghost use Rattle.std.specs.Prelude.{◌≡◌, ℕ, suc, ◌+◌, ◌^◌, ◌<◌, ◌≤◌, [], ◌∷◌, ◌++◌, length, take, drop, true, OnErr, OnOk, IfOk, string_bytes};
-ghost use Rattle.apollo_tree.specs.Sound.{CanFinish};
+ghost use Rattle.std.specs.Prelude.{◌≡◌, ◌⊎◌, ℕ, suc, ◌+◌, ◌^◌, ◌<◌, ◌≤◌, [], ◌∷◌, ◌++◌, length, take, drop, true, OnErr, OnOk, IfOk, string_bytes};
+ghost use Rattle.apollo_tree.specs.Sound.{CanFinish, Fits};
 ghost use Rattle.apollo_tree.specs.Open.{IsComplete, start_behind, up_at};
 ghost use Rattle.apollo_tree.specs.Brackets.{Opening, Single, Closing, brackets, written, open_at};
 ghost use Rattle.apollo_tree.specs.Children.{tiled};
 ghost use Rattle.apollo_tree.specs.Adopted.{after_adoption};
-ghost use Rattle.document_grammar.specs.Forests.{Forest};
+ghost use Rattle.document_grammar.specs.Forests.{Forest, none, leaf as leaf_of};
 ghost use Rattle.document_grammar.specs.Builds.{nothing, start, add_leaf, finish, wrap, IsPlace, built_count, built_text};
 
 use crate::record::Record;
@@ -65,6 +65,22 @@ impl<A: Allocator + Copy> SpanBuilder<A> {
         }
     }
 
+    // Opens a node as `start_node` does, where memory may have to be asked for.
+    #[cold]
+    #[inline(never)]
+    fn start_node_growing(&mut self, kind: SyntaxKind) -> Result<(), AllocError>
+        ensures ok { OnOk result (self.new ≡ start kind self.old) }
+        ensures calls { OnOk result (written self.new ≡ written self.old ++ Opening kind ∷ []) }
+        ensures err { OnErr result (self.new ≡ self.old) }
+    {
+        let place = self.checkpoint().place;
+        let node = Record::node(kind, self.len, 0, self.to_parent(place));
+        self.unfinished.reserve(1)?;
+        self.records.push(node)?;
+        self.unfinished.push(place)?;
+        Ok(())
+    }
+
     /// Opens a node after what has been built. Its children are what is built until it is closed.
     pub fn start_node(&mut self, kind: SyntaxKind) -> Result<(), AllocError>
         ensures ok { OnOk result (self.new ≡ start kind self.old) }
@@ -72,17 +88,14 @@ impl<A: Allocator + Copy> SpanBuilder<A> {
         ensures err { OnErr result (self.new ≡ self.old) }
     {
         let place = self.checkpoint().place;
-        let to_parent = self.to_parent(place);
-        self.unfinished.reserve(1)?;
-        self.records.push(Record {
-            kind,
-            is_node: true,
-            start: self.len,
-            size: 0,
-            to_parent,
-        })?;
-        self.unfinished.push(place)?;
-        Ok(())
+        if self.unfinished.len() < self.unfinished.capacity() {
+            let node = Record::node(kind, self.len, 0, self.to_parent(place));
+            if self.records.push_in_place(node) {
+                self.unfinished.push_reserved(place);
+                return Ok(());
+            }
+        }
+        self.start_node_growing(kind)
     }
 
     /// The present place, for a later `wrap`.
@@ -106,16 +119,8 @@ impl<A: Allocator + Copy> SpanBuilder<A> {
         let start = self.start_behind(place);
         let to_parent = self.to_parent(place);
         self.unfinished.reserve(1)?;
-        self.records.insert(
-            place,
-            Record {
-                kind,
-                is_node: true,
-                start,
-                size: 0,
-                to_parent,
-            },
-        )?;
+        self.records
+            .insert(place, Record::node(kind, start, 0, to_parent))?;
         adopt(&mut self.records, place);
         self.unfinished.push(place)?;
         Ok(())
@@ -144,27 +149,86 @@ impl<A: Allocator + Copy> SpanBuilder<A> {
         }
     }
 
+    // Adds a leaf as `token` does, where memory may have to be asked for.
+    #[cold]
+    #[inline(never)]
+    fn token_growing(&mut self, kind: SyntaxKind, text: &str) -> Result<(), AllocError>
+        ensures ok { OnOk result (self.new ≡ add_leaf kind text.now self.old) }
+        ensures calls { OnOk result (written self.new ≡ written self.old ++ Single kind text.now ∷ []) }
+        ensures err { OnErr result (self.new ≡ self.old) }
+    {
+        let start = self.len;
+        let Some(end) = start.checked_add(text.len()) else {
+            return Err(AllocError);
+        };
+        let to_parent = self.to_parent(self.checkpoint().place);
+        self.records.push(Record::leaf(kind, start, to_parent))?;
+        self.words = self.words.joined(&Piece { text });
+        self.len = end;
+        Ok(())
+    }
+
     /// Adds a leaf after what has been built. The leaves' texts, joined, are the tree's text.
     pub fn token(&mut self, kind: SyntaxKind, text: &str) -> Result<(), AllocError>
         ensures ok { OnOk result (self.new ≡ add_leaf kind text.now self.old) }
         ensures calls { OnOk result (written self.new ≡ written self.old ++ Single kind text.now ∷ []) }
         ensures err { OnErr result (self.new ≡ self.old) }
     {
-        let to_parent = self.to_parent(self.checkpoint().place);
-        let start = self.len;
-        let Some(end) = start.checked_add(text.len()) else {
-            return Err(AllocError);
-        };
-        self.records.push(Record {
-            kind,
-            is_node: false,
-            start,
-            size: 1,
-            to_parent,
-        })?;
-        self.words = self.words.joined(&Piece { text });
-        self.len = end;
+        if let Some(end) = self.len.checked_add(text.len()) {
+            let to_parent = self.to_parent(self.checkpoint().place);
+            let leaf = Record::leaf(kind, self.len, to_parent);
+            if self.records.push_in_place(leaf) {
+                self.words = self.words.joined(&Piece { text });
+                self.len = end;
+                return Ok(());
+            }
+        }
+        self.token_growing(kind, text)
+    }
+
+    // Adds a node of one leaf as `leaf_node` does, where memory may have to be asked for.
+    #[cold]
+    #[inline(never)]
+    fn leaf_node_growing(
+        &mut self,
+        node: SyntaxKind,
+        leaf: SyntaxKind,
+        text: &str,
+    ) -> Result<(), AllocError>
+        requires { Fits node (leaf_of leaf text.now none) }
+        ensures ok { OnOk result (self.new ≡ finish (add_leaf leaf text.now (start node self.old))) }
+        ensures calls { OnOk result (written self.new ≡ written self.old ++ Opening node ∷ Single leaf text.now ∷ Closing ∷ []) }
+        ensures err { OnErr result ((self.new ≡ self.old) ⊎ (self.new ≡ start node self.old)) }
+    {
+        self.start_node(node)?;
+        self.token(leaf, text)?;
+        self.finish_node();
         Ok(())
+    }
+
+    /// Adds a node of one leaf, as `start_node`, `token` and `finish_node` do together. When it fails the node may have been opened.
+    pub fn leaf_node(
+        &mut self,
+        node: SyntaxKind,
+        leaf: SyntaxKind,
+        text: &str,
+    ) -> Result<(), AllocError>
+        requires { Fits node (leaf_of leaf text.now none) }
+        ensures ok { OnOk result (self.new ≡ finish (add_leaf leaf text.now (start node self.old))) }
+        ensures calls { OnOk result (written self.new ≡ written self.old ++ Opening node ∷ Single leaf text.now ∷ Closing ∷ []) }
+        ensures err { OnErr result ((self.new ≡ self.old) ⊎ (self.new ≡ start node self.old)) }
+    {
+        if let Some(end) = self.len.checked_add(text.len()) {
+            let to_parent = self.to_parent(self.checkpoint().place);
+            let first = Record::node(node, self.len, 2, to_parent);
+            let second = Record::leaf(leaf, self.len, 1);
+            if self.records.push_both_in_place(first, second) {
+                self.words = self.words.joined(&Piece { text });
+                self.len = end;
+                return Ok(());
+            }
+        }
+        self.leaf_node_growing(node, leaf, text)
     }
 
     /// Closes the innermost open node. It takes no memory and can't fail.

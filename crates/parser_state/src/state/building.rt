@@ -102,10 +102,7 @@ impl<'i, A: Allocator + Copy> ParserState<'i, A> {
         ensures step { OnOk result (self.new ≡ reading.leaf_node node leaf text.now self.old) }
         ensures budget { self.new.budget ≡ self.old.budget }
     {
-        self.builder.start_node(node)?;
-        self.builder.token(leaf, text)?;
-        self.builder.finish_node();
-        Ok(())
+        self.builder.leaf_node(node, leaf, text)
     }
 
     // The current token becomes a node of one leaf.

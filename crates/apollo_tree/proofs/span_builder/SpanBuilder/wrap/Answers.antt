@@ -1,4 +1,5 @@
 use Rattle.std.proofs.Common.{[], ◌∷◌, ◌++◌, ◌∙◌, ap, sym, subst, refl, length, arith, ◌<◌, List, suc, drop}
+use Rattle.std.specs.List.{insert}
 use Rattle.apollo_tree.specs.declared.record.Record.{Record}
 use Rattle.apollo_tree.specs.Adopted.{after_adoption}
 use Rattle.apollo_tree.specs.Children.{tiled}
@@ -26,13 +27,13 @@ pub invariant_of-self-2 : goal.invariant_of-self-2
 invariant_of-self-2 g c =
     let h = holds c.self.view_is c.self.invariant.0 in
     let t = wrap-table c.args.kind c.args.checkpoint.place c.start_behind-start.result c.to_parent-to_parent.result h.parts c.requires c.start_behind-start.ensures c.to_parent-to_parent.ensures in
-    (kept (moved t (c.adopt.ensures ∙ ap (after_adoption c.args.checkpoint.place) c.in_ok-insert.ensures) (c.in_ok-push.ensures.items ∙ ap (λ ps. ps ++ c.args.checkpoint.place ∷ []) c.in_ok-reserve.ensures.items) refl) (sound-back _ _ h.here) (sound-front _ _ h.here, h.above), c.self.invariant.1)
+    (kept (moved t (c.adopt.ensures ∙ ap (after_adoption c.args.checkpoint.place) (c.in_ok-insert.ensures ∙ ap (insert c.self.inside.records c.args.checkpoint.place) c.node.ensures)) (c.in_ok-push.ensures.items ∙ ap (λ ps. ps ++ c.args.checkpoint.place ∷ []) c.in_ok-reserve.ensures.items) refl) (sound-back _ _ h.here) (sound-front _ _ h.here, h.above), c.self.invariant.1)
 
 pub returns-clause-ok : goal.returns-clause-ok
 returns-clause-ok g c =
     let h = holds c.self.view_is c.self.invariant.0 in
     let t = wrap-table c.args.kind c.args.checkpoint.place c.start_behind-start.result c.to_parent-to_parent.result h.parts c.requires c.start_behind-start.ensures c.to_parent-to_parent.ensures in
-    built-is (moved t (c.adopt.ensures ∙ ap (after_adoption c.args.checkpoint.place) c.in_ok-insert.ensures) (c.in_ok-push.ensures.items ∙ ap (λ ps. ps ++ c.args.checkpoint.place ∷ []) c.in_ok-reserve.ensures.items) refl)
+    built-is (moved t (c.adopt.ensures ∙ ap (after_adoption c.args.checkpoint.place) (c.in_ok-insert.ensures ∙ ap (insert c.self.inside.records c.args.checkpoint.place) c.node.ensures)) (c.in_ok-push.ensures.items ∙ ap (λ ps. ps ++ c.args.checkpoint.place ∷ []) c.in_ok-reserve.ensures.items) refl)
 
 pub returns-clause-calls : goal.returns-clause-calls
 returns-clause-calls g c = ap written (returns-clause-ok g c) ∙ written-wrap c.args.checkpoint.place c.args.kind c.args.self.now c.requires
