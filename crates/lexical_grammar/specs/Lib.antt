@@ -4,6 +4,8 @@ pub mod Strings
 pub mod Tokens
 pub mod Cut
 pub mod Begins
+pub mod Edges
+pub mod Kept
 pub mod Values
 pub mod NumberStates
 pub mod Reads
