@@ -1,13 +1,12 @@
 -- What every tree keeps, said of the text of a name, an Int, a String and a Boolean.
-use Rattle.std.proofs.Common.{◌≡◌, ℕ, List, sym, ap, ◌∙◌, subst, true, ◌⊎◌, ⊎_elim, inl, inr}
-use Rattle.std.specs.Prelude.{codes}
+use Rattle.std.proofs.Common.{◌≡◌, ℕ, List, sym, ap, ◌∙◌, subst, true}
 use Rattle.std.proofs.lemmas.List.{append-nil}
 use Rattle.document_grammar.specs.declared.kind.SyntaxKind.{SyntaxKind}
-use Rattle.document_grammar.specs.declared.kind.SyntaxKind.TheVariants.{NAME, INT_VALUE, STRING_VALUE, BOOLEAN_VALUE}
+use Rattle.document_grammar.specs.declared.kind.SyntaxKind.TheVariants.{NAME, INT_VALUE, STRING_VALUE}
 use Rattle.document_grammar.specs.Forests.{Forest, Tree, Leaf, Node, text}
 use Rattle.apollo_tree.specs.Order.{tree_kind, tree_text, is_node}
 use Rattle.document_grammar.specs.Numbers.{is_kind}
-use Rattle.apollo_tree.specs.Sound.{Fits, IsOneLeaf, IsNameLeaf, IsIntLeaf, IsStringLeaf, IsBooleanLeaf, IsSoundTree}
+use Rattle.apollo_tree.specs.Sound.{Fits, IsOneLeaf, IsNameLeaf, IsIntLeaf, IsStringLeaf, IsSoundTree}
 use Rattle.lexical_grammar.specs.Tokens.{IsName, IsString}
 use Rattle.lexical_grammar.specs.Numbers.{IsIntegerPart}
 
