@@ -12,7 +12,7 @@ use apollo_cst_document::Document;
 use apollo_cst_exec::SelectionSet;
 use apollo_cst_value::Ty;
 use apollo_lexer::{Error, LimitTracker};
-use apollo_tree::{Subtree, SyntaxNode};
+use apollo_tree::{IndexedElement, Subtree, SyntaxNode};
 use std::alloc::{AllocError, Allocator, Global};
 use std::fmt;
 use std::marker::{Model, PhantomData};
@@ -68,11 +68,12 @@ impl<R: Root, A: Allocator> Model for SyntaxTree<R, A> {
 }
 
 impl<R: Root, A: Allocator> SyntaxTree<R, A> {
-    ghost use Rattle.std.specs.Prelude.{◌≡◌};
+    ghost use Rattle.std.specs.Prelude.{◌≡◌, ◌<◌};
     ghost use Rattle.std.specs.Slice.Iter.{iter_rest};
     ghost use Rattle.std.specs.Prelude.{length};
     ghost use Rattle.document_grammar.specs.Forests.{text};
     ghost use Rattle.apollo_tree.specs.Order.{order, text_at};
+    ghost use Rattle.apollo_tree.specs.Indexed.{indexed};
     ghost use Rattle.apollo_tree.specs.References.{node_place};
 
     /// The root, which holds all of the text.
@@ -109,6 +110,15 @@ impl<R: Root, A: Allocator> SyntaxTree<R, A> {
         ensures { result ≡ length (order self.now.tree) }
     {
         self.tree.element_count()
+    }
+
+    /// The element with an index, in constant time. The index counts the elements before it in document order: the root has 0, and any
+    /// index below `element_count` is one.
+    pub fn element(&self, index: usize) -> IndexedElement
+        requires { index < length (order self.now.tree) }
+        ensures { result ≡ indexed (record { whole = self.now.tree; index = index }) }
+    {
+        self.tree.element(index)
     }
 }
 

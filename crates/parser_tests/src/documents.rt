@@ -220,6 +220,11 @@ recursion limit: 500, high: 0",
     for (source, count, wanted) in rows {
         let tree = parse(rt.alloc(), source)?;
         assert_eq!(rt; tree.element_count(), count, "{source}");
+        assert!(rt; 0 < count);
+        assert_eq!(rt;
+            (tree.element(0).end, tree.element(0).after_subtree),
+            (source.len(), count)
+        );
         let printed = format!(in rt.alloc(); "{tree:?}")?;
         assert_eq!(rt; printed.as_str(), wanted);
         let copy = tree.try_clone(rt.alloc())?;

@@ -1,0 +1,52 @@
+// An element as plain numbers, which refer to other elements by their index in document order.
+ghost use Rattle.std.specs.Prelude.{◌≡◌, ◌<◌, length};
+ghost use Rattle.apollo_tree.specs.Forms.{readable};
+ghost use Rattle.apollo_tree.specs.Indexed.{indexed};
+ghost use Rattle.apollo_tree.specs.References.{table_place};
+
+use crate::node::Table;
+use document_grammar::SyntaxKind;
+
+/// A node or a leaf of a tree as plain numbers. It borrows nothing, so it can be written into a table or handed to another language.
+///
+/// An index counts the elements before an element in document order. The elements below a node with the index `i` are those from `i + 1`
+/// up to `after_subtree`: its first child, if it has one, is `i + 1`, and the child after a child `c` is the one with `c`'s `after_subtree`.
+#[derive(Clone, Copy, PartialEq, Eq, Debug)]
+pub struct IndexedElement {
+    /// The element's kind.
+    pub kind: SyntaxKind,
+    /// Whether it is a node; else it is a leaf, which is a token of the text.
+    pub is_node: bool,
+    /// The byte offset at which its text begins.
+    pub start: usize,
+    /// The byte offset at which its text has ended, which is that of the first byte after it.
+    pub end: usize,
+    /// The index of the node that it is a child of; `None` for the root.
+    pub parent: Option<usize>,
+    /// The index of the first element after it and all below it; the number of all elements when there is none.
+    pub after_subtree: usize,
+}
+
+impl<'t> Table<'t> {
+    // The element with an index, in constant time.
+    pub(crate) fn element(self, index: usize) -> IndexedElement
+        requires { index < length (readable self.records) }
+        ensures { result ≡ indexed (table_place self.entry index) }
+    {
+        let record = self.record(index);
+        let after_subtree = index + record.size;
+        let parent = match record.to_parent {
+            0 => None,
+            up => Some(index - up),
+        };
+        let end = self.start_from(after_subtree);
+        IndexedElement {
+            kind: record.kind,
+            is_node: record.is_node,
+            start: record.start,
+            end,
+            parent,
+            after_subtree,
+        }
+    }
+}
