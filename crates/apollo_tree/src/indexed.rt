@@ -9,13 +9,13 @@ use document_grammar::SyntaxKind;
 
 /// A node or a leaf of a tree as plain numbers. It borrows nothing, so it can be written into a table or handed to another language.
 ///
-/// An index counts the elements before an element in document order. The elements below a node with the index `i` are those from `i + 1`
-/// up to `after_subtree`: its first child, if it has one, is `i + 1`, and the child after a child `c` is the one with `c`'s `after_subtree`.
+/// An index counts the elements before an element in document order. Those below a node with the index `i` are `i + 1..after_subtree`: the
+/// first of them is its first child, and the next child after a child is at that child's own `after_subtree`.
 #[derive(Clone, Copy, PartialEq, Eq, Debug)]
 pub struct IndexedElement {
     /// The element's kind.
     pub kind: SyntaxKind,
-    /// Whether it is a node; else it is a leaf, which is a token of the text.
+    /// Whether it is a node; else it is a leaf.
     pub is_node: bool,
     /// The byte offset at which its text begins.
     pub start: usize,
