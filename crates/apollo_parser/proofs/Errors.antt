@@ -32,6 +32,11 @@ same-indices [] [] h = refl
 same-indices (r ∷ rs) (d ∷ ds) h = ap₂ (λ (i : ℕ) (is : List ℕ). i ∷ is) h.0.index (same-indices rs ds h.1)
 same-indices _ _ h = absurd h
 
+pub same-length : (rs : List Report) (ds : List Diagnostic) → AllZip IsErrorOf rs ds → length ds ≡ length rs
+same-length [] [] h = refl
+same-length (r ∷ rs) (d ∷ ds) h = ap suc (same-length rs ds h.1)
+same-length _ _ h = absurd h
+
 pub none-said : (rs : List Report) (ds : List Diagnostic) → AllZip IsErrorOf rs ds → ds ≡ [] → rs ≡ []
 none-said [] ds h e = refl
 none-said (r ∷ rs) [] h e = absurd h

@@ -14,7 +14,7 @@ use Rattle.parser_rules.proofs.recovery.LeftOver.{all-rowed, left-over}
 use Rattle.parser_rules.proofs.recovery.LaterChildren.{goes-on}
 use Rattle.parser_rules.proofs.soundness.Settled.{EndedFit}
 use Rattle.parser_rules.proofs.recovery.IgnoredPlaces.{placed}
-use Rattle.std.proofs.Common.{inl, inr, ◌≡◌, ◌≢◌, ℕ, Bool, ◌+◌, ◌<◌, ◌≤◌, arith, min, true, false, List, [], length, map, take, drop, ◌++◌, Option, Some, None, refl, sym, ap, ◌∙◌, subst, ◌∷◌}
+use Rattle.std.proofs.Common.{inl, inr, ◌≡◌, ◌≢◌, ℕ, Bool, ◌+◌, ◌*◌, ◌<◌, ◌≤◌, arith, min, true, false, List, [], length, map, take, drop, ◌++◌, Option, Some, None, refl, sym, ap, ◌∙◌, subst, ◌∷◌}
 use Rattle.std.specs.List.Sorted.{IsNonDecreasing}
 use Rattle.lexical_grammar.specs.Cut.{Cut, texts, Item}
 use Rattle.lexical_grammar.specs.Reads.{items_of}
@@ -38,7 +38,7 @@ use Rattle.apollo_parser.specs.ByRules.{ByRules}
 use Rattle.apollo_parser.specs.Promise.{Parsed, ErrorsOf, IsRecursionLimit, IsLimitWorded, IsTokenLimit, OfFirst, HasError, IsAbout, Recovers, root_children, IsLimit}
 use Rattle.apollo_lexer.specs.Diagnostics.{Diagnostic, of_text, of_limit}
 use Rattle.parser_state.specs.Errors.{found_of, IsErrorOf}
-use Rattle.apollo_parser.proofs.Errors.{same-indices, none-said, none-told, token-limit-told, no-recursion, subject-limit, any-recursion, ascii-messages, limited-ascii, limit-worded, any-limit, any-said, fault-text, errors-along}
+use Rattle.apollo_parser.proofs.Errors.{same-indices, same-length, none-said, none-told, token-limit-told, no-recursion, subject-limit, any-recursion, ascii-messages, limited-ascii, limit-worded, any-limit, any-said, fault-text, errors-along}
 use Rattle.apollo_parser.proofs.Roots.{finished-node}
 use Rattle.parser_rules.specs.State.{State, Lexeme, Report, fault_report, is_over, begun, finished, add_all}
 use Rattle.parser_rules.specs.Nodes.{Document}
@@ -53,6 +53,9 @@ use Rattle.parser_rules.proofs.runs.Frame.{root-kept, root-stays, begun-nesting,
 use Rattle.parser_rules.proofs.leaves.OneLeaf.{document-leaves, document-over, document-read, leaves-text}
 use Rattle.parser_rules.proofs.reports.InOrder.{in-order}
 use Rattle.parser_rules.proofs.nesting.Nesting.{nesting}
+use Rattle.parser_rules.proofs.sizes.Sizes.{Sized, document-sized, finished-count}
+use Rattle.apollo_tree.specs.Order.{order}
+use Rattle.apollo_tree.proofs.Places.{length-order}
 use Rattle.parser_rules.proofs.soundness.Soundness.{sound, clean}
 use Rattle.parser_rules.proofs.reports.AlongItems.{reported}
 use Rattle.document_grammar.specs.Forests as built
@@ -163,6 +166,17 @@ module _ {source : List ℕ} {r k : ℕ} {t : Parsed} (p : ByRules source r k t)
       let limit : s.limit ≡ r = (begun-nesting xs r kind.DOCUMENT p.run).1 in
       let high : r < s.high = rw p.recursion_limit at more in
       any-limit s.errors t.errors p.errors (limit-reported r xs s no-end p.run (omega (arith, limit, high)))
+
+  -- ---- how much there is
+
+  all-sized : Sized (min (length items) k) s
+  all-sized = document-sized k items r s p.run
+
+  pub element-count : length (order t.tree) ≤ 5 * min (length items) k + 1
+  element-count = rw p.tree (let e = length-order 0 0 None (finished s) in let f = finished-count s in let b = all-sized.elements in omega (arith, e, f, b))
+
+  pub error-count : length t.errors ≤ 3 * min (length items) k + 1
+  error-count = let e = same-length s.errors t.errors p.errors in let b = all-sized.reports in omega (arith, e, b)
 
   -- ---- its errors
 

@@ -1,5 +1,5 @@
 -- What a run of a root's rule over the items of a text comes to, and so what the parse of a part of a document promises.
-use Rattle.std.proofs.Common.{◌≡◌, ℕ, ◌+◌, ◌^◌, ◌<◌, ◌≤◌, arith, min, List, [], ◌∷◌, ◌++◌, length, map, take, drop, refl, sym, ap, ◌∙◌, subst, append_assoc, append-nil}
+use Rattle.std.proofs.Common.{◌≡◌, ℕ, ◌+◌, ◌*◌, ◌^◌, ◌<◌, ◌≤◌, arith, min, None, List, [], ◌∷◌, ◌++◌, length, map, take, drop, refl, sym, ap, ◌∙◌, subst, append_assoc, append-nil}
 use Rattle.std.specs.Str.{IsAscii}
 use Rattle.std.specs.List.{Any, All}
 use Rattle.std.specs.List.Sorted.{IsNonDecreasing}
@@ -33,10 +33,13 @@ use Rattle.parser_rules.proofs.nesting.Nesting.{root-nesting}
 use Rattle.parser_rules.proofs.fragments.RootChecks.{RootRule}
 use Rattle.parser_rules.proofs.fragments.PartTexts.{IsSoundPart}
 use Rattle.parser_rules.proofs.fragments.RootRuns.{root-above, levels-left, all-asked, limit-passed, front-reported, ordered-front}
+use Rattle.parser_rules.proofs.sizes.Sizes.{Sized, finished-count}
+use Rattle.apollo_tree.specs.Order.{order}
+use Rattle.apollo_tree.proofs.Places.{length-order}
 use Rattle.apollo_parser.specs.ByRules.{ByRootRule}
 use Rattle.apollo_parser.specs.Promise.{Parsed, IsRecursionLimit, IsLimitWorded}
 use Rattle.apollo_parser.specs.Parts.{FirstLeaves, FirstErrors}
-use Rattle.apollo_parser.proofs.Errors.{AllTexts, none-said, none-told, same-indices, any-recursion, ascii-messages, limited-ascii, limit-worded, any-limit, errors-along}
+use Rattle.apollo_parser.proofs.Errors.{AllTexts, none-said, none-told, same-indices, same-length, any-recursion, ascii-messages, limited-ascii, limit-worded, any-limit, errors-along}
 use Rattle.apollo_parser.proofs.Roots.{finished-node}
 use Rattle.apollo_parser.proofs.Parses.{answers}
 
@@ -98,6 +101,14 @@ module _ {j : SyntaxKind} {q : Rule} {source : List ℕ} {r k : ℕ} {t : Parsed
       let a = all-asked (answers k source) r j p.run ∙ limited-length k (items_of source) in
       let h = p.token_limit.2 in
       (p.token_limit.1, omega (arith, a, h))
+
+  -- as large as what the run built and reported
+  module _ (sized : Sized (min (length (items_of source)) k) p.last) where
+    pub part-elements : length (order t.tree) ≤ 5 * min (length (items_of source)) k + 1
+    part-elements = rw p.tree (let e = length-order 0 0 None (finished (left_out p.last)) in let f = finished-count (left_out p.last) in let b = sized.elements in omega (arith, e, f, b))
+
+    pub part-error-count : length t.errors ≤ 3 * min (length (items_of source)) k + 1
+    part-error-count = let e = same-length p.last.errors t.errors p.errors in let b = sized.reports in omega (arith, e, b)
 
   pub part-errors : FirstErrors (answers k source) t.errors
   part-errors = let f = front-reported (answers k source) r j p.run in record { front = f.front; back = f.back; split = f.split; errors = errors-along f.reported t.errors p.errors }

@@ -8,6 +8,7 @@ ghost use Rattle.lexical_grammar.specs.Cut.{Cut, texts};
 ghost use Rattle.lexical_grammar.specs.Reads.{items_of};
 ghost use Rattle.apollo_lexer.specs.Answers.{answers_left};
 ghost use Rattle.apollo_lexer.specs.Diagnostics.{of_limit};
+ghost use Rattle.apollo_tree.specs.Order.{order};
 ghost use Rattle.document_grammar.specs.declared.kind.SyntaxKind.TheVariants as kind;
 ghost use Rattle.document_grammar.specs.Forests.{Forest, none, node, text};
 ghost use Rattle.document_grammar.specs.Derivation.{document as document_sort, selections as selections_sort, type as type_sort, nest};
@@ -153,6 +154,10 @@ impl<'i> Parser<'i> {
         // the greatest depth that was asked for covers what the tree nests, also where there are errors
         ensures nesting { IfOk result (λ t. nest (tree_of t.tree) ≤ t.recursion_limit.high) }
         ensures tokens { IfOk result (λ t. (t.token_limit.limit ≡ self.entry.token_limit) × (t.token_limit.high ≡ min (length (items_of self.entry.source.now)) (self.entry.token_limit + 1))) }
+        // there are at most five elements for each item that is read, and the root
+        ensures elements { IfOk result (λ t. length (order t.tree) ≤ 5 * min (length (items_of self.entry.source.now)) self.entry.token_limit + 1) }
+        // there are at most three errors for each item that is read, and one more
+        ensures error_count { IfOk result (λ t. length t.errors ≤ 3 * min (length (items_of self.entry.source.now)) self.entry.token_limit + 1) }
         // the errors go along the items: one for each bad text and for the token limit, in the lexer's words; the grammar's and the recursion
         // limit's, word by word, at significant tokens or the end, and none of these after a limit error
         ensures errors { IfOk result (λ t. ErrorsOf (limited self.entry.token_limit (items_of self.entry.source.now)) t.errors) }
@@ -211,6 +216,10 @@ impl<'i> Parser<'i> {
         // the greatest depth that was asked for covers what the tree nests, also where there are errors
         ensures nesting { IfOk result (λ t. nest (tree_of t.tree) ≤ t.recursion_limit.high) }
         ensures tokens { IfOk result (λ t. (t.token_limit.limit ≡ self.entry.token_limit) × (t.token_limit.high ≡ min (length (items_of self.entry.source.now)) (self.entry.token_limit + 1))) }
+        // there are at most five elements for each item that is read, and the root
+        ensures elements { IfOk result (λ t. length (order t.tree) ≤ 5 * min (length (items_of self.entry.source.now)) self.entry.token_limit + 1) }
+        // there are at most three errors for each item that is read, and one more
+        ensures error_count { IfOk result (λ t. length t.errors ≤ 3 * min (length (items_of self.entry.source.now)) self.entry.token_limit + 1) }
         // the errors go along the items: one for each bad text and for the token limit, in the lexer's words; the grammar's and the recursion
         // limit's, word by word, at significant tokens or the end, and none of these after a limit error
         ensures errors { IfOk result (λ t. ErrorsOf (limited self.entry.token_limit (items_of self.entry.source.now)) t.errors) }
@@ -296,6 +305,10 @@ impl<'i> Parser<'i> {
         // the greatest depth that was asked for covers what the tree nests, also where there are errors
         ensures nesting { IfOk result (λ t. nest (tree_of t.tree) ≤ t.recursion_limit.high) }
         ensures tokens { IfOk result (λ t. (t.token_limit.limit ≡ self.entry.token_limit) × (t.token_limit.high ≤ min (length (items_of self.entry.source.now)) (self.entry.token_limit + 1))) }
+        // there are at most five elements for each item that is read, and the root
+        ensures elements { IfOk result (λ t. length (order t.tree) ≤ 5 * min (length (items_of self.entry.source.now)) self.entry.token_limit + 1) }
+        // there are at most three errors for each item that is read, and one more
+        ensures error_count { IfOk result (λ t. length t.errors ≤ 3 * min (length (items_of self.entry.source.now)) self.entry.token_limit + 1) }
         // the errors go along the first items, as those of a document do along all
         ensures errors { IfOk result (λ t. FirstErrors (limited self.entry.token_limit (items_of self.entry.source.now)) t.errors) }
         // a limit's error has a limit's message, and no other error has one
@@ -358,6 +371,10 @@ impl<'i> Parser<'i> {
         // the greatest depth that was asked for covers what the tree nests, also where there are errors
         ensures nesting { IfOk result (λ t. nest (tree_of t.tree) ≤ t.recursion_limit.high) }
         ensures tokens { IfOk result (λ t. (t.token_limit.limit ≡ self.entry.token_limit) × (t.token_limit.high ≤ min (length (items_of self.entry.source.now)) (self.entry.token_limit + 1))) }
+        // there are at most five elements for each item that is read, and the root
+        ensures elements { IfOk result (λ t. length (order t.tree) ≤ 5 * min (length (items_of self.entry.source.now)) self.entry.token_limit + 1) }
+        // there are at most three errors for each item that is read, and one more
+        ensures error_count { IfOk result (λ t. length t.errors ≤ 3 * min (length (items_of self.entry.source.now)) self.entry.token_limit + 1) }
         // the errors go along the first items, as those of a document do along all
         ensures errors { IfOk result (λ t. FirstErrors (limited self.entry.token_limit (items_of self.entry.source.now)) t.errors) }
         // a limit's error has a limit's message, and no other error has one

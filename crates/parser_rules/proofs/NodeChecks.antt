@@ -13,6 +13,7 @@ use Rattle.grammar_machine.proofs.Steps.{goes, closes, sticks}
 use Rattle.grammar_machine.proofs.Patterns.{label}
 use Rattle.parser_rules.specs.declared.constness.Constness.TheVariants.{Const, NotConst}
 use Rattle.parser_rules.specs.Nodes.{Node, Arguments, Argument, Directives, Directive, ListValue, ObjectValue, ObjectField, symbol, Document, Definition}
+use Rattle.grammar_machine.proofs.Sound.{any}
 use Rattle.parser_rules.specs.RuleLanguage.{While, Ready, Call}
 use Rattle.parser_rules.proofs.runs.Progress.{consuming}
 use Rattle.parser_rules.proofs.lookahead.Split.{split, divide}
@@ -24,6 +25,7 @@ use Rattle.parser_rules.proofs.reports.LimitCheck.{unknown as unknown_token, lim
 use Rattle.document_grammar.proofs.Nested.{weight}
 use Rattle.parser_rules.proofs.runs.Walk.{walk, checks, always}
 use Rattle.parser_rules.proofs.recovery.RecoveryCheck.{pop_check, row_check, tidy_check, of_row, leaf_of_row, unknown, any_token}
+use Rattle.parser_rules.proofs.sizes.SizeCheck.{walk as size_walk, saved, pays_for_itself, root_pays, PaysForAll, element_rates, report_rates}
 
 -- what can be wrong with a rule
 data Fault : Type 0 where
@@ -41,6 +43,10 @@ data Fault : Type 0 where
   ForeignSymbol : Fault
   -- a token becomes an ignored leaf
   IgnoredToken : Fault
+  -- it adds more elements than its items pay for
+  TooManyElements : Fault
+  -- it makes more reports than its items pay for
+  TooManyReports : Fault
 
 abbrev unless : Bool → Fault → List Fault → List Fault
 unless b fault more = cond b more (fault ∷ more)
@@ -53,11 +59,13 @@ faults c =
     (unless (checks limit_check c) UncertainToken
     (unless (checks pop_check c) WrongErrorLeaf
     (unless (checks row_check c) ForeignSymbol
-    (unless (checks tidy_check c) IgnoredToken []))))))
+    (unless (checks tidy_check c) IgnoredToken
+    (unless (pays_for_itself element_rates c) TooManyElements
+    (unless (pays_for_itself report_rates c) TooManyReports []))))))))
 
 -- all that the checks compute with
 unfoldable pub computing : Unit {0}
-unfolding ◌and◌ ◌or◌ is_leaf at ends exit arcs target entries rows firsts goes closes sticks label labels member Row symbol consuming split divide first_of first_in second_of looks inlined own covered turns levels leaf_of loses lacks leaves_well exits row_of takes ends_at closing child_goes child_sticks child_at limits_at nests typed type_at reports is_node ok ends_well root_ends part_ends belongs leaf_check weight walk pop_check row_check tidy_check of_row leaf_of_row follows_table level_check limit_check document_follows turns_follow
+unfolding ◌and◌ ◌or◌ is_leaf at ends exit arcs target entries rows firsts goes closes sticks label labels member Row symbol consuming split divide first_of first_in second_of looks inlined own covered turns levels leaf_of loses lacks leaves_well exits row_of takes ends_at closing child_goes child_sticks child_at limits_at nests typed type_at reports is_node ok ends_well root_ends part_ends belongs leaf_check weight walk pop_check row_check tidy_check of_row leaf_of_row follows_table level_check limit_check document_follows turns_follow size_walk saved pays_for_itself root_pays
 computing = tt
 
 -- No node's rule is at fault. A node with a place is looked at in both.
@@ -93,6 +101,8 @@ pub record SoundRule (c : Node) : Type 0 where
   pub errors : checks pop_check c ≡ true
   pub row : checks row_check c ≡ true
   pub ignored : checks tidy_check c ≡ true
+  pub elements : pays_for_itself element_rates c ≡ true
+  pub reports : pays_for_itself report_rates c ≡ true
 
 pub node-passes : (c : Node) → SoundRule c
 unfolding faults
@@ -104,7 +114,17 @@ node-passes c =
     let f = no-fault _ _ _ e.1 in
     let g = no-fault _ _ _ f.1 in
     let h = no-fault _ _ _ g.1 in
-    record { table = a.0; leaves = b.0; levels = d.0; limits = e.0; errors = f.0; row = g.0; ignored = h.0 }
+    let i = no-fault _ _ _ h.1 in
+    let j = no-fault _ _ _ i.1 in
+    record { table = a.0; leaves = b.0; levels = d.0; limits = e.0; errors = f.0; row = g.0; ignored = h.0; elements = i.0; reports = j.0 }
+
+document-elements : root_pays element_rates any (Call Document) ≡ true
+unfolding computing
+document-elements = refl
+
+document-reports : root_pays report_rates any (Call Document) ≡ true
+unfolding computing
+document-reports = refl
 
 -- The document's rule passes each check, and so does its loop from any turn on.
 pub record DocumentRule : Type 0 where
@@ -116,7 +136,8 @@ pub record DocumentRule : Type 0 where
   pub errors : walk pop_check 5 (Call Document) (unknown any_token) always ≡ true
   pub row : walk row_check 5 (Call Document) (record { own = DOCUMENT; later = DOCUMENT }) (row_check.ends kind.DOCUMENT) ≡ true
   pub ignored : walk tidy_check 5 (Call Document) false always ≡ true
+  pub sizes : PaysForAll any (Call Document)
 
 pub document_passes : DocumentRule
 unfolding computing
-document_passes = record { table = refl; turns = refl; leaves = refl; levels = refl; limits = refl; errors = refl; row = refl; ignored = refl }
+document_passes = record { table = refl; turns = refl; leaves = refl; levels = refl; limits = refl; errors = refl; row = refl; ignored = refl; sizes = record { elements = document-elements; reports = document-reports } }

@@ -2,6 +2,7 @@ pub mod RootChecks
 pub mod FrontReports
 pub mod RootRuns
 pub mod WrappedRuns
+pub mod RootSizes
 pub mod TypeRoots
 pub mod Parts
 pub mod TypeParts

@@ -1,5 +1,5 @@
 -- The rules of the roots of fragment parses pass the checks.
-use Rattle.std.proofs.Common.{◌≡◌, true, false, eqb, leb, refl}
+use Rattle.std.proofs.Common.{◌≡◌, ◌^◌, true, false, eqb, leb, refl}
 use Rattle.document_grammar.specs.declared.kind.SyntaxKind.{SyntaxKind}
 use Rattle.document_grammar.specs.declared.kind.SyntaxKind.TheVariants as kind
 use Rattle.document_grammar.specs.Booleans.{◌and◌}
@@ -10,7 +10,7 @@ use Rattle.lexical_grammar.specs.declared.TokenKind.TheVariants as token
 use Rattle.document_grammar.specs.Kinds.{SELECTION_SET}
 use Rattle.grammar_machine.specs.Symbols.{TYPE, BARE_SELECTIONS}
 use Rattle.grammar_machine.proofs.Sound.{any}
-use Rattle.parser_rules.proofs.lookahead.TokenSets.{kind_set}
+use Rattle.parser_rules.proofs.lookahead.TokenSets.{kind_set, absent, present as a_token}
 use Rattle.parser_rules.proofs.lookahead.Split.{low, firm, spot}
 use Rattle.parser_rules.proofs.soundness.TableCheck.{Then, own, no_brace, part_ends, ok}
 use Rattle.document_grammar.specs.Numbers.{number}
@@ -23,6 +23,7 @@ use Rattle.parser_rules.proofs.runs.Walk.{walk, always}
 use Rattle.parser_rules.proofs.leaves.LeafCheck.{anything, leaf_check}
 use Rattle.parser_rules.proofs.nesting.LevelCheck.{at_first, level_check}
 use Rattle.parser_rules.proofs.reports.LimitCheck.{present, limit_check}
+use Rattle.parser_rules.proofs.sizes.SizeCheck.{PaysForAll}
 use Rattle.parser_rules.proofs.NodeChecks.{computing}
 
 -- a rule of an open root of the kind passes each check
@@ -88,3 +89,29 @@ type_follows = (refl, refl)
 pub selections_follow : follows_part SELECTION_SET (kind_set token.LCurly) selections_root × follows_part BARE_SELECTIONS no_brace selections_root
 unfolding computing
 selections_follow = (refl, refl)
+
+-- a root's rule pays for its elements and its reports, where no token is at first and where one is
+pub record PaidRoot (q : Rule) : Type 0 where
+  pub none : PaysForAll (2 ^ absent) q
+  pub some : PaysForAll a_token q
+
+pub selections_paid : PaidRoot selections_root
+unfolding computing
+selections_paid = record { none = record { elements = refl; reports = refl }; some = record { elements = refl; reports = refl } }
+
+pub list_paid : PaidRoot list_root
+unfolding computing
+list_paid = record { none = record { elements = refl; reports = refl }; some = record { elements = refl; reports = refl } }
+
+pub named_paid : PaidRoot named_root
+unfolding computing
+named_paid = record { none = record { elements = refl; reports = refl }; some = record { elements = refl; reports = refl } }
+
+-- it runs only where a type starts
+pub non_null_paid : PaidRoot (When (Here type_start) non_null_root Skip)
+unfolding computing
+non_null_paid = record { none = record { elements = refl; reports = refl }; some = record { elements = refl; reports = refl } }
+
+pub no_type_paid : PaidRoot no_type_root
+unfolding computing
+no_type_paid = record { none = record { elements = refl; reports = refl }; some = record { elements = refl; reports = refl } }

@@ -57,7 +57,7 @@ flushed-around k parts =
     let b = added-all parts nothing in
     ap₂ (λ (here : Forest) (above : List Open). record { here = here; above = above }) (a.here ∙ sym b.here) a.above
 
-started-around : (xs : List Answer) (r : ℕ) (k : SyntaxKind) → started xs r k ≡ record (unopened xs r) { tree = around_all k (unopened xs r).tree }
+pub started-around : (xs : List Answer) (r : ℕ) (k : SyntaxKind) → started xs r k ≡ record (unopened xs r) { tree = around_all k (unopened xs r).tree }
 unfolding flush
 started-around xs r k =
     let one : State = record (fresh xs r k) { tree = nothing } in

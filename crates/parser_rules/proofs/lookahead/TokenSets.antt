@@ -263,7 +263,7 @@ pub holds-none : {A : Type 0} (a : ℕ) → within a 0 ≡ true → A
 unfolding within
 holds-none a h = let z : bit_at 0 a ≡ 0 = bit_at-zero a in let e : bit_at 0 a ≡ 1 = eqb-true _ _ h in absurd (omega (arith, z, e))
 
-part-live : (a z : ℕ) (f : ℕ → Bool) → part true z f ≡ true → within a z ≡ true → f z ≡ true
+pub part-live : (a z : ℕ) (f : ℕ → Bool) → part true z f ≡ true → within a z ≡ true → f z ≡ true
 part-live a z f h i = elim (either (eqb z 0)) [ inl p ↦ holds-none a (subst (λ n. within a n ≡ true) (eqb-true _ _ p) i) | inr p ↦ (rw p at h) ]
 
 abbrev pub Branch : (ℕ → ℕ → Bool) → State → Type 0

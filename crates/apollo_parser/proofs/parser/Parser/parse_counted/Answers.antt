@@ -1,5 +1,5 @@
 use Rattle.std.proofs.lemmas.Result.{IfOk-weaker}
-use Rattle.apollo_parser.proofs.Parses.{lossless, one-document, one-leaf, recursion, nested, tokens, errors, ascii_messages, limit-met, past-limit, limit-words, ordered, sound-tree, accepts, only-derivation, still-a-sentence, placed-leaves, not-late-of, not-early-of, not-early-limit-of, ended-nodes-of, all-rowed-of, recovers-of}
+use Rattle.apollo_parser.proofs.Parses.{lossless, one-document, one-leaf, recursion, nested, tokens, element-count, error-count, errors, ascii_messages, limit-met, past-limit, limit-words, ordered, sound-tree, accepts, only-derivation, still-a-sentence, placed-leaves, not-late-of, not-early-of, not-early-limit-of, ended-nodes-of, all-rowed-of, recovers-of}
 use Rattle.apollo_parser.proofs.parser.Parser.parse_counted.Goals as goal
 
 pub returns : goal.returns
@@ -12,6 +12,8 @@ returns g c = record {
   recursion = IfOk-weaker c.run_document.result _ _ (λ t p. recursion p) c.run_document.ensures.run;
   nesting = IfOk-weaker c.run_document.result _ _ (λ t p. nested p) c.run_document.ensures.run;
   tokens = IfOk-weaker c.run_document.result _ _ (λ t p. tokens p) c.run_document.ensures.run;
+  elements = IfOk-weaker c.run_document.result _ _ (λ t p. element-count p) c.run_document.ensures.run;
+  error_count = IfOk-weaker c.run_document.result _ _ (λ t p. error-count p) c.run_document.ensures.run;
   errors = IfOk-weaker c.run_document.result _ _ (λ t p. errors p) c.run_document.ensures.run;
   ascii = IfOk-weaker c.run_document.result _ _ (λ t p. ascii_messages p) c.run_document.ensures.run;
   limit_met = IfOk-weaker c.run_document.result _ _ (λ t p. limit-met p) c.run_document.ensures.run;

@@ -1,8 +1,10 @@
 use Rattle.std.proofs.lemmas.Result.{IfOk-weaker}
 use Rattle.document_grammar.specs.Derivation.{selections}
 use Rattle.parser_rules.proofs.fragments.PartTexts.{selections-sound, selections-accepted}
-use Rattle.parser_rules.proofs.fragments.RootChecks.{selections_pass}
-use Rattle.apollo_parser.proofs.RootParses.{part-root, part-begins, part-leaves, part-recursion, part-limit-met, part-past-limit, part-nested, part-tokens, part-errors, part-limit-words, part-ascii, part-in-order, part-sentence, part-accepts}
+use Rattle.document_grammar.specs.declared.kind.SyntaxKind.TheVariants as kind
+use Rattle.parser_rules.proofs.fragments.RootChecks.{selections_pass, selections_paid}
+use Rattle.parser_rules.proofs.fragments.RootSizes.{root-sized}
+use Rattle.apollo_parser.proofs.RootParses.{part-root, part-begins, part-leaves, part-recursion, part-limit-met, part-past-limit, part-nested, part-tokens, part-elements, part-error-count, part-errors, part-limit-words, part-ascii, part-in-order, part-sentence, part-accepts}
 use Rattle.apollo_parser.proofs.parser.Parser.parse_selection_set.Goals as goal
 
 pub returns-clause-cut : goal.returns-clause-cut
@@ -31,6 +33,12 @@ returns-clause-nesting g c = IfOk-weaker c.run_selection_set.result _ _ (λ t p.
 
 pub returns-clause-tokens : goal.returns-clause-tokens
 returns-clause-tokens g c = IfOk-weaker c.run_selection_set.result _ _ (λ t p. part-tokens p) c.run_selection_set.ensures
+
+pub returns-clause-elements : goal.returns-clause-elements
+returns-clause-elements g c = IfOk-weaker c.run_selection_set.result _ _ (λ t p. part-elements p (root-sized _ _ _ kind.SELECTION_SET selections_paid p.run)) c.run_selection_set.ensures
+
+pub returns-clause-error_count : goal.returns-clause-error_count
+returns-clause-error_count g c = IfOk-weaker c.run_selection_set.result _ _ (λ t p. part-error-count p (root-sized _ _ _ kind.SELECTION_SET selections_paid p.run)) c.run_selection_set.ensures
 
 pub returns-clause-errors : goal.returns-clause-errors
 returns-clause-errors g c = IfOk-weaker c.run_selection_set.result _ _ (λ t p. part-errors p) c.run_selection_set.ensures

@@ -2,7 +2,8 @@ use Rattle.std.proofs.lemmas.Result.{IfOk-weaker}
 use Rattle.document_grammar.specs.Derivation.{type}
 use Rattle.parser_rules.proofs.fragments.PartTexts.{types-sound, types-accepted}
 use Rattle.parser_rules.proofs.fragments.RootChecks.{type_passes}
-use Rattle.apollo_parser.proofs.RootParses.{part-begins, part-leaves, part-recursion, part-limit-met, part-past-limit, part-nested, part-tokens, part-errors, part-limit-words, part-ascii, part-in-order, part-sentence, part-accepts}
+use Rattle.parser_rules.proofs.fragments.RootSizes.{type-sized}
+use Rattle.apollo_parser.proofs.RootParses.{part-begins, part-leaves, part-recursion, part-limit-met, part-past-limit, part-nested, part-tokens, part-elements, part-error-count, part-errors, part-limit-words, part-ascii, part-in-order, part-sentence, part-accepts}
 use Rattle.apollo_parser.proofs.TypeParses.{one-type}
 use Rattle.apollo_parser.proofs.parser.Parser.parse_type.Goals as goal
 
@@ -32,6 +33,12 @@ returns-clause-nesting g c = IfOk-weaker c.run_type.result _ _ (λ t p. part-nes
 
 pub returns-clause-tokens : goal.returns-clause-tokens
 returns-clause-tokens g c = IfOk-weaker c.run_type.result _ _ (λ t p. part-tokens p.root) c.run_type.ensures
+
+pub returns-clause-elements : goal.returns-clause-elements
+returns-clause-elements g c = IfOk-weaker c.run_type.result _ _ (λ t p. part-elements p.root (type-sized _ _ _ p.is p.root.run)) c.run_type.ensures
+
+pub returns-clause-error_count : goal.returns-clause-error_count
+returns-clause-error_count g c = IfOk-weaker c.run_type.result _ _ (λ t p. part-error-count p.root (type-sized _ _ _ p.is p.root.run)) c.run_type.ensures
 
 pub returns-clause-errors : goal.returns-clause-errors
 returns-clause-errors g c = IfOk-weaker c.run_type.result _ _ (λ t p. part-errors p.root) c.run_type.ensures

@@ -1,0 +1,40 @@
+-- How many elements and reports a part of a document can have that is parsed by itself.
+use Rattle.std.proofs.Common.{◌≡◌, ℕ, ◌^◌, min, true, is_some, List, length, sym, ap, ◌∙◌, subst, inl, inr}
+use Rattle.lexical_grammar.specs.Cut.{Item}
+use Rattle.lexical_grammar.specs.Answers.{Answer, limited}
+use Rattle.document_grammar.specs.declared.kind.SyntaxKind.{SyntaxKind}
+use Rattle.document_grammar.proofs.Booleans.{either, not-some}
+use Rattle.grammar_machine.specs.Machine.{holds as within}
+use Rattle.parser_rules.specs.State.{State, flush, fresh, begun}
+use Rattle.parser_rules.specs.RuleLanguage.{Rule, Here, holds, fits}
+use Rattle.parser_rules.specs.Rules.{type_start}
+use Rattle.parser_rules.specs.Runs.{Runs, yes}
+use Rattle.parser_rules.specs.Fragments.{started, unopened, IsTypeRoot, a_list, a_name, not_null, no_type}
+use Rattle.parser_rules.proofs.runs.Reading.{reading, found}
+use Rattle.parser_rules.proofs.lookahead.TokenSets.{absent, present, class_of, present-is, edges}
+use Rattle.parser_rules.proofs.sizes.Costs.{flush-cost}
+use Rattle.parser_rules.proofs.sizes.Sizes.{Sized, sized}
+use Rattle.parser_rules.proofs.fragments.RootChecks.{PaidRoot, list_paid, named_paid, non_null_paid, no_type_paid}
+use Rattle.parser_rules.proofs.fragments.WrappedRuns.{started-around}
+
+pub root-sized : {q : Rule} {s : State} (n : ℕ) (items : List Item) (limit : ℕ) (k : SyntaxKind) → PaidRoot q → Runs q (started (limited n items) limit k) s → Sized (min (length items) n) s
+unfolding flush
+root-sized n items limit k pays run =
+    let xs : List Answer = limited n items in
+    let b : State = begun xs limit k in
+    let shown = (found (reading xs (fresh xs limit k))).shown in
+    elim (either (is_some b.current)) [
+      | inl p ↦ sized n items limit k present pays.some (λ d. flush-cost d b) shown (sym (present-is b.current shown) ∙ p) run
+      | inr p ↦ sized n items limit k (2 ^ absent) pays.none (λ d. flush-cost d b) shown (subst (λ o. within (class_of o) (2 ^ absent) ≡ true) (sym (not-some b.current p)) edges.none_one) run
+    ]
+
+-- the first token is the same, whether the root is open or not
+still-starts : (xs : List Answer) (limit : ℕ) (k : SyntaxKind) → true ≡ holds (Here type_start) (unopened xs limit) → true ≡ holds (Here type_start) (started xs limit k)
+unfolding holds
+still-starts xs limit k e = e ∙ ap (λ (s : State). fits type_start s.current) (sym (started-around xs limit k))
+
+pub type-sized : {k : SyntaxKind} {q : Rule} {s : State} (n : ℕ) (items : List Item) (limit : ℕ) → IsTypeRoot (unopened (limited n items) limit) k q → Runs q (started (limited n items) limit k) s → Sized (min (length items) n) s
+type-sized {k = k} n items limit (a_list e) run = root-sized n items limit k list_paid run
+type-sized {k = k} n items limit (a_name e) run = root-sized n items limit k named_paid run
+type-sized {k = k} n items limit (not_null e) run = root-sized n items limit k non_null_paid (yes (still-starts (limited n items) limit k e) run)
+type-sized {k = k} n items limit (no_type e) run = root-sized n items limit k no_type_paid run

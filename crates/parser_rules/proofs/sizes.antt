@@ -1,0 +1,3 @@
+pub mod SizeCheck
+pub mod Costs
+pub mod Sizes
