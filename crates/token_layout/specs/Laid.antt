@@ -1,0 +1,35 @@
+-- What a writer has written: which significant tokens and comments, and what the text ends with.
+use Rattle.std.specs.Prelude.{◌≡◌, ℕ, Bool, true, ◌||◌, ◌==◌, List, ◌++◌}
+use Rattle.lexical_grammar.specs.declared.TokenKind.TheVariants as token
+use Rattle.lexical_grammar.specs.declared.edge.Edge.{Edge}
+use Rattle.lexical_grammar.specs.declared.edge.Edge.TheVariants.{Whitespace}
+use Rattle.lexical_grammar.specs.Cut.{Word}
+use Rattle.lexical_grammar.specs.Edges.{may_touch, AreTokens, are_apart, last_edge, joined}
+use Rattle.lexical_grammar.specs.Kept.{kept_word, kept}
+
+-- Some tokens, each of which may directly follow the one before it, spell the text. They end with this edge, and those of them that are
+-- significant or comments are these words.
+pub record Laid (text : List ℕ) (edge : Edge) (words : List Word) : Type 0 where
+  pub all : List Word
+  pub spelled : joined all ≡ text
+  pub tokens : AreTokens all
+  pub apart : are_apart all ≡ true
+  pub ends : last_edge all ≡ edge
+  pub same : kept all ≡ words
+
+-- nothing significant was written, and no comment
+abbrev pub Keeps : List ℕ → Edge → List ℕ → Edge → Type 0
+Keeps text edge more next = (words : List Word) → Laid text edge words → Laid more next words
+
+-- the word was written, if it is significant or a comment, and no other one
+abbrev pub Adds : List ℕ → Edge → Word → List ℕ → Edge → Type 0
+Adds text edge word more next = (words : List Word) → Laid text edge words → Laid more next (words ++ kept_word word)
+
+-- a line feed or a space
+abbrev pub is_gap_byte : ℕ → Bool
+is_gap_byte b = b == 10 || b == 32
+
+-- this line feed or space may follow: in white space, which goes on, or directly after another token
+abbrev pub takes_blank : Edge → ℕ → Bool
+takes_blank Whitespace b = true
+takes_blank edge b = may_touch edge token.Whitespace b
