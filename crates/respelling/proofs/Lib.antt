@@ -1,0 +1,6 @@
+pub mod Significant
+pub mod Derivations
+pub mod Relabeled
+pub mod Sentences
+pub mod Nests
+pub mod Blocks

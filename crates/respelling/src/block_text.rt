@@ -1,0 +1,74 @@
+// How a block string is spelled in an indented line. Nothing is promised of it: its caller compares the values.
+use std::alloc::{AllocError, Allocator};
+
+// How many bytes a value of one line may have beside its quotes.
+const MAX_INLINE: usize = 70;
+
+// Whether the text begins with a space or a tab.
+fn begins_white(text: &str) -> bool {
+    text.starts_with(' ') || text.starts_with('\t')
+}
+
+// Whether there is a second line, and each line after the first is empty or indented: then the indent would be lost if the first line began
+// beside the quotes.
+fn others_are_indented(value: &str) -> bool {
+    let mut lines = value.split('\n');
+    let _first = lines.next();
+    let mut has_others = false;
+    for line in lines {
+        if !line.is_empty() && !begins_white(line) {
+            return false;
+        }
+        has_others = true;
+    }
+    has_others
+}
+
+// A new line with its indent.
+fn begin_line<A: Allocator>(text: &mut String<A>, indent: usize) -> Result<(), AllocError> {
+    text.push('\n')?;
+    for _ in 0..indent {
+        text.push(' ')?;
+    }
+    Ok(())
+}
+
+// A line, in which `"""` has a backslash before it.
+fn push_escaped<A: Allocator>(text: &mut String<A>, line: &str) -> Result<(), AllocError> {
+    let mut is_first = true;
+    for part in line.split("\"\"\"") {
+        if !is_first {
+            text.push_str("\\\"\"\"")?;
+        }
+        is_first = false;
+        text.push_str(part)?;
+    }
+    Ok(())
+}
+
+/// A block string with this value, in a line that is indented by so many spaces: beside its quotes if it is short and has one line, else with
+/// each line below the quotes.
+pub fn block_text<A: Allocator>(
+    alloc: A,
+    value: &str,
+    indent: usize,
+) -> Result<String<A>, AllocError> {
+    let has_one_line = !value.as_bytes().contains(&b'\n');
+    let is_indented = others_are_indented(value);
+    let joins_quotes = value.ends_with('"') || value.ends_with('\\');
+    let ends_below = !has_one_line || value.len() > MAX_INLINE || joins_quotes || is_indented;
+    let mut begins_below = is_indented || (ends_below && !(has_one_line && begins_white(value)));
+    let mut text = String::from_str(alloc, "\"\"\"")?;
+    for line in value.split('\n') {
+        if begins_below {
+            begin_line(&mut text, if line.is_empty() { 0 } else { indent })?;
+        }
+        begins_below = true;
+        push_escaped(&mut text, line)?;
+    }
+    if ends_below {
+        begin_line(&mut text, indent)?;
+    }
+    text.push_str("\"\"\"")?;
+    Ok(text)
+}

@@ -1,0 +1,60 @@
+// Block strings in other words.
+ghost use Rattle.std.specs.Prelude.{◌≡◌, true, IfOk, IfSome, string_bytes};
+ghost use Rattle.lexical_grammar.specs.Strings.{begins, triple_quote};
+ghost use Rattle.lexical_grammar.specs.Tokens.{IsString};
+ghost use Rattle.respelling.specs.Respelled.{SameBlock};
+
+use crate::block_text::block_text;
+use apollo_cst_core::string_value;
+use apollo_lexer::{Lexer, answers_are_items};
+use lexical_grammar::TokenKind;
+use std::alloc::{AllocError, Allocator};
+
+fn begins_block(text: &str) -> bool
+    ensures { result ≡ begins triple_quote text.now }
+{
+    text.as_bytes().starts_with(b"\"\"\"")
+}
+
+/// Whether the text is one string, with nothing before it and nothing after it.
+pub fn is_string(text: &str) -> bool
+    ensures { result ≡ true → IsString text.now }
+{
+    let mut lexer = Lexer::new(text);
+    answers_are_items(&lexer);
+    let Some(Ok(token)) = lexer.next() else {
+        return false;
+    };
+    if token.kind() != TokenKind::StringValue {
+        return false;
+    }
+    token.data() == text
+}
+
+/// The string spelled for a line that is indented by so many spaces, if it is a block string. `None` where it is to stay: a quoted string always,
+/// and a block string that is spelled so already. It fails only where memory is refused.
+pub fn spelled<A: Allocator + Copy>(
+    alloc: A,
+    text: &str,
+    indent: usize,
+) -> Result<Option<String<A>>, AllocError>
+    requires { IsString text.now }
+    ensures string { IfOk result (λ o. IfSome o (λ other. IsString (string_bytes other))) }
+    // both are block strings, with one value
+    ensures same { IfOk result (λ o. IfSome o (λ other. SameBlock text.now (string_bytes other))) }
+{
+    if !begins_block(text) {
+        return Ok(None);
+    }
+    let value = string_value(text, alloc)?;
+    let other = block_text(alloc, value.as_str(), indent)?;
+    let words = other.as_str();
+    if words == text || !begins_block(words) || !is_string(words) {
+        return Ok(None);
+    }
+    let other_value = string_value(words, alloc)?;
+    if value.as_str() != other_value.as_str() {
+        return Ok(None);
+    }
+    Ok(Some(other))
+}
