@@ -1,0 +1,35 @@
+-- What a parse with errors comes to, and one without.
+use Rattle.std.proofs.Common.{◌≡◌, ℕ, ◌≤◌, true, false, List, [], ◌∷◌, length, refl, sym, ap, ◌∙◌, subst, eqb, arith}
+use Rattle.std.proofs.lemmas.Bool.Decides.{nat_tests}
+use Rattle.lexical_grammar.specs.Answers.{usize_max}
+use Rattle.apollo_lexer.specs.Diagnostics.{Diagnostic}
+use Rattle.document_grammar.specs.Numbered.{tree_of}
+use Rattle.document_grammar.specs.Places.{bare}
+use Rattle.apollo_parser.specs.Promise.{Parsed}
+use Rattle.document_format.specs.Formatted.{IsSentence, Formatted}
+use Rattle.formatter.specs.Outcome.{IsFormatted, IsParse, IsRefused}
+
+pub empty-list : {X : Type 0} (xs : List X) → eqb (length xs) 0 ≡ true → xs ≡ []
+empty-list [] e = refl
+empty-list (x ∷ xs) e = absurd (grind (arith, nat_tests))
+
+some-list : {X : Type 0} (xs : List X) → xs ≡ [] → eqb (length xs) 0 ≡ false → ⊥
+some-list xs e h = let no : true ≡ false = sym (ap (λ l. eqb (length l) 0) e) ∙ h in (cc)
+
+-- a parse of the same text within the same limits
+pub same-parse : (source other : List ℕ) (r q k j : ℕ) (t : Parsed) → other ≡ source → q ≡ r → j ≡ k → IsParse other q j t → IsParse source r k t
+same-parse source other r q k j t s d n p = subst (λ x. IsParse x r k t) s (subst (λ x. IsParse other x k t) d (subst (λ x. IsParse other q x t) n p))
+
+pub refused : (source : List ℕ) (r k : ℕ) (t : Parsed) (errors : List Diagnostic) → errors ≡ t.errors → eqb (length errors) 0 ≡ false → IsParse source r k t → IsRefused source r k errors
+refused source r k t errors e some p = subst (IsRefused source r k) (sym e) (record {
+  refused = λ u s w. some-list errors (e ∙ p.accepts u s w) some;
+  errors_of = p.errors_of;
+  not_late = p.not_late;
+  not_early = p.not_early;
+})
+
+pub sentence-of : (source : List ℕ) (r k : ℕ) (t : Parsed) → k ≤ usize_max → t.errors ≡ [] → IsParse source r k t → IsSentence source
+sentence-of source r k t le clean p = record { tree = bare (tree_of t.tree); sentence = (p.sound clean).0; within = (r, k, le, (p.sound clean).1) }
+
+pub formatted-by : (source text : List ℕ) (r k : ℕ) (t : Parsed) → t.errors ≡ [] → IsParse source r k t → Formatted source text → IsFormatted source r k text
+formatted-by source text r k t clean p f = record { tree = bare (tree_of t.tree); sentence = (p.sound clean).0; within = (p.sound clean).1; formatted = f }

@@ -1,0 +1,65 @@
+// Formats a GraphQL document: the same document with another layout, or the errors of a text that is none.
+#![tactic(auto)]
+
+ghost use Rattle.std.specs.Prelude.{◌≡◌, IfErr, IfOk, string_bytes};
+ghost use Rattle.formatter.specs.Outcome.{IsFormatted, IsParse, IsRefused};
+
+use apollo_parser::{DocumentRoot, Error, Parser, SyntaxTree};
+use document_format::format_document;
+use std::alloc::{AllocError, Allocator};
+
+// The parse of a text.
+fn parse<A: Allocator + Copy>(
+    alloc: A,
+    source: &str,
+    recursion_limit: usize,
+    token_limit: usize,
+) -> Result<SyntaxTree<DocumentRoot, A>, AllocError>
+    ensures { IfOk result (IsParse source.now recursion_limit token_limit) }
+{
+    let tree = Parser::new(source)
+        .recursion_limit(recursion_limit)
+        .token_limit(token_limit)
+        .parse(alloc)?;
+    Ok(tree)
+}
+
+// Its errors, in memory of their own.
+fn errors_of<A: Allocator + Copy>(
+    alloc: A,
+    tree: &SyntaxTree<DocumentRoot, A>,
+) -> Result<Vec<Error<A>, A>, AllocError>
+    ensures { IfOk result (λ errors. errors.items ≡ tree.now.errors) }
+{
+    let mut errors = Vec::new(alloc);
+    for error in tree.errors() {
+        errors.push(error.try_clone(alloc)?)?;
+    }
+    Ok(errors)
+}
+
+/// The document with the layout of this crate, or the errors of `Parser::parse` where the text is no document within both limits. It fails only
+/// where memory is refused.
+///
+/// The recursion limit is how deep selection sets, list types and values may nest. The token limit is how many items the text may have, ignored
+/// ones and the end among them.
+///
+/// The layout alone changes: the significant tokens and the comments are those of the text, in their order, but that a block string may be
+/// spelled anew with the same value, for the indent of its line.
+pub fn format<A: Allocator + Copy>(
+    alloc: A,
+    source: &str,
+    recursion_limit: usize,
+    token_limit: usize,
+) -> Result<Result<String<A>, Vec<Error<A>, A>>, AllocError>
+    ensures formatted { IfOk result (λ r. IfOk r (λ text. IsFormatted source.now recursion_limit token_limit (string_bytes text))) }
+    ensures refused { IfOk result (λ r. IfErr r (λ errors. IsRefused source.now recursion_limit token_limit errors.items)) }
+{
+    let tree = parse(alloc, source, recursion_limit, token_limit)?;
+    let errors = errors_of(alloc, &tree)?;
+    if !errors.as_slice().is_empty() {
+        return Ok(Err(errors));
+    }
+    let text = format_document(alloc, source, tree.root(), tree.element_count())?;
+    Ok(Ok(text))
+}
