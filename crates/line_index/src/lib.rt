@@ -1,0 +1,200 @@
+//! The place of a byte of a text: its line, and its column in that line.
+#![tactic(auto)]
+
+ghost use Rattle.std.specs.Prelude.{◌≡◌, ◌+◌, ◌^◌, ◌<◌, ◌==◌, ◌&&◌, ◌≤◌, length, slice_index, slice_range, IfOk, MatchOption, take_while, not};
+ghost use Rattle.lexical_grammar.specs.Characters.{is_line_terminator};
+ghost use Rattle.std.specs.List.Sorted.{IsNonDecreasing};
+ghost use Rattle.line_index.specs.Places.{line_at, line_start, line_text};
+ghost use Rattle.line_index.specs.Columns.{char_count, utf16_len, begins_character, utf16_units};
+ghost use Rattle.line_index.specs.Starts.{AreStarts, IsNextStart};
+
+use memchr::memchr2;
+use std::alloc::{AllocError, Allocator, Global};
+use std::marker::Model;
+
+/// A place in a text: the number of its line, and its column there in bytes, both from 0.
+#[derive(Clone, Copy, Debug, PartialEq, Eq)]
+pub struct Place {
+    pub line: usize,
+    pub column: usize,
+}
+
+// Whether there is a CR LF at a place.
+fn is_cr_lf(bytes: &[u8], place: usize) -> bool
+    requires { place < length bytes.now }
+    ensures { result ≡ (slice_index bytes.now place == 13 && slice_index bytes.now (place + 1) == 10) }
+{
+    bytes[place] == b'\r' && place + 1 < bytes.len() && bytes[place + 1] == b'\n'
+}
+
+// Where the next line begins after a place.
+fn next_start(bytes: &[u8], place: usize) -> Option<usize>
+    requires { place ≤ length bytes.now }
+    ensures { MatchOption result (line_at bytes.now (length bytes.now) ≡ line_at bytes.now place) (IsNextStart bytes.now place) }
+{
+    let end = place + memchr2(b'\n', b'\r', &bytes[place..])?;
+    if is_cr_lf(bytes, end) {
+        Some(end + 2)
+    } else {
+        Some(end + 1)
+    }
+}
+
+// Where all lines begin.
+fn line_starts<A: Allocator>(alloc: A, bytes: &[u8]) -> Result<Vec<usize, A>, AllocError>
+    ensures { IfOk result (λ starts. AreStarts bytes.now (length bytes.now) starts.items) }
+{
+    let mut starts = Vec::new(alloc);
+    let mut place = 0;
+    starts.push(place)?;
+    while let Some(next) = next_start(bytes, place) {
+        place = next;
+        starts.push(place)?;
+    }
+    Ok(starts)
+}
+
+// The index of the last of some places that is at most the given one.
+fn last_up_to(places: &[usize], place: usize) -> usize
+    requires some { 0 < length places.now }
+    requires first { slice_index places.now 0 ≤ place }
+    requires ordered { IsNonDecreasing places.now }
+    ensures within { result < length places.now }
+    ensures up_to { slice_index places.now result ≤ place }
+    ensures last { result + 1 < length places.now → place < slice_index places.now (result + 1) }
+{
+    places.partition_point(|p| *p <= place) - 1
+}
+
+fn begins_character(byte: u8) -> bool
+    ensures { result ≡ begins_character byte }
+{
+    byte < 128 || byte > 191
+}
+
+// The characters of a text, or of a part of one: how many begin in it.
+fn char_count(bytes: &[u8]) -> usize
+    ensures { result ≡ char_count bytes.now }
+{
+    bytes.iter().filter(|byte| begins_character(**byte)).count()
+}
+
+fn utf16_units(byte: u8) -> usize
+    ensures value { result ≡ utf16_units byte }
+    ensures few { result ≤ 2 }
+{
+    if !begins_character(byte) {
+        0
+    } else if byte < 240 {
+        1
+    } else {
+        2
+    }
+}
+
+// The units of UTF-16 that these characters take.
+fn utf16_len(bytes: &[u8]) -> usize
+    requires { utf16_len bytes.now < 2 ^ 64 }
+    ensures { result ≡ utf16_len bytes.now }
+{
+    bytes.iter().map(|byte| utf16_units(*byte)).sum()
+}
+
+// What is in front of the first line terminator.
+fn first_line(text: &str) -> &str
+    ensures { result.now ≡ take_while (λ c. not (is_line_terminator c)) text.now }
+{
+    match memchr2(b'\n', b'\r', text.as_bytes()) {
+        Some(end) => &text[..end],
+        None => text,
+    }
+}
+
+/// The lines of a text, indexed by where they begin. GraphQL's line terminators end them: LF, CR and CR LF. What follows the last of these
+/// is a line too, even when it is empty. It takes one number of memory for each line.
+///
+/// A place is given by its byte offset in the text, which may be the text's length; its line is found in the time of the logarithm of the
+/// number of lines. A place between the CR and the LF of a CR LF is in the line that they end.
+#[derive(Drop)]
+pub struct LineIndex<'a, A: Allocator = Global> {
+    text: &'a str,
+    starts: Vec<usize, A>,
+}
+
+impl<'a, A: Allocator> Model for LineIndex<'a, A> {
+    ghost use Rattle.std.specs.Prelude.{ℕ, List};
+    ghost use Rattle.line_index.specs.Starts.{IsIndexed};
+
+    ghost Value = { List ℕ };
+
+    ghost view = { λ index. index.text.now };
+
+    ghost invariant = { λ index. IsIndexed index.text.now index.starts.items };
+}
+
+impl<'a, A: Allocator> LineIndex<'a, A> {
+    /// The index of a text. It reads the text once, and fails only where memory is refused.
+    pub fn new(alloc: A, text: &'a str) -> Result<Self, AllocError>
+        ensures { IfOk result (λ index. index ≡ text.now) }
+    {
+        let starts = line_starts(alloc, text.as_bytes())?;
+        Ok(LineIndex { text, starts })
+    }
+
+    /// How many lines there are: at least one.
+    pub fn line_count(&self) -> usize
+        ensures { result ≡ line_at self.now (length self.now) + 1 }
+    {
+        self.starts.len()
+    }
+
+    /// The byte offset at which a line begins, by its number from 0.
+    pub fn line_start(&self, line: usize) -> usize
+        requires { line < line_at self.now (length self.now) + 1 }
+        ensures within { result ≤ length self.now }
+        ensures begins { line_start self.now result ≡ result }
+        ensures number { line_at self.now result ≡ line }
+    {
+        self.starts[line]
+    }
+
+    /// The line and the column of a byte offset.
+    pub fn place(&self, offset: usize) -> Place
+        requires { offset ≤ length self.now }
+        ensures line { result.line ≡ line_at self.now offset }
+        ensures column { line_start self.now offset + result.column ≡ offset }
+    {
+        let line = last_up_to(self.starts.as_slice(), offset);
+        Place {
+            line,
+            column: offset - self.starts[line],
+        }
+    }
+
+    /// The column of a byte offset in characters: how many begin in its line before it.
+    pub fn column_in_chars(&self, offset: usize) -> usize
+        requires { offset ≤ length self.now }
+        ensures { result ≡ char_count (slice_range self.now (line_start self.now offset) offset) }
+    {
+        let start = offset - self.place(offset).column;
+        char_count(&self.text.as_bytes()[start..offset])
+    }
+
+    /// The column of a byte offset in units of UTF-16: how many the characters take that begin in its line before it.
+    pub fn column_in_utf16(&self, offset: usize) -> usize
+        requires { offset ≤ length self.now }
+        ensures { result ≡ utf16_len (slice_range self.now (line_start self.now offset) offset) }
+    {
+        let start = offset - self.place(offset).column;
+        utf16_len(&self.text.as_bytes()[start..offset])
+    }
+
+    /// The text of the line that a byte offset is in, without its line terminator.
+    pub fn line_text(&self, offset: usize) -> &'a str
+        requires { offset ≤ length self.now }
+        ensures { result.now ≡ line_text self.now offset }
+    {
+        let start = offset - self.place(offset).column;
+        first_line(&self.text[start..])
+    }
+}
