@@ -49,8 +49,8 @@ fn number_of(word: &str) -> Option<usize>
     word.parse::<usize>().ok()
 }
 
-// The limits, with one of them set.
-fn with_option(limits: Limits, name: &str, value: &str) -> Option<Limits>
+/// The limits, with one of them set by an option's name and its value, or nothing where they are none. The value is in decimal digits.
+pub fn with_option(limits: Limits, name: &str, value: &str) -> Option<Limits>
     ensures { result ≡ with_option limits name.now value.now }
 {
     let number = number_of(value)?;

@@ -13,9 +13,11 @@ mod std_devices;
 mod trace;
 mod writing;
 
-pub use command::{Limits, Mode, options};
+pub use command::{Limits, Mode, options, with_option};
 pub use devices::{DeviceError, Sink, Source};
 pub use outcome::{Fault, Outcome};
 pub use program::run;
+pub use reading::read_to_end;
 pub use std_devices::{StdSink, StdSource};
 pub use trace::Trace;
+pub use writing::write_all;

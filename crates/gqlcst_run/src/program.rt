@@ -43,7 +43,7 @@ pub fn run<A: Allocator + Copy, R: Source, W: Sink>(
     limits: Limits,
 ) -> Result<Outcome, Fault>
     ensures { (input : List ℕ) × Reads result input (R.account reader.old) (R.account reader.new)
-        × Writes mode limits result input (W.account writer.old) (W.account writer.new) }
+        × Writes (IsOutput mode limits) result input (W.account writer.old) (W.account writer.new) }
 {
     let bytes = read_to_end(alloc, reader)?;
     let Ok(source) = str::from_utf8(bytes.as_slice()) else {

@@ -1,12 +1,13 @@
 use Rattle.std.proofs.Common.{string_bytes}
 use Rattle.std.proofs.lemmas.Result.{err_from_is_err_and}
+use Rattle.gqlcst_run.specs.Program.{IsOutput}
 use Rattle.gqlcst_run.proofs.Ends.{cut}
 use Rattle.gqlcst_run.proofs.program.run.Goals as goal
 
 -- what the writer did where it failed or took no byte
 pub returns-in_err-write_all : goal.returns-in_err-write_all
 returns-in_err-write_all g c =
-    let k = cut c.in_err-write_all.field-0.0 c.args.mode c.args.limits c.in_ok-text.outcome c.in_ok-bytes.bytes.items c.as_slice.result.now c.in-Ok.source.now
+    let k = cut (IsOutput c.args.mode c.args.limits) c.in_err-write_all.field-0.0 c.in_ok-text.outcome c.in_ok-bytes.bytes.items c.as_slice.result.now c.in-Ok.source.now
     (string_bytes c.in_ok-text.text) c.as_bytes.result.now _ _ _ _ c.in_ok-bytes.ensures.ok c.as_slice.ensures.value c.in-Ok.ensures.cases c.in_ok-text.ensures c.as_bytes.ensures.value
     c.in_err-write_all.ensures.err in
     let p = err_from_is_err_and c.from_residual-in_err-write_all.result c.from_residual-in_err-write_all.ensures.1 in
