@@ -1,0 +1,49 @@
+//! `gqlfmt` puts GraphQL documents into one layout: files in place, or standard input to standard output.
+#![tactic(auto)]
+
+#[cfg(test)]
+mod tests;
+
+use gqlcst_run::{StdSink, StdSource};
+use gqlfmt_run::{StdFiles, run};
+use std::alloc::{AllocError, Global};
+use std::env;
+use std::process::ExitCode;
+
+// The words after the program's name: nothing where they can't be had as texts.
+fn words(rt: &HostRuntime) -> Option<Vec<String>> {
+    let mut words = Vec::new(rt.alloc());
+    for word in env::args(rt).ok()?.skip(1) {
+        words.push(word).ok()?;
+    }
+    Some(words)
+}
+
+// The same as slices.
+fn views(alloc: Global, words: &[String]) -> Result<Vec<&str>, AllocError> {
+    words.iter().map(|word| word.as_str()).collect(alloc)
+}
+
+fn main(rt: HostRuntime) -> ExitCode {
+    let Some(words) = words(&rt) else {
+        let _ = eprintln!(rt; "gqlfmt: cannot read the arguments");
+        return ExitCode::from(2);
+    };
+    let Ok(views) = views(rt.alloc(), words.as_slice()) else {
+        let _ = eprintln!(rt; "gqlfmt: out of memory");
+        return ExitCode::from(2);
+    };
+    let mut reader = StdSource::new(rt.stdin());
+    let mut writer = StdSink::new(rt.stdout());
+    let mut complaints = StdSink::new(rt.stderr());
+    let mut files = StdFiles::new(&rt);
+    let status = run(
+        rt.alloc(),
+        &mut reader,
+        &mut writer,
+        &mut complaints,
+        &mut files,
+        views.as_slice(),
+    );
+    ExitCode::from(status)
+}

@@ -1,0 +1,357 @@
+// The program over words, texts and files of these tests, and the places of a text.
+use gqlcst_run::{StdSink, StdSource};
+use gqlfmt_run::{StdFiles, run, unified_diff};
+use line_index::{LineIndex, Place};
+use std::alloc::{AllocError, Allocator, Global};
+use std::cell::Cell;
+use std::fs::{Metadata, OpenFile, OpenOptions, Permissions};
+use std::io::{self, ErrorKind, Read, Seek, SeekFrom, Write};
+use std::path::{Path, PathBuf};
+use std::process::Abort;
+use std::rt;
+use std::test::Fail;
+
+// A disk with one file. Its calls are counted down, and one fails when none is left.
+#[derive(Drop)]
+struct Disk {
+    calls: Cell<u8>,
+    is_new_file_there: Cell<bool>,
+    is_replaced: Cell<bool>,
+    written: Cell<usize>,
+}
+
+impl Disk {
+    fn new(calls: u8) -> Disk {
+        Disk {
+            calls: Cell::new(calls),
+            is_new_file_there: Cell::new(false),
+            is_replaced: Cell::new(false),
+            written: Cell::new(0),
+        }
+    }
+
+    fn call(&self) -> io::Result<()> {
+        let calls = self.calls.get();
+        self.calls.set(calls.wrapping_sub(1));
+        if calls == 0 {
+            return Err(io::Error::from(ErrorKind::Other));
+        }
+        Ok(())
+    }
+}
+
+const UNSUPPORTED: ErrorKind = ErrorKind::Unsupported;
+
+// An open file of a disk.
+#[derive(Drop)]
+struct Opened<'a> {
+    disk: &'a Disk,
+    rest: &'static [u8],
+}
+
+impl Read for Opened<'_> {
+    fn read(&mut self, buf: &mut [u8]) -> io::Result<usize> {
+        self.disk.call()?;
+        let count = self.rest.len().min(buf.len());
+        let (front, rest) = self.rest.split_at(count);
+        buf[..count].copy_from_slice(front);
+        self.rest = rest;
+        Ok(count)
+    }
+}
+
+impl Write for Opened<'_> {
+    fn write(&mut self, buf: &[u8]) -> io::Result<usize> {
+        self.disk.call()?;
+        let written = self.disk.written.get();
+        self.disk.written.set(written.wrapping_add(buf.len()));
+        Ok(buf.len())
+    }
+
+    fn flush(&mut self) -> io::Result<()> {
+        Ok(())
+    }
+}
+
+impl Seek for Opened<'_> {
+    fn seek(&mut self, _to: SeekFrom) -> io::Result<u64> {
+        Err(io::Error::from(UNSUPPORTED))
+    }
+}
+
+impl OpenFile for Opened<'_> {
+    fn metadata(&self) -> io::Result<Metadata> {
+        Err(io::Error::from(UNSUPPORTED))
+    }
+
+    fn set_len(&self, _size: u64) -> io::Result<()> {
+        Err(io::Error::from(UNSUPPORTED))
+    }
+
+    fn sync_all(&self) -> io::Result<()> {
+        self.disk.call()
+    }
+
+    fn sync_data(&self) -> io::Result<()> {
+        Err(io::Error::from(UNSUPPORTED))
+    }
+
+    fn set_permissions(&self, _perm: Permissions) -> io::Result<()> {
+        self.disk.call()
+    }
+}
+
+// A runtime with this disk.
+#[derive(Drop)]
+struct Machine<'a> {
+    disk: &'a Disk,
+    alloc: Global,
+}
+
+impl Alloc for Machine<'_> {
+    type A = Global;
+
+    fn alloc(&self) -> Global {
+        self.alloc
+    }
+}
+
+impl<'a> rt::Files for Machine<'a> {
+    type File = Opened<'a>;
+
+    type Dir = Opened<'a>;
+
+    fn open_file(&self, how: &OpenOptions, _path: &str) -> io::Result<Opened<'a>> {
+        self.disk.call()?;
+        self.disk.is_new_file_there.set(how.asks_create_new());
+        Ok(Opened {
+            disk: self.disk,
+            rest: b"{a}",
+        })
+    }
+
+    fn open_dir(&self, _path: &str) -> io::Result<Opened<'a>> {
+        Err(io::Error::from(UNSUPPORTED))
+    }
+
+    fn metadata(&self, _path: &str) -> io::Result<Metadata> {
+        self.disk.call()?;
+        Ok(Metadata::of_file(3))
+    }
+
+    fn symlink_metadata(&self, _path: &str) -> io::Result<Metadata> {
+        Err(io::Error::from(UNSUPPORTED))
+    }
+
+    fn copy(&self, _from: &str, _to: &str) -> io::Result<u64> {
+        Err(io::Error::from(UNSUPPORTED))
+    }
+
+    fn rename(&self, _from: &str, _to: &str) -> io::Result<()> {
+        self.disk.call()?;
+        self.disk.is_new_file_there.set(false);
+        self.disk.is_replaced.set(true);
+        Ok(())
+    }
+
+    fn remove_file(&self, _path: &str) -> io::Result<()> {
+        self.disk.is_new_file_there.set(false);
+        Ok(())
+    }
+
+    fn create_dir(&self, _path: &str) -> io::Result<()> {
+        Err(io::Error::from(UNSUPPORTED))
+    }
+
+    fn remove_dir(&self, _path: &str) -> io::Result<()> {
+        Err(io::Error::from(UNSUPPORTED))
+    }
+
+    fn remove_dir_all<B: Allocator>(&self, _alloc: B, _path: &str) -> io::Result<()> {
+        Err(io::Error::from(UNSUPPORTED))
+    }
+
+    fn canonicalize<B: Allocator>(&self, alloc: B, path: &str) -> io::Result<PathBuf<B>> {
+        self.disk.call()?;
+        Ok(Path::new(path).to_path_buf(alloc)?)
+    }
+}
+
+// What a run over a machine and an input writes, and its status.
+fn expect(
+    rt: &(impl Abort + AllocGlobal),
+    words: &[&str],
+    input: &str,
+    output: &str,
+    complaints: &str,
+    status: u8,
+) {
+    let disk = Disk::new(u8::MAX);
+    let machine = Machine {
+        disk: &disk,
+        alloc: rt.alloc(),
+    };
+    let (mut written, mut told) = (Vec::new(rt.alloc()), Vec::new(rt.alloc()));
+    let ended = run(
+        rt.alloc(),
+        &mut StdSource::new(input.as_bytes()),
+        &mut StdSink::new(&mut written),
+        &mut StdSink::new(&mut told),
+        &mut StdFiles::new(&machine),
+        words,
+    );
+    assert_eq!(rt; str::from_utf8(written.as_slice()), Ok(output));
+    assert_eq!(rt; str::from_utf8(told.as_slice()), Ok(complaints));
+    assert_eq!(rt; ended, status);
+}
+
+const USAGE: &str = "usage: gqlfmt [--check | --diff] [--recursion N] [--tokens N] [FILE..]\n";
+
+#[test]
+fn runs(rt: HostRuntime) {
+    let laid_out = "{\n  a\n}\n";
+    expect(&rt, &[], "{a}", laid_out, "", 0);
+    expect(&rt, &[], laid_out, laid_out, "", 0);
+    expect(&rt, &["--check"], "{a}", "<stdin>\n", "", 1);
+    expect(&rt, &["--check"], laid_out, "", "", 0);
+    expect(&rt, &["--check", "a", "--", "-b"], "", "a\n-b\n", "", 1);
+    expect(
+        &rt,
+        &["--diff", "a"],
+        "",
+        "--- a\n+++ a\n@@ -1,1 +1,3 @@\n-{a}\n\\ No newline at end of file\n+{\n+  a\n+}\n",
+        "",
+        1,
+    );
+    for words in [
+        &["--check", "--diff"],
+        &["--tokens", "+3"],
+        &["a", "--recursion"],
+        &["a", "-"],
+    ] {
+        expect(&rt, words, "{a}", "", USAGE, 2);
+    }
+}
+
+#[test]
+fn tells_errors(rt: HostRuntime) {
+    expect(
+        &rt,
+        &[],
+        "{\r\n\thero(n: \"\u{e9}\", id) { name }\n",
+        "",
+        "<stdin>:2:17: expected COLON, got )
+    \thero(n: \"\u{e9}\", id) { name }
+    \t               ^
+<stdin>:2:27: expected R_CURLY, got EOF
+    \thero(n: \"\u{e9}\", id) { name }
+    \t                         ^
+",
+        1,
+    );
+    expect(
+        &rt,
+        &["--tokens", "3"],
+        "{a}",
+        "",
+        "<stdin>:1:3: token limit reached, aborting lexing\n    {a}\n      ^\n",
+        1,
+    );
+    expect(
+        &rt,
+        &["--check"],
+        "",
+        "",
+        "<stdin>:1:1: Unexpected <EOF>.\n",
+        1,
+    );
+}
+
+#[test]
+fn leaves_a_file_whole(rt: HostRuntime) {
+    let mut done = 0u8;
+    for calls in 0..20 {
+        let disk = Disk::new(calls);
+        let machine = Machine {
+            disk: &disk,
+            alloc: rt.alloc(),
+        };
+        let ended = run(
+            rt.alloc(),
+            &mut StdSource::new(b"".as_slice()),
+            &mut StdSink::new(io::sink()),
+            &mut StdSink::new(io::sink()),
+            &mut StdFiles::new(&machine),
+            &["a"],
+        );
+        assert!(rt; !disk.is_new_file_there.get());
+        assert_eq!(rt; disk.is_replaced.get(), ended == 0);
+        if ended == 0 {
+            assert_eq!(rt; disk.written.get(), 8);
+            done = done.wrapping_add(1);
+        } else {
+            assert_eq!(rt; ended, 2);
+        }
+    }
+    assert!(rt; done > 5);
+}
+
+#[test]
+fn shows_changes(rt: HostRuntime) -> Result<(), Fail> {
+    let old = "one\ntwo\nthree\nfour\nfive\nsix\nseven\neight\nnine\nten\neleven\ntwelve\n";
+    let new = "one\nTWO\nthree\n3.5\nfour\nfive\nsix\nseven\neight\nnine\nten\neleven?\ntwelve";
+    let diff = unified_diff(rt.alloc(), "f", old, new)?;
+    // what GNU diff 3.8 writes with the option -u
+    assert_eq!(rt;
+        diff.as_str(),
+        "--- f
++++ f
+@@ -1,6 +1,7 @@
+ one
+-two
++TWO
+ three
++3.5
+ four
+ five
+ six
+@@ -8,5 +9,5 @@
+ eight
+ nine
+ ten
+-eleven
+-twelve
++eleven?
++twelve
+\\ No newline at end of file
+"
+    );
+    Ok(())
+}
+
+// A text whose lines end in LF, CR LF and CR. The characters of the second and the last take 2 and 4 bytes, 1 and 2 units of UTF-16.
+const TEXT: &str = "a\n\u{e9}b\r\n\rx\u{1F600}y";
+
+#[test]
+fn finds_places(rt: HostRuntime) -> Result<(), Fail> {
+    let index = LineIndex::new(rt.alloc(), TEXT)?;
+    assert_eq!(rt; index.line_count(), 4);
+    assert_eq!(rt; index.line_start(1), 2);
+    // an offset, its line, its columns in bytes, characters and units, and the text of the line
+    for (offset, line, column, chars, units, text) in [
+        (1, 0, 1, 1, 1, "a"),
+        (2, 1, 0, 0, 0, "\u{e9}b"),
+        (4, 1, 2, 1, 1, "\u{e9}b"),
+        (6, 1, 4, 3, 3, "\u{e9}b"),
+        (7, 2, 0, 0, 0, ""),
+        (13, 3, 5, 2, 3, "x\u{1F600}y"),
+        (14, 3, 6, 3, 4, "x\u{1F600}y"),
+    ] {
+        assert!(rt; offset <= TEXT.len());
+        assert_eq!(rt; index.place(offset), Place { line, column });
+        assert_eq!(rt; index.column_in_chars(offset), chars);
+        assert_eq!(rt; index.column_in_utf16(offset), units);
+        assert_eq!(rt; index.line_text(offset), text);
+    }
+    Ok(())
+}

@@ -1,0 +1,75 @@
+-- Files, one after the other.
+use Rattle.std.proofs.Common.{◌≡◌, ℕ, ◌+◌, ◌<◌, Bool, List, [], ◌∷◌, ◌++◌, length, take, get_or, map, max, refl, sym, ap, inl, inr, ◌∙◌, subst, arith, Option, Result, Bor}
+use Rattle.std.specs.Ordering.{ord_max, nat_cmp}
+use Rattle.std.proofs.lemmas.Bool.Decides.{nat_tests}
+use Rattle.std.proofs.lemmas.List.{take_more, map-append}
+use Rattle.gqlcst_run.specs.declared.command.Limits.{Limits}
+use Rattle.gqlfmt_run.specs.declared.command.Mode.{Mode}
+use Rattle.gqlfmt_run.specs.declared.fault.FileFault.{FileFault}
+use Rattle.gqlfmt_run.specs.declared.outcome.Outcome.{Outcome}
+use Rattle.gqlfmt_run.specs.declared.outcome.Outcome.TheVariants.{Found}
+use Rattle.gqlfmt_run.specs.Outcome.{status_of}
+use Rattle.gqlfmt_run.specs.Formatting.{IsRefused, IsChanged}
+use Rattle.apollo_parser.specs.Diagnostics.{Diagnostic}
+use Rattle.std.specs.Str.{IsUtf8}
+use Rattle.std.specs.Prelude.{◌≢◌, Some, Ok}
+use Rattle.gqlfmt_run.specs.declared.command.Mode.TheVariants.{Write}
+use Rattle.gqlfmt_run.specs.Paths.{Handles, HandlesAll}
+
+ord_max-nat : (a b : ℕ) → ord_max nat_cmp a b ≡ max a b
+ord_max-nat a b = grind (arith, nat_tests)
+
+module _ {S : Type 0} (reads : S → List ℕ → Option (List ℕ) → S → Type 0) (replaces : S → List ℕ → List ℕ → Bool → S → Type 0) (mode : Mode) (limits : Limits) where
+  -- one file more
+  handles-more : (paths : List (List ℕ)) (status : ℕ) (path : List ℕ) (ended : Result Outcome FileFault) (old middle new : S) → HandlesAll reads replaces mode limits paths status old middle
+      → Handles reads replaces mode limits path ended middle new → HandlesAll reads replaces mode limits (paths ++ path ∷ []) (max status (status_of ended)) old new
+  handles-more [] status path ended old middle new h one =
+      (ended, 0, new, (omega (arith, h.0)), subst (λ (s : S). Handles reads replaces mode limits path ended s new) h.1 one, (refl, refl))
+  handles-more (p ∷ paths) status path ended old middle new h one =
+      (h.0, max h.1 (status_of ended), h.2, (omega (arith, h.3)), h.4, handles-more paths h.1 path ended h.2 middle new h.5 one)
+
+  -- the same where the path is the next of a list, as the code has it
+  pub handles-next : (items slice : List (Bor (List ℕ))) (i status one worst : ℕ) (d : Bor (List ℕ)) (ended : Result Outcome FileFault) (old middle new : S) → slice ≡ items → i < length slice
+      → HandlesAll reads replaces mode limits (map (λ p. p.now) (take i items)) status old middle → Handles reads replaces mode limits (get_or slice i d).now ended middle new
+      → one ≡ status_of ended → worst ≡ ord_max nat_cmp status one → HandlesAll reads replaces mode limits (map (λ p. p.now) (take (i + 1) items)) worst old new
+  handles-next items slice i status one worst d ended old middle new same within h last is most =
+      let short : i < length items = omega (arith, ap (λ (l : List (Bor (List ℕ))). length l) same) in
+      let path : (get_or slice i d).now ≡ (get_or items i d).now = ap (λ (l : List (Bor (List ℕ))). (get_or l i d).now) same in
+      let more : map (λ p. p.now) (take (i + 1) items) ≡ map (λ p. p.now) (take i items) ++ (get_or items i d).now ∷ [] =
+      ap (map (λ p. p.now)) (take_more items i d short) ∙ map-append (λ p. p.now) (take i items) (get_or items i d ∷ []) in
+      let top : worst ≡ max status (status_of ended) = most ∙ ord_max-nat status one ∙ ap (max status) is in
+      subst (λ (n : ℕ). HandlesAll reads replaces mode limits (map (λ p. p.now) (take (i + 1) items)) n old new) (sym top)
+      (subst (λ (paths : List (List ℕ)). HandlesAll reads replaces mode limits paths (max status (status_of ended)) old new) (sym more)
+      (handles-more (map (λ p. p.now) (take i items)) status (get_or items i d).now ended old middle new h (subst (λ (p : List ℕ). Handles reads replaces mode limits p ended middle new) path last)))
+
+  -- a file that has errors is left alone
+  pub handles-refused : (old middle : S) (path input slice source : List ℕ) (errors : List Diagnostic) → reads old path (Some input) middle → slice ≡ input → (source ≡ slice) × IsUtf8 slice
+      → IsRefused limits source errors → Handles reads replaces mode limits path (Ok Found) old middle
+  handles-refused old middle path input slice source errors read whole text refused = record {
+    given = Some input;
+    middle = middle;
+    read = read;
+    follows = (
+      source,
+      ap Some (sym whole ∙ sym text.0),
+      subst IsUtf8 (sym text.0) text.1,
+      inl (record { errors = errors; refused = refused }),
+      refl,
+    );
+  }
+
+  -- so is one that has another layout, in a mode that changes nothing
+  pub handles-shown : (old middle : S) (path input slice source text : List ℕ) → reads old path (Some input) middle → slice ≡ input → (source ≡ slice) × IsUtf8 slice → mode ≢ Write
+      → IsChanged limits source text → Handles reads replaces mode limits path (Ok Found) old middle
+  handles-shown old middle path input slice source text read whole is other changed = record {
+    given = Some input;
+    middle = middle;
+    read = read;
+    follows = (
+      source,
+      ap Some (sym whole ∙ sym is.0),
+      subst IsUtf8 (sym is.0) is.1,
+      inr (other, (text, changed)),
+      refl,
+    );
+  }

@@ -1,0 +1,26 @@
+-- What is written of standard input.
+use Rattle.std.specs.Prelude.{◌≡◌, ◌⊎◌, ℕ, List, [], codes}
+use Rattle.gqlcst_run.specs.declared.command.Limits.{Limits}
+use Rattle.gqlfmt_run.specs.declared.command.Mode.{Mode}
+use Rattle.gqlfmt_run.specs.declared.command.Mode.TheVariants.{Write, Check, Diff}
+use Rattle.gqlfmt_run.specs.declared.outcome.Outcome.{Outcome}
+use Rattle.gqlfmt_run.specs.declared.outcome.Outcome.TheVariants.{Done, Found}
+use Rattle.gqlfmt_run.specs.Formatting.{IsFormatted, HasErrors, IsChanged, IsShown}
+
+abbrev pub input_name : List ℕ
+input_name = codes "<stdin>"
+
+-- the text has another layout, and this is what a mode that changes nothing shows of that
+pub record IsListed (mode : Mode) (limits : Limits) (source output : List ℕ) : Type 0 where
+  pub text : List ℕ
+  pub changed : IsChanged limits source text
+  pub shown : IsShown mode input_name text output
+
+-- What is written of a text, by what came of it. In mode write that is the formatted text, and nothing of a text with errors.
+abbrev pub IsOutput : Mode → Limits → List ℕ → Outcome → List ℕ → Type 0
+IsOutput Write limits source Done output = IsFormatted limits source output
+IsOutput Check limits source Done output = IsFormatted limits source source × (output ≡ [])
+IsOutput Diff limits source Done output = IsFormatted limits source source × (output ≡ [])
+IsOutput Write limits source Found output = HasErrors limits source × (output ≡ [])
+IsOutput Check limits source Found output = (HasErrors limits source × (output ≡ [])) ⊎ IsListed Check limits source output
+IsOutput Diff limits source Found output = (HasErrors limits source × (output ≡ [])) ⊎ IsListed Diff limits source output

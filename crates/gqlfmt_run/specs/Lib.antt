@@ -1,0 +1,4 @@
+pub mod Outcome
+pub mod Formatting
+pub mod Input
+pub mod Paths

@@ -1,0 +1,11 @@
+-- The status that the program ends with.
+use Rattle.std.specs.Prelude.{ℕ, Result, Ok, Err}
+use Rattle.gqlfmt_run.specs.declared.outcome.Outcome.{Outcome}
+use Rattle.gqlfmt_run.specs.declared.outcome.Outcome.TheVariants.{Done, Found}
+use Rattle.gqlfmt_run.specs.declared.fault.FileFault.{FileFault}
+
+-- 0 where a text has the layout, 1 where it has errors or was found to have another layout, 2 where it was not formatted
+abbrev pub status_of : Result Outcome FileFault → ℕ
+status_of (Ok Done) = 0
+status_of (Ok Found) = 1
+status_of (Err fault) = 2

@@ -1,0 +1,108 @@
+// Which lines of a text differ from those of another.
+ghost use Rattle.std.specs.Prelude.{◌≤◌, ◌<◌, ◌+◌, ◌-◌, length, IfSome};
+
+use std::alloc::{AllocError, Allocator};
+
+/// Lines of the old text and the lines of the new one in their place, each as a range of indices.
+#[derive(Clone, Copy)]
+pub struct Edit {
+    pub old_start: usize,
+    pub old_end: usize,
+    pub new_start: usize,
+    pub new_end: usize,
+}
+
+// How many lines ahead a line of one text is looked for in the other.
+const WINDOW: usize = 64;
+
+// How many lines both begin with.
+fn common_front(old: &[&str], new: &[&str]) -> usize
+    ensures old { result ≤ length old.now }
+    ensures new { result ≤ length new.now }
+{
+    for (i, (a, b)) in old.iter().zip(new).enumerate() {
+        if a != b {
+            return i;
+        }
+    }
+    old.len().min(new.len())
+}
+
+// A line by which two texts are matched: one that says more than a bracket.
+fn is_anchor(line: &str) -> bool {
+    line.trim().len() > 2
+}
+
+// The index of a line of the old text that is the one of the new text so many lines further in all.
+fn match_at(old: &[&str], new: &[&str], distance: usize) -> Option<usize>
+    ensures { IfSome result (λ removed. (removed < length old.now) × (distance - removed < length new.now) × (removed ≤ distance)) }
+{
+    for removed in 0..=distance {
+        if let (Some(a), Some(b)) = (old.get(removed), new.get(distance - removed))
+            && a == b
+            && is_anchor(a)
+        {
+            return Some(removed);
+        }
+    }
+    None
+}
+
+// How many lines of each text come before the first that they have in common: all within the window where there is none.
+fn gap(old: &[&str], new: &[&str]) -> (usize, usize)
+    requires { 0 < length old.now + length new.now }
+    ensures old { result.0 ≤ length old.now }
+    ensures new { result.1 ≤ length new.now }
+    ensures some { 0 < result.0 + result.1 }
+{
+    for distance in 1..WINDOW {
+        if let Some(removed) = match_at(old, new, distance) {
+            return (removed, distance - removed);
+        }
+    }
+    (old.len().min(WINDOW), new.len().min(WINDOW))
+}
+
+// Without the lines that both end with.
+fn without_common_end(old: &[&str], new: &[&str]) -> (usize, usize)
+    requires { 0 < length old.now + length new.now }
+    ensures old { result.0 ≤ length old.now }
+    ensures new { result.1 ≤ length new.now }
+    ensures some { 0 < result.0 + result.1 }
+{
+    let (mut removed, mut added) = (old.len(), new.len());
+    while removed > 0 && added > 0 && removed + added > 2 && old[removed - 1] == new[added - 1] {
+        removed -= 1;
+        added -= 1;
+    }
+    (removed, added)
+}
+
+/// The edits that make the old lines the new ones, in order. Each line is compared a bounded number of times.
+pub fn edits<A: Allocator>(
+    alloc: A,
+    old: &[&str],
+    new: &[&str],
+) -> Result<Vec<Edit, A>, AllocError> {
+    let mut edits = Vec::new(alloc);
+    let (mut i, mut j) = (0, 0);
+    while i < old.len() || j < new.len() {
+        let same = common_front(&old[i..], &new[j..]);
+        i += same;
+        j += same;
+        if i == old.len() && j == new.len() {
+            break;
+        }
+        let (far_old, far_new) = gap(&old[i..], &new[j..]);
+        let (removed, added) = without_common_end(&old[i..i + far_old], &new[j..j + far_new]);
+        edits.push(Edit {
+            old_start: i,
+            old_end: i + removed,
+            new_start: j,
+            new_end: j + added,
+        })?;
+        i += removed;
+        j += added;
+    }
+    Ok(edits)
+}

@@ -1,0 +1,23 @@
+// The files that the program formats.
+ghost use Rattle.std.specs.Prelude.{ℕ, List, Bool, Option, option_map, is_ok};
+ghost use Rattle.std.specs.Result.{result_ok};
+
+use std::alloc::Allocator;
+use std::io;
+
+/// Files by their paths, to read and to replace.
+pub trait Files {
+    // what a call of `read` at a path comes to: the bytes that it gives, if it gives any, and what is left
+    ghost reads: { Self → List ℕ → Option (List ℕ) → Self → Type 0 };
+
+    // what a call of `replace` at a path with a text comes to: whether it was done, and what is left
+    ghost replaces: { Self → List ℕ → List ℕ → Bool → Self → Type 0 };
+
+    /// All bytes of the file at a path.
+    fn read<A: Allocator>(&mut self, alloc: A, path: &str) -> io::Result<Vec<u8, A>>
+        ensures { reads self.old path.now (option_map (λ bytes. bytes.items) (result_ok result)) self.new };
+
+    /// Puts a new file with this text in the place of the one at a path, or leaves that as it is.
+    fn replace(&mut self, path: &str, text: &str) -> io::Result<()>
+        ensures { replaces self.old path.now text.now (is_ok result) self.new };
+}

@@ -1,0 +1,38 @@
+// What becomes of a text.
+ghost use Rattle.std.specs.Prelude.{IfOk};
+ghost use Rattle.gqlfmt_run.specs.Formatting.{IsRevised};
+
+use apollo_parser::Error;
+use formatter::format;
+use gqlcst_run::Limits;
+use std::alloc::{AllocError, Allocator};
+
+/// What the formatter makes of a text.
+#[derive(Drop)]
+pub enum Revised<A: Allocator> {
+    /// The text itself.
+    Same,
+    /// Another text.
+    Changed(String<A>),
+    /// Errors.
+    Refused(Vec<Error<A>, A>),
+}
+
+/// Formats a text, and says whether that changes it.
+pub fn revise<A: Allocator + Copy>(
+    alloc: A,
+    source: &str,
+    limits: Limits,
+) -> Result<Revised<A>, AllocError>
+    ensures { IfOk result (IsRevised limits source.now) }
+{
+    match format(alloc, source, limits.recursion, limits.tokens)? {
+        Ok(text) => {
+            if text.as_str() == source {
+                return Ok(Revised::Same);
+            }
+            Ok(Revised::Changed(text))
+        }
+        Err(errors) => Ok(Revised::Refused(errors)),
+    }
+}

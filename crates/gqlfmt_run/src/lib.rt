@@ -1,0 +1,28 @@
+// What the program `gqlfmt` does between its words, its devices and the files that it formats.
+#![tactic(auto)]
+
+mod command;
+mod diff;
+mod edits;
+mod excerpt;
+mod fault;
+mod files;
+mod formatting;
+mod input;
+mod outcome;
+mod paths;
+mod program;
+mod report;
+mod showing;
+mod std_files;
+
+pub use command::{HELP, Mode, Plan, Request, USAGE, VERSION, options};
+pub use diff::unified_diff;
+pub use fault::FileFault;
+pub use files::Files;
+pub use input::{INPUT, format_input};
+pub use outcome::Outcome;
+pub use paths::{format_file, format_files};
+pub use program::run;
+pub use report::render_report;
+pub use std_files::StdFiles;

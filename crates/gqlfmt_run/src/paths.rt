@@ -1,0 +1,81 @@
+// Formatting files.
+ghost use Rattle.std.specs.Prelude.{map};
+ghost use Rattle.gqlfmt_run.specs.Paths.{Handles, HandlesAll};
+
+use crate::command::{Mode, Plan};
+use crate::fault::FileFault;
+use crate::files::Files;
+use crate::formatting::{Revised, revise};
+use crate::outcome::{Outcome, status_of};
+use crate::report::{complain, tell};
+use crate::showing::shown;
+use gqlcst_run::{Fault, Limits, Sink, write_all};
+use std::alloc::Allocator;
+
+/// Formats the file at a path: replaces it, or writes what the mode shows of the change. Errors of its text are told to `complaints`.
+pub fn format_file<A: Allocator + Copy, F: Files, W: Sink, E: Sink>(
+    alloc: A,
+    files: &mut F,
+    writer: &mut W,
+    complaints: &mut E,
+    path: &str,
+    mode: Mode,
+    limits: Limits,
+) -> Result<Outcome, FileFault>
+    ensures { Handles F.reads F.replaces mode limits path.now result files.old files.new }
+{
+    let bytes = match files.read(alloc, path) {
+        Ok(bytes) => bytes,
+        Err(error) => return Err(FileFault::NotRead(error)),
+    };
+    let Ok(source) = str::from_utf8(bytes.as_slice()) else {
+        return Err(FileFault::Device(Fault::Utf8));
+    };
+    match revise(alloc, source, limits)? {
+        Revised::Refused(errors) => {
+            complain(alloc, complaints, path, source, errors.as_slice())?;
+            Ok(Outcome::Found)
+        }
+        Revised::Same => Ok(Outcome::Done),
+        Revised::Changed(text) => {
+            if mode == Mode::Write {
+                files
+                    .replace(path, text.as_str())
+                    .map_err(FileFault::NotReplaced)?;
+                return Ok(Outcome::Done);
+            }
+            let output = shown(alloc, mode, path, source, text)?;
+            write_all(writer, output.as_bytes())?;
+            Ok(Outcome::Found)
+        }
+    }
+}
+
+/// Formats all files of a plan in order, also after one that fails, and gives the greatest of their statuses.
+pub fn format_files<A: Allocator + Copy, F: Files, W: Sink, E: Sink>(
+    alloc: A,
+    files: &mut F,
+    writer: &mut W,
+    complaints: &mut E,
+    plan: &Plan<'_, A>,
+) -> u8
+    ensures { HandlesAll F.reads F.replaces plan.now.mode plan.now.limits (map (λ path. path.now) plan.now.files.items) result files.old files.new }
+{
+    let mut status = 0;
+    for path in &plan.files {
+        let ended = format_file(
+            alloc,
+            files,
+            writer,
+            complaints,
+            path,
+            plan.mode,
+            plan.limits,
+        );
+        if let Err(fault) = &ended {
+            tell(alloc, complaints, path, fault);
+        }
+        status = status.max(status_of(&ended));
+    }
+    status
+}

@@ -1,0 +1,28 @@
+// What is written to standard output of a text that formatting changes.
+ghost use Rattle.std.specs.Prelude.{IfOk, string_bytes};
+ghost use Rattle.gqlfmt_run.specs.Formatting.{IsShown};
+
+use crate::command::Mode;
+use crate::diff::unified_diff;
+use std::alloc::{AllocError, Allocator};
+
+/// The formatted text itself, the name of its source as a line, or the changes from the source.
+pub fn shown<A: Allocator + Copy>(
+    alloc: A,
+    mode: Mode,
+    name: &str,
+    source: &str,
+    text: String<A>,
+) -> Result<String<A>, AllocError>
+    ensures { IfOk result (λ output. IsShown mode name.now (string_bytes text) (string_bytes output)) }
+{
+    match mode {
+        Mode::Write => Ok(text),
+        Mode::Check => {
+            let mut line = String::from_str(alloc, name)?;
+            line.push_str("\n")?;
+            Ok(line)
+        }
+        Mode::Diff => unified_diff(alloc, name, source, text.as_str()),
+    }
+}
