@@ -1,0 +1,128 @@
+#!/usr/bin/env python3
+"""Measures gqlfmt from standard input to standard output, and graphql-js's parse and print beside it in the same run. Prints tables for docs/SPEED.md.
+
+format.py GQLFMT [ROUNDS]: ROUNDS (15) of each in turn. The texts are those of text.py, of 5, 10 and 20 MB, and hostile ones of 1, 2 and 4 MB. graphql-js
+is run on those of 5 MB, three times at most; it needs node, and print.js says where graphql-js is looked for. Without node its columns are empty. Ends
+with status 1 where twice a text takes more than 2.2 times as much processor time."""
+import os
+import shutil
+import statistics
+import subprocess
+import sys
+import tempfile
+import time
+
+HERE = os.path.dirname(os.path.abspath(__file__))
+
+# Each with N bytes.
+HOSTILE = {
+    "one line": lambda n: "{" + "a " * (n // 2) + "}",
+    "arguments of one field": lambda n: "{a(" + "b:1 " * (n // 4) + ")}",
+    "one list value": lambda n: "{a(b:[" + "1 " * (n // 2) + "])}",
+    "nested lists": lambda n: ("{a(b:" + "[" * 400 + "]" * 400 + ")}\n") * (n // 810),
+    "nested lists with a comment": lambda n: ("{a(b:" + "[" * 100 + "#\n" + "]" * 100 + ")}\n") * (n // 212),
+    "nested selections": lambda n: ("{a" * 100 + "}" * 100 + "\n") * (n // 301),
+    "comments": lambda n: "{a\n" + "#\n" * (n // 2) + "}",
+    "trailing comments": lambda n: "{" + "a#\n" * (n // 3) + "}",
+    "one comment": lambda n: "{a}#" + "x" * n,
+    "block string of one line": lambda n: '"""' + "x" * n + '"""type T',
+    "block string of many lines": lambda n: '"""' + "\n  x" * (n // 4) + '"""type T',
+    "block strings": lambda n: "{a(" + 'b:"""x\ny"""' * (n // 12) + ")}",
+    "quotes in a block string": lambda n: '"""' + '\\"""' * (n // 4) + ' """type T',
+    "empty lines": lambda n: "{a" + "\n" * n + "}",
+    "commas": lambda n: "{a" + "," * n + "}",
+}
+
+
+class Run:
+    """One run of a program on a text: the seconds that it took, those of processor time, its greatest memory in bytes, and what it wrote on standard
+    error."""
+
+    def __init__(self, command, path):
+        with open(path) as source, open(os.devnull, "w") as sink:
+            started = time.perf_counter()
+            process = subprocess.Popen(command, stdin=source, stdout=sink, stderr=subprocess.PIPE, text=True)
+            self.told = process.stderr.read()
+            _, status, usage = os.wait4(process.pid, 0)
+            self.seconds = time.perf_counter() - started
+            self.processor = usage.ru_utime + usage.ru_stime
+            self.memory = usage.ru_maxrss * 1024
+        if status:
+            sys.exit(f"{command[0]} on {path}: status {status}\n{self.told}")
+
+
+def made(path, command):
+    """The file, with what the command prints. This program holds no long text itself, since what it held would count as memory of those that it starts."""
+    with open(path, "w") as target:
+        subprocess.run(command, stdout=target, check=True)
+    return path
+
+
+def written(program, path):
+    """How many bytes the program writes."""
+    with open(path) as source:
+        process = subprocess.Popen([program], stdin=source, stdout=subprocess.PIPE)
+        return int(subprocess.run(["wc", "-c"], stdin=process.stdout, stdout=subprocess.PIPE, check=True).stdout)
+
+
+def milliseconds(seconds):
+    return f"{1000 * seconds:.0f} ms"
+
+
+def row(kind, length, ours, theirs):
+    """A line of the first table."""
+    seconds = [each.seconds for each in ours]
+    best, median = min(seconds), statistics.median(seconds)
+    cells = [f"{kind}, {length / 1e6:.1f} MB", milliseconds(best), milliseconds(median), milliseconds(min(each.processor for each in ours))]
+    cells += [f"{length / 1e6 / best:.0f}", f"{length / 1e6 / median:.0f}", f"{max(each.memory for each in ours) / length:.1f}"]
+    if theirs:
+        cells += [milliseconds(min(each.seconds for each in theirs)), milliseconds(min(float(each.told) for each in theirs) / 1000)]
+        cells += [f"{max(each.memory for each in theirs) / length:.0f}"]
+    return "| " + " | ".join(cells + [""] * (10 - len(cells))) + " |"
+
+
+def ordinary(program, folder, rounds):
+    """The table of the texts of text.py."""
+    print("| text | best | median | processor | MB/s, best | median | memory a byte | graphql-js | parse and print alone | memory a byte |\n|" + "---|" * 10)
+    node = shutil.which("node")
+    for kind in ["queries", "schema"]:
+        for size in [5_000_000, 10_000_000, 20_000_000]:
+            path = made(f"{folder}/{kind}", [sys.executable, f"{HERE}/text.py", kind, str(size)])
+            ours, theirs = [], []
+            for turn in range(rounds):
+                ours.append(Run([program], path))
+                if node and size == 5_000_000 and turn < 3:
+                    theirs.append(Run([node, f"{HERE}/print.js"], path))
+            print(row(kind, os.path.getsize(path), ours, theirs), flush=True)
+
+
+def hostile(program, folder, rounds):
+    """The table of the hostile texts. Answers how many take more than 2.2 times the processor time at twice the size."""
+    sizes = [1_000_000, 2_000_000, 4_000_000]
+    names = " | ".join(f"{size // 1_000_000} MB" for size in sizes)
+    print(f"\n| text | {names} | processor time, times | written at the last | memory |\n|" + "---|" * (len(sizes) + 4))
+    slow = 0
+    for name in HOSTILE:
+        paths = [made(f"{folder}/{size}", [sys.executable, __file__, "--text", name, str(size)]) for size in sizes]
+        runs = list(zip(*[[Run([program], path) for path in paths] for _ in range(rounds)]))
+        processor = [min(each.processor for each in each_size) for each_size in runs]
+        times = [after / before for before, after in zip(processor, processor[1:])]
+        slow += max(times) > 2.2
+        cells = [name] + [milliseconds(min(each.seconds for each in each_size)) for each_size in runs] + [", ".join(f"{ratio:.2f}" for ratio in times)]
+        cells += [f"{written(program, paths[-1]) / 1e6:.0f} MB", f"{max(each.memory for each in runs[-1]) / 1e6:.0f} MB"]
+        print("| " + " | ".join(cells) + " |", flush=True)
+    return slow
+
+
+def main():
+    if sys.argv[1] == "--text":
+        sys.stdout.write(HOSTILE[sys.argv[2]](int(sys.argv[3])))
+        return
+    program, rounds = os.path.abspath(sys.argv[1]), int(sys.argv[2]) if len(sys.argv) > 2 else 15
+    with tempfile.TemporaryDirectory() as folder:
+        ordinary(program, folder, rounds)
+        slow = hostile(program, folder, rounds)
+    sys.exit(1 if slow else 0)
+
+
+main()
