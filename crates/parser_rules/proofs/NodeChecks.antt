@@ -1,5 +1,5 @@
 -- Each node's rule, checked by computing: the one place where a wrong rule fails. What is refused there is named with its node.
-use Rattle.std.proofs.Common.{◌≡◌, Bool, true, false, cond, List, [], ◌∷◌, refl}
+use Rattle.std.proofs.Common.{◌≡◌, ℕ, ◌*◌, zero, suc, Bool, true, false, cond, List, [], ◌∷◌, refl}
 use Rattle.document_grammar.specs.declared.kind.SyntaxKind.TheVariants as kind
 use Rattle.document_grammar.specs.Kinds.{DOCUMENT}
 use Rattle.document_grammar.specs.Pattern.{member}
@@ -14,21 +14,25 @@ use Rattle.grammar_machine.proofs.Patterns.{label}
 use Rattle.parser_rules.specs.declared.constness.Constness.TheVariants.{Const, NotConst}
 use Rattle.parser_rules.specs.Nodes.{Node, Arguments, Argument, Directives, Directive, ListValue, ObjectValue, ObjectField, symbol, Document, Definition}
 use Rattle.grammar_machine.proofs.Sound.{any}
-use Rattle.parser_rules.specs.RuleLanguage.{While, Ready, Call}
+use Rattle.parser_rules.specs.RuleLanguage.{Rule, Seq, When, While, Nested, Typed, Call, Ready}
+use Rattle.parser_rules.specs.Rules.{inside, body}
+use Rattle.parser_rules.proofs.runs.Fuel.{rules_deep}
 use Rattle.parser_rules.proofs.runs.Progress.{consuming}
 use Rattle.parser_rules.proofs.lookahead.Split.{split, divide}
 use Rattle.parser_rules.proofs.lookahead.FirstSets.{first_of, first_in, second_of, looks, inlined}
-use Rattle.parser_rules.proofs.soundness.TableCheck.{own, covered, turns, levels, leaf_of, loses, lacks, leaves_well, takes, ends_at, closing, child_goes, child_sticks, child_at, limits_at, nests, typed, type_at, reports, is_node, ok, ends_well, follows_table, root_ends, part_ends, document_follows, turns_follow}
+use Rattle.parser_rules.proofs.soundness.TableCheck.{counts_itself, covered, turns, levels_agree, leaf_of, may_be_cut_off, may_lack_block, exit_is_right, takes_token, ends_at, after_inlined, child_begins, child_while_stuck, child_at, may_report_limit, enters_level, after_type, type_at, may_report, is_node, keeps_to_table, node_may_end, follows_table, document_may_end, part_may_end, document_follows, turns_follow}
 use Rattle.parser_rules.proofs.leaves.LeafCheck.{belongs, anything, leaf_check}
 use Rattle.parser_rules.proofs.nesting.LevelCheck.{at_first, level_check}
 use Rattle.parser_rules.proofs.reports.LimitCheck.{unknown as unknown_token, limit_check}
 use Rattle.document_grammar.proofs.Nested.{weight}
-use Rattle.parser_rules.proofs.runs.Walk.{walk, checks, always}
+use Rattle.parser_rules.proofs.runs.Walk.{walk, checks, checks_with, always}
 use Rattle.parser_rules.proofs.recovery.RecoveryCheck.{pop_check, row_check, tidy_check, of_row, leaf_of_row, unknown, any_token}
 use Rattle.parser_rules.proofs.sizes.SizeCheck.{walk as size_walk, saved, pays_for_itself, root_pays, PaysForAll, element_rates, report_rates}
 
 -- what can be wrong with a rule
 data Fault : Type 0 where
+  -- the checks look at no more than `rules_deep` rules that call one another, and this one goes deeper
+  TooManyRulesDeep : Fault
   -- it takes or reports a token where the machine does otherwise
   AgainstTheTable : Fault
   -- a token becomes a leaf of another kind
@@ -51,26 +55,50 @@ data Fault : Type 0 where
 abbrev unless : Bool → Fault → List Fault → List Fault
 unless b fault more = cond b more (fault ∷ more)
 
-unfoldable faults : Node → List Fault
-faults c =
-    unless (follows_table c) AgainstTheTable
-    (unless (checks leaf_check c) WrongLeaf
-    (unless (checks level_check c) WrongLevel
-    (unless (checks limit_check c) UncertainToken
-    (unless (checks pop_check c) WrongErrorLeaf
-    (unless (checks row_check c) ForeignSymbol
-    (unless (checks tidy_check c) IgnoredToken
+-- the faults that the checks find, with so much fuel
+unfoldable faults_with : ℕ → Node → List Fault
+faults_with fuel c =
+    unless (follows_table fuel c) AgainstTheTable
+    (unless (checks_with fuel leaf_check c) WrongLeaf
+    (unless (checks_with fuel level_check c) WrongLevel
+    (unless (checks_with fuel limit_check c) UncertainToken
+    (unless (checks_with fuel pop_check c) WrongErrorLeaf
+    (unless (checks_with fuel row_check c) ForeignSymbol
+    (unless (checks_with fuel tidy_check c) IgnoredToken
     (unless (pays_for_itself element_rates c) TooManyElements
     (unless (pays_for_itself report_rates c) TooManyReports []))))))))
 
+-- The rules that this one calls, and that these call, are no more than so many deep. Children are not looked into.
+unfoldable calls_end : ℕ → Rule → Bool
+calls_end n (Seq a b) = calls_end n a and calls_end n b
+calls_end n (When t a b) = calls_end n a and calls_end n b
+calls_end n (While t a) = calls_end n a
+calls_end n (Nested a b) = calls_end n a and calls_end n b
+calls_end n (Typed a) = calls_end n a
+calls_end zero (Call p) = false
+calls_end (suc n) (Call p) = calls_end n (body p)
+calls_end n _ = true
+
+-- what is at fault, where some faults were found with the fuel that there is, and these with more
+abbrev blamed : List Fault → Bool → List Fault → List Fault
+blamed found true (fault ∷ more) = found
+blamed found _ _ = TooManyRulesDeep ∷ []
+
+-- The faults of a node's rule. A check fails too where its fuel runs out. So where faults are found, they are looked for with twice as much.
+unfoldable faults : Node → List Fault
+faults c = elim (faults_with rules_deep c) [
+  | [] ↦ []
+  | fault ∷ more ↦ blamed (fault ∷ more) (calls_end (2 * rules_deep) (inside c)) (faults_with (2 * rules_deep) c)
+]
+
 -- all that the checks compute with
 unfoldable pub computing : Unit {0}
-unfolding ◌and◌ ◌or◌ is_leaf at ends exit arcs target entries rows firsts goes closes sticks label labels member Row symbol consuming split divide first_of first_in second_of looks inlined own covered turns levels leaf_of loses lacks leaves_well exits row_of takes ends_at closing child_goes child_sticks child_at limits_at nests typed type_at reports is_node ok ends_well root_ends part_ends belongs leaf_check weight walk pop_check row_check tidy_check of_row leaf_of_row follows_table level_check limit_check document_follows turns_follow size_walk saved pays_for_itself root_pays
+unfolding ◌and◌ ◌or◌ is_leaf at ends exit arcs target entries rows firsts goes closes sticks label labels member Row symbol consuming split divide first_of first_in second_of looks inlined counts_itself covered turns levels_agree leaf_of may_be_cut_off may_lack_block exit_is_right exits row_of takes_token ends_at after_inlined child_begins child_while_stuck child_at may_report_limit enters_level after_type type_at may_report is_node keeps_to_table node_may_end document_may_end part_may_end belongs leaf_check weight walk pop_check row_check tidy_check of_row leaf_of_row follows_table level_check limit_check document_follows turns_follow size_walk saved pays_for_itself root_pays
 computing = tt
 
 -- No node's rule is at fault. A node with a place is looked at in both.
 no-faults : (c : Node) → faults c ≡ []
-unfolding computing faults
+unfolding computing faults faults_with calls_end
 no-faults (Arguments Const) = refl
 no-faults (Arguments NotConst) = refl
 no-faults (Argument Const) = refl
@@ -94,7 +122,7 @@ no-fault true fault more h = (refl, h)
 no-fault false fault more h = absurd (cc)
 
 pub record SoundRule (c : Node) : Type 0 where
-  pub table : follows_table c ≡ true
+  pub table : follows_table rules_deep c ≡ true
   pub leaves : checks leaf_check c ≡ true
   pub levels : checks level_check c ≡ true
   pub limits : checks limit_check c ≡ true
@@ -104,10 +132,20 @@ pub record SoundRule (c : Node) : Type 0 where
   pub elements : pays_for_itself element_rates c ≡ true
   pub reports : pays_for_itself report_rates c ≡ true
 
-pub node-passes : (c : Node) → SoundRule c
+none-found : (found other : List Fault) (end : Bool) → ◌≡◌ {A = List Fault} (elim found [ [] ↦ [] | fault ∷ more ↦ blamed (fault ∷ more) end other ]) [] → found ≡ []
+none-found [] other end h = refl
+none-found (fault ∷ more) [] true h = absurd cc
+none-found (fault ∷ more) (x ∷ xs) true h = h
+none-found (fault ∷ more) other false h = absurd cc
+
+found-none : (c : Node) → faults_with rules_deep c ≡ []
 unfolding faults
+found-none c = none-found (faults_with rules_deep c) (faults_with (2 * rules_deep) c) (calls_end (2 * rules_deep) (inside c)) (no-faults c)
+
+pub node-passes : (c : Node) → SoundRule c
+unfolding faults_with
 node-passes c =
-    let a = no-fault _ _ _ (no-faults c) in
+    let a = no-fault _ _ _ (found-none c) in
     let b = no-fault _ _ _ a.1 in
     let d = no-fault _ _ _ b.1 in
     let e = no-fault _ _ _ d.1 in
@@ -130,12 +168,12 @@ document-reports = refl
 pub record DocumentRule : Type 0 where
   pub table : document_follows (Call Document) ≡ true
   pub turns : turns_follow (While Ready (Call Definition)) ≡ true
-  pub leaves : walk leaf_check 5 (Call Document) anything always ≡ true
-  pub levels : walk level_check 5 (Call Document) (at_first DOCUMENT) (level_check.ends kind.DOCUMENT) ≡ true
-  pub limits : walk limit_check 5 (Call Document) unknown_token always ≡ true
-  pub errors : walk pop_check 5 (Call Document) (unknown any_token) always ≡ true
-  pub row : walk row_check 5 (Call Document) (record { own = DOCUMENT; later = DOCUMENT }) (row_check.ends kind.DOCUMENT) ≡ true
-  pub ignored : walk tidy_check 5 (Call Document) false always ≡ true
+  pub leaves : walk leaf_check rules_deep (Call Document) anything always ≡ true
+  pub levels : walk level_check rules_deep (Call Document) (at_first DOCUMENT) (level_check.ends kind.DOCUMENT) ≡ true
+  pub limits : walk limit_check rules_deep (Call Document) unknown_token always ≡ true
+  pub errors : walk pop_check rules_deep (Call Document) (unknown any_token) always ≡ true
+  pub row : walk row_check rules_deep (Call Document) (record { own = DOCUMENT; later = DOCUMENT }) (row_check.ends kind.DOCUMENT) ≡ true
+  pub ignored : walk tidy_check rules_deep (Call Document) false always ≡ true
   pub sizes : PaysForAll any (Call Document)
 
 pub document_passes : DocumentRule

@@ -1,3 +1,4 @@
+pub mod Fuel
 pub mod Reading
 pub mod Steps
 pub mod Reporting

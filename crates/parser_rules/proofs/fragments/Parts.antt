@@ -30,8 +30,9 @@ use Rattle.parser_rules.specs.Runs.{Runs}
 use Rattle.parser_rules.specs.State.{State, Lexeme, ignored, read_on, flush, finished}
 use Rattle.parser_rules.proofs.fragments.RootChecks.{follows_part, selections_follow}
 use Rattle.parser_rules.proofs.lookahead.MachineClasses.{Next, current-class}
-use Rattle.parser_rules.proofs.lookahead.Split.{low, firm, spot, lost}
+use Rattle.parser_rules.proofs.lookahead.Split.{OpenWhateverFollows, in_row, machine_is_stuck, at_root_start}
 use Rattle.parser_rules.proofs.lookahead.TokenSets.{class_of, kind_set, holds-minus}
+use Rattle.parser_rules.proofs.runs.Fuel.{rules_deep}
 use Rattle.parser_rules.proofs.runs.Frame.{read-untouched}
 use Rattle.parser_rules.proofs.reports.NoReport.{answers_tokens, all_tokens, rest, given as given_by, EndsWell}
 use Rattle.parser_rules.proofs.soundness.MachineStack.{image, image-node}
@@ -40,7 +41,7 @@ use Rattle.parser_rules.proofs.soundness.Positions.{Reading, top, StandsAt, Fits
 use Rattle.parser_rules.proofs.soundness.Roots.{whole_of, IsRootSymbol, Begins, symbol-begins, first_state, root-starts, root-ended, never-right}
 use Rattle.parser_rules.proofs.soundness.Simulation.{good, link}
 use Rattle.parser_rules.proofs.soundness.Soundness.{finished-tree, words-before}
-use Rattle.parser_rules.proofs.soundness.TableCheck.{Then, own, behind, no_brace, part_ends, ok}
+use Rattle.parser_rules.proofs.soundness.TableCheck.{Then, counts_itself, absent_as_end, no_brace, part_may_end, keeps_to_table}
 use Rattle.parser_rules.proofs.soundness.WithoutIgnored.{stack}
 
 -- All answers before the current token are tokens; a derivation of the sort spells them. It nests within the limit, and as deep as the
@@ -72,7 +73,7 @@ module _ (sort : Sort) (r : ℕ) (xs : List Answer) where
   pub record Keeps (b : Building) (k : Then) (q : Rule) : Type 0 where
     pub begins : Begins (top R) b
     pub set : ℕ
-    pub follows : ok 5 (top R) (spot 0 low firm) set any q k ≡ true
+    pub follows : keeps_to_table rules_deep (top R) at_root_start set any q k ≡ true
     pub first : within (first_class (answers_tokens xs)) set ≡ true
 
   -- the first token is read, and what comes before it is built
@@ -81,7 +82,7 @@ module _ (sort : Sort) (r : ℕ) (xs : List Answer) where
 
   -- no token is built there
   pub record Starts (b : Building) (set : ℕ) : Type 0 where
-    pub fits : Fits R (top R) (spot 0 low firm) set any [] (first_token b)
+    pub fits : Fits R (top R) at_root_start set any [] (first_token b)
     pub built : stack (first_token b).tree ≡ stack b
 
   pub part-starts : {b : Building} {k : Then} {q : Rule} (p : Keeps b k q) → EndsWell xs → Tells R (first_token b) ⊎ Starts b p.set
@@ -93,9 +94,9 @@ module _ (sort : Sort) (r : ℕ) (xs : List Answer) where
         | inl o ↦ inl (tell-on R s (flush s) (idle-grows a.idle) o)
         | inr g ↦ (
             let c = g.0.stands.0 in
-            let stands : StandsAt R (top R) (spot 0 low firm) [] (flush s) = (
+            let stands : StandsAt R (top R) at_root_start [] (flush s) = (
               record { children = c.children; place = record { reach = rw (idle-rest a.idle) c.place.reach; leveled = still-leveled R a c.place.leveled; alone = c.place.alone }; built = flushed R s g.0.calm ∙ c.built },
-              known-weak R firm (frame (top R) 0 c.children ∷ []) s (flush s) (idle-rest a.idle) g.0.stands.1,
+              known-weak R OpenWhateverFollows (frame (top R) 0 c.children ∷ []) s (flush s) (idle-rest a.idle) g.0.stands.1,
             ) in
             let near : within (class_of s.current) p.set ≡ true = rw (current-class s.current s.items g.0.calm.now, g.1) p.first in
             inr (record {
@@ -105,7 +106,7 @@ module _ (sort : Sort) (r : ℕ) (xs : List Answer) where
       ]
 
   pub part-runs : {b : Building} {k : Then} {q : Rule} {s : State} (p : Keeps b k q) → Starts b p.set → Runs q (first_token b) s → Out R (top R) [] k s
-  part-runs {k = k} {q = q} p g run = link R run 5 (top R) (spot 0 low firm) p.set any [] k (good R 5 (top R) (spot 0 low firm) p.set any q k p.follows) g.fits
+  part-runs {k = k} {q = q} p g run = link R run rules_deep (top R) at_root_start p.set any [] k (good R rules_deep (top R) at_root_start p.set any q k p.follows) g.fits
 
   -- Nothing is reported, and the machine's root may end.
   pub record Ended (s : State) : Type 0 where
@@ -116,15 +117,15 @@ module _ (sort : Sort) (r : ℕ) (xs : List Answer) where
     -- whatever is built of it
     pub part : (b : Building) → PartAs sort r xs (record s { tree = b }) (show (node (top R) children))
 
-  pub part-out : (s : State) → Out R (top R) [] (part_ends (top R)) s → Tells R s ⊎ Ended s
-  unfolding part_ends
+  pub part-out : (s : State) → Out R (top R) [] (part_may_end (top R)) s → Tells R s ⊎ Ended s
+  unfolding part_may_end
   part-out s (inl t) = inl t
-  part-out s (inr (lost, x, y, h, g)) = false-true refl h
-  part-out s (inr (spot q l d, x, y, h, g)) =
+  part-out s (inr (machine_is_stuck, x, y, h, g)) = false-true refl h
+  part-out s (inr (in_row q l d, x, y, h, g)) =
       let c = g.stands.0 in
       let f : Forest = c.children in
       let n : Next x y (rest s) = fits-next R g in
-      let m : next (top R) q (rest s) ≡ closes_move = closes-move (top R) q x (behind y) (first_class (rest s)) (second_class (rest s)) (and-l _ _ h) n.near n.far in
+      let m : next (top R) q (rest s) ≡ closes_move = closes-move (top R) q x (absent_as_end y) (first_class (rest s)) (second_class (rest s)) (and-l _ _ h) n.near n.far in
       let e = root-ended R c.place m (eqb-true _ _ (and-r _ _ (and-r _ _ h))) in
       let t = current R s g.calm in
       let words : answers_tokens xs ≡ yields f ++ answers_tokens (given_by t.0 ∷ s.items) = e.split ∙ ap (λ (z : Option Lexeme). yields f ++ rest (record s { current = z })) t.1 in
@@ -168,7 +169,7 @@ module _ (sort : Sort) (r : ℕ) (xs : List Answer) (k : SyntaxKind) where
 
   pub record Follows (q : Rule) : Type 0 where
     pub symbol : IsRootSymbol S k
-    pub keeps : Keeps sort r xs (start k nothing) (part_ends S) q
+    pub keeps : Keeps sort r xs (start k nothing) (part_may_end S) q
 
   pub part-parsed : {q : Rule} {s : State} → Follows q → EndsWell xs → IsRoot s.tree → Runs q (started xs r k) s → Outcome sort r xs s
   part-parsed {s = s} p e root run = elim (part-starts sort r xs p.keeps e) [
@@ -197,7 +198,7 @@ unfolding within
 brace = refl
 
 opens-by-class : (a : ℕ) → within a any ≡ true → Opens (opening selections a) a
-unfolding label labels own ◌or◌ member
+unfolding label labels counts_itself ◌or◌ member
 opens-by-class a h = elim (either (eqb a L_CURLY)) [
   | inl p ↦ rw p (record { symbol = record { shown = refl; counted = refl; no_type = refl }; set = kind_set token.LCurly; follows = selections_follow.0; first = rw (eqb-true a L_CURLY p) brace })
   | inr p ↦ rw p (record {

@@ -11,14 +11,15 @@ use Rattle.document_grammar.specs.Kinds.{SELECTION_SET}
 use Rattle.grammar_machine.specs.Symbols.{TYPE, BARE_SELECTIONS}
 use Rattle.grammar_machine.proofs.Sound.{any}
 use Rattle.parser_rules.proofs.lookahead.TokenSets.{kind_set, absent, present as a_token}
-use Rattle.parser_rules.proofs.lookahead.Split.{low, firm, spot}
-use Rattle.parser_rules.proofs.soundness.TableCheck.{Then, own, no_brace, part_ends, ok}
+use Rattle.parser_rules.proofs.lookahead.Split.{at_root_start}
+use Rattle.parser_rules.proofs.soundness.TableCheck.{Then, counts_itself, no_brace, part_may_end, keeps_to_table}
 use Rattle.document_grammar.specs.Numbers.{number}
 use Rattle.parser_rules.specs.Fragments.{selections_root, list_root, named_root, non_null_root, no_type_root, IsTypeRoot, a_list, a_name, not_null, no_type}
 use Rattle.parser_rules.specs.Open.{is_free}
 use Rattle.parser_rules.specs.State.{State}
 use Rattle.parser_rules.specs.RuleLanguage.{Here, At, Ready, Bump, Rule, Skip, Do, When, While, ◌>◌}
 use Rattle.parser_rules.specs.Rules.{type_start, nullable_type}
+use Rattle.parser_rules.proofs.runs.Fuel.{rules_deep}
 use Rattle.parser_rules.proofs.runs.Walk.{walk, always}
 use Rattle.parser_rules.proofs.leaves.LeafCheck.{anything, leaf_check}
 use Rattle.parser_rules.proofs.nesting.LevelCheck.{at_first, level_check}
@@ -28,11 +29,11 @@ use Rattle.parser_rules.proofs.NodeChecks.{computing}
 
 -- a rule of an open root of the kind passes each check
 pub record RootRule (k : SyntaxKind) (q : Rule) : Type 0 where
-  pub leaves : walk leaf_check 5 q anything always ≡ true
-  pub levels : walk level_check 5 q (at_first (number k)) (level_check.ends k) ≡ true
+  pub leaves : walk leaf_check rules_deep q anything always ≡ true
+  pub levels : walk level_check rules_deep q (at_first (number k)) (level_check.ends k) ≡ true
   -- the kind's own level is all that the root counts
-  pub heavy : eqb (weight DOCUMENT (number k)) (own (number k)) and leb (own (number k)) 1 ≡ true
-  pub limits : walk limit_check 5 q present always ≡ true
+  pub heavy : eqb (weight DOCUMENT (number k)) (counts_itself (number k)) and leb (counts_itself (number k)) 1 ≡ true
+  pub limits : walk limit_check rules_deep q present always ≡ true
 
 pub selections_pass : RootRule kind.SELECTION_SET selections_root
 unfolding computing
@@ -68,7 +69,7 @@ type-free (no_type e) = refl
 
 -- a rule of a root of the symbol keeps to the machine, where the class of the first token is in the set
 abbrev pub follows_part : ℕ → ℕ → Rule → Type 0
-follows_part s x q = ok 5 s (spot 0 low firm) x any q (part_ends s) ≡ true
+follows_part s x q = keeps_to_table rules_deep s at_root_start x any q (part_may_end s) ≡ true
 
 -- a type where no root is open
 abbrev pub type_rule : Rule
@@ -81,7 +82,7 @@ absent_rule = When (Here type_start) (While Ready Skip) no_type_root
 abbrev pub never : Then
 never p x y = false
 
-pub type_follows : follows_part TYPE any type_rule × (ok 5 TYPE (spot 0 low firm) any any absent_rule never ≡ true)
+pub type_follows : follows_part TYPE any type_rule × (keeps_to_table rules_deep TYPE at_root_start any any absent_rule never ≡ true)
 unfolding computing
 type_follows = (refl, refl)
 

@@ -36,7 +36,7 @@ use Rattle.parser_rules.proofs.runs.Frame.{Adds, adds, parts_forest, added-all, 
 use Rattle.parser_rules.proofs.soundness.Positions.{Reading, Tells, tell-on, run-grows, idle-grows, wrapped-alike}
 use Rattle.parser_rules.proofs.soundness.Roots.{whole_of, Begins}
 use Rattle.parser_rules.proofs.soundness.Settled.{settled-unwrapped}
-use Rattle.parser_rules.proofs.soundness.TableCheck.{own, part_ends}
+use Rattle.parser_rules.proofs.soundness.TableCheck.{counts_itself, part_may_end}
 use Rattle.parser_rules.proofs.soundness.WithoutIgnored.{Stack, stack, layers, strip, put, stack-added, stack-leaf}
 
 -- ---- what is built
@@ -87,10 +87,10 @@ module _ (r : ℕ) (xs : List Answer) where
   first = unopened xs r
 
   begins : Begins TYPE nothing
-  unfolding own ◌or◌ member label labels
+  unfolding counts_itself ◌or◌ member label labels
   begins = record { counted = refl; built = refl }
 
-  abbrev keeps-type : Keeps type r xs nothing (part_ends TYPE) type_rule
+  abbrev keeps-type : Keeps type r xs nothing (part_may_end TYPE) type_rule
   keeps-type = record { begins = begins; set = any; follows = type_follows.0; first = first-any (answers_tokens xs) }
 
   abbrev keeps-absent : Keeps type r xs nothing never absent_rule

@@ -32,6 +32,7 @@ use Rattle.parser_rules.specs.Nodes.{kind_of}
 use Rattle.parser_rules.specs.RuleLanguage.{Ready, holds, Prim, Rule, Do, Seq, When, While, Call}
 use Rattle.parser_rules.specs.Rules.{body}
 use Rattle.parser_rules.specs.Runs.{Runs, seq, yes, no, done, again, call}
+use Rattle.parser_rules.proofs.runs.Fuel.{rules_deep}
 use Rattle.parser_rules.proofs.runs.Frame.{add_all-above, root-kept}
 use Rattle.parser_rules.proofs.runs.AtTheEnd.{EndNow, ends, read-ends}
 use Rattle.parser_rules.proofs.runs.Reading.{Reading, found, Shown, second-shown, reading}
@@ -300,7 +301,7 @@ first-leaves (gives item ∷ xs) w (one_more {l = l} {ls = ls} i m) e =
     }
 
 -- what the leaves of a root that was not left are made of
-pub root-part : {q : Rule} {t : State} (items : List Answer) (limit : ℕ) (k : SyntaxKind) → walk leaf_check 5 q anything always ≡ true → Runs q (flush (begun items limit k)) t → (f : Marked) × FirstPart items t f × Fit f
+pub root-part : {q : Rule} {t : State} (items : List Answer) (limit : ℕ) (k : SyntaxKind) → walk leaf_check rules_deep q anything always ≡ true → Runs q (flush (begun items limit k)) t → (f : Marked) × FirstPart items t f × Fit f
 unfolding flush
 root-part {t = t} items limit k c run =
     let b : State = begun items limit k in
@@ -309,5 +310,5 @@ root-part {t = t} items limit k c run =
     (append (set_aside b.pending) f, first-part items limit k t (append (set_aside b.pending) f) g, fit-append (set_aside b.pending) f (fit-aside b.pending) h.fits)
 
 -- they are one for one the first items
-pub root-leaves : {q : Rule} {t : State} (items : List Answer) (limit : ℕ) (k : SyntaxKind) → walk leaf_check 5 q anything always ≡ true → Runs q (flush (begun items limit k)) t → FirstLeaves items (leaves t.tree.here)
+pub root-leaves : {q : Rule} {t : State} (items : List Answer) (limit : ℕ) (k : SyntaxKind) → walk leaf_check rules_deep q anything always ≡ true → Runs q (flush (begun items limit k)) t → FirstLeaves items (leaves t.tree.here)
 root-leaves {t = t} items limit k c run = let p = root-part items limit k c run in subst (λ (x : Forest). FirstLeaves items (leaves x)) p.1.tree (first-leaves items (to_come t) p.2 p.1.order)

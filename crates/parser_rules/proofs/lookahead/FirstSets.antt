@@ -9,6 +9,7 @@ use Rattle.document_grammar.specs.declared.kind.SyntaxKind.TheVariants as kind
 use Rattle.parser_rules.specs.Nodes.{Node, Name, symbol}
 use Rattle.parser_rules.specs.RuleLanguage.{Rule, Do, Bump, Note, Seq, When, Child, Call, Nested, Typed}
 use Rattle.parser_rules.specs.Rules.{inside, body}
+use Rattle.parser_rules.proofs.runs.Fuel.{rules_deep}
 
 abbrev pub without : ℕ → ℕ → ℕ
 without x m = bit_xor x (bit_and x m)
@@ -40,7 +41,7 @@ looks n _ = true
 
 -- the first, but any where the rule of the node looks itself
 unfoldable pub first_in : Node → ℕ
-first_in c = cond (looks 5 (inside c)) any (first_of c)
+first_in c = cond (looks rules_deep (inside c)) any (first_of c)
 
 -- the nodes whose rules are walked at each of their places, so that what is known of the second token is kept
 unfoldable pub inlined : Node → Bool

@@ -13,17 +13,17 @@ use Rattle.parser_rules.proofs.lookahead.TokenSets.{edges, absent, lexeme_class,
 use Rattle.parser_rules.proofs.reports.NoReport.{EndsWell, Now, rest, answers_tokens, current_tokens, ignored-tokens, ignored-end, end-kind, significant, standing}
 use Rattle.parser_rules.proofs.runs.Reading.{Reading, stops, cuts, bad_text, waits, shows, reading-none, looks}
 use Rattle.parser_rules.proofs.lookahead.FirstSets.{without}
-use Rattle.parser_rules.proofs.soundness.TableCheck.{behind}
+use Rattle.parser_rules.proofs.soundness.TableCheck.{absent_as_end}
 
 -- ---- the end, where no token is
 
-pub behind-none : (y : ℕ) → within absent y ≡ true → within 0 (behind y) ≡ true
+pub behind-none : (y : ℕ) → within absent y ≡ true → within 0 (absent_as_end y) ≡ true
 behind-none y h = elim (either (disjoint y (2 ^ absent))) [
   | inl d ↦ false-true (holds-disjoint absent y (2 ^ absent) d h) edges.none_one
   | inr d ↦ rw d (holds-or 0 (without y (2 ^ absent)) 1 (inr edges.end_one))
 ]
 
-pub behind-in : (a y : ℕ) → within a (2 ^ absent) ≡ false → within a y ≡ true → within a (behind y) ≡ true
+pub behind-in : (a y : ℕ) → within a (2 ^ absent) ≡ false → within a y ≡ true → within a (absent_as_end y) ≡ true
 behind-in a y n h = elim (either (disjoint y (2 ^ absent))) [
   | inl d ↦ rw d h
   | inr d ↦ rw d (holds-or a (without y (2 ^ absent)) 1 (inl (holds-minus a y (2 ^ absent) h n)))
@@ -38,7 +38,7 @@ class-shown b = holds-disjoint (class b) ready (2 ^ absent) ready-shown (not-zer
 -- ---- the first of some answers
 
 -- the first class is in a set of the machine's, where the class of the token that is read next is in the rules' set
-sees : {xs : List Answer} {s t : State} → Reading xs s t → (y : ℕ) → EndsWell xs → within (class_of t.current) y ≡ true → within (first_class (answers_tokens xs)) (behind y) ≡ true
+sees : {xs : List Answer} {s t : State} → Reading xs s t → (y : ℕ) → EndsWell xs → within (class_of t.current) y ≡ true → within (first_class (answers_tokens xs)) (absent_as_end y) ≡ true
 unfolding first_class
 sees stops y e h = absurd e
 sees (cuts r) y e h = rw e (behind-none y (subst (λ (o : Option Lexeme). within (class_of o) y ≡ true) (reading-none r e) h))
@@ -62,13 +62,13 @@ current-class (Some t) items n = elim (standing t items n) [
 
 pub record Next (x y : ℕ) (r : List Token) : Type 0 where
   pub near : within (first_class r) x ≡ true
-  pub far : within (second_class r) (behind y) ≡ true
+  pub far : within (second_class r) (absent_as_end y) ≡ true
 
 pub sees-next : (x y : ℕ) (st : State) → Now st.current st.items → Seen x y st → Next x y (rest st)
 unfolding first_class second_class second
 sees-next x y st n i = at st.current n i.near
   where
-    far : EndsWell st.items → within (first_class (answers_tokens st.items)) (behind y) ≡ true
+    far : EndsWell st.items → within (first_class (answers_tokens st.items)) (absent_as_end y) ≡ true
     far e = let l = looks st.items in sees l.2 y e (rw l.3 i.far)
 
     at : (o : Option Lexeme) → Now o st.items → within (class_of o) x ≡ true → Next x y (current_tokens o ++ answers_tokens st.items)

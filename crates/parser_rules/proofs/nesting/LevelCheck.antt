@@ -6,7 +6,7 @@ use Rattle.document_grammar.specs.Booleans.{◌and◌}
 use Rattle.document_grammar.proofs.Nested.{uncounted, is_bare, weight}
 use Rattle.parser_rules.specs.Nodes.{kind_of}
 use Rattle.parser_rules.proofs.runs.Walk.{Domain, steady}
-use Rattle.parser_rules.proofs.soundness.TableCheck.{own}
+use Rattle.parser_rules.proofs.soundness.TableCheck.{counts_itself}
 
 -- The kind of the open node; how many more counted nodes are open than levels were entered where it began; how many levels were entered in
 -- it; and 1 where it still owes its own.
@@ -17,7 +17,7 @@ pub record Depth : Type 0 where
   pub owed : ℕ
 
 abbrev pub at_first : ℕ → Depth
-at_first k = record { kind = k; open_nodes = own k; entered = 0; owed = own k }
+at_first k = record { kind = k; open_nodes = counts_itself k; entered = 0; owed = counts_itself k }
 
 -- each counted node that a rule leaves open has its level, entered or asked for
 unfoldable pub level_check : Domain Depth
@@ -26,8 +26,8 @@ level_check = record (steady (at_first DOCUMENT)) {
   limit = λ a k. leb a.owed 1 and k (record a { owed = 0 });
   keeps = λ a c. (eqb a.kind c.kind and eqb a.open_nodes c.open_nodes) and (eqb a.entered c.entered and eqb a.owed c.owed);
   begins = λ n. at_first (number (kind_of n));
-  ends = λ j a. (eqb a.kind (number j) and eqb a.open_nodes (own (number j))) and (eqb a.entered 0 and eqb a.owed 0);
-  after = λ j a k. (eqb (a.entered + own (number j)) (a.open_nodes + weight a.kind (number j)) and eqb a.owed 0) and k a;
+  ends = λ j a. (eqb a.kind (number j) and eqb a.open_nodes (counts_itself (number j))) and (eqb a.entered 0 and eqb a.owed 0);
+  after = λ j a k. (eqb (a.entered + counts_itself (number j)) (a.open_nodes + weight a.kind (number j)) and eqb a.owed 0) and k a;
   enters = λ a k. (eqb a.entered 0 and leb a.owed 1) and k (record a { entered = 1; owed = 0 });
   leaves = λ a k. (eqb a.entered 1 and eqb a.owed 0) and k (record a { entered = 0 });
   types = λ a. record a { open_nodes = a.open_nodes - a.entered; entered = 0 };

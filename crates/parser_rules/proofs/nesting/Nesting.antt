@@ -18,13 +18,14 @@ use Rattle.document_grammar.proofs.Nested.{uncounted, is_bare, weight, weight-no
 use Rattle.parser_rules.specs.Nodes.{Document, kind_of}
 use Rattle.parser_rules.specs.RuleLanguage.{Rule, Call}
 use Rattle.parser_rules.specs.Runs.{Runs}
+use Rattle.parser_rules.proofs.runs.Fuel.{rules_deep}
 use Rattle.parser_rules.proofs.runs.Frame.{read-untouched, add_all-above, root-stays}
 use Rattle.parser_rules.proofs.runs.Reading.{Reading, reading, all_kinds, reading-waits}
 use Rattle.parser_rules.proofs.runs.Marked as marked
 use Rattle.parser_rules.proofs.runs.Marked.{Marked, append, token, erase, erase-append, set_aside, moved_on, first-part}
 use Rattle.parser_rules.proofs.runs.Walk.{after_pending, Sound, walk, walked_whole, walked_root}
 use Rattle.parser_rules.proofs.runs.Reporting.{after-note, after-too-deep}
-use Rattle.parser_rules.proofs.soundness.TableCheck.{own}
+use Rattle.parser_rules.proofs.soundness.TableCheck.{counts_itself}
 use Rattle.parser_rules.proofs.nesting.LevelCheck.{Depth, at_first, level_check}
 use Rattle.parser_rules.proofs.NodeChecks.{node-passes, document_passes}
 
@@ -82,7 +83,7 @@ leaf-peak : (a : Depth) (b s t : State) (f : Marked) (j : SyntaxKind) (x : List 
 leaf-peak a b s t f j x c h d u = let e = inner-leaf a.kind j x in let w = weight-none a.kind (number j) c in let q = h.peak in omega (arith, e, w, q, d, u)
 
 -- a node has ended, which began in `s`
-node-peak : (a c : Depth) (b s u : State) (f g : Marked) (j : SyntaxKind) → a.entered + own (number j) ≡ a.open_nodes + weight a.kind (number j) → c.kind ≡ number j → c.open_nodes ≡ own (number j) → c.entered ≡ 0 → c.owed ≡ 0
+node-peak : (a c : Depth) (b s u : State) (f g : Marked) (j : SyntaxKind) → a.entered + counts_itself (number j) ≡ a.open_nodes + weight a.kind (number j) → c.kind ≡ number j → c.open_nodes ≡ counts_itself (number j) → c.entered ≡ 0 → c.owed ≡ 0
     → Held a b s f → Held c (opened j s) u g → (u.depth ≡ s.depth) × (min (b.depth + a.open_nodes + inner a.kind (built.node j (erase g) built.none)) usize_max ≤ max u.high (u.depth + a.owed))
 unfolding opened flush
 node-peak a c b s u f g j l k o n z h i =
@@ -166,8 +167,8 @@ one-node : (k : SyntaxKind) (kids : Forest) → nest (tree_of (built.node k kids
 unfolding weight inner
 one-node k kids = refl
 
-no-weight : (weight DOCUMENT DOCUMENT ≡ 0) × (own DOCUMENT ≡ 0)
-unfolding weight member own ◌or◌
+no-weight : (weight DOCUMENT DOCUMENT ≡ 0) × (counts_itself DOCUMENT ≡ 0)
+unfolding weight member counts_itself ◌or◌
 no-weight = (refl, refl)
 
 -- where the tree has not more elements than can be counted
@@ -195,7 +196,7 @@ nesting items limit s run c =
     omega (arith, n, m, l, t, j, o, k, x, y, p, q, z, u, c, d)
 
 -- the same of a root of another kind, where what waits at the end is left out
-pub root-nesting : {q : Rule} (items : List Answer) (limit : ℕ) (k : SyntaxKind) (s : State) → eqb (weight DOCUMENT (number k)) (own (number k)) and leb (own (number k)) 1 ≡ true → walk level_check 5 q (at_first (number k)) (level_check.ends k) ≡ true
+pub root-nesting : {q : Rule} (items : List Answer) (limit : ℕ) (k : SyntaxKind) (s : State) → eqb (weight DOCUMENT (number k)) (counts_itself (number k)) and leb (counts_itself (number k)) 1 ≡ true → walk level_check rules_deep q (at_first (number k)) (level_check.ends k) ≡ true
     → Runs q (flush (begun items limit k)) s → count (built.node k s.tree.here built.none) ≤ usize_max → nest (tree_of (built.node k s.tree.here built.none)) ≤ s.high
 unfolding level_check flush
 root-nesting items limit k s heavy check run c =

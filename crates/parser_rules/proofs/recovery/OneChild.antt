@@ -15,6 +15,7 @@ use Rattle.parser_rules.specs.Runs.{Runs, does, seq, yes, no, done, again, child
 use Rattle.parser_rules.proofs.NodeChecks.{node-passes}
 use Rattle.parser_rules.proofs.recovery.RecoveryCheck.{row_check}
 use Rattle.parser_rules.proofs.recovery.RowSymbols.{Fit, sound}
+use Rattle.parser_rules.proofs.runs.Fuel.{rules_deep}
 use Rattle.parser_rules.proofs.runs.Frame.{parts_forest, added-all}
 use Rattle.parser_rules.proofs.runs.Marked.{Source, token, Marked, none, leaf, node, append, erase, erase-append, Grown, grown-none, grown-then, grown-leaf, grown-note, grown-node}
 use Rattle.parser_rules.proofs.runs.Walk.{walked}
@@ -80,7 +81,7 @@ one-more {s = s} (yes {q = q} e h) n x c i = let o = one-more h n x (and-l _ _ c
 one-more {s = s} (no {q = q} e h) n x c i = let o = one-more h n x (and-r _ _ c) i in (o.0, o.1, λ z f. no (e ∙ same-test q s z f) (o.2 z f))
 one-more {s = s} (child {n = c} {t = t} {u = u} a b h) n x d i =
     let fit : Fit (row_check.begins c) t t none = subst (λ (z : State). Fit (row_check.begins c) z z none) (sym a) (record { own = refl; later = refl; waits = λ k. refl }) in
-    let l = walked row_check Fit sound h 5 (row_check.begins c) (row_check.ends (kind_of c)) t none (node-passes c).row (grown-none t) fit in
+    let l = walked row_check Fit sound h rules_deep (row_check.begins c) (row_check.ends (kind_of c)) t none (node-passes c).row (grown-none t) fit in
     let g : Grown (opened (kind_of c) s) u l.0 = subst (λ (z : State). Grown z u l.0) a l.1 in (
       node_of (kind_of c) l.0,
       subst (λ z. Grown (flush s) z (node (kind_of c) l.0 none)) (sym b) (grown-node (kind_of c) s u l.0 g),

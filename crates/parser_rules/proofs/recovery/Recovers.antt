@@ -29,7 +29,7 @@ use Rattle.parser_rules.proofs.soundness.WithoutIgnored.{stack, strip, layers, a
 use Rattle.parser_rules.proofs.reports.NoReport.{answers_tokens, all_tokens, current_tokens, Now, Held}
 use Rattle.parser_rules.proofs.runs.Reading.{Shown, second-shown}
 use Rattle.parser_rules.proofs.lookahead.TokenSets.{ready-is, of-any, ready}
-use Rattle.parser_rules.proofs.lookahead.Split.{low, loose, spot}
+use Rattle.parser_rules.proofs.lookahead.Split.{at_start}
 use Rattle.parser_rules.proofs.soundness.TableCheck.{turns_follow}
 use Rattle.parser_rules.proofs.NodeChecks.{document_passes}
 use Rattle.parser_rules.proofs.soundness.Positions.{Fits, Tells}
@@ -43,7 +43,7 @@ own_tree = record { tree = start kind.DOCUMENT nothing; errors = []; high = 0 }
 abbrev pub afresh : State → State
 afresh st = on st own_tree
 
-afresh-fits : (st : State) (c : Turn st) → all_ignored st.pending ≡ true → Fits (whole st.limit (from_now st c)) DOCUMENT (spot 0 low loose) ready any [] (afresh st)
+afresh-fits : (st : State) (c : Turn st) → all_ignored st.pending ≡ true → Fits (whole st.limit (from_now st c)) DOCUMENT at_start ready any [] (afresh st)
 unfolding holds within
 afresh-fits st c i = record {
   calm = record {

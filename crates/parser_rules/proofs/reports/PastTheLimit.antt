@@ -14,6 +14,7 @@ use Rattle.parser_rules.specs.State.{State, Lexeme, Report, recursion_limit_repo
 use Rattle.parser_rules.specs.Nodes.{Node, kind_of, Document}
 use Rattle.parser_rules.specs.RuleLanguage.{TokenTest, Kind, Keyword, Or, fits, Test, Here, Ready, Both, holds, Rule, Call}
 use Rattle.parser_rules.specs.Runs.{Runs}
+use Rattle.parser_rules.proofs.runs.Fuel.{rules_deep}
 use Rattle.parser_rules.proofs.runs.Reading.{reading, found}
 use Rattle.parser_rules.proofs.runs.Marked as marked
 use Rattle.parser_rules.proofs.runs.Marked.{Marked, append, Limited, Reports, taken-or-limited, moved_on, Has, reports-then, read-reports}
@@ -204,7 +205,7 @@ first-known r xs k en y =
     there (Some t) h = refl
 
 -- the same of a root of another kind
-pub root-limited : {q : Rule} (r : ℕ) (xs : List Answer) (k : SyntaxKind) (s : State) → EndsWell xs → walk limit_check 5 q present always ≡ true → Runs q (flush (begun xs r k)) s → s.limit < s.high → Limited s.errors
+pub root-limited : {q : Rule} (r : ℕ) (xs : List Answer) (k : SyntaxKind) (s : State) → EndsWell xs → walk limit_check rules_deep q present always ≡ true → Runs q (flush (begun xs r k)) s → s.limit < s.high → Limited s.errors
 unfolding flush
 root-limited r xs k s en check run more =
     let o : State = fresh xs r k in

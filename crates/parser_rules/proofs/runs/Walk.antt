@@ -13,6 +13,7 @@ use Rattle.parser_rules.specs.Nodes.{Node, kind_of}
 use Rattle.parser_rules.specs.RuleLanguage.{Test, At, holds, Prim, Bump, Note, step, Rule, Skip, Do, Seq, When, While, Child, TooDeep, Nested, Call, Typed}
 use Rattle.parser_rules.specs.Rules.{inside, body}
 use Rattle.parser_rules.specs.Runs.{Runs, skip, does, seq, yes, no, done, again, child, limited, deeper, refused, call, plain, wrapped}
+use Rattle.parser_rules.proofs.runs.Fuel.{rules_deep}
 use Rattle.parser_rules.proofs.runs.Marked.{Marked, none, leaf, node, append, append-none, token, set_aside, Grown, grown-none, grown-then, grown-flush, grown-leaf, grown-note, grown-deep, grown-node, grown-wrap, Whole, whole}
 
 -- What may be known at a place, and how each step of a rule changes it. A step also has the check of what follows it.
@@ -79,9 +80,12 @@ walk d (suc n) (Call p) a k = walk d n (body p) a k
 walk d n (Typed r) a k =
     walk d n r (d.types a) (λ b. d.test (At token_kind.Bang) b (λ c. d.wraps c (λ e. d.leaf kind.BANG e (λ f. d.ends kind.NON_NULL_TYPE f and d.after kind.NON_NULL_TYPE a k))) (λ c. d.plain a c k))
 
--- the check of one kind of node
+-- the check of one kind of node, with so much fuel
+abbrev pub checks_with : {K : Type 0} → ℕ → Domain K → Node → Bool
+checks_with fuel d c = walk d fuel (inside c) (d.begins c) (d.ends (kind_of c))
+
 abbrev pub checks : {K : Type 0} → Domain K → Node → Bool
-checks d c = walk d 5 (inside c) (d.begins c) (d.ends (kind_of c))
+checks d c = checks_with rules_deep d c
 
 -- trees after what waited
 abbrev pub after_pending : State → Marked → Marked
@@ -184,7 +188,7 @@ module _ {K : Type 0} (d : Domain K) (Held : K → State → State → Marked �
           subst (Comes k b) (sym c) (comes-on k b s (closed u) f (after_pending s (node (kind_of q) m.0 none)) g (node-on (kind_of q) s u m.0 m.1) (m.2.0, m.2.1, r.inlined q a m.2.0 b s u f m.0 p i m.2.2)))
       | inr p ↦ (
           let w : d.opens q a and d.after (kind_of q) a k ≡ true = subst (λ (z : Bool). cond z (walk d n (inside q) a k) (d.opens q a and d.after (kind_of q) a k) ≡ true) p h in
-          let l = walked x 5 (d.begins q) (d.ends (kind_of q)) t none (r.nodes q) (grown-none t) (subst (λ (z : State). Held (d.begins q) z z none) (sym e) (r.opens q a b s f (and-l _ _ w) i)) in
+          let l = walked x rules_deep (d.begins q) (d.ends (kind_of q)) t none (r.nodes q) (grown-none t) (subst (λ (z : State). Held (d.begins q) z z none) (sym e) (r.opens q a b s f (and-l _ _ w) i)) in
           subst (Comes k b) (sym c) (node-ends (kind_of q) a k b s u f (and-r _ _ w) g i (subst (λ (z : State). Comes (d.ends (kind_of q)) z u) e l)))
     ]
     walked {s = s} (deeper {a = p} {b = q} {u = u} z e c x y) n a k b f h g i =
@@ -212,14 +216,14 @@ module _ {K : Type 0} (d : Domain K) (Held : K → State → State → Marked �
         subst (Comes k b) (sym c) (wrapped-ends a k b s w f g i y')
 
     -- the whole of a text
-    pub walked_whole : {q : Rule} {s : State} (xs : List Answer) (l : ℕ) (j : SyntaxKind) (a : K) (k : K → Bool) → Runs q (begun xs l j) s → walk d 5 q a k ≡ true → Held a (begun xs l j) (begun xs l j) none
+    pub walked_whole : {q : Rule} {s : State} (xs : List Answer) (l : ℕ) (j : SyntaxKind) (a : K) (k : K → Bool) → Runs q (begun xs l j) s → walk d rules_deep q a k ≡ true → Held a (begun xs l j) (begun xs l j) none
         → (f : Marked) × (c : K) × (k c ≡ true) × Held c (begun xs l j) s f × Grown (begun xs l j) s f × Whole xs s (append f (set_aside s.pending))
-    walked_whole {s = s} xs l j a k run h i = let b : State = begun xs l j in let m = walked run 5 a k b none h (grown-none b) i in (m.0, m.2.0, m.2.1, m.2.2, m.1, whole xs l j s m.0 m.1)
+    walked_whole {s = s} xs l j a k run h i = let b : State = begun xs l j in let m = walked run rules_deep a k b none h (grown-none b) i in (m.0, m.2.0, m.2.1, m.2.2, m.1, whole xs l j s m.0 m.1)
 
     -- a part of a text: what comes before the first token is in the root
-    pub walked_root : {q : Rule} {s : State} (xs : List Answer) (l : ℕ) (j : SyntaxKind) (a : K) (k : K → Bool) → Runs q (flush (begun xs l j)) s → walk d 5 q a k ≡ true → Held a (flush (begun xs l j)) (flush (begun xs l j)) none
+    pub walked_root : {q : Rule} {s : State} (xs : List Answer) (l : ℕ) (j : SyntaxKind) (a : K) (k : K → Bool) → Runs q (flush (begun xs l j)) s → walk d rules_deep q a k ≡ true → Held a (flush (begun xs l j)) (flush (begun xs l j)) none
         → (f : Marked) × (c : K) × (k c ≡ true) × Held c (flush (begun xs l j)) s f × Grown (begun xs l j) s (append (set_aside (begun xs l j).pending) f)
     walked_root {s = s} xs l j a k run h i =
         let b : State = begun xs l j in
-        let m = walked run 5 a k (flush b) none h (grown-none (flush b)) i in
+        let m = walked run rules_deep a k (flush b) none h (grown-none (flush b)) i in
         (m.0, m.2.0, m.2.1, m.2.2, grown-then b (flush b) s (set_aside b.pending) m.0 (grown-flush b) m.1)

@@ -28,12 +28,12 @@ use Rattle.parser_rules.proofs.soundness.WithoutIgnored.{Stack, stack, put, stac
 use Rattle.parser_rules.proofs.reports.NoReport.{Now, choose, EndsWell, rest, answers_tokens, current_tokens, AtToken, standing, given, passed-one, Held, read-on}
 use Rattle.parser_rules.proofs.soundness.FirstReport.{Stuck, TooMany, no_token}
 use Rattle.parser_rules.proofs.lookahead.MachineClasses.{Next, sees-next}
-use Rattle.parser_rules.proofs.lookahead.Split.{Level, low, Sure, loose, firm, full, Spot, spot, lost}
+use Rattle.parser_rules.proofs.lookahead.Split.{Level, Certainty, Nothing, OpenWhateverFollows, AtLimit, Position, in_row, machine_is_stuck, at_start}
 use Rattle.parser_rules.proofs.runs.Reading.{second-shown, reading, found}
 use Rattle.parser_rules.proofs.lookahead.TokenSets.{edges, class_of, of-any, over, Seen, seen-any}
 use Rattle.parser_rules.proofs.soundness.MachineStack.{image, image-some, shows-snoc, put-image, image-node, lay, lay-put}
 use Rattle.parser_rules.proofs.soundness.Settled.{Fitting, settled-at}
-use Rattle.parser_rules.proofs.soundness.TableCheck.{Then, behind, raised, own, lone, levels, leaf_of, loses, takes, ends_at, after, closing, losing, counted, limits_at, reports, is_node, ends_well, follows_table, no_brace, leaves_well, deepens}
+use Rattle.parser_rules.proofs.soundness.TableCheck.{Then, absent_as_end, level_entered, counts_itself, only_root, levels_agree, leaf_of, may_be_cut_off, takes_token, ends_at, after_node, after_inlined, after_stuck_node, all_counted, may_report_limit, may_report, is_node, node_may_end, follows_table, no_brace, exit_is_right, goes_deeper}
 use Rattle.parser_rules.proofs.NodeChecks.{node-passes}
 use Rattle.parser_rules.proofs.soundness.Positions.{Reading, Alike, opened-alike, closed-alike, idle-rest, idle-grows, top, Place, Stands, Lost, Known, StandsAt, Rightly, Still_calm, Tells, Made, Fits, Way, Out, tell-on, known-firm, start_good, shown, spent-behind, fitting, stands-taken, idle-lost, leveled-leaf, leveled-begin, leveled-end, still-leveled, moved-on}
 
@@ -42,35 +42,35 @@ module _ (R : Reading) where
 
   -- ---- where the machine is stuck
 
-  pub fits-next : {s x y : ℕ} {p : Spot} {fs : List Frame} {st : State} → Fits R s p x y fs st → Next x y (rest st)
+  pub fits-next : {s x y : ℕ} {p : Position} {fs : List Frame} {st : State} → Fits R s p x y fs st → Next x y (rest st)
   fits-next {x = x} {y = y} {st = st} g = sees-next x y st g.calm.now g.seen
 
-  pub goes-on : {s q x y : ℕ} {l : Level} {d : Sure} {fs : List Frame} {st : State} (j : ℕ) → Fits R s (spot q l d) x y fs st → goes s q x (behind y) j ≡ true → next s q (rest st) ≡ go j
-  goes-on {s = s} {q = q} {x = x} {y = y} j g h = let n = fits-next g in goes-move s q x (behind y) j _ _ h n.near n.far
+  pub goes-on : {s q x y : ℕ} {l : Level} {d : Certainty} {fs : List Frame} {st : State} (j : ℕ) → Fits R s (in_row q l d) x y fs st → goes s q x (absent_as_end y) j ≡ true → next s q (rest st) ≡ go j
+  goes-on {s = s} {q = q} {x = x} {y = y} j g h = let n = fits-next g in goes-move s q x (absent_as_end y) j _ _ h n.near n.far
 
-  pub lost-at : {s q x y : ℕ} {l : Level} {d : Sure} {fs : List Frame} {st : State} → Fits R s (spot q l d) x y fs st → sticks s q x (behind y) ≡ true → Lost R st
+  pub lost-at : {s q x y : ℕ} {l : Level} {d : Certainty} {fs : List Frame} {st : State} → Fits R s (in_row q l d) x y fs st → sticks s q x (absent_as_end y) ≡ true → Lost R st
   lost-at {s = s} {q = q} {x = x} {y = y} {fs = fs} {st = st} g h =
       let c : Stands R s q _ fs st = g.stands.0 in
       let n = fits-next g in
-      ((fault (top R) (start_good R) w s q c.children fs (rest st) c.place.reach (sticks-move s q x (behind y) _ _ h n.near n.far), (frame s q c.children ∷ fs, c.place.reach)), stands-taken R c)
+      ((fault (top R) (start_good R) w s q c.children fs (rest st) c.place.reach (sticks-move s q x (absent_as_end y) _ _ h n.near n.far), (frame s q c.children ∷ fs, c.place.reach)), stands-taken R c)
 
   -- the root may end here, and tokens are left
-  pub root-stuck : {s q : ℕ} {l : Level} {f : Forest} {fs : List Frame} {st : State} → Place R s q l f fs st → lone s ≡ true → next s q (rest st) ≡ close → (first_class (rest st) ≡ 0 → ⊥) → Stuck sort answers lim w (rest st)
+  pub root-stuck : {s q : ℕ} {l : Level} {f : Forest} {fs : List Frame} {st : State} → Place R s q l f fs st → only_root s ≡ true → next s q (rest st) ≡ close → (first_class (rest st) ≡ 0 → ⊥) → Stuck sort answers lim w (rest st)
   root-stuck {s = s} {q = q} {f = f} {fs = fs} {st = st} c h m z =
       let alone : Reach (top R) w (frame s q f ∷ []) (rest st) = subst (λ (z : List Frame). Reach (top R) w (frame s q f ∷ z) (rest st)) (c.alone h) c.reach in
       let e : s ≡ (top R) = (reach-sound (start-no-leaf (top R) (start_good R)) alone).2 in
       (fault-left (top R) (start_good R) w q f (rest st) (subst (λ (n : ℕ). Reach (top R) w (frame n q f ∷ []) (rest st)) e alone) (subst (λ (n : ℕ). next n q (rest st) ≡ close) e m) z, (frame s q f ∷ fs, c.reach))
 
-  pub note-right : (s : ℕ) (p : Spot) (x y : ℕ) (fs : List Frame) (st : State) → reports s p x y ≡ true → Fits R s p x y fs st → Stuck sort answers lim w (rest st)
-  unfolding reports has fires
-  note-right s lost x y fs st h g = g.stands.0
-  note-right s (spot q l d) x y fs st h g = on (next s q (rest st)) refl
+  pub note-right : (s : ℕ) (p : Position) (x y : ℕ) (fs : List Frame) (st : State) → may_report s p x y ≡ true → Fits R s p x y fs st → Stuck sort answers lim w (rest st)
+  unfolding may_report has fires
+  note-right s machine_is_stuck x y fs st h g = g.stands.0
+  note-right s (in_row q l d) x y fs st h g = on (next s q (rest st)) refl
     where
       c : Stands R s q l fs st
       c = g.stands.0
 
       on : (m : Move) → next s q (rest st) ≡ m → Stuck sort answers lim w (rest st)
-      on (go k) m = false-true (misses-fires (entries k) x (behind y) _ _ (arcs-at (arcs s q) (λ k q'. misses k x (behind y)) k (and-l _ _ h) (move-has s q _ _ k m)) (fits-next g).near (fits-next g).far) (move-fires s q _ _ k m)
+      on (go k) m = false-true (misses-fires (entries k) x (absent_as_end y) _ _ (arcs-at (arcs s q) (λ k q'. misses k x (absent_as_end y)) k (and-l _ _ h) (move-has s q _ _ k m)) (fits-next g).near (fits-next g).far) (move-fires s q _ _ k m)
       on stuck m = (fault (top R) (start_good R) w s q c.children fs (rest st) c.place.reach m, (frame s q c.children ∷ fs, c.place.reach))
       on close m = elim (or-c _ _ (and-r _ _ h)) [
         | inl e ↦ false-true (not-c _ e) (move-ends s q _ _ m)
@@ -95,7 +95,7 @@ module _ (R : Reading) where
   made-passes v t p = record { deep = λ gs r. makes-depth (makes-on r p); goes = λ s q f fs r m. makes-stuck (makes-on r p) m }
 
   -- where the check lets a level be entered, each tree that goes on nests deeper
-  pub goes-deeper : {s q : ℕ} {l : Level} {f : Forest} {fs : List Frame} {st : State} (x : ℕ) (t : Tree) (v u : List Token) → deepens s q l x ≡ true → Place R s q l f fs st → Passes u v t → within (first_class v) x ≡ true → Reach (top R) u (frame s q f ∷ fs) v → st.depth < nesting_all t
+  pub goes-deeper : {s q : ℕ} {l : Level} {f : Forest} {fs : List Frame} {st : State} (x : ℕ) (t : Tree) (v u : List Token) → goes_deeper s q l x ≡ true → Place R s q l f fs st → Passes u v t → within (first_class v) x ≡ true → Reach (top R) u (frame s q f ∷ fs) v → st.depth < nesting_all t
   unfolding has fires
   goes-deeper {s = s} {q = q} {l = l} {f = f} {fs = fs} {st = st} x t v u h c p hx r = elim (or-c _ _ (and-r _ _ h)) [
     | inl i ↦ (
@@ -108,10 +108,10 @@ module _ (R : Reading) where
       gs : List Frame
       gs = frame s q f ∷ fs
 
-      low_level : raised l ≡ 0
+      low_level : level_entered l ≡ 0
       low_level = eqb-true _ _ (and-l _ _ h)
 
-      on : (m : Move) → next s q v ≡ m → own s ≡ 0 → counted s (arcs s q) x any and not (ends s q) ≡ true → st.depth < nesting_all t
+      on : (m : Move) → next s q v ≡ m → counts_itself s ≡ 0 → all_counted s (arcs s q) x any and not (ends s q) ≡ true → st.depth < nesting_all t
       on close m o i = false-true (not-c _ (and-r _ _ i)) (move-ends s q _ _ m)
       on stuck m o i = absurd (p.goes s q f fs r m)
       on (go k) m o i = elim (or-c _ _ (arcs-at (arcs s q) (λ k q'. misses k x any or (eqb (count_in s k) 1 and not (is_leaf k))) k (and-l _ _ i) (move-has s q _ _ k m))) [
@@ -122,12 +122,12 @@ module _ (R : Reading) where
             omega (arith, a, b, o, low_level, c.leveled.level))
       ]
 
-  pub too-many : (s : ℕ) (p : Spot) (x y : ℕ) (fs : List Frame) (st : State) → limits_at s p x ≡ true → Fits R s p x y fs st → TooMany sort answers lim w (rest st)
-  unfolding limits_at is_deep
-  too-many s lost x y fs st h g = false-true refl h
-  too-many s (spot q l loose) x y fs st h g = false-true refl (and-l _ _ h)
-  too-many s (spot q l firm) x y fs st h g = false-true refl (and-l _ _ h)
-  too-many s (spot q l full) x y fs st h g =
+  pub too-many : (s : ℕ) (p : Position) (x y : ℕ) (fs : List Frame) (st : State) → may_report_limit s p x ≡ true → Fits R s p x y fs st → TooMany sort answers lim w (rest st)
+  unfolding may_report_limit is_deep
+  too-many s machine_is_stuck x y fs st h g = false-true refl h
+  too-many s (in_row q l Nothing) x y fs st h g = false-true refl (and-l _ _ h)
+  too-many s (in_row q l OpenWhateverFollows) x y fs st h g = false-true refl (and-l _ _ h)
+  too-many s (in_row q l AtLimit) x y fs st h g =
       let k = g.stands.1.0 in
       let c : Place R s q l g.stands.0.children fs st = g.stands.0.place in
       record {
@@ -159,9 +159,9 @@ module _ (R : Reading) where
     pub joins : (f g : Forest) → put g (shape f) ≡ shape (f +++ g)
     pub fits : (q : ℕ) (f : Forest) (r : List Token) → Reach (top R) w (frame s q f ∷ fs) r → Fitting (length (spent (frame s q f ∷ fs))) (shape (shows f))
 
-  pub token-taken : (kind : SyntaxKind) (s q k x y : ℕ) (l : Level) (d : Sure) (f : Forest) (fs : List Frame) (st : State) (shape : Forest → Stack) (then_at : Spot → Bool) → takes s (spot q l d) x y (number kind) k then_at ≡ true → Shaped s fs shape
+  pub token-taken : (kind : SyntaxKind) (s q k x y : ℕ) (l : Level) (d : Certainty) (f : Forest) (fs : List Frame) (st : State) (shape : Forest → Stack) (then_at : Position → Bool) → takes_token s (in_row q l d) x y (number kind) k then_at ≡ true → Shaped s fs shape
       → Place R s q l f fs st → (stack st.tree ≡ shape (shows f)) → Still_calm R st → Seen x y st → Tells R (bump kind st) ⊎ Grown s q k y l f fs shape (bump kind st)
-  unfolding bump takes flush
+  unfolding bump takes_token flush
   token-taken kind s q k x y l d f fs st shape then_at h sh c built calm seen = at st.current refl calm.now
     where
       u : Lexeme → State
@@ -175,7 +175,7 @@ module _ (R : Reading) where
           let leaf_next : is_leaf k ≡ true = and-r _ _ (and-l _ _ (and-l _ _ h)) in
           let kinds = and-r _ _ (and-l _ _ h) in
           let n = sees-next x y st calm.now seen in
-          let m : next s q (b ∷ answers_tokens st.items) ≡ go k = subst (λ (v : List Token). next s q v ≡ go k) split (goes-move s q x (behind y) k _ _ (and-l _ _ (and-r _ _ h)) n.near n.far) in
+          let m : next s q (b ∷ answers_tokens st.items) ≡ go k = subst (λ (v : List Token). next s q v ≡ go k) split (goes-move s q x (absent_as_end y) k _ _ (and-l _ _ (and-r _ _ h)) n.near n.far) in
           let here : Reach (top R) w (frame s q f ∷ fs) (b ∷ answers_tokens st.items) = subst (λ (v : List Token). Reach (top R) w (frame s q f ∷ fs) v) split c.reach in
           let there : Reach (top R) w gs (answers_tokens st.items) = shift here m leaf_next in
           let still : Untouched (u t) (read_on st.items (u t)) = read-untouched st.items (u t) in
@@ -204,22 +204,22 @@ module _ (R : Reading) where
         | inr a ↦ took t e a (subst (λ (b : Bool). choose b (st.items ≡ []) (EndsWell st.items)) a.is_end n.1)
       ]
 
-  pub bump-out : (s : ℕ) (p : Spot) (x y : ℕ) (kind : SyntaxKind) (fs : List Frame) (k : Then) (st : State) → takes s p x y (number kind) (leaf_of s (number kind)) (λ p'. k p' y any) ≡ true → Fits R s p x y fs st → Out R s fs k (bump kind st)
-  unfolding takes
-  bump-out s lost x y kind fs k st h g = false-true refl h
-  bump-out s (spot q l d) x y kind fs k st h g =
+  pub bump-out : (s : ℕ) (p : Position) (x y : ℕ) (kind : SyntaxKind) (fs : List Frame) (k : Then) (st : State) → takes_token s p x y (number kind) (leaf_of s (number kind)) (λ p'. k p' y any) ≡ true → Fits R s p x y fs st → Out R s fs k (bump kind st)
+  unfolding takes_token
+  bump-out s machine_is_stuck x y kind fs k st h g = false-true refl h
+  bump-out s (in_row q l d) x y kind fs k st h g =
       let j : ℕ = leaf_of s (number kind) in
       let c : Stands R s q l fs st = g.stands.0 in
       elim (token-taken kind s q j x y l d c.children fs st (λ f. lay s f (image fs)) (λ p'. k p' y any) h (record { joins = λ f g. sym (lay-put s f g (image fs)); fits = λ q f r o. fitting R (frame s q f ∷ fs) r o }) c.place c.built g.calm g.seen) [
         | inl o ↦ inl o
-        | inr o ↦ inr (spot (target s q j) l firm, y, any, and-r _ _ (and-r _ _ h), record { calm = o.calm; seen = o.seen; stands = (record { children = c.children +++ (leaf j o.first.1 ▸ none); place = o.place; built = o.built }, o.certain) })
+        | inr o ↦ inr (in_row (target s q j) l OpenWhateverFollows, y, any, and-r _ _ (and-r _ _ h), record { calm = o.calm; seen = o.seen; stands = (record { children = c.children +++ (leaf j o.first.1 ▸ none); place = o.place; built = o.built }, o.certain) })
       ]
 
   -- ---- a node begins and ends
 
   -- a node of the symbol `j` begins
-  pub begun : {s q x y : ℕ} {l : Level} {d : Sure} {fs : List Frame} {st v : State} (j : ℕ) (g : Fits R s (spot q l d) x y fs st) → is_leaf j ≡ false → lone j ≡ false → goes s q x (behind y) j ≡ true → levels s l j ≡ true → Alike st v
-      → (stack st.tree ≡ image (frame s q g.stands.0.children ∷ fs) → stack v.tree ≡ image (frame j 0 none ∷ frame s q g.stands.0.children ∷ fs)) → Fits R j (spot 0 low loose) x y (frame s q g.stands.0.children ∷ fs) v
+  pub begun : {s q x y : ℕ} {l : Level} {d : Certainty} {fs : List Frame} {st v : State} (j : ℕ) (g : Fits R s (in_row q l d) x y fs st) → is_leaf j ≡ false → only_root j ≡ false → goes s q x (absent_as_end y) j ≡ true → levels_agree s l j ≡ true → Alike st v
+      → (stack st.tree ≡ image (frame s q g.stands.0.children ∷ fs) → stack v.tree ≡ image (frame j 0 none ∷ frame s q g.stands.0.children ∷ fs)) → Fits R j at_start x y (frame s q g.stands.0.children ∷ fs) v
   begun j g i ro m h e b =
       let c = g.stands.0 in
       moved-on R g e.idle (
@@ -232,19 +232,19 @@ module _ (R : Reading) where
       )
 
   -- a node is none of a leaf, a type and what only a root is, and its symbol's kind is its own
-  pub node-is : (c : Node) → (is_leaf (symbol c) ≡ false) × (eqb (symbol c) TYPE ≡ false) × (lone (symbol c) ≡ false) × (label (symbol c) ≡ number (kind_of c))
+  pub node-is : (c : Node) → (is_leaf (symbol c) ≡ false) × (eqb (symbol c) TYPE ≡ false) × (only_root (symbol c) ≡ false) × (label (symbol c) ≡ number (kind_of c))
   unfolding follows_table is_node
   node-is c = let h = and-l _ _ (node-passes c).table in let r = and-r _ _ h in (not-c _ (and-l _ _ h), not-c _ (and-l _ _ r), not-c _ (and-l _ _ (and-r _ _ r)), eqb-true _ _ (and-r _ _ (and-r _ _ r)))
 
-  pub begun-in : {s q x y : ℕ} {l : Level} {d : Sure} {fs : List Frame} {st : State} (c : Node) (g : Fits R s (spot q l d) x y fs st) → goes s q x (behind y) (symbol c) ≡ true → levels s l (symbol c) ≡ true → Fits R (symbol c) (spot 0 low loose) x y (frame s q g.stands.0.children ∷ fs) (opened (kind_of c) st)
+  pub begun-in : {s q x y : ℕ} {l : Level} {d : Certainty} {fs : List Frame} {st : State} (c : Node) (g : Fits R s (in_row q l d) x y fs st) → goes s q x (absent_as_end y) (symbol c) ≡ true → levels_agree s l (symbol c) ≡ true → Fits R (symbol c) at_start x y (frame s q g.stands.0.children ∷ fs) (opened (kind_of c) st)
   unfolding opened flush
   begun-in {s = s} {q = q} {fs = fs} {st = st} c g m h =
       begun (symbol c) g (node-is c).0 (node-is c).2 m h (opened-alike (kind_of c) st)
       (λ e. ap₂ (λ (k : ℕ) (z : Stack). (k, none) ∷ z) (sym (node-is c).3) (flushed st g.calm ∙ e) ∙ sym (image-node (symbol c) 0 none (frame s q g.stands.0.children ∷ fs) (node-is c).1))
 
   -- the machine ends a node
-  pub ended : {s q j p : ℕ} {l m : Level} {g : Forest} {fs : List Frame} {st u v : State} (c : Stands R s q l fs st) (d : Sure) (x : ℕ) → levels s l j ≡ true → ends_at j p m d x ≡ true → within (first_class (rest u)) x ≡ true → Known R d (frame j p g ∷ frame s q c.children ∷ fs) u
-      → Place R j p m g (frame s q c.children ∷ fs) u → Alike u v → (stack v.tree ≡ put (show (node j g) ▸ none) (image (frame s q c.children ∷ fs))) → StandsAt R s (spot (target s q j + exit j p) l firm) fs v
+  pub ended : {s q j p : ℕ} {l m : Level} {g : Forest} {fs : List Frame} {st u v : State} (c : Stands R s q l fs st) (d : Certainty) (x : ℕ) → levels_agree s l j ≡ true → ends_at j p m d x ≡ true → within (first_class (rest u)) x ≡ true → Known R d (frame j p g ∷ frame s q c.children ∷ fs) u
+      → Place R j p m g (frame s q c.children ∷ fs) u → Alike u v → (stack v.tree ≡ put (show (node j g) ▸ none) (image (frame s q c.children ∷ fs))) → StandsAt R s (in_row (target s q j + exit j p) l OpenWhateverFollows) fs v
   unfolding ends_at
   ended {s = s} {q = q} {j = j} {p = p} {g = g} {fs = fs} {u = u} c d x h e n k i a b =
       let r = and-l _ _ e in
@@ -262,10 +262,10 @@ module _ (R : Reading) where
       )
 
   -- a node that is walked at its place ends
-  pub ended-here : {s q j p x y : ℕ} {l m : Level} {d : Sure} {fs : List Frame} {st u v : State} (c : Stands R s q l fs st) (k : Then) → levels s l j ≡ true → closing j (spot (target s q j) l firm) k (spot p m d) x y ≡ true → (g : Fits R j (spot p m d) x y (frame s q c.children ∷ fs) u)
+  pub ended-here : {s q j p x y : ℕ} {l m : Level} {d : Certainty} {fs : List Frame} {st u v : State} (c : Stands R s q l fs st) (k : Then) → levels_agree s l j ≡ true → after_inlined j (in_row (target s q j) l OpenWhateverFollows) k (in_row p m d) x y ≡ true → (g : Fits R j (in_row p m d) x y (frame s q c.children ∷ fs) u)
       → Alike u v → (stack v.tree ≡ put (show (node j g.stands.0.children) ▸ none) (image (frame s q c.children ∷ fs))) → Way R s fs k v
-  unfolding closing
-  ended-here {s = s} {q = q} {j = j} {p = p} {x = x} {y = y} {l = l} {d = d} c k h e g a b = (spot (target s q j + exit j p) l firm, x, y, and-r _ _ e, moved-on R g a.idle (ended c d x h (and-l _ _ e) (fits-next g).near g.stands.1 g.stands.0.place a b))
+  unfolding after_inlined
+  ended-here {s = s} {q = q} {j = j} {p = p} {x = x} {y = y} {l = l} {d = d} c k h e g a b = (in_row (target s q j + exit j p) l OpenWhateverFollows, x, y, and-r _ _ e, moved-on R g a.idle (ended c d x h (and-l _ _ e) (fits-next g).near g.stands.1 g.stands.0.place a b))
 
   pub closed-built : {s q p : ℕ} {m : Level} {f : Forest} {fs : List Frame} {v : State} (c : Node) (i : Stands R (symbol c) p m (frame s q f ∷ fs) v) → stack (closed v).tree ≡ put (show (node (symbol c) i.children) ▸ none) (image (frame s q f ∷ fs))
   unfolding closed
@@ -276,10 +276,10 @@ module _ (R : Reading) where
   pub tell-closed : (u : State) → Tells R u → Tells R (closed u)
   tell-closed u o = tell-on R u (closed u) (idle-grows (closed-alike u).idle) o
 
-  pub lost-closed : {s s' x y : ℕ} {fs fs' : List Frame} {u : State} → Fits R s lost x y fs u → Fits R s' lost x y fs' (closed u)
+  pub lost-closed : {s s' x y : ℕ} {fs fs' : List Frame} {u : State} → Fits R s machine_is_stuck x y fs u → Fits R s' machine_is_stuck x y fs' (closed u)
   lost-closed {u = u} g = moved-on R g (closed-alike u).idle (idle-lost R (closed-alike u).idle g.stands)
 
-  pub with-sets : {s x y u v : ℕ} {p : Spot} {fs : List Frame} {st : State} → Fits R s p x y fs st → Seen u v st → Fits R s p u v fs st
+  pub with-sets : {s x y u v : ℕ} {p : Position} {fs : List Frame} {st : State} → Fits R s p x y fs st → Seen u v st → Fits R s p u v fs st
   with-sets g i = record { calm = g.calm; seen = i; stands = g.stands }
 
   -- whatever follows the next token
@@ -287,34 +287,34 @@ module _ (R : Reading) where
   far-any x y u st h i = record { near = holds-subset _ x u h i.near; far = of-any (second st.items) (second-shown st.items) }
 
   -- the end of the text breaks a node off
-  pub broken-off : {s s' x y : ℕ} {fs fs' : List Frame} {v : State} (c : Node) (k : Then) → loses c ≡ true → subset x over ≡ true → not (loses c) or k lost over any ≡ true → Fits R s' lost x y fs' v → Out R s fs k (closed v)
-  broken-off {x = x} {y = y} {v = v} c k a a' b g = inr (lost, over, any, implies _ _ b a, lost-closed (with-sets g (far-any x y over v a' g.seen)))
+  pub broken-off : {s s' x y : ℕ} {fs fs' : List Frame} {v : State} (c : Node) (k : Then) → may_be_cut_off c ≡ true → subset x over ≡ true → not (may_be_cut_off c) or k machine_is_stuck over any ≡ true → Fits R s' machine_is_stuck x y fs' v → Out R s fs k (closed v)
+  broken-off {x = x} {y = y} {v = v} c k a a' b g = inr (machine_is_stuck, over, any, implies _ _ b a, lost-closed (with-sets g (far-any x y over v a' g.seen)))
 
-  pub node-out : {s q : ℕ} {l : Level} {fs : List Frame} {st : State} (c : Node) (k : Then) (u : State) (c0 : Stands R s q l fs st) → levels s l (symbol c) ≡ true → after (spot (target s q (symbol c)) l firm) c k ≡ true → Out R (symbol c) (frame s q c0.children ∷ fs) (ends_well c) u → Out R s fs k (closed u)
-  unfolding ends_well leaves_well
+  pub node-out : {s q : ℕ} {l : Level} {fs : List Frame} {st : State} (c : Node) (k : Then) (u : State) (c0 : Stands R s q l fs st) → levels_agree s l (symbol c) ≡ true → after_node (in_row (target s q (symbol c)) l OpenWhateverFollows) c k ≡ true → Out R (symbol c) (frame s q c0.children ∷ fs) (node_may_end c) u → Out R s fs k (closed u)
+  unfolding node_may_end exit_is_right
   node-out c k u c0 h a (inl o) = inl (tell-closed u o)
-  node-out c k u c0 h a (inr (lost, x, y, e, g)) = broken-off c k (and-l _ _ e) (and-r _ _ e) (and-r _ _ a) g
-  node-out {s = s} {q = q} {l = l} {fs = fs} c k u c0 h a (inr (spot p m d, x, y, e, g)) = elim (or-c _ _ e) [
+  node-out c k u c0 h a (inr (machine_is_stuck, x, y, e, g)) = broken-off c k (and-l _ _ e) (and-r _ _ e) (and-r _ _ a) g
+  node-out {s = s} {q = q} {l = l} {fs = fs} c k u c0 h a (inr (in_row p m d, x, y, e, g)) = elim (or-c _ _ e) [
     | inl z ↦ elim (or-c _ _ (and-r _ _ z)) [
-      | inl i ↦ inr (spot (target s q (symbol c) + 0) l firm, any, any, and-l _ _ (and-l _ _ a), leaves (and-l _ _ z) 0 (eqb-true _ _ i) any (seen-any u (shown R u g.calm)))
-      | inr i ↦ inr (spot (target s q (symbol c) + 1) l firm, no_brace, any, implies _ _ (and-r _ _ (and-l _ _ a)) (and-l _ _ i), leaves (and-l _ _ z) 1 (eqb-true _ _ (and-l _ _ (and-r _ _ i))) no_brace (far-any x y no_brace u (and-r _ _ (and-r _ _ i)) g.seen))
+      | inl i ↦ inr (in_row (target s q (symbol c) + 0) l OpenWhateverFollows, any, any, and-l _ _ (and-l _ _ a), leaves (and-l _ _ z) 0 (eqb-true _ _ i) any (seen-any u (shown R u g.calm)))
+      | inr i ↦ inr (in_row (target s q (symbol c) + 1) l OpenWhateverFollows, no_brace, any, implies _ _ (and-r _ _ (and-l _ _ a)) (and-l _ _ i), leaves (and-l _ _ z) 1 (eqb-true _ _ (and-l _ _ (and-r _ _ i))) no_brace (far-any x y no_brace u (and-r _ _ (and-r _ _ i)) g.seen))
     ]
     | inr z ↦ broken-off {s' = symbol c} {fs' = frame s q c0.children ∷ fs} c k (and-l _ _ z) (and-l _ _ (and-r _ _ z)) (and-r _ _ a) (record { calm = g.calm; seen = g.seen; stands = lost-at g (and-r _ _ (and-r _ _ z)) })
   ]
     where
       -- what the node leaves behind
-      leaves : ends_at (symbol c) p m d x ≡ true → (n : ℕ) → exit (symbol c) p ≡ n → (v : ℕ) → Seen v any u → Fits R s (spot (target s q (symbol c) + n) l firm) v any fs (closed u)
-      leaves z n e v i = subst (λ (n : ℕ). Fits R s (spot (target s q (symbol c) + n) l firm) v any fs (closed u)) e
+      leaves : ends_at (symbol c) p m d x ≡ true → (n : ℕ) → exit (symbol c) p ≡ n → (v : ℕ) → Seen v any u → Fits R s (in_row (target s q (symbol c) + n) l OpenWhateverFollows) v any fs (closed u)
+      leaves z n e v i = subst (λ (n : ℕ). Fits R s (in_row (target s q (symbol c) + n) l OpenWhateverFollows) v any fs (closed u)) e
           (moved-on R (with-sets g i) (closed-alike u).idle (ended c0 d x h z (fits-next g).near g.stands.1 g.stands.0.place (closed-alike u) (closed-built c g.stands.0)))
 
-  pub walked-out : {s q : ℕ} {l : Level} {fs : List Frame} {st : State} (c : Node) (k : Then) (u : State) (c0 : Stands R s q l fs st) → levels s l (symbol c) ≡ true → Out R (symbol c) (frame s q c0.children ∷ fs) (closing (symbol c) (spot (target s q (symbol c)) l firm) k) u → Out R s fs k (closed u)
-  unfolding closing
+  pub walked-out : {s q : ℕ} {l : Level} {fs : List Frame} {st : State} (c : Node) (k : Then) (u : State) (c0 : Stands R s q l fs st) → levels_agree s l (symbol c) ≡ true → Out R (symbol c) (frame s q c0.children ∷ fs) (after_inlined (symbol c) (in_row (target s q (symbol c)) l OpenWhateverFollows) k) u → Out R s fs k (closed u)
+  unfolding after_inlined
   walked-out c k u c0 h (inl o) = inl (tell-closed u o)
-  walked-out c k u c0 h (inr (lost, x, y, e, g)) = false-true refl e
-  walked-out c k u c0 h (inr (spot p m d, x, y, e, g)) = inr (ended-here c0 k h e g (closed-alike u) (closed-built c g.stands.0))
+  walked-out c k u c0 h (inr (machine_is_stuck, x, y, e, g)) = false-true refl e
+  walked-out c k u c0 h (inr (in_row p m d, x, y, e, g)) = inr (ended-here c0 k h e g (closed-alike u) (closed-built c g.stands.0))
 
   -- a node that begins where the machine is stuck
-  pub lost-out : {s : ℕ} {fs : List Frame} (k : Then) (u : State) → Out R s fs (losing k) u → Out R s fs k (closed u)
+  pub lost-out : {s : ℕ} {fs : List Frame} (k : Then) (u : State) → Out R s fs (after_stuck_node k) u → Out R s fs k (closed u)
   lost-out k u (inl o) = inl (tell-closed u o)
-  lost-out k u (inr (spot q l d, x, y, e, g)) = false-true refl (and-l _ _ e)
-  lost-out k u (inr (lost, x, y, e, g)) = inr (lost, x, y, and-r _ _ e, lost-closed g)
+  lost-out k u (inr (in_row q l d, x, y, e, g)) = false-true refl (and-l _ _ e)
+  lost-out k u (inr (machine_is_stuck, x, y, e, g)) = inr (machine_is_stuck, x, y, and-r _ _ e, lost-closed g)

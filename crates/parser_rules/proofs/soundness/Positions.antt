@@ -30,20 +30,20 @@ use Rattle.parser_rules.proofs.runs.Marked.{reports-along, reports-same}
 use Rattle.parser_rules.proofs.soundness.WithoutIgnored.{all_ignored, stack}
 use Rattle.parser_rules.proofs.reports.NoReport.{Now, rest, answers_tokens, current_tokens, Grows, Stays, Held, Told, told-on, told-first, Calm}
 use Rattle.parser_rules.proofs.soundness.FirstReport.{Stuck, TooMany, Behind, Right, stuck_here, deep_here}
-use Rattle.parser_rules.proofs.lookahead.Split.{Level, low, high, past, Sure, loose, firm, full, Spot, spot, lost, fill}
+use Rattle.parser_rules.proofs.lookahead.Split.{Level, NotEntered, Entered, Left, Certainty, Nothing, OpenWhateverFollows, AtLimit, Position, in_row, machine_is_stuck, with_limit_known}
 use Rattle.parser_rules.proofs.runs.Reading.{Shown}
 use Rattle.parser_rules.proofs.lookahead.TokenSets.{Seen, seen-same}
 use Rattle.parser_rules.proofs.soundness.MachineStack.{image}
 use Rattle.parser_rules.proofs.soundness.Settled.{Settled, Fitting, fitting-image, settled-at, settled-added, settled-start, settled-finish, settled-wrap}
-use Rattle.parser_rules.proofs.soundness.TableCheck.{Then, raised, own, lone, owed, is_firm, weak, levels}
+use Rattle.parser_rules.proofs.soundness.TableCheck.{Then, level_entered, counts_itself, only_root, level_due, open_whatever_follows, limit_forgotten, levels_agree}
 
 -- ---- levels, on plain numbers
 
-owed-le : (s : ℕ) (l : Level) → owed s l ≤ 1
-unfolding own
-owed-le s low = elim (eqb s SELECTION_SET or (eqb s LIST_TYPE or eqb s BARE_SELECTIONS)) as (λ b. cond b 1 0 ≤ 1) [ true ↦ omega arith | false ↦ omega arith ]
-owed-le s high = omega arith
-owed-le s past = omega arith
+owed-le : (s : ℕ) (l : Level) → level_due s l ≤ 1
+unfolding counts_itself
+owed-le s NotEntered = elim (eqb s SELECTION_SET or (eqb s LIST_TYPE or eqb s BARE_SELECTIONS)) as (λ b. cond b 1 0 ≤ 1) [ true ↦ omega arith | false ↦ omega arith ]
+owed-le s Entered = omega arith
+owed-le s Left = omega arith
 
 -- ---- steps that read nothing
 
@@ -134,9 +134,9 @@ module _ (R : Reading) where
 
   -- The depth agrees with the open nodes; the greatest depth covers what they nest.
   pub record Leveled (s q : ℕ) (l : Level) (f : Forest) (fs : List Frame) (depth most bound : ℕ) : Type 0 where
-    pub level : depth + own s ≡ depth_above fs s + raised l
-    pub entered : raised l ≤ depth
-    pub most_open : peak (frame s q f ∷ fs) ≤ max most (depth + owed s l)
+    pub level : depth + counts_itself s ≡ depth_above fs s + level_entered l
+    pub entered : level_entered l ≤ depth
+    pub most_open : peak (frame s q f ∷ fs) ≤ max most (depth + level_due s l)
     pub above : depth ≤ most
     pub bounds : Bounded most bound
 
@@ -144,7 +144,7 @@ module _ (R : Reading) where
   pub record Place (s q : ℕ) (l : Level) (f : Forest) (fs : List Frame) (st : State) : Type 0 where
     pub reach : Reach top w (frame s q f ∷ fs) (rest st)
     pub leveled : Leveled s q l f fs st.depth st.high st.limit
-    pub alone : lone s ≡ true → fs ≡ []
+    pub alone : only_root s ≡ true → fs ≡ []
 
   -- The builder has the same nodes.
   pub record Stands (s q : ℕ) (l : Level) (fs : List Frame) (st : State) : Type 0 where
@@ -162,14 +162,14 @@ module _ (R : Reading) where
   abbrev pub Lost : State → Type 0
   Lost st = Stuck sort answers lim w (rest st) × Taken (rest st) st.tree
 
-  abbrev pub Known : Sure → List Frame → State → Type 0
-  Known loose fs st = ⊤
-  Known firm fs st = Firm top w fs (rest st)
-  Known full fs st = Firm top w fs (rest st) × (is_deep st ≡ true)
+  abbrev pub Known : Certainty → List Frame → State → Type 0
+  Known Nothing fs st = ⊤
+  Known OpenWhateverFollows fs st = Firm top w fs (rest st)
+  Known AtLimit fs st = Firm top w fs (rest st) × (is_deep st ≡ true)
 
-  abbrev pub StandsAt : ℕ → Spot → List Frame → State → Type 0
-  StandsAt s (spot q l d) fs st = (c : Stands s q l fs st) × Known d (frame s q c.children ∷ fs) st
-  StandsAt s lost fs st = Lost st
+  abbrev pub StandsAt : ℕ → Position → List Frame → State → Type 0
+  StandsAt s (in_row q l d) fs st = (c : Stands s q l fs st) × Known d (frame s q c.children ∷ fs) st
+  StandsAt s machine_is_stuck fs st = Lost st
 
   abbrev pub Rightly : Report → ℕ → Type 0
   Rightly = Right sort answers lim w
@@ -180,13 +180,13 @@ module _ (R : Reading) where
   abbrev pub Tells : State → Type 0
   Tells st = Told answers Rightly st
 
-  pub record Fits (s : ℕ) (p : Spot) (x y : ℕ) (fs : List Frame) (st : State) : Type 0 where
+  pub record Fits (s : ℕ) (p : Position) (x y : ℕ) (fs : List Frame) (st : State) : Type 0 where
     pub calm : Still_calm st
     pub seen : Seen x y st
     pub stands : StandsAt s p fs st
 
   abbrev pub Way : ℕ → List Frame → Then → State → Type 0
-  Way s fs k t = (p : Spot) × (u : ℕ) × (v : ℕ) × (k p u v ≡ true) × Fits s p u v fs t
+  Way s fs k t = (p : Position) × (u : ℕ) × (v : ℕ) × (k p u v ≡ true) × Fits s p u v fs t
 
   abbrev pub Out : ℕ → List Frame → Then → State → Type 0
   Out s fs k t = Tells t ⊎ Way s fs k t
@@ -194,21 +194,21 @@ module _ (R : Reading) where
   pub tell-on : (s t : State) → Grows s t → Tells s → Tells t
   tell-on s t g h = told-on answers Rightly s t g h
 
-  pub fills : (s : ℕ) (fs : List Frame) (st : State) (p : Spot) → is_deep st ≡ true → StandsAt s p fs st → StandsAt s (fill p) fs st
-  fills s fs st (spot q l loose) e g = g
-  fills s fs st (spot q l firm) e g = (g.0, (g.1, e))
-  fills s fs st (spot q l full) e g = g
-  fills s fs st lost e g = g
+  pub fills : (s : ℕ) (fs : List Frame) (st : State) (p : Position) → is_deep st ≡ true → StandsAt s p fs st → StandsAt s (with_limit_known p) fs st
+  fills s fs st (in_row q l Nothing) e g = g
+  fills s fs st (in_row q l OpenWhateverFollows) e g = (g.0, (g.1, e))
+  fills s fs st (in_row q l AtLimit) e g = g
+  fills s fs st machine_is_stuck e g = g
 
-  pub known-firm : (d : Sure) (fs : List Frame) (st : State) → is_firm d ≡ true → Known d fs st → Firm top w fs (rest st)
-  known-firm loose fs st h k = false-true refl h
-  known-firm firm fs st h k = k
-  known-firm full fs st h k = k.0
+  pub known-firm : (d : Certainty) (fs : List Frame) (st : State) → open_whatever_follows d ≡ true → Known d fs st → Firm top w fs (rest st)
+  known-firm Nothing fs st h k = false-true refl h
+  known-firm OpenWhateverFollows fs st h k = k
+  known-firm AtLimit fs st h k = k.0
 
-  pub known-weak : (d : Sure) (fs : List Frame) (st v : State) → rest v ≡ rest st → Known d fs st → Known (weak d) fs v
-  known-weak loose fs st v e k = tt
-  known-weak firm fs st v e k = rw e k
-  known-weak full fs st v e k = rw e k.0
+  pub known-weak : (d : Certainty) (fs : List Frame) (st v : State) → rest v ≡ rest st → Known d fs st → Known (limit_forgotten d) fs v
+  known-weak Nothing fs st v e k = tt
+  known-weak OpenWhateverFollows fs st v e k = rw e k
+  known-weak AtLimit fs st v e k = rw e k.0
 
   abbrev pub start_good : begins_parse top ≡ true
   start_good = opens sort (first_class w)
@@ -254,16 +254,16 @@ module _ (R : Reading) where
       let gs : List Frame = frame s q c.children ∷ fs in
       record { count = length (spent gs); behind = spent-behind gs (rest st) c.place.reach; settled = settled-at (length (spent gs)) st.tree (image gs) c.built (fitting gs (rest st) c.place.reach) }
 
-  pub taken-at : (s : ℕ) (p : Spot) (fs : List Frame) (st : State) → StandsAt s p fs st → Taken (rest st) st.tree
-  taken-at s (spot q l d) fs st g = stands-taken g.0
-  taken-at s lost fs st g = g.1
+  pub taken-at : (s : ℕ) (p : Position) (fs : List Frame) (st : State) → StandsAt s p fs st → Taken (rest st) st.tree
+  taken-at s (in_row q l d) fs st g = stands-taken g.0
+  taken-at s machine_is_stuck fs st g = g.1
 
   pub idle-lost : {st v : State} → Idle st v → Lost st → Lost v
   idle-lost {v = v} e h = rw (idle-rest e) (h.0, record { count = h.1.count; behind = h.1.behind; settled = e.stays h.1.count h.1.settled })
 
   -- ---- levels
 
-  pub leveled-enter : {s q : ℕ} {l : Level} {f : Forest} {fs : List Frame} {d h m : ℕ} → raised l ≡ 0 → suc d ≤ m → ((t : Tree) → Made t → d < nesting_all t) → Leveled s q l f fs d h m → Leveled s q high f fs (d + 1) (max h (d + 1)) m
+  pub leveled-enter : {s q : ℕ} {l : Level} {f : Forest} {fs : List Frame} {d h m : ℕ} → level_entered l ≡ 0 → suc d ≤ m → ((t : Tree) → Made t → d < nesting_all t) → Leveled s q l f fs d h m → Leveled s q Entered f fs (d + 1) (max h (d + 1)) m
   leveled-enter {s = s} {l = l} r b n v = record {
     level = omega (arith, r);
     entered = omega arith;
@@ -272,21 +272,21 @@ module _ (R : Reading) where
     bounds = record { kept = omega (arith, v.bounds.kept); nested = λ t p. omega (arith, v.bounds.nested t p, n t p); limit = v.bounds.limit };
   }
 
-  pub leveled-leave : {s q : ℕ} {f : Forest} {fs : List Frame} {d h m : ℕ} → Leveled s q high f fs d h m → Leveled s q past f fs (d - 1) h m
+  pub leveled-leave : {s q : ℕ} {f : Forest} {fs : List Frame} {d h m : ℕ} → Leveled s q Entered f fs d h m → Leveled s q Left f fs (d - 1) h m
   leveled-leave v = record { level = omega arith; entered = omega arith; most_open = omega arith; above = omega arith; bounds = v.bounds }
 
   pub leveled-leaf : {s q : ℕ} {l : Level} {f : Forest} {fs : List Frame} {d h m : ℕ} (k p : ℕ) (x : Text) → is_leaf k ≡ true → Leveled s q l f fs d h m → Leveled s p l (f +++ (leaf k x ▸ none)) fs d h m
   leveled-leaf {s = s} {q = q} {f = f} {fs = fs} k p x i v = record { level = v.level; entered = v.entered; most_open = omega (arith, peak-shift s q p k x f fs i); above = v.above; bounds = v.bounds }
 
-  pub leveled-begin : {s q : ℕ} {l : Level} {f : Forest} {fs : List Frame} {d h m : ℕ} (j : ℕ) → levels s l j ≡ true → Leveled s q l f fs d h m → Leveled j 0 low none (frame s q f ∷ fs) d h m
-  unfolding levels
+  pub leveled-begin : {s q : ℕ} {l : Level} {f : Forest} {fs : List Frame} {d h m : ℕ} (j : ℕ) → levels_agree s l j ≡ true → Leveled s q l f fs d h m → Leveled j 0 NotEntered none (frame s q f ∷ fs) d h m
+  unfolding levels_agree
   leveled-begin {s = s} {q = q} {f = f} {fs = fs} j e v =
       let a = eqb-true _ _ (and-l _ _ e) in
       let b = eqb-true _ _ (and-r _ _ e) in
       record { level = omega (arith, a); entered = omega arith; most_open = omega (arith, a, b, peak-open s q j f fs); above = v.above; bounds = v.bounds }
 
-  pub leveled-end : {s q j p : ℕ} {l m : Level} {f g : Forest} {fs : List Frame} {d h n d' h' n' : ℕ} (o : ℕ) → levels s l j ≡ true → raised m ≡ 0 → owed j m ≡ 0 → Leveled s q l f fs d h n → Leveled j p m g (frame s q f ∷ fs) d' h' n' → Leveled s o l (f +++ (node j g ▸ none)) fs d' h' n'
-  unfolding levels
+  pub leveled-end : {s q j p : ℕ} {l m : Level} {f g : Forest} {fs : List Frame} {d h n d' h' n' : ℕ} (o : ℕ) → levels_agree s l j ≡ true → level_entered m ≡ 0 → level_due j m ≡ 0 → Leveled s q l f fs d h n → Leveled j p m g (frame s q f ∷ fs) d' h' n' → Leveled s o l (f +++ (node j g ▸ none)) fs d' h' n'
+  unfolding levels_agree
   leveled-end {s = s} {q = q} {j = j} {p = p} {f = f} {g = g} {fs = fs} o e r u v v' =
       let a = eqb-true _ _ (and-l _ _ e) in
       record { level = omega (arith, a); entered = omega (arith, a); most_open = omega (arith, a, peak-close s q o j p f g fs); above = v'.above; bounds = v'.bounds }
@@ -295,5 +295,5 @@ module _ (R : Reading) where
   still-leveled e h = rw (e.depth, e.high, e.limit) h
 
   -- the rule goes on elsewhere
-  pub moved-on : {s s' x y : ℕ} {p p' : Spot} {fs fs' : List Frame} {st v : State} → Fits s p x y fs st → Idle st v → StandsAt s' p' fs' v → Fits s' p' x y fs' v
+  pub moved-on : {s s' x y : ℕ} {p p' : Position} {fs fs' : List Frame} {st v : State} → Fits s p x y fs st → Idle st v → StandsAt s' p' fs' v → Fits s' p' x y fs' v
   moved-on {x = x} {y = y} g e c = record { calm = idle-calm e g.calm; seen = idle-seen x y e g.seen; stands = c }

@@ -24,11 +24,11 @@ use Rattle.parser_rules.proofs.runs.Frame.{Untouched, read-untouched}
 use Rattle.parser_rules.proofs.runs.Reading.{reading}
 use Rattle.parser_rules.proofs.reports.NoReport.{answers_tokens, all_tokens, rest, given as given_by, EndsWell, Blames, read-on}
 use Rattle.parser_rules.proofs.lookahead.TokenSets.{seen-any}
-use Rattle.parser_rules.proofs.lookahead.Split.{Level, low, firm, spot}
+use Rattle.parser_rules.proofs.lookahead.Split.{Level, NotEntered, at_root_start}
 use Rattle.parser_rules.proofs.soundness.WithoutIgnored.{stack}
 use Rattle.parser_rules.proofs.soundness.MachineStack.{image, image-node}
 use Rattle.parser_rules.proofs.soundness.Settled.{Settled, settled-at}
-use Rattle.parser_rules.proofs.soundness.TableCheck.{own, owed}
+use Rattle.parser_rules.proofs.soundness.TableCheck.{counts_itself, level_due}
 use Rattle.parser_rules.proofs.soundness.FirstReport.{Right, stuck_here, deep_here, no_token}
 use Rattle.parser_rules.proofs.soundness.Positions.{Reading, top, start_good, Leveled, Place, StandsAt, Fits, Tells, Rightly, shown, fitting}
 
@@ -39,12 +39,12 @@ whole_of sort r xs = record { sort = sort; answers = xs; limit = r; words = answ
 -- The symbol is that of a root, whose node is of the kind.
 pub record IsRootSymbol (s : ℕ) (k : SyntaxKind) : Type 0 where
   pub shown : label s ≡ number k
-  pub counted : count_in DOCUMENT s ≡ own s
+  pub counted : count_in DOCUMENT s ≡ counts_itself s
   pub no_type : eqb s TYPE ≡ false
 
 -- Where this alone is built, the machine begins with the symbol.
 pub record Begins (s : ℕ) (b : Building) : Type 0 where
-  pub counted : count_in DOCUMENT s ≡ own s
+  pub counted : count_in DOCUMENT s ≡ counts_itself s
   pub built : stack b ≡ image (frame s 0 none ∷ [])
 
 -- the root is open
@@ -62,7 +62,7 @@ module _ (sort : Sort) (r : ℕ) (xs : List Answer) where
   R = whole_of sort r xs
 
   module _ {b : Building} (o : Begins (top R) b) where
-    pub root-level : Leveled R (top R) 0 low none [] 0 0 r
+    pub root-level : Leveled R (top R) 0 NotEntered none [] 0 0 r
     root-level = record {
       level = omega (arith, o.counted);
       entered = omega arith;
@@ -72,7 +72,7 @@ module _ (sort : Sort) (r : ℕ) (xs : List Answer) where
     }
 
     -- where nothing else is built, and all the tokens are left
-    pub root-opened : (n m : ℕ) (ys : List Answer) (s : State) → Untouched (record (first_state ys r b) { asked = n; budget = m }) s → rest s ≡ answers_tokens xs → StandsAt R (top R) (spot 0 low firm) [] s
+    pub root-opened : (n m : ℕ) (ys : List Answer) (s : State) → Untouched (record (first_state ys r b) { asked = n; budget = m }) s → rest s ≡ answers_tokens xs → StandsAt R (top R) at_root_start [] s
     root-opened n m ys s u e = (
       record {
         children = none;
@@ -82,7 +82,7 @@ module _ (sort : Sort) (r : ℕ) (xs : List Answer) where
       record { before = []; split = sym e; firm = λ v f. start },
     )
 
-    pub root-starts : EndsWell xs → let s = read_on xs (first_state xs r b) in Tells R s ⊎ (Fits R (top R) (spot 0 low firm) any any [] s × (rest s ≡ answers_tokens xs))
+    pub root-starts : EndsWell xs → let s = read_on xs (first_state xs r b) in Tells R s ⊎ (Fits R (top R) at_root_start any any [] s × (rest s ≡ answers_tokens xs))
     root-starts e =
         let s : State = first_state xs r b in
         let t : State = read_on xs s in
@@ -108,7 +108,7 @@ pub record IsEnded (R : Reading) (f : Forest) (s : State) : Type 0 where
   -- over a sentence all is taken, and it is the sentence's derivation
   pub all : (t : Tree) → Spells R.words t R.sort → (rest s ≡ []) × (show (node (top R) f) ≡ t)
 
-pub root-ended : (R : Reading) {q : ℕ} {l : Level} {f : Forest} {s : State} → Place R (top R) q l f [] s → next (top R) q (rest s) ≡ closes_move → owed (top R) l ≡ 0 → IsEnded R f s
+pub root-ended : (R : Reading) {q : ℕ} {l : Level} {f : Forest} {s : State} → Place R (top R) q l f [] s → next (top R) q (rest s) ≡ closes_move → level_due (top R) l ≡ 0 → IsEnded R f s
 root-ended R {q = q} {l = l} {f = f} {s = s} i m owes =
     let d = ended_sound R.sort R.words f (rest s) (q, i.reach, m) in
     let p = (done (top R) (start_good R) R.words q f (rest s) i.reach m).1 in

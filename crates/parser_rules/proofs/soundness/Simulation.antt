@@ -20,16 +20,17 @@ use Rattle.parser_rules.specs.Nodes.{Node, symbol, kind_of}
 use Rattle.parser_rules.specs.RuleLanguage.{Test, At, holds, Prim, Bump, Note, step, Rule, While, Nested}
 use Rattle.parser_rules.specs.Rules.{inside, body}
 use Rattle.parser_rules.specs.Runs.{Runs, skip, does, seq, yes, no, done, again, child, limited, deeper, refused, call, plain, wrapped}
+use Rattle.parser_rules.proofs.runs.Fuel.{rules_deep}
 use Rattle.parser_rules.proofs.runs.Frame.{Adds, adds}
 use Rattle.parser_rules.proofs.soundness.WithoutIgnored.{put-none, Stack, stack, put, stack-finish}
 use Rattle.parser_rules.proofs.reports.NoReport.{rest, Grows, grows-on}
 use Rattle.parser_rules.proofs.lookahead.MachineClasses.{sees-next}
-use Rattle.parser_rules.proofs.lookahead.Split.{Level, low, high, past, Sure, loose, firm, full, Spot, spot, lost, fill, divide, divide-at}
+use Rattle.parser_rules.proofs.lookahead.Split.{Level, NotEntered, Entered, Left, Certainty, Nothing, OpenWhateverFollows, AtLimit, Position, in_row, machine_is_stuck, with_limit_known, divide, divide-at, at_start}
 use Rattle.parser_rules.proofs.lookahead.TokenSets.{class_of, seen-more, near-at}
 use Rattle.parser_rules.proofs.lookahead.FirstSets.{first_of, second_of, inlined}
 use Rattle.parser_rules.proofs.soundness.MachineStack.{image, image-some, image-plain, show-bang, stack-wrap}
 use Rattle.parser_rules.proofs.soundness.Settled.{fitting-image, fitting-path}
-use Rattle.parser_rules.proofs.soundness.TableCheck.{Mark, Then, same_level, same_sure, weak, same_spot, covered, turns, levels, is_high, lowered, takes, after, closing, losing, child_goes, child_sticks, child_at, limits_at, nests, typed, type_at, ok, ends_well, follows_table, bang_next, no_bang}
+use Rattle.parser_rules.proofs.soundness.TableCheck.{LoopState, most_turns, Then, same_level, same_certainty, limit_forgotten, same_position, covered, turns, levels_agree, level_is_entered, level_left, takes_token, after_node, after_inlined, after_stuck_node, child_begins, child_while_stuck, child_at, may_report_limit, enters_level, after_type, type_at, keeps_to_table, node_may_end, follows_table, bang_follows, no_bang_follows}
 use Rattle.parser_rules.proofs.NodeChecks.{node-passes}
 use Rattle.parser_rules.proofs.soundness.Positions.{Reading, idle-rest, Alike, same-alike, flush-alike, opened-alike, closed-alike, wrapped-alike, renested, left-idle, idle-seen, idle-grows, run-grows, top, Made, Stands, StandsAt, Fits, Way, Out, tell-on, fills, known-weak, start_good, idle-calm, shown, note-told, deep-told, taken-at, idle-lost, leveled-enter, leveled-leave, still-leveled, moved-on}
 use Rattle.parser_rules.proofs.soundness.Moves.{fits-next, lost-at, note-right, made-passes, goes-deeper, too-many, flushed, Shaped, token-taken, bump-out, begun, begun-in, ended, ended-here, tell-closed, with-sets, node-out, walked-out, lost-out}
@@ -40,78 +41,78 @@ module _ (R : Reading) where
   -- ---- marks
 
   level-same : (l m : Level) → same_level l m ≡ true → l ≡ m
-  level-same low low h = refl
-  level-same high high h = refl
-  level-same past past h = refl
+  level-same NotEntered NotEntered h = refl
+  level-same Entered Entered h = refl
+  level-same Left Left h = refl
   level-same _ _ h = false-true refl h
 
-  sure-same : (d e : Sure) → same_sure d e ≡ true → d ≡ e
-  sure-same loose loose h = refl
-  sure-same firm firm h = refl
-  sure-same full full h = refl
+  sure-same : (d e : Certainty) → same_certainty d e ≡ true → d ≡ e
+  sure-same Nothing Nothing h = refl
+  sure-same OpenWhateverFollows OpenWhateverFollows h = refl
+  sure-same AtLimit AtLimit h = refl
   sure-same _ _ h = false-true refl h
 
-  spot-same : (p q : Spot) → same_spot p q ≡ true → p ≡ q
-  spot-same (spot p l d) (spot q m e) h = let i = eqb-true p q (and-l _ _ h) in let j = level-same l m (and-l _ _ (and-r _ _ h)) in let k = sure-same d e (and-r _ _ (and-r _ _ h)) in cc (i, j, k)
-  spot-same lost lost h = refl
+  spot-same : (p q : Position) → same_position p q ≡ true → p ≡ q
+  spot-same (in_row p l d) (in_row q m e) h = let i = eqb-true p q (and-l _ _ h) in let j = level-same l m (and-l _ _ (and-r _ _ h)) in let k = sure-same d e (and-r _ _ (and-r _ _ h)) in cc (i, j, k)
+  spot-same machine_is_stuck machine_is_stuck h = refl
   spot-same _ _ h = false-true refl h
 
   -- the check of each mark that was met
-  Met : (Spot → ℕ → ℕ → Then → Bool) → List Mark → Type 0
+  Met : (Position → ℕ → ℕ → Then → Bool) → List LoopState → Type 0
   Met turn [] = ⊤
-  Met turn (m ∷ h) = ((n : ℕ) × (turn m.place m.near m.far (turns n turn (m ∷ h)) ≡ true)) × Met turn h
+  Met turn (m ∷ h) = ((n : ℕ) × (turn m.position m.now m.after (turns n turn (m ∷ h)) ≡ true)) × Met turn h
 
   -- a mark at which a turn begins, with its check
-  record Head (turn : Spot → ℕ → ℕ → Then → Bool) (s : ℕ) (fs : List Frame) (st : State) : Type 0 where
+  record Head (turn : Position → ℕ → ℕ → Then → Bool) (s : ℕ) (fs : List Frame) (st : State) : Type 0 where
     count : ℕ
-    marks : List Mark
+    marks : List LoopState
     met : Met turn marks
     way : Way R s fs (λ p x y. turn p x y (turns count turn marks)) st
 
-  met-at : (turn : Spot → ℕ → ℕ → Then → Bool) (s : ℕ) (p : Spot) (x y : ℕ) (fs : List Frame) (st : State) (h : List Mark) → covered p x y h ≡ true → Met turn h → Fits R s p x y fs st → Head turn s fs st
+  met-at : (turn : Position → ℕ → ℕ → Then → Bool) (s : ℕ) (p : Position) (x y : ℕ) (fs : List Frame) (st : State) (h : List LoopState) → covered p x y h ≡ true → Met turn h → Fits R s p x y fs st → Head turn s fs st
   unfolding covered Met
   met-at turn s p x y fs st [] c m g = false-true refl c
   met-at turn s p x y fs st (m ∷ h) c e g = elim (or-c _ _ c) [
     | inl i ↦ (
-        let f = subst (λ (z : Spot). Fits R s z x y fs st) (spot-same p m.place (and-l _ _ i)) g in
-        record { count = e.0.0; marks = m ∷ h; met = e; way = (m.place, m.near, m.far, e.0.1, with-sets R f (seen-more x y m.near m.far st (and-r _ _ i) g.seen)) })
+        let f = subst (λ (z : Position). Fits R s z x y fs st) (spot-same p m.position (and-l _ _ i)) g in
+        record { count = e.0.0; marks = m ∷ h; met = e; way = (m.position, m.now, m.after, e.0.1, with-sets R f (seen-more x y m.now m.after st (and-r _ _ i) g.seen)) })
     | inr i ↦ met-at turn s p x y fs st h i e.1 g
   ]
 
-  head-at : (turn : Spot → ℕ → ℕ → Then → Bool) (n s : ℕ) (p : Spot) (x y : ℕ) (fs : List Frame) (st : State) (h : List Mark) → turns n turn h p x y ≡ true → Met turn h → Fits R s p x y fs st → Head turn s fs st
+  head-at : (turn : Position → ℕ → ℕ → Then → Bool) (n s : ℕ) (p : Position) (x y : ℕ) (fs : List Frame) (st : State) (h : List LoopState) → turns n turn h p x y ≡ true → Met turn h → Fits R s p x y fs st → Head turn s fs st
   unfolding turns Met
   head-at turn zero s p x y fs st h c m g = met-at turn s p x y fs st h c m g
   head-at turn (suc n) s p x y fs st h c m g = elim (either (covered p x y h)) [
     | inl i ↦ met-at turn s p x y fs st h i m g
-    | inr i ↦ let d = rw (turns, i) at c in record { count = n; marks = record { place = p; near = x; far = y } ∷ h; met = ((n, d), m); way = (p, x, y, d, g) }
+    | inr i ↦ let d = rw (turns, i) at c in record { count = n; marks = record { position = p; now = x; after = y } ∷ h; met = ((n, d), m); way = (p, x, y, d, g) }
   ]
 
   -- the branch that is taken
   branch : (t : Test) (b : Bool) (s : ℕ) (fs : List Frame) (st : State) (f g : Then) → b ≡ holds t st → Way R s fs (λ p x y. divide (λ a b. a and b) true t p x y f g) st → Way R s fs (cond b f g) st
   branch t b s fs st f g e (p, x, y, h, c) =
-      let r = divide-at st (λ (p : Spot). StandsAt R s p fs st) (fills R s fs st) t b p x y f g (shown R st c.calm) e h c.seen c.stands in
+      let r = divide-at st (λ (p : Position). StandsAt R s p fs st) (fills R s fs st) t b p x y f g (shown R st c.calm) e h c.seen c.stands in
       (r.0, r.1, r.2, r.3, record { calm = c.calm; seen = r.4; stands = r.5 })
 
   -- ---- runs
 
-  abbrev turned : ℕ → ℕ → Test → Rule → Then → Spot → ℕ → ℕ → Then → Bool
-  turned n s t a k p u v next = divide (λ a' b'. a' and b') true t p u v (λ q' u' v'. ok n s q' u' v' a next) k
+  abbrev turned : ℕ → ℕ → Test → Rule → Then → Position → ℕ → ℕ → Then → Bool
+  turned n s t a k p u v next = divide (λ a' b'. a' and b') true t p u v (λ q' u' v'. keeps_to_table n s q' u' v' a next) k
 
   -- What is asked of a rule: its check, and for a loop that of the turns that are left, with the marks that were met.
-  pub Good : ℕ → ℕ → Spot → ℕ → ℕ → Rule → Then → Type 0
-  Good n s p x y (While t a) k = (j : ℕ) × (h : List Mark) × (turns j (turned n s t a k) h p x y ≡ true) × Met (turned n s t a k) h
-  Good n s p x y r k = ok n s p x y r k ≡ true
+  pub Good : ℕ → ℕ → Position → ℕ → ℕ → Rule → Then → Type 0
+  Good n s p x y (While t a) k = (j : ℕ) × (h : List LoopState) × (turns j (turned n s t a k) h p x y ≡ true) × Met (turned n s t a k) h
+  Good n s p x y r k = keeps_to_table n s p x y r k ≡ true
 
-  pub good : (n s : ℕ) (p : Spot) (x y : ℕ) (r : Rule) (k : Then) → ok n s p x y r k ≡ true → Good n s p x y r k
-  unfolding Good ok Met
-  good n s p x y (While t a) k h = (5, [], h, tt)
+  pub good : (n s : ℕ) (p : Position) (x y : ℕ) (r : Rule) (k : Then) → keeps_to_table n s p x y r k ≡ true → Good n s p x y r k
+  unfolding Good keeps_to_table Met
+  good n s p x y (While t a) k h = (most_turns, [], h, tt)
   good n s p x y _ k h = h
 
   -- a run of a rule, from any mark that its check holds at
   abbrev Walks : Rule → State → State → Type 0
-  Walks r t u = (n s : ℕ) (p : Spot) (x y : ℕ) (fs : List Frame) (k : Then) → Good n s p x y r k → Fits R s p x y fs t → Out R s fs k u
+  Walks r t u = (n s : ℕ) (p : Position) (x y : ℕ) (fs : List Frame) (k : Then) → Good n s p x y r k → Fits R s p x y fs t → Out R s fs k u
 
-  walked : (r : Rule) {t u : State} → Walks r t u → (n s : ℕ) (fs : List Frame) (k : Then) → Way R s fs (λ p x y. ok n s p x y r k) t → Out R s fs k u
+  walked : (r : Rule) {t u : State} → Walks r t u → (n s : ℕ) (fs : List Frame) (k : Then) → Way R s fs (λ p x y. keeps_to_table n s p x y r k) t → Out R s fs k u
   walked r walk n s fs k (p, x, y, h, g) = walk n s p x y fs k (good n s p x y r k h) g
 
   then-on : (s : ℕ) (fs : List Frame) (f k : Then) (t u : State) → Grows t u → (Way R s fs f t → Out R s fs k u) → Out R s fs f t → Out R s fs k u
@@ -119,30 +120,30 @@ module _ (R : Reading) where
   then-on s fs f k t u g on (inr o) = on o
 
   -- a node's rule is walked at its place, or by the check of its kind
-  goes-in : (n s q x y : ℕ) (l : Level) (d : Sure) (c : Node) (fs : List Frame) (k : Then) (st t u : State) → t ≡ opened (kind_of c) st → Walks (inside c) t u → child_goes s q l x y c k (λ u v k'. ok n (symbol c) (spot 0 low loose) u v (inside c) k') ≡ true → Fits R s (spot q l d) x y fs st → Out R s fs k (closed u)
-  unfolding child_goes follows_table
+  goes-in : (n s q x y : ℕ) (l : Level) (d : Certainty) (c : Node) (fs : List Frame) (k : Then) (st t u : State) → t ≡ opened (kind_of c) st → Walks (inside c) t u → child_begins s q l x y c k (λ u v k'. keeps_to_table n (symbol c) at_start u v (inside c) k') ≡ true → Fits R s (in_row q l d) x y fs st → Out R s fs k (closed u)
+  unfolding child_begins follows_table
   goes-in n s q x y l d c fs k st t u e walk h g =
       let j : ℕ = symbol c in
-      let p : Spot = spot (target s q j) l firm in
+      let p : Position = in_row (target s q j) l OpenWhateverFollows in
       let gs : List Frame = frame s q g.stands.0.children ∷ fs in
-      let agree : levels s l j ≡ true = and-r _ _ (and-l _ _ h) in
-      let b : Fits R j (spot 0 low loose) x y gs t = rw e (begun-in R c g (and-l _ _ (and-l _ _ h)) agree) in
-      (elim (inlined c) as (λ i. cond i (ok n j (spot 0 low loose) x y (inside c) (closing j p k)) ((subset x (first_of c) and subset y (second_of c)) and after p c k) ≡ true → Out R s fs k (closed u)) [
-        | true ↦ λ m. walked-out R c k u g.stands.0 agree (walked (inside c) walk n j gs (closing j p k) (spot 0 low loose, x, y, m, b))
-        | false ↦ λ m. node-out R c k u g.stands.0 agree (and-r _ _ m) (walked (inside c) walk 5 j gs (ends_well c) (spot 0 low loose, first_of c, second_of c, and-r _ _ (node-passes c).table, with-sets R b (seen-more x y _ _ t (and-l _ _ m) b.seen)))
+      let agree : levels_agree s l j ≡ true = and-r _ _ (and-l _ _ h) in
+      let b : Fits R j at_start x y gs t = rw e (begun-in R c g (and-l _ _ (and-l _ _ h)) agree) in
+      (elim (inlined c) as (λ i. cond i (keeps_to_table n j at_start x y (inside c) (after_inlined j p k)) ((subset x (first_of c) and subset y (second_of c)) and after_node p c k) ≡ true → Out R s fs k (closed u)) [
+        | true ↦ λ m. walked-out R c k u g.stands.0 agree (walked (inside c) walk n j gs (after_inlined j p k) (at_start, x, y, m, b))
+        | false ↦ λ m. node-out R c k u g.stands.0 agree (and-r _ _ m) (walked (inside c) walk rules_deep j gs (node_may_end c) (at_start, first_of c, second_of c, and-r _ _ (node-passes c).table, with-sets R b (seen-more x y _ _ t (and-l _ _ m) b.seen)))
       ]) (and-r _ _ h)
 
-  sticks-in : (n s x y : ℕ) (c : Node) (fs : List Frame) (k : Then) (st t u : State) → t ≡ opened (kind_of c) st → Walks (inside c) t u → ok n s lost x y (inside c) (losing k) ≡ true → Fits R s lost x y fs st → Out R s fs k (closed u)
+  sticks-in : (n s x y : ℕ) (c : Node) (fs : List Frame) (k : Then) (st t u : State) → t ≡ opened (kind_of c) st → Walks (inside c) t u → keeps_to_table n s machine_is_stuck x y (inside c) (after_stuck_node k) ≡ true → Fits R s machine_is_stuck x y fs st → Out R s fs k (closed u)
   sticks-in n s x y c fs k st t u e walk h g =
       let a = (opened-alike (kind_of c) st).idle in
-      lost-out R k u (walked (inside c) walk n s fs (losing k) (lost, x, y, h, rw e (moved-on R g a (idle-lost R a g.stands))))
+      lost-out R k u (walked (inside c) walk n s fs (after_stuck_node k) (machine_is_stuck, x, y, h, rw e (moved-on R g a (idle-lost R a g.stands))))
 
-  child-in : (n s : ℕ) (p : Spot) (x y : ℕ) (c : Node) (fs : List Frame) (k : Then) (st t u : State) → t ≡ opened (kind_of c) st → Walks (inside c) t u → child_at s p x y c k (λ u v k'. ok n (symbol c) (spot 0 low loose) u v (inside c) k') (λ u v. ok n s lost u v (inside c) (losing k)) ≡ true → Fits R s p x y fs st → Out R s fs k (closed u)
-  unfolding child_at child_sticks
-  child-in n s lost x y c fs k st t u e walk h g = sticks-in n s x y c fs k st t u e walk h g
-  child-in n s (spot q l d) x y c fs k st t u e walk h g =
-      let f : ℕ → ℕ → Bool = λ u v. child_goes s q l u v c k (λ u v k'. ok n (symbol c) (spot 0 low loose) u v (inside c) k') in
-      let f' : ℕ → ℕ → Bool = λ u v. child_sticks s q u v (λ u v. ok n s lost u v (inside c) (losing k)) in
+  child-in : (n s : ℕ) (p : Position) (x y : ℕ) (c : Node) (fs : List Frame) (k : Then) (st t u : State) → t ≡ opened (kind_of c) st → Walks (inside c) t u → child_at s p x y c k (λ u v k'. keeps_to_table n (symbol c) at_start u v (inside c) k') (λ u v. keeps_to_table n s machine_is_stuck u v (inside c) (after_stuck_node k)) ≡ true → Fits R s p x y fs st → Out R s fs k (closed u)
+  unfolding child_at child_while_stuck
+  child-in n s machine_is_stuck x y c fs k st t u e walk h g = sticks-in n s x y c fs k st t u e walk h g
+  child-in n s (in_row q l d) x y c fs k st t u e walk h g =
+      let f : ℕ → ℕ → Bool = λ u v. child_begins s q l u v c k (λ u v k'. keeps_to_table n (symbol c) at_start u v (inside c) k') in
+      let f' : ℕ → ℕ → Bool = λ u v. child_while_stuck s q u v (λ u v. keeps_to_table n s machine_is_stuck u v (inside c) (after_stuck_node k)) in
       elim (either (within (class_of st.current) (first_of c))) [
         | inl i ↦ (let r = near-at true (first_of c) x y f f' st (sym i) h g.seen in goes-in n s q r.0 r.1 l d c fs k st t u e walk r.2 (with-sets R g r.3))
         | inr i ↦ (
@@ -152,52 +153,52 @@ module _ (R : Reading) where
 
   -- ---- a type begins and ends
 
-  type-in : (n s q x y : ℕ) (l : Level) (d : Sure) (a : Rule) (fs : List Frame) (k : Then) (st t u : State) → t ≡ flush st → Walks a t u → type_at s (spot q l d) x y k (λ k'. ok n TYPE (spot 0 low loose) x y a k') ≡ true → (g : Fits R s (spot q l d) x y fs st)
-      → Out R TYPE (frame s q g.stands.0.children ∷ fs) (typed (spot (target s q TYPE) l firm) k) u
+  type-in : (n s q x y : ℕ) (l : Level) (d : Certainty) (a : Rule) (fs : List Frame) (k : Then) (st t u : State) → t ≡ flush st → Walks a t u → type_at s (in_row q l d) x y k (λ k'. keeps_to_table n TYPE at_start x y a k') ≡ true → (g : Fits R s (in_row q l d) x y fs st)
+      → Out R TYPE (frame s q g.stands.0.children ∷ fs) (after_type (in_row (target s q TYPE) l OpenWhateverFollows) k) u
   unfolding type_at flush is_leaf
   type-in n s q x y l d a fs k st t u e walk h g =
       let gs : List Frame = frame s q g.stands.0.children ∷ fs in
       let m = and-l _ _ h in
-      let b : Fits R TYPE (spot 0 low loose) x y gs (flush st) = begun R TYPE g refl refl (and-l _ _ m) (and-l _ _ (and-r _ _ m)) (flush-alike st) (λ i. flushed R st g.calm ∙ (i ∙ sym (put-none (image gs)))) in
-      walked a walk n TYPE gs (typed (spot (target s q TYPE) l firm) k) (spot 0 low loose, x, y, and-r _ _ h, rw e b)
+      let b : Fits R TYPE at_start x y gs (flush st) = begun R TYPE g refl refl (and-l _ _ m) (and-l _ _ (and-r _ _ m)) (flush-alike st) (λ i. flushed R st g.calm ∙ (i ∙ sym (put-none (image gs)))) in
+      walked a walk n TYPE gs (after_type (in_row (target s q TYPE) l OpenWhateverFollows) k) (at_start, x, y, and-r _ _ h, rw e b)
 
   -- the children of a type that no `!` ends
   one-path : {q : ℕ} {l : Level} {fs : List Frame} {u : State} (c : Stands R TYPE q l fs u) → eqb q 1 ≡ true → Path TYPE 0 c.children 1
   one-path c e = subst (λ (n : ℕ). Path TYPE 0 c.children n) (eqb-true _ _ e) (reach-sound (start-no-leaf (top R) (start_good R)) c.place.reach).1
 
-  plain-in : (n s : ℕ) (p : Spot) (x y : ℕ) (a : Rule) (fs : List Frame) (k : Then) (st t u : State) → t ≡ flush st → Walks a t u → false ≡ holds (At token.Bang) u → type_at s p x y k (λ k'. ok n TYPE (spot 0 low loose) x y a k') ≡ true → Fits R s p x y fs st → Out R s fs k u
-  unfolding type_at typed
-  plain-in n s lost x y a fs k st t u e walk b h g = false-true refl h
-  plain-in n s (spot q l d) x y a fs k st t u e walk b h g = elim (type-in n s q x y l d a fs k st t u e walk h g) [
+  plain-in : (n s : ℕ) (p : Position) (x y : ℕ) (a : Rule) (fs : List Frame) (k : Then) (st t u : State) → t ≡ flush st → Walks a t u → false ≡ holds (At token.Bang) u → type_at s p x y k (λ k'. keeps_to_table n TYPE at_start x y a k') ≡ true → Fits R s p x y fs st → Out R s fs k u
+  unfolding type_at after_type
+  plain-in n s machine_is_stuck x y a fs k st t u e walk b h g = false-true refl h
+  plain-in n s (in_row q l d) x y a fs k st t u e walk b h g = elim (type-in n s q x y l d a fs k st t u e walk h g) [
     | inl o ↦ inl o
-    | inr o ↦ inr (on (branch (At token.Bang) false TYPE gs u (bang_next p k) (no_bang p k) b o))
+    | inr o ↦ inr (on (branch (At token.Bang) false TYPE gs u (bang_follows p k) (no_bang_follows p k) b o))
   ]
     where
-      p : Spot
-      p = spot (target s q TYPE) l firm
+      p : Position
+      p = in_row (target s q TYPE) l OpenWhateverFollows
 
       gs : List Frame
       gs = frame s q g.stands.0.children ∷ fs
 
-      on : Way R TYPE gs (no_bang p k) u → Way R s fs k u
-      on (lost, x, y, t, i) = false-true refl (and-l _ _ t)
-      on (spot q' m d, x, y, t, i) = ended-here R g.stands.0 k (and-l _ _ (and-r _ _ (and-l _ _ h))) (and-r _ _ t) i (same-alike u) (i.stands.0.built ∙ image-plain s q q g.stands.0.children i.stands.0.children fs (one-path i.stands.0 (and-l _ _ t)))
+      on : Way R TYPE gs (no_bang_follows p k) u → Way R s fs k u
+      on (machine_is_stuck, x, y, t, i) = false-true refl (and-l _ _ t)
+      on (in_row q' m d, x, y, t, i) = ended-here R g.stands.0 k (and-l _ _ (and-r _ _ (and-l _ _ h))) (and-r _ _ t) i (same-alike u) (i.stands.0.built ∙ image-plain s q q g.stands.0.children i.stands.0.children fs (one-path i.stands.0 (and-l _ _ t)))
 
   bang-built : (f : Forest) (fs : List Frame) (v : State) (x : Text) → Path TYPE 0 f 1 → stack v.tree ≡ (NON_NULL_TYPE, shows (f +++ (leaf BANG x ▸ none))) ∷ image fs → stack (closed v).tree ≡ put (show (node TYPE (f +++ (leaf BANG x ▸ none))) ▸ none) (image fs)
   unfolding closed
   bang-built f fs v x p e = stack-finish v.tree (NON_NULL_TYPE, shows (f +++ (leaf BANG x ▸ none))) (image fs) (image-some fs) e ∙ ap (λ (t : Tree). put (t ▸ none) (image fs)) (sym (show-bang f x p))
 
-  wrapped-in : (n s : ℕ) (p : Spot) (x y : ℕ) (a : Rule) (fs : List Frame) (k : Then) (st t u v w' : State) → t ≡ flush st → Walks a t u → Adds t u → v ≡ wrapped_from (built_count t.tree) kind.NON_NULL_TYPE u → Grows v w' → w' ≡ bump kind.BANG v → true ≡ holds (At token.Bang) u
-      → type_at s p x y k (λ k'. ok n TYPE (spot 0 low loose) x y a k') ≡ true → Fits R s p x y fs st → Out R s fs k (closed w')
-  unfolding type_at typed takes closing flush wrapped_from
-  wrapped-in n s lost x y a fs k st t u v w' e walk added i gr j b h g = false-true refl h
-  wrapped-in n s (spot q l d) x y a fs k st t u v w' e walk added i gr j b h g = elim (type-in n s q x y l d a fs k st t u e walk h g) [
+  wrapped-in : (n s : ℕ) (p : Position) (x y : ℕ) (a : Rule) (fs : List Frame) (k : Then) (st t u v w' : State) → t ≡ flush st → Walks a t u → Adds t u → v ≡ wrapped_from (built_count t.tree) kind.NON_NULL_TYPE u → Grows v w' → w' ≡ bump kind.BANG v → true ≡ holds (At token.Bang) u
+      → type_at s p x y k (λ k'. keeps_to_table n TYPE at_start x y a k') ≡ true → Fits R s p x y fs st → Out R s fs k (closed w')
+  unfolding type_at after_type takes_token after_inlined flush wrapped_from
+  wrapped-in n s machine_is_stuck x y a fs k st t u v w' e walk added i gr j b h g = false-true refl h
+  wrapped-in n s (in_row q l d) x y a fs k st t u v w' e walk added i gr j b h g = elim (type-in n s q x y l d a fs k st t u e walk h g) [
     | inl o ↦ inl (tell-closed R w' (tell-on R u w' (grows-on u v w' (idle-grows al.idle) gr) o))
-    | inr o ↦ on (branch (At token.Bang) true TYPE gs u (bang_next p k) (no_bang p k) b o)
+    | inr o ↦ on (branch (At token.Bang) true TYPE gs u (bang_follows p k) (no_bang_follows p k) b o)
   ]
     where
-      p : Spot
-      p = spot (target s q TYPE) l firm
+      p : Position
+      p = in_row (target s q TYPE) l OpenWhateverFollows
 
       gs : List Frame
       gs = frame s q g.stands.0.children ∷ fs
@@ -218,12 +219,12 @@ module _ (R : Reading) where
       before : stack t.tree ≡ image gs
       before = ap (λ (z : State). stack z.tree) e ∙ (flushed R st g.calm ∙ g.stands.0.built)
 
-      on : Way R TYPE gs (bang_next p k) u → Out R s fs k (closed w')
-      on (lost, x, y, t, c) = false-true refl (and-l _ _ t)
-      on (spot q' m d, x, y, t', c) =
+      on : Way R TYPE gs (bang_follows p k) u → Out R s fs k (closed w')
+      on (machine_is_stuck, x, y, t, c) = false-true refl (and-l _ _ t)
+      on (in_row q' m d, x, y, t', c) =
           let f : Forest = c.stands.0.children in
           let built : stack v.tree ≡ shape (shows f) = ap (λ (z : State). stack z.tree) i ∙ stack-wrap s q q' g.stands.0.children f fs t.tree u.tree added.more none_equal added.trees.above added.trees.here before c.stands.0.built in
-          subst (λ (z : State). Out R s fs k (closed z)) (sym j) (elim (token-taken R kind.BANG TYPE q' BANG x y m d f gs v shape (λ P. closing TYPE p k P y any) (and-r _ _ t') shaped (record { reach = rw (idle-rest al.idle) c.stands.0.place.reach; leveled = still-leveled R al c.stands.0.place.leveled; alone = c.stands.0.place.alone }) built (idle-calm R al.idle c.calm) (idle-seen x y al.idle c.seen)) [
+          subst (λ (z : State). Out R s fs k (closed z)) (sym j) (elim (token-taken R kind.BANG TYPE q' BANG x y m d f gs v shape (λ P. after_inlined TYPE p k P y any) (and-r _ _ t') shaped (record { reach = rw (idle-rest al.idle) c.stands.0.place.reach; leveled = still-leveled R al c.stands.0.place.leveled; alone = c.stands.0.place.alone }) built (idle-calm R al.idle c.calm) (idle-seen x y al.idle c.seen)) [
             | inl o ↦ inl (tell-closed R (bump kind.BANG v) o)
             | inr o ↦ (
                 let w'' : State = bump kind.BANG v in
@@ -231,74 +232,74 @@ module _ (R : Reading) where
                 let c' = and-r _ _ (and-r _ _ (and-r _ _ t')) in
                 let done : stack (closed w'').tree ≡ put (show (node TYPE g') ▸ none) (image gs) = bang-built f gs w'' o.first.1 (one-path c.stands.0 (and-l _ _ t')) o.built in
                 inr (
-                  spot (target s q TYPE + exit TYPE (target TYPE q' BANG)) l firm,
+                  in_row (target s q TYPE + exit TYPE (target TYPE q' BANG)) l OpenWhateverFollows,
                   y,
                   any,
                   and-r _ _ c',
                   record {
                     calm = idle-calm R (closed-alike w'').idle o.calm;
                     seen = idle-seen y any (closed-alike w'').idle o.seen;
-                    stands = ended R g.stands.0 firm y (and-l _ _ (and-r _ _ (and-l _ _ h))) (and-l _ _ c') (sees-next y any w'' o.calm.now o.seen).near o.certain o.place (closed-alike w'') done;
+                    stands = ended R g.stands.0 OpenWhateverFollows y (and-l _ _ (and-r _ _ (and-l _ _ h))) (and-l _ _ c') (sees-next y any w'' o.calm.now o.seen).near o.certain o.place (closed-alike w'') done;
                   },
                 ))
           ])
 
   -- ---- a level is entered and left
 
-  level-in : (n s : ℕ) (p : Spot) (x y : ℕ) (a b : Rule) (fs : List Frame) (k : Then) (st t u v z : State) → false ≡ is_deep st → t ≡ enter st → v ≡ leave u → Walks a t u → Walks b v z → Grows v z → ok n s p x y (Nested a b) k ≡ true → Fits R s p x y fs st → Out R s fs k z
-  unfolding ok nests limits_at is_deep enter leave
-  level-in n s lost x y a b fs k st t u v z e i j walk walk' gr h g = false-true refl (and-l _ _ h)
-  level-in n s (spot q l d) x y a b fs k st t u v z e i j walk walk' gr h g =
-      then-on s fs inner k u z (grows-on u v z (idle-grows (left-idle j)) gr) after_it (walked a walk n s fs inner (spot q high (weak d), x, y, and-r _ _ (and-r _ _ h), rw i (moved-on R g (renested st (st.depth + 1) (max st.high (st.depth + 1))) within_it)))
+  level-in : (n s : ℕ) (p : Position) (x y : ℕ) (a b : Rule) (fs : List Frame) (k : Then) (st t u v z : State) → false ≡ is_deep st → t ≡ enter st → v ≡ leave u → Walks a t u → Walks b v z → Grows v z → keeps_to_table n s p x y (Nested a b) k ≡ true → Fits R s p x y fs st → Out R s fs k z
+  unfolding keeps_to_table enters_level may_report_limit is_deep enter leave
+  level-in n s machine_is_stuck x y a b fs k st t u v z e i j walk walk' gr h g = false-true refl (and-l _ _ h)
+  level-in n s (in_row q l d) x y a b fs k st t u v z e i j walk walk' gr h g =
+      then-on s fs inner k u z (grows-on u v z (idle-grows (left-idle j)) gr) after_it (walked a walk n s fs inner (in_row q Entered (limit_forgotten d), x, y, and-r _ _ (and-r _ _ h), rw i (moved-on R g (renested st (st.depth + 1) (max st.high (st.depth + 1))) within_it)))
     where
       c : Stands R s q l fs st
       c = g.stands.0
 
       inner : Then
-      inner p x y = is_high p and ok n s (lowered p) x y b k
+      inner p x y = level_is_entered p and keeps_to_table n s (level_left p) x y b k
 
       deeper_tree : (t : Tree) → Made R t → st.depth < nesting_all t
       deeper_tree t p = goes-deeper R x t (rest st) w (and-r _ _ (and-l _ _ h)) c.place (made-passes R (rest st) t p) (fits-next R g).near c.place.reach
 
-      within_it : StandsAt R s (spot q high (weak d)) fs (enter st)
+      within_it : StandsAt R s (in_row q Entered (limit_forgotten d)) fs (enter st)
       within_it = (
         record { children = c.children; place = record { reach = c.place.reach; leveled = leveled-enter R (eqb-true _ _ (and-l _ _ (and-r _ _ h))) (leb-false st.limit st.depth (sym e)) deeper_tree c.place.leveled; alone = c.place.alone }; built = c.built },
         known-weak R d (frame s q c.children ∷ fs) st (enter st) refl g.stands.1,
       )
 
-      left_it : (q : ℕ) (d : Sure) → StandsAt R s (spot q high d) fs u → StandsAt R s (spot q past (weak d)) fs (leave u)
+      left_it : (q : ℕ) (d : Certainty) → StandsAt R s (in_row q Entered d) fs u → StandsAt R s (in_row q Left (limit_forgotten d)) fs (leave u)
       left_it q d c = (
         record { children = c.0.children; place = record { reach = c.0.place.reach; leveled = leveled-leave R c.0.place.leveled; alone = c.0.place.alone }; built = c.0.built },
         known-weak R d (frame s q c.0.children ∷ fs) u (leave u) refl c.1,
       )
 
       after_it : Way R s fs inner u → Out R s fs k z
-      after_it (spot q high d, x, y, h, g) = walked b walk' n s fs k (spot q past (weak d), x, y, and-r _ _ h, moved-on R g (left-idle j) (rw j (left_it q d g.stands)))
-      after_it (lost, x, y, h, g) = walked b walk' n s fs k (lost, x, y, and-r _ _ h, moved-on R g (left-idle j) (idle-lost R (left-idle j) g.stands))
-      after_it (spot q low d, x, y, h, g) = false-true refl (and-l _ _ h)
-      after_it (spot q past d, x, y, h, g) = false-true refl (and-l _ _ h)
+      after_it (in_row q Entered d, x, y, h, g) = walked b walk' n s fs k (in_row q Left (limit_forgotten d), x, y, and-r _ _ h, moved-on R g (left-idle j) (rw j (left_it q d g.stands)))
+      after_it (machine_is_stuck, x, y, h, g) = walked b walk' n s fs k (machine_is_stuck, x, y, and-r _ _ h, moved-on R g (left-idle j) (idle-lost R (left-idle j) g.stands))
+      after_it (in_row q NotEntered d, x, y, h, g) = false-true refl (and-l _ _ h)
+      after_it (in_row q Left d, x, y, h, g) = false-true refl (and-l _ _ h)
 
-  pub link : {r : Rule} {st t : State} → Runs r st t → (n s : ℕ) (p : Spot) (x y : ℕ) (fs : List Frame) (k : Then) → Good n s p x y r k → Fits R s p x y fs st → Out R s fs k t
-  unfolding Good ok step
+  pub link : {r : Rule} {st t : State} → Runs r st t → (n s : ℕ) (p : Position) (x y : ℕ) (fs : List Frame) (k : Then) → Good n s p x y r k → Fits R s p x y fs st → Out R s fs k t
+  unfolding Good keeps_to_table step
   link skip n s p x y fs k h g = inr (p, x, y, h, g)
   link {st = st} (does {a = Bump kind} e) n s p x y fs k h g = rw e (bump-out R s p x y kind fs k st h g)
   link {st = st} (does {a = Note m} e) n s p x y fs k h g = rw e (inl (note-told R m st g.calm (note-right R s p x y fs st h g) (taken-at R s p fs st g.stands)))
   link {t = u} (seq {a = a} {b = b} {t = t} h1 h2) n s p x y fs k h g =
-      let f : Then = λ p' u v. ok n s p' u v b k in
+      let f : Then = λ p' u v. keeps_to_table n s p' u v b k in
       then-on s fs f k t u (run-grows h2) (walked b (link h2) n s fs k) (walked a (link h1) n s fs f (p, x, y, h, g))
-  link {st = st} (yes {q = q} {a = a} {b = b} e h1) n s p x y fs k h g = walked a (link h1) n s fs k (branch q true s fs st (λ p' u v. ok n s p' u v a k) (λ p' u v. ok n s p' u v b k) e (p, x, y, h, g))
-  link {st = st} (no {q = q} {a = a} {b = b} e h1) n s p x y fs k h g = walked b (link h1) n s fs k (branch q false s fs st (λ p' u v. ok n s p' u v a k) (λ p' u v. ok n s p' u v b k) e (p, x, y, h, g))
+  link {st = st} (yes {q = q} {a = a} {b = b} e h1) n s p x y fs k h g = walked a (link h1) n s fs k (branch q true s fs st (λ p' u v. keeps_to_table n s p' u v a k) (λ p' u v. keeps_to_table n s p' u v b k) e (p, x, y, h, g))
+  link {st = st} (no {q = q} {a = a} {b = b} e h1) n s p x y fs k h g = walked b (link h1) n s fs k (branch q false s fs st (λ p' u v. keeps_to_table n s p' u v a k) (λ p' u v. keeps_to_table n s p' u v b k) e (p, x, y, h, g))
   link {st = st} (done {q = q} {a = a} e) n s p x y fs k h g =
-      let d = head-at (turned n s q a k) h.0 s p x y fs st h.1 h.2 h.3 g in inr (branch q false s fs st (λ q' u' v'. ok n s q' u' v' a (turns d.count (turned n s q a k) d.marks)) k e d.way)
+      let d = head-at (turned n s q a k) h.0 s p x y fs st h.1 h.2 h.3 g in inr (branch q false s fs st (λ q' u' v'. keeps_to_table n s q' u' v' a (turns d.count (turned n s q a k) d.marks)) k e d.way)
   link {st = st} {t = u} (again {q = q} {a = a} {t = t} e h1 h2) n s p x y fs k h g =
       let d = head-at (turned n s q a k) h.0 s p x y fs st h.1 h.2 h.3 g in
       let f : Then = turns d.count (turned n s q a k) d.marks in
-      then-on s fs f k t u (run-grows h2) (λ o. link h2 n s o.0 o.1 o.2 fs k (d.count, d.marks, o.3, d.met) o.4) (walked a (link h1) n s fs f (branch q true s fs st (λ q' u' v'. ok n s q' u' v' a f) k e d.way))
+      then-on s fs f k t u (run-grows h2) (λ o. link h2 n s o.0 o.1 o.2 fs k (d.count, d.marks, o.3, d.met) o.4) (walked a (link h1) n s fs f (branch q true s fs st (λ q' u' v'. keeps_to_table n s q' u' v' a f) k e d.way))
   link (child i j h1) zero s p x y fs k h g = false-true refl h
   link {st = st} (child {n = c} {t = t} {u = u} i j h1) (suc n) s p x y fs k h g = rw j (child-in n s p x y c fs k st t u i (link h1) h g)
   link {st = st} {t = z} (deeper {a = a} {b = b} {t = t} {u = u} {v = v} d i j h1 h2) n s p x y fs k h g = level-in n s p x y a b fs k st t u v z d i j (link h1) (link h2) (run-grows h2) h g
   link {st = st} (limited d e) n s p x y fs k h g = rw e (inl (deep-told R st g.calm (too-many R s p x y fs st h g) (taken-at R s p fs st g.stands)))
-  link {st = st} (refused d e) n s p x y fs k h g = rw e (inl (deep-told R st g.calm (too-many R s (fill p) x y fs st (and-l _ _ h) (record { calm = g.calm; seen = g.seen; stands = fills R s fs st p (sym d) g.stands })) (taken-at R s p fs st g.stands)))
+  link {st = st} (refused d e) n s p x y fs k h g = rw e (inl (deep-told R st g.calm (too-many R s (with_limit_known p) x y fs st (and-l _ _ h) (record { calm = g.calm; seen = g.seen; stands = fills R s fs st p (sym d) g.stands })) (taken-at R s p fs st g.stands)))
   link (call h1) zero s p x y fs k h g = false-true refl h
   link (call {p = q} h1) (suc n) s p x y fs k h g = link h1 n s p x y fs k (good n s p x y (body q) k h) g
   link {st = st} {t = u} (plain {a = a} {t = t} i h1 e) n s p x y fs k h g = plain-in n s p x y a fs k st t u i (link h1) e h g

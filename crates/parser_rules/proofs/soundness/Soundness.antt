@@ -1,5 +1,6 @@
 -- A run of the document's rule over a text: its first report is right; or it reports nothing, and the text is a sentence within both
 -- limits, whose derivation is the tree without its ignored leaves.
+use Rattle.parser_rules.proofs.runs.Fuel.{rules_deep}
 use Rattle.parser_rules.proofs.runs.Steps.{along, turns-along}
 use Rattle.std.proofs.Common.{◌≡◌, ℕ, zero, suc, ◌≤◌, Bool, cond, true, false, List, [], ◌∷◌, ◌++◌, Option, Some, None, if◌then◌else◌, length, refl, sym, ap, ap₂, ◌∙◌, subst, ◌⊎◌, inl, inr, true≢false, is_some, eqb-true, append-nil, append_assoc, arith}
 use Rattle.std.specs.Prelude.{map}
@@ -44,9 +45,9 @@ use Rattle.parser_rules.proofs.reports.NoReport.{Stood, reading-stood, stands-al
 use Rattle.parser_rules.proofs.runs.Progress.{ready-there}
 use Rattle.parser_rules.proofs.runs.Reading.{reading}
 use Rattle.parser_rules.proofs.lookahead.TokenSets.{class_of, over, ready, not-zero}
-use Rattle.parser_rules.proofs.lookahead.Split.{Level, low, high, past, loose, spot, lost}
+use Rattle.parser_rules.proofs.lookahead.Split.{Level, NotEntered, Entered, Left, in_row, machine_is_stuck, at_start}
 use Rattle.parser_rules.proofs.lookahead.MachineClasses.{Next}
-use Rattle.parser_rules.proofs.soundness.TableCheck.{ok, raised, own, owed, behind, root_ends, document_follows}
+use Rattle.parser_rules.proofs.soundness.TableCheck.{keeps_to_table, level_entered, counts_itself, level_due, absent_as_end, document_may_end, document_follows}
 use Rattle.parser_rules.proofs.NodeChecks.{document_passes}
 use Rattle.parser_rules.proofs.soundness.FirstReport.{Viable, TooMany, Right}
 use Rattle.parser_rules.proofs.soundness.Positions.{StandsAt, Reading, run-grows, Place, Fits, Out, Tells, tell-on}
@@ -80,8 +81,8 @@ given (suc allowed) (item ∷ items) h =
 
 -- ---- the beginning
 
-pub document-label : (label DOCUMENT ≡ DOCUMENT) × (own DOCUMENT ≡ 0) × (is_leaf DOCUMENT ≡ false) × (count_in DOCUMENT DOCUMENT ≡ 0)
-unfolding label labels own ◌or◌ is_leaf member
+pub document-label : (label DOCUMENT ≡ DOCUMENT) × (counts_itself DOCUMENT ≡ 0) × (is_leaf DOCUMENT ≡ false) × (count_in DOCUMENT DOCUMENT ≡ 0)
+unfolding label labels counts_itself ◌or◌ is_leaf member
 document-label = (refl, refl, refl, refl)
 
 -- all the answers, to a parser with nothing reported
@@ -89,14 +90,14 @@ abbrev pub whole : ℕ → List Answer → Reading
 whole r xs = whole_of document r xs
 
 pub document-root : IsRootSymbol DOCUMENT kind.DOCUMENT
-unfolding label labels own ◌or◌ member
+unfolding label labels counts_itself ◌or◌ member
 document-root = record { shown = refl; counted = refl; no_type = refl }
 
 -- where the root is open, nothing is built, and all the tokens are left
-pub root-stands : (r n m : ℕ) (xs ys : List Answer) (s : State) → Untouched (record (fresh ys r kind.DOCUMENT) { asked = n; budget = m }) s → rest s ≡ answers_tokens xs → StandsAt (whole r xs) DOCUMENT (spot 0 low loose) [] s
+pub root-stands : (r n m : ℕ) (xs ys : List Answer) (s : State) → Untouched (record (fresh ys r kind.DOCUMENT) { asked = n; budget = m }) s → rest s ≡ answers_tokens xs → StandsAt (whole r xs) DOCUMENT at_start [] s
 root-stands r n m xs ys s u e = let o = root-opened document r xs (symbol-begins document-root) n m ys s u e in (o.0, tt)
 
-start-fits : (r : ℕ) (xs : List Answer) → EndsWell xs → Tells (whole r xs) (begun xs r kind.DOCUMENT) ⊎ Fits (whole r xs) DOCUMENT (spot 0 low loose) any any [] (begun xs r kind.DOCUMENT)
+start-fits : (r : ℕ) (xs : List Answer) → EndsWell xs → Tells (whole r xs) (begun xs r kind.DOCUMENT) ⊎ Fits (whole r xs) DOCUMENT at_start any any [] (begun xs r kind.DOCUMENT)
 start-fits r xs e = elim (root-starts document r xs (symbol-begins document-root) e) [
   | inl o ↦ inl o
   | inr g ↦ inr (record { calm = g.0.calm; seen = g.0.seen; stands = (g.0.stands.0, tt) })
@@ -130,10 +131,10 @@ all-read xs None items n p e = absurd n
 all-read xs (Some t) items n p e =
     ap all_tokens (p.split ∙ ap (λ (ys : List Answer). p.front ++ given_by t ∷ ys) e) ∙ all_tokens-append p.front (given_by t ∷ []) p.tokens refl
 
-owed-none : (l : Level) → raised l ≡ 0 → owed DOCUMENT l ≡ 0
-owed-none low e = document-label.1
-owed-none high e = refl
-owed-none past e = refl
+owed-none : (l : Level) → level_entered l ≡ 0 → level_due DOCUMENT l ≡ 0
+owed-none NotEntered e = document-label.1
+owed-none Entered e = refl
+owed-none Left e = refl
 
 -- The text's words are spelled by a derivation that nests within the limit, and all answers are tokens.
 pub record CleanAs (r : ℕ) (xs : List Answer) (s : State) (t : Tree) : Type 0 where
@@ -154,17 +155,17 @@ pub record Silent (r : ℕ) (xs : List Answer) (s : State) : Type 0 where
   pub clean : CleanAs r xs s (show (node DOCUMENT children))
   pub built : stack (add_all s.pending s.tree) ≡ (label DOCUMENT, shows children) ∷ ((0, none) ∷ [])
 
-pub root-out : (r : ℕ) (xs : List Answer) (s : State) → Out (whole r xs) DOCUMENT [] root_ends s → Tells (whole r xs) s ⊎ Silent r xs s
-unfolding root_ends
+pub root-out : (r : ℕ) (xs : List Answer) (s : State) → Out (whole r xs) DOCUMENT [] document_may_end s → Tells (whole r xs) s ⊎ Silent r xs s
+unfolding document_may_end
 root-out r xs s (inl o) = inl o
-root-out r xs s (inr (lost, x, y, h, g)) = false-true refl h
-root-out r xs s (inr (spot q l d, x, y, h, g)) =
+root-out r xs s (inr (machine_is_stuck, x, y, h, g)) = false-true refl h
+root-out r xs s (inr (in_row q l d, x, y, h, g)) =
     let st = g.stands.0 in
     let f : Forest = st.children in
     let i : Place (whole r xs) DOCUMENT q l f [] s = st.place in
     let n : Next x y (rest s) = fits-next (whole r xs) g in
     let left = nothing-left s.current s.items g.calm.now (holds-subset (class_of s.current) x over (and-r _ _ (and-l _ _ h)) g.seen.near) in
-    let m : next DOCUMENT q (rest s) ≡ closes_move = closes-move DOCUMENT q x (behind y) (first (rest s)) (second (rest s)) (and-l _ _ (and-l _ _ h)) n.near n.far in
+    let m : next DOCUMENT q (rest s) ≡ closes_move = closes-move DOCUMENT q x (absent_as_end y) (first (rest s)) (second (rest s)) (and-l _ _ (and-l _ _ h)) n.near n.far in
     let d = root-ended (whole r xs) i m (owed-none l (eqb-true _ _ (and-r _ _ h))) in
     let words : yields f ≡ answers_tokens xs = sym (append-nil (yields f)) ∙ sym (d.split ∙ ap (λ (v : List Token). yields f ++ v) left.0) in
     inr (record {
@@ -180,8 +181,8 @@ root-out r xs s (inr (spot q l d, x, y, h, g)) =
     })
 
 -- a run from where the root is open, by the check of its rule
-pub run-out : (r : ℕ) (xs : List Answer) {q : Rule} {s t : State} (x : ℕ) → ok 5 DOCUMENT (spot 0 low loose) x any q root_ends ≡ true → Runs q s t → Fits (whole r xs) DOCUMENT (spot 0 low loose) x any [] s → Tells (whole r xs) t ⊎ Silent r xs t
-run-out r xs {q = q} {t = t} x h run b = root-out r xs t (link (whole r xs) run 5 DOCUMENT (spot 0 low loose) x any [] root_ends (good (whole r xs) 5 DOCUMENT (spot 0 low loose) x any q root_ends h) b)
+pub run-out : (r : ℕ) (xs : List Answer) {q : Rule} {s t : State} (x : ℕ) → keeps_to_table rules_deep DOCUMENT at_start x any q document_may_end ≡ true → Runs q s t → Fits (whole r xs) DOCUMENT at_start x any [] s → Tells (whole r xs) t ⊎ Silent r xs t
+run-out r xs {q = q} {t = t} x h run b = root-out r xs t (link (whole r xs) run rules_deep DOCUMENT at_start x any [] document_may_end (good (whole r xs) rules_deep DOCUMENT at_start x any q document_may_end h) b)
 
 -- A run of the document's rule.
 pub parsed : (r : ℕ) (xs : List Answer) (s : State) → EndsWell xs → IsRoot s.tree → Runs (Call Document) (begun xs r kind.DOCUMENT) s → Tells (whole r xs) s ⊎ ((s.errors ≡ []) × Clean r xs s)
