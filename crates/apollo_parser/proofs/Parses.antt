@@ -5,7 +5,7 @@ use Rattle.document_grammar.specs.Tree.{Tree}
 use Rattle.document_grammar.specs.Places.{Placed, bare}
 use Rattle.parser_rules.specs.Open.{IsRoot}
 use Rattle.parser_rules.proofs.reports.NoReport.{EndsWell, current_tokens, kind_tokens, end-kind}
-use Rattle.parser_rules.proofs.soundness.OverTexts.{accepts-text, accepts-tree, first-told, IsRight}
+use Rattle.parser_rules.proofs.soundness.OverTexts.{accepts-text, accepts-tree, first-report-right, IsRight}
 use Rattle.parser_rules.proofs.soundness.FirstErrors.{not-late, not-early, not-early-limit}
 use Rattle.parser_rules.proofs.soundness.EndedNodes.{ended-nodes}
 use Rattle.parser_rules.proofs.recovery.Popped.{document-recovers}
@@ -226,7 +226,7 @@ module _ {source : List ℕ} {r k : ℕ} {t : Parsed} (p : ByRules source r k t)
       on : (rs : List Report) (ds : List Diagnostic) → s.errors ≡ rs → AllZip IsErrorOf rs ds → OfFirst P ds
       on rs [] e z = tt
       on [] (d ∷ ds) e z = absurd z
-      on (first ∷ rs) (d ∷ ds) e z = let i = first-told r k source items s p.cut root p.run p.characters first rs e in h first d z.0 i.0 i.1
+      on (first ∷ rs) (d ∷ ds) e z = let i = first-report-right r k source items s p.cut root p.run p.characters first rs e in h first d z.0 i.0 i.1
 
   pub not-late-of : OfFirst (λ e. (IsTokenLimit e → ⊥) → NotLate source e.index) t.errors
   not-late-of = of-first (λ d. (IsTokenLimit d → ⊥) → NotLate source d.index)

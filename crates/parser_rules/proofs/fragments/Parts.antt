@@ -36,10 +36,10 @@ use Rattle.parser_rules.proofs.runs.Fuel.{rules_deep}
 use Rattle.parser_rules.proofs.runs.Frame.{read-untouched}
 use Rattle.parser_rules.proofs.reports.NoReport.{answers_tokens, all_tokens, rest, given as given_by, EndsWell}
 use Rattle.parser_rules.proofs.soundness.MachineStack.{image, image-node}
-use Rattle.parser_rules.proofs.soundness.Moves.{fits-next, with-sets, flushed}
-use Rattle.parser_rules.proofs.soundness.Positions.{Reading, top, StandsAt, Fits, Tells, Out, tell-on, run-grows, current, Alike, flush-alike, idle-rest, idle-grows, known-weak, still-leveled, moved-on}
-use Rattle.parser_rules.proofs.soundness.Roots.{whole_of, IsRootSymbol, Begins, symbol-begins, first_state, root-starts, root-ended, never-right}
-use Rattle.parser_rules.proofs.soundness.Simulation.{good, link}
+use Rattle.parser_rules.proofs.soundness.Moves.{next-classes, with-sets, flushed}
+use Rattle.parser_rules.proofs.soundness.Positions.{ParserInput, top, PositionHolds, StateFits, RightlyReported, RunOutcome, rightly-on, run-grows, current, OnlyBuilds, flush-builds, unread-rest, unread-grows, certainty-forgotten, still-leveled, moved-on}
+use Rattle.parser_rules.proofs.soundness.Roots.{input_of, IsRootSymbol, Begins, symbol-begins, first_state, root-starts, root-ended, never-right}
+use Rattle.parser_rules.proofs.soundness.Simulation.{checked, simulation}
 use Rattle.parser_rules.proofs.soundness.Soundness.{finished-tree, words-before}
 use Rattle.parser_rules.proofs.soundness.TableCheck.{Then, counts_itself, absent_as_end, no_brace, part_may_end, keeps_to_table}
 use Rattle.parser_rules.proofs.soundness.WithoutIgnored.{stack}
@@ -66,8 +66,8 @@ Part sort r xs s = PartAs sort r xs s (bare (tree_of (finished (left_out s))))
 -- ---- any root
 
 module _ (sort : Sort) (r : ℕ) (xs : List Answer) where
-  abbrev R : Reading
-  R = whole_of sort r xs
+  abbrev R : ParserInput
+  R = input_of sort r xs
 
   -- A rule keeps to the machine from where this is built, after a first token whose class is in a set.
   pub record Keeps (b : Building) (k : Then) (q : Rule) : Type 0 where
@@ -82,31 +82,31 @@ module _ (sort : Sort) (r : ℕ) (xs : List Answer) where
 
   -- no token is built there
   pub record Starts (b : Building) (set : ℕ) : Type 0 where
-    pub fits : Fits R (top R) at_root_start set any [] (first_token b)
+    pub fits : StateFits R (top R) at_root_start set any [] (first_token b)
     pub built : stack (first_token b).tree ≡ stack b
 
-  pub part-starts : {b : Building} {k : Then} {q : Rule} (p : Keeps b k q) → EndsWell xs → Tells R (first_token b) ⊎ Starts b p.set
+  pub part-starts : {b : Building} {k : Then} {q : Rule} (p : Keeps b k q) → EndsWell xs → RightlyReported R (first_token b) ⊎ Starts b p.set
   unfolding flush
   part-starts {b = b} p e =
       let s : State = read_on xs (first_state xs r b) in
-      let a : Alike s (flush s) = flush-alike s in
+      let a : OnlyBuilds s (flush s) = flush-builds s in
       elim (root-starts sort r xs p.begins e) [
-        | inl o ↦ inl (tell-on R s (flush s) (idle-grows a.idle) o)
+        | inl o ↦ inl (rightly-on R s (flush s) (unread-grows a.reads_nothing) o)
         | inr g ↦ (
-            let c = g.0.stands.0 in
-            let stands : StandsAt R (top R) at_root_start [] (flush s) = (
-              record { children = c.children; place = record { reach = rw (idle-rest a.idle) c.place.reach; leveled = still-leveled R a c.place.leveled; alone = c.place.alone }; built = flushed R s g.0.calm ∙ c.built },
-              known-weak R OpenWhateverFollows (frame (top R) 0 c.children ∷ []) s (flush s) (idle-rest a.idle) g.0.stands.1,
+            let c = g.0.position.0 in
+            let position : PositionHolds R (top R) at_root_start [] (flush s) = (
+              record { children = c.children; place = record { reach = rw (unread-rest a.reads_nothing) c.place.reach; leveled = still-leveled R a c.place.leveled; alone = c.place.alone }; built = flushed R s g.0.no_report ∙ c.built },
+              certainty-forgotten R OpenWhateverFollows (frame (top R) 0 c.children ∷ []) s (flush s) (unread-rest a.reads_nothing) g.0.position.1,
             ) in
-            let near : within (class_of s.current) p.set ≡ true = rw (current-class s.current s.items g.0.calm.now, g.1) p.first in
+            let near : within (class_of s.current) p.set ≡ true = rw (current-class s.current s.items g.0.no_report.now, g.1) p.first in
             inr (record {
-              fits = moved-on R (with-sets R g.0 (record { near = near; far = g.0.seen.far })) a.idle stands;
-              built = flushed R s g.0.calm ∙ ap stack (read-untouched xs (first_state xs r b)).tree;
+              fits = moved-on R (with-sets R g.0 (record { near = near; far = g.0.seen.far })) a.reads_nothing position;
+              built = flushed R s g.0.no_report ∙ ap stack (read-untouched xs (first_state xs r b)).tree;
             }))
       ]
 
-  pub part-runs : {b : Building} {k : Then} {q : Rule} {s : State} (p : Keeps b k q) → Starts b p.set → Runs q (first_token b) s → Out R (top R) [] k s
-  part-runs {k = k} {q = q} p g run = link R run rules_deep (top R) at_root_start p.set any [] k (good R rules_deep (top R) at_root_start p.set any q k p.follows) g.fits
+  pub part-runs : {b : Building} {k : Then} {q : Rule} {s : State} (p : Keeps b k q) → Starts b p.set → Runs q (first_token b) s → RunOutcome R (top R) [] k s
+  part-runs {k = k} {q = q} p g run = simulation R run rules_deep (top R) at_root_start p.set any [] k (checked R rules_deep (top R) at_root_start p.set any q k p.follows) g.fits
 
   -- Nothing is reported, and the machine's root may end.
   pub record Ended (s : State) : Type 0 where
@@ -117,21 +117,21 @@ module _ (sort : Sort) (r : ℕ) (xs : List Answer) where
     -- whatever is built of it
     pub part : (b : Building) → PartAs sort r xs (record s { tree = b }) (show (node (top R) children))
 
-  pub part-out : (s : State) → Out R (top R) [] (part_may_end (top R)) s → Tells R s ⊎ Ended s
+  pub part-out : (s : State) → RunOutcome R (top R) [] (part_may_end (top R)) s → RightlyReported R s ⊎ Ended s
   unfolding part_may_end
   part-out s (inl t) = inl t
   part-out s (inr (machine_is_stuck, x, y, h, g)) = false-true refl h
   part-out s (inr (in_row q l d, x, y, h, g)) =
-      let c = g.stands.0 in
+      let c = g.position.0 in
       let f : Forest = c.children in
-      let n : Next x y (rest s) = fits-next R g in
+      let n : Next x y (rest s) = next-classes R g in
       let m : next (top R) q (rest s) ≡ closes_move = closes-move (top R) q x (absent_as_end y) (first_class (rest s)) (second_class (rest s)) (and-l _ _ h) n.near n.far in
       let e = root-ended R c.place m (eqb-true _ _ (and-r _ _ (and-r _ _ h))) in
-      let t = current R s g.calm in
+      let t = current R s g.no_report in
       let words : answers_tokens xs ≡ yields f ++ answers_tokens (given_by t.0 ∷ s.items) = e.split ∙ ap (λ (z : Option Lexeme). yields f ++ rest (record s { current = z })) t.1 in
       let held = t.3 in
       inr (record {
-        silent = g.calm.quiet.clean;
+        silent = g.no_report.quiet.clean;
         state = q;
         children = f;
         built = c.built;
@@ -151,7 +151,7 @@ module _ (sort : Sort) (r : ℕ) (xs : List Answer) where
 
   -- What a run comes to: a report, of which the first is right; or none, and the tree is a derivation.
   abbrev pub Outcome : State → Type 0
-  Outcome s = Tells R s ⊎ ((s.errors ≡ []) × Part sort r xs s)
+  Outcome s = RightlyReported R s ⊎ ((s.errors ≡ []) × Part sort r xs s)
 
   -- Soundness.
   pub outcome-sound : {s : State} → Outcome s → s.errors ≡ [] → Part sort r xs s
@@ -165,7 +165,7 @@ module _ (sort : Sort) (r : ℕ) (xs : List Answer) where
 
 module _ (sort : Sort) (r : ℕ) (xs : List Answer) (k : SyntaxKind) where
   abbrev S : ℕ
-  S = top (whole_of sort r xs)
+  S = top (input_of sort r xs)
 
   pub record Follows (q : Rule) : Type 0 where
     pub symbol : IsRootSymbol S k
@@ -173,7 +173,7 @@ module _ (sort : Sort) (r : ℕ) (xs : List Answer) (k : SyntaxKind) where
 
   pub part-parsed : {q : Rule} {s : State} → Follows q → EndsWell xs → IsRoot s.tree → Runs q (started xs r k) s → Outcome sort r xs s
   part-parsed {s = s} p e root run = elim (part-starts sort r xs p.keeps e) [
-    | inl o ↦ inl (tell-on (whole_of sort r xs) (started xs r k) s (run-grows run) o)
+    | inl o ↦ inl (rightly-on (input_of sort r xs) (started xs r k) s (run-grows run) o)
     | inr g ↦ elim (part-out sort r xs s (part-runs sort r xs p.keeps g run)) [
       | inl o ↦ inl o
       | inr o ↦ (

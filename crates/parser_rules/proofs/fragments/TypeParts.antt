@@ -33,8 +33,8 @@ use Rattle.parser_rules.proofs.fragments.TypeRoots.{Nullable, list-first, name-f
 use Rattle.parser_rules.proofs.fragments.WrappedRuns.{wrapped-all}
 use Rattle.parser_rules.proofs.reports.NoReport.{answers_tokens, EndsWell}
 use Rattle.parser_rules.proofs.runs.Frame.{Adds, adds, parts_forest, added-all, read-untouched}
-use Rattle.parser_rules.proofs.soundness.Positions.{Reading, Tells, tell-on, run-grows, idle-grows, wrapped-alike}
-use Rattle.parser_rules.proofs.soundness.Roots.{whole_of, Begins}
+use Rattle.parser_rules.proofs.soundness.Positions.{ParserInput, RightlyReported, rightly-on, run-grows, unread-grows, wrapped-builds}
+use Rattle.parser_rules.proofs.soundness.Roots.{input_of, Begins}
 use Rattle.parser_rules.proofs.soundness.Settled.{settled-unwrapped}
 use Rattle.parser_rules.proofs.soundness.TableCheck.{counts_itself, part_may_end}
 use Rattle.parser_rules.proofs.soundness.WithoutIgnored.{Stack, stack, layers, strip, put, stack-added, stack-leaf}
@@ -80,8 +80,8 @@ bang-tree s t b (does e) = at s.current refl
 -- ---- the runs
 
 module _ (r : ℕ) (xs : List Answer) where
-  abbrev R : Reading
-  R = whole_of type r xs
+  abbrev R : ParserInput
+  R = input_of type r xs
 
   abbrev first : State
   first = unopened xs r
@@ -100,13 +100,13 @@ module _ (r : ℕ) (xs : List Answer) where
   From t = Starts type r xs nothing any → Outcome type r xs t
 
   -- a report stays right when the root opens
-  tell-root : (k : SyntaxKind) (u : State) → Tells R u → Tells R (wrapped_from 0 k u)
-  tell-root k u o = tell-on R u (wrapped_from 0 k u) (idle-grows (wrapped-alike 0 k u).idle) o
+  tell-root : (k : SyntaxKind) (u : State) → RightlyReported R u → RightlyReported R (wrapped_from 0 k u)
+  tell-root k u o = rightly-on R u (wrapped_from 0 k u) (unread-grows (wrapped-builds 0 k u).reads_nothing) o
 
   -- a report before the first token
   from-first : {q : Rule} {u t : State} (k : SyntaxKind) → EndsWell xs → Runs q first u → t ≡ wrapped_from 0 k u → From (wrapped_from 0 k u) → Outcome type r xs t
   from-first {u = u} k e run a on = subst (Outcome type r xs) (sym a) (elim (part-starts type r xs keeps-type e) [
-    | inl o ↦ inl (tell-root k u (tell-on R first u (run-grows run) o))
+    | inl o ↦ inl (tell-root k u (rightly-on R first u (run-grows run) o))
     | inr g ↦ on g
   ])
 
@@ -118,7 +118,7 @@ module _ (r : ℕ) (xs : List Answer) where
   ]
 
   -- a type, where the root's tree is the type of what the type's rule built
-  type-out : {v : State} (b : Building) → let t : State = record v { tree = b } in Runs type_rule first v → (Tells R v → Tells R t) → bare (tree_of (finished (left_out t))) ≡ type_of (here_of (stack v.tree)) → From t
+  type-out : {v : State} (b : Building) → let t : State = record v { tree = b } in Runs type_rule first v → (RightlyReported R v → RightlyReported R t) → bare (tree_of (finished (left_out t))) ≡ type_of (here_of (stack v.tree)) → From t
   type-out {v = v} b run tells tree g = elim (part-out type r xs v (part-runs type r xs keeps-type g run)) [
     | inl o ↦ inl (tells o)
     | inr e ↦ (
@@ -153,7 +153,7 @@ module _ (r : ℕ) (xs : List Answer) where
         root-tree k u (still-none n.run (unopened-none xs r)) ∙ ap (node (number k)) kids ∙ sym (ap (λ (l : Stack). type_of (here_of l)) (node-built g)) in
         type-out (wrap 0 k u.tree) (yes n.starts (n.before (no b skip))) (λ o. tell-root k u (tells o)) tree g
       where
-        tells : Tells R type_node → Tells R u
+        tells : RightlyReported R type_node → RightlyReported R u
         tells o = record { report = o.report; more = o.more; reported = o.reported; taken = o.taken; right = o.right; settled = settled-unwrapped o.taken one_more more.trees o.settled }
 
     -- the `!` is taken

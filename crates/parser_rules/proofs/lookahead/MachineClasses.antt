@@ -10,21 +10,21 @@ use Rattle.document_grammar.proofs.Booleans.{either, false-true}
 use Rattle.grammar_machine.proofs.TableLemmas.{holds-disjoint, holds-or}
 use Rattle.parser_rules.specs.State.{State, Lexeme, second}
 use Rattle.parser_rules.proofs.lookahead.TokenSets.{edges, absent, lexeme_class, class_of, ready, not-zero, holds-minus, Seen}
-use Rattle.parser_rules.proofs.reports.NoReport.{EndsWell, Now, rest, answers_tokens, current_tokens, ignored-tokens, ignored-end, end-kind, significant, standing}
+use Rattle.parser_rules.proofs.reports.NoReport.{EndsWell, Now, rest, answers_tokens, current_tokens, ignored-tokens, ignored-end, end-kind, significant, end-or-token}
 use Rattle.parser_rules.proofs.runs.Reading.{Reading, stops, cuts, bad_text, waits, shows, reading-none, looks}
 use Rattle.parser_rules.proofs.lookahead.FirstSets.{without}
 use Rattle.parser_rules.proofs.soundness.TableCheck.{absent_as_end}
 
 -- ---- the end, where no token is
 
-pub behind-none : (y : ℕ) → within absent y ≡ true → within 0 (absent_as_end y) ≡ true
-behind-none y h = elim (either (disjoint y (2 ^ absent))) [
+pub absent-is-end : (y : ℕ) → within absent y ≡ true → within 0 (absent_as_end y) ≡ true
+absent-is-end y h = elim (either (disjoint y (2 ^ absent))) [
   | inl d ↦ false-true (holds-disjoint absent y (2 ^ absent) d h) edges.none_one
   | inr d ↦ rw d (holds-or 0 (without y (2 ^ absent)) 1 (inr edges.end_one))
 ]
 
-pub behind-in : (a y : ℕ) → within a (2 ^ absent) ≡ false → within a y ≡ true → within a (absent_as_end y) ≡ true
-behind-in a y n h = elim (either (disjoint y (2 ^ absent))) [
+pub present-stays : (a y : ℕ) → within a (2 ^ absent) ≡ false → within a y ≡ true → within a (absent_as_end y) ≡ true
+present-stays a y n h = elim (either (disjoint y (2 ^ absent))) [
   | inl d ↦ rw d h
   | inr d ↦ rw d (holds-or a (without y (2 ^ absent)) 1 (inl (holds-minus a y (2 ^ absent) h n)))
 ]
@@ -41,19 +41,19 @@ class-shown b = holds-disjoint (class b) ready (2 ^ absent) ready-shown (not-zer
 sees : {xs : List Answer} {s t : State} → Reading xs s t → (y : ℕ) → EndsWell xs → within (class_of t.current) y ≡ true → within (first_class (answers_tokens xs)) (absent_as_end y) ≡ true
 unfolding first_class
 sees stops y e h = absurd e
-sees (cuts r) y e h = rw e (behind-none y (subst (λ (o : Option Lexeme). within (class_of o) y ≡ true) (reading-none r e) h))
+sees (cuts r) y e h = rw e (absent-is-end y (subst (λ (o : Option Lexeme). within (class_of o) y ≡ true) (reading-none r e) h))
 sees (bad_text i r) y e h = rw i (sees r y (rw i at e) h)
 sees (waits {item = item} {k = k} {own = own} i j r) y e h = rw (i, ignored-tokens k own item.text j) (sees r y (rw (i, ignored-end k own j) at e) h)
 sees (shows {item = item} {k = k} {xs = xs} i j) y e h = elim (either (is_end k)) [
-  | inl z ↦ (let n : xs ≡ [] = rw (i, z) at e in rw (i, n, end-kind k z) (behind-in 0 y edges.end_none (rw z at h)))
-  | inr z ↦ (let b : Token = (leaf_number k, item.text) in rw (i, significant k item.text z j) (behind-in (class b) y (class-shown b) (rw z at h)))
+  | inl z ↦ (let n : xs ≡ [] = rw (i, z) at e in rw (i, n, end-kind k z) (present-stays 0 y edges.end_none (rw z at h)))
+  | inr z ↦ (let b : Token = (leaf_number k, item.text) in rw (i, significant k item.text z j) (present-stays (class b) y (class-shown b) (rw z at h)))
 ]
 
 -- the current token's class is the machine's class of the first token that is left
 pub current-class : (o : Option Lexeme) (items : List Answer) → Now o items → class_of o ≡ first_class (current_tokens o ++ answers_tokens items)
 unfolding first_class
 current-class None items n = absurd n
-current-class (Some t) items n = elim (standing t items n) [
+current-class (Some t) items n = elim (end-or-token t items n) [
   | inl a ↦ ap (λ (k : TokenKind). lexeme_class k t.text) a.kind ∙ sym (ap first_class a.nothing)
   | inr a ↦ ap (λ (b : Bool). cond b 0 (class (leaf_number t.kind, t.text))) a.is_end ∙ sym (ap first_class a.first)
 ]
@@ -73,7 +73,7 @@ sees-next x y st n i = at st.current n i.near
 
     at : (o : Option Lexeme) → Now o st.items → within (class_of o) x ≡ true → Next x y (current_tokens o ++ answers_tokens st.items)
     at None n h = absurd n
-    at (Some t) n h = elim (standing t st.items n) [
-      | inl a ↦ subst (Next x y) (sym a.nothing) (record { near = rw a.kind at h; far = behind-none y (rw a.none at i.far) })
+    at (Some t) n h = elim (end-or-token t st.items n) [
+      | inl a ↦ subst (Next x y) (sym a.nothing) (record { near = rw a.kind at h; far = absent-is-end y (rw a.none at i.far) })
       | inr a ↦ subst (Next x y) (sym a.first) (record { near = rw a.is_end at h; far = far (rw a.is_end at n.1) })
     ]

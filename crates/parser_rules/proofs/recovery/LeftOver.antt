@@ -26,7 +26,7 @@ use Rattle.parser_rules.proofs.reports.NoReport.{shown-kind}
 use Rattle.parser_rules.proofs.recovery.RecoveryCheck.{of_row, leaf_of_row}
 use Rattle.parser_rules.proofs.recovery.RowSymbols.{rows}
 use Rattle.parser_rules.proofs.recovery.Popped as popped_of
-use Rattle.parser_rules.proofs.recovery.Popped.{lexeme_of, popped, pops_of, Reported_at, Allowed, Recovers, Recovery}
+use Rattle.parser_rules.proofs.recovery.Popped.{lexeme_of, popped, pops_of, Reported_at, Allowed, PoppedReported, Recovery}
 use Rattle.parser_rules.proofs.runs.Marked.{by-kind, Has, Source, token, aside, text_of, Marked, none, leaf, node, erase, flat, now_of, sources, source_at}
 use Rattle.parser_rules.proofs.runs.Reading.{ignored-kinds}
 
@@ -154,7 +154,7 @@ module _ (items : List Item) where
   allowed _ kids b h a = ((λ z. absurd (true≢false (sym (eq-eqb _ LIST_VALUE z)))), λ z. omega (arith, counted kids b h, a))
 
   -- each token that was left over has a report, and so what is said of those that have one
-  left-said : (errors : List Report) (P : ℕ → Text → Type 0) → Said errors P → (f : Marked) (b : ℕ) → Known_all items b (flat f) → Recovers errors f → LeftOver P items b (numbered (erase f))
+  left-said : (errors : List Report) (P : ℕ → Text → Type 0) → Said errors P → (f : Marked) (b : ℕ) → Known_all items b (flat f) → PoppedReported errors f → LeftOver P items b (numbered (erase f))
   left-said errors P said none b h r = tt
   left-said errors P said (leaf o own rest) b h r = ((λ z. on o h.0 (sym (left-is o own b h.0) ∙ z) r.0), left-said errors P said rest (b + length (text_of o)) h.1 r.1)
     where

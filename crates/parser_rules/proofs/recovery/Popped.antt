@@ -21,7 +21,7 @@ use Rattle.parser_rules.proofs.runs.Reading.{Reading, stops, cuts, bad_text, wai
 use Rattle.parser_rules.proofs.runs.Marked.{Source, token, aside, Marked, none, leaf, node, append, append-none, erase, flat, set_aside, now_of, sources, moved_on, has-more, Has, Limited, Reports, read-reports, taken-or-limited, Grown, grown-note, grown-deep}
 use Rattle.parser_rules.proofs.runs.Walk.{after_pending, always, Goes, Sound, walked_whole}
 use Rattle.parser_rules.proofs.runs.Reporting.{after-note, after-too-deep}
-use Rattle.parser_rules.proofs.reports.NoReport.{Now, EndsWell, choose, ignored-end, Stood, reading-stood, stands-along}
+use Rattle.parser_rules.proofs.reports.NoReport.{Now, EndsWell, choose, ignored-end, NowOrNone, reading-now, now-along}
 use Rattle.parser_rules.proofs.leaves.LeafCheck.{is_error}
 
 -- ---- popped tokens
@@ -55,28 +55,28 @@ abbrev pub Allowed : SyntaxKind → Marked → Type 0
 Allowed k kids = choose (is_list k) (NoBracket kids) (pops_of kids ≤ 1)
 
 -- each popped token has its report, and stands where one may
-abbrev pub Recovers : List Report → Marked → Type 0
-Recovers errors none = ⊤
-Recovers errors (leaf o k rest) = (popped o k ≡ true → Reported_at errors (lexeme_of o)) × Recovers errors rest
-Recovers errors (node k kids rest) = Allowed k kids × Recovers errors kids × Recovers errors rest
+abbrev pub PoppedReported : List Report → Marked → Type 0
+PoppedReported errors none = ⊤
+PoppedReported errors (leaf o k rest) = (popped o k ≡ true → Reported_at errors (lexeme_of o)) × PoppedReported errors rest
+PoppedReported errors (node k kids rest) = Allowed k kids × PoppedReported errors kids × PoppedReported errors rest
 
 reported-more : (errors more : List Report) (o : Option Lexeme) → Reported_at errors o → Reported_at (errors ++ more) o
 reported-more errors more None h = tt
 reported-more errors more (Some x) h = (h.0, has-more errors more (fault_report h.0 x) h.1)
 
-recovers-more : (errors more : List Report) (f : Marked) → Recovers errors f → Recovers (errors ++ more) f
-recovers-more errors more none h = tt
-recovers-more errors more (leaf o k rest) h = ((λ z. reported-more errors more (lexeme_of o) (h.0 z)), recovers-more errors more rest h.1)
-recovers-more errors more (node k kids rest) h = (h.0, recovers-more errors more kids h.1, recovers-more errors more rest h.2)
+popped-more : (errors more : List Report) (f : Marked) → PoppedReported errors f → PoppedReported (errors ++ more) f
+popped-more errors more none h = tt
+popped-more errors more (leaf o k rest) h = ((λ z. reported-more errors more (lexeme_of o) (h.0 z)), popped-more errors more rest h.1)
+popped-more errors more (node k kids rest) h = (h.0, popped-more errors more kids h.1, popped-more errors more rest h.2)
 
-recovers-append : (errors : List Report) (f g : Marked) → Recovers errors f → Recovers errors g → Recovers errors (append f g)
-recovers-append errors none g a b = b
-recovers-append errors (leaf o k rest) g a b = (a.0, recovers-append errors rest g a.1 b)
-recovers-append errors (node k kids rest) g a b = (a.0, a.1, recovers-append errors rest g a.2 b)
+popped-append : (errors : List Report) (f g : Marked) → PoppedReported errors f → PoppedReported errors g → PoppedReported errors (append f g)
+popped-append errors none g a b = b
+popped-append errors (leaf o k rest) g a b = (a.0, popped-append errors rest g a.1 b)
+popped-append errors (node k kids rest) g a b = (a.0, a.1, popped-append errors rest g a.2 b)
 
-recovers-aside : (errors : List Report) (parts : List PendingToken) → Recovers errors (set_aside parts)
-recovers-aside errors [] = tt
-recovers-aside errors (p ∷ parts) = ((λ z. false-true refl z), recovers-aside errors parts)
+popped-aside : (errors : List Report) (parts : List PendingToken) → PoppedReported errors (set_aside parts)
+popped-aside errors [] = tt
+popped-aside errors (p ∷ parts) = ((λ z. false-true refl z), popped-aside errors parts)
 
 pops-append : (f g : Marked) → pops_of (append f g) ≡ pops_of f + pops_of g
 pops-append none g = omega arith
@@ -178,31 +178,31 @@ none-next _ s e h = false-true refl e
 -- ---- runs
 
 abbrev Right : Room → State → Marked → Type 0
-Right r s f = s.accepts ≡ true → Recovers s.errors f × Roomed r f
+Right r s f = s.accepts ≡ true → PoppedReported s.errors f × Roomed r f
 
 abbrev Held : Popping → State → State → Marked → Type 0
 Held a b s f = record {
-  stood : Stood s.current s.items;
+  stood : NowOrNone s.current s.items;
   told : a.told ≡ true → s.accepts ≡ true → Reported_at s.errors s.current;
   cut : a.cut ≡ true → second s.items ≡ None;
   spared : a.spared ≡ true → is_at token_kind.RBracket s.current ≡ false;
   right : Right a.room s f;
 }
 
-held : (r : Room) (b s : State) (f : Marked) → Stood s.current s.items → Right r s f → Held (unknown r) b s f
+held : (r : Room) (b s : State) (f : Marked) → NowOrNone s.current s.items → Right r s f → Held (unknown r) b s f
 held r b s f st h = record { stood = st; told = λ z. false-true refl z; cut = λ z. false-true refl z; spared = λ z. false-true refl z; right = h }
 
-recovers-on : (s t : State) (f : Marked) → Reports s t → Recovers s.errors f → Recovers t.errors f
-recovers-on s t f g h = subst (λ (e : List Report). Recovers e f) (sym g.errors) (recovers-more s.errors g.more f h)
+popped-on : (s t : State) (f : Marked) → Reports s t → PoppedReported s.errors f → PoppedReported t.errors f
+popped-on s t f g h = subst (λ (e : List Report). PoppedReported e f) (sym g.errors) (popped-more s.errors g.more f h)
 
 right-on : (r : Room) (s t : State) (f : Marked) → Reports s t → Right r s f → Right r t f
-right-on r s t f g h y = let i = h (g.keeps y) in (recovers-on s t f g i.0, i.1)
+right-on r s t f g h y = let i = h (g.keeps y) in (popped-on s t f g i.0, i.1)
 
 -- trees are added after what waited
-right-grows : (r q : Room) (s t : State) (f g : Marked) → Reports s t → Right r s f → (t.accepts ≡ true → Recovers t.errors g) → (t.accepts ≡ true → Roomed r f → Roomed q (append f (after_pending s g))) → Right q t (append f (after_pending s g))
+right-grows : (r q : Room) (s t : State) (f g : Marked) → Reports s t → Right r s f → (t.accepts ≡ true → PoppedReported t.errors g) → (t.accepts ≡ true → Roomed r f → Roomed q (append f (after_pending s g))) → Right q t (append f (after_pending s g))
 right-grows r q s t f g p h i j y =
     let k = h (p.keeps y) in
-    (recovers-append t.errors f (after_pending s g) (recovers-on s t f p k.0) (recovers-append t.errors (set_aside s.pending) g (recovers-aside t.errors s.pending) (i y)), j y k.1)
+    (popped-append t.errors f (after_pending s g) (popped-on s t f p k.0) (popped-append t.errors (set_aside s.pending) g (popped-aside t.errors s.pending) (i y)), j y k.1)
 
 noted-at : (m : Message) (s : State) → s.accepts ≡ true → Reported_at (note m s).errors s.current
 unfolding note
@@ -224,19 +224,19 @@ module _ (own : SyntaxKind) (a : Popping) (k : Popping → Bool) (b s : State) (
   unfolding flush
   not-popped c y = elim (either (popped (token x) own)) [
     | inl p ↦ (
-        let now : Now (Some x) s.items = subst (λ (o : Option Lexeme). Stood o s.items) e h.stood in
+        let now : Now (Some x) s.items = subst (λ (o : Option Lexeme). NowOrNone o s.items) e h.stood in
         absurd (cut-off (reading s.items (moved_on own x (flush s))) (subst (λ (b : Bool). choose b (s.items ≡ []) (EndsWell s.items)) (not-c _ (and-r _ _ p)) now.1) (h.cut c) y))
     | inr p ↦ p
   ]
 
-  stood-after : Stood after.current after.items
+  stood-after : NowOrNone after.current after.items
   unfolding flush
-  stood-after = stands-along.moves own x (flush s) e refl (stands-along.flushes s h.stood)
+  stood-after = now-along.moves own x (flush s) e refl (now-along.flushes s h.stood)
 
   bumped : (q : Room) → Reports s after → k (unknown q) ≡ true → (is_error own ≡ true → a.told ≡ true) → (after.accepts ≡ true → Roomed a.room f → Roomed q (append f (after_pending s one))) → Goes pop_check Held k b after (append f (after_pending s one))
   bumped q p i t j = (unknown q, i, held q b after (append f (after_pending s one)) stood-after (right-grows a.room q s after f one p h.right told j))
     where
-      told : after.accepts ≡ true → Recovers after.errors one
+      told : after.accepts ≡ true → PoppedReported after.errors one
       told y = ((λ z. subst (λ (errors : List Report). Reported_at errors (Some x)) (sym p.errors) (reported-more s.errors p.more (Some x) (subst (λ (o : Option Lexeme). Reported_at s.errors o) e (h.told (t (and-l _ _ z)) (p.keeps y))))), tt)
 
   pops-one : pops_of (after_pending s one) ≡ cond (popped (token x) own) 1 0 + 0
@@ -274,13 +274,13 @@ sound = record {
   leaf = λ own a k b s f x e c h g. leaf-right own a k b s f x e h c g;
   no_leaf = λ own a k b s f e c h. no-leaf own a k b s f c h;
   report = λ m a b s f h. record {
-    stood = after-note (λ t. Stood t.current t.items) m s (λ errors. h.stood);
+    stood = after-note (λ t. NowOrNone t.current t.items) m s (λ errors. h.stood);
     told = λ z y. subst (Reported_at (note m s).errors) (after-note (λ t. s.current ≡ t.current) m s (λ errors. refl)) (noted-at m s ((grown-note m s).reports.keeps y));
     cut = λ z. after-note (λ t. second t.items ≡ None) m s (λ errors. h.cut z);
     spared = λ z. after-note (λ t. is_at token_kind.RBracket t.current ≡ false) m s (λ errors. h.spared z);
     right = right-on a.room s (note m s) f (grown-note m s).reports h.right;
   };
-  limit = λ a k b s f d c h. (unknown a.room, c, held a.room b (too_deep s) f (after-too-deep (λ t. Stood t.current t.items) s (λ errors accepts. h.stood)) (right-on a.room s (too_deep s) f (grown-deep s d).reports h.right));
+  limit = λ a k b s f d c h. (unknown a.room, c, held a.room b (too_deep s) f (after-too-deep (λ t. NowOrNone t.current t.items) s (λ errors accepts. h.stood)) (right-on a.room s (too_deep s) f (grown-deep s d).reports h.right));
   passes = λ q a x y b s f e c h. (_, and-l _ _ c, record { stood = h.stood; told = h.told; cut = h.cut; spared = λ z. elim (or-c _ _ z) [ inl i ↦ h.spared i | inr i ↦ no-bracket q s i e ]; right = h.right });
   fails = λ q a x y b s f e c h. (_, and-r _ _ c, record { stood = h.stood; told = h.told; cut = λ z. elim (or-c _ _ z) [ inl i ↦ h.cut i | inr i ↦ none-next q s i e ]; spared = h.spared; right = h.right });
   turn = λ a b s f h. held a.room b s f h.stood h.right;
@@ -312,13 +312,13 @@ pub record Recovery (xs : List Answer) (s : State) : Type 0 where
   pub marked : Marked
   pub tree : erase marked ≡ (add_all s.pending s.tree).here
   pub order : flat marked ++ (now_of s.current ++ sources s.items) ≡ sources xs
-  pub recovers : Recovers s.errors marked
+  pub recovers : PoppedReported s.errors marked
 
 -- Where no limit is reported, each popped token has a report with its text and index, and is a child of the root, or of a LIST_VALUE and not
 -- `]`, or its node's only popped token.
 pub document-recovers : (r : ℕ) (xs : List Answer) (s : State) → EndsWell xs → Runs (Call Document) (begun xs r kind.DOCUMENT) s → (Limited s.errors → ⊥) → Recovery xs s
 document-recovers r xs s en run none-limited =
     let o : State = fresh xs r kind.DOCUMENT in
-    let (f, a, e, h, g, w) = walked_whole pop_check Held sound xs r kind.DOCUMENT (unknown any_token) always run document_passes.errors (held any_token (begun xs r kind.DOCUMENT) (begun xs r kind.DOCUMENT) none (reading-stood (reading xs o) en) (λ y. (tt, tt))) in
+    let (f, a, e, h, g, w) = walked_whole pop_check Held sound xs r kind.DOCUMENT (unknown any_token) always run document_passes.errors (held any_token (begun xs r kind.DOCUMENT) (begun xs r kind.DOCUMENT) none (reading-now (reading xs o) en) (λ y. (tt, tt))) in
     let taken : s.accepts ≡ true = elim (taken-or-limited xs r kind.DOCUMENT s g.reports) [ inl y ↦ y | inr l ↦ absurd (none-limited l) ] in
-    record { marked = append f (set_aside s.pending); tree = w.tree; order = w.order; recovers = recovers-append s.errors f (set_aside s.pending) (h.right taken).0 (recovers-aside s.errors s.pending) }
+    record { marked = append f (set_aside s.pending); tree = w.tree; order = w.order; recovers = popped-append s.errors f (set_aside s.pending) (h.right taken).0 (popped-aside s.errors s.pending) }

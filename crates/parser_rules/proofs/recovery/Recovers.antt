@@ -32,9 +32,9 @@ use Rattle.parser_rules.proofs.lookahead.TokenSets.{ready-is, of-any, ready}
 use Rattle.parser_rules.proofs.lookahead.Split.{at_start}
 use Rattle.parser_rules.proofs.soundness.TableCheck.{turns_follow}
 use Rattle.parser_rules.proofs.NodeChecks.{document_passes}
-use Rattle.parser_rules.proofs.soundness.Positions.{Fits, Tells}
+use Rattle.parser_rules.proofs.soundness.Positions.{StateFits, RightlyReported}
 use Rattle.parser_rules.proofs.runs.Anew.{Built, built_of, on, Same_steps, anew}
-use Rattle.parser_rules.proofs.soundness.Soundness.{document-label, whole, root-stands, loops, Turn, from_now, now_words, Silent, run-out, none-right}
+use Rattle.parser_rules.proofs.soundness.Soundness.{document-label, document_input, root-agrees, loops, Turn, from_now, now_words, Silent, run-outcome, none-right}
 
 -- the same turn in a tree of its own
 abbrev pub own_tree : Built
@@ -43,16 +43,16 @@ own_tree = record { tree = start kind.DOCUMENT nothing; errors = []; high = 0 }
 abbrev pub afresh : State → State
 afresh st = on st own_tree
 
-afresh-fits : (st : State) (c : Turn st) → all_ignored st.pending ≡ true → Fits (whole st.limit (from_now st c)) DOCUMENT at_start ready any [] (afresh st)
+afresh-fits : (st : State) (c : Turn st) → all_ignored st.pending ≡ true → StateFits (document_input st.limit (from_now st c)) DOCUMENT at_start ready any [] (afresh st)
 unfolding holds within
 afresh-fits st c i = record {
-  calm = record {
+  no_report = record {
     quiet = record { clean = refl; accepts = c.accepts; waits = i };
     now = subst (λ (o : Option Lexeme). Now o st.items) (sym c.current) c.now;
     held = subst (λ (o : Option Lexeme). Held (from_now st c) o st.items) (sym c.current) (record { front = []; split = refl; tokens = refl });
   };
   seen = record { near = sym (c.is_ready ∙ ready-is st.current shown_now); far = of-any (second_of st.items) (second-shown st.items) };
-  stands = root-stands st.limit st.asked st.budget (from_now st c) st.items (afresh st) (record { tree = refl; depth = c.no_level; limit = refl; high = refl; asked = refl; budget = refl }) (ap (λ (o : Option Lexeme). current_tokens o ++ answers_tokens st.items) c.current);
+  position = root-agrees st.limit st.asked st.budget (from_now st c) st.items (afresh st) (record { tree = refl; depth = c.no_level; limit = refl; high = refl; asked = refl; budget = refl }) (ap (λ (o : Option Lexeme). current_tokens o ++ answers_tokens st.items) c.current);
 }
   where
     shown_now : Shown st.current
@@ -63,11 +63,11 @@ afresh-fits st c i = record {
 pub record From_turn (st s : State) (c : Turn st) : Type 0 where
   pub own : Built
   pub steps : Same_steps (built_of st) (built_of s) own_tree own
-  pub parsed : Tells (whole st.limit (from_now st c)) (on s own) ⊎ Silent st.limit (from_now st c) (on s own)
+  pub parsed : RightlyReported (document_input st.limit (from_now st c)) (on s own) ⊎ Silent st.limit (from_now st c) (on s own)
 
 pub from-turn : (st s : State) (c : Turn st) → all_ignored st.pending ≡ true → Runs loops st s → From_turn st s c
 unfolding turns_follow
-from-turn st s c i run = let a = anew run own_tree in record { own = a.0; steps = a.2; parsed = run-out st.limit (from_now st c) ready document_passes.turns a.1 (afresh-fits st c i) }
+from-turn st s c i run = let a = anew run own_tree in record { own = a.0; steps = a.2; parsed = run-outcome st.limit (from_now st c) ready document_passes.turns a.1 (afresh-fits st c i) }
 
 -- The root's later children are the derivation's, and nothing more is reported.
 pub record Recovered (st s : State) (t : Tree) : Type 0 where

@@ -38,10 +38,10 @@ read-limited (waits e i r) h = read-limited r h
 read-limited (shows e i) h = h
 
 -- where it is reported, more than the limit was asked for
-abbrev pub Told : State → Type 0
-Told s = IsLimited s → PastLimit s
+abbrev pub LimitIsPast : State → Type 0
+LimitIsPast s = IsLimited s → PastLimit s
 
-pub limits-along : Holds_along (λ s t. Told s → Told t)
+pub limits-along : Holds_along (λ s t. LimitIsPast s → LimitIsPast t)
 unfolding flush closed enter leave wrapped_from
 limits-along = record {
   same = λ s h. h;
@@ -58,7 +58,7 @@ limits-along = record {
 }
 
 -- the limit is one below the greatest depth that was asked for, where it is reported
-pub asked-since : (items : List Answer) (limit : ℕ) (k : SyntaxKind) (t : State) → t.limit ≡ limit → (Told (begun items limit k) → Told t) → list_any is_recursion_limit t.errors ≡ true → min (limit + 1) usize_max ≤ t.high
+pub asked-since : (items : List Answer) (limit : ℕ) (k : SyntaxKind) (t : State) → t.limit ≡ limit → (LimitIsPast (begun items limit k) → LimitIsPast t) → list_any is_recursion_limit t.errors ≡ true → min (limit + 1) usize_max ≤ t.high
 asked-since items limit k t l told h =
     let p = told (λ i. absurd (true≢false (sym (read-limited (reading items (fresh items limit k)) i)))) h in
     omega (arith, l, p)

@@ -120,8 +120,8 @@ pub record AtToken (t : Lexeme) (items : List Answer) : Type 0 where
   pub shown : ignored t.kind ≡ None
   pub first : current_tokens (Some t) ++ answers_tokens items ≡ (leaf_number t.kind, t.text) ∷ answers_tokens items
 
-pub standing : (t : Lexeme) (items : List Answer) → Now (Some t) items → AtEnd t items ⊎ AtToken t items
-standing t items n = elim (either (is_end t.kind)) [
+pub end-or-token : (t : Lexeme) (items : List Answer) → Now (Some t) items → AtEnd t items ⊎ AtToken t items
+end-or-token t items n = elim (either (is_end t.kind)) [
   | inl e ↦ (
       let k = end-kind t.kind e in
       let none : items ≡ [] = subst (λ (b : Bool). choose b (items ≡ []) (EndsWell items)) e n.1 in
@@ -130,25 +130,25 @@ standing t items n = elim (either (is_end t.kind)) [
 ]
 
 -- What holds at each state of a run: the current token is shown, and what follows it comes to an end.
-abbrev pub Stood : Option Lexeme → List Answer → Type 0
-Stood None items = ⊤
-Stood (Some t) items = Now (Some t) items
+abbrev pub NowOrNone : Option Lexeme → List Answer → Type 0
+NowOrNone None items = ⊤
+NowOrNone (Some t) items = Now (Some t) items
 
-pub reading-stood : {xs : List Answer} {s t : State} → Reading xs s t → EndsWell xs → Stood t.current t.items
-reading-stood stops e = absurd e
-reading-stood {t = t} (cuts h) e = subst (λ (o : Option Lexeme). Stood o t.items) (sym (reading-none h e)) tt
-reading-stood (bad_text i h) e = reading-stood h (rw i at e)
-reading-stood (waits {k = k} {own = own} i j h) e = reading-stood h (rw (i, ignored-end k own j) at e)
-reading-stood (shows i j) e = (j, rw i at e)
+pub reading-now : {xs : List Answer} {s t : State} → Reading xs s t → EndsWell xs → NowOrNone t.current t.items
+reading-now stops e = absurd e
+reading-now {t = t} (cuts h) e = subst (λ (o : Option Lexeme). NowOrNone o t.items) (sym (reading-none h e)) tt
+reading-now (bad_text i h) e = reading-now h (rw i at e)
+reading-now (waits {k = k} {own = own} i j h) e = reading-now h (rw (i, ignored-end k own j) at e)
+reading-now (shows i j) e = (j, rw i at e)
 
-stood-after : {xs : List Answer} {s t : State} (x : Lexeme) → Reading xs s t → Now (Some x) xs → Stood t.current t.items
-stood-after {t = t} x h n = elim (either (is_end x.kind)) [
-  | inl e ↦ subst (λ (o : Option Lexeme). Stood o t.items) (sym (reading-none h (rw e at n.1))) tt
-  | inr e ↦ reading-stood h (rw e at n.1)
+now-after : {xs : List Answer} {s t : State} (x : Lexeme) → Reading xs s t → Now (Some x) xs → NowOrNone t.current t.items
+now-after {t = t} x h n = elim (either (is_end x.kind)) [
+  | inl e ↦ subst (λ (o : Option Lexeme). NowOrNone o t.items) (sym (reading-none h (rw e at n.1))) tt
+  | inr e ↦ reading-now h (rw e at n.1)
 ]
 
-pub stands-along : Holds_along (Keeps_reading Stood)
-stands-along = along-reading Stood (λ leaf x s e h. stood-after x (reading s.items (record s { tree = add_leaf leaf x.text s.tree })) (subst (λ (o : Option Lexeme). Stood o s.items) e h))
+pub now-along : Holds_along (Keeps_reading NowOrNone)
+now-along = along-reading NowOrNone (λ leaf x s e h. now-after x (reading s.items (record s { tree = add_leaf leaf x.text s.tree })) (subst (λ (o : Option Lexeme). NowOrNone o s.items) e h))
 
 -- the answer that gave the current token
 abbrev pub given : Lexeme → Answer
@@ -181,7 +181,7 @@ module _ (answers : List Answer) where
 module _ (answers : List Answer) (Right : Report → ℕ → Type 0) where
   -- There are reports, and the first of them is right. So many tokens were taken before it, and the nodes that ended before the last of
   -- them fit.
-  pub record Told (st : State) : Type 0 where
+  pub record FirstReportIsRight (st : State) : Type 0 where
     pub report : Report
     pub more : List Report
     pub reported : st.errors ≡ report ∷ more
@@ -189,8 +189,8 @@ module _ (answers : List Answer) (Right : Report → ℕ → Type 0) where
     pub right : Right report taken
     pub settled : Settled taken st.tree
 
-  pub told-on : (s t : State) → Grows s t → Told s → Told t
-  told-on s t g h = record { report = h.report; more = h.more ++ g.reports.more; reported = g.reports.errors ∙ ap (λ (z : List Report). z ++ g.reports.more) h.reported; taken = h.taken; right = h.right; settled = g.stays h.taken h.settled }
+  pub first-right-on : (s t : State) → Grows s t → FirstReportIsRight s → FirstReportIsRight t
+  first-right-on s t g h = record { report = h.report; more = h.more ++ g.reports.more; reported = g.reports.errors ∙ ap (λ (z : List Report). z ++ g.reports.more) h.reported; taken = h.taken; right = h.right; settled = g.stays h.taken h.settled }
 
   -- nothing is reported, and what waits is ignored
   pub record Quiet (st : State) : Type 0 where
@@ -198,31 +198,31 @@ module _ (answers : List Answer) (Right : Report → ℕ → Type 0) where
     pub accepts : st.accepts ≡ true
     pub waits : all_ignored st.pending ≡ true
 
-  pub record Calm (st : State) : Type 0 where
+  pub record NothingReported (st : State) : Type 0 where
     pub quiet : Quiet st
     pub now : Now st.current st.items
     pub held : Held answers st.current st.items
 
   -- a report of an answer that is no token would be right
-  abbrev pub Blames : ℕ → List Token → Type 0
-  Blames m v = (x : Answer) (ys : List Answer) → Passed answers (x ∷ ys) → is_token x ≡ false → answers_tokens ys ≡ v → Right (report_of x) m
+  abbrev pub WouldBeRight : ℕ → List Token → Type 0
+  WouldBeRight m v = (x : Answer) (ys : List Answer) → Passed answers (x ∷ ys) → is_token x ≡ false → answers_tokens ys ≡ v → Right (report_of x) m
 
   -- the first report
-  pub told-first : (m : ℕ) (r : Report) (s t : State) → Quiet s → t.errors ≡ s.errors ++ r ∷ [] → Right r m → Settled m t.tree → Told t
-  told-first m r s t q e i f = record { report = r; more = []; reported = e ∙ ap (λ (z : List Report). z ++ r ∷ []) q.clean; taken = m; right = i; settled = f }
+  pub first-right : (m : ℕ) (r : Report) (s t : State) → Quiet s → t.errors ≡ s.errors ++ r ∷ [] → Right r m → Settled m t.tree → FirstReportIsRight t
+  first-right m r s t q e i f = record { report = r; more = []; reported = e ∙ ap (λ (z : List Report). z ++ r ∷ []) q.clean; taken = m; right = i; settled = f }
 
-  pub read-on : {xs : List Answer} {s t : State} → Reading xs s t → (m : ℕ) → Quiet s → EndsWell xs → Passed answers xs → Blames m (answers_tokens xs) → Settled m s.tree → Told t ⊎ (Calm t × (rest t ≡ answers_tokens xs))
+  pub read-on : {xs : List Answer} {s t : State} → Reading xs s t → (m : ℕ) → Quiet s → EndsWell xs → Passed answers xs → WouldBeRight m (answers_tokens xs) → Settled m s.tree → FirstReportIsRight t ⊎ (NothingReported t × (rest t ≡ answers_tokens xs))
   read-on stops m q e p b f = absurd e
   read-on {s = s} {t = t} (cuts {index = index} {xs = xs} h) m q e p b f =
       let u : State = met index (record s { items = xs }) in
-      inl (told-on u t (reading-grows h) (told-first m (token_limit_report index) s u q refl (b (limit_at index) xs p refl refl) f))
+      inl (first-right-on u t (reading-grows h) (first-right m (token_limit_report index) s u q refl (b (limit_at index) xs p refl refl) f))
   read-on {s = s} {t = t} (bad_text {item = item} {xs = xs} i h) m q e p b f =
       let u : State = bad item.text item.index (record s { items = xs }) in
-      inl (told-on u t (reading-grows h) (told-first m (bad_report item.text item.index) s u q refl (b (gives item) xs p (rw i refl) (rw i refl)) f))
+      inl (first-right-on u t (reading-grows h) (first-right m (bad_report item.text item.index) s u q refl (b (gives item) xs p (rw i refl) (rw i refl)) f))
   read-on {s = s} (waits {item = item} {k = k} {own = own} {xs = xs} i j h) m q e p b f =
       let same : answers_tokens (gives item ∷ xs) ≡ answers_tokens xs = rw (i, ignored-tokens k own item.text j) refl in
       let quiet : Quiet (wait own item.text (record s { items = xs })) = record { clean = q.clean; accepts = q.accepts; waits = kinds-more _ _ (record { kind = own; text = item.text }) q.waits (ignored-leaf k own j) } in
-      elim (read-on h m quiet (rw (i, ignored-end k own j) at e) (passed-one answers (gives item) xs (rw i refl) p) (subst (Blames m) same b) f) [
+      elim (read-on h m quiet (rw (i, ignored-end k own j) at e) (passed-one answers (gives item) xs (rw i refl) p) (subst (WouldBeRight m) same b) f) [
         | inl o ↦ inl o
         | inr o ↦ inr (o.0, o.1 ∙ sym same)
       ]

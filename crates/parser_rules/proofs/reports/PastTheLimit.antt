@@ -21,7 +21,7 @@ use Rattle.parser_rules.proofs.runs.Marked.{Marked, append, Limited, Reports, ta
 use Rattle.parser_rules.proofs.runs.Walk.{after_pending, always, Sound, walked_whole, walk, walked_root}
 use Rattle.parser_rules.proofs.runs.Frame.{read-untouched}
 use Rattle.parser_rules.proofs.runs.Reporting.{after-note}
-use Rattle.parser_rules.proofs.reports.NoReport.{choose, EndsWell, Stood, reading-stood, stands-along}
+use Rattle.parser_rules.proofs.reports.NoReport.{choose, EndsWell, NowOrNone, reading-now, now-along}
 use Rattle.parser_rules.proofs.recovery.Popped.{cut-off}
 use Rattle.parser_rules.proofs.reports.LimitCheck.{Current, unknown, present, inner, is_inner, known, fits_inner, tells_inner, after_token, is_known, same_inner, begins_level, limit_check}
 use Rattle.parser_rules.proofs.NodeChecks.{node-passes, document_passes}
@@ -67,7 +67,7 @@ inner-present (Some x) h = refl
 
 -- While the grammar's reports are taken, no more than the limit was asked for.
 record Held (a : Current) (b s : State) (f : Marked) : Type 0 where
-  stood : Stood s.current s.items
+  stood : NowOrNone s.current s.items
   bounded : s.accepts ≡ true → s.high ≤ s.limit
   token : s.accepts ≡ true → known a s.current ≡ true
 
@@ -75,7 +75,7 @@ forget : (a : Current) (b c s : State) (f g : Marked) → Held a b s f → Held 
 forget a b c s f g h = record { stood = h.stood; bounded = h.bounded; token = λ y. refl }
 
 -- a token that is not the end is followed by another one, or the token limit is met
-next-present : (x : Lexeme) (s u : State) → Stood (Some x) u.items → is_inner (Some x) ≡ true → (read_on u.items u).accepts ≡ true → is_some (read_on u.items u).current ≡ true
+next-present : (x : Lexeme) (s u : State) → NowOrNone (Some x) u.items → is_inner (Some x) ≡ true → (read_on u.items u).accepts ≡ true → is_some (read_on u.items u).current ≡ true
 unfolding is_inner
 next-present x s u n i y =
     let r = reading u.items u in
@@ -99,12 +99,12 @@ module _ (own : SyntaxKind) (a : Current) (b s : State) (f : Marked) (x : Lexeme
   followed present i y z = refl
   followed inner i y z =
       let now : is_inner (Some x) ≡ true = subst (λ (o : Option Lexeme). is_inner o ≡ true) e (subst (λ (c : Current). known c s.current ≡ true) i (h.token z)) in
-      next-present x s unread (subst (λ (o : Option Lexeme). Stood o s.items) e h.stood) now y
+      next-present x s unread (subst (λ (o : Option Lexeme). NowOrNone o s.items) e h.stood) now y
 
   moved-held : (g : Marked) → Reports s after → Held (after_token a) b after g
   unfolding flush
   moved-held g p = record {
-    stood = stands-along.moves own x (flush s) e refl (stands-along.flushes s h.stood);
+    stood = now-along.moves own x (flush s) e refl (now-along.flushes s h.stood);
     bounded = λ y. let i = h.bounded (p.keeps y) in let j = untouched.0 in let l = untouched.1 in omega (arith, i, j, l);
     token = λ y. followed a refl y (p.keeps y);
   }
@@ -188,7 +188,7 @@ limit-reported r xs s en run more =
     let o : State = fresh xs r kind.DOCUMENT in
     let b : State = begun xs r kind.DOCUMENT in
     let none-asked : b.high ≡ 0 = (read-untouched xs o).high in
-    let (f, a, e, h, g, w) = walked_whole limit_check Held sound xs r kind.DOCUMENT unknown always run document_passes.limits (record { stood = reading-stood (reading xs o) en; bounded = λ y. omega (arith, none-asked); token = λ y. refl }) in
+    let (f, a, e, h, g, w) = walked_whole limit_check Held sound xs r kind.DOCUMENT unknown always run document_passes.limits (record { stood = reading-now (reading xs o) en; bounded = λ y. omega (arith, none-asked); token = λ y. refl }) in
     elim (taken-or-limited xs r kind.DOCUMENT s g.reports) [ inl y ↦ absurd (over (h.bounded y)) | inr l ↦ l ]
   where
     over : s.high ≤ s.limit → ⊥
@@ -211,7 +211,7 @@ root-limited r xs k s en check run more =
     let o : State = fresh xs r k in
     let b : State = begun xs r k in
     let none-asked : b.high ≡ 0 = (read-untouched xs o).high in
-    let (f, a, e, h, g) = walked_root limit_check Held sound xs r k present always run check (record { stood = reading-stood (reading xs o) en; bounded = λ y. omega (arith, none-asked); token = first-known r xs k en }) in
+    let (f, a, e, h, g) = walked_root limit_check Held sound xs r k present always run check (record { stood = reading-now (reading xs o) en; bounded = λ y. omega (arith, none-asked); token = first-known r xs k en }) in
     let p = reports-then o b s (read-reports (reading xs o)) g.reports in
     elim (either s.accepts) [
       | inl y ↦ absurd (over (h.bounded y))

@@ -36,11 +36,11 @@ module _ (sort : Sort) (answers : List Answer) (lim : ℕ) (w : List Token) wher
   left t items = current_tokens (Some t) ++ answers_tokens items
 
   -- so many tokens are before these
-  abbrev pub Behind : ℕ → List Token → Type 0
-  Behind m r = m + length r ≡ length w
+  abbrev pub TokensBefore : ℕ → List Token → Type 0
+  TokensBefore m r = m + length r ≡ length w
 
   -- a report, and how many tokens were taken before it
-  pub data Right : Report → ℕ → Type 0 where
-    stuck_here : (said : Message) {t : Lexeme} {items : List Answer} {m : ℕ} → Now (Some t) items → Held answers (Some t) items → Stuck (left t items) → Behind m (left t items) → Right (fault_report said t) m
-    deep_here : {t : Lexeme} {items : List Answer} {m : ℕ} → Now (Some t) items → Held answers (Some t) items → TooMany (left t items) → Behind m (left t items) → Right (recursion_limit_report t) m
-    no_token : {x : Answer} {items : List Answer} {m : ℕ} → Passed answers (x ∷ items) → is_token x ≡ false → Viable (answers_tokens items) → Behind m (answers_tokens items) → Right (report_of x) m
+  pub data RightReport : Report → ℕ → Type 0 where
+    stuck_here : (said : Message) {t : Lexeme} {items : List Answer} {m : ℕ} → Now (Some t) items → Held answers (Some t) items → Stuck (left t items) → TokensBefore m (left t items) → RightReport (fault_report said t) m
+    deep_here : {t : Lexeme} {items : List Answer} {m : ℕ} → Now (Some t) items → Held answers (Some t) items → TooMany (left t items) → TokensBefore m (left t items) → RightReport (recursion_limit_report t) m
+    no_token : {x : Answer} {items : List Answer} {m : ℕ} → Passed answers (x ∷ items) → is_token x ≡ false → Viable (answers_tokens items) → TokensBefore m (answers_tokens items) → RightReport (report_of x) m

@@ -34,7 +34,7 @@ use Rattle.document_grammar.specs.Forests as built
 use Rattle.parser_rules.proofs.runs.Reading.{Reading, stops, cuts, bad_text as bad_item, waits, shows, looks}
 use Rattle.parser_rules.proofs.runs.Frame.{add_all-above, added-all}
 use Rattle.parser_rules.proofs.soundness.Settled.{EndedFit, ended-root, settled-added}
-use Rattle.parser_rules.proofs.soundness.FirstReport.{Right, Viable, Behind, stuck_here, deep_here, no_token}
+use Rattle.parser_rules.proofs.soundness.FirstReport.{RightReport, Viable, TokensBefore, stuck_here, deep_here, no_token}
 use Rattle.parser_rules.proofs.soundness.Soundness.{given, parsed, accepted, sound, item-words, answers-append, no-token-words, words-before, viable-begins, not-within-one}
 
 -- ---- all items are given
@@ -215,7 +215,7 @@ module _ (r k : ℕ) (source : List ℕ) (items : List Item) (s : State) (cut : 
   Told_right e m = (i : IsRight source items r k e) × (m ≡ length (tokens_of i.before))
 
   -- what holds at the place of an answer
-  at-place : IsUtf8 source → {x : Answer} {ys : List Answer} (e : Report) (m : ℕ) (p : Passed xs (x ∷ ys)) → Viable document xs r (answers_tokens xs) (answers_tokens (x ∷ ys)) → Behind document xs r (answers_tokens xs) m (answers_tokens (x ∷ ys))
+  at-place : IsUtf8 source → {x : Answer} {ys : List Answer} (e : Report) (m : ℕ) (p : Passed xs (x ∷ ys)) → Viable document xs r (answers_tokens xs) (answers_tokens (x ∷ ys)) → TokensBefore document xs r (answers_tokens xs) m (answers_tokens (x ∷ ys))
       → ((b : Before k items p.front x ys) → Reason items r k b.before b.item b.more e) → Told_right e m
   unfolding xs
   at-place u {x = x} {ys = ys} e m p v c reason =
@@ -233,7 +233,7 @@ module _ (r k : ℕ) (source : List ℕ) (items : List Item) (s : State) (cut : 
       let same : item ≡ b.item = (given-is _ b.item item b.more ys b.answers).0 in
       subst (λ (i : Item). Reason items r k b.before b.item b.more (bad_report i.text i.index)) (sym same) (bad_text (subst (λ (i : Item). i.kind ≡ None) same (not-some item.kind h)))
 
-  told : IsUtf8 source → (e : Report) (m : ℕ) → Right document xs r (answers_tokens xs) e m → Told_right e m
+  told : IsUtf8 source → (e : Report) (m : ℕ) → RightReport document xs r (answers_tokens xs) e m → Told_right e m
   unfolding xs
   told u e m (stuck_here said {t = t} {items = ys} now p k c) = at-place u (fault_report said t) m p k.1 c (λ q. fault said t (item-there t q) now.0 (λ a z. not-starts document (answers_tokens xs) (answers_tokens (given_by t ∷ ys)) k.0
       (subst (λ (l : List Mark). Starts document l) (from-words k.0.before (tokens_of q.before) _ _ (words-before xs p.front (given_by t ∷ ys) k.0.before p.split k.0.split ∙ q.words) (two-at t q now a)) (sentence-starts _ z))))
@@ -243,11 +243,11 @@ module _ (r k : ℕ) (source : List ℕ) (items : List Item) (s : State) (cut : 
       let same = no-token-words x ys n in at-place u (report_of x) m p (rw same v) (rw same c) (other-reason p.front x ys n)
 
   -- the first report is right, and the nodes that end before its last token fit
-  pub first-told : IsUtf8 source → (e : Report) (more : List Report) → s.errors ≡ e ∷ more → (i : IsRight source items r k e) × EndedFit (length (tokens_of i.before)) 0 (finished s)
+  pub first-report-right : IsUtf8 source → (e : Report) (more : List Report) → s.errors ≡ e ∷ more → (i : IsRight source items r k e) × EndedFit (length (tokens_of i.before)) 0 (finished s)
   unfolding xs
-  first-told u e more h = elim (parsed r (limited k items) s (ends-well k 0 items cut.each) root run) [
+  first-report-right u e more h = elim (parsed r (limited k items) s (ends-well k 0 items cut.each) root run) [
     | inl o ↦ (
-        let i = told u e o.taken (subst (λ (z : Report). Right document (limited k items) r (answers_tokens (limited k items)) z o.taken) (head-same (sym o.reported ∙ h)) o.right) in
+        let i = told u e o.taken (subst (λ (z : Report). RightReport document (limited k items) r (answers_tokens (limited k items)) z o.taken) (head-same (sym o.reported ∙ h)) o.right) in
         (i.0, subst (λ (n : ℕ). EndedFit n 0 (finished s)) i.1 (ended-root o.taken (add_all s.pending s.tree) (record { before = built.none; kind = root.0 }) (add_all-above s.pending s.tree ∙ root.2) (settled-added o.taken (added-all s.pending s.tree) o.settled))))
     | inr o ↦ no-cons (sym o.0 ∙ h)
   ]

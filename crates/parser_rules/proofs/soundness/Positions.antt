@@ -28,8 +28,8 @@ use Rattle.parser_rules.proofs.runs.Reporting.{note-is, too_deep-is}
 use Rattle.parser_rules.proofs.runs.Frame.{adds, added-all}
 use Rattle.parser_rules.proofs.runs.Marked.{reports-along, reports-same}
 use Rattle.parser_rules.proofs.soundness.WithoutIgnored.{all_ignored, stack}
-use Rattle.parser_rules.proofs.reports.NoReport.{Now, rest, answers_tokens, current_tokens, Grows, Stays, Held, Told, told-on, told-first, Calm}
-use Rattle.parser_rules.proofs.soundness.FirstReport.{Stuck, TooMany, Behind, Right, stuck_here, deep_here}
+use Rattle.parser_rules.proofs.reports.NoReport.{Now, rest, answers_tokens, current_tokens, Grows, Stays, Held, FirstReportIsRight, first-right-on, first-right, NothingReported}
+use Rattle.parser_rules.proofs.soundness.FirstReport.{Stuck, TooMany, TokensBefore, RightReport, stuck_here, deep_here}
 use Rattle.parser_rules.proofs.lookahead.Split.{Level, NotEntered, Entered, Left, Certainty, Nothing, OpenWhateverFollows, AtLimit, Position, in_row, machine_is_stuck, with_limit_known}
 use Rattle.parser_rules.proofs.runs.Reading.{Shown}
 use Rattle.parser_rules.proofs.lookahead.TokenSets.{Seen, seen-same}
@@ -39,16 +39,16 @@ use Rattle.parser_rules.proofs.soundness.TableCheck.{Then, level_entered, counts
 
 -- ---- levels, on plain numbers
 
-owed-le : (s : ℕ) (l : Level) → level_due s l ≤ 1
+due-le : (s : ℕ) (l : Level) → level_due s l ≤ 1
 unfolding counts_itself
-owed-le s NotEntered = elim (eqb s SELECTION_SET or (eqb s LIST_TYPE or eqb s BARE_SELECTIONS)) as (λ b. cond b 1 0 ≤ 1) [ true ↦ omega arith | false ↦ omega arith ]
-owed-le s Entered = omega arith
-owed-le s Left = omega arith
+due-le s NotEntered = elim (eqb s SELECTION_SET or (eqb s LIST_TYPE or eqb s BARE_SELECTIONS)) as (λ b. cond b 1 0 ≤ 1) [ true ↦ omega arith | false ↦ omega arith ]
+due-le s Entered = omega arith
+due-le s Left = omega arith
 
 -- ---- steps that read nothing
 
 -- The same tokens are left, the reports are the same, what waits is still ignored, and what was settled of the tree still is.
-pub record Idle (st v : State) : Type 0 where
+pub record ReadsNothing (st v : State) : Type 0 where
   pub current : v.current ≡ st.current
   pub items : v.items ≡ st.items
   pub errors : v.errors ≡ st.errors
@@ -57,51 +57,51 @@ pub record Idle (st v : State) : Type 0 where
   pub stays : Stays st v
 
 -- and nothing of the nesting is touched
-pub record Alike (st v : State) : Type 0 where
-  pub idle : Idle st v
+pub record OnlyBuilds (st v : State) : Type 0 where
+  pub reads_nothing : ReadsNothing st v
   pub depth : v.depth ≡ st.depth
   pub high : v.high ≡ st.high
   pub limit : v.limit ≡ st.limit
 
 -- what waits and the tree are all that changes
-pub rebuilt : (st : State) (parts : List PendingToken) (b : Building) → (all_ignored st.pending ≡ true → all_ignored parts ≡ true) → ((m : ℕ) → Settled m st.tree → Settled m b) → Alike st (record st { pending = parts; tree = b })
-rebuilt st parts b w f = record { idle = record { current = refl; items = refl; errors = refl; accepts = refl; waits = w; stays = f }; depth = refl; high = refl; limit = refl }
+pub rebuilt : (st : State) (parts : List PendingToken) (b : Building) → (all_ignored st.pending ≡ true → all_ignored parts ≡ true) → ((m : ℕ) → Settled m st.tree → Settled m b) → OnlyBuilds st (record st { pending = parts; tree = b })
+rebuilt st parts b w f = record { reads_nothing = record { current = refl; items = refl; errors = refl; accepts = refl; waits = w; stays = f }; depth = refl; high = refl; limit = refl }
 
-pub same-alike : (st : State) → Alike st st
-same-alike st = rebuilt st st.pending st.tree (λ z. z) (λ m z. z)
+pub same-builds : (st : State) → OnlyBuilds st st
+same-builds st = rebuilt st st.pending st.tree (λ z. z) (λ m z. z)
 
-pub flush-alike : (st : State) → Alike st (flush st)
+pub flush-builds : (st : State) → OnlyBuilds st (flush st)
 unfolding flush
-flush-alike st = rebuilt st [] _ (λ z. refl) (λ m z. settled-added m (added-all st.pending st.tree) z)
+flush-builds st = rebuilt st [] _ (λ z. refl) (λ m z. settled-added m (added-all st.pending st.tree) z)
 
-pub opened-alike : (k : SyntaxKind) (st : State) → Alike st (opened k st)
+pub opened-builds : (k : SyntaxKind) (st : State) → OnlyBuilds st (opened k st)
 unfolding opened flush
-opened-alike k st = rebuilt st [] _ (λ z. refl) (λ m z. settled-start m k _ (settled-added m (added-all st.pending st.tree) z))
+opened-builds k st = rebuilt st [] _ (λ z. refl) (λ m z. settled-start m k _ (settled-added m (added-all st.pending st.tree) z))
 
-pub closed-alike : (st : State) → Alike st (closed st)
+pub closed-builds : (st : State) → OnlyBuilds st (closed st)
 unfolding closed
-closed-alike st = rebuilt st st.pending _ (λ z. z) (λ m z. settled-finish m st.tree z)
+closed-builds st = rebuilt st st.pending _ (λ z. z) (λ m z. settled-finish m st.tree z)
 
-pub wrapped-alike : (place : ℕ) (k : SyntaxKind) (st : State) → Alike st (wrapped_from place k st)
+pub wrapped-builds : (place : ℕ) (k : SyntaxKind) (st : State) → OnlyBuilds st (wrapped_from place k st)
 unfolding wrapped_from
-wrapped-alike place k st = rebuilt st st.pending _ (λ z. z) (λ m z. settled-wrap m place k st.tree z)
+wrapped-builds place k st = rebuilt st st.pending _ (λ z. z) (λ m z. settled-wrap m place k st.tree z)
 
 -- the depth and the greatest depth are all that changes
-pub renested : (st : State) (d h : ℕ) → Idle st (record st { depth = d; high = h })
+pub renested : (st : State) (d h : ℕ) → ReadsNothing st (record st { depth = d; high = h })
 renested st d h = record { current = refl; items = refl; errors = refl; accepts = refl; waits = λ z. z; stays = λ m z. z }
 
-pub left-idle : {u v : State} → v ≡ leave u → Idle u v
+pub leave-unread : {u v : State} → v ≡ leave u → ReadsNothing u v
 unfolding leave
-left-idle {u = u} e = subst (λ (z : State). Idle u z) (sym e) (renested u (u.depth - 1) u.high)
+leave-unread {u = u} e = subst (λ (z : State). ReadsNothing u z) (sym e) (renested u (u.depth - 1) u.high)
 
-pub idle-rest : {st v : State} → Idle st v → rest v ≡ rest st
-idle-rest e = ap₂ (λ (o : Option Lexeme) (xs : List Answer). current_tokens o ++ answers_tokens xs) e.current e.items
+pub unread-rest : {st v : State} → ReadsNothing st v → rest v ≡ rest st
+unread-rest e = ap₂ (λ (o : Option Lexeme) (xs : List Answer). current_tokens o ++ answers_tokens xs) e.current e.items
 
-pub idle-seen : (x y : ℕ) {st v : State} → Idle st v → Seen x y st → Seen x y v
-idle-seen x y {st = st} {v = v} e h = seen-same x y st v e.current e.items h
+pub unread-seen : (x y : ℕ) {st v : State} → ReadsNothing st v → Seen x y st → Seen x y v
+unread-seen x y {st = st} {v = v} e h = seen-same x y st v e.current e.items h
 
-pub idle-grows : {st v : State} → Idle st v → Grows st v
-idle-grows {st = st} {v = v} e = record { reports = reports-same st v e.errors e.accepts; stays = e.stays }
+pub unread-grows : {st v : State} → ReadsNothing st v → Grows st v
+unread-grows {st = st} {v = v} e = record { reports = reports-same st v e.errors e.accepts; stays = e.stays }
 
 pub run-grows : {r : Rule} {s t : State} → Runs r s t → Grows s t
 run-grows h = record { reports = along reports-along h; stays = λ m. settled-added m (adds h).trees }
@@ -109,13 +109,13 @@ run-grows h = record { reports = along reports-along h; stays = λ m. settled-ad
 -- ---- the link
 
 -- What is read: the sort of what is parsed, its answers and tokens, and the recursion limit.
-pub record Reading : Type 1 where
+pub record ParserInput : Type 1 where
   pub sort : Sort
   pub answers : List Answer
   pub limit : ℕ
   pub words : List Token
 
-module _ (R : Reading) where
+module _ (R : ParserInput) where
   open R use {sort, answers, limit as lim, words as w}
 
   -- the start symbol
@@ -141,125 +141,125 @@ module _ (R : Reading) where
     pub bounds : Bounded most bound
 
   -- The machine reaches the open nodes before the tokens that are left.
-  pub record Place (s q : ℕ) (l : Level) (f : Forest) (fs : List Frame) (st : State) : Type 0 where
+  pub record MachineIsAt (s q : ℕ) (l : Level) (f : Forest) (fs : List Frame) (st : State) : Type 0 where
     pub reach : Reach top w (frame s q f ∷ fs) (rest st)
     pub leveled : Leveled s q l f fs st.depth st.high st.limit
     pub alone : only_root s ≡ true → fs ≡ []
 
   -- The builder has the same nodes.
-  pub record Stands (s q : ℕ) (l : Level) (fs : List Frame) (st : State) : Type 0 where
+  pub record OpenNodesAgree (s q : ℕ) (l : Level) (fs : List Frame) (st : State) : Type 0 where
     pub children : Forest
-    pub place : Place s q l children fs st
+    pub place : MachineIsAt s q l children fs st
     pub built : stack st.tree ≡ image (frame s q children ∷ fs)
 
   -- So many tokens are taken, and the nodes that ended before the last of them fit.
-  pub record Taken (r : List Token) (b : Building) : Type 0 where
+  pub record TokensTaken (r : List Token) (b : Building) : Type 0 where
     pub count : ℕ
-    pub behind : Behind sort answers lim w count r
+    pub before : TokensBefore sort answers lim w count r
     pub settled : Settled count b
 
   -- The machine is stuck here, which is not yet reported.
-  abbrev pub Lost : State → Type 0
-  Lost st = Stuck sort answers lim w (rest st) × Taken (rest st) st.tree
+  abbrev pub StuckUnreported : State → Type 0
+  StuckUnreported st = Stuck sort answers lim w (rest st) × TokensTaken (rest st) st.tree
 
-  abbrev pub Known : Certainty → List Frame → State → Type 0
-  Known Nothing fs st = ⊤
-  Known OpenWhateverFollows fs st = Firm top w fs (rest st)
-  Known AtLimit fs st = Firm top w fs (rest st) × (is_deep st ≡ true)
+  abbrev pub CertaintyHolds : Certainty → List Frame → State → Type 0
+  CertaintyHolds Nothing fs st = ⊤
+  CertaintyHolds OpenWhateverFollows fs st = Firm top w fs (rest st)
+  CertaintyHolds AtLimit fs st = Firm top w fs (rest st) × (is_deep st ≡ true)
 
-  abbrev pub StandsAt : ℕ → Position → List Frame → State → Type 0
-  StandsAt s (in_row q l d) fs st = (c : Stands s q l fs st) × Known d (frame s q c.children ∷ fs) st
-  StandsAt s machine_is_stuck fs st = Lost st
+  abbrev pub PositionHolds : ℕ → Position → List Frame → State → Type 0
+  PositionHolds s (in_row q l d) fs st = (c : OpenNodesAgree s q l fs st) × CertaintyHolds d (frame s q c.children ∷ fs) st
+  PositionHolds s machine_is_stuck fs st = StuckUnreported st
 
-  abbrev pub Rightly : Report → ℕ → Type 0
-  Rightly = Right sort answers lim w
+  abbrev pub ReportIsRight : Report → ℕ → Type 0
+  ReportIsRight = RightReport sort answers lim w
 
-  abbrev pub Still_calm : State → Type 0
-  Still_calm st = Calm answers Rightly st
+  abbrev pub NoReportYet : State → Type 0
+  NoReportYet st = NothingReported answers ReportIsRight st
 
-  abbrev pub Tells : State → Type 0
-  Tells st = Told answers Rightly st
+  abbrev pub RightlyReported : State → Type 0
+  RightlyReported st = FirstReportIsRight answers ReportIsRight st
 
-  pub record Fits (s : ℕ) (p : Position) (x y : ℕ) (fs : List Frame) (st : State) : Type 0 where
-    pub calm : Still_calm st
+  pub record StateFits (s : ℕ) (p : Position) (x y : ℕ) (fs : List Frame) (st : State) : Type 0 where
+    pub no_report : NoReportYet st
     pub seen : Seen x y st
-    pub stands : StandsAt s p fs st
+    pub position : PositionHolds s p fs st
 
-  abbrev pub Way : ℕ → List Frame → Then → State → Type 0
-  Way s fs k t = (p : Position) × (u : ℕ) × (v : ℕ) × (k p u v ≡ true) × Fits s p u v fs t
+  abbrev pub Continues : ℕ → List Frame → Then → State → Type 0
+  Continues s fs k t = (p : Position) × (u : ℕ) × (v : ℕ) × (k p u v ≡ true) × StateFits s p u v fs t
 
-  abbrev pub Out : ℕ → List Frame → Then → State → Type 0
-  Out s fs k t = Tells t ⊎ Way s fs k t
+  abbrev pub RunOutcome : ℕ → List Frame → Then → State → Type 0
+  RunOutcome s fs k t = RightlyReported t ⊎ Continues s fs k t
 
-  pub tell-on : (s t : State) → Grows s t → Tells s → Tells t
-  tell-on s t g h = told-on answers Rightly s t g h
+  pub rightly-on : (s t : State) → Grows s t → RightlyReported s → RightlyReported t
+  rightly-on s t g h = first-right-on answers ReportIsRight s t g h
 
-  pub fills : (s : ℕ) (fs : List Frame) (st : State) (p : Position) → is_deep st ≡ true → StandsAt s p fs st → StandsAt s (with_limit_known p) fs st
-  fills s fs st (in_row q l Nothing) e g = g
-  fills s fs st (in_row q l OpenWhateverFollows) e g = (g.0, (g.1, e))
-  fills s fs st (in_row q l AtLimit) e g = g
-  fills s fs st machine_is_stuck e g = g
+  pub limit-known-holds : (s : ℕ) (fs : List Frame) (st : State) (p : Position) → is_deep st ≡ true → PositionHolds s p fs st → PositionHolds s (with_limit_known p) fs st
+  limit-known-holds s fs st (in_row q l Nothing) e g = g
+  limit-known-holds s fs st (in_row q l OpenWhateverFollows) e g = (g.0, (g.1, e))
+  limit-known-holds s fs st (in_row q l AtLimit) e g = g
+  limit-known-holds s fs st machine_is_stuck e g = g
 
-  pub known-firm : (d : Certainty) (fs : List Frame) (st : State) → open_whatever_follows d ≡ true → Known d fs st → Firm top w fs (rest st)
-  known-firm Nothing fs st h k = false-true refl h
-  known-firm OpenWhateverFollows fs st h k = k
-  known-firm AtLimit fs st h k = k.0
+  pub certainly-open : (d : Certainty) (fs : List Frame) (st : State) → open_whatever_follows d ≡ true → CertaintyHolds d fs st → Firm top w fs (rest st)
+  certainly-open Nothing fs st h k = false-true refl h
+  certainly-open OpenWhateverFollows fs st h k = k
+  certainly-open AtLimit fs st h k = k.0
 
-  pub known-weak : (d : Certainty) (fs : List Frame) (st v : State) → rest v ≡ rest st → Known d fs st → Known (limit_forgotten d) fs v
-  known-weak Nothing fs st v e k = tt
-  known-weak OpenWhateverFollows fs st v e k = rw e k
-  known-weak AtLimit fs st v e k = rw e k.0
+  pub certainty-forgotten : (d : Certainty) (fs : List Frame) (st v : State) → rest v ≡ rest st → CertaintyHolds d fs st → CertaintyHolds (limit_forgotten d) fs v
+  certainty-forgotten Nothing fs st v e k = tt
+  certainty-forgotten OpenWhateverFollows fs st v e k = rw e k
+  certainty-forgotten AtLimit fs st v e k = rw e k.0
 
-  abbrev pub start_good : begins_parse top ≡ true
-  start_good = opens sort (first_class w)
+  abbrev pub start_begins : begins_parse top ≡ true
+  start_begins = opens sort (first_class w)
 
-  pub idle-calm : {st v : State} → Idle st v → Still_calm st → Still_calm v
-  idle-calm e c = record {
+  pub unread-no-report : {st v : State} → ReadsNothing st v → NoReportYet st → NoReportYet v
+  unread-no-report e c = record {
     quiet = record { clean = e.errors ∙ c.quiet.clean; accepts = e.accepts ∙ c.quiet.accepts; waits = e.waits c.quiet.waits };
     now = rw (e.current, e.items) c.now;
     held = rw (e.current, e.items) c.held;
   }
 
   -- the current token
-  pub current : (st : State) → Still_calm st → (t : Lexeme) × (st.current ≡ Some t) × Now (Some t) st.items × Held answers (Some t) st.items
+  pub current : (st : State) → NoReportYet st → (t : Lexeme) × (st.current ≡ Some t) × Now (Some t) st.items × Held answers (Some t) st.items
   current st c = (elim st.current as (λ o. Now o st.items → Held answers o st.items → (t : Lexeme) × (o ≡ Some t) × Now (Some t) st.items × Held answers (Some t) st.items) [ None ↦ λ n h. absurd n | Some t ↦ λ n h. (t, refl, n, h) ]) c.now c.held
 
-  pub shown : (st : State) → Still_calm st → Shown st.current
+  pub shown : (st : State) → NoReportYet st → Shown st.current
   shown st c = let t = current st c in rw t.1 t.2.0
 
   -- ---- reports
 
-  pub note-told : (m : Message) (st : State) → Still_calm st → Stuck sort answers lim w (rest st) → Taken (rest st) st.tree → Tells (note m st)
-  note-told m st c b k =
+  pub note-rightly : (m : Message) (st : State) → NoReportYet st → Stuck sort answers lim w (rest st) → TokensTaken (rest st) st.tree → RightlyReported (note m st)
+  note-rightly m st c b k =
       let t = current st c in
-      let right : Rightly (fault_report m t.0) k.count = stuck_here m t.2 t.3 (rw t.1 at b) (rw t.1 at k.behind) in
-      subst Tells (sym (note-is m st t.0 t.1 c.quiet.accepts)) (told-first answers Rightly k.count (fault_report m t.0) st _ c.quiet refl right k.settled)
+      let right : ReportIsRight (fault_report m t.0) k.count = stuck_here m t.2 t.3 (rw t.1 at b) (rw t.1 at k.before) in
+      subst RightlyReported (sym (note-is m st t.0 t.1 c.quiet.accepts)) (first-right answers ReportIsRight k.count (fault_report m t.0) st _ c.quiet refl right k.settled)
 
-  pub deep-told : (st : State) → Still_calm st → TooMany sort answers lim w (rest st) → Taken (rest st) st.tree → Tells (too_deep st)
-  deep-told st c b k =
+  pub limit-rightly : (st : State) → NoReportYet st → TooMany sort answers lim w (rest st) → TokensTaken (rest st) st.tree → RightlyReported (too_deep st)
+  limit-rightly st c b k =
       let t = current st c in
-      let right = deep_here t.2 t.3 (rw t.1 at b) (rw t.1 at k.behind) in
-      subst Tells (sym (too_deep-is st t.0 t.1 c.quiet.accepts)) (told-first answers Rightly k.count (recursion_limit_report t.0) st _ c.quiet refl right k.settled)
+      let right = deep_here t.2 t.3 (rw t.1 at b) (rw t.1 at k.before) in
+      subst RightlyReported (sym (too_deep-is st t.0 t.1 c.quiet.accepts)) (first-right answers ReportIsRight k.count (recursion_limit_report t.0) st _ c.quiet refl right k.settled)
 
   -- ---- what is taken
 
-  pub spent-behind : (fs : List Frame) (r : List Token) → Reach top w fs r → Behind sort answers lim w (length (spent fs)) r
-  spent-behind fs r c = sym (ap length (reach-spent c) ∙ length-append (spent fs) r)
+  pub spent-before : (fs : List Frame) (r : List Token) → Reach top w fs r → TokensBefore sort answers lim w (length (spent fs)) r
+  spent-before fs r c = sym (ap length (reach-spent c) ∙ length-append (spent fs) r)
 
   pub fitting : (fs : List Frame) (r : List Token) → Reach top w fs r → Fitting (length (spent fs)) (image fs)
-  fitting fs r c = fitting-image top fs (reach-sound (start-no-leaf top start_good) c)
+  fitting fs r c = fitting-image top fs (reach-sound (start-no-leaf top start_begins) c)
 
-  pub stands-taken : {s q : ℕ} {l : Level} {fs : List Frame} {st : State} → Stands s q l fs st → Taken (rest st) st.tree
-  stands-taken {s = s} {q = q} {fs = fs} {st = st} c =
+  pub agree-taken : {s q : ℕ} {l : Level} {fs : List Frame} {st : State} → OpenNodesAgree s q l fs st → TokensTaken (rest st) st.tree
+  agree-taken {s = s} {q = q} {fs = fs} {st = st} c =
       let gs : List Frame = frame s q c.children ∷ fs in
-      record { count = length (spent gs); behind = spent-behind gs (rest st) c.place.reach; settled = settled-at (length (spent gs)) st.tree (image gs) c.built (fitting gs (rest st) c.place.reach) }
+      record { count = length (spent gs); before = spent-before gs (rest st) c.place.reach; settled = settled-at (length (spent gs)) st.tree (image gs) c.built (fitting gs (rest st) c.place.reach) }
 
-  pub taken-at : (s : ℕ) (p : Position) (fs : List Frame) (st : State) → StandsAt s p fs st → Taken (rest st) st.tree
-  taken-at s (in_row q l d) fs st g = stands-taken g.0
+  pub taken-at : (s : ℕ) (p : Position) (fs : List Frame) (st : State) → PositionHolds s p fs st → TokensTaken (rest st) st.tree
+  taken-at s (in_row q l d) fs st g = agree-taken g.0
   taken-at s machine_is_stuck fs st g = g.1
 
-  pub idle-lost : {st v : State} → Idle st v → Lost st → Lost v
-  idle-lost {v = v} e h = rw (idle-rest e) (h.0, record { count = h.1.count; behind = h.1.behind; settled = e.stays h.1.count h.1.settled })
+  pub unread-stuck : {st v : State} → ReadsNothing st v → StuckUnreported st → StuckUnreported v
+  unread-stuck {v = v} e h = rw (unread-rest e) (h.0, record { count = h.1.count; before = h.1.before; settled = e.stays h.1.count h.1.settled })
 
   -- ---- levels
 
@@ -267,7 +267,7 @@ module _ (R : Reading) where
   leveled-enter {s = s} {l = l} r b n v = record {
     level = omega (arith, r);
     entered = omega arith;
-    most_open = let o = owed-le s l in omega (arith, o);
+    most_open = let o = due-le s l in omega (arith, o);
     above = omega arith;
     bounds = record { kept = omega (arith, v.bounds.kept); nested = λ t p. omega (arith, v.bounds.nested t p, n t p); limit = v.bounds.limit };
   }
@@ -291,9 +291,9 @@ module _ (R : Reading) where
       let a = eqb-true _ _ (and-l _ _ e) in
       record { level = omega (arith, a); entered = omega (arith, a); most_open = omega (arith, a, peak-close s q o j p f g fs); above = v'.above; bounds = v'.bounds }
 
-  pub still-leveled : {s q : ℕ} {l : Level} {f : Forest} {fs : List Frame} {st v : State} → Alike st v → Leveled s q l f fs st.depth st.high st.limit → Leveled s q l f fs v.depth v.high v.limit
+  pub still-leveled : {s q : ℕ} {l : Level} {f : Forest} {fs : List Frame} {st v : State} → OnlyBuilds st v → Leveled s q l f fs st.depth st.high st.limit → Leveled s q l f fs v.depth v.high v.limit
   still-leveled e h = rw (e.depth, e.high, e.limit) h
 
   -- the rule goes on elsewhere
-  pub moved-on : {s s' x y : ℕ} {p p' : Position} {fs fs' : List Frame} {st v : State} → Fits s p x y fs st → Idle st v → StandsAt s' p' fs' v → Fits s' p' x y fs' v
-  moved-on {x = x} {y = y} g e c = record { calm = idle-calm e g.calm; seen = idle-seen x y e g.seen; stands = c }
+  pub moved-on : {s s' x y : ℕ} {p p' : Position} {fs fs' : List Frame} {st v : State} → StateFits s p x y fs st → ReadsNothing st v → PositionHolds s' p' fs' v → StateFits s' p' x y fs' v
+  moved-on {x = x} {y = y} g e c = record { no_report = unread-no-report e g.no_report; seen = unread-seen x y e g.seen; position = c }

@@ -22,19 +22,19 @@ use Rattle.grammar_machine.proofs.Sound.{any}
 use Rattle.parser_rules.specs.State.{State, Report, read_on, fresh}
 use Rattle.parser_rules.proofs.runs.Frame.{Untouched, read-untouched}
 use Rattle.parser_rules.proofs.runs.Reading.{reading}
-use Rattle.parser_rules.proofs.reports.NoReport.{answers_tokens, all_tokens, rest, given as given_by, EndsWell, Blames, read-on}
+use Rattle.parser_rules.proofs.reports.NoReport.{answers_tokens, all_tokens, rest, given as given_by, EndsWell, WouldBeRight, read-on}
 use Rattle.parser_rules.proofs.lookahead.TokenSets.{seen-any}
 use Rattle.parser_rules.proofs.lookahead.Split.{Level, NotEntered, at_root_start}
 use Rattle.parser_rules.proofs.soundness.WithoutIgnored.{stack}
 use Rattle.parser_rules.proofs.soundness.MachineStack.{image, image-node}
 use Rattle.parser_rules.proofs.soundness.Settled.{Settled, settled-at}
 use Rattle.parser_rules.proofs.soundness.TableCheck.{counts_itself, level_due}
-use Rattle.parser_rules.proofs.soundness.FirstReport.{Right, stuck_here, deep_here, no_token}
-use Rattle.parser_rules.proofs.soundness.Positions.{Reading, top, start_good, Leveled, Place, StandsAt, Fits, Tells, Rightly, shown, fitting}
+use Rattle.parser_rules.proofs.soundness.FirstReport.{RightReport, stuck_here, deep_here, no_token}
+use Rattle.parser_rules.proofs.soundness.Positions.{ParserInput, top, start_begins, Leveled, MachineIsAt, PositionHolds, StateFits, RightlyReported, ReportIsRight, shown, fitting}
 
 -- all the answers, to a parser with nothing reported
-abbrev pub whole_of : Sort → ℕ → List Answer → Reading
-whole_of sort r xs = record { sort = sort; answers = xs; limit = r; words = answers_tokens xs }
+abbrev pub input_of : Sort → ℕ → List Answer → ParserInput
+input_of sort r xs = record { sort = sort; answers = xs; limit = r; words = answers_tokens xs }
 
 -- The symbol is that of a root, whose node is of the kind.
 pub record IsRootSymbol (s : ℕ) (k : SyntaxKind) : Type 0 where
@@ -58,8 +58,8 @@ first_state xs r b = record (fresh xs r kind.ERROR) { tree = b }
 -- ---- the beginning
 
 module _ (sort : Sort) (r : ℕ) (xs : List Answer) where
-  abbrev R : Reading
-  R = whole_of sort r xs
+  abbrev R : ParserInput
+  R = input_of sort r xs
 
   module _ {b : Building} (o : Begins (top R) b) where
     pub root-level : Leveled R (top R) 0 NotEntered none [] 0 0 r
@@ -72,7 +72,7 @@ module _ (sort : Sort) (r : ℕ) (xs : List Answer) where
     }
 
     -- where nothing else is built, and all the tokens are left
-    pub root-opened : (n m : ℕ) (ys : List Answer) (s : State) → Untouched (record (first_state ys r b) { asked = n; budget = m }) s → rest s ≡ answers_tokens xs → StandsAt R (top R) at_root_start [] s
+    pub root-opened : (n m : ℕ) (ys : List Answer) (s : State) → Untouched (record (first_state ys r b) { asked = n; budget = m }) s → rest s ≡ answers_tokens xs → PositionHolds R (top R) at_root_start [] s
     root-opened n m ys s u e = (
       record {
         children = none;
@@ -82,25 +82,25 @@ module _ (sort : Sort) (r : ℕ) (xs : List Answer) where
       record { before = []; split = sym e; firm = λ v f. start },
     )
 
-    pub root-starts : EndsWell xs → let s = read_on xs (first_state xs r b) in Tells R s ⊎ (Fits R (top R) at_root_start any any [] s × (rest s ≡ answers_tokens xs))
+    pub root-starts : EndsWell xs → let s = read_on xs (first_state xs r b) in RightlyReported R s ⊎ (StateFits R (top R) at_root_start any any [] s × (rest s ≡ answers_tokens xs))
     root-starts e =
         let s : State = first_state xs r b in
         let t : State = read_on xs s in
-        elim (read-on xs (Rightly R) (reading xs s) 0 (record { clean = refl; accepts = refl; waits = refl }) e (record { front = []; split = refl; tokens = refl }) blame settled) [
+        elim (read-on xs (ReportIsRight R) (reading xs s) 0 (record { clean = refl; accepts = refl; waits = refl }) e (record { front = []; split = refl; tokens = refl }) blame settled) [
           | inl o' ↦ inl o'
-          | inr o' ↦ inr (record { calm = o'.0; seen = seen-any t (shown R t o'.0); stands = root-opened s.asked s.budget xs t (read-untouched xs s) o'.1 }, o'.1)
+          | inr o' ↦ inr (record { no_report = o'.0; seen = seen-any t (shown R t o'.0); position = root-opened s.asked s.budget xs t (read-untouched xs s) o'.1 }, o'.1)
         ]
       where
         settled : Settled 0 b
         settled = settled-at 0 b (image (frame (top R) 0 none ∷ [])) o.built (fitting R (frame (top R) 0 none ∷ []) (answers_tokens xs) start)
 
-        blame : Blames xs (Rightly R) 0 (answers_tokens xs)
+        blame : WouldBeRight xs (ReportIsRight R) 0 (answers_tokens xs)
         blame x ys p n z = no_token p n (frame (top R) 0 none ∷ [], subst (λ (u : List Token). Reach (top R) (answers_tokens xs) (frame (top R) 0 none ∷ []) u) (sym z) start) (let e = ap length z in omega (arith, e))
 
 -- ---- the end
 
 -- The root's node is a derivation of the tokens before what is left; it nests within the limit, and as deep as the greatest depth.
-pub record IsEnded (R : Reading) (f : Forest) (s : State) : Type 0 where
+pub record IsEnded (R : ParserInput) (f : Forest) (s : State) : Type 0 where
   pub split : R.words ≡ yields f ++ rest s
   pub spells : Spells (yields f) (show (node (top R) f)) R.sort
   pub nesting : nest (show (node (top R) f)) ≤ R.limit
@@ -108,10 +108,10 @@ pub record IsEnded (R : Reading) (f : Forest) (s : State) : Type 0 where
   -- over a sentence all is taken, and it is the sentence's derivation
   pub all : (t : Tree) → Spells R.words t R.sort → (rest s ≡ []) × (show (node (top R) f) ≡ t)
 
-pub root-ended : (R : Reading) {q : ℕ} {l : Level} {f : Forest} {s : State} → Place R (top R) q l f [] s → next (top R) q (rest s) ≡ closes_move → level_due (top R) l ≡ 0 → IsEnded R f s
+pub root-ended : (R : ParserInput) {q : ℕ} {l : Level} {f : Forest} {s : State} → MachineIsAt R (top R) q l f [] s → next (top R) q (rest s) ≡ closes_move → level_due (top R) l ≡ 0 → IsEnded R f s
 root-ended R {q = q} {l = l} {f = f} {s = s} i m owes =
     let d = ended_sound R.sort R.words f (rest s) (q, i.reach, m) in
-    let p = (done (top R) (start_good R) R.words q f (rest s) i.reach m).1 in
+    let p = (done (top R) (start_begins R) R.words q f (rest s) i.reach m).1 in
     let nests = nest-show (node (top R) f) p.0 in
     let end = peak-end (top R) q f in
     let lv = i.leveled in
@@ -131,7 +131,7 @@ token-of-all [] items x h = and-l _ _ h
 token-of-all (y ∷ front) items x h = token-of-all front items x (and-r _ _ h)
 
 -- over a sentence within the limits no report is right
-pub never-right : (sort : Sort) (r : ℕ) (xs : List Answer) (e : Report) (m : ℕ) (t : Tree) → Spells (answers_tokens xs) t sort → nest t ≤ r → all_tokens xs ≡ true → Right sort xs r (answers_tokens xs) e m → ⊥
+pub never-right : (sort : Sort) (r : ℕ) (xs : List Answer) (e : Report) (m : ℕ) (t : Tree) → Spells (answers_tokens xs) t sort → nest t ≤ r → all_tokens xs ≡ true → RightReport sort xs r (answers_tokens xs) e m → ⊥
 never-right sort r xs e m t h n a (stuck_here said {t = lexeme} {items = items} now q k c) = accepts sort (answers_tokens xs) (answers_tokens (given_by lexeme ∷ items)) t h k.0
 never-right sort r xs e m t h n a (deep_here {t = lexeme} {items = items} now q k c) =
     let u = sentence-parse sort (answers_tokens xs) t h in

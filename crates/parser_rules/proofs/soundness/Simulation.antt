@@ -32,10 +32,10 @@ use Rattle.parser_rules.proofs.soundness.MachineStack.{image, image-some, image-
 use Rattle.parser_rules.proofs.soundness.Settled.{fitting-image, fitting-path}
 use Rattle.parser_rules.proofs.soundness.TableCheck.{LoopState, most_turns, Then, same_level, same_certainty, limit_forgotten, same_position, covered, turns, levels_agree, level_is_entered, level_left, takes_token, after_node, after_inlined, after_stuck_node, child_begins, child_while_stuck, child_at, may_report_limit, enters_level, after_type, type_at, keeps_to_table, node_may_end, follows_table, bang_follows, no_bang_follows}
 use Rattle.parser_rules.proofs.NodeChecks.{node-passes}
-use Rattle.parser_rules.proofs.soundness.Positions.{Reading, idle-rest, Alike, same-alike, flush-alike, opened-alike, closed-alike, wrapped-alike, renested, left-idle, idle-seen, idle-grows, run-grows, top, Made, Stands, StandsAt, Fits, Way, Out, tell-on, fills, known-weak, start_good, idle-calm, shown, note-told, deep-told, taken-at, idle-lost, leveled-enter, leveled-leave, still-leveled, moved-on}
-use Rattle.parser_rules.proofs.soundness.Moves.{fits-next, lost-at, note-right, made-passes, goes-deeper, too-many, flushed, Shaped, token-taken, bump-out, begun, begun-in, ended, ended-here, tell-closed, with-sets, node-out, walked-out, lost-out}
+use Rattle.parser_rules.proofs.soundness.Positions.{ParserInput, unread-rest, OnlyBuilds, same-builds, flush-builds, opened-builds, closed-builds, wrapped-builds, renested, leave-unread, unread-seen, unread-grows, run-grows, top, Made, OpenNodesAgree, PositionHolds, StateFits, Continues, RunOutcome, rightly-on, limit-known-holds, certainty-forgotten, start_begins, unread-no-report, shown, note-rightly, limit-rightly, taken-at, unread-stuck, leveled-enter, leveled-leave, still-leveled, moved-on}
+use Rattle.parser_rules.proofs.soundness.Moves.{next-classes, stuck-at, report-right, made-passes, goes-deeper, too-many, flushed, Shaped, token-taken, bump-outcome, begun, node-begun, ended, inlined-ended, rightly-closed, with-sets, node-outcome, inlined-outcome, stuck-outcome}
 
-module _ (R : Reading) where
+module _ (R : ParserInput) where
   open R use {words as w}
 
   -- ---- marks
@@ -46,16 +46,16 @@ module _ (R : Reading) where
   level-same Left Left h = refl
   level-same _ _ h = false-true refl h
 
-  sure-same : (d e : Certainty) → same_certainty d e ≡ true → d ≡ e
-  sure-same Nothing Nothing h = refl
-  sure-same OpenWhateverFollows OpenWhateverFollows h = refl
-  sure-same AtLimit AtLimit h = refl
-  sure-same _ _ h = false-true refl h
+  certainty-same : (d e : Certainty) → same_certainty d e ≡ true → d ≡ e
+  certainty-same Nothing Nothing h = refl
+  certainty-same OpenWhateverFollows OpenWhateverFollows h = refl
+  certainty-same AtLimit AtLimit h = refl
+  certainty-same _ _ h = false-true refl h
 
-  spot-same : (p q : Position) → same_position p q ≡ true → p ≡ q
-  spot-same (in_row p l d) (in_row q m e) h = let i = eqb-true p q (and-l _ _ h) in let j = level-same l m (and-l _ _ (and-r _ _ h)) in let k = sure-same d e (and-r _ _ (and-r _ _ h)) in cc (i, j, k)
-  spot-same machine_is_stuck machine_is_stuck h = refl
-  spot-same _ _ h = false-true refl h
+  position-same : (p q : Position) → same_position p q ≡ true → p ≡ q
+  position-same (in_row p l d) (in_row q m e) h = let i = eqb-true p q (and-l _ _ h) in let j = level-same l m (and-l _ _ (and-r _ _ h)) in let k = certainty-same d e (and-r _ _ (and-r _ _ h)) in cc (i, j, k)
+  position-same machine_is_stuck machine_is_stuck h = refl
+  position-same _ _ h = false-true refl h
 
   -- the check of each mark that was met
   Met : (Position → ℕ → ℕ → Then → Bool) → List LoopState → Type 0
@@ -63,23 +63,23 @@ module _ (R : Reading) where
   Met turn (m ∷ h) = ((n : ℕ) × (turn m.position m.now m.after (turns n turn (m ∷ h)) ≡ true)) × Met turn h
 
   -- a mark at which a turn begins, with its check
-  record Head (turn : Position → ℕ → ℕ → Then → Bool) (s : ℕ) (fs : List Frame) (st : State) : Type 0 where
+  record LoopHead (turn : Position → ℕ → ℕ → Then → Bool) (s : ℕ) (fs : List Frame) (st : State) : Type 0 where
     count : ℕ
     marks : List LoopState
     met : Met turn marks
-    way : Way R s fs (λ p x y. turn p x y (turns count turn marks)) st
+    way : Continues R s fs (λ p x y. turn p x y (turns count turn marks)) st
 
-  met-at : (turn : Position → ℕ → ℕ → Then → Bool) (s : ℕ) (p : Position) (x y : ℕ) (fs : List Frame) (st : State) (h : List LoopState) → covered p x y h ≡ true → Met turn h → Fits R s p x y fs st → Head turn s fs st
+  met-at : (turn : Position → ℕ → ℕ → Then → Bool) (s : ℕ) (p : Position) (x y : ℕ) (fs : List Frame) (st : State) (h : List LoopState) → covered p x y h ≡ true → Met turn h → StateFits R s p x y fs st → LoopHead turn s fs st
   unfolding covered Met
   met-at turn s p x y fs st [] c m g = false-true refl c
   met-at turn s p x y fs st (m ∷ h) c e g = elim (or-c _ _ c) [
     | inl i ↦ (
-        let f = subst (λ (z : Position). Fits R s z x y fs st) (spot-same p m.position (and-l _ _ i)) g in
+        let f = subst (λ (z : Position). StateFits R s z x y fs st) (position-same p m.position (and-l _ _ i)) g in
         record { count = e.0.0; marks = m ∷ h; met = e; way = (m.position, m.now, m.after, e.0.1, with-sets R f (seen-more x y m.now m.after st (and-r _ _ i) g.seen)) })
     | inr i ↦ met-at turn s p x y fs st h i e.1 g
   ]
 
-  head-at : (turn : Position → ℕ → ℕ → Then → Bool) (n s : ℕ) (p : Position) (x y : ℕ) (fs : List Frame) (st : State) (h : List LoopState) → turns n turn h p x y ≡ true → Met turn h → Fits R s p x y fs st → Head turn s fs st
+  head-at : (turn : Position → ℕ → ℕ → Then → Bool) (n s : ℕ) (p : Position) (x y : ℕ) (fs : List Frame) (st : State) (h : List LoopState) → turns n turn h p x y ≡ true → Met turn h → StateFits R s p x y fs st → LoopHead turn s fs st
   unfolding turns Met
   head-at turn zero s p x y fs st h c m g = met-at turn s p x y fs st h c m g
   head-at turn (suc n) s p x y fs st h c m g = elim (either (covered p x y h)) [
@@ -88,88 +88,88 @@ module _ (R : Reading) where
   ]
 
   -- the branch that is taken
-  branch : (t : Test) (b : Bool) (s : ℕ) (fs : List Frame) (st : State) (f g : Then) → b ≡ holds t st → Way R s fs (λ p x y. divide (λ a b. a and b) true t p x y f g) st → Way R s fs (cond b f g) st
+  branch : (t : Test) (b : Bool) (s : ℕ) (fs : List Frame) (st : State) (f g : Then) → b ≡ holds t st → Continues R s fs (λ p x y. divide (λ a b. a and b) true t p x y f g) st → Continues R s fs (cond b f g) st
   branch t b s fs st f g e (p, x, y, h, c) =
-      let r = divide-at st (λ (p : Position). StandsAt R s p fs st) (fills R s fs st) t b p x y f g (shown R st c.calm) e h c.seen c.stands in
-      (r.0, r.1, r.2, r.3, record { calm = c.calm; seen = r.4; stands = r.5 })
+      let r = divide-at st (λ (p : Position). PositionHolds R s p fs st) (limit-known-holds R s fs st) t b p x y f g (shown R st c.no_report) e h c.seen c.position in
+      (r.0, r.1, r.2, r.3, record { no_report = c.no_report; seen = r.4; position = r.5 })
 
   -- ---- runs
 
-  abbrev turned : ℕ → ℕ → Test → Rule → Then → Position → ℕ → ℕ → Then → Bool
-  turned n s t a k p u v next = divide (λ a' b'. a' and b') true t p u v (λ q' u' v'. keeps_to_table n s q' u' v' a next) k
+  abbrev loop_turn : ℕ → ℕ → Test → Rule → Then → Position → ℕ → ℕ → Then → Bool
+  loop_turn n s t a k p u v next = divide (λ a' b'. a' and b') true t p u v (λ q' u' v'. keeps_to_table n s q' u' v' a next) k
 
   -- What is asked of a rule: its check, and for a loop that of the turns that are left, with the marks that were met.
-  pub Good : ℕ → ℕ → Position → ℕ → ℕ → Rule → Then → Type 0
-  Good n s p x y (While t a) k = (j : ℕ) × (h : List LoopState) × (turns j (turned n s t a k) h p x y ≡ true) × Met (turned n s t a k) h
-  Good n s p x y r k = keeps_to_table n s p x y r k ≡ true
+  pub Checked : ℕ → ℕ → Position → ℕ → ℕ → Rule → Then → Type 0
+  Checked n s p x y (While t a) k = (j : ℕ) × (h : List LoopState) × (turns j (loop_turn n s t a k) h p x y ≡ true) × Met (loop_turn n s t a k) h
+  Checked n s p x y r k = keeps_to_table n s p x y r k ≡ true
 
-  pub good : (n s : ℕ) (p : Position) (x y : ℕ) (r : Rule) (k : Then) → keeps_to_table n s p x y r k ≡ true → Good n s p x y r k
-  unfolding Good keeps_to_table Met
-  good n s p x y (While t a) k h = (most_turns, [], h, tt)
-  good n s p x y _ k h = h
+  pub checked : (n s : ℕ) (p : Position) (x y : ℕ) (r : Rule) (k : Then) → keeps_to_table n s p x y r k ≡ true → Checked n s p x y r k
+  unfolding Checked keeps_to_table Met
+  checked n s p x y (While t a) k h = (most_turns, [], h, tt)
+  checked n s p x y _ k h = h
 
   -- a run of a rule, from any mark that its check holds at
-  abbrev Walks : Rule → State → State → Type 0
-  Walks r t u = (n s : ℕ) (p : Position) (x y : ℕ) (fs : List Frame) (k : Then) → Good n s p x y r k → Fits R s p x y fs t → Out R s fs k u
+  abbrev Simulates : Rule → State → State → Type 0
+  Simulates r t u = (n s : ℕ) (p : Position) (x y : ℕ) (fs : List Frame) (k : Then) → Checked n s p x y r k → StateFits R s p x y fs t → RunOutcome R s fs k u
 
-  walked : (r : Rule) {t u : State} → Walks r t u → (n s : ℕ) (fs : List Frame) (k : Then) → Way R s fs (λ p x y. keeps_to_table n s p x y r k) t → Out R s fs k u
-  walked r walk n s fs k (p, x, y, h, g) = walk n s p x y fs k (good n s p x y r k h) g
+  simulated : (r : Rule) {t u : State} → Simulates r t u → (n s : ℕ) (fs : List Frame) (k : Then) → Continues R s fs (λ p x y. keeps_to_table n s p x y r k) t → RunOutcome R s fs k u
+  simulated r walk n s fs k (p, x, y, h, g) = walk n s p x y fs k (checked n s p x y r k h) g
 
-  then-on : (s : ℕ) (fs : List Frame) (f k : Then) (t u : State) → Grows t u → (Way R s fs f t → Out R s fs k u) → Out R s fs f t → Out R s fs k u
-  then-on s fs f k t u g on (inl o) = inl (tell-on R t u g o)
+  then-on : (s : ℕ) (fs : List Frame) (f k : Then) (t u : State) → Grows t u → (Continues R s fs f t → RunOutcome R s fs k u) → RunOutcome R s fs f t → RunOutcome R s fs k u
+  then-on s fs f k t u g on (inl o) = inl (rightly-on R t u g o)
   then-on s fs f k t u g on (inr o) = on o
 
   -- a node's rule is walked at its place, or by the check of its kind
-  goes-in : (n s q x y : ℕ) (l : Level) (d : Certainty) (c : Node) (fs : List Frame) (k : Then) (st t u : State) → t ≡ opened (kind_of c) st → Walks (inside c) t u → child_begins s q l x y c k (λ u v k'. keeps_to_table n (symbol c) at_start u v (inside c) k') ≡ true → Fits R s (in_row q l d) x y fs st → Out R s fs k (closed u)
+  node-begins : (n s q x y : ℕ) (l : Level) (d : Certainty) (c : Node) (fs : List Frame) (k : Then) (st t u : State) → t ≡ opened (kind_of c) st → Simulates (inside c) t u → child_begins s q l x y c k (λ u v k'. keeps_to_table n (symbol c) at_start u v (inside c) k') ≡ true → StateFits R s (in_row q l d) x y fs st → RunOutcome R s fs k (closed u)
   unfolding child_begins follows_table
-  goes-in n s q x y l d c fs k st t u e walk h g =
+  node-begins n s q x y l d c fs k st t u e walk h g =
       let j : ℕ = symbol c in
       let p : Position = in_row (target s q j) l OpenWhateverFollows in
-      let gs : List Frame = frame s q g.stands.0.children ∷ fs in
+      let gs : List Frame = frame s q g.position.0.children ∷ fs in
       let agree : levels_agree s l j ≡ true = and-r _ _ (and-l _ _ h) in
-      let b : Fits R j at_start x y gs t = rw e (begun-in R c g (and-l _ _ (and-l _ _ h)) agree) in
-      (elim (inlined c) as (λ i. cond i (keeps_to_table n j at_start x y (inside c) (after_inlined j p k)) ((subset x (first_of c) and subset y (second_of c)) and after_node p c k) ≡ true → Out R s fs k (closed u)) [
-        | true ↦ λ m. walked-out R c k u g.stands.0 agree (walked (inside c) walk n j gs (after_inlined j p k) (at_start, x, y, m, b))
-        | false ↦ λ m. node-out R c k u g.stands.0 agree (and-r _ _ m) (walked (inside c) walk rules_deep j gs (node_may_end c) (at_start, first_of c, second_of c, and-r _ _ (node-passes c).table, with-sets R b (seen-more x y _ _ t (and-l _ _ m) b.seen)))
+      let b : StateFits R j at_start x y gs t = rw e (node-begun R c g (and-l _ _ (and-l _ _ h)) agree) in
+      (elim (inlined c) as (λ i. cond i (keeps_to_table n j at_start x y (inside c) (after_inlined j p k)) ((subset x (first_of c) and subset y (second_of c)) and after_node p c k) ≡ true → RunOutcome R s fs k (closed u)) [
+        | true ↦ λ m. inlined-outcome R c k u g.position.0 agree (simulated (inside c) walk n j gs (after_inlined j p k) (at_start, x, y, m, b))
+        | false ↦ λ m. node-outcome R c k u g.position.0 agree (and-r _ _ m) (simulated (inside c) walk rules_deep j gs (node_may_end c) (at_start, first_of c, second_of c, and-r _ _ (node-passes c).table, with-sets R b (seen-more x y _ _ t (and-l _ _ m) b.seen)))
       ]) (and-r _ _ h)
 
-  sticks-in : (n s x y : ℕ) (c : Node) (fs : List Frame) (k : Then) (st t u : State) → t ≡ opened (kind_of c) st → Walks (inside c) t u → keeps_to_table n s machine_is_stuck x y (inside c) (after_stuck_node k) ≡ true → Fits R s machine_is_stuck x y fs st → Out R s fs k (closed u)
-  sticks-in n s x y c fs k st t u e walk h g =
-      let a = (opened-alike (kind_of c) st).idle in
-      lost-out R k u (walked (inside c) walk n s fs (after_stuck_node k) (machine_is_stuck, x, y, h, rw e (moved-on R g a (idle-lost R a g.stands))))
+  begins-while-stuck : (n s x y : ℕ) (c : Node) (fs : List Frame) (k : Then) (st t u : State) → t ≡ opened (kind_of c) st → Simulates (inside c) t u → keeps_to_table n s machine_is_stuck x y (inside c) (after_stuck_node k) ≡ true → StateFits R s machine_is_stuck x y fs st → RunOutcome R s fs k (closed u)
+  begins-while-stuck n s x y c fs k st t u e walk h g =
+      let a = (opened-builds (kind_of c) st).reads_nothing in
+      stuck-outcome R k u (simulated (inside c) walk n s fs (after_stuck_node k) (machine_is_stuck, x, y, h, rw e (moved-on R g a (unread-stuck R a g.position))))
 
-  child-in : (n s : ℕ) (p : Position) (x y : ℕ) (c : Node) (fs : List Frame) (k : Then) (st t u : State) → t ≡ opened (kind_of c) st → Walks (inside c) t u → child_at s p x y c k (λ u v k'. keeps_to_table n (symbol c) at_start u v (inside c) k') (λ u v. keeps_to_table n s machine_is_stuck u v (inside c) (after_stuck_node k)) ≡ true → Fits R s p x y fs st → Out R s fs k (closed u)
+  child-simulated : (n s : ℕ) (p : Position) (x y : ℕ) (c : Node) (fs : List Frame) (k : Then) (st t u : State) → t ≡ opened (kind_of c) st → Simulates (inside c) t u → child_at s p x y c k (λ u v k'. keeps_to_table n (symbol c) at_start u v (inside c) k') (λ u v. keeps_to_table n s machine_is_stuck u v (inside c) (after_stuck_node k)) ≡ true → StateFits R s p x y fs st → RunOutcome R s fs k (closed u)
   unfolding child_at child_while_stuck
-  child-in n s machine_is_stuck x y c fs k st t u e walk h g = sticks-in n s x y c fs k st t u e walk h g
-  child-in n s (in_row q l d) x y c fs k st t u e walk h g =
+  child-simulated n s machine_is_stuck x y c fs k st t u e walk h g = begins-while-stuck n s x y c fs k st t u e walk h g
+  child-simulated n s (in_row q l d) x y c fs k st t u e walk h g =
       let f : ℕ → ℕ → Bool = λ u v. child_begins s q l u v c k (λ u v k'. keeps_to_table n (symbol c) at_start u v (inside c) k') in
       let f' : ℕ → ℕ → Bool = λ u v. child_while_stuck s q u v (λ u v. keeps_to_table n s machine_is_stuck u v (inside c) (after_stuck_node k)) in
       elim (either (within (class_of st.current) (first_of c))) [
-        | inl i ↦ (let r = near-at true (first_of c) x y f f' st (sym i) h g.seen in goes-in n s q r.0 r.1 l d c fs k st t u e walk r.2 (with-sets R g r.3))
+        | inl i ↦ (let r = near-at true (first_of c) x y f f' st (sym i) h g.seen in node-begins n s q r.0 r.1 l d c fs k st t u e walk r.2 (with-sets R g r.3))
         | inr i ↦ (
             let r = near-at false (first_of c) x y f f' st (sym i) h g.seen in
-            sticks-in n s r.0 r.1 c fs k st t u e walk (and-r _ _ r.2) (record { calm = g.calm; seen = r.3; stands = lost-at R (with-sets R g r.3) (and-l _ _ r.2) }))
+            begins-while-stuck n s r.0 r.1 c fs k st t u e walk (and-r _ _ r.2) (record { no_report = g.no_report; seen = r.3; position = stuck-at R (with-sets R g r.3) (and-l _ _ r.2) }))
       ]
 
   -- ---- a type begins and ends
 
-  type-in : (n s q x y : ℕ) (l : Level) (d : Certainty) (a : Rule) (fs : List Frame) (k : Then) (st t u : State) → t ≡ flush st → Walks a t u → type_at s (in_row q l d) x y k (λ k'. keeps_to_table n TYPE at_start x y a k') ≡ true → (g : Fits R s (in_row q l d) x y fs st)
-      → Out R TYPE (frame s q g.stands.0.children ∷ fs) (after_type (in_row (target s q TYPE) l OpenWhateverFollows) k) u
+  type-begins : (n s q x y : ℕ) (l : Level) (d : Certainty) (a : Rule) (fs : List Frame) (k : Then) (st t u : State) → t ≡ flush st → Simulates a t u → type_at s (in_row q l d) x y k (λ k'. keeps_to_table n TYPE at_start x y a k') ≡ true → (g : StateFits R s (in_row q l d) x y fs st)
+      → RunOutcome R TYPE (frame s q g.position.0.children ∷ fs) (after_type (in_row (target s q TYPE) l OpenWhateverFollows) k) u
   unfolding type_at flush is_leaf
-  type-in n s q x y l d a fs k st t u e walk h g =
-      let gs : List Frame = frame s q g.stands.0.children ∷ fs in
+  type-begins n s q x y l d a fs k st t u e walk h g =
+      let gs : List Frame = frame s q g.position.0.children ∷ fs in
       let m = and-l _ _ h in
-      let b : Fits R TYPE at_start x y gs (flush st) = begun R TYPE g refl refl (and-l _ _ m) (and-l _ _ (and-r _ _ m)) (flush-alike st) (λ i. flushed R st g.calm ∙ (i ∙ sym (put-none (image gs)))) in
-      walked a walk n TYPE gs (after_type (in_row (target s q TYPE) l OpenWhateverFollows) k) (at_start, x, y, and-r _ _ h, rw e b)
+      let b : StateFits R TYPE at_start x y gs (flush st) = begun R TYPE g refl refl (and-l _ _ m) (and-l _ _ (and-r _ _ m)) (flush-builds st) (λ i. flushed R st g.no_report ∙ (i ∙ sym (put-none (image gs)))) in
+      simulated a walk n TYPE gs (after_type (in_row (target s q TYPE) l OpenWhateverFollows) k) (at_start, x, y, and-r _ _ h, rw e b)
 
   -- the children of a type that no `!` ends
-  one-path : {q : ℕ} {l : Level} {fs : List Frame} {u : State} (c : Stands R TYPE q l fs u) → eqb q 1 ≡ true → Path TYPE 0 c.children 1
-  one-path c e = subst (λ (n : ℕ). Path TYPE 0 c.children n) (eqb-true _ _ e) (reach-sound (start-no-leaf (top R) (start_good R)) c.place.reach).1
+  one-path : {q : ℕ} {l : Level} {fs : List Frame} {u : State} (c : OpenNodesAgree R TYPE q l fs u) → eqb q 1 ≡ true → Path TYPE 0 c.children 1
+  one-path c e = subst (λ (n : ℕ). Path TYPE 0 c.children n) (eqb-true _ _ e) (reach-sound (start-no-leaf (top R) (start_begins R)) c.place.reach).1
 
-  plain-in : (n s : ℕ) (p : Position) (x y : ℕ) (a : Rule) (fs : List Frame) (k : Then) (st t u : State) → t ≡ flush st → Walks a t u → false ≡ holds (At token.Bang) u → type_at s p x y k (λ k'. keeps_to_table n TYPE at_start x y a k') ≡ true → Fits R s p x y fs st → Out R s fs k u
+  plain-type : (n s : ℕ) (p : Position) (x y : ℕ) (a : Rule) (fs : List Frame) (k : Then) (st t u : State) → t ≡ flush st → Simulates a t u → false ≡ holds (At token.Bang) u → type_at s p x y k (λ k'. keeps_to_table n TYPE at_start x y a k') ≡ true → StateFits R s p x y fs st → RunOutcome R s fs k u
   unfolding type_at after_type
-  plain-in n s machine_is_stuck x y a fs k st t u e walk b h g = false-true refl h
-  plain-in n s (in_row q l d) x y a fs k st t u e walk b h g = elim (type-in n s q x y l d a fs k st t u e walk h g) [
+  plain-type n s machine_is_stuck x y a fs k st t u e walk b h g = false-true refl h
+  plain-type n s (in_row q l d) x y a fs k st t u e walk b h g = elim (type-begins n s q x y l d a fs k st t u e walk h g) [
     | inl o ↦ inl o
     | inr o ↦ inr (on (branch (At token.Bang) false TYPE gs u (bang_follows p k) (no_bang_follows p k) b o))
   ]
@@ -178,22 +178,22 @@ module _ (R : Reading) where
       p = in_row (target s q TYPE) l OpenWhateverFollows
 
       gs : List Frame
-      gs = frame s q g.stands.0.children ∷ fs
+      gs = frame s q g.position.0.children ∷ fs
 
-      on : Way R TYPE gs (no_bang_follows p k) u → Way R s fs k u
+      on : Continues R TYPE gs (no_bang_follows p k) u → Continues R s fs k u
       on (machine_is_stuck, x, y, t, i) = false-true refl (and-l _ _ t)
-      on (in_row q' m d, x, y, t, i) = ended-here R g.stands.0 k (and-l _ _ (and-r _ _ (and-l _ _ h))) (and-r _ _ t) i (same-alike u) (i.stands.0.built ∙ image-plain s q q g.stands.0.children i.stands.0.children fs (one-path i.stands.0 (and-l _ _ t)))
+      on (in_row q' m d, x, y, t, i) = inlined-ended R g.position.0 k (and-l _ _ (and-r _ _ (and-l _ _ h))) (and-r _ _ t) i (same-builds u) (i.position.0.built ∙ image-plain s q q g.position.0.children i.position.0.children fs (one-path i.position.0 (and-l _ _ t)))
 
   bang-built : (f : Forest) (fs : List Frame) (v : State) (x : Text) → Path TYPE 0 f 1 → stack v.tree ≡ (NON_NULL_TYPE, shows (f +++ (leaf BANG x ▸ none))) ∷ image fs → stack (closed v).tree ≡ put (show (node TYPE (f +++ (leaf BANG x ▸ none))) ▸ none) (image fs)
   unfolding closed
   bang-built f fs v x p e = stack-finish v.tree (NON_NULL_TYPE, shows (f +++ (leaf BANG x ▸ none))) (image fs) (image-some fs) e ∙ ap (λ (t : Tree). put (t ▸ none) (image fs)) (sym (show-bang f x p))
 
-  wrapped-in : (n s : ℕ) (p : Position) (x y : ℕ) (a : Rule) (fs : List Frame) (k : Then) (st t u v w' : State) → t ≡ flush st → Walks a t u → Adds t u → v ≡ wrapped_from (built_count t.tree) kind.NON_NULL_TYPE u → Grows v w' → w' ≡ bump kind.BANG v → true ≡ holds (At token.Bang) u
-      → type_at s p x y k (λ k'. keeps_to_table n TYPE at_start x y a k') ≡ true → Fits R s p x y fs st → Out R s fs k (closed w')
+  wrapped-type : (n s : ℕ) (p : Position) (x y : ℕ) (a : Rule) (fs : List Frame) (k : Then) (st t u v w' : State) → t ≡ flush st → Simulates a t u → Adds t u → v ≡ wrapped_from (built_count t.tree) kind.NON_NULL_TYPE u → Grows v w' → w' ≡ bump kind.BANG v → true ≡ holds (At token.Bang) u
+      → type_at s p x y k (λ k'. keeps_to_table n TYPE at_start x y a k') ≡ true → StateFits R s p x y fs st → RunOutcome R s fs k (closed w')
   unfolding type_at after_type takes_token after_inlined flush wrapped_from
-  wrapped-in n s machine_is_stuck x y a fs k st t u v w' e walk added i gr j b h g = false-true refl h
-  wrapped-in n s (in_row q l d) x y a fs k st t u v w' e walk added i gr j b h g = elim (type-in n s q x y l d a fs k st t u e walk h g) [
-    | inl o ↦ inl (tell-closed R w' (tell-on R u w' (grows-on u v w' (idle-grows al.idle) gr) o))
+  wrapped-type n s machine_is_stuck x y a fs k st t u v w' e walk added i gr j b h g = false-true refl h
+  wrapped-type n s (in_row q l d) x y a fs k st t u v w' e walk added i gr j b h g = elim (type-begins n s q x y l d a fs k st t u e walk h g) [
+    | inl o ↦ inl (rightly-closed R w' (rightly-on R u w' (grows-on u v w' (unread-grows al.reads_nothing) gr) o))
     | inr o ↦ on (branch (At token.Bang) true TYPE gs u (bang_follows p k) (no_bang_follows p k) b o)
   ]
     where
@@ -201,107 +201,107 @@ module _ (R : Reading) where
       p = in_row (target s q TYPE) l OpenWhateverFollows
 
       gs : List Frame
-      gs = frame s q g.stands.0.children ∷ fs
+      gs = frame s q g.position.0.children ∷ fs
 
       none_equal : eqb s TYPE ≡ false
       none_equal = not-c _ (and-r _ _ (and-r _ _ (and-l _ _ h)))
 
-      al : Alike u v
-      al = rw i (wrapped-alike (built_count t.tree) kind.NON_NULL_TYPE u)
+      al : OnlyBuilds u v
+      al = rw i (wrapped-builds (built_count t.tree) kind.NON_NULL_TYPE u)
 
       -- the builder's open nodes: that of the `!` and of what it follows is new
       shape : Forest → Stack
       shape f = (NON_NULL_TYPE, f) ∷ image gs
 
       shaped : Shaped R TYPE gs shape
-      shaped = record { joins = λ f g. refl; fits = λ q f r o. let h = reach-sound (start-no-leaf (top R) (start_good R)) o in fitting-path TYPE 0 q NON_NULL_TYPE f gs (image gs) h.0 h.1 (fitting-image (top R) gs h.3) }
+      shaped = record { joins = λ f g. refl; fits = λ q f r o. let h = reach-sound (start-no-leaf (top R) (start_begins R)) o in fitting-path TYPE 0 q NON_NULL_TYPE f gs (image gs) h.0 h.1 (fitting-image (top R) gs h.3) }
 
       before : stack t.tree ≡ image gs
-      before = ap (λ (z : State). stack z.tree) e ∙ (flushed R st g.calm ∙ g.stands.0.built)
+      before = ap (λ (z : State). stack z.tree) e ∙ (flushed R st g.no_report ∙ g.position.0.built)
 
-      on : Way R TYPE gs (bang_follows p k) u → Out R s fs k (closed w')
+      on : Continues R TYPE gs (bang_follows p k) u → RunOutcome R s fs k (closed w')
       on (machine_is_stuck, x, y, t, c) = false-true refl (and-l _ _ t)
       on (in_row q' m d, x, y, t', c) =
-          let f : Forest = c.stands.0.children in
-          let built : stack v.tree ≡ shape (shows f) = ap (λ (z : State). stack z.tree) i ∙ stack-wrap s q q' g.stands.0.children f fs t.tree u.tree added.more none_equal added.trees.above added.trees.here before c.stands.0.built in
-          subst (λ (z : State). Out R s fs k (closed z)) (sym j) (elim (token-taken R kind.BANG TYPE q' BANG x y m d f gs v shape (λ P. after_inlined TYPE p k P y any) (and-r _ _ t') shaped (record { reach = rw (idle-rest al.idle) c.stands.0.place.reach; leveled = still-leveled R al c.stands.0.place.leveled; alone = c.stands.0.place.alone }) built (idle-calm R al.idle c.calm) (idle-seen x y al.idle c.seen)) [
-            | inl o ↦ inl (tell-closed R (bump kind.BANG v) o)
+          let f : Forest = c.position.0.children in
+          let built : stack v.tree ≡ shape (shows f) = ap (λ (z : State). stack z.tree) i ∙ stack-wrap s q q' g.position.0.children f fs t.tree u.tree added.more none_equal added.trees.above added.trees.here before c.position.0.built in
+          subst (λ (z : State). RunOutcome R s fs k (closed z)) (sym j) (elim (token-taken R kind.BANG TYPE q' BANG x y m d f gs v shape (λ P. after_inlined TYPE p k P y any) (and-r _ _ t') shaped (record { reach = rw (unread-rest al.reads_nothing) c.position.0.place.reach; leveled = still-leveled R al c.position.0.place.leveled; alone = c.position.0.place.alone }) built (unread-no-report R al.reads_nothing c.no_report) (unread-seen x y al.reads_nothing c.seen)) [
+            | inl o ↦ inl (rightly-closed R (bump kind.BANG v) o)
             | inr o ↦ (
                 let w'' : State = bump kind.BANG v in
                 let g' : Forest = f +++ (leaf BANG o.first.1 ▸ none) in
                 let c' = and-r _ _ (and-r _ _ (and-r _ _ t')) in
-                let done : stack (closed w'').tree ≡ put (show (node TYPE g') ▸ none) (image gs) = bang-built f gs w'' o.first.1 (one-path c.stands.0 (and-l _ _ t')) o.built in
+                let done : stack (closed w'').tree ≡ put (show (node TYPE g') ▸ none) (image gs) = bang-built f gs w'' o.first.1 (one-path c.position.0 (and-l _ _ t')) o.built in
                 inr (
                   in_row (target s q TYPE + exit TYPE (target TYPE q' BANG)) l OpenWhateverFollows,
                   y,
                   any,
                   and-r _ _ c',
                   record {
-                    calm = idle-calm R (closed-alike w'').idle o.calm;
-                    seen = idle-seen y any (closed-alike w'').idle o.seen;
-                    stands = ended R g.stands.0 OpenWhateverFollows y (and-l _ _ (and-r _ _ (and-l _ _ h))) (and-l _ _ c') (sees-next y any w'' o.calm.now o.seen).near o.certain o.place (closed-alike w'') done;
+                    no_report = unread-no-report R (closed-builds w'').reads_nothing o.no_report;
+                    seen = unread-seen y any (closed-builds w'').reads_nothing o.seen;
+                    position = ended R g.position.0 OpenWhateverFollows y (and-l _ _ (and-r _ _ (and-l _ _ h))) (and-l _ _ c') (sees-next y any w'' o.no_report.now o.seen).near o.certain o.place (closed-builds w'') done;
                   },
                 ))
           ])
 
   -- ---- a level is entered and left
 
-  level-in : (n s : ℕ) (p : Position) (x y : ℕ) (a b : Rule) (fs : List Frame) (k : Then) (st t u v z : State) → false ≡ is_deep st → t ≡ enter st → v ≡ leave u → Walks a t u → Walks b v z → Grows v z → keeps_to_table n s p x y (Nested a b) k ≡ true → Fits R s p x y fs st → Out R s fs k z
+  level-simulated : (n s : ℕ) (p : Position) (x y : ℕ) (a b : Rule) (fs : List Frame) (k : Then) (st t u v z : State) → false ≡ is_deep st → t ≡ enter st → v ≡ leave u → Simulates a t u → Simulates b v z → Grows v z → keeps_to_table n s p x y (Nested a b) k ≡ true → StateFits R s p x y fs st → RunOutcome R s fs k z
   unfolding keeps_to_table enters_level may_report_limit is_deep enter leave
-  level-in n s machine_is_stuck x y a b fs k st t u v z e i j walk walk' gr h g = false-true refl (and-l _ _ h)
-  level-in n s (in_row q l d) x y a b fs k st t u v z e i j walk walk' gr h g =
-      then-on s fs inner k u z (grows-on u v z (idle-grows (left-idle j)) gr) after_it (walked a walk n s fs inner (in_row q Entered (limit_forgotten d), x, y, and-r _ _ (and-r _ _ h), rw i (moved-on R g (renested st (st.depth + 1) (max st.high (st.depth + 1))) within_it)))
+  level-simulated n s machine_is_stuck x y a b fs k st t u v z e i j walk walk' gr h g = false-true refl (and-l _ _ h)
+  level-simulated n s (in_row q l d) x y a b fs k st t u v z e i j walk walk' gr h g =
+      then-on s fs inner k u z (grows-on u v z (unread-grows (leave-unread j)) gr) after_it (simulated a walk n s fs inner (in_row q Entered (limit_forgotten d), x, y, and-r _ _ (and-r _ _ h), rw i (moved-on R g (renested st (st.depth + 1) (max st.high (st.depth + 1))) within_it)))
     where
-      c : Stands R s q l fs st
-      c = g.stands.0
+      c : OpenNodesAgree R s q l fs st
+      c = g.position.0
 
       inner : Then
       inner p x y = level_is_entered p and keeps_to_table n s (level_left p) x y b k
 
       deeper_tree : (t : Tree) → Made R t → st.depth < nesting_all t
-      deeper_tree t p = goes-deeper R x t (rest st) w (and-r _ _ (and-l _ _ h)) c.place (made-passes R (rest st) t p) (fits-next R g).near c.place.reach
+      deeper_tree t p = goes-deeper R x t (rest st) w (and-r _ _ (and-l _ _ h)) c.place (made-passes R (rest st) t p) (next-classes R g).near c.place.reach
 
-      within_it : StandsAt R s (in_row q Entered (limit_forgotten d)) fs (enter st)
+      within_it : PositionHolds R s (in_row q Entered (limit_forgotten d)) fs (enter st)
       within_it = (
         record { children = c.children; place = record { reach = c.place.reach; leveled = leveled-enter R (eqb-true _ _ (and-l _ _ (and-r _ _ h))) (leb-false st.limit st.depth (sym e)) deeper_tree c.place.leveled; alone = c.place.alone }; built = c.built },
-        known-weak R d (frame s q c.children ∷ fs) st (enter st) refl g.stands.1,
+        certainty-forgotten R d (frame s q c.children ∷ fs) st (enter st) refl g.position.1,
       )
 
-      left_it : (q : ℕ) (d : Certainty) → StandsAt R s (in_row q Entered d) fs u → StandsAt R s (in_row q Left (limit_forgotten d)) fs (leave u)
+      left_it : (q : ℕ) (d : Certainty) → PositionHolds R s (in_row q Entered d) fs u → PositionHolds R s (in_row q Left (limit_forgotten d)) fs (leave u)
       left_it q d c = (
         record { children = c.0.children; place = record { reach = c.0.place.reach; leveled = leveled-leave R c.0.place.leveled; alone = c.0.place.alone }; built = c.0.built },
-        known-weak R d (frame s q c.0.children ∷ fs) u (leave u) refl c.1,
+        certainty-forgotten R d (frame s q c.0.children ∷ fs) u (leave u) refl c.1,
       )
 
-      after_it : Way R s fs inner u → Out R s fs k z
-      after_it (in_row q Entered d, x, y, h, g) = walked b walk' n s fs k (in_row q Left (limit_forgotten d), x, y, and-r _ _ h, moved-on R g (left-idle j) (rw j (left_it q d g.stands)))
-      after_it (machine_is_stuck, x, y, h, g) = walked b walk' n s fs k (machine_is_stuck, x, y, and-r _ _ h, moved-on R g (left-idle j) (idle-lost R (left-idle j) g.stands))
+      after_it : Continues R s fs inner u → RunOutcome R s fs k z
+      after_it (in_row q Entered d, x, y, h, g) = simulated b walk' n s fs k (in_row q Left (limit_forgotten d), x, y, and-r _ _ h, moved-on R g (leave-unread j) (rw j (left_it q d g.position)))
+      after_it (machine_is_stuck, x, y, h, g) = simulated b walk' n s fs k (machine_is_stuck, x, y, and-r _ _ h, moved-on R g (leave-unread j) (unread-stuck R (leave-unread j) g.position))
       after_it (in_row q NotEntered d, x, y, h, g) = false-true refl (and-l _ _ h)
       after_it (in_row q Left d, x, y, h, g) = false-true refl (and-l _ _ h)
 
-  pub link : {r : Rule} {st t : State} → Runs r st t → (n s : ℕ) (p : Position) (x y : ℕ) (fs : List Frame) (k : Then) → Good n s p x y r k → Fits R s p x y fs st → Out R s fs k t
-  unfolding Good keeps_to_table step
-  link skip n s p x y fs k h g = inr (p, x, y, h, g)
-  link {st = st} (does {a = Bump kind} e) n s p x y fs k h g = rw e (bump-out R s p x y kind fs k st h g)
-  link {st = st} (does {a = Note m} e) n s p x y fs k h g = rw e (inl (note-told R m st g.calm (note-right R s p x y fs st h g) (taken-at R s p fs st g.stands)))
-  link {t = u} (seq {a = a} {b = b} {t = t} h1 h2) n s p x y fs k h g =
+  pub simulation : {r : Rule} {st t : State} → Runs r st t → (n s : ℕ) (p : Position) (x y : ℕ) (fs : List Frame) (k : Then) → Checked n s p x y r k → StateFits R s p x y fs st → RunOutcome R s fs k t
+  unfolding Checked keeps_to_table step
+  simulation skip n s p x y fs k h g = inr (p, x, y, h, g)
+  simulation {st = st} (does {a = Bump kind} e) n s p x y fs k h g = rw e (bump-outcome R s p x y kind fs k st h g)
+  simulation {st = st} (does {a = Note m} e) n s p x y fs k h g = rw e (inl (note-rightly R m st g.no_report (report-right R s p x y fs st h g) (taken-at R s p fs st g.position)))
+  simulation {t = u} (seq {a = a} {b = b} {t = t} h1 h2) n s p x y fs k h g =
       let f : Then = λ p' u v. keeps_to_table n s p' u v b k in
-      then-on s fs f k t u (run-grows h2) (walked b (link h2) n s fs k) (walked a (link h1) n s fs f (p, x, y, h, g))
-  link {st = st} (yes {q = q} {a = a} {b = b} e h1) n s p x y fs k h g = walked a (link h1) n s fs k (branch q true s fs st (λ p' u v. keeps_to_table n s p' u v a k) (λ p' u v. keeps_to_table n s p' u v b k) e (p, x, y, h, g))
-  link {st = st} (no {q = q} {a = a} {b = b} e h1) n s p x y fs k h g = walked b (link h1) n s fs k (branch q false s fs st (λ p' u v. keeps_to_table n s p' u v a k) (λ p' u v. keeps_to_table n s p' u v b k) e (p, x, y, h, g))
-  link {st = st} (done {q = q} {a = a} e) n s p x y fs k h g =
-      let d = head-at (turned n s q a k) h.0 s p x y fs st h.1 h.2 h.3 g in inr (branch q false s fs st (λ q' u' v'. keeps_to_table n s q' u' v' a (turns d.count (turned n s q a k) d.marks)) k e d.way)
-  link {st = st} {t = u} (again {q = q} {a = a} {t = t} e h1 h2) n s p x y fs k h g =
-      let d = head-at (turned n s q a k) h.0 s p x y fs st h.1 h.2 h.3 g in
-      let f : Then = turns d.count (turned n s q a k) d.marks in
-      then-on s fs f k t u (run-grows h2) (λ o. link h2 n s o.0 o.1 o.2 fs k (d.count, d.marks, o.3, d.met) o.4) (walked a (link h1) n s fs f (branch q true s fs st (λ q' u' v'. keeps_to_table n s q' u' v' a f) k e d.way))
-  link (child i j h1) zero s p x y fs k h g = false-true refl h
-  link {st = st} (child {n = c} {t = t} {u = u} i j h1) (suc n) s p x y fs k h g = rw j (child-in n s p x y c fs k st t u i (link h1) h g)
-  link {st = st} {t = z} (deeper {a = a} {b = b} {t = t} {u = u} {v = v} d i j h1 h2) n s p x y fs k h g = level-in n s p x y a b fs k st t u v z d i j (link h1) (link h2) (run-grows h2) h g
-  link {st = st} (limited d e) n s p x y fs k h g = rw e (inl (deep-told R st g.calm (too-many R s p x y fs st h g) (taken-at R s p fs st g.stands)))
-  link {st = st} (refused d e) n s p x y fs k h g = rw e (inl (deep-told R st g.calm (too-many R s (with_limit_known p) x y fs st (and-l _ _ h) (record { calm = g.calm; seen = g.seen; stands = fills R s fs st p (sym d) g.stands })) (taken-at R s p fs st g.stands)))
-  link (call h1) zero s p x y fs k h g = false-true refl h
-  link (call {p = q} h1) (suc n) s p x y fs k h g = link h1 n s p x y fs k (good n s p x y (body q) k h) g
-  link {st = st} {t = u} (plain {a = a} {t = t} i h1 e) n s p x y fs k h g = plain-in n s p x y a fs k st t u i (link h1) e h g
-  link {st = st} (wrapped {a = a} {t = t} {u = u} {v = v} {w = w'} i o m j h1 e (does f)) n s p x y fs k h g =
-      rw j (wrapped-in n s p x y a fs k st t u v w' i (link h1) (adds h1) (m ∙ ap (λ (n : ℕ). wrapped_from n kind.NON_NULL_TYPE u) o) (run-grows (does {a = Bump kind.BANG} f)) f e h g)
+      then-on s fs f k t u (run-grows h2) (simulated b (simulation h2) n s fs k) (simulated a (simulation h1) n s fs f (p, x, y, h, g))
+  simulation {st = st} (yes {q = q} {a = a} {b = b} e h1) n s p x y fs k h g = simulated a (simulation h1) n s fs k (branch q true s fs st (λ p' u v. keeps_to_table n s p' u v a k) (λ p' u v. keeps_to_table n s p' u v b k) e (p, x, y, h, g))
+  simulation {st = st} (no {q = q} {a = a} {b = b} e h1) n s p x y fs k h g = simulated b (simulation h1) n s fs k (branch q false s fs st (λ p' u v. keeps_to_table n s p' u v a k) (λ p' u v. keeps_to_table n s p' u v b k) e (p, x, y, h, g))
+  simulation {st = st} (done {q = q} {a = a} e) n s p x y fs k h g =
+      let d = head-at (loop_turn n s q a k) h.0 s p x y fs st h.1 h.2 h.3 g in inr (branch q false s fs st (λ q' u' v'. keeps_to_table n s q' u' v' a (turns d.count (loop_turn n s q a k) d.marks)) k e d.way)
+  simulation {st = st} {t = u} (again {q = q} {a = a} {t = t} e h1 h2) n s p x y fs k h g =
+      let d = head-at (loop_turn n s q a k) h.0 s p x y fs st h.1 h.2 h.3 g in
+      let f : Then = turns d.count (loop_turn n s q a k) d.marks in
+      then-on s fs f k t u (run-grows h2) (λ o. simulation h2 n s o.0 o.1 o.2 fs k (d.count, d.marks, o.3, d.met) o.4) (simulated a (simulation h1) n s fs f (branch q true s fs st (λ q' u' v'. keeps_to_table n s q' u' v' a f) k e d.way))
+  simulation (child i j h1) zero s p x y fs k h g = false-true refl h
+  simulation {st = st} (child {n = c} {t = t} {u = u} i j h1) (suc n) s p x y fs k h g = rw j (child-simulated n s p x y c fs k st t u i (simulation h1) h g)
+  simulation {st = st} {t = z} (deeper {a = a} {b = b} {t = t} {u = u} {v = v} d i j h1 h2) n s p x y fs k h g = level-simulated n s p x y a b fs k st t u v z d i j (simulation h1) (simulation h2) (run-grows h2) h g
+  simulation {st = st} (limited d e) n s p x y fs k h g = rw e (inl (limit-rightly R st g.no_report (too-many R s p x y fs st h g) (taken-at R s p fs st g.position)))
+  simulation {st = st} (refused d e) n s p x y fs k h g = rw e (inl (limit-rightly R st g.no_report (too-many R s (with_limit_known p) x y fs st (and-l _ _ h) (record { no_report = g.no_report; seen = g.seen; position = limit-known-holds R s fs st p (sym d) g.position })) (taken-at R s p fs st g.position)))
+  simulation (call h1) zero s p x y fs k h g = false-true refl h
+  simulation (call {p = q} h1) (suc n) s p x y fs k h g = simulation h1 n s p x y fs k (checked n s p x y (body q) k h) g
+  simulation {st = st} {t = u} (plain {a = a} {t = t} i h1 e) n s p x y fs k h g = plain-type n s p x y a fs k st t u i (simulation h1) e h g
+  simulation {st = st} (wrapped {a = a} {t = t} {u = u} {v = v} {w = w'} i o m j h1 e (does f)) n s p x y fs k h g =
+      rw j (wrapped-type n s p x y a fs k st t u v w' i (simulation h1) (adds h1) (m ∙ ap (λ (n : ℕ). wrapped_from n kind.NON_NULL_TYPE u) o) (run-grows (does {a = Bump kind.BANG} f)) f e h g)

@@ -41,7 +41,7 @@ use Rattle.parser_rules.specs.Runs.{Runs, Turns}
 use Rattle.parser_rules.specs.Open.{IsRoot}
 use Rattle.parser_rules.proofs.runs.Frame.{Untouched, add_all-above, turned, begun-nesting}
 use Rattle.parser_rules.proofs.soundness.WithoutIgnored.{stack, strip, layers, stack-flush}
-use Rattle.parser_rules.proofs.reports.NoReport.{Stood, reading-stood, stands-along, answers_tokens, all_tokens, rest, current_tokens, item_tokens, EndsWell, Now, standing, given as given_by, Held, all_tokens-append}
+use Rattle.parser_rules.proofs.reports.NoReport.{NowOrNone, reading-now, now-along, answers_tokens, all_tokens, rest, current_tokens, item_tokens, EndsWell, Now, end-or-token, given as given_by, Held, all_tokens-append}
 use Rattle.parser_rules.proofs.runs.Progress.{ready-there}
 use Rattle.parser_rules.proofs.runs.Reading.{reading}
 use Rattle.parser_rules.proofs.lookahead.TokenSets.{class_of, over, ready, not-zero}
@@ -49,11 +49,11 @@ use Rattle.parser_rules.proofs.lookahead.Split.{Level, NotEntered, Entered, Left
 use Rattle.parser_rules.proofs.lookahead.MachineClasses.{Next}
 use Rattle.parser_rules.proofs.soundness.TableCheck.{keeps_to_table, level_entered, counts_itself, level_due, absent_as_end, document_may_end, document_follows}
 use Rattle.parser_rules.proofs.NodeChecks.{document_passes}
-use Rattle.parser_rules.proofs.soundness.FirstReport.{Viable, TooMany, Right}
-use Rattle.parser_rules.proofs.soundness.Positions.{StandsAt, Reading, run-grows, Place, Fits, Out, Tells, tell-on}
-use Rattle.parser_rules.proofs.soundness.Moves.{fits-next}
-use Rattle.parser_rules.proofs.soundness.Roots.{whole_of, IsRootSymbol, symbol-begins, root-opened, root-starts, root-ended, never-right}
-use Rattle.parser_rules.proofs.soundness.Simulation.{good, link}
+use Rattle.parser_rules.proofs.soundness.FirstReport.{Viable, TooMany, RightReport}
+use Rattle.parser_rules.proofs.soundness.Positions.{PositionHolds, ParserInput, run-grows, MachineIsAt, StateFits, RunOutcome, RightlyReported, rightly-on}
+use Rattle.parser_rules.proofs.soundness.Moves.{next-classes}
+use Rattle.parser_rules.proofs.soundness.Roots.{input_of, IsRootSymbol, symbol-begins, root-opened, root-starts, root-ended, never-right}
+use Rattle.parser_rules.proofs.soundness.Simulation.{checked, simulation}
 
 -- ---- what was answered, where all answers are tokens
 
@@ -86,21 +86,21 @@ unfolding label labels counts_itself ◌or◌ is_leaf member
 document-label = (refl, refl, refl, refl)
 
 -- all the answers, to a parser with nothing reported
-abbrev pub whole : ℕ → List Answer → Reading
-whole r xs = whole_of document r xs
+abbrev pub document_input : ℕ → List Answer → ParserInput
+document_input r xs = input_of document r xs
 
 pub document-root : IsRootSymbol DOCUMENT kind.DOCUMENT
 unfolding label labels counts_itself ◌or◌ member
 document-root = record { shown = refl; counted = refl; no_type = refl }
 
 -- where the root is open, nothing is built, and all the tokens are left
-pub root-stands : (r n m : ℕ) (xs ys : List Answer) (s : State) → Untouched (record (fresh ys r kind.DOCUMENT) { asked = n; budget = m }) s → rest s ≡ answers_tokens xs → StandsAt (whole r xs) DOCUMENT at_start [] s
-root-stands r n m xs ys s u e = let o = root-opened document r xs (symbol-begins document-root) n m ys s u e in (o.0, tt)
+pub root-agrees : (r n m : ℕ) (xs ys : List Answer) (s : State) → Untouched (record (fresh ys r kind.DOCUMENT) { asked = n; budget = m }) s → rest s ≡ answers_tokens xs → PositionHolds (document_input r xs) DOCUMENT at_start [] s
+root-agrees r n m xs ys s u e = let o = root-opened document r xs (symbol-begins document-root) n m ys s u e in (o.0, tt)
 
-start-fits : (r : ℕ) (xs : List Answer) → EndsWell xs → Tells (whole r xs) (begun xs r kind.DOCUMENT) ⊎ Fits (whole r xs) DOCUMENT at_start any any [] (begun xs r kind.DOCUMENT)
+start-fits : (r : ℕ) (xs : List Answer) → EndsWell xs → RightlyReported (document_input r xs) (begun xs r kind.DOCUMENT) ⊎ StateFits (document_input r xs) DOCUMENT at_start any any [] (begun xs r kind.DOCUMENT)
 start-fits r xs e = elim (root-starts document r xs (symbol-begins document-root) e) [
   | inl o ↦ inl o
-  | inr g ↦ inr (record { calm = g.0.calm; seen = g.0.seen; stands = (g.0.stands.0, tt) })
+  | inr g ↦ inr (record { no_report = g.0.no_report; seen = g.0.seen; position = (g.0.position.0, tt) })
 ]
 
 -- ---- the end
@@ -116,7 +116,7 @@ finished-tree s layer more root e =
 -- there is no token left, and all answers were given
 nothing-left : (c : Option Lexeme) (items : List Answer) → Now c items → within (class_of c) over ≡ true → (current_tokens c ++ answers_tokens items ≡ []) × (items ≡ [])
 nothing-left None items n h = absurd n
-nothing-left (Some t) items n h = elim (standing t items n) [
+nothing-left (Some t) items n h = elim (end-or-token t items n) [
   | inl a ↦ (a.nothing, a.none)
   | inr a ↦ (
       let b : Token = (leaf_number t.kind, t.text) in
@@ -131,10 +131,10 @@ all-read xs None items n p e = absurd n
 all-read xs (Some t) items n p e =
     ap all_tokens (p.split ∙ ap (λ (ys : List Answer). p.front ++ given_by t ∷ ys) e) ∙ all_tokens-append p.front (given_by t ∷ []) p.tokens refl
 
-owed-none : (l : Level) → level_entered l ≡ 0 → level_due DOCUMENT l ≡ 0
-owed-none NotEntered e = document-label.1
-owed-none Entered e = refl
-owed-none Left e = refl
+due-none : (l : Level) → level_entered l ≡ 0 → level_due DOCUMENT l ≡ 0
+due-none NotEntered e = document-label.1
+due-none Entered e = refl
+due-none Left e = refl
 
 -- The text's words are spelled by a derivation that nests within the limit, and all answers are tokens.
 pub record CleanAs (r : ℕ) (xs : List Answer) (s : State) (t : Tree) : Type 0 where
@@ -155,41 +155,41 @@ pub record Silent (r : ℕ) (xs : List Answer) (s : State) : Type 0 where
   pub clean : CleanAs r xs s (show (node DOCUMENT children))
   pub built : stack (add_all s.pending s.tree) ≡ (label DOCUMENT, shows children) ∷ ((0, none) ∷ [])
 
-pub root-out : (r : ℕ) (xs : List Answer) (s : State) → Out (whole r xs) DOCUMENT [] document_may_end s → Tells (whole r xs) s ⊎ Silent r xs s
+pub root-outcome : (r : ℕ) (xs : List Answer) (s : State) → RunOutcome (document_input r xs) DOCUMENT [] document_may_end s → RightlyReported (document_input r xs) s ⊎ Silent r xs s
 unfolding document_may_end
-root-out r xs s (inl o) = inl o
-root-out r xs s (inr (machine_is_stuck, x, y, h, g)) = false-true refl h
-root-out r xs s (inr (in_row q l d, x, y, h, g)) =
-    let st = g.stands.0 in
+root-outcome r xs s (inl o) = inl o
+root-outcome r xs s (inr (machine_is_stuck, x, y, h, g)) = false-true refl h
+root-outcome r xs s (inr (in_row q l d, x, y, h, g)) =
+    let st = g.position.0 in
     let f : Forest = st.children in
-    let i : Place (whole r xs) DOCUMENT q l f [] s = st.place in
-    let n : Next x y (rest s) = fits-next (whole r xs) g in
-    let left = nothing-left s.current s.items g.calm.now (holds-subset (class_of s.current) x over (and-r _ _ (and-l _ _ h)) g.seen.near) in
+    let i : MachineIsAt (document_input r xs) DOCUMENT q l f [] s = st.place in
+    let n : Next x y (rest s) = next-classes (document_input r xs) g in
+    let left = nothing-left s.current s.items g.no_report.now (holds-subset (class_of s.current) x over (and-r _ _ (and-l _ _ h)) g.seen.near) in
     let m : next DOCUMENT q (rest s) ≡ closes_move = closes-move DOCUMENT q x (absent_as_end y) (first (rest s)) (second (rest s)) (and-l _ _ (and-l _ _ h)) n.near n.far in
-    let d = root-ended (whole r xs) i m (owed-none l (eqb-true _ _ (and-r _ _ h))) in
+    let d = root-ended (document_input r xs) i m (due-none l (eqb-true _ _ (and-r _ _ h))) in
     let words : yields f ≡ answers_tokens xs = sym (append-nil (yields f)) ∙ sym (d.split ∙ ap (λ (v : List Token). yields f ++ v) left.0) in
     inr (record {
-      silent = g.calm.quiet.clean;
+      silent = g.no_report.quiet.clean;
       children = f;
       clean = record {
         spells = subst (λ (v : List Token). Spells v (show (node DOCUMENT f)) document) words d.spells;
         nesting = d.nesting;
         high = d.high;
-        tokens = all-read xs s.current s.items g.calm.now g.calm.held left.1;
+        tokens = all-read xs s.current s.items g.no_report.now g.no_report.held left.1;
       };
-      built = stack-flush s.pending s.tree g.calm.quiet.waits ∙ st.built;
+      built = stack-flush s.pending s.tree g.no_report.quiet.waits ∙ st.built;
     })
 
 -- a run from where the root is open, by the check of its rule
-pub run-out : (r : ℕ) (xs : List Answer) {q : Rule} {s t : State} (x : ℕ) → keeps_to_table rules_deep DOCUMENT at_start x any q document_may_end ≡ true → Runs q s t → Fits (whole r xs) DOCUMENT at_start x any [] s → Tells (whole r xs) t ⊎ Silent r xs t
-run-out r xs {q = q} {t = t} x h run b = root-out r xs t (link (whole r xs) run rules_deep DOCUMENT at_start x any [] document_may_end (good (whole r xs) rules_deep DOCUMENT at_start x any q document_may_end h) b)
+pub run-outcome : (r : ℕ) (xs : List Answer) {q : Rule} {s t : State} (x : ℕ) → keeps_to_table rules_deep DOCUMENT at_start x any q document_may_end ≡ true → Runs q s t → StateFits (document_input r xs) DOCUMENT at_start x any [] s → RightlyReported (document_input r xs) t ⊎ Silent r xs t
+run-outcome r xs {q = q} {t = t} x h run b = root-outcome r xs t (simulation (document_input r xs) run rules_deep DOCUMENT at_start x any [] document_may_end (checked (document_input r xs) rules_deep DOCUMENT at_start x any q document_may_end h) b)
 
 -- A run of the document's rule.
-pub parsed : (r : ℕ) (xs : List Answer) (s : State) → EndsWell xs → IsRoot s.tree → Runs (Call Document) (begun xs r kind.DOCUMENT) s → Tells (whole r xs) s ⊎ ((s.errors ≡ []) × Clean r xs s)
+pub parsed : (r : ℕ) (xs : List Answer) (s : State) → EndsWell xs → IsRoot s.tree → Runs (Call Document) (begun xs r kind.DOCUMENT) s → RightlyReported (document_input r xs) s ⊎ ((s.errors ≡ []) × Clean r xs s)
 unfolding document_follows
 parsed r xs s en root run = elim (start-fits r xs en) [
-  | inl o ↦ inl (tell-on (whole r xs) (begun xs r kind.DOCUMENT) s (run-grows run) o)
-  | inr b ↦ elim (run-out r xs any document_passes.table run b) [
+  | inl o ↦ inl (rightly-on (document_input r xs) (begun xs r kind.DOCUMENT) s (run-grows run) o)
+  | inr b ↦ elim (run-outcome r xs any document_passes.table run b) [
     | inl o ↦ inl o
     | inr o ↦ inr (o.silent, subst (CleanAs r xs s) (sym (finished-tree s (label DOCUMENT, shows o.children) ((0, none) ∷ []) root o.built)) o.clean)
   ]
@@ -256,10 +256,10 @@ now_words st c = answers_tokens (from_now st c)
 pub turn-of : (r : ℕ) (xs : List Answer) (first_rule : Rule) (b st : State) → EndsWell xs → Runs first_rule (begun xs r kind.DOCUMENT) b → Turns Ready (Call Definition) b st → true ≡ holds Ready st → st.accepts ≡ true → Turn st
 turn-of r xs first_rule b st en run turns rd ac =
     let i = ready-there st rd in
-    record { token = i.token; current = i.is; now = subst (λ (o : Option Lexeme). Stood o st.items) i.is stood; is_ready = rd; accepts = ac; no_level = depth }
+    record { token = i.token; current = i.is; now = subst (λ (o : Option Lexeme). NowOrNone o st.items) i.is stood; is_ready = rd; accepts = ac; no_level = depth }
   where
-    stood : Stood st.current st.items
-    stood = turns-along stands-along turns (along stands-along run (reading-stood (reading xs (fresh xs r kind.DOCUMENT)) en))
+    stood : NowOrNone st.current st.items
+    stood = turns-along now-along turns (along now-along run (reading-now (reading xs (fresh xs r kind.DOCUMENT)) en))
 
     depth : st.depth ≡ 0
     depth = (turned turns).depth ∙ (begun-nesting xs r kind.DOCUMENT run).0
@@ -267,7 +267,7 @@ turn-of r xs first_rule b st en run turns rd ac =
 -- ---- acceptance
 
 -- over a sentence within the limits no report is right
-pub none-right : (r : ℕ) (xs : List Answer) (e : Report) (m : ℕ) (t : Tree) → Spells (answers_tokens xs) t document → nest t ≤ r → all_tokens xs ≡ true → Right document xs r (answers_tokens xs) e m → ⊥
+pub none-right : (r : ℕ) (xs : List Answer) (e : Report) (m : ℕ) (t : Tree) → Spells (answers_tokens xs) t document → nest t ≤ r → all_tokens xs ≡ true → RightReport document xs r (answers_tokens xs) e m → ⊥
 none-right = never-right document
 
 -- Acceptance: a sentence within the limits gets no report.
