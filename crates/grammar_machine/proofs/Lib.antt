@@ -10,7 +10,10 @@ pub mod MachineTheorems
 pub mod Patterns
 pub mod FromMachineTree
 pub mod Rules
-pub mod Constants
+pub mod ConstantRule
+pub mod BraceRule
+pub mod TypeRule
+pub mod ShownDerivation
 pub mod ToMachineTree
 pub mod Classes
 pub mod Starts

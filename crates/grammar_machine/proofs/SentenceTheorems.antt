@@ -8,7 +8,7 @@ use Rattle.grammar_machine.specs.Machine.{first, yield, yields, opening, close, 
 use Rattle.document_grammar.specs.Derivation.{Sort, Spells, Yield, Starts, Mark, word, marks}
 use Rattle.grammar_machine.proofs.Run.{next}
 use Rattle.grammar_machine.proofs.FromMachineTree.{show}
-use Rattle.grammar_machine.proofs.Constants.{show-yield, parse-sentence}
+use Rattle.grammar_machine.proofs.ShownDerivation.{show-yield, parse-sentence}
 use Rattle.grammar_machine.proofs.ToMachineTree.{derivation-read}
 use Rattle.grammar_machine.proofs.MachineTheorems.{Parse, one-tree, done, done-all, Fault, no-fault, no-leaf, can-end, fault}
 use Rattle.grammar_machine.proofs.Sound.{AllSpelt, viable, spent, reach-spent}

@@ -21,7 +21,9 @@ use Rattle.grammar_machine.proofs.Sound.{leaf-lt, fill-after, fill-start, fillab
 use Rattle.document_grammar.proofs.Nullable.{nullable-to}
 use Rattle.grammar_machine.proofs.Patterns.{all_kinds, deriv, pattern_of, symbol_row, type_row, label, shown, any_arcs, constant, agree_at, to-deriv, first-kind, never-none, pattern_eq}
 use Rattle.grammar_machine.proofs.FromMachineTree.{kinds-at, pattern-same, show, shows, type_of, show-root, Live, agree, agree-ends, agree-arc, agree-kind, has-live, ends-live, leaf-no-type, node-symbols, labels-checked}
-use Rattle.grammar_machine.proofs.Constants.{type-first, type-pattern, bare-pattern, document-arc, finish-lacks}
+use Rattle.grammar_machine.proofs.BraceRule.{document-arc, finish-lacks}
+use Rattle.grammar_machine.proofs.TypeRule.{type-first, type-pattern}
+use Rattle.grammar_machine.proofs.ShownDerivation.{bare-pattern}
 use Rattle.grammar_machine.proofs.Rules.{start-pattern, keyword-class}
 use Rattle.grammar_machine.specs.Symbols.{TYPE, SHORT_QUERY, IDENT_FOR_FRAGMENT, IDENT_FOR_ENUM, NAME_FOR_FRAGMENT, NAME_FOR_ENUM, BARE_SELECTIONS, DIRECTIVES_CONST, OBJECT_FIELD_CONST}
 

@@ -16,7 +16,7 @@ use Rattle.document_grammar.proofs.Trimmed.{fits-tail}
 use Rattle.document_grammar.proofs.Built.{Yields-append, Yields-bares, join-front_back}
 use Rattle.grammar_machine.specs.Symbols.{TYPE}
 use Rattle.grammar_machine.specs.Machine.{is_leaf, target, finish as leaves_behind, Frame, frame, Path, yields}
-use Rattle.grammar_machine.proofs.Constants.{path-fits, show-yield}
+use Rattle.grammar_machine.proofs.ShownDerivation.{path-fits, show-yield}
 use Rattle.grammar_machine.proofs.Patterns.{label}
 use Rattle.grammar_machine.proofs.FromMachineTree.{shows}
 use Rattle.grammar_machine.proofs.Sound.{Sound, spent}
@@ -29,7 +29,7 @@ tokens built.none = 0
 tokens (built.leaf k x rest) = cond (ltb (number k) ERROR) 0 1 + tokens rest
 tokens (built.node k kids rest) = tokens kids + tokens rest
 
--- Behind `n` tokens: each node that ends before the token number `m`, counted from 1, fits its row and the rules, its ignored leaves left out.
+-- After `n` tokens: each node that ends before the token number `m`, counted from 1, fits its row and the rules, its ignored leaves left out.
 abbrev pub EndedFit : ℕ → ℕ → built.Forest → Type 0
 EndedFit m n built.none = ⊤
 EndedFit m n (built.leaf k x rest) = EndedFit m (n + cond (ltb (number k) ERROR) 0 1) rest
