@@ -22,7 +22,7 @@ use Rattle.parser_rules.specs.Messages.{Text, Found, at_text, at_end, at_limit, 
 use Rattle.parser_rules.specs.State.{Report, Lexeme, bad_report, token_limit_report, recursion_limit_report, fault_report, found_at, lexeme}
 use Rattle.parser_rules.specs.Reports.{Reported, no_more, bad_text, token_limit, fault, recursion_limit, passed, is_recursion_limit}
 use Rattle.parser_rules.proofs.reports.AtTheLimit.{found-other}
-use Rattle.parser_rules.proofs.runs.Marked.{Has, Limited}
+use Rattle.parser_rules.proofs.runs.TreesWithSources.{Has, Limited}
 use Rattle.apollo_parser.specs.Promise.{IsLimit, IsTokenLimit, IsRecursionLimit, IsLimitMessage, IsLimitWorded, ErrorsAlong}
 use Rattle.apollo_parser.specs.Promise as promise
 use Rattle.parser_state.specs.Errors.{found_of, IsWorded, IsErrorOf}

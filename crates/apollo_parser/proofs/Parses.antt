@@ -59,7 +59,7 @@ use Rattle.apollo_tree.proofs.Places.{length-order}
 use Rattle.parser_rules.proofs.soundness.Soundness.{sound, clean}
 use Rattle.parser_rules.proofs.reports.AlongItems.{reported}
 use Rattle.document_grammar.specs.Forests as built
-use Rattle.parser_rules.proofs.runs.Marked.{reports-along, Has, Limited, limited-later, taken-or-limited}
+use Rattle.parser_rules.proofs.runs.TreesWithSources.{reports-along, Has, Limited, limited-later, taken-or-limited}
 use Rattle.parser_rules.proofs.runs.Steps.{along}
 use Rattle.parser_rules.specs.declared.message.Message.{Message}
 

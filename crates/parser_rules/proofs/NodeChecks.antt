@@ -16,7 +16,7 @@ use Rattle.parser_rules.specs.Nodes.{Node, Arguments, Argument, Directives, Dire
 use Rattle.grammar_machine.proofs.Sound.{any}
 use Rattle.parser_rules.specs.RuleLanguage.{Rule, Seq, When, While, Nested, Typed, Call, Ready}
 use Rattle.parser_rules.specs.Rules.{inside, body}
-use Rattle.parser_rules.proofs.runs.Fuel.{rules_deep}
+use Rattle.parser_rules.proofs.runs.Fuel.{rules_deep, rules_deep_for_sizes}
 use Rattle.parser_rules.proofs.runs.Progress.{consuming}
 use Rattle.parser_rules.proofs.lookahead.Split.{split, divide}
 use Rattle.parser_rules.proofs.lookahead.FirstSets.{first_of, first_in, second_of, looks, inlined}
@@ -31,7 +31,7 @@ use Rattle.parser_rules.proofs.sizes.SizeCheck.{walk as size_walk, saved, pays_f
 
 -- what can be wrong with a rule
 data Fault : Type 0 where
-  -- the checks look at no more than `rules_deep` rules that call one another, and this one goes deeper
+  -- the checks look no deeper than `rules_deep` rules that call one another, or `rules_deep_for_sizes`, and this one goes deeper
   TooManyRulesDeep : Fault
   -- it takes or reports a token where the machine does otherwise
   AgainstTheTable : Fault
@@ -55,9 +55,9 @@ data Fault : Type 0 where
 abbrev unless : Bool → Fault → List Fault → List Fault
 unless b fault more = cond b more (fault ∷ more)
 
--- the faults that the checks find, with so much fuel
-unfoldable faults_with : ℕ → Node → List Fault
-faults_with fuel c =
+-- the faults that the checks find, with so much fuel, and so much for the check of sizes
+unfoldable faults_with : ℕ → ℕ → Node → List Fault
+faults_with fuel size_fuel c =
     unless (follows_table fuel c) AgainstTheTable
     (unless (checks_with fuel leaf_check c) WrongLeaf
     (unless (checks_with fuel level_check c) WrongLevel
@@ -65,8 +65,8 @@ faults_with fuel c =
     (unless (checks_with fuel pop_check c) WrongErrorLeaf
     (unless (checks_with fuel row_check c) ForeignSymbol
     (unless (checks_with fuel tidy_check c) IgnoredToken
-    (unless (pays_for_itself element_rates c) TooManyElements
-    (unless (pays_for_itself report_rates c) TooManyReports []))))))))
+    (unless (pays_for_itself size_fuel element_rates c) TooManyElements
+    (unless (pays_for_itself size_fuel report_rates c) TooManyReports []))))))))
 
 -- The rules that this one calls, and that these call, are no more than so many deep. Children are not looked into.
 unfoldable calls_end : ℕ → Rule → Bool
@@ -86,9 +86,9 @@ blamed found _ _ = TooManyRulesDeep ∷ []
 
 -- The faults of a node's rule. A check fails too where its fuel runs out. So where faults are found, they are looked for with twice as much.
 unfoldable faults : Node → List Fault
-faults c = elim (faults_with rules_deep c) [
+faults c = elim (faults_with rules_deep rules_deep_for_sizes c) [
   | [] ↦ []
-  | fault ∷ more ↦ blamed (fault ∷ more) (calls_end (2 * rules_deep) (inside c)) (faults_with (2 * rules_deep) c)
+  | fault ∷ more ↦ blamed (fault ∷ more) (calls_end (2 * rules_deep) (inside c)) (faults_with (2 * rules_deep) (2 * rules_deep_for_sizes) c)
 ]
 
 -- all that the checks compute with
@@ -129,8 +129,8 @@ pub record SoundRule (c : Node) : Type 0 where
   pub errors : checks pop_check c ≡ true
   pub row : checks row_check c ≡ true
   pub ignored : checks tidy_check c ≡ true
-  pub elements : pays_for_itself element_rates c ≡ true
-  pub reports : pays_for_itself report_rates c ≡ true
+  pub elements : pays_for_itself rules_deep_for_sizes element_rates c ≡ true
+  pub reports : pays_for_itself rules_deep_for_sizes report_rates c ≡ true
 
 none-found : (found other : List Fault) (end : Bool) → ◌≡◌ {A = List Fault} (elim found [ [] ↦ [] | fault ∷ more ↦ blamed (fault ∷ more) end other ]) [] → found ≡ []
 none-found [] other end h = refl
@@ -138,9 +138,9 @@ none-found (fault ∷ more) [] true h = absurd cc
 none-found (fault ∷ more) (x ∷ xs) true h = h
 none-found (fault ∷ more) other false h = absurd cc
 
-found-none : (c : Node) → faults_with rules_deep c ≡ []
+found-none : (c : Node) → faults_with rules_deep rules_deep_for_sizes c ≡ []
 unfolding faults
-found-none c = none-found (faults_with rules_deep c) (faults_with (2 * rules_deep) c) (calls_end (2 * rules_deep) (inside c)) (no-faults c)
+found-none c = none-found (faults_with rules_deep rules_deep_for_sizes c) (faults_with (2 * rules_deep) (2 * rules_deep_for_sizes) c) (calls_end (2 * rules_deep) (inside c)) (no-faults c)
 
 pub node-passes : (c : Node) → SoundRule c
 unfolding faults_with

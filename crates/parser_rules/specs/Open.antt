@@ -23,8 +23,8 @@ unfoldable pub IsOpen : Building → Type 0
 IsOpen b = is_free_in b.above ≡ true
 
 -- a place where a node may open around what was added since
-unfoldable pub IsMark : ℕ → Building → Type 0
-IsMark place b = IsPlace place b
+unfoldable pub IsCheckpoint : ℕ → Building → Type 0
+IsCheckpoint place b = IsPlace place b
 
 -- a level was entered
 unfoldable pub IsInside : State → Type 0

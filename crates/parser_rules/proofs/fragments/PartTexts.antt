@@ -30,7 +30,7 @@ use Rattle.parser_rules.proofs.fragments.TypeRoots.{made-run}
 use Rattle.parser_rules.proofs.leaves.OneLeaf.{root-part}
 use Rattle.parser_rules.proofs.reports.Endings.{ends-well}
 use Rattle.parser_rules.proofs.reports.NoReport.{answers_tokens, all_tokens, item_tokens, given as given_by, ignored-tokens, EndsWell}
-use Rattle.parser_rules.proofs.runs.Marked.{Marked, none, leaf, node, Source, aside, text_of, erase, flat, set_aside, by-kind, now_of, sources, source_at, FirstPart}
+use Rattle.parser_rules.proofs.runs.TreesWithSources.{TreesWithSources, none, leaf, node, Source, aside, text_of, erase, flat, set_aside, by-kind, now_of, sources, source_at, FirstPart}
 use Rattle.parser_rules.proofs.soundness.OverTexts.{before-at, sentence-answers}
 use Rattle.parser_rules.proofs.soundness.Soundness.{answers-append}
 
@@ -45,7 +45,7 @@ unfolding sources_text
 sources-text-append [] w = refl
 sources-text-append (o ∷ v) w = ap (λ (t : Text). text_of o ++ t) (sources-text-append v w) ∙ sym (append_assoc (text_of o) (sources_text v) (sources_text w))
 
-erased-text : (f : Marked) → text (erase f) ≡ sources_text (flat f)
+erased-text : (f : TreesWithSources) → text (erase f) ≡ sources_text (flat f)
 unfolding sources_text
 erased-text none = refl
 erased-text (leaf o k rest) = ap (λ (t : Text). text_of o ++ t) (erased-text rest)
@@ -118,7 +118,7 @@ pub record IsSoundPart (sort : Sort) (r : ℕ) (s : State) : Type 0 where
   pub high : s.high ≡ nest (bare (tree_of (finished (left_out s))))
 
 -- the answers of the tree's leaves, and those of what waits
-parted : (sort : Sort) (r : ℕ) (xs : List Answer) (s : State) (c : Part sort r xs s) (f : Marked) → FirstPart xs s f → Halves c.front (flat f) (flat (set_aside s.pending))
+parted : (sort : Sort) (r : ℕ) (xs : List Answer) (s : State) (c : Part sort r xs s) (f : TreesWithSources) → FirstPart xs s f → Halves c.front (flat f) (flat (set_aside s.pending))
 parted sort r xs s c f p =
     let waits = flat (set_aside s.pending) in
     let after = sources (given_by c.lexeme ∷ s.items) in
@@ -127,7 +127,7 @@ parted sort r xs s c f p =
     append_assoc (flat f) waits after ∙ ap (λ (v : List Source). flat f ++ (waits ++ v)) (sym next) ∙ p.order ∙ ap sources c.split ∙ sources-append c.front (given_by c.lexeme ∷ s.items) in
     halves c.front (flat f) waits (append_cancel_right (flat f ++ waits) (sources c.front) after order)
 
-is-sound : (sort : Sort) (r k : ℕ) (source : List ℕ) (items : List Item) (s : State) → Cut source items → IsRoot s.tree → Part sort r (limited k items) s → (f : Marked) → FirstPart (limited k items) s f → IsSoundPart sort r s
+is-sound : (sort : Sort) (r k : ℕ) (source : List ℕ) (items : List Item) (s : State) → Cut source items → IsRoot s.tree → Part sort r (limited k items) s → (f : TreesWithSources) → FirstPart (limited k items) s f → IsSoundPart sort r s
 is-sound sort r k source items s cut root c f p =
     let h = parted sort r (limited k items) s c f p in
     let one = then-one h.back (given_by c.lexeme) s.items in

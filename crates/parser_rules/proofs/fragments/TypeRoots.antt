@@ -8,7 +8,7 @@ use Rattle.document_grammar.specs.declared.kind.SyntaxKind.TheVariants as kind
 use Rattle.document_grammar.specs.Builds.{Building, Open, IsPlace, nothing, built_count}
 use Rattle.parser_rules.specs.declared.message.Message.TheVariants as message
 use Rattle.parser_rules.specs.State.{State, read_on, is_at, fresh, flush, closed, wrapped_from}
-use Rattle.parser_rules.specs.Open.{IsMark}
+use Rattle.parser_rules.specs.Open.{IsCheckpoint}
 use Rattle.parser_rules.specs.Nodes.{ListType, NamedType, Named}
 use Rattle.parser_rules.specs.RuleLanguage.{Here, At, holds, Do, Bump, Rule, Call, ◌>◌, refuse}
 use Rattle.parser_rules.specs.Rules.{type_start, inside, nullable_type}
@@ -20,8 +20,8 @@ use Rattle.parser_rules.proofs.fragments.WrappedRuns.{wrapped-run, wrapped-root}
 -- ---- where no node is open
 
 -- the place before all that is built
-pub root-mark : (place : ℕ) (s : State) → place ≡ 0 → s.tree.above ≡ [] → IsMark place s.tree
-unfolding IsMark
+pub root-mark : (place : ℕ) (s : State) → place ≡ 0 → s.tree.above ≡ [] → IsCheckpoint place s.tree
+unfolding IsCheckpoint
 root-mark place s first none =
     let least : IsPlace 0 (record { here = s.tree.here; above = [] }) = record { inside = omega arith; seam = refl } in
     subst (λ (n : ℕ). IsPlace n s.tree) (sym first) (subst (λ (above : List Open). IsPlace 0 (record { here = s.tree.here; above = above })) (sym none) least)

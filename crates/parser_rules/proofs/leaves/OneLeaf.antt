@@ -36,8 +36,8 @@ use Rattle.parser_rules.proofs.runs.Fuel.{rules_deep}
 use Rattle.parser_rules.proofs.runs.Frame.{add_all-above, root-kept}
 use Rattle.parser_rules.proofs.runs.AtTheEnd.{EndNow, ends, read-ends}
 use Rattle.parser_rules.proofs.runs.Reading.{Reading, found, Shown, second-shown, reading}
-use Rattle.parser_rules.proofs.runs.Marked as marked
-use Rattle.parser_rules.proofs.runs.Marked.{by-kind, Source, token, aside, Marked, append, erase, erase-append, flat, flat-append, set_aside, source_at, now_of, sources, moved_on, to_come, FirstPart, first-part}
+use Rattle.parser_rules.proofs.runs.TreesWithSources as trees
+use Rattle.parser_rules.proofs.runs.TreesWithSources.{by-kind, Source, token, aside, TreesWithSources, append, erase, erase-append, flat, flat-append, set_aside, source_at, now_of, sources, moved_on, to_come, FirstPart, first-part}
 use Rattle.parser_rules.proofs.runs.Walk.{after_pending, always, Goes, Sound, walked_whole, walk, walked_root}
 use Rattle.parser_rules.proofs.runs.Reporting.{after-note, after-too-deep}
 use Rattle.parser_rules.proofs.reports.NoReport.{end-kind}
@@ -66,20 +66,20 @@ leaves-append : {v w : List Source} {ls ms : List PendingToken} → LeavesOf v l
 leaves-append no_more k = k
 leaves-append (one_more i h) k = one_more i (leaves-append h k)
 
-abbrev pub Fit : Marked → Type 0
+abbrev pub Fit : TreesWithSources → Type 0
 Fit f = LeavesOf (flat f) (leaves (erase f))
 
-fit-append : (f g : Marked) → Fit f → Fit g → Fit (append f g)
+fit-append : (f g : TreesWithSources) → Fit f → Fit g → Fit (append f g)
 fit-append f g h k = rw (flat-append f g, erase-append f g, leaves-join (erase f) (erase g)) (leaves-append h k)
 
 fit-aside : (parts : List PendingToken) → Fit (set_aside parts)
 fit-aside [] = no_more
 fit-aside (p ∷ parts) = one_more (refl, refl) (fit-aside parts)
 
-fit-after : (s : State) (f g : Marked) → Fit f → Fit g → Fit (append f (after_pending s g))
+fit-after : (s : State) (f g : TreesWithSources) → Fit f → Fit g → Fit (append f (after_pending s g))
 fit-after s f g h k = fit-append f (after_pending s g) h (fit-append (set_aside s.pending) g (fit-aside s.pending) k)
 
-fit-node : (k : SyntaxKind) (g : Marked) → Fit g → Fit (marked.node k g marked.none)
+fit-node : (k : SyntaxKind) (g : TreesWithSources) → Fit g → Fit (trees.node k g trees.none)
 fit-node k g h = leaves-append h no_more
 
 -- ---- a leaf that belongs to its token
@@ -124,22 +124,22 @@ none_belongs x own b h = false-true (holds-disjoint absent x over (and-l _ _ (an
 
 -- ---- runs
 
-abbrev Held : Tokens → State → State → Marked → Type 0
+abbrev Held : Tokens → State → State → TreesWithSources → Type 0
 Held a b s f = record { shown : Shown s.current; seen : Seen a.near a.far s; fits : Fit f }
 
-module _ (own : SyntaxKind) (a : Tokens) (k : Tokens → Bool) (b s : State) (f : Marked) (x : Lexeme) (e : s.current ≡ Some x) (h : Held a b s f) where
+module _ (own : SyntaxKind) (a : Tokens) (k : Tokens → Bool) (b s : State) (f : TreesWithSources) (x : Lexeme) (e : s.current ≡ Some x) (h : Held a b s f) where
   abbrev after : State
   after = moved own s (Some x)
 
-  abbrev grown : Marked
-  grown = append f (after_pending s (marked.leaf (token x) own marked.none))
+  abbrev grown : TreesWithSources
+  grown = append f (after_pending s (trees.leaf (token x) own trees.none))
 
   next : Reading s.items (moved_on own x (flush s)) after
   unfolding flush
   next = reading s.items (moved_on own x (flush s))
 
   fits-after : IsLeafOf (Some x.kind) (record { kind = own; text = x.text }) → Fit grown
-  fits-after i = fit-after s f (marked.leaf (token x) own marked.none) h.fits (one_more (refl, i) no_more)
+  fits-after i = fit-after s f (trees.leaf (token x) own trees.none) h.fits (one_more (refl, i) no_more)
 
   taken : cond (is_error own) (k anything) (belongs a.near own and k (record { near = a.far; far = any })) ≡ true → Goes leaf_check Held k b after grown
   taken c = elim (either (is_error own)) [
@@ -156,7 +156,7 @@ module _ (own : SyntaxKind) (a : Tokens) (k : Tokens → Bool) (b s : State) (f 
         ))
   ]
 
-not-taken : (own : SyntaxKind) (a : Tokens) (k : Tokens → Bool) (b s : State) (f : Marked) → s.current ≡ None → cond (is_error own) (k anything) (belongs a.near own and k (record { near = a.far; far = any })) ≡ true → Held a b s f → Goes leaf_check Held k b s f
+not-taken : (own : SyntaxKind) (a : Tokens) (k : Tokens → Bool) (b s : State) (f : TreesWithSources) → s.current ≡ None → cond (is_error own) (k anything) (belongs a.near own and k (record { near = a.far; far = any })) ≡ true → Held a b s f → Goes leaf_check Held k b s f
 not-taken own a k b s f e c h = elim (either (is_error own)) [
   | inl i ↦ (anything, (rw i at c), record { shown = h.shown; seen = seen-any s h.shown; fits = h.fits })
   | inr i ↦ none_belongs a.near own (and-l _ _ (rw i at c)) (subst (λ o. within (class_of o) a.near ≡ true) e h.seen.near)
@@ -175,9 +175,9 @@ sound = record {
   settles = λ a. refl;
   keeps = λ a c b s f e h. record { shown = h.shown; seen = seen-any s h.shown; fits = h.fits };
   opens = λ n a b s f c h. record { shown = h.shown; seen = seen-more a.near a.far _ _ s c h.seen; fits = no_more };
-  closes = λ j a e k b s u f g c d h i l. (anything, d, record { shown = i.shown; seen = seen-any u i.shown; fits = fit-after s f (marked.node j g marked.none) h.fits (fit-node j g i.fits) });
+  closes = λ j a e k b s u f g c d h i l. (anything, d, record { shown = i.shown; seen = seen-any u i.shown; fits = fit-after s f (trees.node j g trees.none) h.fits (fit-node j g i.fits) });
   inlines = λ n a b s f c h. record { shown = h.shown; seen = h.seen; fits = no_more };
-  inlined = λ n a e b s u f g c h i. record { shown = i.shown; seen = i.seen; fits = fit-after s f (marked.node (kind_of n) g marked.none) h.fits (fit-node (kind_of n) g i.fits) };
+  inlined = λ n a e b s u f g c h i. record { shown = i.shown; seen = i.seen; fits = fit-after s f (trees.node (kind_of n) g trees.none) h.fits (fit-node (kind_of n) g i.fits) };
   enters = λ a k b s f w c h. (a, c, h);
   leaves = λ a k b s f c h. (a, c, h);
   types = λ a b s f h. record { shown = h.shown; seen = h.seen; fits = no_more };
@@ -301,7 +301,7 @@ first-leaves (gives item ∷ xs) w (one_more {l = l} {ls = ls} i m) e =
     }
 
 -- what the leaves of a root that was not left are made of
-pub root-part : {q : Rule} {t : State} (items : List Answer) (limit : ℕ) (k : SyntaxKind) → walk leaf_check rules_deep q anything always ≡ true → Runs q (flush (begun items limit k)) t → (f : Marked) × FirstPart items t f × Fit f
+pub root-part : {q : Rule} {t : State} (items : List Answer) (limit : ℕ) (k : SyntaxKind) → walk leaf_check rules_deep q anything always ≡ true → Runs q (flush (begun items limit k)) t → (f : TreesWithSources) × FirstPart items t f × Fit f
 unfolding flush
 root-part {t = t} items limit k c run =
     let b : State = begun items limit k in

@@ -21,8 +21,8 @@ use Rattle.parser_rules.specs.Runs.{Runs}
 use Rattle.parser_rules.proofs.runs.Fuel.{rules_deep}
 use Rattle.parser_rules.proofs.runs.Frame.{read-untouched, add_all-above, root-stays}
 use Rattle.parser_rules.proofs.runs.Reading.{Reading, reading, all_kinds, reading-waits}
-use Rattle.parser_rules.proofs.runs.Marked as marked
-use Rattle.parser_rules.proofs.runs.Marked.{Marked, append, token, erase, erase-append, set_aside, moved_on, first-part}
+use Rattle.parser_rules.proofs.runs.TreesWithSources as trees
+use Rattle.parser_rules.proofs.runs.TreesWithSources.{TreesWithSources, append, token, erase, erase-append, set_aside, moved_on, first-part}
 use Rattle.parser_rules.proofs.runs.Walk.{after_pending, Sound, walk, walked_whole, walked_root}
 use Rattle.parser_rules.proofs.runs.Reporting.{after-note, after-too-deep}
 use Rattle.parser_rules.proofs.soundness.TableCheck.{counts_itself}
@@ -51,7 +51,7 @@ read-waits = reading-waits (λ k. uncounted (number k)) refl refl refl refl
 
 -- In the open node the depth is that where it began, with the levels that were entered in it; the greatest depth covers what the node and
 -- its trees nest, but for what it owes.
-abbrev Held : Depth → State → State → Marked → Type 0
+abbrev Held : Depth → State → State → TreesWithSources → Type 0
 Held a b s f = record {
   depth : s.depth ≡ b.depth + a.entered;
   deep : s.depth ≤ s.high;
@@ -60,7 +60,7 @@ Held a b s f = record {
   waits : all_uncounted s.pending ≡ true;
 }
 
-inner-after : (p : ℕ) (s : State) (f g : Marked) → all_uncounted s.pending ≡ true → inner p (erase (append f (after_pending s g))) ≡ max (inner p (erase f)) (inner p (erase g))
+inner-after : (p : ℕ) (s : State) (f g : TreesWithSources) → all_uncounted s.pending ≡ true → inner p (erase (append f (after_pending s g))) ≡ max (inner p (erase f)) (inner p (erase g))
 inner-after p s f g h =
     let a = ap (inner p) (erase-append f (after_pending s g)) in
     let b = inner-join p (erase f) (erase (after_pending s g)) in
@@ -70,7 +70,7 @@ inner-after p s f g h =
     omega (arith, a, b, c, d, e)
 
 -- trees are added that the greatest depth covers
-grows : (a : Depth) (b s t : State) (f g : Marked) → Held a b s f → t.depth ≡ s.depth → s.high ≤ t.high → min (b.depth + a.open_nodes + inner a.kind (erase g)) usize_max ≤ max t.high (t.depth + a.owed) → all_uncounted t.pending ≡ true → Held a b t (append f (after_pending s g))
+grows : (a : Depth) (b s t : State) (f g : TreesWithSources) → Held a b s f → t.depth ≡ s.depth → s.high ≤ t.high → min (b.depth + a.open_nodes + inner a.kind (erase g)) usize_max ≤ max t.high (t.depth + a.owed) → all_uncounted t.pending ≡ true → Held a b t (append f (after_pending s g))
 grows a b s t f g h d u p w = record {
   depth = d ∙ h.depth;
   deep = let e = h.deep in omega (arith, d, u, e);
@@ -79,11 +79,11 @@ grows a b s t f g h d u p w = record {
   waits = w;
 }
 
-leaf-peak : (a : Depth) (b s t : State) (f : Marked) (j : SyntaxKind) (x : List ℕ) → uncounted (number j) ≡ true → Held a b s f → t.depth ≡ s.depth → s.high ≤ t.high → min (b.depth + a.open_nodes + inner a.kind (built.leaf j x built.none)) usize_max ≤ max t.high (t.depth + a.owed)
+leaf-peak : (a : Depth) (b s t : State) (f : TreesWithSources) (j : SyntaxKind) (x : List ℕ) → uncounted (number j) ≡ true → Held a b s f → t.depth ≡ s.depth → s.high ≤ t.high → min (b.depth + a.open_nodes + inner a.kind (built.leaf j x built.none)) usize_max ≤ max t.high (t.depth + a.owed)
 leaf-peak a b s t f j x c h d u = let e = inner-leaf a.kind j x in let w = weight-none a.kind (number j) c in let q = h.peak in omega (arith, e, w, q, d, u)
 
 -- a node has ended, which began in `s`
-node-peak : (a c : Depth) (b s u : State) (f g : Marked) (j : SyntaxKind) → a.entered + counts_itself (number j) ≡ a.open_nodes + weight a.kind (number j) → c.kind ≡ number j → c.open_nodes ≡ counts_itself (number j) → c.entered ≡ 0 → c.owed ≡ 0
+node-peak : (a c : Depth) (b s u : State) (f g : TreesWithSources) (j : SyntaxKind) → a.entered + counts_itself (number j) ≡ a.open_nodes + weight a.kind (number j) → c.kind ≡ number j → c.open_nodes ≡ counts_itself (number j) → c.entered ≡ 0 → c.owed ≡ 0
     → Held a b s f → Held c (opened j s) u g → (u.depth ≡ s.depth) × (min (b.depth + a.open_nodes + inner a.kind (built.node j (erase g) built.none)) usize_max ≤ max u.high (u.depth + a.owed))
 unfolding opened flush
 node-peak a c b s u f g j l k o n z h i =
@@ -105,7 +105,7 @@ sound = record {
   leaf = λ own a k b s f x e c h g.
       let u = read-untouched s.items (moved_on own x (flush s)) in
       let high : s.high ≤ (moved own s (Some x)).high = let v = u.high in omega (arith, v) in
-      (a, and-r _ _ c, grows a b s (moved own s (Some x)) f (marked.leaf (token x) own marked.none) h u.depth high (leaf-peak a b s (moved own s (Some x)) f own x.text (and-l _ _ c) h u.depth high) (read-waits (reading s.items (moved_on own x (flush s))) refl));
+      (a, and-r _ _ c, grows a b s (moved own s (Some x)) f (trees.leaf (token x) own trees.none) h u.depth high (leaf-peak a b s (moved own s (Some x)) f own x.text (and-l _ _ c) h u.depth high) (read-waits (reading s.items (moved_on own x (flush s))) refl));
   no_leaf = λ own a k b s f e c h. (a, and-r _ _ c, h);
   report = λ m a b s f h. after-note (λ t. Held a b t f) m s (λ errors. h);
   limit = λ a k b s f d c h. (
@@ -131,7 +131,7 @@ sound = record {
       let v = and-l _ _ c in
       let w = and-r _ _ c in
       let n = node-peak a e b s u f g j (eqb-true _ _ (and-l _ _ (and-l _ _ d))) (eqb-true _ _ (and-l _ _ v)) (eqb-true _ _ (and-r _ _ v)) (eqb-true _ _ (and-l _ _ w)) (eqb-true _ _ (and-r _ _ w)) h i in
-      (a, and-r _ _ d, grows a b s (closed u) f (marked.node j g marked.none) h n.0 i.higher n.1 i.waits);
+      (a, and-r _ _ d, grows a b s (closed u) f (trees.node j g trees.none) h n.0 i.higher n.1 i.waits);
   inlines = λ n a b s f c h. false-true refl c;
   inlined = λ n a e b s u f g c h i. false-true refl c;
   enters = λ a k b s f w c h.

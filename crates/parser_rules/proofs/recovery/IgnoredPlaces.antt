@@ -16,8 +16,8 @@ use Rattle.parser_rules.specs.Open.{IsRoot}
 use Rattle.parser_rules.proofs.recovery.RecoveryCheck.{tidy_check}
 use Rattle.parser_rules.proofs.NodeChecks.{node-passes, document_passes}
 use Rattle.parser_rules.proofs.runs.Frame.{add_all-above}
-use Rattle.parser_rules.proofs.runs.Marked as marked
-use Rattle.parser_rules.proofs.runs.Marked.{Marked, append, token, erase, erase-append, set_aside}
+use Rattle.parser_rules.proofs.runs.TreesWithSources as trees
+use Rattle.parser_rules.proofs.runs.TreesWithSources.{TreesWithSources, append, token, erase, erase-append, set_aside}
 use Rattle.parser_rules.proofs.runs.Walk.{after_pending, always, Sound, walked_whole}
 use Rattle.parser_rules.proofs.reports.NoReport.{EndsWell}
 use Rattle.parser_rules.proofs.soundness.Soundness.{clean}
@@ -25,20 +25,20 @@ use Rattle.parser_rules.proofs.runs.Reporting.{after-note, after-too-deep}
 
 -- ---- what a run builds
 
-pieces-join : (f g : Marked) → erase (append f g) ≡ built.none → (erase f ≡ built.none) × (erase g ≡ built.none)
-pieces-join marked.none g e = (refl, e)
-pieces-join (marked.leaf o k rest) g e = absurd cc
-pieces-join (marked.node k kids rest) g e = absurd cc
+pieces-join : (f g : TreesWithSources) → erase (append f g) ≡ built.none → (erase f ≡ built.none) × (erase g ≡ built.none)
+pieces-join trees.none g e = (refl, e)
+pieces-join (trees.leaf o k rest) g e = absurd cc
+pieces-join (trees.node k kids rest) g e = absurd cc
 
 trim-aside : (parts : List PendingToken) → trim (erase (set_aside parts)) ≡ true
 trim-aside [] = refl
 trim-aside (p ∷ parts) = trim-aside parts
 
-trim-append : (f g : Marked) → trim (erase f) ≡ true → trim (erase g) ≡ true → trim (erase (append f g)) ≡ true
+trim-append : (f g : TreesWithSources) → trim (erase f) ≡ true → trim (erase g) ≡ true → trim (erase (append f g)) ≡ true
 trim-append f g a b = subst (λ (x : built.Forest). trim x ≡ true) (sym (erase-append f g)) (trim-join (erase f) (erase g) a b)
 
 -- The first tree is no ignored leaf where nothing waited; the last is none; some tree is added where `b` says so.
-abbrev Tidy : Bool → State → State → Marked → Type 0
+abbrev Tidy : Bool → State → State → TreesWithSources → Type 0
 Tidy c b s f = record {
   inner : trim (erase f) ≡ true;
   starts : b.pending ≡ [] → starts_well (erase f) ≡ true;
@@ -47,14 +47,14 @@ Tidy c b s f = record {
   some : c ≡ true → ends_with false (erase f) ≡ true;
 }
 
-empty : (s : State) → Tidy false s s marked.none
+empty : (s : State) → Tidy false s s trees.none
 empty s = record { inner = refl; starts = λ z. refl; idle = λ z y. z; ends = refl; some = λ z. absurd (true≢false (sym z)) }
 
-weaken : (c e : Bool) (b s : State) (f : Marked) → (e ≡ true → c ≡ true) → Tidy c b s f → Tidy e b s f
+weaken : (c e : Bool) (b s : State) (f : TreesWithSources) → (e ≡ true → c ≡ true) → Tidy c b s f → Tidy e b s f
 weaken c e b s f i h = record { inner = h.inner; starts = h.starts; idle = h.idle; ends = h.ends; some = λ z. h.some (i z) }
 
 -- trees after what waited, of which the last is no ignored leaf
-grows : (c : Bool) (b s t : State) (f g : Marked) → Tidy c b s f → trim (erase g) ≡ true → starts_well (erase g) ≡ true → ((e : Bool) → ends_with e (erase g) ≡ true) → Tidy true b t (append f (after_pending s g))
+grows : (c : Bool) (b s t : State) (f g : TreesWithSources) → Tidy c b s f → trim (erase g) ≡ true → starts_well (erase g) ≡ true → ((e : Bool) → ends_with e (erase g) ≡ true) → Tidy true b t (append f (after_pending s g))
 grows c b s t f g h i j e = record {
   inner = trim-append f (after_pending s g) h.inner (trim-append (set_aside s.pending) g (trim-aside s.pending) i);
   starts = λ z. subst (λ (x : built.Forest). starts_well x ≡ true) (sym (erase-append f (after_pending s g))) (starts-join (erase f) (erase (after_pending s g)) (h.starts z) (λ y. subst (λ (w : List PendingToken). starts_well (erase (append (set_aside w) g)) ≡ true) (sym (h.idle z y)) j));
@@ -66,14 +66,14 @@ grows c b s t f g h i j e = record {
     last : (v : Bool) → ends_with v (erase (append f (after_pending s g))) ≡ true
     last v = ap (ends_with v) (erase-append f (after_pending s g)) ∙ (ends-join v (erase f) (erase (after_pending s g)) ∙ (ap (ends_with (ends_with v (erase f))) (erase-append (set_aside s.pending) g) ∙ (ends-join (ends_with v (erase f)) (erase (set_aside s.pending)) (erase g) ∙ e _)))
 
-any-end : (f : Marked) (b : Bool) → ends_with true (erase f) ≡ true → ends_with false (erase f) ≡ true → ends_with b (erase f) ≡ true
+any-end : (f : TreesWithSources) (b : Bool) → ends_with true (erase f) ≡ true → ends_with false (erase f) ≡ true → ends_with b (erase f) ≡ true
 any-end f true h g = h
 any-end f false h g = g
 
 sound : Sound tidy_check Tidy
 unfolding tidy_check flush opened closed wrapped_from enter leave
 sound = record {
-  leaf = λ own a k b s f x e c h g. let i = not-c _ (and-l _ _ c) in (a, and-r _ _ c, weaken true a b (moved own s (Some x)) (append f (after_pending s (marked.leaf (token x) own marked.none))) (λ z. refl) (grows a b s (moved own s (Some x)) f (marked.leaf (token x) own marked.none) h refl (rw i refl) (λ v. rw i refl)));
+  leaf = λ own a k b s f x e c h g. let i = not-c _ (and-l _ _ c) in (a, and-r _ _ c, weaken true a b (moved own s (Some x)) (append f (after_pending s (trees.leaf (token x) own trees.none))) (λ z. refl) (grows a b s (moved own s (Some x)) f (trees.leaf (token x) own trees.none) h refl (rw i refl) (λ v. rw i refl)));
   no_leaf = λ own a k b s f e c h. (a, and-r _ _ c, h);
   report = λ m a b s f h. after-note (λ t. Tidy a b t f) m s (λ errors. h);
   limit = λ a k b s f d c h. (a, c, after-too-deep (λ t. Tidy a b t f) s (λ errors accepts. h));
@@ -83,7 +83,7 @@ sound = record {
   settles = λ a. refl;
   keeps = λ a c b s f e h. weaken c false b s f (λ z. absurd (true≢false (sym z))) h;
   opens = λ n a b s f c h. empty (opened (kind_of n) s);
-  closes = λ j a e k b s u f g c d h i l. (true, d, grows a b s (closed u) f (marked.node j g marked.none) h (and-i (and-i (i.starts refl) (and-i i.ends i.inner)) refl) refl (λ v. refl));
+  closes = λ j a e k b s u f g c d h i l. (true, d, grows a b s (closed u) f (trees.node j g trees.none) h (and-i (and-i (i.starts refl) (and-i i.ends i.inner)) refl) refl (λ v. refl));
   inlines = λ n a b s f c h. absurd (true≢false (sym c));
   inlined = λ n a e b s u f g c h i. absurd (true≢false (sym c));
   enters = λ a k b s f w c h. (a, c, h);

@@ -33,7 +33,7 @@ use Rattle.parser_rules.specs.Runs.{Runs, skip, does, seq, yes, no, done, again,
 use Rattle.parser_rules.proofs.runs.Frame.{parts_forest, read-untouched, root-kept, turned, begun-nesting}
 use Rattle.parser_rules.proofs.runs.Steps.{Holds_along, Keeps_reading, along-reading, along, turns-along}
 use Rattle.parser_rules.proofs.runs.Reading.{Reading, stops, cuts, bad_text, waits, shows, reading, ignored-kinds, ignored-leaf}
-use Rattle.parser_rules.proofs.runs.Marked.{by-kind, Source, token, aside, text_of, Marked, none, append, erase, flat, set_aside, now_of, source_at, sources, to_come, read-to_come, reports-along, Grown, grown-none, grown-then, grown-note, reports-same}
+use Rattle.parser_rules.proofs.runs.TreesWithSources.{by-kind, Source, token, aside, text_of, TreesWithSources, none, append, erase, flat, set_aside, now_of, source_at, sources, to_come, read-to_come, reports-along, Grown, grown-none, grown-then, grown-note, reports-same}
 use Rattle.parser_rules.proofs.reports.Endings.{ends-well}
 use Rattle.parser_rules.proofs.reports.InOrder.{AllUpTo}
 use Rattle.parser_rules.proofs.reports.NoReport.{answers_tokens, all_tokens, current_tokens, kind_tokens, item_tokens, ignored-tokens}
@@ -172,7 +172,7 @@ module _ (r k : ℕ) (source : List ℕ) (items : List Item) (s : State) (cut : 
 
   module _ (q : Rule) (c : State) (first : Runs q b0 c) where
     -- at a turn, where the first children are in the tree, and with them some of what waited
-    module _ (st : State) (turns : Turns Ready (Call Definition) c st) (runs : Runs loops st s) (tree : Building) (p : List PendingToken) (same : add_all p tree ≡ add_all st.pending st.tree) (f : Marked) (grown : Grown b0 (record st { tree = tree; pending = p }) f) (ends : front ≡ erase f) where
+    module _ (st : State) (turns : Turns Ready (Call Definition) c st) (runs : Runs loops st s) (tree : Building) (p : List PendingToken) (same : add_all p tree ≡ add_all st.pending st.tree) (f : TreesWithSources) (grown : Grown b0 (record st { tree = tree; pending = p }) f) (ends : front ≡ erase f) where
       abbrev here : State
       here = record st { tree = tree; pending = p }
 
@@ -231,7 +231,7 @@ module _ (r k : ℕ) (source : List ℕ) (items : List Item) (s : State) (cut : 
       found-goes = elim (left-there 0 a.before a.item a.more (flat f) (to_come here) each (ap (map source_item) (sym a.split) ∙ (sym (ap sources (within-limit k items count) ∙ given-sources items) ∙ order)) place) [ inl e ↦ here-goes e | inr e ↦ nothing-there e ]
 
     -- the turn where the first children end
-    find : {st : State} (run : Runs loops st s) → Turns Ready (Call Definition) c st → (tree : Building) (p : List PendingToken) → add_all p tree ≡ add_all st.pending st.tree → (f : Marked) → Grown b0 (record st { tree = tree; pending = p }) f
+    find : {st : State} (run : Runs loops st s) → Turns Ready (Call Definition) c st → (tree : Building) (p : List PendingToken) → add_all p tree ≡ add_all st.pending st.tree → (f : TreesWithSources) → Grown b0 (record st { tree = tree; pending = p }) f
         → (ts : List built.Tree) → front ≡ built.join (erase f) (forest ts) → built.join (forest ts) later ≡ built.join (parts_forest p) (behind run) → Goes
     unfolding flush
     find {st = st} run turns tree p same f g [] i m = found-goes st turns run tree p same f g (i ∙ join-none (erase f))

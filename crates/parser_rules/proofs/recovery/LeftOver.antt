@@ -27,7 +27,7 @@ use Rattle.parser_rules.proofs.recovery.RecoveryCheck.{of_row, leaf_of_row}
 use Rattle.parser_rules.proofs.recovery.RowSymbols.{rows}
 use Rattle.parser_rules.proofs.recovery.Popped as popped_of
 use Rattle.parser_rules.proofs.recovery.Popped.{lexeme_of, popped, pops_of, Reported_at, Allowed, PoppedReported, Recovery}
-use Rattle.parser_rules.proofs.runs.Marked.{by-kind, Has, Source, token, aside, text_of, Marked, none, leaf, node, erase, flat, now_of, sources, source_at}
+use Rattle.parser_rules.proofs.runs.TreesWithSources.{by-kind, Has, Source, token, aside, text_of, TreesWithSources, none, leaf, node, erase, flat, now_of, sources, source_at}
 use Rattle.parser_rules.proofs.runs.Reading.{ignored-kinds}
 
 -- ---- the symbols of rows
@@ -69,7 +69,7 @@ pub bytes-append : (v w : List Source) → bytes (v ++ w) ≡ bytes v + bytes w
 bytes-append [] w = omega arith
 bytes-append (o ∷ v) w = omega (arith, bytes-append v w)
 
-pub text-bytes : (f : Marked) → length (built.text (erase f)) ≡ bytes (flat f)
+pub text-bytes : (f : TreesWithSources) → length (built.text (erase f)) ≡ bytes (flat f)
 text-bytes none = refl
 text-bytes (leaf o k rest) = omega (arith, text-bytes rest, length-append (text_of o) (built.text (erase rest)))
 text-bytes (node k kids rest) = omega (arith, text-bytes kids, text-bytes rest, bytes-append (flat kids) (flat rest), length-append (built.text (erase kids)) (built.text (erase rest)))
@@ -132,15 +132,15 @@ module _ (items : List Item) where
   left-is (aside p) own b h = and_right (eqb (number own) ERROR) _ h
 
   -- the places in a node, and behind it
-  known-node : (b : ℕ) (kids : Marked) (w : List Source) → Known_all items b (flat kids ++ w) → Known_all items b (flat kids) × Known_all items (b + length (tree_texts (numbered (erase kids)))) w
+  known-node : (b : ℕ) (kids : TreesWithSources) (w : List Source) → Known_all items b (flat kids ++ w) → Known_all items b (flat kids) × Known_all items (b + length (tree_texts (numbered (erase kids)))) w
   known-node b kids w h = rw (ap length (numbered-text (erase kids)) ∙ text-bytes kids) (known-parts items b (flat kids) w h)
 
-  counted : (f : Marked) (b : ℕ) → Known_all items b (flat f) → count_left_over items b (numbered (erase f)) ≡ pops_of f
+  counted : (f : TreesWithSources) (b : ℕ) → Known_all items b (flat f) → count_left_over items b (numbered (erase f)) ≡ pops_of f
   counted none b h = refl
   counted (leaf o own rest) b h = ap₂ (λ (x : Bool) (n : ℕ). cond x 1 0 + n) (left-is o own b h.0) (counted rest (b + length (text_of o)) h.1)
   counted (node j kids rest) b h = counted rest _ (known-node b kids (flat rest) h).1
 
-  spared : (f : Marked) (b : ℕ) → Known_all items b (flat f) → popped_of.NoBracket f → NoBracket items b (numbered (erase f))
+  spared : (f : TreesWithSources) (b : ℕ) → Known_all items b (flat f) → popped_of.NoBracket f → NoBracket items b (numbered (erase f))
   spared none b h n = tt
   spared (leaf o own rest) b h n = ((λ z. on o h.0 (sym (left-is o own b h.0) ∙ z) n.0), spared rest (b + length (text_of o)) h.1 n.1)
     where
@@ -149,12 +149,12 @@ module _ (items : List Item) where
       on (aside p) h z n = absurd (true≢false (sym z))
   spared (node j kids rest) b h n = spared rest _ (known-node b kids (flat rest) h).1 n
 
-  allowed : (j : SyntaxKind) (kids : Marked) (b : ℕ) → Known_all items b (flat kids) → Allowed j kids → Spares items b (number j) (numbered (erase kids))
+  allowed : (j : SyntaxKind) (kids : TreesWithSources) (b : ℕ) → Known_all items b (flat kids) → Allowed j kids → Spares items b (number j) (numbered (erase kids))
   allowed kind.LIST_VALUE kids b h a = ((λ z. spared kids b h a), λ z. absurd (z refl))
   allowed _ kids b h a = ((λ z. absurd (true≢false (sym (eq-eqb _ LIST_VALUE z)))), λ z. omega (arith, counted kids b h, a))
 
   -- each token that was left over has a report, and so what is said of those that have one
-  left-said : (errors : List Report) (P : ℕ → Text → Type 0) → Said errors P → (f : Marked) (b : ℕ) → Known_all items b (flat f) → PoppedReported errors f → LeftOver P items b (numbered (erase f))
+  left-said : (errors : List Report) (P : ℕ → Text → Type 0) → Said errors P → (f : TreesWithSources) (b : ℕ) → Known_all items b (flat f) → PoppedReported errors f → LeftOver P items b (numbered (erase f))
   left-said errors P said none b h r = tt
   left-said errors P said (leaf o own rest) b h r = ((λ z. on o h.0 (sym (left-is o own b h.0) ∙ z) r.0), left-said errors P said rest (b + length (text_of o)) h.1 r.1)
     where
@@ -167,5 +167,5 @@ module _ (items : List Item) where
 -- Each token that was left over is where one may be, and what is said of reported tokens holds of it.
 pub left-over : (source : List ℕ) (k : ℕ) (items : List Item) (s : State) → Cut source items → (P : ℕ → Text → Type 0) → Said s.errors P → Recovery (limited k items) s → LeftOver P items 0 (numbered (add_all s.pending s.tree).here)
 left-over source k items s cut P said r =
-    let each : Known_all items 0 (flat r.marked ++ (now_of s.current ++ sources s.items)) = subst (Known_all items 0) (sym r.order) (known 0 k items cut.each) in
-    subst (λ (f : built.Forest). LeftOver P items 0 (numbered f)) r.tree (left-said items s.errors P said r.marked 0 (known-parts items 0 (flat r.marked) _ each).0 r.recovers)
+    let each : Known_all items 0 (flat r.trees ++ (now_of s.current ++ sources s.items)) = subst (Known_all items 0) (sym r.order) (known 0 k items cut.each) in
+    subst (λ (f : built.Forest). LeftOver P items 0 (numbered f)) r.tree (left-said items s.errors P said r.trees 0 (known-parts items 0 (flat r.trees) _ each).0 r.recovers)

@@ -17,7 +17,7 @@ use Rattle.parser_rules.proofs.recovery.RecoveryCheck.{row_check}
 use Rattle.parser_rules.proofs.recovery.RowSymbols.{Fit, sound}
 use Rattle.parser_rules.proofs.runs.Fuel.{rules_deep}
 use Rattle.parser_rules.proofs.runs.Frame.{parts_forest, added-all}
-use Rattle.parser_rules.proofs.runs.Marked.{Source, token, Marked, none, leaf, node, append, erase, erase-append, Grown, grown-none, grown-then, grown-leaf, grown-note, grown-node}
+use Rattle.parser_rules.proofs.runs.TreesWithSources.{Source, token, TreesWithSources, none, leaf, node, append, erase, erase-append, Grown, grown-none, grown-then, grown-leaf, grown-note, grown-node}
 use Rattle.parser_rules.proofs.runs.Walk.{walked}
 use Rattle.parser_rules.proofs.runs.Anew.{built_of, test-same}
 use Rattle.parser_rules.proofs.runs.Progress.{ready-there}
@@ -41,9 +41,9 @@ note-flush m s = elim s.current as (λ o. noted m (flush s) o ≡ flush (noted m
 
 pub data Kid : Type 0 where
   leaf_of : Source → SyntaxKind → Kid
-  node_of : SyntaxKind → Marked → Kid
+  node_of : SyntaxKind → TreesWithSources → Kid
 
-abbrev pub alone : Kid → Marked
+abbrev pub alone : Kid → TreesWithSources
 alone (leaf_of o k) = leaf o k none
 alone (node_of k g) = node k g none
 
@@ -119,7 +119,7 @@ loop-alike (done e) z f = inl refl
 loop-alike {s = s} (again e h k) z f = inr (e, again (e ∙ same-test Ready s z f) ((turn-one e h).2 z f) k)
 
 -- the next child, where one tree follows
-pub next-child : (a : Kid) (t : built.Tree) (f : Marked) (g later x : built.Forest) → built.join (built.first t g) later ≡ built.join (erase (alone a)) x
+pub next-child : (a : Kid) (t : built.Tree) (f : TreesWithSources) (g later x : built.Forest) → built.join (built.first t g) later ≡ built.join (erase (alone a)) x
     → (built.join (erase f) (built.first t g) ≡ built.join (erase (append f (alone a))) g) × (built.join g later ≡ x)
 next-child a t f g later x e =
     let c = cases a t e in

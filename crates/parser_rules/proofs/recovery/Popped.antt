@@ -18,7 +18,7 @@ use Rattle.std.proofs.lemmas.Option.{none-some}
 use Rattle.parser_rules.proofs.recovery.RecoveryCheck.{is_list, excludes, asks_next, Room, any_token, no_bracket, one_token, no_token, same_room, room_of, Popping, unknown, pop, pop_check}
 use Rattle.parser_rules.proofs.NodeChecks.{node-passes, document_passes}
 use Rattle.parser_rules.proofs.runs.Reading.{Reading, stops, cuts, bad_text, waits, shows, reading}
-use Rattle.parser_rules.proofs.runs.Marked.{Source, token, aside, Marked, none, leaf, node, append, append-none, erase, flat, set_aside, now_of, sources, moved_on, has-more, Has, Limited, Reports, read-reports, taken-or-limited, Grown, grown-note, grown-deep}
+use Rattle.parser_rules.proofs.runs.TreesWithSources.{Source, token, aside, TreesWithSources, none, leaf, node, append, append-none, erase, flat, set_aside, now_of, sources, moved_on, has-more, Has, Limited, Reports, read-reports, taken-or-limited, Grown, grown-note, grown-deep}
 use Rattle.parser_rules.proofs.runs.Walk.{after_pending, always, Goes, Sound, walked_whole}
 use Rattle.parser_rules.proofs.runs.Reporting.{after-note, after-too-deep}
 use Rattle.parser_rules.proofs.reports.NoReport.{Now, EndsWell, choose, ignored-end, NowOrNone, reading-now, now-along}
@@ -35,13 +35,13 @@ popped (token x) k = is_error k and not (is_end x.kind)
 popped (aside p) k = false
 
 -- how many of the trees are popped tokens
-abbrev pub pops_of : Marked → ℕ
+abbrev pub pops_of : TreesWithSources → ℕ
 pops_of none = 0
 pops_of (leaf o k rest) = cond (popped o k) 1 0 + pops_of rest
 pops_of (node k kids rest) = pops_of rest
 
 -- none of them is `]`
-abbrev pub NoBracket : Marked → Type 0
+abbrev pub NoBracket : TreesWithSources → Type 0
 NoBracket none = ⊤
 NoBracket (leaf o k rest) = (popped o k ≡ true → is_at token_kind.RBracket (lexeme_of o) ≡ false) × NoBracket rest
 NoBracket (node k kids rest) = NoBracket rest
@@ -51,11 +51,11 @@ abbrev pub Reported_at : List Report → Option Lexeme → Type 0
 Reported_at errors None = ⊤
 Reported_at errors (Some x) = (m : Message) × Has errors (fault_report m x)
 
-abbrev pub Allowed : SyntaxKind → Marked → Type 0
+abbrev pub Allowed : SyntaxKind → TreesWithSources → Type 0
 Allowed k kids = choose (is_list k) (NoBracket kids) (pops_of kids ≤ 1)
 
 -- each popped token has its report, and stands where one may
-abbrev pub PoppedReported : List Report → Marked → Type 0
+abbrev pub PoppedReported : List Report → TreesWithSources → Type 0
 PoppedReported errors none = ⊤
 PoppedReported errors (leaf o k rest) = (popped o k ≡ true → Reported_at errors (lexeme_of o)) × PoppedReported errors rest
 PoppedReported errors (node k kids rest) = Allowed k kids × PoppedReported errors kids × PoppedReported errors rest
@@ -64,12 +64,12 @@ reported-more : (errors more : List Report) (o : Option Lexeme) → Reported_at 
 reported-more errors more None h = tt
 reported-more errors more (Some x) h = (h.0, has-more errors more (fault_report h.0 x) h.1)
 
-popped-more : (errors more : List Report) (f : Marked) → PoppedReported errors f → PoppedReported (errors ++ more) f
+popped-more : (errors more : List Report) (f : TreesWithSources) → PoppedReported errors f → PoppedReported (errors ++ more) f
 popped-more errors more none h = tt
 popped-more errors more (leaf o k rest) h = ((λ z. reported-more errors more (lexeme_of o) (h.0 z)), popped-more errors more rest h.1)
 popped-more errors more (node k kids rest) h = (h.0, popped-more errors more kids h.1, popped-more errors more rest h.2)
 
-popped-append : (errors : List Report) (f g : Marked) → PoppedReported errors f → PoppedReported errors g → PoppedReported errors (append f g)
+popped-append : (errors : List Report) (f g : TreesWithSources) → PoppedReported errors f → PoppedReported errors g → PoppedReported errors (append f g)
 popped-append errors none g a b = b
 popped-append errors (leaf o k rest) g a b = (a.0, popped-append errors rest g a.1 b)
 popped-append errors (node k kids rest) g a b = (a.0, a.1, popped-append errors rest g a.2 b)
@@ -78,7 +78,7 @@ popped-aside : (errors : List Report) (parts : List PendingToken) → PoppedRepo
 popped-aside errors [] = tt
 popped-aside errors (p ∷ parts) = ((λ z. false-true refl z), popped-aside errors parts)
 
-pops-append : (f g : Marked) → pops_of (append f g) ≡ pops_of f + pops_of g
+pops-append : (f g : TreesWithSources) → pops_of (append f g) ≡ pops_of f + pops_of g
 pops-append none g = omega arith
 pops-append (leaf o k rest) g = let e = pops-append rest g in omega (arith, e)
 pops-append (node k kids rest) g = pops-append rest g
@@ -87,16 +87,16 @@ pops-aside : (parts : List PendingToken) → pops_of (set_aside parts) ≡ 0
 pops-aside [] = refl
 pops-aside (p ∷ parts) = let e = pops-aside parts in omega (arith, e)
 
-pops-after : (s : State) (g : Marked) → pops_of (after_pending s g) ≡ pops_of g
+pops-after : (s : State) (g : TreesWithSources) → pops_of (after_pending s g) ≡ pops_of g
 pops-after s g = let b = pops-append (set_aside s.pending) g in let c = pops-aside s.pending in omega (arith, b, c)
 
-bracket-append : (f g : Marked) → NoBracket f → NoBracket g → NoBracket (append f g)
+bracket-append : (f g : TreesWithSources) → NoBracket f → NoBracket g → NoBracket (append f g)
 bracket-append none g a b = b
 bracket-append (leaf o k rest) g a b = (a.0, bracket-append rest g a.1 b)
 bracket-append (node k kids rest) g a b = bracket-append rest g a b
 
 -- where none is popped, no `]` is
-none-bracket : (f : Marked) → pops_of f ≡ 0 → NoBracket f
+none-bracket : (f : TreesWithSources) → pops_of f ≡ 0 → NoBracket f
 none-bracket none e = tt
 none-bracket (leaf o k rest) e = on (popped o k) refl e (λ z. none-bracket rest z)
   where
@@ -107,7 +107,7 @@ none-bracket (node k kids rest) e = none-bracket rest e
 
 -- ---- the room that is left
 
-abbrev Roomed : Room → Marked → Type 0
+abbrev Roomed : Room → TreesWithSources → Type 0
 Roomed any_token f = ⊤
 Roomed no_bracket f = NoBracket f
 Roomed one_token f = pops_of f ≡ 0
@@ -120,7 +120,7 @@ roomed-none one_token = refl
 roomed-none no_token = omega arith
 
 -- nothing is popped
-roomed-still : (r : Room) (s : State) (f g : Marked) → pops_of g ≡ 0 → Roomed r f → Roomed r (append f (after_pending s g))
+roomed-still : (r : Room) (s : State) (f g : TreesWithSources) → pops_of g ≡ 0 → Roomed r f → Roomed r (append f (after_pending s g))
 roomed-still any_token s f g e h = tt
 roomed-still no_bracket s f g e h = bracket-append f (after_pending s g) h (none-bracket (after_pending s g) (pops-after s g ∙ e))
 roomed-still one_token s f g e h = let a = pops-append f (after_pending s g) in let b = pops-after s g in omega (arith, a, b, e, h)
@@ -128,7 +128,7 @@ roomed-still no_token s f g e h = let a = pops-append f (after_pending s g) in l
 
 -- the room after trees with at most one popped token, which is no `]` where it is spared, and is none where the text is cut off
 roomed-pop : (a : Popping) (r : Room) (k : Popping → Bool) → pop a r k ≡ true
-    → (q : Room) × (k (unknown q) ≡ true) × ((f g : Marked) → pops_of g ≤ 1 → (a.spared ≡ true → NoBracket g) → (a.cut ≡ true → pops_of g ≡ 0) → Roomed r f → Roomed q (append f g))
+    → (q : Room) × (k (unknown q) ≡ true) × ((f g : TreesWithSources) → pops_of g ≤ 1 → (a.spared ≡ true → NoBracket g) → (a.cut ≡ true → pops_of g ≡ 0) → Roomed r f → Roomed q (append f g))
 roomed-pop a any_token k h = (any_token, h, λ f g n b c i. tt)
 roomed-pop a no_bracket k h = (no_bracket, and-r _ _ h, λ f g n b c i. bracket-append f g i (b (and-l _ _ h)))
 roomed-pop a one_token k h = elim (either a.cut) [
@@ -145,7 +145,7 @@ same-room no_token no_token h = refl
 same-room _ _ h = absurd cc
 
 -- the children of a node are allowed, where its rule keeps to its room
-allowed : (k : SyntaxKind) (f : Marked) (r : Room) → room_of k r ≡ true → Roomed r f → Allowed k f
+allowed : (k : SyntaxKind) (f : TreesWithSources) (r : Room) → room_of k r ≡ true → Roomed r f → Allowed k f
 allowed k f any_token h i = false-true refl h
 allowed k f no_bracket h i = rw h i
 allowed k f one_token h i = rw (not-c _ h) (omega (arith, i))
@@ -177,10 +177,10 @@ none-next _ s e h = false-true refl e
 
 -- ---- runs
 
-abbrev Right : Room → State → Marked → Type 0
+abbrev Right : Room → State → TreesWithSources → Type 0
 Right r s f = s.accepts ≡ true → PoppedReported s.errors f × Roomed r f
 
-abbrev Held : Popping → State → State → Marked → Type 0
+abbrev Held : Popping → State → State → TreesWithSources → Type 0
 Held a b s f = record {
   stood : NowOrNone s.current s.items;
   told : a.told ≡ true → s.accepts ≡ true → Reported_at s.errors s.current;
@@ -189,17 +189,17 @@ Held a b s f = record {
   right : Right a.room s f;
 }
 
-held : (r : Room) (b s : State) (f : Marked) → NowOrNone s.current s.items → Right r s f → Held (unknown r) b s f
+held : (r : Room) (b s : State) (f : TreesWithSources) → NowOrNone s.current s.items → Right r s f → Held (unknown r) b s f
 held r b s f st h = record { stood = st; told = λ z. false-true refl z; cut = λ z. false-true refl z; spared = λ z. false-true refl z; right = h }
 
-popped-on : (s t : State) (f : Marked) → Reports s t → PoppedReported s.errors f → PoppedReported t.errors f
+popped-on : (s t : State) (f : TreesWithSources) → Reports s t → PoppedReported s.errors f → PoppedReported t.errors f
 popped-on s t f g h = subst (λ (e : List Report). PoppedReported e f) (sym g.errors) (popped-more s.errors g.more f h)
 
-right-on : (r : Room) (s t : State) (f : Marked) → Reports s t → Right r s f → Right r t f
+right-on : (r : Room) (s t : State) (f : TreesWithSources) → Reports s t → Right r s f → Right r t f
 right-on r s t f g h y = let i = h (g.keeps y) in (popped-on s t f g i.0, i.1)
 
 -- trees are added after what waited
-right-grows : (r q : Room) (s t : State) (f g : Marked) → Reports s t → Right r s f → (t.accepts ≡ true → PoppedReported t.errors g) → (t.accepts ≡ true → Roomed r f → Roomed q (append f (after_pending s g))) → Right q t (append f (after_pending s g))
+right-grows : (r q : Room) (s t : State) (f g : TreesWithSources) → Reports s t → Right r s f → (t.accepts ≡ true → PoppedReported t.errors g) → (t.accepts ≡ true → Roomed r f → Roomed q (append f (after_pending s g))) → Right q t (append f (after_pending s g))
 right-grows r q s t f g p h i j y =
     let k = h (p.keeps y) in
     (popped-append t.errors f (after_pending s g) (popped-on s t f p k.0) (popped-append t.errors (set_aside s.pending) g (popped-aside t.errors s.pending) (i y)), j y k.1)
@@ -212,8 +212,8 @@ noted-at m s a = at s.current
     at None = tt
     at (Some x) = (m, rw a (record { before = s.errors; after = []; split = refl }))
 
-module _ (own : SyntaxKind) (a : Popping) (k : Popping → Bool) (b s : State) (f : Marked) (x : Lexeme) (e : s.current ≡ Some x) (h : Held a b s f) where
-  abbrev one : Marked
+module _ (own : SyntaxKind) (a : Popping) (k : Popping → Bool) (b s : State) (f : TreesWithSources) (x : Lexeme) (e : s.current ≡ Some x) (h : Held a b s f) where
+  abbrev one : TreesWithSources
   one = leaf (token x) own none
 
   abbrev after : State
@@ -260,7 +260,7 @@ module _ (own : SyntaxKind) (a : Popping) (k : Popping → Bool) (b s : State) (
   ]
 
 -- where there is no token, none is popped
-no-leaf : (own : SyntaxKind) (a : Popping) (k : Popping → Bool) (b s : State) (f : Marked) → cond (is_error own) (a.told and pop a a.room k) (k (unknown a.room)) ≡ true → Held a b s f → Goes pop_check Held k b s f
+no-leaf : (own : SyntaxKind) (a : Popping) (k : Popping → Bool) (b s : State) (f : TreesWithSources) → cond (is_error own) (a.told and pop a a.room k) (k (unknown a.room)) ≡ true → Held a b s f → Goes pop_check Held k b s f
 no-leaf own a k b s f c h = elim (either (is_error own)) [
   | inl i ↦ (
       let r = roomed-pop a a.room k (and-r _ _ (rw i at c)) in
@@ -309,10 +309,10 @@ sound = record {
 
 -- A tree that knows its tokens: its leaves are the answers in their order, and popped tokens are reported and stand where they may.
 pub record Recovery (xs : List Answer) (s : State) : Type 0 where
-  pub marked : Marked
-  pub tree : erase marked ≡ (add_all s.pending s.tree).here
-  pub order : flat marked ++ (now_of s.current ++ sources s.items) ≡ sources xs
-  pub recovers : PoppedReported s.errors marked
+  pub trees : TreesWithSources
+  pub tree : erase trees ≡ (add_all s.pending s.tree).here
+  pub order : flat trees ++ (now_of s.current ++ sources s.items) ≡ sources xs
+  pub recovers : PoppedReported s.errors trees
 
 -- Where no limit is reported, each popped token has a report with its text and index, and is a child of the root, or of a LIST_VALUE and not
 -- `]`, or its node's only popped token.
@@ -321,4 +321,4 @@ document-recovers r xs s en run none-limited =
     let o : State = fresh xs r kind.DOCUMENT in
     let (f, a, e, h, g, w) = walked_whole pop_check Held sound xs r kind.DOCUMENT (unknown any_token) always run document_passes.errors (held any_token (begun xs r kind.DOCUMENT) (begun xs r kind.DOCUMENT) none (reading-now (reading xs o) en) (λ y. (tt, tt))) in
     let taken : s.accepts ≡ true = elim (taken-or-limited xs r kind.DOCUMENT s g.reports) [ inl y ↦ y | inr l ↦ absurd (none-limited l) ] in
-    record { marked = append f (set_aside s.pending); tree = w.tree; order = w.order; recovers = popped-append s.errors f (set_aside s.pending) (h.right taken).0 (popped-aside s.errors s.pending) }
+    record { trees = append f (set_aside s.pending); tree = w.tree; order = w.order; recovers = popped-append s.errors f (set_aside s.pending) (h.right taken).0 (popped-aside s.errors s.pending) }

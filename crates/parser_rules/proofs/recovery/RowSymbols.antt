@@ -16,7 +16,7 @@ use Rattle.parser_rules.specs.Runs.{Runs}
 use Rattle.parser_rules.proofs.recovery.RecoveryCheck.{of_row, leaf_of_row, Two_rows, row_check}
 use Rattle.parser_rules.proofs.NodeChecks.{node-passes, document_passes}
 use Rattle.parser_rules.proofs.runs.Reading.{Reading, reading, all_kinds, reading-waits}
-use Rattle.parser_rules.proofs.runs.Marked.{Marked, none, leaf, node, token, moved_on, append, erase, erase-append, set_aside}
+use Rattle.parser_rules.proofs.runs.TreesWithSources.{TreesWithSources, none, leaf, node, token, moved_on, append, erase, erase-append, set_aside}
 use Rattle.parser_rules.proofs.runs.Walk.{after_pending, Sound, walked_whole}
 use Rattle.parser_rules.proofs.runs.Reporting.{after-note, after-too-deep}
 
@@ -34,7 +34,7 @@ rows-join k built.none g a b = b
 rows-join k (built.leaf j x rest) g a b = and-i (and-l _ _ a) (rows-join k rest g (and-r _ _ a) b)
 rows-join k (built.node j kids rest) g a b = and-i (and-l _ _ a) (rows-join k rest g (and-r _ _ a) b)
 
-rows-append : (k : ℕ) (f g : Marked) → rows k (erase f) ≡ true → rows k (erase g) ≡ true → rows k (erase (append f g)) ≡ true
+rows-append : (k : ℕ) (f g : TreesWithSources) → rows k (erase f) ≡ true → rows k (erase g) ≡ true → rows k (erase (append f g)) ≡ true
 rows-append k f g a b = subst (λ (x : built.Forest). rows k x ≡ true) (sym (erase-append f g)) (rows-join k (erase f) (erase g) a b)
 
 -- what waits is ignored or bad text, which each node may have
@@ -51,10 +51,10 @@ read-aside r h k = reading-waits (leaf_of_row k) refl refl refl refl r (h k)
 
 -- ---- runs
 
-abbrev pub Fit : Two_rows → State → State → Marked → Type 0
+abbrev pub Fit : Two_rows → State → State → TreesWithSources → Type 0
 Fit a b s f = record { own : rows a.own (erase f) ≡ true; later : rows a.later (erase f) ≡ true; waits : Waits s.pending }
 
-grows : (a : Two_rows) (b s t : State) (f g : Marked) → Fit a b s f → rows a.own (erase g) ≡ true → rows a.later (erase g) ≡ true → Waits t.pending → Fit a b t (append f (after_pending s g))
+grows : (a : Two_rows) (b s t : State) (f g : TreesWithSources) → Fit a b s f → rows a.own (erase g) ≡ true → rows a.later (erase g) ≡ true → Waits t.pending → Fit a b t (append f (after_pending s g))
 grows a b s t f g h i j w = record {
   own = rows-append a.own f (after_pending s g) h.own (rows-append a.own (set_aside s.pending) g (rows-aside a.own s.pending h.waits) i);
   later = rows-append a.later f (after_pending s g) h.later (rows-append a.later (set_aside s.pending) g (rows-aside a.later s.pending h.waits) j);

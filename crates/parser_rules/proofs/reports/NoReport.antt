@@ -15,7 +15,7 @@ use Rattle.parser_rules.proofs.runs.Reading.{Reading, stops, cuts, bad_text, wai
 use Rattle.document_grammar.specs.Builds.{add_leaf}
 use Rattle.parser_rules.proofs.runs.Steps.{Holds_along, Keeps_reading, along-reading}
 use Rattle.parser_rules.proofs.runs.Frame.{untouched}
-use Rattle.parser_rules.proofs.runs.Marked.{Reports, reports-then, read-reports}
+use Rattle.parser_rules.proofs.runs.TreesWithSources.{Reports, reports-then, read-reports}
 use Rattle.parser_rules.proofs.soundness.WithoutIgnored.{all_ignored}
 use Rattle.parser_rules.proofs.soundness.Settled.{Settled}
 

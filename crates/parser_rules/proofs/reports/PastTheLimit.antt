@@ -16,8 +16,8 @@ use Rattle.parser_rules.specs.RuleLanguage.{TokenTest, Kind, Keyword, Or, fits, 
 use Rattle.parser_rules.specs.Runs.{Runs}
 use Rattle.parser_rules.proofs.runs.Fuel.{rules_deep}
 use Rattle.parser_rules.proofs.runs.Reading.{reading, found}
-use Rattle.parser_rules.proofs.runs.Marked as marked
-use Rattle.parser_rules.proofs.runs.Marked.{Marked, append, Limited, Reports, taken-or-limited, moved_on, Has, reports-then, read-reports}
+use Rattle.parser_rules.proofs.runs.TreesWithSources as trees
+use Rattle.parser_rules.proofs.runs.TreesWithSources.{TreesWithSources, append, Limited, Reports, taken-or-limited, moved_on, Has, reports-then, read-reports}
 use Rattle.parser_rules.proofs.runs.Walk.{after_pending, always, Sound, walked_whole, walk, walked_root}
 use Rattle.parser_rules.proofs.runs.Frame.{read-untouched}
 use Rattle.parser_rules.proofs.runs.Reporting.{after-note}
@@ -66,12 +66,12 @@ inner-present (Some x) h = refl
 -- ---- what a run keeps
 
 -- While the grammar's reports are taken, no more than the limit was asked for.
-record Held (a : Current) (b s : State) (f : Marked) : Type 0 where
+record Held (a : Current) (b s : State) (f : TreesWithSources) : Type 0 where
   stood : NowOrNone s.current s.items
   bounded : s.accepts ≡ true → s.high ≤ s.limit
   token : s.accepts ≡ true → known a s.current ≡ true
 
-forget : (a : Current) (b c s : State) (f g : Marked) → Held a b s f → Held unknown c s g
+forget : (a : Current) (b c s : State) (f g : TreesWithSources) → Held a b s f → Held unknown c s g
 forget a b c s f g h = record { stood = h.stood; bounded = h.bounded; token = λ y. refl }
 
 -- a token that is not the end is followed by another one, or the token limit is met
@@ -82,7 +82,7 @@ next-present x s u n i y =
     let ends : EndsWell u.items = subst (λ (b : Bool). choose b (u.items ≡ []) (EndsWell u.items)) (not-c _ i) n.1 in
     elim (either (is_some (read_on u.items u).current)) [ inl z ↦ z | inr z ↦ absurd (cut-off r ends (sym (found r).next ∙ not-some _ z) y) ]
 
-module _ (own : SyntaxKind) (a : Current) (b s : State) (f : Marked) (x : Lexeme) (e : s.current ≡ Some x) (h : Held a b s f) where
+module _ (own : SyntaxKind) (a : Current) (b s : State) (f : TreesWithSources) (x : Lexeme) (e : s.current ≡ Some x) (h : Held a b s f) where
   abbrev after : State
   after = moved own s (Some x)
 
@@ -101,7 +101,7 @@ module _ (own : SyntaxKind) (a : Current) (b s : State) (f : Marked) (x : Lexeme
       let now : is_inner (Some x) ≡ true = subst (λ (o : Option Lexeme). is_inner o ≡ true) e (subst (λ (c : Current). known c s.current ≡ true) i (h.token z)) in
       next-present x s unread (subst (λ (o : Option Lexeme). NowOrNone o s.items) e h.stood) now y
 
-  moved-held : (g : Marked) → Reports s after → Held (after_token a) b after g
+  moved-held : (g : TreesWithSources) → Reports s after → Held (after_token a) b after g
   unfolding flush
   moved-held g p = record {
     stood = now-along.moves own x (flush s) e refl (now-along.flushes s h.stood);
@@ -109,11 +109,11 @@ module _ (own : SyntaxKind) (a : Current) (b s : State) (f : Marked) (x : Lexeme
     token = λ y. followed a refl y (p.keeps y);
   }
 
-noted-held : (m : Message) (a : Current) (b s : State) (f : Marked) → Held a b s f → Held a b (note m s) f
+noted-held : (m : Message) (a : Current) (b s : State) (f : TreesWithSources) → Held a b s f → Held a b (note m s) f
 noted-held m a b s f h = after-note (λ (t : State). Held a b t f) m s (λ errors. record { stood = h.stood; bounded = h.bounded; token = h.token })
 
 -- where a token is certain, the limit is reported
-limit-held : (a : Current) (b s : State) (f : Marked) → is_known a ≡ true → Held a b s f → Held a b (too_deep s) f
+limit-held : (a : Current) (b s : State) (f : TreesWithSources) → is_known a ≡ true → Held a b s f → Held a b (too_deep s) f
 unfolding too_deep
 limit-held a b s f i h = on s.current refl
   where
@@ -132,13 +132,13 @@ limit-held a b s f i h = on s.current refl
       | false ↦ record { stood = h.stood; bounded = λ y. false-true refl y; token = λ y. false-true refl y }
     ]
 
-passed : (q : Test) (a : Current) (b s : State) (f : Marked) → true ≡ holds q s → Held a b s f → Held (cond (tells_inner q) inner a) b s f
+passed : (q : Test) (a : Current) (b s : State) (f : TreesWithSources) → true ≡ holds q s → Held a b s f → Held (cond (tells_inner q) inner a) b s f
 passed q a b s f e h = elim (either (tells_inner q)) [
   | inl y ↦ rw y (record { stood = h.stood; bounded = h.bounded; token = λ z. test-inner q s y e })
   | inr y ↦ rw y h
 ]
 
-no-token : (a : Current) (b s : State) (f : Marked) → Held a b s f → Held (after_token a) b s f
+no-token : (a : Current) (b s : State) (f : TreesWithSources) → Held a b s f → Held (after_token a) b s f
 no-token a b s f h = record { stood = h.stood; bounded = h.bounded; token = λ y. on a (h.token y) }
   where
     on : (c : Current) → known c s.current ≡ true → known (after_token c) s.current ≡ true
@@ -146,7 +146,7 @@ no-token a b s f h = record { stood = h.stood; bounded = h.bounded; token = λ y
     on present i = refl
     on inner i = inner-present s.current i
 
-opened-held : (n : Node) (a : Current) (b s : State) (f : Marked) → not (begins_level n) or same_inner a ≡ true → Held a b s f → Held (cond (begins_level n) inner unknown) (opened (kind_of n) s) (opened (kind_of n) s) marked.none
+opened-held : (n : Node) (a : Current) (b s : State) (f : TreesWithSources) → not (begins_level n) or same_inner a ≡ true → Held a b s f → Held (cond (begins_level n) inner unknown) (opened (kind_of n) s) (opened (kind_of n) s) trees.none
 unfolding opened flush
 opened-held n a b s f c h = elim (either (begins_level n)) [
   | inl y ↦ rw y (record { stood = h.stood; bounded = h.bounded; token = λ z. on a (implies _ _ c y) (h.token z) })
@@ -161,7 +161,7 @@ opened-held n a b s f c h = elim (either (begins_level n)) [
 sound : Sound limit_check Held
 unfolding limit_check flush opened closed wrapped_from enter leave is_deep
 sound = record {
-  leaf = λ own a k b s f x e c h g. (after_token a, c, moved-held own a b s f x e h (append f (after_pending s (marked.leaf (marked.token x) own marked.none))) g.reports);
+  leaf = λ own a k b s f x e c h g. (after_token a, c, moved-held own a b s f x e h (append f (after_pending s (trees.leaf (trees.token x) own trees.none))) g.reports);
   no_leaf = λ own a k b s f e c h. (after_token a, c, no-token a b s f h);
   report = noted-held;
   limit = λ a k b s f d c h. (a, and-r _ _ c, limit-held a b s f (and-l _ _ c) h);

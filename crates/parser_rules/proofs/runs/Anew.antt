@@ -15,7 +15,7 @@ use Rattle.parser_rules.specs.RuleLanguage.{Test, At, Not, Both, holds, Prim, Bu
 use Rattle.parser_rules.specs.Runs.{Runs, skip, does, seq, yes, no, done, again, child, limited, deeper, refused, call, plain, wrapped}
 use Rattle.parser_rules.proofs.runs.Reading.{Reading, stops, cuts, bad_text, waits, shows, reading, found}
 use Rattle.parser_rules.proofs.runs.Frame.{parts_forest, added-all}
-use Rattle.parser_rules.proofs.runs.Marked.{moved_on}
+use Rattle.parser_rules.proofs.runs.TreesWithSources.{moved_on}
 
 -- what was built and reported, and the greatest depth that was asked for
 pub record Built : Type 0 where

@@ -9,7 +9,7 @@ use Rattle.document_grammar.specs.Forests.{none as no_trees, Forest, join}
 use Rattle.document_grammar.specs.Forests as built
 use Rattle.document_grammar.proofs.Added.{Added, added-none, added-leaf, added-then, added-node, added-wrap, place-last, place-added}
 use Rattle.parser_rules.specs.State.{State, Text, Lexeme, PendingToken, read_on, add_all, flush, opened, closed, wrapped_from, is_at, is_deep, enter, leave, too_deep, fresh, begun}
-use Rattle.parser_rules.specs.Open.{is_free, is_free_in, IsOpen, IsMark, IsInside, IsRoot}
+use Rattle.parser_rules.specs.Open.{is_free, is_free_in, IsOpen, IsCheckpoint, IsInside, IsRoot}
 use Rattle.parser_rules.specs.RuleLanguage.{Test, At, holds, Rule, Skip, While}
 use Rattle.parser_rules.specs.Runs.{Runs, done, again, refused, Turns, begin, turn}
 use Rattle.parser_rules.proofs.runs.Reading.{Reading, stops, cuts, bad_text, waits, shows, reading, found}
@@ -226,12 +226,12 @@ unfolding wrapped_from IsOpen
 open-wrapped k place s free e = subst (λ w. is_free_in w.tree.above ≡ true) (sym e) free
 
 -- the place after all that is built
-pub is-mark : (s : State) (place : ℕ) → place ≡ built_count s.tree → IsMark place s.tree
-unfolding IsMark
+pub is-mark : (s : State) (place : ℕ) → place ≡ built_count s.tree → IsCheckpoint place s.tree
+unfolding IsCheckpoint
 is-mark s place e = subst (λ n. IsPlace n s.tree) (sym e) (place-last s.tree)
 
-pub still-mark : (place : ℕ) {r : Rule} {s t : State} → Runs r s t → IsMark place s.tree → IsMark place t.tree
-unfolding IsMark
+pub still-mark : (place : ℕ) {r : Rule} {s t : State} → Runs r s t → IsCheckpoint place s.tree → IsCheckpoint place t.tree
+unfolding IsCheckpoint
 still-mark place h m = place-added place (adds h).trees m
 
 -- a token that is there is still there in a node that was opened

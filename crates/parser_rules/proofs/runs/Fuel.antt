@@ -6,3 +6,14 @@ use Rattle.std.proofs.Common.{ℕ}
 -- unless the rule calls itself with no node between: no number is enough for that.
 abbrev pub rules_deep : ℕ
 rules_deep = 5
+
+-- The same for the check that a rule takes the token that is there (`Progress`). A rule that goes deeper counts as one that may leave it.
+abbrev pub rules_deep_for_progress : ℕ
+rules_deep_for_progress = 6
+
+-- The same for the check of sizes (`SizeCheck`), which walks most children at their places: of a node's rule, and of a root's.
+abbrev pub rules_deep_for_sizes : ℕ
+rules_deep_for_sizes = 12
+
+abbrev pub root_rules_deep_for_sizes : ℕ
+root_rules_deep_for_sizes = 14

@@ -15,6 +15,7 @@ use Rattle.parser_rules.specs.Nodes.{kind_of, ValueOf, NestedValue}
 use Rattle.parser_rules.specs.RuleLanguage.{TokenTest, Kind, Keyword, Or, fits, Here, Ready, holds, Prim, Bump, step, Rule, Do, Seq, When, Child, Nested, Call}
 use Rattle.parser_rules.specs.Rules.{has_item, inside, body}
 use Rattle.parser_rules.specs.Runs.{Runs, does, seq, yes, no, child, deeper, refused, call}
+use Rattle.parser_rules.proofs.runs.Fuel.{rules_deep_for_progress}
 use Rattle.parser_rules.proofs.runs.Frame.{left, moved-left, fewer}
 use Rattle.parser_rules.proofs.runs.Steps.{Holds_along, along}
 
@@ -73,7 +74,7 @@ may_stay n j _ = true
 -- each kind of the list that is such a kind is taken
 unfoldable pub takes_all : List TokenKind → Kinds → Rule → Bool
 takes_all [] p a = true
-takes_all (k ∷ ks) p a = not (p k and may_stay 6 k a) and takes_all ks p a
+takes_all (k ∷ ks) p a = not (p k and may_stay rules_deep_for_progress k a) and takes_all ks p a
 
 -- the rule takes the token that is there, when it is of these kinds
 unfoldable pub consumes : Kinds → Rule → Bool
@@ -171,7 +172,7 @@ bump-takes leaf x s e c =
     let l = ap left e in
     omega (arith, f, k, l)
 
-taken-at : (ks : List TokenKind) (p : Kinds) (a : Rule) (n : ℕ) → takes_all ks p a ≡ true → n < length ks → p (get_or ks n token.Eof) and may_stay 6 (get_or ks n token.Eof) a ≡ false
+taken-at : (ks : List TokenKind) (p : Kinds) (a : Rule) (n : ℕ) → takes_all ks p a ≡ true → n < length ks → p (get_or ks n token.Eof) and may_stay rules_deep_for_progress (get_or ks n token.Eof) a ≡ false
 unfolding takes_all
 taken-at [] p a n h l = absurd (omega (arith, l))
 taken-at (k ∷ ks) p a zero h l = not-c _ (and-l _ _ h)
@@ -188,11 +189,11 @@ listed-below token.Whitespace = refl
 listed-below _ = refl
 
 -- a token of a kind that is taken does not stay
-not-left : (p : Kinds) (a : Rule) (j : TokenKind) → consumes p a ≡ true → p j ≡ true → may_stay 6 j a ≡ true → ⊥
+not-left : (p : Kinds) (a : Rule) (j : TokenKind) → consumes p a ≡ true → p j ≡ true → may_stay rules_deep_for_progress j a ≡ true → ⊥
 unfolding consumes
 not-left p a j h e m =
     let i = taken-at token_kinds p a (tag_of the_type j) h (ltb-true _ _ (listed-below j)) in
-    true≢false (sym (and-i e m) ∙ subst (λ (k : TokenKind). p k and may_stay 6 k a ≡ false) (listed j) i)
+    true≢false (sym (and-i e m) ∙ subst (λ (k : TokenKind). p k and may_stay rules_deep_for_progress k a ≡ false) (listed j) i)
 
 -- ---- a run takes the token that is there, or leaves it there
 
@@ -258,7 +259,7 @@ stays (call k) (suc n) x c = stays k n x c
 stays r n x c = any-rule n x c refl r
 
 pub taken : {a : Rule} {p : Kinds} {s t : State} → Runs a s t → IsThere p s → consumes p a ≡ true → left t < left s
-taken {a = a} {p = p} r h e = elim (stays r 6 h.token h.is) [ inl f ↦ f | inr g ↦ absurd (not-left p a h.token.kind e h.kind g.2) ]
+taken {a = a} {p = p} r h e = elim (stays r rules_deep_for_progress h.token h.is) [ inl f ↦ f | inr g ↦ absurd (not-left p a h.token.kind e h.kind g.2) ]
 
 -- ---- what the code's measures ask
 

@@ -1,7 +1,7 @@
 -- What the functions of a parser are proved by: the forms of a run, and that nodes and levels stay open.
 use Rattle.parser_rules.specs.State.{same_kind, flush, opened, closed, bump, note, is_deep, enter, leave, too_deep, wrapped_from}
 use Rattle.parser_rules.specs.RuleLanguage.{holds, step}
-use Rattle.parser_rules.specs.Open.{IsInside, IsMark}
+use Rattle.parser_rules.specs.Open.{IsInside, IsCheckpoint}
 use Rattle.parser_rules.specs.Runs.{skip, does, seq, yes, no, child, deeper, refused, call, plain, wrapped, begin, turn}
 use Rattle.parser_rules.proofs.runs.Forms.{wanted, chosen, optional, for-fragment, for-enum}
 use Rattle.parser_rules.proofs.runs.Frame.{ended, is-open, still-open, open-in-loop, budget-in-loop, open-too-deep, open-inside, open-outside, is-inside, still-inside, still-at}
@@ -20,5 +20,5 @@ pub ruleset nesting = (looping, deeper, refused, plain, wrapped, open-too-deep, 
 
 -- what the steps of a state are
 unfoldable pub steps : Unit {0}
-unfolding same_kind holds step flush opened closed bump note is_deep enter leave too_deep wrapped_from IsInside IsMark
+unfolding same_kind holds step flush opened closed bump note is_deep enter leave too_deep wrapped_from IsInside IsCheckpoint
 steps = tt

@@ -14,7 +14,7 @@ use Rattle.parser_rules.specs.RuleLanguage.{Test, At, holds, Prim, Bump, Note, s
 use Rattle.parser_rules.specs.Rules.{inside, body}
 use Rattle.parser_rules.specs.Runs.{Runs, skip, does, seq, yes, no, done, again, child, limited, deeper, refused, call, plain, wrapped}
 use Rattle.parser_rules.proofs.runs.Fuel.{rules_deep}
-use Rattle.parser_rules.proofs.runs.Marked.{Marked, none, leaf, node, append, append-none, token, set_aside, Grown, grown-none, grown-then, grown-flush, grown-leaf, grown-note, grown-deep, grown-node, grown-wrap, Whole, whole}
+use Rattle.parser_rules.proofs.runs.TreesWithSources.{TreesWithSources, none, leaf, node, append, append-none, token, set_aside, Grown, grown-none, grown-then, grown-flush, grown-leaf, grown-note, grown-deep, grown-node, grown-wrap, Whole, whole}
 
 -- What may be known at a place, and how each step of a rule changes it. A step also has the check of what follows it.
 pub record Domain (K : Type 0) : Type 0 where
@@ -88,71 +88,71 @@ abbrev pub checks : {K : Type 0} → Domain K → Node → Bool
 checks d c = checks_with rules_deep d c
 
 -- trees after what waited
-abbrev pub after_pending : State → Marked → Marked
+abbrev pub after_pending : State → TreesWithSources → TreesWithSources
 after_pending s g = append (set_aside s.pending) g
 
 -- `Held a b s f`: `a` is known in a state `s` that comes of `b` and has the trees `f` more
-module _ {K : Type 0} (d : Domain K) (Held : K → State → State → Marked → Type 0) where
-  abbrev pub Goes : (K → Bool) → State → State → Marked → Type 0
+module _ {K : Type 0} (d : Domain K) (Held : K → State → State → TreesWithSources → Type 0) where
+  abbrev pub Goes : (K → Bool) → State → State → TreesWithSources → Type 0
   Goes k b t f = (a : K) × (k a ≡ true) × Held a b t f
 
   -- each step says what is right
   pub record Sound : Type 0 where
-    pub leaf : (own : SyntaxKind) (a : K) (k : K → Bool) (b s : State) (f : Marked) (x : Lexeme) → s.current ≡ Some x → d.leaf own a k ≡ true → Held a b s f
+    pub leaf : (own : SyntaxKind) (a : K) (k : K → Bool) (b s : State) (f : TreesWithSources) (x : Lexeme) → s.current ≡ Some x → d.leaf own a k ≡ true → Held a b s f
         → Grown s (moved own s (Some x)) (after_pending s (leaf (token x) own none)) → Goes k b (moved own s (Some x)) (append f (after_pending s (leaf (token x) own none)))
-    pub no_leaf : (own : SyntaxKind) (a : K) (k : K → Bool) (b s : State) (f : Marked) → s.current ≡ None → d.leaf own a k ≡ true → Held a b s f → Goes k b s f
-    pub report : (m : Message) (a : K) (b s : State) (f : Marked) → Held a b s f → Held (d.report a) b (note m s) f
-    pub limit : (a : K) (k : K → Bool) (b s : State) (f : Marked) → true ≡ is_deep s → d.limit a k ≡ true → Held a b s f → Goes k b (too_deep s) f
-    pub passes : (q : Test) (a : K) (g h : K → Bool) (b s : State) (f : Marked) → true ≡ holds q s → d.test q a g h ≡ true → Held a b s f → Goes g b s f
-    pub fails : (q : Test) (a : K) (g h : K → Bool) (b s : State) (f : Marked) → false ≡ holds q s → d.test q a g h ≡ true → Held a b s f → Goes h b s f
-    pub turn : (a : K) (b s : State) (f : Marked) → Held a b s f → Held (d.turn a) b s f
+    pub no_leaf : (own : SyntaxKind) (a : K) (k : K → Bool) (b s : State) (f : TreesWithSources) → s.current ≡ None → d.leaf own a k ≡ true → Held a b s f → Goes k b s f
+    pub report : (m : Message) (a : K) (b s : State) (f : TreesWithSources) → Held a b s f → Held (d.report a) b (note m s) f
+    pub limit : (a : K) (k : K → Bool) (b s : State) (f : TreesWithSources) → true ≡ is_deep s → d.limit a k ≡ true → Held a b s f → Goes k b (too_deep s) f
+    pub passes : (q : Test) (a : K) (g h : K → Bool) (b s : State) (f : TreesWithSources) → true ≡ holds q s → d.test q a g h ≡ true → Held a b s f → Goes g b s f
+    pub fails : (q : Test) (a : K) (g h : K → Bool) (b s : State) (f : TreesWithSources) → false ≡ holds q s → d.test q a g h ≡ true → Held a b s f → Goes h b s f
+    pub turn : (a : K) (b s : State) (f : TreesWithSources) → Held a b s f → Held (d.turn a) b s f
     pub settles : (a : K) → d.turn (d.turn a) ≡ d.turn a
-    pub keeps : (a c : K) (b s : State) (f : Marked) → d.keeps c (d.turn a) ≡ true → Held c b s f → Held (d.turn a) b s f
-    pub opens : (n : Node) (a : K) (b s : State) (f : Marked) → d.opens n a ≡ true → Held a b s f → Held (d.begins n) (opened (kind_of n) s) (opened (kind_of n) s) none
-    pub closes : (j : SyntaxKind) (a e : K) (k : K → Bool) (b s u : State) (f g : Marked) → d.ends j e ≡ true → d.after j a k ≡ true → Held a b s f → Held e (opened j s) u g → Grown (opened j s) u g
+    pub keeps : (a c : K) (b s : State) (f : TreesWithSources) → d.keeps c (d.turn a) ≡ true → Held c b s f → Held (d.turn a) b s f
+    pub opens : (n : Node) (a : K) (b s : State) (f : TreesWithSources) → d.opens n a ≡ true → Held a b s f → Held (d.begins n) (opened (kind_of n) s) (opened (kind_of n) s) none
+    pub closes : (j : SyntaxKind) (a e : K) (k : K → Bool) (b s u : State) (f g : TreesWithSources) → d.ends j e ≡ true → d.after j a k ≡ true → Held a b s f → Held e (opened j s) u g → Grown (opened j s) u g
         → Goes k b (closed u) (append f (after_pending s (node j g none)))
-    pub inlines : (n : Node) (a : K) (b s : State) (f : Marked) → d.inlines n ≡ true → Held a b s f → Held a (opened (kind_of n) s) (opened (kind_of n) s) none
-    pub inlined : (n : Node) (a e : K) (b s u : State) (f g : Marked) → d.inlines n ≡ true → Held a b s f → Held e (opened (kind_of n) s) u g → Held e b (closed u) (append f (after_pending s (node (kind_of n) g none)))
-    pub enters : (a : K) (k : K → Bool) (b s : State) (f : Marked) → false ≡ is_deep s → d.enters a k ≡ true → Held a b s f → Goes k b (enter s) f
-    pub leaves : (a : K) (k : K → Bool) (b s : State) (f : Marked) → d.leaves a k ≡ true → Held a b s f → Goes k b (leave s) f
-    pub types : (a : K) (b s : State) (f : Marked) → Held a b s f → Held (d.types a) (flush s) (flush s) none
-    pub plain : (a c : K) (k : K → Bool) (b s u : State) (f g : Marked) → d.plain a c k ≡ true → Held a b s f → Held c (flush s) u g → Grown (flush s) u g → Goes k b u (append f (after_pending s g))
-    pub wraps : (c : K) (k : K → Bool) (s u : State) (g : Marked) → d.wraps c k ≡ true → Held c (flush s) u g → Grown (flush s) u g → Goes k (opened kind.NON_NULL_TYPE s) (wrapped_from (built_count (flush s).tree) kind.NON_NULL_TYPE u) g
+    pub inlines : (n : Node) (a : K) (b s : State) (f : TreesWithSources) → d.inlines n ≡ true → Held a b s f → Held a (opened (kind_of n) s) (opened (kind_of n) s) none
+    pub inlined : (n : Node) (a e : K) (b s u : State) (f g : TreesWithSources) → d.inlines n ≡ true → Held a b s f → Held e (opened (kind_of n) s) u g → Held e b (closed u) (append f (after_pending s (node (kind_of n) g none)))
+    pub enters : (a : K) (k : K → Bool) (b s : State) (f : TreesWithSources) → false ≡ is_deep s → d.enters a k ≡ true → Held a b s f → Goes k b (enter s) f
+    pub leaves : (a : K) (k : K → Bool) (b s : State) (f : TreesWithSources) → d.leaves a k ≡ true → Held a b s f → Goes k b (leave s) f
+    pub types : (a : K) (b s : State) (f : TreesWithSources) → Held a b s f → Held (d.types a) (flush s) (flush s) none
+    pub plain : (a c : K) (k : K → Bool) (b s u : State) (f g : TreesWithSources) → d.plain a c k ≡ true → Held a b s f → Held c (flush s) u g → Grown (flush s) u g → Goes k b u (append f (after_pending s g))
+    pub wraps : (c : K) (k : K → Bool) (s u : State) (g : TreesWithSources) → d.wraps c k ≡ true → Held c (flush s) u g → Grown (flush s) u g → Goes k (opened kind.NON_NULL_TYPE s) (wrapped_from (built_count (flush s).tree) kind.NON_NULL_TYPE u) g
     pub nodes : (n : Node) → checks d n ≡ true
 
   -- a run of a rule that passes the check adds trees that are right
   abbrev pub Comes : (K → Bool) → State → State → Type 0
-  Comes k b t = (f : Marked) × Grown b t f × Goes k b t f
+  Comes k b t = (f : TreesWithSources) × Grown b t f × Goes k b t f
 
-  comes-on : (k : K → Bool) (b s t : State) (f g : Marked) → Grown b s f → Grown s t g → Goes k b t (append f g) → Comes k b t
+  comes-on : (k : K → Bool) (b s t : State) (f g : TreesWithSources) → Grown b s f → Grown s t g → Goes k b t (append f g) → Comes k b t
   comes-on k b s t f g h i j = (append f g, grown-then b s t f g h i, j)
 
   -- a step that adds no tree
-  comes-still : (k : K → Bool) (b s t : State) (f : Marked) → Grown b s f → Grown s t none → Goes k b t f → Comes k b t
-  comes-still k b s t f h i j = (f, subst (λ (x : Marked). Grown b t x) (append-none f) (grown-then b s t f none h i), j)
+  comes-still : (k : K → Bool) (b s t : State) (f : TreesWithSources) → Grown b s f → Grown s t none → Goes k b t f → Comes k b t
+  comes-still k b s t f h i j = (f, subst (λ (x : TreesWithSources). Grown b t x) (append-none f) (grown-then b s t f none h i), j)
 
   module _ (r : Sound) where
     moved-on : (own : SyntaxKind) (x : Lexeme) (s : State) → s.current ≡ Some x → Grown s (moved own s (Some x)) (after_pending s (leaf (token x) own none))
     unfolding flush
     moved-on own x s e = grown-then s (flush s) (moved own s (Some x)) (set_aside s.pending) (leaf (token x) own none) (grown-flush s) (grown-leaf own x (flush s) e refl)
 
-    node-on : (j : SyntaxKind) (s u : State) (g : Marked) → Grown (opened j s) u g → Grown s (closed u) (after_pending s (node j g none))
+    node-on : (j : SyntaxKind) (s u : State) (g : TreesWithSources) → Grown (opened j s) u g → Grown s (closed u) (after_pending s (node j g none))
     node-on j s u g h = grown-then s (flush s) (closed u) (set_aside s.pending) (node j g none) (grown-flush s) (grown-node j s u g h)
 
-    bumps : (own : SyntaxKind) (a : K) (k : K → Bool) (b s : State) (f : Marked) → d.leaf own a k ≡ true → Grown b s f → Held a b s f → Comes k b (bump own s)
+    bumps : (own : SyntaxKind) (a : K) (k : K → Bool) (b s : State) (f : TreesWithSources) → d.leaf own a k ≡ true → Grown b s f → Held a b s f → Comes k b (bump own s)
     unfolding bump
     bumps own a k b s f h g i = (elim s.current as (λ o. s.current ≡ o → Comes k b (moved own s o)) [
       | None ↦ λ e. (f, g, r.no_leaf own a k b s f e h i)
       | Some x ↦ λ e. let m = moved-on own x s e in comes-on k b s (moved own s (Some x)) f (after_pending s (leaf (token x) own none)) g m (r.leaf own a k b s f x e h i m)
     ]) refl
 
-    steps : (p : Prim) (n : ℕ) (a : K) (k : K → Bool) (b s : State) (f : Marked) → walk d n (Do p) a k ≡ true → Grown b s f → Held a b s f → Comes k b (step p s)
+    steps : (p : Prim) (n : ℕ) (a : K) (k : K → Bool) (b s : State) (f : TreesWithSources) → walk d n (Do p) a k ≡ true → Grown b s f → Held a b s f → Comes k b (step p s)
     unfolding walk step
     steps (Bump own) n a k b s f h g i = bumps own a k b s f h g i
     steps (Note m) n a k b s f h g i = comes-still k b s (note m s) f g (grown-note m s) (d.report a, h, r.report m a b s f i)
 
     -- a node that was walked ends
-    node-ends : (j : SyntaxKind) (a : K) (k : K → Bool) (b s u : State) (f : Marked) → d.after j a k ≡ true → Grown b s f → Held a b s f → Comes (d.ends j) (opened j s) u → Comes k b (closed u)
+    node-ends : (j : SyntaxKind) (a : K) (k : K → Bool) (b s u : State) (f : TreesWithSources) → d.after j a k ≡ true → Grown b s f → Held a b s f → Comes (d.ends j) (opened j s) u → Comes k b (closed u)
     node-ends j a k b s u f h g i (x, m, c) = comes-on k b s (closed u) f (after_pending s (node j x none)) g (node-on j s u x m) (r.closes j a c.0 k b s u f x c.1 h i c.2 m)
 
     -- the checks of what follows a type: after a `!` that wraps it, where one is next, and in any case
@@ -165,10 +165,10 @@ module _ {K : Type 0} (d : Domain K) (Held : K → State → State → Marked �
     abbrev Typed_end : K → (K → Bool) → K → Bool
     Typed_end a k c = d.test (At token_kind.Bang) c (Wraps a k) (λ e. d.plain a e k)
 
-    wrapped-ends : (a : K) (k : K → Bool) (b s w : State) (f : Marked) → Grown b s f → Held a b s f → Comes (Banged a k) (opened kind.NON_NULL_TYPE s) w → Comes k b (closed w)
+    wrapped-ends : (a : K) (k : K → Bool) (b s w : State) (f : TreesWithSources) → Grown b s f → Held a b s f → Comes (Banged a k) (opened kind.NON_NULL_TYPE s) w → Comes k b (closed w)
     wrapped-ends a k b s w f g i (x, m, c) = node-ends kind.NON_NULL_TYPE a k b s w f (and-r (d.ends kind.NON_NULL_TYPE c.0) _ c.1) g i (x, m, (c.0, and-l _ (d.after kind.NON_NULL_TYPE a k) c.1, c.2))
 
-    pub walked : {q : Rule} {s t : State} → Runs q s t → (n : ℕ) (a : K) (k : K → Bool) (b : State) (f : Marked) → walk d n q a k ≡ true → Grown b s f → Held a b s f → Comes k b t
+    pub walked : {q : Rule} {s t : State} → Runs q s t → (n : ℕ) (a : K) (k : K → Bool) (b : State) (f : TreesWithSources) → walk d n q a k ≡ true → Grown b s f → Held a b s f → Comes k b t
     unfolding walk enter leave
     walked skip n a k b f h g i = (f, g, (a, h, i))
     walked {s = s} (does {a = p} e) n a k b f h g i = subst (λ (z : State). Comes k b z) (sym e) (steps p n a k b s f h g i)
@@ -217,12 +217,12 @@ module _ {K : Type 0} (d : Domain K) (Held : K → State → State → Marked �
 
     -- the whole of a text
     pub walked_whole : {q : Rule} {s : State} (xs : List Answer) (l : ℕ) (j : SyntaxKind) (a : K) (k : K → Bool) → Runs q (begun xs l j) s → walk d rules_deep q a k ≡ true → Held a (begun xs l j) (begun xs l j) none
-        → (f : Marked) × (c : K) × (k c ≡ true) × Held c (begun xs l j) s f × Grown (begun xs l j) s f × Whole xs s (append f (set_aside s.pending))
+        → (f : TreesWithSources) × (c : K) × (k c ≡ true) × Held c (begun xs l j) s f × Grown (begun xs l j) s f × Whole xs s (append f (set_aside s.pending))
     walked_whole {s = s} xs l j a k run h i = let b : State = begun xs l j in let m = walked run rules_deep a k b none h (grown-none b) i in (m.0, m.2.0, m.2.1, m.2.2, m.1, whole xs l j s m.0 m.1)
 
     -- a part of a text: what comes before the first token is in the root
     pub walked_root : {q : Rule} {s : State} (xs : List Answer) (l : ℕ) (j : SyntaxKind) (a : K) (k : K → Bool) → Runs q (flush (begun xs l j)) s → walk d rules_deep q a k ≡ true → Held a (flush (begun xs l j)) (flush (begun xs l j)) none
-        → (f : Marked) × (c : K) × (k c ≡ true) × Held c (flush (begun xs l j)) s f × Grown (begun xs l j) s (append (set_aside (begun xs l j).pending) f)
+        → (f : TreesWithSources) × (c : K) × (k c ≡ true) × Held c (flush (begun xs l j)) s f × Grown (begun xs l j) s (append (set_aside (begun xs l j).pending) f)
     walked_root {s = s} xs l j a k run h i =
         let b : State = begun xs l j in
         let m = walked run rules_deep a k (flush b) none h (grown-none (flush b)) i in

@@ -9,6 +9,7 @@ use Rattle.grammar_machine.proofs.generated.Follows.{name_classes}
 use Rattle.parser_rules.specs.Nodes.{Node}
 use Rattle.parser_rules.specs.RuleLanguage.{Test, Ready, Deep, Not, Both, At, Bump, Note, Rule, Skip, Do, Seq, When, While, Child, TooDeep, Nested, Call, Typed}
 use Rattle.parser_rules.specs.Rules.{inside, body}
+use Rattle.parser_rules.proofs.runs.Fuel.{root_rules_deep_for_sizes}
 use Rattle.parser_rules.proofs.lookahead.TokenSets.{absent, present, part}
 use Rattle.parser_rules.proofs.lookahead.Split.{split}
 use Rattle.parser_rules.proofs.lookahead.FirstSets.{without}
@@ -141,9 +142,9 @@ walk d zero (Call p) a k = false
 walk d (suc n) (Call p) a k = walk d n (body p) a k
 walk d n (Typed r) a k = walk d n r a (λ b. ask (At token.Bang) b (λ c. spend d.element c (λ e. take d e k)) k)
 
--- the check of a node that takes a token first: its tokens pay for it too, and leave the saving
-unfoldable pub pays_for_itself : Rates → Node → Bool
-pays_for_itself d c = not (takes_first (inside c)) or walk d 12 (inside c) (opening present (enough - d.element)) (λ a. leb (enough + saving) a.credit)
+-- the check of a node that takes a token first, with so much fuel: its tokens pay for it too, and leave the saving
+unfoldable pub pays_for_itself : ℕ → Rates → Node → Bool
+pays_for_itself fuel d c = not (takes_first (inside c)) or walk d fuel (inside c) (opening present (enough - d.element)) (λ a. leb (enough + saving) a.credit)
 
 -- nothing more is owed at the end than what a token that is still there could pay
 abbrev pub settles : Rates → Account → Bool
@@ -151,7 +152,7 @@ settles d a = leb enough a.credit or (subset a.near present and leb enough (a.cr
 
 -- the check of a root's rule, where the current token is in the set
 unfoldable pub root_pays : Rates → ℕ → Rule → Bool
-root_pays d x q = walk d 14 q (opening x enough) (settles d)
+root_pays d x q = walk d root_rules_deep_for_sizes q (opening x enough) (settles d)
 
 -- the rule pays for its elements and its reports
 pub record PaysForAll (x : ℕ) (q : Rule) : Type 0 where

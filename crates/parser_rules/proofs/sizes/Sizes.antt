@@ -20,8 +20,9 @@ use Rattle.parser_rules.specs.Nodes.{Node, kind_of, Document}
 use Rattle.parser_rules.specs.RuleLanguage.{Test, At, Deep, Not, Both, holds, Prim, Bump, Note, step, Rule, Do, Call}
 use Rattle.parser_rules.specs.Rules.{inside}
 use Rattle.parser_rules.specs.Runs.{Runs, skip, does, seq, yes, no, done, again, child, limited as limit_met, deeper, refused, call, plain, wrapped}
+use Rattle.parser_rules.proofs.runs.Fuel.{root_rules_deep_for_sizes, rules_deep_for_sizes}
 use Rattle.parser_rules.proofs.runs.Reading.{Shown, second-shown, reading, found}
-use Rattle.parser_rules.proofs.runs.Marked.{moved_on}
+use Rattle.parser_rules.proofs.runs.TreesWithSources.{moved_on}
 use Rattle.parser_rules.proofs.runs.Reporting.{after-note, after-too-deep}
 use Rattle.parser_rules.proofs.lookahead.TokenSets.{absent, present, class_of, of-any, present-is, edges, Seen, seen-same, holds-none, part, part-live}
 use Rattle.parser_rules.proofs.lookahead.Split.{split-at}
@@ -75,7 +76,7 @@ by-case false x y h = inr (refl, h)
 
 -- ---- the account along a run
 
-module _ (d : Rates) (fair : d.element + d.report ≤ d.item) (cheap : d.element ≤ enough) (nodes : (c : Node) → pays_for_itself d c ≡ true) where
+module _ (d : Rates) (fair : d.element + d.report ≤ d.item) (cheap : d.element ≤ enough) (nodes : (c : Node) → pays_for_itself rules_deep_for_sizes d c ≡ true) where
   -- what the account knows is so, and its credit is not more than what is left of `all`
   record Held (a : Account) (all : ℕ) (s : State) : Type 0 where
     shown : Shown s.current
@@ -221,7 +222,7 @@ module _ (d : Rates) (fair : d.element + d.report ≤ d.item) (cheap : d.element
       let e = (still-opened (kind_of q) s).current in
       opened-held present (enough - d.element) _ (opened (kind_of q) s) (subst Shown (sym e) h.shown) (subst (λ o. within (class_of o) present ≡ true) (sym e) (holds-subset (class_of s.current) a.near present p h.seen.near)) (omega arith)
 
-  own-rule : (q : Node) → takes_first (inside q) ≡ true → walk d 12 (inside q) (opening present (enough - d.element)) (λ a. leb (enough + saving) a.credit) ≡ true
+  own-rule : (q : Node) → takes_first (inside q) ≡ true → walk d rules_deep_for_sizes (inside q) (opening present (enough - d.element)) (λ a. leb (enough + saving) a.credit) ≡ true
   unfolding pays_for_itself
   own-rule q p = implies _ _ (nodes q) p
 
@@ -279,7 +280,7 @@ module _ (d : Rates) (fair : d.element + d.report ≤ d.item) (cheap : d.element
   walked {s = s} (child {n = q} {u = u} e v x) (suc n) a k all c h = elim (by-case (takes_first (inside q) and subset a.near present) (k (opening any (a.credit + saving))) (spend d.element a (λ b. walk d n (inside q) b k)) c) [
     | inl p ↦ (
         let all' : ℕ = outlay d (opened (kind_of q) s) + (enough - d.element) in
-        let l = walked x 12 (opening present (enough - d.element)) (λ b. leb (enough + saving) b.credit) all' (own-rule q (and-l _ _ p.0)) (subst (Held (opening present (enough - d.element)) all') (sym e) (own-account q a all s (and-r _ _ p.0) h)) in
+        let l = walked x rules_deep_for_sizes (opening present (enough - d.element)) (λ b. leb (enough + saving) b.credit) all' (own-rule q (and-l _ _ p.0)) (subst (Held (opening present (enough - d.element)) all') (sym e) (own-account q a all s (and-r _ _ p.0) h)) in
         subst (Comes k all) (sym v) (opening any (a.credit + saving), p.1, paid-for q a all s u h l))
     | inr p ↦ (
         let g = opened-cost d (kind_of q) s in
@@ -327,7 +328,7 @@ module _ (d : Rates) (fair : d.element + d.report ≤ d.item) (cheap : d.element
   pub costs : {q : Rule} {s t : State} (x : ℕ) → root_pays d x q ≡ true → Shown s.current → within (class_of s.current) x ≡ true → Runs q s t → cost d t ≤ outlay d s
   unfolding root_pays
   costs {s = s} {t = t} x c shown near run =
-      let l = walked run 14 (opening x enough) (settles d) (outlay d s + enough) c (opened-held x enough _ s shown near (omega arith)) in
+      let l = walked run root_rules_deep_for_sizes (opening x enough) (settles d) (outlay d s + enough) c (opened-held x enough _ s shown near (omega arith)) in
       let e = settled l.0 (outlay d s + enough) t l.1 l.2 in
       omega (arith, e)
 

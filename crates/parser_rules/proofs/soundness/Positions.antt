@@ -1,4 +1,5 @@
--- Where a rule is: the open nodes of the machine and of the builder, the levels, and what is known; and which reports are right there.
+-- What a position of the check says of the parser's state: the open nodes of the machine and of the builder, the levels, and what is known of
+-- them; and which reports are right there.
 use Rattle.std.proofs.Common.{◌≡◌, ℕ, suc, ◌+◌, ◌-◌, ◌≤◌, ◌<◌, max, true, false, cond, eqb, List, [], ◌∷◌, ◌++◌, length, Option, Some, None, refl, sym, ap, ap₂, ◌∙◌, subst, ◌⊎◌, eqb-true, arith}
 use Rattle.std.specs.Prelude.{⊤}
 use Rattle.lexical_grammar.specs.Answers.{Answer}
@@ -26,7 +27,7 @@ use Rattle.parser_rules.specs.Runs.{Runs}
 use Rattle.parser_rules.proofs.runs.Steps.{along}
 use Rattle.parser_rules.proofs.runs.Reporting.{note-is, too_deep-is}
 use Rattle.parser_rules.proofs.runs.Frame.{adds, added-all}
-use Rattle.parser_rules.proofs.runs.Marked.{reports-along, reports-same}
+use Rattle.parser_rules.proofs.runs.TreesWithSources.{reports-along, reports-same}
 use Rattle.parser_rules.proofs.soundness.WithoutIgnored.{all_ignored, stack}
 use Rattle.parser_rules.proofs.reports.NoReport.{Now, rest, answers_tokens, current_tokens, Grows, Stays, Held, FirstReportIsRight, first-right-on, first-right, NothingReported}
 use Rattle.parser_rules.proofs.soundness.FirstReport.{Stuck, TooMany, TokensBefore, RightReport, stuck_here, deep_here}
@@ -106,9 +107,9 @@ unread-grows {st = st} {v = v} e = record { reports = reports-same st v e.errors
 pub run-grows : {r : Rule} {s t : State} → Runs r s t → Grows s t
 run-grows h = record { reports = along reports-along h; stays = λ m. settled-added m (adds h).trees }
 
--- ---- the link
+-- ---- what holds at a position
 
--- What is read: the sort of what is parsed, its answers and tokens, and the recursion limit.
+-- What is parsed: its sort, the lexer's answers and their tokens, and the recursion limit.
 pub record ParserInput : Type 1 where
   pub sort : Sort
   pub answers : List Answer
@@ -146,27 +147,29 @@ module _ (R : ParserInput) where
     pub leveled : Leveled s q l f fs st.depth st.high st.limit
     pub alone : only_root s ≡ true → fs ≡ []
 
-  -- The builder has the same nodes.
+  -- The machine's open nodes, and the builder has the same ones with the same children.
   pub record OpenNodesAgree (s q : ℕ) (l : Level) (fs : List Frame) (st : State) : Type 0 where
     pub children : Forest
     pub place : MachineIsAt s q l children fs st
     pub built : stack st.tree ≡ image (frame s q children ∷ fs)
 
-  -- So many tokens are taken, and the nodes that ended before the last of them fit.
+  -- So many tokens are taken, and the nodes that ended before the last of them fit their rows.
   pub record TokensTaken (r : List Token) (b : Building) : Type 0 where
     pub count : ℕ
     pub before : TokensBefore sort answers lim w count r
     pub settled : Settled count b
 
-  -- The machine is stuck here, which is not yet reported.
+  -- The machine is stuck before the current token, which is not yet reported.
   abbrev pub StuckUnreported : State → Type 0
   StuckUnreported st = Stuck sort answers lim w (rest st) × TokensTaken (rest st) st.tree
 
+  -- what is known of the open nodes is so
   abbrev pub CertaintyHolds : Certainty → List Frame → State → Type 0
   CertaintyHolds Nothing fs st = ⊤
   CertaintyHolds OpenWhateverFollows fs st = Firm top w fs (rest st)
   CertaintyHolds AtLimit fs st = Firm top w fs (rest st) × (is_deep st ≡ true)
 
+  -- what a position says of a state: the open nodes and what is known of them, or that the machine is stuck
   abbrev pub PositionHolds : ℕ → Position → List Frame → State → Type 0
   PositionHolds s (in_row q l d) fs st = (c : OpenNodesAgree s q l fs st) × CertaintyHolds d (frame s q c.children ∷ fs) st
   PositionHolds s machine_is_stuck fs st = StuckUnreported st
@@ -180,14 +183,17 @@ module _ (R : ParserInput) where
   abbrev pub RightlyReported : State → Type 0
   RightlyReported st = FirstReportIsRight answers ReportIsRight st
 
+  -- The state fits a position and the sets of the check, and nothing is reported yet.
   pub record StateFits (s : ℕ) (p : Position) (x y : ℕ) (fs : List Frame) (st : State) : Type 0 where
     pub no_report : NoReportYet st
     pub seen : Seen x y st
     pub position : PositionHolds s p fs st
 
+  -- the state fits a position and sets for which the check of what follows holds
   abbrev pub Continues : ℕ → List Frame → Then → State → Type 0
   Continues s fs k t = (p : Position) × (u : ℕ) × (v : ℕ) × (k p u v ≡ true) × StateFits s p u v fs t
 
+  -- how a run ends that keeps to the table: its first report is right, or it goes on
   abbrev pub RunOutcome : ℕ → List Frame → Then → State → Type 0
   RunOutcome s fs k t = RightlyReported t ⊎ Continues s fs k t
 
@@ -285,7 +291,8 @@ module _ (R : ParserInput) where
       let b = eqb-true _ _ (and-r _ _ e) in
       record { level = omega (arith, a); entered = omega arith; most_open = omega (arith, a, b, peak-open s q j f fs); above = v.above; bounds = v.bounds }
 
-  pub leveled-end : {s q j p : ℕ} {l m : Level} {f g : Forest} {fs : List Frame} {d h n d' h' n' : ℕ} (o : ℕ) → levels_agree s l j ≡ true → level_entered m ≡ 0 → level_due j m ≡ 0 → Leveled s q l f fs d h n → Leveled j p m g (frame s q f ∷ fs) d' h' n' → Leveled s o l (f +++ (node j g ▸ none)) fs d' h' n'
+  pub leveled-end : {s q j p : ℕ} {l m : Level} {f g : Forest} {fs : List Frame} {d h n d' h' n' : ℕ} (o : ℕ) → levels_agree s l j ≡ true → level_entered m ≡ 0 → level_due j m ≡ 0
+      → Leveled s q l f fs d h n → Leveled j p m g (frame s q f ∷ fs) d' h' n' → Leveled s o l (f +++ (node j g ▸ none)) fs d' h' n'
   unfolding levels_agree
   leveled-end {s = s} {q = q} {j = j} {p = p} {f = f} {g = g} {fs = fs} o e r u v v' =
       let a = eqb-true _ _ (and-l _ _ e) in

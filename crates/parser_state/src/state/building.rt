@@ -11,7 +11,7 @@ ghost use Rattle.parser_rules.specs.State as state;
 ghost use Rattle.parser_rules.specs.Nodes.{Name, IntValue, StringValue, BooleanValue};
 ghost use Rattle.parser_rules.specs.RuleLanguage.{Here, At, holds, Bump, Do, Child};
 ghost use Rattle.parser_rules.specs.Runs.{Runs};
-ghost use Rattle.parser_rules.specs.Open.{is_free, IsOpen, IsMark};
+ghost use Rattle.parser_rules.specs.Open.{is_free, IsOpen, IsCheckpoint};
 ghost use Rattle.parser_rules.specs.Rules as rules;
 ghost use Rattle.parser_rules.specs.Fragments as fragments;
 ghost use Rattle.parser_state.specs.Reading as reading;
@@ -178,7 +178,7 @@ impl<'i, A: Allocator + Copy> ParserState<'i, A> {
 
     /// Opens a node around what was added to the open one since the checkpoint.
     pub fn wrap(&mut self, checkpoint: Checkpoint, kind: SyntaxKind) -> Result<(), AllocError>
-        requires { IsMark checkpoint.place self.old.tree }
+        requires { IsCheckpoint checkpoint.place self.old.tree }
         ensures step { OnOk result (self.new ≡ state.wrapped_from checkpoint.place kind self.old) }
         ensures budget { self.new.budget ≡ self.old.budget }
     {
@@ -196,7 +196,7 @@ impl<'i, A: Allocator + Copy> ParserState<'i, A> {
     ) -> Result<(), AllocError>
         requires first { first.place ≡ 0 }
         requires not_open { self.old.tree.above ≡ [] }
-        requires mark { IsMark place.place self.old.tree }
+        requires mark { IsCheckpoint place.place self.old.tree }
         requires free { is_free kind ≡ true }
         ensures step { OnOk result (fragments.ClosesType place.place kind self.old self.new) }
         ensures budget { self.new.budget ≡ self.old.budget }

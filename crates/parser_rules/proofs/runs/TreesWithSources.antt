@@ -26,44 +26,44 @@ abbrev pub text_of : Source → Text
 text_of (token x) = x.text
 text_of (aside p) = p.text
 
-pub data Marked : Type 0 where
-  none : Marked
-  leaf : Source → SyntaxKind → Marked → Marked
-  node : SyntaxKind → Marked → Marked → Marked
+pub data TreesWithSources : Type 0 where
+  none : TreesWithSources
+  leaf : Source → SyntaxKind → TreesWithSources → TreesWithSources
+  node : SyntaxKind → TreesWithSources → TreesWithSources → TreesWithSources
 
-abbrev pub erase : Marked → built.Forest
+abbrev pub erase : TreesWithSources → built.Forest
 erase none = built.none
 erase (leaf o k rest) = built.leaf k (text_of o) (erase rest)
 erase (node k kids rest) = built.node k (erase kids) (erase rest)
 
-abbrev pub append : Marked → Marked → Marked
+abbrev pub append : TreesWithSources → TreesWithSources → TreesWithSources
 append none g = g
 append (leaf o k rest) g = leaf o k (append rest g)
 append (node k kids rest) g = node k kids (append rest g)
 
-pub append-none : (f : Marked) → append f none ≡ f
+pub append-none : (f : TreesWithSources) → append f none ≡ f
 append-none none = refl
 append-none (leaf o k rest) = ap (leaf o k) (append-none rest)
 append-none (node k kids rest) = ap (node k kids) (append-none rest)
 
-pub erase-append : (f g : Marked) → erase (append f g) ≡ built.join (erase f) (erase g)
+pub erase-append : (f g : TreesWithSources) → erase (append f g) ≡ built.join (erase f) (erase g)
 erase-append none g = refl
 erase-append (leaf o k rest) g = ap (built.leaf k (text_of o)) (erase-append rest g)
 erase-append (node k kids rest) g = ap (built.node k (erase kids)) (erase-append rest g)
 
 -- what the leaves are, in order
-abbrev pub flat : Marked → List Source
+abbrev pub flat : TreesWithSources → List Source
 flat none = []
 flat (leaf o k rest) = o ∷ flat rest
 flat (node k kids rest) = flat kids ++ flat rest
 
-pub flat-append : (f g : Marked) → flat (append f g) ≡ flat f ++ flat g
+pub flat-append : (f g : TreesWithSources) → flat (append f g) ≡ flat f ++ flat g
 flat-append none g = refl
 flat-append (leaf o k rest) g = ap (λ (l : List Source). o ∷ l) (flat-append rest g)
 flat-append (node k kids rest) g = ap (λ (l : List Source). flat kids ++ l) (flat-append rest g) ∙ sym (append_assoc (flat kids) (flat rest) (flat g))
 
 -- what waits, as leaves
-abbrev pub set_aside : List PendingToken → Marked
+abbrev pub set_aside : List PendingToken → TreesWithSources
 set_aside [] = none
 set_aside (p ∷ parts) = leaf (aside p) p.kind (set_aside parts)
 
@@ -190,13 +190,13 @@ reports-along = record {
 
 -- ---- the trees, what they are made of, and the reports
 
-abbrev pub Grown : State → State → Marked → Type 0
+abbrev pub Grown : State → State → TreesWithSources → Type 0
 Grown s t f = record { trees : Added (erase f) s.tree t.tree; order : flat f ++ to_come t ≡ to_come s; reports : Reports s t }
 
 pub grown-none : (s : State) → Grown s s none
 grown-none s = record { trees = added-none s.tree; order = refl; reports = reports-along.same s }
 
-pub grown-then : (s t u : State) (f g : Marked) → Grown s t f → Grown t u g → Grown s u (append f g)
+pub grown-then : (s t u : State) (f g : TreesWithSources) → Grown s t f → Grown t u g → Grown s u (append f g)
 grown-then s t u f g h k = record {
   trees = subst (λ (x : built.Forest). Added x s.tree u.tree) (sym (erase-append f g)) (added-then h.trees k.trees);
   order = ap (λ (l : List Source). l ++ to_come u) (flat-append f g) ∙ (append_assoc (flat f) (flat g) (to_come u) ∙ (ap (λ (l : List Source). flat f ++ l) k.order ∙ h.order));
@@ -233,20 +233,20 @@ grown-deep s d = record {
 }
 
 -- a node around what is added in it, after what waited
-pub grown-node : (j : SyntaxKind) (s u : State) (g : Marked) → Grown (opened j s) u g → Grown (flush s) (closed u) (node j g none)
+pub grown-node : (j : SyntaxKind) (s u : State) (g : TreesWithSources) → Grown (opened j s) u g → Grown (flush s) (closed u) (node j g none)
 unfolding opened closed flush
 grown-node j s u g h = record { trees = added-node j h.trees; order = ap (λ (l : List Source). l ++ to_come u) (append-nil (flat g)) ∙ h.order; reports = h.reports }
 
-pub grown-wrap : (j : SyntaxKind) (s u : State) (g : Marked) → Grown (flush s) u g → Grown (opened j s) (wrapped_from (built_count (flush s).tree) j u) g
+pub grown-wrap : (j : SyntaxKind) (s u : State) (g : TreesWithSources) → Grown (flush s) u g → Grown (opened j s) (wrapped_from (built_count (flush s).tree) j u) g
 unfolding opened wrapped_from flush
 grown-wrap j s u g h = record { trees = added-wrap j h.trees; order = h.order; reports = h.reports }
 
 -- what was added from the beginning on is the whole tree, of all that was answered
-pub record Whole (xs : List Answer) (s : State) (f : Marked) : Type 0 where
+pub record Whole (xs : List Answer) (s : State) (f : TreesWithSources) : Type 0 where
   pub tree : erase f ≡ (add_all s.pending s.tree).here
   pub order : flat f ++ (now_of s.current ++ sources s.items) ≡ sources xs
 
-pub whole : (xs : List Answer) (r : ℕ) (k : SyntaxKind) (s : State) (f : Marked) → Grown (begun xs r k) s f → Whole xs s (append f (set_aside s.pending))
+pub whole : (xs : List Answer) (r : ℕ) (k : SyntaxKind) (s : State) (f : TreesWithSources) → Grown (begun xs r k) s f → Whole xs s (append f (set_aside s.pending))
 unfolding flush
 whole xs r k s f h =
     let b : State = begun xs r k in
@@ -257,11 +257,11 @@ whole xs r k s f h =
     }
 
 -- the same, where the text before the first token is in the root and what waits at the end is left out
-pub record FirstPart (xs : List Answer) (s : State) (f : Marked) : Type 0 where
+pub record FirstPart (xs : List Answer) (s : State) (f : TreesWithSources) : Type 0 where
   pub tree : erase f ≡ s.tree.here
   pub order : flat f ++ to_come s ≡ sources xs
 
-pub first-part : (xs : List Answer) (r : ℕ) (k : SyntaxKind) (s : State) (f : Marked) → Grown (begun xs r k) s f → FirstPart xs s f
+pub first-part : (xs : List Answer) (r : ℕ) (k : SyntaxKind) (s : State) (f : TreesWithSources) → Grown (begun xs r k) s f → FirstPart xs s f
 first-part xs r k s f h = record {
   tree = sym (h.trees.here ∙ ap (λ (t : Building). built.join t.here (erase f)) (read-untouched xs (fresh xs r k)).tree);
   order = h.order ∙ read-to_come (reading xs (fresh xs r k)) refl;
