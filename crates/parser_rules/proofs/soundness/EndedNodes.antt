@@ -47,9 +47,10 @@ words-length item more = ap length (words-cons item more) ∙ length-append (ite
 
 -- the place of a token, which begins at the byte m and has fewer than n tokens before it
 module _ (m n : ℕ) (item : Item) (more : List Item) (some : 0 < length item.text) (real : Significant (item ∷ []) ≢ []) where
-  -- behind t tokens and b bytes: the place is passed, or the leaves are of the items up to the token, and so on
+  -- after t tokens and b bytes: the place is passed, or the leaves are of the items up to the token, and so on
   abbrev Ahead : ℕ → ℕ → List PendingToken → Type 0
-  Ahead t b ls = (m < b) ⊎ ((k : ℕ) × (before : List Item) × CutFrom b (before ++ item ∷ more) × (are_tokens before ≡ true) × (t + length (tokens_of before) < n) × (b + length (texts before) ≡ m) × OneLeafAnItem (limited k (before ++ item ∷ more)) ls)
+  Ahead t b ls = (m < b) ⊎ ((k : ℕ) × (before : List Item) × CutFrom b (before ++ item ∷ more) × (are_tokens before ≡ true)
+      × (t + length (tokens_of before) < n) × (b + length (texts before) ≡ m) × OneLeafAnItem (limited k (before ++ item ∷ more)) ls)
 
   ahead-few : (t b : ℕ) (ls : List PendingToken) → Ahead t b ls → b ≤ m → t < n
   ahead-few t b ls (inl p) z = absurd (omega (arith, p, z))
@@ -88,7 +89,8 @@ first-ended m (built.node k kids rest) h = h.0
 first-ended m _ h = tt
 
 -- Each node that a significant token in front of the first report follows fits.
-pub ended-nodes : {source : List ℕ} {items : List Item} {r k : ℕ} {e : Report} (f : built.Forest) (cut : Cut source items) (i : IsRight source items r k e) → OneLeafAnItem (limited k items) (leaves f) → counted.EndedFit (length (tokens_of i.before)) 0 f → EndedNodesFit items e.index (tree_of f)
+pub ended-nodes : {source : List ℕ} {items : List Item} {r k : ℕ} {e : Report} (f : built.Forest) (cut : Cut source items) (i : IsRight source items r k e) → OneLeafAnItem (limited k items) (leaves f)
+    → counted.EndedFit (length (tokens_of i.before)) 0 f → EndedNodesFit items e.index (tree_of f)
 ended-nodes {items = items} {k = k} {e = e} f cut i h c m a s l =
     let each : CutFrom 0 (a.before ++ a.item ∷ a.more) = subst (CutFrom 0) a.split cut.each in
     let there = index-at 0 a.before a.item a.more each in

@@ -74,7 +74,7 @@ unfolding has target arcs at rows
 no-more none h = let e : ◌≡◌ {A = ℕ} 2 1 = h in absurd (omega arith)
 no-more (t ▸ f) h = false-true refl h.0
 
--- the first child of a type leaves nothing behind
+-- the first child of a type has no exit of its own
 first-child : (k p : ℕ) (t : Tree) (f : Forest) → eqb k (root t) ≡ true → exits k (λ e. eqb e 0) ≡ true → Path TYPE p (t ▸ f) 1 → Path TYPE (target TYPE p k) f 1
 first-child k p t f e x h =
     let i : k ≡ root t = eqb-true k (root t) e in

@@ -95,7 +95,8 @@ module _ (R : ParserInput) where
   made-passes v t p = record { deep = λ gs r. makes-depth (makes-on r p); goes = λ s q f fs r m. makes-stuck (makes-on r p) m }
 
   -- where the check lets a level be entered, each tree that goes on nests deeper
-  pub goes-deeper : {s q : ℕ} {l : Level} {f : Forest} {fs : List Frame} {st : State} (x : ℕ) (t : Tree) (v u : List Token) → goes_deeper s q l x ≡ true → MachineIsAt R s q l f fs st → Passes u v t → within (first_class v) x ≡ true → Reach (top R) u (frame s q f ∷ fs) v → st.depth < nesting_all t
+  pub goes-deeper : {s q : ℕ} {l : Level} {f : Forest} {fs : List Frame} {st : State} (x : ℕ) (t : Tree) (v u : List Token) → goes_deeper s q l x ≡ true → MachineIsAt R s q l f fs st → Passes u v t
+      → within (first_class v) x ≡ true → Reach (top R) u (frame s q f ∷ fs) v → st.depth < nesting_all t
   unfolding has fires
   goes-deeper {s = s} {q = q} {l = l} {f = f} {fs = fs} {st = st} x t v u h c p hx r = elim (or-c _ _ (and-r _ _ h)) [
     | inl i ↦ (
@@ -145,7 +146,7 @@ module _ (R : ParserInput) where
   pub flushed : (st : State) → NoReportYet R st → stack (add_all st.pending st.tree) ≡ stack st.tree
   flushed st c = stack-flush st.pending st.tree c.quiet.waits
 
-  -- what a token leaves behind that becomes a leaf of the open node; `shape` gives the builder's open nodes from the node's children
+  -- What holds after a token has become a leaf of the open node; `shape` gives the builder's open nodes from the node's children.
   pub record LeafTaken (s q k y : ℕ) (l : Level) (f : Forest) (fs : List Frame) (shape : Forest → Stack) (v : State) : Type 0 where
     pub first : Token
     pub place : MachineIsAt R s (target s q k) l (f +++ (leaf k first.1 ▸ none)) fs v
@@ -159,7 +160,8 @@ module _ (R : ParserInput) where
     pub joins : (f g : Forest) → put g (shape f) ≡ shape (f +++ g)
     pub fits : (q : ℕ) (f : Forest) (r : List Token) → Reach (top R) w (frame s q f ∷ fs) r → Fitting (length (spent (frame s q f ∷ fs))) (shape (shows f))
 
-  pub token-taken : (kind : SyntaxKind) (s q k x y : ℕ) (l : Level) (d : Certainty) (f : Forest) (fs : List Frame) (st : State) (shape : Forest → Stack) (then_at : Position → Bool) → takes_token s (in_row q l d) x y (number kind) k then_at ≡ true → Shaped s fs shape
+  pub token-taken : (kind : SyntaxKind) (s q k x y : ℕ) (l : Level) (d : Certainty) (f : Forest) (fs : List Frame) (st : State) (shape : Forest → Stack) (then_at : Position → Bool)
+      → takes_token s (in_row q l d) x y (number kind) k then_at ≡ true → Shaped s fs shape
       → MachineIsAt R s q l f fs st → (stack st.tree ≡ shape (shows f)) → NoReportYet R st → Seen x y st → RightlyReported R (bump kind st) ⊎ LeafTaken s q k y l f fs shape (bump kind st)
   unfolding bump takes_token flush
   token-taken kind s q k x y l d f fs st shape then_at h sh c built no_report seen = at st.current refl no_report.now
@@ -181,8 +183,10 @@ module _ (R : ParserInput) where
           let still : Untouched (u t) (read_on st.items (u t)) = read-untouched st.items (u t) in
           let leafed : stack (u t).tree ≡ shape (shows (f +++ (leaf k t.text ▸ none))) = stack-leaf kind t.text (add_all st.pending st.tree) (not-c _ (and-r _ _ kinds))
           ∙ (ap₂ (λ (j : ℕ) (v : Stack). put (leaf j t.text ▸ none) v) (sym (eqb-true _ _ (and-l _ _ kinds))) (flushed st no_report ∙ built) ∙ (sh.joins (shows f) (leaf (label k) t.text ▸ none) ∙ ap shape (sym (shows-snoc f (leaf k t.text))))) in
-          elim (read-on answers (ReportIsRight R) (reading st.items (u t)) (length (spent gs)) (record { clean = no_report.quiet.clean; accepts = no_report.quiet.accepts; waits = refl }) en (passed-one answers (given t) st.items refl (subst (λ (o : Option Lexeme). Held answers o st.items) e no_report.held))
-          (λ x ys p i z. let before : Reach (top R) w gs (answers_tokens ys) = subst (λ (v : List Token). Reach (top R) w gs v) (sym z) there in no_token p i (gs, before) (spent-before R gs (answers_tokens ys) before)) (settled-at _ (u t).tree _ leafed (sh.fits _ _ _ there))) [
+          elim (read-on answers (ReportIsRight R) (reading st.items (u t)) (length (spent gs))
+          (record { clean = no_report.quiet.clean; accepts = no_report.quiet.accepts; waits = refl }) en (passed-one answers (given t) st.items refl (subst (λ (o : Option Lexeme). Held answers o st.items) e no_report.held))
+          (λ x ys p i z. let before : Reach (top R) w gs (answers_tokens ys) = subst (λ (v : List Token). Reach (top R) w gs v) (sym z) there in no_token p i (gs, before)
+          (spent-before R gs (answers_tokens ys) before)) (settled-at _ (u t).tree _ leafed (sh.fits _ _ _ there))) [
             | inl o ↦ inl o
             | inr o ↦ inr (record {
               first = b;
@@ -204,21 +208,30 @@ module _ (R : ParserInput) where
         | inr a ↦ took t e a (subst (λ (b : Bool). choose b (st.items ≡ []) (EndsWell st.items)) a.is_end n.1)
       ]
 
-  pub bump-outcome : (s : ℕ) (p : Position) (x y : ℕ) (kind : SyntaxKind) (fs : List Frame) (k : Then) (st : State) → takes_token s p x y (number kind) (leaf_of s (number kind)) (λ p'. k p' y any) ≡ true → StateFits R s p x y fs st → RunOutcome R s fs k (bump kind st)
+  pub bump-outcome : (s : ℕ) (p : Position) (x y : ℕ) (kind : SyntaxKind) (fs : List Frame) (k : Then) (st : State)
+      → takes_token s p x y (number kind) (leaf_of s (number kind)) (λ p'. k p' y any) ≡ true → StateFits R s p x y fs st → RunOutcome R s fs k (bump kind st)
   unfolding takes_token
   bump-outcome s machine_is_stuck x y kind fs k st h g = false-true refl h
   bump-outcome s (in_row q l d) x y kind fs k st h g =
       let j : ℕ = leaf_of s (number kind) in
       let c : OpenNodesAgree R s q l fs st = g.position.0 in
-      elim (token-taken kind s q j x y l d c.children fs st (λ f. lay s f (image fs)) (λ p'. k p' y any) h (record { joins = λ f g. sym (lay-put s f g (image fs)); fits = λ q f r o. fitting R (frame s q f ∷ fs) r o }) c.place c.built g.no_report g.seen) [
+      elim (token-taken kind s q j x y l d c.children fs st (λ f. lay s f (image fs)) (λ p'. k p' y any) h
+      (record { joins = λ f g. sym (lay-put s f g (image fs)); fits = λ q f r o. fitting R (frame s q f ∷ fs) r o }) c.place c.built g.no_report g.seen) [
         | inl o ↦ inl o
-        | inr o ↦ inr (in_row (target s q j) l OpenWhateverFollows, y, any, and-r _ _ (and-r _ _ h), record { no_report = o.no_report; seen = o.seen; position = (record { children = c.children +++ (leaf j o.first.1 ▸ none); place = o.place; built = o.built }, o.certain) })
+        | inr o ↦ inr (
+          in_row (target s q j) l OpenWhateverFollows,
+          y,
+          any,
+          and-r _ _ (and-r _ _ h),
+          record { no_report = o.no_report; seen = o.seen; position = (record { children = c.children +++ (leaf j o.first.1 ▸ none); place = o.place; built = o.built }, o.certain) },
+        )
       ]
 
   -- ---- a node begins and ends
 
   -- a node of the symbol `j` begins
-  pub begun : {s q x y : ℕ} {l : Level} {d : Certainty} {fs : List Frame} {st v : State} (j : ℕ) (g : StateFits R s (in_row q l d) x y fs st) → is_leaf j ≡ false → only_root j ≡ false → goes s q x (absent_as_end y) j ≡ true → levels_agree s l j ≡ true → OnlyBuilds st v
+  pub begun : {s q x y : ℕ} {l : Level} {d : Certainty} {fs : List Frame} {st v : State} (j : ℕ) (g : StateFits R s (in_row q l d) x y fs st) → is_leaf j ≡ false → only_root j ≡ false
+      → goes s q x (absent_as_end y) j ≡ true → levels_agree s l j ≡ true → OnlyBuilds st v
       → (stack st.tree ≡ image (frame s q g.position.0.children ∷ fs) → stack v.tree ≡ image (frame j 0 none ∷ frame s q g.position.0.children ∷ fs)) → StateFits R j at_start x y (frame s q g.position.0.children ∷ fs) v
   begun j g i ro m h e b =
       let c = g.position.0 in
@@ -236,14 +249,16 @@ module _ (R : ParserInput) where
   unfolding follows_table is_node
   node-is c = let h = and-l _ _ (node-passes c).table in let r = and-r _ _ h in (not-c _ (and-l _ _ h), not-c _ (and-l _ _ r), not-c _ (and-l _ _ (and-r _ _ r)), eqb-true _ _ (and-r _ _ (and-r _ _ r)))
 
-  pub node-begun : {s q x y : ℕ} {l : Level} {d : Certainty} {fs : List Frame} {st : State} (c : Node) (g : StateFits R s (in_row q l d) x y fs st) → goes s q x (absent_as_end y) (symbol c) ≡ true → levels_agree s l (symbol c) ≡ true → StateFits R (symbol c) at_start x y (frame s q g.position.0.children ∷ fs) (opened (kind_of c) st)
+  pub node-begun : {s q x y : ℕ} {l : Level} {d : Certainty} {fs : List Frame} {st : State} (c : Node) (g : StateFits R s (in_row q l d) x y fs st) → goes s q x (absent_as_end y) (symbol c) ≡ true
+      → levels_agree s l (symbol c) ≡ true → StateFits R (symbol c) at_start x y (frame s q g.position.0.children ∷ fs) (opened (kind_of c) st)
   unfolding opened flush
   node-begun {s = s} {q = q} {fs = fs} {st = st} c g m h =
       begun (symbol c) g (node-is c).0 (node-is c).2 m h (opened-builds (kind_of c) st)
       (λ e. ap₂ (λ (k : ℕ) (z : Stack). (k, none) ∷ z) (sym (node-is c).3) (flushed st g.no_report ∙ e) ∙ sym (image-node (symbol c) 0 none (frame s q g.position.0.children ∷ fs) (node-is c).1))
 
   -- the machine ends a node
-  pub ended : {s q j p : ℕ} {l m : Level} {g : Forest} {fs : List Frame} {st u v : State} (c : OpenNodesAgree R s q l fs st) (d : Certainty) (x : ℕ) → levels_agree s l j ≡ true → ends_at j p m d x ≡ true → within (first_class (rest u)) x ≡ true → CertaintyHolds R d (frame j p g ∷ frame s q c.children ∷ fs) u
+  pub ended : {s q j p : ℕ} {l m : Level} {g : Forest} {fs : List Frame} {st u v : State} (c : OpenNodesAgree R s q l fs st) (d : Certainty) (x : ℕ) → levels_agree s l j ≡ true
+      → ends_at j p m d x ≡ true → within (first_class (rest u)) x ≡ true → CertaintyHolds R d (frame j p g ∷ frame s q c.children ∷ fs) u
       → MachineIsAt R j p m g (frame s q c.children ∷ fs) u → OnlyBuilds u v → (stack v.tree ≡ put (show (node j g) ▸ none) (image (frame s q c.children ∷ fs))) → PositionHolds R s (in_row (target s q j + exit j p) l OpenWhateverFollows) fs v
   unfolding ends_at
   ended {s = s} {q = q} {j = j} {p = p} {g = g} {fs = fs} {u = u} c d x h e n k i a b =
@@ -261,17 +276,21 @@ module _ (R : ParserInput) where
         rw (unread-rest a.reads_nothing) (firm-close x (certainly-open R d (frame j p g ∷ frame s q c.children ∷ fs) u (and-r _ _ r) k) (and-r _ _ e) n),
       )
 
-  -- a node that is walked at its place ends
-  pub inlined-ended : {s q j p x y : ℕ} {l m : Level} {d : Certainty} {fs : List Frame} {st u v : State} (c : OpenNodesAgree R s q l fs st) (k : Then) → levels_agree s l j ≡ true → after_inlined j (in_row (target s q j) l OpenWhateverFollows) k (in_row p m d) x y ≡ true → (g : StateFits R j (in_row p m d) x y (frame s q c.children ∷ fs) u)
+  -- an inlined node ends
+  pub inlined-ended : {s q j p x y : ℕ} {l m : Level} {d : Certainty} {fs : List Frame} {st u v : State} (c : OpenNodesAgree R s q l fs st) (k : Then) → levels_agree s l j ≡ true
+      → after_inlined j (in_row (target s q j) l OpenWhateverFollows) k (in_row p m d) x y ≡ true → (g : StateFits R j (in_row p m d) x y (frame s q c.children ∷ fs) u)
       → OnlyBuilds u v → (stack v.tree ≡ put (show (node j g.position.0.children) ▸ none) (image (frame s q c.children ∷ fs))) → Continues R s fs k v
   unfolding after_inlined
-  inlined-ended {s = s} {q = q} {j = j} {p = p} {x = x} {y = y} {l = l} {d = d} c k h e g a b = (in_row (target s q j + exit j p) l OpenWhateverFollows, x, y, and-r _ _ e, moved-on R g a.reads_nothing (ended c d x h (and-l _ _ e) (next-classes g).near g.position.1 g.position.0.place a b))
+  inlined-ended {s = s} {q = q} {j = j} {p = p} {x = x} {y = y} {l = l} {d = d} c k h e g a b =
+      (in_row (target s q j + exit j p) l OpenWhateverFollows, x, y, and-r _ _ e, moved-on R g a.reads_nothing (ended c d x h (and-l _ _ e) (next-classes g).near g.position.1 g.position.0.place a b))
 
-  pub closed-built : {s q p : ℕ} {m : Level} {f : Forest} {fs : List Frame} {v : State} (c : Node) (i : OpenNodesAgree R (symbol c) p m (frame s q f ∷ fs) v) → stack (closed v).tree ≡ put (show (node (symbol c) i.children) ▸ none) (image (frame s q f ∷ fs))
+  pub closed-built : {s q p : ℕ} {m : Level} {f : Forest} {fs : List Frame} {v : State} (c : Node) (i : OpenNodesAgree R (symbol c) p m (frame s q f ∷ fs) v)
+      → stack (closed v).tree ≡ put (show (node (symbol c) i.children) ▸ none) (image (frame s q f ∷ fs))
   unfolding closed
   closed-built {s = s} {q = q} {p = p} {f = f} {fs = fs} {v = v} c i =
       let gs : List Frame = frame s q f ∷ fs in
-      stack-finish v.tree (label (symbol c), shows i.children) (image gs) (image-some gs) (i.built ∙ image-node (symbol c) p i.children gs (node-is c).1) ∙ ap (λ (t : Tree). put (t ▸ none) (image gs)) (sym (show-root (symbol c) i.children (node-is c).1))
+      stack-finish v.tree (label (symbol c), shows i.children) (image gs) (image-some gs) (i.built ∙ image-node (symbol c) p i.children gs (node-is c).1)
+      ∙ ap (λ (t : Tree). put (t ▸ none) (image gs)) (sym (show-root (symbol c) i.children (node-is c).1))
 
   pub rightly-closed : (u : State) → RightlyReported R u → RightlyReported R (closed u)
   rightly-closed u o = rightly-on R u (closed u) (unread-grows (closed-builds u).reads_nothing) o
@@ -286,28 +305,37 @@ module _ (R : ParserInput) where
   pub far-any : (x y u : ℕ) (st : State) → subset x u ≡ true → Seen x y st → Seen u any st
   far-any x y u st h i = record { near = holds-subset _ x u h i.near; far = of-any (second st.items) (second-shown st.items) }
 
-  -- the end of the text breaks a node off
-  pub cut-off-outcome : {s s' x y : ℕ} {fs fs' : List Frame} {v : State} (c : Node) (k : Then) → may_be_cut_off c ≡ true → subset x over ≡ true → not (may_be_cut_off c) or k machine_is_stuck over any ≡ true → StateFits R s' machine_is_stuck x y fs' v → RunOutcome R s fs k (closed v)
+  -- the end of the text cuts a node off
+  pub cut-off-outcome : {s s' x y : ℕ} {fs fs' : List Frame} {v : State} (c : Node) (k : Then) → may_be_cut_off c ≡ true → subset x over ≡ true
+      → not (may_be_cut_off c) or k machine_is_stuck over any ≡ true → StateFits R s' machine_is_stuck x y fs' v → RunOutcome R s fs k (closed v)
   cut-off-outcome {x = x} {y = y} {v = v} c k a a' b g = inr (machine_is_stuck, over, any, implies _ _ b a, stuck-closed (with-sets g (far-any x y over v a' g.seen)))
 
-  pub node-outcome : {s q : ℕ} {l : Level} {fs : List Frame} {st : State} (c : Node) (k : Then) (u : State) (c0 : OpenNodesAgree R s q l fs st) → levels_agree s l (symbol c) ≡ true → after_node (in_row (target s q (symbol c)) l OpenWhateverFollows) c k ≡ true → RunOutcome R (symbol c) (frame s q c0.children ∷ fs) (node_may_end c) u → RunOutcome R s fs k (closed u)
+  pub node-outcome : {s q : ℕ} {l : Level} {fs : List Frame} {st : State} (c : Node) (k : Then) (u : State) (c0 : OpenNodesAgree R s q l fs st) → levels_agree s l (symbol c) ≡ true
+      → after_node (in_row (target s q (symbol c)) l OpenWhateverFollows) c k ≡ true → RunOutcome R (symbol c) (frame s q c0.children ∷ fs) (node_may_end c) u → RunOutcome R s fs k (closed u)
   unfolding node_may_end exit_is_right
   node-outcome c k u c0 h a (inl o) = inl (rightly-closed u o)
   node-outcome c k u c0 h a (inr (machine_is_stuck, x, y, e, g)) = cut-off-outcome c k (and-l _ _ e) (and-r _ _ e) (and-r _ _ a) g
   node-outcome {s = s} {q = q} {l = l} {fs = fs} c k u c0 h a (inr (in_row p m d, x, y, e, g)) = elim (or-c _ _ e) [
     | inl z ↦ elim (or-c _ _ (and-r _ _ z)) [
       | inl i ↦ inr (in_row (target s q (symbol c) + 0) l OpenWhateverFollows, any, any, and-l _ _ (and-l _ _ a), leaves (and-l _ _ z) 0 (eqb-true _ _ i) any (seen-any u (shown R u g.no_report)))
-      | inr i ↦ inr (in_row (target s q (symbol c) + 1) l OpenWhateverFollows, no_brace, any, implies _ _ (and-r _ _ (and-l _ _ a)) (and-l _ _ i), leaves (and-l _ _ z) 1 (eqb-true _ _ (and-l _ _ (and-r _ _ i))) no_brace (far-any x y no_brace u (and-r _ _ (and-r _ _ i)) g.seen))
+      | inr i ↦ inr (
+        in_row (target s q (symbol c) + 1) l OpenWhateverFollows,
+        no_brace,
+        any,
+        implies _ _ (and-r _ _ (and-l _ _ a)) (and-l _ _ i),
+        leaves (and-l _ _ z) 1 (eqb-true _ _ (and-l _ _ (and-r _ _ i))) no_brace (far-any x y no_brace u (and-r _ _ (and-r _ _ i)) g.seen),
+      )
     ]
     | inr z ↦ cut-off-outcome {s' = symbol c} {fs' = frame s q c0.children ∷ fs} c k (and-l _ _ z) (and-l _ _ (and-r _ _ z)) (and-r _ _ a) (record { no_report = g.no_report; seen = g.seen; position = stuck-at g (and-r _ _ (and-r _ _ z)) })
   ]
     where
-      -- what the node leaves behind
+      -- the parent's state is moved on by the node's exit
       leaves : ends_at (symbol c) p m d x ≡ true → (n : ℕ) → exit (symbol c) p ≡ n → (v : ℕ) → Seen v any u → StateFits R s (in_row (target s q (symbol c) + n) l OpenWhateverFollows) v any fs (closed u)
       leaves z n e v i = subst (λ (n : ℕ). StateFits R s (in_row (target s q (symbol c) + n) l OpenWhateverFollows) v any fs (closed u)) e
           (moved-on R (with-sets g i) (closed-builds u).reads_nothing (ended c0 d x h z (next-classes g).near g.position.1 g.position.0.place (closed-builds u) (closed-built c g.position.0)))
 
-  pub inlined-outcome : {s q : ℕ} {l : Level} {fs : List Frame} {st : State} (c : Node) (k : Then) (u : State) (c0 : OpenNodesAgree R s q l fs st) → levels_agree s l (symbol c) ≡ true → RunOutcome R (symbol c) (frame s q c0.children ∷ fs) (after_inlined (symbol c) (in_row (target s q (symbol c)) l OpenWhateverFollows) k) u → RunOutcome R s fs k (closed u)
+  pub inlined-outcome : {s q : ℕ} {l : Level} {fs : List Frame} {st : State} (c : Node) (k : Then) (u : State) (c0 : OpenNodesAgree R s q l fs st) → levels_agree s l (symbol c) ≡ true
+      → RunOutcome R (symbol c) (frame s q c0.children ∷ fs) (after_inlined (symbol c) (in_row (target s q (symbol c)) l OpenWhateverFollows) k) u → RunOutcome R s fs k (closed u)
   unfolding after_inlined
   inlined-outcome c k u c0 h (inl o) = inl (rightly-closed u o)
   inlined-outcome c k u c0 h (inr (machine_is_stuck, x, y, e, g)) = false-true refl e

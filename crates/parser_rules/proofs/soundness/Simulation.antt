@@ -1,4 +1,11 @@
--- The simulation: each run of a rule that keeps to the machine follows it, or its first report is right.
+-- The simulation: each run of a rule that keeps to the machine's table follows the machine, or its first report is right.
+--
+-- It is one induction over runs (`simulation`). What is carried along is that the state fits a position and the two sets of the check
+-- (`StateFits`), and that the check of the rest holds there; a run ends with the same for what follows it, or with a right first report
+-- (`RunOutcome`). The other lemmas are the cases of that induction that are not one line.
+--
+-- The letters are those of `TableCheck`; besides: `n` is the fuel, `fs` the machine's open nodes above the one of the symbol `s`, `st`, `t`, `u`
+-- and `v` are states of the parser in the order of the run, `g` is that the first of them fits, and `h` the check.
 use Rattle.std.proofs.Common.{◌≡◌, ℕ, zero, suc, ◌+◌, ◌<◌, max, Bool, true, false, cond, eqb, List, [], ◌∷◌, refl, sym, ap, ◌∙◌, subst, inl, inr, eqb-true, leb-false}
 use Rattle.lexical_grammar.specs.declared.TokenKind.TheVariants as token
 use Rattle.document_grammar.specs.declared.kind.SyntaxKind.TheVariants as kind
@@ -38,7 +45,7 @@ use Rattle.parser_rules.proofs.soundness.Moves.{next-classes, stuck-at, report-r
 module _ (R : ParserInput) where
   open R use {words as w}
 
-  -- ---- marks
+  -- ---- loops
 
   level-same : (l m : Level) → same_level l m ≡ true → l ≡ m
   level-same NotEntered NotEntered h = refl
@@ -57,37 +64,40 @@ module _ (R : ParserInput) where
   position-same machine_is_stuck machine_is_stuck h = refl
   position-same _ _ h = false-true refl h
 
-  -- the check of each mark that was met
+  -- The check of each state of the loop that was met: a turn that comes back to one is walked by that check again, so a loop needs no fuel
+  -- for its number of turns.
   Met : (Position → ℕ → ℕ → Then → Bool) → List LoopState → Type 0
   Met turn [] = ⊤
   Met turn (m ∷ h) = ((n : ℕ) × (turn m.position m.now m.after (turns n turn (m ∷ h)) ≡ true)) × Met turn h
 
-  -- a mark at which a turn begins, with its check
+  -- a state of the loop at which a turn begins, with its check
   record LoopHead (turn : Position → ℕ → ℕ → Then → Bool) (s : ℕ) (fs : List Frame) (st : State) : Type 0 where
     count : ℕ
-    marks : List LoopState
-    met : Met turn marks
-    way : Continues R s fs (λ p x y. turn p x y (turns count turn marks)) st
+    states : List LoopState
+    met : Met turn states
+    goes_on : Continues R s fs (λ p x y. turn p x y (turns count turn states)) st
 
+  -- where a state was met that covers this one, the turn goes on from there: its sets are larger, and the parser's state fits them too
   met-at : (turn : Position → ℕ → ℕ → Then → Bool) (s : ℕ) (p : Position) (x y : ℕ) (fs : List Frame) (st : State) (h : List LoopState) → covered p x y h ≡ true → Met turn h → StateFits R s p x y fs st → LoopHead turn s fs st
   unfolding covered Met
   met-at turn s p x y fs st [] c m g = false-true refl c
   met-at turn s p x y fs st (m ∷ h) c e g = elim (or-c _ _ c) [
     | inl i ↦ (
         let f = subst (λ (z : Position). StateFits R s z x y fs st) (position-same p m.position (and-l _ _ i)) g in
-        record { count = e.0.0; marks = m ∷ h; met = e; way = (m.position, m.now, m.after, e.0.1, with-sets R f (seen-more x y m.now m.after st (and-r _ _ i) g.seen)) })
+        record { count = e.0.0; states = m ∷ h; met = e; goes_on = (m.position, m.now, m.after, e.0.1, with-sets R f (seen-more x y m.now m.after st (and-r _ _ i) g.seen)) })
     | inr i ↦ met-at turn s p x y fs st h i e.1 g
   ]
 
+  -- each turn begins at a state of the loop: one that was met, or a new one, which is met from now on
   head-at : (turn : Position → ℕ → ℕ → Then → Bool) (n s : ℕ) (p : Position) (x y : ℕ) (fs : List Frame) (st : State) (h : List LoopState) → turns n turn h p x y ≡ true → Met turn h → StateFits R s p x y fs st → LoopHead turn s fs st
   unfolding turns Met
   head-at turn zero s p x y fs st h c m g = met-at turn s p x y fs st h c m g
   head-at turn (suc n) s p x y fs st h c m g = elim (either (covered p x y h)) [
     | inl i ↦ met-at turn s p x y fs st h i m g
-    | inr i ↦ let d = rw (turns, i) at c in record { count = n; marks = record { position = p; now = x; after = y } ∷ h; met = ((n, d), m); way = (p, x, y, d, g) }
+    | inr i ↦ let d = rw (turns, i) at c in record { count = n; states = record { position = p; now = x; after = y } ∷ h; met = ((n, d), m); goes_on = (p, x, y, d, g) }
   ]
 
-  -- the branch that is taken
+  -- A test: the check has split the sets, so it holds for the branch that is taken, with the part of the sets that the tokens are in.
   branch : (t : Test) (b : Bool) (s : ℕ) (fs : List Frame) (st : State) (f g : Then) → b ≡ holds t st → Continues R s fs (λ p x y. divide (λ a b. a and b) true t p x y f g) st → Continues R s fs (cond b f g) st
   branch t b s fs st f g e (p, x, y, h, c) =
       let r = divide-at st (λ (p : Position). PositionHolds R s p fs st) (limit-known-holds R s fs st) t b p x y f g (shown R st c.no_report) e h c.seen c.position in
@@ -95,10 +105,12 @@ module _ (R : ParserInput) where
 
   -- ---- runs
 
+  -- the check of one turn of a loop, where `next` is what follows the turn
   abbrev loop_turn : ℕ → ℕ → Test → Rule → Then → Position → ℕ → ℕ → Then → Bool
   loop_turn n s t a k p u v next = divide (λ a' b'. a' and b') true t p u v (λ q' u' v'. keeps_to_table n s q' u' v' a next) k
 
-  -- What is asked of a rule: its check, and for a loop that of the turns that are left, with the marks that were met.
+  -- What is asked of a rule. A loop's run is another run of the loop after a turn, so for a loop it is not the check from the loop's beginning,
+  -- but that of the turns that are left, with the states that were met.
   pub Checked : ℕ → ℕ → Position → ℕ → ℕ → Rule → Then → Type 0
   Checked n s p x y (While t a) k = (j : ℕ) × (h : List LoopState) × (turns j (loop_turn n s t a k) h p x y ≡ true) × Met (loop_turn n s t a k) h
   Checked n s p x y r k = keeps_to_table n s p x y r k ≡ true
@@ -108,19 +120,22 @@ module _ (R : ParserInput) where
   checked n s p x y (While t a) k h = (most_turns, [], h, tt)
   checked n s p x y _ k h = h
 
-  -- a run of a rule, from any mark that its check holds at
+  -- what the induction says of a run: from any position and sets for which the check holds and that the first state fits
   abbrev Simulates : Rule → State → State → Type 0
   Simulates r t u = (n s : ℕ) (p : Position) (x y : ℕ) (fs : List Frame) (k : Then) → Checked n s p x y r k → StateFits R s p x y fs t → RunOutcome R s fs k u
 
   simulated : (r : Rule) {t u : State} → Simulates r t u → (n s : ℕ) (fs : List Frame) (k : Then) → Continues R s fs (λ p x y. keeps_to_table n s p x y r k) t → RunOutcome R s fs k u
   simulated r walk n s fs k (p, x, y, h, g) = walk n s p x y fs k (checked n s p x y r k h) g
 
+  -- One run after another: where the first one has reported, what is built later leaves that report right (`Grows`).
   then-on : (s : ℕ) (fs : List Frame) (f k : Then) (t u : State) → Grows t u → (Continues R s fs f t → RunOutcome R s fs k u) → RunOutcome R s fs f t → RunOutcome R s fs k u
   then-on s fs f k t u g on (inl o) = inl (rightly-on R t u g o)
   then-on s fs f k t u g on (inr o) = on o
 
-  -- a node's rule is walked at its place, or by the check of its kind
-  node-begins : (n s q x y : ℕ) (l : Level) (d : Certainty) (c : Node) (fs : List Frame) (k : Then) (st t u : State) → t ≡ opened (kind_of c) st → Simulates (inside c) t u → child_begins s q l x y c k (λ u v k'. keeps_to_table n (symbol c) at_start u v (inside c) k') ≡ true → StateFits R s (in_row q l d) x y fs st → RunOutcome R s fs k (closed u)
+  -- The machine begins the node. An inlined one is walked in its parent's check, with what is known of the next two tokens; of any other the check
+  -- of its kind is taken, which holds for all tokens that may begin it, with fuel of its own: so the nesting of a text needs no fuel.
+  node-begins : (n s q x y : ℕ) (l : Level) (d : Certainty) (c : Node) (fs : List Frame) (k : Then) (st t u : State) → t ≡ opened (kind_of c) st → Simulates (inside c) t u
+      → child_begins s q l x y c k (λ u v k'. keeps_to_table n (symbol c) at_start u v (inside c) k') ≡ true → StateFits R s (in_row q l d) x y fs st → RunOutcome R s fs k (closed u)
   unfolding child_begins follows_table
   node-begins n s q x y l d c fs k st t u e walk h g =
       let j : ℕ = symbol c in
@@ -130,15 +145,22 @@ module _ (R : ParserInput) where
       let b : StateFits R j at_start x y gs t = rw e (node-begun R c g (and-l _ _ (and-l _ _ h)) agree) in
       (elim (inlined c) as (λ i. cond i (keeps_to_table n j at_start x y (inside c) (after_inlined j p k)) ((subset x (first_of c) and subset y (second_of c)) and after_node p c k) ≡ true → RunOutcome R s fs k (closed u)) [
         | true ↦ λ m. inlined-outcome R c k u g.position.0 agree (simulated (inside c) walk n j gs (after_inlined j p k) (at_start, x, y, m, b))
-        | false ↦ λ m. node-outcome R c k u g.position.0 agree (and-r _ _ m) (simulated (inside c) walk rules_deep j gs (node_may_end c) (at_start, first_of c, second_of c, and-r _ _ (node-passes c).table, with-sets R b (seen-more x y _ _ t (and-l _ _ m) b.seen)))
+        | false ↦ λ m. node-outcome R c k u g.position.0 agree (and-r _ _ m)
+            (simulated (inside c) walk rules_deep j gs (node_may_end c) (at_start, first_of c, second_of c, and-r _ _ (node-passes c).table, with-sets R b (seen-more x y _ _ t (and-l _ _ m) b.seen)))
       ]) (and-r _ _ h)
 
-  begins-while-stuck : (n s x y : ℕ) (c : Node) (fs : List Frame) (k : Then) (st t u : State) → t ≡ opened (kind_of c) st → Simulates (inside c) t u → keeps_to_table n s machine_is_stuck x y (inside c) (after_stuck_node k) ≡ true → StateFits R s machine_is_stuck x y fs st → RunOutcome R s fs k (closed u)
+  -- The machine is stuck before the node. The rule goes on until its first report, which is then right, whatever nodes are opened before that; the
+  -- machine's open nodes stay those of the parent.
+  begins-while-stuck : (n s x y : ℕ) (c : Node) (fs : List Frame) (k : Then) (st t u : State) → t ≡ opened (kind_of c) st → Simulates (inside c) t u
+      → keeps_to_table n s machine_is_stuck x y (inside c) (after_stuck_node k) ≡ true → StateFits R s machine_is_stuck x y fs st → RunOutcome R s fs k (closed u)
   begins-while-stuck n s x y c fs k st t u e walk h g =
       let a = (opened-builds (kind_of c) st).reads_nothing in
       stuck-outcome R k u (simulated (inside c) walk n s fs (after_stuck_node k) (machine_is_stuck, x, y, h, rw e (moved-on R g a (unread-stuck R a g.position))))
 
-  child-simulated : (n s : ℕ) (p : Position) (x y : ℕ) (c : Node) (fs : List Frame) (k : Then) (st t u : State) → t ≡ opened (kind_of c) st → Simulates (inside c) t u → child_at s p x y c k (λ u v k'. keeps_to_table n (symbol c) at_start u v (inside c) k') (λ u v. keeps_to_table n s machine_is_stuck u v (inside c) (after_stuck_node k)) ≡ true → StateFits R s p x y fs st → RunOutcome R s fs k (closed u)
+  -- A node is the machine's exactly where the current token may begin it, so both cases are checked, and the token decides.
+  child-simulated : (n s : ℕ) (p : Position) (x y : ℕ) (c : Node) (fs : List Frame) (k : Then) (st t u : State) → t ≡ opened (kind_of c) st → Simulates (inside c) t u
+      → child_at s p x y c k (λ u v k'. keeps_to_table n (symbol c) at_start u v (inside c) k') (λ u v. keeps_to_table n s machine_is_stuck u v (inside c) (after_stuck_node k)) ≡ true
+      → StateFits R s p x y fs st → RunOutcome R s fs k (closed u)
   unfolding child_at child_while_stuck
   child-simulated n s machine_is_stuck x y c fs k st t u e walk h g = begins-while-stuck n s x y c fs k st t u e walk h g
   child-simulated n s (in_row q l d) x y c fs k st t u e walk h g =
@@ -151,9 +173,13 @@ module _ (R : ParserInput) where
             begins-while-stuck n s r.0 r.1 c fs k st t u e walk (and-r _ _ r.2) (record { no_report = g.no_report; seen = r.3; position = stuck-at R (with-sets R g r.3) (and-l _ _ r.2) }))
       ]
 
-  -- ---- a type begins and ends
+  -- ---- types
 
-  type-begins : (n s q x y : ℕ) (l : Level) (d : Certainty) (a : Rule) (fs : List Frame) (k : Then) (st t u : State) → t ≡ flush st → Simulates a t u → type_at s (in_row q l d) x y k (λ k'. keeps_to_table n TYPE at_start x y a k') ≡ true → (g : StateFits R s (in_row q l d) x y fs st)
+  -- The machine opens its node of a type before it is known whether a `!` follows. The builder opens a node only when one does, around what was
+  -- added since: so in between the machine has one open node more than the builder.
+
+  type-begins : (n s q x y : ℕ) (l : Level) (d : Certainty) (a : Rule) (fs : List Frame) (k : Then) (st t u : State) → t ≡ flush st → Simulates a t u
+      → type_at s (in_row q l d) x y k (λ k'. keeps_to_table n TYPE at_start x y a k') ≡ true → (g : StateFits R s (in_row q l d) x y fs st)
       → RunOutcome R TYPE (frame s q g.position.0.children ∷ fs) (after_type (in_row (target s q TYPE) l OpenWhateverFollows) k) u
   unfolding type_at flush is_leaf
   type-begins n s q x y l d a fs k st t u e walk h g =
@@ -162,11 +188,13 @@ module _ (R : ParserInput) where
       let b : StateFits R TYPE at_start x y gs (flush st) = begun R TYPE g refl refl (and-l _ _ m) (and-l _ _ (and-r _ _ m)) (flush-builds st) (λ i. flushed R st g.no_report ∙ (i ∙ sym (put-none (image gs)))) in
       simulated a walk n TYPE gs (after_type (in_row (target s q TYPE) l OpenWhateverFollows) k) (at_start, x, y, and-r _ _ h, rw e b)
 
-  -- the children of a type that no `!` ends
+  -- one child of the type is there
   one-path : {q : ℕ} {l : Level} {fs : List Frame} {u : State} (c : OpenNodesAgree R TYPE q l fs u) → eqb q 1 ≡ true → Path TYPE 0 c.children 1
   one-path c e = subst (λ (n : ℕ). Path TYPE 0 c.children n) (eqb-true _ _ e) (reach-sound (start-no-leaf (top R) (start_begins R)) c.place.reach).1
 
-  plain-type : (n s : ℕ) (p : Position) (x y : ℕ) (a : Rule) (fs : List Frame) (k : Then) (st t u : State) → t ≡ flush st → Simulates a t u → false ≡ holds (At token.Bang) u → type_at s p x y k (λ k'. keeps_to_table n TYPE at_start x y a k') ≡ true → StateFits R s p x y fs st → RunOutcome R s fs k u
+  -- no `!` follows: the machine ends its node, of which the builder has the child alone
+  plain-type : (n s : ℕ) (p : Position) (x y : ℕ) (a : Rule) (fs : List Frame) (k : Then) (st t u : State) → t ≡ flush st → Simulates a t u → false ≡ holds (At token.Bang) u
+      → type_at s p x y k (λ k'. keeps_to_table n TYPE at_start x y a k') ≡ true → StateFits R s p x y fs st → RunOutcome R s fs k u
   unfolding type_at after_type
   plain-type n s machine_is_stuck x y a fs k st t u e walk b h g = false-true refl h
   plain-type n s (in_row q l d) x y a fs k st t u e walk b h g = elim (type-begins n s q x y l d a fs k st t u e walk h g) [
@@ -182,13 +210,18 @@ module _ (R : ParserInput) where
 
       on : Continues R TYPE gs (no_bang_follows p k) u → Continues R s fs k u
       on (machine_is_stuck, x, y, t, i) = false-true refl (and-l _ _ t)
-      on (in_row q' m d, x, y, t, i) = inlined-ended R g.position.0 k (and-l _ _ (and-r _ _ (and-l _ _ h))) (and-r _ _ t) i (same-builds u) (i.position.0.built ∙ image-plain s q q g.position.0.children i.position.0.children fs (one-path i.position.0 (and-l _ _ t)))
+      on (in_row q' m d, x, y, t, i) = inlined-ended R g.position.0 k (and-l _ _ (and-r _ _ (and-l _ _ h))) (and-r _ _ t) i (same-builds u)
+          (i.position.0.built ∙ image-plain s q q g.position.0.children i.position.0.children fs (one-path i.position.0 (and-l _ _ t)))
 
-  bang-built : (f : Forest) (fs : List Frame) (v : State) (x : Text) → Path TYPE 0 f 1 → stack v.tree ≡ (NON_NULL_TYPE, shows (f +++ (leaf BANG x ▸ none))) ∷ image fs → stack (closed v).tree ≡ put (show (node TYPE (f +++ (leaf BANG x ▸ none))) ▸ none) (image fs)
+  -- the builder's NON_NULL_TYPE is closed, which is what the machine's node is shown as
+  bang-built : (f : Forest) (fs : List Frame) (v : State) (x : Text) → Path TYPE 0 f 1 → stack v.tree ≡ (NON_NULL_TYPE, shows (f +++ (leaf BANG x ▸ none))) ∷ image fs
+      → stack (closed v).tree ≡ put (show (node TYPE (f +++ (leaf BANG x ▸ none))) ▸ none) (image fs)
   unfolding closed
   bang-built f fs v x p e = stack-finish v.tree (NON_NULL_TYPE, shows (f +++ (leaf BANG x ▸ none))) (image fs) (image-some fs) e ∙ ap (λ (t : Tree). put (t ▸ none) (image fs)) (sym (show-bang f x p))
 
-  wrapped-type : (n s : ℕ) (p : Position) (x y : ℕ) (a : Rule) (fs : List Frame) (k : Then) (st t u v w' : State) → t ≡ flush st → Simulates a t u → Adds t u → v ≡ wrapped_from (built_count t.tree) kind.NON_NULL_TYPE u → Grows v w' → w' ≡ bump kind.BANG v → true ≡ holds (At token.Bang) u
+  -- A `!` follows: from the wrap on the builder has the machine's node, so the `!` is taken as any token is, but with this node innermost (`shape`).
+  wrapped-type : (n s : ℕ) (p : Position) (x y : ℕ) (a : Rule) (fs : List Frame) (k : Then) (st t u v w' : State) → t ≡ flush st → Simulates a t u → Adds t u
+      → v ≡ wrapped_from (built_count t.tree) kind.NON_NULL_TYPE u → Grows v w' → w' ≡ bump kind.BANG v → true ≡ holds (At token.Bang) u
       → type_at s p x y k (λ k'. keeps_to_table n TYPE at_start x y a k') ≡ true → StateFits R s p x y fs st → RunOutcome R s fs k (closed w')
   unfolding type_at after_type takes_token after_inlined flush wrapped_from
   wrapped-type n s machine_is_stuck x y a fs k st t u v w' e walk added i gr j b h g = false-true refl h
@@ -224,7 +257,9 @@ module _ (R : ParserInput) where
       on (in_row q' m d, x, y, t', c) =
           let f : Forest = c.position.0.children in
           let built : stack v.tree ≡ shape (shows f) = ap (λ (z : State). stack z.tree) i ∙ stack-wrap s q q' g.position.0.children f fs t.tree u.tree added.more none_equal added.trees.above added.trees.here before c.position.0.built in
-          subst (λ (z : State). RunOutcome R s fs k (closed z)) (sym j) (elim (token-taken R kind.BANG TYPE q' BANG x y m d f gs v shape (λ P. after_inlined TYPE p k P y any) (and-r _ _ t') shaped (record { reach = rw (unread-rest al.reads_nothing) c.position.0.place.reach; leveled = still-leveled R al c.position.0.place.leveled; alone = c.position.0.place.alone }) built (unread-no-report R al.reads_nothing c.no_report) (unread-seen x y al.reads_nothing c.seen)) [
+          subst (λ (z : State). RunOutcome R s fs k (closed z)) (sym j) (elim (token-taken R kind.BANG TYPE q' BANG x y m d f gs v shape (λ P. after_inlined TYPE p k P y any) (and-r _ _ t') shaped
+          (record { reach = rw (unread-rest al.reads_nothing) c.position.0.place.reach; leveled = still-leveled R al c.position.0.place.leveled; alone = c.position.0.place.alone })
+          built (unread-no-report R al.reads_nothing c.no_report) (unread-seen x y al.reads_nothing c.seen)) [
             | inl o ↦ inl (rightly-closed R (bump kind.BANG v) o)
             | inr o ↦ (
                 let w'' : State = bump kind.BANG v in
@@ -246,11 +281,16 @@ module _ (R : ParserInput) where
 
   -- ---- a level is entered and left
 
-  level-simulated : (n s : ℕ) (p : Position) (x y : ℕ) (a b : Rule) (fs : List Frame) (k : Then) (st t u v z : State) → false ≡ is_deep st → t ≡ enter st → v ≡ leave u → Simulates a t u → Simulates b v z → Grows v z → keeps_to_table n s p x y (Nested a b) k ≡ true → StateFits R s p x y fs st → RunOutcome R s fs k z
+  -- A level is entered only where each tree that goes on nests deeper (`goes-deeper`). So at every state the tree that the machine goes on to make
+  -- nests at least as deep as the greatest depth; when the root ends, it nests no deeper.
+
+  level-simulated : (n s : ℕ) (p : Position) (x y : ℕ) (a b : Rule) (fs : List Frame) (k : Then) (st t u v z : State) → false ≡ is_deep st → t ≡ enter st → v ≡ leave u → Simulates a t u
+      → Simulates b v z → Grows v z → keeps_to_table n s p x y (Nested a b) k ≡ true → StateFits R s p x y fs st → RunOutcome R s fs k z
   unfolding keeps_to_table enters_level may_report_limit is_deep enter leave
   level-simulated n s machine_is_stuck x y a b fs k st t u v z e i j walk walk' gr h g = false-true refl (and-l _ _ h)
   level-simulated n s (in_row q l d) x y a b fs k st t u v z e i j walk walk' gr h g =
-      then-on s fs inner k u z (grows-on u v z (unread-grows (leave-unread j)) gr) after_it (simulated a walk n s fs inner (in_row q Entered (limit_forgotten d), x, y, and-r _ _ (and-r _ _ h), rw i (moved-on R g (renested st (st.depth + 1) (max st.high (st.depth + 1))) within_it)))
+      then-on s fs inner k u z (grows-on u v z (unread-grows (leave-unread j)) gr) after_it
+      (simulated a walk n s fs inner (in_row q Entered (limit_forgotten d), x, y, and-r _ _ (and-r _ _ h), rw i (moved-on R g (renested st (st.depth + 1) (max st.high (st.depth + 1))) within_it)))
     where
       c : OpenNodesAgree R s q l fs st
       c = g.position.0
@@ -263,7 +303,11 @@ module _ (R : ParserInput) where
 
       within_it : PositionHolds R s (in_row q Entered (limit_forgotten d)) fs (enter st)
       within_it = (
-        record { children = c.children; place = record { reach = c.place.reach; leveled = leveled-enter R (eqb-true _ _ (and-l _ _ (and-r _ _ h))) (leb-false st.limit st.depth (sym e)) deeper_tree c.place.leveled; alone = c.place.alone }; built = c.built },
+        record {
+          children = c.children;
+          place = record { reach = c.place.reach; leveled = leveled-enter R (eqb-true _ _ (and-l _ _ (and-r _ _ h))) (leb-false st.limit st.depth (sym e)) deeper_tree c.place.leveled; alone = c.place.alone };
+          built = c.built;
+        },
         certainty-forgotten R d (frame s q c.children ∷ fs) st (enter st) refl g.position.1,
       )
 
@@ -279,6 +323,8 @@ module _ (R : ParserInput) where
       after_it (in_row q NotEntered d, x, y, h, g) = false-true refl (and-l _ _ h)
       after_it (in_row q Left d, x, y, h, g) = false-true refl (and-l _ _ h)
 
+  -- The induction. A report ends the walk: it is right, and stays so. Fuel is spent where the check goes into a child or a call, so the cases of
+  -- no fuel can't be.
   pub simulation : {r : Rule} {st t : State} → Runs r st t → (n s : ℕ) (p : Position) (x y : ℕ) (fs : List Frame) (k : Then) → Checked n s p x y r k → StateFits R s p x y fs st → RunOutcome R s fs k t
   unfolding Checked keeps_to_table step
   simulation skip n s p x y fs k h g = inr (p, x, y, h, g)
@@ -290,16 +336,17 @@ module _ (R : ParserInput) where
   simulation {st = st} (yes {q = q} {a = a} {b = b} e h1) n s p x y fs k h g = simulated a (simulation h1) n s fs k (branch q true s fs st (λ p' u v. keeps_to_table n s p' u v a k) (λ p' u v. keeps_to_table n s p' u v b k) e (p, x, y, h, g))
   simulation {st = st} (no {q = q} {a = a} {b = b} e h1) n s p x y fs k h g = simulated b (simulation h1) n s fs k (branch q false s fs st (λ p' u v. keeps_to_table n s p' u v a k) (λ p' u v. keeps_to_table n s p' u v b k) e (p, x, y, h, g))
   simulation {st = st} (done {q = q} {a = a} e) n s p x y fs k h g =
-      let d = head-at (loop_turn n s q a k) h.0 s p x y fs st h.1 h.2 h.3 g in inr (branch q false s fs st (λ q' u' v'. keeps_to_table n s q' u' v' a (turns d.count (loop_turn n s q a k) d.marks)) k e d.way)
+      let d = head-at (loop_turn n s q a k) h.0 s p x y fs st h.1 h.2 h.3 g in inr (branch q false s fs st (λ q' u' v'. keeps_to_table n s q' u' v' a (turns d.count (loop_turn n s q a k) d.states)) k e d.goes_on)
   simulation {st = st} {t = u} (again {q = q} {a = a} {t = t} e h1 h2) n s p x y fs k h g =
       let d = head-at (loop_turn n s q a k) h.0 s p x y fs st h.1 h.2 h.3 g in
-      let f : Then = turns d.count (loop_turn n s q a k) d.marks in
-      then-on s fs f k t u (run-grows h2) (λ o. simulation h2 n s o.0 o.1 o.2 fs k (d.count, d.marks, o.3, d.met) o.4) (simulated a (simulation h1) n s fs f (branch q true s fs st (λ q' u' v'. keeps_to_table n s q' u' v' a f) k e d.way))
+      let f : Then = turns d.count (loop_turn n s q a k) d.states in
+      then-on s fs f k t u (run-grows h2) (λ o. simulation h2 n s o.0 o.1 o.2 fs k (d.count, d.states, o.3, d.met) o.4) (simulated a (simulation h1) n s fs f (branch q true s fs st (λ q' u' v'. keeps_to_table n s q' u' v' a f) k e d.goes_on))
   simulation (child i j h1) zero s p x y fs k h g = false-true refl h
   simulation {st = st} (child {n = c} {t = t} {u = u} i j h1) (suc n) s p x y fs k h g = rw j (child-simulated n s p x y c fs k st t u i (simulation h1) h g)
   simulation {st = st} {t = z} (deeper {a = a} {b = b} {t = t} {u = u} {v = v} d i j h1 h2) n s p x y fs k h g = level-simulated n s p x y a b fs k st t u v z d i j (simulation h1) (simulation h2) (run-grows h2) h g
   simulation {st = st} (limited d e) n s p x y fs k h g = rw e (inl (limit-rightly R st g.no_report (too-many R s p x y fs st h g) (taken-at R s p fs st g.position)))
-  simulation {st = st} (refused d e) n s p x y fs k h g = rw e (inl (limit-rightly R st g.no_report (too-many R s (with_limit_known p) x y fs st (and-l _ _ h) (record { no_report = g.no_report; seen = g.seen; position = limit-known-holds R s fs st p (sym d) g.position })) (taken-at R s p fs st g.position)))
+  simulation {st = st} (refused d e) n s p x y fs k h g = rw e (inl (limit-rightly R st g.no_report (too-many R s (with_limit_known p) x y fs st (and-l _ _ h)
+      (record { no_report = g.no_report; seen = g.seen; position = limit-known-holds R s fs st p (sym d) g.position })) (taken-at R s p fs st g.position)))
   simulation (call h1) zero s p x y fs k h g = false-true refl h
   simulation (call {p = q} h1) (suc n) s p x y fs k h g = simulation h1 n s p x y fs k (checked n s p x y (body q) k h) g
   simulation {st = st} {t = u} (plain {a = a} {t = t} i h1 e) n s p x y fs k h g = plain-type n s p x y a fs k st t u i (simulation h1) e h g

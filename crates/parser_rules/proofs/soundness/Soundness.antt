@@ -181,7 +181,8 @@ root-outcome r xs s (inr (in_row q l d, x, y, h, g)) =
     })
 
 -- a run from where the root is open, by the check of its rule
-pub run-outcome : (r : ℕ) (xs : List Answer) {q : Rule} {s t : State} (x : ℕ) → keeps_to_table rules_deep DOCUMENT at_start x any q document_may_end ≡ true → Runs q s t → StateFits (document_input r xs) DOCUMENT at_start x any [] s → RightlyReported (document_input r xs) t ⊎ Silent r xs t
+pub run-outcome : (r : ℕ) (xs : List Answer) {q : Rule} {s t : State} (x : ℕ) → keeps_to_table rules_deep DOCUMENT at_start x any q document_may_end ≡ true → Runs q s t
+    → StateFits (document_input r xs) DOCUMENT at_start x any [] s → RightlyReported (document_input r xs) t ⊎ Silent r xs t
 run-outcome r xs {q = q} {t = t} x h run b = root-outcome r xs t (simulation (document_input r xs) run rules_deep DOCUMENT at_start x any [] document_may_end (checked (document_input r xs) rules_deep DOCUMENT at_start x any q document_may_end h) b)
 
 -- A run of the document's rule.
@@ -279,7 +280,8 @@ pub record IsClean (source : List ℕ) (t : Tree) (r k : ℕ) : Type 0 where
   pub sentence : Sentence source t document
   pub within : Within source t r k
 
-pub sound : (r k : ℕ) (source : List ℕ) (items : List Item) (s : State) → EndsWell (limited k items) → (are_tokens items ≡ true → Cut source items) → IsRoot s.tree → s.errors ≡ [] → Runs (Call Document) (begun (limited k items) r kind.DOCUMENT) s → IsClean source (bare (tree_of (finished s))) r k
+pub sound : (r k : ℕ) (source : List ℕ) (items : List Item) (s : State) → EndsWell (limited k items) → (are_tokens items ≡ true → Cut source items) → IsRoot s.tree → s.errors ≡ []
+    → Runs (Call Document) (begun (limited k items) r kind.DOCUMENT) s → IsClean source (bare (tree_of (finished s))) r k
 sound r k source items s en cut root e run =
     let c = clean r (limited k items) s en root e run in
     let g = given k items c.tokens in
