@@ -72,7 +72,7 @@ class Symbols:
         other = {tuple(lists["Types"]): ["TYPE"]}
         if name == "DOCUMENT":
             other[tuple(lists["Definitions"])] = with_short_query(lists["Definitions"])
-        if name in lists["Marked"]:
+        if name in lists["HasConstantDirectives"]:
             other["DIRECTIVES"] = "DIRECTIVES_CONST"
         if name == "DEFAULT_VALUE" or name.endswith("_CONST"):
             other |= {kind: self.constant(kind) for kind in self.grammar.nodes}

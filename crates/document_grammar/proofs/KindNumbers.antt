@@ -10,7 +10,7 @@ use Rattle.std.specs.List.{filter}
 use Rattle.std.specs.Prelude.{Bool, false, not, ◌||◌, ◌&&◌}
 use Rattle.document_grammar.specs.Pattern.{Pattern, any_of, nothing, ◌then◌, ◌or_else◌, many, member}
 use Rattle.document_grammar.specs.Rows.{children}
-use Rattle.document_grammar.specs.Derivation.{Marked}
+use Rattle.document_grammar.specs.Derivation.{HasConstantDirectives}
 
 -- The kind that has the number.
 kind_of : ℕ → SyntaxKind
@@ -33,7 +33,7 @@ numbers-named = refl
 rows-named : map (λ (row : _). row.0) children ≡ node_kinds
 rows-named = refl
 
--- `Marked` lists, of the kinds whose rows have DIRECTIVES, those that neither are selections nor have a selection set.
+-- `HasConstantDirectives` lists, of the kinds whose rows have DIRECTIVES, those that neither are selections nor have a selection set.
 abbrev mentions : ℕ → Pattern → Bool
 mentions k (any_of ks) = member k ks
 mentions k nothing = false
@@ -41,9 +41,9 @@ mentions k (p then q) = mentions k p || mentions k q
 mentions k (p or_else q) = mentions k p || mentions k q
 mentions k (many p) = mentions k p
 
-abbrev is_marked : ℕ × Pattern → Bool
-is_marked row = mentions DIRECTIVES row.1 && not (member row.0 Selections || mentions SELECTION_SET row.1)
+abbrev has_constant_directives : ℕ × Pattern → Bool
+has_constant_directives row = mentions DIRECTIVES row.1 && not (member row.0 Selections || mentions SELECTION_SET row.1)
 
-directives-marked : map (λ (row : _). row.0) (filter is_marked children) ≡ Marked
+constant-directives-listed : map (λ (row : _). row.0) (filter has_constant_directives children) ≡ HasConstantDirectives
 unfolding member
-directives-marked = refl
+constant-directives-listed = refl

@@ -10,7 +10,7 @@ use Rattle.lexical_grammar.specs.Begins.{are_tokens}
 use Rattle.lexical_grammar.proofs.Cuts.{texts-append}
 use Rattle.lexical_grammar.proofs.Places.{item-some}
 use Rattle.document_grammar.specs.Tree.{Text, Token}
-use Rattle.document_grammar.specs.Derivation.{Mark, word, marks}
+use Rattle.document_grammar.specs.Derivation.{Terminal, word, terminals}
 use Rattle.document_grammar.specs.Sentence.{token_of}
 use Rattle.document_grammar.specs.FirstError.{tokens_of, shown_kind, shown_item, shown}
 
@@ -52,7 +52,7 @@ significant-some place (first ∷ before) item more cut h = significant-some (pl
 
 -- ---- what they show
 
-abbrev words : List Token → List Mark
+abbrev words : List Token → List Terminal
 words w = map word w
 
 shown-word : (k : TokenKind) (text : Text) → k ≢ token.Eof → shown_kind k text ≡ words (map token_of (significant_word (Some k) text))
@@ -75,24 +75,24 @@ tokens-append (item ∷ before) more =
     tokens-cons item (before ++ more) ∙ (ap (λ (w : List Token). map token_of (significant_word item.kind item.text) ++ w) (tokens-append before more)
     ∙ (sym (append_assoc (map token_of (significant_word item.kind item.text)) (tokens_of before) (tokens_of more)) ∙ ap (λ (w : List Token). w ++ tokens_of more) (sym (tokens-cons item before))))
 
-marks-append : (v w : List Token) → marks (v ++ w) ≡ words v ++ marks w
-marks-append [] w = refl
-marks-append (a ∷ v) w = ap (λ (l : List Mark). word a ∷ l) (marks-append v w)
+terminals-append : (v w : List Token) → terminals (v ++ w) ≡ words v ++ terminals w
+terminals-append [] w = refl
+terminals-append (a ∷ v) w = ap (λ (l : List Terminal). word a ∷ l) (terminals-append v w)
 
 -- a cut shows its tokens, and the end
-pub cut-shown : (place : ℕ) (items : List Item) → CutFrom place items → shown items ≡ marks (tokens_of items)
+pub cut-shown : (place : ℕ) (items : List Item) → CutFrom place items → shown items ≡ terminals (tokens_of items)
 cut-shown place [] cut = absurd cut
-cut-shown place (item ∷ []) cut = subst (λ (i : Item). shown (i ∷ []) ≡ marks (tokens_of (i ∷ []))) (sym cut) refl
+cut-shown place (item ∷ []) cut = subst (λ (i : Item). shown (i ∷ []) ≡ terminals (tokens_of (i ∷ []))) (sym cut) refl
 cut-shown place (item ∷ next ∷ items) cut =
-    ap₂ (λ (a b : List Mark). a ++ b) (item-shown item.kind item.text (texts (next ∷ items)) cut.1) (cut-shown (place + length item.text) (next ∷ items) cut.2)
-    ∙ (sym (marks-append (map token_of (significant_word item.kind item.text)) (tokens_of (next ∷ items))) ∙ ap marks (sym (tokens-cons item (next ∷ items))))
+    ap₂ (λ (a b : List Terminal). a ++ b) (item-shown item.kind item.text (texts (next ∷ items)) cut.1) (cut-shown (place + length item.text) (next ∷ items) cut.2)
+    ∙ (sym (terminals-append (map token_of (significant_word item.kind item.text)) (tokens_of (next ∷ items))) ∙ ap terminals (sym (tokens-cons item (next ∷ items))))
 
 -- and before an item its tokens
 pub before-shown : (place : ℕ) (before : List Item) (item : Item) (more : List Item) → CutFrom place (before ++ item ∷ more) → shown before ≡ words (tokens_of before)
 before-shown place [] item more cut = refl
 before-shown place (first ∷ before) item more cut =
     let rest = item-then place before item more first cut in
-    ap₂ (λ (a b : List Mark). a ++ b) (item-shown first.kind first.text _ rest.1) (before-shown (place + length first.text) before item more rest.2)
+    ap₂ (λ (a b : List Terminal). a ++ b) (item-shown first.kind first.text _ rest.1) (before-shown (place + length first.text) before item more rest.2)
     ∙ (sym (map-append word (map token_of (significant_word first.kind first.text)) (tokens_of before)) ∙ ap words (sym (tokens-cons first before)))
 
 -- an item and those after it are a cut

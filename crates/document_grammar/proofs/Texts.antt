@@ -7,7 +7,7 @@ use Rattle.lexical_grammar.specs.Begins.{are_tokens}
 use Rattle.lexical_grammar.specs.Agreement.{Agree}
 use Rattle.lexical_grammar.proofs.Agree.{agree}
 use Rattle.document_grammar.specs.Tree.{Tree}
-use Rattle.document_grammar.specs.Derivation.{Sort, document, Yield, Mark, Starts, StartsWithin}
+use Rattle.document_grammar.specs.Derivation.{Sort, document, Yield, Terminal, Starts, StartsWithin}
 use Rattle.document_grammar.specs.Sentence.{Sentence, FirstSentence, StartSentence, StartSentenceWithin}
 use Rattle.document_grammar.proofs.FirstProfile.{derivation-kept}
 
@@ -30,8 +30,8 @@ first-sentence source t sort s =
     record { items = s.items; cut = s.cut; tokens = s.tokens; derivation = derivation-kept sort t s.derivation; yield = s.yield }
 
 -- What starts a sentence, starts the tokens that a derivation spells.
-pub sentence-starts : (front : List Mark) → StartSentence front → Starts document front
+pub sentence-starts : (front : List Terminal) → StartSentence front → Starts document front
 sentence-starts front s = (Yield s.tree, s.tree, s.rest, (s.sentence.derivation, refl), s.beginning)
 
-pub sentence-starts-within : (r : ℕ) (front : List Mark) → StartSentenceWithin r front → StartsWithin document r front
+pub sentence-starts-within : (r : ℕ) (front : List Terminal) → StartSentenceWithin r front → StartsWithin document r front
 sentence-starts-within r front s = (Yield s.tree, s.tree, s.rest, (s.sentence.derivation, refl), s.beginning, s.nesting)

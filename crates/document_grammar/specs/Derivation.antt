@@ -75,9 +75,9 @@ abbrev mutual
   NoVariables none = Unit {0}
   NoVariables (t ▸ f) = NoVariable t × NoVariables f
 
--- The kinds whose DIRECTIVES are constant.
-abbrev pub Marked : List ℕ
-Marked =
+-- The kinds of nodes whose DIRECTIVES are constant.
+abbrev pub HasConstantDirectives : List ℕ
+HasConstantDirectives =
     VARIABLE_DEFINITION
     ∷ SCHEMA_DEFINITION
     ∷ SCALAR_TYPE_DEFINITION
@@ -104,7 +104,7 @@ ConstantDirectives (t ▸ f) = (root t ≡ DIRECTIVES → NoVariable t) × Const
 
 -- Constant rule: no VARIABLE is below a DEFAULT_VALUE or below constant DIRECTIVES (`Const` in the standard's grammar, section 2.9).
 abbrev pub ConstantRule : ℕ → Forest → Type 0
-ConstantRule k f = (k ≡ DEFAULT_VALUE → NoVariables f) × (IsTrue (member k Marked) → ConstantDirectives f)
+ConstantRule k f = (k ≡ DEFAULT_VALUE → NoVariables f) × (IsTrue (member k HasConstantDirectives) → ConstantDirectives f)
 
 -- The kinds of definitions that may have a block in braces, but the definition of a schema, which always has it.
 abbrev pub Braced : List ℕ
@@ -214,21 +214,21 @@ abbrev mutual
 abbrev pub nest : Tree → ℕ
 nest t = counts DOCUMENT (root t) + below t
 
--- A significant token, or the mark of the end.
-pub data Mark : Type 0 where
-  word : Token → Mark
-  end : Mark
+-- A terminal of the grammar in a text: a significant token, or the end.
+pub data Terminal : Type 0 where
+  word : Token → Terminal
+  end : Terminal
 
 -- All significant tokens, and then the end.
-abbrev pub marks : List Token → List Mark
-marks [] = end ∷ []
-marks (a ∷ w) = word a ∷ marks w
+abbrev pub terminals : List Token → List Terminal
+terminals [] = end ∷ []
+terminals (a ∷ w) = word a ∷ terminals w
 
 -- The list is a beginning of the tokens that some derivation spells, and the end.
-abbrev pub Starts : Sort → List Mark → Type 0
-Starts sort l = (w : List Token) × (t : Tree) × (v : List Mark) × Spells w t sort × (marks w ≡ l ++ v)
+abbrev pub Starts : Sort → List Terminal → Type 0
+Starts sort l = (w : List Token) × (t : Tree) × (v : List Terminal) × Spells w t sort × (terminals w ≡ l ++ v)
 
 -- The same of a derivation whose nesting is at most `r`.
-abbrev pub StartsWithin : Sort → ℕ → List Mark → Type 0
+abbrev pub StartsWithin : Sort → ℕ → List Terminal → Type 0
 StartsWithin sort r l =
-    (w : List Token) × (t : Tree) × (v : List Mark) × Spells w t sort × (marks w ≡ l ++ v) × (nest t ≤ r)
+    (w : List Token) × (t : Tree) × (v : List Terminal) × Spells w t sort × (terminals w ≡ l ++ v) × (nest t ≤ r)

@@ -6,7 +6,7 @@ use Rattle.lexical_grammar.specs.declared.TokenKind.{TokenKind}
 use Rattle.lexical_grammar.specs.declared.TokenKind.TheVariants.{Eof}
 use Rattle.lexical_grammar.specs.Cut.{Item, Significant, is_significant_kind}
 use Rattle.document_grammar.specs.Tree.{Text, Token, Tree, leaf, node, Forest, none, ◌▸◌}
-use Rattle.document_grammar.specs.Derivation.{document, Spells, Fits, text, texts, Mark, word, end}
+use Rattle.document_grammar.specs.Derivation.{document, Spells, Fits, text, texts, Terminal, word, end}
 use Rattle.document_grammar.specs.Places.{bare}
 use Rattle.document_grammar.specs.Sentence.{leaf_number, token_of, Begins, StartSentence, StartSentenceWithin}
 
@@ -29,24 +29,24 @@ pub record At (items : List Item) (place : ℕ) : Type 0 where
   pub index : item.index ≡ place
 
 -- What items show of the significant tokens and the end; ignored tokens and bad text show nothing.
-abbrev pub shown_kind : TokenKind → Text → List Mark
+abbrev pub shown_kind : TokenKind → Text → List Terminal
 shown_kind Eof text = end ∷ []
 shown_kind kind text = if is_significant_kind kind then word (leaf_number kind, text) ∷ [] else []
 
-abbrev pub shown_item : Option TokenKind → Text → List Mark
+abbrev pub shown_item : Option TokenKind → Text → List Terminal
 shown_item None text = []
 shown_item (Some kind) text = shown_kind kind text
 
-abbrev pub shown : List Item → List Mark
+abbrev pub shown : List Item → List Terminal
 shown items = flat_map (λ item. shown_item item.kind item.text) items
 
 -- The tokens before the place, and the next n that come from there on, the end among them.
-abbrev pub up_to : ℕ → {items : List Item} {place : ℕ} → At items place → List Mark
+abbrev pub up_to : ℕ → {items : List Item} {place : ℕ} → At items place → List Terminal
 up_to n a = shown a.before ++ take n (shown (a.item ∷ a.more))
 
 -- All of these are among the first k items.
-abbrev pub AreAmong : ℕ → List Item → List Mark → Type 0
-AreAmong k items front = (rest : List Mark) × (shown (take k items) ≡ front ++ rest)
+abbrev pub AreAmong : ℕ → List Item → List Terminal → Type 0
+AreAmong k items front = (rest : List Terminal) × (shown (take k items) ≡ front ++ rest)
 
 -- ---- the first error
 

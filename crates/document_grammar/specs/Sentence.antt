@@ -9,7 +9,7 @@ use Rattle.lexical_grammar.specs.Begins.{are_tokens}
 use Rattle.document_grammar.specs.Kinds.{WHITESPACE, COMMENT, COMMA, ERROR, BANG, DOLLAR, AMP, SPREAD, COLON, EQ, AT, L_PAREN, R_PAREN, L_BRACK, R_BRACK, L_CURLY, R_CURLY, PIPE, IDENT, INT, FLOAT, STRING}
 use Rattle.document_grammar.specs.Tree.{Token, Tree}
 use Rattle.document_grammar.specs.Rows.{FirstRow}
-use Rattle.document_grammar.specs.Derivation.{Sort, document, DerivationBy, Derivation, Yield, nest, Mark, marks}
+use Rattle.document_grammar.specs.Derivation.{Sort, document, DerivationBy, Derivation, Yield, nest, Terminal, terminals}
 
 -- the number of the leaf of a token, IDENT for each Name, keywords among them; the end, which has no leaf, has ERROR's
 abbrev pub leaf_number : TokenKind → ℕ
@@ -71,20 +71,20 @@ pub record Begins (front : List ℕ) : Type 0 where
   pub sentence : Sentence (front ++ rest) tree document
 
 -- The tokens, perhaps closed by the end, are a beginning of the significant tokens, and then the end, of some sentence.
-pub record StartSentence (front : List Mark) : Type 0 where
+pub record StartSentence (front : List Terminal) : Type 0 where
   pub source : List ℕ
   pub tree : Tree
-  pub rest : List Mark
+  pub rest : List Terminal
   pub characters : IsUtf8 source
   pub sentence : Sentence source tree document
-  pub beginning : marks (Yield tree) ≡ front ++ rest
+  pub beginning : terminals (Yield tree) ≡ front ++ rest
 
 -- The same of some sentence whose derivation nests at most r deep.
-pub record StartSentenceWithin (r : ℕ) (front : List Mark) : Type 0 where
+pub record StartSentenceWithin (r : ℕ) (front : List Terminal) : Type 0 where
   pub source : List ℕ
   pub tree : Tree
-  pub rest : List Mark
+  pub rest : List Terminal
   pub characters : IsUtf8 source
   pub sentence : Sentence source tree document
-  pub beginning : marks (Yield tree) ≡ front ++ rest
+  pub beginning : terminals (Yield tree) ≡ front ++ rest
   pub nesting : nest tree ≤ r

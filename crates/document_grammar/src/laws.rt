@@ -6,7 +6,7 @@ ghost use Rattle.lexical_grammar.specs.Begins.{are_tokens};
 ghost use Rattle.document_grammar.specs.declared.kind.SyntaxKind.{SyntaxKind};
 ghost use Rattle.document_grammar.specs.Numbers.{number};
 ghost use Rattle.document_grammar.specs.Tree.{Token, Tree};
-ghost use Rattle.document_grammar.specs.Derivation.{Sort, document, Yield, nest, Spells, FirstSpells, Mark, Starts, StartsWithin};
+ghost use Rattle.document_grammar.specs.Derivation.{Sort, document, Yield, nest, Spells, FirstSpells, Terminal, Starts, StartsWithin};
 ghost use Rattle.document_grammar.specs.Places.{bare};
 ghost use Rattle.document_grammar.specs.Sentence.{Sentence, FirstSentence, StartSentence, StartSentenceWithin};
 
@@ -35,8 +35,8 @@ pub fn ignored_leaves()
 
 /// What starts a sentence, within a nesting too, starts the tokens that a derivation spells.
 pub fn starts()
-    ensures any { (front : List Mark) → StartSentence front → Starts document front }
-    ensures within { (r : ℕ) (front : List Mark) → StartSentenceWithin r front → StartsWithin document r front }
+    ensures any { (front : List Terminal) → StartSentence front → Starts document front }
+    ensures within { (r : ℕ) (front : List Terminal) → StartSentenceWithin r front → StartsWithin document r front }
 {}
 
 #[cfg(test)]

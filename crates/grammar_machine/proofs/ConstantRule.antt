@@ -7,7 +7,7 @@ use Rattle.grammar_machine.specs.Table.{State, rows}
 use Rattle.grammar_machine.proofs.generated.Labels.{labels}
 use Rattle.document_grammar.specs.Booleans.{◌and◌, ◌or◌}
 use Rattle.grammar_machine.specs.Machine.{holds, is_leaf, has, target, state_arcs, finish, Ok, OkFrom}
-use Rattle.document_grammar.specs.Derivation.{NoVariable, NoVariables, Marked, ConstantDirectives, ConstantRule}
+use Rattle.document_grammar.specs.Derivation.{NoVariable, NoVariables, HasConstantDirectives, ConstantDirectives, ConstantRule}
 use Rattle.grammar_machine.proofs.Checks.{all_arcs, all_from, every_arc}
 use Rattle.document_grammar.proofs.Booleans.{false-true, and-l, and-r, and-i, not-c, either, implies}
 use Rattle.grammar_machine.proofs.TableLemmas.{arc-test}
@@ -45,7 +45,7 @@ variable_free s = outside above_variable s
 -- Along an arc: below a symbol with no VARIABLE below it there is none either, nor below the DIRECTIVES of one whose directives are constant; and no
 -- node has the selections without braces below it.
 abbrev arc_test : ℕ → ℕ → ℕ → ℕ → Bool
-arc_test set s k q = (not (outside set s) or outside set k) and (not (member (label s) Marked and member DIRECTIVES (shown k)) or outside set k)
+arc_test set s k q = (not (outside set s) or outside set k) and (not (member (label s) HasConstantDirectives and member DIRECTIVES (shown k)) or outside set k)
     and not (eqb k BARE_SELECTIONS)
 
 arcs-checked : every_arc (arc_test above_variable) ≡ true
@@ -53,7 +53,7 @@ unfolding above_variable holds member ◌and◌ ◌or◌ rows label labels shown
 arcs-checked = refl
 
 along : (s q k : ℕ) → is_leaf s ≡ false → has s q k ≡ true → (variable_free s ≡ true → variable_free k ≡ true)
-    × (member (label s) Marked ≡ true → member DIRECTIVES (shown k) ≡ true → variable_free k ≡ true) × (eqb k BARE_SELECTIONS ≡ false)
+    × (member (label s) HasConstantDirectives ≡ true → member DIRECTIVES (shown k) ≡ true → variable_free k ≡ true) × (eqb k BARE_SELECTIONS ≡ false)
 along s q k l h =
     let c = arc-test (arc_test above_variable) arcs-checked s q k l h in
     (implies _ _ (and-l _ _ (and-l _ _ c)), (λ m n. implies _ _ (and-r _ _ (and-l _ _ c)) (and-i m n)), not-c _ (and-r _ _ c))
@@ -88,7 +88,7 @@ mutual
   variable-free-forest s q none l p o = tt
   variable-free-forest s q (t ▸ f) l p o = (variable-free-tree t o.1 ((along s q (root t) l o.0).0 p), variable-free-forest s (target s q (root t) + finish t) f l p o.2)
 
-constant-directives : (s q : ℕ) (f : Forest) → is_leaf s ≡ false → member (label s) Marked ≡ true → OkFrom s q f → ConstantDirectives (shows f)
+constant-directives : (s q : ℕ) (f : Forest) → is_leaf s ≡ false → member (label s) HasConstantDirectives ≡ true → OkFrom s q f → ConstantDirectives (shows f)
 constant-directives s q none l m o = tt
 constant-directives s q (t ▸ f) l m o = (
   (λ e. variable-free-tree t o.1 ((along s q (root t) l o.0).1 m (subst (λ (n : ℕ). member n (shown (root t)) ≡ true) e (shown-root t o.1)))),

@@ -5,7 +5,7 @@ use Rattle.document_grammar.proofs.Texts.{one-cut}
 use Rattle.lexical_grammar.specs.Cut.{Item, Significant}
 use Rattle.document_grammar.specs.Tree.{Token, Tree, node, Forest}
 use Rattle.grammar_machine.specs.Machine.{first, yield, yields, opening, close, Frame, frame, Reach, Reached, IsStuck}
-use Rattle.document_grammar.specs.Derivation.{Sort, Spells, Yield, Starts, Mark, word, marks}
+use Rattle.document_grammar.specs.Derivation.{Sort, Spells, Yield, Starts, Terminal, word, terminals}
 use Rattle.grammar_machine.proofs.Run.{next}
 use Rattle.grammar_machine.proofs.FromMachineTree.{show}
 use Rattle.grammar_machine.proofs.ShownDerivation.{show-yield, parse-sentence}
@@ -92,12 +92,12 @@ one-sentence source t u sort a b =
 
 pub read-map : (w : List Token) → map word w ≡ read w
 read-map [] = refl
-read-map (a ∷ w) = ap (λ (l : List Mark). word a ∷ l) (read-map w)
+read-map (a ∷ w) = ap (λ (l : List Terminal). word a ∷ l) (read-map w)
 
-pub two-marks : (r : List Token) → take 2 (marks r) ≡ next_two r
-two-marks [] = refl
-two-marks (a ∷ []) = refl
-two-marks (a ∷ b ∷ r) = refl
+pub two-terminals : (r : List Token) → take 2 (terminals r) ≡ next_two r
+two-terminals [] = refl
+two-terminals (a ∷ []) = refl
+two-terminals (a ∷ b ∷ r) = refl
 
 fault-of : (sort : Sort) (before rest : List Token) → IsStuck sort before rest → FaultIn sort (before ++ rest) rest
 fault-of sort before rest s =
@@ -115,9 +115,9 @@ pub reached-starts : (sort : Sort) (before rest : List Token) (fs : List Frame) 
     → (t : Tree) × (v : List Token) × Spells (before ++ v) t sort
 reached-starts sort before rest fs c = let h = reached-begins sort before rest fs c in (h.0, h.1, h.2)
 
-pub stuck-starts-none : (sort : Sort) (before rest : List Token) → IsStuck sort before rest → Starts sort (map word before ++ take 2 (marks rest)) → ⊥
+pub stuck-starts-none : (sort : Sort) (before rest : List Token) → IsStuck sort before rest → Starts sort (map word before ++ take 2 (terminals rest)) → ⊥
 stuck-starts-none sort before rest s h =
     let k = fault-of sort before rest s in
-    let e : map word before ++ take 2 (marks rest) ≡ read k.before ++ next_two rest =
-    ap₂ (λ (l m : List Mark). l ++ m) (read-map before ∙ ap read (append_cancel_right before k.before rest k.split)) (two-marks rest) in
-    not-starts sort (before ++ rest) rest k (subst (λ (l : List Mark). Starts sort l) e h)
+    let e : map word before ++ take 2 (terminals rest) ≡ read k.before ++ next_two rest =
+    ap₂ (λ (l m : List Terminal). l ++ m) (read-map before ∙ ap read (append_cancel_right before k.before rest k.split)) (two-terminals rest) in
+    not-starts sort (before ++ rest) rest k (subst (λ (l : List Terminal). Starts sort l) e h)

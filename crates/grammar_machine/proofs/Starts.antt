@@ -1,9 +1,9 @@
--- Lists of marks, and the start symbol that the first token chooses.
+-- Lists of terminals, and the start symbol that the first token chooses.
 use Rattle.std.proofs.Common.{◌≡◌, ℕ, true, false, eqb, List, [], ◌∷◌, ◌++◌, refl, ap₂, subst, inl, inr, eqb-true}
 use Rattle.std.proofs.lemmas.Bool.{eqb-false, true_from_ne_false, false_from_ne_true}
 use Rattle.document_grammar.specs.Tree.{Token, Tree, none}
 use Rattle.grammar_machine.specs.Table.{rows, firsts}
-use Rattle.document_grammar.specs.Derivation.{Sort, document, selections, type, Mark, word, end, marks}
+use Rattle.document_grammar.specs.Derivation.{Sort, document, selections, type, Terminal, word, end, terminals}
 use Rattle.document_grammar.specs.Booleans.{◌and◌, ◌or◌}
 use Rattle.grammar_machine.specs.Machine.{holds, is_leaf, at, ends, arcs, entries, first, second, opening, start}
 use Rattle.document_grammar.proofs.Booleans.{either}
@@ -50,43 +50,43 @@ unfolding first
 first-same [] r v e = e
 first-same (a ∷ b) r v e = refl
 
--- The tokens read as marks; the next two marks; the next one.
-abbrev pub read : List Token → List Mark
+-- The tokens read as terminals; the next two terminals; the next one.
+abbrev pub read : List Token → List Terminal
 read [] = []
 read (a ∷ w) = word a ∷ read w
 
-abbrev pub next_two : List Token → List Mark
+abbrev pub next_two : List Token → List Terminal
 next_two [] = end ∷ []
 next_two (a ∷ []) = word a ∷ end ∷ []
 next_two (a ∷ (b ∷ r)) = word a ∷ word b ∷ []
 
-abbrev pub next_one : List Token → List Mark
+abbrev pub next_one : List Token → List Terminal
 next_one [] = end ∷ []
 next_one (a ∷ r) = word a ∷ []
 
-two-from : (r w : List Token) (v : List Mark) → marks w ≡ next_two r ++ v → (first r ≡ first w) × (second r ≡ second w)
+two-from : (r w : List Token) (v : List Terminal) → terminals w ≡ next_two r ++ v → (first r ≡ first w) × (second r ≡ second w)
 unfolding first second
 two-from [] [] v e = (refl, refl)
 two-from (a ∷ []) (c ∷ []) v e = (cc, refl)
 two-from (a ∷ (b ∷ r)) (c ∷ (d ∷ w)) v e = (cc, cc)
 two-from _ _ v e = absurd (cc)
 
-one-from : (r w : List Token) (v : List Mark) → marks w ≡ next_one r ++ v → first r ≡ first w
+one-from : (r w : List Token) (v : List Terminal) → terminals w ≡ next_one r ++ v → first r ≡ first w
 unfolding first
 one-from [] [] v e = refl
 one-from (a ∷ r) (c ∷ w) v e = cc
 one-from _ _ v e = absurd (cc)
 
 -- What begins with the tokens read goes on with the rest.
-pub after-read : (b : List Token) (l : List Mark) (w : List Token) (v : List Mark) → marks w ≡ (read b ++ l) ++ v
-    → (u : List Token) × (w ≡ b ++ u) × (marks u ≡ l ++ v)
+pub after-read : (b : List Token) (l : List Terminal) (w : List Token) (v : List Terminal) → terminals w ≡ (read b ++ l) ++ v
+    → (u : List Token) × (w ≡ b ++ u) × (terminals u ≡ l ++ v)
 after-read [] l w v e = (w, refl, e)
 after-read (a ∷ b) l [] v e = absurd (cc)
 after-read (a ∷ b) l (c ∷ w) v e = let r = after-read b l w v (tail-same e) in let h : c ≡ a = cc in (r.0, ap₂ (λ (x : Token) (y : List Token). x ∷ y) h r.1, r.2)
 
-pub after-two : (b r w : List Token) (v : List Mark) → marks w ≡ (read b ++ next_two r) ++ v
+pub after-two : (b r w : List Token) (v : List Terminal) → terminals w ≡ (read b ++ next_two r) ++ v
     → (u : List Token) × (w ≡ b ++ u) × (first r ≡ first u) × (second r ≡ second u)
 after-two b r w v e = let h = after-read b (next_two r) w v e in let t = two-from r h.0 v h.2 in (h.0, h.1, t.0, t.1)
 
-pub after-one : (b r w : List Token) (v : List Mark) → marks w ≡ (read b ++ next_one r) ++ v → (u : List Token) × (w ≡ b ++ u) × (first r ≡ first u)
+pub after-one : (b r w : List Token) (v : List Terminal) → terminals w ≡ (read b ++ next_one r) ++ v → (u : List Token) × (w ≡ b ++ u) × (first r ≡ first u)
 after-one b r w v e = let h = after-read b (next_one r) w v e in (h.0, h.1, one-from r h.0 v h.2)

@@ -12,7 +12,7 @@ use Rattle.grammar_machine.proofs.generated.Samples.{endings, spellings}
 use Rattle.grammar_machine.proofs.generated.Labels.{paths, labels}
 use Rattle.document_grammar.specs.Booleans.{◌and◌, ◌or◌}
 use Rattle.grammar_machine.specs.Machine.{holds, is_leaf, at, ends, exit, arcs, has, has_in, target, entries, fires, class, word_class, text_eq, token, finish, Ok, OkFrom}
-use Rattle.document_grammar.specs.Derivation.{kinds, text, texts, LeafRule, NameRule, on_text, true_text, false_text, null_text, NoVariable, NoVariables, Marked, ConstantDirectives, ConstantRule, LacksBlock, NotBefore, BraceRule, IsQuery, Fits, AllFit, BareBy, Sort, document, selections, type, Derivation}
+use Rattle.document_grammar.specs.Derivation.{kinds, text, texts, LeafRule, NameRule, on_text, true_text, false_text, null_text, NoVariable, NoVariables, HasConstantDirectives, ConstantDirectives, ConstantRule, LacksBlock, NotBefore, BraceRule, IsQuery, Fits, AllFit, BareBy, Sort, document, selections, type, Derivation}
 use Rattle.grammar_machine.proofs.Checks.{every_arc, all_below}
 use Rattle.document_grammar.proofs.Booleans.{false-true, and-l, and-r, or-c, or-l, or-r, or-false, or-false-l, or-false-r, not-c, either, same, same-bool, implies, eqb-refl}
 use Rattle.grammar_machine.proofs.TableLemmas.{text-same, arc-test, head-same, tail-same, no-cons, below-at}
@@ -67,7 +67,7 @@ AsOperation k t = (k ≡ OPERATION_DEFINITION → Matches keyword_operation (chi
 
 -- What the rules say of the children of a node that is read as the symbol `s`, and of a tree that is read as `k`.
 abbrev Kids : ℕ → Forest → Type 0
-Kids s f = (constant s ≡ true → NoVariables f) × (member (label s) Marked ≡ true → ConstantDirectives f) × (has_fragment_name s ≡ true → AllTexts NotOn f) × (has_enum_name s ≡ true → AllTexts NoWord f)
+Kids s f = (constant s ≡ true → NoVariables f) × (member (label s) HasConstantDirectives ≡ true → ConstantDirectives f) × (has_fragment_name s ≡ true → AllTexts NotOn f) × (has_enum_name s ≡ true → AllTexts NoWord f)
 
 abbrev Cond : ℕ → Tree → Type 0
 Cond k t = (member (root t) (shown k) ≡ true) × (in_constant k ≡ true → NoVariable t) × (is_fragment_name k ≡ true → text t ≢ on_text) × (is_enum_name k ≡ true → NoWord (text t)) × AsOperation k t × (no_child k ≡ false) × (is_leaf k ≡ false → fillable k 0 ≡ true)
@@ -77,7 +77,7 @@ kids-tail s t f h = ((λ e. (h.0 e).1), (λ e. (h.1 e).1), (λ e. (h.2 e).1), (�
 
 abbrev child_test : ℕ → ℕ → ℕ → Bool
 child_test s k q =
-    (not (in_constant k) or (constant s or (member (label s) Marked and eqb k DIRECTIVES_CONST)))
+    (not (in_constant k) or (constant s or (member (label s) HasConstantDirectives and eqb k DIRECTIVES_CONST)))
     and (not (is_fragment_name k) or has_fragment_name s) and (not (is_enum_name k) or has_enum_name s) and (not (eqb k OPERATION_DEFINITION or eqb k SHORT_QUERY) or eqb s DOCUMENT) and not (no_child k)
 
 child-checked : every_arc child_test ≡ true
@@ -118,7 +118,7 @@ no-operation s q k t l n h =
 
 -- A node that asks nothing of its children, and a symbol that asks nothing of its tree but the kind.
 unfoldable asks_nothing : ℕ → Bool
-asks_nothing s = not (constant s or (member (label s) Marked or (has_fragment_name s or has_enum_name s)))
+asks_nothing s = not (constant s or (member (label s) HasConstantDirectives or (has_fragment_name s or has_enum_name s)))
 
 plain-kids : (s : ℕ) (f : Forest) → asks_nothing s ≡ true → Kids s f
 unfolding asks_nothing

@@ -4,7 +4,7 @@ ghost use Rattle.std.specs.Prelude.{◌≡◌, ℕ, true, List, ◌∷◌, ◌++
 ghost use Rattle.lexical_grammar.specs.Cut.{Item, Cut, texts, Significant};
 ghost use Rattle.lexical_grammar.specs.Begins.{are_tokens};
 ghost use Rattle.document_grammar.specs.Tree.{Token, Tree};
-ghost use Rattle.document_grammar.specs.Derivation.{Sort, document, Spells, word, marks, Starts};
+ghost use Rattle.document_grammar.specs.Derivation.{Sort, document, Spells, word, terminals, Starts};
 ghost use Rattle.document_grammar.specs.Sentence.{token_of, Sentence, Begins};
 ghost use Rattle.grammar_machine.specs.Machine.{Frame, Reached, IsStuck};
 
@@ -27,7 +27,7 @@ pub fn no_late_fault()
 
 /// No early fault: when the machine is stuck, no derivation spells tokens that begin with what it has read and the next two.
 pub fn no_early_fault()
-    ensures { (sort : Sort) (before rest : List Token) → IsStuck sort before rest → ¬ Starts sort (map word before ++ take 2 (marks rest)) }
+    ensures { (sort : Sort) (before rest : List Token) → IsStuck sort before rest → ¬ Starts sort (map word before ++ take 2 (terminals rest)) }
 {}
 
 #[cfg(test)]

@@ -6,7 +6,7 @@ use Rattle.lexical_grammar.specs.declared.TokenKind.TheVariants as token
 use Rattle.lexical_grammar.specs.Cut.{Item, Cut, CutFrom}
 use Rattle.lexical_grammar.specs.Answers.{limited, limit_index, is_end}
 use Rattle.document_grammar.proofs.Booleans.{either}
-use Rattle.document_grammar.specs.Derivation.{Mark, word, marks}
+use Rattle.document_grammar.specs.Derivation.{Terminal, word, terminals}
 use Rattle.document_grammar.specs.Sentence.{Begins, StartSentence, StartSentenceWithin}
 use Rattle.document_grammar.specs.Tree.{Text, Token}
 use Rattle.document_grammar.specs.FirstError.{tokens_of, At, shown_kind, shown_item, shown, AreAmong, NotLate, NotEarly, NotEarlyLimit}
@@ -19,9 +19,9 @@ use Rattle.parser_rules.proofs.reports.AtTheLimit.{found-other}
 use Rattle.parser_rules.proofs.reports.NoReport.{ends}
 use Rattle.parser_rules.proofs.soundness.OverTexts.{Answered, Reason, fault, too_deep, bad_text, too_many, IsRight}
 
--- ---- what is shown behind the current token was answered
+-- ---- what is shown after the current token was answered
 
--- any but an ignored token shows one mark
+-- any but an ignored token shows one terminal
 one-shown : (k : TokenKind) (text : Text) → ignored k ≡ None → length (shown_kind k text) ≡ 1
 one-shown token.Whitespace text h = absurd cc
 one-shown token.Comment text h = absurd cc
@@ -35,26 +35,27 @@ second-there (suc n) (item ∷ more) (bad_item i r) h = second-there n more r (r
 second-there (suc n) (item ∷ more) (waits {k = k} {own = own} i j r) h = second-there n more r (rw (i, ignored-kinds (λ k own. shown_kind k item.text ≡ []) refl refl refl k own j) at h)
 second-there (suc n) (item ∷ more) (shows i j) h = refl
 
--- what the first k items show: no more than is before an item, of it, and behind it
+-- what the first k items show: no more than is before an item, of it, and after it
 count-shown : (k : ℕ) (before : List Item) (item : Item) (more : List Item)
     → length (shown (take k (before ++ item ∷ more))) ≤ length (shown before) + length (shown_item item.kind item.text) + length (shown (take (k - suc (length before)) more))
 count-shown zero before item more = omega arith
 count-shown (suc k) [] item more = let e : suc k - 1 ≡ k = omega arith in rw e (omega (arith, length-append (shown_item item.kind item.text) (shown (take k more))))
 count-shown (suc k) (b ∷ before) item more =
     let e : suc k - suc (suc (length before)) ≡ k - suc (length before) = omega arith in
-    let s : List Mark = shown_item b.kind b.text in
+    let s : List Terminal = shown_item b.kind b.text in
     rw e (omega (arith, count-shown k before item more, length-append s (shown (take k (before ++ item ∷ more))), length-append s (shown before)))
 
-marks-some : (w : List Token) → 0 < length (marks w)
-marks-some [] = omega arith
-marks-some (a ∷ w) = omega arith
+terminals-some : (w : List Token) → 0 < length (terminals w)
+terminals-some [] = omega arith
+terminals-some (a ∷ w) = omega arith
 
--- something is shown behind a token that is not the end
+-- something is shown after a token that is not the end
 more-shown : (place : ℕ) (t : Lexeme) (more : List Item) → CutFrom place (item_of t ∷ more) → is_end t.kind ≡ false → 0 < length (shown more)
 more-shown place t [] cut e = absurd (true≢false (sym (ap ends (ap (λ (i : Item). i.kind) cut)) ∙ e))
-more-shown place t (next ∷ more) cut e = let m = ap length (cut-shown _ (next ∷ more) cut.2) in omega (arith, m, marks-some (tokens_of (next ∷ more)))
+more-shown place t (next ∷ more) cut e = let m = ap length (cut-shown _ (next ∷ more) cut.2) in omega (arith, m, terminals-some (tokens_of (next ∷ more)))
 
-answered : (k place : ℕ) (before : List Item) (t : Lexeme) (more : List Item) → CutFrom place (before ++ item_of t ∷ more) → ignored t.kind ≡ None → AreAmong k (before ++ item_of t ∷ more) (shown before ++ take 2 (shown (item_of t ∷ more))) → Answered k before more t
+answered : (k place : ℕ) (before : List Item) (t : Lexeme) (more : List Item) → CutFrom place (before ++ item_of t ∷ more) → ignored t.kind ≡ None
+    → AreAmong k (before ++ item_of t ∷ more) (shown before ++ take 2 (shown (item_of t ∷ more))) → Answered k before more t
 answered k place before t more cut now (v, e) = elim (either (is_end t.kind)) [
   | inl i ↦ inl i
   | inr i ↦ (
@@ -85,8 +86,8 @@ module _ {source : List ℕ} {items : List Item} {r k : ℕ} {e : Report} (cut :
   abbrev here : (n : ℕ) → i.item.index ≡ n → At items n
   here n h = record { before = i.before; item = i.item; more = i.more; split = i.split; index = h }
 
-  up : (n : ℕ) → shown i.before ++ take n (shown (i.item ∷ i.more)) ≡ map word (tokens_of i.before) ++ take n (marks (tokens_of (i.item ∷ i.more)))
-  up n = ap₂ (λ (a b : List Mark). a ++ take n b) (before-shown 0 i.before i.item i.more each) (cut-shown _ (i.item ∷ i.more) (cut-from 0 i.before i.item i.more each))
+  up : (n : ℕ) → shown i.before ++ take n (shown (i.item ∷ i.more)) ≡ map word (tokens_of i.before) ++ take n (terminals (tokens_of (i.item ∷ i.more)))
+  up n = ap₂ (λ (a b : List Terminal). a ++ take n b) (before-shown 0 i.before i.item i.more each) (cut-shown _ (i.item ∷ i.more) (cut-from 0 i.before i.item i.more each))
 
   -- No late fault.
   pub not-late : ((n : ℕ) → e ≢ token_limit_report n) → NotLate source e.index

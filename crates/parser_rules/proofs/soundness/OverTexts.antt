@@ -8,13 +8,13 @@ use Rattle.std.proofs.Common.{◌≡◌, ℕ, zero, suc, ◌≤◌, ◌+◌, len
 use Rattle.std.specs.Prelude.{map, take}
 use Rattle.std.specs.Str.{IsUtf8}
 use Rattle.std.proofs.lemmas.List.{map-append, length-append}
-use Rattle.grammar_machine.proofs.SentenceTheorems.{not-starts, read-map, two-marks, one-sentence}
+use Rattle.grammar_machine.proofs.SentenceTheorems.{not-starts, read-map, two-terminals, one-sentence}
 use Rattle.lexical_grammar.specs.Cut.{Item, Cut, texts, Significant, significant_word}
 use Rattle.lexical_grammar.specs.Begins.{are_tokens}
 use Rattle.lexical_grammar.proofs.Limited.{limited-end}
 use Rattle.lexical_grammar.specs.Answers.{Answer, gives, limited, is_token, limit_at, limit_index, is_end, answers_text}
 use Rattle.document_grammar.specs.declared.kind.SyntaxKind.TheVariants as kind
-use Rattle.document_grammar.specs.Derivation.{Sort, document, Spells, Mark, word, marks, Starts, StartsWithin}
+use Rattle.document_grammar.specs.Derivation.{Sort, document, Spells, Terminal, word, terminals, Starts, StartsWithin}
 use Rattle.document_grammar.specs.Sentence.{token_of, Sentence, Within, Begins, StartSentence, StartSentenceWithin, leaf_number}
 use Rattle.document_grammar.specs.Tree.{Token, Tree}
 use Rattle.document_grammar.specs.FirstError.{tokens_of}
@@ -91,35 +91,36 @@ none-limited k [] e = refl
 none-limited zero (item ∷ items) e = absurd (cc)
 none-limited (suc k) (item ∷ items) e = absurd (cc)
 
-one-mark : (v : List Token) → take 1 (marks v) ≡ next_one v
-one-mark [] = refl
-one-mark (a ∷ v) = refl
+one-terminal : (v : List Token) → take 1 (terminals v) ≡ next_one v
+one-terminal [] = refl
+one-terminal (a ∷ v) = refl
 
 pub words-cons : (item : Item) (more : List Item) → tokens_of (item ∷ more) ≡ item_tokens item.kind item.text ++ tokens_of more
 words-cons item more = map-append token_of (significant_word item.kind item.text) (Significant more) ∙ ap (λ (v : List Token). v ++ tokens_of more) (sym (item-words item.kind item.text))
 
 -- the next tokens are the text's, where those after the current one are
-next-marks : (n k : ℕ) (t : Lexeme) (more : List Item) → Now (Some t) (limited k more) → (is_end t.kind ≡ false → take n (marks (tokens_of more)) ≡ take n (marks (answers_tokens (limited k more))))
-    → take (suc n) (marks (kind_tokens t.kind t.text ++ tokens_of more)) ≡ take (suc n) (marks (kind_tokens t.kind t.text ++ answers_tokens (limited k more)))
-next-marks n k t more now h = elim (either (is_end t.kind)) [
+next-terminals : (n k : ℕ) (t : Lexeme) (more : List Item) → Now (Some t) (limited k more) → (is_end t.kind ≡ false → take n (terminals (tokens_of more)) ≡ take n (terminals (answers_tokens (limited k more))))
+    → take (suc n) (terminals (kind_tokens t.kind t.text ++ tokens_of more)) ≡ take (suc n) (terminals (kind_tokens t.kind t.text ++ answers_tokens (limited k more)))
+next-terminals n k t more now h = elim (either (is_end t.kind)) [
   | inl e ↦ (
       let z : limited k more ≡ [] = subst (λ (b : Bool). choose b (limited k more ≡ []) (EndsWell (limited k more))) e now.1 in
-      ap (λ (v : List Token). take (suc n) (marks (kind_tokens t.kind t.text ++ v))) (ap tokens_of (none-limited k more z) ∙ sym (ap answers_tokens z)))
-  | inr e ↦ subst (λ (v : List Token). take (suc n) (marks (v ++ tokens_of more)) ≡ take (suc n) (marks (v ++ answers_tokens (limited k more)))) (sym (significant t.kind t.text e now.0)) (ap (λ (l : List Mark). word (leaf_number t.kind, t.text) ∷ l) (h e))
+      ap (λ (v : List Token). take (suc n) (terminals (kind_tokens t.kind t.text ++ v))) (ap tokens_of (none-limited k more z) ∙ sym (ap answers_tokens z)))
+  | inr e ↦ subst (λ (v : List Token). take (suc n) (terminals (v ++ tokens_of more)) ≡ take (suc n) (terminals (v ++ answers_tokens (limited k more))))
+      (sym (significant t.kind t.text e now.0)) (ap (λ (l : List Terminal). word (leaf_number t.kind, t.text) ∷ l) (h e))
 ]
 
 abbrev One : List Item → List Answer → List Token → Type 0
-One more xs v = take 1 (marks (v ++ tokens_of more)) ≡ take 1 (marks (v ++ answers_tokens xs))
+One more xs v = take 1 (terminals (v ++ tokens_of more)) ≡ take 1 (terminals (v ++ answers_tokens xs))
 
 -- the first token after it is the text's, where one was answered
 behind-one : (k : ℕ) (more : List Item) {s t : State} → Reading (limited k more) s t → EndsWell (limited k more) → is_some t.current ≡ true → One more (limited k more) []
 behind-one zero [] r e h = absurd e
 behind-one (suc k) [] r e h = absurd e
 behind-one zero (item ∷ more) (cuts stops) e h = absurd (true≢false (sym h))
-behind-one (suc k) (item ∷ more) (bad_item i r) e h = ap (λ (v : List Token). take 1 (marks v)) (words-cons item more) ∙ rw i (behind-one k more r (rw i at e) h)
+behind-one (suc k) (item ∷ more) (bad_item i r) e h = ap (λ (v : List Token). take 1 (terminals v)) (words-cons item more) ∙ rw i (behind-one k more r (rw i at e) h)
 behind-one (suc k) (item ∷ more) (waits {k = j} {own = own} i n r) e h =
-    ap (λ (v : List Token). take 1 (marks v)) (words-cons item more) ∙ rw (i, ignored-tokens j own item.text n) (behind-one k more r (rw (i, ignored-end j own n) at e) h)
-behind-one (suc k) (item ∷ more) (shows {k = j} i n) e h = ap (λ (v : List Token). take 1 (marks v)) (words-cons item more) ∙ rw i (next-marks 0 k (lexeme j item) more (n, rw i at e) (λ e. refl))
+    ap (λ (v : List Token). take 1 (terminals v)) (words-cons item more) ∙ rw (i, ignored-tokens j own item.text n) (behind-one k more r (rw (i, ignored-end j own n) at e) h)
+behind-one (suc k) (item ∷ more) (shows {k = j} i n) e h = ap (λ (v : List Token). take 1 (terminals v)) (words-cons item more) ∙ rw i (next-terminals 0 k (lexeme j item) more (n, rw i at e) (λ e. refl))
 
 pub before-at : (k : ℕ) (items : List Item) (front : List Answer) (x : Answer) (ys : List Answer) → limited k items ≡ front ++ x ∷ ys → all_tokens front ≡ true → Before k items front x ys
 before-at k [] front x ys e h = none-there x front ys (sym (limited-end k) ∙ e)
@@ -150,17 +151,18 @@ module _ {k : ℕ} {items : List Item} {front ys : List Answer} (t : Lexeme) (b 
 
   module _ (now : Now (Some t) ys) where
     -- the tokens there are the text's
-    marks-at : (n : ℕ) → (is_end t.kind ≡ false → take n (marks (tokens_of b.more)) ≡ take n (marks (answers_tokens (limited (k - suc (length b.before)) b.more)))) → take (suc n) (marks (tokens_of (b.item ∷ b.more))) ≡ take (suc n) (marks (answers_tokens (given_by t ∷ ys)))
-    marks-at n h =
-        ap (λ (v : List Token). take (suc n) (marks v)) (words-cons b.item b.more)
-        ∙ (ap (λ (i : Item). take (suc n) (marks (item_tokens i.kind i.text ++ tokens_of b.more))) (sym item-there)
-        ∙ (next-marks n (k - suc (length b.before)) t b.more (subst (Now (Some t)) (sym answers-after) now) h ∙ ap (λ (l : List Answer). take (suc n) (marks (kind_tokens t.kind t.text ++ answers_tokens l))) answers-after))
+    terminals-at : (n : ℕ) → (is_end t.kind ≡ false → take n (terminals (tokens_of b.more)) ≡ take n (terminals (answers_tokens (limited (k - suc (length b.before)) b.more))))
+        → take (suc n) (terminals (tokens_of (b.item ∷ b.more))) ≡ take (suc n) (terminals (answers_tokens (given_by t ∷ ys)))
+    terminals-at n h =
+        ap (λ (v : List Token). take (suc n) (terminals v)) (words-cons b.item b.more)
+        ∙ (ap (λ (i : Item). take (suc n) (terminals (item_tokens i.kind i.text ++ tokens_of b.more))) (sym item-there)
+        ∙ (next-terminals n (k - suc (length b.before)) t b.more (subst (Now (Some t)) (sym answers-after) now) h ∙ ap (λ (l : List Answer). take (suc n) (terminals (kind_tokens t.kind t.text ++ answers_tokens l))) answers-after))
 
-    one-at : take 1 (marks (tokens_of (b.item ∷ b.more))) ≡ next_one (answers_tokens (given_by t ∷ ys))
-    one-at = marks-at 0 (λ e. refl) ∙ one-mark (answers_tokens (given_by t ∷ ys))
+    one-at : take 1 (terminals (tokens_of (b.item ∷ b.more))) ≡ next_one (answers_tokens (given_by t ∷ ys))
+    one-at = terminals-at 0 (λ e. refl) ∙ one-terminal (answers_tokens (given_by t ∷ ys))
 
-    two-at : Answered k b.before b.more t → take 2 (marks (tokens_of (b.item ∷ b.more))) ≡ next_two (answers_tokens (given_by t ∷ ys))
-    two-at a = marks-at 1 behind ∙ two-marks (answers_tokens (given_by t ∷ ys))
+    two-at : Answered k b.before b.more t → take 2 (terminals (tokens_of (b.item ∷ b.more))) ≡ next_two (answers_tokens (given_by t ∷ ys))
+    two-at a = terminals-at 1 behind ∙ two-terminals (answers_tokens (given_by t ∷ ys))
       where
         behind : is_end t.kind ≡ false → One b.more (limited (k - suc (length b.before)) b.more) []
         behind e = elim a [
@@ -174,9 +176,9 @@ module _ {k : ℕ} {items : List Item} {front ys : List Answer} (t : Lexeme) (b 
 -- starts with them and that of the item nests deeper than the limit; or the item is bad text, or the first that is too many. Where
 -- two tokens count, the second was answered.
 pub data Reason (items : List Item) (r k : ℕ) (before : List Item) (item : Item) (more : List Item) : Report → Type 0 where
-  fault : (said : Message) (t : Lexeme) → item_of t ≡ item → ignored t.kind ≡ None → (Answered k before more t → StartSentence (map word (tokens_of before) ++ take 2 (marks (tokens_of (item ∷ more)))) → ⊥)
+  fault : (said : Message) (t : Lexeme) → item_of t ≡ item → ignored t.kind ≡ None → (Answered k before more t → StartSentence (map word (tokens_of before) ++ take 2 (terminals (tokens_of (item ∷ more)))) → ⊥)
       → Reason items r k before item more (fault_report said t)
-  too_deep : (t : Lexeme) → item_of t ≡ item → (StartSentenceWithin r (map word (tokens_of before) ++ take 1 (marks (tokens_of (item ∷ more)))) → ⊥)
+  too_deep : (t : Lexeme) → item_of t ≡ item → (StartSentenceWithin r (map word (tokens_of before) ++ take 1 (terminals (tokens_of (item ∷ more)))) → ⊥)
       → Reason items r k before item more (recursion_limit_report t)
   bad_text : item.kind ≡ None → Reason items r k before item more (bad_report item.text item.index)
   too_many : Reason items r k before item more (token_limit_report (limit_index item))
@@ -191,8 +193,8 @@ pub record IsRight (source : List ℕ) (items : List Item) (r k : ℕ) (e : Repo
   pub begins : Begins (texts before)
   pub reason : Reason items r k before item more e
 
-from-words : (front before : List Token) (l m : List Mark) → front ≡ before → l ≡ m → map word before ++ l ≡ read front ++ m
-from-words front before l m e f = ap₂ (λ (l m : List Mark). l ++ m) (read-map before ∙ ap read (sym e)) f
+from-words : (front before : List Token) (l m : List Terminal) → front ≡ before → l ≡ m → map word before ++ l ≡ read front ++ m
+from-words front before l m e f = ap₂ (λ (l m : List Terminal). l ++ m) (read-map before ∙ ap read (sym e)) f
 
 module _ (r k : ℕ) (source : List ℕ) (items : List Item) (s : State) (cut : Cut source items) (root : IsRoot s.tree) (run : Runs (Call Document) (begun (limited k items) r kind.DOCUMENT) s) where
   -- Acceptance.
@@ -215,7 +217,8 @@ module _ (r k : ℕ) (source : List ℕ) (items : List Item) (s : State) (cut : 
   Told_right e m = (i : IsRight source items r k e) × (m ≡ length (tokens_of i.before))
 
   -- what holds at the place of an answer
-  at-place : IsUtf8 source → {x : Answer} {ys : List Answer} (e : Report) (m : ℕ) (p : Passed xs (x ∷ ys)) → Viable document xs r (answers_tokens xs) (answers_tokens (x ∷ ys)) → TokensBefore document xs r (answers_tokens xs) m (answers_tokens (x ∷ ys))
+  at-place : IsUtf8 source → {x : Answer} {ys : List Answer} (e : Report) (m : ℕ) (p : Passed xs (x ∷ ys)) → Viable document xs r (answers_tokens xs) (answers_tokens (x ∷ ys))
+      → TokensBefore document xs r (answers_tokens xs) m (answers_tokens (x ∷ ys))
       → ((b : Before k items p.front x ys) → Reason items r k b.before b.item b.more e) → Told_right e m
   unfolding xs
   at-place u {x = x} {ys = ys} e m p v c reason =
@@ -223,7 +226,8 @@ module _ (r k : ℕ) (source : List ℕ) (items : List Item) (s : State) (cut : 
       let d : Cut source (b.before ++ b.item ∷ b.more) = subst (λ (l : List Item). Cut source l) b.split cut in
       let begins = viable-begins r xs p.front (x ∷ ys) p.split v in
       let spells : Spells (tokens_of b.before ++ begins.1) begins.0 document = subst (λ (v : List Token). Spells (v ++ begins.1) begins.0 document) b.words begins.2 in
-      let l : length (answers_tokens xs) ≡ length (answers_tokens p.front) + length (answers_tokens (x ∷ ys)) = ap length (ap answers_tokens p.split ∙ answers-append p.front (x ∷ ys)) ∙ length-append (answers_tokens p.front) (answers_tokens (x ∷ ys)) in
+      let l : length (answers_tokens xs) ≡ length (answers_tokens p.front) + length (answers_tokens (x ∷ ys)) = ap length (ap answers_tokens p.split ∙ answers-append p.front (x ∷ ys))
+      ∙ length-append (answers_tokens p.front) (answers_tokens (x ∷ ys)) in
       let w = ap length b.words in
       (record { before = b.before; item = b.item; more = b.more; split = b.split; tokens = b.tokens; begins = begins-text source b.before b.item b.more begins.0 begins.1 u d b.tokens spells begins.3; reason = reason b }, omega (arith, l, c, w))
 
@@ -236,9 +240,9 @@ module _ (r k : ℕ) (source : List ℕ) (items : List Item) (s : State) (cut : 
   told : IsUtf8 source → (e : Report) (m : ℕ) → RightReport document xs r (answers_tokens xs) e m → Told_right e m
   unfolding xs
   told u e m (stuck_here said {t = t} {items = ys} now p k c) = at-place u (fault_report said t) m p k.1 c (λ q. fault said t (item-there t q) now.0 (λ a z. not-starts document (answers_tokens xs) (answers_tokens (given_by t ∷ ys)) k.0
-      (subst (λ (l : List Mark). Starts document l) (from-words k.0.before (tokens_of q.before) _ _ (words-before xs p.front (given_by t ∷ ys) k.0.before p.split k.0.split ∙ q.words) (two-at t q now a)) (sentence-starts _ z))))
+      (subst (λ (l : List Terminal). Starts document l) (from-words k.0.before (tokens_of q.before) _ _ (words-before xs p.front (given_by t ∷ ys) k.0.before p.split k.0.split ∙ q.words) (two-at t q now a)) (sentence-starts _ z))))
   told u e m (deep_here {t = t} {items = ys} now p k c) = at-place u (recursion_limit_report t) m p k.comes c (λ q. too_deep t (item-there t q) (λ z. not-within-one r xs (answers_tokens xs) (answers_tokens (given_by t ∷ ys)) k
-      (subst (λ (l : List Mark). StartsWithin document r l) (from-words k.before (tokens_of q.before) _ _ (words-before xs p.front (given_by t ∷ ys) k.before p.split k.split ∙ q.words) (one-at t q now)) (sentence-starts-within r _ z))))
+      (subst (λ (l : List Terminal). StartsWithin document r l) (from-words k.before (tokens_of q.before) _ _ (words-before xs p.front (given_by t ∷ ys) k.before p.split k.split ∙ q.words) (one-at t q now)) (sentence-starts-within r _ z))))
   told u e m (no_token {x = x} {items = ys} p n v c) =
       let same = no-token-words x ys n in at-place u (report_of x) m p (rw same v) (rw same c) (other-reason p.front x ys n)
 
@@ -247,7 +251,10 @@ module _ (r k : ℕ) (source : List ℕ) (items : List Item) (s : State) (cut : 
   unfolding xs
   first-report-right u e more h = elim (parsed r (limited k items) s (ends-well k 0 items cut.each) root run) [
     | inl o ↦ (
-        let i = told u e o.taken (subst (λ (z : Report). RightReport document (limited k items) r (answers_tokens (limited k items)) z o.taken) (head-same (sym o.reported ∙ h)) o.right) in
-        (i.0, subst (λ (n : ℕ). EndedFit n 0 (finished s)) i.1 (ended-root o.taken (add_all s.pending s.tree) (record { before = built.none; kind = root.0 }) (add_all-above s.pending s.tree ∙ root.2) (settled-added o.taken (added-all s.pending s.tree) o.settled))))
+        let i = told u e o.taken (subst (λ (z : Report). RightReport document (limited k items) r (answers_tokens (limited k items)) z o.taken) (head-same (sym o.reported ∙ h)) o.right) in (
+          i.0,
+          subst (λ (n : ℕ). EndedFit n 0 (finished s)) i.1 (ended-root o.taken (add_all s.pending s.tree) (record { before = built.none; kind = root.0 })
+              (add_all-above s.pending s.tree ∙ root.2) (settled-added o.taken (added-all s.pending s.tree) o.settled)),
+        ))
     | inr o ↦ no-cons (sym o.0 ∙ h)
   ]
