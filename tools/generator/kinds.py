@@ -16,14 +16,18 @@ def lookup(grammar):
         + f"""
 ghost use Rattle.std.specs.Prelude.{{◌≡◌, ℕ, ◌<◌, ◌≤◌, ◌↔◌, ◌⊎◌, IsTrue, None, Some, MatchOption}};
 ghost use Rattle.document_grammar.specs.Choices.{{keyword_word}};
+ghost use Rattle.document_grammar.specs.Kinds.{{kind_count}};
 ghost use Rattle.document_grammar.specs.Numbers.{{number}};
 
 use crate::kind::SyntaxKind;
 
 impl SyntaxKind {{
-    /// The kind with the number `of`, or None from {len(grammar.kinds)} on.
+    /// How many kinds there are: their numbers are those below it.
+    pub const COUNT: u16 = {len(grammar.kinds)};
+
+    /// The kind with the number `of`, or None from `SyntaxKind::COUNT` on.
     pub fn from_u16(of: u16) -> Option<SyntaxKind>
-        ensures {{ MatchOption result ({len(grammar.kinds)} ≤ of) (λ k. number k ≡ of) }}
+        ensures {{ MatchOption result (kind_count ≤ of) (λ k. number k ≡ of) }}
     {{
         let kind = match of {{
 {arms}            _ => return None,
@@ -59,7 +63,15 @@ use Rattle.document_grammar.specs.Tree.{Text}
 
 """
         + constants
-        + f"""-- The word of each keyword leaf. Each is a Name for the lexical grammar.
+        + f"""-- The kinds before it are those of leaves, and from it on those of nodes.
+abbrev pub first_node : ℕ
+first_node = {grammar.nodes[0]}
+
+-- How many kinds there are.
+abbrev pub kind_count : ℕ
+kind_count = {len(grammar.kinds)}
+
+-- The word of each keyword leaf. Each is a Name for the lexical grammar.
 unfoldable pub words : List (ℕ × Text)
 words =
 {words}"""

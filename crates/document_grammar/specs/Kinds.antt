@@ -365,6 +365,14 @@ ENUM_TYPE_EXTENSION = 118
 abbrev pub INPUT_OBJECT_TYPE_EXTENSION : ℕ
 INPUT_OBJECT_TYPE_EXTENSION = 119
 
+-- The kinds before it are those of leaves, and from it on those of nodes.
+abbrev pub first_node : ℕ
+first_node = DOCUMENT
+
+-- How many kinds there are.
+abbrev pub kind_count : ℕ
+kind_count = 120
+
 -- The word of each keyword leaf. Each is a Name for the lexical grammar.
 unfoldable pub words : List (ℕ × Text)
 words =

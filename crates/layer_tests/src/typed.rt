@@ -77,7 +77,7 @@ fn block_strings_lose_their_indent(rt: HostRuntime) -> Result<(), Fail> {
 }
 
 fn casts_one_kind<'t, T: CstToken<'t>>(rt: &impl Abort, own: SyntaxKind) {
-    for number in 0..120 {
+    for number in 0..SyntaxKind::COUNT {
         if let Some(kind) = SyntaxKind::from_u16(number) {
             assert_eq!(rt; T::can_cast(kind), number == own.to_u16());
         }

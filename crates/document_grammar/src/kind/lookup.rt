@@ -2,14 +2,18 @@
 
 ghost use Rattle.std.specs.Prelude.{◌≡◌, ℕ, ◌<◌, ◌≤◌, ◌↔◌, ◌⊎◌, IsTrue, None, Some, MatchOption};
 ghost use Rattle.document_grammar.specs.Choices.{keyword_word};
+ghost use Rattle.document_grammar.specs.Kinds.{kind_count};
 ghost use Rattle.document_grammar.specs.Numbers.{number};
 
 use crate::kind::SyntaxKind;
 
 impl SyntaxKind {
-    /// The kind with the number `of`, or None from 120 on.
+    /// How many kinds there are: their numbers are those below it.
+    pub const COUNT: u16 = 120;
+
+    /// The kind with the number `of`, or None from `SyntaxKind::COUNT` on.
     pub fn from_u16(of: u16) -> Option<SyntaxKind>
-        ensures { MatchOption result (120 ≤ of) (λ k. number k ≡ of) }
+        ensures { MatchOption result (kind_count ≤ of) (λ k. number k ≡ of) }
     {
         let kind = match of {
             0 => SyntaxKind::WHITESPACE,
