@@ -4,9 +4,6 @@ from dataclasses import dataclass
 
 from .patterns import NEVER, derivative, nullable, symbols
 
-# What opens the block of a definition: the nodes of the blocks, and the brace of a schema's extension, whose block is no node.
-BLOCKS = ("FIELDS_DEFINITION", "ENUM_VALUES_DEFINITION", "INPUT_FIELDS_DEFINITION", "L_CURLY")
-
 
 @dataclass
 class State:
@@ -55,16 +52,15 @@ def document(states):
 
 def rows(table):
     """The states of each symbol that has a row."""
-    braced = table.grammar.lists["Braced"]
     found = {}
     for name, pattern in table.pattern.items():
         states = automaton(pattern)
         if name == "DOCUMENT":
             states = document(states)
-        found[name] = [State(ends, lacks_block(name in braced, ends, arcs), arcs) for ends, arcs in states]
+        found[name] = [State(ends, lacks_block(name, ends, arcs, table.grammar.lists), arcs) for ends, arcs in states]
     return found
 
 
-def lacks_block(braced, ends, arcs):
+def lacks_block(name, ends, arcs, lists):
     """1 where a definition that may have a block ends before it, else 0."""
-    return int(braced and ends and any(symbol in BLOCKS for symbol, _ in arcs))
+    return int(name in lists["Braced"] and ends and any(symbol in lists["Blocks"] for symbol, _ in arcs))

@@ -120,11 +120,14 @@ Braced =
     ∷ INPUT_OBJECT_TYPE_EXTENSION
     ∷ []
 
--- No child is a block in braces, or the brace of one: that of a schema's extension is no node of its own.
+-- What such a block begins with: its node, or the brace of a schema's extension, whose block is no node of its own.
+abbrev pub Blocks : List ℕ
+Blocks = FIELDS_DEFINITION ∷ ENUM_VALUES_DEFINITION ∷ INPUT_FIELDS_DEFINITION ∷ L_CURLY ∷ []
+
+-- No child is one of these.
 abbrev pub NoBlock : Forest → Type 0
 NoBlock none = Unit {0}
-NoBlock (t ▸ f) =
-    IsFalse (member (root t) (FIELDS_DEFINITION ∷ ENUM_VALUES_DEFINITION ∷ INPUT_FIELDS_DEFINITION ∷ L_CURLY ∷ [])) × NoBlock f
+NoBlock (t ▸ f) = IsFalse (member (root t) Blocks) × NoBlock f
 
 -- A definition of such a kind without its block.
 abbrev pub LacksBlock : Tree → Type 0

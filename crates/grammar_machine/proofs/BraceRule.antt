@@ -2,12 +2,12 @@
 use Rattle.std.proofs.Common.{◌≡◌, ℕ, ◌+◌, ◌-◌, ◌<◌, Bool, true, false, cond, not, eqb, ltb, List, [], ◌∷◌, get_or, refl, sym, ap, ◌∙◌, subst, arith, eqb-true, ltb-true}
 use Rattle.document_grammar.specs.Tree.{Tree, leaf, node, Forest, none, ◌▸◌, root}
 use Rattle.document_grammar.specs.Pattern.{member}
-use Rattle.document_grammar.specs.Kinds.{DOCUMENT, OPERATION_DEFINITION, SELECTION_SET, FIELDS_DEFINITION, ENUM_VALUES_DEFINITION, INPUT_FIELDS_DEFINITION, L_CURLY}
+use Rattle.document_grammar.specs.Kinds.{DOCUMENT, OPERATION_DEFINITION, SELECTION_SET}
 use Rattle.grammar_machine.specs.Table.{State, rows}
 use Rattle.grammar_machine.proofs.generated.Labels.{paths, labels}
 use Rattle.document_grammar.specs.Booleans.{◌and◌, ◌or◌}
 use Rattle.grammar_machine.specs.Machine.{is_leaf, at, ends, exit, arcs, has, target, target_in, state_arcs, state_ends, state_exit, finish, walk, Ok, OkFrom}
-use Rattle.document_grammar.specs.Derivation.{kinds, Braced, NoBlock, LacksBlock, StartsWithSelections, IsQuery, BraceRule}
+use Rattle.document_grammar.specs.Derivation.{kinds, Braced, Blocks, NoBlock, LacksBlock, StartsWithSelections, IsQuery, BraceRule}
 use Rattle.grammar_machine.proofs.Checks.{all_arcs, every_state, every_arc, exits}
 use Rattle.document_grammar.proofs.Booleans.{false-true, and-l, and-r, or-r, or-false, or-false-l, or-false-r, or-assoc, or-none, same, same-bool, not-c, implies}
 use Rattle.grammar_machine.proofs.TableLemmas.{arcs-at, arc-test, exits-at, state-test}
@@ -16,13 +16,10 @@ use Rattle.grammar_machine.proofs.FromMachineTree.{kinds-at, show, shows, show-r
 use Rattle.grammar_machine.proofs.Rules.{label-test}
 use Rattle.grammar_machine.specs.Symbols.{TYPE}
 
--- what opens the block of a definition, and whether a list of trees has one
-abbrev block_openers : List ℕ
-block_openers = FIELDS_DEFINITION ∷ ENUM_VALUES_DEFINITION ∷ INPUT_FIELDS_DEFINITION ∷ L_CURLY ∷ []
-
+-- whether a list of trees has what opens the block of a definition
 abbrev has_opener : List ℕ → Bool
 has_opener [] = false
-has_opener (k ∷ ks) = member k block_openers or has_opener ks
+has_opener (k ∷ ks) = member k Blocks or has_opener ks
 
 abbrev has_block : Forest → Bool
 has_block f = has_opener (kinds f)
@@ -40,7 +37,7 @@ unfoldable after_block : ℕ → ℕ → Bool
 after_block s q = has_opener (get_or (get_or paths (s - DOCUMENT) []) q [])
 
 abbrev block_arc : ℕ → ℕ → ℕ → ℕ → Bool
-block_arc s q k p = all_kinds (shown k) (λ j. exits k (λ x. same (after_block s (p + x)) (after_block s q or member j block_openers)))
+block_arc s q k p = all_kinds (shown k) (λ j. exits k (λ x. same (after_block s (p + x)) (after_block s q or member j Blocks)))
 
 -- Only such definitions end without their block; a child leads past the block where it is one.
 abbrev block_test : ℕ → ℕ → State → Bool
@@ -69,7 +66,7 @@ block-walk s q (t ▸ f) l b o =
     let c = and-l _ _ (implies _ _ (and-r _ _ (block-state s q l)) b) in
     let p : ℕ = target_in (arcs s q) (root t) in
     let a = kinds-at (shown (root t)) _ (root (show t)) (arcs-at (arcs s q) (block_arc s q) (root t) c o.0) (shown-root t o.1) in
-    let e : after_block s (p + finish t) ≡ after_block s q or member (root (show t)) block_openers = same-bool _ _ (exits-at t (λ x. same (after_block s (p + x)) (after_block s q or member (root (show t)) block_openers)) a o.1) in
+    let e : after_block s (p + finish t) ≡ after_block s q or member (root (show t)) Blocks = same-bool _ _ (exits-at t (λ x. same (after_block s (p + x)) (after_block s q or member (root (show t)) Blocks)) a o.1) in
     block-walk s (p + finish t) f l b o.2 ∙ ap (λ (z : Bool). cond z 0 1) (ap (λ (z : Bool). z or has_block (shows f)) e ∙ or-assoc _ _ _)
 
 braced-finish : (s : ℕ) (f : Forest) → Ok (node s f) → member s Braced ≡ true → finish (node s f) ≡ cond (has_block (shows f)) 0 1
