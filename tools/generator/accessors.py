@@ -48,29 +48,33 @@ class Accessor:
         self.gives_all = target is not None and number in ("at_least_one", "any_number")
 
 
-def accessors(grammar, pattern):
-    """The accessors of a row: one for each symbol, in order.
+def accessors(grammar, kind):
+    """The accessors of the row of a kind: one for each symbol, in order.
 
     The accessor of a node that is there at most once has the name of its kind, in lower case; that of one that may repeat has an `s` after
     it. The choices have the names of `ENUMS`. A leaf's has the name of its kind, without `_KW`, and then `_token`. A choice that is no
     enum has one accessor for each kind.
     """
-    found = []
+    found, pattern = [], grammar.rows[kind]
     enum_of = {tuple(grammar.lists[choice.listed]): enum for enum, choice in ENUMS.items()}
     for kinds in choices(pattern):
         if kinds in enum_of:
-            found.append(enum_accessor(enum_of[kinds], kinds, number_of(pattern, kinds)))
+            found.append(enum_accessor(enum_of[kinds], kinds, number_of(pattern, kinds), kind))
         else:
-            found += [kind_accessor(grammar, kind, number_of(pattern, [kind]), len(kinds) > 1) for kind in kinds]
+            found += [kind_accessor(grammar, one, number_of(pattern, [one]), len(kinds) > 1) for one in kinds]
     names = [accessor.name for accessor in found]
-    if len(set(names)) != len(names) or None in names:
-        raise SystemExit(f"two accessors have one name, or one has none: {names}")
+    for name in names:
+        if names.count(name) > 1:
+            raise SystemExit(f"Rows.antt: two accessors of {kind} would be called {name}")
     return found
 
 
-def enum_accessor(enum, kinds, number):
+def enum_accessor(enum, kinds, number, parent):
     accessor = Accessor(None, kinds, number, enum)
     accessor.name = ENUMS[enum].several if accessor.gives_all else ENUMS[enum].one
+    if accessor.name is None:
+        children = "`several` children" if accessor.gives_all else "`one` child"
+        raise SystemExit(f"places.py: {enum} has no name for {children}, which the row of {parent} has")
     return accessor
 
 

@@ -11,6 +11,27 @@ from .patterns import Reader, definitions
 
 FOLDER = CRATES / "document_grammar"
 
+# The lists that a file has to have, besides those of the enums in places.py.
+NEEDED = {"Choices": ("Definitions", "Selections", "Values", "Types"), "Derivation": ("Marked", "Braced", "Blocks")}
+
+# How the punctuators are spelled.
+PUNCTUATORS = {
+    "BANG": "!",
+    "DOLLAR": "$",
+    "AMP": "&",
+    "SPREAD": "...",
+    "COLON": ":",
+    "EQ": "=",
+    "AT": "@",
+    "L_PAREN": "(",
+    "R_PAREN": ")",
+    "L_BRACK": "[",
+    "R_BRACK": "]",
+    "L_CURLY": "{",
+    "R_CURLY": "}",
+    "PIPE": "|",
+}
+
 
 class Grammar:
     """`kinds` in the order of their numbers, `number` of each, the lines of its `documentation`, `lists` by their names, and `rows`, the
@@ -20,28 +41,73 @@ class Grammar:
         self.documentation = read_kinds()
         self.kinds = list(self.documentation)
         self.number = {kind: number for number, kind in enumerate(self.kinds)}
+        self.check_kinds()
         self.lists = {}
-        self.add_lists("Choices")
+        self.choices = self.add_lists("Choices")
         self.patterns = definitions((FOLDER / "specs/Rows.antt").read_text())
-        self.rows = Reader(self.patterns["children"][1], self.lists, self.patterns).rows()
+        self.rows = Reader(self.body("children"), self).rows()
+        self.check_rows()
         self.add_lists("Derivation")
-        self.check()
+
+    def check_kinds(self):
+        """Punctuators come after ERROR, then the other tokens, and after STRING the keywords; DOCUMENT is the first node."""
+        for kind in ("ERROR", "IDENT", "STRING", "DOCUMENT"):
+            if kind not in self.number:
+                raise SystemExit(f"kind.rt: there is no kind {kind}")
+        for kind in self.leaves[self.number["ERROR"] + 1 : self.number["IDENT"]]:
+            if kind not in PUNCTUATORS:
+                raise SystemExit(f"grammar.py: PUNCTUATORS does not say how {kind} is spelled")
+        for kind in self.kinds:
+            if kind.endswith("_KW") and kind not in self.keywords:
+                raise SystemExit(f"kind.rt: the keyword {kind} is not between STRING and DOCUMENT, where the keywords are")
+            if kind in self.keywords and not kind.endswith("_KW"):
+                raise SystemExit(f"kind.rt: {kind} is between STRING and DOCUMENT, where the keywords are, and does not end with _KW")
 
     def add_lists(self, name):
-        """Adds the lists of kinds that a file of definitions has."""
-        for listed, (_, body) in definitions((FOLDER / f"specs/{name}.antt").read_text()).items():
-            words = re.findall(r"\w+", body)
-            if words and body.rstrip().endswith("[]") and all(word in self.number for word in words):
-                self.lists[listed] = words
+        """Adds the lists of kinds that a file of definitions has, and gives their names."""
+        found = definitions((FOLDER / f"specs/{name}.antt").read_text())
+        names = [listed for listed, definition in found.items() if definition.type == "List ℕ"]
+        for listed in names:
+            self.lists[listed] = self.members(f"{name}.antt: the list {listed}", found[listed].body)
+        for listed in NEEDED[name]:
+            if listed not in names:
+                raise SystemExit(f"{name}.antt: there is no list {listed}")
+        return names
 
-    def check(self):
+    def members(self, where, body):
+        """The kinds of a list."""
+        text, end, _ = body.partition("[]")
+        kinds = [kind.strip() for kind in text.split("∷")]
+        if not end or kinds.pop():
+            raise SystemExit(f"{where} does not end with ∷ []")
+        for place, kind in enumerate(kinds):
+            if kind not in self.number:
+                raise SystemExit(f"{where} has {kind}, which is no kind")
+            if kind in kinds[:place]:
+                raise SystemExit(f"{where} has {kind} twice")
+        return kinds
+
+    def check_rows(self):
         """The rows are those of the kinds of nodes, which come last, in order."""
-        if self.kinds[self.number["DOCUMENT"] :] != list(self.rows):
-            raise SystemExit("Rows.antt: the rows are not those of the kinds from DOCUMENT on, in the order of kind.rt")
+        for kind in self.rows:
+            if self.is_leaf(kind):
+                raise SystemExit(f"Rows.antt: {kind} has a row, and comes before DOCUMENT in kind.rt, where the leaves are")
+        for kind in self.kinds[self.number["DOCUMENT"] :]:
+            if kind not in self.rows:
+                raise SystemExit(f"Rows.antt: the kind {kind} has no row")
+        for kind, row in zip(self.kinds[self.number["DOCUMENT"] :], self.rows):
+            if kind != row:
+                raise SystemExit(f"Rows.antt: the row of {row} is in the place of that of {kind}; rows are in the order of kind.rt")
+
+    def body(self, name):
+        """The text of a pattern, or of the table of rows."""
+        if name not in self.patterns:
+            raise SystemExit(f"Rows.antt: there is no definition {name}")
+        return self.patterns[name].body
 
     def pattern(self, name):
         """A pattern of Rows.antt by its name."""
-        return Reader(self.patterns[name][1], self.lists, self.patterns).pattern()
+        return Reader(self.body(name), self).pattern()
 
     @property
     def leaves(self):
@@ -71,9 +137,18 @@ class Grammar:
 def read_kinds():
     """The variants of the enum, in order, each with the lines of its documentation."""
     text = (FOLDER / "src/kind.rt").read_text()
-    body = re.search(r"pub enum SyntaxKind \{\n(.*?\n)\}", text, re.S).group(1)
-    variants = re.findall(r"((?:    ///.*\n)*)    (\w+),\n", body)
-    return {kind: [line.removeprefix("    ///").strip() for line in lines.splitlines()] for lines, kind in variants}
+    found, documentation = {}, []
+    for line in re.search(r"pub enum SyntaxKind \{\n(.*?\n)\}", text, re.S).group(1).splitlines():
+        variant = re.fullmatch(r"    (\w+),", line)
+        if line.startswith("    ///"):
+            documentation.append(line.removeprefix("    ///").strip())
+        elif not variant:
+            raise SystemExit(f"kind.rt: the line `{line.strip()}` of the enum is neither documentation nor a kind with a comma after it")
+        elif variant.group(1) in found:
+            raise SystemExit(f"kind.rt: the kind {variant.group(1)} is there twice")
+        else:
+            found[variant.group(1)], documentation = documentation, []
+    return found
 
 
 def word(keyword):

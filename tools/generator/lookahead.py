@@ -126,11 +126,11 @@ class Lookahead:
             for place, state in enumerate(states):
                 both = self.begins(state) & self.follow[name, state.exit] if state.ends else None
                 if both:
-                    raise SystemExit(f"{name}, state {place}: the row may end, or go on, before {self.class_names(both)}")
+                    raise SystemExit(f"Rows.antt: {name}, state {place}: the row may end, or go on, before {self.class_names(both)}")
                 for later, arc in enumerate(state.arcs):
                     for other, _ in state.arcs[:later]:
                         if self.overlap(name, states, arc, other):
-                            raise SystemExit(f"{name}, state {place}: two tokens do not tell {arc[0]} from {other}")
+                            raise SystemExit(f"Rows.antt: {name}, state {place}: two tokens do not tell {arc[0]} from {other}")
 
     def overlap(self, name, states, arc, other):
         """Whether tokens with which the other symbol begins may also begin that of the arc, before what follows it in the row."""
@@ -170,6 +170,9 @@ class Lookahead:
                 if best and height.get(name, best[0] + 2) > best[0] + 1:
                     height[name] = best[0] + 1
                     changed = True
+        for name in self.rows:
+            if name not in height:
+                raise SystemExit(f"Rows.antt: no {self.symbols.label[name]} has an end: each has another one in it")
         return {name: [self.ending(states, place, height)[1] for place in range(len(states))] for name, states in self.rows.items()}
 
     def ending(self, states, start, height):

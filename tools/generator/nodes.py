@@ -24,10 +24,14 @@ class Clause:
         self.pattern = f"({' '.join([name, *parameters])})" if parameters else name
 
 
+def rules_text():
+    """The text of Rules.antt without its `use` lines and comments."""
+    return re.sub(r"^use .*|--.*", "", (FOLDER / "Rules.antt").read_text(), flags=re.M)
+
+
 def clauses(function):
     """The clauses of a function of Rules.antt, in order."""
-    text = (FOLDER / "Rules.antt").read_text()
-    heads = re.findall(rf"^{function} (?:(\w+)|\((\w+) ([\w ]+)\)) =", text, re.M)
+    heads = re.findall(rf"^{function} (?:(\w+)|\((\w+) ([\w ]+)\)) =", rules_text(), re.M)
     return [Clause(plain or name, parameters.split()) for plain, name, parameters in heads]
 
 
@@ -37,6 +41,14 @@ def symbol_of(node, symbols):
     if symbol not in symbols.number:
         raise SystemExit(f"Rules.antt: the node {node.name} has no kind {symbol}")
     return symbol
+
+
+def symbols_of(node, symbols):
+    """The symbols of a node: that of a place that is not constant, and where it has a parameter that of a constant one."""
+    symbol = symbol_of(node, symbols)
+    if node.parameters and f"{symbol}_CONST" not in symbols.number:
+        raise SystemExit(f"symbols.py: NODES lacks {symbol}_CONST, and the rule of {node.name} has a parameter for constant places")
+    return [symbol, f"{symbol}_CONST"] if node.parameters else [symbol]
 
 
 def own_symbols(nodes, symbols):

@@ -4,6 +4,7 @@ A pattern is a tuple: ("any_of", kinds), ("nothing",), ("then", p, q), ("or_else
 """
 
 import re
+from dataclasses import dataclass
 
 NEVER = ("any_of", ())
 NOTHING = ("nothing",)
@@ -13,29 +14,39 @@ def any_of(kinds):
     return ("any_of", tuple(kinds))
 
 
+@dataclass
+class Definition:
+    type: str
+    parameters: list[str]
+    body: str
+
+
 def definitions(text):
-    """The body of each `abbrev pub` or `unfoldable pub` of a file, by name, with its parameters, without comments."""
+    """Each `abbrev pub` or `unfoldable pub` of a file by its name, without comments."""
     text = re.sub(r"--.*", "", text)
     found = {}
     for block in re.split(r"\n(?=abbrev pub |unfoldable pub )", text):
-        head = re.match(r"(?:abbrev|unfoldable) pub (\S+) :[^\n]*\n", block)
+        head = re.match(r"(?:abbrev|unfoldable) pub (\S+) :([^\n]*)\n", block)
         if not head:
             continue
         name = head.group(1)
         clause = re.match(re.escape(name) + r"((?: \w+)*) =(.*)", block[head.end():], re.S)
         if clause:
-            found[name] = (clause.group(1).split(), clause.group(2))
+            found[name] = Definition(head.group(2).strip(), clause.group(1).split(), clause.group(2))
     return found
 
 
 class Reader:
-    """Reads patterns from their text. `lists` has the named lists of kinds, `patterns` the named patterns, and `bound` the values of
-    parameters."""
+    """Reads patterns from their text. `grammar` has the kinds, the named lists of kinds and the named patterns; `bound` are the values of
+    parameters, and `row` is the kind whose row is read."""
 
-    def __init__(self, source, lists, patterns, bound=None):
+    def __init__(self, source, grammar, bound=None, row=None):
         self.words = re.findall(r"[()\[\],∷]|[^\s()\[\],∷]+", source)
         self.at = 0
-        self.lists, self.patterns, self.bound = lists, patterns, bound or {}
+        self.grammar, self.bound, self.row = grammar, bound or {}, row
+
+    def refuse(self, what):
+        raise SystemExit(f"Rows.antt: {what}" + (f", in the row of {self.row}" if self.row else ""))
 
     def peek(self):
         return self.words[self.at] if self.at < len(self.words) else None
@@ -44,18 +55,21 @@ class Reader:
         word = self.peek()
         if expected is not None and word != expected:
             following = " ".join(self.words[self.at + 1 : self.at + 8])
-            raise SystemExit(f"Rows.antt: expected {expected}, found {word} before {following}")
+            self.refuse(f"expected {expected}, found {word or 'the end'}{' before ' + following if following else ''}")
         self.at += 1
         return word
 
     def kinds(self):
         """A list of kinds: the name of one, or `(A ∷ B ∷ [])`."""
         if self.peek() != "(":
-            return self.lists[self.take()]
+            name = self.take()
+            if name not in self.grammar.lists:
+                self.refuse(f"no list of kinds is called {name}")
+            return self.grammar.lists[name]
         self.take("(")
         found = []
         while self.peek() != "[":
-            found.append(self.take())
+            found.append(self.kind())
             self.take("∷")
         self.take("[")
         self.take("]")
@@ -64,7 +78,10 @@ class Reader:
 
     def kind(self):
         word = self.take()
-        return self.bound.get(word, word)
+        kind = self.bound.get(word, word)
+        if kind not in self.grammar.number:
+            self.refuse(f"{kind} is no kind")
+        return kind
 
     def atom(self):
         """A pattern in parentheses, or one of the words for patterns with what it is of."""
@@ -91,11 +108,11 @@ class Reader:
 
     def named(self, name):
         """A pattern by its name, with a kind for each of its parameters."""
-        if name not in self.patterns:
-            raise SystemExit(f"Rows.antt: no pattern is called {name}")
-        parameters, body = self.patterns[name]
-        values = {parameter: self.kind() for parameter in parameters}
-        return Reader(body, self.lists, self.patterns, values).pattern()
+        if name not in self.grammar.patterns:
+            self.refuse(f"no pattern is called {name}")
+        definition = self.grammar.patterns[name]
+        values = {parameter: self.kind() for parameter in definition.parameters}
+        return Reader(definition.body, self.grammar, values, self.row).pattern()
 
     def sequence(self):
         first = self.atom()
@@ -116,7 +133,11 @@ class Reader:
         found = {}
         while self.peek() == "(":
             self.take("(")
-            kind = self.take()
+            self.row = None
+            kind = self.kind()
+            if kind in found:
+                self.refuse(f"{kind} has two rows")
+            self.row = kind
             self.take(",")
             found[kind] = self.pattern()
             if self.peek() == ",":

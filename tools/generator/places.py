@@ -72,7 +72,12 @@ def place(number, title, kind=None):
     for key in [kind, title.split()[-1], *sections]:
         if key in PLACES:
             return PLACES[key]
-    raise SystemExit(f'places.py: no module has section {number}, "{title}"')
+    raise SystemExit(f'places.py: no module has section {number}, "{title}"' + (f", of {kind}" if kind else ""))
+
+
+def crate_of(place):
+    """The number of a place's crate, from low to high."""
+    return list(CRATES).index(place[0])
 
 
 def place_of_kind(kind, grammar):

@@ -1,6 +1,6 @@
 """The table of the machine: its rows and what they begin with, and what only its proofs use."""
 
-from .grammar import word
+from .grammar import PUNCTUATORS, word
 from .layout import CRATES, antt_list, commented_list, in_parentheses, long_list, mark, use
 from .lookahead import Lookahead
 from .symbols import LEAVES, NODES, Symbols
@@ -8,21 +8,8 @@ from .symbols import LEAVES, NODES, Symbols
 FOLDER = CRATES / "grammar_machine"
 SOURCE = "the rows of the grammar"
 PRELUDE = "use Rattle.std.specs.Prelude.{ℕ, List, [], ◌∷◌}\n"
-TEXTS = {
-    "BANG": "!",
-    "DOLLAR": "$",
-    "AMP": "&",
-    "SPREAD": "...",
-    "COLON": ":",
-    "EQ": "=",
-    "AT": "@",
-    "L_PAREN": "(",
-    "R_PAREN": ")",
-    "L_BRACK": "[",
-    "R_BRACK": "]",
-    "L_CURLY": "{",
-    "R_CURLY": "}",
-    "PIPE": "|",
+# A text of each leaf that is no keyword.
+TEXTS = PUNCTUATORS | {
     "IDENT": "a",
     "IDENT_FOR_FRAGMENT": "a",
     "IDENT_FOR_ENUM": "a",

@@ -204,7 +204,7 @@ abbrev pub {name}_node : {enum} → SyntaxNode
 def module_text(crate, module, grammar):
     """A module of structs, and of enums after them."""
     kinds, enums = kinds_in(crate, module, grammar), enums_in(crate, module)
-    body = "".join(struct_text(kind, accessors(grammar, grammar.rows[kind]), grammar) for kind in kinds)
+    body = "".join(struct_text(kind, accessors(grammar, kind), grammar) for kind in kinds)
     body += "".join(enum_text(enum, crate, grammar) for enum in enums)
     here = {*map(type_case, kinds), *enums}
     return mark("//", SOURCE) + "\n" + ghost_uses(body, grammar) + "\n" + rust_uses(body, crate, here, grammar) + body
@@ -245,9 +245,9 @@ def accessors_spec(grammar):
     """The accessors of all rows, as the list that the law on reading back goes through."""
     listed = {tuple(grammar.lists[choice.listed]): choice.listed for choice in ENUMS.values()}
     used, items = set(), []
-    for kind, pattern in grammar.rows.items():
+    for kind in grammar.rows:
         used.add(kind)
-        for accessor in accessors(grammar, pattern):
+        for accessor in accessors(grammar, kind):
             name = listed.get(tuple(accessor.kinds), accessor.kinds[0])
             used.add(name)
             one = name if accessor.target is None or name in listed.values() else f"({name} ∷ [])"
@@ -276,8 +276,8 @@ def outputs(grammar):
 def print_accessors(grammar):
     """Each kind of node with its accessors."""
     total = 0
-    for kind, pattern in grammar.rows.items():
-        row = accessors(grammar, pattern)
+    for kind in grammar.rows:
+        row = accessors(grammar, kind)
         total += len(row)
         print(grammar.number[kind], type_case(kind) + ":", ", ".join(f"{accessor.name} ({accessor.number})" for accessor in row))
     print(total, "accessors")

@@ -5,7 +5,7 @@ What a node is, its section and its production are in the documentation of its k
 
 import re
 
-from .grammar import type_case
+from .grammar import PUNCTUATORS, type_case
 from .places import ENUMS
 
 # Which call gives the value of a node. The words of a node's own documentation are those of its kind.
@@ -43,23 +43,6 @@ SEVERAL = {
     "ENUM_VALUES_DEFINITION": "definitions of the values",
     "INPUT_FIELDS_DEFINITION": "definitions of the fields",
     "DIRECTIVE_LOCATIONS": "locations",
-}
-
-PUNCTUATORS = {
-    "BANG": "!",
-    "DOLLAR": "$",
-    "AMP": "&",
-    "SPREAD": "...",
-    "COLON": ":",
-    "EQ": "=",
-    "AT": "@",
-    "L_PAREN": "(",
-    "R_PAREN": ")",
-    "L_BRACK": "[",
-    "R_BRACK": "]",
-    "L_CURLY": "{",
-    "R_CURLY": "}",
-    "PIPE": "|",
 }
 
 # The accessors that the rule of `accessor_doc` does not describe well.
