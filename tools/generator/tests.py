@@ -32,7 +32,7 @@ MISTAKES = [
         "    ALIAS\n",
         "kind.rt: the line `ALIAS` of the enum is neither documentation nor a kind with a comma after it",
     ),
-    (KINDS, "    ALIAS,\n", "    ALIAS,\n    EXCLUSION,\n", "Rows.antt: the kind EXCLUSION has no row"),
+    (KINDS, "    ALIAS,\n", "    ALIAS,\n    MADE_UP,\n", "Rows.antt: the kind MADE_UP has no row"),
     (
         KINDS,
         "    ALIAS,\n",
@@ -90,9 +90,9 @@ MISTAKES = [
         "any_of (query_KW ∷ QUERY_KW ∷ mutation_KW",
         "Rows.antt: two accessors of OPERATION_TYPE would be called query_token",
     ),
-    (CHOICES, "Selections = FIELD", "Selections = FIELDD", "Choices.antt: the list Selections has FIELDD, which is no kind"),
-    (CHOICES, "Selections = FIELD", "Selections = FIELD ∷ FIELD", "Choices.antt: the list Selections has FIELD twice"),
-    (CHOICES, "INLINE_FRAGMENT ∷ []", "INLINE_FRAGMENT", "Choices.antt: the list Selections does not end with ∷ []"),
+    (CHOICES, "Selections = FIELD ∷", "Selections = FIELDD ∷", "Choices.antt: the list Selections has FIELDD, which is no kind"),
+    (CHOICES, "Selections = FIELD ∷", "Selections = FIELD ∷ FIELD ∷", "Choices.antt: the list Selections has FIELD twice"),
+    (CHOICES, "LIST_TYPE ∷ NON_NULL_TYPE ∷ []", "LIST_TYPE ∷ NON_NULL_TYPE", "Choices.antt: the list Types does not end with ∷ []"),
     (CHOICES, "pub Values :", "pub Value :", "Choices.antt: there is no list Values"),
     (
         CHOICES,
