@@ -1,5 +1,5 @@
-"""What else the generator refuses, before it writes anything: mistakes that the grammar's files, the rules and the generator's own lists make
-together. Each message names the file to mend, and the kind.
+"""What else the generator refuses, before it writes anything: mistakes that the grammar's files, the rules and the generator's own lists
+make together. Each message names the file to mend, and the kind.
 
 Misspelled kinds and rows that are missing are refused where the files are read (grammar.py), and rows of which two tokens do not say which
 child comes next in lookahead.py.
@@ -113,7 +113,7 @@ def check_marked(grammar):
         found = symbols(pattern)
         constant = "DIRECTIVES" in found and "SELECTION_SET" not in found and kind not in grammar.lists["Selections"]
         if constant and kind not in grammar.lists["Marked"]:
-            refuse(f"Derivation.antt: the list Marked lacks {kind}, whose directives are constant: it is no selection, and has no SELECTION_SET")
+            refuse(f"Derivation.antt: the list Marked lacks {kind}: it is no selection and has none, so its directives are constant")
         if not constant and kind in grammar.lists["Marked"]:
             refuse(f"Derivation.antt: the list Marked has {kind}, which has no constant directives")
     check_order(grammar, "Marked")

@@ -1,5 +1,5 @@
-"""The generator's own tests: `tools/generate --test` runs them. Each puts one mistake into a copy of what the generator reads, and wants the
-message that names the file and the kind, and status 1."""
+"""The generator's own tests: `tools/generate --test` runs them. Each puts one mistake into a copy of what the generator reads, and wants
+the message that names the file and the kind."""
 
 import importlib
 import re
@@ -106,7 +106,7 @@ MISTAKES = [
         "abbrev pub Names : List ℕ\nNames = NAME ∷ ALIAS ∷ []\n\n",
         "places.py: ENUMS has no enum for the list Names of Choices.antt",
     ),
-    (DERIVATION, "    ∷ FIELD_DEFINITION\n", "", "Derivation.antt: the list Marked lacks FIELD_DEFINITION, whose directives are constant"),
+    (DERIVATION, "    ∷ FIELD_DEFINITION\n", "", "Derivation.antt: the list Marked lacks FIELD_DEFINITION: it is no selection"),
     (
         DERIVATION,
         "    ∷ FIELD_DEFINITION\n",

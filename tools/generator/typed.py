@@ -212,8 +212,8 @@ def module_text(crate, module, grammar):
 
 def ghost_uses(body, grammar):
     """What the clauses of a module cite."""
-    clauses = " ".join(re.findall(r"(?:ensures|ghost \w+[:=]? ?=?) \{(.*)\}", body))
-    cited = lambda names: [name for name in names if re.search(rf"\b{name}\b", clauses)]
+    words = set(re.findall(r"\w+", " ".join(re.findall(r"(?:ensures|ghost \w+[:=]? ?=?) \{(.*)\}", body))))
+    cited = lambda names: [name for name in names if name in words]
     lines = [
         ("Rattle.std.specs.Prelude", ["◌≡◌", "true"]),
         (VARIANTS, cited(grammar.kinds)),
