@@ -14,6 +14,10 @@ FOLDER = CRATES / "document_grammar"
 # The lists that a file has to have, besides those of the enums in places.py.
 NEEDED = {"Choices": ("Definitions", "Selections", "Values", "Types"), "Derivation": ("Marked", "Braced", "Blocks")}
 
+# The kinds that the generator names, besides those of symbols.py and typed_docs.py.
+NAMED = "WHITESPACE COMMENT COMMA ERROR BANG L_CURLY IDENT STRING on_KW true_KW false_KW null_KW".split()
+NAMED += "DOCUMENT OPERATION_DEFINITION SELECTION_SET NAME VARIABLE DEFAULT_VALUE DIRECTIVES NON_NULL_TYPE".split()
+
 # How the punctuators are spelled.
 PUNCTUATORS = {
     "BANG": "!",
@@ -51,7 +55,7 @@ class Grammar:
 
     def check_kinds(self):
         """Punctuators come after ERROR, then the other tokens, and after STRING the keywords; DOCUMENT is the first node."""
-        for kind in ("ERROR", "IDENT", "STRING", "DOCUMENT"):
+        for kind in NAMED:
             if kind not in self.number:
                 raise SystemExit(f"kind.rt: there is no kind {kind}")
         for kind in self.leaves[self.number["ERROR"] + 1 : self.number["IDENT"]]:

@@ -38,12 +38,12 @@ def definitions(text):
 
 class Reader:
     """Reads patterns from their text. `grammar` has the kinds, the named lists of kinds and the named patterns; `bound` are the values of
-    parameters, and `row` is the kind whose row is read."""
+    parameters, `row` is the kind whose row is read, and `within` are the patterns in which this one is."""
 
-    def __init__(self, source, grammar, bound=None, row=None):
+    def __init__(self, source, grammar, bound=None, row=None, within=()):
         self.words = re.findall(r"[()\[\],∷]|[^\s()\[\],∷]+", source)
         self.at = 0
-        self.grammar, self.bound, self.row = grammar, bound or {}, row
+        self.grammar, self.bound, self.row, self.within = grammar, bound or {}, row, within
 
     def refuse(self, what):
         raise SystemExit(f"Rows.antt: {what}" + (f", in the row of {self.row}" if self.row else ""))
@@ -110,9 +110,11 @@ class Reader:
         """A pattern by its name, with a kind for each of its parameters."""
         if name not in self.grammar.patterns:
             self.refuse(f"no pattern is called {name}")
+        if name in self.within:
+            self.refuse(f"the pattern {name} has itself in it")
         definition = self.grammar.patterns[name]
         values = {parameter: self.kind() for parameter in definition.parameters}
-        return Reader(definition.body, self.grammar, values, self.row).pattern()
+        return Reader(definition.body, self.grammar, values, self.row, (*self.within, name)).pattern()
 
     def sequence(self):
         first = self.atom()

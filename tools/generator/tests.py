@@ -39,7 +39,12 @@ MISTAKES = [
         "    ALIAS,\n    but_KW,\n",
         "kind.rt: the keyword but_KW is not between STRING and DOCUMENT, where the keywords are",
     ),
-    (KINDS, "    on_KW,\n", "    ON,\n", "kind.rt: ON is between STRING and DOCUMENT, where the keywords are, and does not end with _KW"),
+    (
+        KINDS,
+        "    repeatable_KW,\n",
+        "    REPEATABLE,\n",
+        "kind.rt: REPEATABLE is between STRING and DOCUMENT, where the keywords are, and does not end with _KW",
+    ),
     (KINDS, "    PIPE,\n", "    PIPE,\n    TILDE,\n", "grammar.py: PUNCTUATORS does not say how TILDE is spelled"),
     (KINDS, "    STRING,\n", "", "kind.rt: there is no kind STRING"),
     (
@@ -51,6 +56,12 @@ MISTAKES = [
     (KINDS, '2.7, "Field Alias"', '4.1, "Schema Introspection"', 'places.py: no module has section 4.1, "Schema Introspection", of ALIAS'),
     (ROWS, "(ALIAS, one NAME", "(ALIAS, one NAMEE", "Rows.antt: NAMEE is no kind, in the row of ALIAS"),
     (ROWS, "(FIELD, optional ALIAS", "(FIELD, optionl ALIAS", "Rows.antt: no pattern is called optionl, in the row of FIELD"),
+    (
+        ROWS,
+        "parts_with part = (one",
+        "parts_with part = parts_with part or_else (one",
+        "Rows.antt: the pattern parts_with has itself in it, in the row of",
+    ),
     (
         ROWS,
         "(DOCUMENT, some (any_of Definitions))",
