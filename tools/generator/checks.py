@@ -112,11 +112,11 @@ def check_marked(grammar):
     for kind, pattern in grammar.rows.items():
         found = symbols(pattern)
         constant = "DIRECTIVES" in found and "SELECTION_SET" not in found and kind not in grammar.lists["Selections"]
-        if constant and kind not in grammar.lists["Marked"]:
-            refuse(f"Derivation.antt: the list Marked lacks {kind}: it is no selection and has none, so its directives are constant")
-        if not constant and kind in grammar.lists["Marked"]:
-            refuse(f"Derivation.antt: the list Marked has {kind}, which has no constant directives")
-    check_order(grammar, "Marked")
+        if constant and kind not in grammar.lists["HasConstantDirectives"]:
+            refuse(f"Derivation.antt: the list HasConstantDirectives lacks {kind}: it is no selection and has none, so its directives are constant")
+        if not constant and kind in grammar.lists["HasConstantDirectives"]:
+            refuse(f"Derivation.antt: the list HasConstantDirectives has {kind}, which has no constant directives")
+    check_order(grammar, "HasConstantDirectives")
 
 
 def check_order(grammar, listed):

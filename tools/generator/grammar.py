@@ -12,7 +12,7 @@ from .patterns import Reader, definitions
 FOLDER = CRATES / "document_grammar"
 
 # The lists that a file has to have, besides those of the enums in places.py.
-NEEDED = {"Choices": ("Definitions", "Selections", "Values", "Types"), "Derivation": ("Marked", "Braced", "Blocks")}
+NEEDED = {"Choices": ("Definitions", "Selections", "Values", "Types"), "Derivation": ("HasConstantDirectives", "Braced", "Blocks")}
 
 # The kinds that the generator names, besides those of symbols.py and typed_docs.py.
 NAMED = "WHITESPACE COMMENT COMMA ERROR BANG L_CURLY IDENT STRING on_KW true_KW false_KW null_KW".split()

@@ -117,18 +117,18 @@ MISTAKES = [
         "abbrev pub Names : List ℕ\nNames = NAME ∷ ALIAS ∷ []\n\n",
         "places.py: ENUMS has no enum for the list Names of Choices.antt",
     ),
-    (DERIVATION, "    ∷ FIELD_DEFINITION\n", "", "Derivation.antt: the list Marked lacks FIELD_DEFINITION: it is no selection"),
+    (DERIVATION, "    ∷ FIELD_DEFINITION\n", "", "Derivation.antt: the list HasConstantDirectives lacks FIELD_DEFINITION: it is no selection"),
     (
         DERIVATION,
         "    ∷ FIELD_DEFINITION\n",
         "    ∷ FIELD_DEFINITION\n    ∷ FIELD\n",
-        "Derivation.antt: the list Marked has FIELD, which has no constant",
+        "Derivation.antt: the list HasConstantDirectives has FIELD, which has no constant",
     ),
     (
         DERIVATION,
         "    VARIABLE_DEFINITION\n    ∷ SCHEMA_DEFINITION\n",
         "    SCHEMA_DEFINITION\n    ∷ VARIABLE_DEFINITION\n",
-        "Derivation.antt: the list Marked has SCHEMA_DEFINITION where VARIABLE_DEFINITION should be",
+        "Derivation.antt: the list HasConstantDirectives has SCHEMA_DEFINITION where VARIABLE_DEFINITION should be",
     ),
     (
         DERIVATION,
