@@ -1,4 +1,5 @@
 pub mod View
+pub mod Parses
 pub mod Errors
 pub mod Reading
 pub mod Lookahead

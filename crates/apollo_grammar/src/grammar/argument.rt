@@ -5,7 +5,7 @@ ghost use Rattle.std.specs.Prelude.{◌≡◌, true, OnOk};
 ghost use Rattle.lexical_grammar.specs.declared.TokenKind.TheVariants as token;
 ghost use Rattle.parser_rules.specs.Nodes as rule;
 ghost use Rattle.parser_rules.specs.RuleLanguage.{At, holds, Child, Call};
-ghost use Rattle.parser_rules.specs.Runs.{Runs};
+ghost use Rattle.parser_state.specs.Parses.{Parses};
 
 use super::description::{starts_named, want_named};
 use super::input::input_value_definition;
@@ -21,8 +21,7 @@ pub fn arguments<A: Allocator + Copy>(
     p: &mut ParserState<'_, A>,
     constness: Constness,
 ) -> Result<(), AllocError>
-    ensures runs { OnOk result (Runs (Call (rule.MaybeArguments constness)) p.old p.new) }
-    ensures budget { p.new.budget ≡ p.old.budget }
+    ensures { Parses (Call (rule.MaybeArguments constness)) result p.old p.new }
 {
     if !p.at(TokenKind::LParen) {
         return Ok(());
@@ -47,8 +46,7 @@ fn argument<A: Allocator + Copy>(
     constness: Constness,
 ) -> Result<(), AllocError>
     requires { true ≡ holds (At token.Name) p.old }
-    ensures runs { OnOk result (Runs (Child (rule.Argument constness)) p.old p.new) }
-    ensures budget { p.new.budget ≡ p.old.budget }
+    ensures { Parses (Child (rule.Argument constness)) result p.old p.new }
 {
     p.start_node(SyntaxKind::ARGUMENT)?;
     p.name()?;
@@ -67,8 +65,7 @@ pub fn arguments_definition<A: Allocator + Copy>(
     p: &mut ParserState<'_, A>,
 ) -> Result<(), AllocError>
     requires { true ≡ holds (At token.LParen) p.old }
-    ensures runs { OnOk result (Runs (Child rule.ArgumentsDefinition) p.old p.new) }
-    ensures budget { p.new.budget ≡ p.old.budget }
+    ensures { Parses (Child rule.ArgumentsDefinition) result p.old p.new }
 {
     p.start_node(SyntaxKind::ARGUMENTS_DEFINITION)?;
     p.bump(SyntaxKind::L_PAREN)?;
@@ -89,8 +86,7 @@ pub fn arguments_definition<A: Allocator + Copy>(
 pub fn maybe_arguments_definition<A: Allocator + Copy>(
     p: &mut ParserState<'_, A>,
 ) -> Result<(), AllocError>
-    ensures runs { OnOk result (Runs (Call rule.MaybeArgumentsDefinition) p.old p.new) }
-    ensures budget { p.new.budget ≡ p.old.budget }
+    ensures { Parses (Call rule.MaybeArgumentsDefinition) result p.old p.new }
 {
     if p.at(TokenKind::LParen) {
         return arguments_definition(p);

@@ -8,8 +8,8 @@ ghost use Rattle.document_grammar.specs.Numbers.{number};
 ghost use Rattle.parser_rules.specs.Nodes as rule;
 ghost use Rattle.parser_rules.specs.Rules as rules;
 ghost use Rattle.parser_rules.specs.RuleLanguage.{Here, At, Word, fits, holds, Child, Call, When, Do, Bump, Skip, want};
-ghost use Rattle.parser_rules.specs.Runs.{Runs};
 ghost use Rattle.parser_state.specs.View.{current_of};
+ghost use Rattle.parser_state.specs.Parses.{Parses};
 
 use document_grammar::SyntaxKind;
 use lexical_grammar::TokenKind;
@@ -20,8 +20,7 @@ use std::alloc::{AllocError, Allocator};
 /// A description (GraphQL October 2021, section 3, "Descriptions"), where a string comes next.
 pub fn description<A: Allocator + Copy>(p: &mut ParserState<'_, A>) -> Result<(), AllocError>
     requires { true ≡ holds (At token.StringValue) p.old }
-    ensures runs { OnOk result (Runs (Child rule.Description) p.old p.new) }
-    ensures budget { p.new.budget ≡ p.old.budget }
+    ensures { Parses (Child rule.Description) result p.old p.new }
 {
     p.start_node(SyntaxKind::DESCRIPTION)?;
     p.string_value()?;
@@ -31,8 +30,7 @@ pub fn description<A: Allocator + Copy>(p: &mut ParserState<'_, A>) -> Result<()
 
 /// A description, where a string comes next.
 pub fn maybe_description<A: Allocator + Copy>(p: &mut ParserState<'_, A>) -> Result<(), AllocError>
-    ensures runs { OnOk result (Runs (Call rule.MaybeDescription) p.old p.new) }
-    ensures budget { p.new.budget ≡ p.old.budget }
+    ensures { Parses (Call rule.MaybeDescription) result p.old p.new }
 {
     if p.at(TokenKind::StringValue) {
         return description(p);
@@ -46,8 +44,7 @@ pub fn described<A: Allocator + Copy>(
     keyword: SyntaxKind,
 ) -> Result<(), AllocError>
     requires { is_keyword (number keyword) ≡ true }
-    ensures runs { OnOk result (Runs (rules.described keyword) p.old p.new) }
-    ensures budget { p.new.budget ≡ p.old.budget }
+    ensures { Parses (rules.described keyword) result p.old p.new }
 {
     maybe_description(p)?;
     if p.at_word(keyword) {
@@ -69,8 +66,7 @@ pub fn want_named<A: Allocator + Copy>(
     p: &mut ParserState<'_, A>,
     message: Message,
 ) -> Result<(), AllocError>
-    ensures runs { OnOk result (Runs (want (Here rules.named_start) message) p.old p.new) }
-    ensures budget { p.new.budget ≡ p.old.budget }
+    ensures { Parses (want (Here rules.named_start) message) result p.old p.new }
 {
     if starts_named(p) {
         return Ok(());

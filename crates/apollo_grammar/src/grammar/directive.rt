@@ -7,7 +7,7 @@ ghost use Rattle.parser_rules.specs.Rules as rules;
 ghost use Rattle.parser_rules.specs.declared.message.Message.TheVariants as message;
 ghost use Rattle.parser_state.specs.View.{current_of};
 ghost use Rattle.parser_rules.specs.RuleLanguage.{Here, fits, holds, Note, Do, Child, Call};
-ghost use Rattle.parser_rules.specs.Runs.{Runs};
+ghost use Rattle.parser_state.specs.Parses.{Parses};
 
 use super::argument::{arguments, maybe_arguments_definition};
 use super::description::described;
@@ -24,8 +24,7 @@ pub fn directives<A: Allocator + Copy>(
     p: &mut ParserState<'_, A>,
     constness: Constness,
 ) -> Result<(), AllocError>
-    ensures runs { OnOk result (Runs (Call (rule.MaybeDirectives constness)) p.old p.new) }
-    ensures budget { p.new.budget ≡ p.old.budget }
+    ensures { Parses (Call (rule.MaybeDirectives constness)) result p.old p.new }
 {
     if !p.at(TokenKind::At) {
         return Ok(());
@@ -42,8 +41,7 @@ fn directive<A: Allocator + Copy>(
     p: &mut ParserState<'_, A>,
     constness: Constness,
 ) -> Result<(), AllocError>
-    ensures runs { OnOk result (Runs (Child (rule.Directive constness)) p.old p.new) }
-    ensures budget { p.new.budget ≡ p.old.budget }
+    ensures { Parses (Child (rule.Directive constness)) result p.old p.new }
 {
     p.start_node(SyntaxKind::DIRECTIVE)?;
     p.bump(SyntaxKind::AT)?;
@@ -57,8 +55,7 @@ fn directive<A: Allocator + Copy>(
 pub fn directive_definition<A: Allocator + Copy>(
     p: &mut ParserState<'_, A>,
 ) -> Result<(), AllocError>
-    ensures runs { OnOk result (Runs (Child rule.DirectiveDefinition) p.old p.new) }
-    ensures budget { p.new.budget ≡ p.old.budget }
+    ensures { Parses (Child rule.DirectiveDefinition) result p.old p.new }
 {
     p.start_node(SyntaxKind::DIRECTIVE_DEFINITION)?;
     described(p, SyntaxKind::directive_KW)?;
@@ -72,8 +69,7 @@ pub fn directive_definition<A: Allocator + Copy>(
 
 // The name of a directive that is defined, after `@`.
 fn directive_name<A: Allocator + Copy>(p: &mut ParserState<'_, A>) -> Result<(), AllocError>
-    ensures runs { OnOk result (Runs (Call rule.DirectiveName) p.old p.new) }
-    ensures budget { p.new.budget ≡ p.old.budget }
+    ensures { Parses (Call rule.DirectiveName) result p.old p.new }
 {
     p.expect(TokenKind::At, SyntaxKind::AT, Message::ExpectedAt)?;
     name(p)
@@ -81,8 +77,7 @@ fn directive_name<A: Allocator + Copy>(p: &mut ParserState<'_, A>) -> Result<(),
 
 // The places where the directive may be, after `on`.
 fn on_locations<A: Allocator + Copy>(p: &mut ParserState<'_, A>) -> Result<(), AllocError>
-    ensures runs { OnOk result (Runs (Call rule.OnLocations) p.old p.new) }
-    ensures budget { p.new.budget ≡ p.old.budget }
+    ensures { Parses (Call rule.OnLocations) result p.old p.new }
 {
     p.expect_word(SyntaxKind::on_KW, Message::ExpectedLocations)?;
     if starts_locations(p) {
@@ -100,8 +95,7 @@ fn starts_locations<A: Allocator + Copy>(p: &ParserState<'_, A>) -> bool
 
 // The places where a directive may be.
 fn directive_locations<A: Allocator + Copy>(p: &mut ParserState<'_, A>) -> Result<(), AllocError>
-    ensures runs { OnOk result (Runs (Child rule.DirectiveLocations) p.old p.new) }
-    ensures budget { p.new.budget ≡ p.old.budget }
+    ensures { Parses (Child rule.DirectiveLocations) result p.old p.new }
 {
     p.start_node(SyntaxKind::DIRECTIVE_LOCATIONS)?;
     p.skip(TokenKind::Pipe, SyntaxKind::PIPE)?;
@@ -116,8 +110,7 @@ fn directive_locations<A: Allocator + Copy>(p: &mut ParserState<'_, A>) -> Resul
 
 // A place where a directive may be.
 fn location<A: Allocator + Copy>(p: &mut ParserState<'_, A>) -> Result<(), AllocError>
-    ensures runs { OnOk result (Runs (Call rule.Location) p.old p.new) }
-    ensures budget { p.new.budget ≡ p.old.budget }
+    ensures { Parses (Call rule.Location) result p.old p.new }
 {
     if at_location(p) {
         return directive_location(p);
@@ -165,8 +158,7 @@ fn is_type_system_location(token: Option<Token<'_>>) -> bool
 }
 
 fn directive_location<A: Allocator + Copy>(p: &mut ParserState<'_, A>) -> Result<(), AllocError>
-    ensures runs { OnOk result (Runs (Child rule.DirectiveLocation) p.old p.new) }
-    ensures budget { p.new.budget ≡ p.old.budget }
+    ensures { Parses (Child rule.DirectiveLocation) result p.old p.new }
 {
     p.start_node(SyntaxKind::DIRECTIVE_LOCATION)?;
     executable_location(p)?;
@@ -175,8 +167,7 @@ fn directive_location<A: Allocator + Copy>(p: &mut ParserState<'_, A>) -> Result
 }
 
 fn executable_location<A: Allocator + Copy>(p: &mut ParserState<'_, A>) -> Result<(), AllocError>
-    ensures runs { OnOk result (Runs (rules.word_of rules.executable_locations (rules.word_of rules.type_system_locations (Do (Note message.ExpectedLocation)))) p.old p.new) }
-    ensures budget { p.new.budget ≡ p.old.budget }
+    ensures { Parses (rules.word_of rules.executable_locations (rules.word_of rules.type_system_locations (Do (Note message.ExpectedLocation)))) result p.old p.new }
 {
     if p.at_word(SyntaxKind::QUERY_KW) {
         return p.bump(SyntaxKind::QUERY_KW);
@@ -206,8 +197,7 @@ fn executable_location<A: Allocator + Copy>(p: &mut ParserState<'_, A>) -> Resul
 }
 
 fn type_system_location<A: Allocator + Copy>(p: &mut ParserState<'_, A>) -> Result<(), AllocError>
-    ensures runs { OnOk result (Runs (rules.word_of rules.type_system_locations (Do (Note message.ExpectedLocation))) p.old p.new) }
-    ensures budget { p.new.budget ≡ p.old.budget }
+    ensures { Parses (rules.word_of rules.type_system_locations (Do (Note message.ExpectedLocation))) result p.old p.new }
 {
     if p.at_word(SyntaxKind::SCHEMA_KW) {
         return p.bump(SyntaxKind::SCHEMA_KW);
@@ -234,8 +224,7 @@ fn type_system_location<A: Allocator + Copy>(p: &mut ParserState<'_, A>) -> Resu
 }
 
 fn enum_or_input_location<A: Allocator + Copy>(p: &mut ParserState<'_, A>) -> Result<(), AllocError>
-    ensures runs { OnOk result (Runs (rules.word_of rules.enum_and_input_locations (Do (Note message.ExpectedLocation))) p.old p.new) }
-    ensures budget { p.new.budget ≡ p.old.budget }
+    ensures { Parses (rules.word_of rules.enum_and_input_locations (Do (Note message.ExpectedLocation))) result p.old p.new }
 {
     if p.at_word(SyntaxKind::ENUM_KW) {
         return p.bump(SyntaxKind::ENUM_KW);

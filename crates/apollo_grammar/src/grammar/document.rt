@@ -5,9 +5,9 @@ ghost use Rattle.std.specs.Prelude.{◌≡◌, true, OnOk};
 ghost use Rattle.parser_rules.specs.Nodes as rule;
 ghost use Rattle.parser_rules.specs.Rules as rules;
 ghost use Rattle.parser_rules.specs.RuleLanguage.{fits, Here, Next, holds, Call};
-ghost use Rattle.parser_rules.specs.Runs.{Runs};
 ghost use Rattle.parser_rules.specs.State.{second};
 ghost use Rattle.parser_state.specs.View.{current_of};
+ghost use Rattle.parser_state.specs.Parses.{Parses};
 
 use super::directive::directive_definition;
 use super::enum_::enum_type_definition;
@@ -29,8 +29,7 @@ use std::alloc::{AllocError, Allocator};
 
 /// A document (GraphQL October 2021, section 2.2, "Document"), up to the end of the text.
 pub fn document<A: Allocator + Copy>(p: &mut ParserState<'_, A>) -> Result<(), AllocError>
-    ensures runs { OnOk result (Runs (Call rule.Document) p.old p.new) }
-    ensures budget { p.new.budget ≡ p.old.budget }
+    ensures { Parses (Call rule.Document) result p.old p.new }
 {
     p.want_ready(Message::UnexpectedEof)?;
     while p.is_ready() {
@@ -41,8 +40,7 @@ pub fn document<A: Allocator + Copy>(p: &mut ParserState<'_, A>) -> Result<(), A
 
 // A definition, or a token in its place that is popped.
 fn definition<A: Allocator + Copy>(p: &mut ParserState<'_, A>) -> Result<(), AllocError>
-    ensures runs { OnOk result (Runs (Call rule.Definition) p.old p.new) }
-    ensures budget { p.new.budget ≡ p.old.budget }
+    ensures { Parses (Call rule.Definition) result p.old p.new }
 {
     if starts_operation(p) {
         return operation_definition(p);
@@ -61,8 +59,7 @@ fn definition<A: Allocator + Copy>(p: &mut ParserState<'_, A>) -> Result<(), All
 
 // A definition of the type system by its keyword, or a token in the place of a definition that is popped.
 fn type_system_definition<A: Allocator + Copy>(p: &mut ParserState<'_, A>) -> Result<(), AllocError>
-    ensures runs { OnOk result (Runs (rules.type_system Here rules.no_definition) p.old p.new) }
-    ensures budget { p.new.budget ≡ p.old.budget }
+    ensures { Parses (rules.type_system Here rules.no_definition) result p.old p.new }
 {
     if p.at_word(SyntaxKind::schema_KW) {
         return schema_definition(p);
@@ -75,8 +72,7 @@ fn type_system_definition<A: Allocator + Copy>(p: &mut ParserState<'_, A>) -> Re
 
 // The same for the definition of a type.
 fn type_definition<A: Allocator + Copy>(p: &mut ParserState<'_, A>) -> Result<(), AllocError>
-    ensures runs { OnOk result (Runs (rules.type_definition Here rules.no_definition) p.old p.new) }
-    ensures budget { p.new.budget ≡ p.old.budget }
+    ensures { Parses (rules.type_definition Here rules.no_definition) result p.old p.new }
 {
     if p.at_word(SyntaxKind::scalar_KW) {
         return scalar_type_definition(p);
@@ -101,8 +97,7 @@ fn type_definition<A: Allocator + Copy>(p: &mut ParserState<'_, A>) -> Result<()
 
 // A token in the place of a definition.
 fn no_definition<A: Allocator + Copy>(p: &mut ParserState<'_, A>) -> Result<(), AllocError>
-    ensures runs { OnOk result (Runs rules.no_definition p.old p.new) }
-    ensures budget { p.new.budget ≡ p.old.budget }
+    ensures { Parses rules.no_definition result p.old p.new }
 {
     if p.at(TokenKind::Name) {
         return p.err_and_pop(Message::ExpectedDefinition);
@@ -133,8 +128,7 @@ fn starts_operation<A: Allocator + Copy>(p: &ParserState<'_, A>) -> bool
 // A definition with its description: the token after the string says which.
 #[tactic(auto, using(crate::proofs::Looks::looking), unfolding(parser_rules::specs::Rules::body, parser_rules::specs::RuleLanguage::holds))]
 fn described<A: Allocator + Copy>(p: &mut ParserState<'_, A>) -> Result<(), AllocError>
-    ensures runs { OnOk result (Runs (Call rule.Described) p.old p.new) }
-    ensures budget { p.new.budget ≡ p.old.budget }
+    ensures { Parses (Call rule.Described) result p.old p.new }
 {
     let next = p.peek();
     described_by(p, next)
@@ -147,8 +141,7 @@ fn described_by<A: Allocator + Copy>(
     next: Option<Token<'_>>,
 ) -> Result<(), AllocError>
     requires { current_of next ≡ second p.old.items }
-    ensures runs { OnOk result (Runs (Call rule.Described) p.old p.new) }
-    ensures budget { p.new.budget ≡ p.old.budget }
+    ensures { Parses (Call rule.Described) result p.old p.new }
 {
     if is_operation_type(next) {
         return operation_definition(p);
@@ -172,8 +165,7 @@ fn described_type_system<A: Allocator + Copy>(
     next: Option<Token<'_>>,
 ) -> Result<(), AllocError>
     requires { current_of next ≡ second p.old.items }
-    ensures runs { OnOk result (Runs (rules.type_system Next rules.no_described) p.old p.new) }
-    ensures budget { p.new.budget ≡ p.old.budget }
+    ensures { Parses (rules.type_system Next rules.no_described) result p.old p.new }
 {
     if is_word(next, SyntaxKind::schema_KW) {
         return schema_definition(p);
@@ -191,8 +183,7 @@ fn described_type<A: Allocator + Copy>(
     next: Option<Token<'_>>,
 ) -> Result<(), AllocError>
     requires { current_of next ≡ second p.old.items }
-    ensures runs { OnOk result (Runs (rules.type_definition Next rules.no_described) p.old p.new) }
-    ensures budget { p.new.budget ≡ p.old.budget }
+    ensures { Parses (rules.type_definition Next rules.no_described) result p.old p.new }
 {
     if is_word(next, SyntaxKind::scalar_KW) {
         return scalar_type_definition(p);

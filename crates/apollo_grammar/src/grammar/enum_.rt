@@ -6,8 +6,8 @@ ghost use Rattle.lexical_grammar.specs.declared.TokenKind.TheVariants as token;
 ghost use Rattle.parser_rules.specs.Nodes as rule;
 ghost use Rattle.parser_rules.specs.Rules as rules;
 ghost use Rattle.parser_rules.specs.RuleLanguage.{Here, At, Word, fits, holds, Child, Call, When, Do, Bump, Skip};
-ghost use Rattle.parser_rules.specs.Runs.{Runs};
 ghost use Rattle.parser_state.specs.View.{current_of};
+ghost use Rattle.parser_state.specs.Parses.{Parses};
 
 use super::description::{described, maybe_description, starts_named, want_named};
 use super::directive::directives;
@@ -23,8 +23,7 @@ use std::alloc::{AllocError, Allocator};
 pub fn enum_type_definition<A: Allocator + Copy>(
     p: &mut ParserState<'_, A>,
 ) -> Result<(), AllocError>
-    ensures runs { OnOk result (Runs (Child rule.EnumTypeDefinition) p.old p.new) }
-    ensures budget { p.new.budget ≡ p.old.budget }
+    ensures { Parses (Child rule.EnumTypeDefinition) result p.old p.new }
 {
     p.start_node(SyntaxKind::ENUM_TYPE_DEFINITION)?;
     described(p, SyntaxKind::enum_KW)?;
@@ -41,8 +40,7 @@ pub fn enum_type_definition<A: Allocator + Copy>(
 pub fn enum_type_extension<A: Allocator + Copy>(
     p: &mut ParserState<'_, A>,
 ) -> Result<(), AllocError>
-    ensures runs { OnOk result (Runs (Child rule.EnumTypeExtension) p.old p.new) }
-    ensures budget { p.new.budget ≡ p.old.budget }
+    ensures { Parses (Child rule.EnumTypeExtension) result p.old p.new }
 {
     p.start_node(SyntaxKind::ENUM_TYPE_EXTENSION)?;
     p.bump(SyntaxKind::extend_KW)?;
@@ -65,8 +63,7 @@ pub fn enum_type_extension<A: Allocator + Copy>(
 // The values of an enum, where `{` comes next.
 fn enum_values_definition<A: Allocator + Copy>(p: &mut ParserState<'_, A>) -> Result<(), AllocError>
     requires { true ≡ holds (At token.LCurly) p.old }
-    ensures runs { OnOk result (Runs (Child rule.EnumValuesDefinition) p.old p.new) }
-    ensures budget { p.new.budget ≡ p.old.budget }
+    ensures { Parses (Child rule.EnumValuesDefinition) result p.old p.new }
 {
     p.start_node(SyntaxKind::ENUM_VALUES_DEFINITION)?;
     p.bump(SyntaxKind::L_CURLY)?;
@@ -85,8 +82,7 @@ fn enum_values_definition<A: Allocator + Copy>(p: &mut ParserState<'_, A>) -> Re
 
 // The definition of an enum's value.
 fn enum_value_definition<A: Allocator + Copy>(p: &mut ParserState<'_, A>) -> Result<(), AllocError>
-    ensures runs { OnOk result (Runs (Child rule.EnumValueDefinition) p.old p.new) }
-    ensures budget { p.new.budget ≡ p.old.budget }
+    ensures { Parses (Child rule.EnumValueDefinition) result p.old p.new }
 {
     p.start_node(SyntaxKind::ENUM_VALUE_DEFINITION)?;
     maybe_description(p)?;

@@ -6,9 +6,9 @@ ghost use Rattle.lexical_grammar.specs.declared.TokenKind.TheVariants as token;
 ghost use Rattle.parser_rules.specs.Nodes as rule;
 ghost use Rattle.parser_rules.specs.Rules as rules;
 ghost use Rattle.parser_rules.specs.RuleLanguage.{Here, At, Word, fits, holds, Child, Call, When, Do, Bump, Skip};
-ghost use Rattle.parser_rules.specs.Runs.{Runs};
 ghost use Rattle.parser_rules.specs.State.{second};
 ghost use Rattle.parser_state.specs.View.{current_of};
+ghost use Rattle.parser_state.specs.Parses.{Parses};
 
 use super::enum_::enum_type_extension;
 use super::input::input_object_type_extension;
@@ -26,8 +26,7 @@ use std::alloc::{AllocError, Allocator};
 
 /// An extension of the type system (GraphQL October 2021, section 3, "Type System Extensions"), where `extend` comes next.
 pub fn extensions<A: Allocator + Copy>(p: &mut ParserState<'_, A>) -> Result<(), AllocError>
-    ensures runs { OnOk result (Runs (Call rule.Extension) p.old p.new) }
-    ensures budget { p.new.budget ≡ p.old.budget }
+    ensures { Parses (Call rule.Extension) result p.old p.new }
 {
     let next = p.peek();
     extension(p, next)
@@ -39,8 +38,7 @@ fn extension<A: Allocator + Copy>(
     next: Option<Token<'_>>,
 ) -> Result<(), AllocError>
     requires { current_of next ≡ second p.old.items }
-    ensures runs { OnOk result (Runs (Call rule.Extension) p.old p.new) }
-    ensures budget { p.new.budget ≡ p.old.budget }
+    ensures { Parses (Call rule.Extension) result p.old p.new }
 {
     if is_word(next, SyntaxKind::schema_KW) {
         return schema_extension(p);

@@ -6,7 +6,7 @@ ghost use Rattle.lexical_grammar.specs.declared.TokenKind.TheVariants as token;
 ghost use Rattle.parser_rules.specs.Nodes as rule;
 ghost use Rattle.parser_rules.specs.Rules as rules;
 ghost use Rattle.parser_rules.specs.RuleLanguage.{Here, At, holds, Child, Call};
-ghost use Rattle.parser_rules.specs.Runs.{Runs};
+ghost use Rattle.parser_state.specs.Parses.{Parses};
 
 use super::argument::{arguments, maybe_arguments_definition};
 use super::description::{maybe_description, starts_named, want_named};
@@ -24,8 +24,7 @@ use std::alloc::{AllocError, Allocator};
 #[cycle(selection)]
 pub fn field<A: Allocator + Copy>(p: &mut ParserState<'_, A>) -> Result<(), AllocError>
     requires { true ≡ holds (At token.Name) p.old }
-    ensures runs { OnOk result (Runs (Child rule.Field) p.old p.new) }
-    ensures budget { p.new.budget ≡ p.old.budget }
+    ensures { Parses (Child rule.Field) result p.old p.new }
 {
     p.start_node(SyntaxKind::FIELD)?;
     aliased_name(p)?;
@@ -41,8 +40,7 @@ pub fn field<A: Allocator + Copy>(p: &mut ParserState<'_, A>) -> Result<(), Allo
 /// The fields of a type (GraphQL October 2021, section 3.6, "Objects"), where `{` comes next.
 pub fn fields_definition<A: Allocator + Copy>(p: &mut ParserState<'_, A>) -> Result<(), AllocError>
     requires { true ≡ holds (At token.LCurly) p.old }
-    ensures runs { OnOk result (Runs (Child rule.FieldsDefinition) p.old p.new) }
-    ensures budget { p.new.budget ≡ p.old.budget }
+    ensures { Parses (Child rule.FieldsDefinition) result p.old p.new }
 {
     p.start_node(SyntaxKind::FIELDS_DEFINITION)?;
     p.bump(SyntaxKind::L_CURLY)?;
@@ -62,8 +60,7 @@ pub fn fields_definition<A: Allocator + Copy>(p: &mut ParserState<'_, A>) -> Res
 // The definition of a field.
 fn field_definition<A: Allocator + Copy>(p: &mut ParserState<'_, A>) -> Result<(), AllocError>
     requires { true ≡ holds (Here rules.named_start) p.old }
-    ensures runs { OnOk result (Runs (Child rule.FieldDefinition) p.old p.new) }
-    ensures budget { p.new.budget ≡ p.old.budget }
+    ensures { Parses (Child rule.FieldDefinition) result p.old p.new }
 {
     p.start_node(SyntaxKind::FIELD_DEFINITION)?;
     maybe_description(p)?;
@@ -81,8 +78,7 @@ fn field_definition<A: Allocator + Copy>(p: &mut ParserState<'_, A>) -> Result<(
 
 // What follows a field's `:`.
 fn field_type<A: Allocator + Copy>(p: &mut ParserState<'_, A>) -> Result<(), AllocError>
-    ensures runs { OnOk result (Runs (Call rule.FieldType) p.old p.new) }
-    ensures budget { p.new.budget ≡ p.old.budget }
+    ensures { Parses (Call rule.FieldType) result p.old p.new }
 {
     if !starts_type(p) {
         return p.err(Message::ExpectedType);

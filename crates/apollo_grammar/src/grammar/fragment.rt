@@ -5,7 +5,7 @@ ghost use Rattle.std.specs.Prelude.{◌≡◌, true, OnOk};
 ghost use Rattle.lexical_grammar.specs.declared.TokenKind.TheVariants as token;
 ghost use Rattle.parser_rules.specs.Nodes as rule;
 ghost use Rattle.parser_rules.specs.RuleLanguage.{At, holds, Child, Call};
-ghost use Rattle.parser_rules.specs.Runs.{Runs};
+ghost use Rattle.parser_state.specs.Parses.{Parses};
 
 use super::description::described;
 use super::directive::directives;
@@ -21,8 +21,7 @@ use std::alloc::{AllocError, Allocator};
 pub fn fragment_definition<A: Allocator + Copy>(
     p: &mut ParserState<'_, A>,
 ) -> Result<(), AllocError>
-    ensures runs { OnOk result (Runs (Child rule.FragmentDefinition) p.old p.new) }
-    ensures budget { p.new.budget ≡ p.old.budget }
+    ensures { Parses (Child rule.FragmentDefinition) result p.old p.new }
 {
     p.start_node(SyntaxKind::FRAGMENT_DEFINITION)?;
     described(p, SyntaxKind::fragment_KW)?;
@@ -40,8 +39,7 @@ pub fn fragment_definition<A: Allocator + Copy>(
 
 // The name of a fragment, which is not `on`.
 fn fragment_name<A: Allocator + Copy>(p: &mut ParserState<'_, A>) -> Result<(), AllocError>
-    ensures runs { OnOk result (Runs (Child rule.FragmentName) p.old p.new) }
-    ensures budget { p.new.budget ≡ p.old.budget }
+    ensures { Parses (Child rule.FragmentName) result p.old p.new }
 {
     p.start_node(SyntaxKind::FRAGMENT_NAME)?;
     if p.at_word(SyntaxKind::on_KW) {
@@ -57,8 +55,7 @@ fn fragment_name<A: Allocator + Copy>(p: &mut ParserState<'_, A>) -> Result<(), 
 
 // A type condition (section 2.8.1, "Type Conditions").
 fn type_condition<A: Allocator + Copy>(p: &mut ParserState<'_, A>) -> Result<(), AllocError>
-    ensures runs { OnOk result (Runs (Child rule.TypeCondition) p.old p.new) }
-    ensures budget { p.new.budget ≡ p.old.budget }
+    ensures { Parses (Child rule.TypeCondition) result p.old p.new }
 {
     p.start_node(SyntaxKind::TYPE_CONDITION)?;
     p.expect_word(SyntaxKind::on_KW, Message::ExpectedOn)?;
@@ -73,8 +70,7 @@ fn type_condition<A: Allocator + Copy>(p: &mut ParserState<'_, A>) -> Result<(),
 
 // A type condition, where a name comes next.
 fn maybe_type_condition<A: Allocator + Copy>(p: &mut ParserState<'_, A>) -> Result<(), AllocError>
-    ensures runs { OnOk result (Runs (Call rule.MaybeTypeCondition) p.old p.new) }
-    ensures budget { p.new.budget ≡ p.old.budget }
+    ensures { Parses (Call rule.MaybeTypeCondition) result p.old p.new }
 {
     if p.at(TokenKind::Name) {
         return type_condition(p);
@@ -86,8 +82,7 @@ fn maybe_type_condition<A: Allocator + Copy>(p: &mut ParserState<'_, A>) -> Resu
 #[cycle(selection)]
 pub fn inline_fragment<A: Allocator + Copy>(p: &mut ParserState<'_, A>) -> Result<(), AllocError>
     requires { true ≡ holds (At token.Spread) p.old }
-    ensures runs { OnOk result (Runs (Child rule.InlineFragment) p.old p.new) }
-    ensures budget { p.new.budget ≡ p.old.budget }
+    ensures { Parses (Child rule.InlineFragment) result p.old p.new }
 {
     p.start_node(SyntaxKind::INLINE_FRAGMENT)?;
     p.bump(SyntaxKind::SPREAD)?;
@@ -104,8 +99,7 @@ pub fn inline_fragment<A: Allocator + Copy>(p: &mut ParserState<'_, A>) -> Resul
 
 /// A fragment spread (GraphQL October 2021, section 2.8, "Fragments").
 pub fn fragment_spread<A: Allocator + Copy>(p: &mut ParserState<'_, A>) -> Result<(), AllocError>
-    ensures runs { OnOk result (Runs (Child rule.FragmentSpread) p.old p.new) }
-    ensures budget { p.new.budget ≡ p.old.budget }
+    ensures { Parses (Child rule.FragmentSpread) result p.old p.new }
 {
     p.start_node(SyntaxKind::FRAGMENT_SPREAD)?;
     p.bump(SyntaxKind::SPREAD)?;

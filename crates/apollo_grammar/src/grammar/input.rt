@@ -6,8 +6,8 @@ ghost use Rattle.lexical_grammar.specs.declared.TokenKind.TheVariants as token;
 ghost use Rattle.parser_rules.specs.Nodes as rule;
 ghost use Rattle.parser_rules.specs.Rules as rules;
 ghost use Rattle.parser_rules.specs.RuleLanguage.{Here, At, Word, fits, holds, Child, Call, When, Do, Bump, Skip};
-ghost use Rattle.parser_rules.specs.Runs.{Runs};
 ghost use Rattle.parser_state.specs.View.{current_of};
+ghost use Rattle.parser_state.specs.Parses.{Parses};
 
 use super::description::{described, maybe_description, starts_named, want_named};
 use super::directive::directives;
@@ -23,8 +23,7 @@ use std::alloc::{AllocError, Allocator};
 pub fn input_object_type_definition<A: Allocator + Copy>(
     p: &mut ParserState<'_, A>,
 ) -> Result<(), AllocError>
-    ensures runs { OnOk result (Runs (Child rule.InputObjectTypeDefinition) p.old p.new) }
-    ensures budget { p.new.budget ≡ p.old.budget }
+    ensures { Parses (Child rule.InputObjectTypeDefinition) result p.old p.new }
 {
     p.start_node(SyntaxKind::INPUT_OBJECT_TYPE_DEFINITION)?;
     described(p, SyntaxKind::input_KW)?;
@@ -41,8 +40,7 @@ pub fn input_object_type_definition<A: Allocator + Copy>(
 pub fn input_object_type_extension<A: Allocator + Copy>(
     p: &mut ParserState<'_, A>,
 ) -> Result<(), AllocError>
-    ensures runs { OnOk result (Runs (Child rule.InputObjectTypeExtension) p.old p.new) }
-    ensures budget { p.new.budget ≡ p.old.budget }
+    ensures { Parses (Child rule.InputObjectTypeExtension) result p.old p.new }
 {
     p.start_node(SyntaxKind::INPUT_OBJECT_TYPE_EXTENSION)?;
     p.bump(SyntaxKind::extend_KW)?;
@@ -67,8 +65,7 @@ fn input_fields_definition<A: Allocator + Copy>(
     p: &mut ParserState<'_, A>,
 ) -> Result<(), AllocError>
     requires { true ≡ holds (At token.LCurly) p.old }
-    ensures runs { OnOk result (Runs (Child rule.InputFieldsDefinition) p.old p.new) }
-    ensures budget { p.new.budget ≡ p.old.budget }
+    ensures { Parses (Child rule.InputFieldsDefinition) result p.old p.new }
 {
     p.start_node(SyntaxKind::INPUT_FIELDS_DEFINITION)?;
     p.bump(SyntaxKind::L_CURLY)?;
@@ -90,8 +87,7 @@ pub fn input_value_definition<A: Allocator + Copy>(
     p: &mut ParserState<'_, A>,
 ) -> Result<(), AllocError>
     requires { true ≡ holds (Here rules.named_start) p.old }
-    ensures runs { OnOk result (Runs (Child rule.InputValueDefinition) p.old p.new) }
-    ensures budget { p.new.budget ≡ p.old.budget }
+    ensures { Parses (Child rule.InputValueDefinition) result p.old p.new }
 {
     p.start_node(SyntaxKind::INPUT_VALUE_DEFINITION)?;
     maybe_description(p)?;

@@ -6,8 +6,8 @@ ghost use Rattle.lexical_grammar.specs.declared.TokenKind.TheVariants as token;
 ghost use Rattle.parser_rules.specs.Nodes as rule;
 ghost use Rattle.parser_rules.specs.Rules as rules;
 ghost use Rattle.parser_rules.specs.RuleLanguage.{Here, At, Word, fits, holds, Child, Call, When, Do, Bump, Skip};
-ghost use Rattle.parser_rules.specs.Runs.{Runs};
 ghost use Rattle.parser_state.specs.View.{current_of};
+ghost use Rattle.parser_state.specs.Parses.{Parses};
 
 use super::description::described;
 use super::name::name;
@@ -22,8 +22,7 @@ use std::alloc::{AllocError, Allocator};
 pub fn interface_type_definition<A: Allocator + Copy>(
     p: &mut ParserState<'_, A>,
 ) -> Result<(), AllocError>
-    ensures runs { OnOk result (Runs (Child rule.InterfaceTypeDefinition) p.old p.new) }
-    ensures budget { p.new.budget ≡ p.old.budget }
+    ensures { Parses (Child rule.InterfaceTypeDefinition) result p.old p.new }
 {
     p.start_node(SyntaxKind::INTERFACE_TYPE_DEFINITION)?;
     described(p, SyntaxKind::interface_KW)?;
@@ -37,8 +36,7 @@ pub fn interface_type_definition<A: Allocator + Copy>(
 pub fn interface_type_extension<A: Allocator + Copy>(
     p: &mut ParserState<'_, A>,
 ) -> Result<(), AllocError>
-    ensures runs { OnOk result (Runs (Child rule.InterfaceTypeExtension) p.old p.new) }
-    ensures budget { p.new.budget ≡ p.old.budget }
+    ensures { Parses (Child rule.InterfaceTypeExtension) result p.old p.new }
 {
     p.start_node(SyntaxKind::INTERFACE_TYPE_EXTENSION)?;
     p.bump(SyntaxKind::extend_KW)?;

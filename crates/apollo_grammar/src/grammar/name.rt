@@ -5,9 +5,9 @@ ghost use Rattle.std.specs.Prelude.{◌≡◌, true, OnOk};
 ghost use Rattle.lexical_grammar.specs.declared.TokenKind.TheVariants as token;
 ghost use Rattle.parser_rules.specs.Nodes as rule;
 ghost use Rattle.parser_rules.specs.RuleLanguage.{At, holds, Child, Call};
-ghost use Rattle.parser_rules.specs.Runs.{Runs};
 ghost use Rattle.parser_rules.specs.State.{second};
 ghost use Rattle.parser_state.specs.View.{current_of};
+ghost use Rattle.parser_state.specs.Parses.{Parses};
 
 use apollo_lexer::Token;
 use document_grammar::SyntaxKind;
@@ -18,8 +18,7 @@ use std::alloc::{AllocError, Allocator};
 
 /// A name (GraphQL October 2021, section 2.1.9, "Names").
 pub fn name<A: Allocator + Copy>(p: &mut ParserState<'_, A>) -> Result<(), AllocError>
-    ensures runs { OnOk result (Runs (Call rule.Named) p.old p.new) }
-    ensures budget { p.new.budget ≡ p.old.budget }
+    ensures { Parses (Call rule.Named) result p.old p.new }
 {
     if p.at(TokenKind::Name) {
         return p.name();
@@ -29,8 +28,7 @@ pub fn name<A: Allocator + Copy>(p: &mut ParserState<'_, A>) -> Result<(), Alloc
 
 /// A name, where one comes next.
 pub fn maybe_name<A: Allocator + Copy>(p: &mut ParserState<'_, A>) -> Result<(), AllocError>
-    ensures runs { OnOk result (Runs (Call rule.MaybeName) p.old p.new) }
-    ensures budget { p.new.budget ≡ p.old.budget }
+    ensures { Parses (Call rule.MaybeName) result p.old p.new }
 {
     if p.at(TokenKind::Name) {
         return p.name();
@@ -41,8 +39,7 @@ pub fn maybe_name<A: Allocator + Copy>(p: &mut ParserState<'_, A>) -> Result<(),
 /// A field's alias (GraphQL October 2021, section 2.7, "Field Alias").
 fn alias<A: Allocator + Copy>(p: &mut ParserState<'_, A>) -> Result<(), AllocError>
     requires { true ≡ holds (At token.Name) p.old }
-    ensures runs { OnOk result (Runs (Child rule.Alias) p.old p.new) }
-    ensures budget { p.new.budget ≡ p.old.budget }
+    ensures { Parses (Child rule.Alias) result p.old p.new }
 {
     p.start_node(SyntaxKind::ALIAS)?;
     p.name()?;
@@ -54,8 +51,7 @@ fn alias<A: Allocator + Copy>(p: &mut ParserState<'_, A>) -> Result<(), AllocErr
 /// A field's name, with its alias.
 pub fn aliased_name<A: Allocator + Copy>(p: &mut ParserState<'_, A>) -> Result<(), AllocError>
     requires { true ≡ holds (At token.Name) p.old }
-    ensures runs { OnOk result (Runs (Call rule.AliasedName) p.old p.new) }
-    ensures budget { p.new.budget ≡ p.old.budget }
+    ensures { Parses (Call rule.AliasedName) result p.old p.new }
 {
     let next = p.peek();
     name_before(p, next)
@@ -69,8 +65,7 @@ fn name_before<A: Allocator + Copy>(
 ) -> Result<(), AllocError>
     requires at { true ≡ holds (At token.Name) p.old }
     requires after { current_of next ≡ second p.old.items }
-    ensures runs { OnOk result (Runs (Call rule.AliasedName) p.old p.new) }
-    ensures budget { p.new.budget ≡ p.old.budget }
+    ensures { Parses (Call rule.AliasedName) result p.old p.new }
 {
     if is_kind(next, TokenKind::Colon) {
         alias(p)?;

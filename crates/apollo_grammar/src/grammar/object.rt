@@ -6,8 +6,8 @@ ghost use Rattle.lexical_grammar.specs.declared.TokenKind.TheVariants as token;
 ghost use Rattle.parser_rules.specs.Nodes as rule;
 ghost use Rattle.parser_rules.specs.Rules as rules;
 ghost use Rattle.parser_rules.specs.RuleLanguage.{Here, At, Word, fits, holds, Child, Call, When, Do, Bump, Skip};
-ghost use Rattle.parser_rules.specs.Runs.{Runs};
 ghost use Rattle.parser_state.specs.View.{current_of};
+ghost use Rattle.parser_state.specs.Parses.{Parses};
 
 use super::description::described;
 use super::directive::directives;
@@ -24,8 +24,7 @@ use std::alloc::{AllocError, Allocator};
 pub fn object_type_definition<A: Allocator + Copy>(
     p: &mut ParserState<'_, A>,
 ) -> Result<(), AllocError>
-    ensures runs { OnOk result (Runs (Child rule.ObjectTypeDefinition) p.old p.new) }
-    ensures budget { p.new.budget ≡ p.old.budget }
+    ensures { Parses (Child rule.ObjectTypeDefinition) result p.old p.new }
 {
     p.start_node(SyntaxKind::OBJECT_TYPE_DEFINITION)?;
     described(p, SyntaxKind::type_KW)?;
@@ -37,8 +36,7 @@ pub fn object_type_definition<A: Allocator + Copy>(
 
 // The name of an object type.
 fn type_name<A: Allocator + Copy>(p: &mut ParserState<'_, A>) -> Result<(), AllocError>
-    ensures runs { OnOk result (Runs (Call rule.TypeName) p.old p.new) }
-    ensures budget { p.new.budget ≡ p.old.budget }
+    ensures { Parses (Call rule.TypeName) result p.old p.new }
 {
     if p.at(TokenKind::Name) {
         return p.name();
@@ -50,8 +48,7 @@ fn type_name<A: Allocator + Copy>(p: &mut ParserState<'_, A>) -> Result<(), Allo
 pub fn object_type_extension<A: Allocator + Copy>(
     p: &mut ParserState<'_, A>,
 ) -> Result<(), AllocError>
-    ensures runs { OnOk result (Runs (Child rule.ObjectTypeExtension) p.old p.new) }
-    ensures budget { p.new.budget ≡ p.old.budget }
+    ensures { Parses (Child rule.ObjectTypeExtension) result p.old p.new }
 {
     p.start_node(SyntaxKind::OBJECT_TYPE_EXTENSION)?;
     p.bump(SyntaxKind::extend_KW)?;
@@ -67,8 +64,7 @@ pub fn implementing<A: Allocator + Copy>(
     p: &mut ParserState<'_, A>,
     message: Message,
 ) -> Result<(), AllocError>
-    ensures runs { OnOk result (Runs (rules.implementing message) p.old p.new) }
-    ensures budget { p.new.budget ≡ p.old.budget }
+    ensures { Parses (rules.implementing message) result p.old p.new }
 {
     if p.at_word(SyntaxKind::implements_KW) {
         implements_interfaces(p)?;
@@ -93,8 +89,7 @@ pub fn implementing<A: Allocator + Copy>(
 
 /// What follows the name of an object type or of an interface that is defined.
 pub fn type_parts<A: Allocator + Copy>(p: &mut ParserState<'_, A>) -> Result<(), AllocError>
-    ensures runs { OnOk result (Runs rules.type_parts p.old p.new) }
-    ensures budget { p.new.budget ≡ p.old.budget }
+    ensures { Parses rules.type_parts result p.old p.new }
 {
     maybe_implements(p)?;
     directives(p, Constness::Const)?;
@@ -106,8 +101,7 @@ pub fn type_parts<A: Allocator + Copy>(p: &mut ParserState<'_, A>) -> Result<(),
 
 // The interfaces that a type implements, where `implements` comes next.
 fn maybe_implements<A: Allocator + Copy>(p: &mut ParserState<'_, A>) -> Result<(), AllocError>
-    ensures runs { OnOk result (Runs (Call rule.MaybeImplements) p.old p.new) }
-    ensures budget { p.new.budget ≡ p.old.budget }
+    ensures { Parses (Call rule.MaybeImplements) result p.old p.new }
 {
     if p.at_word(SyntaxKind::implements_KW) {
         return implements_interfaces(p);
@@ -117,8 +111,7 @@ fn maybe_implements<A: Allocator + Copy>(p: &mut ParserState<'_, A>) -> Result<(
 
 // The interfaces that a type implements.
 fn implements_interfaces<A: Allocator + Copy>(p: &mut ParserState<'_, A>) -> Result<(), AllocError>
-    ensures runs { OnOk result (Runs (Child rule.ImplementsInterfaces) p.old p.new) }
-    ensures budget { p.new.budget ≡ p.old.budget }
+    ensures { Parses (Child rule.ImplementsInterfaces) result p.old p.new }
 {
     p.start_node(SyntaxKind::IMPLEMENTS_INTERFACES)?;
     p.bump(SyntaxKind::implements_KW)?;
@@ -134,8 +127,7 @@ fn implements_interfaces<A: Allocator + Copy>(p: &mut ParserState<'_, A>) -> Res
 
 // The name of an interface.
 fn interface_name<A: Allocator + Copy>(p: &mut ParserState<'_, A>) -> Result<(), AllocError>
-    ensures runs { OnOk result (Runs (Call rule.InterfaceName) p.old p.new) }
-    ensures budget { p.new.budget ≡ p.old.budget }
+    ensures { Parses (Call rule.InterfaceName) result p.old p.new }
 {
     if p.at(TokenKind::Name) {
         return named_type(p);

@@ -6,7 +6,7 @@ ghost use Rattle.lexical_grammar.specs.declared.TokenKind.TheVariants as token;
 ghost use Rattle.parser_rules.specs.Nodes as rule;
 ghost use Rattle.parser_rules.specs.Rules as rules;
 ghost use Rattle.parser_rules.specs.RuleLanguage.{At, holds, Child};
-ghost use Rattle.parser_rules.specs.Runs.{Runs};
+ghost use Rattle.parser_state.specs.Parses.{Parses};
 
 use super::description::maybe_description;
 use super::directive::directives;
@@ -23,8 +23,7 @@ use std::alloc::{AllocError, Allocator};
 pub fn operation_definition<A: Allocator + Copy>(
     p: &mut ParserState<'_, A>,
 ) -> Result<(), AllocError>
-    ensures runs { OnOk result (Runs (Child rule.Operation) p.old p.new) }
-    ensures budget { p.new.budget ≡ p.old.budget }
+    ensures { Parses (Child rule.Operation) result p.old p.new }
 {
     p.start_node(SyntaxKind::OPERATION_DEFINITION)?;
     operation_head(p)?;
@@ -43,8 +42,7 @@ pub fn operation_definition<A: Allocator + Copy>(
 /// A query that is a selection set alone (GraphQL October 2021, section 2.3, "Operations", "Query shorthand").
 pub fn query_shorthand<A: Allocator + Copy>(p: &mut ParserState<'_, A>) -> Result<(), AllocError>
     requires { true ≡ holds (At token.LCurly) p.old }
-    ensures runs { OnOk result (Runs (Child rule.ShortQuery) p.old p.new) }
-    ensures budget { p.new.budget ≡ p.old.budget }
+    ensures { Parses (Child rule.ShortQuery) result p.old p.new }
 {
     p.start_node(SyntaxKind::OPERATION_DEFINITION)?;
     selection_set(p)?;
@@ -54,8 +52,7 @@ pub fn query_shorthand<A: Allocator + Copy>(p: &mut ParserState<'_, A>) -> Resul
 
 // An operation's description, where it has one, and its type.
 fn operation_head<A: Allocator + Copy>(p: &mut ParserState<'_, A>) -> Result<(), AllocError>
-    ensures runs { OnOk result (Runs rules.operation_head p.old p.new) }
-    ensures budget { p.new.budget ≡ p.old.budget }
+    ensures { Parses rules.operation_head result p.old p.new }
 {
     maybe_description(p)?;
     operation_type(p)
@@ -63,8 +60,7 @@ fn operation_head<A: Allocator + Copy>(p: &mut ParserState<'_, A>) -> Result<(),
 
 /// The type of an operation (GraphQL October 2021, section 2.3, "Operations").
 pub fn operation_type<A: Allocator + Copy>(p: &mut ParserState<'_, A>) -> Result<(), AllocError>
-    ensures runs { OnOk result (Runs (Child rule.OperationType) p.old p.new) }
-    ensures budget { p.new.budget ≡ p.old.budget }
+    ensures { Parses (Child rule.OperationType) result p.old p.new }
 {
     p.start_node(SyntaxKind::OPERATION_TYPE)?;
     operation_word(p)?;
@@ -73,8 +69,7 @@ pub fn operation_type<A: Allocator + Copy>(p: &mut ParserState<'_, A>) -> Result
 }
 
 fn operation_word<A: Allocator + Copy>(p: &mut ParserState<'_, A>) -> Result<(), AllocError>
-    ensures runs { OnOk result (Runs rules.operation_word p.old p.new) }
-    ensures budget { p.new.budget ≡ p.old.budget }
+    ensures { Parses rules.operation_word result p.old p.new }
 {
     if p.at_word(SyntaxKind::query_KW) {
         return p.bump(SyntaxKind::query_KW);

@@ -6,8 +6,8 @@ ghost use Rattle.lexical_grammar.specs.declared.TokenKind.TheVariants as token;
 ghost use Rattle.parser_rules.specs.Nodes as rule;
 ghost use Rattle.parser_rules.specs.Rules as rules;
 ghost use Rattle.parser_rules.specs.RuleLanguage.{Here, At, Word, fits, holds, Child, Call, When, Do, Bump, Skip};
-ghost use Rattle.parser_rules.specs.Runs.{Runs};
 ghost use Rattle.parser_state.specs.View.{current_of};
+ghost use Rattle.parser_state.specs.Parses.{Parses};
 
 use super::description::described;
 use super::directive::directives;
@@ -21,8 +21,7 @@ use std::alloc::{AllocError, Allocator};
 
 /// A schema (GraphQL October 2021, section 3.3, "Schema").
 pub fn schema_definition<A: Allocator + Copy>(p: &mut ParserState<'_, A>) -> Result<(), AllocError>
-    ensures runs { OnOk result (Runs (Child rule.SchemaDefinition) p.old p.new) }
-    ensures budget { p.new.budget ≡ p.old.budget }
+    ensures { Parses (Child rule.SchemaDefinition) result p.old p.new }
 {
     p.start_node(SyntaxKind::SCHEMA_DEFINITION)?;
     described(p, SyntaxKind::schema_KW)?;
@@ -38,8 +37,7 @@ pub fn schema_definition<A: Allocator + Copy>(p: &mut ParserState<'_, A>) -> Res
 
 /// An extension of the schema (GraphQL October 2021, section 3.3.2, "Schema Extension").
 pub fn schema_extension<A: Allocator + Copy>(p: &mut ParserState<'_, A>) -> Result<(), AllocError>
-    ensures runs { OnOk result (Runs (Child rule.SchemaExtension) p.old p.new) }
-    ensures budget { p.new.budget ≡ p.old.budget }
+    ensures { Parses (Child rule.SchemaExtension) result p.old p.new }
 {
     p.start_node(SyntaxKind::SCHEMA_EXTENSION)?;
     p.bump(SyntaxKind::extend_KW)?;
@@ -63,8 +61,7 @@ fn root_operations<A: Allocator + Copy>(
     p: &mut ParserState<'_, A>,
     message: Message,
 ) -> Result<(), AllocError>
-    ensures runs { OnOk result (Runs (rules.root_operations message) p.old p.new) }
-    ensures budget { p.new.budget ≡ p.old.budget }
+    ensures { Parses (rules.root_operations message) result p.old p.new }
 {
     p.bump(SyntaxKind::L_CURLY)?;
     p.want(TokenKind::Name, message)?;
@@ -82,8 +79,7 @@ fn root_operations<A: Allocator + Copy>(
 fn root_operation_type_definition<A: Allocator + Copy>(
     p: &mut ParserState<'_, A>,
 ) -> Result<(), AllocError>
-    ensures runs { OnOk result (Runs (Child rule.RootOperationTypeDefinition) p.old p.new) }
-    ensures budget { p.new.budget ≡ p.old.budget }
+    ensures { Parses (Child rule.RootOperationTypeDefinition) result p.old p.new }
 {
     p.start_node(SyntaxKind::ROOT_OPERATION_TYPE_DEFINITION)?;
     operation_type(p)?;
@@ -99,8 +95,7 @@ fn root_operation_type_definition<A: Allocator + Copy>(
 
 // What follows a root operation's `:`.
 fn root_type<A: Allocator + Copy>(p: &mut ParserState<'_, A>) -> Result<(), AllocError>
-    ensures runs { OnOk result (Runs (Call rule.RootType) p.old p.new) }
-    ensures budget { p.new.budget ≡ p.old.budget }
+    ensures { Parses (Call rule.RootType) result p.old p.new }
 {
     if p.at(TokenKind::Name) {
         return named_type(p);

@@ -8,9 +8,9 @@ ghost use Rattle.parser_rules.specs.Rules as rules;
 ghost use Rattle.parser_rules.specs.Fragments as fragments;
 ghost use Rattle.parser_rules.specs.declared.message.Message.TheVariants as message;
 ghost use Rattle.parser_rules.specs.RuleLanguage.{fits, Here, At, holds, want, Child, Call, Nested, Skip};
-ghost use Rattle.parser_rules.specs.Runs.{Runs};
 ghost use Rattle.parser_rules.specs.State.{second};
 ghost use Rattle.parser_state.specs.View.{current_of};
+ghost use Rattle.parser_state.specs.Parses.{Parses};
 
 use super::field::field;
 use super::fragment;
@@ -25,8 +25,7 @@ use std::alloc::{AllocError, Allocator};
 #[cycle(selection)]
 pub fn selection_set<A: Allocator + Copy>(p: &mut ParserState<'_, A>) -> Result<(), AllocError>
     requires { true ≡ holds (At token.LCurly) p.old }
-    ensures runs { OnOk result (Runs (Child rule.SelectionSet) p.old p.new) }
-    ensures budget { p.new.budget ≡ p.old.budget }
+    ensures { Parses (Child rule.SelectionSet) result p.old p.new }
 {
     p.start_node(SyntaxKind::SELECTION_SET)?;
     braced(p)?;
@@ -38,8 +37,7 @@ pub fn selection_set<A: Allocator + Copy>(p: &mut ParserState<'_, A>) -> Result<
 #[cycle(selection)]
 fn braced<A: Allocator + Copy>(p: &mut ParserState<'_, A>) -> Result<(), AllocError>
     requires { true ≡ holds (At token.LCurly) p.old }
-    ensures runs { OnOk result (Runs (rules.inside rule.SelectionSet) p.old p.new) }
-    ensures budget { p.new.budget ≡ p.old.budget }
+    ensures { Parses (rules.inside rule.SelectionSet) result p.old p.new }
 {
     p.bump(SyntaxKind::L_CURLY)?;
     if p.is_too_deep() {
@@ -57,8 +55,7 @@ fn braced<A: Allocator + Copy>(p: &mut ParserState<'_, A>) -> Result<(), AllocEr
 
 // The selections of a root that has no braces.
 fn unbraced<A: Allocator + Copy>(p: &mut ParserState<'_, A>) -> Result<(), AllocError>
-    ensures runs { OnOk result (Runs (Nested (Call rule.Selections) Skip) p.old p.new) }
-    ensures budget { p.new.budget ≡ p.old.budget }
+    ensures { Parses (Nested (Call rule.Selections) Skip) result p.old p.new }
 {
     if p.is_too_deep() {
         return p.too_deep();
@@ -71,8 +68,7 @@ fn unbraced<A: Allocator + Copy>(p: &mut ParserState<'_, A>) -> Result<(), Alloc
 
 /// The root of a selection set that is parsed by itself, with or without its braces.
 pub fn field_set<A: Allocator + Copy>(p: &mut ParserState<'_, A>) -> Result<(), AllocError>
-    ensures runs { OnOk result (Runs fragments.selections_root p.old p.new) }
-    ensures budget { p.new.budget ≡ p.old.budget }
+    ensures { Parses fragments.selections_root result p.old p.new }
 {
     if p.at(TokenKind::LCurly) {
         return braced(p);
@@ -83,8 +79,7 @@ pub fn field_set<A: Allocator + Copy>(p: &mut ParserState<'_, A>) -> Result<(), 
 // The selections of a set, one at least.
 #[cycle(selection)]
 fn selections<A: Allocator + Copy>(p: &mut ParserState<'_, A>) -> Result<(), AllocError>
-    ensures runs { OnOk result (Runs (Call rule.Selections) p.old p.new) }
-    ensures budget { p.new.budget ≡ p.old.budget }
+    ensures { Parses (Call rule.Selections) result p.old p.new }
 {
     want_selection(p)?;
     while starts_selection(p) {
@@ -103,8 +98,7 @@ fn starts_selection<A: Allocator + Copy>(p: &ParserState<'_, A>) -> bool
 
 // Reports an error where no selection starts.
 fn want_selection<A: Allocator + Copy>(p: &mut ParserState<'_, A>) -> Result<(), AllocError>
-    ensures runs { OnOk result (Runs (want (Here rules.selection_start) message.ExpectedSelection) p.old p.new) }
-    ensures budget { p.new.budget ≡ p.old.budget }
+    ensures { Parses (want (Here rules.selection_start) message.ExpectedSelection) result p.old p.new }
 {
     if starts_selection(p) {
         return Ok(());
@@ -115,8 +109,7 @@ fn want_selection<A: Allocator + Copy>(p: &mut ParserState<'_, A>) -> Result<(),
 #[cycle(selection)]
 fn selection<A: Allocator + Copy>(p: &mut ParserState<'_, A>) -> Result<(), AllocError>
     requires { true ≡ holds (Here rules.selection_start) p.old }
-    ensures runs { OnOk result (Runs (Call rule.Selection) p.old p.new) }
-    ensures budget { p.new.budget ≡ p.old.budget }
+    ensures { Parses (Call rule.Selection) result p.old p.new }
 {
     if p.at(TokenKind::Name) {
         return field(p);
@@ -138,8 +131,7 @@ fn is_inline(next: Option<Token<'_>>) -> bool
 #[tactic(auto, using(crate::proofs::Looks::looking), unfolding(parser_rules::specs::Rules::body, parser_rules::specs::RuleLanguage::holds))]
 fn spread<A: Allocator + Copy>(p: &mut ParserState<'_, A>) -> Result<(), AllocError>
     requires { true ≡ holds (At token.Spread) p.old }
-    ensures runs { OnOk result (Runs (Call rule.Spread) p.old p.new) }
-    ensures budget { p.new.budget ≡ p.old.budget }
+    ensures { Parses (Call rule.Spread) result p.old p.new }
 {
     let next = p.peek();
     spread_before(p, next)
@@ -154,8 +146,7 @@ fn spread_before<A: Allocator + Copy>(
 ) -> Result<(), AllocError>
     requires at { true ≡ holds (At token.Spread) p.old }
     requires after { current_of next ≡ second p.old.items }
-    ensures runs { OnOk result (Runs (Call rule.Spread) p.old p.new) }
-    ensures budget { p.new.budget ≡ p.old.budget }
+    ensures { Parses (Call rule.Spread) result p.old p.new }
 {
     if is_inline(next) {
         return fragment::inline_fragment(p);

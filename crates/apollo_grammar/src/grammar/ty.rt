@@ -8,7 +8,7 @@ ghost use Rattle.parser_rules.specs.Rules as rules;
 ghost use Rattle.parser_rules.specs.Fragments as fragments;
 ghost use Rattle.parser_rules.specs.State.{flush};
 ghost use Rattle.parser_rules.specs.RuleLanguage.{Here, At, holds, Child, Call};
-ghost use Rattle.parser_rules.specs.Runs.{Runs};
+ghost use Rattle.parser_state.specs.Parses.{Parses};
 
 use super::name::name;
 use apollo_tree::Checkpoint;
@@ -29,8 +29,7 @@ pub fn starts_type<A: Allocator + Copy>(p: &ParserState<'_, A>) -> bool
 /// A type (GraphQL October 2021, section 2.11, "Type References"). Whether it is a non-null type is known at its end.
 #[cycle(ty)]
 pub fn ty<A: Allocator + Copy>(p: &mut ParserState<'_, A>) -> Result<(), AllocError>
-    ensures runs { OnOk result (Runs (Call rule.TypeOf) p.old p.new) }
-    ensures budget { p.new.budget ≡ p.old.budget }
+    ensures { Parses (Call rule.TypeOf) result p.old p.new }
 {
     let checkpoint = p.checkpoint()?;
     nullable_type(p)?;
@@ -44,8 +43,7 @@ pub fn ty<A: Allocator + Copy>(p: &mut ParserState<'_, A>) -> Result<(), AllocEr
 
 #[cycle(ty)]
 fn nullable_type<A: Allocator + Copy>(p: &mut ParserState<'_, A>) -> Result<(), AllocError>
-    ensures runs { OnOk result (Runs rules.nullable_type p.old p.new) }
-    ensures budget { p.new.budget ≡ p.old.budget }
+    ensures { Parses rules.nullable_type result p.old p.new }
 {
     if p.at(TokenKind::LBracket) {
         return list_type(p);
@@ -56,8 +54,7 @@ fn nullable_type<A: Allocator + Copy>(p: &mut ParserState<'_, A>) -> Result<(), 
 #[cycle(ty)]
 fn list_type<A: Allocator + Copy>(p: &mut ParserState<'_, A>) -> Result<(), AllocError>
     requires { true ≡ holds (At token.LBracket) p.old }
-    ensures runs { OnOk result (Runs (Child rule.ListType) p.old p.new) }
-    ensures budget { p.new.budget ≡ p.old.budget }
+    ensures { Parses (Child rule.ListType) result p.old p.new }
 {
     p.start_node(SyntaxKind::LIST_TYPE)?;
     bracketed(p)?;
@@ -69,8 +66,7 @@ fn list_type<A: Allocator + Copy>(p: &mut ParserState<'_, A>) -> Result<(), Allo
 #[cycle(ty)]
 fn bracketed<A: Allocator + Copy>(p: &mut ParserState<'_, A>) -> Result<(), AllocError>
     requires { true ≡ holds (At token.LBracket) p.old }
-    ensures runs { OnOk result (Runs (rules.inside rule.ListType) p.old p.new) }
-    ensures budget { p.new.budget ≡ p.old.budget }
+    ensures { Parses (rules.inside rule.ListType) result p.old p.new }
 {
     p.bump(SyntaxKind::L_BRACK)?;
     if p.is_too_deep() {
@@ -89,8 +85,7 @@ fn bracketed<A: Allocator + Copy>(p: &mut ParserState<'_, A>) -> Result<(), Allo
 // The type of a list's items. A token that starts none is popped.
 #[cycle(ty)]
 fn item_type<A: Allocator + Copy>(p: &mut ParserState<'_, A>) -> Result<(), AllocError>
-    ensures runs { OnOk result (Runs (Call rule.ItemType) p.old p.new) }
-    ensures budget { p.new.budget ≡ p.old.budget }
+    ensures { Parses (Call rule.ItemType) result p.old p.new }
 {
     if starts_type(p) {
         return ty(p);
@@ -100,8 +95,7 @@ fn item_type<A: Allocator + Copy>(p: &mut ParserState<'_, A>) -> Result<(), Allo
 
 /// A named type.
 pub fn named_type<A: Allocator + Copy>(p: &mut ParserState<'_, A>) -> Result<(), AllocError>
-    ensures runs { OnOk result (Runs (Child rule.NamedType) p.old p.new) }
-    ensures budget { p.new.budget ≡ p.old.budget }
+    ensures { Parses (Child rule.NamedType) result p.old p.new }
 {
     p.start_node(SyntaxKind::NAMED_TYPE)?;
     name(p)?;

@@ -6,8 +6,8 @@ ghost use Rattle.lexical_grammar.specs.declared.TokenKind.TheVariants as token;
 ghost use Rattle.parser_rules.specs.Nodes as rule;
 ghost use Rattle.parser_rules.specs.Rules as rules;
 ghost use Rattle.parser_rules.specs.RuleLanguage.{Here, At, Word, fits, holds, Child, Call, When, Do, Bump, Skip};
-ghost use Rattle.parser_rules.specs.Runs.{Runs};
 ghost use Rattle.parser_state.specs.View.{current_of};
+ghost use Rattle.parser_state.specs.Parses.{Parses};
 
 use super::description::described;
 use super::directive::directives;
@@ -23,8 +23,7 @@ use std::alloc::{AllocError, Allocator};
 pub fn union_type_definition<A: Allocator + Copy>(
     p: &mut ParserState<'_, A>,
 ) -> Result<(), AllocError>
-    ensures runs { OnOk result (Runs (Child rule.UnionTypeDefinition) p.old p.new) }
-    ensures budget { p.new.budget ≡ p.old.budget }
+    ensures { Parses (Child rule.UnionTypeDefinition) result p.old p.new }
 {
     p.start_node(SyntaxKind::UNION_TYPE_DEFINITION)?;
     described(p, SyntaxKind::union_KW)?;
@@ -41,8 +40,7 @@ pub fn union_type_definition<A: Allocator + Copy>(
 pub fn union_type_extension<A: Allocator + Copy>(
     p: &mut ParserState<'_, A>,
 ) -> Result<(), AllocError>
-    ensures runs { OnOk result (Runs (Child rule.UnionTypeExtension) p.old p.new) }
-    ensures budget { p.new.budget ≡ p.old.budget }
+    ensures { Parses (Child rule.UnionTypeExtension) result p.old p.new }
 {
     p.start_node(SyntaxKind::UNION_TYPE_EXTENSION)?;
     p.bump(SyntaxKind::extend_KW)?;
@@ -64,8 +62,7 @@ pub fn union_type_extension<A: Allocator + Copy>(
 
 // The members of a union, where `=` comes next.
 fn union_member_types<A: Allocator + Copy>(p: &mut ParserState<'_, A>) -> Result<(), AllocError>
-    ensures runs { OnOk result (Runs (Child rule.UnionMemberTypes) p.old p.new) }
-    ensures budget { p.new.budget ≡ p.old.budget }
+    ensures { Parses (Child rule.UnionMemberTypes) result p.old p.new }
 {
     p.start_node(SyntaxKind::UNION_MEMBER_TYPES)?;
     p.bump(SyntaxKind::EQ)?;
@@ -81,8 +78,7 @@ fn union_member_types<A: Allocator + Copy>(p: &mut ParserState<'_, A>) -> Result
 
 // A member of a union.
 fn union_member<A: Allocator + Copy>(p: &mut ParserState<'_, A>) -> Result<(), AllocError>
-    ensures runs { OnOk result (Runs (Call rule.UnionMember) p.old p.new) }
-    ensures budget { p.new.budget ≡ p.old.budget }
+    ensures { Parses (Call rule.UnionMember) result p.old p.new }
 {
     if p.at(TokenKind::Name) {
         return named_type(p);

@@ -6,7 +6,7 @@ ghost use Rattle.lexical_grammar.specs.declared.TokenKind.TheVariants as token;
 ghost use Rattle.parser_rules.specs.Nodes as rule;
 ghost use Rattle.parser_rules.specs.Rules as rules;
 ghost use Rattle.parser_rules.specs.RuleLanguage.{Here, At, holds, Child, Call};
-ghost use Rattle.parser_rules.specs.Runs.{Runs};
+ghost use Rattle.parser_state.specs.Parses.{Parses};
 
 use super::name::name;
 use super::variable::variable;
@@ -23,8 +23,7 @@ pub fn value<A: Allocator + Copy>(
     constness: Constness,
     pop_on_error: bool,
 ) -> Result<(), AllocError>
-    ensures runs { OnOk result (Runs (Call (rule.ValueOf constness pop_on_error)) p.old p.new) }
-    ensures budget { p.new.budget ≡ p.old.budget }
+    ensures { Parses (Call (rule.ValueOf constness pop_on_error)) result p.old p.new }
 {
     if p.at(TokenKind::Dollar) {
         return variable_value(p, constness);
@@ -55,8 +54,7 @@ fn variable_value<A: Allocator + Copy>(
     p: &mut ParserState<'_, A>,
     constness: Constness,
 ) -> Result<(), AllocError>
-    ensures runs { OnOk result (Runs (rules.variable_of constness) p.old p.new) }
-    ensures budget { p.new.budget ≡ p.old.budget }
+    ensures { Parses (rules.variable_of constness) result p.old p.new }
 {
     if let Constness::Const = constness {
         p.err(Message::VariableInConst)?;
@@ -68,8 +66,7 @@ fn no_value<A: Allocator + Copy>(
     p: &mut ParserState<'_, A>,
     pop_on_error: bool,
 ) -> Result<(), AllocError>
-    ensures runs { OnOk result (Runs (rules.no_value pop_on_error) p.old p.new) }
-    ensures budget { p.new.budget ≡ p.old.budget }
+    ensures { Parses (rules.no_value pop_on_error) result p.old p.new }
 {
     if pop_on_error {
         return p.err_and_pop(Message::ExpectedValue);
@@ -78,8 +75,7 @@ fn no_value<A: Allocator + Copy>(
 }
 
 fn float_value<A: Allocator + Copy>(p: &mut ParserState<'_, A>) -> Result<(), AllocError>
-    ensures runs { OnOk result (Runs (Child rule.FloatValue) p.old p.new) }
-    ensures budget { p.new.budget ≡ p.old.budget }
+    ensures { Parses (Child rule.FloatValue) result p.old p.new }
 {
     p.start_node(SyntaxKind::FLOAT_VALUE)?;
     p.bump(SyntaxKind::FLOAT)?;
@@ -90,8 +86,7 @@ fn float_value<A: Allocator + Copy>(p: &mut ParserState<'_, A>) -> Result<(), Al
 // A value that is a word: a boolean, null, or an enum's value.
 fn word_value<A: Allocator + Copy>(p: &mut ParserState<'_, A>) -> Result<(), AllocError>
     requires { true ≡ holds (At token.Name) p.old }
-    ensures runs { OnOk result (Runs (Call rule.WordValue) p.old p.new) }
-    ensures budget { p.new.budget ≡ p.old.budget }
+    ensures { Parses (Call rule.WordValue) result p.old p.new }
 {
     if p.at_boolean() {
         return p.boolean_value();
@@ -103,8 +98,7 @@ fn word_value<A: Allocator + Copy>(p: &mut ParserState<'_, A>) -> Result<(), All
 }
 
 fn null_value<A: Allocator + Copy>(p: &mut ParserState<'_, A>) -> Result<(), AllocError>
-    ensures runs { OnOk result (Runs (Child rule.NullValue) p.old p.new) }
-    ensures budget { p.new.budget ≡ p.old.budget }
+    ensures { Parses (Child rule.NullValue) result p.old p.new }
 {
     p.start_node(SyntaxKind::NULL_VALUE)?;
     p.bump(SyntaxKind::null_KW)?;
@@ -114,8 +108,7 @@ fn null_value<A: Allocator + Copy>(p: &mut ParserState<'_, A>) -> Result<(), All
 
 /// An enum value (GraphQL October 2021, section 2.9.6, "Enum Value"), or a report of what is there in its place.
 pub fn enum_value<A: Allocator + Copy>(p: &mut ParserState<'_, A>) -> Result<(), AllocError>
-    ensures runs { OnOk result (Runs (Child rule.EnumValue) p.old p.new) }
-    ensures budget { p.new.budget ≡ p.old.budget }
+    ensures { Parses (Child rule.EnumValue) result p.old p.new }
 {
     p.start_node(SyntaxKind::ENUM_VALUE)?;
     if at_reserved(p) {
@@ -144,8 +137,7 @@ fn nested_value<A: Allocator + Copy>(
     p: &mut ParserState<'_, A>,
     constness: Constness,
 ) -> Result<(), AllocError>
-    ensures runs { OnOk result (Runs (Call (rule.NestedValue constness)) p.old p.new) }
-    ensures budget { p.new.budget ≡ p.old.budget }
+    ensures { Parses (Call (rule.NestedValue constness)) result p.old p.new }
 {
     if p.is_too_deep() {
         return p.too_deep();
@@ -163,8 +155,7 @@ fn list_value<A: Allocator + Copy>(
     constness: Constness,
 ) -> Result<(), AllocError>
     requires { true ≡ holds (At token.LBracket) p.old }
-    ensures runs { OnOk result (Runs (Child (rule.ListValue constness)) p.old p.new) }
-    ensures budget { p.new.budget ≡ p.old.budget }
+    ensures { Parses (Child (rule.ListValue constness)) result p.old p.new }
 {
     p.start_node(SyntaxKind::LIST_VALUE)?;
     p.bump(SyntaxKind::L_BRACK)?;
@@ -179,8 +170,7 @@ fn list_items<A: Allocator + Copy>(
     p: &mut ParserState<'_, A>,
     constness: Constness,
 ) -> Result<(), AllocError>
-    ensures runs { OnOk result (Runs (Call (rule.ListItems constness)) p.old p.new) }
-    ensures budget { p.new.budget ≡ p.old.budget }
+    ensures { Parses (Call (rule.ListItems constness)) result p.old p.new }
 {
     while has_item(p) {
         nested_value(p, constness)?;
@@ -209,8 +199,7 @@ fn object_value<A: Allocator + Copy>(
     constness: Constness,
 ) -> Result<(), AllocError>
     requires { true ≡ holds (At token.LCurly) p.old }
-    ensures runs { OnOk result (Runs (Child (rule.ObjectValue constness)) p.old p.new) }
-    ensures budget { p.new.budget ≡ p.old.budget }
+    ensures { Parses (Child (rule.ObjectValue constness)) result p.old p.new }
 {
     p.start_node(SyntaxKind::OBJECT_VALUE)?;
     p.bump(SyntaxKind::L_CURLY)?;
@@ -232,8 +221,7 @@ fn object_field<A: Allocator + Copy>(
     constness: Constness,
 ) -> Result<(), AllocError>
     requires { true ≡ holds (At token.Name) p.old }
-    ensures runs { OnOk result (Runs (Child (rule.ObjectField constness)) p.old p.new) }
-    ensures budget { p.new.budget ≡ p.old.budget }
+    ensures { Parses (Child (rule.ObjectField constness)) result p.old p.new }
 {
     p.start_node(SyntaxKind::OBJECT_FIELD)?;
     p.name()?;
@@ -249,8 +237,7 @@ fn object_field<A: Allocator + Copy>(
 
 /// A default value (GraphQL October 2021, section 2.10, "Variables"), where `=` comes next.
 pub fn default_value<A: Allocator + Copy>(p: &mut ParserState<'_, A>) -> Result<(), AllocError>
-    ensures runs { OnOk result (Runs (Call rule.MaybeDefaultValue) p.old p.new) }
-    ensures budget { p.new.budget ≡ p.old.budget }
+    ensures { Parses (Call rule.MaybeDefaultValue) result p.old p.new }
 {
     if !p.at(TokenKind::Eq) {
         return Ok(());

@@ -6,7 +6,7 @@ ghost use Rattle.parser_rules.specs.Nodes as rule;
 ghost use Rattle.parser_rules.specs.Rules as rules;
 ghost use Rattle.parser_rules.specs.declared.message.Message.TheVariants as message;
 ghost use Rattle.parser_rules.specs.RuleLanguage.{Here, holds, want, Child, Call};
-ghost use Rattle.parser_rules.specs.Runs.{Runs};
+ghost use Rattle.parser_state.specs.Parses.{Parses};
 
 use super::description::description;
 use super::directive::directives;
@@ -23,8 +23,7 @@ use std::alloc::{AllocError, Allocator};
 pub fn variable_definitions<A: Allocator + Copy>(
     p: &mut ParserState<'_, A>,
 ) -> Result<(), AllocError>
-    ensures runs { OnOk result (Runs (Call rule.MaybeVariableDefinitions) p.old p.new) }
-    ensures budget { p.new.budget ≡ p.old.budget }
+    ensures { Parses (Call rule.MaybeVariableDefinitions) result p.old p.new }
 {
     if !p.at(TokenKind::LParen) {
         return Ok(());
@@ -45,8 +44,7 @@ pub fn variable_definitions<A: Allocator + Copy>(
 }
 
 fn variable_definition<A: Allocator + Copy>(p: &mut ParserState<'_, A>) -> Result<(), AllocError>
-    ensures runs { OnOk result (Runs (Child rule.VariableDefinition) p.old p.new) }
-    ensures budget { p.new.budget ≡ p.old.budget }
+    ensures { Parses (Child rule.VariableDefinition) result p.old p.new }
 {
     p.start_node(SyntaxKind::VARIABLE_DEFINITION)?;
     if p.at(TokenKind::StringValue) {
@@ -65,8 +63,7 @@ fn variable_definition<A: Allocator + Copy>(p: &mut ParserState<'_, A>) -> Resul
 
 // A variable definition after its description.
 fn typed_variable<A: Allocator + Copy>(p: &mut ParserState<'_, A>) -> Result<(), AllocError>
-    ensures runs { OnOk result (Runs (Call rule.TypedVariable) p.old p.new) }
-    ensures budget { p.new.budget ≡ p.old.budget }
+    ensures { Parses (Call rule.TypedVariable) result p.old p.new }
 {
     variable(p)?;
     if p.at(TokenKind::Colon) {
@@ -86,8 +83,7 @@ fn starts_variable<A: Allocator + Copy>(p: &ParserState<'_, A>) -> bool
 
 // Reports an error where no variable definition starts.
 fn want_variable<A: Allocator + Copy>(p: &mut ParserState<'_, A>) -> Result<(), AllocError>
-    ensures runs { OnOk result (Runs (want (Here rules.variable_start) message.ExpectedVariableDefinition) p.old p.new) }
-    ensures budget { p.new.budget ≡ p.old.budget }
+    ensures { Parses (want (Here rules.variable_start) message.ExpectedVariableDefinition) result p.old p.new }
 {
     if starts_variable(p) {
         return Ok(());
@@ -97,8 +93,7 @@ fn want_variable<A: Allocator + Copy>(p: &mut ParserState<'_, A>) -> Result<(), 
 
 /// What follows the `:` of a variable, of an argument or of an input field.
 pub fn variable_type<A: Allocator + Copy>(p: &mut ParserState<'_, A>) -> Result<(), AllocError>
-    ensures runs { OnOk result (Runs (Call rule.VariableType) p.old p.new) }
-    ensures budget { p.new.budget ≡ p.old.budget }
+    ensures { Parses (Call rule.VariableType) result p.old p.new }
 {
     if !starts_type(p) {
         return p.err(Message::ExpectedType);
@@ -110,8 +105,7 @@ pub fn variable_type<A: Allocator + Copy>(p: &mut ParserState<'_, A>) -> Result<
 
 /// A variable (GraphQL October 2021, section 2.10, "Variables").
 pub fn variable<A: Allocator + Copy>(p: &mut ParserState<'_, A>) -> Result<(), AllocError>
-    ensures runs { OnOk result (Runs (Child rule.Variable) p.old p.new) }
-    ensures budget { p.new.budget ≡ p.old.budget }
+    ensures { Parses (Child rule.Variable) result p.old p.new }
 {
     p.start_node(SyntaxKind::VARIABLE)?;
     p.bump(SyntaxKind::DOLLAR)?;

@@ -10,12 +10,12 @@ ghost use Rattle.apollo_tree.specs.Sound.{Fits};
 ghost use Rattle.parser_rules.specs.State as state;
 ghost use Rattle.parser_rules.specs.Nodes.{Name, IntValue, StringValue, BooleanValue};
 ghost use Rattle.parser_rules.specs.RuleLanguage.{Here, At, holds, Bump, Do, Child};
-ghost use Rattle.parser_rules.specs.Runs.{Runs};
 ghost use Rattle.parser_rules.specs.Open.{is_free, IsOpen, IsCheckpoint};
 ghost use Rattle.parser_rules.specs.Rules as rules;
 ghost use Rattle.parser_rules.specs.Fragments as fragments;
 ghost use Rattle.parser_state.specs.Reading as reading;
 ghost use Rattle.parser_state.specs.View.{pending_of};
+ghost use Rattle.parser_state.specs.Parses.{Parses};
 
 use super::{ParserState, PendingToken};
 use apollo_tree::{Checkpoint, SpanBuilder};
@@ -81,8 +81,7 @@ impl<'i, A: Allocator + Copy> ParserState<'i, A> {
 
     /// The current token becomes a leaf of the kind.
     pub fn bump(&mut self, kind: SyntaxKind) -> Result<(), AllocError>
-        ensures runs { OnOk result (Runs (Do (Bump kind)) self.old self.new) }
-        ensures budget { self.new.budget ≡ self.old.budget }
+        ensures { Parses (Do (Bump kind)) result self.old self.new }
     {
         let Some(current) = self.current_token else {
             return Ok(());
@@ -123,8 +122,7 @@ impl<'i, A: Allocator + Copy> ParserState<'i, A> {
     #[tactic(auto, using(parser_rules::proofs::runs::Forms::leaf_run), unfolding(parser_rules::specs::Rules::inside, parser_rules::specs::RuleLanguage::holds))]
     pub fn name(&mut self) -> Result<(), AllocError>
         requires { true ≡ holds (At token.Name) self.old }
-        ensures runs { OnOk result (Runs (Child Name) self.old self.new) }
-        ensures budget { self.new.budget ≡ self.old.budget }
+        ensures { Parses (Child Name) result self.old self.new }
     {
         self.leaf_node(SyntaxKind::NAME, SyntaxKind::IDENT)?;
         Ok(())
@@ -134,8 +132,7 @@ impl<'i, A: Allocator + Copy> ParserState<'i, A> {
     #[tactic(auto, using(parser_rules::proofs::runs::Forms::leaf_run), unfolding(parser_rules::specs::Rules::inside, parser_rules::specs::RuleLanguage::holds))]
     pub fn int_value(&mut self) -> Result<(), AllocError>
         requires { true ≡ holds (At token.Int) self.old }
-        ensures runs { OnOk result (Runs (Child IntValue) self.old self.new) }
-        ensures budget { self.new.budget ≡ self.old.budget }
+        ensures { Parses (Child IntValue) result self.old self.new }
     {
         self.leaf_node(SyntaxKind::INT_VALUE, SyntaxKind::INT)?;
         Ok(())
@@ -145,8 +142,7 @@ impl<'i, A: Allocator + Copy> ParserState<'i, A> {
     #[tactic(auto, using(parser_rules::proofs::runs::Forms::leaf_run), unfolding(parser_rules::specs::Rules::inside, parser_rules::specs::RuleLanguage::holds))]
     pub fn string_value(&mut self) -> Result<(), AllocError>
         requires { true ≡ holds (At token.StringValue) self.old }
-        ensures runs { OnOk result (Runs (Child StringValue) self.old self.new) }
-        ensures budget { self.new.budget ≡ self.old.budget }
+        ensures { Parses (Child StringValue) result self.old self.new }
     {
         self.leaf_node(SyntaxKind::STRING_VALUE, SyntaxKind::STRING)?;
         Ok(())
@@ -155,8 +151,7 @@ impl<'i, A: Allocator + Copy> ParserState<'i, A> {
     /// The current token, which is `true` or `false`, becomes a node.
     pub fn boolean_value(&mut self) -> Result<(), AllocError>
         requires { true ≡ holds (Here rules.boolean) self.old }
-        ensures runs { OnOk result (Runs (Child BooleanValue) self.old self.new) }
-        ensures budget { self.new.budget ≡ self.old.budget }
+        ensures { Parses (Child BooleanValue) result self.old self.new }
     {
         if self.at_word(SyntaxKind::true_KW) {
             self.leaf_node(SyntaxKind::BOOLEAN_VALUE, SyntaxKind::true_KW)?;

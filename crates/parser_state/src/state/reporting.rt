@@ -7,11 +7,11 @@ ghost use Rattle.lexical_grammar.specs.declared.TokenKind.TheVariants as token;
 ghost use Rattle.document_grammar.specs.declared.kind.SyntaxKind.TheVariants as kind;
 ghost use Rattle.parser_rules.specs.State as state;
 ghost use Rattle.parser_rules.specs.RuleLanguage.{At, Word, Ready, Note, Bump, Do, When, Skip, want, expect, expect_word, refuse};
-ghost use Rattle.parser_rules.specs.Runs.{Runs};
 ghost use Rattle.document_grammar.specs.Choices.{is_keyword};
 ghost use Rattle.document_grammar.specs.Numbers.{number};
 ghost use Rattle.parser_state.specs.Errors.{IsErrorOf};
 ghost use Rattle.parser_state.specs.View.{report_of};
+ghost use Rattle.parser_state.specs.Parses.{Parses};
 
 use super::ParserState;
 use crate::report::Report;
@@ -49,8 +49,7 @@ impl<'i, A: Allocator + Copy> ParserState<'i, A> {
 
     /// Reports an error at the current token.
     pub fn err(&mut self, message: Message) -> Result<(), AllocError>
-        ensures runs { OnOk result (Runs (Do (Note message)) self.old self.new) }
-        ensures budget { self.new.budget ≡ self.old.budget }
+        ensures { Parses (Do (Note message)) result self.old self.new }
     {
         if let Some(token) = self.current_token {
             self.push_report(Report::Fault(message, token))?;
@@ -61,8 +60,7 @@ impl<'i, A: Allocator + Copy> ParserState<'i, A> {
     /// Reports an error at the current token, and pops it: it becomes an ERROR leaf.
     #[tactic(auto, using(parser_rules::proofs::runs::Running::sequence))]
     pub fn err_and_pop(&mut self, message: Message) -> Result<(), AllocError>
-        ensures runs { OnOk result (Runs (refuse message) self.old self.new) }
-        ensures budget { self.new.budget ≡ self.old.budget }
+        ensures { Parses (refuse message) result self.old self.new }
     {
         self.err(message)?;
         self.bump(SyntaxKind::ERROR)
@@ -76,8 +74,7 @@ impl<'i, A: Allocator + Copy> ParserState<'i, A> {
         kind: SyntaxKind,
         message: Message,
     ) -> Result<(), AllocError>
-        ensures runs { OnOk result (Runs (expect token kind message) self.old self.new) }
-        ensures budget { self.new.budget ≡ self.old.budget }
+        ensures { Parses (expect token kind message) result self.old self.new }
     {
         if self.at(token) {
             self.bump(kind)
@@ -90,8 +87,7 @@ impl<'i, A: Allocator + Copy> ParserState<'i, A> {
     #[tactic(auto, using(parser_rules::proofs::runs::Running::sequence))]
     pub fn expect_word(&mut self, keyword: SyntaxKind, message: Message) -> Result<(), AllocError>
         requires { is_keyword (number keyword) ≡ true }
-        ensures runs { OnOk result (Runs (expect_word keyword message) self.old self.new) }
-        ensures budget { self.new.budget ≡ self.old.budget }
+        ensures { Parses (expect_word keyword message) result self.old self.new }
     {
         if self.at_word(keyword) {
             self.bump(keyword)
@@ -103,8 +99,7 @@ impl<'i, A: Allocator + Copy> ParserState<'i, A> {
     /// The punctuator becomes a leaf, if it is there.
     #[tactic(auto, using(parser_rules::proofs::runs::Running::sequence))]
     pub fn skip(&mut self, token: TokenKind, kind: SyntaxKind) -> Result<(), AllocError>
-        ensures runs { OnOk result (Runs (When (At token) (Do (Bump kind)) Skip) self.old self.new) }
-        ensures budget { self.new.budget ≡ self.old.budget }
+        ensures { Parses (When (At token) (Do (Bump kind)) Skip) result self.old self.new }
     {
         if self.at(token) {
             return self.bump(kind);
@@ -116,8 +111,7 @@ impl<'i, A: Allocator + Copy> ParserState<'i, A> {
     #[tactic(auto, using(parser_rules::proofs::runs::Running::sequence))]
     pub fn skip_word(&mut self, keyword: SyntaxKind) -> Result<(), AllocError>
         requires { is_keyword (number keyword) ≡ true }
-        ensures runs { OnOk result (Runs (When (Word keyword) (Do (Bump keyword)) Skip) self.old self.new) }
-        ensures budget { self.new.budget ≡ self.old.budget }
+        ensures { Parses (When (Word keyword) (Do (Bump keyword)) Skip) result self.old self.new }
     {
         if self.at_word(keyword) {
             return self.bump(keyword);
@@ -128,8 +122,7 @@ impl<'i, A: Allocator + Copy> ParserState<'i, A> {
     /// Reports an error where the current token is not of the kind.
     #[tactic(auto, using(parser_rules::proofs::runs::Running::sequence))]
     pub fn want(&mut self, kind: TokenKind, message: Message) -> Result<(), AllocError>
-        ensures runs { OnOk result (Runs (want (At kind) message) self.old self.new) }
-        ensures budget { self.new.budget ≡ self.old.budget }
+        ensures { Parses (want (At kind) message) result self.old self.new }
     {
         if self.at(kind) {
             return Ok(());
@@ -140,8 +133,7 @@ impl<'i, A: Allocator + Copy> ParserState<'i, A> {
     /// Reports an error where no token is left.
     #[tactic(auto, using(parser_rules::proofs::runs::Running::sequence))]
     pub fn want_ready(&mut self, message: Message) -> Result<(), AllocError>
-        ensures runs { OnOk result (Runs (want Ready message) self.old self.new) }
-        ensures budget { self.new.budget ≡ self.old.budget }
+        ensures { Parses (want Ready message) result self.old self.new }
     {
         if self.is_ready() {
             return Ok(());

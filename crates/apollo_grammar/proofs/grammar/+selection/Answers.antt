@@ -1,12 +1,11 @@
 use Rattle.std.proofs.Common.{◌≡◌, true, refl, sym, ap, subst, arith}
-use Rattle.std.specs.Prelude.{OnOk}
 use Rattle.lexical_grammar.specs.declared.TokenKind.TheVariants as token
 use Rattle.document_grammar.specs.declared.kind.SyntaxKind.TheVariants as kind
 use Rattle.parser_rules.specs.RuleLanguage.{Kind, At, Call, holds}
 use Rattle.parser_rules.specs.Nodes.{Spread}
-use Rattle.parser_rules.specs.Runs.{Runs}
 use Rattle.parser_rules.specs.State.{State, opened, flush}
 use Rattle.parser_rules.specs.Rules.{selection_start}
+use Rattle.parser_state.specs.Parses.{Parses}
 use Rattle.apollo_grammar.proofs.Looks.{other-at}
 use Rattle.parser_rules.proofs.runs.Frame.{fewer, turned, left, still-at}
 use Rattle.parser_rules.proofs.runs.Progress.{consuming, here-there, taken, opened-takes, entered-left}
@@ -59,5 +58,5 @@ selection::spread-spread_before-requires g t c =
     let h = ap left c.peek-next.ensures.same in
     λ κs w. (omega (arith, h, c.decreases), (w, (subst (λ (s : State). true ≡ holds (At token.Spread) s) (sym c.peek-next.ensures.same) c.requires, c.peek-next.ensures.found)))
 
-pub selection::spread-returns-clause-runs : goal.selection::spread-returns-clause-runs
-selection::spread-returns-clause-runs g t c = subst (λ (s : State). OnOk c.spread_before.result (Runs (Call Spread) s c.spread_before.new.p)) c.peek-next.ensures.same c.spread_before.ensures.runs
+pub selection::spread-returns : goal.selection::spread-returns
+selection::spread-returns g t c = subst (λ (s : State). Parses (Call Spread) c.spread_before.result s c.spread_before.new.p) c.peek-next.ensures.same c.spread_before.ensures

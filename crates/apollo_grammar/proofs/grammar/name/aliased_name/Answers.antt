@@ -1,14 +1,13 @@
 use Rattle.std.proofs.Common.{◌≡◌, true, sym, subst}
-use Rattle.std.specs.Prelude.{OnOk}
 use Rattle.lexical_grammar.specs.declared.TokenKind.TheVariants as token
 use Rattle.parser_rules.specs.State.{State}
 use Rattle.parser_rules.specs.Nodes.{AliasedName}
 use Rattle.parser_rules.specs.RuleLanguage.{At, Call, holds}
-use Rattle.parser_rules.specs.Runs.{Runs}
+use Rattle.parser_state.specs.Parses.{Parses}
 use Rattle.apollo_grammar.proofs.grammar.name.aliased_name.Goals as goal
 
 pub name_before-requires : goal.name_before-requires
 name_before-requires g c = record { at = subst (λ (s : State). true ≡ holds (At token.Name) s) (sym c.peek-next.ensures.same) c.requires; after = c.peek-next.ensures.found }
 
-pub returns-clause-runs : goal.returns-clause-runs
-returns-clause-runs g c = subst (λ (s : State). OnOk c.name_before.result (Runs (Call AliasedName) s c.name_before.new.p)) c.peek-next.ensures.same c.name_before.ensures.runs
+pub returns : goal.returns
+returns g c = subst (λ (s : State). Parses (Call AliasedName) c.name_before.result s c.name_before.new.p) c.peek-next.ensures.same c.name_before.ensures
