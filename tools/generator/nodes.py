@@ -11,8 +11,8 @@ from .symbols import Symbols
 
 FOLDER = CRATES / "parser_rules/specs"
 
-# The node whose kind has another name. The others are called as their symbols: SelectionSet as SELECTION_SET.
-OTHER_NAMES = {"Operation": "OPERATION_DEFINITION"}
+# The node whose symbol has another name. The others are called as their symbols: SelectionSet as SELECTION_SET.
+OTHER_NAMES = {"QueryShorthand": "SHORT_QUERY"}
 
 
 class Clause:

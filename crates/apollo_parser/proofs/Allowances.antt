@@ -9,7 +9,7 @@ use Rattle.document_grammar.specs.Builds.{built_count}
 use Rattle.parser_rules.specs.State.{State, fresh, begun, read_on, flush, closed, wrapped_from}
 use Rattle.parser_rules.specs.RuleLanguage.{Rule, holds}
 use Rattle.parser_rules.specs.Runs.{Runs}
-use Rattle.parser_rules.specs.Fragments.{started, unopened, ClosesType, nullable, non_null, MakesType, makes_list, makes_name, makes_none}
+use Rattle.parser_rules.specs.Fragments.{started, unopened, ClosesType, nullable, non_null, RunsTypeRoot, makes_list, makes_name, makes_none}
 use Rattle.parser_rules.proofs.runs.Budget.{allowing, reads, allowed}
 use Rattle.parser_rules.proofs.fragments.TypeRoots.{unopened-none}
 use Rattle.parser_state.specs.Reading.{unread, rooted}
@@ -39,20 +39,20 @@ module _ (xs : List Answer) (r n : ℕ) where
   closes-allowed m place k (nullable b a) = nullable b (ap (allowing m) a)
   closes-allowed m place k (non_null b run a) = non_null b (allowed m run) (ap (allowing m) a)
 
-  made-allowed : (m : ℕ) {s t : State} → MakesType s t → MakesType (allowing m s) (allowing m t)
+  made-allowed : (m : ℕ) {s t : State} → RunsTypeRoot s t → RunsTypeRoot (allowing m s) (allowing m t)
   unfolding holds wrapped_from
   made-allowed m {s = s} (makes_list b run close) = makes_list b (allowed m run) (closes-allowed m (built_count s.tree) kind.LIST_TYPE close)
   made-allowed m {s = s} (makes_name b n run close) = makes_name b n (allowed m run) (closes-allowed m (built_count s.tree) kind.NAMED_TYPE close)
   made-allowed m (makes_none n run a) = makes_none n (allowed m run) (ap (allowing m) a)
 
   -- a type, whose root opens last
-  pub from-unopened : {s t : State} → s ≡ unread xs r n → MakesType (flush (flush (read_on s.items s))) t → MakesType (flush (unopened xs r)) (none t)
+  pub from-unopened : {s t : State} → s ≡ unread xs r n → RunsTypeRoot (flush (flush (read_on s.items s))) t → RunsTypeRoot (flush (unopened xs r)) (none t)
   unfolding flush
   from-unopened {t = t} e h =
-      let made : MakesType (flush (flush (read_on xs (unread xs r n)))) t = subst (λ (z : State). MakesType (flush (flush (read_on z.items z))) t) e h in
+      let made : RunsTypeRoot (flush (flush (read_on xs (unread xs r n)))) t = subst (λ (z : State). RunsTypeRoot (flush (flush (read_on z.items z))) t) e h in
       let start : State = unread xs r 0 in
-      let from : MakesType (allowing n (flush (unopened xs r))) t = subst (λ (z : State). MakesType (flush (flush z)) t) (reads n xs start) made in
-      subst (λ (z : State). MakesType (flush (flush z)) (none t)) (sym (reads 0 xs start)) (made-allowed 0 from)
+      let from : RunsTypeRoot (allowing n (flush (unopened xs r))) t = subst (λ (z : State). RunsTypeRoot (flush (flush z)) t) (reads n xs start) made in
+      subst (λ (z : State). RunsTypeRoot (flush (flush z)) (none t)) (sym (reads 0 xs start)) (made-allowed 0 from)
 
   pub not-open : {s u : State} → s ≡ unread xs r n → u ≡ flush (read_on s.items s) → u.tree.above ≡ []
   unfolding flush

@@ -12,7 +12,7 @@ use Rattle.parser_rules.specs.State.{State, begun, finished}
 use Rattle.parser_rules.specs.Nodes.{Document}
 use Rattle.parser_rules.specs.RuleLanguage.{Rule, Call}
 use Rattle.parser_rules.specs.Runs.{Runs}
-use Rattle.parser_rules.specs.Fragments.{started, unopened, left_out, IsTypeRoot, MakesType}
+use Rattle.parser_rules.specs.Fragments.{started, unopened, left_out, IsTypeRoot, RunsTypeRoot}
 use Rattle.apollo_parser.specs.Promise.{Parsed}
 use Rattle.parser_state.specs.Errors.{IsErrorOf}
 
@@ -45,4 +45,4 @@ pub record ByTypeRule (source : List ℕ) (r k : ℕ) (t : Parsed) : Type 0 wher
   pub rule : Rule
   pub is : IsTypeRoot (unopened (limited k (items_of source)) r) kind rule
   pub root : ByRootRule kind rule source r k t
-  pub made : MakesType (unopened (limited k (items_of source)) r) root.last
+  pub made : RunsTypeRoot (unopened (limited k (items_of source)) r) root.last

@@ -21,7 +21,7 @@ ghost use Rattle.document_grammar.specs.Numbered.{tree_of};
 ghost use Rattle.document_grammar.specs.Leaves.{leaves, OneLeafAnItem};
 ghost use Rattle.apollo_parser.specs.ByRules.{ByRules, ByRootRule, ByTypeRule};
 ghost use Rattle.apollo_parser.specs.Parts.{FirstLeaves, FirstErrors, OneType, first_kind};
-ghost use Rattle.parser_rules.specs.Fragments.{selections_root};
+ghost use Rattle.parser_rules.specs.Fragments.{field_set};
 ghost use Rattle.parser_rules.specs.Nodes.{Document};
 ghost use Rattle.parser_rules.specs.RuleLanguage.{Call};
 ghost use Rattle.parser_rules.specs.Runs.{Runs};
@@ -265,7 +265,7 @@ impl<'i> Parser<'i> {
         self,
         alloc: A,
     ) -> Result<SyntaxTree<SelectionSetRoot, A>, AllocError>
-        ensures { IfOk result (ByRootRule kind.SELECTION_SET selections_root self.entry.source.now self.entry.recursion_limit self.entry.token_limit) }
+        ensures { IfOk result (ByRootRule kind.SELECTION_SET field_set self.entry.source.now self.entry.recursion_limit self.entry.token_limit) }
     {
         let mut p = ParserState::new(
             alloc,

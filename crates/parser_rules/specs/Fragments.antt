@@ -24,9 +24,13 @@ unopened items limit = flush (read_on items (record (fresh items limit kind.ERRO
 abbrev pub left_out : State → State
 left_out s = record s { pending = [] }
 
+-- what is between the braces of a SelectionSet (2.4)
+abbrev pub unbraced_selections : Rule
+unbraced_selections = Nested (Call Selections) Skip
+
 -- SelectionSet (2.4), or what is between its braces
-abbrev pub selections_root : Rule
-selections_root = When (At token.LCurly) (inside SelectionSet) (Nested (Call Selections) Skip)
+abbrev pub field_set : Rule
+field_set = When (At token.LCurly) (inside SelectionSet) unbraced_selections
 
 -- Type (2.11) : the root's rule for each kind of type, and where no type stands. The rule of a list runs at `[` alone.
 abbrev pub list_root : Rule
@@ -55,7 +59,7 @@ pub data ClosesType (place : ℕ) (k : SyntaxKind) (s t : State) : Type 0 where
   non_null : {u : State} → true ≡ holds (At token.Bang) s → Runs (Do (Bump kind.BANG)) (closed (wrapped_from place k s)) u → t ≡ wrapped_from 0 kind.NON_NULL_TYPE u → ClosesType place k s t
 
 -- a type's rule ran where no root is open, and the root opened around what was built; or no type stands there
-pub data MakesType (s t : State) : Type 0 where
-  makes_list : {u : State} → true ≡ holds (At token.LBracket) s → Runs (inside ListType) s u → ClosesType (built_count s.tree) kind.LIST_TYPE u t → MakesType s t
-  makes_name : {u : State} → false ≡ holds (At token.LBracket) s → true ≡ holds (At token.Name) s → Runs (inside NamedType) s u → ClosesType (built_count s.tree) kind.NAMED_TYPE u t → MakesType s t
-  makes_none : {u : State} → false ≡ holds (Here type_start) s → Runs no_type_root s u → t ≡ wrapped_from 0 kind.ERROR u → MakesType s t
+pub data RunsTypeRoot (s t : State) : Type 0 where
+  makes_list : {u : State} → true ≡ holds (At token.LBracket) s → Runs (inside ListType) s u → ClosesType (built_count s.tree) kind.LIST_TYPE u t → RunsTypeRoot s t
+  makes_name : {u : State} → false ≡ holds (At token.LBracket) s → true ≡ holds (At token.Name) s → Runs (inside NamedType) s u → ClosesType (built_count s.tree) kind.NAMED_TYPE u t → RunsTypeRoot s t
+  makes_none : {u : State} → false ≡ holds (Here type_start) s → Runs no_type_root s u → t ≡ wrapped_from 0 kind.ERROR u → RunsTypeRoot s t

@@ -10,8 +10,8 @@ use Rattle.parser_rules.specs.declared.constness.Constness.TheVariants.{Const}
 
 -- the nodes
 pub data Node : Type 0 where
-  Operation : Node
-  ShortQuery : Node
+  OperationDefinition : Node
+  QueryShorthand : Node
   OperationType : Node
   SelectionSet : Node
   Field : Node
@@ -74,8 +74,8 @@ pub data Node : Type 0 where
 
 -- the kind of a node
 abbrev pub kind_of : Node → SyntaxKind
-kind_of Operation = kind.OPERATION_DEFINITION
-kind_of ShortQuery = kind.OPERATION_DEFINITION
+kind_of OperationDefinition = kind.OPERATION_DEFINITION
+kind_of QueryShorthand = kind.OPERATION_DEFINITION
 kind_of OperationType = kind.OPERATION_TYPE
 kind_of SelectionSet = kind.SELECTION_SET
 kind_of Field = kind.FIELD
@@ -138,7 +138,7 @@ kind_of InputObjectTypeExtension = kind.INPUT_OBJECT_TYPE_EXTENSION
 
 -- the machine's symbol of a node: that of its kind, but for these
 unfoldable pub symbol : Node → ℕ
-symbol ShortQuery = symbols.SHORT_QUERY
+symbol QueryShorthand = symbols.SHORT_QUERY
 symbol NameForFragment = symbols.NAME_FOR_FRAGMENT
 symbol NameForEnum = symbols.NAME_FOR_ENUM
 symbol (Arguments Const) = symbols.ARGUMENTS_CONST
@@ -154,35 +154,35 @@ symbol c = number (kind_of c)
 pub data Part : Type 0 where
   Document : Part
   Definition : Part
-  Described : Part
-  Extension : Part
-  MaybeName : Part
+  DescribedDefinition : Part
+  Extensions : Part
+  OptionalName : Part
   Selections : Part
   Selection : Part
   Spread : Part
   AliasedName : Part
-  Named : Part
-  MaybeArguments : Constness → Part
-  MaybeDirectives : Constness → Part
-  MaybeVariableDefinitions : Part
+  RequiredName : Part
+  OptionalArguments : Constness → Part
+  OptionalDirectives : Constness → Part
+  OptionalVariableDefinitions : Part
   TypedVariable : Part
-  MaybeDescription : Part
-  MaybeArgumentsDefinition : Part
+  OptionalDescription : Part
+  OptionalArgumentsDefinition : Part
   TypeName : Part
   RootType : Part
   FieldType : Part
-  MaybeImplements : Part
+  OptionalImplements : Part
   InterfaceName : Part
   UnionMember : Part
   DirectiveName : Part
   OnLocations : Part
   Location : Part
   VariableType : Part
-  MaybeDefaultValue : Part
-  MaybeTypeCondition : Part
-  ValueOf : Constness → Bool → Part
+  OptionalDefaultValue : Part
+  OptionalTypeCondition : Part
+  Value : Constness → Bool → Part
   WordValue : Part
   NestedValue : Constness → Part
   ListItems : Constness → Part
-  TypeOf : Part
+  Ty : Part
   ItemType : Part

@@ -11,7 +11,7 @@ use Rattle.parser_rules.specs.declared.constness.Constness.{Constness}
 use Rattle.parser_rules.specs.declared.constness.Constness.TheVariants.{Const, NotConst}
 use Rattle.parser_rules.specs.declared.message.Message.TheVariants as message
 use Rattle.parser_rules.specs.RuleLanguage.{TokenTest, Kind, Keyword, Or, Test, Here, At, Word, Next, Ready, HasNext, Deep, Not, Both, Bump, Note, TooDeep, Rule, Skip, Do, Seq, When, While, Child, Nested, Call, Typed, ◌>◌, expect, want, refuse, expect_word, maybe}
-use Rattle.parser_rules.specs.Nodes.{Node, Operation, ShortQuery, OperationType, SelectionSet, Field, Alias, Name, FragmentSpread, InlineFragment, FragmentDefinition, FragmentName, NameForFragment, TypeCondition, Arguments, Argument, Directives, Directive, VariableDefinitions, VariableDefinition, Variable, DefaultValue, IntValue, FloatValue, StringValue, BooleanValue, NullValue, EnumValue, NameForEnum, ListValue, ObjectValue, ObjectField, NamedType, ListType, Description, SchemaDefinition, RootOperationTypeDefinition, ScalarTypeDefinition, ObjectTypeDefinition, ImplementsInterfaces, FieldsDefinition, FieldDefinition, ArgumentsDefinition, InputValueDefinition, InterfaceTypeDefinition, UnionTypeDefinition, UnionMemberTypes, EnumTypeDefinition, EnumValuesDefinition, EnumValueDefinition, InputObjectTypeDefinition, InputFieldsDefinition, DirectiveDefinition, DirectiveLocations, DirectiveLocation, SchemaExtension, ScalarTypeExtension, ObjectTypeExtension, InterfaceTypeExtension, UnionTypeExtension, EnumTypeExtension, InputObjectTypeExtension, Part, Document, Definition, Described, Extension, MaybeName, Selections, Selection, Spread, AliasedName, Named, MaybeArguments, MaybeDirectives, MaybeVariableDefinitions, TypedVariable, MaybeDescription, MaybeArgumentsDefinition, TypeName, RootType, FieldType, MaybeImplements, InterfaceName, UnionMember, DirectiveName, OnLocations, Location, VariableType, MaybeDefaultValue, MaybeTypeCondition, ValueOf, WordValue, NestedValue, ListItems, TypeOf, ItemType}
+use Rattle.parser_rules.specs.Nodes.{Node, OperationDefinition, QueryShorthand, OperationType, SelectionSet, Field, Alias, Name, FragmentSpread, InlineFragment, FragmentDefinition, FragmentName, NameForFragment, TypeCondition, Arguments, Argument, Directives, Directive, VariableDefinitions, VariableDefinition, Variable, DefaultValue, IntValue, FloatValue, StringValue, BooleanValue, NullValue, EnumValue, NameForEnum, ListValue, ObjectValue, ObjectField, NamedType, ListType, Description, SchemaDefinition, RootOperationTypeDefinition, ScalarTypeDefinition, ObjectTypeDefinition, ImplementsInterfaces, FieldsDefinition, FieldDefinition, ArgumentsDefinition, InputValueDefinition, InterfaceTypeDefinition, UnionTypeDefinition, UnionMemberTypes, EnumTypeDefinition, EnumValuesDefinition, EnumValueDefinition, InputObjectTypeDefinition, InputFieldsDefinition, DirectiveDefinition, DirectiveLocations, DirectiveLocation, SchemaExtension, ScalarTypeExtension, ObjectTypeExtension, InterfaceTypeExtension, UnionTypeExtension, EnumTypeExtension, InputObjectTypeExtension, Part, Document, Definition, DescribedDefinition, Extensions, OptionalName, Selections, Selection, Spread, AliasedName, RequiredName, OptionalArguments, OptionalDirectives, OptionalVariableDefinitions, TypedVariable, OptionalDescription, OptionalArgumentsDefinition, TypeName, RootType, FieldType, OptionalImplements, InterfaceName, UnionMember, DirectiveName, OnLocations, Location, VariableType, OptionalDefaultValue, OptionalTypeCondition, Value, WordValue, NestedValue, ListItems, Ty, ItemType}
 
 -- a selection starts with the token
 abbrev pub selection_start : TokenTest
@@ -101,9 +101,9 @@ abbrev pub has_item : Test
 has_item = Both (Both Ready (Not (At token.RBracket))) (Not Deep)
 
 -- a variable is read in a constant place too, but reported
-abbrev pub variable_of : Constness → Rule
-variable_of Const = Do (Note message.VariableInConst) > Child Variable
-variable_of NotConst = Child Variable
+abbrev pub variable_value : Constness → Rule
+variable_value Const = Do (Note message.VariableInConst) > Child Variable
+variable_value NotConst = Child Variable
 
 abbrev pub no_value : Bool → Rule
 no_value true = refuse message.ExpectedValue
@@ -111,7 +111,7 @@ no_value false = Do (Note message.ExpectedValue)
 
 -- Description? OperationType, the beginning of an OperationDefinition (2.3)
 abbrev pub operation_head : Rule
-operation_head = Call MaybeDescription > Child OperationType
+operation_head = Call OptionalDescription > Child OperationType
 
 abbrev pub operation_word : Rule
 operation_word =
@@ -129,14 +129,26 @@ abbrev pub word_of : List SyntaxKind → Rule → Rule
 word_of [] none = none
 word_of (k ∷ ks) none = When (Word k) (Do (Bump k)) (word_of ks none)
 
+-- the location's word, where the locations before it in the list are not there
+abbrev pub enum_or_input_location : Rule
+enum_or_input_location = word_of enum_and_input_locations (Do (Note message.ExpectedLocation))
+
+-- TypeSystemDirectiveLocation (3.13)
+abbrev pub type_system_location : Rule
+type_system_location = word_of type_system_locations (Do (Note message.ExpectedLocation))
+
+-- ExecutableDirectiveLocation, or TypeSystemDirectiveLocation (3.13)
+abbrev pub executable_location : Rule
+executable_location = word_of executable_locations type_system_location
+
 -- Directives[Const]? and the block or list that begins with the punctuator, of which an extension has one at least
 abbrev pub extended : TokenKind → Node → Message → Rule
-extended k block m = When (At token.At) (Call (MaybeDirectives Const) > maybe k block) (When (At k) (Child block) (Do (Note m)))
+extended k block m = When (At token.At) (Call (OptionalDirectives Const) > maybe k block) (When (At k) (Child block) (Do (Note m)))
 
 -- the same, after ImplementsInterfaces?
 abbrev pub implementing : Message → Rule
 implementing m =
-    When (Word kind.implements_KW) (Child ImplementsInterfaces > Call (MaybeDirectives Const) > maybe token.LCurly FieldsDefinition)
+    When (Word kind.implements_KW) (Child ImplementsInterfaces > Call (OptionalDirectives Const) > maybe token.LCurly FieldsDefinition)
     (extended token.LCurly FieldsDefinition m)
 
 -- { RootOperationTypeDefinition+ }, with what is reported where there is none
@@ -148,18 +160,30 @@ root_operations m =
     > expect token.RCurly kind.R_CURLY message.ExpectedRCurly
 
 -- a definition's description, where it has one, and the keyword after it
-abbrev pub described : SyntaxKind → Rule
-described k = Call MaybeDescription > When (Word k) (Do (Bump k)) (refuse message.ExpectedDefinition)
+abbrev pub described_keyword : SyntaxKind → Rule
+described_keyword k = Call OptionalDescription > When (Word k) (Do (Bump k)) (refuse message.ExpectedDefinition)
 
 -- ImplementsInterfaces? Directives[Const]? FieldsDefinition?
 abbrev pub type_parts : Rule
-type_parts = Call MaybeImplements > Call (MaybeDirectives Const) > maybe token.LCurly FieldsDefinition
+type_parts = Call OptionalImplements > Call (OptionalDirectives Const) > maybe token.LCurly FieldsDefinition
+
+-- a report where nothing with a description and a name starts
+abbrev pub want_named : Message → Rule
+want_named m = want (Here named_start) m
+
+-- a report where no selection starts
+abbrev pub want_selection : Rule
+want_selection = want (Here selection_start) message.ExpectedSelection
+
+-- a report where no variable definition starts
+abbrev pub want_variable : Rule
+want_variable = want (Here variable_start) message.ExpectedVariableDefinition
 
 -- items between the braces or parentheses, one at least
 abbrev pub definitions : SyntaxKind → Node → Message → TokenKind → SyntaxKind → Message → Rule
 definitions first item none close leaf m =
     Do (Bump first)
-    > want (Here named_start) none
+    > want_named none
     > While (Here named_start) (Child item)
     > expect close leaf m
 
@@ -167,9 +191,9 @@ definitions first item none close leaf m =
 abbrev pub separated : TokenKind → SyntaxKind → Part → Rule
 separated k leaf name = When (At k) (Do (Bump leaf)) Skip > Call name > While (At k) (Do (Bump leaf) > Call name)
 
--- TypeDefinition (3.4), where the keyword is
-abbrev pub type_definition : (TokenTest → Test) → Rule → Rule
-type_definition at none =
+-- TypeDefinition (3.4), by the keyword where the test looks; the other rule where it is none
+abbrev pub type_definition_at : (TokenTest → Test) → Rule → Rule
+type_definition_at at none =
     When (at (Keyword kind.scalar_KW)) (Child ScalarTypeDefinition)
     (When (at (Keyword kind.type_KW)) (Child ObjectTypeDefinition)
     (When (at (Keyword kind.interface_KW)) (Child InterfaceTypeDefinition)
@@ -178,58 +202,72 @@ type_definition at none =
     (When (at (Keyword kind.input_KW)) (Child InputObjectTypeDefinition)
     none)))))
 
--- TypeSystemDefinition (3.2), where the keyword is
-abbrev pub type_system : (TokenTest → Test) → Rule → Rule
-type_system at none =
+-- TypeSystemDefinition (3.2), the same
+abbrev pub type_system_at : (TokenTest → Test) → Rule → Rule
+type_system_at at none =
     When (at (Keyword kind.schema_KW)) (Child SchemaDefinition)
     (When (at (Keyword kind.directive_KW)) (Child DirectiveDefinition)
-    (type_definition at none))
+    (type_definition_at at none))
 
 -- a token in the place of a definition
 abbrev pub no_definition : Rule
 no_definition =
     When (At token.Name) (refuse message.ExpectedDefinition)
-    (When (At token.StringValue) (Call Described)
+    (When (At token.StringValue) (Call DescribedDefinition)
     (refuse message.ExpectedDefinitionStart))
 
 -- a string before another token than those with which a definition begins, or before none
 abbrev pub no_described : Rule
 no_described = When HasNext (refuse message.ExpectedDefinition) (refuse message.ExpectedDefinitionAfterString)
 
+-- TypeDefinition (3.4), by the keyword that comes next, and TypeSystemDefinition (3.2)
+abbrev pub type_definition : Rule
+type_definition = type_definition_at Here no_definition
+
+abbrev pub type_system_definition : Rule
+type_system_definition = type_system_at Here no_definition
+
+-- the same after a description, by the keyword after the string
+abbrev pub described_type : Rule
+described_type = type_definition_at Next no_described
+
+abbrev pub described_type_system : Rule
+described_type_system = type_system_at Next no_described
+
 unfoldable pub inside : Node → Rule
 -- OperationDefinition (2.3) : Description? OperationType Name? VariableDefinitions? Directives? SelectionSet
-inside Operation =
+inside OperationDefinition =
     Seq operation_head
-    (Call MaybeName
-    > Call MaybeVariableDefinitions
-    > Call (MaybeDirectives NotConst)
+    (Call OptionalName
+    > Call OptionalVariableDefinitions
+    > Call (OptionalDirectives NotConst)
     > When (At token.LCurly) (Child SelectionSet) (refuse message.ExpectedSelectionSet))
 -- OperationDefinition (2.3) : SelectionSet
-inside ShortQuery = Child SelectionSet
+inside QueryShorthand = Child SelectionSet
 -- OperationType (2.3) : one of `query` `mutation` `subscription`
 inside OperationType = operation_word
 -- SelectionSet (2.4) : { Selection+ }
 inside SelectionSet = Do (Bump kind.L_CURLY) > Nested (Call Selections) (expect token.RCurly kind.R_CURLY message.ExpectedRCurly)
 -- Field (2.5) : Alias? Name Arguments? Directives? SelectionSet?
-inside Field = Call AliasedName > Call (MaybeArguments NotConst) > Call (MaybeDirectives NotConst) > maybe token.LCurly SelectionSet
+inside Field = Call AliasedName > Call (OptionalArguments NotConst) > Call (OptionalDirectives NotConst) > maybe token.LCurly SelectionSet
 -- Alias (2.7) : Name :
 inside Alias = Child Name > Do (Bump kind.COLON)
 -- Name (2.1.9)
 inside Name = Do (Bump kind.IDENT)
 -- FragmentSpread (2.8) : ... FragmentName Directives?
-inside FragmentSpread = Do (Bump kind.SPREAD) > Child FragmentName > Call (MaybeDirectives NotConst)
+inside FragmentSpread = Do (Bump kind.SPREAD) > Child FragmentName > Call (OptionalDirectives NotConst)
 -- InlineFragment (2.8.2) : ... TypeCondition? Directives? SelectionSet
 inside InlineFragment =
     Do (Bump kind.SPREAD)
-    > Call MaybeTypeCondition
-    > Call (MaybeDirectives NotConst)
+    > Call OptionalTypeCondition
+    > Call (OptionalDirectives NotConst)
     > When (At token.LCurly) (Child SelectionSet) (Do (Note message.ExpectedInlineSelectionSet))
 -- FragmentDefinition (2.8) : Description? `fragment` FragmentName TypeCondition Directives? SelectionSet
 inside FragmentDefinition =
-    Seq (described kind.fragment_KW)
+    Seq (described_keyword kind.fragment_KW)
     (Child FragmentName
     > Child TypeCondition
-    > Call (MaybeDirectives NotConst)
+    > Call (OptionalDirectives NotConst)
     > When (At token.LCurly) (Child SelectionSet) (Do (Note message.ExpectedSelectionSet)))
 -- FragmentName (2.8) : Name but not `on`
 inside FragmentName =
@@ -245,23 +283,23 @@ inside (Arguments c) =
     > While (At token.Name) (Child (Argument c))
     > expect token.RParen kind.R_PAREN message.ExpectedRParen
 -- Argument[Const] (2.6) : Name : Value[?Const]
-inside (Argument c) = Child Name > When (At token.Colon) (Do (Bump kind.COLON) > Call (ValueOf c false)) (Do (Note message.ExpectedColon))
+inside (Argument c) = Child Name > When (At token.Colon) (Do (Bump kind.COLON) > Call (Value c false)) (Do (Note message.ExpectedColon))
 -- Directives[Const] (2.12) : Directive[?Const]+
 inside (Directives c) = While (At token.At) (Child (Directive c))
 -- Directive[Const] (2.12) : @ Name Arguments[?Const]?
-inside (Directive c) = Do (Bump kind.AT) > Call Named > Call (MaybeArguments c)
+inside (Directive c) = Do (Bump kind.AT) > Call RequiredName > Call (OptionalArguments c)
 -- VariableDefinitions (2.10) : ( VariableDefinition+ )
 inside VariableDefinitions =
     Do (Bump kind.L_PAREN)
-    > want (Here variable_start) message.ExpectedVariableDefinition
+    > want_variable
     > While (Here variable_start) (Child VariableDefinition)
     > expect token.RParen kind.R_PAREN message.ExpectedRParen
 -- VariableDefinition (2.10) : Description? Variable : Type DefaultValue? Directives[Const]?
 inside VariableDefinition = When (At token.StringValue) (Child Description > When (At token.Dollar) (Call TypedVariable) (Do (Note message.ExpectedVariable))) (Call TypedVariable)
 -- Variable (2.10) : $ Name
-inside Variable = Do (Bump kind.DOLLAR) > Call Named
+inside Variable = Do (Bump kind.DOLLAR) > Call RequiredName
 -- DefaultValue (2.10) : = Value[Const]
-inside DefaultValue = Do (Bump kind.EQ) > Call (ValueOf Const false)
+inside DefaultValue = Do (Bump kind.EQ) > Call (Value Const false)
 -- IntValue (2.9.1)
 inside IntValue = Do (Bump kind.INT)
 -- FloatValue (2.9.2)
@@ -274,7 +312,7 @@ inside BooleanValue = When (Word kind.true_KW) (Do (Bump kind.true_KW)) (Do (Bum
 inside NullValue = Do (Bump kind.null_KW)
 -- EnumValue (2.9.6) : Name but not `true`, `false` or `null`
 inside EnumValue =
-    When (Here reserved) (Do (Note message.InvalidEnumValue) > Call Named)
+    When (Here reserved) (Do (Note message.InvalidEnumValue) > Call RequiredName)
     (When (At token.Name) (Child NameForEnum) (Do (Note message.ExpectedEnumValue)))
 inside NameForEnum = Do (Bump kind.IDENT)
 -- ListValue[Const] (2.9.7) : [ ], or [ Value[?Const]+ ]
@@ -284,15 +322,15 @@ inside (ObjectValue c) = Do (Bump kind.L_CURLY) > While (At token.Name) (Child (
 -- ObjectField[Const] (2.9.8) : Name : Value[?Const]
 inside (ObjectField c) = Child Name > When (At token.Colon) (Do (Bump kind.COLON) > Call (NestedValue c)) (Do (Note message.ExpectedColon))
 -- NamedType (2.11) : Name
-inside NamedType = Call Named
+inside NamedType = Call RequiredName
 -- ListType (2.11) : [ Type ]
 inside ListType = Do (Bump kind.L_BRACK) > Nested (Call ItemType) (expect token.RBracket kind.R_BRACK message.ExpectedRBracket)
 -- Description (3) : StringValue
 inside Description = Child StringValue
 -- SchemaDefinition (3.3) : Description? `schema` Directives[Const]? { RootOperationTypeDefinition+ }
 inside SchemaDefinition =
-    Seq (described kind.schema_KW)
-    (Call (MaybeDirectives Const)
+    Seq (described_keyword kind.schema_KW)
+    (Call (OptionalDirectives Const)
     > When (At token.LCurly) (root_operations message.ExpectedRootOperation) (Do (Note message.ExpectedLCurly)))
 -- RootOperationTypeDefinition (3.3) : OperationType : NamedType
 inside RootOperationTypeDefinition =
@@ -300,13 +338,13 @@ inside RootOperationTypeDefinition =
     > When (At token.Colon) (Do (Bump kind.COLON) > Call RootType) (Do (Note message.ExpectedRootType))
 -- ScalarTypeDefinition (3.5) : Description? `scalar` Name Directives[Const]?
 inside ScalarTypeDefinition =
-    Seq (described kind.scalar_KW)
-    (Call Named
-    > Call (MaybeDirectives Const))
+    Seq (described_keyword kind.scalar_KW)
+    (Call RequiredName
+    > Call (OptionalDirectives Const))
 -- ObjectTypeDefinition (3.6) : Description? `type` Name ImplementsInterfaces? Directives[Const]? FieldsDefinition?, where the block may be left
 -- out only before another token than {
 inside ObjectTypeDefinition =
-    Seq (described kind.type_KW)
+    Seq (described_keyword kind.type_KW)
     (Call TypeName
     > type_parts)
 -- ImplementsInterfaces (3.6) : `implements` &? NamedType, or ImplementsInterfaces & NamedType
@@ -315,104 +353,104 @@ inside ImplementsInterfaces = Do (Bump kind.implements_KW) > separated token.Amp
 inside FieldsDefinition = definitions kind.L_CURLY FieldDefinition message.ExpectedFieldDefinition token.RCurly kind.R_CURLY message.ExpectedRCurly
 -- FieldDefinition (3.6) : Description? Name ArgumentsDefinition? : Type Directives[Const]?
 inside FieldDefinition =
-    Call MaybeDescription
-    > Call Named
-    > Call MaybeArgumentsDefinition
+    Call OptionalDescription
+    > Call RequiredName
+    > Call OptionalArgumentsDefinition
     > When (At token.Colon) (Do (Bump kind.COLON) > Call FieldType) (Do (Note message.ExpectedFieldType))
 -- ArgumentsDefinition (3.6.1) : ( InputValueDefinition+ )
 inside ArgumentsDefinition =
     definitions kind.L_PAREN InputValueDefinition message.ExpectedArgumentDefinition token.RParen kind.R_PAREN message.ExpectedRParen
 -- InputValueDefinition (3.6.1) : Description? Name : Type DefaultValue? Directives[Const]?
 inside InputValueDefinition =
-    Call MaybeDescription
-    > Call Named
+    Call OptionalDescription
+    > Call RequiredName
     > When (At token.Colon) (Do (Bump kind.COLON) > Call VariableType) (Do (Note message.ExpectedName))
 -- InterfaceTypeDefinition (3.7) : Description? `interface` Name ImplementsInterfaces? Directives[Const]? FieldsDefinition?, as above
 inside InterfaceTypeDefinition =
-    Seq (described kind.interface_KW)
-    (Call Named
+    Seq (described_keyword kind.interface_KW)
+    (Call RequiredName
     > type_parts)
 -- UnionTypeDefinition (3.8) : Description? `union` Name Directives[Const]? UnionMemberTypes?
 inside UnionTypeDefinition =
-    Seq (described kind.union_KW)
-    (Call Named
-    > Call (MaybeDirectives Const)
+    Seq (described_keyword kind.union_KW)
+    (Call RequiredName
+    > Call (OptionalDirectives Const)
     > maybe token.Eq UnionMemberTypes)
 -- UnionMemberTypes (3.8) : = |? NamedType, or UnionMemberTypes | NamedType
 inside UnionMemberTypes = Do (Bump kind.EQ) > separated token.Pipe kind.PIPE UnionMember
 -- EnumTypeDefinition (3.9) : Description? `enum` Name Directives[Const]? EnumValuesDefinition?, as above
 inside EnumTypeDefinition =
-    Seq (described kind.enum_KW)
-    (Call Named
-    > Call (MaybeDirectives Const)
+    Seq (described_keyword kind.enum_KW)
+    (Call RequiredName
+    > Call (OptionalDirectives Const)
     > maybe token.LCurly EnumValuesDefinition)
 -- EnumValuesDefinition (3.9) : { EnumValueDefinition+ }
 inside EnumValuesDefinition =
     definitions kind.L_CURLY EnumValueDefinition message.ExpectedEnumValueDefinition token.RCurly kind.R_CURLY message.ExpectedRCurly
 -- EnumValueDefinition (3.9) : Description? EnumValue Directives[Const]?
-inside EnumValueDefinition = Call MaybeDescription > Child EnumValue > Call (MaybeDirectives Const)
+inside EnumValueDefinition = Call OptionalDescription > Child EnumValue > Call (OptionalDirectives Const)
 -- InputObjectTypeDefinition (3.10) : Description? `input` Name Directives[Const]? InputFieldsDefinition?, as above
 inside InputObjectTypeDefinition =
-    Seq (described kind.input_KW)
-    (Call Named
-    > Call (MaybeDirectives Const)
+    Seq (described_keyword kind.input_KW)
+    (Call RequiredName
+    > Call (OptionalDirectives Const)
     > maybe token.LCurly InputFieldsDefinition)
 -- InputFieldsDefinition (3.10) : { InputValueDefinition+ }
 inside InputFieldsDefinition =
     definitions kind.L_CURLY InputValueDefinition message.ExpectedInputValueDefinition token.RCurly kind.R_CURLY message.ExpectedRCurly
 -- DirectiveDefinition (3.13) : Description? `directive` @ Name ArgumentsDefinition? `repeatable`? `on` DirectiveLocations
 inside DirectiveDefinition =
-    Seq (described kind.directive_KW)
+    Seq (described_keyword kind.directive_KW)
     (Call DirectiveName
-    > Call MaybeArgumentsDefinition
+    > Call OptionalArgumentsDefinition
     > When (Word kind.repeatable_KW) (Do (Bump kind.repeatable_KW)) Skip
     > Call OnLocations)
 -- DirectiveLocations (3.13) : |? DirectiveLocation, or DirectiveLocations | DirectiveLocation
 inside DirectiveLocations = separated token.Pipe kind.PIPE Location
 -- DirectiveLocation (3.13) : ExecutableDirectiveLocation, or TypeSystemDirectiveLocation
-inside DirectiveLocation = word_of executable_locations (word_of type_system_locations (Do (Note message.ExpectedLocation)))
+inside DirectiveLocation = executable_location
 -- SchemaExtension (3.3.2) : `extend` `schema` Directives[Const]? { RootOperationTypeDefinition+ }, or `extend` `schema` Directives[Const]
 inside SchemaExtension =
     Do (Bump kind.extend_KW)
     > Do (Bump kind.schema_KW)
     > When (At token.At)
-    (Call (MaybeDirectives Const) > When (At token.LCurly) (root_operations message.ExpectedSchemaExtension) Skip)
+    (Call (OptionalDirectives Const) > When (At token.LCurly) (root_operations message.ExpectedSchemaExtension) Skip)
     (When (At token.LCurly) (root_operations message.ExpectedSchemaExtension) (Do (Note message.ExpectedSchemaExtension)))
 -- ScalarTypeExtension (3.5.3) : `extend` `scalar` Name Directives[Const]
 inside ScalarTypeExtension =
     Do (Bump kind.extend_KW)
     > Do (Bump kind.scalar_KW)
-    > Call Named
-    > When (At token.At) (Call (MaybeDirectives Const)) (Do (Note message.ExpectedScalarExtension))
+    > Call RequiredName
+    > When (At token.At) (Call (OptionalDirectives Const)) (Do (Note message.ExpectedScalarExtension))
 -- ObjectTypeExtension (3.6.3) : `extend` `type` Name, and one of ImplementsInterfaces, Directives[Const], FieldsDefinition at least, in this order
 inside ObjectTypeExtension =
     Do (Bump kind.extend_KW)
     > Do (Bump kind.type_KW)
-    > Call Named
+    > Call RequiredName
     > implementing message.ExpectedObjectExtension
 -- InterfaceTypeExtension (3.7.1) : `extend` `interface` Name, and the same
 inside InterfaceTypeExtension =
     Do (Bump kind.extend_KW)
     > Do (Bump kind.interface_KW)
-    > Call Named
+    > Call RequiredName
     > implementing message.ExpectedInterfaceExtension
 -- UnionTypeExtension (3.8.1) : `extend` `union` Name, and one of Directives[Const] and UnionMemberTypes at least, in this order
 inside UnionTypeExtension =
     Do (Bump kind.extend_KW)
     > Do (Bump kind.union_KW)
-    > Call Named
+    > Call RequiredName
     > extended token.Eq UnionMemberTypes message.ExpectedUnionExtension
 -- EnumTypeExtension (3.9.1) : `extend` `enum` Name, and one of Directives[Const] and EnumValuesDefinition at least, in this order
 inside EnumTypeExtension =
     Do (Bump kind.extend_KW)
     > Do (Bump kind.enum_KW)
-    > Call Named
+    > Call RequiredName
     > extended token.LCurly EnumValuesDefinition message.ExpectedEnumExtension
 -- InputObjectTypeExtension (3.10.1) : `extend` `input` Name, and one of Directives[Const] and InputFieldsDefinition at least, in this order
 inside InputObjectTypeExtension =
     Do (Bump kind.extend_KW)
     > Do (Bump kind.input_KW)
-    > Call Named
+    > Call RequiredName
     > extended token.LCurly InputFieldsDefinition message.ExpectedInputExtension
 
 unfoldable pub body : Part → Rule
@@ -420,20 +458,20 @@ unfoldable pub body : Part → Rule
 body Document = want Ready message.UnexpectedEof > While Ready (Call Definition)
 -- Definition (2.2) : OperationDefinition, FragmentDefinition, or a definition or extension of the type system (3)
 body Definition =
-    When (Here operation_type) (Child Operation)
+    When (Here operation_type) (Child OperationDefinition)
     (When (Word kind.fragment_KW) (Child FragmentDefinition)
-    (When (At token.LCurly) (Child ShortQuery)
-    (When (Word kind.extend_KW) (Call Extension)
-    (type_system Here no_definition))))
+    (When (At token.LCurly) (Child QueryShorthand)
+    (When (Word kind.extend_KW) (Call Extensions)
+    type_system_definition)))
 -- a definition with its description
-body Described =
-    When (Next operation_type) (Child Operation)
+body DescribedDefinition =
+    When (Next operation_type) (Child OperationDefinition)
     (When (Next (Keyword kind.fragment_KW)) (Child FragmentDefinition)
     (When (Next (Kind token.LCurly)) (refuse message.ExpectedOperation)
     (When (Next (Keyword kind.extend_KW)) (refuse message.InvalidExtension)
-    (type_system Next no_described))))
+    described_type_system)))
 -- an extension (3.4.3 and others): the word after `extend` says which
-body Extension =
+body Extensions =
     When (Next (Keyword kind.schema_KW)) (Child SchemaExtension)
     (When (Next (Keyword kind.scalar_KW)) (Child ScalarTypeExtension)
     (When (Next (Keyword kind.type_KW)) (Child ObjectTypeExtension)
@@ -442,9 +480,9 @@ body Extension =
     (When (Next (Keyword kind.enum_KW)) (Child EnumTypeExtension)
     (When (Next (Keyword kind.input_KW)) (Child InputObjectTypeExtension)
     (refuse message.InvalidExtension)))))))
-body MaybeName = maybe token.Name Name
+body OptionalName = maybe token.Name Name
 -- Selection+, the inside of a SelectionSet (2.4)
-body Selections = want (Here selection_start) message.ExpectedSelection > While (Here selection_start) (Call Selection)
+body Selections = want_selection > While (Here selection_start) (Call Selection)
 -- Selection (2.4) : Field, FragmentSpread, or InlineFragment
 body Selection = When (At token.Name) (Child Field) (Call Spread)
 -- FragmentSpread (2.8), or InlineFragment (2.8.2): the token after `...` says which
@@ -454,28 +492,28 @@ body Spread =
     (When HasNext (Do (Note message.ExpectedFragment) > Do (Bump kind.SPREAD))
     (refuse message.ExpectedFragment)))
 -- Alias? Name, the beginning of a Field (2.5)
-body AliasedName = When (Next (Kind token.Colon)) (Child Alias > Call Named) (Child Name)
+body AliasedName = When (Next (Kind token.Colon)) (Child Alias > Call RequiredName) (Child Name)
 -- Name (2.1.9), or a report that it is missing
-body Named = When (At token.Name) (Child Name) (Do (Note message.ExpectedName))
-body (MaybeArguments c) = maybe token.LParen (Arguments c)
-body (MaybeDirectives c) = maybe token.At (Directives c)
-body MaybeVariableDefinitions = maybe token.LParen VariableDefinitions
+body RequiredName = When (At token.Name) (Child Name) (Do (Note message.ExpectedName))
+body (OptionalArguments c) = maybe token.LParen (Arguments c)
+body (OptionalDirectives c) = maybe token.At (Directives c)
+body OptionalVariableDefinitions = maybe token.LParen VariableDefinitions
 -- Variable : Type DefaultValue? Directives[Const]?, a VariableDefinition (2.10) after its description
 body TypedVariable = Child Variable > When (At token.Colon) (Do (Bump kind.COLON) > Call VariableType) (Do (Note message.ExpectedName))
-body MaybeDescription = maybe token.StringValue Description
-body MaybeArgumentsDefinition = maybe token.LParen ArgumentsDefinition
+body OptionalDescription = maybe token.StringValue Description
+body OptionalArgumentsDefinition = maybe token.LParen ArgumentsDefinition
 -- the name of a type that is defined, which is reported in words of its own
 body TypeName = When (At token.Name) (Child Name) (Do (Note message.ExpectedTypeName))
 -- NamedType, the rest of a RootOperationTypeDefinition (3.3)
 body RootType = When (At token.Name) (Child NamedType) (Do (Note message.ExpectedRootType))
 -- Type Directives[Const]?, the rest of a FieldDefinition (3.6)
-body FieldType = When (Here type_start) (Call TypeOf > Call (MaybeDirectives Const)) (Do (Note message.ExpectedType))
-body MaybeImplements = When (Word kind.implements_KW) (Child ImplementsInterfaces) Skip
+body FieldType = When (Here type_start) (Call Ty > Call (OptionalDirectives Const)) (Do (Note message.ExpectedType))
+body OptionalImplements = When (Word kind.implements_KW) (Child ImplementsInterfaces) Skip
 -- NamedType, in ImplementsInterfaces (3.6) and in UnionMemberTypes (3.8)
 body InterfaceName = When (At token.Name) (Child NamedType) (Do (Note message.ExpectedInterface))
 body UnionMember = When (At token.Name) (Child NamedType) (Do (Note message.ExpectedUnionMember))
 -- @ Name, and `on` DirectiveLocations, parts of a DirectiveDefinition (3.13)
-body DirectiveName = expect token.At kind.AT message.ExpectedAt > Call Named
+body DirectiveName = expect token.At kind.AT message.ExpectedAt > Call RequiredName
 body OnLocations =
     expect_word kind.on_KW message.ExpectedLocations
     > When (Here locations_start) (Child DirectiveLocations) (Do (Note message.ExpectedValidLocation))
@@ -483,13 +521,13 @@ body Location =
     When (Here location) (Child DirectiveLocation)
     (When (At token.Name) (Do (Note message.ExpectedValidLocation)) (Do (Note message.ExpectedLocation)))
 -- Type DefaultValue? Directives[Const]?, the rest of a VariableDefinition (2.10) and of an InputValueDefinition (3.6.1)
-body VariableType = When (Here type_start) (Call TypeOf > Call MaybeDefaultValue > Call (MaybeDirectives Const)) (Do (Note message.ExpectedType))
-body MaybeDefaultValue = maybe token.Eq DefaultValue
-body MaybeTypeCondition = maybe token.Name TypeCondition
+body VariableType = When (Here type_start) (Call Ty > Call OptionalDefaultValue > Call (OptionalDirectives Const)) (Do (Note message.ExpectedType))
+body OptionalDefaultValue = maybe token.Eq DefaultValue
+body OptionalTypeCondition = maybe token.Name TypeCondition
 -- Value[Const] (2.9) : [if not Const] Variable, IntValue, FloatValue, StringValue, BooleanValue, NullValue, EnumValue, ListValue[?Const], or
 -- ObjectValue[?Const]. Where none starts, `pops` says that the token becomes an ERROR leaf.
-body (ValueOf c pops) =
-    When (At token.Dollar) (variable_of c)
+body (Value c pops) =
+    When (At token.Dollar) (variable_value c)
     (When (At token.Int) (Child IntValue)
     (When (At token.Float) (Child FloatValue)
     (When (At token.StringValue) (Child StringValue)
@@ -503,13 +541,13 @@ body WordValue =
     (When (Word kind.null_KW) (Child NullValue)
     (Child EnumValue))
 -- Value (2.9), one level deeper
-body (NestedValue c) = Nested (Call (ValueOf c true)) Skip
+body (NestedValue c) = Nested (Call (Value c true)) Skip
 -- Value[?Const]+ ], the rest of a ListValue (2.9.7)
 body (ListItems c) =
     While has_item (Call (NestedValue c))
     > When (At token.RBracket) (Do (Bump kind.R_BRACK))
     (When Ready TooDeep Skip)
 -- Type (2.11) : NamedType, ListType, or NonNullType; NonNullType : NamedType !, or ListType !
-body TypeOf = Typed nullable_type
+body Ty = Typed nullable_type
 -- Type (2.11), inside a ListType
-body ItemType = When (Here type_start) (Call TypeOf) (refuse message.ExpectedItemType)
+body ItemType = When (Here type_start) (Call Ty) (refuse message.ExpectedItemType)

@@ -21,7 +21,7 @@ pub fn arguments<A: Allocator + Copy>(
     p: &mut ParserState<'_, A>,
     constness: Constness,
 ) -> Result<(), AllocError>
-    ensures { Parses (Call (rule.MaybeArguments constness)) result p.old p.new }
+    ensures { Parses (Call (rule.OptionalArguments constness)) result p.old p.new }
 {
     if !p.at(TokenKind::LParen) {
         return Ok(());
@@ -83,10 +83,10 @@ pub fn arguments_definition<A: Allocator + Copy>(
 }
 
 /// The same, if `(` comes next.
-pub fn maybe_arguments_definition<A: Allocator + Copy>(
+pub fn optional_arguments_definition<A: Allocator + Copy>(
     p: &mut ParserState<'_, A>,
 ) -> Result<(), AllocError>
-    ensures { Parses (Call rule.MaybeArgumentsDefinition) result p.old p.new }
+    ensures { Parses (Call rule.OptionalArgumentsDefinition) result p.old p.new }
 {
     if p.at(TokenKind::LParen) {
         return arguments_definition(p);

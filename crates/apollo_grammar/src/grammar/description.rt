@@ -29,8 +29,10 @@ pub fn description<A: Allocator + Copy>(p: &mut ParserState<'_, A>) -> Result<()
 }
 
 /// A description, where a string comes next.
-pub fn maybe_description<A: Allocator + Copy>(p: &mut ParserState<'_, A>) -> Result<(), AllocError>
-    ensures { Parses (Call rule.MaybeDescription) result p.old p.new }
+pub fn optional_description<A: Allocator + Copy>(
+    p: &mut ParserState<'_, A>,
+) -> Result<(), AllocError>
+    ensures { Parses (Call rule.OptionalDescription) result p.old p.new }
 {
     if p.at(TokenKind::StringValue) {
         return description(p);
@@ -39,14 +41,14 @@ pub fn maybe_description<A: Allocator + Copy>(p: &mut ParserState<'_, A>) -> Res
 }
 
 /// A definition's description, where it has one, and the keyword after it.
-pub fn described<A: Allocator + Copy>(
+pub fn described_keyword<A: Allocator + Copy>(
     p: &mut ParserState<'_, A>,
     keyword: SyntaxKind,
 ) -> Result<(), AllocError>
     requires { is_keyword (number keyword) ≡ true }
-    ensures { Parses (rules.described keyword) result p.old p.new }
+    ensures { Parses (rules.described_keyword keyword) result p.old p.new }
 {
-    maybe_description(p)?;
+    optional_description(p)?;
     if p.at_word(keyword) {
         return p.bump(keyword);
     }
@@ -66,7 +68,7 @@ pub fn want_named<A: Allocator + Copy>(
     p: &mut ParserState<'_, A>,
     message: Message,
 ) -> Result<(), AllocError>
-    ensures { Parses (want (Here rules.named_start) message) result p.old p.new }
+    ensures { Parses (rules.want_named message) result p.old p.new }
 {
     if starts_named(p) {
         return Ok(());

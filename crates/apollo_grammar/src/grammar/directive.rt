@@ -9,8 +9,8 @@ ghost use Rattle.parser_state.specs.View.{current_of};
 ghost use Rattle.parser_rules.specs.RuleLanguage.{Here, fits, holds, Note, Do, Child, Call};
 ghost use Rattle.parser_state.specs.Parses.{Parses};
 
-use super::argument::{arguments, maybe_arguments_definition};
-use super::description::described;
+use super::argument::{arguments, optional_arguments_definition};
+use super::description::described_keyword;
 use super::name::name;
 use apollo_lexer::Token;
 use document_grammar::SyntaxKind;
@@ -24,7 +24,7 @@ pub fn directives<A: Allocator + Copy>(
     p: &mut ParserState<'_, A>,
     constness: Constness,
 ) -> Result<(), AllocError>
-    ensures { Parses (Call (rule.MaybeDirectives constness)) result p.old p.new }
+    ensures { Parses (Call (rule.OptionalDirectives constness)) result p.old p.new }
 {
     if !p.at(TokenKind::At) {
         return Ok(());
@@ -58,9 +58,9 @@ pub fn directive_definition<A: Allocator + Copy>(
     ensures { Parses (Child rule.DirectiveDefinition) result p.old p.new }
 {
     p.start_node(SyntaxKind::DIRECTIVE_DEFINITION)?;
-    described(p, SyntaxKind::directive_KW)?;
+    described_keyword(p, SyntaxKind::directive_KW)?;
     directive_name(p)?;
-    maybe_arguments_definition(p)?;
+    optional_arguments_definition(p)?;
     p.skip_word(SyntaxKind::repeatable_KW)?;
     on_locations(p)?;
     p.finish_node();
@@ -167,7 +167,7 @@ fn directive_location<A: Allocator + Copy>(p: &mut ParserState<'_, A>) -> Result
 }
 
 fn executable_location<A: Allocator + Copy>(p: &mut ParserState<'_, A>) -> Result<(), AllocError>
-    ensures { Parses (rules.word_of rules.executable_locations (rules.word_of rules.type_system_locations (Do (Note message.ExpectedLocation)))) result p.old p.new }
+    ensures { Parses rules.executable_location result p.old p.new }
 {
     if p.at_word(SyntaxKind::QUERY_KW) {
         return p.bump(SyntaxKind::QUERY_KW);
@@ -197,7 +197,7 @@ fn executable_location<A: Allocator + Copy>(p: &mut ParserState<'_, A>) -> Resul
 }
 
 fn type_system_location<A: Allocator + Copy>(p: &mut ParserState<'_, A>) -> Result<(), AllocError>
-    ensures { Parses (rules.word_of rules.type_system_locations (Do (Note message.ExpectedLocation))) result p.old p.new }
+    ensures { Parses rules.type_system_location result p.old p.new }
 {
     if p.at_word(SyntaxKind::SCHEMA_KW) {
         return p.bump(SyntaxKind::SCHEMA_KW);
@@ -224,7 +224,7 @@ fn type_system_location<A: Allocator + Copy>(p: &mut ParserState<'_, A>) -> Resu
 }
 
 fn enum_or_input_location<A: Allocator + Copy>(p: &mut ParserState<'_, A>) -> Result<(), AllocError>
-    ensures { Parses (rules.word_of rules.enum_and_input_locations (Do (Note message.ExpectedLocation))) result p.old p.new }
+    ensures { Parses rules.enum_or_input_location result p.old p.new }
 {
     if p.at_word(SyntaxKind::ENUM_KW) {
         return p.bump(SyntaxKind::ENUM_KW);

@@ -59,7 +59,7 @@ fn definition<A: Allocator + Copy>(p: &mut ParserState<'_, A>) -> Result<(), All
 
 // A definition of the type system by its keyword, or a token in the place of a definition that is popped.
 fn type_system_definition<A: Allocator + Copy>(p: &mut ParserState<'_, A>) -> Result<(), AllocError>
-    ensures { Parses (rules.type_system Here rules.no_definition) result p.old p.new }
+    ensures { Parses rules.type_system_definition result p.old p.new }
 {
     if p.at_word(SyntaxKind::schema_KW) {
         return schema_definition(p);
@@ -72,7 +72,7 @@ fn type_system_definition<A: Allocator + Copy>(p: &mut ParserState<'_, A>) -> Re
 
 // The same for the definition of a type.
 fn type_definition<A: Allocator + Copy>(p: &mut ParserState<'_, A>) -> Result<(), AllocError>
-    ensures { Parses (rules.type_definition Here rules.no_definition) result p.old p.new }
+    ensures { Parses rules.type_definition result p.old p.new }
 {
     if p.at_word(SyntaxKind::scalar_KW) {
         return scalar_type_definition(p);
@@ -103,7 +103,7 @@ fn no_definition<A: Allocator + Copy>(p: &mut ParserState<'_, A>) -> Result<(), 
         return p.err_and_pop(Message::ExpectedDefinition);
     }
     if p.at(TokenKind::StringValue) {
-        return described(p);
+        return described_definition(p);
     }
     p.err_and_pop(Message::ExpectedDefinitionStart)
 }
@@ -127,21 +127,21 @@ fn starts_operation<A: Allocator + Copy>(p: &ParserState<'_, A>) -> bool
 
 // A definition with its description: the token after the string says which.
 #[tactic(auto, using(crate::proofs::Looks::looking), unfolding(parser_rules::specs::Rules::body, parser_rules::specs::RuleLanguage::holds))]
-fn described<A: Allocator + Copy>(p: &mut ParserState<'_, A>) -> Result<(), AllocError>
-    ensures { Parses (Call rule.Described) result p.old p.new }
+fn described_definition<A: Allocator + Copy>(p: &mut ParserState<'_, A>) -> Result<(), AllocError>
+    ensures { Parses (Call rule.DescribedDefinition) result p.old p.new }
 {
     let next = p.peek();
-    described_by(p, next)
+    described_definition_before(p, next)
 }
 
 // The same, where the token after the string is known.
 #[tactic(auto, using(crate::proofs::Looks::looking), unfolding(parser_rules::specs::Rules::body, parser_rules::specs::RuleLanguage::holds))]
-fn described_by<A: Allocator + Copy>(
+fn described_definition_before<A: Allocator + Copy>(
     p: &mut ParserState<'_, A>,
     next: Option<Token<'_>>,
 ) -> Result<(), AllocError>
     requires { current_of next ≡ second p.old.items }
-    ensures { Parses (Call rule.Described) result p.old p.new }
+    ensures { Parses (Call rule.DescribedDefinition) result p.old p.new }
 {
     if is_operation_type(next) {
         return operation_definition(p);
@@ -165,7 +165,7 @@ fn described_type_system<A: Allocator + Copy>(
     next: Option<Token<'_>>,
 ) -> Result<(), AllocError>
     requires { current_of next ≡ second p.old.items }
-    ensures { Parses (rules.type_system Next rules.no_described) result p.old p.new }
+    ensures { Parses rules.described_type_system result p.old p.new }
 {
     if is_word(next, SyntaxKind::schema_KW) {
         return schema_definition(p);
@@ -183,7 +183,7 @@ fn described_type<A: Allocator + Copy>(
     next: Option<Token<'_>>,
 ) -> Result<(), AllocError>
     requires { current_of next ≡ second p.old.items }
-    ensures { Parses (rules.type_definition Next rules.no_described) result p.old p.new }
+    ensures { Parses rules.described_type result p.old p.new }
 {
     if is_word(next, SyntaxKind::scalar_KW) {
         return scalar_type_definition(p);

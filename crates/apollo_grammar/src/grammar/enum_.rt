@@ -9,7 +9,7 @@ ghost use Rattle.parser_rules.specs.RuleLanguage.{Here, At, Word, fits, holds, C
 ghost use Rattle.parser_state.specs.View.{current_of};
 ghost use Rattle.parser_state.specs.Parses.{Parses};
 
-use super::description::{described, maybe_description, starts_named, want_named};
+use super::description::{described_keyword, optional_description, starts_named, want_named};
 use super::directive::directives;
 use super::name::name;
 use super::value::enum_value;
@@ -26,7 +26,7 @@ pub fn enum_type_definition<A: Allocator + Copy>(
     ensures { Parses (Child rule.EnumTypeDefinition) result p.old p.new }
 {
     p.start_node(SyntaxKind::ENUM_TYPE_DEFINITION)?;
-    described(p, SyntaxKind::enum_KW)?;
+    described_keyword(p, SyntaxKind::enum_KW)?;
     name(p)?;
     directives(p, Constness::Const)?;
     if p.at(TokenKind::LCurly) {
@@ -85,7 +85,7 @@ fn enum_value_definition<A: Allocator + Copy>(p: &mut ParserState<'_, A>) -> Res
     ensures { Parses (Child rule.EnumValueDefinition) result p.old p.new }
 {
     p.start_node(SyntaxKind::ENUM_VALUE_DEFINITION)?;
-    maybe_description(p)?;
+    optional_description(p)?;
     enum_value(p)?;
     directives(p, Constness::Const)?;
     p.finish_node();

@@ -26,19 +26,19 @@ use std::alloc::{AllocError, Allocator};
 
 /// An extension of the type system (GraphQL October 2021, section 3, "Type System Extensions"), where `extend` comes next.
 pub fn extensions<A: Allocator + Copy>(p: &mut ParserState<'_, A>) -> Result<(), AllocError>
-    ensures { Parses (Call rule.Extension) result p.old p.new }
+    ensures { Parses (Call rule.Extensions) result p.old p.new }
 {
     let next = p.peek();
-    extension(p, next)
+    extensions_before(p, next)
 }
 
 // The same, where the word after `extend` is known.
-fn extension<A: Allocator + Copy>(
+fn extensions_before<A: Allocator + Copy>(
     p: &mut ParserState<'_, A>,
     next: Option<Token<'_>>,
 ) -> Result<(), AllocError>
     requires { current_of next ≡ second p.old.items }
-    ensures { Parses (Call rule.Extension) result p.old p.new }
+    ensures { Parses (Call rule.Extensions) result p.old p.new }
 {
     if is_word(next, SyntaxKind::schema_KW) {
         return schema_extension(p);

@@ -8,8 +8,8 @@ ghost use Rattle.parser_rules.specs.Rules as rules;
 ghost use Rattle.parser_rules.specs.RuleLanguage.{Here, At, holds, Child, Call};
 ghost use Rattle.parser_state.specs.Parses.{Parses};
 
-use super::argument::{arguments, maybe_arguments_definition};
-use super::description::{maybe_description, starts_named, want_named};
+use super::argument::{arguments, optional_arguments_definition};
+use super::description::{optional_description, starts_named, want_named};
 use super::directive::directives;
 use super::name::{aliased_name, name};
 use super::selection::selection_set;
@@ -63,9 +63,9 @@ fn field_definition<A: Allocator + Copy>(p: &mut ParserState<'_, A>) -> Result<(
     ensures { Parses (Child rule.FieldDefinition) result p.old p.new }
 {
     p.start_node(SyntaxKind::FIELD_DEFINITION)?;
-    maybe_description(p)?;
+    optional_description(p)?;
     name(p)?;
-    maybe_arguments_definition(p)?;
+    optional_arguments_definition(p)?;
     if p.at(TokenKind::Colon) {
         p.bump(SyntaxKind::COLON)?;
         field_type(p)?;

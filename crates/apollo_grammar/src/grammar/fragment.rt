@@ -7,7 +7,7 @@ ghost use Rattle.parser_rules.specs.Nodes as rule;
 ghost use Rattle.parser_rules.specs.RuleLanguage.{At, holds, Child, Call};
 ghost use Rattle.parser_state.specs.Parses.{Parses};
 
-use super::description::described;
+use super::description::described_keyword;
 use super::directive::directives;
 use super::selection::selection_set;
 use super::ty::named_type;
@@ -24,7 +24,7 @@ pub fn fragment_definition<A: Allocator + Copy>(
     ensures { Parses (Child rule.FragmentDefinition) result p.old p.new }
 {
     p.start_node(SyntaxKind::FRAGMENT_DEFINITION)?;
-    described(p, SyntaxKind::fragment_KW)?;
+    described_keyword(p, SyntaxKind::fragment_KW)?;
     fragment_name(p)?;
     type_condition(p)?;
     directives(p, Constness::NotConst)?;
@@ -69,8 +69,10 @@ fn type_condition<A: Allocator + Copy>(p: &mut ParserState<'_, A>) -> Result<(),
 }
 
 // A type condition, where a name comes next.
-fn maybe_type_condition<A: Allocator + Copy>(p: &mut ParserState<'_, A>) -> Result<(), AllocError>
-    ensures { Parses (Call rule.MaybeTypeCondition) result p.old p.new }
+fn optional_type_condition<A: Allocator + Copy>(
+    p: &mut ParserState<'_, A>,
+) -> Result<(), AllocError>
+    ensures { Parses (Call rule.OptionalTypeCondition) result p.old p.new }
 {
     if p.at(TokenKind::Name) {
         return type_condition(p);
@@ -86,7 +88,7 @@ pub fn inline_fragment<A: Allocator + Copy>(p: &mut ParserState<'_, A>) -> Resul
 {
     p.start_node(SyntaxKind::INLINE_FRAGMENT)?;
     p.bump(SyntaxKind::SPREAD)?;
-    maybe_type_condition(p)?;
+    optional_type_condition(p)?;
     directives(p, Constness::NotConst)?;
     if p.at(TokenKind::LCurly) {
         selection_set(p)?;

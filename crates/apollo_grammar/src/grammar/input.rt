@@ -9,7 +9,7 @@ ghost use Rattle.parser_rules.specs.RuleLanguage.{Here, At, Word, fits, holds, C
 ghost use Rattle.parser_state.specs.View.{current_of};
 ghost use Rattle.parser_state.specs.Parses.{Parses};
 
-use super::description::{described, maybe_description, starts_named, want_named};
+use super::description::{described_keyword, optional_description, starts_named, want_named};
 use super::directive::directives;
 use super::name::name;
 use super::variable::variable_type;
@@ -26,7 +26,7 @@ pub fn input_object_type_definition<A: Allocator + Copy>(
     ensures { Parses (Child rule.InputObjectTypeDefinition) result p.old p.new }
 {
     p.start_node(SyntaxKind::INPUT_OBJECT_TYPE_DEFINITION)?;
-    described(p, SyntaxKind::input_KW)?;
+    described_keyword(p, SyntaxKind::input_KW)?;
     name(p)?;
     directives(p, Constness::Const)?;
     if p.at(TokenKind::LCurly) {
@@ -90,7 +90,7 @@ pub fn input_value_definition<A: Allocator + Copy>(
     ensures { Parses (Child rule.InputValueDefinition) result p.old p.new }
 {
     p.start_node(SyntaxKind::INPUT_VALUE_DEFINITION)?;
-    maybe_description(p)?;
+    optional_description(p)?;
     name(p)?;
     if p.at(TokenKind::Colon) {
         p.bump(SyntaxKind::COLON)?;

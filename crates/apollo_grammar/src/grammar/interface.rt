@@ -9,7 +9,7 @@ ghost use Rattle.parser_rules.specs.RuleLanguage.{Here, At, Word, fits, holds, C
 ghost use Rattle.parser_state.specs.View.{current_of};
 ghost use Rattle.parser_state.specs.Parses.{Parses};
 
-use super::description::described;
+use super::description::described_keyword;
 use super::name::name;
 use super::object::{implementing, type_parts};
 use document_grammar::SyntaxKind;
@@ -25,7 +25,7 @@ pub fn interface_type_definition<A: Allocator + Copy>(
     ensures { Parses (Child rule.InterfaceTypeDefinition) result p.old p.new }
 {
     p.start_node(SyntaxKind::INTERFACE_TYPE_DEFINITION)?;
-    described(p, SyntaxKind::interface_KW)?;
+    described_keyword(p, SyntaxKind::interface_KW)?;
     name(p)?;
     type_parts(p)?;
     p.finish_node();

@@ -18,7 +18,7 @@ use std::alloc::{AllocError, Allocator};
 
 /// A name (GraphQL October 2021, section 2.1.9, "Names").
 pub fn name<A: Allocator + Copy>(p: &mut ParserState<'_, A>) -> Result<(), AllocError>
-    ensures { Parses (Call rule.Named) result p.old p.new }
+    ensures { Parses (Call rule.RequiredName) result p.old p.new }
 {
     if p.at(TokenKind::Name) {
         return p.name();
@@ -27,8 +27,8 @@ pub fn name<A: Allocator + Copy>(p: &mut ParserState<'_, A>) -> Result<(), Alloc
 }
 
 /// A name, where one comes next.
-pub fn maybe_name<A: Allocator + Copy>(p: &mut ParserState<'_, A>) -> Result<(), AllocError>
-    ensures { Parses (Call rule.MaybeName) result p.old p.new }
+pub fn optional_name<A: Allocator + Copy>(p: &mut ParserState<'_, A>) -> Result<(), AllocError>
+    ensures { Parses (Call rule.OptionalName) result p.old p.new }
 {
     if p.at(TokenKind::Name) {
         return p.name();
@@ -54,12 +54,12 @@ pub fn aliased_name<A: Allocator + Copy>(p: &mut ParserState<'_, A>) -> Result<(
     ensures { Parses (Call rule.AliasedName) result p.old p.new }
 {
     let next = p.peek();
-    name_before(p, next)
+    aliased_name_before(p, next)
 }
 
 // The same, where the token after the first name is known.
 #[tactic(auto, using(parser_rules::proofs::runs::Running::running), unfolding(parser_rules::specs::Rules::inside, parser_rules::specs::Rules::body, parser_rules::specs::RuleLanguage::holds))]
-fn name_before<A: Allocator + Copy>(
+fn aliased_name_before<A: Allocator + Copy>(
     p: &mut ParserState<'_, A>,
     next: Option<Token<'_>>,
 ) -> Result<(), AllocError>

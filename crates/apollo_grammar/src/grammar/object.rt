@@ -9,7 +9,7 @@ ghost use Rattle.parser_rules.specs.RuleLanguage.{Here, At, Word, fits, holds, C
 ghost use Rattle.parser_state.specs.View.{current_of};
 ghost use Rattle.parser_state.specs.Parses.{Parses};
 
-use super::description::described;
+use super::description::described_keyword;
 use super::directive::directives;
 use super::field::fields_definition;
 use super::name::name;
@@ -27,7 +27,7 @@ pub fn object_type_definition<A: Allocator + Copy>(
     ensures { Parses (Child rule.ObjectTypeDefinition) result p.old p.new }
 {
     p.start_node(SyntaxKind::OBJECT_TYPE_DEFINITION)?;
-    described(p, SyntaxKind::type_KW)?;
+    described_keyword(p, SyntaxKind::type_KW)?;
     type_name(p)?;
     type_parts(p)?;
     p.finish_node();
@@ -91,7 +91,7 @@ pub fn implementing<A: Allocator + Copy>(
 pub fn type_parts<A: Allocator + Copy>(p: &mut ParserState<'_, A>) -> Result<(), AllocError>
     ensures { Parses rules.type_parts result p.old p.new }
 {
-    maybe_implements(p)?;
+    optional_implements(p)?;
     directives(p, Constness::Const)?;
     if p.at(TokenKind::LCurly) {
         return fields_definition(p);
@@ -100,8 +100,8 @@ pub fn type_parts<A: Allocator + Copy>(p: &mut ParserState<'_, A>) -> Result<(),
 }
 
 // The interfaces that a type implements, where `implements` comes next.
-fn maybe_implements<A: Allocator + Copy>(p: &mut ParserState<'_, A>) -> Result<(), AllocError>
-    ensures { Parses (Call rule.MaybeImplements) result p.old p.new }
+fn optional_implements<A: Allocator + Copy>(p: &mut ParserState<'_, A>) -> Result<(), AllocError>
+    ensures { Parses (Call rule.OptionalImplements) result p.old p.new }
 {
     if p.at_word(SyntaxKind::implements_KW) {
         return implements_interfaces(p);

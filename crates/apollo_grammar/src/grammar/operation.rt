@@ -8,9 +8,9 @@ ghost use Rattle.parser_rules.specs.Rules as rules;
 ghost use Rattle.parser_rules.specs.RuleLanguage.{At, holds, Child};
 ghost use Rattle.parser_state.specs.Parses.{Parses};
 
-use super::description::maybe_description;
+use super::description::optional_description;
 use super::directive::directives;
-use super::name::maybe_name;
+use super::name::optional_name;
 use super::selection::selection_set;
 use super::variable::variable_definitions;
 use document_grammar::SyntaxKind;
@@ -23,11 +23,11 @@ use std::alloc::{AllocError, Allocator};
 pub fn operation_definition<A: Allocator + Copy>(
     p: &mut ParserState<'_, A>,
 ) -> Result<(), AllocError>
-    ensures { Parses (Child rule.Operation) result p.old p.new }
+    ensures { Parses (Child rule.OperationDefinition) result p.old p.new }
 {
     p.start_node(SyntaxKind::OPERATION_DEFINITION)?;
     operation_head(p)?;
-    maybe_name(p)?;
+    optional_name(p)?;
     variable_definitions(p)?;
     directives(p, Constness::NotConst)?;
     if p.at(TokenKind::LCurly) {
@@ -42,7 +42,7 @@ pub fn operation_definition<A: Allocator + Copy>(
 /// A query that is a selection set alone (GraphQL October 2021, section 2.3, "Operations", "Query shorthand").
 pub fn query_shorthand<A: Allocator + Copy>(p: &mut ParserState<'_, A>) -> Result<(), AllocError>
     requires { true ≡ holds (At token.LCurly) p.old }
-    ensures { Parses (Child rule.ShortQuery) result p.old p.new }
+    ensures { Parses (Child rule.QueryShorthand) result p.old p.new }
 {
     p.start_node(SyntaxKind::OPERATION_DEFINITION)?;
     selection_set(p)?;
@@ -54,7 +54,7 @@ pub fn query_shorthand<A: Allocator + Copy>(p: &mut ParserState<'_, A>) -> Resul
 fn operation_head<A: Allocator + Copy>(p: &mut ParserState<'_, A>) -> Result<(), AllocError>
     ensures { Parses rules.operation_head result p.old p.new }
 {
-    maybe_description(p)?;
+    optional_description(p)?;
     operation_type(p)
 }
 

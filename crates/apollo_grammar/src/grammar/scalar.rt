@@ -9,7 +9,7 @@ ghost use Rattle.parser_rules.specs.RuleLanguage.{Here, At, Word, fits, holds, C
 ghost use Rattle.parser_state.specs.View.{current_of};
 ghost use Rattle.parser_state.specs.Parses.{Parses};
 
-use super::description::described;
+use super::description::described_keyword;
 use super::directive::directives;
 use super::name::name;
 use document_grammar::SyntaxKind;
@@ -25,7 +25,7 @@ pub fn scalar_type_definition<A: Allocator + Copy>(
     ensures { Parses (Child rule.ScalarTypeDefinition) result p.old p.new }
 {
     p.start_node(SyntaxKind::SCALAR_TYPE_DEFINITION)?;
-    described(p, SyntaxKind::scalar_KW)?;
+    described_keyword(p, SyntaxKind::scalar_KW)?;
     name(p)?;
     directives(p, Constness::Const)?;
     p.finish_node();

@@ -9,7 +9,7 @@ ghost use Rattle.parser_rules.specs.RuleLanguage.{Here, At, Word, fits, holds, C
 ghost use Rattle.parser_state.specs.View.{current_of};
 ghost use Rattle.parser_state.specs.Parses.{Parses};
 
-use super::description::described;
+use super::description::described_keyword;
 use super::directive::directives;
 use super::operation::operation_type;
 use super::ty::named_type;
@@ -24,7 +24,7 @@ pub fn schema_definition<A: Allocator + Copy>(p: &mut ParserState<'_, A>) -> Res
     ensures { Parses (Child rule.SchemaDefinition) result p.old p.new }
 {
     p.start_node(SyntaxKind::SCHEMA_DEFINITION)?;
-    described(p, SyntaxKind::schema_KW)?;
+    described_keyword(p, SyntaxKind::schema_KW)?;
     directives(p, Constness::Const)?;
     if p.at(TokenKind::LCurly) {
         root_operations(p, Message::ExpectedRootOperation)?;

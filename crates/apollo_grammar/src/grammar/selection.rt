@@ -28,14 +28,14 @@ pub fn selection_set<A: Allocator + Copy>(p: &mut ParserState<'_, A>) -> Result<
     ensures { Parses (Child rule.SelectionSet) result p.old p.new }
 {
     p.start_node(SyntaxKind::SELECTION_SET)?;
-    braced(p)?;
+    inside_selection_set(p)?;
     p.finish_node();
     Ok(())
 }
 
 // What is in a selection set, its braces too.
 #[cycle(selection)]
-fn braced<A: Allocator + Copy>(p: &mut ParserState<'_, A>) -> Result<(), AllocError>
+fn inside_selection_set<A: Allocator + Copy>(p: &mut ParserState<'_, A>) -> Result<(), AllocError>
     requires { true ≡ holds (At token.LCurly) p.old }
     ensures { Parses (rules.inside rule.SelectionSet) result p.old p.new }
 {
@@ -54,8 +54,8 @@ fn braced<A: Allocator + Copy>(p: &mut ParserState<'_, A>) -> Result<(), AllocEr
 }
 
 // The selections of a root that has no braces.
-fn unbraced<A: Allocator + Copy>(p: &mut ParserState<'_, A>) -> Result<(), AllocError>
-    ensures { Parses (Nested (Call rule.Selections) Skip) result p.old p.new }
+fn unbraced_selections<A: Allocator + Copy>(p: &mut ParserState<'_, A>) -> Result<(), AllocError>
+    ensures { Parses fragments.unbraced_selections result p.old p.new }
 {
     if p.is_too_deep() {
         return p.too_deep();
@@ -68,12 +68,12 @@ fn unbraced<A: Allocator + Copy>(p: &mut ParserState<'_, A>) -> Result<(), Alloc
 
 /// The root of a selection set that is parsed by itself, with or without its braces.
 pub fn field_set<A: Allocator + Copy>(p: &mut ParserState<'_, A>) -> Result<(), AllocError>
-    ensures { Parses fragments.selections_root result p.old p.new }
+    ensures { Parses fragments.field_set result p.old p.new }
 {
     if p.at(TokenKind::LCurly) {
-        return braced(p);
+        return inside_selection_set(p);
     }
-    unbraced(p)
+    unbraced_selections(p)
 }
 
 // The selections of a set, one at least.
@@ -98,7 +98,7 @@ fn starts_selection<A: Allocator + Copy>(p: &ParserState<'_, A>) -> bool
 
 // Reports an error where no selection starts.
 fn want_selection<A: Allocator + Copy>(p: &mut ParserState<'_, A>) -> Result<(), AllocError>
-    ensures { Parses (want (Here rules.selection_start) message.ExpectedSelection) result p.old p.new }
+    ensures { Parses rules.want_selection result p.old p.new }
 {
     if starts_selection(p) {
         return Ok(());

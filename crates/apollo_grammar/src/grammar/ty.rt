@@ -29,7 +29,7 @@ pub fn starts_type<A: Allocator + Copy>(p: &ParserState<'_, A>) -> bool
 /// A type (GraphQL October 2021, section 2.11, "Type References"). Whether it is a non-null type is known at its end.
 #[cycle(ty)]
 pub fn ty<A: Allocator + Copy>(p: &mut ParserState<'_, A>) -> Result<(), AllocError>
-    ensures { Parses (Call rule.TypeOf) result p.old p.new }
+    ensures { Parses (Call rule.Ty) result p.old p.new }
 {
     let checkpoint = p.checkpoint()?;
     nullable_type(p)?;
@@ -57,14 +57,14 @@ fn list_type<A: Allocator + Copy>(p: &mut ParserState<'_, A>) -> Result<(), Allo
     ensures { Parses (Child rule.ListType) result p.old p.new }
 {
     p.start_node(SyntaxKind::LIST_TYPE)?;
-    bracketed(p)?;
+    inside_list_type(p)?;
     p.finish_node();
     Ok(())
 }
 
 // What is in a list type, its brackets too.
 #[cycle(ty)]
-fn bracketed<A: Allocator + Copy>(p: &mut ParserState<'_, A>) -> Result<(), AllocError>
+fn inside_list_type<A: Allocator + Copy>(p: &mut ParserState<'_, A>) -> Result<(), AllocError>
     requires { true ≡ holds (At token.LBracket) p.old }
     ensures { Parses (rules.inside rule.ListType) result p.old p.new }
 {
@@ -110,12 +110,12 @@ pub fn type_root<A: Allocator + Copy>(
 ) -> Result<(), AllocError>
     requires first { first.place ≡ 0 }
     requires not_open { p.old.tree.above ≡ [] }
-    ensures runs { OnOk result (fragments.MakesType (flush p.old) p.new) }
+    ensures runs { OnOk result (fragments.RunsTypeRoot (flush p.old) p.new) }
     ensures budget { p.new.budget ≡ p.old.budget }
 {
     let place = p.checkpoint()?;
     if p.at(TokenKind::LBracket) {
-        bracketed(p)?;
+        inside_list_type(p)?;
         return p.close_type(first, place, SyntaxKind::LIST_TYPE);
     }
     if p.at(TokenKind::Name) {

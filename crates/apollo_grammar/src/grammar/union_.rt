@@ -9,7 +9,7 @@ ghost use Rattle.parser_rules.specs.RuleLanguage.{Here, At, Word, fits, holds, C
 ghost use Rattle.parser_state.specs.View.{current_of};
 ghost use Rattle.parser_state.specs.Parses.{Parses};
 
-use super::description::described;
+use super::description::described_keyword;
 use super::directive::directives;
 use super::name::name;
 use super::ty::named_type;
@@ -26,7 +26,7 @@ pub fn union_type_definition<A: Allocator + Copy>(
     ensures { Parses (Child rule.UnionTypeDefinition) result p.old p.new }
 {
     p.start_node(SyntaxKind::UNION_TYPE_DEFINITION)?;
-    described(p, SyntaxKind::union_KW)?;
+    described_keyword(p, SyntaxKind::union_KW)?;
     name(p)?;
     directives(p, Constness::Const)?;
     if p.at(TokenKind::Eq) {

@@ -23,7 +23,7 @@ pub fn value<A: Allocator + Copy>(
     constness: Constness,
     pop_on_error: bool,
 ) -> Result<(), AllocError>
-    ensures { Parses (Call (rule.ValueOf constness pop_on_error)) result p.old p.new }
+    ensures { Parses (Call (rule.Value constness pop_on_error)) result p.old p.new }
 {
     if p.at(TokenKind::Dollar) {
         return variable_value(p, constness);
@@ -54,7 +54,7 @@ fn variable_value<A: Allocator + Copy>(
     p: &mut ParserState<'_, A>,
     constness: Constness,
 ) -> Result<(), AllocError>
-    ensures { Parses (rules.variable_of constness) result p.old p.new }
+    ensures { Parses (rules.variable_value constness) result p.old p.new }
 {
     if let Constness::Const = constness {
         p.err(Message::VariableInConst)?;
@@ -237,7 +237,7 @@ fn object_field<A: Allocator + Copy>(
 
 /// A default value (GraphQL October 2021, section 2.10, "Variables"), where `=` comes next.
 pub fn default_value<A: Allocator + Copy>(p: &mut ParserState<'_, A>) -> Result<(), AllocError>
-    ensures { Parses (Call rule.MaybeDefaultValue) result p.old p.new }
+    ensures { Parses (Call rule.OptionalDefaultValue) result p.old p.new }
 {
     if !p.at(TokenKind::Eq) {
         return Ok(());

@@ -23,7 +23,7 @@ use std::alloc::{AllocError, Allocator};
 pub fn variable_definitions<A: Allocator + Copy>(
     p: &mut ParserState<'_, A>,
 ) -> Result<(), AllocError>
-    ensures { Parses (Call rule.MaybeVariableDefinitions) result p.old p.new }
+    ensures { Parses (Call rule.OptionalVariableDefinitions) result p.old p.new }
 {
     if !p.at(TokenKind::LParen) {
         return Ok(());
@@ -83,7 +83,7 @@ fn starts_variable<A: Allocator + Copy>(p: &ParserState<'_, A>) -> bool
 
 // Reports an error where no variable definition starts.
 fn want_variable<A: Allocator + Copy>(p: &mut ParserState<'_, A>) -> Result<(), AllocError>
-    ensures { Parses (want (Here rules.variable_start) message.ExpectedVariableDefinition) result p.old p.new }
+    ensures { Parses rules.want_variable result p.old p.new }
 {
     if starts_variable(p) {
         return Ok(());

@@ -17,7 +17,7 @@ use Rattle.document_grammar.specs.declared.kind.SyntaxKind.{SyntaxKind}
 use Rattle.document_grammar.specs.declared.kind.SyntaxKind.TheVariants as kind
 use Rattle.document_grammar.proofs.Booleans.{and-l, and-r, and-i}
 use Rattle.grammar_machine.proofs.TableLemmas.{head-same, tail-same}
-use Rattle.parser_rules.specs.Fragments.{started, unopened, left_out, selections_root, MakesType}
+use Rattle.parser_rules.specs.Fragments.{started, unopened, left_out, field_set, RunsTypeRoot}
 use Rattle.parser_rules.specs.Open.{is_free, IsRoot}
 use Rattle.parser_rules.specs.RuleLanguage.{Rule}
 use Rattle.parser_rules.specs.Runs.{Runs}
@@ -184,7 +184,7 @@ module _ (sort : Sort) (j : SyntaxKind) {q : Rule} (r k : ℕ) (source : List �
 
 -- ---- selection sets
 
-module _ (r k : ℕ) (source : List ℕ) (items : List Item) (s : State) (cut : Cut source items) (run : Runs selections_root (started (limited k items) r kind.SELECTION_SET) s) where
+module _ (r k : ℕ) (source : List ℕ) (items : List Item) (s : State) (cut : Cut source items) (run : Runs field_set (started (limited k items) r kind.SELECTION_SET) s) where
   pub selections-sound : s.errors ≡ [] → IsSoundPart selections r s
   selections-sound = sound-part selections kind.SELECTION_SET r k source items s cut selections_pass refl (selections-root r (limited k items)) run
 
@@ -193,7 +193,7 @@ module _ (r k : ℕ) (source : List ℕ) (items : List Item) (s : State) (cut : 
 
 -- ---- types
 
-module _ (r k : ℕ) (source : List ℕ) (items : List Item) (s : State) (cut : Cut source items) (made : MakesType (unopened (limited k items) r) s) where
+module _ (r k : ℕ) (source : List ℕ) (items : List Item) (s : State) (cut : Cut source items) (made : RunsTypeRoot (unopened (limited k items) r) s) where
   type-outcome : EndsWell (limited k items) → IsRoot s.tree → Outcome type r (limited k items) s
   type-outcome ends _ = type-parsed r (limited k items) ends made
 

@@ -23,7 +23,7 @@ use Rattle.grammar_machine.proofs.Sound.{any, holds-one, first-any}
 use Rattle.grammar_machine.proofs.Steps.{closes-move}
 use Rattle.grammar_machine.proofs.TableLemmas.{no-cons}
 use Rattle.grammar_machine.specs.Machine.{holds as within, first as first_class, second as second_class, yields, opening, close as closes_move, frame}
-use Rattle.parser_rules.specs.Fragments.{started, left_out, selections_root}
+use Rattle.parser_rules.specs.Fragments.{started, left_out, field_set}
 use Rattle.parser_rules.specs.Open.{IsRoot}
 use Rattle.parser_rules.specs.RuleLanguage.{Rule}
 use Rattle.parser_rules.specs.Runs.{Runs}
@@ -190,7 +190,7 @@ module _ (sort : Sort) (r : ℕ) (xs : List Answer) (k : SyntaxKind) where
 record Opens (s a : ℕ) : Type 0 where
   symbol : IsRootSymbol s kind.SELECTION_SET
   set : ℕ
-  follows : follows_part s set selections_root
+  follows : follows_part s set field_set
   first : within a set ≡ true
 
 brace : within L_CURLY (kind_set token.LCurly) ≡ true
@@ -209,7 +209,7 @@ opens-by-class a h = elim (either (eqb a L_CURLY)) [
   })
 ]
 
-pub selections-root : (r : ℕ) (xs : List Answer) → Follows selections r xs kind.SELECTION_SET selections_root
+pub selections-root : (r : ℕ) (xs : List Answer) → Follows selections r xs kind.SELECTION_SET field_set
 selections-root r xs =
     let o = opens-by-class (first_class (answers_tokens xs)) (first-any (answers_tokens xs)) in
     record { symbol = o.symbol; keeps = record { begins = symbol-begins o.symbol; set = o.set; follows = o.follows; first = o.first } }

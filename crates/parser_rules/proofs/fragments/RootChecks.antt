@@ -14,7 +14,7 @@ use Rattle.parser_rules.proofs.lookahead.TokenSets.{kind_set, absent, present as
 use Rattle.parser_rules.proofs.lookahead.Split.{at_root_start}
 use Rattle.parser_rules.proofs.soundness.TableCheck.{Then, counts_itself, no_brace, part_may_end, keeps_to_table}
 use Rattle.document_grammar.specs.Numbers.{number}
-use Rattle.parser_rules.specs.Fragments.{selections_root, list_root, named_root, non_null_root, no_type_root, IsTypeRoot, a_list, a_name, not_null, no_type}
+use Rattle.parser_rules.specs.Fragments.{field_set, list_root, named_root, non_null_root, no_type_root, IsTypeRoot, a_list, a_name, not_null, no_type}
 use Rattle.parser_rules.specs.Open.{is_free}
 use Rattle.parser_rules.specs.State.{State}
 use Rattle.parser_rules.specs.RuleLanguage.{Here, At, Ready, Bump, Rule, Skip, Do, When, While, ◌>◌}
@@ -35,7 +35,7 @@ pub record RootRule (k : SyntaxKind) (q : Rule) : Type 0 where
   pub heavy : eqb (weight DOCUMENT (number k)) (counts_itself (number k)) and leb (counts_itself (number k)) 1 ≡ true
   pub limits : walk limit_check rules_deep q present always ≡ true
 
-pub selections_pass : RootRule kind.SELECTION_SET selections_root
+pub selections_pass : RootRule kind.SELECTION_SET field_set
 unfolding computing
 selections_pass = record { leaves = refl; levels = refl; heavy = refl; limits = refl }
 
@@ -87,7 +87,7 @@ unfolding computing
 type_follows = (refl, refl)
 
 -- with braces and without
-pub selections_follow : follows_part SELECTION_SET (kind_set token.LCurly) selections_root × follows_part BARE_SELECTIONS no_brace selections_root
+pub selections_follow : follows_part SELECTION_SET (kind_set token.LCurly) field_set × follows_part BARE_SELECTIONS no_brace field_set
 unfolding computing
 selections_follow = (refl, refl)
 
@@ -96,7 +96,7 @@ pub record PaidRoot (q : Rule) : Type 0 where
   pub none : PaysForAll (2 ^ absent) q
   pub some : PaysForAll a_token q
 
-pub selections_paid : PaidRoot selections_root
+pub selections_paid : PaidRoot field_set
 unfolding computing
 selections_paid = record { none = record { elements = refl; reports = refl }; some = record { elements = refl; reports = refl } }
 

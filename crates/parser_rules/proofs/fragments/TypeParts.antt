@@ -22,7 +22,7 @@ use Rattle.grammar_machine.proofs.FromMachineTree.{show, type_of}
 use Rattle.grammar_machine.proofs.Patterns.{label}
 use Rattle.grammar_machine.proofs.generated.Labels.{labels}
 use Rattle.grammar_machine.proofs.Sound.{any, first-any}
-use Rattle.parser_rules.specs.Fragments.{unopened, left_out, no_type_root, ClosesType, nullable, non_null, MakesType, makes_list, makes_name, makes_none}
+use Rattle.parser_rules.specs.Fragments.{unopened, left_out, no_type_root, ClosesType, nullable, non_null, RunsTypeRoot, makes_list, makes_name, makes_none}
 use Rattle.parser_rules.specs.RuleLanguage.{Here, At, holds, step, Do, Bump, Rule}
 use Rattle.parser_rules.specs.Rules.{type_start}
 use Rattle.parser_rules.specs.Runs.{Runs, skip, does, yes, no}
@@ -175,7 +175,7 @@ module _ (r : ℕ) (xs : List Answer) where
     nullable-outcome e (nullable b a) = from-first k e n.run a (alone b)
     nullable-outcome e (non_null b c a) = from-first kind.NON_NULL_TYPE e (bang-run b c) a (with-bang b c)
 
-  pub type-parsed : {t : State} → EndsWell xs → MakesType first t → Outcome type r xs t
+  pub type-parsed : {t : State} → EndsWell xs → RunsTypeRoot first t → Outcome type r xs t
   type-parsed e (makes_list b run close) = nullable-outcome (list-first (unopened-waits xs r) b run) e close
   type-parsed e (makes_name b n run close) = nullable-outcome (name-first (unopened-waits xs r) b n run) e close
   type-parsed e (makes_none n run a) = from-first kind.ERROR e run a (absent n run)

@@ -9,11 +9,11 @@ use Rattle.document_grammar.specs.Builds.{Building, Open, IsPlace, nothing, buil
 use Rattle.parser_rules.specs.declared.message.Message.TheVariants as message
 use Rattle.parser_rules.specs.State.{State, read_on, is_at, fresh, flush, closed, wrapped_from}
 use Rattle.parser_rules.specs.Open.{IsCheckpoint}
-use Rattle.parser_rules.specs.Nodes.{ListType, NamedType, Named}
+use Rattle.parser_rules.specs.Nodes.{ListType, NamedType, RequiredName}
 use Rattle.parser_rules.specs.RuleLanguage.{Here, At, holds, Do, Bump, Rule, Call, ◌>◌, refuse}
 use Rattle.parser_rules.specs.Rules.{type_start, inside, nullable_type}
 use Rattle.parser_rules.specs.Runs.{Runs, seq, yes, no, child}
-use Rattle.parser_rules.specs.Fragments.{unopened, started, list_root, named_root, ClosesType, nullable, non_null, MakesType, makes_list, makes_name, makes_none, IsTypeRoot, a_list, a_name, not_null, no_type}
+use Rattle.parser_rules.specs.Fragments.{unopened, started, list_root, named_root, ClosesType, nullable, non_null, RunsTypeRoot, makes_list, makes_name, makes_none, IsTypeRoot, a_list, a_name, not_null, no_type}
 use Rattle.parser_rules.proofs.runs.Frame.{read-untouched, add_all-above, adds}
 use Rattle.parser_rules.proofs.fragments.WrappedRuns.{wrapped-run, wrapped-root}
 
@@ -60,15 +60,15 @@ from-place first place k s {v = v} zero b e f run a = non_null b (subst (λ (z :
 
 -- ---- the root
 
-pub list-made : (s : State) {t u v : State} (place : ℕ) → t ≡ flush s → place ≡ built_count t.tree → true ≡ holds (At token.LBracket) t → Runs (inside ListType) t u → ClosesType place kind.LIST_TYPE u v → MakesType (flush s) v
-list-made s {u = u} {v = v} place f is e run close = subst (λ (z : State). MakesType z v) f (makes_list e run (subst (λ (n : ℕ). ClosesType n kind.LIST_TYPE u v) is close))
+pub list-made : (s : State) {t u v : State} (place : ℕ) → t ≡ flush s → place ≡ built_count t.tree → true ≡ holds (At token.LBracket) t → Runs (inside ListType) t u → ClosesType place kind.LIST_TYPE u v → RunsTypeRoot (flush s) v
+list-made s {u = u} {v = v} place f is e run close = subst (λ (z : State). RunsTypeRoot z v) f (makes_list e run (subst (λ (n : ℕ). ClosesType n kind.LIST_TYPE u v) is close))
 
-pub name-made : (s : State) {t u v : State} (place : ℕ) → t ≡ flush s → place ≡ built_count t.tree → false ≡ holds (At token.LBracket) t → true ≡ holds (At token.Name) t → Runs (Call Named) t u → ClosesType place kind.NAMED_TYPE u v → MakesType (flush s) v
+pub name-made : (s : State) {t u v : State} (place : ℕ) → t ≡ flush s → place ≡ built_count t.tree → false ≡ holds (At token.LBracket) t → true ≡ holds (At token.Name) t → Runs (Call RequiredName) t u → ClosesType place kind.NAMED_TYPE u v → RunsTypeRoot (flush s) v
 unfolding inside
-name-made s {u = u} {v = v} place f is e n run close = subst (λ (z : State). MakesType z v) f (makes_name e n run (subst (λ (n : ℕ). ClosesType n kind.NAMED_TYPE u v) is close))
+name-made s {u = u} {v = v} place f is e n run close = subst (λ (z : State). RunsTypeRoot z v) f (makes_name e n run (subst (λ (n : ℕ). ClosesType n kind.NAMED_TYPE u v) is close))
 
-pub none-made : (s : State) {t u v : State} (place : ℕ) → place ≡ 0 → t ≡ flush s → false ≡ holds (At token.LBracket) t → false ≡ holds (At token.Name) t → Runs (refuse message.ExpectedFieldType) t u → v ≡ wrapped_from place kind.ERROR u → MakesType (flush s) v
-none-made s {t = t} {u = u} {v = v} place first f e n run a = subst (λ (z : State). MakesType z v) f (makes_none (starts-none t e n) run (a ∙ ap (λ (p : ℕ). wrapped_from p kind.ERROR u) first))
+pub none-made : (s : State) {t u v : State} (place : ℕ) → place ≡ 0 → t ≡ flush s → false ≡ holds (At token.LBracket) t → false ≡ holds (At token.Name) t → Runs (refuse message.ExpectedFieldType) t u → v ≡ wrapped_from place kind.ERROR u → RunsTypeRoot (flush s) v
+none-made s {t = t} {u = u} {v = v} place first f e n run a = subst (λ (z : State). RunsTypeRoot z v) f (makes_none (starts-none t e n) run (a ∙ ap (λ (p : ℕ). wrapped_from p kind.ERROR u) first))
 
 -- ---- a type and what follows it
 
@@ -114,14 +114,14 @@ unfolding holds closed wrapped_from
 nullable-run xs r n (nullable b a) = root-run xs r n.is n.run a
 nullable-run xs r n (non_null b c a) = root-run xs r (not_null n.starts) (n.before (yes b c)) a
 
-pub made-run : (xs : List Answer) (r : ℕ) {t : State} → MakesType (unopened xs r) t → TypeRun xs r t
+pub made-run : (xs : List Answer) (r : ℕ) {t : State} → RunsTypeRoot (unopened xs r) t → TypeRun xs r t
 made-run xs r (makes_list e run close) = nullable-run xs r (list-first (unopened-waits xs r) e run) close
 made-run xs r (makes_name e n run close) = nullable-run xs r (name-first (unopened-waits xs r) e n run) close
 made-run xs r (makes_none e run a) = root-run xs r (no_type e) run a
 
-pub makes-unopened : (xs : List Answer) (r : ℕ) {s t : State} → s ≡ unopened xs r → MakesType (flush s) t → MakesType (unopened xs r) t
+pub makes-unopened : (xs : List Answer) (r : ℕ) {s t : State} → s ≡ unopened xs r → RunsTypeRoot (flush s) t → RunsTypeRoot (unopened xs r) t
 unfolding flush
-makes-unopened xs r {t = t} first made = subst (λ (z : State). MakesType (flush z) t) first made
+makes-unopened xs r {t = t} first made = subst (λ (z : State). RunsTypeRoot (flush z) t) first made
 
-pub type-run : (xs : List Answer) (r : ℕ) {s t : State} → s ≡ unopened xs r → MakesType (flush s) t → TypeRun xs r t
+pub type-run : (xs : List Answer) (r : ℕ) {s t : State} → s ≡ unopened xs r → RunsTypeRoot (flush s) t → TypeRun xs r t
 type-run xs r first made = made-run xs r (makes-unopened xs r first made)

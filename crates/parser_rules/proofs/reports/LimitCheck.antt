@@ -4,7 +4,7 @@ use Rattle.std.specs.Prelude.{is_some}
 use Rattle.lexical_grammar.specs.Answers.{is_end}
 use Rattle.document_grammar.specs.Booleans.{◌and◌, ◌or◌}
 use Rattle.parser_rules.specs.State.{Lexeme}
-use Rattle.parser_rules.specs.Nodes.{Node, ShortQuery, SelectionSet, ListType, ListValue}
+use Rattle.parser_rules.specs.Nodes.{Node, QueryShorthand, SelectionSet, ListType, ListValue}
 use Rattle.parser_rules.specs.RuleLanguage.{TokenTest, Kind, Keyword, Or, Test, Here, Ready, Both}
 use Rattle.parser_rules.proofs.runs.Walk.{Domain, steady}
 
@@ -51,7 +51,7 @@ same_inner _ = false
 
 -- the nodes that begin with the token before a level
 abbrev pub begins_level : Node → Bool
-begins_level ShortQuery = true
+begins_level QueryShorthand = true
 begins_level SelectionSet = true
 begins_level ListType = true
 begins_level (ListValue c) = true

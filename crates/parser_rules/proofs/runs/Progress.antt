@@ -11,7 +11,7 @@ use Rattle.document_grammar.proofs.Booleans.{either, and-i, and-l, and-r, or-l, 
 use Rattle.parser_rules.specs.State.{State, Lexeme, flush, opened, closed, moved, bump, wrapped_from, same_kind, is_over, is_deep, enter, leave}
 use Rattle.parser_rules.specs.declared.constness.Constness.{Constness}
 use Rattle.parser_rules.specs.declared.constness.Constness.TheVariants.{Const, NotConst}
-use Rattle.parser_rules.specs.Nodes.{kind_of, ValueOf, NestedValue}
+use Rattle.parser_rules.specs.Nodes.{kind_of, Value, NestedValue}
 use Rattle.parser_rules.specs.RuleLanguage.{TokenTest, Kind, Keyword, Or, fits, Here, Ready, holds, Prim, Bump, step, Rule, Do, Seq, When, Child, Nested, Call}
 use Rattle.parser_rules.specs.Rules.{has_item, inside, body}
 use Rattle.parser_rules.specs.Runs.{Runs, does, seq, yes, no, child, deeper, refused, call}
@@ -288,7 +288,7 @@ deeper-taken {p = p} {s = s} (deeper {u = u} q e v h k) d i w =
     omega (arith, f, g, l, m)
 deeper-taken (refused q e) d i w = absurd (true≢false (q ∙ sym d))
 
-value-consumes : (c : Constness) → consumes anything (Call (ValueOf c true)) ≡ true
+value-consumes : (c : Constness) → consumes anything (Call (Value c true)) ≡ true
 unfolding consuming
 value-consumes Const = refl
 value-consumes NotConst = refl

@@ -27,15 +27,15 @@ fragment::inline_fragment-selection_set-requires g t c =
     let l = fewer c.in_ok-directives.ensures.runs in
     λ κs w. (omega (arith, h, k, l, c.decreases), (w, c.if-at.ensures))
 
-pub selection::selection_set-braced-requires : goal.selection::selection_set-braced-requires
+pub selection::selection_set-inside_selection_set-requires : goal.selection::selection_set-inside_selection_set-requires
 unfolding left opened flush
-selection::selection_set-braced-requires g t c =
+selection::selection_set-inside_selection_set-requires g t c =
     let h = ap left c.in_ok-start_node.ensures.step in
     λ κs w. (omega (arith, h, c.decreases), (w, still-at kind.SELECTION_SET token.LCurly _ c.requires c.in_ok-start_node.ensures.step))
 
-pub selection::braced-selections-requires : goal.selection::braced-selections-requires
+pub selection::inside_selection_set-selections-requires : goal.selection::inside_selection_set-selections-requires
 unfolding consuming
-selection::braced-selections-requires g t c =
+selection::inside_selection_set-selections-requires g t c =
     let h = taken c.in_ok-bump.ensures.runs (here-there (Kind token.LCurly) _ c.requires) refl in
     let k = entered-left _ c.enter.ensures.step in
     λ κs w. (omega (arith, h, k, c.decreases), w)

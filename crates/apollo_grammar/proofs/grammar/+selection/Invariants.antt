@@ -15,8 +15,8 @@ decreases-fragment::inline_fragment g l = 6 * left l.p.now + 1
 abbrev pub decreases-selection::selection_set : goal.decreases-selection::selection_set
 decreases-selection::selection_set g l = 6 * left l.p.now + 6
 
-abbrev pub decreases-selection::braced : goal.decreases-selection::braced
-decreases-selection::braced g l = 6 * left l.p.now
+abbrev pub decreases-selection::inside_selection_set : goal.decreases-selection::inside_selection_set
+decreases-selection::inside_selection_set g l = 6 * left l.p.now
 
 abbrev pub decreases-selection::selections : goal.decreases-selection::selections
 decreases-selection::selections g l = 6 * left l.p.now + 5

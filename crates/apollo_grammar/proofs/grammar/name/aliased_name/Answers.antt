@@ -6,8 +6,8 @@ use Rattle.parser_rules.specs.RuleLanguage.{At, Call, holds}
 use Rattle.parser_state.specs.Parses.{Parses}
 use Rattle.apollo_grammar.proofs.grammar.name.aliased_name.Goals as goal
 
-pub name_before-requires : goal.name_before-requires
-name_before-requires g c = record { at = subst (λ (s : State). true ≡ holds (At token.Name) s) (sym c.peek-next.ensures.same) c.requires; after = c.peek-next.ensures.found }
+pub aliased_name_before-requires : goal.aliased_name_before-requires
+aliased_name_before-requires g c = record { at = subst (λ (s : State). true ≡ holds (At token.Name) s) (sym c.peek-next.ensures.same) c.requires; after = c.peek-next.ensures.found }
 
 pub returns : goal.returns
-returns g c = subst (λ (s : State). Parses (Call AliasedName) c.name_before.result s c.name_before.new.p) c.peek-next.ensures.same c.name_before.ensures
+returns g c = subst (λ (s : State). Parses (Call AliasedName) c.aliased_name_before.result s c.aliased_name_before.new.p) c.peek-next.ensures.same c.aliased_name_before.ensures

@@ -12,15 +12,15 @@ ty-nullable_type-requires g t c =
     let h = flushed-left _ c.in_ok-checkpoint.ensures.flushed in
     λ κs w. (omega (arith, h, c.decreases), w)
 
-pub list_type-bracketed-requires : goal.list_type-bracketed-requires
+pub list_type-inside_list_type-requires : goal.list_type-inside_list_type-requires
 unfolding left opened flush
-list_type-bracketed-requires g t c =
+list_type-inside_list_type-requires g t c =
     let h = ap left c.in_ok-start_node.ensures.step in
     λ κs w. (omega (arith, h, c.decreases), (w, still-at kind.LIST_TYPE token.LBracket _ c.requires c.in_ok-start_node.ensures.step))
 
-pub bracketed-item_type-requires : goal.bracketed-item_type-requires
+pub inside_list_type-item_type-requires : goal.inside_list_type-item_type-requires
 unfolding consuming
-bracketed-item_type-requires g t c =
+inside_list_type-item_type-requires g t c =
     let h = taken c.in_ok-bump.ensures.runs (here-there (Kind token.LBracket) _ c.requires) refl in
     let k = entered-left _ c.enter.ensures.step in
     λ κs w. (omega (arith, h, k, c.decreases), w)

@@ -11,8 +11,8 @@ decreases-nullable_type g l = 5 * left l.p.now + 2
 abbrev pub decreases-list_type : goal.decreases-list_type
 decreases-list_type g l = 5 * left l.p.now + 1
 
-abbrev pub decreases-bracketed : goal.decreases-bracketed
-decreases-bracketed g l = 5 * left l.p.now
+abbrev pub decreases-inside_list_type : goal.decreases-inside_list_type
+decreases-inside_list_type g l = 5 * left l.p.now
 
 abbrev pub decreases-item_type : goal.decreases-item_type
 decreases-item_type g l = 5 * left l.p.now + 4

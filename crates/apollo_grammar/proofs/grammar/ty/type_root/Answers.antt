@@ -7,8 +7,8 @@ use Rattle.apollo_grammar.proofs.grammar.ty.type_root.Goals as goal
 pub close_type-requires : goal.close_type-requires
 close_type-requires g c = record {
   first = c.requires.first;
-  not_open = still-none c.in_ok-bracketed.ensures.runs (flushed-none c.args.p.now c.in_ok-place.ensures.flushed c.requires.not_open);
-  mark = still-mark _ c.in_ok-bracketed.ensures.runs (is-mark c.checkpoint.new.self _ c.in_ok-place.ensures.place);
+  not_open = still-none c.in_ok-inside_list_type.ensures.runs (flushed-none c.args.p.now c.in_ok-place.ensures.flushed c.requires.not_open);
+  mark = still-mark _ c.in_ok-inside_list_type.ensures.runs (is-mark c.checkpoint.new.self _ c.in_ok-place.ensures.place);
   free = refl;
 }
 
@@ -24,7 +24,7 @@ pub wrap-requires : goal.wrap-requires
 wrap-requires g c = root-mark c.args.first.place c.err_and_pop.new.self c.requires.first (still-none c.in_ok-err_and_pop.ensures.runs (flushed-none c.args.p.now c.in_ok-place.ensures.flushed c.requires.not_open))
 
 pub returns-then-at-clause-runs : goal.returns-then-at-clause-runs
-returns-then-at-clause-runs g c = on_ok_weaker _ (λ e. list-made c.args.p.now _ c.in_ok-place.ensures.flushed c.in_ok-place.ensures.place c.if-at.ensures c.in_ok-bracketed.ensures.runs e) c.close_type.ensures.step
+returns-then-at-clause-runs g c = on_ok_weaker _ (λ e. list-made c.args.p.now _ c.in_ok-place.ensures.flushed c.in_ok-place.ensures.place c.if-at.ensures c.in_ok-inside_list_type.ensures.runs e) c.close_type.ensures.step
 
 pub returns-then-at-2-clause-runs : goal.returns-then-at-2-clause-runs
 returns-then-at-2-clause-runs g c = on_ok_weaker _ (λ e. name-made c.args.p.now _ c.in_ok-place.ensures.flushed c.in_ok-place.ensures.place c.if-at.ensures c.if-at-2.ensures c.in_ok-name.ensures.runs e) c.close_type-then-at-2.ensures.step

@@ -7,7 +7,7 @@ use Rattle.document_grammar.specs.Numbers.{is_kind}
 use Rattle.apollo_lexer.specs.Answers.{answers_left}
 use Rattle.parser_rules.specs.State.{State, flush, finished}
 use Rattle.parser_rules.specs.Open.{IsRoot}
-use Rattle.parser_rules.specs.Fragments.{started, left_out, selections_root}
+use Rattle.parser_rules.specs.Fragments.{started, left_out, field_set}
 use Rattle.parser_rules.specs.Runs.{Runs}
 use Rattle.parser_rules.proofs.fragments.RootChecks.{selections_pass}
 use Rattle.parser_rules.proofs.fragments.RootRuns.{is-root}
@@ -23,8 +23,8 @@ finish-requires g c =
     let r = c.args.self.recursion_limit in
     let left : c.drop_pending.new.self ≡ left_out c.field_set.new.p = c.drop_pending.ensures.step in
     let first = c.in_ok-push_pending.ensures.step ∙ ap flush c.in_ok-open.ensures.step in
-    let run = from-started xs r _ kind.SELECTION_SET c.new-p.ensures (subst (λ b. Runs selections_root b c.field_set.new.p) first c.in_ok-field_set.ensures.runs) in
-    let ran = subst (λ answers. Runs selections_root (started answers r kind.SELECTION_SET) s) c.lexer.ensures.answers run in
+    let run = from-started xs r _ kind.SELECTION_SET c.new-p.ensures (subst (λ b. Runs field_set b c.field_set.new.p) first c.in_ok-field_set.ensures.runs) in
+    let ran = subst (λ answers. Runs field_set (started answers r kind.SELECTION_SET) s) c.lexer.ensures.answers run in
     record {
       source = subst (λ (t : State). take (length (text (finished t))) c.args.self.source.now ≡ text (finished t)) (sym left) (root-begins kind.SELECTION_SET c.args.self.token_limit r c.args.self.source.now s ran selections_pass c.lexer.ensures.cut);
       open_root = subst (λ (t : State). IsRoot t.tree) (sym left) (is-root xs r kind.SELECTION_SET run refl);
@@ -37,7 +37,7 @@ invariant_of-result g c =
     let r = c.args.self.recursion_limit in
     let left : c.drop_pending.new.self ≡ left_out c.field_set.new.p = c.drop_pending.ensures.step in
     let first = c.in_ok-push_pending.ensures.step ∙ ap flush c.in_ok-open.ensures.step in
-    let ran = subst (λ answers. Runs selections_root (started answers r kind.SELECTION_SET) s) c.lexer.ensures.answers (from-started (answers_left c.lexer.result) r _ kind.SELECTION_SET c.new-p.ensures (subst (λ b. Runs selections_root b c.field_set.new.p) first c.in_ok-field_set.ensures.runs)) in
+    let ran = subst (λ answers. Runs field_set (started answers r kind.SELECTION_SET) s) c.lexer.ensures.answers (from-started (answers_left c.lexer.result) r _ kind.SELECTION_SET c.new-p.ensures (subst (λ b. Runs field_set b c.field_set.new.p) first c.in_ok-field_set.ensures.runs)) in
     (ap (λ f. is_kind kind.SELECTION_SET (root_kind f)) (c.in_ok-finished.ensures.tree ∙ ap finished left ∙ root-is kind.SELECTION_SET k r c.args.self.source.now s ran), tt)
 
 pub returns : goal.returns
@@ -47,7 +47,7 @@ returns g c =
     let r = c.args.self.recursion_limit in
     let left : c.drop_pending.new.self ≡ left_out c.field_set.new.p = c.drop_pending.ensures.step in
     let first = c.in_ok-push_pending.ensures.step ∙ ap flush c.in_ok-open.ensures.step in
-    let ran = subst (λ answers. Runs selections_root (started answers r kind.SELECTION_SET) s) c.lexer.ensures.answers (from-started (answers_left c.lexer.result) r _ kind.SELECTION_SET c.new-p.ensures (subst (λ b. Runs selections_root b c.field_set.new.p) first c.in_ok-field_set.ensures.runs)) in
+    let ran = subst (λ answers. Runs field_set (started answers r kind.SELECTION_SET) s) c.lexer.ensures.answers (from-started (answers_left c.lexer.result) r _ kind.SELECTION_SET c.new-p.ensures (subst (λ b. Runs field_set b c.field_set.new.p) first c.in_ok-field_set.ensures.runs)) in
     let e = c.in_ok-finished.ensures in
     record {
       last = s;

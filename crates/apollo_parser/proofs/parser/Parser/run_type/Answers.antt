@@ -9,7 +9,7 @@ use Rattle.apollo_cst_core.specs.Cast.{one_of}
 use Rattle.parser_state.specs.Errors.{IsErrorOf}
 use Rattle.parser_rules.specs.State.{State, flush, finished}
 use Rattle.parser_rules.specs.Open.{IsRoot}
-use Rattle.parser_rules.specs.Fragments.{unopened, left_out, MakesType}
+use Rattle.parser_rules.specs.Fragments.{unopened, left_out, RunsTypeRoot}
 use Rattle.parser_rules.proofs.fragments.RootChecks.{type_passes, type-free}
 use Rattle.parser_rules.proofs.fragments.RootRuns.{is-root}
 use Rattle.parser_rules.proofs.fragments.TypeRoots.{TypeRun, type-run, makes-unopened}
@@ -31,7 +31,7 @@ finish-requires g c =
     let r = c.args.self.recursion_limit in
     let left : c.drop_pending.new.self ≡ left_out c.type_root.new.p = c.drop_pending.ensures.step in
     let xs = answers_left c.lexer.result in
-    let made = subst (λ (z : State). MakesType (flush z) c.type_root.new.p) c.in_ok-first.ensures.step c.in_ok-type_root.ensures.runs in
+    let made = subst (λ (z : State). RunsTypeRoot (flush z) c.type_root.new.p) c.in_ok-first.ensures.step c.in_ok-type_root.ensures.runs in
     let m : TypeRun (answers k c.args.self.source.now) r s = subst (λ (ys : List Answer). TypeRun ys r s) c.lexer.ensures.answers (type-run xs r refl (from-unopened xs r _ c.new-p.ensures made)) in
     record {
       source = subst (λ (t : State). take (length (text (finished t))) c.args.self.source.now ≡ text (finished t)) (sym left) (root-begins m.kind k r c.args.self.source.now s m.run (type_passes m.is) c.lexer.ensures.cut);
@@ -45,7 +45,7 @@ invariant_of-result g c =
     let r = c.args.self.recursion_limit in
     let left : c.drop_pending.new.self ≡ left_out c.type_root.new.p = c.drop_pending.ensures.step in
     let xs = answers_left c.lexer.result in
-    let made = subst (λ (z : State). MakesType (flush z) c.type_root.new.p) c.in_ok-first.ensures.step c.in_ok-type_root.ensures.runs in
+    let made = subst (λ (z : State). RunsTypeRoot (flush z) c.type_root.new.p) c.in_ok-first.ensures.step c.in_ok-type_root.ensures.runs in
     let m : TypeRun (answers k c.args.self.source.now) r s = subst (λ (ys : List Answer). TypeRun ys r s) c.lexer.ensures.answers (type-run xs r refl (from-unopened xs r _ c.new-p.ensures made)) in
     let tree = c.in_ok-finished.ensures.tree ∙ ap finished left ∙ root-is m.kind k r c.args.self.source.now s m.run in
     (ap (λ f. one_of Types (root_kind f) || is_kind kind.ERROR (root_kind f)) tree ∙ type-rooted m.is, tt)
@@ -57,7 +57,7 @@ returns g c =
     let r = c.args.self.recursion_limit in
     let left : c.drop_pending.new.self ≡ left_out c.type_root.new.p = c.drop_pending.ensures.step in
     let xs = answers_left c.lexer.result in
-    let made = subst (λ (z : State). MakesType (flush z) c.type_root.new.p) c.in_ok-first.ensures.step c.in_ok-type_root.ensures.runs in
+    let made = subst (λ (z : State). RunsTypeRoot (flush z) c.type_root.new.p) c.in_ok-first.ensures.step c.in_ok-type_root.ensures.runs in
     let m : TypeRun (answers k c.args.self.source.now) r s = subst (λ (ys : List Answer). TypeRun ys r s) c.lexer.ensures.answers (type-run xs r refl (from-unopened xs r _ c.new-p.ensures made)) in
     let e = c.in_ok-finished.ensures in
     record {
@@ -74,5 +74,5 @@ returns g c =
         recursion_limit = e.recursion_limit ∙ ap (λ (t : State). record { current = t.depth; high = t.high; limit = t.limit }) left;
         token_limit = (e.allowed.0, e.allowed.1, subst (λ (n : ℕ). c.in_ok-finished.finished.token_limit.high ≤ n) (ap (λ (t : State). t.asked) left) e.allowed.2);
       };
-      made = subst (λ (ys : List Answer). MakesType (unopened ys r) s) c.lexer.ensures.answers (makes-unopened xs r refl (from-unopened xs r _ c.new-p.ensures made));
+      made = subst (λ (ys : List Answer). RunsTypeRoot (unopened ys r) s) c.lexer.ensures.answers (makes-unopened xs r refl (from-unopened xs r _ c.new-p.ensures made));
     }
