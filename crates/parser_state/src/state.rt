@@ -1,4 +1,6 @@
 // The state of a parser, and its steps. Each is a step of the parser's rules.
+// Some do one line's work, as `push_token`, `push_leaf_node`, `set_current` and `is_same`: so each change of a field has a contract in the words
+// of the rules' state. Their callers are proved from these contracts, and do not look into the fields.
 #![tactic(auto, using(parser_rules::specs::Runs::does), unfolding(parser_rules::proofs::runs::Running::steps))]
 
 mod building;
