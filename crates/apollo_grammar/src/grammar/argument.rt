@@ -1,11 +1,8 @@
 // Arguments.
-#![tactic(auto, using(parser_rules::proofs::runs::Running::looping), unfolding(parser_rules::specs::Rules::inside, parser_rules::specs::Rules::body))]
 
-ghost use Rattle.std.specs.Prelude.{◌≡◌, true, OnOk};
-ghost use Rattle.lexical_grammar.specs.declared.TokenKind.TheVariants as token;
-ghost use Rattle.parser_rules.specs.Nodes as rule;
-ghost use Rattle.parser_rules.specs.RuleLanguage.{At, holds, Child, Call};
-ghost use Rattle.parser_state.specs.Parses.{Parses};
+ghost use Rattle.apollo_grammar.specs.Words.{◌≡◌, true, holds, At, Child, Call, Parses};
+ghost use Rattle.apollo_grammar.specs.Words.rule;
+ghost use Rattle.apollo_grammar.specs.Words.token;
 
 use super::description::{starts_named, want_named};
 use super::input::input_value_definition;

@@ -1,15 +1,9 @@
 // Descriptions.
-#![tactic(auto, using(parser_rules::proofs::runs::Running::running), unfolding(parser_rules::specs::Rules::inside, parser_rules::specs::Rules::body))]
 
-ghost use Rattle.std.specs.Prelude.{◌≡◌, true, OnOk};
-ghost use Rattle.lexical_grammar.specs.declared.TokenKind.TheVariants as token;
-ghost use Rattle.document_grammar.specs.Choices.{is_keyword};
-ghost use Rattle.document_grammar.specs.Numbers.{number};
-ghost use Rattle.parser_rules.specs.Nodes as rule;
-ghost use Rattle.parser_rules.specs.Rules as rules;
-ghost use Rattle.parser_rules.specs.RuleLanguage.{Here, At, Word, fits, holds, Child, Call, When, Do, Bump, Skip, want};
-ghost use Rattle.parser_state.specs.View.{current_of};
-ghost use Rattle.parser_state.specs.Parses.{Parses};
+ghost use Rattle.apollo_grammar.specs.Words.{◌≡◌, true, is_keyword, number, holds, Here, At, Child, Call, Parses};
+ghost use Rattle.apollo_grammar.specs.Words.rule;
+ghost use Rattle.apollo_grammar.specs.Words.rules;
+ghost use Rattle.apollo_grammar.specs.Words.token;
 
 use document_grammar::SyntaxKind;
 use lexical_grammar::TokenKind;

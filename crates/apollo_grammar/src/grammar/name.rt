@@ -1,13 +1,8 @@
 // Names.
-#![tactic(auto, using(parser_rules::proofs::runs::Running::running), unfolding(parser_rules::specs::Rules::inside, parser_rules::specs::Rules::body))]
 
-ghost use Rattle.std.specs.Prelude.{◌≡◌, true, OnOk};
-ghost use Rattle.lexical_grammar.specs.declared.TokenKind.TheVariants as token;
-ghost use Rattle.parser_rules.specs.Nodes as rule;
-ghost use Rattle.parser_rules.specs.RuleLanguage.{At, holds, Child, Call};
-ghost use Rattle.parser_rules.specs.State.{second};
-ghost use Rattle.parser_state.specs.View.{current_of};
-ghost use Rattle.parser_state.specs.Parses.{Parses};
+ghost use Rattle.apollo_grammar.specs.Words.{◌≡◌, true, holds, At, Child, Call, second, current_of, Parses};
+ghost use Rattle.apollo_grammar.specs.Words.rule;
+ghost use Rattle.apollo_grammar.specs.Words.token;
 
 use apollo_lexer::Token;
 use document_grammar::SyntaxKind;

@@ -1,16 +1,10 @@
 // Selection sets.
-#![tactic(auto, using(parser_rules::proofs::runs::Running::nesting), unfolding(parser_rules::specs::Rules::inside, parser_rules::specs::Rules::body))]
 
-ghost use Rattle.std.specs.Prelude.{◌≡◌, true, OnOk};
-ghost use Rattle.lexical_grammar.specs.declared.TokenKind.TheVariants as token;
-ghost use Rattle.parser_rules.specs.Nodes as rule;
-ghost use Rattle.parser_rules.specs.Rules as rules;
-ghost use Rattle.parser_rules.specs.Fragments as fragments;
-ghost use Rattle.parser_rules.specs.declared.message.Message.TheVariants as message;
-ghost use Rattle.parser_rules.specs.RuleLanguage.{fits, Here, At, holds, want, Child, Call, Nested, Skip};
-ghost use Rattle.parser_rules.specs.State.{second};
-ghost use Rattle.parser_state.specs.View.{current_of};
-ghost use Rattle.parser_state.specs.Parses.{Parses};
+ghost use Rattle.apollo_grammar.specs.Words.{◌≡◌, true, fits, holds, Here, At, Child, Call, second, current_of, Parses};
+ghost use Rattle.apollo_grammar.specs.Words.fragments;
+ghost use Rattle.apollo_grammar.specs.Words.rule;
+ghost use Rattle.apollo_grammar.specs.Words.rules;
+ghost use Rattle.apollo_grammar.specs.Words.token;
 
 use super::field::field;
 use super::fragment;

@@ -1,14 +1,10 @@
 // Types.
-#![tactic(auto, using(parser_rules::proofs::runs::Running::nesting), unfolding(parser_rules::specs::Rules::inside, parser_rules::specs::Rules::body))]
 
-ghost use Rattle.std.specs.Prelude.{◌≡◌, true, [], OnOk};
-ghost use Rattle.lexical_grammar.specs.declared.TokenKind.TheVariants as token;
-ghost use Rattle.parser_rules.specs.Nodes as rule;
-ghost use Rattle.parser_rules.specs.Rules as rules;
-ghost use Rattle.parser_rules.specs.Fragments as fragments;
-ghost use Rattle.parser_rules.specs.State.{flush};
-ghost use Rattle.parser_rules.specs.RuleLanguage.{Here, At, holds, Child, Call};
-ghost use Rattle.parser_state.specs.Parses.{Parses};
+ghost use Rattle.apollo_grammar.specs.Words.{◌≡◌, true, [], OnOk, holds, Here, At, Child, Call, flush, Parses};
+ghost use Rattle.apollo_grammar.specs.Words.fragments;
+ghost use Rattle.apollo_grammar.specs.Words.rule;
+ghost use Rattle.apollo_grammar.specs.Words.rules;
+ghost use Rattle.apollo_grammar.specs.Words.token;
 
 use super::name::name;
 use apollo_tree::Checkpoint;

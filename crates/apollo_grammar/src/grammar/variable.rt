@@ -1,12 +1,8 @@
 // Variables.
-#![tactic(auto, using(parser_rules::proofs::runs::Running::looping), unfolding(parser_rules::specs::Rules::inside, parser_rules::specs::Rules::body))]
 
-ghost use Rattle.std.specs.Prelude.{◌≡◌, true, OnOk};
-ghost use Rattle.parser_rules.specs.Nodes as rule;
-ghost use Rattle.parser_rules.specs.Rules as rules;
-ghost use Rattle.parser_rules.specs.declared.message.Message.TheVariants as message;
-ghost use Rattle.parser_rules.specs.RuleLanguage.{Here, holds, want, Child, Call};
-ghost use Rattle.parser_state.specs.Parses.{Parses};
+ghost use Rattle.apollo_grammar.specs.Words.{◌≡◌, holds, Here, Child, Call, Parses};
+ghost use Rattle.apollo_grammar.specs.Words.rule;
+ghost use Rattle.apollo_grammar.specs.Words.rules;
 
 use super::description::description;
 use super::directive::directives;
