@@ -157,8 +157,8 @@ MISTAKES = [
     ),
     (RULES, "inside Alias = ", "inside Aliass = ", "Rules.antt: the node Aliass has no kind ALIASS"),
     (RULES, "inside NamedType", "inside Alias = Skip\ninside NamedType", "Rules.antt: inside has two clauses for Alias"),
-    (RULES, "Child Alias > Call Named", "Child Aliass > Call Named", "Rules.antt: Aliass is used, and inside has no clause for it"),
-    (RULES, "Child Alias > Call Named", "Child Name > Call Named", "Rules.antt: no rule uses Alias"),
+    (RULES, "Child Alias > Call RequiredName", "Child Aliass > Call RequiredName", "Rules.antt: Aliass is used, and inside has no clause for it"),
+    (RULES, "Child Alias > Call RequiredName", "Child Name > Call RequiredName", "Rules.antt: no rule uses Alias"),
     (
         RULES,
         "body Document = want Ready message.UnexpectedEof > While Ready (Call Definition)",
