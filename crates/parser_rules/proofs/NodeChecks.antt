@@ -23,6 +23,7 @@ use Rattle.parser_rules.proofs.lookahead.FirstSets.{first_of, first_in, second_o
 use Rattle.parser_rules.proofs.soundness.TableCheck.{counts_itself, covered, turns, levels_agree, leaf_of, may_be_cut_off, may_lack_block, exit_is_right, takes_token, ends_at, after_inlined, child_begins, child_while_stuck, child_at, may_report_limit, enters_level, after_type, type_at, may_report, is_node, keeps_to_table, node_may_end, follows_table, document_may_end, part_may_end, document_follows, turns_follow}
 use Rattle.parser_rules.proofs.leaves.LeafCheck.{belongs, anything, leaf_check}
 use Rattle.parser_rules.proofs.nesting.LevelCheck.{at_first, level_check}
+use Rattle.parser_rules.proofs.nesting.TokenCheck.{untaken, token_check}
 use Rattle.parser_rules.proofs.reports.LimitCheck.{unknown as unknown_token, limit_check}
 use Rattle.document_grammar.proofs.Nested.{weight}
 use Rattle.parser_rules.proofs.runs.Walk.{walk, checks, checks_with, always}
@@ -41,6 +42,8 @@ data Fault : Type 0 where
   WrongLevel : Fault
   -- a level is entered where no token is certain
   UncertainToken : Fault
+  -- a level is entered, and no token was taken inside the level around it
+  LevelWithoutToken : Fault
   -- it makes an ERROR leaf of a token without a report, or of too many
   WrongErrorLeaf : Fault
   -- a symbol that is not of the node's row
@@ -62,11 +65,12 @@ faults_with fuel size_fuel c =
     (unless (checks_with fuel leaf_check c) WrongLeaf
     (unless (checks_with fuel level_check c) WrongLevel
     (unless (checks_with fuel limit_check c) UncertainToken
+    (unless (checks_with fuel token_check c) LevelWithoutToken
     (unless (checks_with fuel pop_check c) WrongErrorLeaf
     (unless (checks_with fuel row_check c) ForeignSymbol
     (unless (checks_with fuel tidy_check c) IgnoredToken
     (unless (pays_for_itself size_fuel element_rates c) TooManyElements
-    (unless (pays_for_itself size_fuel report_rates c) TooManyReports []))))))))
+    (unless (pays_for_itself size_fuel report_rates c) TooManyReports [])))))))))
 
 -- The rules that this one calls, and that these call, are no more than so many deep. Children are not looked into.
 unfoldable calls_end : ℕ → Rule → Bool
@@ -93,7 +97,7 @@ faults c = elim (faults_with rules_deep rules_deep_for_sizes c) [
 
 -- all that the checks compute with
 unfoldable pub computing : Unit {0}
-unfolding ◌and◌ ◌or◌ is_leaf at ends exit arcs target entries rows firsts goes closes sticks label labels member Row symbol consuming split divide first_of first_in second_of looks inlined counts_itself covered turns levels_agree leaf_of may_be_cut_off may_lack_block exit_is_right exits row_of takes_token ends_at after_inlined child_begins child_while_stuck child_at may_report_limit enters_level after_type type_at may_report is_node keeps_to_table node_may_end document_may_end part_may_end belongs leaf_check weight walk pop_check row_check tidy_check of_row leaf_of_row follows_table level_check limit_check document_follows turns_follow size_walk saved pays_for_itself root_pays
+unfolding ◌and◌ ◌or◌ is_leaf at ends exit arcs target entries rows firsts goes closes sticks label labels member Row symbol consuming split divide first_of first_in second_of looks inlined counts_itself covered turns levels_agree leaf_of may_be_cut_off may_lack_block exit_is_right exits row_of takes_token ends_at after_inlined child_begins child_while_stuck child_at may_report_limit enters_level after_type type_at may_report is_node keeps_to_table node_may_end document_may_end part_may_end belongs leaf_check weight walk pop_check row_check tidy_check of_row leaf_of_row follows_table level_check limit_check token_check document_follows turns_follow size_walk saved pays_for_itself root_pays
 computing = tt
 
 -- No node's rule is at fault. A node with a place is looked at in both.
@@ -126,6 +130,7 @@ pub record SoundRule (c : Node) : Type 0 where
   pub leaves : checks leaf_check c ≡ true
   pub levels : checks level_check c ≡ true
   pub limits : checks limit_check c ≡ true
+  pub tokens : checks token_check c ≡ true
   pub errors : checks pop_check c ≡ true
   pub row : checks row_check c ≡ true
   pub ignored : checks tidy_check c ≡ true
@@ -154,7 +159,8 @@ node-passes c =
     let h = no-fault _ _ _ g.1 in
     let i = no-fault _ _ _ h.1 in
     let j = no-fault _ _ _ i.1 in
-    record { table = a.0; leaves = b.0; levels = d.0; limits = e.0; errors = f.0; row = g.0; ignored = h.0; elements = i.0; reports = j.0 }
+    let k = no-fault _ _ _ j.1 in
+    record { table = a.0; leaves = b.0; levels = d.0; limits = e.0; tokens = f.0; errors = g.0; row = h.0; ignored = i.0; elements = j.0; reports = k.0 }
 
 document-elements : root_pays element_rates any (Call Document) ≡ true
 unfolding computing
@@ -171,6 +177,7 @@ pub record DocumentRule : Type 0 where
   pub leaves : walk leaf_check rules_deep (Call Document) anything always ≡ true
   pub levels : walk level_check rules_deep (Call Document) (at_first DOCUMENT) (level_check.ends kind.DOCUMENT) ≡ true
   pub limits : walk limit_check rules_deep (Call Document) unknown_token always ≡ true
+  pub tokens : walk token_check rules_deep (Call Document) (untaken false) always ≡ true
   pub errors : walk pop_check rules_deep (Call Document) (unknown any_token) always ≡ true
   pub row : walk row_check rules_deep (Call Document) (record { own = DOCUMENT; later = DOCUMENT }) (row_check.ends kind.DOCUMENT) ≡ true
   pub ignored : walk tidy_check rules_deep (Call Document) false always ≡ true
@@ -178,4 +185,4 @@ pub record DocumentRule : Type 0 where
 
 pub document_passes : DocumentRule
 unfolding computing
-document_passes = record { table = refl; turns = refl; leaves = refl; levels = refl; limits = refl; errors = refl; row = refl; ignored = refl; sizes = record { elements = document-elements; reports = document-reports } }
+document_passes = record { table = refl; turns = refl; leaves = refl; levels = refl; limits = refl; tokens = refl; errors = refl; row = refl; ignored = refl; sizes = record { elements = document-elements; reports = document-reports } }

@@ -1,2 +1,4 @@
 pub mod LevelCheck
 pub mod Nesting
+pub mod TokenCheck
+pub mod LevelTokens

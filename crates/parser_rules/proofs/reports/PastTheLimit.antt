@@ -45,7 +45,7 @@ token-inner (Or p q) o h e = elim (either (fits p o)) [
   | inr y ↦ token-inner q o (and-r _ _ h) (e ∙ ap (λ (b : Bool). b || fits q o) y)
 ]
 
-test-inner : (q : Test) (s : State) → tells_inner q ≡ true → true ≡ holds q s → is_inner s.current ≡ true
+pub test-inner : (q : Test) (s : State) → tells_inner q ≡ true → true ≡ holds q s → is_inner s.current ≡ true
 unfolding holds is_inner
 test-inner (Here q) s h e = token-inner q s.current h e
 test-inner Ready s h e = elim s.current as (λ o. true ≡ not (is_over o) → is_inner o ≡ true) [
@@ -58,7 +58,7 @@ test-inner (Both p q) s h e = elim (or-c _ _ h) [
 ]
 test-inner _ s h e = absurd cc
 
-inner-present : (o : Option Lexeme) → is_inner o ≡ true → is_some o ≡ true
+pub inner-present : (o : Option Lexeme) → is_inner o ≡ true → is_some o ≡ true
 unfolding is_inner
 inner-present None h = h
 inner-present (Some x) h = refl

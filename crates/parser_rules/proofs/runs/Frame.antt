@@ -51,7 +51,7 @@ one_if (Some _) = 1
 unfoldable pub left : State → ℕ
 left s = one_if s.current + length s.items
 
-read-left : {xs : List Answer} {s t : State} → Reading xs s t → s.items ≡ xs → left t ≤ length xs
+pub read-left : {xs : List Answer} {s t : State} → Reading xs s t → s.items ≡ xs → left t ≤ length xs
 unfolding left
 read-left {s = s} stops e = let n : length s.items ≡ 0 = ap length e in omega arith
 read-left (cuts h) e = let f = read-left h refl in omega (arith, f)
