@@ -158,6 +158,7 @@ impl<A: Allocator + Copy> SpanBuilder<A> {
         ensures err { OnErr result (self.new ≡ self.old) }
     {
         let start = self.len;
+        // No growth is refused here. A parse never comes to it: its leaves begin its source, whose length fits.
         let Some(end) = start.checked_add(text.len()) else {
             return Err(AllocError);
         };
