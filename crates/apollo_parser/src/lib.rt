@@ -7,8 +7,9 @@ mod syntax_tree;
 
 pub use apollo_lexer::{Error, LexError, Lexer, LimitTracker, Steps, Token};
 pub use apollo_tree::{
-    IndexedElement, Subtree, SyntaxElement, SyntaxElementChildren, SyntaxNode, SyntaxNodeChildren,
-    SyntaxToken, TextRange, TokenText,
+    IndexedElement, Subtree, SyntaxElement, SyntaxElementChildren, SyntaxElementDescendants,
+    SyntaxNode, SyntaxNodeAncestors, SyntaxNodeChildren, SyntaxNodeDescendants, SyntaxToken,
+    TextRange, TokenText,
 };
 pub use document_grammar::SyntaxKind;
 pub use lexical_grammar::TokenKind;
