@@ -350,7 +350,7 @@ fn refuses_other_bytes(rt: HostRuntime) {
 }
 
 #[test]
-fn tells_a_reader_that_fails(rt: HostRuntime) {
+fn a_reader_that_fails_is_reported(rt: HostRuntime) {
     let limits = Limits::NONE_SET;
     for mode in [Mode::Check, Mode::Tokens, Mode::Tree] {
         for text in [b"{a", b"\x7b\xff"] {
@@ -364,7 +364,7 @@ fn tells_a_reader_that_fails(rt: HostRuntime) {
 }
 
 #[test]
-fn tells_a_writer_that_fails(rt: HostRuntime) {
+fn a_writer_that_fails_is_reported(rt: HostRuntime) {
     let limits = Limits::NONE_SET;
     for (mode, front) in [
         (Mode::Check, b"cle"),
@@ -407,6 +407,8 @@ fn reads_words(rt: HostRuntime) {
 fn refuses_other_words(rt: HostRuntime) {
     assert_eq!(rt; options(&[]), None);
     assert_eq!(rt; options(&["trees"]), None);
+    assert_eq!(rt; options(&["check", "tokens"]), None);
+    assert_eq!(rt; options(&["check", "--tokens"]), None);
     assert_eq!(rt; options(&["tree", "tokens"]), None);
     assert_eq!(rt; options(&["tree", "--tokens"]), None);
     assert_eq!(rt; options(&["--tokens", "3", "tree"]), None);
@@ -421,7 +423,7 @@ fn refuses_other_words(rt: HostRuntime) {
 }
 
 #[test]
-fn ends(rt: HostRuntime) {
+fn each_ending_has_its_status_and_text(rt: HostRuntime) {
     assert_eq!(rt; ending(&Ok(Outcome::Clean)), (0, ""));
     assert_eq!(rt; ending(&Ok(Outcome::Errors(2))), (1, ""));
     assert_eq!(rt; ending(&Err(Fault::Read)), (2, "gqlcst: cannot read"));

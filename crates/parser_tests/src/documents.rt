@@ -3,56 +3,149 @@ mod executable;
 mod own_limits;
 mod type_system;
 
+use crate::expected::{Found, Limited, has_errors};
 use crate::parsing::{parse, parse_by, parse_counted};
+use apollo_parser::cst::CstNode;
 use apollo_parser::{DocumentRoot, Parser, SyntaxTree};
 use std::alloc::{AllocError, Global};
 use std::process::Abort;
 use std::test::Fail;
 
-// Each error's message, data and index, and then the tree's text and the greatest counts of nesting and of items.
-fn shown(alloc: Global, parser: Parser<'_>) -> Result<String, AllocError> {
+// Whether a text, read within its limits, has these errors, this tree's text and these counts.
+fn is_limited(alloc: Global, row: &Limited<'_>) -> Result<bool, AllocError> {
+    let parser = Parser::new(row.source)
+        .recursion_limit(row.recursion_limit)
+        .token_limit(row.token_limit);
     let tree = parse_by(alloc, parser)?;
-    let mut lines = String::new(alloc);
-    for error in tree.errors() {
-        let message = error.message();
-        let data = error.data();
-        let index = error.index();
-        let line = format!(in alloc; "{message}|{data}|{index}\n")?;
-        lines.push_str(line.as_str())?;
+    Ok(
+        has_errors(&tree, row.errors)
+            && tree.root().text() == row.text
+            && tree.recursion_limit().high == row.nesting
+            && tree.token_limit().high == row.items,
+    )
+}
+
+fn expect_limited(rt: &(impl Abort + AllocGlobal), rows: &[Limited<'_>]) -> Result<(), Fail> {
+    for row in rows {
+        let source = row.source;
+        assert!(rt; is_limited(rt.alloc(), row)?, "{source}");
     }
-    let text = tree.root().text();
-    let nesting = tree.recursion_limit().high;
-    let items = tree.token_limit().high;
-    format!(in alloc; "{lines}{text}|{nesting}|{items}")
+    Ok(())
 }
 
 #[test]
-fn documents(rt: HostRuntime) -> Result<(), Fail> {
+fn texts_have_their_errors_and_counts(rt: HostRuntime) -> Result<(), Fail> {
     let rows = [
-        ("{a}", "{a}|1|4"),
-        ("{a{b}}", "{a{b}}|2|7"),
-        ("{a,b}", "{a,b}|1|6"),
-        ("", "Unexpected <EOF>.||0\n|0|1"),
-        (
-            "{}",
-            "expected at least one Selection in Selection Set|}|1\n{}|1|3",
-        ),
-        (
-            "{ é }",
-            "Unexpected character \"é\"|é|2\nexpected at least one Selection in Selection Set|}|5\n{ é }|1|6",
-        ),
-        ("{a", "expected R_CURLY, got EOF||2\n{a|1|3"),
-        (
-            "{a!}",
-            "expected R_CURLY, got !|!|2\nexpected a StringValue, Name or OperationDefinition|!|2\nexpected a StringValue, Name or OperationDefinition|}|3\n{a!}|1|5",
-        ),
-        ("a", "expected definition|a|0\na|0|2"),
+        Limited {
+            source: "{a}",
+            recursion_limit: 500,
+            token_limit: usize::MAX,
+            errors: &[],
+            text: "{a}",
+            nesting: 1,
+            items: 4,
+        },
+        Limited {
+            source: "{a{b}}",
+            recursion_limit: 500,
+            token_limit: usize::MAX,
+            errors: &[],
+            text: "{a{b}}",
+            nesting: 2,
+            items: 7,
+        },
+        Limited {
+            source: "{a,b}",
+            recursion_limit: 500,
+            token_limit: usize::MAX,
+            errors: &[],
+            text: "{a,b}",
+            nesting: 1,
+            items: 6,
+        },
+        Limited {
+            source: "",
+            recursion_limit: 500,
+            token_limit: usize::MAX,
+            errors: &[("Unexpected <EOF>.", "", 0)],
+            text: "",
+            nesting: 0,
+            items: 1,
+        },
+        Limited {
+            source: "{}",
+            recursion_limit: 500,
+            token_limit: usize::MAX,
+            errors: &[("expected at least one Selection in Selection Set", "}", 1)],
+            text: "{}",
+            nesting: 1,
+            items: 3,
+        },
+        Limited {
+            source: "{ é }",
+            recursion_limit: 500,
+            token_limit: usize::MAX,
+            errors: &[
+                ("Unexpected character \"é\"", "é", 2),
+                ("expected at least one Selection in Selection Set", "}", 5),
+            ],
+            text: "{ é }",
+            nesting: 1,
+            items: 6,
+        },
+        Limited {
+            source: "{a",
+            recursion_limit: 500,
+            token_limit: usize::MAX,
+            errors: &[("expected R_CURLY, got EOF", "", 2)],
+            text: "{a",
+            nesting: 1,
+            items: 3,
+        },
+        Limited {
+            source: "{a!}",
+            recursion_limit: 500,
+            token_limit: usize::MAX,
+            errors: &[
+                ("expected R_CURLY, got !", "!", 2),
+                (
+                    "expected a StringValue, Name or OperationDefinition",
+                    "!",
+                    2,
+                ),
+                (
+                    "expected a StringValue, Name or OperationDefinition",
+                    "}",
+                    3,
+                ),
+            ],
+            text: "{a!}",
+            nesting: 1,
+            items: 5,
+        },
+        Limited {
+            source: "\"\n\"",
+            recursion_limit: 500,
+            token_limit: usize::MAX,
+            errors: &[
+                ("unexpected line terminator", "\"\n\"", 0),
+                ("Unexpected <EOF>.", "", 3),
+            ],
+            text: "\"\n\"",
+            nesting: 0,
+            items: 2,
+        },
+        Limited {
+            source: "a",
+            recursion_limit: 500,
+            token_limit: usize::MAX,
+            errors: &[("expected definition", "a", 0)],
+            text: "a",
+            nesting: 0,
+            items: 2,
+        },
     ];
-    for (source, wanted) in rows {
-        let answer = shown(rt.alloc(), Parser::new(source))?;
-        assert_eq!(rt; answer.as_str(), wanted, "{source}");
-    }
-    Ok(())
+    expect_limited(&rt, rows.as_slice())
 }
 
 #[test]
@@ -80,28 +173,22 @@ fn definitions<'t>(
     Ok(texts)
 }
 
-// Each error's message, data and index, then the greatest nesting that was asked for and how many definitions there are.
-fn found(alloc: Global, source: &str, nesting: usize) -> Result<String, AllocError> {
-    let tree = parse_by(alloc, Parser::new(source).recursion_limit(nesting))?;
-    let mut lines = String::new(alloc);
-    for error in tree.errors() {
-        let message = error.message();
-        let data = error.data();
-        let index = error.index();
-        writeln!(lines, "{message}|{data}|{index}")?;
-    }
-    let high = tree.recursion_limit().high;
-    let count = definitions(alloc, &tree)?.len();
-    write!(lines, "{high} {count}")?;
-    Ok(lines)
+// Whether a text, read within a recursion limit, has these errors, this nesting and so many definitions, and is whole in its tree.
+fn is_found(alloc: Global, row: &Found<'_>, limit: usize) -> Result<bool, AllocError> {
+    let tree = parse_by(alloc, Parser::new(row.source).recursion_limit(limit))?;
+    let tracker = tree.recursion_limit();
+    Ok(
+        has_errors(&tree, row.errors)
+            && tree.root().text() == row.source
+            && (tracker.limit, tracker.high) == (limit, row.nesting)
+            && definitions(alloc, &tree)?.len() == row.definitions,
+    )
 }
 
-// Texts, each with what is found in it.
-fn expect_found(rt: &(impl Abort + AllocGlobal), rows: &[(&str, &str)]) -> Result<(), Fail> {
+fn expect_found(rt: &(impl Abort + AllocGlobal), rows: &[Found<'_>]) -> Result<(), Fail> {
     for row in rows {
-        let (source, wanted) = *row;
-        let answer = found(rt.alloc(), source, 500)?;
-        assert_eq!(rt; answer.as_str(), wanted, "{source}");
+        let source = row.source;
+        assert!(rt; is_found(rt.alloc(), row, 500)?, "{source}");
     }
     Ok(())
 }
@@ -118,7 +205,7 @@ fn expect_printed(rt: &(impl Abort + AllocGlobal), rows: &[(&str, &str)]) -> Res
 }
 
 #[test]
-fn definitions_behind_unknown_words(rt: HostRuntime) -> Result<(), Fail> {
+fn definitions_follow_unknown_words(rt: HostRuntime) -> Result<(), Fail> {
     let alloc = rt.alloc();
     let tree = parse(alloc, "\nuasdf21230jkdw\n\n{\n    pet\n    faveSnack\n}\n")?;
     assert_eq!(rt; tree.errors().len(), 1);
@@ -132,53 +219,93 @@ fn definitions_behind_unknown_words(rt: HostRuntime) -> Result<(), Fail> {
 }
 
 #[test]
-fn limits(rt: HostRuntime) -> Result<(), Fail> {
+fn limits_stop_a_parse(rt: HostRuntime) -> Result<(), Fail> {
     let rows = [
-        ("{a}", 500, 4, "{a}|1|4"),
-        (
-            "{a}",
-            500,
-            3,
-            "token limit reached, aborting lexing||2\n{a}|1|4",
-        ),
-        (
-            "{a}",
-            500,
-            0,
-            "token limit reached, aborting lexing||0\n|0|1",
-        ),
-        (
-            "{a{b}}",
-            1,
-            100,
-            "parser recursion limit reached||3\n{a{b}}|2|7",
-        ),
+        Limited {
+            source: "{a}",
+            recursion_limit: 500,
+            token_limit: 4,
+            errors: &[],
+            text: "{a}",
+            nesting: 1,
+            items: 4,
+        },
+        Limited {
+            source: "{a}",
+            recursion_limit: 500,
+            token_limit: 3,
+            errors: &[("token limit reached, aborting lexing", "", 2)],
+            text: "{a}",
+            nesting: 1,
+            items: 4,
+        },
+        Limited {
+            source: "{a}",
+            recursion_limit: 500,
+            token_limit: 0,
+            errors: &[("token limit reached, aborting lexing", "", 0)],
+            text: "",
+            nesting: 0,
+            items: 1,
+        },
+        Limited {
+            source: "{a{b}}",
+            recursion_limit: 1,
+            token_limit: 100,
+            errors: &[("parser recursion limit reached", "", 3)],
+            text: "{a{b}}",
+            nesting: 2,
+            items: 7,
+        },
+        Limited {
+            source: "query { a { a { a { a } } } }",
+            recursion_limit: 10,
+            token_limit: 17,
+            errors: &[("token limit reached, aborting lexing", "", 21)],
+            text: "query { a { a { a { a",
+            nesting: 4,
+            items: 18,
+        },
+        Limited {
+            source: "query { a { a { a { a } } } }",
+            recursion_limit: 3,
+            token_limit: 200,
+            errors: &[("parser recursion limit reached", "", 20)],
+            text: "query { a { a { a { a } } } }",
+            nesting: 4,
+            items: 26,
+        },
         // a spread and a string are judged by the token after them, which the limit keeps back
-        (
-            "{ ...a }",
-            500,
-            3,
-            "expected an Inline Fragment or a Fragment Spread|...|2\ntoken limit reached, aborting lexing||5\n{ ...|1|4",
-        ),
-        (
-            "\"d\" {a}",
-            500,
-            2,
-            "expected a definition after this StringValue|\"d\"|0\ntoken limit reached, aborting lexing||4\n\"d\" |0|3",
-        ),
+        Limited {
+            source: "{ ...a }",
+            recursion_limit: 500,
+            token_limit: 3,
+            errors: &[
+                ("expected an Inline Fragment or a Fragment Spread", "...", 2),
+                ("token limit reached, aborting lexing", "", 5),
+            ],
+            text: "{ ...",
+            nesting: 1,
+            items: 4,
+        },
+        Limited {
+            source: "\"d\" {a}",
+            recursion_limit: 500,
+            token_limit: 2,
+            errors: &[
+                ("expected a definition after this StringValue", "\"d\"", 0),
+                ("token limit reached, aborting lexing", "", 4),
+            ],
+            text: "\"d\" ",
+            nesting: 0,
+            items: 3,
+        },
     ];
-    for (source, nesting, items, wanted) in rows {
-        let parser = Parser::new(source)
-            .recursion_limit(nesting)
-            .token_limit(items);
-        let answer = shown(rt.alloc(), parser)?;
-        assert_eq!(rt; answer.as_str(), wanted, "{source}");
-    }
-    Ok(())
+    expect_limited(&rt, rows.as_slice())
 }
 
 #[test]
-fn trees(rt: HostRuntime) -> Result<(), Fail> {
+fn trees_are_printed_counted_and_cloned(rt: HostRuntime) -> Result<(), Fail> {
     let rows = [
         (
             "{a}",
@@ -232,6 +359,61 @@ recursion limit: 500, high: 0",
         let copied = format!(in rt.alloc(); "{copy:?}")?;
         assert_eq!(rt; copied.as_str(), wanted);
         assert_eq!(rt; copy.token_limit().limit, usize::MAX);
+    }
+    Ok(())
+}
+
+// The place where a definition ends does not depend on what follows it.
+#[test]
+fn a_whole_definition_precedes_a_fault(rt: HostRuntime) -> Result<(), Fail> {
+    let tree = parse(rt.alloc(), "{ a } type B { c }")?;
+    assert!(rt; has_errors(&tree, &[("expected a type", "}", 17)]));
+    let texts = definitions(rt.alloc(), &tree)?;
+    assert!(rt; texts.as_slice() == ["{ a }", "type B { c }"].as_slice());
+    Ok(())
+}
+
+#[test]
+fn a_document_gives_its_source_back(rt: HostRuntime) -> Result<(), Fail> {
+    let sources = [
+        "\ntype A {\n  b: C\n}\n\ntype C {\n  d: [C]\n  e: F\n}\n",
+        "\nmutation M($a: [Int!]!) {\n  b(c: $a)\n}",
+        "\nquery Q($a: Int $b: [Int] $c: String! $d: [Int!]!\n\n    $e: [String]\n) {\n  f(g: $a)\n}",
+        "\nquery Q($a: Int, $b: [Int], $c: String!, $d: [Int!]!,\n\n    $e: [String],\n) {\n  f(g: $a)\n}",
+    ];
+    for source in sources {
+        let tree = parse(rt.alloc(), source)?;
+        assert_eq!(rt; tree.errors().len(), 0, "{source}");
+        let text = tree.document().syntax().source_string(rt.alloc())?;
+        assert_eq!(rt; text.as_str(), source);
+    }
+    Ok(())
+}
+
+// Each element begins and ends between two characters.
+fn has_whole_characters(tree: &SyntaxTree<DocumentRoot, Global>, source: &str) -> bool {
+    for index in 0..tree.element_count() {
+        let element = tree.element(index);
+        if !source.is_char_boundary(element.start) || !source.is_char_boundary(element.end) {
+            return false;
+        }
+    }
+    true
+}
+
+#[test]
+fn characters_of_several_bytes_keep_their_places(rt: HostRuntime) -> Result<(), Fail> {
+    let sources = [
+        "type A { b: \u{4E2D}\u{6587} }",
+        "type A { b: @#$ \u{65E5}: \u{672C} c: !!! }",
+        "type A { b: \u{1F680}\u{1F30D} }",
+        "extend schema @a(b: [\"c\", \"d])\ntype E { f: G }\n",
+    ];
+    for source in sources {
+        let tree = parse(rt.alloc(), source)?;
+        assert!(rt; tree.errors().len() > 0, "{source}");
+        assert_eq!(rt; tree.root().text(), source);
+        assert!(rt; has_whole_characters(&tree, source), "{source}");
     }
     Ok(())
 }

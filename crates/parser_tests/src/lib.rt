@@ -4,6 +4,8 @@
 #[cfg(test)]
 mod documents;
 #[cfg(test)]
+mod expected;
+#[cfg(test)]
 mod parsing;
 #[cfg(test)]
 mod parts;

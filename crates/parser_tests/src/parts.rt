@@ -1,6 +1,7 @@
 // Tests of parses of parts of documents.
+use crate::expected::{ExpectedError, has_errors};
 use apollo_parser::cst::{CstNode, Name, Selection, SelectionSet, Type};
-use apollo_parser::{Parser, SelectionSetRoot, SyntaxTree, TypeRoot};
+use apollo_parser::{Parser, SelectionSetRoot, SyntaxKind, SyntaxTree, TypeRoot};
 use std::alloc::{AllocError, Global};
 use std::test::Fail;
 
@@ -12,41 +13,72 @@ fn parse_selections(
     parser.parse_selection_set(alloc)
 }
 
-// Each error's message, data and index, and then the tree's text and the greatest count of nesting.
-fn shown(alloc: Global, parser: Parser<'_>) -> Result<String, AllocError> {
-    let tree = parse_selections(alloc, parser)?;
-    let mut lines = String::new(alloc);
-    for error in tree.errors() {
-        let message = error.message();
-        let data = error.data();
-        let index = error.index();
-        writeln!(lines, "{message}|{data}|{index}")?;
-    }
-    let root = tree.field_set().syntax().kind();
-    let text = tree.root().text();
-    let nesting = tree.recursion_limit().high;
-    format!(in alloc; "{lines}{root:?}|{text}|{nesting}")
+// A text, and what is found in the part of it that is parsed by itself.
+#[derive(Clone, Copy)]
+struct Part<'e> {
+    source: &'e str,
+    errors: &'e [ExpectedError<'e>],
+    root: SyntaxKind,
+    /// The text of the tree.
+    text: &'e str,
+    /// The greatest nesting that was asked for.
+    nesting: usize,
 }
 
 #[test]
-fn selection_sets(rt: HostRuntime) -> Result<(), Fail> {
+fn selection_sets_are_read_by_themselves(rt: HostRuntime) -> Result<(), Fail> {
     let rows = [
-        ("a b { c }", "SELECTION_SET|a b { c }|2"),
-        (" { a }", "SELECTION_SET| { a }|1"),
-        (
-            "",
-            "expected at least one Selection in Selection Set||0\nSELECTION_SET||1",
-        ),
-        ("{ a", "expected R_CURLY, got EOF||3\nSELECTION_SET|{ a|1"),
-        (
-            "é { a }",
-            "Unexpected character \"é\"|é|0\nSELECTION_SET|é { a }|1",
-        ),
-        ("{ a } b", "SELECTION_SET|{ a }|1"),
+        Part {
+            source: "a b { c }",
+            errors: &[],
+            root: SyntaxKind::SELECTION_SET,
+            text: "a b { c }",
+            nesting: 2,
+        },
+        Part {
+            source: " { a }",
+            errors: &[],
+            root: SyntaxKind::SELECTION_SET,
+            text: " { a }",
+            nesting: 1,
+        },
+        Part {
+            source: "",
+            errors: &[("expected at least one Selection in Selection Set", "", 0)],
+            root: SyntaxKind::SELECTION_SET,
+            text: "",
+            nesting: 1,
+        },
+        Part {
+            source: "{ a",
+            errors: &[("expected R_CURLY, got EOF", "", 3)],
+            root: SyntaxKind::SELECTION_SET,
+            text: "{ a",
+            nesting: 1,
+        },
+        Part {
+            source: "é { a }",
+            errors: &[("Unexpected character \"é\"", "é", 0)],
+            root: SyntaxKind::SELECTION_SET,
+            text: "é { a }",
+            nesting: 1,
+        },
+        Part {
+            source: "{ a } b",
+            errors: &[],
+            root: SyntaxKind::SELECTION_SET,
+            text: "{ a }",
+            nesting: 1,
+        },
     ];
-    for (source, wanted) in rows {
-        let answer = shown(rt.alloc(), Parser::new(source))?;
-        assert_eq!(rt; answer.as_str(), wanted, "{source}");
+    for row in rows {
+        let source = row.source;
+        let tree = parse_selections(rt.alloc(), Parser::new(source))?;
+        let root = tree.root();
+        assert!(rt; has_errors(&tree, row.errors), "{source}");
+        assert!(rt; tree.field_set().syntax().kind().is(row.root), "{source}");
+        assert_eq!(rt; root.text(), row.text);
+        assert_eq!(rt; tree.recursion_limit().high, row.nesting, "{source}");
     }
     Ok(())
 }
@@ -60,7 +92,7 @@ fn first_name<'t>(selections: &SelectionSet<'t>) -> Option<Name<'t>> {
 }
 
 #[test]
-fn field_of_a_field_set(rt: HostRuntime) -> Result<(), Fail> {
+fn a_field_set_has_its_field(rt: HostRuntime) -> Result<(), Fail> {
     for source in ["{ a }", "a { a }"] {
         let tree = parse_selections(rt.alloc(), Parser::new(source))?;
         assert_eq!(rt; tree.errors().len(), 0, "{source}");
@@ -77,48 +109,86 @@ fn parse_type(
     parser.parse_type(alloc)
 }
 
-// The same of a type, with whether there is one.
-fn shown_type(alloc: Global, parser: Parser<'_>) -> Result<String, AllocError> {
-    let tree = parse_type(alloc, parser)?;
-    let mut lines = String::new(alloc);
-    for error in tree.errors() {
-        let message = error.message();
-        let data = error.data();
-        let index = error.index();
-        writeln!(lines, "{message}|{data}|{index}")?;
-    }
-    let root = tree.root();
-    let kind = root.kind();
-    let text = root.text();
-    let is_some = tree.ty().is_some();
-    let nesting = tree.recursion_limit().high;
-    format!(in alloc; "{lines}{kind:?}|{text}|{is_some}|{nesting}")
-}
-
 #[test]
-fn types(rt: HostRuntime) -> Result<(), Fail> {
+fn types_are_read_by_themselves(rt: HostRuntime) -> Result<(), Fail> {
     let rows = [
-        ("", "expected a type||0\nERROR||false|0"),
-        ("!", "expected a type|!|0\nERROR|!|false|0"),
-        (" [Int!]! ", "NON_NULL_TYPE| [Int!]!|true|1"),
-        (" Int", "NAMED_TYPE| Int|true|0"),
-        (
-            "[Int",
-            "expected R_BRACK, got EOF||4\nLIST_TYPE|[Int|true|1",
-        ),
-        ("Int Int", "NAMED_TYPE|Int|true|0"),
-        ("[!]", "expected item type|!|1\nLIST_TYPE|[!]|true|1"),
-        ("[Int] !", "NON_NULL_TYPE|[Int] !|true|1"),
+        Part {
+            source: "",
+            errors: &[("expected a type", "", 0)],
+            root: SyntaxKind::ERROR,
+            text: "",
+            nesting: 0,
+        },
+        Part {
+            source: "!",
+            errors: &[("expected a type", "!", 0)],
+            root: SyntaxKind::ERROR,
+            text: "!",
+            nesting: 0,
+        },
+        Part {
+            source: " [Int!]! ",
+            errors: &[],
+            root: SyntaxKind::NON_NULL_TYPE,
+            text: " [Int!]!",
+            nesting: 1,
+        },
+        Part {
+            source: " Int",
+            errors: &[],
+            root: SyntaxKind::NAMED_TYPE,
+            text: " Int",
+            nesting: 0,
+        },
+        Part {
+            source: "[Int",
+            errors: &[("expected R_BRACK, got EOF", "", 4)],
+            root: SyntaxKind::LIST_TYPE,
+            text: "[Int",
+            nesting: 1,
+        },
+        Part {
+            source: "Int Int",
+            errors: &[],
+            root: SyntaxKind::NAMED_TYPE,
+            text: "Int",
+            nesting: 0,
+        },
+        Part {
+            source: "[!]",
+            errors: &[("expected item type", "!", 1)],
+            root: SyntaxKind::LIST_TYPE,
+            text: "[!]",
+            nesting: 1,
+        },
+        Part {
+            source: "[Int] !",
+            errors: &[],
+            root: SyntaxKind::NON_NULL_TYPE,
+            text: "[Int] !",
+            nesting: 1,
+        },
     ];
-    for (source, wanted) in rows {
-        let answer = shown_type(rt.alloc(), Parser::new(source))?;
-        assert_eq!(rt; answer.as_str(), wanted, "{source}");
+    for row in rows {
+        let source = row.source;
+        let tree = parse_type(rt.alloc(), Parser::new(source))?;
+        let root = tree.root();
+        assert!(rt; has_errors(&tree, row.errors), "{source}");
+        assert!(rt; root.kind().is(row.root), "{source}");
+        // only an ERROR is no type
+        assert_eq!(rt;
+            tree.ty().is_none(),
+            row.root.is(SyntaxKind::ERROR),
+            "{source}"
+        );
+        assert_eq!(rt; root.text(), row.text);
+        assert_eq!(rt; tree.recursion_limit().high, row.nesting, "{source}");
     }
     Ok(())
 }
 
 #[test]
-fn name_of_a_type(rt: HostRuntime) -> Result<(), Fail> {
+fn a_type_has_its_name(rt: HostRuntime) -> Result<(), Fail> {
     let tree = parse_type(rt.alloc(), Parser::new("Int Int"))?;
     let Some(Type::NamedType(named)) = tree.ty() else {
         return Err(Fail::new("no named type"));

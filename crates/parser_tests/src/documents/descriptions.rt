@@ -1,48 +1,105 @@
 // Descriptions of operations, fragments and variables.
 use super::{expect_found, expect_printed};
+use crate::expected::Found;
 use std::test::Fail;
 
 #[test]
-fn described_definitions(rt: HostRuntime) -> Result<(), Fail> {
+fn descriptions_are_read(rt: HostRuntime) -> Result<(), Fail> {
     let rows = [
-        ("\"q\" query Q { a }", "1 1"),
-        ("\"f\" , fragment F on T { a }", "1 1"),
-        ("query(\"v\" $v: Int) { a }", "1 1"),
-        ("query(\"v\" , $v: Int = 1 \"w\" $w: Int) { a }", "1 1"),
-        ("\"\"\"d\"\"\" subscription S @e { a }", "1 1"),
-        (
-            "\"d\" #c\n mutation { a } \"e\" fragment F on T { b }",
-            "1 2",
-        ),
-        ("query(\"d\") { a }", "expected a Variable|)|9\n1 1"),
-        (
-            "query(\"a\" \"b\" $v: Int) {a}",
-            "expected a Variable|\"b\"|10\n1 1",
-        ),
-        ("query(\"d\" $: Int) { a }", "expected a Name|:|11\n1 1"),
-        (
-            "query(\"d\"",
-            "expected a Variable||9\nexpected R_PAREN, got EOF||9\nexpected a Selection Set||9\n0 1",
-        ),
-        (
-            "\"d\" {a}",
-            "expected an Operation Type or a Selection Set|\"d\"|0\n1 1",
-        ),
-        (
-            "\"d\" \"e\" query { a }",
-            "expected definition|\"d\"|0\n1 1",
-        ),
-        ("\"d\" query", "expected a Selection Set||9\n0 1"),
-        (
-            "\"d\" fragment on T { a }",
-            "Fragment Name cannot be 'on'|on|13\n1 1",
-        ),
+        Found {
+            source: "\"q\" query Q { a }",
+            errors: &[],
+            nesting: 1,
+            definitions: 1,
+        },
+        Found {
+            source: "\"f\" , fragment F on T { a }",
+            errors: &[],
+            nesting: 1,
+            definitions: 1,
+        },
+        Found {
+            source: "query(\"v\" $v: Int) { a }",
+            errors: &[],
+            nesting: 1,
+            definitions: 1,
+        },
+        Found {
+            source: "query(\"v\" , $v: Int = 1 \"w\" $w: Int) { a }",
+            errors: &[],
+            nesting: 1,
+            definitions: 1,
+        },
+        Found {
+            source: "\"\"\"d\"\"\" subscription S @e { a }",
+            errors: &[],
+            nesting: 1,
+            definitions: 1,
+        },
+        Found {
+            source: "\"d\" #c\n mutation { a } \"e\" fragment F on T { b }",
+            errors: &[],
+            nesting: 1,
+            definitions: 2,
+        },
+        Found {
+            source: "query(\"d\") { a }",
+            errors: &[("expected a Variable", ")", 9)],
+            nesting: 1,
+            definitions: 1,
+        },
+        Found {
+            source: "query(\"a\" \"b\" $v: Int) {a}",
+            errors: &[("expected a Variable", "\"b\"", 10)],
+            nesting: 1,
+            definitions: 1,
+        },
+        Found {
+            source: "query(\"d\" $: Int) { a }",
+            errors: &[("expected a Name", ":", 11)],
+            nesting: 1,
+            definitions: 1,
+        },
+        Found {
+            source: "query(\"d\"",
+            errors: &[
+                ("expected a Variable", "", 9),
+                ("expected R_PAREN, got EOF", "", 9),
+                ("expected a Selection Set", "", 9),
+            ],
+            nesting: 0,
+            definitions: 1,
+        },
+        Found {
+            source: "\"d\" {a}",
+            errors: &[("expected an Operation Type or a Selection Set", "\"d\"", 0)],
+            nesting: 1,
+            definitions: 1,
+        },
+        Found {
+            source: "\"d\" \"e\" query { a }",
+            errors: &[("expected definition", "\"d\"", 0)],
+            nesting: 1,
+            definitions: 1,
+        },
+        Found {
+            source: "\"d\" query",
+            errors: &[("expected a Selection Set", "", 9)],
+            nesting: 0,
+            definitions: 1,
+        },
+        Found {
+            source: "\"d\" fragment on T { a }",
+            errors: &[("Fragment Name cannot be 'on'", "on", 13)],
+            nesting: 1,
+            definitions: 1,
+        },
     ];
     expect_found(&rt, rows.as_slice())
 }
 
 #[test]
-fn trees_of_descriptions(rt: HostRuntime) -> Result<(), Fail> {
+fn descriptions_are_printed(rt: HostRuntime) -> Result<(), Fail> {
     let rows = [
         (
             "\"q\"query(\"v\"$v:A){a}",

@@ -1,150 +1,405 @@
-use super::{expect_found, expect_printed, found};
+use super::{expect_found, expect_printed, is_found};
+use crate::expected::Found;
 use std::test::Fail;
 
 #[test]
-fn operations_and_fragments(rt: HostRuntime) -> Result<(), Fail> {
+fn operations_and_fragments_are_read(rt: HostRuntime) -> Result<(), Fail> {
     let rows = [
-        (
-            "query Q($a: [Int!] = [1] @d) @e { a(b: $a) { ...F } } fragment F on T { c }",
-            "2 2",
-        ),
-        ("{ ... @a { b } }", "2 1"),
-        (
-            "{ ...on }",
-            "expected a Name in Type Condition|}|8\nexpected Selection Set|}|8\n1 1",
-        ),
-        (
-            "\"description\"{}",
-            "expected an Operation Type or a Selection Set|\"description\"|0\nexpected at least one Selection in Selection Set|}|14\n1 1",
-        ),
-        (
-            "query($foo: Int) {}",
-            "expected at least one Selection in Selection Set|}|18\n1 1",
-        ),
+        Found {
+            source: "query Q($a: [Int!] = [1] @d) @e { a(b: $a) { ...F } } fragment F on T { c }",
+            errors: &[],
+            nesting: 2,
+            definitions: 2,
+        },
+        Found {
+            source: "{ ... @a { b } }",
+            errors: &[],
+            nesting: 2,
+            definitions: 1,
+        },
+        Found {
+            source: "{ ...on }",
+            errors: &[
+                ("expected a Name in Type Condition", "}", 8),
+                ("expected Selection Set", "}", 8),
+            ],
+            nesting: 1,
+            definitions: 1,
+        },
+        Found {
+            source: "\"description\"{}",
+            errors: &[
+                (
+                    "expected an Operation Type or a Selection Set",
+                    "\"description\"",
+                    0,
+                ),
+                ("expected at least one Selection in Selection Set", "}", 14),
+            ],
+            nesting: 1,
+            definitions: 1,
+        },
+        Found {
+            source: "query($foo: Int) {}",
+            errors: &[("expected at least one Selection in Selection Set", "}", 18)],
+            nesting: 1,
+            definitions: 1,
+        },
     ];
     expect_found(&rt, rows.as_slice())
 }
 
 #[test]
-fn arguments_and_values(rt: HostRuntime) -> Result<(), Fail> {
+fn arguments_and_values_are_read(rt: HostRuntime) -> Result<(), Fail> {
     let rows = [
-        ("{ a(b) }", "expected COLON, got )|)|5\n1 1"),
-        ("{ a(b: {c}) }", "expected COLON, got }|}|9\n1 1"),
-        (
-            "{ a(b: 01) }",
-            "Numbers must not have non-significant leading zeroes|01|7\nexpected a valid Value|)|9\n1 1",
-        ),
-        (
-            "query($v: [Int] = [$x]) { a }",
-            "unexpected variable value in a Const context|$|19\n1 1",
-        ),
-        ("query($: Int) { a }", "expected a Name|:|7\n1 1"),
-        ("{ a(b: {c: [1 {d: 2}]}) }", "4 1"),
-        (
-            "mutation { a(b: [{ c: \"\\\"my store\\\"\" }]) { d(e: \"en\") } }",
-            "3 1",
-        ),
-        (
-            "mutation { a(b: \"my \\a store\") }",
-            "unexpected escaped character|\"my \\a store\"|16\nexpected a valid Value|)|29\n1 1",
-        ),
+        Found {
+            source: "{ a(b) }",
+            errors: &[("expected COLON, got )", ")", 5)],
+            nesting: 1,
+            definitions: 1,
+        },
+        Found {
+            source: "{ a(b: {c}) }",
+            errors: &[("expected COLON, got }", "}", 9)],
+            nesting: 1,
+            definitions: 1,
+        },
+        Found {
+            source: "{ a(b: 01) }",
+            errors: &[
+                (
+                    "Numbers must not have non-significant leading zeroes",
+                    "01",
+                    7,
+                ),
+                ("expected a valid Value", ")", 9),
+            ],
+            nesting: 1,
+            definitions: 1,
+        },
+        Found {
+            source: "query($v: [Int] = [$x]) { a }",
+            errors: &[("unexpected variable value in a Const context", "$", 19)],
+            nesting: 1,
+            definitions: 1,
+        },
+        Found {
+            source: "query($: Int) { a }",
+            errors: &[("expected a Name", ":", 7)],
+            nesting: 1,
+            definitions: 1,
+        },
+        Found {
+            source: "{ a(b: {c: [1 {d: 2}]}) }",
+            errors: &[],
+            nesting: 4,
+            definitions: 1,
+        },
+        Found {
+            source: "mutation { a(b: [{ c: \"\\\"my store\\\"\" }]) { d(e: \"en\") } }",
+            errors: &[],
+            nesting: 3,
+            definitions: 1,
+        },
+        Found {
+            source: "mutation { a(b: \"my \\a store\") }",
+            errors: &[
+                ("unexpected escaped character", "\"my \\a store\"", 16),
+                ("expected a valid Value", ")", 29),
+            ],
+            nesting: 1,
+            definitions: 1,
+        },
     ];
     expect_found(&rt, rows.as_slice())
 }
 
 #[test]
-fn messages(rt: HostRuntime) -> Result<(), Fail> {
+fn faults_have_their_messages(rt: HostRuntime) -> Result<(), Fail> {
     let rows = [
-        ("query Q", "expected a Selection Set||7\n0 1"),
-        ("query Q ! {a}", "expected a Selection Set|!|8\n1 2"),
-        ("fragment F T {a}", "expected 'on'|T|11\n1 1"),
-        (
-            "fragment { a }",
-            "expected Fragment Name|{|9\nexpected 'on'|{|9\nexpected a Name in Type Condition|{|9\n1 1",
-        ),
-        ("fragment F on T", "expected a Selection Set||15\n0 1"),
-        (
-            "fragment F on {a}",
-            "expected a Name in Type Condition|{|14\n1 1",
-        ),
-        ("{ a() }", "expected an Argument|)|4\n1 1"),
-        ("query() {a}", "expected a Variable Definition|)|6\n1 1"),
-        ("query($a) {a}", "expected a Name|)|8\n1 1"),
-        ("query($a:) {a}", "expected a Type|)|9\n1 1"),
-        ("query($a: [!]) {a}", "expected item type|!|11\n1 1"),
-        ("query($a: [Int) {a}", "expected R_BRACK, got )|)|14\n1 1"),
-        (
-            "{ a(b: !) }",
-            "expected a valid Value|!|7\nexpected R_PAREN, got !|!|7\nexpected R_CURLY, got !|!|7\nexpected a StringValue, Name or OperationDefinition|!|7\nexpected a StringValue, Name or OperationDefinition|)|8\nexpected a StringValue, Name or OperationDefinition|}|10\n1 1",
-        ),
-        (
-            "{ ... }",
-            "expected an Inline Fragment or a Fragment Spread|...|2\n1 1",
-        ),
-        ("{ a @ }", "expected a Name|}|6\n1 1"),
-        ("{ a(b: [!]) }", "expected a valid Value|!|8\n2 1"),
-        (
-            "{ a(b: {c: }) }",
-            "expected a valid Value|}|11\nexpected R_CURLY, got )|)|12\n2 1",
-        ),
-        (
-            "{ a(b: [1",
-            "expected R_PAREN, got EOF||9\nexpected R_CURLY, got EOF||9\n2 1",
-        ),
-        ("\"d\"", "expected definition|\"d\"|0\n0 0"),
-        (
-            "\"d\" a",
-            "expected definition|\"d\"|0\nexpected definition|a|4\n0 0",
-        ),
-        (
-            "\"d\" {a}",
-            "expected an Operation Type or a Selection Set|\"d\"|0\n1 1",
-        ),
-        (
-            "query Q {a} b A",
-            "expected definition|b|12\nexpected definition|A|14\n1 1",
-        ),
+        Found {
+            source: "query Q",
+            errors: &[("expected a Selection Set", "", 7)],
+            nesting: 0,
+            definitions: 1,
+        },
+        Found {
+            source: "query Q ! {a}",
+            errors: &[("expected a Selection Set", "!", 8)],
+            nesting: 1,
+            definitions: 2,
+        },
+        Found {
+            source: "fragment F T {a}",
+            errors: &[("expected 'on'", "T", 11)],
+            nesting: 1,
+            definitions: 1,
+        },
+        Found {
+            source: "fragment { a }",
+            errors: &[
+                ("expected Fragment Name", "{", 9),
+                ("expected 'on'", "{", 9),
+                ("expected a Name in Type Condition", "{", 9),
+            ],
+            nesting: 1,
+            definitions: 1,
+        },
+        Found {
+            source: "fragment F on T",
+            errors: &[("expected a Selection Set", "", 15)],
+            nesting: 0,
+            definitions: 1,
+        },
+        Found {
+            source: "fragment F on {a}",
+            errors: &[("expected a Name in Type Condition", "{", 14)],
+            nesting: 1,
+            definitions: 1,
+        },
+        Found {
+            source: "{ a() }",
+            errors: &[("expected an Argument", ")", 4)],
+            nesting: 1,
+            definitions: 1,
+        },
+        Found {
+            source: "query() {a}",
+            errors: &[("expected a Variable Definition", ")", 6)],
+            nesting: 1,
+            definitions: 1,
+        },
+        Found {
+            source: "query($a) {a}",
+            errors: &[("expected a Name", ")", 8)],
+            nesting: 1,
+            definitions: 1,
+        },
+        Found {
+            source: "query($a:) {a}",
+            errors: &[("expected a Type", ")", 9)],
+            nesting: 1,
+            definitions: 1,
+        },
+        Found {
+            source: "query($a: [!]) {a}",
+            errors: &[("expected item type", "!", 11)],
+            nesting: 1,
+            definitions: 1,
+        },
+        Found {
+            source: "query($a: [Int) {a}",
+            errors: &[("expected R_BRACK, got )", ")", 14)],
+            nesting: 1,
+            definitions: 1,
+        },
+        Found {
+            source: "{ a(b: !) }",
+            errors: &[
+                ("expected a valid Value", "!", 7),
+                ("expected R_PAREN, got !", "!", 7),
+                ("expected R_CURLY, got !", "!", 7),
+                (
+                    "expected a StringValue, Name or OperationDefinition",
+                    "!",
+                    7,
+                ),
+                (
+                    "expected a StringValue, Name or OperationDefinition",
+                    ")",
+                    8,
+                ),
+                (
+                    "expected a StringValue, Name or OperationDefinition",
+                    "}",
+                    10,
+                ),
+            ],
+            nesting: 1,
+            definitions: 1,
+        },
+        Found {
+            source: "{ ... }",
+            errors: &[("expected an Inline Fragment or a Fragment Spread", "...", 2)],
+            nesting: 1,
+            definitions: 1,
+        },
+        Found {
+            source: "{ a @ }",
+            errors: &[("expected a Name", "}", 6)],
+            nesting: 1,
+            definitions: 1,
+        },
+        Found {
+            source: "{ a(b: [!]) }",
+            errors: &[("expected a valid Value", "!", 8)],
+            nesting: 2,
+            definitions: 1,
+        },
+        Found {
+            source: "{ a(b: {c: }) }",
+            errors: &[
+                ("expected a valid Value", "}", 11),
+                ("expected R_CURLY, got )", ")", 12),
+            ],
+            nesting: 2,
+            definitions: 1,
+        },
+        Found {
+            source: "{ a(b: [1",
+            errors: &[
+                ("expected R_PAREN, got EOF", "", 9),
+                ("expected R_CURLY, got EOF", "", 9),
+            ],
+            nesting: 2,
+            definitions: 1,
+        },
+        Found {
+            source: "\"d\"",
+            errors: &[("expected definition", "\"d\"", 0)],
+            nesting: 0,
+            definitions: 0,
+        },
+        Found {
+            source: "\"d\" a",
+            errors: &[
+                ("expected definition", "\"d\"", 0),
+                ("expected definition", "a", 4),
+            ],
+            nesting: 0,
+            definitions: 0,
+        },
+        Found {
+            source: "\"d\" {a}",
+            errors: &[("expected an Operation Type or a Selection Set", "\"d\"", 0)],
+            nesting: 1,
+            definitions: 1,
+        },
+        Found {
+            source: "query Q {a} b A",
+            errors: &[
+                ("expected definition", "b", 12),
+                ("expected definition", "A", 14),
+            ],
+            nesting: 1,
+            definitions: 1,
+        },
     ];
     expect_found(&rt, rows.as_slice())
 }
 
 #[test]
-fn nesting(rt: HostRuntime) -> Result<(), Fail> {
+fn the_recursion_limit_is_met(rt: HostRuntime) -> Result<(), Fail> {
     let rows = [
-        ("{ a(b: []) }", 1, "1 1"),
-        ("{ a(b: [1]) }", 1, "parser recursion limit reached||8\n2 1"),
-        ("{ a(b: [1]) }", 2, "2 1"),
         (
-            "{ a(b: {c: [1 {d: 2}]}) }",
+            1,
+            Found {
+                source: "{ a(b: []) }",
+                errors: &[],
+                nesting: 1,
+                definitions: 1,
+            },
+        ),
+        (
+            1,
+            Found {
+                source: "{ a(b: [1]) }",
+                errors: &[("parser recursion limit reached", "", 8)],
+                nesting: 2,
+                definitions: 1,
+            },
+        ),
+        (
+            2,
+            Found {
+                source: "{ a(b: [1]) }",
+                errors: &[],
+                nesting: 2,
+                definitions: 1,
+            },
+        ),
+        (
             3,
-            "parser recursion limit reached||18\n4 1",
+            Found {
+                source: "{ a(b: {c: [1 {d: 2}]}) }",
+                errors: &[("parser recursion limit reached", "", 18)],
+                nesting: 4,
+                definitions: 1,
+            },
         ),
         (
-            "query { Q1 { Q2 { url } } }",
             1,
-            "parser recursion limit reached||13\n2 1",
+            Found {
+                source: "query { Q1 { Q2 { url } } }",
+                errors: &[("parser recursion limit reached", "", 13)],
+                nesting: 2,
+                definitions: 1,
+            },
         ),
-        ("query { Q1 { Q2 { url } } }", 3, "3 1"),
         (
-            "\n{\n    animal\n    ...snackSelection\n    ... on Pet {\n      playmates {\n        count\n      }\n    }\n}\n",
+            3,
+            Found {
+                source: "query { Q1 { Q2 { url } } }",
+                errors: &[],
+                nesting: 3,
+                definitions: 1,
+            },
+        ),
+        (
             4,
-            "3 1",
+            Found {
+                source: "\n{\n    animal\n    ...snackSelection\n    ... on Pet {\n      playmates {\n        count\n      }\n    }\n}\n",
+                errors: &[],
+                nesting: 3,
+                definitions: 1,
+            },
         ),
         (
-            "query Q { a { b } ...F } fragment F on T { c { d e } }",
             1,
-            "parser recursion limit reached||14\n2 2",
+            Found {
+                source: "query Q { a { b } ...F } fragment F on T { c { d e } }",
+                errors: &[("parser recursion limit reached", "", 14)],
+                nesting: 2,
+                definitions: 2,
+            },
+        ),
+        (
+            2,
+            Found {
+                source: "query { Q1 { Q2 { ... on Page { price name } } } }",
+                errors: &[("parser recursion limit reached", "", 18)],
+                nesting: 3,
+                definitions: 1,
+            },
+        ),
+        (
+            2,
+            Found {
+                source: "query { Q1 { Q2 { product { ...Page } } } }",
+                errors: &[("parser recursion limit reached", "", 18)],
+                nesting: 3,
+                definitions: 1,
+            },
+        ),
+        (
+            500,
+            Found {
+                source: "query { Q1 { Q2 { Q3 { Q4 { Q5 { url } } } } }, }",
+                errors: &[],
+                nesting: 6,
+                definitions: 1,
+            },
         ),
     ];
-    for (source, limit, wanted) in rows {
-        let answer = found(rt.alloc(), source, limit)?;
-        assert_eq!(rt; answer.as_str(), wanted, "{source}");
+    for (limit, row) in &rows {
+        let source = row.source;
+        assert!(rt; is_found(rt.alloc(), row, *limit)?, "{source}");
     }
     Ok(())
 }
 
 #[test]
-fn trees_of_aliases_and_types(rt: HostRuntime) -> Result<(), Fail> {
+fn aliases_and_types_are_printed(rt: HostRuntime) -> Result<(), Fail> {
     let rows = [
         (
             "{ a , : b }",

@@ -55,6 +55,18 @@ fn expect_own_limits(rt: &(impl Abort + AllocGlobal), source: &str) -> Result<()
 fn sentences_at_their_own_limits(rt: HostRuntime) -> Result<(), Fail> {
     let sources = [
         "{a}",
+        "{ a(b: []) }",
+        "{ a(b: [1]) }",
+        "union A { a }",
+        "\"d\" , scalar , S",
+        "{ a , : b }",
+        "query { Q1 { Q2 { url } } }",
+        "union SearchResult = Photo | Person | Cat | Dog",
+        "query Q($a: [Int!] = [1] @d) @e { a(b: $a) { ...F } } fragment F on T { c }",
+        "{ ... @a { b } }",
+        "{ a(b: {c: [1 {d: 2}]}) }",
+        "\n{\n    animal\n    ...snackSelection\n    ... on Pet {\n      playmates {\n        count\n      }\n    }\n}\n",
+        "type A implements & B & C",
         "{ a , b }\n",
         "query Q($a: [[Int!]!] = [[1], [2, 3]]) @d { a: b(c: { d: [$e, 1.5e3] }) @f { g } }",
         "mutation { a(b: \"\"\"c\"\"\") { ...F ... on T @d { e } ... { f } } }",

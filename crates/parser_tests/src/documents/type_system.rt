@@ -1,250 +1,606 @@
 // Definitions and extensions of the type system.
-use super::{expect_found, expect_printed, shown};
+use super::{expect_found, expect_limited, expect_printed};
+use crate::expected::{Found, Limited};
 use crate::parsing::parse_by;
 use apollo_parser::Parser;
 use std::test::Fail;
 
 #[test]
-fn definitions_and_extensions(rt: HostRuntime) -> Result<(), Fail> {
+fn definitions_and_extensions_are_read(rt: HostRuntime) -> Result<(), Fail> {
     let rows = [
-        ("type A implements & B & C", "0 1"),
-        ("type A @d { a: B }", "0 1"),
-        ("union SearchResult = Photo | Person | Cat | Dog", "0 1"),
-        ("\"d\" , scalar , S", "0 1"),
-        ("union A { a }", "1 2"),
-        ("scalar S { a }", "1 2"),
-        ("directive @d on FIELD { a }", "1 2"),
-        ("extend schema @a", "0 1"),
-        (
-            "type Business implements NamedEntity & ValuedEntity & CatEntity {\n  name: String\n}",
-            "0 1",
-        ),
-        (
-            "\"\"\"\ndescription for Query object type\n\"\"\"\ntype Query {\n  bestSellers(category: ProductCategory = ALL): [Product] @join__field(graph: PRODUCTS)\n}\n",
-            "1 1",
-        ),
-        (
-            "schema @core(feature: \"https://specs.apollo.dev/join/v0.1\") {\n  query: Query\n  mutation: Mutation\n}\nenum join__Graph {\n  ACCOUNTS @join__graph(name: \"accounts\")\n}\n",
-            "0 2",
-        ),
-        (
-            "directive @example(isTreat: Boolean, treatKind: String) repeatable on FIELD | MUTATION",
-            "0 1",
-        ),
-        (
-            "directive @example on\n| FIELD\n| FRAGMENT_SPREAD\n| INLINE_FRAGMENT\n",
-            "0 1",
-        ),
-        (
-            "extend schema { mutation: MyMutationType }\nextend scalar UUID @specifiedBy(url: \"https://tools.ietf.org/html/rfc4122\")\nextend type Business implements NamedEntity\nextend interface NamedEntity { name: String }\nextend union SearchResult = Pet\nextend enum Pet { GuineaPig Cat }\nextend input First @include(if: \"first\")\n",
-            "0 7",
-        ),
-        ("extend , type A @d", "0 1"),
-        ("enum type { type on extend }", "0 1"),
-        ("input type { input: on = extend }", "0 1"),
+        Found {
+            source: "type A implements & B & C",
+            errors: &[],
+            nesting: 0,
+            definitions: 1,
+        },
+        Found {
+            source: "type A @d { a: B }",
+            errors: &[],
+            nesting: 0,
+            definitions: 1,
+        },
+        Found {
+            source: "union SearchResult = Photo | Person | Cat | Dog",
+            errors: &[],
+            nesting: 0,
+            definitions: 1,
+        },
+        Found {
+            source: "\"d\" , scalar , S",
+            errors: &[],
+            nesting: 0,
+            definitions: 1,
+        },
+        Found {
+            source: "union A { a }",
+            errors: &[],
+            nesting: 1,
+            definitions: 2,
+        },
+        Found {
+            source: "scalar S { a }",
+            errors: &[],
+            nesting: 1,
+            definitions: 2,
+        },
+        Found {
+            source: "directive @d on FIELD { a }",
+            errors: &[],
+            nesting: 1,
+            definitions: 2,
+        },
+        Found {
+            source: "extend schema @a",
+            errors: &[],
+            nesting: 0,
+            definitions: 1,
+        },
+        Found {
+            source: "type Business implements NamedEntity & ValuedEntity & CatEntity {\n  name: String\n}",
+            errors: &[],
+            nesting: 0,
+            definitions: 1,
+        },
+        Found {
+            source: "\"\"\"\ndescription for Query object type\n\"\"\"\ntype Query {\n  bestSellers(category: ProductCategory = ALL): [Product] @join__field(graph: PRODUCTS)\n}\n",
+            errors: &[],
+            nesting: 1,
+            definitions: 1,
+        },
+        Found {
+            source: "schema @core(feature: \"https://specs.apollo.dev/join/v0.1\") {\n  query: Query\n  mutation: Mutation\n}\nenum join__Graph {\n  ACCOUNTS @join__graph(name: \"accounts\")\n}\n",
+            errors: &[],
+            nesting: 0,
+            definitions: 2,
+        },
+        Found {
+            source: "directive @example(isTreat: Boolean, treatKind: String) repeatable on FIELD | MUTATION",
+            errors: &[],
+            nesting: 0,
+            definitions: 1,
+        },
+        Found {
+            source: "directive @example on\n| FIELD\n| FRAGMENT_SPREAD\n| INLINE_FRAGMENT\n",
+            errors: &[],
+            nesting: 0,
+            definitions: 1,
+        },
+        Found {
+            source: "extend schema { mutation: MyMutationType }\nextend scalar UUID @specifiedBy(url: \"https://tools.ietf.org/html/rfc4122\")\nextend type Business implements NamedEntity\nextend interface NamedEntity { name: String }\nextend union SearchResult = Pet\nextend enum Pet { GuineaPig Cat }\nextend input First @include(if: \"first\")\n",
+            errors: &[],
+            nesting: 0,
+            definitions: 7,
+        },
+        Found {
+            source: "extend , type A @d",
+            errors: &[],
+            nesting: 0,
+            definitions: 1,
+        },
+        Found {
+            source: "enum type { type on extend }",
+            errors: &[],
+            nesting: 0,
+            definitions: 1,
+        },
+        Found {
+            source: "input type { input: on = extend }",
+            errors: &[],
+            nesting: 0,
+            definitions: 1,
+        },
     ];
     expect_found(&rt, rows.as_slice())
 }
 
 #[test]
-fn faults(rt: HostRuntime) -> Result<(), Fail> {
+fn faults_have_their_places(rt: HostRuntime) -> Result<(), Fail> {
     let rows = [
-        ("type Q { a: [!] }", "expected item type|!|13\n1 1"),
-        ("type A { a }", "expected a type|}|11\n0 1"),
-        ("schema { query: }", "expected a Name Type|}|16\n0 1"),
-        ("schema", "expected L_CURLY, got EOF||6\n0 1"),
-        (
-            "extend schema @a {}",
-            "expected directives or Root Operation Type Definition|}|18\n0 1",
-        ),
-        (
-            "extend schema {}",
-            "expected directives or Root Operation Type Definition|}|15\n0 1",
-        ),
-        (
-            "extend schema",
-            "expected directives or Root Operation Type Definition||13\n0 1",
-        ),
-        (
-            "schema {}",
-            "expected Root Operation Type Definition|}|8\n0 1",
-        ),
-        (
-            "extend type A",
-            "expected an Implements Interface, Directives or a Fields Definition||13\n0 1",
-        ),
-        (
-            "directive @d on",
-            "expected valid Directive Location||15\n0 1",
-        ),
-        ("enum E { true }", "invalid Enum Value|true|9\n0 1"),
-        ("enum E { \"d\" }", "expected Enum Value|}|13\n0 1"),
-        (
-            "input I { a: Int = $x }",
-            "unexpected variable value in a Const context|$|19\n0 1",
-        ),
-        (
-            "type A { a: B @d(b: $c) }",
-            "unexpected variable value in a Const context|$|20\n0 1",
-        ),
-        (
-            "\nextend Cat\n",
-            "Invalid Type System Extension. This extension cannot be applied.|extend|1\nexpected definition|Cat|8\n0 0",
-        ),
-        (
-            "\nextend Cat\n\nextend interface NamedEntity {\n    name: String\n}\n",
-            "Invalid Type System Extension. This extension cannot be applied.|extend|1\nexpected definition|Cat|8\n0 1",
-        ),
-        (
-            "garbage type Query implements X {\n    field(arg: Int): Int\n} garbage :,, (|) interface X {}\n",
-            "expected definition|garbage|0\nexpected definition|garbage|61\nexpected a StringValue, Name or OperationDefinition|:|69\nexpected a StringValue, Name or OperationDefinition|(|73\nexpected a StringValue, Name or OperationDefinition|||74\nexpected a StringValue, Name or OperationDefinition|)|75\nexpected Field Definition|}|90\n0 2",
-        ),
-        (
-            "directive @example on\n| FIELD\n| FRAGMENT_SPREAD\n| INLINE_FRAGMENT |\n",
-            "expected Directive Location||68\n0 1",
-        ),
-        (
-            "directive @example on\n|| FIELD\n| FRAGMENT_SPREAD\n| INLINE_FRAGMENT\n",
-            "expected Directive Location|||23\n0 1",
-        ),
-        (
-            "directive @example on\n| FIELD\n|| FRAGMENT_SPREAD\n| INLINE_FRAGMENT\n",
-            "expected Directive Location|||31\n0 1",
-        ),
+        Found {
+            source: "type Q { a: [!] }",
+            errors: &[("expected item type", "!", 13)],
+            nesting: 1,
+            definitions: 1,
+        },
+        Found {
+            source: "type A { a }",
+            errors: &[("expected a type", "}", 11)],
+            nesting: 0,
+            definitions: 1,
+        },
+        Found {
+            source: "schema { query: }",
+            errors: &[("expected a Name Type", "}", 16)],
+            nesting: 0,
+            definitions: 1,
+        },
+        Found {
+            source: "schema",
+            errors: &[("expected L_CURLY, got EOF", "", 6)],
+            nesting: 0,
+            definitions: 1,
+        },
+        Found {
+            source: "extend schema @a {}",
+            errors: &[(
+                "expected directives or Root Operation Type Definition",
+                "}",
+                18,
+            )],
+            nesting: 0,
+            definitions: 1,
+        },
+        Found {
+            source: "extend schema {}",
+            errors: &[(
+                "expected directives or Root Operation Type Definition",
+                "}",
+                15,
+            )],
+            nesting: 0,
+            definitions: 1,
+        },
+        Found {
+            source: "extend schema",
+            errors: &[(
+                "expected directives or Root Operation Type Definition",
+                "",
+                13,
+            )],
+            nesting: 0,
+            definitions: 1,
+        },
+        Found {
+            source: "schema {}",
+            errors: &[("expected Root Operation Type Definition", "}", 8)],
+            nesting: 0,
+            definitions: 1,
+        },
+        Found {
+            source: "extend type A",
+            errors: &[(
+                "expected an Implements Interface, Directives or a Fields Definition",
+                "",
+                13,
+            )],
+            nesting: 0,
+            definitions: 1,
+        },
+        Found {
+            source: "directive @d on",
+            errors: &[("expected valid Directive Location", "", 15)],
+            nesting: 0,
+            definitions: 1,
+        },
+        Found {
+            source: "enum E { true }",
+            errors: &[("invalid Enum Value", "true", 9)],
+            nesting: 0,
+            definitions: 1,
+        },
+        Found {
+            source: "enum E { \"d\" }",
+            errors: &[("expected Enum Value", "}", 13)],
+            nesting: 0,
+            definitions: 1,
+        },
+        Found {
+            source: "input I { a: Int = $x }",
+            errors: &[("unexpected variable value in a Const context", "$", 19)],
+            nesting: 0,
+            definitions: 1,
+        },
+        Found {
+            source: "type A { a: B @d(b: $c) }",
+            errors: &[("unexpected variable value in a Const context", "$", 20)],
+            nesting: 0,
+            definitions: 1,
+        },
+        Found {
+            source: "extend Cat",
+            errors: &[
+                (
+                    "Invalid Type System Extension. This extension cannot be applied.",
+                    "extend",
+                    0,
+                ),
+                ("expected definition", "Cat", 7),
+            ],
+            nesting: 0,
+            definitions: 0,
+        },
+        Found {
+            source: "\nextend Cat\n",
+            errors: &[
+                (
+                    "Invalid Type System Extension. This extension cannot be applied.",
+                    "extend",
+                    1,
+                ),
+                ("expected definition", "Cat", 8),
+            ],
+            nesting: 0,
+            definitions: 0,
+        },
+        Found {
+            source: "\nextend Cat\n\nextend interface NamedEntity {\n    name: String\n}\n",
+            errors: &[
+                (
+                    "Invalid Type System Extension. This extension cannot be applied.",
+                    "extend",
+                    1,
+                ),
+                ("expected definition", "Cat", 8),
+            ],
+            nesting: 0,
+            definitions: 1,
+        },
+        Found {
+            source: "garbage type Query implements X {\n    field(arg: Int): Int\n} garbage :,, (|) interface X {}\n",
+            errors: &[
+                ("expected definition", "garbage", 0),
+                ("expected definition", "garbage", 61),
+                (
+                    "expected a StringValue, Name or OperationDefinition",
+                    ":",
+                    69,
+                ),
+                (
+                    "expected a StringValue, Name or OperationDefinition",
+                    "(",
+                    73,
+                ),
+                (
+                    "expected a StringValue, Name or OperationDefinition",
+                    "|",
+                    74,
+                ),
+                (
+                    "expected a StringValue, Name or OperationDefinition",
+                    ")",
+                    75,
+                ),
+                ("expected Field Definition", "}", 90),
+            ],
+            nesting: 0,
+            definitions: 2,
+        },
+        Found {
+            source: "directive @example on\n| FIELD\n| FRAGMENT_SPREAD\n| INLINE_FRAGMENT |\n",
+            errors: &[("expected Directive Location", "", 68)],
+            nesting: 0,
+            definitions: 1,
+        },
+        Found {
+            source: "directive @example on\n|| FIELD\n| FRAGMENT_SPREAD\n| INLINE_FRAGMENT\n",
+            errors: &[("expected Directive Location", "|", 23)],
+            nesting: 0,
+            definitions: 1,
+        },
+        Found {
+            source: "directive @example on\n| FIELD\n|| FRAGMENT_SPREAD\n| INLINE_FRAGMENT\n",
+            errors: &[("expected Directive Location", "|", 31)],
+            nesting: 0,
+            definitions: 1,
+        },
     ];
     expect_found(&rt, rows.as_slice())
 }
 
 // What is reported where a name or a keyword is missing.
 #[test]
-fn missing_names(rt: HostRuntime) -> Result<(), Fail> {
+fn missing_names_are_reported(rt: HostRuntime) -> Result<(), Fail> {
     let rows = [
-        (
-            "schema { a: B }",
-            "expected either a 'mutation', a 'query', or a 'subscription'|a|9\n0 1",
-        ),
-        ("type { a: B }", "expected a name|{|5\n0 1"),
-        ("extend type @d", "expected a Name|@|12\n0 1"),
-        ("scalar", "expected a Name||6\n0 1"),
-        ("type A { \"d\" : B }", "expected a Name|:|13\n0 1"),
-        ("type A implements", "expected an Interface name||17\n0 1"),
-        ("union A = B |", "expected Union Member Type||13\n0 1"),
-        (
-            "directive @",
-            "expected a Name||11\nexpected Directive Locations||11\nexpected valid Directive Location||11\n0 1",
-        ),
-        ("directive d on FIELD", "expected @ symbol|d|10\n0 1"),
-        (
-            "directive @d FIELD",
-            "expected Directive Locations|FIELD|13\n0 1",
-        ),
-        (
-            "directive @d on a",
-            "expected valid Directive Location|a|16\nexpected definition|a|16\n0 1",
-        ),
-        (
-            "directive @d on FIELD |",
-            "expected Directive Location||23\n0 1",
-        ),
-        (
-            "\"d\" extend type A { a: B }",
-            "Invalid Type System Extension. This extension cannot be applied.|\"d\"|0\n0 1",
-        ),
-        (
-            "\"d\" )",
-            "expected definition|\"d\"|0\nexpected a StringValue, Name or OperationDefinition|)|4\n0 0",
-        ),
-        (
-            "extend",
-            "Invalid Type System Extension. This extension cannot be applied.|extend|0\n0 0",
-        ),
+        Found {
+            source: "schema { a: B }",
+            errors: &[(
+                "expected either a 'mutation', a 'query', or a 'subscription'",
+                "a",
+                9,
+            )],
+            nesting: 0,
+            definitions: 1,
+        },
+        Found {
+            source: "type { a: B }",
+            errors: &[("expected a name", "{", 5)],
+            nesting: 0,
+            definitions: 1,
+        },
+        Found {
+            source: "extend type @d",
+            errors: &[("expected a Name", "@", 12)],
+            nesting: 0,
+            definitions: 1,
+        },
+        Found {
+            source: "scalar",
+            errors: &[("expected a Name", "", 6)],
+            nesting: 0,
+            definitions: 1,
+        },
+        Found {
+            source: "type A { \"d\" : B }",
+            errors: &[("expected a Name", ":", 13)],
+            nesting: 0,
+            definitions: 1,
+        },
+        Found {
+            source: "type A implements",
+            errors: &[("expected an Interface name", "", 17)],
+            nesting: 0,
+            definitions: 1,
+        },
+        Found {
+            source: "union A = B |",
+            errors: &[("expected Union Member Type", "", 13)],
+            nesting: 0,
+            definitions: 1,
+        },
+        Found {
+            source: "directive @",
+            errors: &[
+                ("expected a Name", "", 11),
+                ("expected Directive Locations", "", 11),
+                ("expected valid Directive Location", "", 11),
+            ],
+            nesting: 0,
+            definitions: 1,
+        },
+        Found {
+            source: "directive d on FIELD",
+            errors: &[("expected @ symbol", "d", 10)],
+            nesting: 0,
+            definitions: 1,
+        },
+        Found {
+            source: "directive @d FIELD",
+            errors: &[("expected Directive Locations", "FIELD", 13)],
+            nesting: 0,
+            definitions: 1,
+        },
+        Found {
+            source: "directive @d on a",
+            errors: &[
+                ("expected valid Directive Location", "a", 16),
+                ("expected definition", "a", 16),
+            ],
+            nesting: 0,
+            definitions: 1,
+        },
+        Found {
+            source: "directive @d on FIELD |",
+            errors: &[("expected Directive Location", "", 23)],
+            nesting: 0,
+            definitions: 1,
+        },
+        Found {
+            source: "\"d\" extend type A { a: B }",
+            errors: &[(
+                "Invalid Type System Extension. This extension cannot be applied.",
+                "\"d\"",
+                0,
+            )],
+            nesting: 0,
+            definitions: 1,
+        },
+        Found {
+            source: "\"d\" )",
+            errors: &[
+                ("expected definition", "\"d\"", 0),
+                (
+                    "expected a StringValue, Name or OperationDefinition",
+                    ")",
+                    4,
+                ),
+            ],
+            nesting: 0,
+            definitions: 0,
+        },
+        Found {
+            source: "extend",
+            errors: &[(
+                "Invalid Type System Extension. This extension cannot be applied.",
+                "extend",
+                0,
+            )],
+            nesting: 0,
+            definitions: 0,
+        },
     ];
     expect_found(&rt, rows.as_slice())
 }
 
 // What is reported where another part is missing.
 #[test]
-fn missing_parts(rt: HostRuntime) -> Result<(), Fail> {
+fn missing_parts_are_reported(rt: HostRuntime) -> Result<(), Fail> {
     let rows = [
-        (
-            "type A {",
-            "expected Field Definition||8\nexpected R_CURLY, got EOF||8\n0 1",
-        ),
-        ("type A {}", "expected Field Definition|}|8\n0 1"),
-        ("interface A {}", "expected Field Definition|}|13\n0 1"),
-        ("enum E {}", "expected Enum Value Definition|}|8\n0 1"),
-        ("input I {}", "expected an Input Value Definition|}|9\n0 1"),
-        (
-            "type A { a(): B }",
-            "expected an Argument Definition|)|11\n0 1",
-        ),
-        ("type A { a: }", "expected a Type|}|12\n0 1"),
-        ("input I { a: }", "expected a Type|}|13\n0 1"),
-        ("input I { a }", "expected a Name|}|12\n0 1"),
-        ("type A { a(b): C }", "expected a Name|)|12\n0 1"),
-        ("extend scalar S", "expected Directives||15\n0 1"),
-        (
-            "extend union U",
-            "expected Directives or Union Member Types||14\n0 1",
-        ),
-        (
-            "extend enum E",
-            "expected Directive or Enum Values Definition||13\n0 1",
-        ),
-        (
-            "extend input I",
-            "expected Directives or an Input Fields Definition||14\n0 1",
-        ),
-        (
-            "extend interface A",
-            "exptected an Implements Interfaces, Directives, or a Fields Definition||18\n0 1",
-        ),
+        Found {
+            source: "type A {",
+            errors: &[
+                ("expected Field Definition", "", 8),
+                ("expected R_CURLY, got EOF", "", 8),
+            ],
+            nesting: 0,
+            definitions: 1,
+        },
+        Found {
+            source: "type A {}",
+            errors: &[("expected Field Definition", "}", 8)],
+            nesting: 0,
+            definitions: 1,
+        },
+        Found {
+            source: "interface A {}",
+            errors: &[("expected Field Definition", "}", 13)],
+            nesting: 0,
+            definitions: 1,
+        },
+        Found {
+            source: "enum E {}",
+            errors: &[("expected Enum Value Definition", "}", 8)],
+            nesting: 0,
+            definitions: 1,
+        },
+        Found {
+            source: "input I {}",
+            errors: &[("expected an Input Value Definition", "}", 9)],
+            nesting: 0,
+            definitions: 1,
+        },
+        Found {
+            source: "type A { a(): B }",
+            errors: &[("expected an Argument Definition", ")", 11)],
+            nesting: 0,
+            definitions: 1,
+        },
+        Found {
+            source: "type A { a: }",
+            errors: &[("expected a Type", "}", 12)],
+            nesting: 0,
+            definitions: 1,
+        },
+        Found {
+            source: "input I { a: }",
+            errors: &[("expected a Type", "}", 13)],
+            nesting: 0,
+            definitions: 1,
+        },
+        Found {
+            source: "input I { a }",
+            errors: &[("expected a Name", "}", 12)],
+            nesting: 0,
+            definitions: 1,
+        },
+        Found {
+            source: "type A { a(b): C }",
+            errors: &[("expected a Name", ")", 12)],
+            nesting: 0,
+            definitions: 1,
+        },
+        Found {
+            source: "extend scalar S",
+            errors: &[("expected Directives", "", 15)],
+            nesting: 0,
+            definitions: 1,
+        },
+        Found {
+            source: "extend union U",
+            errors: &[("expected Directives or Union Member Types", "", 14)],
+            nesting: 0,
+            definitions: 1,
+        },
+        Found {
+            source: "extend enum E",
+            errors: &[("expected Directive or Enum Values Definition", "", 13)],
+            nesting: 0,
+            definitions: 1,
+        },
+        Found {
+            source: "extend input I",
+            errors: &[("expected Directives or an Input Fields Definition", "", 14)],
+            nesting: 0,
+            definitions: 1,
+        },
+        Found {
+            source: "extend interface A",
+            errors: &[(
+                "exptected an Implements Interfaces, Directives, or a Fields Definition",
+                "",
+                18,
+            )],
+            nesting: 0,
+            definitions: 1,
+        },
     ];
     expect_found(&rt, rows.as_slice())
 }
 
 #[test]
-fn limits(rt: HostRuntime) -> Result<(), Fail> {
+fn limits_stop_a_definition(rt: HostRuntime) -> Result<(), Fail> {
     let rows = [
-        (
-            "\n            type Query {\n                field(arg1: Int, arg2: Int, arg3: Int, arg4: Int, arg5: Int, arg6: Int): Int\n            }\n        ",
-            500,
-            18,
-            "token limit reached, aborting lexing||65\n\n            type Query {\n                field(arg1: Int, arg2: |0|19",
-        ),
-        (
-            "\n            \"All our queries\"\n            type Query {\n                a: Int\n            }\n\n            \"Imagine another type below!\"\n        ",
-            500,
-            18,
-            "expected a definition after this StringValue|\"Imagine another type below!\"|106\ntoken limit reached, aborting lexing||143\n\n            \"All our queries\"\n            type Query {\n                a: Int\n            }\n\n            \"Imagine another type below!\"\n        |0|19",
-        ),
-        (
-            "extend type A @d",
-            500,
-            2,
-            "Invalid Type System Extension. This extension cannot be applied.|extend|0\ntoken limit reached, aborting lexing||7\nextend |0|3",
-        ),
-        (
-            "type A { b: [[C]] }",
-            1,
-            100,
-            "parser recursion limit reached||14\ntype A { b: [[C]] }|2|17",
-        ),
-        (
-            "input A { b: C = [[1]] }",
-            1,
-            100,
-            "parser recursion limit reached||19\ninput A { b: C = [[1]] }|2|21",
-        ),
+        Limited {
+            source: "\n            type Query {\n                field(arg1: Int, arg2: Int, arg3: Int, arg4: Int, arg5: Int, arg6: Int): Int\n            }\n        ",
+            recursion_limit: 500,
+            token_limit: 18,
+            errors: &[("token limit reached, aborting lexing", "", 65)],
+            text: "\n            type Query {\n                field(arg1: Int, arg2: ",
+            nesting: 0,
+            items: 19,
+        },
+        Limited {
+            source: "\n            \"All our queries\"\n            type Query {\n                a: Int\n            }\n\n            \"Imagine another type below!\"\n        ",
+            recursion_limit: 500,
+            token_limit: 18,
+            errors: &[
+                (
+                    "expected a definition after this StringValue",
+                    "\"Imagine another type below!\"",
+                    106,
+                ),
+                ("token limit reached, aborting lexing", "", 143),
+            ],
+            text: "\n            \"All our queries\"\n            type Query {\n                a: Int\n            }\n\n            \"Imagine another type below!\"\n        ",
+            nesting: 0,
+            items: 19,
+        },
+        Limited {
+            source: "extend type A @d",
+            recursion_limit: 500,
+            token_limit: 2,
+            errors: &[
+                (
+                    "Invalid Type System Extension. This extension cannot be applied.",
+                    "extend",
+                    0,
+                ),
+                ("token limit reached, aborting lexing", "", 7),
+            ],
+            text: "extend ",
+            nesting: 0,
+            items: 3,
+        },
+        Limited {
+            source: "type A { b: [[C]] }",
+            recursion_limit: 1,
+            token_limit: 100,
+            errors: &[("parser recursion limit reached", "", 14)],
+            text: "type A { b: [[C]] }",
+            nesting: 2,
+            items: 17,
+        },
+        Limited {
+            source: "input A { b: C = [[1]] }",
+            recursion_limit: 1,
+            token_limit: 100,
+            errors: &[("parser recursion limit reached", "", 19)],
+            text: "input A { b: C = [[1]] }",
+            nesting: 2,
+            items: 21,
+        },
     ];
-    for (source, nesting, items, wanted) in rows {
-        let parser = Parser::new(source)
-            .recursion_limit(nesting)
-            .token_limit(items);
-        let answer = shown(rt.alloc(), parser)?;
-        assert_eq!(rt; answer.as_str(), wanted, "{source}");
-    }
-    Ok(())
+    expect_limited(&rt, rows.as_slice())
 }
 
 // The text is cut before the line feed that follows the comment.
@@ -300,8 +656,51 @@ fn tree_before_the_token_limit(rt: HostRuntime) -> Result<(), Fail> {
 }
 
 #[test]
-fn trees(rt: HostRuntime) -> Result<(), Fail> {
+fn definitions_are_printed(rt: HostRuntime) -> Result<(), Fail> {
     let rows = [
+        (
+            "type A { a: Int ! }",
+            "- DOCUMENT@0..19
+    - OBJECT_TYPE_DEFINITION@0..19
+        - type_KW@0..4 \"type\"
+        - WHITESPACE@4..5 \" \"
+        - NAME@5..6
+            - IDENT@5..6 \"A\"
+        - WHITESPACE@6..7 \" \"
+        - FIELDS_DEFINITION@7..19
+            - L_CURLY@7..8 \"{\"
+            - WHITESPACE@8..9 \" \"
+            - FIELD_DEFINITION@9..17
+                - NAME@9..10
+                    - IDENT@9..10 \"a\"
+                - COLON@10..11 \":\"
+                - WHITESPACE@11..12 \" \"
+                - NON_NULL_TYPE@12..17
+                    - NAMED_TYPE@12..15
+                        - NAME@12..15
+                            - IDENT@12..15 \"Int\"
+                    - WHITESPACE@15..16 \" \"
+                    - BANG@16..17 \"!\"
+            - WHITESPACE@17..18 \" \"
+            - R_CURLY@18..19 \"}\"
+recursion limit: 500, high: 0",
+        ),
+        (
+            "{ a } #c",
+            "- DOCUMENT@0..8
+    - OPERATION_DEFINITION@0..5
+        - SELECTION_SET@0..5
+            - L_CURLY@0..1 \"{\"
+            - WHITESPACE@1..2 \" \"
+            - FIELD@2..3
+                - NAME@2..3
+                    - IDENT@2..3 \"a\"
+            - WHITESPACE@3..4 \" \"
+            - R_CURLY@4..5 \"}\"
+    - WHITESPACE@5..6 \" \"
+    - COMMENT@6..8 \"#c\"
+recursion limit: 500, high: 1",
+        ),
         (
             "type Q { a: [!] }",
             "- DOCUMENT@0..17

@@ -26,7 +26,7 @@ fn takes_only<'t, N: CstNode<'t>>(rt: &impl Abort, own: &[SyntaxKind]) {
 }
 
 #[test]
-fn values_and_types(rt: HostRuntime) {
+fn values_and_types_cast_their_kinds(rt: HostRuntime) {
     takes_only::<Name>(&rt, &[SyntaxKind::NAME]);
     takes_only::<Variable>(&rt, &[SyntaxKind::VARIABLE]);
     takes_only::<EnumValue>(&rt, &[SyntaxKind::ENUM_VALUE]);
@@ -50,7 +50,7 @@ fn values_and_types(rt: HostRuntime) {
 }
 
 #[test]
-fn executable_definitions(rt: HostRuntime) {
+fn executable_definitions_cast_their_kinds(rt: HostRuntime) {
     takes_only::<OperationDefinition>(&rt, &[SyntaxKind::OPERATION_DEFINITION]);
     takes_only::<OperationType>(&rt, &[SyntaxKind::OPERATION_TYPE]);
     takes_only::<VariableDefinitions>(&rt, &[SyntaxKind::VARIABLE_DEFINITIONS]);
@@ -66,7 +66,7 @@ fn executable_definitions(rt: HostRuntime) {
 }
 
 #[test]
-fn type_definitions(rt: HostRuntime) {
+fn type_definitions_cast_their_kinds(rt: HostRuntime) {
     takes_only::<SchemaDefinition>(&rt, &[SyntaxKind::SCHEMA_DEFINITION]);
     takes_only::<RootOperationTypeDefinition>(&rt, &[SyntaxKind::ROOT_OPERATION_TYPE_DEFINITION]);
     takes_only::<ScalarTypeDefinition>(&rt, &[SyntaxKind::SCALAR_TYPE_DEFINITION]);
@@ -87,7 +87,7 @@ fn type_definitions(rt: HostRuntime) {
 }
 
 #[test]
-fn documents_and_extensions(rt: HostRuntime) {
+fn documents_and_extensions_cast_their_kinds(rt: HostRuntime) {
     takes_only::<Document>(&rt, &[SyntaxKind::DOCUMENT]);
     takes_only::<DirectiveDefinition>(&rt, &[SyntaxKind::DIRECTIVE_DEFINITION]);
     takes_only::<DirectiveLocations>(&rt, &[SyntaxKind::DIRECTIVE_LOCATIONS]);
@@ -102,7 +102,7 @@ fn documents_and_extensions(rt: HostRuntime) {
 }
 
 #[test]
-fn choices(rt: HostRuntime) {
+fn choices_cast_their_kinds(rt: HostRuntime) {
     takes_only::<Definition>(
         &rt,
         &[

@@ -1,7 +1,10 @@
 // Operations, selections and fragments.
 use super::{first_field, first_operation};
 use crate::parsing::parse;
-use apollo_parser::cst::{CstNode, Document, InlineFragment, Name, Selection, Type, Variable};
+use apollo_parser::SyntaxKind;
+use apollo_parser::cst::{
+    CstNode, Document, InlineFragment, Name, Selection, SyntaxNodePtr, Type, Variable,
+};
 use std::test::Fail;
 
 // What a selection is called: the name of the field or the fragment, or the type of an inline fragment.
@@ -86,10 +89,29 @@ fn a_query_without_a_keyword(rt: HostRuntime) -> Result<(), Fail> {
 fn a_field_is_cloned(rt: HostRuntime) -> Result<(), Fail> {
     let tree = parse(rt.alloc(), "{ a }")?;
     let field = first_field(tree.document()).expect(&rt, "a field");
+    let range = field.syntax().text_range();
+    assert_eq!(rt; (range.start(), range.end()), (2, 3));
     let copy = field.syntax().clone_subtree(rt.alloc())?;
+    let range = copy.root().text_range();
+    assert!(rt; copy.root().kind().is(SyntaxKind::FIELD));
+    assert_eq!(rt; (range.start(), range.end()), (0, 1));
     assert_eq!(rt; copy.root().text(), "a");
-    assert_eq!(rt; copy.root().text_range().start(), 0);
     assert_eq!(rt; field.syntax().source_string(rt.alloc())?.as_str(), "a");
+    Ok(())
+}
+
+// A pointer finds the node of its kind and its range in another tree.
+#[test]
+fn pointers_are_looked_up_in_other_parses(rt: HostRuntime) -> Result<(), Fail> {
+    let first = parse(rt.alloc(), "{a}")?;
+    let field = first_field(first.document()).expect(&rt, "a field");
+    let pointer = SyntaxNodePtr::new(field.syntax());
+    let other = parse(rt.alloc(), "{b}")?;
+    let found = pointer.to_node(&other.root()).expect(&rt, "a node");
+    assert!(rt; found.kind().is(SyntaxKind::FIELD));
+    assert_eq!(rt; found.text(), "b");
+    let longer = parse(rt.alloc(), "{ab}")?;
+    assert!(rt; pointer.to_node(&longer.root()).is_none());
     Ok(())
 }
 

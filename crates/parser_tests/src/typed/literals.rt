@@ -16,7 +16,7 @@ fn string(alloc: Global, literal: &str) -> Result<Option<String>, AllocError> {
 }
 
 #[test]
-fn quoted_strings(rt: HostRuntime) -> Result<(), Fail> {
+fn quoted_strings_have_their_values(rt: HostRuntime) -> Result<(), Fail> {
     let rows = [
         ("\"\"", ""),
         ("\"simple\"", "simple"),
@@ -44,8 +44,22 @@ fn quoted_strings(rt: HostRuntime) -> Result<(), Fail> {
     Ok(())
 }
 
+// A string of 1,000 letters of two bytes each.
 #[test]
-fn block_strings(rt: HostRuntime) -> Result<(), Fail> {
+fn a_long_string_has_its_value(rt: HostRuntime) -> Result<(), Fail> {
+    let mut letters = String::new(rt.alloc());
+    for _ in 0..1000 {
+        letters.push_str("é")?;
+    }
+    let literal = format!(in rt.alloc(); "\"{letters}\"")?;
+    let read = string(rt.alloc(), literal.as_str())?.expect(&rt, "a string");
+    assert_eq!(rt; read.len(), 2000);
+    assert!(rt; read == letters);
+    Ok(())
+}
+
+#[test]
+fn block_strings_have_their_values(rt: HostRuntime) -> Result<(), Fail> {
     let rows = [
         ("\"\"\"\"\"\"", ""),
         ("\"\"\"\\\"\"\"\"\"\"", "\"\"\""),
@@ -75,7 +89,7 @@ fn integer(alloc: Global, literal: &str) -> Result<Option<Result<i32, LiteralErr
 }
 
 #[test]
-fn integers(rt: HostRuntime) -> Result<(), Fail> {
+fn integers_have_their_values(rt: HostRuntime) -> Result<(), Fail> {
     let rows = [
         ("2147483647", Ok(2147483647)),
         ("-2147483648", Ok(-2147483648)),
@@ -94,7 +108,7 @@ fn integers(rt: HostRuntime) -> Result<(), Fail> {
 }
 
 #[test]
-fn booleans(rt: HostRuntime) -> Result<(), Fail> {
+fn booleans_have_their_values(rt: HostRuntime) -> Result<(), Fail> {
     for (source, truth) in [("{ a(b: true) }", true), ("{ a(b: false) }", false)] {
         let tree = parse(rt.alloc(), source)?;
         let Some(Value::BooleanValue(value)) = first_value(tree.document()) else {
