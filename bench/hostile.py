@@ -15,7 +15,7 @@ TEXTS = {
     "quotes": lambda n: '"' * n,
     "backslashes in a string": lambda n: '"' + "\\" * n + '"',
     "dots": lambda n: "." * n,
-    "commas behind ...": lambda n: "{..." + "," * n + "a}",
+    "commas after ...": lambda n: "{..." + "," * n + "a}",
     "names with commas between": lambda n: "{" + "a," * (n // 2) + "}",
     "[ in a value": lambda n: "{a(b:" + "[" * n + ")}",
     "NUL bytes": lambda n: "\0" * n,
@@ -26,20 +26,24 @@ TEXTS = {
     "-": lambda n: "-" * n,
     "wrapped types": lambda n: ("query(" + "$a:" + "[" * 400 + "T" + "]!" * 400 + "){a}\n") * (n // 1220),
 }
+# Texts that nest deeper than the default limit, and the limit with which they are read: 8 MB of stack hold it (bench/stack.py).
+DEPTH = 10_000
+NESTED_TEXTS = {
+    "nested selections": lambda n: ("{a" * DEPTH + "}" * DEPTH + "\n") * (n // (3 * DEPTH + 1)),
+    "nested list types": lambda n: ("query($a:" + "[" * DEPTH + "T" + "]" * DEPTH + "){a}\n") * (n // (2 * DEPTH + 15)),
+}
 
 
-
-
-def run(program, text):
-    """The seconds that the program takes, and the greatest memory that it held in gigabytes."""
+def run(command, text):
+    """The seconds that the command takes, and the greatest memory that it held in gigabytes."""
     with open(text) as source:
         started = time.perf_counter()
-        process = subprocess.Popen([program, "check"], stdin=source, stdout=subprocess.DEVNULL)
+        process = subprocess.Popen(command, stdin=source, stdout=subprocess.DEVNULL)
         _, _, usage = os.wait4(process.pid, 0)
         return time.perf_counter() - started, usage.ru_maxrss / 1e6
 
 
-def measured(program, folder, make, sizes, rounds, most):
+def measured(command, folder, make, sizes, rounds, most):
     """The least seconds at each size, and the memory at each."""
     texts = []
     for size in sizes:
@@ -53,7 +57,7 @@ def measured(program, folder, make, sizes, rounds, most):
             if turn == 0 and i > 0 and 2 * memory[i - 1] > most:
                 texts = texts[:i]
                 break
-            spent, peak = run(program, path)
+            spent, peak = run(command, path)
             if turn == 0:
                 seconds.append(spent)
                 memory.append(peak)
@@ -68,8 +72,9 @@ def main():
     print("| | " + " | ".join(f"{size / 1e6:g} MB" for size in sizes) + " | times | memory |\n|" + "---|" * (len(sizes) + 3))
     slow = 0
     with tempfile.TemporaryDirectory() as folder:
-        for name, make in TEXTS.items():
-            seconds, memory = measured(sys.argv[1], folder, make, sizes, int(rounds), most)
+        for name, make in (TEXTS | NESTED_TEXTS).items():
+            command = [sys.argv[1], "check", *(["--recursion", str(DEPTH)] if name in NESTED_TEXTS else [])]
+            seconds, memory = measured(command, folder, make, sizes, int(rounds), most)
             times = [after / before for before, after in zip(seconds, seconds[1:])]
             slow += any(ratio > 2.2 for ratio in times)
             cells = [f"{spent:.2f}" for spent in seconds] + [""] * (len(sizes) - len(seconds))
