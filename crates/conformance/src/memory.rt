@@ -15,7 +15,7 @@ type Heap = RefusesOne<Global>;
 struct Attempt {
     // what it gave, in its printed form; nothing when memory was refused
     given: Option<String>,
-    // what stood beside it, printed after the call
+    // what else the call left, printed after it
     beside: String,
 }
 

@@ -1,6 +1,6 @@
 //! Formats texts, and compares what comes out with the layouts that are known.
 //!
-//! The input has records, each with U+001E behind it: the name of a group, a text and its layout, which is empty where none is known, with U+001F
+//! The input has records, each followed by U+001E: the name of a group, a text and its layout, which is empty where none is known, with U+001F
 //! between them. What is formatted is formatted once more, which must change nothing, and its tokens and comments must be those of the text. Each
 //! text that fails is printed, and at the end how many of them came out which way.
 #![tactic(auto)]

@@ -12,7 +12,7 @@ fn lines_of<A: Allocator>(alloc: A, text: &str) -> Result<Vec<&str, A>, AllocErr
     text.split_inclusive('\n').collect(alloc)
 }
 
-// Lines from an index up to another, each behind a sign.
+// Lines from an index up to another, each after a sign.
 fn push_lines<A: Allocator>(
     diff: &mut String<A>,
     sign: char,

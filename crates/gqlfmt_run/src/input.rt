@@ -11,10 +11,10 @@ use crate::showing::shown;
 use gqlcst_run::{Fault, Limits, Sink, Source, read_to_end, write_all};
 use std::alloc::Allocator;
 
-/// The name of standard input in what is told about it.
+/// The name of standard input in messages.
 pub const INPUT: &str = "<stdin>";
 
-/// Reads to the end, formats the whole text in memory, and then writes what the mode shows of it. Errors of the text are told to `complaints`.
+/// Reads to the end, formats the whole text in memory, and then writes what the mode shows of it. Errors of the text go to `complaints`.
 pub fn format_input<A: Allocator + Copy, R: Source, W: Sink, E: Sink>(
     alloc: A,
     reader: &mut R,

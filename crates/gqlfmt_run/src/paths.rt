@@ -12,7 +12,7 @@ use crate::showing::shown;
 use gqlcst_run::{Fault, Limits, Sink, write_all};
 use std::alloc::Allocator;
 
-/// Formats the file at a path: replaces it, or writes what the mode shows of the change. Errors of its text are told to `complaints`.
+/// Formats the file at a path: replaces it, or writes what the mode shows of the change. Errors of its text go to `complaints`.
 pub fn format_file<A: Allocator + Copy, F: Files, W: Sink, E: Sink>(
     alloc: A,
     files: &mut F,

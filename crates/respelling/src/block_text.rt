@@ -1,7 +1,7 @@
 // How a block string is spelled in an indented line. Nothing is promised of it: its caller compares the values.
 use std::alloc::{AllocError, Allocator};
 
-// How many bytes a value of one line may have beside its quotes.
+// How many bytes a value may have that is written in one line with its quotes.
 const MAX_INLINE: usize = 70;
 
 // Whether the text begins with a space or a tab.
@@ -10,7 +10,7 @@ fn begins_white(text: &str) -> bool {
 }
 
 // Whether there is a second line, and each line after the first is empty or indented: then the indent would be lost if the first line began
-// beside the quotes.
+// right after the quotes.
 fn others_are_indented(value: &str) -> bool {
     let mut lines = value.split('\n');
     let _first = lines.next();
@@ -46,8 +46,8 @@ fn push_escaped<A: Allocator>(text: &mut String<A>, line: &str) -> Result<(), Al
     Ok(())
 }
 
-/// A block string with this value, in a line that is indented by so many spaces: beside its quotes if it is short and has one line, else with
-/// each line below the quotes.
+/// A block string with this value, in a line that is indented by so many spaces: in one line with its quotes if it is short and has one line,
+/// else with each line below the quotes.
 pub fn block_text<A: Allocator>(
     alloc: A,
     value: &str,

@@ -55,7 +55,7 @@ fn lex(heap: &Heap, alloc: Global, source: &str, number: u64) -> Result<Attempt,
     })
 }
 
-// The tokens stand beside the errors: after a refusal the lexer gives its further items as before.
+// What else is left is the tokens: after a refusal the lexer gives its further items as before.
 fn make_errors(
     heap: &Heap,
     alloc: Global,
@@ -187,7 +187,7 @@ fn read_string(
     }
 }
 
-// A call over a tree that was parsed with ample memory. The tree stands beside it.
+// A call over a tree that was parsed with ample memory. What else is left is the tree.
 fn use_tree(
     heap: &Heap,
     alloc: Global,

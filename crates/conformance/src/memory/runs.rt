@@ -3,7 +3,7 @@ use super::{Attempt, Heap};
 use gqlcst_run::{Fault, Limits, Mode, StdSink, StdSource, run};
 use std::alloc::{AllocError, Global};
 
-// What was found and written. When memory was refused, what was written all the same stands beside it: that is to be nothing.
+// What was found and written. What else is left is what was written although memory was refused: that is to be nothing.
 pub fn run_once(
     heap: &Heap,
     alloc: Global,
