@@ -31,7 +31,7 @@ abbrev pub all_ends : List State → (ℕ → Bool) → Bool
 all_ends [] t = true
 all_ends (state e x a ∷ more) t = (not e or t x) and all_ends more t
 
--- A test for each thing that a symbol can leave behind.
+-- A test for each exit that a symbol can have.
 unfoldable pub exits : ℕ → (ℕ → Bool) → Bool
 unfolding row_of
 exits k t = cond (is_leaf k) (t 0) (all_ends (row_of k) t)
@@ -70,7 +70,7 @@ every_arc t = every_state (λ s q v. all_arcs (state_arcs v) (t s))
 abbrev pub state_begins : State → ℕ
 state_begins v = arcs_mask (state_arcs v)
 
--- A node that may follow `k` after which the row of `s` stands in the state `v`.
+-- A node that may follow `k` after which the row of `s` is in the state `v`.
 abbrev pub follow_test : ℕ → ℕ → ℕ → Bool
 follow_test s k q = exits k (λ x. subset (state_begins (at s (q + x))) (follow k x) and (not (ends s (q + x)) or subset (follow s (exit s (q + x))) (follow k x)))
 

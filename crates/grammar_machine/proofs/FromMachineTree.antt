@@ -16,7 +16,7 @@ use Rattle.grammar_machine.proofs.Patterns.{deriv, pattern_eq, pattern_of, label
 use Rattle.document_grammar.specs.Kinds.{VARIABLE, NAMED_TYPE, LIST_TYPE, NON_NULL_TYPE, DOCUMENT, SELECTION_SET, DEFAULT_VALUE, FRAGMENT_NAME, ENUM_VALUE}
 use Rattle.grammar_machine.specs.Symbols.{TYPE, BARE_SELECTIONS}
 
--- A type's node stands for its child, or with `!` for a NON_NULL_TYPE.
+-- A type's node is shown as its child, or with `!` as a NON_NULL_TYPE.
 abbrev pub type_of : Forest → Tree
 type_of none = node NON_NULL_TYPE none
 type_of (t ▸ none) = t

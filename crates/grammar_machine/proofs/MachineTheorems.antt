@@ -21,7 +21,7 @@ use Rattle.grammar_machine.specs.Symbols.{TYPE, BARE_SELECTIONS}
 abbrev pub Parse : ℕ → Tree → List Token → Type 0
 Parse s0 t w = Ok t × (root t ≡ s0) × (yield t ≡ w)
 
--- The symbols with which a parse may begin: no leaf, with an end, and with the end mark after it.
+-- The symbols with which a parse may begin: no leaf, with an end, and with the end of the text after it.
 unfoldable pub begins_parse : ℕ → Bool
 begins_parse s0 = not (is_leaf s0) and fillable s0 0 and exits s0 (λ x. holds 0 (follow s0 x))
 

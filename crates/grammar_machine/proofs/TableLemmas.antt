@@ -127,7 +127,7 @@ pub arc-test : (t : ℕ → ℕ → ℕ → Bool) → every_arc t ≡ true → (
 unfolding has target arcs
 arc-test t h s q k l i = arcs-at (arcs s q) (t s) k (state-test (λ s q v. all_arcs (state_arcs v) (t s)) h (λ s q. refl) s q l) i
 
--- What a tree leaves behind.
+-- The exit with which a tree ends.
 ends-at : (l : List State) (t : ℕ → Bool) (q : ℕ) → all_ends l t ≡ true → state_ends (get_or l q dead) ≡ true
     → t (state_exit (get_or l q dead)) ≡ true
 ends-at [] t q h e = absurd (true≢false (sym e))

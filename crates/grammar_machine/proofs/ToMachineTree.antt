@@ -331,7 +331,7 @@ symbol-row-from k j f e b o m = elim (either (eqb k OPERATION_DEFINITION)) [
   ]
 ]
 
--- The children of a document lead through three states, and no query follows in the third, behind a definition without its block.
+-- The children of a document lead through three states, and no query follows in the third, after a definition without its block.
 abbrev FirstNoQuery : Forest → Type 0
 FirstNoQuery none = Unit {0}
 FirstNoQuery (t ▸ f) = IsQuery t → ⊥

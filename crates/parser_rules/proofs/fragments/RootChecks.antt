@@ -77,7 +77,7 @@ follows_part s x q = keeps_to_table rules_deep s at_root_start x any q (part_may
 abbrev pub type_rule : Rule
 type_rule = When (Here type_start) (nullable_type > When (At token.Bang) (Do (Bump kind.BANG)) Skip) no_type_root
 
--- what comes where no type stands: nothing follows the other branch, which does not end
+-- what comes where there is no type: nothing follows the other branch, which does not end
 abbrev pub absent_rule : Rule
 absent_rule = When (Here type_start) (While Ready Skip) no_type_root
 

@@ -72,7 +72,7 @@ none-made s {t = t} {u = u} {v = v} place first f e n run a = subst (λ (z : Sta
 
 -- ---- a type and what follows it
 
--- What stands before the `!`, or is all of the type: as the root's rule ran, and as a node with what follows it.
+-- What comes before the `!`, or is all of the type: as the root's rule ran, and as a node with what follows it.
 pub record Nullable (s : State) (k : SyntaxKind) (u : State) : Type 0 where
   pub starts : true ≡ holds (Here type_start) s
   pub rule : Rule

@@ -1,4 +1,4 @@
--- Where ignored leaves stand: no node but the root begins or ends with one, whatever is reported; and in a tree without reports each is
+-- Where ignored leaves are: no node but the root begins or ends with one, whatever is reported; and in a tree without reports each is
 -- where the text fixes it.
 use Rattle.std.proofs.Common.{◌≡◌, ℕ, Bool, true, false, List, [], ◌∷◌, Some, refl, sym, ap, ◌∙◌, subst, true≢false}
 use Rattle.lexical_grammar.specs.Answers.{Answer}

@@ -1,4 +1,4 @@
--- Where the items behind some of the root's children are those of a document, the later children are its derivation's, and no report is beyond
+-- Where the items after some of the root's children are those of a document, the later children are its derivation's, and no report is beyond
 -- its first token.
 use Rattle.std.proofs.Common.{◌≡◌, ◌≢◌, ℕ, ◌+◌, ◌≤◌, Bool, true, false, true≢false, ◌&&◌, ltb, List, [], ◌∷◌, ◌++◌, length, map, Option, Some, None, refl, sym, ap, ap₂, ◌∙◌, subst, inl, inr, ◌⊎◌, arith, is_some, length-append}
 use Rattle.std.specs.List.{list_all}
@@ -136,7 +136,7 @@ given-sources : (items : List Item) → sources (map gives items) ≡ map source
 given-sources [] = refl
 given-sources (item ∷ items) = ap (λ (v : List Source). source_item item ∷ v) (given-sources items)
 
--- what is left behind so many bytes is of the items there, or none of them is a token
+-- what is left after so many bytes is of the items there, or none of them is a token
 left-there : (place : ℕ) (before : List Item) (i : Item) (more : List Item) (v w : List Source) → CutFrom place (before ++ i ∷ more) → map source_item (before ++ i ∷ more) ≡ v ++ w → length (texts before) ≡ bytes v
     → (map source_item (i ∷ more) ≡ w) ⊎ (tokens_of (i ∷ more) ≡ [])
 left-there place [] i more [] w cut e h = inl e

@@ -1,4 +1,4 @@
--- What holds of a tree with reports, in the words of the definitions: which children a node has, and where tokens that were left over stand.
+-- What holds of a tree with reports, in the words of the definitions: which children a node has, and where tokens are that were left over.
 use Rattle.std.proofs.Common.{◌≡◌, ℕ, zero, suc, ◌+◌, ◌<◌, Bool, true, false, true≢false, ◌&&◌, ◌||◌, cond, eqb, eq-eqb, ne_eqb, List, [], ◌∷◌, ◌++◌, length, None, refl, sym, ap, ap₂, ◌∙◌, subst, arith, length-append}
 use Rattle.std.specs.Prelude.{⊤}
 use Rattle.std.proofs.lemmas.Bool.{and_right}
@@ -46,7 +46,7 @@ module _ (kinds : TokenKind → Bool) where
   none-at place p item [] cut h = rw (ne_eqb item.index p (λ z. omega (arith, z, index-at place [] item [] cut, h))) refl
   none-at place p item (next ∷ more) cut h = rw (ne_eqb item.index p (λ z. omega (arith, z, cut.0, h))) (none-at (place + length item.text) p next more cut.2 (omega (arith, h)))
 
-  -- at the first item's place none begins behind it
+  -- at the first item's place none begins after it
   none-behind : (place : ℕ) (item : Item) (more : List Item) → CutFrom place (item ∷ more) → token_at kinds more place ≡ false
   none-behind place item [] cut = refl
   none-behind place item (next ∷ more) cut = none-at (place + length item.text) place next more cut.2 (omega (arith, item-some item.kind item.text _ cut.1))
@@ -131,7 +131,7 @@ module _ (items : List Item) where
   left-is (token x) own b h = ap (λ (z : Bool). eqb (number own) ERROR && z) (h.2 is_significant_kind ∙ shown-kind x.kind h.1)
   left-is (aside p) own b h = and_right (eqb (number own) ERROR) _ h
 
-  -- the places in a node, and behind it
+  -- the places in a node, and after it
   known-node : (b : ℕ) (kids : TreesWithSources) (w : List Source) → Known_all items b (flat kids ++ w) → Known_all items b (flat kids) × Known_all items (b + length (tree_texts (numbered (erase kids)))) w
   known-node b kids w h = rw (ap length (numbered-text (erase kids)) ∙ text-bytes kids) (known-parts items b (flat kids) w h)
 

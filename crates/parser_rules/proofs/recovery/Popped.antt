@@ -54,7 +54,7 @@ Reported_at errors (Some x) = (m : Message) × Has errors (fault_report m x)
 abbrev pub Allowed : SyntaxKind → TreesWithSources → Type 0
 Allowed k kids = choose (is_list k) (NoBracket kids) (pops_of kids ≤ 1)
 
--- each popped token has its report, and stands where one may
+-- each popped token has its report, and is where one may be
 abbrev pub PoppedReported : List Report → TreesWithSources → Type 0
 PoppedReported errors none = ⊤
 PoppedReported errors (leaf o k rest) = (popped o k ≡ true → Reported_at errors (lexeme_of o)) × PoppedReported errors rest
@@ -307,7 +307,7 @@ sound = record {
 
 -- ---- the document
 
--- A tree that knows its tokens: its leaves are the answers in their order, and popped tokens are reported and stand where they may.
+-- A tree that knows its tokens: its leaves are the answers in their order, and popped tokens are reported, and only where they may be.
 pub record Recovery (xs : List Answer) (s : State) : Type 0 where
   pub trees : TreesWithSources
   pub tree : erase trees ≡ (add_all s.pending s.tree).here

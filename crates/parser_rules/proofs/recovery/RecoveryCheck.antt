@@ -1,4 +1,4 @@
--- The computed checks of a rule that hold whatever is reported: which tokens become ERROR leaves, which symbols stand in a node, and that no
+-- The computed checks of a rule that hold whatever is reported: which tokens become ERROR leaves, which symbols are in a node, and that no
 -- token becomes an ignored leaf.
 use Rattle.std.proofs.Common.{ℕ, ◌∷◌, Bool, true, false, cond, eqb, ltb, not}
 use Rattle.lexical_grammar.specs.declared.TokenKind.TheVariants as token

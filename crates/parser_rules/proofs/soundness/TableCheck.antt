@@ -281,9 +281,9 @@ keeps_to_table zero symbol position now after (Child node) then = false
 keeps_to_table (suc fuel) symbol position now after (Child node) then =
     child_at symbol position now after node then (λ x y then'. keeps_to_table fuel (symbol_of node) at_start x y (inside node) then') (λ x y. keeps_to_table fuel symbol machine_is_stuck x y (inside node) (after_stuck_node then))
 -- where the limit is reached, it is reported; elsewhere a level is entered for the first rule, and left before the second one
-keeps_to_table fuel symbol position now after (Nested within behind) then =
+keeps_to_table fuel symbol position now after (Nested within later) then =
     may_report_limit symbol (with_limit_known position) now
-    and enters_level position (λ p. keeps_to_table fuel symbol p now after within (λ p' x y. level_is_entered p' and keeps_to_table fuel symbol (level_left p') x y behind then))
+    and enters_level position (λ p. keeps_to_table fuel symbol p now after within (λ p' x y. level_is_entered p' and keeps_to_table fuel symbol (level_left p') x y later then))
 keeps_to_table zero symbol position now after (Call part) then = false
 keeps_to_table (suc fuel) symbol position now after (Call part) then = keeps_to_table fuel symbol position now after (body part) then
 -- a type is a node of the machine alone, until a `!` is seen
