@@ -23,8 +23,8 @@ use Rattle.parser_rules.specs.State.{Report, Lexeme, bad_report, token_limit_rep
 use Rattle.parser_rules.specs.Reports.{Reported, no_more, bad_text, token_limit, fault, recursion_limit, passed, is_recursion_limit}
 use Rattle.parser_rules.proofs.reports.AtTheLimit.{found-other}
 use Rattle.parser_rules.proofs.runs.TreesWithSources.{Has, Limited}
-use Rattle.apollo_parser.specs.Promise.{IsLimit, IsTokenLimit, IsRecursionLimit, IsLimitMessage, IsLimitWorded, ErrorsAlong}
-use Rattle.apollo_parser.specs.Promise as promise
+use Rattle.apollo_parser.specs.Parsed.{IsLimit, IsTokenLimit, IsRecursionLimit, IsLimitMessage, IsLimitWorded, ErrorsAlong}
+use Rattle.apollo_parser.specs.Parsed as parsed
 use Rattle.parser_state.specs.Errors.{found_of, IsWorded, IsErrorOf}
 
 pub same-indices : (rs : List Report) (ds : List Diagnostic) → AllZip IsErrorOf rs ds → map (λ (d : Diagnostic). d.index) ds ≡ map (λ (r : Report). r.index) rs
@@ -213,17 +213,17 @@ fault-text m x d i h = subject-is d.subject (at_text x.text) (h.subject ∙ ap (
 
 -- the errors that say the reports of some answers
 pub errors-along : {taken : Bool} {answers : List Answer} {rs : List Report} → Reported taken answers rs → (ds : List Diagnostic) → AllZip IsErrorOf rs ds → ErrorsAlong taken answers ds
-errors-along no_more [] z = promise.no_more
+errors-along no_more [] z = parsed.no_more
 errors-along no_more (d ∷ ds) z = absurd z
 errors-along (bad_text {item = item} e h) (d ∷ ds) z =
-    promise.bad_text e (record { subject = subject-is d.subject (at_text item.text) z.0.subject; index = z.0.index }) z.0.message (errors-along h ds z.1)
+    parsed.bad_text e (record { subject = subject-is d.subject (at_text item.text) z.0.subject; index = z.0.index }) z.0.message (errors-along h ds z.1)
 errors-along (token_limit h) (d ∷ ds) z =
     let about = subject-limit d z.0.subject in
-    promise.token_limit (record { subject = about; index = z.0.index }) (record { subject = about; message = z.0.message }) (errors-along h ds z.1)
+    parsed.token_limit (record { subject = about; index = z.0.index }) (record { subject = about; message = z.0.message }) (errors-along h ds z.1)
 errors-along (fault m {k = k} {item = item} e i h) (d ∷ ds) z =
-    promise.fault m e i (record { subject = subject-here (is_end k) d.subject item.text z.0.subject; index = z.0.index }) (z.0.message ∙ ap (message_text m) (sym z.0.subject)) (errors-along h ds z.1)
+    parsed.fault m e i (record { subject = subject-here (is_end k) d.subject item.text z.0.subject; index = z.0.index }) (z.0.message ∙ ap (message_text m) (sym z.0.subject)) (errors-along h ds z.1)
 errors-along (recursion_limit e i h) (d ∷ ds) z =
     let about = subject-limit d z.0.subject in
-    promise.recursion_limit e i (record { subject = about; index = z.0.index }) (record { subject = about; message = z.0.message }) (errors-along h ds z.1)
-errors-along (passed e h) ds z = promise.passed e (errors-along h ds z)
+    parsed.recursion_limit e i (record { subject = about; index = z.0.index }) (record { subject = about; message = z.0.message }) (errors-along h ds z.1)
+errors-along (passed e h) ds z = parsed.passed e (errors-along h ds z)
 errors-along _ [] z = absurd z

@@ -6,18 +6,18 @@ use Rattle.document_grammar.specs.Places.{Placed, bare}
 use Rattle.parser_rules.specs.Open.{IsRoot}
 use Rattle.parser_rules.proofs.reports.NoReport.{EndsWell, current_tokens, kind_tokens, end-kind}
 use Rattle.parser_rules.proofs.soundness.OverTexts.{accepts-text, accepts-tree, first-report-right, IsRight}
-use Rattle.parser_rules.proofs.soundness.FirstErrors.{not-late, not-early, not-early-limit}
+use Rattle.parser_rules.proofs.soundness.FirstErrors.{not-late as report-not-late, not-early as report-not-early, not-early-limit as report-not-early-limit}
 use Rattle.parser_rules.proofs.soundness.EndedNodes.{ended-nodes}
 use Rattle.parser_rules.proofs.recovery.Popped.{document-recovers}
 use Rattle.parser_rules.proofs.recovery.RowSymbols.{document-rowed}
-use Rattle.parser_rules.proofs.recovery.LeftOver.{all-rowed, left-over}
-use Rattle.parser_rules.proofs.recovery.LaterChildren.{goes-on}
+use Rattle.parser_rules.proofs.recovery.LeftOver.{all-rowed, left-over as run-left-over}
+use Rattle.parser_rules.proofs.recovery.LaterChildren.{goes-on as run-goes-on}
 use Rattle.parser_rules.proofs.soundness.Settled.{EndedFit}
-use Rattle.parser_rules.proofs.recovery.IgnoredPlaces.{placed}
-use Rattle.std.proofs.Common.{inl, inr, ◌≡◌, ◌≢◌, ℕ, Bool, ◌+◌, ◌*◌, ◌<◌, ◌≤◌, arith, min, true, false, List, [], length, map, take, drop, ◌++◌, Option, Some, None, refl, sym, ap, ◌∙◌, subst, ◌∷◌}
+use Rattle.parser_rules.proofs.recovery.IgnoredPlaces.{placed as run-placed}
+use Rattle.std.proofs.Common.{inl, inr, ◌≡◌, ◌≢◌, ℕ, zero, suc, Bool, ◌+◌, ◌-◌, ◌^◌, ◌*◌, ◌<◌, ◌≤◌, arith, min, true, false, List, [], length, map, take, drop, ◌++◌, Option, Some, None, refl, sym, ap, ◌∙◌, subst, ◌∷◌}
 use Rattle.std.specs.List.Sorted.{IsNonDecreasing}
 use Rattle.lexical_grammar.specs.Cut.{Cut, texts, Item}
-use Rattle.lexical_grammar.specs.Reads.{items_of}
+use Rattle.lexical_grammar.specs.Reads.{items_of, items_from, first_item}
 use Rattle.lexical_grammar.specs.Answers.{Answer, limited, usize_max, is_given, is_end}
 use Rattle.lexical_grammar.proofs.Limited.{limited-text, limited-answers, given-within}
 use Rattle.lexical_grammar.proofs.Cuts.{texts-append}
@@ -35,7 +35,8 @@ use Rattle.document_grammar.proofs.Texts.{one-cut, first-sentence}
 use Rattle.grammar_machine.proofs.SentenceTheorems.{one-derivation}
 use Rattle.apollo_lexer.proofs.Law.{limited-length}
 use Rattle.apollo_parser.specs.ByRules.{ByRules}
-use Rattle.apollo_parser.specs.Promise.{Parsed, ErrorsOf, IsRecursionLimit, IsLimitWorded, IsTokenLimit, OfFirst, HasError, IsAbout, Recovers, root_children, IsLimit}
+use Rattle.apollo_parser.specs.Promise.{Promise}
+use Rattle.apollo_parser.specs.Parsed.{Parsed, ErrorsOf, IsRecursionLimit, IsLimitWorded, IsTokenLimit, OfFirst, HasError, IsAbout, Recovers, root_children, IsLimit}
 use Rattle.apollo_lexer.specs.Diagnostics.{Diagnostic, of_text, of_limit}
 use Rattle.parser_state.specs.Errors.{found_of, IsErrorOf}
 use Rattle.apollo_parser.proofs.Errors.{same-indices, same-length, none-said, none-told, token-limit-told, no-recursion, subject-limit, any-recursion, ascii-messages, limited-ascii, limit-worded, any-limit, any-said, fault-text, errors-along}
@@ -51,12 +52,13 @@ use Rattle.parser_rules.proofs.reports.PastTheLimit.{limit-reported}
 use Rattle.parser_rules.proofs.reports.Endings.{ends-well}
 use Rattle.parser_rules.proofs.runs.Frame.{root-kept, root-stays, begun-nesting, begun-asked}
 use Rattle.parser_rules.proofs.leaves.OneLeaf.{document-leaves, document-over, document-read, leaves-text}
-use Rattle.parser_rules.proofs.reports.InOrder.{in-order}
-use Rattle.parser_rules.proofs.nesting.Nesting.{nesting}
+use Rattle.parser_rules.proofs.reports.InOrder.{in-order as run-in-order}
+use Rattle.parser_rules.proofs.nesting.Nesting.{nesting as run-nesting}
+use Rattle.parser_rules.proofs.nesting.LevelTokens.{levels-within}
 use Rattle.parser_rules.proofs.sizes.Sizes.{Sized, document-sized, finished-count}
 use Rattle.apollo_tree.specs.Order.{order}
 use Rattle.apollo_tree.proofs.Places.{length-order}
-use Rattle.parser_rules.proofs.soundness.Soundness.{sound, clean}
+use Rattle.parser_rules.proofs.soundness.Soundness.{sound as run-sound, clean}
 use Rattle.parser_rules.proofs.reports.AlongItems.{reported}
 use Rattle.document_grammar.specs.Forests as built
 use Rattle.parser_rules.proofs.runs.TreesWithSources.{reports-along, Has, Limited, limited-later, taken-or-limited}
@@ -98,6 +100,23 @@ all-given-by (token_limit {reports = rs} h) n = absurd (n (_, refl, record { bef
 all-given-by (fault m {reports = rs} i j h) n = all-given-by h (λ l. n (limited-later (_ ∷ []) rs l))
 all-given-by (recursion_limit {reports = rs} i j h) n = absurd (n (_, refl, record { before = []; after = rs; split = refl }))
 all-given-by (passed i h) n = all-given-by h n
+
+-- an item but the end takes a byte
+few-from : (place inside : ℕ) (source : List ℕ) → length (items_from place inside source) ≤ length source + 1
+unfolding items_from
+few-from place inside [] = omega arith
+few-from place (suc inside) (b ∷ bs) = let h = few-from (1 + place) inside bs in omega (arith, h)
+few-from place zero (b ∷ bs) = let h = few-from (1 + place) ((first_item (b ∷ bs)).1 - 1) bs in omega (arith, h)
+
+-- So there are fewer answers than a `usize` counts.
+pub few-answers : (k : ℕ) (source : List ℕ) → length source < 2 ^ 63 → length (answers k source) + 1 < usize_max
+few-answers k source short =
+    let l = limited-length k (items_of source) in
+    let f = few-from 0 0 source in
+    omega (arith, l, f, short)
+
+pub below-cap : (r high : ℕ) {n : ℕ} → min (r + 1) usize_max ≤ high → high ≤ n → n < usize_max → r + 1 ≤ high
+below-cap r high a b c = omega (arith, a, b, c)
 
 -- ---- a parse
 
@@ -152,14 +171,17 @@ module _ {source : List ℕ} {r k : ℕ} {t : Parsed} (p : ByRules source r k t)
   pub recursion : (t.recursion_limit.current ≡ 0) × (t.recursion_limit.limit ≡ r) × (t.recursion_limit.high ≤ r + 1)
   recursion = rw p.recursion_limit (begun-nesting xs r kind.DOCUMENT p.run)
 
-  pub nested : nest (tree_of t.tree) ≤ t.recursion_limit.high
-  nested = let c = rw p.tree at p.counted in rw (p.tree, p.recursion_limit) (nesting xs r s p.run (omega (arith, c)))
+  pub nesting : nest (tree_of t.tree) ≤ t.recursion_limit.high
+  nesting = let c = rw p.tree at p.counted in rw (p.tree, p.recursion_limit) (run-nesting xs r s p.run (omega (arith, c)))
 
   pub tokens : (t.token_limit.limit ≡ k) × (t.token_limit.high ≡ min (length items) (k + 1))
   tokens = rw p.token_limit (refl, begun-asked xs r kind.DOCUMENT p.run ∙ limited-length k items)
 
-  pub limit-met : Any IsRecursionLimit t.errors → min (r + 1) usize_max ≤ t.recursion_limit.high
-  limit-met h = rw p.recursion_limit (asked-past xs r kind.DOCUMENT p.run (any-recursion s.errors t.errors p.errors h))
+  -- each level takes a token, so there are fewer than a `usize` counts
+  pub limit-met : Any IsRecursionLimit t.errors → r + 1 ≤ t.recursion_limit.high
+  limit-met h =
+      let past = asked-past xs r kind.DOCUMENT p.run (any-recursion s.errors t.errors p.errors h) in
+      rw p.recursion_limit (below-cap r s.high past (levels-within xs r s p.run) (let f = few-answers k source p.short in omega (arith, f)))
 
   pub past-limit : r < t.recursion_limit.high → Any IsLimit t.errors
   past-limit more =
@@ -172,8 +194,8 @@ module _ {source : List ℕ} {r k : ℕ} {t : Parsed} (p : ByRules source r k t)
   all-sized : Sized (min (length items) k) s
   all-sized = document-sized k items r s p.run
 
-  pub element-count : length (order t.tree) ≤ 5 * min (length items) k + 1
-  element-count = rw p.tree (let e = length-order 0 0 None (finished s) in let f = finished-count s in let b = all-sized.elements in omega (arith, e, f, b))
+  pub elements : length (order t.tree) ≤ 5 * min (length items) k + 1
+  elements = rw p.tree (let e = length-order 0 0 None (finished s) in let f = finished-count s in let b = all-sized.elements in omega (arith, e, f, b))
 
   pub error-count : length t.errors ≤ 3 * min (length items) k + 1
   error-count = let e = same-length s.errors t.errors p.errors in let b = all-sized.reports in omega (arith, e, b)
@@ -183,26 +205,26 @@ module _ {source : List ℕ} {r k : ℕ} {t : Parsed} (p : ByRules source r k t)
   pub errors : ErrorsOf xs t.errors
   errors = errors-along in-answers t.errors p.errors
 
-  pub ascii_messages : IsAscii source → All (λ e. IsAscii e.message) t.errors
-  ascii_messages h = ascii-messages t.errors in-answers (limited-ascii k items (rw p.cut.joined h)) p.errors
+  pub ascii : IsAscii source → All (λ e. IsAscii e.message) t.errors
+  ascii h = ascii-messages t.errors in-answers (limited-ascii k items (rw p.cut.joined h)) p.errors
 
-  pub limit-words : All IsLimitWorded t.errors
-  limit-words = limit-worded t.errors in-answers p.errors
+  pub limit-messages : All IsLimitWorded t.errors
+  limit-messages = limit-worded t.errors in-answers p.errors
 
-  pub ordered : IsNonDecreasing (map (λ e. e.index) t.errors)
-  ordered = subst IsNonDecreasing (sym same-places) (in-order k source items p.cut in-answers)
+  pub in-order : IsNonDecreasing (map (λ e. e.index) t.errors)
+  in-order = subst IsNonDecreasing (sym same-places) (run-in-order k source items p.cut in-answers)
 
   -- ---- no errors, and acceptance
 
-  pub sound-tree : t.errors ≡ [] → Sentence source (bare (tree_of t.tree)) document × Within source (bare (tree_of t.tree)) r k
-  sound-tree nil = let c = sound r k source items s no-end (λ tokens. p.cut) root (silent nil) p.run in rw p.tree (c.sentence, c.within)
+  pub sound : t.errors ≡ [] → Sentence source (bare (tree_of t.tree)) document × Within source (bare (tree_of t.tree)) r k
+  sound nil = let c = run-sound r k source items s no-end (λ tokens. p.cut) root (silent nil) p.run in rw p.tree (c.sentence, c.within)
 
   pub accepts : (u : Tree) → Sentence source u document → Within source u r k → t.errors ≡ []
   accepts u h n = none-told s.errors t.errors p.errors (accepts-text r k source items s p.cut root p.run u h n)
 
   pub only-derivation : t.errors ≡ [] → OnlyDerivation items (bare (tree_of t.tree)) × (t.recursion_limit.high ≡ nest (bare (tree_of t.tree)))
   only-derivation nil =
-      let h = (sound-tree nil).0 in
+      let h = (sound nil).0 in
       let same : h.items ≡ items = one-cut source h.items items h.cut p.cut h.tokens in
       let yield : Yield (bare (tree_of t.tree)) ≡ tokens_of items = h.yield ∙ ap tokens_of same in (
         (λ u d. one-derivation document (tokens_of items) u (bare (tree_of t.tree)) d (h.derivation, yield)),
@@ -213,8 +235,8 @@ module _ {source : List ℕ} {r k : ℕ} {t : Parsed} (p : ByRules source r k t)
   pub still-a-sentence : (u : Tree) → FirstSentence source u document → Within source u r k → (t.errors ≡ []) × (bare (tree_of t.tree) ≡ u)
   still-a-sentence u h n = let i = first-sentence source u document h in (accepts u i n, rw p.tree (accepts-tree r k source items s p.cut root p.run u i n))
 
-  pub placed-leaves : t.errors ≡ [] → Placed (tree_of t.tree)
-  placed-leaves nil = rw p.tree (placed r xs s no-end root (silent nil) p.run)
+  pub placed : t.errors ≡ [] → Placed (tree_of t.tree)
+  placed nil = rw p.tree (run-placed r xs s no-end root (silent nil) p.run)
 
   -- ---- the first error
 
@@ -228,26 +250,26 @@ module _ {source : List ℕ} {r k : ℕ} {t : Parsed} (p : ByRules source r k t)
       on [] (d ∷ ds) e z = absurd z
       on (first ∷ rs) (d ∷ ds) e z = let i = first-report-right r k source items s p.cut root p.run p.characters first rs e in h first d z.0 i.0 i.1
 
-  pub not-late-of : OfFirst (λ e. (IsTokenLimit e → ⊥) → NotLate source e.index) t.errors
-  not-late-of = of-first (λ d. (IsTokenLimit d → ⊥) → NotLate source d.index)
-      (λ e d z i f n. subst (NotLate source) (sym z.index) (not-late p.cut i (λ m j. n (token-limit-told m e d j z))))
+  pub not-late : OfFirst (λ e. (IsTokenLimit e → ⊥) → NotLate source e.index) t.errors
+  not-late = of-first (λ d. (IsTokenLimit d → ⊥) → NotLate source d.index)
+      (λ e d z i f n. subst (NotLate source) (sym z.index) (report-not-late p.cut i (λ m j. n (token-limit-told m e d j z))))
 
-  pub not-early-of : OfFirst (λ e. e.subject ≢ of_limit → NotEarly k items e.index) t.errors
-  not-early-of = of-first (λ d. d.subject ≢ of_limit → NotEarly k items d.index)
-      (λ e d z i f n. subst (NotEarly k items) (sym z.index) (not-early p.cut i (λ j. n (subject-limit d (z.subject ∙ j)))))
+  pub not-early : OfFirst (λ e. e.subject ≢ of_limit → NotEarly k items e.index) t.errors
+  not-early = of-first (λ d. d.subject ≢ of_limit → NotEarly k items d.index)
+      (λ e d z i f n. subst (NotEarly k items) (sym z.index) (report-not-early p.cut i (λ j. n (subject-limit d (z.subject ∙ j)))))
 
-  pub not-early-limit-of : OfFirst (λ e. IsRecursionLimit e → NotEarlyLimit r items e.index) t.errors
-  not-early-limit-of = of-first (λ d. IsRecursionLimit d → NotEarlyLimit r items d.index)
-      (λ e d z i f n. subst (NotEarlyLimit r items) (sym z.index) (not-early-limit p.cut i (sym z.subject ∙ ap found_of n.subject) (λ m j. no-recursion m e d j z n)))
+  pub not-early-limit : OfFirst (λ e. IsRecursionLimit e → NotEarlyLimit r items e.index) t.errors
+  not-early-limit = of-first (λ d. IsRecursionLimit d → NotEarlyLimit r items d.index)
+      (λ e d z i f n. subst (NotEarlyLimit r items) (sym z.index) (report-not-early-limit p.cut i (sym z.subject ∙ ap found_of n.subject) (λ m j. no-recursion m e d j z n)))
 
-  pub ended-nodes-of : OfFirst (λ e. EndedNodesFit items e.index (tree_of t.tree)) t.errors
-  ended-nodes-of = of-first (λ d. EndedNodesFit items d.index (tree_of t.tree))
+  pub ended-nodes-fit : OfFirst (λ e. EndedNodesFit items e.index (tree_of t.tree)) t.errors
+  ended-nodes-fit = of-first (λ d. EndedNodesFit items d.index (tree_of t.tree))
       (λ e d z i f. rw (z.index, p.tree) (ended-nodes (finished s) p.cut i (run-leaves k r source s p.cut p.run) f))
 
   -- ---- after errors
 
-  pub all-rowed-of : Rowed (tree_of t.tree)
-  all-rowed-of = rw one-tree (all-rowed DOCUMENT kids (document-rowed r xs s p.run))
+  pub row-symbols : Rowed (tree_of t.tree)
+  row-symbols = rw one-tree (all-rowed DOCUMENT kids (document-rowed r xs s p.run))
 
   -- where no limit is met
   module _ (n : Any IsLimit t.errors → ⊥) where
@@ -255,20 +277,52 @@ module _ {source : List ℕ} {r k : ℕ} {t : Parsed} (p : ByRules source r k t)
     none-met l = n (any-limit s.errors t.errors p.errors l)
 
     -- each token that was left over has its error, and is where one may be
-    left-over-of : LeftOver (HasError t.errors) items 0 (children_of (tree_of t.tree))
-    left-over-of = rw one-tree (left-over source k items s p.cut (HasError t.errors) has (document-recovers r xs s no-end p.run none-met))
+    left-over : LeftOver (HasError t.errors) items 0 (children_of (tree_of t.tree))
+    left-over = rw one-tree (run-left-over source k items s p.cut (HasError t.errors) has (document-recovers r xs s no-end p.run none-met))
       where
         has : (m : Message) (x : Lexeme) → is_end x.kind ≡ false → Has s.errors (fault_report m x) → HasError t.errors x.index x.text
         has m x some h = any-said (IsAbout (of_text x.text) x.index) s.errors t.errors (fault_report m x) h (λ d z. record { subject = fault-text m x d some z; index = z.index }) p.errors
 
     -- where what follows a child of the root is a document of its own, the later children are its derivation's, and no error is beyond its first token
-    goes-on-of : GoesOn r items (map (λ e. e.index) t.errors) (root_children t.tree)
-    goes-on-of front later a u same whole spells nests =
+    goes-on : GoesOn r items (map (λ e. e.index) t.errors) (root_children t.tree)
+    goes-on front later a u same whole spells nests =
         let count : length items ≤ k = given-within k items (all-given-by in-answers none-met) in
         let taken : s.accepts ≡ true = elim (taken-or-limited xs r kind.DOCUMENT s (along reports-along p.run)) [ inl y ↦ y | inr l ↦ absurd (none-met l) ] in
         let here : kids ≡ built.join front later = sym (ap root_children one-tree) ∙ same in
-        let g = goes-on r k source items s p.cut p.run count taken read (over-tokens s.current (document-over p.run)) front later a u here whole spells nests in
+        let g = run-goes-on r k source items s p.cut p.run count taken read (over-tokens s.current (document-over p.run)) front later a u here whole spells nests in
         (g.0, subst (NoneBeyond (a.item ∷ a.more)) (sym same-places) g.1)
 
-  pub recovers-of : (Any IsLimit t.errors → ⊥) → Recovers r items t
-  recovers-of n = record { left_over = left-over-of n; row_symbols = all-rowed-of; goes_on = goes-on-of n }
+  pub recovers : (Any IsLimit t.errors → ⊥) → Recovers r items t
+  recovers n = record { left_over = left-over n; row_symbols = row-symbols; goes_on = goes-on n }
+
+-- ---- all of it
+
+pub promise : {source : List ℕ} {r k : ℕ} {t : Parsed} → ByRules source r k t → Promise source r k t
+promise p = record {
+  cut = p.cut;
+  sound = sound p;
+  accepts = accepts p;
+  only_derivation = only-derivation p;
+  still_a_sentence = still-a-sentence p;
+  lossless = lossless p;
+  one_document = one-document p;
+  one_leaf = one-leaf p;
+  elements = elements p;
+  placed = placed p;
+  recursion = recursion p;
+  limit_met = limit-met p;
+  past_limit = past-limit p;
+  nesting = nesting p;
+  tokens = tokens p;
+  errors = errors p;
+  error_count = error-count p;
+  limit_messages = limit-messages p;
+  ascii = ascii p;
+  in_order = in-order p;
+  not_late = not-late p;
+  not_early = not-early p;
+  not_early_limit = not-early-limit p;
+  ended_nodes_fit = ended-nodes-fit p;
+  row_symbols = row-symbols p;
+  recovers = recovers p;
+}

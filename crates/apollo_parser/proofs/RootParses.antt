@@ -7,7 +7,7 @@ use Rattle.std.proofs.lemmas.List.{take-append-drop}
 use Rattle.std.proofs.Math.Seq.{take-append_seam}
 use Rattle.lexical_grammar.specs.Cut.{Cut, texts}
 use Rattle.lexical_grammar.specs.Reads.{items_of}
-use Rattle.lexical_grammar.specs.Answers.{Answer, gives, limit_at, answer_text, answers_text, usize_max}
+use Rattle.lexical_grammar.specs.Answers.{Answer, gives, limit_at, answer_text, answers_text}
 use Rattle.lexical_grammar.proofs.Limited.{limited-text}
 use Rattle.lexical_grammar.proofs.Cuts.{texts-append}
 use Rattle.document_grammar.specs.declared.kind.SyntaxKind.{SyntaxKind}
@@ -19,7 +19,6 @@ use Rattle.document_grammar.specs.Forests.{Forest, none, node, text, count}
 use Rattle.document_grammar.specs.Numbered.{tree_of}
 use Rattle.document_grammar.specs.Leaves.{leaves}
 use Rattle.apollo_lexer.specs.declared.limit.LimitTracker.{LimitTracker}
-use Rattle.apollo_lexer.specs.Diagnostics.{of_limit}
 use Rattle.apollo_lexer.proofs.Law.{limited-length}
 use Rattle.parser_rules.specs.State.{State, finished}
 use Rattle.parser_rules.specs.Fragments.{started, left_out}
@@ -27,9 +26,10 @@ use Rattle.parser_rules.specs.RuleLanguage.{Rule}
 use Rattle.parser_rules.specs.Runs.{Runs}
 use Rattle.parser_rules.proofs.reports.Endings.{ends-well}
 use Rattle.parser_rules.proofs.reports.PastTheLimit.{root-limited}
-use Rattle.parser_rules.proofs.leaves.OneLeaf as one_leaf
+use Rattle.parser_rules.proofs.leaves.OneLeaf as run_leaves
 use Rattle.parser_rules.proofs.leaves.OneLeaf.{root-leaves, joined, text-leaves}
 use Rattle.parser_rules.proofs.nesting.Nesting.{root-nesting}
+use Rattle.parser_rules.proofs.nesting.LevelTokens.{root-levels-within}
 use Rattle.parser_rules.proofs.fragments.RootChecks.{RootRule}
 use Rattle.parser_rules.proofs.fragments.PartTexts.{IsSoundPart}
 use Rattle.parser_rules.proofs.fragments.RootRuns.{root-above, levels-left, all-asked, limit-passed, front-reported, ordered-front}
@@ -37,11 +37,12 @@ use Rattle.parser_rules.proofs.sizes.Sizes.{Sized, finished-count}
 use Rattle.apollo_tree.specs.Order.{order}
 use Rattle.apollo_tree.proofs.Places.{length-order}
 use Rattle.apollo_parser.specs.ByRules.{ByRootRule}
-use Rattle.apollo_parser.specs.Promise.{Parsed, IsRecursionLimit, IsLimitWorded}
+use Rattle.apollo_parser.specs.Promise.{PartPromise}
+use Rattle.apollo_parser.specs.Parsed.{Parsed, IsLimit, IsRecursionLimit, IsLimitWorded}
 use Rattle.apollo_parser.specs.Parts.{FirstLeaves, FirstErrors}
 use Rattle.apollo_parser.proofs.Errors.{AllTexts, none-said, none-told, same-indices, same-length, any-recursion, ascii-messages, limited-ascii, limit-worded, any-limit, errors-along}
 use Rattle.apollo_parser.proofs.Roots.{finished-node}
-use Rattle.apollo_parser.proofs.Parses.{answers}
+use Rattle.apollo_parser.proofs.Parses.{answers, below-cap, few-answers}
 
 text-append : (xs ys : List Answer) → answers_text (xs ++ ys) ≡ answers_text xs ++ answers_text ys
 text-append [] ys = refl
@@ -57,7 +58,7 @@ module _ {q : Rule} (j : SyntaxKind) (k r : ℕ) (source : List ℕ) (s : State)
   root-is = finished-node (left_out s) j (root-above (answers k source) r j run)
 
   module _ (passes : RootRule j q) where
-    first : one_leaf.FirstLeaves (answers k source) (leaves s.tree.here)
+    first : run_leaves.FirstLeaves (answers k source) (leaves s.tree.here)
     first = root-leaves (answers k source) r j passes.leaves run
 
     leaves-are : leaves (finished (left_out s)) ≡ leaves s.tree.here
@@ -86,75 +87,99 @@ module _ {q : Rule} (j : SyntaxKind) (k r : ℕ) (source : List ℕ) (s : State)
 -- ---- a parse
 
 module _ {j : SyntaxKind} {q : Rule} {source : List ℕ} {r k : ℕ} {t : Parsed} (p : ByRootRule j q source r k t) where
-  pub part-root : (kids : Forest) × (t.tree ≡ node j kids none)
-  part-root = (p.last.tree.here, p.tree ∙ root-is j k r source p.last p.run)
+  pub one-root : (kids : Forest) × (t.tree ≡ node j kids none)
+  one-root = (p.last.tree.here, p.tree ∙ root-is j k r source p.last p.run)
 
-  pub part-recursion : (t.recursion_limit.current ≡ 0) × (t.recursion_limit.limit ≡ r) × (t.recursion_limit.high ≤ r + 1)
-  part-recursion = subst (λ (l : LimitTracker). (l.current ≡ 0) × (l.limit ≡ r) × (l.high ≤ r + 1)) (sym p.recursion_limit) (levels-left (answers k source) r j p.run)
+  recursion : (t.recursion_limit.current ≡ 0) × (t.recursion_limit.limit ≡ r) × (t.recursion_limit.high ≤ r + 1)
+  recursion = subst (λ (l : LimitTracker). (l.current ≡ 0) × (l.limit ≡ r) × (l.high ≤ r + 1)) (sym p.recursion_limit) (levels-left (answers k source) r j p.run)
 
-  pub part-limit-met : Any IsRecursionLimit t.errors → min (r + 1) usize_max ≤ t.recursion_limit.high
-  part-limit-met h =
-      subst (λ (l : LimitTracker). min (r + 1) usize_max ≤ l.high) (sym p.recursion_limit) (limit-passed (answers k source) r j p.run (any-recursion p.last.errors t.errors p.errors h))
-
-  pub part-tokens : (t.token_limit.limit ≡ k) × (t.token_limit.high ≤ min (length (items_of source)) (k + 1))
-  part-tokens =
+  tokens : (t.token_limit.limit ≡ k) × (t.token_limit.high ≤ min (length (items_of source)) (k + 1))
+  tokens =
       let a = all-asked (answers k source) r j p.run ∙ limited-length k (items_of source) in
       let h = p.token_limit.2 in
       (p.token_limit.1, omega (arith, a, h))
 
   -- as large as what the run built and reported
   module _ (sized : Sized (min (length (items_of source)) k) p.last) where
-    pub part-elements : length (order t.tree) ≤ 5 * min (length (items_of source)) k + 1
-    part-elements = rw p.tree (let e = length-order 0 0 None (finished (left_out p.last)) in let f = finished-count (left_out p.last) in let b = sized.elements in omega (arith, e, f, b))
+    elements : length (order t.tree) ≤ 5 * min (length (items_of source)) k + 1
+    elements = rw p.tree (let e = length-order 0 0 None (finished (left_out p.last)) in let f = finished-count (left_out p.last) in let b = sized.elements in omega (arith, e, f, b))
 
-    pub part-error-count : length t.errors ≤ 3 * min (length (items_of source)) k + 1
-    part-error-count = let e = same-length p.last.errors t.errors p.errors in let b = sized.reports in omega (arith, e, b)
+    error-count : length t.errors ≤ 3 * min (length (items_of source)) k + 1
+    error-count = let e = same-length p.last.errors t.errors p.errors in let b = sized.reports in omega (arith, e, b)
 
-  pub part-errors : FirstErrors (answers k source) t.errors
-  part-errors = let f = front-reported (answers k source) r j p.run in record { front = f.front; back = f.back; split = f.split; errors = errors-along f.reported t.errors p.errors }
+  errors : FirstErrors (answers k source) t.errors
+  errors = let f = front-reported (answers k source) r j p.run in record { front = f.front; back = f.back; split = f.split; errors = errors-along f.reported t.errors p.errors }
 
-  pub part-limit-words : All IsLimitWorded t.errors
-  part-limit-words = limit-worded t.errors (front-reported (answers k source) r j p.run).reported p.errors
+  limit-messages : All IsLimitWorded t.errors
+  limit-messages = limit-worded t.errors (front-reported (answers k source) r j p.run).reported p.errors
 
-  pub part-ascii : IsAscii source → All (λ e. IsAscii e.message) t.errors
-  part-ascii h =
+  ascii : IsAscii source → All (λ e. IsAscii e.message) t.errors
+  ascii h =
       let f = front-reported (answers k source) r j p.run in
       let all : AllTexts IsAscii (f.front ++ f.back) = subst (AllTexts IsAscii) f.split (limited-ascii k (items_of source) (rw p.cut.joined h)) in
       ascii-messages t.errors f.reported (texts-front IsAscii f.front f.back all) p.errors
 
-  pub part-in-order : IsNonDecreasing (map (λ e. e.index) t.errors)
-  part-in-order = subst IsNonDecreasing (sym (same-indices p.last.errors t.errors p.errors)) (ordered-front k source (items_of source) r j p.run p.cut)
+  in-order : IsNonDecreasing (map (λ e. e.index) t.errors)
+  in-order = subst IsNonDecreasing (sym (same-indices p.last.errors t.errors p.errors)) (ordered-front k source (items_of source) r j p.run p.cut)
 
   module _ (passes : RootRule j q) where
-    pub part-begins : take (length (text t.tree)) source ≡ text t.tree
-    part-begins = subst (λ f. take (length (text f)) source ≡ text f) (sym p.tree) (root-begins j k r source p.last p.run passes p.cut)
+    limit-met : Any IsRecursionLimit t.errors → r + 1 ≤ t.recursion_limit.high
+    limit-met h =
+        let xs = answers k source in
+        let past = limit-passed xs r j p.run (any-recursion p.last.errors t.errors p.errors h) in
+        subst (λ (l : LimitTracker). r + 1 ≤ l.high) (sym p.recursion_limit) (below-cap r p.last.high past (root-levels-within xs r j p.last passes.tokens p.run) (few-answers k source p.short))
 
-    pub part-leaves : FirstLeaves (answers k source) (leaves t.tree)
-    part-leaves = subst (λ f. FirstLeaves (answers k source) (leaves f)) (sym p.tree) (root-first j k r source p.last p.run passes)
+    beginning : take (length (text t.tree)) source ≡ text t.tree
+    beginning = subst (λ f. take (length (text f)) source ≡ text f) (sym p.tree) (root-begins j k r source p.last p.run passes p.cut)
 
-    pub part-nested : nest (tree_of t.tree) ≤ t.recursion_limit.high
-    part-nested =
+    one-leaf : FirstLeaves (answers k source) (leaves t.tree)
+    one-leaf = subst (λ f. FirstLeaves (answers k source) (leaves f)) (sym p.tree) (root-first j k r source p.last p.run passes)
+
+    nesting : nest (tree_of t.tree) ≤ t.recursion_limit.high
+    nesting =
         subst (λ f. nest (tree_of f) ≤ t.recursion_limit.high) (sym p.tree)
         (subst (λ (l : LimitTracker). nest (tree_of (finished (left_out p.last))) ≤ l.high) (sym p.recursion_limit)
         (root-nested j k r source p.last p.run passes (subst (λ f. count f < 2 ^ 64) p.tree p.counted)))
 
-    pub part-past-limit : r < t.recursion_limit.high → Any (λ e. e.subject ≡ of_limit) t.errors
-    part-past-limit more =
+    past-limit : r < t.recursion_limit.high → Any IsLimit t.errors
+    past-limit more =
         let limit : p.last.limit ≡ r = (levels-left (answers k source) r j p.run).1 in
         let high : r < p.last.high = subst (λ (l : LimitTracker). r < l.high) p.recursion_limit more in
         any-limit p.last.errors t.errors p.errors
         (root-limited r (answers k source) j p.last (ends-well k 0 (items_of source) p.cut.each) passes.limits p.run (subst (λ (n : ℕ). n < p.last.high) (sym limit) high))
 
   -- without errors, the tree's text is a sentence, and the tree its derivation
-  pub part-sentence : (sort : Sort) → (p.last.errors ≡ [] → IsSoundPart sort r p.last)
+  sound : (sort : Sort) → (p.last.errors ≡ [] → IsSoundPart sort r p.last)
       → t.errors ≡ [] → Sentence (text t.tree) (bare (tree_of t.tree)) sort × (nest (bare (tree_of t.tree)) ≤ r) × (t.recursion_limit.high ≡ nest (bare (tree_of t.tree)))
-  part-sentence sort sound nil =
-      let c = sound (none-said p.last.errors t.errors p.errors nil) in
+  sound sort right nil =
+      let c = right (none-said p.last.errors t.errors p.errors nil) in
       rw (p.tree, p.recursion_limit) (c.sentence, c.nesting, c.high)
 
   -- a sentence within both limits has no errors, and the tree is its derivation
-  pub part-accepts : (sort : Sort) → ((u : Tree) → Sentence source u sort → Within source u r k → (p.last.errors ≡ []) × (bare (tree_of (finished (left_out p.last))) ≡ u))
+  accepts : (sort : Sort) → ((u : Tree) → Sentence source u sort → Within source u r k → (p.last.errors ≡ []) × (bare (tree_of (finished (left_out p.last))) ≡ u))
       → (u : Tree) → Sentence source u sort → Within source u r k → (t.errors ≡ []) × (bare (tree_of t.tree) ≡ u)
-  part-accepts sort accepts u h n =
-      let c = accepts u h n in
+  accepts sort accepted u h n =
+      let c = accepted u h n in
       (none-told p.last.errors t.errors p.errors c.0, rw p.tree c.1)
+
+  -- all of it
+  pub promise : RootRule j q → Sized (min (length (items_of source)) k) p.last → (sort : Sort) → (p.last.errors ≡ [] → IsSoundPart sort r p.last)
+      → ((u : Tree) → Sentence source u sort → Within source u r k → (p.last.errors ≡ []) × (bare (tree_of (finished (left_out p.last))) ≡ u)) → PartPromise sort source r k t
+  promise passes sized sort right accepted = record {
+    cut = p.cut;
+    sound = sound sort right;
+    accepts = accepts sort accepted;
+    beginning = beginning passes;
+    one_leaf = one-leaf passes;
+    elements = elements sized;
+    recursion = recursion;
+    limit_met = limit-met passes;
+    past_limit = past-limit passes;
+    nesting = nesting passes;
+    tokens = tokens;
+    errors = errors;
+    error_count = error-count sized;
+    limit_messages = limit-messages;
+    ascii = ascii;
+    in_order = in-order;
+  }

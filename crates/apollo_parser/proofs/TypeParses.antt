@@ -15,9 +15,9 @@ use Rattle.parser_rules.specs.Rules.{type_start}
 use Rattle.parser_rules.specs.Fragments.{unopened, IsTypeRoot, a_list, a_name, not_null, no_type}
 use Rattle.parser_rules.proofs.runs.Reading.{Reading, stops, cuts, bad_text, waits, shows, reading}
 use Rattle.apollo_parser.specs.ByRules.{ByTypeRule}
-use Rattle.apollo_parser.specs.Promise.{Parsed}
+use Rattle.apollo_parser.specs.Parsed.{Parsed}
 use Rattle.apollo_parser.specs.Parts.{first_kind, starts_type, IsTypeKind, of_name, of_bracket, with_bang, no_start, OneType}
-use Rattle.apollo_parser.proofs.RootParses.{part-root}
+use Rattle.apollo_parser.proofs.RootParses.{one-root}
 use Rattle.apollo_parser.proofs.Parses.{answers}
 
 -- ---- the first token
@@ -84,5 +84,5 @@ type-rooted (no_type e) = refl
 
 pub one-type : {source : List ℕ} {r k : ℕ} {t : Parsed} → ByTypeRule source r k t → OneType (first_kind (answers k source)) t.tree
 one-type {source = source} {r = r} {k = k} p =
-    let (kids, is) = part-root p.root in
+    let (kids, is) = one-root p.root in
     record { kind = p.kind; kids = kids; is = is; starts = subst (λ (first : Option TokenKind). IsTypeKind first p.kind) (first-is (answers k source) r) (type-kind p.is) }

@@ -1,5 +1,5 @@
 -- What the tree of a parse comes from: the parser's own rules. No public call promises it; the promises are theorems on such runs.
-use Rattle.std.specs.Prelude.{◌≡◌, ◌≤◌, ◌<◌, ◌^◌, ℕ, List}
+use Rattle.std.specs.Prelude.{◌≡◌, ◌≤◌, ◌<◌, ◌^◌, ℕ, List, length}
 use Rattle.std.specs.List.{AllZip}
 use Rattle.std.specs.Str.{IsUtf8}
 use Rattle.lexical_grammar.specs.Answers.{limited}
@@ -13,7 +13,7 @@ use Rattle.parser_rules.specs.Nodes.{Document}
 use Rattle.parser_rules.specs.RuleLanguage.{Rule, Call}
 use Rattle.parser_rules.specs.Runs.{Runs}
 use Rattle.parser_rules.specs.Fragments.{started, unopened, left_out, IsTypeRoot, RunsTypeRoot}
-use Rattle.apollo_parser.specs.Promise.{Parsed}
+use Rattle.apollo_parser.specs.Parsed.{Parsed}
 use Rattle.parser_state.specs.Errors.{IsErrorOf}
 
 -- the document's rule ran over the items of the text, of which k are allowed, with the recursion limit r
@@ -21,6 +21,7 @@ pub record ByRules (source : List ℕ) (r k : ℕ) (t : Parsed) : Type 0 where
   pub last : State
   pub cut : Cut source (items_of source)
   pub characters : IsUtf8 source
+  pub short : length source < 2 ^ 63
   pub run : Runs (Call Document) (begun (limited k (items_of source)) r kind.DOCUMENT) last
   pub tree : t.tree ≡ finished last
   pub counted : count t.tree < 2 ^ 64
@@ -32,6 +33,7 @@ pub record ByRules (source : List ℕ) (r k : ℕ) (t : Parsed) : Type 0 where
 pub record ByRootRule (root : SyntaxKind) (rule : Rule) (source : List ℕ) (r k : ℕ) (t : Parsed) : Type 0 where
   pub last : State
   pub cut : Cut source (items_of source)
+  pub short : length source < 2 ^ 63
   pub run : Runs rule (started (limited k (items_of source)) r root) last
   pub tree : t.tree ≡ finished (left_out last)
   pub counted : count t.tree < 2 ^ 64

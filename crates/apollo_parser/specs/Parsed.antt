@@ -1,5 +1,5 @@
--- The words of `Parser::parse`'s contract that are not in the specs of `lexical_grammar` and `document_grammar`: what a parse gives, what its
--- errors are, and what is promised with errors. The standard says nothing of errors, so these are this project's own promises.
+-- What a parse gives, what its errors are, and what is so after an error: the words of `Promise` that are not in the specs of `lexical_grammar` and
+-- `document_grammar`. The standard says nothing of errors, so these are this project's own promises.
 use Rattle.std.specs.Prelude.{◌≡◌, ◌⊎◌, ℕ, Bool, true, false, if◌then◌else◌, List, [], ◌∷◌, Some, None, map, ⊤}
 use Rattle.std.specs.List.{Any}
 use Rattle.lexical_grammar.specs.declared.TokenKind.{TokenKind}
@@ -13,9 +13,9 @@ use Rattle.apollo_lexer.specs.declared.limit.LimitTracker.{LimitTracker}
 use Rattle.apollo_lexer.specs.Diagnostics.{of_text, of_end, of_limit, Subject, Diagnostic}
 use Rattle.apollo_lexer.specs.Faults.{IsFaultMessage}
 use Rattle.apollo_lexer.specs.Told.{limit_message}
-use Rattle.parser_rules.specs.declared.message.Message.{Message}
+pub use Rattle.parser_rules.specs.declared.message.Message.{Message}
 use Rattle.parser_rules.specs.Messages.{Text, message_text, recursion_limit_message}
-use Rattle.parser_state.specs.Errors.{found_of}
+pub use Rattle.parser_state.specs.Errors.{found_of}
 
 -- ---- what a parse gives
 
@@ -63,24 +63,49 @@ pub record IsAbout (what : Subject) (place : ℕ) (error : Diagnostic) : Type 0 
 abbrev pub subject_at : TokenKind → Text → Subject
 subject_at kind text = if is_end kind then of_end else of_text text
 
--- The errors of a lexer's answers, in their order, where the grammar's errors are still taken or no longer are.
+-- The errors of a lexer's answers, in their order. The grammar's errors are taken, or no longer are.
 pub data ErrorsAlong : Bool → List Answer → List Diagnostic → Type 0 where
-  no_more : {taken : Bool} → ErrorsAlong taken [] []
+  no_more :
+      {taken : Bool}
+      → ErrorsAlong taken [] []
   -- bad text has one error, with its text
-  bad_text : {taken : Bool} {item : Item} {answers : List Answer} {error : Diagnostic} {errors : List Diagnostic} → item.kind ≡ None
-      → IsAbout (of_text item.text) item.index error → IsFaultMessage item.text error.message → ErrorsAlong taken answers errors → ErrorsAlong taken (gives item ∷ answers) (error ∷ errors)
+  bad_text :
+      {taken : Bool} {item : Item} {answers : List Answer} {error : Diagnostic} {errors : List Diagnostic}
+      → item.kind ≡ None
+      → IsAbout (of_text item.text) item.index error
+      → IsFaultMessage item.text error.message
+      → ErrorsAlong taken answers errors
+      → ErrorsAlong taken (gives item ∷ answers) (error ∷ errors)
   -- the token limit has one where it is met, and none of the grammar's follows
-  token_limit : {taken : Bool} {index : ℕ} {answers : List Answer} {error : Diagnostic} {errors : List Diagnostic} → IsAbout of_limit index error → IsTokenLimit error
-      → ErrorsAlong false answers errors → ErrorsAlong taken (limit_at index ∷ answers) (error ∷ errors)
-  -- the grammar's are at significant tokens, with their texts, or at the end; a message may quote what is there
-  fault : (m : Message) {kind : TokenKind} {item : Item} {answers : List Answer} {error : Diagnostic} {errors : List Diagnostic} → item.kind ≡ Some kind → ignored kind ≡ None
-      → IsAbout (subject_at kind item.text) item.index error → error.message ≡ message_text m (found_of error.subject) → ErrorsAlong true (gives item ∷ answers) errors
+  token_limit :
+      {taken : Bool} {index : ℕ} {answers : List Answer} {error : Diagnostic} {errors : List Diagnostic}
+      → IsAbout of_limit index error
+      → IsTokenLimit error
+      → ErrorsAlong false answers errors
+      → ErrorsAlong taken (limit_at index ∷ answers) (error ∷ errors)
+  -- the grammar's are at significant tokens, with their texts, or at the end; the message is one of its list, and may quote what is there
+  fault :
+      (m : Message) {kind : TokenKind} {item : Item} {answers : List Answer} {error : Diagnostic} {errors : List Diagnostic}
+      → item.kind ≡ Some kind
+      → ignored kind ≡ None
+      → IsAbout (subject_at kind item.text) item.index error
+      → error.message ≡ message_text m (found_of error.subject)
+      → ErrorsAlong true (gives item ∷ answers) errors
       → ErrorsAlong true (gives item ∷ answers) (error ∷ errors)
   -- so is the recursion limit's, and none of the grammar's follows
-  recursion_limit : {kind : TokenKind} {item : Item} {answers : List Answer} {error : Diagnostic} {errors : List Diagnostic} → item.kind ≡ Some kind → ignored kind ≡ None
-      → IsAbout of_limit item.index error → IsRecursionLimit error → ErrorsAlong false (gives item ∷ answers) errors → ErrorsAlong true (gives item ∷ answers) (error ∷ errors)
+  recursion_limit :
+      {kind : TokenKind} {item : Item} {answers : List Answer} {error : Diagnostic} {errors : List Diagnostic}
+      → item.kind ≡ Some kind
+      → ignored kind ≡ None
+      → IsAbout of_limit item.index error
+      → IsRecursionLimit error
+      → ErrorsAlong false (gives item ∷ answers) errors
+      → ErrorsAlong true (gives item ∷ answers) (error ∷ errors)
   -- a token, ignored or not, has no more
-  passed : {taken : Bool} {kind : TokenKind} {item : Item} {answers : List Answer} {errors : List Diagnostic} → item.kind ≡ Some kind → ErrorsAlong taken answers errors
+  passed :
+      {taken : Bool} {kind : TokenKind} {item : Item} {answers : List Answer} {errors : List Diagnostic}
+      → item.kind ≡ Some kind
+      → ErrorsAlong taken answers errors
       → ErrorsAlong taken (gives item ∷ answers) errors
 
 -- The errors go along the answers.

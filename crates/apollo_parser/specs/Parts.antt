@@ -8,7 +8,7 @@ use Rattle.document_grammar.specs.declared.kind.SyntaxKind.TheVariants as kind
 use Rattle.document_grammar.specs.Forests.{Forest, none, node}
 use Rattle.document_grammar.specs.Leaves.{Leaf, OneLeafAnItem, ignored}
 use Rattle.apollo_lexer.specs.Diagnostics.{Diagnostic}
-use Rattle.apollo_parser.specs.Promise.{ErrorsOf}
+use Rattle.apollo_parser.specs.Parsed.{ErrorsOf}
 
 -- The leaves are one for one the first items.
 pub record FirstLeaves (answers : List Answer) (ls : List Leaf) : Type 0 where

@@ -1,32 +1,21 @@
 // The whole parse.
-ghost use Rattle.std.specs.Prelude.{◌≡◌, ◌≢◌, ◌≤◌, ◌<◌, ◌+◌, ◌*◌, true, [], OnOk, IfOk, length, min, take, map};
-ghost use Rattle.std.specs.Str.{IsAscii, IsUtf8};
-ghost use Rattle.std.specs.List.{Any, All};
-ghost use Rattle.std.specs.List.Sorted.{IsNonDecreasing};
+ghost use Rattle.std.specs.Prelude.{◌≡◌, ◌≤◌, ◌<◌, ◌+◌, ◌*◌, ◌^◌, OnOk, IfOk, length, min};
+ghost use Rattle.std.specs.Str.{IsUtf8};
 ghost use Rattle.lexical_grammar.specs.Answers.{limited, usize_max};
-ghost use Rattle.lexical_grammar.specs.Cut.{Cut, texts};
+ghost use Rattle.lexical_grammar.specs.Cut.{Cut};
 ghost use Rattle.lexical_grammar.specs.Reads.{items_of};
 ghost use Rattle.apollo_lexer.specs.Answers.{answers_left};
-ghost use Rattle.apollo_lexer.specs.Diagnostics.{of_limit};
-ghost use Rattle.apollo_tree.specs.Order.{order};
 ghost use Rattle.document_grammar.specs.declared.kind.SyntaxKind.TheVariants as kind;
-ghost use Rattle.document_grammar.specs.Forests.{Forest, none, node, text};
-ghost use Rattle.document_grammar.specs.Derivation.{document as document_sort, selections as selections_sort, type as type_sort, nest};
-ghost use Rattle.document_grammar.specs.Tree.{Tree};
-ghost use Rattle.document_grammar.specs.Sentence.{Sentence, FirstSentence, Within};
-ghost use Rattle.document_grammar.specs.Recovery.{Rowed};
-ghost use Rattle.document_grammar.specs.FirstError.{OnlyDerivation, NotLate, NotEarly, NotEarlyLimit, EndedNodesFit};
-ghost use Rattle.document_grammar.specs.Places.{bare, Placed};
-ghost use Rattle.document_grammar.specs.Numbered.{tree_of};
-ghost use Rattle.document_grammar.specs.Leaves.{leaves, OneLeafAnItem};
+ghost use Rattle.document_grammar.specs.Forests.{Forest, none, node};
+ghost use Rattle.document_grammar.specs.Derivation.{selections as selections_sort, type as type_sort};
 ghost use Rattle.apollo_parser.specs.ByRules.{ByRules, ByRootRule, ByTypeRule};
-ghost use Rattle.apollo_parser.specs.Parts.{FirstLeaves, FirstErrors, OneType, first_kind};
+ghost use Rattle.apollo_parser.specs.Parts.{OneType, first_kind};
+ghost use Rattle.apollo_parser.specs.Promise.{Promise, PartPromise};
 ghost use Rattle.parser_rules.specs.Fragments.{field_set};
 ghost use Rattle.parser_rules.specs.Nodes.{Document};
 ghost use Rattle.parser_rules.specs.RuleLanguage.{Call};
 ghost use Rattle.parser_rules.specs.Runs.{Runs};
 ghost use Rattle.parser_state.specs.Reading.{rooted};
-ghost use Rattle.apollo_parser.specs.Promise.{ErrorsOf, IsRecursionLimit, IsLimitWorded, IsTokenLimit, OfFirst, Recovers};
 
 use crate::syntax_tree::{DocumentRoot, SelectionSetRoot, SyntaxTree, TypeRoot};
 use apollo_grammar::{document, field_set, type_root};
@@ -93,6 +82,7 @@ impl<'i> Parser<'i> {
         ensures limit { result.limit_tracker.limit ≡ token_limit }
         ensures cut { Cut source.now (items_of source.now) }
         ensures characters { IsUtf8 source.now }
+        ensures short { length source.now < 2 ^ 63 }
     {
         Lexer::new(source).with_limit(token_limit)
     }
@@ -139,61 +129,12 @@ impl<'i> Parser<'i> {
     /// Parses a document (GraphQL October 2021, section 2.2, "Document").
     ///
     /// A text that is no document has a tree too: what cannot be read is in it as ERROR leaves, and the errors say why. It fails only where memory
-    /// is refused.
+    /// is refused. What it promises is `Promise` in `specs/Promise.antt`, field by field.
     pub fn parse<A: Allocator + Copy>(
         self,
         alloc: A,
     ) -> Result<SyntaxTree<DocumentRoot, A>, AllocError>
-        // the items of which the other clauses speak are a cut of the source
-        ensures cut { IfOk result (λ t. Cut self.entry.source.now (items_of self.entry.source.now)) }
-        // the tree's text is the source, or its first items where the token limit is met
-        ensures lossless { IfOk result (λ t. text t.tree ≡ texts (take self.entry.token_limit (items_of self.entry.source.now))) }
-        // the tree is one DOCUMENT, also where there are errors
-        ensures one_document { IfOk result (λ t. (kids : Forest) × (t.tree ≡ node kind.DOCUMENT kids none)) }
-        ensures one_leaf { IfOk result (λ t. OneLeafAnItem (limited self.entry.token_limit (items_of self.entry.source.now)) (leaves t.tree)) }
-        ensures recursion { IfOk result (λ t. (t.recursion_limit.current ≡ 0) × (t.recursion_limit.limit ≡ self.entry.recursion_limit) × (t.recursion_limit.high ≤ self.entry.recursion_limit + 1)) }
-        // with the recursion limit's error, more than the limit was asked for; by one, as long as that is a usize
-        ensures limit_met { IfOk result (λ t. Any IsRecursionLimit t.errors → min (self.entry.recursion_limit + 1) usize_max ≤ t.recursion_limit.high) }
-        // where more than the limit was asked for, there is a limit's error: the recursion limit's, or the token limit's before it
-        ensures past_limit { IfOk result (λ t. self.entry.recursion_limit < t.recursion_limit.high → Any (λ e. e.subject ≡ of_limit) t.errors) }
-        // the greatest depth that was asked for covers what the tree nests, also where there are errors
-        ensures nesting { IfOk result (λ t. nest (tree_of t.tree) ≤ t.recursion_limit.high) }
-        ensures tokens { IfOk result (λ t. (t.token_limit.limit ≡ self.entry.token_limit) × (t.token_limit.high ≡ min (length (items_of self.entry.source.now)) (self.entry.token_limit + 1))) }
-        // there are at most five elements for each item that is read, and the root
-        ensures elements { IfOk result (λ t. length (order t.tree) ≤ 5 * min (length (items_of self.entry.source.now)) self.entry.token_limit + 1) }
-        // there are at most three errors for each item that is read, and one more
-        ensures error_count { IfOk result (λ t. length t.errors ≤ 3 * min (length (items_of self.entry.source.now)) self.entry.token_limit + 1) }
-        // the errors go along the items: one for each bad text and for the token limit, in the lexer's words; the grammar's and the recursion
-        // limit's, word by word, at significant tokens or the end, and none of these after a limit error
-        ensures errors { IfOk result (λ t. ErrorsOf (limited self.entry.token_limit (items_of self.entry.source.now)) t.errors) }
-        // a limit's error has a limit's message, and no other error has one
-        ensures limit_messages { IfOk result (λ t. All IsLimitWorded t.errors) }
-        ensures ascii { IfOk result (λ t. IsAscii self.entry.source.now → All (λ e. IsAscii e.message) t.errors) }
-        ensures in_order { IfOk result (λ t. IsNonDecreasing (map (λ e. e.index) t.errors)) }
-        // without errors, the tree without its ignored leaves is the derivation of the text, which is a sentence within both limits
-        ensures sound { IfOk result (λ t. t.errors ≡ [] → Sentence self.entry.source.now (bare (tree_of t.tree)) document_sort × Within self.entry.source.now (bare (tree_of t.tree)) self.entry.recursion_limit self.entry.token_limit) }
-        // a sentence within both limits has no errors
-        ensures accepts { IfOk result (λ t. (u : Tree) → Sentence self.entry.source.now u document_sort → Within self.entry.source.now u self.entry.recursion_limit self.entry.token_limit → t.errors ≡ []) }
-        // without errors, there is no other derivation, and it nests as deep as was asked for
-        ensures only_derivation { IfOk result (λ t. t.errors ≡ [] → OnlyDerivation (items_of self.entry.source.now) (bare (tree_of t.tree)) × (t.recursion_limit.high ≡ nest (bare (tree_of t.tree)))) }
-        // a sentence of the first profile has no errors either, and the tree is its derivation
-        ensures still_a_sentence { IfOk result (λ t. (u : Tree) → FirstSentence self.entry.source.now u document_sort → Within self.entry.source.now u self.entry.recursion_limit self.entry.token_limit → (t.errors ≡ []) × (bare (tree_of t.tree) ≡ u)) }
-        // without errors, each ignored leaf is where the text fixes it
-        ensures placed { IfOk result (λ t. t.errors ≡ [] → Placed (tree_of t.tree)) }
-        // the text before the first error begins a sentence, unless it is the token limit's
-        ensures not_late { IfOk result (λ t. OfFirst (λ e. ¬ IsTokenLimit e → NotLate self.entry.source.now e.index) t.errors) }
-        // no sentence starts with the tokens before the first error, the one there and the next, if it is the grammar's
-        ensures not_early { IfOk result (λ t. OfFirst (λ e. e.subject ≢ of_limit → NotEarly self.entry.token_limit (items_of self.entry.source.now) e.index) t.errors) }
-        // no sentence that nests within the limit starts with the tokens before the first error and the one there, if it is the recursion limit's
-        ensures not_early_limit { IfOk result (λ t. OfFirst (λ e. IsRecursionLimit e → NotEarlyLimit self.entry.recursion_limit (items_of self.entry.source.now) e.index) t.errors) }
-        // each node that a significant token in front of the first error follows fits its row and the rules
-        ensures ended_nodes_fit { IfOk result (λ t. OfFirst (λ e. EndedNodesFit (items_of self.entry.source.now) e.index (tree_of t.tree)) t.errors) }
-        // also with errors, each child of a node is a symbol of its row, or an ERROR, SPREAD or ignored leaf
-        ensures row_symbols { IfOk result (λ t. Rowed (tree_of t.tree)) }
-        // where no limit is met: each token that was left over has its error, and is a child of the root or of a list, or its node's only one; and
-        // where what follows a child of the root is a document of its own, the later children are its derivation's, and no error is beyond its
-        // first token
-        ensures recovers { IfOk result (λ t. ¬ Any (λ e. e.subject ≡ of_limit) t.errors → Recovers self.entry.recursion_limit (items_of self.entry.source.now) t) }
+        ensures promise { IfOk result (Promise self.entry.source.now self.entry.recursion_limit self.entry.token_limit) }
     {
         self.parse_counted(alloc, &mut Steps::new())
     }
@@ -204,58 +145,9 @@ impl<'i> Parser<'i> {
         alloc: A,
         steps: &mut Steps,
     ) -> Result<SyntaxTree<DocumentRoot, A>, AllocError>
+        ensures promise { IfOk result (Promise self.entry.source.now self.entry.recursion_limit self.entry.token_limit) }
         // whatever it answers, each item of the text is cut at most twice, and no more items are cut than twice the token limit
         ensures lookahead { steps.new.count ≤ steps.old.count + 2 * min (length (items_of self.entry.source.now)) self.entry.token_limit }
-        // the items of which the other clauses speak are a cut of the source
-        ensures cut { IfOk result (λ t. Cut self.entry.source.now (items_of self.entry.source.now)) }
-        // the tree's text is the source, or its first items where the token limit is met
-        ensures lossless { IfOk result (λ t. text t.tree ≡ texts (take self.entry.token_limit (items_of self.entry.source.now))) }
-        // the tree is one DOCUMENT, also where there are errors
-        ensures one_document { IfOk result (λ t. (kids : Forest) × (t.tree ≡ node kind.DOCUMENT kids none)) }
-        ensures one_leaf { IfOk result (λ t. OneLeafAnItem (limited self.entry.token_limit (items_of self.entry.source.now)) (leaves t.tree)) }
-        ensures recursion { IfOk result (λ t. (t.recursion_limit.current ≡ 0) × (t.recursion_limit.limit ≡ self.entry.recursion_limit) × (t.recursion_limit.high ≤ self.entry.recursion_limit + 1)) }
-        // with the recursion limit's error, more than the limit was asked for; by one, as long as that is a usize
-        ensures limit_met { IfOk result (λ t. Any IsRecursionLimit t.errors → min (self.entry.recursion_limit + 1) usize_max ≤ t.recursion_limit.high) }
-        // where more than the limit was asked for, there is a limit's error: the recursion limit's, or the token limit's before it
-        ensures past_limit { IfOk result (λ t. self.entry.recursion_limit < t.recursion_limit.high → Any (λ e. e.subject ≡ of_limit) t.errors) }
-        // the greatest depth that was asked for covers what the tree nests, also where there are errors
-        ensures nesting { IfOk result (λ t. nest (tree_of t.tree) ≤ t.recursion_limit.high) }
-        ensures tokens { IfOk result (λ t. (t.token_limit.limit ≡ self.entry.token_limit) × (t.token_limit.high ≡ min (length (items_of self.entry.source.now)) (self.entry.token_limit + 1))) }
-        // there are at most five elements for each item that is read, and the root
-        ensures elements { IfOk result (λ t. length (order t.tree) ≤ 5 * min (length (items_of self.entry.source.now)) self.entry.token_limit + 1) }
-        // there are at most three errors for each item that is read, and one more
-        ensures error_count { IfOk result (λ t. length t.errors ≤ 3 * min (length (items_of self.entry.source.now)) self.entry.token_limit + 1) }
-        // the errors go along the items: one for each bad text and for the token limit, in the lexer's words; the grammar's and the recursion
-        // limit's, word by word, at significant tokens or the end, and none of these after a limit error
-        ensures errors { IfOk result (λ t. ErrorsOf (limited self.entry.token_limit (items_of self.entry.source.now)) t.errors) }
-        // a limit's error has a limit's message, and no other error has one
-        ensures limit_messages { IfOk result (λ t. All IsLimitWorded t.errors) }
-        ensures ascii { IfOk result (λ t. IsAscii self.entry.source.now → All (λ e. IsAscii e.message) t.errors) }
-        ensures in_order { IfOk result (λ t. IsNonDecreasing (map (λ e. e.index) t.errors)) }
-        // without errors, the tree without its ignored leaves is the derivation of the text, which is a sentence within both limits
-        ensures sound { IfOk result (λ t. t.errors ≡ [] → Sentence self.entry.source.now (bare (tree_of t.tree)) document_sort × Within self.entry.source.now (bare (tree_of t.tree)) self.entry.recursion_limit self.entry.token_limit) }
-        // a sentence within both limits has no errors
-        ensures accepts { IfOk result (λ t. (u : Tree) → Sentence self.entry.source.now u document_sort → Within self.entry.source.now u self.entry.recursion_limit self.entry.token_limit → t.errors ≡ []) }
-        // without errors, there is no other derivation, and it nests as deep as was asked for
-        ensures only_derivation { IfOk result (λ t. t.errors ≡ [] → OnlyDerivation (items_of self.entry.source.now) (bare (tree_of t.tree)) × (t.recursion_limit.high ≡ nest (bare (tree_of t.tree)))) }
-        // a sentence of the first profile has no errors either, and the tree is its derivation
-        ensures still_a_sentence { IfOk result (λ t. (u : Tree) → FirstSentence self.entry.source.now u document_sort → Within self.entry.source.now u self.entry.recursion_limit self.entry.token_limit → (t.errors ≡ []) × (bare (tree_of t.tree) ≡ u)) }
-        // without errors, each ignored leaf is where the text fixes it
-        ensures placed { IfOk result (λ t. t.errors ≡ [] → Placed (tree_of t.tree)) }
-        // the text before the first error begins a sentence, unless it is the token limit's
-        ensures not_late { IfOk result (λ t. OfFirst (λ e. ¬ IsTokenLimit e → NotLate self.entry.source.now e.index) t.errors) }
-        // no sentence starts with the tokens before the first error, the one there and the next, if it is the grammar's
-        ensures not_early { IfOk result (λ t. OfFirst (λ e. e.subject ≢ of_limit → NotEarly self.entry.token_limit (items_of self.entry.source.now) e.index) t.errors) }
-        // no sentence that nests within the limit starts with the tokens before the first error and the one there, if it is the recursion limit's
-        ensures not_early_limit { IfOk result (λ t. OfFirst (λ e. IsRecursionLimit e → NotEarlyLimit self.entry.recursion_limit (items_of self.entry.source.now) e.index) t.errors) }
-        // each node that a significant token in front of the first error follows fits its row and the rules
-        ensures ended_nodes_fit { IfOk result (λ t. OfFirst (λ e. EndedNodesFit (items_of self.entry.source.now) e.index (tree_of t.tree)) t.errors) }
-        // also with errors, each child of a node is a symbol of its row, or an ERROR, SPREAD or ignored leaf
-        ensures row_symbols { IfOk result (λ t. Rowed (tree_of t.tree)) }
-        // where no limit is met: each token that was left over has its error, and is a child of the root or of a list, or its node's only one; and
-        // where what follows a child of the root is a document of its own, the later children are its derivation's, and no error is beyond its
-        // first token
-        ensures recovers { IfOk result (λ t. ¬ Any (λ e. e.subject ≡ of_limit) t.errors → Recovers self.entry.recursion_limit (items_of self.entry.source.now) t) }
     {
         self.run_document(alloc, steps)
     }
@@ -289,42 +181,15 @@ impl<'i> Parser<'i> {
 
     /// Parses a selection set (GraphQL October 2021, section 2.4, "Selection Sets"), with its outer braces or with both left away.
     ///
-    /// What follows the selection set is not in the tree. It fails only where memory is refused.
+    /// What follows the selection set is not in the tree. It fails only where memory is refused. What it promises is `PartPromise` in
+    /// `specs/Promise.antt`, field by field.
     pub fn parse_selection_set<A: Allocator + Copy>(
         self,
         alloc: A,
     ) -> Result<SyntaxTree<SelectionSetRoot, A>, AllocError>
-        // the items of which the other clauses speak are a cut of the source
-        ensures cut { IfOk result (λ t. Cut self.entry.source.now (items_of self.entry.source.now)) }
-        // the source begins with the tree's text
-        ensures beginning { IfOk result (λ t. take (length (text t.tree)) self.entry.source.now ≡ text t.tree) }
+        ensures promise { IfOk result (PartPromise selections_sort self.entry.source.now self.entry.recursion_limit self.entry.token_limit) }
         // the tree is one SELECTION_SET, also where there are errors
         ensures one_selection_set { IfOk result (λ t. (kids : Forest) × (t.tree ≡ node kind.SELECTION_SET kids none)) }
-        // its leaves are, one for one, the first items
-        ensures one_leaf { IfOk result (λ t. FirstLeaves (limited self.entry.token_limit (items_of self.entry.source.now)) (leaves t.tree)) }
-        ensures recursion { IfOk result (λ t. (t.recursion_limit.current ≡ 0) × (t.recursion_limit.limit ≡ self.entry.recursion_limit) × (t.recursion_limit.high ≤ self.entry.recursion_limit + 1)) }
-        // with the recursion limit's error, more than the limit was asked for; by one, as long as that is a usize
-        ensures limit_met { IfOk result (λ t. Any IsRecursionLimit t.errors → min (self.entry.recursion_limit + 1) usize_max ≤ t.recursion_limit.high) }
-        // where more than the limit was asked for, there is a limit's error: the recursion limit's, or the token limit's before it
-        ensures past_limit { IfOk result (λ t. self.entry.recursion_limit < t.recursion_limit.high → Any (λ e. e.subject ≡ of_limit) t.errors) }
-        // the greatest depth that was asked for covers what the tree nests, also where there are errors
-        ensures nesting { IfOk result (λ t. nest (tree_of t.tree) ≤ t.recursion_limit.high) }
-        ensures tokens { IfOk result (λ t. (t.token_limit.limit ≡ self.entry.token_limit) × (t.token_limit.high ≤ min (length (items_of self.entry.source.now)) (self.entry.token_limit + 1))) }
-        // there are at most five elements for each item that is read, and the root
-        ensures elements { IfOk result (λ t. length (order t.tree) ≤ 5 * min (length (items_of self.entry.source.now)) self.entry.token_limit + 1) }
-        // there are at most three errors for each item that is read, and one more
-        ensures error_count { IfOk result (λ t. length t.errors ≤ 3 * min (length (items_of self.entry.source.now)) self.entry.token_limit + 1) }
-        // the errors go along the first items, as those of a document do along all
-        ensures errors { IfOk result (λ t. FirstErrors (limited self.entry.token_limit (items_of self.entry.source.now)) t.errors) }
-        // a limit's error has a limit's message, and no other error has one
-        ensures limit_messages { IfOk result (λ t. All IsLimitWorded t.errors) }
-        ensures ascii { IfOk result (λ t. IsAscii self.entry.source.now → All (λ e. IsAscii e.message) t.errors) }
-        ensures in_order { IfOk result (λ t. IsNonDecreasing (map (λ e. e.index) t.errors)) }
-        // without errors, the tree's text is a sentence, and the tree without its ignored leaves is its derivation; it nests within the limit, and as
-        // deep as was asked for
-        ensures sound { IfOk result (λ t. t.errors ≡ [] → Sentence (text t.tree) (bare (tree_of t.tree)) selections_sort × (nest (bare (tree_of t.tree)) ≤ self.entry.recursion_limit) × (t.recursion_limit.high ≡ nest (bare (tree_of t.tree)))) }
-        // a sentence within both limits has no errors, and the tree is its derivation, so it holds every significant token
-        ensures accepts { IfOk result (λ t. (u : Tree) → Sentence self.entry.source.now u selections_sort → Within self.entry.source.now u self.entry.recursion_limit self.entry.token_limit → (t.errors ≡ []) × (bare (tree_of t.tree) ≡ u)) }
     {
         self.run_selection_set(alloc)
     }
@@ -354,43 +219,16 @@ impl<'i> Parser<'i> {
 
     /// Parses a type (GraphQL October 2021, section 2.11, "Type References").
     ///
-    /// What follows the type is not in the tree. It fails only where memory is refused.
+    /// What follows the type is not in the tree. It fails only where memory is refused. What it promises is `PartPromise` in
+    /// `specs/Promise.antt`, field by field.
     pub fn parse_type<A: Allocator + Copy>(
         self,
         alloc: A,
     ) -> Result<SyntaxTree<TypeRoot, A>, AllocError>
-        // the items of which the other clauses speak are a cut of the source
-        ensures cut { IfOk result (λ t. Cut self.entry.source.now (items_of self.entry.source.now)) }
-        // the source begins with the tree's text
-        ensures beginning { IfOk result (λ t. take (length (text t.tree)) self.entry.source.now ≡ text t.tree) }
+        ensures promise { IfOk result (PartPromise type_sort self.entry.source.now self.entry.recursion_limit self.entry.token_limit) }
         // the tree is one NAMED_TYPE, LIST_TYPE or NON_NULL_TYPE, also where there are errors; or an ERROR, where the first significant token
         // starts no type
         ensures one_type { IfOk result (λ t. OneType (first_kind (limited self.entry.token_limit (items_of self.entry.source.now))) t.tree) }
-        // its leaves are, one for one, the first items
-        ensures one_leaf { IfOk result (λ t. FirstLeaves (limited self.entry.token_limit (items_of self.entry.source.now)) (leaves t.tree)) }
-        ensures recursion { IfOk result (λ t. (t.recursion_limit.current ≡ 0) × (t.recursion_limit.limit ≡ self.entry.recursion_limit) × (t.recursion_limit.high ≤ self.entry.recursion_limit + 1)) }
-        // with the recursion limit's error, more than the limit was asked for; by one, as long as that is a usize
-        ensures limit_met { IfOk result (λ t. Any IsRecursionLimit t.errors → min (self.entry.recursion_limit + 1) usize_max ≤ t.recursion_limit.high) }
-        // where more than the limit was asked for, there is a limit's error: the recursion limit's, or the token limit's before it
-        ensures past_limit { IfOk result (λ t. self.entry.recursion_limit < t.recursion_limit.high → Any (λ e. e.subject ≡ of_limit) t.errors) }
-        // the greatest depth that was asked for covers what the tree nests, also where there are errors
-        ensures nesting { IfOk result (λ t. nest (tree_of t.tree) ≤ t.recursion_limit.high) }
-        ensures tokens { IfOk result (λ t. (t.token_limit.limit ≡ self.entry.token_limit) × (t.token_limit.high ≤ min (length (items_of self.entry.source.now)) (self.entry.token_limit + 1))) }
-        // there are at most five elements for each item that is read, and the root
-        ensures elements { IfOk result (λ t. length (order t.tree) ≤ 5 * min (length (items_of self.entry.source.now)) self.entry.token_limit + 1) }
-        // there are at most three errors for each item that is read, and one more
-        ensures error_count { IfOk result (λ t. length t.errors ≤ 3 * min (length (items_of self.entry.source.now)) self.entry.token_limit + 1) }
-        // the errors go along the first items, as those of a document do along all
-        ensures errors { IfOk result (λ t. FirstErrors (limited self.entry.token_limit (items_of self.entry.source.now)) t.errors) }
-        // a limit's error has a limit's message, and no other error has one
-        ensures limit_messages { IfOk result (λ t. All IsLimitWorded t.errors) }
-        ensures ascii { IfOk result (λ t. IsAscii self.entry.source.now → All (λ e. IsAscii e.message) t.errors) }
-        ensures in_order { IfOk result (λ t. IsNonDecreasing (map (λ e. e.index) t.errors)) }
-        // without errors, the tree's text is a sentence, and the tree without its ignored leaves is its derivation; it nests within the limit, and as
-        // deep as was asked for
-        ensures sound { IfOk result (λ t. t.errors ≡ [] → Sentence (text t.tree) (bare (tree_of t.tree)) type_sort × (nest (bare (tree_of t.tree)) ≤ self.entry.recursion_limit) × (t.recursion_limit.high ≡ nest (bare (tree_of t.tree)))) }
-        // a sentence within both limits has no errors, and the tree is its derivation, so it holds every significant token
-        ensures accepts { IfOk result (λ t. (u : Tree) → Sentence self.entry.source.now u type_sort → Within self.entry.source.now u self.entry.recursion_limit self.entry.token_limit → (t.errors ≡ []) × (bare (tree_of t.tree) ≡ u)) }
     {
         self.run_type(alloc)
     }

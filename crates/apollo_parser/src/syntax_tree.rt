@@ -58,7 +58,7 @@ pub struct SyntaxTree<R: Root, A: Allocator = Global> {
 impl<R: Root, A: Allocator> Model for SyntaxTree<R, A> {
     ghost use Rattle.std.specs.Coded.{codes};
     ghost use Rattle.apollo_tree.specs.Codes.{forest_code};
-    ghost use Rattle.apollo_parser.specs.Promise.{Parsed};
+    ghost use Rattle.apollo_parser.specs.Parsed.{Parsed};
 
     ghost Value = { Parsed };
 

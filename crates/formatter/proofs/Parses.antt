@@ -5,9 +5,10 @@ use Rattle.lexical_grammar.specs.Answers.{usize_max}
 use Rattle.apollo_lexer.specs.Diagnostics.{Diagnostic}
 use Rattle.document_grammar.specs.Numbered.{tree_of}
 use Rattle.document_grammar.specs.Places.{bare}
-use Rattle.apollo_parser.specs.Promise.{Parsed}
+use Rattle.apollo_parser.specs.Promise.{Promise}
+use Rattle.apollo_parser.specs.Parsed.{Parsed}
 use Rattle.document_format.specs.Formatted.{IsSentence, Formatted}
-use Rattle.formatter.specs.Outcome.{IsFormatted, IsParse, IsRefused}
+use Rattle.formatter.specs.Outcome.{IsFormatted, IsRefused}
 
 pub empty-list : {X : Type 0} (xs : List X) → eqb (length xs) 0 ≡ true → xs ≡ []
 empty-list [] e = refl
@@ -17,19 +18,19 @@ some-list : {X : Type 0} (xs : List X) → xs ≡ [] → eqb (length xs) 0 ≡ f
 some-list xs e h = let no : true ≡ false = sym (ap (λ l. eqb (length l) 0) e) ∙ h in (cc)
 
 -- a parse of the same text within the same limits
-pub same-parse : (source other : List ℕ) (r q k j : ℕ) (t : Parsed) → other ≡ source → q ≡ r → j ≡ k → IsParse other q j t → IsParse source r k t
-same-parse source other r q k j t s d n p = subst (λ x. IsParse x r k t) s (subst (λ x. IsParse other x k t) d (subst (λ x. IsParse other q x t) n p))
+pub same-parse : (source other : List ℕ) (r q k j : ℕ) (t : Parsed) → other ≡ source → q ≡ r → j ≡ k → Promise other q j t → Promise source r k t
+same-parse source other r q k j t s d n p = subst (λ x. Promise x r k t) s (subst (λ x. Promise other x k t) d (subst (λ x. Promise other q x t) n p))
 
-pub refused : (source : List ℕ) (r k : ℕ) (t : Parsed) (errors : List Diagnostic) → errors ≡ t.errors → eqb (length errors) 0 ≡ false → IsParse source r k t → IsRefused source r k errors
+pub refused : (source : List ℕ) (r k : ℕ) (t : Parsed) (errors : List Diagnostic) → errors ≡ t.errors → eqb (length errors) 0 ≡ false → Promise source r k t → IsRefused source r k errors
 refused source r k t errors e some p = subst (IsRefused source r k) (sym e) (record {
   refused = λ u s w. some-list errors (e ∙ p.accepts u s w) some;
-  errors_of = p.errors_of;
+  errors_of = p.errors;
   not_late = p.not_late;
   not_early = p.not_early;
 })
 
-pub sentence-of : (source : List ℕ) (r k : ℕ) (t : Parsed) → k ≤ usize_max → t.errors ≡ [] → IsParse source r k t → IsSentence source
+pub sentence-of : (source : List ℕ) (r k : ℕ) (t : Parsed) → k ≤ usize_max → t.errors ≡ [] → Promise source r k t → IsSentence source
 sentence-of source r k t le clean p = record { tree = bare (tree_of t.tree); sentence = (p.sound clean).0; within = (r, k, le, (p.sound clean).1) }
 
-pub formatted-by : (source text : List ℕ) (r k : ℕ) (t : Parsed) → t.errors ≡ [] → IsParse source r k t → Formatted source text → IsFormatted source r k text
+pub formatted-by : (source text : List ℕ) (r k : ℕ) (t : Parsed) → t.errors ≡ [] → Promise source r k t → Formatted source text → IsFormatted source r k text
 formatted-by source text r k t clean p f = record { tree = bare (tree_of t.tree); sentence = (p.sound clean).0; within = (p.sound clean).1; formatted = f }

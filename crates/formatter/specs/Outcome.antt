@@ -1,5 +1,5 @@
 -- What formatting a text comes to: another layout of the same document, or the errors of a text that is none.
-use Rattle.std.specs.Prelude.{◌≡◌, ◌≢◌, ℕ, List, []}
+use Rattle.std.specs.Prelude.{◌≢◌, ℕ, List}
 use Rattle.lexical_grammar.specs.Answers.{limited}
 use Rattle.lexical_grammar.specs.Reads.{items_of}
 use Rattle.apollo_lexer.specs.Diagnostics.{Diagnostic, of_limit}
@@ -7,9 +7,7 @@ use Rattle.document_grammar.specs.Tree.{Tree}
 use Rattle.document_grammar.specs.Derivation.{document}
 use Rattle.document_grammar.specs.Sentence.{Sentence, Within}
 use Rattle.document_grammar.specs.FirstError.{NotLate, NotEarly}
-use Rattle.document_grammar.specs.Numbered.{tree_of}
-use Rattle.document_grammar.specs.Places.{bare}
-use Rattle.apollo_parser.specs.Promise.{ErrorsOf, IsTokenLimit, OfFirst, Parsed}
+use Rattle.apollo_parser.specs.Parsed.{ErrorsOf, IsTokenLimit, OfFirst}
 use Rattle.document_format.specs.Formatted.{Formatted}
 
 -- The source is a document within both limits, and the text is that document with another layout.
@@ -19,18 +17,10 @@ pub record IsFormatted (source : List ℕ) (r k : ℕ) (text : List ℕ) : Type 
   pub within : Within source tree r k
   pub formatted : Formatted source text
 
--- The source is no document within both limits, and these are the errors of its parse: word by word those of its items, of which the first is where
--- the text stops to be the beginning of a document.
+-- The source is no document within both limits, and these are the errors of its parse: they go along its items, and the first is where the text
+-- stops to be the beginning of a document.
 pub record IsRefused (source : List ℕ) (r k : ℕ) (errors : List Diagnostic) : Type 0 where
   pub refused : (t : Tree) → Sentence source t document → Within source t r k → ⊥
   pub errors_of : ErrorsOf (limited k (items_of source)) errors
   pub not_late : OfFirst (λ e. ¬ IsTokenLimit e → NotLate source e.index) errors
   pub not_early : OfFirst (λ e. e.subject ≢ of_limit → NotEarly k (items_of source) e.index) errors
-
--- What the proof needs of the promise of `Parser::parse`.
-pub record IsParse (source : List ℕ) (r k : ℕ) (t : Parsed) : Type 0 where
-  pub sound : t.errors ≡ [] → Sentence source (bare (tree_of t.tree)) document × Within source (bare (tree_of t.tree)) r k
-  pub accepts : (u : Tree) → Sentence source u document → Within source u r k → t.errors ≡ []
-  pub errors_of : ErrorsOf (limited k (items_of source)) t.errors
-  pub not_late : OfFirst (λ e. ¬ IsTokenLimit e → NotLate source e.index) t.errors
-  pub not_early : OfFirst (λ e. e.subject ≢ of_limit → NotEarly k (items_of source) e.index) t.errors

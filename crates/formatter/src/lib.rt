@@ -2,7 +2,8 @@
 #![tactic(auto)]
 
 ghost use Rattle.std.specs.Prelude.{◌≡◌, IfErr, IfOk, string_bytes};
-ghost use Rattle.formatter.specs.Outcome.{IsFormatted, IsParse, IsRefused};
+ghost use Rattle.apollo_parser.specs.Promise.{Promise};
+ghost use Rattle.formatter.specs.Outcome.{IsFormatted, IsRefused};
 
 use apollo_parser::{DocumentRoot, Error, Parser, SyntaxTree};
 use document_format::format_document;
@@ -15,7 +16,7 @@ fn parse<A: Allocator + Copy>(
     recursion_limit: usize,
     token_limit: usize,
 ) -> Result<SyntaxTree<DocumentRoot, A>, AllocError>
-    ensures { IfOk result (IsParse source.now recursion_limit token_limit) }
+    ensures { IfOk result (Promise source.now recursion_limit token_limit) }
 {
     let tree = Parser::new(source)
         .recursion_limit(recursion_limit)

@@ -7,10 +7,4 @@ returns g c =
     let source : c.token_limit.result.source.now ≡ c.args.source.now = search rules in
     let depth : c.token_limit.result.recursion_limit ≡ c.args.recursion_limit = search rules in
     let items : c.token_limit.result.token_limit ≡ c.args.token_limit = search rules in
-    same-parse _ _ _ _ _ _ _ source depth items (record {
-      sound = c.in_ok-tree.ensures.sound;
-      accepts = c.in_ok-tree.ensures.accepts;
-      errors_of = c.in_ok-tree.ensures.errors;
-      not_late = c.in_ok-tree.ensures.not_late;
-      not_early = c.in_ok-tree.ensures.not_early;
-    })
+    same-parse _ _ _ _ _ _ _ source depth items c.in_ok-tree.ensures.promise

@@ -5,7 +5,7 @@ use Rattle.gqlcst_run.proofs.parsing.parse.Goals as goal
 pub returns : goal.returns
 returns g c =
     let source = c.parser.ensures.source in
-    let parsed = c.in_ok-tree.ensures in
+    let parsed = c.in_ok-tree.ensures.promise in
     let sound = rw (source, c.parser.ensures.recursion, c.parser.ensures.tokens) at parsed.sound in
     let accepts = rw (source, c.parser.ensures.recursion, c.parser.ensures.tokens) at parsed.accepts in
     record {

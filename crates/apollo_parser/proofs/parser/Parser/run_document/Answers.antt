@@ -47,6 +47,7 @@ returns-clause-run g c =
       last = s;
       cut = c.lexer.ensures.cut;
       characters = c.lexer.ensures.characters;
+      short = c.lexer.ensures.short;
       run = run;
       tree = c.in_ok-finished.ensures.tree;
       counted = c.in_ok-finished.ensures.counted;

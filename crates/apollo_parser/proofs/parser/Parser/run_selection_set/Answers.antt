@@ -52,6 +52,7 @@ returns g c =
     record {
       last = s;
       cut = c.lexer.ensures.cut;
+      short = c.lexer.ensures.short;
       run = ran;
       tree = e.tree ∙ ap finished left;
       counted = e.counted;
