@@ -9,10 +9,26 @@ from .places import CRATES, enums_in, kinds_in
 SOURCE = "the rows of the grammar"
 
 ABOUT = {
-    "apollo_cst_value": "Typed nodes of names, values, directives and type references.",
-    "apollo_cst_exec": "Typed nodes of operations, selections and fragments.",
-    "apollo_cst_types": "Typed nodes of the type system's definitions.",
-    "apollo_cst_document": "Typed nodes of documents, directive definitions and extensions.",
+    "apollo_cst_value": """//! Typed nodes of names, values, directives and type references.
+//!
+//! There is a struct for each kind of node, and an enum for each choice of the grammar. An accessor gives a part of a node, which may be missing
+//! in a faulty text. The values of strings, integers and booleans and the texts of names are written by hand, in `literals` and `text`.
+""",
+    "apollo_cst_exec": """//! Typed nodes of operations, selections and fragments.
+//!
+//! There is a struct for each kind of node, and an enum for each choice of the grammar. An accessor gives a part of a node, which may be missing
+//! in a faulty text. Their values, directives and types are in `apollo_cst_value`.
+""",
+    "apollo_cst_types": """//! Typed nodes of the type system's definitions.
+//!
+//! There is a struct for each kind of node: schemas, types, their fields and their values. An accessor gives a part of a node, which may be
+//! missing in a faulty text. Definitions of directives and extensions are in `apollo_cst_document`.
+""",
+    "apollo_cst_document": """//! Typed nodes of documents, directive definitions and extensions.
+//!
+//! There is a struct for each kind of node, and `Definition` is the choice of all definitions. An accessor gives a part of a node, which may be
+//! missing in a faulty text. The calls of `Definition` and the names of directive locations are written by hand.
+""",
 }
 
 # What is passed on besides the typed nodes and the types of leaves.
@@ -34,8 +50,7 @@ def root_text(crate, grammar):
     modules = {path.stem for path in source.glob("*.rt")} - {"lib"} | set(CRATES[crate])
     declared = "".join(f"mod {module};\n" for module in sorted(modules))
     passed_on = "".join(f"pub {use_line(module, exports(crate, module, grammar), 4)}" for module in sorted(CRATES[crate]))
-    return f"""{mark("//", SOURCE)}// {ABOUT[crate]}
-#![tactic(auto)]
+    return f"""{mark("//", SOURCE)}{ABOUT[crate]}#![tactic(auto)]
 
 {declared}
 {passed_on}"""

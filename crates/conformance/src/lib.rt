@@ -1,4 +1,7 @@
-// Tests that cross crates: memory that is refused, texts that nest deeply or are cut short, and devices that fail.
+//! Tests that cross crates: memory that is refused, texts that nest deeply or are cut short, and devices that fail.
+//!
+//! Each request for memory is refused in turn, by the allocator `RefusesOne`: the call then has to fail and to leave what was there as it was.
+//! The devices are readers and writers that fail after some bytes.
 #![tactic(auto)]
 
 #[cfg(test)]

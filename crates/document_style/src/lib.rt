@@ -1,5 +1,7 @@
-// Where the lines of a document break, and what else is between its tokens: the layout of graphql-js's `print`, with comments. It is advice to a
-// writer, so it has no contract beyond its safety.
+//! Where the lines of a document break, and what else is between its tokens: the layout of graphql-js's `print`, with comments.
+//!
+//! One walk over a tree gives a gap for each token. That is advice to a writer, so it has no contract beyond its safety: whatever the gaps,
+//! `token_layout` keeps the tokens.
 #![tactic(auto)]
 
 mod gaps;

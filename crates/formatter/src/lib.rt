@@ -1,4 +1,7 @@
-// Formats a GraphQL document: the same document with another layout, or the errors of a text that is none.
+//! Formats a GraphQL document: the same document with another layout, or the errors of a text that is none.
+//!
+//! `format` parses the text and writes it anew. It keeps significant tokens and comments, in their order; only block strings may be spelled
+//! anew, with the same value.
 #![tactic(auto)]
 
 ghost use Rattle.std.specs.Prelude.{◌≡◌, IfErr, IfOk, string_bytes};

@@ -1,4 +1,7 @@
-// What the program `gqlfmt` does between its words, its devices and the files that it formats.
+//! What the program `gqlfmt` does between its words, its devices and the files that it formats.
+//!
+//! `run` formats the standard input or files, and can instead list what would change or show the changes. Errors have their line and column.
+//! Devices and files are type parameters, so that contracts can name what is read and written.
 #![tactic(auto)]
 
 mod command;

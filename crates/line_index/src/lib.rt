@@ -1,4 +1,7 @@
 //! The place of a byte of a text: its line, and its column in that line.
+//!
+//! `LineIndex` reads a text once and keeps where its lines begin. Columns are counted in bytes, in characters or in units of UTF-16, and lines
+//! end as GraphQL's line terminators do. All numbers count from 0.
 #![tactic(auto)]
 
 ghost use Rattle.std.specs.Prelude.{◌≡◌, ◌+◌, ◌^◌, ◌<◌, ◌==◌, ◌&&◌, ◌≤◌, length, slice_index, slice_range, IfOk, MatchOption, take_while, not};

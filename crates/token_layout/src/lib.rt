@@ -1,5 +1,8 @@
-// Writes tokens one after another so that they stay the tokens that they are: wherever lines break and whatever is between two tokens, the
-// text has the significant tokens and the comments that were written, in that order.
+//! Writes tokens one after another so that they stay the tokens that they are.
+//!
+//! Wherever lines break and whatever is between two tokens, the text has the significant tokens and the comments that were written, in that
+//! order. `Layout` is the writer, and `Gap` is what it writes between two tokens: a comma or none, line feeds, and spaces. Which gaps to take is
+//! its caller's choice.
 #![tactic(auto)]
 
 mod gap;
