@@ -11,7 +11,7 @@ use Rattle.parser_rules.specs.Nodes.{Document}
 use Rattle.parser_rules.specs.RuleLanguage.{Rule, Call}
 use Rattle.parser_rules.specs.Runs.{Runs}
 use Rattle.parser_rules.proofs.runs.Reading.{reading}
-use Rattle.parser_rules.proofs.runs.Marked.{Marked, moved_on}
+use Rattle.parser_rules.proofs.runs.TreesWithSources.{TreesWithSources, moved_on}
 use Rattle.parser_rules.proofs.runs.Fuel.{rules_deep}
 use Rattle.parser_rules.proofs.runs.Walk.{Sound, walk, walked_whole, walked_root, always}
 use Rattle.parser_rules.proofs.runs.Frame.{left, read-left, moved-left, read-untouched}
@@ -23,7 +23,7 @@ use Rattle.parser_rules.proofs.NodeChecks.{node-passes, document_passes}
 
 module _ (n : ℕ) where
   -- The levels that are entered, what is left to read, and a token to spare are no more than n, nor is what was asked for.
-  record Held (a : Taken) (b s : State) (f : Marked) : Type 0 where
+  record Held (a : Taken) (b s : State) (f : TreesWithSources) : Type 0 where
     depth : s.depth ≡ b.depth + a.entered
     fewer : left s ≤ left b
     room : s.depth + left s + a.spare ≤ n
@@ -31,7 +31,7 @@ module _ (n : ℕ) where
     token : a.there ≡ true → is_some s.current ≡ true
 
   -- a token is taken
-  taken : (own : SyntaxKind) (a : Taken) (b s : State) (f g : Marked) (x : Lexeme) → s.current ≡ Some x → Held a b s f → Held (take a) b (moved own s (Some x)) g
+  taken : (own : SyntaxKind) (a : Taken) (b s : State) (f g : TreesWithSources) (x : Lexeme) → s.current ≡ Some x → Held a b s f → Held (take a) b (moved own s (Some x)) g
   unfolding flush left
   taken own a b s f g x e h =
       let u = read-untouched s.items (moved_on own x (flush s)) in
@@ -56,7 +56,7 @@ module _ (n : ℕ) where
       at-most false n = omega arith
 
   -- where there is none, none was known
-  not-taken : (a : Taken) (b s : State) (f : Marked) → s.current ≡ None → Held a b s f → Held (take a) b s f
+  not-taken : (a : Taken) (b s : State) (f : TreesWithSources) → s.current ≡ None → Held a b s f → Held (take a) b s f
   not-taken a b s f e h = elim (either a.there) [
     | inl y ↦ false-true (ap is_some e) (h.token y)
     | inr y ↦ (let p = h.room in let c = ap (λ (b : Bool). cond b 1 a.spare) y in record { depth = h.depth; fewer = h.fewer; room = omega (arith, p, c); high = h.high; token = λ z. false-true refl z })
