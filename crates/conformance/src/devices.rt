@@ -302,7 +302,7 @@ fn expect_all(rt: &(impl Abort + AllocGlobal)) -> Result<(), AllocError> {
 
 // A request that was refused to the test itself is granted the second time.
 #[test]
-fn devices_that_fail(rt: HostRuntime) -> Result<(), Fail> {
+fn failing_devices_are_reported(rt: HostRuntime) -> Result<(), Fail> {
     if expect_all(&rt).is_err() {
         expect_all(&rt)?;
     }

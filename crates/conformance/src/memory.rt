@@ -107,7 +107,7 @@ fn expect_all(rt: &(impl Abort + AllocGlobal)) -> Result<(), AllocError> {
 
 // A request that was refused to the test itself is granted the second time.
 #[test]
-fn refused_requests(rt: HostRuntime) -> Result<(), Fail> {
+fn a_refused_request_fails_the_call_alone(rt: HostRuntime) -> Result<(), Fail> {
     if expect_all(&rt).is_err() {
         expect_all(&rt)?;
     }

@@ -206,7 +206,7 @@ fn lexer_behind_its_limit(source: &str) -> Lexer<'_> {
 
 // A limit counts from the next item on, whatever the limit was before. After the limit error nothing more is given.
 #[test]
-fn limit_is_set_later(rt: HostRuntime) -> Result<(), Fail> {
+fn a_limit_set_later_counts_from_the_next_item(rt: HostRuntime) -> Result<(), Fail> {
     for (limit, lines) in [
         (0, "ERROR@1:1 \"token limit reached, aborting lexing\" \n"),
         (
@@ -232,7 +232,7 @@ fn limit_is_set_later(rt: HostRuntime) -> Result<(), Fail> {
 }
 
 #[test]
-fn lists_of_tokens_and_errors(rt: HostRuntime) -> Result<(), Fail> {
+fn a_limit_ends_the_list_of_tokens(rt: HostRuntime) -> Result<(), Fail> {
     for (limit, count, index) in [(10, 10, Some(17)), (26, 26, None), (25, 25, Some(31))] {
         let (tokens, errors) = lex(rt.alloc(), QUERY, limit)?;
         assert_eq!(rt; tokens.len(), count);
@@ -337,7 +337,7 @@ fn copies_go_on_alike(rt: HostRuntime) -> Result<(), Fail> {
 }
 
 #[test]
-fn laws_are_called() {
+fn laws_of_the_lexer_hold() {
     answers_are_items(&lexer_of("a b", 2));
     answers_join("a b");
     answers_count();
@@ -388,7 +388,7 @@ fn items_join_to_the_source(rt: HostRuntime) -> Result<(), Fail> {
 }
 
 #[test]
-fn quotes_inside_block_strings(rt: HostRuntime) -> Result<(), Fail> {
+fn quotes_inside_block_strings_do_not_end_them(rt: HostRuntime) -> Result<(), Fail> {
     let block =
         "\"\"\"\nNot an escape character:\n'/\\W/'\nEscape character:\n\\\"\"\"\n\\\"\"\"\\\"\"\"\nNot escape characters:\n\\\" \\\"\"\nEscape character followed by a quote:\n\\\"\"\"\"\n\"\"\"";
     let (tokens, errors) = lex(rt.alloc(), block, UNLIMITED)?;
@@ -398,7 +398,7 @@ fn quotes_inside_block_strings(rt: HostRuntime) -> Result<(), Fail> {
 }
 
 #[test]
-fn block_strings_without_an_end(rt: HostRuntime) -> Result<(), Fail> {
+fn a_block_string_without_an_end_is_bad_text(rt: HostRuntime) -> Result<(), Fail> {
     let source =
         "\n# String contents: \"\"\"\n\"\"\"\\\"\"\"\"\"\"\n# Unclosed block string\n\"\"\"\\\"\"\"\n        ";
     let (tokens, errors) = lex(rt.alloc(), source, UNLIMITED)?;

@@ -74,7 +74,7 @@ fn all_have_their_message(
 }
 
 #[test]
-fn first_messages(rt: HostRuntime) -> Result<(), Fail> {
+fn bad_texts_have_their_messages(rt: HostRuntime) -> Result<(), Fail> {
     all_have_their_message(&rt, rt.alloc(), &outside_strings())?;
     all_have_their_message(&rt, rt.alloc(), &in_strings())
 }

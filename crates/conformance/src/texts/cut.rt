@@ -77,7 +77,7 @@ fn expect_all(rt: &(impl Abort + AllocGlobal)) -> Result<(), AllocError> {
 
 // A request that was refused to the test itself is granted the second time.
 #[test]
-fn beginnings_of_sentences(rt: HostRuntime) -> Result<(), Fail> {
+fn beginnings_of_sentences_are_kept_whole(rt: HostRuntime) -> Result<(), Fail> {
     if expect_all(&rt).is_err() {
         expect_all(&rt)?;
     }

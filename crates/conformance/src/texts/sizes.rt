@@ -68,7 +68,7 @@ fn expect_all(rt: &(impl Abort + AllocGlobal)) -> Result<(), AllocError> {
 
 // A request that was refused to the test itself is granted the second time.
 #[test]
-fn sizes_of_the_worst_texts(rt: HostRuntime) -> Result<(), Fail> {
+fn the_worst_texts_keep_to_their_sizes(rt: HostRuntime) -> Result<(), Fail> {
     if expect_all(&rt).is_err() {
         expect_all(&rt)?;
     }
