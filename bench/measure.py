@@ -1,8 +1,8 @@
 #!/usr/bin/env python3
 """Runs programs in turn and prints best and median times in milliseconds, and the peak memory of each.
 
-measure.py ROUNDS FOLDER OUR_MEASURE THEIR_MEASURE OUR_PROGRAM THEIR_PROGRAM: the first two read a text and write lines `lex N` and `parse N`
-on standard error, N microseconds each; the other two take a mode. Texts of 5 MB are made in FOLDER."""
+measure.py ROUNDS FOLDER OUR_MEASURE THEIR_MEASURE OUR_PROGRAM THEIR_PROGRAM: each is a program and its first words. The first two read a text and write
+lines `lex N` and `parse N` on standard error, N microseconds each; the other two take a mode. Texts of 5 MB are made in FOLDER."""
 import os
 import statistics
 import subprocess
@@ -34,7 +34,7 @@ def measured(rounds, text, commands):
     times = {}
     for _ in range(rounds):
         for command in commands:
-            for line in run([command], text)[2].splitlines():
+            for line in run(command.split(), text)[2].splitlines():
                 step, micros = line.split()
                 times.setdefault((step, command), []).append(int(micros) / 1e6)
     return times

@@ -18,5 +18,5 @@ done
 for crate in speed gqlcst; do
   [ -x "$top/crates/$crate/out/$crate" ] || (cd "$top/crates/$crate" && rt run < stdin > "$work/$crate.log" 2>&1 || true)
 done
-python3 "$top/bench/measure.py" "${2:-15}" "$work" "$top/crates/speed/out/speed" "$work/measure.built/release/oracle" \
+python3 "$top/bench/measure.py" "${2:-15}" "$work" "$top/crates/speed/out/speed parse" "$work/measure.built/release/oracle" \
   "$top/crates/gqlcst/out/gqlcst" "$work/program.built/release/oracle --original"

@@ -13,9 +13,9 @@ cp -r "$1" "$work/original"
 cp "$top/bench/original_walk.rs" "$work/original/src/main.rs"
 (cd "$work/original" && cargo build --quiet --release --offline)
 
-cd "$top/crates/cst_speed"
-[ -x out/cst_speed ] || rt run < stdin > "$work/built" 2>&1
+cd "$top/crates/speed"
+[ -x out/speed ] || rt run -- walk < stdin > "$work/built" 2>&1
 for turn in 1 2 3; do
-  echo "walk:     $(out/cst_speed < "$work/text.graphql" 2>&1 | tr '\n' ' ')"
+  echo "walk:     $(out/speed walk < "$work/text.graphql" 2>&1 | tr '\n' ' ')"
   echo "original: $(cd "$work/original" && cargo run --quiet --release --offline -- "$work/text.graphql")"
 done

@@ -1,48 +1,29 @@
-//! Measures the lexer and the parser: reads a text from standard input, and goes over it some times with the one and the other. It prints
-//! how many bytes the tokens have and how many elements the tree; on standard error, how many microseconds each of them took.
+//! Measures this project's library on the text of its standard input. Each word says what:
+//! `parse` goes over the text three times with the lexer and with the parser, and `walk` goes once over the typed tree.
+//!
+//! On standard output: how many bytes the tokens have and how many elements the tree; for the walk, the number of fields and of arguments,
+//! and the bytes of all values of strings. On standard error: the microseconds of each step, and the megabytes a second of the walk.
 #![tactic(auto)]
 
-use apollo_parser::{Lexer, Parser};
-use std::io;
-use std::time::Instant;
+mod parsing;
+mod walking;
 
-const ROUNDS: usize = 3;
+use std::{env, io};
 
-// The bytes of all tokens.
-fn token_bytes(text: &str) -> usize {
-    let mut bytes: usize = 0;
-    for item in Lexer::new(text) {
-        if let Ok(token) = item {
-            bytes = bytes.wrapping_add(token.data().len());
-        }
+const USAGE: &str = "usage: speed (parse | walk)..";
+
+fn measure(rt: &HostRuntime, word: &str, text: &str) -> io::Result<()> {
+    match word {
+        "parse" => parsing::lex_and_parse(rt, text),
+        "walk" => walking::walk(rt, text),
+        _ => eprintln!(rt; "{USAGE}"),
     }
-    bytes
-}
-
-fn lex(rt: &HostRuntime, text: &str) -> io::Result<()> {
-    let started = Instant::now(rt)?;
-    let bytes = token_bytes(text);
-    let spent = started.elapsed(rt)?;
-    let micros = spent.as_micros();
-    eprintln!(rt; "lex {micros}")?;
-    println!(rt; "{bytes} bytes")
-}
-
-fn parse(rt: &HostRuntime, text: &str) -> io::Result<()> {
-    let started = Instant::now(rt)?;
-    let tree = Parser::new(text).parse(rt.alloc())?;
-    let spent = started.elapsed(rt)?;
-    let micros = spent.as_micros();
-    eprintln!(rt; "parse {micros}")?;
-    let elements = tree.element_count();
-    println!(rt; "{elements} elements")
 }
 
 fn main(rt: HostRuntime) -> io::Result<()> {
     let source = io::read_to_string(rt.alloc(), rt.stdin())?;
-    for _ in 0..ROUNDS {
-        lex(&rt, source.as_str())?;
-        parse(&rt, source.as_str())?;
+    for word in env::args(&rt)?.skip(1) {
+        measure(&rt, word.as_str(), source.as_str())?;
     }
     Ok(())
 }

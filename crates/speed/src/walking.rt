@@ -1,7 +1,4 @@
-//! Measures the typed tree: reads a document from standard input, parses it, and walks it by accessors alone. Prints the number of fields and
-//! arguments and the bytes of all values of strings; on standard error, how many megabytes a second the walk made.
-#![tactic(auto)]
-
+// A walk over the typed tree of a document, by accessors alone.
 use apollo_parser::Parser;
 use apollo_parser::cst::{
     Arguments, Definition, Document, ObjectValue, Selection, SelectionSet, Value,
@@ -134,13 +131,12 @@ fn throughput(bytes: usize, micros: u128) -> u64 {
     }
 }
 
-fn main(rt: HostRuntime) -> io::Result<()> {
-    let source = io::read_to_string(rt.alloc(), rt.stdin())?;
-    let tree = Parser::new(source.as_str()).parse(rt.alloc())?;
-    let started = Instant::now(&rt)?;
+pub fn walk(rt: &HostRuntime, text: &str) -> io::Result<()> {
+    let tree = Parser::new(text).parse(rt.alloc())?;
+    let started = Instant::now(rt)?;
     let walk = walk_document(rt.alloc(), tree.document(), tree.element_count())?;
-    let spent = started.elapsed(&rt)?;
-    let speed = throughput(source.len(), spent.as_micros());
+    let spent = started.elapsed(rt)?;
+    let speed = throughput(text.len(), spent.as_micros());
     let (fields, arguments, string_bytes) = (walk.fields, walk.arguments, walk.string_bytes);
     eprintln!(rt; "{speed} MB/s")?;
     println!(rt; "{fields} fields, {arguments} arguments, {string_bytes} bytes of strings")
