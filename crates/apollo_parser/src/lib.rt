@@ -6,6 +6,7 @@
 #![tactic(auto)]
 
 pub mod cst;
+pub mod laws;
 mod parser;
 mod syntax_tree;
 

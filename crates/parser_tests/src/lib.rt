@@ -12,5 +12,6 @@ mod expected;
 mod parsing;
 #[cfg(test)]
 mod parts;
+pub mod promises;
 #[cfg(test)]
 mod typed;
