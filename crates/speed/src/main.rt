@@ -15,7 +15,7 @@ const USAGE: &str = "usage: speed (parse | walk)..";
 fn measure(rt: &HostRuntime, word: &str, text: &str) -> io::Result<()> {
     match word {
         "parse" => parsing::lex_and_parse(rt, text),
-        "walk" => walking::walk(rt, text),
+        "walk" => walking::walk_text(rt, text),
         _ => eprintln!(rt; "{USAGE}"),
     }
 }

@@ -131,7 +131,7 @@ fn throughput(bytes: usize, micros: u128) -> u64 {
     }
 }
 
-pub fn walk(rt: &HostRuntime, text: &str) -> io::Result<()> {
+pub fn walk_text(rt: &HostRuntime, text: &str) -> io::Result<()> {
     let tree = Parser::new(text).parse(rt.alloc())?;
     let started = Instant::now(rt)?;
     let walk = walk_document(rt.alloc(), tree.document(), tree.element_count())?;
