@@ -1,5 +1,4 @@
--- The words of the contracts of this crate.
-pub use Rattle.std.specs.Prelude.{◌≡◌, true, [], OnOk}
+-- The words of the contracts of this crate, but for those of the standard library.
 pub use Rattle.lexical_grammar.specs.declared.TokenKind.TheVariants as token
 pub use Rattle.document_grammar.specs.Choices.{is_keyword}
 pub use Rattle.document_grammar.specs.Numbers.{number}

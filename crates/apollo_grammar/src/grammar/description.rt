@@ -1,6 +1,7 @@
 // Descriptions.
 
-ghost use Rattle.apollo_grammar.specs.Words.{◌≡◌, true, is_keyword, number, holds, Here, At, Child, Call, Parses};
+ghost use Rattle.std.specs.Prelude.{◌≡◌, true};
+ghost use Rattle.apollo_grammar.specs.Words.{is_keyword, number, holds, Here, At, Child, Call, Parses};
 ghost use Rattle.apollo_grammar.specs.Words.rule;
 ghost use Rattle.apollo_grammar.specs.Words.rules;
 ghost use Rattle.apollo_grammar.specs.Words.token;

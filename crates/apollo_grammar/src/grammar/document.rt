@@ -1,6 +1,7 @@
 // Documents.
 
-ghost use Rattle.apollo_grammar.specs.Words.{◌≡◌, fits, holds, Here, Call, second, current_of, Parses};
+ghost use Rattle.std.specs.Prelude.{◌≡◌};
+ghost use Rattle.apollo_grammar.specs.Words.{fits, holds, Here, Call, second, current_of, Parses};
 ghost use Rattle.apollo_grammar.specs.Words.rule;
 ghost use Rattle.apollo_grammar.specs.Words.rules;
 

@@ -1,7 +1,8 @@
 // Extensions: the word after `extend` says which.
 #![tactic(auto, using(crate::proofs::Looks::looking), unfolding(parser_rules::specs::Rules::body, parser_rules::specs::RuleLanguage::holds))]
 
-ghost use Rattle.apollo_grammar.specs.Words.{◌≡◌, Call, second, current_of, Parses};
+ghost use Rattle.std.specs.Prelude.{◌≡◌};
+ghost use Rattle.apollo_grammar.specs.Words.{Call, second, current_of, Parses};
 ghost use Rattle.apollo_grammar.specs.Words.rule;
 
 use super::enum_::enum_type_extension;

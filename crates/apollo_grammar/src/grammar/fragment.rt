@@ -1,6 +1,7 @@
 // Fragments.
 
-ghost use Rattle.apollo_grammar.specs.Words.{◌≡◌, true, holds, At, Child, Call, Parses};
+ghost use Rattle.std.specs.Prelude.{◌≡◌, true};
+ghost use Rattle.apollo_grammar.specs.Words.{holds, At, Child, Call, Parses};
 ghost use Rattle.apollo_grammar.specs.Words.rule;
 ghost use Rattle.apollo_grammar.specs.Words.token;
 

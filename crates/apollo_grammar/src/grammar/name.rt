@@ -1,6 +1,7 @@
 // Names.
 
-ghost use Rattle.apollo_grammar.specs.Words.{◌≡◌, true, holds, At, Child, Call, second, current_of, Parses};
+ghost use Rattle.std.specs.Prelude.{◌≡◌, true};
+ghost use Rattle.apollo_grammar.specs.Words.{holds, At, Child, Call, second, current_of, Parses};
 ghost use Rattle.apollo_grammar.specs.Words.rule;
 ghost use Rattle.apollo_grammar.specs.Words.token;
 

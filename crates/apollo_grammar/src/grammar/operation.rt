@@ -1,6 +1,7 @@
 // Operations.
 
-ghost use Rattle.apollo_grammar.specs.Words.{◌≡◌, true, holds, At, Child, Parses};
+ghost use Rattle.std.specs.Prelude.{◌≡◌, true};
+ghost use Rattle.apollo_grammar.specs.Words.{holds, At, Child, Parses};
 ghost use Rattle.apollo_grammar.specs.Words.rule;
 ghost use Rattle.apollo_grammar.specs.Words.rules;
 ghost use Rattle.apollo_grammar.specs.Words.token;

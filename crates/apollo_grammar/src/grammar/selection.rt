@@ -1,6 +1,7 @@
 // Selection sets.
 
-ghost use Rattle.apollo_grammar.specs.Words.{◌≡◌, true, fits, holds, Here, At, Child, Call, second, current_of, Parses};
+ghost use Rattle.std.specs.Prelude.{◌≡◌, true};
+ghost use Rattle.apollo_grammar.specs.Words.{fits, holds, Here, At, Child, Call, second, current_of, Parses};
 ghost use Rattle.apollo_grammar.specs.Words.fragments;
 ghost use Rattle.apollo_grammar.specs.Words.rule;
 ghost use Rattle.apollo_grammar.specs.Words.rules;

@@ -1,6 +1,7 @@
 // Types.
 
-ghost use Rattle.apollo_grammar.specs.Words.{◌≡◌, true, [], OnOk, holds, Here, At, Child, Call, flush, Parses};
+ghost use Rattle.std.specs.Prelude.{◌≡◌, true, [], OnOk};
+ghost use Rattle.apollo_grammar.specs.Words.{holds, Here, At, Child, Call, flush, Parses};
 ghost use Rattle.apollo_grammar.specs.Words.fragments;
 ghost use Rattle.apollo_grammar.specs.Words.rule;
 ghost use Rattle.apollo_grammar.specs.Words.rules;

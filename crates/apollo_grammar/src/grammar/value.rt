@@ -1,6 +1,7 @@
 // Values.
 
-ghost use Rattle.apollo_grammar.specs.Words.{◌≡◌, true, holds, Here, At, Child, Call, Parses};
+ghost use Rattle.std.specs.Prelude.{◌≡◌, true};
+ghost use Rattle.apollo_grammar.specs.Words.{holds, Here, At, Child, Call, Parses};
 ghost use Rattle.apollo_grammar.specs.Words.rule;
 ghost use Rattle.apollo_grammar.specs.Words.rules;
 ghost use Rattle.apollo_grammar.specs.Words.token;

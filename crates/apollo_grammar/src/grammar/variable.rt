@@ -1,6 +1,7 @@
 // Variables.
 
-ghost use Rattle.apollo_grammar.specs.Words.{◌≡◌, holds, Here, Child, Call, Parses};
+ghost use Rattle.std.specs.Prelude.{◌≡◌};
+ghost use Rattle.apollo_grammar.specs.Words.{holds, Here, Child, Call, Parses};
 ghost use Rattle.apollo_grammar.specs.Words.rule;
 ghost use Rattle.apollo_grammar.specs.Words.rules;
 
