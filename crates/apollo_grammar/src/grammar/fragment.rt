@@ -16,6 +16,7 @@ use parser_state::ParserState;
 use std::alloc::{AllocError, Allocator};
 
 /// A fragment definition (GraphQL October 2021, section 2.8, "Fragments").
+#[tactic(auto, using(parser_rules::proofs::runs::Running::running), unfolding(parser_rules::specs::Rules::inside, parser_rules::specs::Rules::body))]
 pub fn fragment_definition<A: Allocator + Copy>(
     p: &mut ParserState<'_, A>,
 ) -> Result<(), AllocError>
