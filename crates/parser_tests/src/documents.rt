@@ -2,6 +2,7 @@ mod descriptions;
 mod executable;
 mod own_limits;
 mod type_system;
+mod type_system_trees;
 
 use crate::expected::{Found, Limited, has_errors};
 use crate::parsing::{parse, parse_by, parse_counted};
