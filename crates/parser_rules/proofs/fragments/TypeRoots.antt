@@ -20,9 +20,9 @@ use Rattle.parser_rules.proofs.fragments.WrappedRuns.{wrapped-run, wrapped-root}
 -- ---- where no node is open
 
 -- the place before all that is built
-pub root-mark : (place : ℕ) (s : State) → place ≡ 0 → s.tree.above ≡ [] → IsCheckpoint place s.tree
+pub root-checkpoint : (place : ℕ) (s : State) → place ≡ 0 → s.tree.above ≡ [] → IsCheckpoint place s.tree
 unfolding IsCheckpoint
-root-mark place s first none =
+root-checkpoint place s first none =
     let least : IsPlace 0 (record { here = s.tree.here; above = [] }) = record { inside = omega arith; seam = refl } in
     subst (λ (n : ℕ). IsPlace n s.tree) (sym first) (subst (λ (above : List Open). IsPlace 0 (record { here = s.tree.here; above = above })) (sym none) least)
 

@@ -79,11 +79,11 @@ Keeps s t = record {
   bound : s.depth ≤ s.limit → s.high ≤ s.limit + 1 → t.high ≤ s.limit + 1;
 }
 
-calm : (s t : State) → left t ≤ left s → t.depth ≡ s.depth → t.limit ≡ s.limit → t.high ≡ s.high → t.asked ≡ s.asked → t.budget ≡ s.budget → Keeps s t
-calm s t f d l h n b = record { fewer = f; depth = d; limit = l; asked = n; budget = b; higher = omega arith; bound = λ y c. omega arith }
+same-levels : (s t : State) → left t ≤ left s → t.depth ≡ s.depth → t.limit ≡ s.limit → t.high ≡ s.high → t.asked ≡ s.asked → t.budget ≡ s.budget → Keeps s t
+same-levels s t f d l h n b = record { fewer = f; depth = d; limit = l; asked = n; budget = b; higher = omega arith; bound = λ y c. omega arith }
 
 same : (s : State) → Keeps s s
-same s = calm s s (omega arith) refl refl refl refl refl
+same s = same-levels s s (omega arith) refl refl refl refl refl
 
 next : (s t u : State) → Keeps s t → Keeps t u → Keeps s u
 next s t u h k = record {
@@ -101,7 +101,7 @@ moves leaf x s e =
     let t : State = record s { tree = add_leaf leaf x.text s.tree } in
     let u = read-untouched s.items t in
     let f = moved-left leaf x s e in
-    calm s (read_on s.items t) (omega (arith, f)) u.depth u.limit u.high u.asked u.budget
+    same-levels s (read_on s.items t) (omega (arith, f)) u.depth u.limit u.high u.asked u.budget
 
 pub not-deep : (s : State) → false ≡ is_deep s → s.depth < s.limit
 unfolding is_deep
@@ -226,13 +226,13 @@ unfolding wrapped_from IsOpen
 open-wrapped k place s free e = subst (λ w. is_free_in w.tree.above ≡ true) (sym e) free
 
 -- the place after all that is built
-pub is-mark : (s : State) (place : ℕ) → place ≡ built_count s.tree → IsCheckpoint place s.tree
+pub is-checkpoint : (s : State) (place : ℕ) → place ≡ built_count s.tree → IsCheckpoint place s.tree
 unfolding IsCheckpoint
-is-mark s place e = subst (λ n. IsPlace n s.tree) (sym e) (place-last s.tree)
+is-checkpoint s place e = subst (λ n. IsPlace n s.tree) (sym e) (place-last s.tree)
 
-pub still-mark : (place : ℕ) {r : Rule} {s t : State} → Runs r s t → IsCheckpoint place s.tree → IsCheckpoint place t.tree
+pub still-checkpoint : (place : ℕ) {r : Rule} {s t : State} → Runs r s t → IsCheckpoint place s.tree → IsCheckpoint place t.tree
 unfolding IsCheckpoint
-still-mark place h m = place-added place (adds h).trees m
+still-checkpoint place h m = place-added place (adds h).trees m
 
 -- a token that is there is still there in a node that was opened
 pub still-at : (k : SyntaxKind) (kind : TokenKind) (s : State) {t : State} → true ≡ holds (At kind) s → t ≡ opened k s → true ≡ holds (At kind) t

@@ -213,13 +213,13 @@ module _ (r k : ℕ) (source : List ℕ) (items : List Item) (s : State) (cut : 
   xs = limited k items
 
   -- the first report is right, and how many tokens are before
-  abbrev Told_right : Report → ℕ → Type 0
-  Told_right e m = (i : IsRight source items r k e) × (m ≡ length (tokens_of i.before))
+  abbrev Right_before : Report → ℕ → Type 0
+  Right_before e m = (i : IsRight source items r k e) × (m ≡ length (tokens_of i.before))
 
   -- what holds at the place of an answer
   at-place : IsUtf8 source → {x : Answer} {ys : List Answer} (e : Report) (m : ℕ) (p : Passed xs (x ∷ ys)) → Viable document xs r (answers_tokens xs) (answers_tokens (x ∷ ys))
       → TokensBefore document xs r (answers_tokens xs) m (answers_tokens (x ∷ ys))
-      → ((b : Before k items p.front x ys) → Reason items r k b.before b.item b.more e) → Told_right e m
+      → ((b : Before k items p.front x ys) → Reason items r k b.before b.item b.more e) → Right_before e m
   unfolding xs
   at-place u {x = x} {ys = ys} e m p v c reason =
       let b = before-at k items p.front x ys p.split p.tokens in
@@ -237,13 +237,13 @@ module _ (r k : ℕ) (source : List ℕ) (items : List Item) (s : State) (cut : 
       let same : item ≡ b.item = (given-is _ b.item item b.more ys b.answers).0 in
       subst (λ (i : Item). Reason items r k b.before b.item b.more (bad_report i.text i.index)) (sym same) (bad_text (subst (λ (i : Item). i.kind ≡ None) same (not-some item.kind h)))
 
-  told : IsUtf8 source → (e : Report) (m : ℕ) → RightReport document xs r (answers_tokens xs) e m → Told_right e m
+  right-before : IsUtf8 source → (e : Report) (m : ℕ) → RightReport document xs r (answers_tokens xs) e m → Right_before e m
   unfolding xs
-  told u e m (stuck_here said {t = t} {items = ys} now p k c) = at-place u (fault_report said t) m p k.1 c (λ q. fault said t (item-there t q) now.0 (λ a z. not-starts document (answers_tokens xs) (answers_tokens (given_by t ∷ ys)) k.0
+  right-before u e m (stuck_here said {t = t} {items = ys} now p k c) = at-place u (fault_report said t) m p k.1 c (λ q. fault said t (item-there t q) now.0 (λ a z. not-starts document (answers_tokens xs) (answers_tokens (given_by t ∷ ys)) k.0
       (subst (λ (l : List Terminal). Starts document l) (from-words k.0.before (tokens_of q.before) _ _ (words-before xs p.front (given_by t ∷ ys) k.0.before p.split k.0.split ∙ q.words) (two-at t q now a)) (sentence-starts _ z))))
-  told u e m (deep_here {t = t} {items = ys} now p k c) = at-place u (recursion_limit_report t) m p k.comes c (λ q. too_deep t (item-there t q) (λ z. not-within-one r xs (answers_tokens xs) (answers_tokens (given_by t ∷ ys)) k
+  right-before u e m (deep_here {t = t} {items = ys} now p k c) = at-place u (recursion_limit_report t) m p k.comes c (λ q. too_deep t (item-there t q) (λ z. not-within-one r xs (answers_tokens xs) (answers_tokens (given_by t ∷ ys)) k
       (subst (λ (l : List Terminal). StartsWithin document r l) (from-words k.before (tokens_of q.before) _ _ (words-before xs p.front (given_by t ∷ ys) k.before p.split k.split ∙ q.words) (one-at t q now)) (sentence-starts-within r _ z))))
-  told u e m (no_token {x = x} {items = ys} p n v c) =
+  right-before u e m (no_token {x = x} {items = ys} p n v c) =
       let same = no-token-words x ys n in at-place u (report_of x) m p (rw same v) (rw same c) (other-reason p.front x ys n)
 
   -- the first report is right, and the nodes that end before its last token fit
@@ -251,7 +251,7 @@ module _ (r k : ℕ) (source : List ℕ) (items : List Item) (s : State) (cut : 
   unfolding xs
   first-report-right u e more h = elim (parsed r (limited k items) s (ends-well k 0 items cut.each) root run) [
     | inl o ↦ (
-        let i = told u e o.taken (subst (λ (z : Report). RightReport document (limited k items) r (answers_tokens (limited k items)) z o.taken) (head-same (sym o.reported ∙ h)) o.right) in (
+        let i = right-before u e o.taken (subst (λ (z : Report). RightReport document (limited k items) r (answers_tokens (limited k items)) z o.taken) (head-same (sym o.reported ∙ h)) o.right) in (
           i.0,
           subst (λ (n : ℕ). EndedFit n 0 (finished s)) i.1 (ended-root o.taken (add_all s.pending s.tree) (record { before = built.none; kind = root.0 })
               (add_all-above s.pending s.tree ∙ root.2) (settled-added o.taken (added-all s.pending s.tree) o.settled)),

@@ -191,7 +191,7 @@ impl<'i, A: Allocator + Copy> ParserState<'i, A> {
     ) -> Result<(), AllocError>
         requires first { first.place ≡ 0 }
         requires not_open { self.old.tree.above ≡ [] }
-        requires mark { IsCheckpoint place.place self.old.tree }
+        requires checkpoint { IsCheckpoint place.place self.old.tree }
         requires free { is_free kind ≡ true }
         ensures step { OnOk result (fragments.ClosesType place.place kind self.old self.new) }
         ensures budget { self.new.budget ≡ self.old.budget }

@@ -3,7 +3,7 @@ use Rattle.lexical_grammar.specs.declared.TokenKind.TheVariants as token
 use Rattle.document_grammar.specs.declared.kind.SyntaxKind.TheVariants as kind
 use Rattle.parser_rules.specs.State.{opened, flush}
 use Rattle.parser_rules.specs.RuleLanguage.{Kind}
-use Rattle.parser_rules.proofs.runs.Frame.{left, is-mark, still-mark, still-open, still-at, open-wrapped}
+use Rattle.parser_rules.proofs.runs.Frame.{left, is-checkpoint, still-checkpoint, still-open, still-at, open-wrapped}
 use Rattle.parser_rules.proofs.runs.Progress.{consuming, here-there, taken, entered-left, flushed-left}
 use Rattle.apollo_grammar.proofs.grammar.ty.+ty.Goals as goal
 
@@ -26,7 +26,7 @@ inside_list_type-item_type-requires g t c =
     λ κs w. (omega (arith, h, k, c.decreases), w)
 
 pub ty-wrap-requires : goal.ty-wrap-requires
-ty-wrap-requires g t c = still-mark _ c.in_ok-nullable_type.ensures.runs (is-mark c.checkpoint.new.self _ c.in_ok-checkpoint.ensures.place)
+ty-wrap-requires g t c = still-checkpoint _ c.in_ok-nullable_type.ensures.runs (is-checkpoint c.checkpoint.new.self _ c.in_ok-checkpoint.ensures.place)
 
 pub ty-finish_node-requires : goal.ty-finish_node-requires
 ty-finish_node-requires g t c = still-open c.in_ok-bump.ensures.runs (open-wrapped kind.NON_NULL_TYPE _ _ refl c.in_ok-wrap.ensures.step)
