@@ -5,7 +5,7 @@ use Rattle.lexical_grammar.specs.Answers.{Answer, is_token}
 use Rattle.apollo_lexer.specs.Diagnostics.{Diagnostic}
 use Rattle.apollo_lexer.specs.Answers.{error_answer}
 use Rattle.apollo_lexer.specs.Faults.{IsFaultMessage}
-use Rattle.apollo_lexer.specs.Told.{told_subject, limit_message, IsLexMessage, Tells, AreTold}
+use Rattle.apollo_lexer.specs.LexErrors.{lex_subject, limit_message, IsLexMessage, IsLexError, AreLexErrors}
 
 -- an error's answer is no token
 error-no-token : (limit : Bool) (text : List ℕ) (index : ℕ) → is_token (error_answer limit text index) ≡ false
@@ -19,42 +19,42 @@ tokens-kept tokens limit text index old rest all e h =
     let kept = rw e at h in
     rw error-no-token at kept
 
--- the errors report the first of all answers, and the rest is left
-abbrev pub Telling : List Answer → List Diagnostic → List Answer → Type 0
-Telling all [] rest = all ≡ rest
-Telling [] (d ∷ ds) rest = ⊥
-Telling (answer ∷ all) (d ∷ ds) rest = Tells answer d × Telling all ds rest
+-- the errors of the first of all answers, where the rest is left
+abbrev pub ErrorsBefore : List Answer → List Diagnostic → List Answer → Type 0
+ErrorsBefore all [] rest = all ≡ rest
+ErrorsBefore [] (d ∷ ds) rest = ⊥
+ErrorsBefore (answer ∷ all) (d ∷ ds) rest = IsLexError answer d × ErrorsBefore all ds rest
 
-pub told-more : (all : List Answer) (ds : List Diagnostic) (answer : Answer) (d : Diagnostic) (rest : List Answer) → Telling all ds (answer ∷ rest) → Tells answer d
-    → Telling all (ds ++ d ∷ []) rest
-told-more all [] answer d rest h t = subst (λ l. Telling l (d ∷ []) rest) (sym h) (t, refl)
-told-more [] (e ∷ ds) answer d rest h t = absurd h
-told-more (a ∷ all) (e ∷ ds) answer d rest h t = (h.0, told-more all ds answer d rest h.1 t)
+pub added-error : (all : List Answer) (ds : List Diagnostic) (answer : Answer) (d : Diagnostic) (rest : List Answer) → ErrorsBefore all ds (answer ∷ rest) → IsLexError answer d
+    → ErrorsBefore all (ds ++ d ∷ []) rest
+added-error all [] answer d rest h t = subst (λ l. ErrorsBefore l (d ∷ []) rest) (sym h) (t, refl)
+added-error [] (e ∷ ds) answer d rest h t = absurd h
+added-error (a ∷ all) (e ∷ ds) answer d rest h t = (h.0, added-error all ds answer d rest h.1 t)
 
-pub told-all : (all : List Answer) (ds : List Diagnostic) → Telling all ds [] → AreTold all ds
-told-all all [] h = subst (λ l. AreTold l []) (sym h) tt
-told-all [] (d ∷ ds) h = absurd h
-told-all (a ∷ all) (d ∷ ds) h = (h.0, told-all all ds h.1)
+pub errors-complete : (all : List Answer) (ds : List Diagnostic) → ErrorsBefore all ds [] → AreLexErrors all ds
+errors-complete all [] h = subst (λ l. AreLexErrors l []) (sym h) tt
+errors-complete [] (d ∷ ds) h = absurd h
+errors-complete (a ∷ all) (d ∷ ds) h = (h.0, errors-complete all ds h.1)
 
--- and an error is one more
+-- an error more
 pub errors-more : (all : List Answer) (ds : List Diagnostic) (d : Diagnostic) (limit : Bool) (text : List ℕ) (index : ℕ) (old rest : List Answer)
-    → old ≡ error_answer limit text index ∷ rest → Tells (error_answer limit text index) d
-    → Telling all ds (filter (λ a. not (is_token a)) old) → Telling all (ds ++ d ∷ []) (filter (λ a. not (is_token a)) rest)
+    → old ≡ error_answer limit text index ∷ rest → IsLexError (error_answer limit text index) d
+    → ErrorsBefore all ds (filter (λ a. not (is_token a)) old) → ErrorsBefore all (ds ++ d ∷ []) (filter (λ a. not (is_token a)) rest)
 errors-more all ds d limit text index old rest e t h =
     let kept = rw e at h in
-    told-more all ds (error_answer limit text index) d (filter (λ a. not (is_token a)) rest) (rw error-no-token at kept) t
+    added-error all ds (error_answer limit text index) d (filter (λ a. not (is_token a)) rest) (rw error-no-token at kept) t
 
--- the error that is made from an answer reports that answer
-pub told-tells : (limit : Bool) (text : List ℕ) (index : ℕ) (d : Diagnostic) → d.subject ≡ told_subject limit text → d.index ≡ index → IsLexMessage limit text d.message
-    → Tells (error_answer limit text index) d
-told-tells true text index d s i m = λ j. record { message = m j; subject = s j; index = i j }
-told-tells false text index d s i m = (s, i, m)
+-- the error that is made from an answer is that answer's
+pub lex-error-made : (limit : Bool) (text : List ℕ) (index : ℕ) (d : Diagnostic) → d.subject ≡ lex_subject limit text → d.index ≡ index → IsLexMessage limit text d.message
+    → IsLexError (error_answer limit text index) d
+lex-error-made true text index d s i m = λ j. record { message = m j; subject = s j; index = i j }
+lex-error-made false text index d s i m = (s, i, m)
 
 -- the messages
-pub limit-told : (limit : Bool) (text message : List ℕ) → limit ≡ true → message ≡ limit_message → IsLexMessage limit text message
-limit-told true text message is m = m
-limit-told false text message is m = absurd (cc)
+pub limit-message-is : (limit : Bool) (text message : List ℕ) → limit ≡ true → message ≡ limit_message → IsLexMessage limit text message
+limit-message-is true text message is m = m
+limit-message-is false text message is m = absurd (cc)
 
-pub text-told : (limit : Bool) (text message : List ℕ) → limit ≡ false → IsFaultMessage text message → IsLexMessage limit text message
-text-told true text message is m = absurd (cc)
-text-told false text message is m = m
+pub fault-message-is : (limit : Bool) (text message : List ℕ) → limit ≡ false → IsFaultMessage text message → IsLexMessage limit text message
+fault-message-is true text message is m = absurd (cc)
+fault-message-is false text message is m = m

@@ -1,6 +1,6 @@
 // The errors that a lexer gives.
 ghost use Rattle.std.specs.Prelude.{◌≡◌, ◌+◌, ◌<◌, ◌^◌, length, IsTrue, [], IfOk};
-ghost use Rattle.apollo_lexer.specs.Told.{told_subject, IsLexMessage};
+ghost use Rattle.apollo_lexer.specs.LexErrors.{lex_subject, IsLexMessage};
 
 use crate::error::Error;
 use crate::faults::bad_text_message;
@@ -42,7 +42,7 @@ impl<'a> LexError<'a> {
 
     /// The error, with a message, and with texts of its own. It fails only where memory is refused.
     pub fn to_error<A: Allocator + Copy>(&self, alloc: A) -> Result<Error<A>, AllocError>
-        ensures subject { IfOk result (λ e. e.subject ≡ told_subject self.now.is_limit self.now.text.now) }
+        ensures subject { IfOk result (λ e. e.subject ≡ lex_subject self.now.is_limit self.now.text.now) }
         ensures index { IfOk result (λ e. e.index ≡ self.now.index) }
         ensures message { IfOk result (λ e. IsLexMessage self.now.is_limit self.now.text.now e.message) }
     {

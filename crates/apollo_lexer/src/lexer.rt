@@ -78,7 +78,7 @@ impl<'a> Lexer<'a> {
 impl<'a> Lexer<'a> {
     ghost use Rattle.std.specs.Prelude.{IfOk, map, filter, not, Ok};
     ghost use Rattle.apollo_lexer.specs.Answers.{answers_left, answer_of};
-    ghost use Rattle.apollo_lexer.specs.Told.{AreTold};
+    ghost use Rattle.apollo_lexer.specs.LexErrors.{AreLexErrors};
     ghost use Rattle.lexical_grammar.specs.Answers.{is_token};
 
     /// The tokens and the errors that are left, each in order. It fails only where memory is refused.
@@ -87,7 +87,7 @@ impl<'a> Lexer<'a> {
         alloc: A,
     ) -> Result<(Vec<Token<'a>, A>, Vec<Error<A>, A>), AllocError>
         ensures tokens { IfOk result (λ lists. map (λ token. answer_of (Ok token)) lists.0.items ≡ filter is_token (answers_left self.entry)) }
-        ensures errors { IfOk result (λ lists. AreTold (filter (λ answer. not (is_token answer)) (answers_left self.entry)) lists.1.items) }
+        ensures errors { IfOk result (λ lists. AreLexErrors (filter (λ answer. not (is_token answer)) (answers_left self.entry)) lists.1.items) }
     {
         let mut tokens = Vec::new(alloc);
         let mut errors = Vec::new(alloc);

@@ -13,7 +13,7 @@ use Rattle.document_grammar.specs.Booleans.{◌and◌}
 use Rattle.document_grammar.proofs.Booleans.{either}
 use Rattle.std.proofs.lemmas.Bool.{eqb-true, or_left, or_right}
 use Rattle.apollo_lexer.specs.Diagnostics.{Subject, Diagnostic, of_text, of_end, of_limit}
-use Rattle.apollo_lexer.specs.Told.{limit_message}
+use Rattle.apollo_lexer.specs.LexErrors.{limit_message}
 use Rattle.apollo_lexer.proofs.Messages.{ascii-text, fault-ascii, begins_fault, no-fault-message}
 use Rattle.grammar_machine.specs.Machine.{text_eq}
 use Rattle.parser_rules.specs.declared.message.Message.{Message}
@@ -37,15 +37,15 @@ same-length [] [] h = refl
 same-length (r ∷ rs) (d ∷ ds) h = ap suc (same-length rs ds h.1)
 same-length _ _ h = absurd h
 
-pub none-said : (rs : List Report) (ds : List Diagnostic) → AllZip IsErrorOf rs ds → ds ≡ [] → rs ≡ []
-none-said [] ds h e = refl
-none-said (r ∷ rs) [] h e = absurd h
-none-said (r ∷ rs) (d ∷ ds) h e = absurd cc
+pub no-reports : (rs : List Report) (ds : List Diagnostic) → AllZip IsErrorOf rs ds → ds ≡ [] → rs ≡ []
+no-reports [] ds h e = refl
+no-reports (r ∷ rs) [] h e = absurd h
+no-reports (r ∷ rs) (d ∷ ds) h e = absurd cc
 
-pub none-told : (rs : List Report) (ds : List Diagnostic) → AllZip IsErrorOf rs ds → rs ≡ [] → ds ≡ []
-none-told rs [] h e = refl
-none-told [] (d ∷ ds) h e = absurd h
-none-told (r ∷ rs) (d ∷ ds) h e = absurd cc
+pub no-errors : (rs : List Report) (ds : List Diagnostic) → AllZip IsErrorOf rs ds → rs ≡ [] → ds ≡ []
+no-errors rs [] h e = refl
+no-errors [] (d ∷ ds) h e = absurd h
+no-errors (r ∷ rs) (d ∷ ds) h e = absurd cc
 
 -- ---- the recursion limit
 
@@ -152,8 +152,8 @@ pub subject-limit : (d : Diagnostic) → found_of d.subject ≡ at_limit → d.s
 subject-limit d e = subject-is d.subject at_limit e
 
 -- the report of the token limit has its error
-pub token-limit-told : (n : ℕ) (r : Report) (d : Diagnostic) → r ≡ token_limit_report n → IsErrorOf r d → IsTokenLimit d
-token-limit-told n r d e h = let i : IsErrorOf (token_limit_report n) d = subst (λ (x : Report). IsErrorOf x d) e h in record { subject = subject-limit d i.subject; message = i.message }
+pub token-limit-error : (n : ℕ) (r : Report) (d : Diagnostic) → r ≡ token_limit_report n → IsErrorOf r d → IsTokenLimit d
+token-limit-error n r d e h = let i : IsErrorOf (token_limit_report n) d = subst (λ (x : Report). IsErrorOf x d) e h in record { subject = subject-limit d i.subject; message = i.message }
 
 -- which is not that of the recursion limit
 pub no-recursion : (n : ℕ) (r : Report) (d : Diagnostic) → r ≡ token_limit_report n → IsErrorOf r d → IsRecursionLimit d → ⊥

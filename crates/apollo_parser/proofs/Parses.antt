@@ -39,7 +39,7 @@ use Rattle.apollo_parser.specs.Promise.{Promise}
 use Rattle.apollo_parser.specs.Parsed.{Parsed, ErrorsOf, IsRecursionLimit, IsLimitWorded, IsTokenLimit, OfFirst, HasError, IsAbout, Recovers, root_children, IsLimit}
 use Rattle.apollo_lexer.specs.Diagnostics.{Diagnostic, of_text, of_limit}
 use Rattle.parser_state.specs.Errors.{found_of, IsErrorOf}
-use Rattle.apollo_parser.proofs.Errors.{same-indices, same-length, none-said, none-told, token-limit-told, no-recursion, subject-limit, any-recursion, ascii-messages, limited-ascii, limit-worded, any-limit, any-said, fault-text, errors-along}
+use Rattle.apollo_parser.proofs.Errors.{same-indices, same-length, no-reports, no-errors, token-limit-error, no-recursion, subject-limit, any-recursion, ascii-messages, limited-ascii, limit-worded, any-limit, any-said, fault-text, errors-along}
 use Rattle.apollo_parser.proofs.Roots.{finished-node}
 use Rattle.parser_rules.specs.State.{State, Lexeme, Report, fault_report, is_over, begun, finished, add_all}
 use Rattle.parser_rules.specs.Nodes.{Document}
@@ -144,7 +144,7 @@ module _ {source : List ℕ} {r k : ℕ} {t : Parsed} (p : ByRules source r k t)
   in-answers = reported xs r kind.DOCUMENT p.run read
 
   silent : t.errors ≡ [] → s.errors ≡ []
-  silent = none-said s.errors t.errors p.errors
+  silent = no-reports s.errors t.errors p.errors
 
   same-places : map (λ (e : Diagnostic). e.index) t.errors ≡ map (λ (e : Report). e.index) s.errors
   same-places = same-indices s.errors t.errors p.errors
@@ -220,7 +220,7 @@ module _ {source : List ℕ} {r k : ℕ} {t : Parsed} (p : ByRules source r k t)
   sound nil = let c = run-sound r k source items s no-end (λ tokens. p.cut) root (silent nil) p.run in rw p.tree (c.sentence, c.within)
 
   pub accepts : (u : Tree) → Sentence source u document → Within source u r k → t.errors ≡ []
-  accepts u h n = none-told s.errors t.errors p.errors (accepts-text r k source items s p.cut root p.run u h n)
+  accepts u h n = no-errors s.errors t.errors p.errors (accepts-text r k source items s p.cut root p.run u h n)
 
   pub only-derivation : t.errors ≡ [] → OnlyDerivation items (bare (tree_of t.tree)) × (t.recursion_limit.high ≡ nest (bare (tree_of t.tree)))
   only-derivation nil =
@@ -252,7 +252,7 @@ module _ {source : List ℕ} {r k : ℕ} {t : Parsed} (p : ByRules source r k t)
 
   pub not-late : OfFirst (λ e. (IsTokenLimit e → ⊥) → NotLate source e.index) t.errors
   not-late = of-first (λ d. (IsTokenLimit d → ⊥) → NotLate source d.index)
-      (λ e d z i f n. subst (NotLate source) (sym z.index) (report-not-late p.cut i (λ m j. n (token-limit-told m e d j z))))
+      (λ e d z i f n. subst (NotLate source) (sym z.index) (report-not-late p.cut i (λ m j. n (token-limit-error m e d j z))))
 
   pub not-early : OfFirst (λ e. e.subject ≢ of_limit → NotEarly k items e.index) t.errors
   not-early = of-first (λ d. d.subject ≢ of_limit → NotEarly k items d.index)

@@ -40,7 +40,7 @@ use Rattle.apollo_parser.specs.ByRules.{ByRootRule}
 use Rattle.apollo_parser.specs.Promise.{PartPromise}
 use Rattle.apollo_parser.specs.Parsed.{Parsed, IsLimit, IsRecursionLimit, IsLimitWorded}
 use Rattle.apollo_parser.specs.Parts.{FirstLeaves, FirstErrors}
-use Rattle.apollo_parser.proofs.Errors.{AllTexts, none-said, none-told, same-indices, same-length, any-recursion, ascii-messages, limited-ascii, limit-worded, any-limit, errors-along}
+use Rattle.apollo_parser.proofs.Errors.{AllTexts, no-reports, no-errors, same-indices, same-length, any-recursion, ascii-messages, limited-ascii, limit-worded, any-limit, errors-along}
 use Rattle.apollo_parser.proofs.Roots.{finished-node}
 use Rattle.apollo_parser.proofs.Parses.{answers, below-cap, few-answers}
 
@@ -152,7 +152,7 @@ module _ {j : SyntaxKind} {q : Rule} {source : List ℕ} {r k : ℕ} {t : Parsed
   sound : (sort : Sort) → (p.last.errors ≡ [] → IsSoundPart sort r p.last)
       → t.errors ≡ [] → Sentence (text t.tree) (bare (tree_of t.tree)) sort × (nest (bare (tree_of t.tree)) ≤ r) × (t.recursion_limit.high ≡ nest (bare (tree_of t.tree)))
   sound sort right nil =
-      let c = right (none-said p.last.errors t.errors p.errors nil) in
+      let c = right (no-reports p.last.errors t.errors p.errors nil) in
       rw (p.tree, p.recursion_limit) (c.sentence, c.nesting, c.high)
 
   -- a sentence within both limits has no errors, and the tree is its derivation
@@ -160,7 +160,7 @@ module _ {j : SyntaxKind} {q : Rule} {source : List ℕ} {r k : ℕ} {t : Parsed
       → (u : Tree) → Sentence source u sort → Within source u r k → (t.errors ≡ []) × (bare (tree_of t.tree) ≡ u)
   accepts sort accepted u h n =
       let c = accepted u h n in
-      (none-told p.last.errors t.errors p.errors c.0, rw p.tree c.1)
+      (no-errors p.last.errors t.errors p.errors c.0, rw p.tree c.1)
 
   -- all of it
   pub promise : RootRule j q → Sized (min (length (items_of source)) k) p.last → (sort : Sort) → (p.last.errors ≡ [] → IsSoundPart sort r p.last)

@@ -43,7 +43,7 @@ pub use Rattle.apollo_tree.specs.Sound
 pub use Rattle.apollo_lexer.specs.Diagnostics
 pub use Rattle.apollo_lexer.specs.Equal
 pub use Rattle.apollo_lexer.specs.Printed
-pub use Rattle.apollo_lexer.specs.Told
+pub use Rattle.apollo_lexer.specs.LexErrors
 pub use Rattle.apollo_lexer.specs.Faults
 pub use Rattle.apollo_lexer.specs.Answers as LexerAnswers
 pub use Rattle.parser_rules.specs.Messages

@@ -12,7 +12,7 @@ use Rattle.document_grammar.specs.Leaves.{ignored}
 use Rattle.apollo_lexer.specs.declared.limit.LimitTracker.{LimitTracker}
 use Rattle.apollo_lexer.specs.Diagnostics.{of_text, of_end, of_limit, Subject, Diagnostic}
 use Rattle.apollo_lexer.specs.Faults.{IsFaultMessage}
-use Rattle.apollo_lexer.specs.Told.{limit_message}
+use Rattle.apollo_lexer.specs.LexErrors.{limit_message}
 pub use Rattle.parser_rules.specs.declared.message.Message.{Message}
 use Rattle.parser_rules.specs.Messages.{Text, message_text, recursion_limit_message}
 pub use Rattle.parser_state.specs.Errors.{found_of}

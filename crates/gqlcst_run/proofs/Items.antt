@@ -5,7 +5,7 @@ use Rattle.std.proofs.lemmas.List.{append-nil}
 use Rattle.apollo_parser.specs.Answers.{Answer, is_token}
 use Rattle.apollo_parser.specs.LexerAnswers.{error_answer}
 use Rattle.apollo_parser.specs.Diagnostics.{Diagnostic}
-use Rattle.apollo_parser.specs.Told.{told_subject, IsLexMessage}
+use Rattle.apollo_parser.specs.LexErrors.{lex_subject, IsLexMessage}
 use Rattle.gqlcst_run.specs.Rendering.{line, AreLines, IsErrorForm, IsAnswerForm, error_count}
 use Rattle.gqlcst_run.proofs.Lines.{lines_none, lines-more}
 
@@ -48,12 +48,12 @@ error-counts true text index = refl
 error-counts false text index = refl
 
 -- the printed form of a lexer's error is that of its answer
-pub error-form : (limit : Bool) (text form : List ℕ) (index : ℕ) (error : Diagnostic) → error.subject ≡ told_subject limit text → error.index ≡ index → IsLexMessage limit text error.message
+pub error-form : (limit : Bool) (text form : List ℕ) (index : ℕ) (error : Diagnostic) → error.subject ≡ lex_subject limit text → error.index ≡ index → IsLexMessage limit text error.message
     → IsErrorForm error form → IsAnswerForm (error_answer limit text index) form
 error-form true text form index error subject place message one =
-    record { error = error; tells = (λ j. record { message = message j; subject = subject j; index = place j }); form = one }
+    record { error = error; of_answer = (λ j. record { message = message j; subject = subject j; index = place j }); form = one }
 error-form false text form index error subject place message one =
-    record { error = error; tells = (subject, place, message); form = one }
+    record { error = error; of_answer = (subject, place, message); form = one }
 
 -- where none is left, all answers are printed
 pub all-printed : (wanted all left : List Answer) (output : List ℕ) (errors : ℕ) → all ≡ wanted → left ≡ [] → ArePrinted all left output errors

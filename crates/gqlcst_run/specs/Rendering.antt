@@ -6,7 +6,7 @@ use Rattle.apollo_parser.specs.Cut.{Item}
 use Rattle.apollo_parser.specs.Answers.{Answer, gives, limit_at, is_token}
 use Rattle.apollo_parser.specs.Diagnostics.{Diagnostic}
 use Rattle.apollo_parser.specs.Printed.{token_text, error_text}
-use Rattle.apollo_parser.specs.Told.{Tells}
+use Rattle.apollo_parser.specs.LexErrors.{IsLexError}
 use Rattle.apollo_parser.specs.declared.TokenKind.{TokenKind}
 
 -- a text and a line feed
@@ -39,19 +39,19 @@ IsVerdict [] output = output ≡ line (codes "clean")
 IsVerdict (error ∷ errors) output = IsReport (error ∷ errors) output
 
 -- the printed form of the error for bad text, or for the limit
-pub record IsToldForm (answer : Answer) (text : List ℕ) : Type 0 where
+pub record IsLexErrorForm (answer : Answer) (text : List ℕ) : Type 0 where
   pub error : Diagnostic
-  pub tells : Tells answer error
+  pub of_answer : IsLexError answer error
   pub form : IsErrorForm error text
 
 -- the printed form of an item: of the token that it is, or of the error for it
 abbrev pub IsItemForm : Option TokenKind → Item → List ℕ → Type 0
 IsItemForm (Some kind) item text = IsForm (token_text kind item.text item.index) text
-IsItemForm None item text = IsToldForm (gives item) text
+IsItemForm None item text = IsLexErrorForm (gives item) text
 
 abbrev pub IsAnswerForm : Answer → List ℕ → Type 0
 IsAnswerForm (gives item) text = IsItemForm item.kind item text
-IsAnswerForm (limit_at index) text = IsToldForm (limit_at index) text
+IsAnswerForm (limit_at index) text = IsLexErrorForm (limit_at index) text
 
 -- how many of the answers are errors
 abbrev pub error_count : List Answer → ℕ

@@ -2,7 +2,7 @@
 use Rattle.std.specs.Prelude.{◌≡◌, Option, Some, None}
 use Rattle.apollo_lexer.specs.Diagnostics.{Subject, of_text, of_end, of_limit, Diagnostic}
 use Rattle.apollo_lexer.specs.Faults.{IsFaultMessage}
-use Rattle.apollo_lexer.specs.Told.{limit_message}
+use Rattle.apollo_lexer.specs.LexErrors.{limit_message}
 use Rattle.parser_rules.specs.Messages.{Text, Found, at_text, at_end, at_limit}
 use Rattle.parser_rules.specs.State.{Report}
 
