@@ -8,8 +8,6 @@ use Rattle.document_grammar.proofs.Booleans.{not-some}
 use Rattle.apollo_lexer.specs.declared.lexer.Lexer.{Lexer}
 use Rattle.apollo_lexer.specs.Answers.{error_answer, answers_left, items_left}
 use Rattle.parser_rules.specs.State.{Text, Lexeme, ignored}
-use Rattle.parser_state.specs.declared.state.reader.Ahead.{Ahead}
-use Rattle.parser_state.specs.declared.state.reader.Ahead.TheVariants.{Unknown, Known}
 use Rattle.parser_state.specs.Lookahead.{given, looked, shown, spared, all_given}
 
 -- no more is looked at than is given
@@ -35,9 +33,9 @@ looked-given [] = omega arith
 looked-given (limit_at index ∷ rest) = looked-given rest
 looked-given (gives item ∷ rest) = item-few rest item.kind (looked-given rest)
 
-pub spared-given : (a : Ahead) (xs : List Answer) → spared a xs ≤ given xs
-spared-given Unknown xs = omega arith
-spared-given (Known t) xs = looked-given xs
+pub spared-given : (known : Bool) (xs : List Answer) → spared known xs ≤ given xs
+spared-given false xs = omega arith
+spared-given true xs = looked-given xs
 
 -- ---- what a copy looks at
 
@@ -88,31 +86,31 @@ bad-counted c d xs rest limit text index e n = let l = looked-bad xs rest limit 
 
 -- ---- an answer is taken: m items may be cut in all
 
-abbrev Within : Ahead → List Answer → ℕ → ℕ → Type 0
-Within a xs c m = c + 2 * given xs ≤ m + spared a xs
+abbrev Within : Bool → List Answer → ℕ → ℕ → Type 0
+Within known xs c m = c + 2 * given xs ≤ m + spared known xs
 
-pub after-token : (a : Ahead) (xs rest : List Answer) (k : TokenKind) (text : Text) (index : ℕ) (found : Option SyntaxKind) (c d m : ℕ) → xs ≡ token_of k text index ∷ rest
-    → found ≡ ignored k → is_some found ≡ false → d ≡ c + 1 → Within a xs c m → d + 2 * given rest ≤ m
-after-token Unknown xs rest k text index found c d m e f i n h = let g = ap given e in omega (arith, g, n, h)
-after-token (Known t) xs rest k text index found c d m e f i n h = let g = ap given e in let l = looked-found xs rest k text index found e f i in omega (arith, g, l, n, h)
+pub after-token : (known : Bool) (xs rest : List Answer) (k : TokenKind) (text : Text) (index : ℕ) (found : Option SyntaxKind) (c d m : ℕ) → xs ≡ token_of k text index ∷ rest
+    → found ≡ ignored k → is_some found ≡ false → d ≡ c + 1 → Within known xs c m → d + 2 * given rest ≤ m
+after-token false xs rest k text index found c d m e f i n h = let g = ap given e in omega (arith, g, n, h)
+after-token true xs rest k text index found c d m e f i n h = let g = ap given e in let l = looked-found xs rest k text index found e f i in omega (arith, g, l, n, h)
 
-pub after-ignored : (a : Ahead) (xs rest : List Answer) (k : TokenKind) (text : Text) (index : ℕ) (found : Option SyntaxKind) (c d m : ℕ) → xs ≡ token_of k text index ∷ rest
-    → found ≡ ignored k → is_some found ≡ true → d ≡ c + 1 → Within a xs c m → Within a rest d m
-after-ignored Unknown xs rest k text index found c d m e f i n h = let g = ap given e in omega (arith, g, n, h)
-after-ignored (Known t) xs rest k text index found c d m e f i n h = let g = ap given e in let l = looked-ignored xs rest k text index found e f i in omega (arith, g, l, n, h)
+pub after-ignored : (known : Bool) (xs rest : List Answer) (k : TokenKind) (text : Text) (index : ℕ) (found : Option SyntaxKind) (c d m : ℕ) → xs ≡ token_of k text index ∷ rest
+    → found ≡ ignored k → is_some found ≡ true → d ≡ c + 1 → Within known xs c m → Within known rest d m
+after-ignored false xs rest k text index found c d m e f i n h = let g = ap given e in omega (arith, g, n, h)
+after-ignored true xs rest k text index found c d m e f i n h = let g = ap given e in let l = looked-ignored xs rest k text index found e f i in omega (arith, g, l, n, h)
 
-pub after-bad : (a : Ahead) (xs rest : List Answer) (limit : Bool) (text : Text) (index : ℕ) (c d m : ℕ) → xs ≡ error_answer limit text index ∷ rest
-    → d ≡ c + (if is_given (error_answer limit text index) then 1 else 0) → Within a xs c m → Within a rest d m
-after-bad Unknown xs rest limit text index c d m e n h = let g = given-bad xs rest limit text index e in let b = counted-bad limit text index in omega (arith, g, b, n, h)
-after-bad (Known t) xs rest limit text index c d m e n h =
+pub after-bad : (known : Bool) (xs rest : List Answer) (limit : Bool) (text : Text) (index : ℕ) (c d m : ℕ) → xs ≡ error_answer limit text index ∷ rest
+    → d ≡ c + (if is_given (error_answer limit text index) then 1 else 0) → Within known xs c m → Within known rest d m
+after-bad false xs rest limit text index c d m e n h = let g = given-bad xs rest limit text index e in let b = counted-bad limit text index in omega (arith, g, b, n, h)
+after-bad true xs rest limit text index c d m e n h =
     let g = given-bad xs rest limit text index e in
     let b = counted-bad limit text index in
     let l = looked-bad xs rest limit text index e in
     omega (arith, g, b, l, n, h)
 
 -- the token that a copy found stays the next one while only ignored ones and bad text are taken
-pub still-shown : (a : Ahead) (o p : Option Lexeme) → o ≡ p → shown a o ≡ o → shown a p ≡ p
-still-shown a o p e h = subst (λ (q : Option Lexeme). shown a q ≡ q) e h
+pub still-shown : (known : Bool) (found o p : Option Lexeme) → o ≡ p → shown known found o ≡ o → shown known found p ≡ p
+still-shown known found o p e h = subst (λ (q : Option Lexeme). shown known found q ≡ q) e h
 
 -- ---- a lexer gives no more than its limit allows
 

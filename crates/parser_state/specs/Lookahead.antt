@@ -1,12 +1,9 @@
 -- How many items are cut, by a reader and by its copies that look ahead.
-use Rattle.std.specs.Prelude.{ℕ, ◌+◌, min, List, [], ◌∷◌, Option, Some, None}
+use Rattle.std.specs.Prelude.{ℕ, ◌+◌, min, Bool, true, false, List, [], ◌∷◌, Option, Some, None}
 use Rattle.lexical_grammar.specs.Answers.{Answer, gives, limit_at}
 use Rattle.apollo_lexer.specs.declared.lexer.Lexer.{Lexer}
 use Rattle.apollo_lexer.specs.Answers.{final_high}
 use Rattle.parser_rules.specs.State.{Lexeme, ignored}
-use Rattle.parser_state.specs.declared.state.reader.Ahead.{Ahead}
-use Rattle.parser_state.specs.declared.state.reader.Ahead.TheVariants.{Unknown, Known}
-use Rattle.parser_state.specs.View.{current_of}
 
 -- how many of the answers are items
 abbrev pub given : List Answer → ℕ
@@ -26,15 +23,15 @@ looked (gives item ∷ rest) = elim item.kind [
   ]
 ]
 
--- what a copy found, or else what is there
-abbrev pub shown : Ahead → Option Lexeme → Option Lexeme
-shown Unknown there = there
-shown (Known found) there = current_of found
+-- what a copy found, if it has looked, or else what is there
+abbrev pub shown : Bool → Option Lexeme → Option Lexeme → Option Lexeme
+shown false found there = there
+shown true found there = found
 
--- how many of the items that are left a copy has cut already
-abbrev pub spared : Ahead → List Answer → ℕ
-spared Unknown answers = 0
-spared (Known found) answers = looked answers
+-- how many of the items that are left a copy has cut already, if it has looked
+abbrev pub spared : Bool → List Answer → ℕ
+spared false answers = 0
+spared true answers = looked answers
 
 -- how many items a lexer gives in all
 abbrev pub all_given : Lexer → ℕ

@@ -37,7 +37,19 @@ pub(super) fn push_all<A: Allocator + Copy>(
 
 impl<'i, A: Allocator + Copy> ParserState<'i, A> {
     /// What waits goes into the tree.
+    #[inline(always)]
     pub fn push_pending(&mut self) -> Result<(), AllocError>
+        ensures step { OnOk result (self.new ≡ state.flush self.old) }
+        ensures budget { self.new.budget ≡ self.old.budget }
+    {
+        if self.pending.is_empty() {
+            return Ok(());
+        }
+        self.push_waiting()
+    }
+
+    #[inline(never)]
+    fn push_waiting(&mut self) -> Result<(), AllocError>
         ensures step { OnOk result (self.new ≡ state.flush self.old) }
         ensures budget { self.new.budget ≡ self.old.budget }
     {

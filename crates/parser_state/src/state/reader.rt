@@ -17,11 +17,11 @@ use apollo_lexer::{LexError, Lexer, Steps, Token};
 
 /// The significant token after the current one, as far as it is known.
 #[derive(Clone, Copy)]
-pub enum Ahead<'i> {
-    /// No copy of the lexer has looked for it.
-    Unknown,
-    /// What a copy found.
-    Known(Option<Token<'i>>),
+pub struct Ahead<'i> {
+    /// Whether a copy of the lexer has looked for it.
+    is_known: bool,
+    /// What that copy found.
+    found: Option<Token<'i>>,
 }
 
 /// It cuts each item once, and copies of its lexer cut each item at most once more.
@@ -32,10 +32,10 @@ pub struct Reader<'i> {
     steps: Steps,
     start: Start,
     // what a copy found is the token there
-    ghost known: { shown ahead (second (answers_left lexer)) ≡ second (answers_left lexer) } by { Prim.hlevel codes },
+    ghost known: { shown ahead.is_known (current_of ahead.found) (second (answers_left lexer)) ≡ second (answers_left lexer) } by { Prim.hlevel codes },
     // What was cut, and twice the items that are left, are no more than twice all items; those that a copy has cut already are cut only once
     // more.
-    ghost within: { steps.count + 2 * given (answers_left lexer) ≤ start.count + 2 * all_given lexer + spared ahead (answers_left lexer) },
+    ghost within: { steps.count + 2 * given (answers_left lexer) ≤ start.count + 2 * all_given lexer + spared ahead.is_known (answers_left lexer) },
 }
 
 // The next significant token that the lexer gives.
@@ -63,7 +63,10 @@ impl<'i> Reader<'i> {
         let start = Start::of(&steps);
         Reader {
             lexer,
-            ahead: Ahead::Unknown,
+            ahead: Ahead {
+                is_known: false,
+                found: None,
+            },
             steps,
             start,
         }
@@ -93,7 +96,7 @@ impl<'i> Reader<'i> {
         let answer = self.lexer.next_counted(&mut self.steps)?;
         if let Ok(token) = answer {
             if ignored(token.kind()).is_none() {
-                self.ahead = Ahead::Unknown;
+                self.ahead.is_known = false;
             }
         }
         Some(answer)
@@ -105,11 +108,14 @@ impl<'i> Reader<'i> {
         ensures lexer { self.new.lexer ≡ self.old.lexer }
         ensures start { self.new.start ≡ self.old.start }
     {
-        if let Ahead::Known(found) = self.ahead {
-            return found;
+        if self.ahead.is_known {
+            return self.ahead.found;
         }
         let found = next_significant(self.lexer, &mut self.steps);
-        self.ahead = Ahead::Known(found);
+        self.ahead = Ahead {
+            is_known: true,
+            found,
+        };
         found
     }
 }

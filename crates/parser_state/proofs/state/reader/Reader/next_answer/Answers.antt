@@ -13,7 +13,7 @@ invariant_of-self-then-is_none c =
     let n = rw c.in-Ok.is at c.in_ok-answer.ensures.count in
     let is = c.ignored.ensures ∙ ap ignored c.kind.ensures in
     let m : ℕ = s.start.count + 2 * all_given s.lexer in
-    let k = after-token s.ahead _ _ _ _ _ c.ignored.result _ _ m taken is c.if-is_none.ensures n s.within in
+    let k = after-token s.ahead.is_known _ _ _ _ _ c.ignored.result _ _ m taken is c.if-is_none.ensures n s.within in
     record { known = refl; within = omega (arith, k, all) }
 
 pub invariant_of-self-else-is_none : goal.invariant_of-self-else-is_none
@@ -24,8 +24,8 @@ invariant_of-self-else-is_none c =
     let n = rw c.in-Ok.is at c.in_ok-answer.ensures.count in
     let is = c.ignored.ensures ∙ ap ignored c.kind.ensures in
     let m : ℕ = s.start.count + 2 * all_given s.lexer in
-    let k = after-ignored s.ahead _ _ _ _ _ c.ignored.result _ _ m taken is c.if-is_none.ensures n s.within in
-    record { known = still-shown s.ahead _ _ (second-ignored _ _ _ _ _ c.ignored.result taken is c.if-is_none.ensures) s.known; within = omega (arith, k, all) }
+    let k = after-ignored s.ahead.is_known _ _ _ _ _ c.ignored.result _ _ m taken is c.if-is_none.ensures n s.within in
+    record { known = still-shown s.ahead.is_known _ _ _ (second-ignored _ _ _ _ _ c.ignored.result taken is c.if-is_none.ensures) s.known; within = omega (arith, k, all) }
 
 pub invariant_of-self-in_default : goal.invariant_of-self-in_default
 invariant_of-self-in_default c =
@@ -34,5 +34,5 @@ invariant_of-self-in_default c =
     let taken = rw c.in_default.is at c.in_ok-answer.ensures.answers in
     let n = rw c.in_default.is at c.in_ok-answer.ensures.count in
     let m : ℕ = s.start.count + 2 * all_given s.lexer in
-    let k = after-bad s.ahead _ _ _ _ _ _ _ m taken n s.within in
-    record { known = still-shown s.ahead _ _ (second-bad _ _ _ _ _ taken) s.known; within = omega (arith, k, all) }
+    let k = after-bad s.ahead.is_known _ _ _ _ _ _ _ m taken n s.within in
+    record { known = still-shown s.ahead.is_known _ _ _ (second-bad _ _ _ _ _ taken) s.known; within = omega (arith, k, all) }
