@@ -1,6 +1,8 @@
 -- What the first byte of an item says about it.
-use Rattle.std.proofs.Common.{◌≡◌, ℕ, ◌+◌, ◌||◌, ◌==◌, if◌then◌else◌, List, [], ◌∷◌, Option, Some, None, option_map, false, refl, sym, ap, ◌∙◌, inl, inr}
+use Rattle.std.proofs.Common.{◌≡◌, ℕ, ◌+◌, ◌||◌, ◌==◌, if◌then◌else◌, List, [], ◌∷◌, get_or, Option, Some, None, option_map, is_some, true, false, eqb, refl, sym, ap, ◌∙◌, inl, inr}
 use Rattle.std.proofs.lemmas.Bool.{cases_Bool}
+use Rattle.std.proofs.lemmas.Bool.Decides.{Decides-eqb}
+use Rattle.std.proofs.lemmas.Slice.Eq.{starts_is}
 use Rattle.std.specs.List.{prefix_len}
 use Rattle.lexical_grammar.specs.declared.TokenKind.{TokenKind}
 use Rattle.lexical_grammar.specs.declared.TokenKind.TheVariants as token
@@ -8,8 +10,8 @@ use Rattle.lexical_grammar.specs.Characters.{is_name_start, is_name_continue, is
 use Rattle.lexical_grammar.specs.Strings.{begins}
 use Rattle.lexical_grammar.specs.Reads.{blank_len, blanks_len, punctuator, number_at, string_at, token_at}
 use Rattle.apollo_lexer.specs.declared.bytes.Start.{Start}
-use Rattle.apollo_lexer.specs.declared.bytes.Start.TheVariants.{Name, Number, Quote, NumberSign, Dot, Blank, Other}
-use Rattle.apollo_lexer.specs.Starts.{start_of}
+use Rattle.apollo_lexer.specs.declared.bytes.Start.TheVariants.{Name, Number, Quote, NumberSign, Dot, Blank, Punctuator, Other}
+use Rattle.apollo_lexer.specs.Starts.{start_of, other_start}
 
 -- the token at the front
 abbrev pub token_from : Start → ℕ → List ℕ → Option (TokenKind × ℕ)
@@ -18,8 +20,22 @@ token_from Number b bs = number_at (b ∷ bs)
 token_from Quote b bs = string_at (b ∷ bs)
 token_from NumberSign b bs = Some (token.Comment, 1 + prefix_len is_comment_character bs)
 token_from Dot b bs = if begins (46 ∷ 46 ∷ []) bs then Some (token.Spread, 3) else None
-token_from Blank b bs = Some (token.Whitespace, blanks_len 0 (b ∷ bs))
-token_from Other b bs = if blank_len (b ∷ bs) == 0 then option_map (λ kind. (kind, 1)) (punctuator b) else Some (token.Whitespace, blanks_len 0 (b ∷ bs))
+token_from Blank b bs = Some (token.Whitespace, 1 + blanks_len 0 bs)
+token_from (Punctuator kind) b bs = Some (kind, 1)
+token_from Other b bs = if blank_len (b ∷ bs) == 0 then None else Some (token.Whitespace, blanks_len 0 (b ∷ bs))
+
+-- no punctuator is a blank character, and none begins a byte order mark
+punctuator-at : (b : ℕ) (bs : List ℕ) → (is_white_space b || is_line_terminator b) ≡ false → (p : Option TokenKind) → punctuator b ≡ p
+    → token_from (other_start p) b bs ≡ (if blank_len (b ∷ bs) == 0 then option_map (λ kind. (kind, 1)) p else Some (token.Whitespace, blanks_len 0 (b ∷ bs)))
+punctuator-at b bs blank None is = refl
+punctuator-at b bs blank (Some kind) is =
+    elim (cases_Bool (begins (239 ∷ 187 ∷ 191 ∷ []) (b ∷ bs))) [
+      | inl mark ↦
+          let first : b ≡ 239 = ap (λ text. get_or text 0 0) ((starts_is {E = eqb} Decides-eqb (b ∷ bs) (239 ∷ 187 ∷ 191 ∷ []) _ refl).0 mark) in
+          let h : false ≡ true = ap is_some (sym (ap punctuator first) ∙ is) in
+          absurd cc
+      | inr none ↦ rw (blank, none) refl
+    ]
 
 by-start : (b : ℕ) (bs : List ℕ) → token_from (start_of b) b bs ≡ token_at (b ∷ bs)
 by-start b bs = elim (cases_Bool (is_name_start b)) [
@@ -36,12 +52,13 @@ by-start b bs = elim (cases_Bool (is_name_start b)) [
             | inl e ↦
                 let start : start_of b ≡ Blank = rw (name, number, quote, sign, dot, e) refl in
                 let some : (blank_len (b ∷ bs) == 0) ≡ false = rw e refl in
-                let here : token_at (b ∷ bs) ≡ token_from Blank b bs = rw (name, number, quote, sign, dot, some) refl in
-                ap (λ s. token_from s b bs) start ∙ sym here
+                let step : blanks_len 0 (b ∷ bs) ≡ 1 + blanks_len 0 bs = rw e refl in
+                let here : token_at (b ∷ bs) ≡ Some (token.Whitespace, blanks_len 0 (b ∷ bs)) = rw (name, number, quote, sign, dot, some) refl in
+                ap (λ s. token_from s b bs) start ∙ sym (here ∙ ap (λ n. Some (token.Whitespace, n)) step)
             | inr blank ↦
-                let start : start_of b ≡ Other = rw (name, number, quote, sign, dot, blank) refl in
-                let here : token_at (b ∷ bs) ≡ token_from Other b bs = rw (name, number, quote, sign, dot) refl in
-                ap (λ s. token_from s b bs) start ∙ sym here
+                let start : start_of b ≡ other_start (punctuator b) = rw (name, number, quote, sign, dot, blank) refl in
+                let here : token_at (b ∷ bs) ≡ (if blank_len (b ∷ bs) == 0 then option_map (λ kind. (kind, 1)) (punctuator b) else Some (token.Whitespace, blanks_len 0 (b ∷ bs))) = rw (name, number, quote, sign, dot) refl in
+                ap (λ s. token_from s b bs) start ∙ punctuator-at b bs blank (punctuator b) refl ∙ sym here
           ]
         ]
       ]

@@ -174,6 +174,7 @@ impl<'a> Iterator for Lexer<'a> {
 
     ghost remaining = { item_count answers_left };
 
+    #[inline(always)]
     fn next(&mut self) -> Option<Result<Token<'a>, LexError<'a>>> {
         self.next_counted(&mut Steps::new())
     }

@@ -1,12 +1,14 @@
 // Which item is at the front of a text, and how far it goes.
-ghost use Rattle.std.specs.Prelude.{◌≡◌, ◌+◌, ◌≤◌, ◌<◌, ◌==◌, ◌||◌, [], ◌∷◌, if◌then◌else◌, length, take, drop, Some, None, option_map};
+ghost use Rattle.std.specs.Prelude.{◌≡◌, ◌+◌, ◌≤◌, ◌<◌, ◌==◌, ◌||◌, [], ◌∷◌, if◌then◌else◌, length, take, drop, Some, None};
 ghost use Rattle.std.specs.List.{prefix_len};
 ghost use Rattle.lexical_grammar.specs.Characters.{is_name_start, is_name_continue, is_comment_character, is_digit};
 ghost use Rattle.lexical_grammar.specs.declared.TokenKind.TheVariants as token;
 ghost use Rattle.lexical_grammar.specs.Strings.{begins};
-ghost use Rattle.lexical_grammar.specs.Reads.{blank_len, blanks_len, punctuator, character_len, token_at, bad_len, first_item};
+ghost use Rattle.lexical_grammar.specs.Reads.{blank_len, blanks_len, character_len, token_at, bad_len, first_item};
+ghost use Rattle.apollo_lexer.specs.Starts.{is_blank_byte};
 
 use crate::bytes::{Start, is_blank_byte, is_name_continue, start_of};
+use crate::lanes::{LANES, blank_lanes, name_lanes};
 use crate::numbers::{number_at, number_len};
 use crate::strings::{bad_string_len, string_at};
 use lexical_grammar::TokenKind;
@@ -18,8 +20,25 @@ fn is_number_start(b: u8) -> bool
     b.is_ascii_digit() || b == b'-'
 }
 
+// How many bytes at the front go on with a name.
 #[inline(always)]
 fn name_len(bytes: &[u8]) -> usize
+    ensures value { result ≡ prefix_len is_name_continue bytes.now }
+    ensures within { result ≤ length bytes.now }
+{
+    if bytes.len() < LANES {
+        return name_len_by_bytes(bytes);
+    }
+    let n = name_lanes(bytes);
+    if n < LANES {
+        return n;
+    }
+    LANES + name_len_by_bytes(&bytes[LANES..])
+}
+
+// The same, byte by byte.
+#[inline(never)]
+fn name_len_by_bytes(bytes: &[u8]) -> usize
     ensures value { result ≡ prefix_len is_name_continue bytes.now }
     ensures within { result ≤ length bytes.now }
 {
@@ -35,29 +54,6 @@ fn comment_len(bytes: &[u8]) -> usize
     match memchr2(b'\n', b'\r', bytes) {
         Some(i) => i,
         None => bytes.len(),
-    }
-}
-
-#[inline(always)]
-fn punctuator(b: u8) -> Option<TokenKind>
-    ensures { result ≡ punctuator b }
-{
-    match b {
-        b'!' => Some(TokenKind::Bang),
-        b'$' => Some(TokenKind::Dollar),
-        b'&' => Some(TokenKind::Amp),
-        b',' => Some(TokenKind::Comma),
-        b':' => Some(TokenKind::Colon),
-        b'=' => Some(TokenKind::Eq),
-        b'@' => Some(TokenKind::At),
-        b'(' => Some(TokenKind::LParen),
-        b')' => Some(TokenKind::RParen),
-        b'[' => Some(TokenKind::LBracket),
-        b']' => Some(TokenKind::RBracket),
-        b'{' => Some(TokenKind::LCurly),
-        b'}' => Some(TokenKind::RCurly),
-        b'|' => Some(TokenKind::Pipe),
-        _ => None,
     }
 }
 
@@ -89,9 +85,54 @@ fn blank_len(bytes: &[u8]) -> usize
     }
 }
 
+// The bytes of the blank characters at the front. Most blanks are followed by none, and few runs have a byte order mark in them.
 #[inline(always)]
 fn blanks_len(bytes: &[u8]) -> usize
-    ensures { result ≡ blanks_len 0 bytes.now }
+    ensures value { result ≡ blanks_len 0 bytes.now }
+    ensures within { result ≤ length bytes.now }
+{
+    if blank_len(bytes) == 0 {
+        return 0;
+    }
+    let n = blank_bytes_len(bytes);
+    let after = &bytes[n..];
+    if blank_len(after) == 0 {
+        return n;
+    }
+    n + marked_len(after)
+}
+
+// How many bytes at the front are a blank character each.
+#[inline(always)]
+fn blank_bytes_len(bytes: &[u8]) -> usize
+    ensures value { result ≡ prefix_len is_blank_byte bytes.now }
+    ensures within { result ≤ length bytes.now }
+{
+    if bytes.len() < LANES {
+        return blank_len_by_bytes(bytes);
+    }
+    let n = blank_lanes(bytes);
+    if n < LANES {
+        return n;
+    }
+    LANES + blank_len_by_bytes(&bytes[LANES..])
+}
+
+// The same, byte by byte.
+#[inline(never)]
+fn blank_len_by_bytes(bytes: &[u8]) -> usize
+    ensures value { result ≡ prefix_len is_blank_byte bytes.now }
+    ensures within { result ≤ length bytes.now }
+{
+    bytes.iter().take_while(|b| is_blank_byte(**b)).count()
+}
+
+// The bytes of the blank characters at the front, where a byte order mark begins them.
+#[cold]
+#[inline(never)]
+fn marked_len(bytes: &[u8]) -> usize
+    ensures value { result ≡ blanks_len 0 bytes.now }
+    ensures within { result ≤ length bytes.now }
 {
     let mut n = 0;
     loop {
@@ -114,23 +155,14 @@ fn spread_at(others: &[u8]) -> Option<(TokenKind, usize)>
     }
 }
 
-// The blank characters at the front of a text that a byte order mark begins.
+// What a byte order mark begins, if one is at the front.
 #[cold]
 #[inline(never)]
-fn marked_len(bytes: &[u8]) -> usize
-    ensures { result ≡ blanks_len 0 bytes.now }
-{
-    blanks_len(bytes)
-}
-
-// The punctuator at the front, or what a byte order mark begins.
-#[inline(always)]
-fn other_at(first: u8, bytes: &[u8]) -> Option<(TokenKind, usize)>
-    ensures { result ≡ (if blank_len bytes.now == 0 then option_map (λ kind. (kind, 1)) (punctuator first) else Some (token.Whitespace, blanks_len 0 bytes.now)) }
+fn other_at(bytes: &[u8]) -> Option<(TokenKind, usize)>
+    ensures { result ≡ (if blank_len bytes.now == 0 then None else Some (token.Whitespace, blanks_len 0 bytes.now)) }
 {
     if blank_len(bytes) == 0 {
-        let kind = punctuator(first)?;
-        Some((kind, 1))
+        None
     } else {
         Some((TokenKind::Whitespace, marked_len(bytes)))
     }
@@ -148,8 +180,9 @@ fn token_at(bytes: &[u8]) -> Option<(TokenKind, usize)>
         Start::Quote => string_at(bytes),
         Start::NumberSign => Some((TokenKind::Comment, 1 + comment_len(others))),
         Start::Dot => spread_at(others),
-        Start::Blank => Some((TokenKind::Whitespace, blanks_len(bytes))),
-        Start::Other => other_at(*first, bytes),
+        Start::Blank => Some((TokenKind::Whitespace, 1 + blanks_len(others))),
+        Start::Punctuator(kind) => Some((kind, 1)),
+        Start::Other => other_at(bytes),
     }
 }
 

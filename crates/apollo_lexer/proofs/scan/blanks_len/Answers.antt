@@ -1,13 +1,12 @@
-use Rattle.std.proofs.Common.{ap, ◌∙◌, ◌-◌, drop, length, arith}
-use Rattle.lexical_grammar.specs.Reads.{blank_len}
-use Rattle.std.proofs.lemmas.List.{take_all, length-drop}
-use Rattle.apollo_lexer.proofs.Blanks.{blanks-more}
+use Rattle.std.proofs.Common.{◌∙◌, sym}
+use Rattle.apollo_lexer.proofs.Blanks.{blanks-in-two, blanks-end}
 use Rattle.apollo_lexer.proofs.scan.blanks_len.Goals as goal
 
--- one more blank character
-pub loop-n-preserved : goal.loop-n-preserved
-loop-n-preserved c =
-    let rest = take_all (length c.args.bytes.now - c.loop-n.n) (drop c.loop-n.n c.args.bytes.now) (omega (arith, length-drop c.loop-n.n c.args.bytes.now)) in
-    let more = blanks-more c.args.bytes.now c.loop-n.n c.blank_len-step.result c.loop-n.invariant.within c.loop-n.invariant.so_far
-    (c.blank_len-step.ensures ∙ ap blank_len rest) c.if-step-eq0.false in
-    record { within = more.0; so_far = more.1 }
+-- nothing blank follows those of one byte
+pub returns-then-blank_len-eq0-2-clause-value : goal.returns-then-blank_len-eq0-2-clause-value
+returns-then-blank_len-eq0-2-clause-value c =
+    blanks-end c.args.bytes.now c.blank_bytes_len-n.result c.blank_bytes_len-n.ensures.value (sym c.blank_len-2.ensures ∙ c.if-blank_len-eq0-2.true)
+
+-- a byte order mark follows them
+pub returns-clause-value : goal.returns-clause-value
+returns-clause-value c = blanks-in-two c.args.bytes.now c.blank_bytes_len-n.result c.marked_len.result c.blank_bytes_len-n.ensures.value c.marked_len.ensures.value

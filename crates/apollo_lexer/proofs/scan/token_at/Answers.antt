@@ -1,7 +1,7 @@
-use Rattle.std.proofs.Common.{◌∙◌, ◌+◌, ◌==◌, if◌then◌else◌, Some, option_map, ap, sym}
+use Rattle.std.proofs.Common.{◌∙◌, ◌+◌, ◌==◌, if◌then◌else◌, Some, None, ap, sym}
 use Rattle.lexical_grammar.specs.declared.TokenKind.TheVariants as token
-use Rattle.lexical_grammar.specs.Reads.{blank_len, blanks_len, punctuator, number_at, string_at}
-use Rattle.apollo_lexer.specs.declared.bytes.Start.TheVariants.{Name, Number, Quote, NumberSign, Dot, Blank, Other}
+use Rattle.lexical_grammar.specs.Reads.{blank_len, blanks_len, number_at, string_at}
+use Rattle.apollo_lexer.specs.declared.bytes.Start.TheVariants.{Name, Number, Quote, NumberSign, Dot, Blank, Punctuator, Other}
 use Rattle.apollo_lexer.proofs.Starts.{token-by-start}
 use Rattle.apollo_lexer.proofs.scan.token_at.Goals as goal
 
@@ -33,9 +33,14 @@ returns-in-Dot c =
 pub returns-in-Blank : goal.returns-in-Blank
 returns-in-Blank c =
     let is = c.in_ok-first.ensures.cases.0 in
-    ap (λ n. Some (token.Whitespace, n)) (c.blanks_len.ensures ∙ ap (blanks_len 0) is) ∙ token-by-start Blank c.in_ok-first.first.now c.in_ok-first.others.now c.args.bytes.now is (sym c.in-Blank.is ∙ c.start_of.ensures)
+    ap (λ n. Some (token.Whitespace, 1 + n)) c.blanks_len.ensures.value ∙ token-by-start Blank c.in_ok-first.first.now c.in_ok-first.others.now c.args.bytes.now is (sym c.in-Blank.is ∙ c.start_of.ensures)
+
+pub returns-in-Punctuator : goal.returns-in-Punctuator
+returns-in-Punctuator c =
+    let is = c.in_ok-first.ensures.cases.0 in
+    token-by-start (Punctuator c.in-Punctuator.kind) c.in_ok-first.first.now c.in_ok-first.others.now c.args.bytes.now is (sym c.in-Punctuator.is ∙ c.start_of.ensures)
 
 pub returns-in-Other : goal.returns-in-Other
 returns-in-Other c =
     let is = c.in_ok-first.ensures.cases.0 in
-    (c.other_at.ensures ∙ ap (λ bytes. if blank_len bytes == 0 then option_map (λ kind. (kind, 1)) (punctuator c.in_ok-first.first.now) else Some (token.Whitespace, blanks_len 0 bytes)) is) ∙ token-by-start Other c.in_ok-first.first.now c.in_ok-first.others.now c.args.bytes.now is (sym c.in-Other.is ∙ c.start_of.ensures)
+    (c.other_at.ensures ∙ ap (λ bytes. if blank_len bytes == 0 then None else Some (token.Whitespace, blanks_len 0 bytes)) is) ∙ token-by-start Other c.in_ok-first.first.now c.in_ok-first.others.now c.args.bytes.now is (sym c.in-Other.is ∙ c.start_of.ensures)
