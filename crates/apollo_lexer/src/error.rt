@@ -1,44 +1,41 @@
-// Errors of the lexer and the parser, which own their texts.
-ghost use Rattle.std.specs.Prelude.{◌≡◌, ◌+◌, ◌<◌, ◌^◌, IfOk, string_bytes, string_len};
+// Errors of the lexer and the parser.
+ghost use Rattle.std.specs.Prelude.{◌≡◌, ◌+◌, ◌<◌, ◌≤◌, ◌^◌, ◌++◌, length, IfOk, IsOk, string_bytes, string_len};
 ghost use Rattle.std.proofs.Common.{rules};
 ghost use Rattle.std.specs.Cmp.Rules.{comparing, hashing};
 ghost use Rattle.apollo_lexer.specs.Equal.{same_diagnostic, subject_number, hashed};
-ghost use Rattle.apollo_lexer.specs.Printed.{error_text};
+ghost use Rattle.apollo_lexer.specs.Printed.{error_text, subject_shown};
 ghost use Rattle.apollo_lexer.specs.Diagnostics.{of_text, of_end, of_limit, subject_text, is_end_subject, is_limit_subject};
 
+use crate::error_data::{ErrorData, Words};
+use arrayvec::ArrayString;
 use std::alloc::{AllocError, Allocator, Global};
 use std::fmt;
 use std::hash::{Hash, Hasher};
 use std::marker::Model;
-
-// What an error is about.
-#[derive(Drop)]
-enum ErrorData<A: Allocator> {
-    Text(String<A>),
-    Eof,
-    LimitExceeded,
-}
+use std::mem::size_of;
 
 /// What is wrong, and where: a message, the text of the source that it is about, and the byte where that begins. In place of a text an
 /// error may be about the end of the source, or about a limit that was met.
 #[derive(Drop)]
 pub struct Error<A: Allocator = Global> {
-    message: String<A>,
-    subject: ErrorData<A>,
+    data: ErrorData<A>,
     index: usize,
 }
 
+// Two owned texts, a place, and which sort of error it is.
+const _: () = prove!(size_of::<Error<Global>>() == 64);
+
 impl<A: Allocator> Model for Error<A> {
-    ghost use Rattle.std.specs.Prelude.{◌+◌, ◌<◌, ◌^◌, length, string_bytes};
+    ghost use Rattle.std.specs.Prelude.{◌+◌, ◌<◌, ◌^◌, length};
     ghost use Rattle.apollo_lexer.specs.Diagnostics.{Diagnostic, subject_text};
 
     ghost Value = { Diagnostic };
 
-    ghost use Rattle.apollo_lexer.specs.Subjects.{subject_of};
+    ghost use Rattle.apollo_lexer.specs.Subjects.{message_of, subject_of, IsQuoting};
 
-    ghost view = { λ e. record { message = string_bytes e.message; subject = subject_of e.subject; index = e.index } };
+    ghost view = { λ e. record { message = message_of e.data; subject = subject_of e.data; index = e.index } };
 
-    ghost invariant = { λ e. e.index + length (subject_text (subject_of e.subject)) < 2 ^ 64 };
+    ghost invariant = { λ e. (e.index + length (subject_text (subject_of e.data)) < 2 ^ 64) × IsQuoting e.data };
 }
 
 impl<A: Allocator> Error<A> {
@@ -48,8 +45,7 @@ impl<A: Allocator> Error<A> {
         ensures { result ≡ record { message = string_bytes message; subject = of_text (string_bytes text); index = index } }
     {
         Error {
-            message,
-            subject: ErrorData::Text(text),
+            data: ErrorData::Text(message, text),
             index,
         }
     }
@@ -59,8 +55,7 @@ impl<A: Allocator> Error<A> {
         ensures { result ≡ record { message = string_bytes message; subject = of_limit; index = index } }
     {
         Error {
-            message,
-            subject: ErrorData::LimitExceeded,
+            data: ErrorData::LimitExceeded(Words::Owned(message)),
             index,
         }
     }
@@ -70,34 +65,91 @@ impl<A: Allocator> Error<A> {
         ensures { result ≡ record { message = string_bytes message; subject = of_end; index = index } }
     {
         Error {
-            message,
-            subject: ErrorData::Eof,
+            data: ErrorData::Eof(Words::Owned(message)),
             index,
         }
+    }
+
+    /// An error about a text of the source, at the byte where that begins. Only a text of more than 24 bytes takes memory, and it fails only
+    /// where that is refused.
+    pub fn from_static(
+        alloc: A,
+        message: &'static str,
+        text: &str,
+        index: usize,
+    ) -> Result<Self, AllocError>
+        requires { index + length text.now < 2 ^ 64 }
+        ensures value { IfOk result (λ e. e ≡ record { message = message.now; subject = of_text text.now; index = index }) }
+        ensures short { length text.now ≤ 24 → IsOk result }
+    {
+        if let Ok(text) = ArrayString::from(text) {
+            let data = ErrorData::Short(message, text);
+            return Ok(Error { data, index });
+        }
+        let data = ErrorData::Long(message, String::from_str(alloc, text)?);
+        Ok(Error { data, index })
+    }
+
+    /// An error about a limit, at a byte of the source. It takes no memory.
+    pub fn limit_from_static(message: &'static str, index: usize) -> Self
+        ensures { result ≡ record { message = message.now; subject = of_limit; index = index } }
+    {
+        Error {
+            data: ErrorData::LimitExceeded(Words::Static(message)),
+            index,
+        }
+    }
+
+    /// An error about the end of the source, at a byte of it. It takes no memory.
+    pub fn eof_from_static(message: &'static str, index: usize) -> Self
+        ensures { result ≡ record { message = message.now; subject = of_end; index = index } }
+    {
+        Error {
+            data: ErrorData::Eof(Words::Static(message)),
+            index,
+        }
+    }
+
+    /// An error about a text of the source, at the byte where that begins, whose message quotes the text: the words, an opening mark, the text
+    /// and a closing mark. Only a message of more than 40 bytes takes memory, and it fails only where that is refused.
+    pub fn quoting(
+        alloc: A,
+        words: &str,
+        opening: &str,
+        text: &str,
+        closing: &str,
+        index: usize,
+    ) -> Result<Self, AllocError>
+        requires { index + length text.now < 2 ^ 64 }
+        ensures value { IfOk result (λ e. e ≡ record { message = words.now ++ opening.now ++ text.now ++ closing.now; subject = of_text text.now; index = index }) }
+        ensures short { length words.now + length opening.now + length text.now + length closing.now ≤ 40 → IsOk result }
+    {
+        if let Ok(data) = ErrorData::quoting(words, opening, text, closing) {
+            return Ok(Error { data, index });
+        }
+        let data = ErrorData::quoting_long(alloc, words, opening, text, closing)?;
+        Ok(Error { data, index })
     }
 
     /// The text that it is about, which is empty for a limit and for the end.
     pub fn data(&self) -> &str
         ensures { result.now ≡ subject_text self.now.subject }
     {
-        match &self.subject {
-            ErrorData::Text(text) => text.as_str(),
-            _ => "",
-        }
+        self.data.text()
     }
 
     /// Whether it is about a limit.
     pub fn is_limit(&self) -> bool
         ensures { result ≡ is_limit_subject self.now.subject }
     {
-        matches!(&self.subject, ErrorData::LimitExceeded)
+        matches!(&self.data, ErrorData::LimitExceeded(_))
     }
 
     /// Whether it is about the end of the source.
     pub fn is_eof(&self) -> bool
         ensures { result ≡ is_end_subject self.now.subject }
     {
-        matches!(&self.subject, ErrorData::Eof)
+        matches!(&self.data, ErrorData::Eof(_))
     }
 
     /// The byte of the source where it begins.
@@ -111,24 +163,40 @@ impl<A: Allocator> Error<A> {
     pub fn message(&self) -> &str
         ensures { result.now ≡ self.now.message }
     {
-        self.message.as_str()
+        self.data.message()
     }
 
     /// An equal error with texts of its own. It fails only where memory is refused.
     pub fn try_clone<B: Allocator + Copy>(&self, alloc: B) -> Result<Error<B>, AllocError>
         ensures { IfOk result (λ e. e ≡ self.now) }
     {
-        let subject = match &self.subject {
-            ErrorData::Text(text) => ErrorData::Text(String::from_str(alloc, text.as_str())?),
-            ErrorData::Eof => ErrorData::Eof,
-            ErrorData::LimitExceeded => ErrorData::LimitExceeded,
-        };
-        let message = String::from_str(alloc, self.message.as_str())?;
+        let data = self.data.try_clone(alloc)?;
         Ok(Error {
-            message,
-            subject,
+            data,
             index: self.index,
         })
+    }
+}
+
+impl<A: Allocator + Copy> Error<A> {
+    // An error about a text of the source, at the byte where that begins, whose message quotes something else between two pieces.
+    pub(crate) fn quoting_other(
+        alloc: A,
+        front: &str,
+        quoted: &str,
+        end: &str,
+        text: &str,
+        index: usize,
+    ) -> Result<Self, AllocError>
+        requires { index + length text.now < 2 ^ 64 }
+        ensures { IfOk result (λ e. e ≡ record { message = front.now ++ quoted.now ++ end.now; subject = of_text text.now; index = index }) }
+    {
+        if let Ok(data) = ErrorData::pair(front, quoted, end, text) {
+            return Ok(Error { data, index });
+        }
+        let message = format!(in alloc; "{front}{quoted}{end}")?;
+        let text = String::from_str(alloc, text)?;
+        Ok(Error::with_loc(message, text, index))
     }
 }
 
@@ -137,10 +205,20 @@ impl<A: Allocator> Error<A> {
     fn subject_number(&self) -> u8
         ensures { result ≡ subject_number self.now.subject }
     {
-        match &self.subject {
-            ErrorData::Text(_) => 0,
-            ErrorData::Eof => 1,
-            ErrorData::LimitExceeded => 2,
+        match &self.data {
+            ErrorData::Eof(_) => 1,
+            ErrorData::LimitExceeded(_) => 2,
+            _ => 0,
+        }
+    }
+
+    // What is printed of what it is about.
+    fn shown(&self) -> &str
+        ensures { result.now ≡ subject_shown self.now.subject }
+    {
+        match &self.data {
+            ErrorData::Eof(_) => "EOF",
+            _ => self.data(),
         }
     }
 }
@@ -182,11 +260,8 @@ impl<A: Allocator> fmt::Display for Error<A> {
         let start = self.index;
         let end = start + self.data().len();
         let message = self.message();
-        match &self.subject {
-            ErrorData::Text(text) => write!(f, "ERROR@{start}:{end} {message:?} {text}"),
-            ErrorData::Eof => write!(f, "ERROR@{start}:{end} {message:?} EOF"),
-            ErrorData::LimitExceeded => write!(f, "ERROR@{start}:{end} {message:?} "),
-        }
+        let shown = self.shown();
+        write!(f, "ERROR@{start}:{end} {message:?} {shown}")
     }
 }
 

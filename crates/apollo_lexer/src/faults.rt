@@ -1,7 +1,9 @@
-// What is wrong with bad text, and the messages that say it.
-ghost use Rattle.std.specs.Prelude.{◌≡◌, ◌≤◌, ◌<◌, IfOk, IfSome, length, slice_index, string_bytes};
+// What is wrong with bad text, and the errors that say it.
+ghost use Rattle.std.specs.Prelude.{◌≡◌, ◌+◌, ◌≤◌, ◌<◌, ◌^◌, ◌++◌, IfOk, IfSome, codes, length, slice_index};
+ghost use Rattle.apollo_lexer.specs.Diagnostics.{of_text};
 ghost use Rattle.apollo_lexer.specs.Faults.{words, fault_message, number_fault, IsFaultMessage};
 
+use crate::error::Error;
 use crate::escapes::{bad_escape_len, begins_with_lead, escape_len};
 use crate::numbers::number_len;
 use lexical_grammar::{NumberState, hex_digits_len};
@@ -187,45 +189,82 @@ fn words(fault: LexFault) -> &'static str
     }
 }
 
-// The message for a fault of this text, when `next` is the character after what begins a number.
-fn fault_message<A: Allocator>(
+// The error for a number, whose message quotes the character after what begins it: the words end with this.
+fn suffix_error<A: Allocator + Copy>(
+    alloc: A,
+    text: &str,
+    index: usize,
+    next: &str,
+    end: &str,
+) -> Result<Error<A>, AllocError>
+    requires { index + length text.now < 2 ^ 64 }
+    ensures { IfOk result (λ e. e ≡ record { message = codes "Unexpected character `" ++ next.now ++ end.now; subject = of_text text.now; index = index }) }
+{
+    Error::quoting_other(alloc, "Unexpected character `", next, end, text, index)
+}
+
+// The error for a fault of this text, when `next` is the character after what begins a number.
+fn fault_error<A: Allocator + Copy>(
+    alloc: A,
     fault: LexFault,
     text: &str,
+    index: usize,
     next: &str,
-    alloc: A,
-) -> Result<String<A>, AllocError>
-    ensures { IfOk result (λ m. string_bytes m ≡ fault_message fault text.now next.now) }
+) -> Result<Error<A>, AllocError>
+    requires { index + length text.now < 2 ^ 64 }
+    ensures { IfOk result (λ e. e ≡ record { message = fault_message fault text.now next.now; subject = of_text text.now; index = index }) }
 {
     match fault {
-        LexFault::UnexpectedCharacter => format!(in alloc; "Unexpected character \"{text}\""),
-        LexFault::NumberSuffix => format!(in alloc; "Unexpected character `{next}`"),
-        LexFault::IntegerSuffix => format!(in alloc;
-            "Unexpected character `{next}` as integer suffix"
+        LexFault::UnexpectedCharacter => Error::quoting(
+            alloc,
+            "Unexpected character ",
+            "\"",
+            text,
+            "\"",
+            index,
         ),
-        LexFault::FractionalDigit => format!(in alloc;
-            "Unexpected character `{next}`, expected fractional digit"
+        LexFault::NumberSuffix => suffix_error(alloc, text, index, next, "`"),
+        LexFault::IntegerSuffix => suffix_error(alloc, text, index, next, "` as integer suffix"),
+        LexFault::FractionalDigit => suffix_error(
+            alloc,
+            text,
+            index,
+            next,
+            "`, expected fractional digit",
         ),
-        LexFault::FloatSuffix => format!(in alloc; "Unexpected character `{next}` as float suffix"),
-        LexFault::ExponentDigitOrSign => format!(in alloc;
-            "Unexpected character `{next}`, expected exponent digit or sign"
+        LexFault::FloatSuffix => suffix_error(alloc, text, index, next, "` as float suffix"),
+        LexFault::ExponentDigitOrSign => suffix_error(
+            alloc,
+            text,
+            index,
+            next,
+            "`, expected exponent digit or sign",
         ),
-        LexFault::ExponentDigit => format!(in alloc;
-            "Unexpected character `{next}`, expected exponent digit"
+        LexFault::ExponentDigit => suffix_error(
+            alloc,
+            text,
+            index,
+            next,
+            "`, expected exponent digit",
         ),
-        _ => {
-            let words = words(fault);
-            String::from_str(alloc, words)
-        }
+        _ => Error::from_static(alloc, words(fault), text, index),
     }
 }
 
-/// The message for bad text, by its last fault.
-pub fn bad_text_message<A: Allocator>(text: &str, alloc: A) -> Result<String<A>, AllocError>
-    ensures { IfOk result (λ m. IsFaultMessage text.now (string_bytes m)) }
+/// The error for bad text that begins at this byte of the source, by its last fault.
+pub fn bad_text_error<A: Allocator + Copy>(
+    alloc: A,
+    text: &str,
+    index: usize,
+) -> Result<Error<A>, AllocError>
+    requires { index + length text.now < 2 ^ 64 }
+    ensures subject { IfOk result (λ e. e.subject ≡ of_text text.now) }
+    ensures index { IfOk result (λ e. e.index ≡ index) }
+    ensures message { IfOk result (λ e. IsFaultMessage text.now e.message) }
 {
     let bytes = text.as_bytes();
     let (state, n) = number_len(bytes);
     let next = &text[n..];
-    let message = fault_message(fault(bytes, state, n), text, next, alloc)?;
-    Ok(message)
+    let error = fault_error(alloc, fault(bytes, state, n), text, index, next)?;
+    Ok(error)
 }

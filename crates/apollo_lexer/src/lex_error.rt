@@ -3,7 +3,7 @@ ghost use Rattle.std.specs.Prelude.{◌≡◌, ◌+◌, ◌<◌, ◌^◌, length
 ghost use Rattle.apollo_lexer.specs.LexErrors.{lex_subject, IsLexMessage};
 
 use crate::error::Error;
-use crate::faults::bad_text_message;
+use crate::faults::bad_text_error;
 use std::alloc::{AllocError, Allocator};
 
 /// Bad text of a source, which it borrows, or that the token limit is met.
@@ -40,18 +40,16 @@ impl<'a> LexError<'a> {
         self.is_limit
     }
 
-    /// The error, with a message, and with texts of its own. It fails only where memory is refused.
+    /// The error, with a message, and with a text of its own. It fails only where memory is refused.
     pub fn to_error<A: Allocator + Copy>(&self, alloc: A) -> Result<Error<A>, AllocError>
         ensures subject { IfOk result (λ e. e.subject ≡ lex_subject self.now.is_limit self.now.text.now) }
         ensures index { IfOk result (λ e. e.index ≡ self.now.index) }
         ensures message { IfOk result (λ e. IsLexMessage self.now.is_limit self.now.text.now e.message) }
     {
         if self.is_limit {
-            let told = String::from_str(alloc, "token limit reached, aborting lexing")?;
-            return Ok(Error::limit(told, self.index));
+            return Ok(Error::limit_from_static("token limit reached, aborting lexing", self.index));
         }
-        let message = bad_text_message(self.text, alloc)?;
-        let text = String::from_str(alloc, self.text)?;
-        Ok(Error::with_loc(message, text, self.index))
+        let error = bad_text_error(alloc, self.text, self.index)?;
+        Ok(error)
     }
 }

@@ -61,15 +61,18 @@ const SOURCES: [&str; 7] = [
     "query Q($a: [Int!] = [1] @d) @e { a(b: $a) { ...F } } fragment F on T { c }",
 ];
 
-const FAULTY: [&str; 4] = [
-    "{ a(b) }",
-    "{ a(b: {c}) }",
-    "\"description\"{}",
-    "{ a(b: 01) }",
+// With errors whose texts are longer than an error holds in itself: of a message of the grammar, of one that quotes its text, and of bad text.
+const FAULTY: [&str; 3] = [
+    "aDefinitionThatNoKeywordBegins",
+    "{ a(b anArgumentWithoutItsColon) }",
+    "{ a(b: \"a string that has no end) }",
 ];
 
-// With bad text, and one of them with more items than the lexer gives.
-const BAD: [&str; 2] = ["type Query { ..a a a a a a a a a }", "{ a(b: 01) }"];
+// With bad text that an error does not hold in itself, and one of them with more items than the lexer gives.
+const BAD: [&str; 2] = [
+    "{ 0x a a a a a a a a a }",
+    "{ a(b: \"a string that has no end) }",
+];
 
 const STRINGS: [&str; 3] = [
     "{ a(b: \"\\uD83D\\uDCA9\") }",

@@ -297,6 +297,39 @@ fn clones_are_equal_and_hash_equally(rt: HostRuntime) -> Result<(), Fail> {
 }
 
 #[test]
+fn errors_of_static_words_equal_those_that_own_theirs(rt: HostRuntime) -> Result<(), Fail> {
+    let alloc = rt.alloc();
+    for text in [
+        "",
+        "é",
+        "\"twenty-four bytes long\"",
+        "\"twenty-five bytes in it\"",
+    ] {
+        let message = String::from_str(alloc, "expected definition")?;
+        let owned = Error::with_loc(message, String::from_str(alloc, text)?, 0);
+        assert!(rt; Error::from_static(alloc, "expected definition", text, 0)? == owned);
+    }
+    assert!(rt; Error::eof_from_static("m", 5) == about_the_end(alloc)?);
+    assert!(rt; Error::limit_from_static("m", 5) == about_a_limit(alloc)?);
+    Ok(())
+}
+
+#[test]
+fn messages_quote_texts_of_any_length(rt: HostRuntime) -> Result<(), Fail> {
+    let alloc = rt.alloc();
+    for text in [")", "nineteen_bytes_long", "twenty_bytes_in_text"] {
+        let message = format!(in alloc; "expected COLON, got {text}!")?;
+        let owned = Error::with_loc(message, String::from_str(alloc, text)?, 0);
+        let error = Error::quoting(alloc, "expected COLON", ", got ", text, "!", 0)?;
+        assert!(rt;
+            error == owned && error.try_clone(alloc)? == owned,
+            "{text}"
+        );
+    }
+    Ok(())
+}
+
+#[test]
 fn errors_are_printed(rt: HostRuntime) -> Result<(), Fail> {
     let alloc = rt.alloc();
     let text = format!(in alloc; "{}|{}", about_a_text(alloc)?, about_a_limit(alloc)?)?;

@@ -3,4 +3,5 @@ pub mod Building
 pub mod Keywords
 pub mod Leaves
 pub mod Reporting
+pub mod Faults
 pub mod Lookahead

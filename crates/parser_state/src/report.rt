@@ -1,6 +1,6 @@
 // What a parser reports, and the errors that are made of it.
-ghost use Rattle.std.specs.Prelude.{◌≡◌, IfOk, string_bytes};
-ghost use Rattle.parser_rules.specs.Messages.{message_text};
+ghost use Rattle.std.specs.Prelude.{◌≡◌, true, IfOk, string_bytes};
+ghost use Rattle.parser_rules.specs.Messages.{names_found, message_text};
 ghost use Rattle.parser_rules.specs.State as state;
 ghost use Rattle.parser_state.specs.View.{lexeme_of, report_of};
 ghost use Rattle.parser_state.specs.Errors.{IsErrorOf};
@@ -21,52 +21,64 @@ pub enum Report<'i> {
     RecursionLimit(Token<'i>),
 }
 
-// What the message says where this token was found.
-fn message_text<A: Allocator>(
+// What a message that says what was found says at the end.
+fn end_text<A: Allocator>(alloc: A, message: Message) -> Result<String<A>, AllocError>
+    requires { names_found message ≡ true }
+    ensures { IfOk result (λ t. string_bytes t ≡ message_text message state.at_end) }
+{
+    let words = message.description();
+    format!(in alloc; "{words}, got EOF")
+}
+
+// The error of a message that says what was found.
+fn found_error<A: Allocator + Copy>(
     alloc: A,
     message: Message,
     found: Token<'_>,
-) -> Result<String<A>, AllocError>
-    ensures { IfOk result (λ t. string_bytes t ≡ message_text message (state.found_at (lexeme_of found.entry))) }
+) -> Result<Error<A>, AllocError>
+    requires { names_found message ≡ true }
+    ensures { IfOk result (IsErrorOf (state.fault_report message (lexeme_of found.entry))) }
 {
-    let words = message.description();
-    if !message.names_found() {
-        return String::from_str(alloc, words);
-    }
     if is_eof(found.kind()) {
-        return format!(in alloc; "{words}, got EOF");
+        let text = end_text(alloc, message)?;
+        return Ok(Error::eof(text, found.index()));
     }
-    let data = found.data();
-    format!(in alloc; "{words}, got {data}")
+    let words = message.description();
+    let error = Error::quoting(alloc, words, ", got ", found.data(), "", found.index())?;
+    Ok(error)
 }
 
-fn fault<A: Allocator + Copy>(
+// The error of a fault of the grammar, at this token.
+fn fault_error<A: Allocator + Copy>(
     alloc: A,
     message: Message,
     found: Token<'_>,
 ) -> Result<Error<A>, AllocError>
     ensures { IfOk result (IsErrorOf (state.fault_report message (lexeme_of found.entry))) }
 {
-    let text = message_text(alloc, message, found)?;
-    if is_eof(found.kind()) {
-        return Ok(Error::eof(text, found.index()));
+    if message.names_found() {
+        return found_error(alloc, message, found);
     }
-    let data = String::from_str(alloc, found.data())?;
-    Ok(Error::with_loc(text, data, found.index()))
+    let words = message.description();
+    if is_eof(found.kind()) {
+        return Ok(Error::eof_from_static(words, found.index()));
+    }
+    let error = Error::from_static(alloc, words, found.data(), found.index())?;
+    Ok(error)
 }
 
 impl<'i> Report<'i> {
-    /// The error, with its message, and with texts of its own. It fails only where memory is refused.
+    /// The error, with its message, and with a text of its own. It fails only where memory is refused.
     pub fn to_error<A: Allocator + Copy>(self, alloc: A) -> Result<Error<A>, AllocError>
         ensures { IfOk result (IsErrorOf (report_of self.entry)) }
     {
         match self {
             Report::Lexer(error) => error.to_error(alloc),
-            Report::Fault(message, found) => fault(alloc, message, found),
-            Report::RecursionLimit(found) => {
-                let text = String::from_str(alloc, "parser recursion limit reached")?;
-                Ok(Error::limit(text, found.index()))
-            }
+            Report::Fault(message, found) => fault_error(alloc, message, found),
+            Report::RecursionLimit(found) => Ok(Error::limit_from_static(
+                "parser recursion limit reached",
+                found.index(),
+            )),
         }
     }
 }
