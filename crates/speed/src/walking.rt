@@ -1,7 +1,7 @@
-// A walk over the typed tree of a document, by accessors alone.
+// A walk over the typed tree of a document, in document order, by accessors alone.
 use apollo_parser::Parser;
 use apollo_parser::cst::{
-    Arguments, Definition, Document, ObjectValue, Selection, SelectionSet, Value,
+    Arguments, CstChildren, Definition, Document, ObjectValue, Selection, SelectionSet, Value,
 };
 use std::alloc::{AllocError, Global};
 use std::io;
@@ -10,66 +10,93 @@ use std::time::Instant;
 /// What is counted, and what is still to be visited.
 #[derive(Drop)]
 struct Walk<'t> {
+    // As many steps as any loop takes: the number of elements.
+    steps: usize,
     fields: u64,
     arguments: u64,
     string_bytes: u64,
-    selection_sets: Vec<SelectionSet<'t>>,
+    // The selections that are left in each open selection set, the innermost last.
+    open: Vec<CstChildren<'t, Selection<'t>>>,
+    // The values that are left in the lists and objects of an argument.
     values: Vec<Value<'t>>,
 }
 
 impl<'t> Walk<'t> {
-    fn new(alloc: Global) -> Walk<'t> {
+    fn new(alloc: Global, steps: usize) -> Walk<'t> {
         Walk {
+            steps,
             fields: 0,
             arguments: 0,
             string_bytes: 0,
-            selection_sets: Vec::new(alloc),
+            open: Vec::new(alloc),
             values: Vec::new(alloc),
         }
     }
 
-    fn start(&mut self, document: Document<'t>) -> Result<(), AllocError> {
-        for definition in document.definitions() {
-            let selection_set = match definition {
-                Definition::OperationDefinition(operation) => operation.selection_set(),
-                Definition::FragmentDefinition(fragment) => fragment.selection_set(),
-                _ => None,
-            };
-            self.visit_later(selection_set)?;
-        }
-        Ok(())
-    }
-
-    fn visit_later(&mut self, selection_set: Option<SelectionSet<'t>>) -> Result<(), AllocError> {
+    // Opens a selection set, if there is one.
+    fn enter(&mut self, selection_set: Option<SelectionSet<'t>>) -> Result<(), AllocError> {
         if let Some(selection_set) = selection_set {
-            self.selection_sets.push(selection_set)?;
+            self.open.push(selection_set.selections())?;
         }
         Ok(())
     }
 
-    fn count_fields(&mut self, selection_set: SelectionSet<'t>) -> Result<(), AllocError> {
-        for selection in selection_set.selections() {
-            match selection {
-                Selection::Field(field) => {
-                    self.fields = self.fields.saturating_add(1);
-                    if let Some(arguments) = field.arguments() {
-                        self.count_arguments(arguments)?;
-                    }
-                    self.visit_later(field.selection_set())?;
-                }
-                Selection::InlineFragment(fragment) => self.visit_later(fragment.selection_set())?,
-                _ => {}
+    fn next_selection(&mut self) -> Option<Selection<'t>> {
+        for _ in 0..self.open.len() {
+            if let Some(selection) = self.open.last_mut()?.next() {
+                return Some(selection);
             }
+            self.open.pop();
+        }
+        None
+    }
+
+    // All that is below a definition, of which the selection set is open.
+    fn visit_open(&mut self, alloc: Global) -> Result<(), AllocError> {
+        for _ in 0..self.steps {
+            let Some(selection) = self.next_selection() else {
+                break;
+            };
+            self.selection(alloc, selection)?;
         }
         Ok(())
     }
 
-    fn count_arguments(&mut self, arguments: Arguments<'t>) -> Result<(), AllocError> {
+    fn selection(&mut self, alloc: Global, selection: Selection<'t>) -> Result<(), AllocError> {
+        match selection {
+            Selection::Field(field) => {
+                self.fields = self.fields.saturating_add(1);
+                if let Some(arguments) = field.arguments() {
+                    self.count_arguments(alloc, arguments)?;
+                }
+                self.enter(field.selection_set())
+            }
+            Selection::InlineFragment(fragment) => self.enter(fragment.selection_set()),
+            _ => Ok(()),
+        }
+    }
+
+    fn count_arguments(
+        &mut self,
+        alloc: Global,
+        arguments: Arguments<'t>,
+    ) -> Result<(), AllocError> {
         for argument in arguments.arguments() {
             self.arguments = self.arguments.saturating_add(1);
             if let Some(value) = argument.value() {
-                self.values.push(value)?;
+                self.value(alloc, value)?;
+                self.inner_values(alloc)?;
             }
+        }
+        Ok(())
+    }
+
+    fn inner_values(&mut self, alloc: Global) -> Result<(), AllocError> {
+        for _ in 0..self.steps {
+            let Some(value) = self.values.pop() else {
+                break;
+            };
+            self.value(alloc, value)?;
         }
         Ok(())
     }
@@ -107,16 +134,14 @@ fn walk_document<'t>(
     document: Document<'t>,
     elements: usize,
 ) -> Result<Walk<'t>, AllocError> {
-    let mut walk = Walk::new(alloc);
-    walk.start(document)?;
-    for _ in 0..elements {
-        if let Some(selection_set) = walk.selection_sets.pop() {
-            walk.count_fields(selection_set)?;
-        } else if let Some(value) = walk.values.pop() {
-            walk.value(alloc, value)?;
-        } else {
-            break;
-        }
+    let mut walk = Walk::new(alloc, elements);
+    for definition in document.definitions() {
+        walk.enter(match definition {
+            Definition::OperationDefinition(operation) => operation.selection_set(),
+            Definition::FragmentDefinition(fragment) => fragment.selection_set(),
+            _ => None,
+        })?;
+        walk.visit_open(alloc)?;
     }
     Ok(walk)
 }
