@@ -1,5 +1,6 @@
 // Records in the forms that take fewer bytes.
 ghost use Rattle.std.specs.Prelude.{◌≡◌, ◌+◌, ◌*◌, ◌^◌, ◌<◌, true};
+ghost use Rattle.apollo_tree.specs.declared.record.Record.{Record as Plain};
 ghost use Rattle.apollo_tree.specs.Widened.{joined, of_small, widened, IsSmall, IsNarrow};
 
 use crate::record::Record;
@@ -9,6 +10,15 @@ use std::mem::size_of;
 const LOW: usize = 65536;
 
 const SMALL: usize = 16777216;
+
+// A record in one of a table's forms.
+pub trait Packed: Copy {
+    // the record with the same fields
+    ghost plain: { Self → Plain };
+
+    fn row(self) -> Record
+        ensures { result ≡ plain self };
+}
 
 // A record of a table with fewer than 2 ^ 24 records. The size and the distance to the parent are each in two parts.
 #[derive(Clone, Copy)]
@@ -36,7 +46,7 @@ pub struct NarrowRecord {
 
 const _: () = prove!(size_of::<NarrowRecord>() == 16);
 
-#[inline]
+#[inline(always)]
 fn join(low: u16, high: u8) -> usize
     ensures { result ≡ joined low high }
 {
@@ -50,6 +60,45 @@ fn split(number: usize) -> (u16, u8)
     ensures { joined result.0 result.1 ≡ number }
 {
     ((number % LOW) as u16, (number / LOW) as u8)
+}
+
+impl Packed for SmallRecord {
+    ghost plain = { of_small };
+
+    #[inline(always)]
+    fn row(self) -> Record {
+        Record {
+            kind: self.kind,
+            is_node: self.is_node,
+            start: self.start as usize,
+            size: join(self.size_low, self.size_high),
+            to_parent: join(self.parent_low, self.parent_high),
+        }
+    }
+}
+
+impl Packed for NarrowRecord {
+    ghost plain = { widened };
+
+    #[inline(always)]
+    fn row(self) -> Record {
+        Record {
+            kind: self.kind,
+            is_node: self.is_node,
+            start: self.start as usize,
+            size: self.size as usize,
+            to_parent: self.to_parent as usize,
+        }
+    }
+}
+
+impl Packed for Record {
+    ghost plain = { λ r. r };
+
+    #[inline(always)]
+    fn row(self) -> Record {
+        self
+    }
 }
 
 impl SmallRecord {
@@ -80,19 +129,6 @@ impl SmallRecord {
             parent_low,
             kind: row.kind,
             is_node: row.is_node,
-        }
-    }
-
-    #[inline]
-    pub fn row(self) -> Record
-        ensures { result ≡ of_small self }
-    {
-        Record {
-            kind: self.kind,
-            is_node: self.is_node,
-            start: self.start as usize,
-            size: join(self.size_low, self.size_high),
-            to_parent: join(self.parent_low, self.parent_high),
         }
     }
 
@@ -160,19 +196,6 @@ impl NarrowRecord {
             start: row.start as u32,
             size: row.size as u32,
             to_parent: row.to_parent as u32,
-        }
-    }
-
-    #[inline]
-    pub fn row(self) -> Record
-        ensures { result ≡ widened self }
-    {
-        Record {
-            kind: self.kind,
-            is_node: self.is_node,
-            start: self.start as usize,
-            size: self.size as usize,
-            to_parent: self.to_parent as usize,
         }
     }
 
