@@ -26,10 +26,10 @@ pub struct SmallRecord {
     start: u32,
     size_low: u16,
     size_high: u8,
-    parent_high: u8,
-    parent_low: u16,
-    kind: SyntaxKind,
     is_node: bool,
+    parent_low: u16,
+    parent_high: u8,
+    kind: SyntaxKind,
 }
 
 const _: () = prove!(size_of::<SmallRecord>() == 12);
