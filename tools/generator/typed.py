@@ -40,12 +40,14 @@ impl<'t> Cst{of}<'t> for {name}<'t> {{
 
     ghost {ghost} = {{ λ {variable}. {variable}.syntax }};
 
+    #[inline(always)]
     fn can_cast(kind: SyntaxKind) -> bool
         ensures {{ result ≡ is_kind {kind} kind }}
     {{
         kind.is(SyntaxKind::{kind})
     }}
 
+    #[inline(always)]
     fn cast(syntax: Syntax{of}<'t>) -> Option<Self> {{
         if Self::can_cast(syntax.kind()) {{
             Some({name} {{ syntax }})
@@ -150,12 +152,14 @@ impl<'t> CstNode<'t> for {enum}<'t> {{
 
     ghost node = {{ {name}_node }};
 
+    #[inline(always)]
     fn can_cast(kind: SyntaxKind) -> bool
         ensures {{ result ≡ one_of {listed} kind }}
     {{
         {any_cast(types)}
     }}
 
+    #[inline(always)]
     fn cast(syntax: SyntaxNode<'t>) -> Option<Self> {{
 {tried_casts(enum, types)}        None
     }}
