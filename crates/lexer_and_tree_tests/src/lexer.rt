@@ -1,10 +1,9 @@
 use apollo_lexer::{
-    Error, Lexer, LimitTracker, Steps, Token, answers_are_items, answers_count, answers_join,
-    equal_errors_are_same,
+    Error, LexError, Lexer, LimitTracker, Steps, Token, answers_are_items, answers_count,
+    answers_join, equal_errors_are_same,
 };
 use lexical_grammar::TokenKind;
 use std::alloc::{AllocError, Global};
-use std::fmt::Write;
 use std::hash::{DefaultHasher, Hash, Hasher};
 use std::process::Abort;
 use std::test::Fail;
@@ -13,13 +12,90 @@ const QUERY: &str = "type Query { a a a a a a a a a }";
 
 const UNLIMITED: usize = usize::MAX;
 
-// A text, the token limit that it is read under, and its items in their printed form, each on a line of its own.
+// A text, the token limit that it is read under, and its items in their printed form.
 #[derive(Clone, Copy)]
 struct Case {
     source: &'static str,
     limit: usize,
-    lines: &'static str,
+    items: &'static [&'static str],
 }
+
+#[rattlefmt::skip]
+const TOKENS: [Case; 5] = [
+    Case { source: "{a}", limit: UNLIMITED, items: &[r#"L_CURLY@0:1 "{""#, r#"NAME@1:2 "a""#, r#"R_CURLY@2:3 "}""#, "EOF@3:3"] },
+    Case { source: "a,\u{FEFF}#é\r[]", limit: UNLIMITED, items: &[
+        r#"NAME@0:1 "a""#,
+        r#"COMMA@1:2 ",""#,
+        r#"WHITESPACE@2:5 "\u{feff}""#,
+        r##"COMMENT@5:8 "#é""##,
+        r#"WHITESPACE@8:9 "\r""#,
+        r#"L_BRACKET@9:10 "[""#,
+        r#"R_BRACKET@10:11 "]""#,
+        "EOF@11:11",
+    ] },
+    Case { source: "é}", limit: UNLIMITED, items: &[r#"ERROR@0:2 "Unexpected character \"é\"" é"#, r#"R_CURLY@2:3 "}""#, "EOF@3:3"] },
+    Case { source: "!$&:=@()|", limit: UNLIMITED, items: &[
+        r#"BANG@0:1 "!""#,
+        r#"DOLLAR@1:2 "$""#,
+        r#"AMP@2:3 "&""#,
+        r#"COLON@3:4 ":""#,
+        r#"EQ@4:5 "=""#,
+        r#"AT@5:6 "@""#,
+        r#"L_PAREN@6:7 "(""#,
+        r#"R_PAREN@7:8 ")""#,
+        r#"PIPE@8:9 "|""#,
+        "EOF@9:9",
+    ] },
+    Case { source: "-0e1", limit: UNLIMITED, items: &[r#"FLOAT@0:4 "-0e1""#, "EOF@4:4"] },
+];
+
+#[rattlefmt::skip]
+const CUT_BY_THE_LIMIT: [Case; 4] = [
+    Case { source: "{a}", limit: 3, items: &[r#"L_CURLY@0:1 "{""#, r#"NAME@1:2 "a""#, r#"R_CURLY@2:3 "}""#, r#"ERROR@2:2 "token limit reached, aborting lexing" "#] },
+    Case { source: "{a}", limit: 0, items: &[r#"ERROR@0:0 "token limit reached, aborting lexing" "#] },
+    Case { source: "", limit: 0, items: &[r#"ERROR@0:0 "token limit reached, aborting lexing" "#] },
+    Case { source: "", limit: 1, items: &["EOF@0:0"] },
+];
+
+#[rattlefmt::skip]
+const BAD_SPREADS_AND_NUMBERS: [Case; 4] = [
+    Case { source: ".a ..b ...c", limit: UNLIMITED, items: &[
+        r#"ERROR@0:2 "Unterminated spread operator" .a"#,
+        r#"WHITESPACE@2:3 " ""#,
+        r#"ERROR@3:5 "Unterminated spread operator" .."#,
+        r#"NAME@5:6 "b""#,
+        r#"WHITESPACE@6:7 " ""#,
+        r#"SPREAD@7:10 "...""#,
+        r#"NAME@10:11 "c""#,
+        "EOF@11:11",
+    ] },
+    Case { source: "0xF", limit: UNLIMITED, items: &[r#"ERROR@0:2 "Unexpected character `x` as integer suffix" 0x"#, r#"NAME@2:3 "F""#, "EOF@3:3"] },
+    Case { source: "1.5.6", limit: UNLIMITED, items: &[r#"ERROR@0:4 "Unexpected character `.` as float suffix" 1.5."#, r#"INT@4:5 "6""#, "EOF@5:5"] },
+    Case { source: "1.5e", limit: UNLIMITED, items: &[r#"ERROR@0:4 "Unexpected EOF in float value" 1.5e"#, "EOF@4:4"] },
+];
+
+#[rattlefmt::skip]
+const BAD_STRINGS: [Case; 7] = [
+    Case { source: r#""\u{110000}""#, limit: UNLIMITED, items: &[
+        r#"ERROR@0:12 "unicode escape sequence must specify a Unicode scalar value" "\u{110000}""#,
+        "EOF@12:12",
+    ] },
+    Case { source: r#"""#, limit: UNLIMITED, items: &[r#"ERROR@0:1 "unexpected end of data while lexing string value" ""#, "EOF@1:1"] },
+    Case { source: r#""""a"#, limit: UNLIMITED, items: &[r#"ERROR@0:4 "unterminated string value" """a"#, "EOF@4:4"] },
+    Case { source: "\"\n\"", limit: UNLIMITED, items: &["ERROR@0:3 \"unexpected line terminator\" \"\n\"", "EOF@3:3"] },
+    Case { source: r#""\uD83D""#, limit: UNLIMITED, items: &[r#"ERROR@0:8 "unpaired surrogate in unicode escape sequence" "\uD83D""#, "EOF@8:8"] },
+    Case { source: r#""\u\"" x"#, limit: UNLIMITED, items: &[
+        r#"ERROR@0:5 "invalid unicode escape sequence" "\u\""#,
+        r#"ERROR@5:8 "unterminated string value" " x"#,
+        "EOF@8:8",
+    ] },
+    Case { source: r#""\uD83D\"" x"#, limit: UNLIMITED, items: &[
+        r#"ERROR@0:10 "unpaired surrogate in unicode escape sequence" "\uD83D\"""#,
+        r#"WHITESPACE@10:11 " ""#,
+        r#"NAME@11:12 "x""#,
+        "EOF@12:12",
+    ] },
+];
 
 // The helpers below have no contracts, so the proof of a test does not carry what the lexer promises from call to call.
 fn lexer_of<'a>(source: &'a str, limit: usize) -> Lexer<'a> {
@@ -34,159 +110,44 @@ fn lex<'a>(
     lexer_of(source, limit).lex(alloc)
 }
 
-fn printed(alloc: Global, lexer: Lexer) -> Result<String, AllocError> {
-    let mut text = String::new(alloc);
-    for item in lexer {
-        match item {
-            Ok(token) => writeln!(text, "{token}")?,
-            Err(error) => {
-                let error = error.to_error(alloc)?;
-                writeln!(text, "{error}")?;
-            }
+fn printed(alloc: Global, item: Result<Token, LexError>) -> Result<String, AllocError> {
+    match item {
+        Ok(token) => format!(in alloc; "{token}"),
+        Err(error) => {
+            let error = error.to_error(alloc)?;
+            format!(in alloc; "{error}")
         }
     }
-    Ok(text)
 }
 
-fn prints(rt: &impl Abort, alloc: Global, lexer: Lexer, lines: &str) -> Result<(), AllocError> {
-    let text = printed(alloc, lexer)?;
-    assert_eq!(rt; text.as_str(), lines);
+fn gives(
+    rt: &impl Abort,
+    alloc: Global,
+    lexer: Lexer,
+    items: &[&'static str],
+) -> Result<(), AllocError> {
+    let mut wanted = items.iter();
+    for item in lexer {
+        let text = printed(alloc, item)?;
+        assert_eq!(rt; text.as_str(), *wanted.next().unwrap_or(&"nothing"));
+    }
+    assert!(rt; wanted.next().is_none());
     Ok(())
 }
 
-fn all_print(rt: &impl Abort, alloc: Global, cases: &[Case]) -> Result<(), AllocError> {
+fn all_give(rt: &impl Abort, alloc: Global, cases: &[Case]) -> Result<(), AllocError> {
     for case in cases {
-        prints(rt, alloc, lexer_of(case.source, case.limit), case.lines)?;
+        gives(rt, alloc, lexer_of(case.source, case.limit), case.items)?;
     }
     Ok(())
-}
-
-fn row(source: &'static str, limit: usize, lines: &'static str) -> Case {
-    Case {
-        source,
-        limit,
-        lines,
-    }
-}
-
-fn tokens() -> [Case; 5] {
-    [
-        row(
-            "{a}",
-            UNLIMITED,
-            "L_CURLY@0:1 \"{\"\nNAME@1:2 \"a\"\nR_CURLY@2:3 \"}\"\nEOF@3:3\n",
-        ),
-        row(
-            "a,\u{FEFF}#é\r[]",
-            UNLIMITED,
-            "NAME@0:1 \"a\"\nCOMMA@1:2 \",\"\nWHITESPACE@2:5 \"\\u{feff}\"\nCOMMENT@5:8 \"#é\"\nWHITESPACE@8:9 \"\\r\"\nL_BRACKET@9:10 \"[\"\nR_BRACKET@10:11 \"]\"\nEOF@11:11\n",
-        ),
-        row(
-            "é}",
-            UNLIMITED,
-            "ERROR@0:2 \"Unexpected character \\\"é\\\"\" é\nR_CURLY@2:3 \"}\"\nEOF@3:3\n",
-        ),
-        row(
-            "!$&:=@()|",
-            UNLIMITED,
-            "BANG@0:1 \"!\"\nDOLLAR@1:2 \"$\"\nAMP@2:3 \"&\"\nCOLON@3:4 \":\"\nEQ@4:5 \"=\"\nAT@5:6 \"@\"\nL_PAREN@6:7 \"(\"\nR_PAREN@7:8 \")\"\nPIPE@8:9 \"|\"\nEOF@9:9\n",
-        ),
-        row("-0e1", UNLIMITED, "FLOAT@0:4 \"-0e1\"\nEOF@4:4\n"),
-    ]
-}
-
-fn limits() -> [Case; 4] {
-    [
-        row(
-            "{a}",
-            3,
-            "L_CURLY@0:1 \"{\"\nNAME@1:2 \"a\"\nR_CURLY@2:3 \"}\"\nERROR@2:2 \"token limit reached, aborting lexing\" \n",
-        ),
-        row(
-            "{a}",
-            0,
-            "ERROR@0:0 \"token limit reached, aborting lexing\" \n",
-        ),
-        row(
-            "",
-            0,
-            "ERROR@0:0 \"token limit reached, aborting lexing\" \n",
-        ),
-        row("", 1, "EOF@0:0\n"),
-    ]
-}
-
-fn spreads_and_numbers() -> [Case; 4] {
-    [
-        row(
-            ".a ..b ...c",
-            UNLIMITED,
-            "ERROR@0:2 \"Unterminated spread operator\" .a\nWHITESPACE@2:3 \" \"\nERROR@3:5 \"Unterminated spread operator\" ..\nNAME@5:6 \"b\"\nWHITESPACE@6:7 \" \"\nSPREAD@7:10 \"...\"\nNAME@10:11 \"c\"\nEOF@11:11\n",
-        ),
-        row(
-            "0xF",
-            UNLIMITED,
-            "ERROR@0:2 \"Unexpected character `x` as integer suffix\" 0x\nNAME@2:3 \"F\"\nEOF@3:3\n",
-        ),
-        row(
-            "1.5.6",
-            UNLIMITED,
-            "ERROR@0:4 \"Unexpected character `.` as float suffix\" 1.5.\nINT@4:5 \"6\"\nEOF@5:5\n",
-        ),
-        row(
-            "1.5e",
-            UNLIMITED,
-            "ERROR@0:4 \"Unexpected EOF in float value\" 1.5e\nEOF@4:4\n",
-        ),
-    ]
-}
-
-fn bad_strings() -> [Case; 7] {
-    [
-        row(
-            "\"\\u{110000}\"",
-            UNLIMITED,
-            "ERROR@0:12 \"unicode escape sequence must specify a Unicode scalar value\" \"\\u{110000}\"\nEOF@12:12\n",
-        ),
-        row(
-            "\"",
-            UNLIMITED,
-            "ERROR@0:1 \"unexpected end of data while lexing string value\" \"\nEOF@1:1\n",
-        ),
-        row(
-            "\"\"\"a",
-            UNLIMITED,
-            "ERROR@0:4 \"unterminated string value\" \"\"\"a\nEOF@4:4\n",
-        ),
-        row(
-            "\"\n\"",
-            UNLIMITED,
-            "ERROR@0:3 \"unexpected line terminator\" \"\n\"\nEOF@3:3\n",
-        ),
-        row(
-            "\"\\uD83D\"",
-            UNLIMITED,
-            "ERROR@0:8 \"unpaired surrogate in unicode escape sequence\" \"\\uD83D\"\nEOF@8:8\n",
-        ),
-        row(
-            "\"\\u\\\"\" x",
-            UNLIMITED,
-            "ERROR@0:5 \"invalid unicode escape sequence\" \"\\u\\\"\nERROR@5:8 \"unterminated string value\" \" x\nEOF@8:8\n",
-        ),
-        row(
-            "\"\\uD83D\\\"\" x",
-            UNLIMITED,
-            "ERROR@0:10 \"unpaired surrogate in unicode escape sequence\" \"\\uD83D\\\"\"\nWHITESPACE@10:11 \" \"\nNAME@11:12 \"x\"\nEOF@12:12\n",
-        ),
-    ]
 }
 
 #[test]
 fn items_are_printed(rt: HostRuntime) -> Result<(), Fail> {
-    all_print(&rt, rt.alloc(), &tokens())?;
-    all_print(&rt, rt.alloc(), &limits())?;
-    all_print(&rt, rt.alloc(), &spreads_and_numbers())?;
-    all_print(&rt, rt.alloc(), &bad_strings())?;
+    all_give(&rt, rt.alloc(), &TOKENS)?;
+    all_give(&rt, rt.alloc(), &CUT_BY_THE_LIMIT)?;
+    all_give(&rt, rt.alloc(), &BAD_SPREADS_AND_NUMBERS)?;
+    all_give(&rt, rt.alloc(), &BAD_STRINGS)?;
     Ok(())
 }
 
@@ -197,37 +158,34 @@ fn lexer_behind_an_item(source: &str) -> Lexer<'_> {
     lexer
 }
 
-// A lexer that has told its limit, which a later limit does not open.
+// A lexer that has given its limit's error, which a later limit does not open.
 fn lexer_behind_its_limit(source: &str) -> Lexer<'_> {
     let mut lexer = lexer_behind_an_item(source);
     let _error = lexer.next();
     lexer.with_limit(5)
 }
 
+#[rattlefmt::skip]
+const LATER_LIMITS: [Case; 3] = [
+    Case { source: "a b c", limit: 0, items: &[r#"ERROR@1:1 "token limit reached, aborting lexing" "#] },
+    Case { source: "a b c", limit: 2, items: &[r#"WHITESPACE@1:2 " ""#, r#"NAME@2:3 "b""#, r#"ERROR@3:3 "token limit reached, aborting lexing" "#] },
+    Case { source: "a b c", limit: 5, items: &[r#"WHITESPACE@1:2 " ""#, r#"NAME@2:3 "b""#, r#"WHITESPACE@3:4 " ""#, r#"NAME@4:5 "c""#, "EOF@5:5"] },
+];
+
 // A limit counts from the next item on, whatever the limit was before. After the limit error nothing more is given.
 #[test]
 fn a_limit_set_later_counts_from_the_next_item(rt: HostRuntime) -> Result<(), Fail> {
-    for (limit, lines) in [
-        (0, "ERROR@1:1 \"token limit reached, aborting lexing\" \n"),
-        (
-            2,
-            "WHITESPACE@1:2 \" \"\nNAME@2:3 \"b\"\nERROR@3:3 \"token limit reached, aborting lexing\" \n",
-        ),
-        (
-            5,
-            "WHITESPACE@1:2 \" \"\nNAME@2:3 \"b\"\nWHITESPACE@3:4 \" \"\nNAME@4:5 \"c\"\nEOF@5:5\n",
-        ),
-    ] {
-        let lexer = lexer_behind_an_item("a b c").with_limit(limit);
-        prints(&rt, rt.alloc(), lexer, lines)?;
+    for case in LATER_LIMITS {
+        let lexer = lexer_behind_an_item(case.source).with_limit(case.limit);
+        gives(&rt, rt.alloc(), lexer, case.items)?;
     }
-    prints(
+    gives(
         &rt,
         rt.alloc(),
         lexer_behind_an_item("a b c"),
-        "ERROR@1:1 \"token limit reached, aborting lexing\" \n",
+        &[r#"ERROR@1:1 "token limit reached, aborting lexing" "#],
     )?;
-    prints(&rt, rt.alloc(), lexer_behind_its_limit("a b c"), "")?;
+    gives(&rt, rt.alloc(), lexer_behind_its_limit("a b c"), &[])?;
     Ok(())
 }
 
@@ -333,9 +291,9 @@ fn messages_quote_texts_of_any_length(rt: HostRuntime) -> Result<(), Fail> {
 fn errors_are_printed(rt: HostRuntime) -> Result<(), Fail> {
     let alloc = rt.alloc();
     let text = format!(in alloc; "{}|{}", about_a_text(alloc)?, about_a_limit(alloc)?)?;
-    assert_eq!(rt; text.as_str(), "ERROR@5:5 \"m\" |ERROR@5:5 \"m\" ");
+    assert_eq!(rt; text.as_str(), r#"ERROR@5:5 "m" |ERROR@5:5 "m" "#);
     let end = format!(in alloc; "{:?}", about_the_end(alloc)?)?;
-    assert_eq!(rt; end.as_str(), "ERROR@5:5 \"m\" EOF");
+    assert_eq!(rt; end.as_str(), r#"ERROR@5:5 "m" EOF"#);
     Ok(())
 }
 

@@ -45,10 +45,10 @@ fn no_line_follows_the_last(rt: HostRuntime) {
 #[test]
 fn triple_quotes_are_unescaped(rt: HostRuntime) -> Result<(), Fail> {
     let rows = [
-        ("\\\"\"\"", "\"\"\""),
-        ("a\\\"\"\"b\\\"\"\"", "a\"\"\"b\"\"\""),
-        ("\\\"\"", "\\\"\""),
-        ("\\\\\"\"\"", "\\\"\"\""),
+        (r#"\""""#, r#"""""#),
+        (r#"a\"""b\""""#, r#"a"""b""""#),
+        (r#"\"""#, r#"\"""#),
+        (r#"\\""""#, r#"\""""#),
     ];
     for (inside, raw) in rows {
         assert_eq!(rt; raw_value(inside, rt.alloc())?.as_str(), raw);
@@ -67,7 +67,7 @@ fn block_strings_lose_their_indent(rt: HostRuntime) -> Result<(), Fail> {
         ("  a\n    b\n\t\n", "  a\nb"),
         ("  one line  ", "  one line  "),
         ("\n\n    a\n      b\n    c\n\n  ", "a\n  b\nc"),
-        ("escaped \\n\\t", "escaped \\n\\t"),
+        (r"escaped \n\t", r"escaped \n\t"),
         ("\n\t\té\n\t😀", "\té\n😀"),
     ];
     for (raw, value) in rows {
@@ -102,7 +102,8 @@ fn errors_of_literals_are_compared_and_printed(rt: HostRuntime) -> Result<(), Fa
     Ok(())
 }
 
+// A law gives nothing but its contract.
 #[test]
-fn law_is_called() {
+fn the_law_on_reading_back_returns() {
     reading_back();
 }
