@@ -3,7 +3,7 @@ ghost use Rattle.std.specs.Prelude.{◌≡◌, IfOk};
 
 use gqlcst_run::ending::ending;
 use gqlcst_run::{DeviceError, Fault, Limits, Mode, Outcome, Sink, Source, Trace, options, run};
-use std::alloc::Global;
+use std::alloc::{AllocError, Global};
 use std::process::Abort;
 use std::test::Fail;
 
@@ -103,250 +103,194 @@ fn writer_of(alloc: Global, piece: usize, room: usize, then: Then) -> Page {
     }
 }
 
-// What a mode with these limits finds in a text and writes, at once and a byte at a time.
-fn expect(
-    rt: &(impl Abort + AllocGlobal),
-    mode: Mode,
-    text: &[u8],
+// A text with its limits, what a mode finds in it, and the lines that the mode writes.
+#[derive(Clone, Copy)]
+struct Row {
+    text: &'static [u8],
     limits: Limits,
     found: Result<Outcome, Fault>,
-    written: &str,
-) {
-    for piece in [1, 1000] {
-        let mut reader = reader_of(text, piece, Then::Stops);
-        let mut writer = writer_of(rt.alloc(), piece, 1000, Then::Stops);
-        let outcome = run(rt.alloc(), &mut reader, &mut writer, mode, limits);
-        assert_eq!(rt; outcome, found);
-        assert!(rt; writer.taken.as_slice() == written.as_bytes());
+    lines: &'static [&'static str],
+}
+
+// What the program takes where no option sets a limit.
+const UNSET: Limits = Limits::NONE_SET;
+
+const ONE_LEVEL: Limits = Limits {
+    recursion: 1,
+    tokens: usize::MAX,
+};
+
+const TWO_ITEMS: Limits = Limits {
+    recursion: 500,
+    tokens: 2,
+};
+
+const THREE_ITEMS: Limits = Limits {
+    recursion: 500,
+    tokens: 3,
+};
+
+const CLEAN: Result<Outcome, Fault> = Ok(Outcome::Clean);
+
+const ONE_ERROR: Result<Outcome, Fault> = Ok(Outcome::Errors(1));
+
+const TWO_ERRORS: Result<Outcome, Fault> = Ok(Outcome::Errors(2));
+
+const NOT_UTF8: Result<Outcome, Fault> = Err(Fault::Utf8);
+
+#[rattlefmt::skip]
+const CHECKED: [Row; 8] = [
+    Row { text: b"{a}", limits: UNSET, found: CLEAN, lines: &["clean"] },
+    Row { text: b"{ a(b) }", limits: UNSET, found: ONE_ERROR, lines: &[r#"ERROR@5:6 "expected COLON, got )" )"#, "errors: 1"] },
+    Row { text: b"\"q\" query Q { a }", limits: UNSET, found: CLEAN, lines: &["clean"] },
+    Row { text: b"\"d\" fragment on T { a }", limits: UNSET, found: ONE_ERROR, lines: &[r#"ERROR@13:15 "Fragment Name cannot be 'on'" on"#, "errors: 1"] },
+    Row { text: b"type A { a }", limits: UNSET, found: ONE_ERROR, lines: &[r#"ERROR@11:12 "expected a type" }"#, "errors: 1"] },
+    Row { text: b"", limits: UNSET, found: ONE_ERROR, lines: &[r#"ERROR@0:0 "Unexpected <EOF>." EOF"#, "errors: 1"] },
+    Row { text: b"{a{b}}", limits: ONE_LEVEL, found: ONE_ERROR, lines: &[r#"ERROR@3:3 "parser recursion limit reached" "#, "errors: 1"] },
+    Row { text: b"{a}", limits: THREE_ITEMS, found: ONE_ERROR, lines: &[r#"ERROR@2:2 "token limit reached, aborting lexing" "#, "errors: 1"] },
+];
+
+#[rattlefmt::skip]
+const CUT: [Row; 4] = [
+    Row { text: b"{a}", limits: UNSET, found: CLEAN, lines: &[
+        r#"L_CURLY@0:1 "{""#,
+        r#"NAME@1:2 "a""#,
+        r#"R_CURLY@2:3 "}""#,
+        "EOF@3:3",
+    ] },
+    Row { text: b"{/", limits: UNSET, found: ONE_ERROR, lines: &[
+        r#"L_CURLY@0:1 "{""#,
+        r#"ERROR@1:2 "Unexpected character \"/\"" /"#,
+        "EOF@2:2",
+    ] },
+    Row { text: b"{a}", limits: TWO_ITEMS, found: ONE_ERROR, lines: &[
+        r#"L_CURLY@0:1 "{""#,
+        r#"NAME@1:2 "a""#,
+        r#"ERROR@2:2 "token limit reached, aborting lexing" "#,
+    ] },
+    Row { text: b"{/", limits: TWO_ITEMS, found: TWO_ERRORS, lines: &[
+        r#"L_CURLY@0:1 "{""#,
+        r#"ERROR@1:2 "Unexpected character \"/\"" /"#,
+        r#"ERROR@1:1 "token limit reached, aborting lexing" "#,
+    ] },
+];
+
+#[rattlefmt::skip]
+const TREES: [Row; 4] = [
+    Row { text: b"{a}", limits: UNSET, found: CLEAN, lines: &[
+        "- DOCUMENT@0..3",
+        "    - OPERATION_DEFINITION@0..3",
+        "        - SELECTION_SET@0..3",
+        r#"            - L_CURLY@0..1 "{""#,
+        "            - FIELD@1..2",
+        "                - NAME@1..2",
+        r#"                    - IDENT@1..2 "a""#,
+        r#"            - R_CURLY@2..3 "}""#,
+        "recursion limit: 500, high: 1",
+    ] },
+    Row { text: b"{a,#c\n}", limits: UNSET, found: CLEAN, lines: &[
+        "- DOCUMENT@0..7",
+        "    - OPERATION_DEFINITION@0..7",
+        "        - SELECTION_SET@0..7",
+        r#"            - L_CURLY@0..1 "{""#,
+        "            - FIELD@1..2",
+        "                - NAME@1..2",
+        r#"                    - IDENT@1..2 "a""#,
+        r#"            - COMMA@2..3 ",""#,
+        r##"            - COMMENT@3..5 "#c""##,
+        r#"            - WHITESPACE@5..6 "\n""#,
+        r#"            - R_CURLY@6..7 "}""#,
+        "recursion limit: 500, high: 1",
+    ] },
+    Row { text: b"{", limits: UNSET, found: TWO_ERRORS, lines: &[
+        "- DOCUMENT@0..1",
+        "    - OPERATION_DEFINITION@0..1",
+        "        - SELECTION_SET@0..1",
+        r#"            - L_CURLY@0..1 "{""#,
+        r#"- ERROR@1:1 "expected at least one Selection in Selection Set" EOF"#,
+        r#"- ERROR@1:1 "expected R_CURLY, got EOF" EOF"#,
+        "recursion limit: 500, high: 1",
+    ] },
+    Row { text: b"{a{b}}", limits: ONE_LEVEL, found: ONE_ERROR, lines: &[
+        "- DOCUMENT@0..6",
+        "    - OPERATION_DEFINITION@0..5",
+        "        - SELECTION_SET@0..5",
+        r#"            - L_CURLY@0..1 "{""#,
+        "            - FIELD@1..3",
+        "                - NAME@1..2",
+        r#"                    - IDENT@1..2 "a""#,
+        "                - SELECTION_SET@2..3",
+        r#"                    - L_CURLY@2..3 "{""#,
+        "            - FIELD@3..4",
+        "                - NAME@3..4",
+        r#"                    - IDENT@3..4 "b""#,
+        r#"            - R_CURLY@4..5 "}""#,
+        r#"    - ERROR@5..6 "}""#,
+        r#"- ERROR@3:3 "parser recursion limit reached" "#,
+        "recursion limit: 1, high: 2",
+    ] },
+];
+
+const NO_TEXTS: [Row; 2] = [
+    Row {
+        text: b"\xff",
+        limits: UNSET,
+        found: NOT_UTF8,
+        lines: &[],
+    },
+    Row {
+        text: b"\x7b\xff",
+        limits: UNSET,
+        found: NOT_UTF8,
+        lines: &[],
+    },
+];
+
+fn joined(alloc: Global, lines: &[&'static str]) -> Result<String, AllocError> {
+    let mut text = String::new(alloc);
+    for line in lines {
+        text.push_str(line)?;
+        text.push('\n')?;
     }
+    Ok(text)
+}
+
+// What the mode finds and writes, at once and a byte at a time.
+fn expect(rt: &(impl Abort + AllocGlobal), mode: Mode, rows: &[Row]) -> Result<(), AllocError> {
+    for row in rows {
+        let written = joined(rt.alloc(), row.lines)?;
+        for piece in [1, 1000] {
+            let mut reader = reader_of(row.text, piece, Then::Stops);
+            let mut writer = writer_of(rt.alloc(), piece, 1000, Then::Stops);
+            let outcome = run(rt.alloc(), &mut reader, &mut writer, mode, row.limits);
+            assert_eq!(rt; outcome, row.found);
+            assert!(rt; writer.taken.as_slice() == written.as_bytes());
+        }
+    }
+    Ok(())
 }
 
 #[test]
-fn checks_texts(rt: HostRuntime) {
-    let limits = Limits::NONE_SET;
-    let one_level = Limits {
-        recursion: 1,
-        ..limits
-    };
-    let three_items = Limits {
-        tokens: 3,
-        ..limits
-    };
-    expect(
-        &rt,
-        Mode::Check,
-        b"{a}",
-        limits,
-        Ok(Outcome::Clean),
-        "clean\n",
-    );
-    expect(
-        &rt,
-        Mode::Check,
-        b"{ a(b) }",
-        limits,
-        Ok(Outcome::Errors(1)),
-        "ERROR@5:6 \"expected COLON, got )\" )\nerrors: 1\n",
-    );
-    expect(
-        &rt,
-        Mode::Check,
-        b"\"q\" query Q { a }",
-        limits,
-        Ok(Outcome::Clean),
-        "clean\n",
-    );
-    expect(
-        &rt,
-        Mode::Check,
-        b"\"d\" fragment on T { a }",
-        limits,
-        Ok(Outcome::Errors(1)),
-        "ERROR@13:15 \"Fragment Name cannot be 'on'\" on\nerrors: 1\n",
-    );
-    expect(
-        &rt,
-        Mode::Check,
-        b"type A { a }",
-        limits,
-        Ok(Outcome::Errors(1)),
-        "ERROR@11:12 \"expected a type\" }\nerrors: 1\n",
-    );
-    expect(
-        &rt,
-        Mode::Check,
-        b"",
-        limits,
-        Ok(Outcome::Errors(1)),
-        "ERROR@0:0 \"Unexpected <EOF>.\" EOF\nerrors: 1\n",
-    );
-    expect(
-        &rt,
-        Mode::Check,
-        b"{a{b}}",
-        one_level,
-        Ok(Outcome::Errors(1)),
-        "ERROR@3:3 \"parser recursion limit reached\" \nerrors: 1\n",
-    );
-    expect(
-        &rt,
-        Mode::Check,
-        b"{a}",
-        three_items,
-        Ok(Outcome::Errors(1)),
-        "ERROR@2:2 \"token limit reached, aborting lexing\" \nerrors: 1\n",
-    );
+fn checks_texts(rt: HostRuntime) -> Result<(), Fail> {
+    Ok(expect(&rt, Mode::Check, &CHECKED)?)
 }
 
 #[test]
-fn prints_tokens(rt: HostRuntime) {
-    let limits = Limits::NONE_SET;
-    let two_items = Limits {
-        tokens: 2,
-        ..limits
-    };
-    expect(
-        &rt,
-        Mode::Tokens,
-        b"{a}",
-        limits,
-        Ok(Outcome::Clean),
-        "L_CURLY@0:1 \"{\"
-NAME@1:2 \"a\"
-R_CURLY@2:3 \"}\"
-EOF@3:3
-",
-    );
-    expect(
-        &rt,
-        Mode::Tokens,
-        b"{/",
-        limits,
-        Ok(Outcome::Errors(1)),
-        "L_CURLY@0:1 \"{\"
-ERROR@1:2 \"Unexpected character \\\"/\\\"\" /
-EOF@2:2
-",
-    );
-    expect(
-        &rt,
-        Mode::Tokens,
-        b"{a}",
-        two_items,
-        Ok(Outcome::Errors(1)),
-        "L_CURLY@0:1 \"{\"
-NAME@1:2 \"a\"
-ERROR@2:2 \"token limit reached, aborting lexing\" \n",
-    );
-    expect(
-        &rt,
-        Mode::Tokens,
-        b"{/",
-        two_items,
-        Ok(Outcome::Errors(2)),
-        "L_CURLY@0:1 \"{\"
-ERROR@1:2 \"Unexpected character \\\"/\\\"\" /
-ERROR@1:1 \"token limit reached, aborting lexing\" \n",
-    );
+fn prints_tokens(rt: HostRuntime) -> Result<(), Fail> {
+    Ok(expect(&rt, Mode::Tokens, &CUT)?)
 }
 
 #[test]
-fn prints_trees(rt: HostRuntime) {
-    let limits = Limits::NONE_SET;
-    let one_level = Limits {
-        recursion: 1,
-        ..limits
-    };
-    expect(
-        &rt,
-        Mode::Tree,
-        b"{a}",
-        limits,
-        Ok(Outcome::Clean),
-        "- DOCUMENT@0..3
-    - OPERATION_DEFINITION@0..3
-        - SELECTION_SET@0..3
-            - L_CURLY@0..1 \"{\"
-            - FIELD@1..2
-                - NAME@1..2
-                    - IDENT@1..2 \"a\"
-            - R_CURLY@2..3 \"}\"
-recursion limit: 500, high: 1
-",
-    );
-    expect(
-        &rt,
-        Mode::Tree,
-        b"{a,#c\n}",
-        limits,
-        Ok(Outcome::Clean),
-        "- DOCUMENT@0..7
-    - OPERATION_DEFINITION@0..7
-        - SELECTION_SET@0..7
-            - L_CURLY@0..1 \"{\"
-            - FIELD@1..2
-                - NAME@1..2
-                    - IDENT@1..2 \"a\"
-            - COMMA@2..3 \",\"
-            - COMMENT@3..5 \"#c\"
-            - WHITESPACE@5..6 \"\\n\"
-            - R_CURLY@6..7 \"}\"
-recursion limit: 500, high: 1
-",
-    );
-    expect(
-        &rt,
-        Mode::Tree,
-        b"{",
-        limits,
-        Ok(Outcome::Errors(2)),
-        "- DOCUMENT@0..1
-    - OPERATION_DEFINITION@0..1
-        - SELECTION_SET@0..1
-            - L_CURLY@0..1 \"{\"
-- ERROR@1:1 \"expected at least one Selection in Selection Set\" EOF
-- ERROR@1:1 \"expected R_CURLY, got EOF\" EOF
-recursion limit: 500, high: 1
-",
-    );
-    expect(
-        &rt,
-        Mode::Tree,
-        b"{a{b}}",
-        one_level,
-        Ok(Outcome::Errors(1)),
-        "- DOCUMENT@0..6
-    - OPERATION_DEFINITION@0..5
-        - SELECTION_SET@0..5
-            - L_CURLY@0..1 \"{\"
-            - FIELD@1..3
-                - NAME@1..2
-                    - IDENT@1..2 \"a\"
-                - SELECTION_SET@2..3
-                    - L_CURLY@2..3 \"{\"
-            - FIELD@3..4
-                - NAME@3..4
-                    - IDENT@3..4 \"b\"
-            - R_CURLY@4..5 \"}\"
-    - ERROR@5..6 \"}\"
-- ERROR@3:3 \"parser recursion limit reached\" \nrecursion limit: 1, high: 2
-",
-    );
+fn prints_trees(rt: HostRuntime) -> Result<(), Fail> {
+    Ok(expect(&rt, Mode::Tree, &TREES)?)
 }
 
 #[test]
-fn refuses_other_bytes(rt: HostRuntime) {
+fn refuses_other_bytes(rt: HostRuntime) -> Result<(), Fail> {
     for mode in [Mode::Check, Mode::Tokens, Mode::Tree] {
-        expect(&rt, mode, b"\xff", Limits::NONE_SET, Err(Fault::Utf8), "");
-        expect(
-            &rt,
-            mode,
-            b"\x7b\xff",
-            Limits::NONE_SET,
-            Err(Fault::Utf8),
-            "",
-        );
+        expect(&rt, mode, &NO_TEXTS)?;
     }
+    Ok(())
 }
 
 #[test]
