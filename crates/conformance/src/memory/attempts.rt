@@ -3,7 +3,7 @@ use super::runs::run_once;
 use super::{Attempt, Heap};
 use crate::parsing::{parse, parse_selections, parse_type};
 use apollo_parser::cst::{Definition, Selection, StringValue, Value};
-use apollo_parser::{DocumentRoot, Lexer, Parser, Root, SyntaxTree, TokenText};
+use apollo_parser::{DocumentRoot, Lexer, Parser, Root, SyntaxNode, SyntaxTree, TokenText};
 use gqlcst_run::Mode;
 use std::alloc::{AllocError, Global};
 use std::fmt::Write;
@@ -21,8 +21,12 @@ pub enum Call {
     CloneErrors,
     /// The text of the root in memory of its own.
     CopyText,
+    /// The text of a node below the root in memory of its own.
+    CopyInnerText,
     /// The root as a tree of its own.
     CloneSubtree,
+    /// A node below the root as a tree of its own.
+    CloneInnerSubtree,
     /// A text as that of a token, in memory of its own.
     CopyToken,
     /// The value of the string that is the first argument.
@@ -140,12 +144,27 @@ fn clone_errors(
     Ok(if is_refused { None } else { Some(printed) })
 }
 
+// The node that the call takes: the root, or the last node of its first definition.
+fn node_of<'t>(
+    call: Call,
+    tree: &'t SyntaxTree<DocumentRoot, &Heap>,
+) -> Result<SyntaxNode<'t>, AllocError> {
+    let root = tree.root();
+    match call {
+        Call::CopyInnerText | Call::CloneInnerSubtree => {
+            let definition = root.children().next().ok_or(AllocError)?;
+            definition.children().last().ok_or(AllocError)
+        }
+        _ => Ok(root),
+    }
+}
+
 fn clone_subtree(
     heap: &Heap,
     alloc: Global,
-    tree: &SyntaxTree<DocumentRoot, &Heap>,
+    node: SyntaxNode<'_>,
 ) -> Result<Option<String>, AllocError> {
-    match tree.root().clone_subtree(heap) {
+    match node.clone_subtree(heap) {
         Ok(copy) => Ok(Some(format!(in alloc; "{copy:?}")?)),
         Err(AllocError) => Ok(None),
     }
@@ -197,12 +216,13 @@ fn use_tree(
 ) -> Result<Attempt, AllocError> {
     heap.refuse(0);
     let tree = parse(heap, Parser::new(source))?;
+    let node = node_of(call, &tree)?;
     heap.refuse(number);
     let given = match call {
         Call::CloneTree => clone_tree(heap, alloc, &tree)?,
         Call::CloneErrors => clone_errors(heap, alloc, &tree)?,
-        Call::CopyText => kept(alloc, tree.root().source_string(heap))?,
-        Call::CloneSubtree => clone_subtree(heap, alloc, &tree)?,
+        Call::CopyText | Call::CopyInnerText => kept(alloc, node.source_string(heap))?,
+        Call::CloneSubtree | Call::CloneInnerSubtree => clone_subtree(heap, alloc, node)?,
         Call::CopyToken => kept(alloc, TokenText::new(tree.root().text()).to_string_in(heap))?,
         _ => read_string(heap, alloc, &tree)?,
     };
