@@ -6,4 +6,5 @@
 
 mod writing;
 
+pub use document_style::Elements;
 pub use writing::format_document;

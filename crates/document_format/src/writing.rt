@@ -8,8 +8,7 @@ ghost use Rattle.document_format.specs.Formatted.{Formatted, IsSentence};
 ghost use Rattle.document_format.specs.Written.{AddsSame, HoldsSame};
 
 use apollo_lexer::{Lexer, Token};
-use apollo_tree::SyntaxNode;
-use document_style::Gaps;
+use document_style::{Elements, Gaps};
 use lexical_grammar::TokenKind;
 use respelling::spelled;
 use std::alloc::{AllocError, Allocator};
@@ -95,17 +94,16 @@ fn write<A: Allocator + Copy>(
     Ok(writer.layout.finish())
 }
 
-/// The document with another layout. Its tree has this root and so many elements. It fails only where memory is refused.
-pub fn format_document<A: Allocator + Copy>(
+/// The document with another layout. Its tree has these elements. It fails only where memory is refused.
+pub fn format_document<E: Elements, A: Allocator + Copy>(
     alloc: A,
     source: &str,
-    root: SyntaxNode<'_>,
-    element_count: usize,
+    elements: &E,
 ) -> Result<String<A>, AllocError>
     requires { IsSentence source.now }
     ensures { IfOk result (λ text. Formatted source.now (string_bytes text)) }
 {
-    let gaps = Gaps::of(alloc, root, element_count)?;
+    let gaps = Gaps::of(alloc, source, elements)?;
     let text = write(alloc, source, gaps)?;
     Ok(text)
 }

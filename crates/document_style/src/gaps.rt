@@ -1,7 +1,7 @@
 // The gaps before the tokens of a document, one after another.
+use crate::elements::Elements;
 use crate::slot::{Bracket, Separator, Slot};
 use crate::walk::slots_of;
-use apollo_tree::SyntaxNode;
 use std::alloc::{AllocError, Allocator};
 use token_layout::Gap;
 
@@ -30,10 +30,10 @@ fn line(lines: u8, level: u16) -> Gap {
 }
 
 impl<A: Allocator + Copy> Gaps<A> {
-    /// The gaps of a document whose tree has this root and so many elements. It fails only where memory is refused.
-    pub fn of(alloc: A, root: SyntaxNode<'_>, element_count: usize) -> Result<Gaps<A>, AllocError> {
+    /// The gaps of a document whose tree has these elements. It fails only where memory is refused.
+    pub fn of<E: Elements>(alloc: A, source: &str, elements: &E) -> Result<Gaps<A>, AllocError> {
         Ok(Gaps {
-            slots: slots_of(alloc, root, element_count)?,
+            slots: slots_of(alloc, source, elements)?,
             next: 0,
             open: Vec::new(alloc),
             broken_count: 0,

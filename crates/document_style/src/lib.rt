@@ -4,10 +4,12 @@
 //! `token_layout` keeps the tokens.
 #![tactic(auto)]
 
+mod elements;
 mod gaps;
 mod rules;
 mod size;
 mod slot;
 mod walk;
 
+pub use elements::Elements;
 pub use gaps::Gaps;

@@ -74,13 +74,9 @@ pub fn closes(kind: SyntaxKind) -> bool {
 /// Whether what follows this child has a line of its own between braces: in a schema, what follows the opening brace or a root operation.
 #[inline(always)]
 pub fn is_in_braces(inside: Inside, left: SyntaxKind) -> bool {
-    match inside {
-        Inside::Braces => true,
-        Inside::Schema => {
-            left == SyntaxKind::L_CURLY || left == SyntaxKind::ROOT_OPERATION_TYPE_DEFINITION
-        }
-        Inside::Document | Inside::List | Inside::Construct => false,
-    }
+    inside == Inside::Braces
+        || (inside == Inside::Schema
+            && (left == SyntaxKind::L_CURLY || left == SyntaxKind::ROOT_OPERATION_TYPE_DEFINITION))
 }
 
 // Whether nothing is between two neighbours below a node of this kind.

@@ -1,9 +1,10 @@
 // The walk over the tree of a document, which finds the slots before its tokens. What is called for each of them is inlined: the whole program takes
-// some 6 % less time.
+// some 6 % less time. The walk itself is not, since its loop and the writer's would have to share the processor's registers.
+use crate::elements::Elements;
 use crate::rules::{Inside, between, closes, is_in_braces, is_word, opens};
 use crate::size::Size;
 use crate::slot::{Bracket, Separator, Slot};
-use apollo_tree::{SyntaxElement, SyntaxElementChildren, SyntaxNode, SyntaxToken};
+use apollo_tree::IndexedElement;
 use document_grammar::SyntaxKind;
 use std::alloc::{AllocError, Allocator};
 
@@ -12,51 +13,71 @@ const MAX_FIELD_WIDTH: usize = 80;
 
 // A node on the way down.
 #[derive(Clone, Copy)]
-struct Frame<'t> {
-    kind: SyntaxKind,
-    inside: Inside,
-    children: SyntaxElementChildren<'t>,
-    // the last child that is no comment
-    previous: Option<SyntaxKind>,
-    // how many levels deep a line is indented that begins with the node
-    level: u16,
+struct Frame {
+    // the index of the first element after it and all below it
+    after: usize,
     // the number of its first slot
     first: usize,
     // the width of all that is before its first token
     start: usize,
-    // whether it is in a list that may break, or is one
-    in_list: bool,
+    // how many levels deep a line is indented that begins with the node
+    level: u16,
+    kind: SyntaxKind,
+    inside: Inside,
+    // the last child that is no comment
+    previous: Option<SyntaxKind>,
     // whether it is a field, or in one and not among its selections
     in_field: bool,
-    // whether a line ends between two of its tokens
-    has_line: bool,
-    // whether a line ends in one of its tokens
-    has_long_token: bool,
-    // whether its last child was a comment in a line of its own
-    after_comment: bool,
+}
+
+impl Frame {
+    // The frame of a root.
+    fn of_root(root: IndexedElement) -> Frame {
+        Frame {
+            after: root.after_subtree,
+            first: 0,
+            start: 0,
+            level: 0,
+            kind: root.kind,
+            inside: Inside::of(root.kind),
+            previous: None,
+            in_field: false,
+        }
+    }
 }
 
 // What was met so far.
 #[derive(Drop)]
-struct Walk<'t, A: Allocator> {
+struct Walk<'t, E, A: Allocator> {
     alloc: A,
+    elements: &'t E,
+    source: &'t str,
     slots: Vec<Slot, A>,
-    // the slot of the next token, where a node that begins with it has fixed it
-    pending: Option<Slot>,
-    // the white space since the last token or comment, and how many line ends were in what white space was before it, two at most
-    blank: Option<SyntaxToken<'t>>,
+    // whether the last slot is that of a token still to come, fixed by a node that begins with it
+    is_pending: bool,
+    // where the last white space since the last token or comment begins, and how many line ends were in what white space was before it, two at most
+    blank: Option<usize>,
     line_ends: u8,
+    // where the element begins that is met
+    here: usize,
     // whether the last token or comment was a comment
     in_comment: bool,
+    // whether the last child of the innermost open node was a comment in a line of its own
+    after_comment: bool,
+    // how many of the open nodes are lists that may break
+    list_count: usize,
+    // the number of the last slot in which a line ends, and of the last token of a list that has more than one line
+    last_line: usize,
+    last_long_token: usize,
     // the width of the tokens of fields, without their selections, and of what is before each of them while no line ends
     width: usize,
 }
 
 // How many line ends a text has, LF, CR and CR LF, two at most.
-fn count_line_ends(text: &str) -> u8 {
+fn count_line_ends(text: &[u8]) -> u8 {
     let mut count = 0;
     let mut after_return = false;
-    for byte in text.as_bytes() {
+    for byte in text {
         let is_return = *byte == b'\r';
         if (is_return || (*byte == b'\n' && !after_return)) && count < 2 {
             count += 1;
@@ -66,18 +87,42 @@ fn count_line_ends(text: &str) -> u8 {
     count
 }
 
-impl<'t, A: Allocator + Copy> Walk<'t, A> {
+impl<'t, E: Elements, A: Allocator + Copy> Walk<'t, E, A> {
+    // Nothing was met yet.
+    fn new(alloc: A, source: &'t str, elements: &'t E) -> Result<Walk<'t, E, A>, AllocError> {
+        Ok(Walk {
+            alloc,
+            elements,
+            source,
+            // no more than a part of this is used, and the rest is never touched
+            slots: Vec::with_capacity(alloc, elements.element_count())?,
+            is_pending: false,
+            blank: None,
+            line_ends: 0,
+            here: 0,
+            in_comment: false,
+            after_comment: false,
+            list_count: 0,
+            last_line: 0,
+            last_long_token: 0,
+            width: 0,
+        })
+    }
+
     // How many line ends were met since the last token or comment, two at most: the most that are not parted by commas.
     fn line_ends(&self) -> u8 {
-        match self.blank {
-            Some(blank) => self.line_ends.max(count_line_ends(blank.text())),
-            None => 0,
+        let Some(start) = self.blank else {
+            return 0;
+        };
+        match self.source.as_bytes().get(start..self.here) {
+            Some(blanks) => self.line_ends.max(count_line_ends(blanks)),
+            None => self.line_ends,
         }
     }
 
     // What separates a child, which is no comment, from what is before it.
     #[inline(always)]
-    fn separator(&self, parent: &Frame<'_>, child: SyntaxKind) -> Separator {
+    fn separator(&self, parent: &Frame, child: SyntaxKind) -> Separator {
         match parent.previous {
             Some(left) => between(parent.inside, parent.kind, left, child),
             None if self.slots.is_empty() => Separator::Nothing,
@@ -85,10 +130,10 @@ impl<'t, A: Allocator + Copy> Walk<'t, A> {
         }
     }
 
-    // What separates it when comments are before it: a construct goes on in a new line after a comment inside it, and an empty line after a comment
+    // What separates it when a comment is before it: a construct goes on in a new line after a comment inside it, and an empty line after a comment
     // stays, but none is added.
-    fn after_comments(&self, parent: &Frame<'_>, child: SyntaxKind, slot: Slot) -> Slot {
-        if self.in_comment && !slot.separator.is_line() && parent.inside != Inside::List {
+    fn after_comment(&self, parent: &Frame, child: SyntaxKind, slot: Slot) -> Slot {
+        if !slot.separator.is_line() && parent.inside != Inside::List {
             let goes_on = Inside::of(child) != Inside::Braces && child != SyntaxKind::L_CURLY;
             return Slot {
                 separator: Separator::Line,
@@ -96,7 +141,7 @@ impl<'t, A: Allocator + Copy> Walk<'t, A> {
                 ..slot
             };
         }
-        if parent.after_comment && slot.separator.is_line() {
+        if self.after_comment && slot.separator.is_line() {
             let keeps_blank = self.line_ends() > 1 && child != SyntaxKind::R_CURLY;
             return Slot {
                 separator: if keeps_blank {
@@ -112,7 +157,7 @@ impl<'t, A: Allocator + Copy> Walk<'t, A> {
 
     // How many levels deep a line is indented that begins with this child.
     #[inline(always)]
-    fn level(&self, parent: &Frame<'_>, child: SyntaxKind) -> u16 {
+    fn level(&self, parent: &Frame, child: SyntaxKind) -> u16 {
         match parent.previous {
             Some(left) if is_in_braces(parent.inside, left) && !closes(child) => {
                 parent.level.saturating_add(1)
@@ -121,30 +166,34 @@ impl<'t, A: Allocator + Copy> Walk<'t, A> {
         }
     }
 
-    // The slot before a child that is no comment, where a new line would have this level. The parent notes a line that ends there.
+    // The slot before a child that is no comment, where a new line would have this level.
     #[inline(always)]
-    fn slot(&self, parent: &mut Frame<'_>, child: SyntaxKind, level: u16) -> Slot {
+    fn slot(&mut self, parent: &Frame, child: SyntaxKind, level: u16) -> Result<(), AllocError> {
         let mut slot = Slot {
             separator: self.separator(parent, child),
             breaks_with_list: parent.inside == Inside::List,
             bracket: Bracket::Neither,
             level,
         };
-        if self.in_comment || parent.after_comment {
-            slot = self.after_comments(parent, child, slot);
+        if self.in_comment {
+            slot = self.after_comment(parent, child, slot);
         }
         if slot.separator.is_line() {
-            parent.has_line = true;
+            self.last_line = self.slots.len();
         }
-        slot
+        if parent.in_field {
+            self.width = self.width.saturating_add(slot.separator.width());
+        }
+        self.slots.push(slot)?;
+        Ok(())
     }
 
     // What separates a comment in a line of its own from what is before it.
-    fn comment_separator(&self, parent: &Frame<'_>, line_ends: u8) -> Separator {
+    fn comment_separator(&self, parent: &Frame, line_ends: u8) -> Separator {
         let in_document = parent.inside == Inside::Document;
         let keeps_blank = match parent.previous {
             Some(left) => {
-                (in_document && !parent.after_comment)
+                (in_document && !self.after_comment)
                     || (line_ends > 1
                         && left != SyntaxKind::L_CURLY
                         && (in_document || is_in_braces(parent.inside, left)))
@@ -159,7 +208,7 @@ impl<'t, A: Allocator + Copy> Walk<'t, A> {
     }
 
     // A comment: in the line of the token before it, or in a line of its own.
-    fn comment(&mut self, parent: &mut Frame<'_>) -> Result<(), AllocError> {
+    fn comment(&mut self, parent: &Frame) -> Result<(), AllocError> {
         let line_ends = self.line_ends();
         let is_first = self.slots.is_empty();
         let separator = if is_first {
@@ -173,6 +222,7 @@ impl<'t, A: Allocator + Copy> Walk<'t, A> {
         let goes_on = parent.inside != Inside::Document
             && !in_list
             && parent.previous != Some(SyntaxKind::DESCRIPTION);
+        self.last_line = self.slots.len();
         self.slots.push(Slot {
             separator,
             breaks_with_list: in_list && line_ends > 0,
@@ -182,8 +232,7 @@ impl<'t, A: Allocator + Copy> Walk<'t, A> {
         self.blank = None;
         self.line_ends = 0;
         self.in_comment = true;
-        parent.has_line = true;
-        parent.after_comment = is_first || line_ends > 0;
+        self.after_comment = is_first || line_ends > 0;
         Ok(())
     }
 
@@ -193,51 +242,65 @@ impl<'t, A: Allocator + Copy> Walk<'t, A> {
         &mut self,
         kind: SyntaxKind,
         width: usize,
-        parent: &mut Frame<'_>,
+        parent: &mut Frame,
     ) -> Result<(), AllocError> {
-        let mut slot = match self.pending {
-            Some(slot) => slot,
-            None => {
-                let level = self.level(parent, kind);
-                self.slot(parent, kind, level)
-            }
-        };
+        if !self.is_pending {
+            let level = self.level(parent, kind);
+            self.slot(parent, kind, level)?;
+        }
         if parent.inside == Inside::List {
+            self.bracket(kind);
+        }
+        if parent.in_field {
+            self.width = self.width.saturating_add(width);
+        }
+        self.is_pending = false;
+        self.blank = None;
+        self.line_ends = 0;
+        self.in_comment = false;
+        self.after_comment = false;
+        parent.previous = Some(kind);
+        Ok(())
+    }
+
+    // A token of a list: notes a bracket.
+    #[inline(always)]
+    fn bracket(&mut self, kind: SyntaxKind) {
+        if let Some(slot) = self.slots.last_mut() {
             if opens(kind) {
                 slot.bracket = Bracket::Open;
             } else if closes(kind) {
                 slot.bracket = Bracket::Close;
             }
         }
-        if parent.in_field {
-            let all = slot.separator.width().saturating_add(width);
-            self.width = self.width.saturating_add(all);
+    }
+
+    // Where the element with an index has ended.
+    fn end(&self, index: usize) -> usize {
+        match self.elements.element(index) {
+            Some(element) => element.end,
+            None => self.here,
         }
-        self.slots.push(slot)?;
-        self.pending = None;
-        self.blank = None;
-        self.line_ends = 0;
-        self.in_comment = false;
-        parent.after_comment = false;
-        parent.previous = Some(kind);
-        Ok(())
     }
 
     // A node of this kind that holds one token.
     #[inline(always)]
     fn word(
         &mut self,
-        node: SyntaxNode<'_>,
+        index: usize,
         kind: SyntaxKind,
-        parent: &mut Frame<'_>,
+        parent: &mut Frame,
     ) -> Result<(), AllocError> {
-        if kind == SyntaxKind::STRING_VALUE && parent.in_list {
-            let size = Size::of_string(self.alloc, node.text())?;
-            parent.has_long_token = parent.has_long_token || size.has_lines;
+        if kind == SyntaxKind::STRING_VALUE && self.list_count > 0 {
+            let text = self.source.get(self.here..self.end(index)).unwrap_or("");
+            let size = Size::of_string(self.alloc, text)?;
+            if size.has_lines {
+                self.last_long_token = self.slots.len();
+            }
             return self.token(kind, size.width, parent);
         }
         let width = if parent.in_field {
-            node.text_range().len()
+            self.end(index).saturating_sub(self.here)
         } else {
             0
         };
@@ -246,141 +309,165 @@ impl<'t, A: Allocator + Copy> Walk<'t, A> {
 
     // A leaf. In a field, without its selections, each one that is a token has one character.
     #[inline(always)]
-    fn leaf(&mut self, leaf: SyntaxToken<'t>, parent: &mut Frame<'_>) -> Result<(), AllocError> {
-        let kind = leaf.kind();
+    fn leaf(
+        &mut self,
+        kind: SyntaxKind,
+        index: usize,
+        open: &mut Vec<Frame, A>,
+    ) -> Result<(), AllocError> {
+        if kind == SyntaxKind::COMMA {
+            return Ok(());
+        }
         if kind == SyntaxKind::WHITESPACE {
             if self.blank.is_some() {
                 self.line_ends = self.line_ends();
             }
-            self.blank = Some(leaf);
+            self.blank = Some(self.here);
             return Ok(());
         }
-        if kind == SyntaxKind::COMMA {
+        self.leave_before(index, open);
+        let Some(parent) = open.last_mut() else {
             return Ok(());
-        }
+        };
         if kind == SyntaxKind::COMMENT {
             return self.comment(parent);
         }
         self.token(kind, 1, parent)
     }
 
+    // A node.
+    #[inline(always)]
+    fn node(
+        &mut self,
+        element: IndexedElement,
+        index: usize,
+        open: &mut Vec<Frame, A>,
+    ) -> Result<usize, AllocError> {
+        self.leave_before(index, open);
+        let Some(parent) = open.last_mut() else {
+            return Ok(element.after_subtree);
+        };
+        let kind = element.kind;
+        if is_word(kind) {
+            self.word(index, kind, parent)?;
+            return Ok(element.after_subtree);
+        }
+        let frame = self.enter(element, parent)?;
+        open.push(frame)?;
+        Ok(index.saturating_add(1))
+    }
+
     // A node of this kind, from its parent down.
     #[inline(always)]
-    fn enter<'n>(
-        &mut self,
-        node: SyntaxNode<'n>,
-        kind: SyntaxKind,
-        parent: &mut Frame<'_>,
-    ) -> Frame<'n> {
+    fn enter(&mut self, element: IndexedElement, parent: &mut Frame) -> Result<Frame, AllocError> {
+        let kind = element.kind;
         let level = self.level(parent, kind);
-        let slot = match self.pending {
-            Some(slot) => slot,
-            None => self.slot(parent, kind, level),
-        };
-        self.pending = Some(slot);
-        parent.after_comment = false;
-        parent.previous = Some(kind);
         let inside = Inside::of(kind);
-        Frame {
+        if inside == Inside::List {
+            self.list_count = self.list_count.saturating_add(1);
+        }
+        if !self.is_pending {
+            self.slot(parent, kind, level)?;
+            self.is_pending = true;
+        }
+        self.after_comment = false;
+        parent.previous = Some(kind);
+        Ok(Frame {
+            after: element.after_subtree,
+            first: self.slots.len().saturating_sub(1),
+            start: self.width,
+            level,
             kind,
             inside,
-            children: node.children_with_tokens(),
             previous: None,
-            level,
-            first: self.slots.len(),
-            start: self.width.saturating_add(slot.separator.width()),
-            in_list: parent.in_list || inside == Inside::List,
             in_field: kind == SyntaxKind::FIELD || (parent.in_field && inside != Inside::Braces),
-            has_line: false,
-            has_long_token: false,
-            after_comment: false,
-        }
+        })
     }
 
     // Whether the list breaks: where a line ends in it, where the field is too long whose arguments it holds, and where one of the arguments that
     // it defines has more than one line.
-    #[inline(always)]
-    fn is_broken(&self, list: &Frame<'_>, parent: &Frame<'_>) -> bool {
-        list.has_line
+    fn is_broken(&self, list: Frame, parent: Frame) -> bool {
+        self.last_line > list.first
             || (list.kind == SyntaxKind::ARGUMENTS
                 && parent.kind == SyntaxKind::FIELD
                 && self.width.saturating_sub(parent.start) > MAX_FIELD_WIDTH)
-            || (list.kind == SyntaxKind::ARGUMENTS_DEFINITION && list.has_long_token)
+            || (list.kind == SyntaxKind::ARGUMENTS_DEFINITION && self.last_long_token > list.first)
     }
 
-    // A node's end, up to its parent.
-    #[inline(always)]
-    fn leave(&mut self, frame: &Frame<'_>, parent: &mut Frame<'_>) {
-        let mut has_line = frame.has_line;
-        if frame.inside == Inside::List && self.is_broken(frame, parent) {
-            has_line = true;
-            if let Some(slot) = self.slots.get_mut(frame.first) {
+    // The end of a list, in this node. Where it breaks, a line ends in it.
+    fn leave_list(&mut self, list: Frame, parent: Frame) {
+        self.list_count = self.list_count.saturating_sub(1);
+        if self.is_broken(list, parent) {
+            self.last_line = self.slots.len();
+            if let Some(slot) = self.slots.get_mut(list.first) {
                 slot.bracket = Bracket::OpenBroken;
             }
         }
-        parent.has_line = parent.has_line || has_line;
-        parent.has_long_token = parent.has_long_token || frame.has_long_token;
     }
-}
 
-// The frame of the root.
-fn root_frame(root: SyntaxNode<'_>) -> Frame<'_> {
-    Frame {
-        kind: root.kind(),
-        inside: Inside::of(root.kind()),
-        children: root.children_with_tokens(),
-        previous: None,
-        level: 0,
-        first: 0,
-        start: 0,
-        in_list: false,
-        in_field: false,
-        has_line: false,
-        has_long_token: false,
-        after_comment: false,
+    // The end of the innermost open node.
+    #[inline(always)]
+    fn leave(&mut self, open: &mut Vec<Frame, A>) {
+        self.after_comment = false;
+        if let Some(frame) = open.pop() {
+            if frame.inside == Inside::List {
+                if let Some(parent) = open.last() {
+                    self.leave_list(frame, *parent);
+                }
+            }
+        }
+    }
+
+    // Leaves the nodes that have ended before the element with an index.
+    #[inline(always)]
+    fn leave_before(&mut self, index: usize, open: &mut Vec<Frame, A>) {
+        for _ in 0..open.len() {
+            match open.last() {
+                Some(frame) if frame.after <= index => self.leave(open),
+                _ => break,
+            }
+        }
+    }
+
+    // An element. Answers the index of the next one.
+    #[inline(always)]
+    fn element(
+        &mut self,
+        element: IndexedElement,
+        index: usize,
+        open: &mut Vec<Frame, A>,
+    ) -> Result<usize, AllocError> {
+        self.here = element.start;
+        if element.is_node {
+            return self.node(element, index, open);
+        }
+        self.leaf(element.kind, index, open)?;
+        Ok(index.saturating_add(1))
     }
 }
 
 /// The slots before the significant tokens and the comments of a document, in their order. It fails only where memory is refused.
-pub fn slots_of<A: Allocator + Copy>(
+#[inline(never)]
+pub fn slots_of<E: Elements, A: Allocator + Copy>(
     alloc: A,
-    root: SyntaxNode<'_>,
-    element_count: usize,
+    source: &str,
+    elements: &E,
 ) -> Result<Vec<Slot, A>, AllocError> {
-    let mut walk = Walk {
-        alloc,
-        // no more than a part of this is used, and the rest is never touched
-        slots: Vec::with_capacity(alloc, element_count)?,
-        pending: None,
-        blank: None,
-        line_ends: 0,
-        in_comment: false,
-        width: 0,
-    };
-    let mut stack = Vec::new(alloc);
-    let mut frame = root_frame(root);
-    // each element is met once, and each node is left once
-    for _ in 0..element_count.saturating_mul(2) {
-        match frame.children.next() {
-            Some(SyntaxElement::Token(leaf)) => walk.leaf(leaf, &mut frame)?,
-            Some(SyntaxElement::Node(node)) => {
-                let kind = node.kind();
-                if is_word(kind) {
-                    walk.word(node, kind, &mut frame)?;
-                } else {
-                    let below = walk.enter(node, kind, &mut frame);
-                    stack.push(frame)?;
-                    frame = below;
-                }
-            }
-            None => {
-                let Some(mut parent) = stack.pop() else {
-                    break;
-                };
-                walk.leave(&frame, &mut parent);
-                frame = parent;
-            }
-        }
+    let element_count = elements.element_count();
+    let mut walk = Walk::new(alloc, source, elements)?;
+    let mut open = Vec::new(alloc);
+    let mut index = 0;
+    // no node holds the root, so it is not met again
+    if let Some(root) = elements.element(0) {
+        open.push(Frame::of_root(root))?;
+        index = 1;
     }
+    for _ in 0..element_count {
+        let Some(element) = elements.element(index) else {
+            break;
+        };
+        index = walk.element(element, index, &mut open)?;
+    }
+    walk.leave_before(element_count, &mut open);
     Ok(walk.slots)
 }

@@ -8,9 +8,29 @@ ghost use Rattle.std.specs.Prelude.{◌≡◌, IfErr, IfOk, string_bytes};
 ghost use Rattle.apollo_parser.specs.Promise.{Promise};
 ghost use Rattle.formatter.specs.Outcome.{IsFormatted, IsRefused};
 
-use apollo_parser::{DocumentRoot, Error, Parser, SyntaxTree};
-use document_format::format_document;
+use apollo_parser::{DocumentRoot, Error, IndexedElement, Parser, SyntaxTree};
+use document_format::{Elements, format_document};
 use std::alloc::{AllocError, Allocator};
+
+// A tree, as the layout reads it.
+#[derive(Drop)]
+struct TreeElements<'t, A: Allocator> {
+    tree: &'t SyntaxTree<DocumentRoot, A>,
+}
+
+impl<'t, A: Allocator> Elements for TreeElements<'t, A> {
+    fn element_count(&self) -> usize {
+        self.tree.element_count()
+    }
+
+    fn element(&self, index: usize) -> Option<IndexedElement> {
+        if index < self.tree.element_count() {
+            Some(self.tree.element(index))
+        } else {
+            None
+        }
+    }
+}
 
 // The parse of a text.
 fn parse<A: Allocator + Copy>(
@@ -64,6 +84,6 @@ pub fn format<A: Allocator + Copy>(
     if !errors.as_slice().is_empty() {
         return Ok(Err(errors));
     }
-    let text = format_document(alloc, source, tree.root(), tree.element_count())?;
+    let text = format_document(alloc, source, &TreeElements { tree: &tree })?;
     Ok(Ok(text))
 }
