@@ -1,7 +1,7 @@
-"""The lists of kinds of the crate document_grammar, one entry for each kind."""
+"""The lists of kinds, one entry for each kind: those of the crate document_grammar, and the names that gqlcst_run prints."""
 
 from .grammar import FOLDER, word
-from .layout import long_list, mark, use
+from .layout import CRATES, long_list, mark, use
 
 SOURCE = "the enum of src/kind.rt"
 VARIANTS = "document_grammar.specs.declared.kind.SyntaxKind"
@@ -120,6 +120,23 @@ node_kinds =
     )
 
 
+def printed_names(grammar):
+    """src/rendering/kind_name.rt of the crate gqlcst_run: the name of each kind, as the program prints it."""
+    arms = "".join(f'        SyntaxKind::{kind} => "{kind}",\n' for kind in grammar.kinds)
+    return (
+        mark("//", f"{SOURCE} of the crate document_grammar")
+        + f"""
+use apollo_parser::SyntaxKind;
+
+/// The name of a kind, as `Debug` prints it. It is a static text, so printing it takes one copy.
+pub fn kind_name(kind: SyntaxKind) -> &'static str {{
+    match kind {{
+{arms}    }}
+}}
+"""
+    )
+
+
 def outputs(grammar):
     """The text of each file, by its path."""
     return {
@@ -127,4 +144,5 @@ def outputs(grammar):
         FOLDER / "specs/Kinds.antt": names(grammar),
         FOLDER / "specs/Numbering.antt": numbering(grammar),
         FOLDER / "proofs/generated/KindLists.antt": lists(grammar),
+        CRATES / "gqlcst_run/src/rendering/kind_name.rt": printed_names(grammar),
     }

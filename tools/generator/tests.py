@@ -21,7 +21,7 @@ SYMBOLS = "tools/generator/symbols.py"
 PLACES = "tools/generator/places.py"
 WORDS = "tools/generator/typed_docs.py"
 # The crates that have generated files.
-WRITTEN = ("document_grammar", "grammar_machine", "parser_rules", "apollo_parser", *(path.name for path in CRATES.glob("apollo_cst_*")))
+WRITTEN = ("document_grammar", "grammar_machine", "parser_rules", "apollo_parser", "gqlcst_run", *(path.name for path in CRATES.glob("apollo_cst_*")))
 
 # The file with the mistake, a text that is in it once, what is there in its place, and the message.
 MISTAKES = [

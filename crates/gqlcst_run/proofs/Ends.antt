@@ -6,7 +6,7 @@ use Rattle.gqlcst_run.specs.declared.outcome.Fault.{Fault}
 use Rattle.gqlcst_run.specs.declared.outcome.Fault.TheVariants.{Read, Utf8, Memory, Write}
 use Rattle.gqlcst_run.specs.Devices.{Account, moved, stopped}
 use Rattle.gqlcst_run.specs.Writing.{EndsWriting}
-use Rattle.gqlcst_run.specs.Program.{Reads, Writes}
+use Rattle.gqlcst_run.specs.Program.{IsWritten, Reads, Writes}
 
 module _ {T : Type 0} (IsOutput : List ℕ → T → List ℕ → Type 0) where
   cut_off : (fault : Fault) (input : List ℕ) (outcome : T) (output : List ℕ) (r r' w w' : Account) → r' ≡ stopped (moved r input) → IsUtf8 input → IsOutput input outcome output
@@ -22,3 +22,13 @@ module _ {T : Type 0} (IsOutput : List ℕ → T → List ℕ → Type 0) where
   cut fault outcome input slice source output bytes r r' w w' read whole text made all broken =
       cut_off fault input outcome output r r' w w' read (subst IsUtf8 whole text.1) (subst (λ (s : List ℕ). IsOutput s outcome output) (text.0 ∙ whole) made)
       (subst (λ (bs : List ℕ). EndsWriting fault bs w w') all broken)
+
+  -- how it ends where all is written
+  pub whole : (outcome : T) (input slice source output : List ℕ) (w w' : Account) → slice ≡ input → (source ≡ slice) × IsUtf8 slice → IsOutput source outcome output
+      → w' ≡ moved w output → IsWritten IsOutput outcome input w w'
+  whole outcome input slice source output w w' same text made taken = record {
+    utf8 = subst IsUtf8 same text.1;
+    output = output;
+    made = subst (λ (s : List ℕ). IsOutput s outcome output) (text.0 ∙ same) made;
+    taken = taken;
+  }

@@ -1,6 +1,10 @@
 pub mod Accounts
 pub mod Ends
+pub mod Forms
 pub mod Items
 pub mod Lines
 pub mod Numbers
+pub mod Outputs
+pub mod Pages
+pub mod Quoting
 pub mod Verdicts

@@ -4,5 +4,8 @@ pub mod Reading
 pub mod Parsing
 pub mod Rendering
 pub mod Writing
+pub mod Passing
+pub mod Paging
+pub mod Quoted
 pub mod Program
 pub mod Ending

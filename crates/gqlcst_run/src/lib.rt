@@ -8,6 +8,7 @@ mod command;
 mod devices;
 pub mod ending;
 mod outcome;
+mod page;
 mod parsing;
 mod program;
 mod reading;

@@ -1,40 +1,51 @@
-// A run of the program: it reads, parses, renders and writes.
-ghost use Rattle.std.specs.Prelude.{◌≡◌, List, ℕ, IfOk, string_bytes};
+// A run of the program: it reads, parses and writes.
+ghost use Rattle.std.specs.Prelude.{◌≡◌, List, ℕ, IfOk, OnErr};
+ghost use Rattle.gqlcst_run.specs.Paging.{PutsSome};
 ghost use Rattle.gqlcst_run.specs.Program.{IsOutput, Reads, Writes};
 
 use crate::command::{Limits, Mode};
 use crate::devices::{Sink, Source};
 use crate::outcome::{Fault, Outcome};
+use crate::page::Page;
 use crate::parsing::{lexer, parse};
 use crate::reading::read_to_end;
-use crate::rendering::{render_errors, render_tokens, render_tree};
-use crate::writing::write_all;
+use crate::rendering::{put_errors, put_tree, render_tokens};
 use std::alloc::{AllocError, Allocator};
 
-// What is written of a text in a mode, and what was found. Mode tokens needs no parse.
-fn output<A: Allocator + Copy>(
+// Puts what a mode shows of a text, and answers what was found. Mode tokens needs no parse. All memory that it takes is asked for before the
+// first byte is put.
+#[tactic(auto, using(crate::proofs::Outputs::check_put, crate::proofs::Outputs::tokens_put, crate::proofs::Outputs::tree_put))]
+fn put_output<A: Allocator + Copy, W: Sink>(
     alloc: A,
+    page: &mut Page,
+    writer: &mut W,
     source: &str,
     mode: Mode,
     limits: Limits,
-) -> Result<(String<A>, Outcome), AllocError>
-    ensures { IfOk result (λ it. IsOutput mode limits source.now it.1 (string_bytes it.0)) }
+) -> Result<Outcome, AllocError>
+    ensures ok { IfOk result (λ outcome. PutsSome (IsOutput mode limits source.now outcome) (page.old, W.account writer.old) (page.new, W.account writer.new)) }
+    ensures err { OnErr result (W.account writer.new ≡ W.account writer.old) }
 {
     match mode {
         Mode::Check => {
             let (tree, outcome) = parse(alloc, source, limits)?;
-            let text = render_errors(alloc, tree.errors().as_slice())?;
-            Ok((text, outcome))
+            put_errors(page, writer, tree.errors().as_slice());
+            Ok(outcome)
         }
-        Mode::Tokens => render_tokens(alloc, lexer(source, limits)),
+        Mode::Tokens => {
+            let (text, outcome) = render_tokens(alloc, lexer(source, limits))?;
+            page.put_str(writer, text.as_str());
+            Ok(outcome)
+        }
         Mode::Tree => {
             let (tree, outcome) = parse(alloc, source, limits)?;
-            Ok((render_tree(alloc, &tree)?, outcome))
+            put_tree(page, writer, &tree, source);
+            Ok(outcome)
         }
     }
 }
 
-/// Reads to the end, makes the whole output in memory, and then writes it.
+/// Reads to the end, and then writes what the mode shows, a page at a time.
 pub fn run<A: Allocator + Copy, R: Source, W: Sink>(
     alloc: A,
     reader: &mut R,
@@ -49,7 +60,8 @@ pub fn run<A: Allocator + Copy, R: Source, W: Sink>(
     let Ok(source) = str::from_utf8(bytes.as_slice()) else {
         return Err(Fault::Utf8);
     };
-    let (text, outcome) = output(alloc, source, mode, limits)?;
-    write_all(writer, text.as_bytes())?;
+    let mut page = Page::new();
+    let outcome = put_output(alloc, &mut page, writer, source, mode, limits)?;
+    page.finish(writer)?;
     Ok(outcome)
 }

@@ -1,9 +1,12 @@
-// What is written, made in memory.
+// What is written, put on a page.
 mod errors;
+mod kind_name;
 mod lines;
+mod quoted;
+mod text;
 mod tokens;
 mod tree;
 
-pub use errors::render_errors;
+pub use errors::put_errors;
 pub use tokens::render_tokens;
-pub use tree::render_tree;
+pub use tree::put_tree;

@@ -1,11 +1,161 @@
 // The output of mode tree.
-use apollo_parser::{DocumentRoot, SyntaxTree};
-use std::alloc::{AllocError, Allocator};
+ghost use Rattle.gqlcst_run.specs.Paging.{PutsAny};
 
-/// The printed form of the tree, with its errors and its recursion limit.
-pub fn render_tree<A: Allocator + Copy>(
-    alloc: A,
+use crate::devices::Sink;
+use crate::page::Page;
+use crate::rendering::errors::put_error;
+use crate::rendering::kind_name::kind_name;
+use apollo_parser::{DocumentRoot, IndexedElement, LimitTracker, SyntaxTree};
+use std::alloc::Allocator;
+
+// Four spaces for each of thirty-two levels.
+const SPACES: &str =
+    "                                                                                                                                ";
+
+// Puts four spaces for each level.
+#[tactic(auto, using(crate::proofs::Pages::any_none, crate::proofs::Pages::any_then, crate::proofs::Pages::any_any))]
+fn put_indent<W: Sink>(page: &mut Page, writer: &mut W, level: usize)
+    ensures { PutsAny (page.old, W.account writer.old) (page.new, W.account writer.new) }
+{
+    let mut left = level;
+    while left > 32 {
+        page.put_str(writer, SPACES);
+        left -= 32;
+    }
+    page.put_str(writer, SPACES.get(..4 * left).unwrap_or(""));
+}
+
+// Puts the text of a leaf in quotes, and nothing for a node.
+#[tactic(auto, using(crate::proofs::Pages::any_none))]
+fn put_leaf<W: Sink>(page: &mut Page, writer: &mut W, element: IndexedElement, source: &str)
+    ensures { PutsAny (page.old, W.account writer.old) (page.new, W.account writer.new) }
+{
+    if element.is_node {
+        return;
+    }
+    page.put_str(writer, " ");
+    page.put_quoted(writer, source.get(element.start..element.end).unwrap_or(""));
+}
+
+// Puts the line of an element: its kind, where it is, and the text of a leaf.
+fn put_element<W: Sink>(
+    page: &mut Page,
+    writer: &mut W,
+    level: usize,
+    element: IndexedElement,
+    source: &str,
+)
+    ensures { PutsAny (page.old, W.account writer.old) (page.new, W.account writer.new) }
+{
+    put_indent(page, writer, level);
+    page.put_str(writer, "- ");
+    page.put_str(writer, kind_name(element.kind));
+    page.put_str(writer, "@");
+    page.put_range(writer, element.start, "..", element.end);
+    put_leaf(page, writer, element, source);
+    page.put_str(writer, "\n");
+}
+
+// The parent of an element.
+fn parent_of<A: Allocator>(tree: &SyntaxTree<DocumentRoot, A>, index: usize) -> Option<usize> {
+    if index < tree.element_count() {
+        tree.element(index).parent
+    } else {
+        None
+    }
+}
+
+// The innermost open node, and how many are open.
+#[derive(Clone, Copy)]
+struct Open {
+    node: Option<usize>,
+    level: usize,
+}
+
+impl Open {
+    // Closes nodes until this one is the innermost.
+    fn close_to<A: Allocator>(&mut self, tree: &SyntaxTree<DocumentRoot, A>, node: Option<usize>) {
+        for _ in 0..self.level {
+            let Some(inner) = self.node else {
+                return;
+            };
+            if self.node == node {
+                return;
+            }
+            self.node = parent_of(tree, inner);
+            self.level = self.level.saturating_sub(1);
+        }
+    }
+
+    // Opens a node.
+    fn enter(&mut self, node: usize) {
+        self.node = Some(node);
+        self.level = self.level.saturating_add(1);
+    }
+}
+
+// Puts a line for each element, in document order.
+#[tactic(auto, using(crate::proofs::Pages::any_none, crate::proofs::Pages::any_any))]
+fn put_elements<A: Allocator, W: Sink>(
+    page: &mut Page,
+    writer: &mut W,
     tree: &SyntaxTree<DocumentRoot, A>,
-) -> Result<String<A>, AllocError> {
-    format!(in alloc; "{tree:?}\n")
+    source: &str,
+)
+    ensures { PutsAny (page.old, W.account writer.old) (page.new, W.account writer.new) }
+{
+    let mut open = Open {
+        node: None,
+        level: 0,
+    };
+    for index in 0..tree.element_count() {
+        let element = tree.element(index);
+        open.close_to(tree, element.parent);
+        put_element(page, writer, open.level, element, source);
+        if element.is_node {
+            open.enter(index);
+        }
+    }
+}
+
+// Puts a line for each of the errors.
+#[tactic(auto, using(crate::proofs::Pages::any_none, crate::proofs::Pages::any_then, crate::proofs::Pages::any_any))]
+fn put_error_lines<A: Allocator, W: Sink>(
+    page: &mut Page,
+    writer: &mut W,
+    tree: &SyntaxTree<DocumentRoot, A>,
+)
+    ensures { PutsAny (page.old, W.account writer.old) (page.new, W.account writer.new) }
+{
+    for error in tree.errors() {
+        page.put_str(writer, "- ");
+        put_error(page, writer, error);
+        page.put_str(writer, "\n");
+    }
+}
+
+// Puts the printed form of the recursion limit.
+fn put_limit<W: Sink>(page: &mut Page, writer: &mut W, limit: LimitTracker)
+    ensures { PutsAny (page.old, W.account writer.old) (page.new, W.account writer.new) }
+{
+    page.put_str(writer, "recursion limit: ");
+    page.put_number(writer, limit.limit);
+    page.put_str(writer, ", high: ");
+    page.put_number(writer, limit.high);
+    page.put_str(writer, "\n");
+}
+
+/// Puts the printed form of the tree of a text, with its errors and its recursion limit.
+#[tactic(auto, using(crate::proofs::Pages::any_any))]
+pub fn put_tree<A: Allocator, W: Sink>(
+    page: &mut Page,
+    writer: &mut W,
+    tree: &SyntaxTree<DocumentRoot, A>,
+    source: &str,
+)
+    ensures { PutsAny (page.old, W.account writer.old) (page.new, W.account writer.new) }
+{
+    put_elements(page, writer, tree, source);
+    put_error_lines(page, writer, tree);
+    put_limit(page, writer, tree.recursion_limit());
 }

@@ -1,0 +1,32 @@
+-- What each mode puts.
+use Rattle.std.proofs.Common.{◌≡◌, ℕ, List, sym, subst}
+use Rattle.apollo_parser.specs.Cut.{Cut}
+use Rattle.apollo_parser.specs.Reads.{items_of}
+use Rattle.apollo_parser.specs.Answers.{Answer, limited}
+use Rattle.apollo_parser.specs.Diagnostics.{Diagnostic}
+use Rattle.gqlcst_run.specs.declared.command.Mode.{Mode}
+use Rattle.gqlcst_run.specs.declared.command.Mode.TheVariants.{Check, Tokens, Tree}
+use Rattle.gqlcst_run.specs.declared.command.Limits.{Limits}
+use Rattle.gqlcst_run.specs.declared.outcome.Outcome.{Outcome}
+use Rattle.gqlcst_run.specs.Parsing.{outcome_of, IsFound}
+use Rattle.gqlcst_run.specs.Rendering.{AreLines, IsAnswerForm, IsVerdict, error_count}
+use Rattle.gqlcst_run.specs.Program.{IsOutput}
+use Rattle.gqlcst_run.specs.Paging.{Paged, Puts, PutsSome, PutsAny}
+
+pub check_put : (mode : Mode) (limits : Limits) (text : List ℕ) (outcome : Outcome) (errors shown : List Diagnostic) (s t : Paged) → mode ≡ Check → IsFound limits text errors outcome
+    → shown ≡ errors → PutsSome (IsVerdict shown) s t → PutsSome (IsOutput mode limits text outcome) s t
+check_put mode limits text outcome errors shown s t is found all p =
+    subst (λ (m : Mode). PutsSome (IsOutput m limits text outcome) s t) (sym is)
+    (record { output = p.output; made = record { errors = shown; found = subst (λ (es : List Diagnostic). IsFound limits text es outcome) (sym all) found; verdict = p.made }; puts = p.puts })
+
+pub tree_put : (mode : Mode) (limits : Limits) (text : List ℕ) (outcome : Outcome) (errors : List Diagnostic) (s t : Paged) → mode ≡ Tree → IsFound limits text errors outcome
+    → PutsAny s t → PutsSome (IsOutput mode limits text outcome) s t
+tree_put mode limits text outcome errors s t is found p =
+    subst (λ (m : Mode). PutsSome (IsOutput m limits text outcome) s t) (sym is) (record { output = p.output; made = record { errors = errors; found = found }; puts = p.puts })
+
+pub tokens_put : (mode : Mode) (limits : Limits) (text : List ℕ) (outcome : Outcome) (answers : List Answer) (output : List ℕ) (s t : Paged) → mode ≡ Tokens → Cut text (items_of text)
+    → answers ≡ limited limits.tokens (items_of text) → AreLines IsAnswerForm answers output → outcome ≡ outcome_of (error_count answers) → Puts s output t
+    → PutsSome (IsOutput mode limits text outcome) s t
+tokens_put mode limits text outcome answers output s t is cut limit lines counted p =
+    subst (λ (m : Mode). PutsSome (IsOutput m limits text outcome) s t) (sym is)
+    (record { output = output; made = record { cut = cut; lines = rw limit at lines; counted = rw limit at counted }; puts = p })

@@ -1,0 +1,110 @@
+// A page: what is written is collected in it, so that the writer is called seldom, and writing asks for no memory.
+ghost use Rattle.std.specs.Prelude.{◌≡◌, ◌+◌, ◌≤◌, [], ◌++◌, length};
+ghost use Rattle.gqlcst_run.specs.Passing.{IsPassed};
+
+use crate::devices::Sink;
+use crate::outcome::Fault;
+use crate::writing::write_all;
+
+// How many bytes a page holds.
+const SIZE: usize = 65536;
+
+/// Bytes that wait for a writer. It has a fixed size, and needs no memory of an allocator. When the writer fails or takes no byte, nothing
+/// goes to it any more, and `finish` says so.
+#[derive(Drop)]
+pub struct Page {
+    bytes: [u8; 65536],
+    filled: usize,
+    is_broken: bool,
+    ghost within: { filled ≤ 65536 },
+}
+
+// Writes the bytes, unless the writer has failed before. Answers whether it has failed now.
+#[tactic(auto, using(crate::proofs::Pages::ends_broken))]
+fn pass<W: Sink>(writer: &mut W, is_broken: bool, bytes: &[u8]) -> bool
+    ensures { IsPassed is_broken bytes.now (W.account writer.old) result (W.account writer.new) }
+{
+    if is_broken {
+        return true;
+    }
+    match write_all(writer, bytes) {
+        Ok(()) => false,
+        Err(_) => true,
+    }
+}
+
+impl Page {
+    ghost use Rattle.gqlcst_run.specs.Paging.{waiting, IsBlank, Puts, Finishes};
+
+    /// A page with nothing on it.
+    pub fn new() -> Page
+        ensures { IsBlank result }
+    {
+        Page {
+            bytes: [0; 65536],
+            filled: 0,
+            is_broken: false,
+        }
+    }
+
+    // Puts bytes that there is room for.
+    #[inline(always)]
+    fn fill(&mut self, bytes: &[u8])
+        requires { self.old.filled + length bytes.now ≤ 65536 }
+        ensures waiting { waiting self.new ≡ waiting self.old ++ bytes.now }
+        ensures broken { self.new.is_broken ≡ self.old.is_broken }
+    {
+        let end = self.filled + bytes.len();
+        self.bytes[self.filled..end].copy_from_slice(bytes);
+        self.filled = end;
+    }
+
+    // Writes what is on the page.
+    #[tactic(auto, using(crate::proofs::Pages::turned))]
+    fn turn<W: Sink>(&mut self, writer: &mut W)
+        ensures puts { Puts (self.old, W.account writer.old) [] (self.new, W.account writer.new) }
+        ensures blank { self.new.filled ≡ 0 }
+    {
+        self.is_broken = pass(writer, self.is_broken, &self.bytes[..self.filled]);
+        self.filled = 0;
+    }
+
+    // Puts bytes that the page has no room for.
+    #[cold]
+    #[tactic(auto, using(crate::proofs::Pages::puts_then, crate::proofs::Pages::filled, crate::proofs::Pages::put_through))]
+    fn put_on_next<W: Sink>(&mut self, writer: &mut W, bytes: &[u8])
+        ensures { Puts (self.old, W.account writer.old) bytes.now (self.new, W.account writer.new) }
+    {
+        self.turn(writer);
+        if bytes.len() <= SIZE {
+            self.fill(bytes);
+        } else {
+            self.is_broken = pass(writer, self.is_broken, bytes);
+        }
+    }
+
+    /// Puts bytes at the end.
+    #[inline(always)]
+    #[tactic(auto, using(crate::proofs::Pages::filled))]
+    pub fn put<W: Sink>(&mut self, writer: &mut W, bytes: &[u8])
+        ensures { Puts (self.old, W.account writer.old) bytes.now (self.new, W.account writer.new) }
+    {
+        if bytes.len() <= SIZE - self.filled {
+            self.fill(bytes);
+        } else {
+            self.put_on_next(writer, bytes);
+        }
+    }
+
+    /// Writes what is left on the page. It fails when the writer has failed or took no byte, now or before.
+    #[tactic(auto, using(crate::proofs::Pages::finished_ok, crate::proofs::Pages::finished_err))]
+    pub fn finish<W: Sink>(&mut self, writer: &mut W) -> Result<(), Fault>
+        ensures { Finishes result (self.old, W.account writer.old) (W.account writer.new) }
+    {
+        self.turn(writer);
+        if self.is_broken {
+            return Err(Fault::Write);
+        }
+        Ok(())
+    }
+}
