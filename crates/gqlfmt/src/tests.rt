@@ -16,6 +16,8 @@ use std::test::Fail;
 struct Disk {
     calls: Cell<u8>,
     is_new_file_there: Cell<bool>,
+    // whether a new file of an earlier run is there
+    is_left_over: Cell<bool>,
     is_replaced: Cell<bool>,
     written: Cell<usize>,
 }
@@ -25,6 +27,7 @@ impl Disk {
         Disk {
             calls: Cell::new(calls),
             is_new_file_there: Cell::new(false),
+            is_left_over: Cell::new(false),
             is_replaced: Cell::new(false),
             written: Cell::new(0),
         }
@@ -123,6 +126,9 @@ impl<'a> rt::Files for Machine<'a> {
 
     fn open_file(&self, how: &OpenOptions, _path: &str) -> io::Result<Opened<'a>> {
         self.disk.call()?;
+        if how.asks_create_new() && self.disk.is_left_over.get() {
+            return Err(io::Error::from(ErrorKind::AlreadyExists));
+        }
         self.disk.is_new_file_there.set(how.asks_create_new());
         Ok(Opened {
             disk: self.disk,
@@ -294,6 +300,33 @@ fn leaves_a_file_whole(rt: HostRuntime) {
         }
     }
     assert!(rt; done > 5);
+}
+
+#[test]
+fn names_a_file_that_is_left_over(rt: HostRuntime) {
+    let disk = Disk::new(u8::MAX);
+    disk.is_left_over.set(true);
+    let machine = Machine {
+        disk: &disk,
+        alloc: rt.alloc(),
+    };
+    let mut told = Vec::new(rt.alloc());
+    let ended = run(
+        rt.alloc(),
+        &mut StdSource::new(b"".as_slice()),
+        &mut StdSink::new(io::sink()),
+        &mut StdSink::new(&mut told),
+        &mut StdFiles::new(&machine),
+        &["b/a"],
+    );
+    assert_eq!(rt;
+        str::from_utf8(told.as_slice()),
+        Ok(
+            "gqlfmt: b/a: cannot replace: entity already exists\ngqlfmt: b/.a.gqlfmt: left over from an earlier run: remove it\n"
+        )
+    );
+    assert!(rt; !disk.is_replaced.get());
+    assert_eq!(rt; ended, 2);
 }
 
 #[test]

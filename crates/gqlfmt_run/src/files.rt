@@ -20,4 +20,7 @@ pub trait Files {
     /// Puts a new file with this text in the place of the one at a path, or leaves that as it is.
     fn replace(&mut self, path: &str, text: &str) -> io::Result<()>
         ensures { replaces self.old path.now text.now (is_ok result) self.new };
+
+    /// The path of the new file that `replace` makes before it takes the place of the one at a path.
+    fn new_path<A: Allocator>(&self, alloc: A, path: &str) -> io::Result<String<A>>;
 }

@@ -7,7 +7,7 @@ use crate::fault::FileFault;
 use crate::files::Files;
 use crate::formatting::{Revised, revise};
 use crate::outcome::{Outcome, status_of};
-use crate::report::{complain, tell};
+use crate::report::{complain, tell_of_file};
 use crate::showing::shown;
 use gqlcst_run::{Fault, Limits, Sink, write_all};
 use std::alloc::Allocator;
@@ -73,7 +73,7 @@ pub fn format_files<A: Allocator + Copy, F: Files, W: Sink, E: Sink>(
             plan.limits,
         );
         if let Err(fault) = &ended {
-            tell(alloc, complaints, path, fault);
+            tell_of_file(alloc, files, complaints, path, fault);
         }
         status = status.max(status_of(&ended));
     }

@@ -3,10 +3,12 @@ ghost use Rattle.std.specs.Prelude.{◌≤◌, length};
 
 use crate::excerpt::push_excerpt;
 use crate::fault::FileFault;
+use crate::files::Files;
 use apollo_parser::Error;
 use gqlcst_run::{Sink, write_all};
 use line_index::LineIndex;
 use std::alloc::{AllocError, Allocator};
+use std::io::ErrorKind;
 
 // Where an error is shown. One at the end of the text is shown after its last character that is no white space.
 fn offset_of<A: Allocator>(source: &str, error: &Error<A>) -> usize
@@ -71,4 +73,38 @@ pub fn tell<A: Allocator + Copy, E: Sink>(
         Ok(line) => write_all(complaints, line.as_bytes()),
         Err(_) => write_all(complaints, b"gqlfmt: out of memory\n"),
     };
+}
+
+// The new file of an earlier run that keeps this one from being replaced, when that is why.
+fn left_over<A: Allocator + Copy, F: Files>(
+    alloc: A,
+    files: &F,
+    path: &str,
+    fault: &FileFault,
+) -> Option<String<A>> {
+    match fault {
+        FileFault::NotReplaced(error) if error.kind() == ErrorKind::AlreadyExists => {
+            files.new_path(alloc, path).ok()
+        }
+        _ => None,
+    }
+}
+
+/// Tells why the file at a path was not formatted, and which file has to be removed when one is left over from an earlier run. What the sink does
+/// not take is lost.
+pub fn tell_of_file<A: Allocator + Copy, F: Files, E: Sink>(
+    alloc: A,
+    files: &F,
+    complaints: &mut E,
+    path: &str,
+    fault: &FileFault,
+) {
+    tell(alloc, complaints, path, fault);
+    if let Some(name) = left_over(alloc, files, path, fault) {
+        if let Ok(line) = format!(in alloc;
+            "gqlfmt: {name}: left over from an earlier run: remove it\n"
+        ) {
+            let _ = write_all(complaints, line.as_bytes());
+        }
+    }
 }

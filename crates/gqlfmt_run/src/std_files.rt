@@ -5,7 +5,7 @@ use crate::files::Files;
 use std::alloc::Allocator;
 use std::fs::{File, OpenFile, Permissions};
 use std::io::{Error, ErrorKind, Read, Write};
-use std::path::Path;
+use std::path::{Path, PathBuf};
 use std::{fs, io, rt};
 
 /// The files that a runtime reaches.
@@ -43,6 +43,13 @@ fn permissions_of<R: rt::Files>(runtime: &R, path: Path<'_>) -> io::Result<Permi
     Ok(permissions)
 }
 
+// The path of the new file that takes the place of this one: beside it, under a hidden name.
+fn hidden_path<R: rt::Files + Alloc>(runtime: &R, target: Path<'_>) -> io::Result<PathBuf<R::A>> {
+    let name = target.file_name().unwrap_or("");
+    let hidden = format!(in runtime.alloc(); ".{name}.gqlfmt")?;
+    Ok(target.with_file_name(runtime.alloc(), hidden.as_str())?)
+}
+
 impl<'a, R: rt::Files + Alloc> Files for StdFiles<'a, R> {
     ghost use Rattle.std.specs.Prelude.{⊤};
 
@@ -62,9 +69,7 @@ impl<'a, R: rt::Files + Alloc> Files for StdFiles<'a, R> {
         let runtime = self.runtime;
         let target = fs::canonicalize(runtime, path)?;
         let permissions = permissions_of(runtime, target.as_path())?;
-        let name = target.file_name().unwrap_or("");
-        let hidden = format!(in runtime.alloc(); ".{name}.gqlfmt")?;
-        let fresh = target.with_file_name(runtime.alloc(), hidden.as_str())?;
+        let fresh = hidden_path(runtime, target.as_path())?;
         let mut file = File::create_new(runtime, fresh.as_path())?;
         let stored = fill(&mut file, text, permissions).and_then(|()| fs::rename(
             runtime,
@@ -75,5 +80,11 @@ impl<'a, R: rt::Files + Alloc> Files for StdFiles<'a, R> {
             let _ = fs::remove_file(runtime, fresh.as_path());
         }
         stored
+    }
+
+    fn new_path<A: Allocator>(&self, alloc: A, path: &str) -> io::Result<String<A>> {
+        let target = fs::canonicalize(self.runtime, path)?;
+        let fresh = hidden_path(self.runtime, target.as_path())?;
+        Ok(format!(in alloc; "{}", fresh.display())?)
     }
 }
