@@ -89,6 +89,10 @@ impl<A: Allocator> Layout<A> {
     fn spaces(&mut self, count: usize) -> Result<(), AllocError>
         ensures { OnOk result (Keeps (string_bytes self.old.text) self.old.edge (string_bytes self.new.text) self.new.edge) }
     {
+        if count == 1 {
+            // between most tokens
+            return self.blanks(" ");
+        }
         for _ in 0..count / SPACES.len() {
             self.blanks(SPACES)?;
         }
