@@ -1,20 +1,13 @@
 -- One more token written, or a block string with the same value.
-use Rattle.std.proofs.Common.{◌≡◌, ℕ, inl, inr, true, false, List, [], ◌∷◌, ◌++◌, refl, sym, ap, ◌∙◌, subst, append-nil}
+use Rattle.std.proofs.Common.{◌≡◌, ℕ, inl, inr, true, List, [], ◌∷◌, ◌++◌, refl, sym, ap, subst}
 use Rattle.lexical_grammar.specs.declared.TokenKind.{TokenKind}
-use Rattle.lexical_grammar.specs.declared.TokenKind.TheVariants.{Eof, StringValue}
+use Rattle.lexical_grammar.specs.declared.TokenKind.TheVariants.{StringValue}
 use Rattle.lexical_grammar.specs.declared.edge.Edge.{Edge}
-use Rattle.lexical_grammar.specs.Answers.{IsTokenText}
-use Rattle.lexical_grammar.specs.Tokens.{Tok}
 use Rattle.lexical_grammar.specs.Cut.{Word}
 use Rattle.lexical_grammar.specs.Kept.{is_kept_kind, kept_word}
 use Rattle.token_layout.specs.Laid.{Laid, Keeps, Adds}
 use Rattle.respelling.specs.Respelled.{SameBlock, SameWord, AreSameWords}
 use Rattle.document_format.specs.Written.{LaidSame, AddsSame}
-
--- what is written is a token
-pub kept-token : (kind : TokenKind) (text : List ℕ) → is_kept_kind kind ≡ true → IsTokenText kind text → Tok kind text
-kept-token Eof text k h = absurd (cc)
-kept-token _ text k h = h
 
 kept-alone : (word : Word) → is_kept_kind word.kind ≡ true → kept_word word ≡ word ∷ []
 kept-alone word h = rw h refl
@@ -42,13 +35,6 @@ adds-block text more edge next word other k s a = adds text more edge next word 
 
 pub keeps-same : (text more : List ℕ) (edge next : Edge) (words : List Word) → Keeps text edge more next → LaidSame text edge words → LaidSame more next words
 keeps-same text more edge next words k l = record { others = l.others; same = l.same; laid = k l.others l.laid }
-
--- what is ignored is not written
-pub adds-ignored : (text : List ℕ) (edge : Edge) (word : Word) → is_kept_kind word.kind ≡ false → AddsSame text edge word text edge
-adds-ignored text edge word h words l = subst (LaidSame text edge) (sym (ap (λ k. words ++ k) none ∙ append-nil words)) l
-  where
-    none : kept_word word ≡ []
-    none = rw h refl
 
 -- a gap and a token
 pub adds-after : (text middle more : List ℕ) (edge between next : Edge) (kind other : TokenKind) (word spelled : List ℕ) → other ≡ kind → spelled ≡ word → Keeps text edge middle between

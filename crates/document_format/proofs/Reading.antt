@@ -1,14 +1,12 @@
 -- The tokens that a lexer gives, written one after another.
-use Rattle.std.proofs.Common.{◌≡◌, ℕ, zero, suc, ◌≤◌, true, false, Bool, List, [], ◌∷◌, ◌++◌, length, Some, refl, sym, ap, ◌∙◌, subst, arith, append_assoc, append-nil}
+use Rattle.std.proofs.Common.{◌≡◌, ℕ, zero, suc, ◌≤◌, List, [], ◌∷◌, ◌++◌, length, Some, refl, sym, ap, ◌∙◌, subst, arith, append_assoc}
 use Rattle.lexical_grammar.specs.declared.TokenKind.{TokenKind}
 use Rattle.lexical_grammar.specs.declared.edge.Edge.{Edge}
 use Rattle.lexical_grammar.specs.Answers.{Answer, AreAnswers, IsTokenText, gives, limit_at, limited}
 use Rattle.lexical_grammar.specs.Cut.{Item, Word}
-use Rattle.lexical_grammar.specs.Kept.{kept_item, kept_word, Kept, Holds}
-use Rattle.apollo_lexer.specs.Answers.{error_answer}
-use Rattle.token_layout.specs.Laid.{Keeps, Laid}
-use Rattle.respelling.specs.Respelled.{AreSameWords}
-use Rattle.document_format.specs.Written.{LaidSame, AddsSame, HoldsSame}
+use Rattle.lexical_grammar.specs.Kept.{kept_item, kept_word, Kept}
+use Rattle.token_layout.specs.Laid.{Laid}
+use Rattle.document_format.specs.Written.{LaidSame, AddsSame}
 
 -- the significant tokens and the comments among a lexer's answers
 abbrev kept_answer : Answer → List Word
@@ -41,19 +39,6 @@ writes-begin text edge answers allowed items l e le = record {
   same = ap kept_answers e ∙ kept-limited allowed items le;
 }
 
--- an error has no token
-error-keeps : (limit : Bool) (text : List ℕ) (index : ℕ) → kept_answer (error_answer limit text index) ≡ []
-error-keeps true text index = refl
-error-keeps false text index = refl
-
-pub writes-error : (text : List ℕ) (edge : Edge) (limit : Bool) (bad : List ℕ) (index : ℕ) (old rest : List Answer) (all : List Word) → old ≡ error_answer limit bad index ∷ rest
-    → Writes text edge (kept_answers old) all → Writes text edge (kept_answers rest) all
-writes-error text edge limit bad index old rest all e w = record {
-  words = w.words;
-  laid = w.laid;
-  same = ap (λ l. w.words ++ (l ++ kept_answers rest)) (sym (error-keeps limit bad index)) ∙ ap (λ l. w.words ++ kept_answers l) (sym e) ∙ w.same;
-}
-
 -- a token is one more
 pub writes-token : (text more : List ℕ) (edge next : Edge) (kind : TokenKind) (word : List ℕ) (index : ℕ) (old rest : List Answer) (all : List Word)
     → old ≡ gives (record { kind = Some kind; text = word; index = index }) ∷ rest → AddsSame text edge (record { kind = kind; text = word }) more next
@@ -67,10 +52,3 @@ writes-token text more edge next kind word index old rest all e a w = record {
 -- its text is one of its kind
 pub token-text : (kind : TokenKind) (text : List ℕ) (index : ℕ) (old rest : List Answer) → old ≡ gives (record { kind = Some kind; text = text; index = index }) ∷ rest → AreAnswers old → IsTokenText kind text
 token-text kind text index old rest e a = (subst AreAnswers e a).0
-
--- all was written
-pub writes-all : (text more final : List ℕ) (edge next : Edge) (end : List Answer) (all : List Word) → end ≡ [] → Keeps text edge more next
-    → ((words : List Word) → Laid more next words → Holds final words) → Writes text edge (kept_answers end) all → HoldsSame final all
-writes-all text more final edge next end all e line finish w =
-    let whole : w.words ≡ all = sym (append-nil w.words) ∙ ap (λ l. w.words ++ kept_answers l) (sym e) ∙ w.same in
-    record { others = w.laid.others; same = subst (λ (l : List Word). AreSameWords l w.laid.others) whole w.laid.same; holds = finish w.laid.others (line w.laid.others w.laid.laid) }

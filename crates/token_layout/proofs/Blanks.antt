@@ -128,15 +128,6 @@ blanks-keep text run ends.EmptyString some g h words l = begins text run ends.Em
 pub blanks-pushed : (text more run : List ℕ) (edge : Edge) → more ≡ text ++ run → 0 < length run → list_all is_gap_byte run ≡ true → takes_blank edge (slice_index run 0) ≡ true → Keeps text edge more ends.Whitespace
 blanks-pushed text more run edge m some g h words l = subst (λ t. Laid t ends.Whitespace words) (sym m) (blanks-keep text run edge some g h words l)
 
--- a line feed may follow anything
-pub takes-line : (edge : Edge) → takes_blank edge 10 ≡ true
-takes-line ends.Free = refl
-takes-line ends.Whitespace = refl
-takes-line ends.Comment = refl
-takes-line ends.Name = refl
-takes-line ends.Number = refl
-takes-line ends.EmptyString = refl
-
 -- the front of spaces is spaces
 some-spaces : (run : List ℕ) (n : ℕ) → list_all is_gap_byte run ≡ true → list_all is_gap_byte (take n run) ≡ true
 some-spaces [] zero h = refl

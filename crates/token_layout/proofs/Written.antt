@@ -1,13 +1,12 @@
 -- What each step of the writer leaves.
 use Rattle.std.proofs.Common.{◌≡◌, ℕ, true, List, ◌∷◌, [], ◌++◌, refl, sym, subst, append-nil}
-use Rattle.lexical_grammar.specs.declared.TokenKind.{TokenKind}
-use Rattle.lexical_grammar.specs.declared.TokenKind.TheVariants.{Whitespace, Comma}
+use Rattle.lexical_grammar.specs.declared.TokenKind.TheVariants.{Comma}
 use Rattle.lexical_grammar.specs.declared.edge.Edge.{Edge}
 use Rattle.lexical_grammar.specs.declared.edge.Edge.TheVariants as ends
 use Rattle.lexical_grammar.specs.Tokens.{Tok}
 use Rattle.lexical_grammar.specs.Cut.{Word}
 use Rattle.lexical_grammar.specs.Edges.{edge_of, may_touch, touches}
-use Rattle.lexical_grammar.specs.Kept.{is_kept_kind, kept_word}
+use Rattle.lexical_grammar.specs.Kept.{kept_word}
 use Rattle.token_layout.specs.Laid.{Laid, Keeps, Adds}
 use Rattle.token_layout.proofs.Tokens.{one-more}
 
@@ -21,8 +20,3 @@ pub token-adds : (text more : List ℕ) (edge next : Edge) (word : Word) → mor
     → touches edge word ≡ true → Adds text edge word more next
 token-adds text more edge next word m n tok h words l =
     subst (λ t. Laid t next (words ++ kept_word word)) (sym m) (subst (λ e. Laid (text ++ word.text) e (words ++ kept_word word)) (sym n) (one-more text edge words word l tok h))
-
--- what is kept may follow white space
-pub after-blank : (kind : TokenKind) (b : ℕ) → is_kept_kind kind ≡ true → may_touch ends.Whitespace kind b ≡ true
-after-blank Whitespace b h = absurd (cc)
-after-blank _ b h = refl
