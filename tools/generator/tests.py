@@ -225,6 +225,7 @@ class Copy:
         for crate in WRITTEN:
             shutil.copytree(CRATES / crate, folder / "crates" / crate, ignore=unneeded)
         shutil.copytree(TOP / "tools", folder / "tools")
+        shutil.copytree(TOP / "include", folder / "include")
         sys.path.insert(0, str(folder / "tools"))
         self.unchanged, self.mistakes = self.package("unchanged"), 0
 
