@@ -1,0 +1,60 @@
+// What C calls: each export is a call of `dumyroke_flat`, with its contract. `include/dumyroke.h` declares them.
+#![tactic(auto)]
+
+ghost use Rattle.std.specs.Prelude.{◌≡◌};
+ghost use Rattle.dumyroke_flat.specs.Outcomes.{FormatOutcome, Outcome, StringOutcome};
+
+use dumyroke_flat::{
+    Counts, ElementRow, ErrorRow, Limits, format_into, parse_into, string_value_into,
+};
+use std::alloc::Global;
+
+/// `parse_into`. It answers the status of the counts.
+#[unsafe(no_mangle)]
+pub extern "C" fn dumyroke_parse(
+    alloc: Global,
+    source: &[u8],
+    limits: Limits,
+    elements: &mut [ElementRow],
+    errors: &mut [ErrorRow],
+    messages: &mut [u8],
+    counts: &mut Counts,
+) -> u32
+    ensures status { result ≡ counts.new.status }
+    ensures outcome { Outcome source.now limits.recursion limits.tokens (record { elements = elements.old; errors = errors.old; messages = messages.old })
+        (record { elements = elements.new; errors = errors.new; messages = messages.new }) counts.new }
+{
+    *counts = parse_into(alloc, source, limits, elements, errors, messages);
+    counts.status
+}
+
+/// `string_value_into`. It answers the status, and `bytes` gets the number of bytes.
+#[unsafe(no_mangle)]
+pub extern "C" fn dumyroke_string_value(
+    alloc: Global,
+    literal: &[u8],
+    value: &mut [u8],
+    bytes: &mut usize,
+) -> u32
+    ensures { StringOutcome literal.now value.old value.new (record { bytes = bytes.new; status = result }) }
+{
+    let count = string_value_into(alloc, literal, value);
+    *bytes = count.bytes;
+    count.status
+}
+
+/// `format_into`. It answers the status, and `bytes` gets the number of bytes.
+#[unsafe(no_mangle)]
+pub extern "C" fn dumyroke_format(
+    alloc: Global,
+    source: &[u8],
+    limits: Limits,
+    formatted: &mut [u8],
+    bytes: &mut usize,
+) -> u32
+    ensures { FormatOutcome source.now limits.recursion limits.tokens formatted.old formatted.new (record { bytes = bytes.new; status = result }) }
+{
+    let count = format_into(alloc, source, limits, formatted);
+    *bytes = count.bytes;
+    count.status
+}

@@ -1,0 +1,5 @@
+pub mod FilledBuffers
+pub mod ElementRows
+pub mod Messages
+pub mod OneString
+pub mod Outcomes

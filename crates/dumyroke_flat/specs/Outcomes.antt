@@ -1,0 +1,112 @@
+-- What each call gives: for the status OK what it wrote, and for each other status why, and that it wrote nothing.
+use Rattle.std.specs.Prelude.{◌≡◌, ◌≢◌, ◌≤◌, ◌^◌, ◌⊎◌, ℕ, List, length}
+use Rattle.std.specs.Str.{IsUtf8}
+use Rattle.apollo_parser.specs.Diagnostics.{Diagnostic}
+use Rattle.apollo_parser.specs.Order.{order}
+use Rattle.apollo_parser.specs.Parsed.{Parsed}
+use Rattle.apollo_parser.specs.Promise.{Promise}
+use Rattle.apollo_parser.specs.StringValues.{IsStringValue}
+use Rattle.apollo_parser.specs.Tokens.{IsString}
+use Rattle.dumyroke_flat.specs.declared.rows.ByteCount.{ByteCount}
+use Rattle.dumyroke_flat.specs.declared.rows.Counts.{Counts}
+use Rattle.dumyroke_flat.specs.declared.rows.ElementRow.{ElementRow}
+use Rattle.dumyroke_flat.specs.declared.rows.ErrorRow.{ErrorRow}
+use Rattle.formatter.specs.Outcome.{IsFormatted, IsRefused}
+use Rattle.dumyroke_flat.specs.Rows.{element_rows, error_rows, filled, messages}
+
+-- ---- statuses
+
+abbrev pub OK : ℕ
+OK = 0
+
+abbrev pub NOT_UTF8 : ℕ
+NOT_UTF8 = 1
+
+abbrev pub TOO_LONG : ℕ
+TOO_LONG = 2
+
+abbrev pub NO_MEMORY : ℕ
+NO_MEMORY = 3
+
+abbrev pub NOT_A_STRING : ℕ
+NOT_A_STRING = 4
+
+abbrev pub NOT_A_DOCUMENT : ℕ
+NOT_A_DOCUMENT = 5
+
+-- ---- a parse
+
+-- The buffers that a parse writes to.
+pub record Buffers : Type 0 where
+  pub elements : List ElementRow
+  pub errors : List ErrorRow
+  pub messages : List ℕ
+
+-- The buffers after the tree and the errors of a parse were written, each as far as there is room.
+abbrev pub written : Buffers → Parsed → Buffers
+written room parsed = record {
+  elements = filled room.elements (element_rows parsed.tree);
+  errors = filled room.errors (error_rows 0 parsed.errors);
+  messages = filled room.messages (messages parsed.errors);
+}
+
+-- How much there is of a parse.
+abbrev pub counts_of : Parsed → Counts
+counts_of parsed = record {
+  elements = length (order parsed.tree);
+  errors = length parsed.errors;
+  message_bytes = length (messages parsed.errors);
+  recursion_high = parsed.recursion_limit.high;
+  token_high = parsed.token_limit.high;
+  status = OK;
+}
+
+-- The counts of a call that was refused.
+abbrev pub no_counts : ℕ → Counts
+no_counts status = record { elements = 0; errors = 0; message_bytes = 0; recursion_high = 0; token_high = 0; status = status }
+
+-- The text is UTF-8, and this is its parse, which keeps what `Parser::parse` promises.
+pub record IsParse (source : List ℕ) (max_depth max_items : ℕ) (parsed : Parsed) : Type 0 where
+  pub utf8 : IsUtf8 source
+  pub promise : Promise source max_depth max_items parsed
+
+-- The text has too many bytes, or its tree too many elements, for rows of 32 bits.
+abbrev pub IsTooLong : List ℕ → ℕ → ℕ → Type 0
+IsTooLong source max_depth max_items =
+    (2 ^ 32 ≤ length source) ⊎ ((parsed : Parsed) × IsParse source max_depth max_items parsed × (2 ^ 32 ≤ length (order parsed.tree)))
+
+-- What a parse gives, from the buffers before it, the buffers after it, and the counts that it answers.
+pub record Outcome (source : List ℕ) (max_depth max_items : ℕ) (before after : Buffers) (counts : Counts) : Type 0 where
+  -- the buffers and the counts are those of a parse of the text
+  pub ok : counts.status ≡ OK → (parsed : Parsed) × IsParse source max_depth max_items parsed × (after ≡ written before parsed) × (counts ≡ counts_of parsed)
+  pub not_utf8 : counts.status ≡ NOT_UTF8 → ¬ IsUtf8 source
+  pub too_long : counts.status ≡ TOO_LONG → IsTooLong source max_depth max_items
+  -- nothing was written
+  pub refused : counts.status ≢ OK → (after ≡ before) × (counts ≡ no_counts counts.status)
+  -- there is no other status than these three and that of refused memory
+  pub known : counts.status ≤ NO_MEMORY
+
+-- ---- one text
+
+-- The buffer and the number of bytes are those of one text of which this holds.
+abbrev pub Writes : (List ℕ → Type 0) → List ℕ → List ℕ → ℕ → Type 0
+Writes P before after bytes = (text : List ℕ) × P text × (after ≡ filled before text) × (bytes ≡ length text)
+
+-- What the value of a string gives.
+pub record StringOutcome (literal before after : List ℕ) (count : ByteCount) : Type 0 where
+  -- the text is one string, and its value was written
+  pub ok : count.status ≡ OK → Writes (IsStringValue literal) before after count.bytes
+  pub not_utf8 : count.status ≡ NOT_UTF8 → ¬ IsUtf8 literal
+  pub not_a_string : count.status ≡ NOT_A_STRING → ¬ IsString literal
+  -- nothing was written
+  pub refused : count.status ≢ OK → (after ≡ before) × (count.bytes ≡ 0)
+
+-- What formatting a text gives.
+pub record FormatOutcome (source : List ℕ) (max_depth max_items : ℕ) (before after : List ℕ) (count : ByteCount) : Type 0 where
+  -- the text is a document within both limits, and that document with another layout was written
+  pub ok : count.status ≡ OK → Writes (IsFormatted source max_depth max_items) before after count.bytes
+  pub not_utf8 : count.status ≡ NOT_UTF8 → ¬ IsUtf8 source
+  -- these are the errors of its parse
+  pub not_a_document : count.status ≡ NOT_A_DOCUMENT → (errors : List Diagnostic) × IsRefused source max_depth max_items errors
+  -- nothing was written
+  pub refused : count.status ≢ OK → (after ≡ before) × (count.bytes ≡ 0)

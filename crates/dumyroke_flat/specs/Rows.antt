@@ -1,0 +1,62 @@
+-- The rows that say a tree and its errors, and what a buffer holds that they are written to.
+use Rattle.std.specs.Prelude.{ℕ, suc, ◌+◌, ◌<◌, ◌^◌, not, List, [], ◌∷◌, ◌++◌, length, take, drop, unwrap_or}
+use Rattle.std.specs.Int.{from_bool}
+use Rattle.std.specs.List.{flat_map}
+use Rattle.apollo_parser.specs.Diagnostics.{Diagnostic, diagnostic_end, is_end_subject, is_limit_subject}
+use Rattle.apollo_parser.specs.Forests.{Forest, count}
+use Rattle.apollo_parser.specs.Numbering.{number}
+use Rattle.apollo_parser.specs.Order.{Element, order, is_node, tree_kids, tree_kind, tree_text}
+use Rattle.dumyroke_flat.specs.declared.rows.ElementRow.{ElementRow}
+use Rattle.dumyroke_flat.specs.declared.rows.ErrorRow.{ErrorRow}
+
+-- The buffer with as many of the items as it has room for, from its beginning on. What is after them stays as it was.
+abbrev pub filled : {A : Type 0} → List A → List A → List A
+filled buffer items = take (length buffer) items ++ drop (length items) buffer
+
+-- ---- elements
+
+-- The row of the element with an index. The root's parent is itself.
+abbrev pub element_row : ℕ → Element → ElementRow
+element_row index e = record {
+  start = e.start;
+  end = e.start + length (tree_text e.tree);
+  parent = unwrap_or e.parent 0;
+  next = index + suc (count (tree_kids e.tree));
+  kind = number (tree_kind e.tree);
+  is_token = from_bool (not (is_node e.tree));
+}
+
+-- The rows of elements, of which the first has the index.
+abbrev pub rows_from : ℕ → List Element → List ElementRow
+rows_from index [] = []
+rows_from index (e ∷ es) = element_row index e ∷ rows_from (suc index) es
+
+-- The rows of a tree, in document order.
+abbrev pub element_rows : Forest → List ElementRow
+element_rows tree = rows_from 0 (order tree)
+
+-- ---- errors
+
+-- The messages of errors, one after another.
+abbrev pub messages : List Diagnostic → List ℕ
+messages errors = flat_map (λ (e : Diagnostic). e.message) errors
+
+-- The row of an error whose message is at a place of the messages. `diagnostic_end` is where the text has ended that it is about.
+abbrev pub error_row : ℕ → Diagnostic → ErrorRow
+error_row place e = record {
+  start = e.index;
+  end = diagnostic_end e;
+  message = place;
+  message_length = length e.message;
+  is_limit = from_bool (is_limit_subject e.subject);
+  is_eof = from_bool (is_end_subject e.subject);
+}
+
+-- The rows of errors, of which the first has its message at the place.
+abbrev pub error_rows : ℕ → List Diagnostic → List ErrorRow
+error_rows place [] = []
+error_rows place (e ∷ es) = error_row place e ∷ error_rows (place + length e.message) es
+
+-- Where the text has ended that an error is about fits a `size_t`.
+abbrev pub EndFits : Diagnostic → Type 0
+EndFits e = diagnostic_end e < 2 ^ 64

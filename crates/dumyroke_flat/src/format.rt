@@ -1,0 +1,29 @@
+// Formatting.
+ghost use Rattle.dumyroke_flat.specs.Outcomes.{FormatOutcome};
+
+use crate::filling::{refused, written};
+use crate::rows::{ByteCount, Limits, status};
+use formatter::format;
+use std::alloc::Allocator;
+
+/// Formats a document (GraphQL October 2021, section 2.2, "Document") within both limits: it writes the same document with the layout of the crate
+/// `formatter`, as far as there is room, and answers how many bytes it has.
+///
+/// What it promises is `FormatOutcome` in `specs/Outcomes.antt`.
+pub fn format_into<A: Allocator + Copy>(
+    alloc: A,
+    source: &[u8],
+    limits: Limits,
+    formatted: &mut [u8],
+) -> ByteCount
+    ensures { FormatOutcome source.now limits.recursion limits.tokens formatted.old formatted.new result }
+{
+    let Ok(text) = std::str::from_utf8(source) else {
+        return refused(status::NOT_UTF8);
+    };
+    match format(alloc, text, limits.recursion, limits.tokens) {
+        Ok(Ok(document)) => written(formatted, document.as_str()),
+        Ok(Err(_)) => refused(status::NOT_A_DOCUMENT),
+        Err(_) => refused(status::NO_MEMORY),
+    }
+}

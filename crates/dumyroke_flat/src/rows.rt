@@ -1,0 +1,102 @@
+// The structs that C reads and writes.
+use std::mem::size_of;
+
+/// How a call ended.
+pub mod status {
+    /// It did what it is for. Errors of the text are no failure.
+    pub const OK: u32 = 0;
+
+    /// The bytes are not UTF-8.
+    pub const NOT_UTF8: u32 = 1;
+
+    /// The text has 2 ^ 32 bytes or more, or its tree 2 ^ 32 elements or more.
+    pub const TOO_LONG: u32 = 2;
+
+    /// Memory was refused.
+    pub const NO_MEMORY: u32 = 3;
+
+    /// The text is not one string with its quotes.
+    pub const NOT_A_STRING: u32 = 4;
+
+    /// The text is no document within both limits.
+    pub const NOT_A_DOCUMENT: u32 = 5;
+}
+
+/// Both limits of a parse.
+#[repr(C)]
+#[derive(Clone, Copy)]
+pub struct Limits {
+    /// How deep selection sets, list types and values may nest.
+    pub recursion: usize,
+    /// How many items of the text are read, ignored ones and the end among them.
+    pub tokens: usize,
+}
+
+/// A node or a leaf of a tree. Rows are in document order: the first child of a node is the row after it, and the next child after a child is at
+/// that child's `next`.
+#[repr(C)]
+#[derive(Clone, Copy)]
+pub struct ElementRow {
+    /// The byte offset at which its text begins.
+    pub start: u32,
+    /// The byte offset at which its text has ended.
+    pub end: u32,
+    /// The index of its parent; the root has 0, its own.
+    pub parent: u32,
+    /// The index of the first element after it and all below it; the number of all elements when there is none.
+    pub next: u32,
+    /// The number of its kind.
+    pub kind: u16,
+    /// 1 for a leaf, 0 for a node.
+    pub is_token: u16,
+}
+
+const _: () = prove!(size_of::<ElementRow>() == 20);
+
+/// An error.
+#[repr(C)]
+#[derive(Clone, Copy)]
+pub struct ErrorRow {
+    /// The byte offset at which the text begins that it is about.
+    pub start: usize,
+    /// The byte offset at which that text has ended. The text is empty for a limit and for the end.
+    pub end: usize,
+    /// Where its message begins in the bytes of all messages.
+    pub message: usize,
+    /// How many bytes its message has.
+    pub message_length: usize,
+    /// 1 when it is about a limit, else 0.
+    pub is_limit: u32,
+    /// 1 when it is about the end of the text, else 0.
+    pub is_eof: u32,
+}
+
+const _: () = prove!(size_of::<ErrorRow>() == 40);
+
+/// How a parse ended, and how much there is, whether or not the buffers had room for it. All numbers are 0 when it was refused.
+#[repr(C)]
+#[derive(Clone, Copy)]
+pub struct Counts {
+    /// How many elements the tree has.
+    pub elements: usize,
+    /// How many errors there are.
+    pub errors: usize,
+    /// How many bytes all messages have.
+    pub message_bytes: usize,
+    /// The greatest nesting that was asked for.
+    pub recursion_high: usize,
+    /// How many items were asked for.
+    pub token_high: usize,
+    /// One of the numbers of the module `status`.
+    pub status: u32,
+}
+
+/// How a call that writes one text ended, and how many bytes the text has, whether or not the buffer had room for it.
+#[repr(C)]
+#[derive(Clone, Copy)]
+pub struct ByteCount {
+    /// How many bytes there are; 0 when the call was refused.
+    pub bytes: usize,
+    /// One of the numbers of the module `status`.
+    pub status: u32,
+}
