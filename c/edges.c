@@ -1,0 +1,224 @@
+/* Calls at the edges: no text, no room, too little room, texts that are not UTF-8, strings that are none, both limits.
+ * Ends with status 1 at the first check that fails, and says which. */
+#include <stdio.h>
+
+#include "dumyroke_kinds.h"
+#include "dumyroke_tree.h"
+
+#define CHECK(condition) \
+    do { \
+        if (!(condition)) { \
+            fprintf(stderr, "%s:%d: failed: %s\n", __FILE__, __LINE__, #condition); \
+            exit(1); \
+        } \
+    } while (0)
+
+/* What a buffer holds before a call. */
+enum { UNTOUCHED = 0xee };
+
+static const uint8_t *bytes_of(const char *text)
+{
+    return (const uint8_t *)text;
+}
+
+static uint32_t check(const char *text, size_t length, size_t recursion, size_t tokens, dumyroke_counts *counts)
+{
+    dumyroke_limits limits = {recursion, tokens};
+    memset(counts, UNTOUCHED, sizeof *counts);
+    return dumyroke_parse(bytes_of(text), length, limits, NULL, 0, NULL, 0, NULL, 0, counts);
+}
+
+static void counts_of_texts(void)
+{
+    dumyroke_counts counts;
+    CHECK(check(NULL, 0, 500, SIZE_MAX, &counts) == DUMYROKE_OK);
+    CHECK(counts.status == DUMYROKE_OK && counts.elements == 1 && counts.errors == 1);
+    CHECK(check("{a}", 3, 500, SIZE_MAX, &counts) == DUMYROKE_OK);
+    CHECK(counts.elements == 8 && counts.errors == 0 && counts.message_bytes == 0);
+    CHECK(counts.recursion_high == 1 && counts.token_high == 4);
+    CHECK(check("{a}\0", 4, 500, SIZE_MAX, &counts) == DUMYROKE_OK && counts.errors == 1);
+}
+
+static void counts_at_limits(void)
+{
+    dumyroke_counts counts;
+    CHECK(check("{a{b}}", 6, 2, SIZE_MAX, &counts) == DUMYROKE_OK && counts.errors == 0 && counts.recursion_high == 2);
+    CHECK(check("{a{b}}", 6, 1, SIZE_MAX, &counts) == DUMYROKE_OK && counts.errors == 1 && counts.recursion_high == 2);
+    CHECK(check("{a{b}}", 6, 500, 7, &counts) == DUMYROKE_OK && counts.errors == 0 && counts.token_high == 7);
+    CHECK(check("{a{b}}", 6, 500, 3, &counts) == DUMYROKE_OK && counts.errors == 1 && counts.token_high == 4);
+}
+
+/* A text that nests far deeper than the limit takes no more stack than the limit allows. */
+static void deeper_than_the_limit(void)
+{
+    static char text[200000];
+    dumyroke_counts counts;
+    size_t i;
+    for (i = 0; i < sizeof text; i++)
+        text[i] = i % 2 ? 'a' : '{';
+    CHECK(check(text, sizeof text, 500, SIZE_MAX, &counts) == DUMYROKE_OK && counts.errors > 0 && counts.recursion_high == 501);
+}
+
+static void not_utf8(void)
+{
+    static const char *const texts[] = {"{\xff}", "{\xc3}", "{\xed\xa0\x80}", "{\xc0\x80}", "{\xf4\x90\x80\x80}"};
+    dumyroke_counts counts, none = {0, 0, 0, 0, 0, DUMYROKE_NOT_UTF8};
+    size_t i, bytes;
+    for (i = 0; i < sizeof texts / sizeof *texts; i++) {
+        CHECK(check(texts[i], strlen(texts[i]), 500, SIZE_MAX, &counts) == DUMYROKE_NOT_UTF8);
+        CHECK(counts.status == none.status && !counts.elements && !counts.errors && !counts.message_bytes && !counts.token_high);
+    }
+    bytes = UNTOUCHED;
+    CHECK(dumyroke_string_value(bytes_of("\"\xff\""), 3, NULL, 0, &bytes) == DUMYROKE_NOT_UTF8 && bytes == 0);
+    bytes = UNTOUCHED;
+    CHECK(dumyroke_format(bytes_of("{\xff}"), 3, dumyroke_default_limits(), NULL, 0, &bytes) == DUMYROKE_NOT_UTF8 && bytes == 0);
+}
+
+/* `{ hero(id) { name }` has 23 elements and 2 errors with messages of 46 bytes. */
+static void too_little_room(void)
+{
+    const char *text = "{ hero(id) { name }";
+    dumyroke_element elements[4];
+    dumyroke_error errors[2];
+    uint8_t messages[6];
+    dumyroke_counts counts;
+    memset(elements, UNTOUCHED, sizeof elements);
+    memset(errors, UNTOUCHED, sizeof errors);
+    memset(messages, UNTOUCHED, sizeof messages);
+    CHECK(dumyroke_parse(bytes_of(text), strlen(text), dumyroke_default_limits(), elements, 3, errors, 1, messages, 5, &counts) == DUMYROKE_OK);
+    CHECK(counts.elements == 23 && counts.errors == 2 && counts.message_bytes == 46);
+    CHECK(elements[0].kind == DUMYROKE_DOCUMENT && elements[0].next == 23 && elements[0].parent == 0 && elements[0].end == 19);
+    CHECK(elements[2].kind == DUMYROKE_SELECTION_SET && elements[2].parent == 1 && !elements[2].is_token);
+    CHECK(errors[0].start == 9 && errors[0].end == 10 && errors[0].message == 0 && errors[0].message_length == 21);
+    CHECK(!errors[0].is_limit && !errors[0].is_eof && !memcmp(messages, "expec", 5));
+    CHECK(elements[3].kind == 0xeeee && errors[1].is_eof == 0xeeeeeeee && messages[5] == UNTOUCHED);
+}
+
+static void errors_of_a_text(void)
+{
+    const char *text = "{ hero(id) { name }";
+    dumyroke_tree tree;
+    dumyroke_slice message;
+    dumyroke_position position;
+    CHECK(dumyroke_tree_parse(&tree, text, strlen(text), dumyroke_default_limits()) == DUMYROKE_OK);
+    CHECK(tree.counts.errors == 2 && tree.errors[1].is_eof && tree.errors[1].start == 19 && tree.errors[1].end == 19);
+    message = dumyroke_message_of(&tree, &tree.errors[1]);
+    CHECK(message.length == 25 && !memcmp(message.start, "expected R_CURLY, got EOF", 25));
+    position = dumyroke_position_of(&tree, tree.errors[1].start);
+    CHECK(position.line == 1 && position.column == 20);
+    dumyroke_tree_free(&tree);
+    dumyroke_tree_free(&tree);
+}
+
+static void positions(void)
+{
+    const char *text = "a\r\nb\rc\nd";
+    dumyroke_tree tree;
+    dumyroke_position position;
+    CHECK(dumyroke_tree_parse(&tree, text, strlen(text), dumyroke_default_limits()) == DUMYROKE_OK);
+    position = dumyroke_position_of(&tree, 3);
+    CHECK(position.line == 2 && position.column == 1);
+    position = dumyroke_position_of(&tree, 7);
+    CHECK(position.line == 4 && position.column == 1);
+    position = dumyroke_position_of(&tree, 2);
+    CHECK(position.line == 1 && position.column == 3);
+    dumyroke_tree_free(&tree);
+}
+
+/* `{a,a,..}` has more elements than the first guess, and `!!..` more errors and messages. */
+static void larger_than_the_first_guess(void)
+{
+    char text[20001];
+    size_t i;
+    uint32_t last;
+    dumyroke_tree tree;
+    for (i = 0; i < sizeof text; i++)
+        text[i] = i == 0 ? '{' : i == sizeof text - 1 ? '}' : i % 2 ? 'a' : ',';
+    CHECK(dumyroke_tree_parse(&tree, text, sizeof text, dumyroke_default_limits()) == DUMYROKE_OK);
+    CHECK(tree.counts.errors == 0 && tree.counts.elements > sizeof text);
+    last = (uint32_t)tree.counts.elements - 1;
+    CHECK(tree.elements[last].kind == DUMYROKE_R_CURLY && tree.elements[last].end == sizeof text);
+    dumyroke_tree_free(&tree);
+    memset(text, '!', sizeof text);
+    CHECK(dumyroke_tree_parse(&tree, text, sizeof text, dumyroke_default_limits()) == DUMYROKE_OK);
+    CHECK(tree.counts.errors > 16 && tree.counts.message_bytes > 1024);
+    CHECK(tree.errors[tree.counts.errors - 1].message + tree.errors[tree.counts.errors - 1].message_length == tree.counts.message_bytes);
+    dumyroke_tree_free(&tree);
+}
+
+static void children(void)
+{
+    const char *text = "{ a b }";
+    dumyroke_tree tree;
+    dumyroke_slice name;
+    uint32_t set, field, count = 0;
+    CHECK(dumyroke_tree_parse(&tree, text, strlen(text), dumyroke_default_limits()) == DUMYROKE_OK);
+    set = dumyroke_first_child(&tree, dumyroke_first_child(&tree, 0));
+    CHECK(tree.elements[set].kind == DUMYROKE_SELECTION_SET);
+    for (field = dumyroke_first_child(&tree, set); field; field = dumyroke_next_sibling(&tree, field))
+        count += tree.elements[field].kind == DUMYROKE_FIELD;
+    CHECK(count == 2);
+    name = dumyroke_text_of(&tree, dumyroke_child_of_kind(&tree, set, DUMYROKE_FIELD));
+    CHECK(name.length == 1 && *name.start == 'a');
+    CHECK(!dumyroke_child_of_kind(&tree, set, DUMYROKE_FRAGMENT_SPREAD));
+    CHECK(!dumyroke_first_child(&tree, dumyroke_first_child(&tree, set)) && !dumyroke_next_sibling(&tree, 0));
+    dumyroke_tree_free(&tree);
+    CHECK(dumyroke_tree_parse(&tree, NULL, 0, dumyroke_default_limits()) == DUMYROKE_OK);
+    CHECK(!dumyroke_first_child(&tree, 0) && dumyroke_text_of(&tree, 0).length == 0);
+    dumyroke_tree_free(&tree);
+}
+
+static uint32_t value_of(const char *literal, uint8_t *value, size_t room, size_t *bytes)
+{
+    memset(value, UNTOUCHED, 16);
+    *bytes = UNTOUCHED;
+    return dumyroke_string_value(bytes_of(literal), strlen(literal), value, room, bytes);
+}
+
+static void strings(void)
+{
+    static const char *const none[] = {"", "a", "\"a", "\"a\" ", " \"a\"", "\"a\"\"b\"", "\"\\q\"", "\"\"\"a\"\"", "1"};
+    uint8_t value[16];
+    size_t i, bytes;
+    CHECK(value_of("\"\"", value, 16, &bytes) == DUMYROKE_OK && bytes == 0 && value[0] == UNTOUCHED);
+    CHECK(value_of("\"a\\u00e9\\n\"", value, 16, &bytes) == DUMYROKE_OK && bytes == 4 && !memcmp(value, "a\xc3\xa9\n\xee", 5));
+    CHECK(value_of("\"\"\"\n  b\n    c\n\"\"\"", value, 16, &bytes) == DUMYROKE_OK && bytes == 5 && !memcmp(value, "b\n  c\xee", 6));
+    CHECK(value_of("\"abc\"", value, 2, &bytes) == DUMYROKE_OK && bytes == 3 && !memcmp(value, "ab\xee", 3));
+    for (i = 0; i < sizeof none / sizeof *none; i++)
+        CHECK(value_of(none[i], value, 16, &bytes) == DUMYROKE_NOT_A_STRING && bytes == 0 && value[0] == UNTOUCHED);
+    CHECK(dumyroke_string_value(NULL, 0, NULL, 0, &bytes) == DUMYROKE_NOT_A_STRING);
+}
+
+static void formatted(void)
+{
+    const char *text = "{a,b}";
+    uint8_t buffer[16];
+    size_t bytes;
+    dumyroke_limits shallow = {0, SIZE_MAX};
+    memset(buffer, UNTOUCHED, sizeof buffer);
+    CHECK(dumyroke_format(bytes_of(text), 5, dumyroke_default_limits(), NULL, 0, &bytes) == DUMYROKE_OK && bytes == 12);
+    CHECK(dumyroke_format(bytes_of(text), 5, dumyroke_default_limits(), buffer, 3, &bytes) == DUMYROKE_OK && bytes == 12);
+    CHECK(!memcmp(buffer, "{\n \xee", 4));
+    CHECK(dumyroke_format(bytes_of(text), 5, dumyroke_default_limits(), buffer, 16, &bytes) == DUMYROKE_OK && bytes == 12);
+    CHECK(!memcmp(buffer, "{\n  a\n  b\n}\n\xee", 13));
+    CHECK(dumyroke_format(bytes_of("{"), 1, dumyroke_default_limits(), NULL, 0, &bytes) == DUMYROKE_NOT_A_DOCUMENT && bytes == 0);
+    CHECK(dumyroke_format(bytes_of(text), 5, shallow, NULL, 0, &bytes) == DUMYROKE_NOT_A_DOCUMENT && bytes == 0);
+    CHECK(dumyroke_format(NULL, 0, dumyroke_default_limits(), NULL, 0, &bytes) == DUMYROKE_NOT_A_DOCUMENT && bytes == 0);
+}
+
+int main(void)
+{
+    CHECK(sizeof(dumyroke_element) == 20 && sizeof(dumyroke_error) == 40 && sizeof(dumyroke_counts) == 48);
+    counts_of_texts();
+    counts_at_limits();
+    deeper_than_the_limit();
+    not_utf8();
+    too_little_room();
+    errors_of_a_text();
+    positions();
+    larger_than_the_first_guess();
+    children();
+    strings();
+    formatted();
+    return 0;
+}

@@ -1,0 +1,51 @@
+/* The calls where the system refuses memory: they say so, and the next ones work again. Ends with status 1 at the first wrong answer. */
+#define _POSIX_C_SOURCE 200809L
+#include <stdio.h>
+#include <sys/resource.h>
+#include <unistd.h>
+
+#include "dumyroke_tree.h"
+
+enum { LENGTH = 1 << 24, LITTLE = 1 << 20 };
+
+static char text[LENGTH];
+
+/* Lets the process have so many bytes of memory more than it has now, or any number of them. */
+static int allow(size_t more)
+{
+    unsigned long pages = 0;
+    struct rlimit limit;
+    FILE *file = fopen("/proc/self/statm", "r");
+    int is_read = file && fscanf(file, "%lu", &pages) == 1 && getrlimit(RLIMIT_AS, &limit) == 0;
+    if (file)
+        fclose(file);
+    limit.rlim_cur = more ? pages * (size_t)sysconf(_SC_PAGESIZE) + more : limit.rlim_max;
+    return is_read && setrlimit(RLIMIT_AS, &limit) == 0;
+}
+
+/* Whether each call gives the status, and zeros beside it unless it is DUMYROKE_OK. */
+static int all_give(uint32_t status)
+{
+    const uint8_t *source = (const uint8_t *)text;
+    dumyroke_counts counts = {1, 1, 1, 1, 1, 1};
+    dumyroke_tree tree;
+    size_t bytes = 1;
+    int is_right = dumyroke_parse(source, LENGTH, dumyroke_default_limits(), NULL, 0, NULL, 0, NULL, 0, &counts) == status
+        && (counts.elements == 0) == (status != DUMYROKE_OK) && counts.message_bytes == 0
+        && dumyroke_format(source, LENGTH, dumyroke_default_limits(), NULL, 0, &bytes) == status && (bytes == 0) == (status != DUMYROKE_OK)
+        && dumyroke_tree_parse(&tree, text, LENGTH, dumyroke_default_limits()) == status;
+    dumyroke_tree_free(&tree);
+    return is_right;
+}
+
+int main(void)
+{
+    size_t i;
+    for (i = 0; i < LENGTH; i++)
+        text[i] = i == 0 ? '{' : i == LENGTH - 1 ? '}' : i % 8 ? 'a' : ' ';
+    if (!allow(LITTLE) || !all_give(DUMYROKE_NO_MEMORY) || !allow(0) || !all_give(DUMYROKE_OK)) {
+        fputs("no_memory: a wrong answer\n", stderr);
+        return 1;
+    }
+    return 0;
+}

@@ -1,0 +1,138 @@
+/* dumyroke.h: a lossless, error-tolerant parser of GraphQL, proved correct.
+ *
+ * Each call writes only to memory of the caller: there is nothing to open, to close or to free. Any number of threads may call at the same
+ * time, if none writes to what another one reads or writes.
+ *
+ * What is proved of the calls, and what a caller has to keep, is in docs/BINDINGS.md. dumyroke_tree.h has a tree that owns its memory. */
+#ifndef DUMYROKE_H
+#define DUMYROKE_H
+
+#include <stddef.h>
+#include <stdint.h>
+
+#ifdef __cplusplus
+extern "C" {
+#endif
+
+/* How a call ended. Errors in the text are no failure of dumyroke_parse: its status is DUMYROKE_OK then, too. */
+enum dumyroke_status {
+    DUMYROKE_OK = 0,
+    /* The text is not UTF-8. */
+    DUMYROKE_NOT_UTF8 = 1,
+    /* The text has 2^32 bytes or more, or its tree has 2^32 elements or more. Only from dumyroke_parse. */
+    DUMYROKE_TOO_LONG = 2,
+    /* An allocation was refused. */
+    DUMYROKE_NO_MEMORY = 3,
+    /* The text is not one string literal with its quotes and nothing else. Only from dumyroke_string_value. */
+    DUMYROKE_NOT_A_STRING = 4,
+    /* The text is not a document within both limits. Only from dumyroke_format. */
+    DUMYROKE_NOT_A_DOCUMENT = 5
+};
+
+/* The limits of a parse. */
+typedef struct dumyroke_limits {
+    /* How deep selection sets, types and values may nest. Parsing takes 80 to 192 bytes of stack for each level. If the limit is higher than
+     * the stack of the thread allows, a deep text ends the program. 500 is the usual limit, and safe. */
+    size_t recursion;
+    /* How many tokens are read at most. Ignored tokens count, and so does the end of the text. SIZE_MAX is no limit. */
+    size_t tokens;
+} dumyroke_limits;
+
+/* The usual limits: 500 levels, and any number of tokens. */
+static inline dumyroke_limits dumyroke_default_limits(void)
+{
+    dumyroke_limits limits;
+    limits.recursion = 500;
+    limits.tokens = SIZE_MAX;
+    return limits;
+}
+
+/* An element of a tree: a node or a token. The elements of a tree are in document order. The root is element 0. The first child of a node
+ * is the element after it. */
+typedef struct dumyroke_element {
+    /* The bytes of the text from `start` up to `end`, `end` not among them. */
+    uint32_t start, end;
+    /* The index of the parent. The root's is 0, its own. */
+    uint32_t parent;
+    /* The index of the element after this one and all below it. That is the next sibling if it has the same parent. */
+    uint32_t next;
+    /* One of enum dumyroke_kind, in dumyroke_kinds.h. */
+    uint16_t kind;
+    /* 1 for a token, 0 for a node. */
+    uint16_t is_token;
+} dumyroke_element;
+
+/* An error in a text. */
+typedef struct dumyroke_error {
+    /* The bytes that the error is about. There are none for the end of the text and for a limit. */
+    size_t start, end;
+    /* Where the message is in the messages, and how many bytes it has. It is UTF-8, with no zero after it. */
+    size_t message, message_length;
+    /* 1 if a limit was met. */
+    uint32_t is_limit;
+    /* 1 if it is about the end of the text. */
+    uint32_t is_eof;
+} dumyroke_error;
+
+/* What a parse found, whether or not there was room for it. All numbers are 0 unless the status is DUMYROKE_OK. */
+typedef struct dumyroke_counts {
+    size_t elements;
+    size_t errors;
+    /* The bytes of all messages together. */
+    size_t message_bytes;
+    /* The deepest level that was tried. It is one above the limit where that was met. */
+    size_t recursion_high;
+    /* How many tokens were asked for. It is one above the limit where that was met. */
+    size_t token_high;
+    /* One of enum dumyroke_status, also the result of the call. */
+    uint32_t status;
+} dumyroke_counts;
+
+/* Parses a text.
+ *
+ * Writes the elements of the tree, the errors in the order of their report, and the messages of the errors, each as far as there is room.
+ * What is beyond is left as it was. If `counts` says that there is more than there was room for, call again with that much room. With no room
+ * at all the call is a check of the text, and takes less time: the text is a document within both limits exactly if there are no errors.
+ *
+ *   text       `text_length` bytes of UTF-8. No zero ends them, and there may be zeros among them.
+ *   elements   room for `element_room` elements.
+ *   errors     room for `error_room` errors.
+ *   messages   room for `message_room` bytes.
+ *   counts     what there is. Never NULL.
+ *
+ * Any other pointer may be NULL where its length is 0. No two of the five may overlap.
+ *
+ * Returns DUMYROKE_OK, DUMYROKE_NOT_UTF8, DUMYROKE_TOO_LONG or DUMYROKE_NO_MEMORY. Unless it is DUMYROKE_OK, only `counts` is written. */
+uint32_t dumyroke_parse(const uint8_t *text, size_t text_length, dumyroke_limits limits,
+                        dumyroke_element *elements, size_t element_room,
+                        dumyroke_error *errors, size_t error_room,
+                        uint8_t *messages, size_t message_room,
+                        dumyroke_counts *counts);
+
+/* Gives the value of a string literal (GraphQL, section 2.9.4, "String Value"): escapes are replaced, and a block string loses its common indent.
+ *
+ *   literal    `literal_length` bytes: the text of a STRING token, quotes included.
+ *   value      room for `room` bytes. The value never has more bytes than the literal.
+ *   bytes      how many bytes the value has, whether or not there was room; 0 unless the result is DUMYROKE_OK. Never NULL.
+ *
+ * Any other pointer may be NULL where its length is 0. No two of the three may overlap.
+ *
+ * Returns DUMYROKE_OK, DUMYROKE_NOT_UTF8, DUMYROKE_NOT_A_STRING or DUMYROKE_NO_MEMORY. Unless it is DUMYROKE_OK, only `bytes` is written. */
+uint32_t dumyroke_string_value(const uint8_t *literal, size_t literal_length, uint8_t *value, size_t room, size_t *bytes);
+
+/* Formats a document, as the program gqlfmt does (docs/FORMAT.md).
+ *
+ *   text       `text_length` bytes of UTF-8.
+ *   formatted  room for `room` bytes. If `bytes` says that there is more, call again with that much room.
+ *   bytes      how many bytes the formatted text has, whether or not there was room; 0 unless the result is DUMYROKE_OK. Never NULL.
+ *
+ * Any other pointer may be NULL where its length is 0. No two of the three may overlap.
+ *
+ * Returns DUMYROKE_OK, DUMYROKE_NOT_UTF8, DUMYROKE_NOT_A_DOCUMENT or DUMYROKE_NO_MEMORY. Unless it is DUMYROKE_OK, only `bytes` is written. */
+uint32_t dumyroke_format(const uint8_t *text, size_t text_length, dumyroke_limits limits, uint8_t *formatted, size_t room, size_t *bytes);
+
+#ifdef __cplusplus
+}
+#endif
+
+#endif
