@@ -226,6 +226,7 @@ class Copy:
             shutil.copytree(CRATES / crate, folder / "crates" / crate, ignore=unneeded)
         shutil.copytree(TOP / "tools", folder / "tools")
         shutil.copytree(TOP / "include", folder / "include")
+        shutil.copytree(TOP / "python", folder / "python")
         sys.path.insert(0, str(folder / "tools"))
         self.unchanged, self.mistakes = self.package("unchanged"), 0
 

@@ -1,0 +1,60 @@
+"""Makes the wheel, without setuptools: what `pip install ./python` calls (PEP 517). The library has to be in the package: tools/bindings puts it there."""
+
+import base64
+import hashlib
+import re
+import sysconfig
+import zipfile
+from pathlib import Path
+
+FOLDER = Path(__file__).resolve().parent
+PACKAGE = FOLDER / "dumyroke"
+
+
+def project(field):
+    """A field of pyproject.toml."""
+    return re.search(rf'^{field} = "(.*)"$', (FOLDER / "pyproject.toml").read_text(), re.MULTILINE)[1]
+
+
+def tag():
+    """Any Python 3, no interface of CPython's, and this platform, since the package has a library in C."""
+    return f"py3-none-{re.sub('[-.]', '_', sysconfig.get_platform())}"
+
+
+def metadata():
+    return f"""Metadata-Version: 2.1
+Name: {project("name")}
+Version: {project("version")}
+Summary: {project("description")}
+License: MIT OR Apache-2.0
+Requires-Python: {project("requires-python")}
+"""
+
+
+def files():
+    """The files of the package and their bytes, by their names in the wheel."""
+    if not (PACKAGE / "libdumyroke.so").exists():
+        raise SystemExit("python/dumyroke/libdumyroke.so is missing: tools/bindings makes it")
+    wanted = (path for path in sorted(PACKAGE.iterdir()) if path.suffix in (".py", ".so", ".typed"))
+    return {f"dumyroke/{path.name}": path.read_bytes() for path in wanted}
+
+
+def recorded(name, content):
+    """A line of RECORD."""
+    digest = base64.urlsafe_b64encode(hashlib.sha256(content).digest()).rstrip(b"=").decode()
+    return f"{name},sha256={digest},{len(content)}\n"
+
+
+def build_wheel(wheel_directory, config_settings=None, metadata_directory=None):
+    """Writes the wheel into a folder, and gives its name."""
+    name = f"{project('name')}-{project('version')}"
+    content = files()
+    content[f"{name}.dist-info/METADATA"] = metadata().encode()
+    content[f"{name}.dist-info/WHEEL"] = f"Wheel-Version: 1.0\nGenerator: dumyroke\nRoot-Is-Purelib: false\nTag: {tag()}\n".encode()
+    record = f"{name}.dist-info/RECORD"
+    lines = "".join(recorded(*item) for item in content.items())
+    content[record] = f"{lines}{record},,\n".encode()
+    with zipfile.ZipFile(Path(wheel_directory) / f"{name}-{tag()}.whl", "w", zipfile.ZIP_DEFLATED) as wheel:
+        for path, written in content.items():
+            wheel.writestr(zipfile.ZipInfo(path, (1980, 1, 1, 0, 0, 0)), written, zipfile.ZIP_DEFLATED)
+    return f"{name}-{tag()}.whl"

@@ -1,0 +1,20 @@
+"""A lossless, error-tolerant parser of GraphQL, proved correct.
+
+    >>> import dumyroke
+    >>> tree = dumyroke.parse("type Hero { name: String, friends: [Hero] }")
+    >>> [field.name.text for field in tree.find(dumyroke.nodes.FieldDefinition)]
+    ['name', 'friends']
+    >>> [str(error) for error in dumyroke.check("{ hero(id) { name }")]
+    ['1:10: expected COLON, got )', '1:20: expected R_CURLY, got EOF']
+
+`parse` gives a tree of any text, `check` its errors alone, and `format` a document in the layout of the program gqlfmt. `nodes` has a class for
+each kind of node. The parser is a library in C that is in the package; what is proved of it is in docs/BINDINGS.md.
+"""
+
+from . import nodes
+from .calls import NotADocument, check, format, parse
+from .errors import Error
+from .positions import Position
+from .tree import Element, Node, Token, Tree
+
+__all__ = ["Element", "Error", "Node", "NotADocument", "Position", "Token", "Tree", "check", "format", "nodes", "parse"]

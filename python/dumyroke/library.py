@@ -1,0 +1,81 @@
+"""The C library, as include/dumyroke.h declares it. A call lets other threads run."""
+
+from __future__ import annotations
+
+import ctypes
+import os
+from ctypes import POINTER, Structure, c_char, c_char_p, c_size_t, c_uint32, c_void_p
+from typing import Any
+
+OK, NOT_UTF8, TOO_LONG, NO_MEMORY, NOT_A_STRING, NOT_A_DOCUMENT = range(6)
+
+NO_LIMIT = c_size_t(-1).value
+ELEMENT_SIZE = 20
+
+
+class Limits(Structure):
+    _fields_ = [("recursion", c_size_t), ("tokens", c_size_t)]
+
+
+class ErrorRow(Structure):
+    _fields_ = [
+        ("start", c_size_t),
+        ("end", c_size_t),
+        ("message", c_size_t),
+        ("message_length", c_size_t),
+        ("is_limit", c_uint32),
+        ("is_eof", c_uint32),
+    ]
+
+
+class Counts(Structure):
+    _fields_ = [
+        ("elements", c_size_t),
+        ("errors", c_size_t),
+        ("message_bytes", c_size_t),
+        ("recursion_high", c_size_t),
+        ("token_high", c_size_t),
+        ("status", c_uint32),
+    ]
+
+
+_library = ctypes.CDLL(os.path.join(os.path.dirname(__file__), "libdumyroke.so"))
+
+parse = _library.dumyroke_parse
+parse.restype = c_uint32
+parse.argtypes = [c_char_p, c_size_t, Limits, c_void_p, c_size_t, c_void_p, c_size_t, c_void_p, c_size_t, POINTER(Counts)]
+
+string_value = _library.dumyroke_string_value
+string_value.restype = c_uint32
+string_value.argtypes = [c_char_p, c_size_t, c_void_p, c_size_t, POINTER(c_size_t)]
+
+format_document = _library.dumyroke_format
+format_document.restype = c_uint32
+format_document.argtypes = [c_char_p, c_size_t, Limits, c_void_p, c_size_t, POINTER(c_size_t)]
+
+
+def place(buffer: bytearray) -> Any:
+    """A pointer to a buffer that is not empty. The buffer can't be resized while the pointer is there."""
+    return ctypes.byref(c_char.from_buffer(buffer))
+
+
+def raise_for(status: int, source: bytes) -> None:
+    """Raises what a status means, except OK and the statuses of one call alone."""
+    if status == NOT_UTF8:
+        source.decode()  # this says where
+        raise ValueError("the text is not UTF-8")
+    if status == TOO_LONG:
+        raise ValueError("the text is too long: it has 2**32 bytes or more, or that many elements")
+    if status == NO_MEMORY:
+        raise MemoryError("the parser was refused memory")
+
+
+def value_of_string(literal: str) -> str:
+    """The value of a string literal, which is given with its quotes. Raises ValueError if it is none."""
+    source = literal.encode()
+    value, size = bytearray(len(source) + 1), c_size_t()
+    status = string_value(source, len(source), place(value), len(source), ctypes.byref(size))
+    raise_for(status, source)
+    if status == NOT_A_STRING:
+        raise ValueError("not a string literal")
+    return value[: size.value].decode()

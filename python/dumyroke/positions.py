@@ -1,0 +1,48 @@
+"""From the byte offsets of a text to the characters of a str, and to lines and columns."""
+
+from __future__ import annotations
+
+import re
+from bisect import bisect_left, bisect_right
+from typing import NamedTuple
+
+# The bytes of UTF-8 that do not begin a character.
+_CONTINUATION = re.compile(rb"[\x80-\xbf]")
+_LINE_END = re.compile(rb"\r\n|\n|\r")
+
+
+class Position(NamedTuple):
+    """A position in a text. All count from 1: the line, the column in characters of the str, and the column in bytes of UTF-8. Lines end with
+    LF, CR or CR LF, as GraphQL has it."""
+
+    line: int
+    column: int
+    byte_column: int
+
+
+class Positions:
+    """The positions of a text, which is read when one is asked for."""
+
+    __slots__ = ("_source", "_is_ascii", "_continuations", "_line_starts")
+
+    def __init__(self, source: bytes):
+        self._source = source
+        self._is_ascii = source.isascii()
+        self._continuations: list[int] | None = None
+        self._line_starts: list[int] | None = None
+
+    def character(self, offset: int) -> int:
+        """The number of characters before a byte offset."""
+        if self._is_ascii:
+            return offset
+        if self._continuations is None:
+            self._continuations = [found.start() for found in _CONTINUATION.finditer(self._source)]
+        return offset - bisect_left(self._continuations, offset)
+
+    def position(self, offset: int) -> Position:
+        """The position of a byte offset."""
+        if self._line_starts is None:
+            self._line_starts = [0, *(found.end() for found in _LINE_END.finditer(self._source))]
+        line = bisect_right(self._line_starts, offset)
+        start = self._line_starts[line - 1]
+        return Position(line, self.character(offset) - self.character(start) + 1, offset - start + 1)

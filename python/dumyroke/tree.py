@@ -1,0 +1,264 @@
+"""Trees, and what nodes and tokens have in common.
+
+A tree is one array of numbers that the library filled. Nodes and tokens are made when they are looked at: each is a reference to the tree and
+an index, and two of the same element are equal. The class of a node says its kind; the classes are in `nodes`.
+"""
+
+from __future__ import annotations
+
+from array import array
+from typing import TYPE_CHECKING, Any, Iterator, TypeVar, overload
+
+from .errors import Error
+from .kinds import FIRST_NODE, NAMES, NUMBERS
+from .library import ELEMENT_SIZE
+from .positions import Position, Positions
+
+if TYPE_CHECKING:
+    from .nodes import Document
+
+N = TypeVar("N", bound="Node")
+
+
+class Element:
+    """A node or a token of a tree."""
+
+    __slots__ = ("tree", "index")
+
+    tree: Tree
+    index: int
+    """Its number in document order. The root has 0."""
+
+    def __init__(self, tree: Tree, index: int):
+        self.tree = tree
+        self.index = index
+
+    @property
+    def kind(self) -> str:
+        """Its kind, as "FIELD" or "L_CURLY"."""
+        return NAMES[self.tree._kinds[self.index]]
+
+    @property
+    def text(self) -> str:
+        """Its text."""
+        tree, index = self.tree, self.index
+        return tree._text_of(tree._starts[index], tree._ends[index])
+
+    @property
+    def range(self) -> tuple[int, int]:
+        """The bytes of its text in UTF-8: the first, and the one after the last."""
+        return self.tree._starts[self.index], self.tree._ends[self.index]
+
+    @property
+    def span(self) -> tuple[int, int]:
+        """The same in indices of the `str`, so that `tree.text[slice(*element.span)] == element.text`."""
+        start, end = self.range
+        return self.tree._positions.character(start), self.tree._positions.character(end)
+
+    @property
+    def position(self) -> Position:
+        """Where it begins: its line and its columns."""
+        return self.tree._positions.position(self.tree._starts[self.index])
+
+    @property
+    def parent(self) -> Node | None:
+        """The node that it is a child of. The root has none."""
+        return self.tree._node(self.tree._parents[self.index]) if self.index else None
+
+    def __eq__(self, other: object) -> bool:
+        return isinstance(other, Element) and self.tree is other.tree and self.index == other.index
+
+    def __hash__(self) -> int:
+        return hash((id(self.tree), self.index))
+
+    def __str__(self) -> str:
+        return self.text
+
+    def __repr__(self) -> str:
+        return f"<{self.kind} {self.range[0]}..{self.range[1]}>"
+
+
+class Token(Element):
+    """A token: white space, a comment, a comma, a punctuator, a word, a number, a string, or text that was refused (kind ERROR)."""
+
+    __slots__ = ()
+
+
+class Node(Element):
+    """A node."""
+
+    __slots__ = ()
+
+    KIND = ""
+    """The kind of the nodes of this class."""
+
+    def __init_subclass__(cls, kind: str = "") -> None:
+        if kind:
+            cls.KIND = kind
+            _CLASSES[NUMBERS[kind]] = cls
+
+    @property
+    def children(self) -> list[Node]:
+        """Its children that are nodes, in document order."""
+        tree = self.tree
+        nexts, kinds, classes = tree._nexts, tree._kinds, _CLASSES
+        index, end, found = self.index + 1, nexts[self.index], []
+        while index < end:
+            kind = kinds[index]
+            if kind >= FIRST_NODE:
+                found.append(classes[kind](tree, index))
+            index = nexts[index]
+        return found
+
+    @property
+    def children_with_tokens(self) -> list[Element]:
+        """All of its children, in document order."""
+        return [self.tree._node(index) for index in self._child_indices()]
+
+    @property
+    def descendants(self) -> Iterator[Node]:
+        """The node itself and all nodes below it, in document order."""
+        tree, classes = self.tree, _CLASSES
+        for index, kind in enumerate(tree._kinds[self.index : self._end()], self.index):
+            if kind >= FIRST_NODE:
+                yield classes[kind](tree, index)
+
+    @property
+    def descendants_with_tokens(self) -> Iterator[Element]:
+        """The node itself and all elements below it, in document order."""
+        tree, classes = self.tree, _CLASSES
+        for index, kind in enumerate(tree._kinds[self.index : self._end()], self.index):
+            yield classes[kind](tree, index)
+
+    @overload
+    def find(self, kind: type[N]) -> list[N]: ...
+    @overload
+    def find(self, kind: str) -> list[Element]: ...
+    def find(self, kind: type[Node] | str) -> Any:
+        """All elements of a kind, the node itself and those below it, in document order. A kind is a class of `nodes`, or a name as "IDENT"."""
+        tree, number = self.tree, _number_of(kind)
+        made, kinds, end = _CLASSES[number], tree._kinds, self._end()
+        index, found = kinds.find(number, self.index, end), []
+        while index != -1:
+            found.append(made(tree, index))
+            index = kinds.find(number, index + 1, end)
+        return found
+
+    @overload
+    def child(self, kind: type[N]) -> N | None: ...
+    @overload
+    def child(self, kind: str) -> Element | None: ...
+    def child(self, kind: type[Node] | str) -> Any:
+        """Its first child of a kind, or None."""
+        return self._first((_number_of(kind),))
+
+    def _end(self) -> int:
+        """The index after the node and all below it."""
+        return self.tree._nexts[self.index]
+
+    def _child_indices(self) -> Iterator[int]:
+        nexts = self.tree._nexts
+        index, end = self.index + 1, nexts[self.index]
+        while index < end:
+            yield index
+            index = nexts[index]
+
+    def _first(self, kinds: tuple[int, ...]) -> Any:
+        """The first child whose kind is one of these, or None."""
+        tree = self.tree
+        for index in self._child_indices():
+            if tree._kinds[index] in kinds:
+                return tree._node(index)
+        return None
+
+    def _all(self, kinds: tuple[int, ...]) -> list[Any]:
+        """The children whose kind is one of these."""
+        tree = self.tree
+        return [tree._node(index) for index in self._child_indices() if tree._kinds[index] in kinds]
+
+    def _first_in(self, kind: int, kinds: tuple[int, ...]) -> Any:
+        """The first child whose kind is one of these, of the first child of a kind, or None."""
+        node = self._first((kind,))
+        return node._first(kinds) if node else None
+
+    def _all_in(self, kind: int, kinds: tuple[int, ...]) -> list[Any]:
+        """The children whose kind is one of these, of the first child of a kind. There are none if there is no such child."""
+        node = self._first((kind,))
+        return node._all(kinds) if node else []
+
+
+# The class of each kind. `nodes` puts its own here.
+_CLASSES: list[Any] = [Token] * FIRST_NODE + [Node] * (len(NAMES) - FIRST_NODE)
+
+
+def _number_of(kind: type[Node] | str) -> int:
+    name = kind if isinstance(kind, str) else kind.KIND
+    if name not in NUMBERS:
+        raise ValueError(f"there is no kind {name!r}")
+    return NUMBERS[name]
+
+
+class Tree:
+    """The tree of a text and its errors. It keeps each byte of the text, also when there are errors."""
+
+    __slots__ = ("errors", "recursion_high", "token_high", "_source", "_string", "_positions", "_starts", "_ends", "_parents", "_nexts", "_kinds")
+
+    errors: list[Error]
+    """The errors of the text. There are none exactly if it is a document within both limits."""
+    recursion_high: int
+    """The deepest level of nesting that was tried, which is one above the limit where that was met."""
+    token_high: int
+    """How many tokens were asked for, the end of the text among them, which is one above the limit where that was met."""
+
+    def __init__(self, source: bytes, elements: bytearray, errors: list[Error], recursion_high: int, token_high: int, positions: Positions):
+        self.errors, self.recursion_high, self.token_high = errors, recursion_high, token_high
+        self._source, self._positions = source, positions
+        # where offsets of bytes are those of characters
+        self._string = source.decode() if source.isascii() else None
+        # the columns of the rows; a walk reads the last two for each element, so these are copied
+        words = memoryview(elements).cast("I")
+        self._starts, self._ends, self._parents, nexts, kinds = (words[column :: ELEMENT_SIZE // 4] for column in range(5))
+        self._nexts = array("I", nexts.tobytes())
+        self._kinds = kinds.tobytes()[::4]  # the least significant byte: kinds are below 256
+
+    @property
+    def text(self) -> str:
+        """The text of the tree: all of the text, or its first tokens if the token limit was met."""
+        return self.root.text
+
+    @property
+    def root(self) -> Document:
+        """The root, which is a DOCUMENT."""
+        return self._node(0)
+
+    @property
+    def document(self) -> Document:
+        """The same as `root`."""
+        return self.root
+
+    @overload
+    def find(self, kind: type[N]) -> list[N]: ...
+    @overload
+    def find(self, kind: str) -> list[Element]: ...
+    def find(self, kind: type[Node] | str) -> Any:
+        """All elements of a kind, in document order. A kind is a class of `nodes`, or a name as "IDENT"."""
+        return self.root.find(kind)
+
+    def position(self, offset: int) -> Position:
+        """The line and the columns of a byte offset."""
+        return self._positions.position(offset)
+
+    def __len__(self) -> int:
+        """How many elements there are."""
+        return len(self._kinds)
+
+    def __repr__(self) -> str:
+        return f"<Tree of {len(self)} elements, {len(self.errors)} errors>"
+
+    def _node(self, index: int) -> Any:
+        return _CLASSES[self._kinds[index]](self, index)
+
+    def _text_of(self, start: int, end: int) -> str:
+        if self._string is not None:
+            return self._string[start:end]
+        return self._source[start:end].decode()

@@ -1,0 +1,216 @@
+"""The tests of the Python package: python3 test_dumyroke.py. They import the package that Python finds."""
+
+import ast
+import os
+import random
+import subprocess
+import sys
+import tempfile
+import threading
+import unittest
+from pathlib import Path
+
+import dumyroke
+from dumyroke import nodes
+
+HERO = "{ hero(id) { name }"
+SCHEMA = '''"A hero" type Hero implements Node & Being @key(fields: "id") {
+  id: ID!
+  friends(first: Int = 10, after: String): [Hero] @deprecated
+}
+extend schema @link
+union Result = Hero | Human
+enum Episode { NEW_HOPE, JEDI }
+input Filter { name: String = "é", deep: [[Int!]] }
+directive @link repeatable on SCHEMA | FIELD
+'''
+QUERY = 'query Q($id: ID! = 1) { hero: character(id: $id, tags: ["a", true, 1.5, null, JEDI, {x: 2}]) { ...F @skip(if: true) ... on Hero { name } } }'
+
+
+def names(elements):
+    return [element.name.text for element in elements]
+
+
+class Trees(unittest.TestCase):
+    def test_tree(self):
+        tree = dumyroke.parse("scalar")
+        self.assertEqual([repr(it) for it in tree.root.descendants_with_tokens], ["<DOCUMENT 0..6>", "<SCALAR_TYPE_DEFINITION 0..6>", "<scalar_KW 0..6>"])
+        self.assertEqual([str(error) for error in tree.errors], ["1:7: expected a Name"])
+        self.assertEqual((len(tree), tree.recursion_high, tree.root), (3, 0, tree.document))
+
+    def test_empty(self):
+        tree = dumyroke.parse("")
+        self.assertEqual((len(tree), tree.text, tree.root.children, tree.root.parent, len(tree.errors)), (1, "", [], None, 1))
+
+    def test_no_errors(self):
+        self.assertEqual(dumyroke.parse(SCHEMA).errors + dumyroke.parse(QUERY).errors, [])
+        self.assertEqual(dumyroke.check(QUERY.encode()), [])
+
+    def test_relations(self):
+        for text in (HERO, SCHEMA, QUERY, "} é { # ü"):
+            tree = dumyroke.parse(text)
+            for element in tree.root.descendants_with_tokens:
+                self.assertEqual(tree.text[slice(*element.span)], element.text)
+                self.assertEqual(tree.text.encode()[slice(*element.range)].decode(), str(element))
+                if isinstance(element, dumyroke.Node):
+                    children = element.children_with_tokens
+                    self.assertTrue(all(child.parent == element for child in children))
+                    self.assertEqual(element.children, [child for child in children if isinstance(child, dumyroke.Node)])
+                    self.assertEqual("".join(child.text for child in children), element.text)
+
+    def test_descendants(self):
+        tree = dumyroke.parse(SCHEMA)
+
+        def walked(node):
+            return [node, *(below for child in node.children for below in walked(child))]
+
+        self.assertEqual(list(tree.root.descendants), walked(tree.root))
+        kinds = [element.kind for element in tree.root.descendants_with_tokens]
+        self.assertEqual(len(tree.find("IDENT")), kinds.count("IDENT"))
+        self.assertEqual(tree.find("NAME"), tree.find(nodes.Name))
+        self.assertEqual(tree.document.definitions[0].find(nodes.FieldDefinition), tree.find(nodes.FieldDefinition))
+        self.assertEqual(tree.document.definitions[1].find(nodes.FieldDefinition), [])
+
+    def test_equality(self):
+        tree, other = dumyroke.parse("{a}"), dumyroke.parse("{a}")
+        self.assertEqual(len({tree.root, tree.root, other.root}), 2)
+        self.assertNotEqual(tree.root, other.root)
+        self.assertRaises(ValueError, tree.find, "FIELDS")
+        self.assertRaises(ValueError, tree.root.child, "field")
+
+    def test_lossless(self):
+        choose = random.Random(7).choice
+        parts = ["{", "}", "a ", '"', "é", "(", ")", ":", "$", "#x\n", "...", "on ", "1", ",", '"""', "type ", "@", "𝄞", "\r\n", "\0"]
+        for _ in range(200):
+            text = "".join(choose(parts) for _ in range(40))
+            tree = dumyroke.parse(text)
+            tokens = [element for element in tree.root.descendants_with_tokens if isinstance(element, dumyroke.Token)]
+            self.assertEqual("".join(token.text for token in tokens), text)
+            self.assertEqual(list(map(str, dumyroke.check(text))), list(map(str, tree.errors)))
+
+
+class Nodes(unittest.TestCase):
+    def test_types(self):
+        hero, extension, union, enum, filter, directive = dumyroke.parse(SCHEMA).document.definitions
+        self.assertEqual((hero.name.text, hero.description.value, names(hero.interfaces)), ("Hero", "A hero", ["Node", "Being"]))
+        self.assertEqual((names(hero.fields), names(hero.directives)), (["id", "friends"], ["key"]))
+        identity, friends = hero.fields
+        self.assertEqual((identity.type.kind, identity.type.named_type.text, identity.arguments), ("NON_NULL_TYPE", "ID", []))
+        self.assertEqual((names(friends.arguments), friends.arguments[0].default_value.value.value), (["first", "after"], 10))
+        self.assertIsNone(friends.arguments[1].default_value)
+        self.assertEqual((friends.type.type.name.text, names(friends.directives)), ("Hero", ["deprecated"]))
+        self.assertEqual((names(union.types), [it.enum_value.value for it in enum.values]), (["Hero", "Human"], ["NEW_HOPE", "JEDI"]))
+        self.assertEqual((names(filter.fields), filter.fields[0].default_value.value.value), (["name", "deep"], "é"))
+        self.assertEqual((directive.name.text, [it.text for it in directive.locations]), ("link", ["SCHEMA", "FIELD"]))
+        self.assertEqual((names(extension.directives), extension.root_operation_type_definitions), (["link"], []))
+
+    def test_operations(self):
+        (operation,) = dumyroke.parse(QUERY).document.definitions
+        (hero,) = operation.selections
+        self.assertEqual((operation.operation_type.text, operation.name.text, hero.alias.name.text, hero.name.text), ("query", "Q", "hero", "character"))
+        self.assertEqual([it.variable.name.text for it in operation.variable_definitions], ["id"])
+        spread, inline = hero.selections
+        self.assertEqual((spread.name, spread.name.text, inline.type_condition.named_type.name.text), (spread.fragment_name.name, "F", "Hero"))
+        self.assertEqual((names(inline.selections), names(spread.directives[0].arguments)), (["name"], ["if"]))
+        values = hero.arguments[1].value.values
+        self.assertEqual([getattr(value, "value", value.kind) for value in values], ["a", True, 1.5, "NULL_VALUE", "JEDI", "OBJECT_VALUE"])
+        self.assertEqual(values[5].fields[0].value.value, 2)
+        self.assertEqual(hero.child(nodes.Arguments).child("L_PAREN").text, "(")
+
+    def test_names(self):
+        text = "schema { query: Q } extend schema @a fragment F on T { a } { b } query P { c } scalar S"
+        definitions = dumyroke.parse(text).document.definitions
+        self.assertEqual([it.name and it.name.text for it in definitions], [None, None, "F", None, "P", "S"])
+
+    def test_strings(self):
+        tree = dumyroke.parse('{ a(b: "\\u00e9\\n", c: """\n  x\n    y\n""", d: "") }')
+        self.assertEqual([it.value for it in tree.find(nodes.StringValue)], ["é\n", "x\n  y", ""])
+
+    def test_missing_parts(self):
+        (definition,) = dumyroke.parse("type { a }").find(nodes.ObjectTypeDefinition)
+        self.assertEqual((definition.name, names(definition.fields), definition.fields[0].type), (None, ["a"], None))
+
+
+class Errors(unittest.TestCase):
+    def test_errors(self):
+        first, last = dumyroke.parse(HERO).errors
+        self.assertEqual((first.message, first.data, first.range, first.is_eof, first.is_limit), ("expected COLON, got )", ")", (9, 10), False, False))
+        self.assertEqual((last.message, last.data, last.range, last.is_eof), ("expected R_CURLY, got EOF", "", (19, 19), True))
+
+    def test_positions(self):
+        line = 'type B @d(a: "é𝄞" '
+        text = f"type A\r\n# é\r{line}]"
+        error = dumyroke.check(text)[0]
+        self.assertEqual(error.position, dumyroke.Position(3, len(line) + 1, len(line.encode()) + 1))
+        self.assertEqual((error.line, error.column, error.byte_column), error.position)
+        self.assertEqual((error.range[0], error.span[0], error.data), (text.encode().index(b"]"), text.index("]"), "]"))
+
+    def test_limits(self):
+        tree = dumyroke.parse("{a{b}}", recursion_limit=1)
+        self.assertTrue(tree.errors[0].is_limit and tree.recursion_high == 2 and tree.text == "{a{b}}")
+        tree = dumyroke.parse("{a{b}}", token_limit=3)
+        self.assertTrue(tree.errors[0].is_limit and tree.token_high == 4 and tree.text == "{a{")
+        self.assertEqual(len(dumyroke.check("{a{b}}", recursion_limit=2, token_limit=7)), 0)
+        self.assertEqual(dumyroke.check("{a}", recursion_limit=10**30, token_limit=10**30), [])
+        self.assertRaises(ValueError, dumyroke.parse, "{a}", token_limit=-1)
+
+    def test_not_unicode(self):
+        for call in (dumyroke.parse, dumyroke.check, dumyroke.format):
+            self.assertRaises(UnicodeDecodeError, call, b"{\xff}")
+            self.assertRaises(UnicodeEncodeError, call, '{a(b:"\ud800")}')
+            self.assertRaises(TypeError, call, 5)
+
+    def test_many(self):
+        self.assertEqual(len(dumyroke.check("!" * 5000)), len(dumyroke.parse("!" * 5000).errors))
+        self.assertGreater(len(dumyroke.check("!" * 5000)), 16)
+
+
+class Calls(unittest.TestCase):
+    def test_format(self):
+        self.assertEqual(dumyroke.format("{a,c:b}"), "{\n  a\n  c: b\n}\n")
+        self.assertEqual(dumyroke.format(b"{a}"), "{\n  a\n}\n")
+        self.assertEqual(dumyroke.format("{a{b{c{d{e}}}}}").count("\n"), 11)
+        with self.assertRaises(dumyroke.NotADocument) as caught:
+            dumyroke.format(HERO)
+        self.assertEqual([error.line for error in caught.exception.errors], [1, 1])
+
+    def test_threads(self):
+        wrong = []
+
+        def parse():
+            for _ in range(200):
+                if names(dumyroke.parse(QUERY).find(nodes.Variable)) != ["id", "id"]:
+                    wrong.append(1)
+
+        threads = [threading.Thread(target=parse) for _ in range(2)]
+        for thread in threads:
+            thread.start()
+        for thread in threads:
+            thread.join()
+        self.assertEqual(wrong, [])
+
+    def test_program(self):
+        def checked(*files):
+            ended = subprocess.run([sys.executable, "-m", "dumyroke", *files], stdout=subprocess.PIPE, stderr=subprocess.DEVNULL, env=environment)
+            return ended.returncode, ended.stdout.decode()
+
+        environment = {**os.environ, "PYTHONPATH": str(Path(dumyroke.__file__).parent.parent)}
+        with tempfile.TemporaryDirectory() as folder:
+            good, bad, binary = (f"{folder}/{name}" for name in ("good", "bad", "binary"))
+            Path(good).write_text("{a}")
+            Path(bad).write_text("{a\n!")
+            Path(binary).write_bytes(b"\xff")
+            self.assertEqual(checked("check", good), (0, ""))
+            status, printed = checked("check", good, bad)
+            self.assertEqual((status, printed.splitlines()[0].startswith(f"{bad}:2:1: ")), (1, True))
+            self.assertEqual([checked("check", binary)[0], checked("check", f"{folder}/none")[0], checked("check")[0], checked()[0]], [2, 2, 2, 2])
+
+    def test_typed(self):
+        folder = Path(dumyroke.__file__).parent
+        self.assertTrue((folder / "py.typed").exists())
+        for path in folder.glob("*.py"):
+            ast.parse(path.read_text(), feature_version=(3, 9))
+
+
+if __name__ == "__main__":
+    unittest.main()
