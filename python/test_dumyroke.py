@@ -1,6 +1,7 @@
 """The tests of the Python package: python3 test_dumyroke.py. They import the package that Python finds."""
 
 import ast
+import doctest
 import os
 import random
 import subprocess
@@ -204,6 +205,10 @@ class Calls(unittest.TestCase):
             status, printed = checked("check", good, bad)
             self.assertEqual((status, printed.splitlines()[0].startswith(f"{bad}:2:1: ")), (1, True))
             self.assertEqual([checked("check", binary)[0], checked("check", f"{folder}/none")[0], checked("check")[0], checked()[0]], [2, 2, 2, 2])
+
+    def test_documentation(self):
+        found = doctest.testmod(dumyroke)
+        self.assertEqual((found.failed, found.attempted), (0, 4))
 
     def test_typed(self):
         folder = Path(dumyroke.__file__).parent
