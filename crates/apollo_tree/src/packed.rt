@@ -11,6 +11,9 @@ const LOW: usize = 65536;
 
 const SMALL: usize = 16777216;
 
+// The most records that a table of small ones has.
+pub const MOST_SMALL: usize = SMALL - 1;
+
 // A record in one of a table's forms.
 pub trait Packed: Copy {
     // the record with the same fields
@@ -108,7 +111,7 @@ impl SmallRecord {
         ensures len { result ≡ true → len + 1 < 2 ^ 24 }
         ensures row { result ≡ true → IsSmall row }
     {
-        len < SMALL - 1
+        len < MOST_SMALL
             && row.start <= u32::MAX as usize
             && row.size < SMALL
             && row.to_parent < SMALL

@@ -141,7 +141,8 @@ impl<A: Allocator + Copy> SpanBuilder<A> {
     // How many records before a place the innermost open node is; 0 when none is open.
     fn to_parent(&self, place: usize) -> usize
         requires { IsPlace place self.now }
-        ensures { result ≡ up_at place self.now }
+        ensures up { result ≡ up_at place self.now }
+        ensures within { result ≤ place }
     {
         match self.unfinished.last() {
             Some(parent) => place - *parent,
