@@ -26,7 +26,8 @@ pub struct Checkpoint {
 ///
 /// Contracts see it as the trees in the innermost open node, and the open nodes from there outward. Each call also says which brackets
 /// have been written: a start opens, a finish closes, and a wrap opens at the place of its checkpoint.
-/// A call fails only when memory is refused or the text passes the greatest `usize`, and then leaves what has been built as it was.
+/// The text of all leaves has to be shorter than 2 ^ 64 bytes, as it is where each leaf is a part of one source and none is added twice.
+/// A call fails only when memory is refused, and then leaves what has been built as it was; `leaf_node` may have opened its node.
 #[derive(Drop)]
 pub struct SpanBuilder<A: Allocator = Global> {
     records: RecordTable<A>,
@@ -154,36 +155,31 @@ impl<A: Allocator + Copy> SpanBuilder<A> {
     #[cold]
     #[inline(never)]
     fn token_growing(&mut self, kind: SyntaxKind, text: &str) -> Result<(), AllocError>
+        requires { length (built_text self.old) + length text.now < 2 ^ 64 }
         ensures ok { OnOk result (self.new ≡ add_leaf kind text.now self.old) }
         ensures calls { OnOk result (written self.new ≡ written self.old ++ Single kind text.now ∷ []) }
         ensures err { OnErr result (self.new ≡ self.old) }
     {
-        let start = self.len;
-        // No growth is refused here. A parse never comes to it: its leaves begin its source, whose length fits.
-        let Some(end) = start.checked_add(text.len()) else {
-            return Err(AllocError);
-        };
         let to_parent = self.to_parent(self.checkpoint().place);
-        self.records.push(Record::leaf(kind, start, to_parent))?;
+        self.records.push(Record::leaf(kind, self.len, to_parent))?;
         self.words = self.words.joined(&Piece { text });
-        self.len = end;
+        self.len += text.len();
         Ok(())
     }
 
-    /// Adds a leaf after what has been built. The leaves' texts, joined, are the tree's text.
+    /// Adds a leaf after what has been built. The leaves' texts, joined, are the tree's text, which has to stay shorter than 2 ^ 64 bytes.
     pub fn token(&mut self, kind: SyntaxKind, text: &str) -> Result<(), AllocError>
+        requires { length (built_text self.old) + length text.now < 2 ^ 64 }
         ensures ok { OnOk result (self.new ≡ add_leaf kind text.now self.old) }
         ensures calls { OnOk result (written self.new ≡ written self.old ++ Single kind text.now ∷ []) }
         ensures err { OnErr result (self.new ≡ self.old) }
     {
-        if let Some(end) = self.len.checked_add(text.len()) {
-            let to_parent = self.to_parent(self.checkpoint().place);
-            let leaf = Record::leaf(kind, self.len, to_parent);
-            if self.records.push_in_place(leaf) {
-                self.words = self.words.joined(&Piece { text });
-                self.len = end;
-                return Ok(());
-            }
+        let to_parent = self.to_parent(self.checkpoint().place);
+        let leaf = Record::leaf(kind, self.len, to_parent);
+        if self.records.push_in_place(leaf) {
+            self.words = self.words.joined(&Piece { text });
+            self.len += text.len();
+            return Ok(());
         }
         self.token_growing(kind, text)
     }
@@ -197,7 +193,8 @@ impl<A: Allocator + Copy> SpanBuilder<A> {
         leaf: SyntaxKind,
         text: &str,
     ) -> Result<(), AllocError>
-        requires { Fits node (leaf_of leaf text.now none) }
+        requires leaf { Fits node (leaf_of leaf text.now none) }
+        requires len { length (built_text self.old) + length text.now < 2 ^ 64 }
         ensures ok { OnOk result (self.new ≡ finish (add_leaf leaf text.now (start node self.old))) }
         ensures calls { OnOk result (written self.new ≡ written self.old ++ Opening node ∷ Single leaf text.now ∷ Closing ∷ []) }
         ensures err { OnErr result ((self.new ≡ self.old) ⊎ (self.new ≡ start node self.old)) }
@@ -208,27 +205,27 @@ impl<A: Allocator + Copy> SpanBuilder<A> {
         Ok(())
     }
 
-    /// Adds a node of one leaf, as `start_node`, `token` and `finish_node` do together. When it fails the node may have been opened.
+    /// Adds a node of one leaf, as `start_node`, `token` and `finish_node` do together, and asks what `token` and `finish_node` ask. When it
+    /// fails the node may have been opened.
     pub fn leaf_node(
         &mut self,
         node: SyntaxKind,
         leaf: SyntaxKind,
         text: &str,
     ) -> Result<(), AllocError>
-        requires { Fits node (leaf_of leaf text.now none) }
+        requires leaf { Fits node (leaf_of leaf text.now none) }
+        requires len { length (built_text self.old) + length text.now < 2 ^ 64 }
         ensures ok { OnOk result (self.new ≡ finish (add_leaf leaf text.now (start node self.old))) }
         ensures calls { OnOk result (written self.new ≡ written self.old ++ Opening node ∷ Single leaf text.now ∷ Closing ∷ []) }
         ensures err { OnErr result ((self.new ≡ self.old) ⊎ (self.new ≡ start node self.old)) }
     {
-        if let Some(end) = self.len.checked_add(text.len()) {
-            let to_parent = self.to_parent(self.checkpoint().place);
-            let first = Record::node(node, self.len, 2, to_parent);
-            let second = Record::leaf(leaf, self.len, 1);
-            if self.records.push_both_in_place(first, second) {
-                self.words = self.words.joined(&Piece { text });
-                self.len = end;
-                return Ok(());
-            }
+        let to_parent = self.to_parent(self.checkpoint().place);
+        let first = Record::node(node, self.len, 2, to_parent);
+        let second = Record::leaf(leaf, self.len, 1);
+        if self.records.push_both_in_place(first, second) {
+            self.words = self.words.joined(&Piece { text });
+            self.len += text.len();
+            return Ok(());
         }
         self.leaf_node_growing(node, leaf, text)
     }

@@ -5,3 +5,4 @@ pub mod Leaves
 pub mod Reporting
 pub mod Faults
 pub mod Lookahead
+pub mod Lengths

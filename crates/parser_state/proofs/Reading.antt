@@ -9,10 +9,10 @@ use Rattle.apollo_lexer.specs.Answers.{error_answer}
 use Rattle.document_grammar.specs.Builds.{Building, add_leaf}
 use Rattle.parser_state.specs.declared.state.PendingToken.{PendingToken}
 use Rattle.parser_state.specs.View.{pending_of}
-use Rattle.parser_rules.specs.State.{State, Text, Lexeme, ignored, bad, met, wait, lexeme, read_on, second, add_all}
+use Rattle.parser_rules.specs.State.{State, Text, Lexeme, ignored, bad, met, wait, lexeme, read_on, second, add_all, flush, bump, moved}
 use Rattle.document_grammar.proofs.Booleans.{not-some}
-use Rattle.parser_rules.proofs.runs.Reading.{on_kind}
-use Rattle.parser_state.specs.Reading.{Taken, IsAnswerText, refused}
+use Rattle.parser_rules.proofs.runs.Reading.{Reading, stops, cuts, bad_text, waits, shows, reading, found, on_kind}
+use Rattle.parser_state.specs.Reading.{Taken, IsAnswerText, refused, added}
 
 on-is : (rest : List Answer) (s : State) (text : Text) (index : ℕ) (k : TokenKind)
     → read_on (gives (record { kind = Some k; text = text; index = index }) ∷ rest) s ≡ on_kind rest s (record { kind = Some k; text = text; index = index }) k (ignored k)
@@ -40,6 +40,25 @@ read-token s t k text index h i =
 pub read_end : (s t : State) → Taken None s t → read_on s.items s ≡ record t { current = None }
 unfolding read_on
 read_end s t h = ap (λ xs. read_on xs s) h.0 ∙ sym (ap {A = State} (λ w. record w { current = None }) h.1)
+
+-- reading on does not depend on the token that was current before
+forgets : {xs : List Answer} {s t : State} (o : Option Lexeme) → Reading xs s t → Reading xs (record s { current = o }) t
+forgets o stops = stops
+forgets o (cuts h) = cuts (forgets o h)
+forgets o (bad_text e h) = bad_text e (forgets o h)
+forgets o (waits e i h) = waits e i (forgets o h)
+forgets o (shows e i) = shows e i
+
+pub read-anew : (xs : List Answer) (s : State) (o : Option Lexeme) → read_on xs (record s { current = o }) ≡ read_on xs s
+read-anew xs s o = (found (forgets o (reading xs s))).is
+
+-- the current token becomes a leaf, and the next one is read
+pub bumped : (leaf : SyntaxKind) (s f n t : State) (x : Lexeme) (text : Text) → s.current ≡ Some x → text ≡ x.text → f ≡ flush s → n ≡ added leaf text f → t ≡ read_on n.items n → t ≡ bump leaf s
+unfolding bump
+bumped leaf s f n t x text c w a b e =
+    e ∙ ap (λ (m : State). read_on m.items m) (b ∙ ap (added leaf text) a)
+    ∙ read-anew (flush s).items (record (flush s) { tree = add_leaf leaf text (flush s).tree }) None
+    ∙ ap (λ (y : Text). read_on (flush s).items (record (flush s) { tree = add_leaf leaf y (flush s).tree })) w ∙ ap (moved leaf s) (sym c)
 
 -- an answer that was taken has a text of its kind
 first-text : (answer : Answer) (rest items : List Answer) → items ≡ answer ∷ rest → AreAnswers items → IsAnswerText (Some answer)

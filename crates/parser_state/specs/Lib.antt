@@ -3,3 +3,4 @@ pub mod Parses
 pub mod Errors
 pub mod Reading
 pub mod Lookahead
+pub mod Lengths

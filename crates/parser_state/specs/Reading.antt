@@ -23,13 +23,13 @@ abbrev pub refused : Bool → Text → ℕ → State → State
 refused true text index s = met index s
 refused false text index s = bad text index s
 
--- a leaf more
+-- a leaf more, and no current token
 abbrev pub added : SyntaxKind → Text → State → State
-added k text s = record s { tree = add_leaf k text s.tree }
+added k text s = record s { tree = add_leaf k text s.tree; current = None }
 
--- a node of one leaf more
+-- a node of one leaf more, and no current token
 abbrev pub leaf_node : SyntaxKind → SyntaxKind → Text → State → State
-leaf_node node l text s = record s { tree = finish (add_leaf l text (start node s.tree)) }
+leaf_node node l text s = record s { tree = finish (add_leaf l text (start node s.tree)); current = None }
 
 -- the current token may be this leaf of this node, which has no other
 abbrev pub is_leaf_of : SyntaxKind → SyntaxKind → Option Lexeme → Bool

@@ -50,7 +50,7 @@ pub struct Finished<A: Allocator> {
     pub token_limit: LimitTracker,
 }
 
-/// The current token is always the next significant one, or the end, or none where nothing is left.
+/// The current token is the next significant one, or the end, or none where nothing is left and while the next one is read.
 #[derive(Drop)]
 pub struct ParserState<'i, A: Allocator> {
     alloc: A,
@@ -64,7 +64,7 @@ pub struct ParserState<'i, A: Allocator> {
 }
 
 impl<'i, A: Allocator> Model for ParserState<'i, A> {
-    ghost use Rattle.std.specs.Prelude.{map, ◌+◌, ◌*◌};
+    ghost use Rattle.std.specs.Prelude.{map, ◌+◌, ◌*◌, ◌<◌, ◌^◌};
     ghost use Rattle.std.specs.Coded.{codes};
     ghost use Rattle.apollo_tree.specs.Codes.{building_code};
     ghost use Rattle.parser_rules.specs.State.{State};
@@ -74,6 +74,7 @@ impl<'i, A: Allocator> Model for ParserState<'i, A> {
     ghost coded = { Prim.hlevel (codes, building_code) };
 
     ghost use Rattle.apollo_lexer.specs.Answers.{answers_left, final_high};
+    ghost use Rattle.parser_state.specs.Lengths.{text_length};
     ghost use Rattle.parser_state.specs.Lookahead.{all_given};
     ghost use Rattle.parser_state.specs.View.{current_of, pending_of, report_of};
     ghost use Rattle.parser_rules.specs.State.{IsNow};
@@ -92,7 +93,7 @@ impl<'i, A: Allocator> Model for ParserState<'i, A> {
       budget = p.reader.start.count + 2 * all_given p.reader.lexer;
     } };
 
-    ghost invariant = { λ p. IsNow (current_of p.current_token) };
+    ghost invariant = { λ p. IsNow (current_of p.current_token) × (text_length p.builder (map pending_of p.pending.items) (current_of p.current_token) (answers_left p.reader.lexer) < 2 ^ 64) };
 }
 
 impl<'i, A: Allocator + Copy> ParserState<'i, A> {

@@ -1,11 +1,11 @@
 // Building: leaves and nodes of the tree.
 #![tactic(auto, using(parser_rules::specs::Runs::does), unfolding(parser_rules::proofs::runs::Running::steps))]
 
-ghost use Rattle.std.specs.Prelude.{◌≡◌, ◌<◌, true, false, map, [], OnOk, IfOk};
+ghost use Rattle.std.specs.Prelude.{◌≡◌, ◌+◌, ◌<◌, ◌≤◌, ◌^◌, true, false, map, [], length, None, OnOk, IfOk};
 ghost use Rattle.lexical_grammar.specs.declared.TokenKind.TheVariants as token;
 ghost use Rattle.document_grammar.specs.declared.kind.SyntaxKind.TheVariants as kind;
 ghost use Rattle.document_grammar.specs.Forests.{none, leaf as leaf_of};
-ghost use Rattle.document_grammar.specs.Builds.{built_count};
+ghost use Rattle.document_grammar.specs.Builds.{built_count, built_text};
 ghost use Rattle.apollo_tree.specs.Sound.{Fits};
 ghost use Rattle.parser_rules.specs.State as state;
 ghost use Rattle.parser_rules.specs.Nodes.{Name, IntValue, StringValue, BooleanValue};
@@ -13,6 +13,7 @@ ghost use Rattle.parser_rules.specs.RuleLanguage.{Here, At, holds, Bump, Do, Chi
 ghost use Rattle.parser_rules.specs.Open.{is_free, IsOpen, IsCheckpoint};
 ghost use Rattle.parser_rules.specs.Rules as rules;
 ghost use Rattle.parser_rules.specs.Fragments as fragments;
+ghost use Rattle.parser_state.specs.Lengths.{pending_length, text_length};
 ghost use Rattle.parser_state.specs.Reading as reading;
 ghost use Rattle.parser_state.specs.View.{pending_of};
 ghost use Rattle.parser_state.specs.Parses.{Parses};
@@ -27,7 +28,9 @@ pub(super) fn push_all<A: Allocator + Copy>(
     builder: &mut SpanBuilder<A>,
     pending: &[PendingToken<'_>],
 ) -> Result<(), AllocError>
-    ensures { OnOk result (builder.new ≡ state.add_all (map pending_of pending.now) builder.old) }
+    requires { length (built_text builder.old) + pending_length (map pending_of pending.now) < 2 ^ 64 }
+    ensures ok { OnOk result (builder.new ≡ state.add_all (map pending_of pending.now) builder.old) }
+    ensures len { length (built_text builder.new) ≤ length (built_text builder.old) + pending_length (map pending_of pending.now) }
 {
     for token in pending {
         builder.token(token.kind, token.text)?;
@@ -53,9 +56,10 @@ impl<'i, A: Allocator + Copy> ParserState<'i, A> {
         ensures step { OnOk result (self.new ≡ state.flush self.old) }
         ensures budget { self.new.budget ≡ self.old.budget }
     {
-        push_all(&mut self.builder, &self.pending)?;
+        // Also where memory is refused, nothing waits any more: else what was taken in would count twice.
+        let pushed = push_all(&mut self.builder, &self.pending);
         self.pending.clear();
-        Ok(())
+        pushed
     }
 
     /// What waits is left out.
@@ -72,7 +76,8 @@ impl<'i, A: Allocator + Copy> ParserState<'i, A> {
         ensures budget { self.new.budget ≡ self.old.budget }
     {
         self.push_pending()?;
-        self.builder.start_node(kind)
+        self.builder.start_node(kind)?;
+        Ok(())
     }
 
     /// Closes the innermost node.
@@ -84,11 +89,15 @@ impl<'i, A: Allocator + Copy> ParserState<'i, A> {
         self.builder.finish_node();
     }
 
+    // The text of the current token becomes a leaf, and no token is current any more.
     fn push_token(&mut self, kind: SyntaxKind, text: &'i str) -> Result<(), AllocError>
+        requires { length text.now + text_length self.old.tree self.old.pending None self.old.items < 2 ^ 64 }
         ensures step { OnOk result (self.new ≡ reading.added kind text.now self.old) }
         ensures budget { self.new.budget ≡ self.old.budget }
     {
-        self.builder.token(kind, text)
+        self.builder.token(kind, text)?;
+        self.current_token = None;
+        Ok(())
     }
 
     /// The current token becomes a leaf of the kind.
@@ -103,17 +112,21 @@ impl<'i, A: Allocator + Copy> ParserState<'i, A> {
         self.read_on()
     }
 
+    // The text of the current token becomes a node of one leaf, and no token is current any more.
     fn push_leaf_node(
         &mut self,
         node: SyntaxKind,
         leaf: SyntaxKind,
         text: &'i str,
     ) -> Result<(), AllocError>
-        requires { Fits node (leaf_of leaf text.now none) }
+        requires leaf { Fits node (leaf_of leaf text.now none) }
+        requires len { length text.now + text_length self.old.tree self.old.pending None self.old.items < 2 ^ 64 }
         ensures step { OnOk result (self.new ≡ reading.leaf_node node leaf text.now self.old) }
         ensures budget { self.new.budget ≡ self.old.budget }
     {
-        self.builder.leaf_node(node, leaf, text)
+        self.builder.leaf_node(node, leaf, text)?;
+        self.current_token = None;
+        Ok(())
     }
 
     // The current token becomes a node of one leaf.
@@ -189,7 +202,8 @@ impl<'i, A: Allocator + Copy> ParserState<'i, A> {
         ensures step { OnOk result (self.new ≡ state.wrapped_from checkpoint.place kind self.old) }
         ensures budget { self.new.budget ≡ self.old.budget }
     {
-        self.builder.wrap(checkpoint, kind)
+        self.builder.wrap(checkpoint, kind)?;
+        Ok(())
     }
 
     /// Opens the root around all that is built: a type of the kind, or where `!` comes next a NON_NULL_TYPE around the type, which begins at the

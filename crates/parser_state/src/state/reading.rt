@@ -1,7 +1,7 @@
 // Reading: the current token, the next one, and what waits.
 #![tactic(auto, using(parser_rules::specs::Runs::does), unfolding(parser_rules::proofs::runs::Running::steps))]
 
-ghost use Rattle.std.specs.Prelude.{◌≡◌, ◌<◌, true, false, OnOk, option_map};
+ghost use Rattle.std.specs.Prelude.{◌≡◌, ◌+◌, ◌<◌, ◌^◌, true, false, length, Some, None, Err, OnOk, option_map};
 ghost use Rattle.lexical_grammar.specs.declared.TokenKind.TheVariants as token;
 ghost use Rattle.document_grammar.specs.declared.kind.SyntaxKind.TheVariants as kind;
 ghost use Rattle.document_grammar.specs.Forests.{none};
@@ -11,6 +11,7 @@ ghost use Rattle.parser_rules.specs.RuleLanguage.{Here, At, Word, Ready, holds};
 ghost use Rattle.document_grammar.specs.Choices.{is_keyword};
 ghost use Rattle.document_grammar.specs.Numbers.{number};
 ghost use Rattle.parser_rules.specs.Rules as rules;
+ghost use Rattle.parser_state.specs.Lengths.{current_length, answer_length, text_length, length_of};
 ghost use Rattle.parser_state.specs.Reading as reading;
 ghost use Rattle.parser_state.specs.View.{current_of};
 
@@ -72,6 +73,7 @@ impl<'i, A: Allocator + Copy> ParserState<'i, A> {
     }
 
     fn wait(&mut self, kind: SyntaxKind, text: &'i str) -> Result<(), AllocError>
+        requires { length text.now + length_of self.old < 2 ^ 64 }
         ensures step { OnOk result (self.new ≡ state.wait kind text.now self.old) }
         ensures budget { self.new.budget ≡ self.old.budget }
     {
@@ -81,6 +83,7 @@ impl<'i, A: Allocator + Copy> ParserState<'i, A> {
 
     // An error of the lexer, and the bad text that it is about.
     fn push_lex_error(&mut self, error: LexError<'i>) -> Result<(), AllocError>
+        requires { answer_length (Some (answer_of (Err error))) + length_of self.old < 2 ^ 64 }
         ensures step { OnOk result (self.new ≡ reading.refused error.entry.is_limit error.entry.text.now error.entry.index self.old) }
         ensures budget { self.new.budget ≡ self.old.budget }
     {
@@ -96,13 +99,15 @@ impl<'i, A: Allocator + Copy> ParserState<'i, A> {
     fn next_answer(&mut self) -> Option<Result<Token<'i>, LexError<'i>>>
         ensures taken { reading.Taken (option_map answer_of result) self.old self.new }
         ensures text { reading.IsAnswerText (option_map answer_of result) }
+        ensures len { answer_length (option_map answer_of result) + length_of self.new < 2 ^ 64 }
         ensures budget { self.new.budget ≡ self.old.budget }
     {
         self.reader.next_answer()
     }
 
     fn set_current(&mut self, token: Option<Token<'i>>)
-        requires { state.IsNow (current_of token) }
+        requires text { state.IsNow (current_of token) }
+        requires len { current_length (current_of token) + text_length self.old.tree self.old.pending None self.old.items < 2 ^ 64 }
         ensures step { self.new ≡ record self.old { current = current_of token.entry } }
         ensures budget { self.new.budget ≡ self.old.budget }
     {

@@ -1,7 +1,22 @@
-use Rattle.std.proofs.Common.{sym, ◌∙◌, ap, List, ℕ}
+use Rattle.std.proofs.Common.{sym, ◌∙◌, ap, arith, length, List, ℕ}
 use Rattle.parser_rules.specs.State.{ignored, wait}
+use Rattle.parser_state.proofs.Lengths.{without-current}
 use Rattle.parser_state.proofs.Reading.{read_bad, read-ignored, read-token, read_end}
 use Rattle.parser_state.proofs.state.ParserState.read_on.Goals as goal
+
+pub push_lex_error-requires : goal.push_lex_error-requires
+push_lex_error-requires g c = rw c.in-Err.is at (rw c.in-Some.is at c.next_answer.ensures.len)
+
+pub wait-requires : goal.wait-requires
+wait-requires g c =
+    let n = rw c.in-Ok.is at (rw c.in-Some.is at c.next_answer.ensures.len) in
+    omega (arith, n, ap {A = List ℕ} length c.«data».ensures)
+
+pub set_current-requires-clause-len : goal.set_current-requires-clause-len
+set_current-requires-clause-len g c = without-current (length c.in-Ok.token.text.now) c.next_answer.new.self (rw c.in-Ok.is at (rw c.in-Some.is at c.next_answer.ensures.len))
+
+pub set_current-requires-2-clause-len : goal.set_current-requires-2-clause-len
+set_current-requires-2-clause-len g c = without-current 0 c.next_answer.new.self c.in_default.ensures.len
 
 pub loop-answer-preserved-in-Continue-1 : goal.loop-answer-preserved-in-Continue-1
 loop-answer-preserved-in-Continue-1 g c = (
