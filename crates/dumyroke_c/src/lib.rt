@@ -4,6 +4,9 @@
 ghost use Rattle.std.specs.Prelude.{◌≡◌};
 ghost use Rattle.dumyroke_flat.specs.Outcomes.{FormatOutcome, Outcome, StringOutcome};
 
+#[cfg(test)]
+mod tests;
+
 use dumyroke_flat::{
     Counts, ElementRow, ErrorRow, Limits, format_into, parse_into, string_value_into,
 };

@@ -11,8 +11,6 @@ mod format;
 mod parse;
 mod rows;
 mod strings;
-#[cfg(test)]
-mod tests;
 
 pub use format::format_into;
 pub use parse::parse_into;
