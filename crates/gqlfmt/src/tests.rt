@@ -1,6 +1,6 @@
 // The program over words, texts and files of these tests, and the places of a text.
 use gqlcst_run::{StdSink, StdSource};
-use gqlfmt_run::{StdFiles, run, unified_diff};
+use gqlfmt_run::{StdFiles, run};
 use line_index::{LineIndex, Place};
 use std::alloc::{AllocError, Allocator, Global};
 use std::cell::Cell;
@@ -10,6 +10,7 @@ use std::path::{Path, PathBuf};
 use std::process::Abort;
 use std::rt;
 use std::test::Fail;
+use text_excerpts::unified_diff;
 
 // A disk with one file. Its calls are counted down, and one fails when none is left.
 #[derive(Drop)]

@@ -5,9 +5,6 @@
 #![tactic(auto)]
 
 mod command;
-mod diff;
-mod edits;
-mod excerpt;
 mod fault;
 mod files;
 mod formatting;
@@ -20,7 +17,6 @@ mod showing;
 mod std_files;
 
 pub use command::{HELP, Mode, Plan, Request, USAGE, VERSION, options};
-pub use diff::unified_diff;
 pub use fault::FileFault;
 pub use files::Files;
 pub use input::{INPUT, format_input};

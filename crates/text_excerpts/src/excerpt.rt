@@ -10,11 +10,19 @@ const MARGIN: &str = "    ";
 
 const CUT: &str = "...";
 
-// The characters of a line, with U+FFFD for each control character but a tab.
+// What stands for a character: U+FFFD for each control character but a tab.
+fn shown(c: char) -> char {
+    match c {
+        '\t' => '\t',
+        '\0'..='\x1f' | '\x7f'..='\u{9f}' => '\u{FFFD}',
+        _ => c,
+    }
+}
+
+// The characters of a line, as they are shown.
 fn push_shown<A: Allocator>(text: &mut String<A>, part: &str) -> Result<(), AllocError> {
     for c in part.chars() {
-        let is_hidden = c.is_control() && c != '\t';
-        text.push(if is_hidden { '\u{FFFD}' } else { c })?;
+        text.push(shown(c))?;
     }
     Ok(())
 }

@@ -20,12 +20,13 @@ fn common_front(old: &[&str], new: &[&str]) -> usize
     ensures old { result ≤ length old.now }
     ensures new { result ≤ length new.now }
 {
-    for (i, (a, b)) in old.iter().zip(new).enumerate() {
-        if a != b {
+    let end = old.len().min(new.len());
+    for i in 0..end {
+        if old[i] != new[i] {
             return i;
         }
     }
-    old.len().min(new.len())
+    end
 }
 
 // A line by which two texts are matched: one that says more than a bracket.
