@@ -1,4 +1,4 @@
-"""The typed nodes of the Python package: python/dumyroke/kinds.py and nodes.py.
+"""The typed nodes of the Python package: python/dumyroke/nodes.py.
 
 There is a class for each kind of node, with a property for each accessor of the typed tree that gives nodes. A node that is no more than a list also
 gives its parent a property with what is in the list, as `fields`; where the two names are the same, that one takes the place of the node.
@@ -45,23 +45,6 @@ VALUES = {
     "ENUM_VALUE": ("str", "name"),
     "DESCRIPTION": ("str", "description"),
 }
-
-
-def kinds_text(grammar):
-    """kinds.py: the numbers of the kinds under their names."""
-    numbers = "".join(f"{kind} = {number}\n" for number, kind in enumerate(grammar.kinds))
-    names = "".join(f'    "{kind}",\n' for kind in grammar.kinds)
-    return f'''{mark("#", SOURCE)}"""The kinds of elements: their numbers, as in include/dumyroke_kinds.h, and their names."""
-
-{numbers}
-FIRST_NODE = DOCUMENT
-"""The first kind of node. Those before it are kinds of tokens."""
-
-NAMES = (
-{names})
-
-NUMBERS = {{name: number for number, name in enumerate(NAMES)}}
-'''
 
 
 def rows(names):
@@ -188,6 +171,4 @@ def outputs(grammar):
     for kind in (*LISTS, *VALUES):
         if kind not in grammar.nodes:
             raise SystemExit(f"python_nodes.py: {kind} is no kind of node")
-    if len(grammar.kinds) > 256:
-        raise SystemExit("python_nodes.py: python/dumyroke/tree.py has one byte for a kind, and there are more than 256")
-    return {FOLDER / "kinds.py": kinds_text(grammar), FOLDER / "nodes.py": nodes_text(grammar)}
+    return {FOLDER / "nodes.py": nodes_text(grammar)}

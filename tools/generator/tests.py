@@ -227,6 +227,8 @@ class Copy:
         shutil.copytree(TOP / "tools", folder / "tools")
         shutil.copytree(TOP / "include", folder / "include")
         shutil.copytree(TOP / "python", folder / "python")
+        (folder / "web").mkdir()
+        shutil.copy(TOP / "web/kinds.js", folder / "web")
         sys.path.insert(0, str(folder / "tools"))
         self.unchanged, self.mistakes = self.package("unchanged"), 0
 
