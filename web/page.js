@@ -1,0 +1,148 @@
+// The page: the text, the tree, the errors and the fields together. The parser is in a worker.
+import { Editor, piece } from "./editor.js";
+import { isSupported, STATUS } from "./parser.js";
+import { movedTo, Tree } from "./tree.js";
+import { TreeView } from "./tree_view.js";
+
+const MOST_LISTED = 200;
+// Longer texts have no link.
+const LONGEST_LINK = 20000;
+const NO_MEMORY64 = "This browser has no 64-bit memory for WebAssembly, which the parser needs: Chrome and Edge have it from version 133 on, Firefox from 134 on.";
+
+const at = (id) => document.getElementById(id);
+const count = (number, noun) => `${number.toLocaleString("en")} ${noun}${number === 1 ? "" : "s"}`;
+
+let [worker, running] = [null, null];
+const waiting = new Map();
+// The last parse, the element that is chosen, and where places of the parse are in the text of now.
+let [tree, errors, chosen] = [new Tree("", new Uint32Array(5)), [], null];
+let moved = (place) => place;
+// The timer of the address, which browsers refuse to set too often.
+let linking;
+
+// Gives the worker a task, after the running one. Of each sort the last one that waits is kept.
+function ask(task) {
+  waiting.set(task, { task, text: editor.text, limits: { recursion: limit("recursion", 500), tokens: limit("tokens", null) } });
+  if (running === null) next();
+}
+
+function next() {
+  const [task] = waiting.keys();
+  running = waiting.get(task) ?? null;
+  waiting.delete(task);
+  if (running !== null) worker.postMessage(running);
+}
+
+function answered({ data }) {
+  const { task, text } = running;
+  next();
+  if (data.failed !== undefined) say(data.failed, "failed");
+  else if (task === "format") showFormatted(text, data);
+  else if (data.status === STATUS.OK) showParsed(text, data);
+  else say("The parser was refused memory, or the text is too long for it.", "failed");
+}
+
+const limit = (id, otherwise) => (at(id).value === "" ? otherwise : Math.max(0, Math.trunc(at(id).valueAsNumber)));
+
+// The summary is read out by screen readers, the details are not.
+function say(summary, state, details = "") {
+  at("verdict").dataset.state = state;
+  at("summary").textContent = summary;
+  at("details").textContent = details;
+}
+
+// Until a text that changed is parsed, it keeps the colours of the text before, where they are now.
+function changed() {
+  moved = movedTo(tree.text, editor.text);
+  if (worker !== null) ask("parse");
+}
+
+function showParsed(text, found) {
+  view.show(new Tree(text, found.rows), tree.text === "" ? null : movedTo(tree.text, text));
+  tree = view.tree;
+  errors = found.errors.sort((a, b) => a.start - b.start);
+  moved = movedTo(text, editor.text);
+  chosen = null;
+  const verdict = found.errorCount === 0 ? ["A GraphQL document", "document"] : [count(found.errorCount, "error"), "errors"];
+  say(...verdict, `${count(tree.length, "element")} · nesting ${found.depth} · ${found.took.toFixed(1)} ms`);
+  at("errors").replaceChildren(...errors.slice(0, MOST_LISTED).map(listed));
+  if (found.errorCount > MOST_LISTED) at("errors").append(piece("more", `and ${count(found.errorCount - MOST_LISTED, "more error")}`, "li"));
+  editor.render();
+  if (document.activeElement === editor.area) follow(editor.area.selectionStart, editor.area.selectionEnd);
+  clearTimeout(linking);
+  linking = setTimeout(() => history.replaceState(null, "", text.length <= LONGEST_LINK ? `#${encodeURIComponent(text)}` : location.pathname), 300);
+}
+
+function listed(error) {
+  const { line, column } = editor.position(error.start);
+  const [item, button] = [piece("", "", "li"), piece("", "", "button")];
+  button.append(piece("place", `${line}:${column}`), " ", piece("message", error.message));
+  button.onclick = () => editor.select(moved(error.start), moved(error.end), true);
+  item.append(button);
+  return item;
+}
+
+function showFormatted(text, { status, text: formatted }) {
+  if (status === STATUS.NOT_A_DOCUMENT) say("A text with errors is not formatted.", "errors");
+  else if (status === STATUS.OK && text === editor.text && formatted !== text) editor.replace(formatted, true);
+}
+
+// Chooses the element that the cursor or the selection is in.
+function follow(start, end) {
+  if (tree.text !== editor.text) return;
+  chosen = tree.holding(start, end);
+  view.reveal(chosen);
+  editor.render();
+}
+
+function choose(element, intoText) {
+  chosen = element;
+  editor.select(moved(tree.start(element)), moved(tree.end(element)), intoText);
+}
+
+const range = (element, name) => ({ start: moved(tree.start(element)), end: moved(tree.end(element)), name });
+
+// A token has the classes of its kind and, since a name is coloured as what it names, of the node above its parent.
+function words(start, end) {
+  const found = [];
+  for (let element = tree.holding(start, start); element < tree.length && moved(tree.start(element)) < end; element++)
+    if (tree.isToken(element)) found.push(range(element, `${tree.kind(element)} in-${tree.kind(tree.parent(tree.parent(element)))}`));
+  return found;
+}
+
+function underlines(start, end) {
+  const ranges = errors.map((error) => ({ ...error, start: moved(error.start), end: moved(error.end), name: error.start === error.end ? "error empty" : "error" }));
+  return ranges.filter((it) => it.end >= start && it.start <= end);
+}
+
+async function load(example) {
+  const [file, copies] = example.split("*");
+  const text = await (await fetch(`examples/${file}`)).text();
+  editor.replace(text.repeat(Number(copies ?? 1)));
+}
+
+function loadLink() {
+  // other than decodeURIComponent this reads any address
+  const text = new URLSearchParams(`text=${location.hash.slice(1).replaceAll("+", "%2B").replaceAll("&", "%26")}`).get("text");
+  if (text === "") load(at("examples").value);
+  else if (text !== editor.text) editor.replace(text);
+}
+
+const ranges = { chosen: () => (chosen === null ? [] : [range(chosen, "chosen")]), words, underlines };
+const editor = new Editor(at("editor"), { input: changed, cursor: follow, ranges });
+const view = new TreeView(at("tree"), choose);
+
+if (isSupported()) {
+  worker = new Worker("worker.js", { type: "module" });
+  worker.onmessage = answered;
+  worker.onerror = () => say("The parser could not be loaded.", "failed");
+  at("recursion").oninput = at("tokens").oninput = changed;
+  at("quiet").onchange = () => {
+    view.hasQuiet = at("quiet").checked;
+    view.refresh();
+  };
+  at("examples").onchange = () => load(at("examples").value);
+  at("format").onclick = () => ask("format");
+  onhashchange = loadLink;
+  loadLink();
+} else say(NO_MEMORY64, "failed");

@@ -1,0 +1,157 @@
+// The calls of the parser, a WebAssembly module with 64-bit memory: its addresses and lengths are BigInts. This runs in workers and in node.
+
+// Words of 32 bits in the row of an element: start, end, parent, next, and the kind with, in its upper half, whether it is a token.
+export const WORDS = 5;
+export const STATUS = { OK: 0, NOT_UTF8: 1, TOO_LONG: 2, NO_MEMORY: 3, NOT_A_STRING: 4, NOT_A_DOCUMENT: 5 };
+
+const ERROR_BYTES = 40;
+const PAGE_BYTES = 65536;
+// Every type of the module may be aligned to this.
+const ALIGNMENT = 16;
+const NO_LIMIT = 2n ** 64n - 1n;
+
+// Whether this engine takes a module with a memory of 64-bit addresses.
+export function isSupported() {
+  return WebAssembly.validate(Uint8Array.of(0, 0x61, 0x73, 0x6d, 1, 0, 0, 0, 5, 3, 1, 4, 0));
+}
+
+// For each byte of a text in UTF-8 and for its end, how many units of 16 bits, which JavaScript counts, are before it. It holds where a character begins.
+function unitsBefore(bytes) {
+  const units = new Uint32Array(bytes.length + 1);
+  let unit = 0;
+  for (let i = 0; i < bytes.length; i++) {
+    units[i] = unit;
+    if ((bytes[i] & 0xc0) !== 0x80) unit += bytes[i] >= 0xf0 ? 2 : 1;
+  }
+  units[bytes.length] = unit;
+  return units;
+}
+
+export class Parser {
+  // A parser with a module that was compiled.
+  constructor(module) {
+    this.module = module;
+    this.#start();
+  }
+
+  // Makes an instance of the module. It imports its memory's places: an answer is a byte that says whether there is one, and 8 bytes further on its address.
+  #start() {
+    const heap_alloc = (answer, bytes, _align) => {
+      let start = null;
+      try {
+        start = this.#place(Number(BigInt.asUintN(64, bytes)));
+      } catch {
+        // refused
+      }
+      const view = new DataView(this.memory.buffer, Number(answer));
+      view.setUint8(0, start === null ? 0 : 1);
+      view.setBigUint64(8, BigInt(start ?? ALIGNMENT), true);
+    };
+    const heap_free = (start) => {
+      if (Number(start) === this.last) this.top = this.last;
+    };
+    this.exports = new WebAssembly.Instance(this.module, { heap: { heap_alloc, heap_free } }).exports;
+    this.memory = this.exports.memory;
+    this.#clear();
+    // engines from before the standard count pages in Numbers
+    try {
+      this.memory.grow(0n);
+      this.pages = BigInt;
+    } catch {
+      this.pages = Number;
+    }
+  }
+
+  // Takes back all places. They are above the module's own memory, one above the other; the last one goes back when it is freed, too.
+  #clear() {
+    this.last = this.top = Number(this.exports.__heap_base.value);
+  }
+
+  // The address of so many bytes. Throws RangeError when the engine refuses memory.
+  #place(bytes) {
+    const start = Math.ceil(this.top / ALIGNMENT) * ALIGNMENT;
+    const size = this.memory.buffer.byteLength;
+    // half as much again, so that it grows seldom
+    if (start + bytes > size) this.memory.grow(this.pages(Math.ceil(Math.max(start + bytes - size, size / 2) / PAGE_BYTES)));
+    this.last = start;
+    this.top = start + bytes;
+    return start;
+  }
+
+  #bytes = (start, length) => new Uint8Array(this.memory.buffer, start, length);
+
+  // Writes a text to memory of which all was taken back: its address and its length in bytes.
+  #write(text) {
+    this.#clear();
+    const start = this.#place(text.length * 3);
+    const { written } = new TextEncoder().encodeInto(text, this.#bytes(start, text.length * 3));
+    this.top = start + written;
+    return [start, written];
+  }
+
+  #writeLimits({ recursion = 500, tokens = null }) {
+    const start = this.#place(16);
+    new BigUint64Array(this.memory.buffer, start, 2).set([BigInt(recursion), tokens === null ? NO_LIMIT : BigInt(tokens)]);
+    return start;
+  }
+
+  // Calls an export. An instance in which a call was cut off, as by a full stack, is thrown away.
+  #call(name, ...words) {
+    try {
+      return this.exports[name](...words.map(BigInt));
+    } catch (error) {
+      this.#start();
+      throw error;
+    }
+  }
+
+  // Parses a text: the rows of its elements, its first errors, and how many there are. Offsets are those of the JavaScript string.
+  // Throws RangeError or WebAssembly.RuntimeError where the browser's stack or memory is too small.
+  parse(text, limits = {}, mostErrors = 1000) {
+    const room = { elements: (text.length >> 1) + 64, messages: text.length + 65536 };
+    for (;;) {
+      const [source, length] = this.#write(text);
+      const [given, counts] = [this.#writeLimits(limits), this.#place(48)];
+      const [elements, errors, messages] = [room.elements * WORDS * 4, mostErrors * ERROR_BYTES, room.messages].map((bytes) => this.#place(bytes));
+      const status = this.#call("dumyroke_parse", source, length, given, elements, room.elements, errors, mostErrors, messages, room.messages, counts);
+      const [elementCount, errorCount, messageBytes, depth, items] = Array.from(new BigUint64Array(this.memory.buffer, counts, 5), Number);
+      if (elementCount <= room.elements && messageBytes <= room.messages) {
+        const units = length === text.length ? null : unitsBefore(this.#bytes(source, length));
+        const rows = new Uint32Array(this.memory.buffer, elements, elementCount * WORDS).slice();
+        if (units !== null) for (let i = 0; i < rows.length; i += WORDS) [rows[i], rows[i + 1]] = [units[rows[i]], units[rows[i + 1]]];
+        const found = this.#errors(errors, Math.min(errorCount, mostErrors), this.#bytes(messages, messageBytes), units);
+        return { status, rows, errors: found, errorCount, depth, items };
+      }
+      Object.assign(room, { elements: elementCount, messages: messageBytes });
+    }
+  }
+
+  #errors(start, count, messages, units) {
+    return Array.from({ length: count }, (_, i) => {
+      const row = new DataView(this.memory.buffer, start + i * ERROR_BYTES, ERROR_BYTES);
+      const [from, to, message, bytes] = [0, 8, 16, 24].map((field) => Number(row.getBigUint64(field, true)));
+      const [isLimit, isEnd] = [32, 36].map((field) => row.getUint32(field, true) === 1);
+      const said = new TextDecoder().decode(messages.subarray(message, message + bytes));
+      return { start: units?.[from] ?? from, end: units?.[to] ?? to, message: said, isLimit, isEnd };
+    });
+  }
+
+  // A call that writes one text: its status and the text.
+  #text(name, text, limits) {
+    for (let room = text.length * 4 + 64; ; ) {
+      const given = this.#write(text);
+      if (limits !== null) given.push(this.#writeLimits(limits));
+      const [bytes, start] = [this.#place(8), this.#place(room)];
+      const status = this.#call(name, ...given, start, room, bytes);
+      const length = Number(new BigUint64Array(this.memory.buffer, bytes, 1)[0]);
+      if (length <= room) return { status, text: new TextDecoder("utf-8", { ignoreBOM: true }).decode(this.#bytes(start, length)) };
+      room = length;
+    }
+  }
+
+  // Formats a document.
+  format = (text, limits = {}) => this.#text("dumyroke_format", text, limits);
+
+  // The value of a string literal with its quotes.
+  stringValue = (literal) => this.#text("dumyroke_string_value", literal, null);
+}

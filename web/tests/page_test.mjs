@@ -1,0 +1,291 @@
+// The tests of the page in a headless Chromium: node page_test.mjs SITE [PICTURES]. SITE is a folder with the page and the module. With PICTURES, a folder,
+// pictures of the page are put there.
+import assert from "node:assert/strict";
+import { Chromium, serve } from "./chromium.mjs";
+
+const [site, pictures] = process.argv.slice(2);
+const CONTROL = 2;
+
+const { address } = await serve(site);
+const page = await Chromium.start();
+const quote = JSON.stringify;
+
+// A fresh page that shows a text, once it is parsed.
+async function show(text, words = "") {
+  await page.open(`${address}index.html${words}#${encodeURIComponent(text)}`);
+  await settled();
+}
+
+const settled = () => page.until("document.getElementById('verdict').dataset.state !== 'loading'");
+const summary = () => page.evaluate("document.getElementById('summary').textContent");
+const says = (part) => page.until(`document.getElementById('summary').textContent.includes(${quote(part)})`);
+const text = () => page.evaluate("document.getElementById('text').value");
+const selection = () => page.evaluate("[document.getElementById('text').selectionStart, document.getElementById('text').selectionEnd]");
+const errors = () => page.evaluate("[...document.querySelectorAll('#errors button')].map((it) => it.textContent)");
+const underlined = () => page.evaluate("[...document.querySelectorAll('.underlines span')].map((it) => it.textContent)");
+const rows = () => page.evaluate("[...document.querySelectorAll('.row')].map((it) => [+it.ariaLevel, ...[...it.children].map((part) => part.textContent)])");
+const chosen = () => page.evaluate("document.querySelector('.row[aria-selected=true] .kind')?.textContent ?? null");
+const place = (selector) => page.evaluate(`(({ x, y, width, height }) => ({ x: x + width / 2, y: y + height / 2 }))(document.querySelector(${quote(selector)}).getBoundingClientRect())`);
+const row = (number) => place(`.row:nth-child(${number})`);
+const focus = (id) => page.evaluate(`document.getElementById(${quote(id)}).focus()`);
+
+async function put(cursor) {
+  await page.evaluate(`document.getElementById('text').setSelectionRange(${cursor}, ${cursor})`);
+  await focus("text");
+}
+
+async function setField(id, value) {
+  await page.evaluate(`(it => { it.value = ${quote(value)}; it.dispatchEvent(new Event("input")); it.dispatchEvent(new Event("change")); })(document.getElementById(${quote(id)}))`);
+}
+
+const tests = {
+  // what docs/BINDINGS.md shows of this text
+  async "errors are listed with line and column, and underlined"() {
+    await show("{ hero(id) { name }");
+    assert.deepEqual(await errors(), ["1:10 expected COLON, got )", "1:20 expected R_CURLY, got EOF"]);
+    assert.deepEqual(await underlined(), [")", ""]);
+    assert.equal(await summary(), "2 errors");
+  },
+
+  async "an error's message is shown while the pointer is over it"() {
+    await show("{ hero(id) { name }");
+    const { x, y } = await place(".underlines span");
+    await page.move(x, y);
+    await page.until("!document.querySelector('.hint').hidden");
+    assert.equal(await page.evaluate("document.querySelector('.hint').textContent"), "expected COLON, got )");
+    await page.move(x + 300, y + 100);
+    await page.until("document.querySelector('.hint').hidden");
+  },
+
+  async "a click on an error selects its text"() {
+    await show("{ hero(id) { name }");
+    const { x, y } = await place("#errors button");
+    await page.click(x, y);
+    assert.deepEqual(await selection(), [9, 10]);
+    assert.equal(await page.evaluate("document.activeElement.id"), "text");
+  },
+
+  // what README shows of this text
+  async "the tree has kinds, texts and ranges"() {
+    await show("scalar");
+    assert.deepEqual(await rows(), [[1, "DOCUMENT", "", "0..6"], [2, "SCALAR_TYPE_DEFINITION", "", "0..6"], [3, "scalar_KW", '"scalar"', "0..6"]]);
+  },
+
+  async "white space and commas are shown on demand"() {
+    await show("{a,b }");
+    const kinds = async () => (await rows()).map(([, kind]) => kind);
+    assert.ok(!(await kinds()).some((kind) => ["COMMA", "WHITESPACE"].includes(kind)));
+    const { x, y } = await place("#quiet");
+    await page.click(x, y);
+    assert.deepEqual((await kinds()).filter((kind) => ["COMMA", "WHITESPACE"].includes(kind)), ["COMMA", "WHITESPACE"]);
+  },
+
+  async "places after characters of several bytes are right"() {
+    await show('{ a(b: "é𝄞") { c( } }');
+    const [string] = (await rows()).filter(([, kind]) => kind === "STRING");
+    assert.deepEqual(string.slice(2), ['"\\"é𝄞\\""', "7..12"]);
+    assert.equal((await underlined())[0], "}");
+    assert.deepEqual(await errors(), ["1:19 expected an Argument", "1:19 expected R_PAREN, got }"]);
+  },
+
+  async "a click on an element selects its text, and the cursor's place selects an element"() {
+    await show("{ hero { name } }");
+    const { x, y } = await place("#tree .row.STRING, #tree .row:nth-child(5)");
+    await page.click(x, y);
+    const [, kind, , range] = (await rows())[4];
+    assert.equal(await chosen(), kind);
+    assert.deepEqual(await selection(), range.split("..").map(Number));
+    await put(10);
+    await page.until("document.querySelector('.row[aria-selected=true] .text')?.textContent === '\"name\"'");
+    assert.equal(await page.evaluate("document.querySelector('.layers .chosen span').textContent"), "name");
+  },
+
+  async "the tree is used by keys"() {
+    await show("{ a }");
+    await focus("tree");
+    for (const key of ["ArrowDown", "ArrowDown"]) await page.press(key);
+    assert.equal(await chosen(), "SELECTION_SET");
+    await page.press("ArrowLeft");
+    assert.equal(await page.evaluate("document.querySelector('.row[aria-selected=true]').ariaExpanded"), "false");
+    assert.equal((await rows()).length, 3);
+    await page.press("ArrowRight");
+    await page.press("ArrowRight");
+    assert.equal(await chosen(), "L_CURLY");
+    await page.press("ArrowLeft");
+    assert.equal(await chosen(), "SELECTION_SET");
+    await page.press("End");
+    assert.equal(await chosen(), "R_CURLY");
+    await page.press("Home");
+    assert.equal(await chosen(), "DOCUMENT");
+    const active = "document.getElementById(document.getElementById('tree').getAttribute('aria-activedescendant'))";
+    assert.equal(await page.evaluate(`${active}.querySelector('.kind').textContent`), "DOCUMENT");
+    await page.press("Enter");
+    assert.equal(await page.evaluate("document.activeElement.id"), "text");
+  },
+
+  async "what is closed stays closed while one types"() {
+    await show("{ a } { b }");
+    const { x, y } = await row(2);
+    await page.click(x, y);
+    await focus("tree");
+    await page.press("ArrowLeft");
+    const before = (await rows()).length;
+    await put(9);
+    await page.type("c");
+    await says("document");
+    await page.until("document.getElementById('text').value === '{ a } { bc }' || document.getElementById('text').value === '{ a } { cb }'");
+    assert.equal((await rows()).length, before);
+  },
+
+  async "both limits are fields"() {
+    await show("{ a { b } }");
+    await setField("recursion", "1");
+    await says("error");
+    assert.match((await errors())[0], /limit/);
+    await setField("recursion", "500");
+    await says("A GraphQL document");
+    await setField("tokens", "4");
+    await says("error");
+    await setField("tokens", "");
+    await says("A GraphQL document");
+  },
+
+  // the layout is that of docs/FORMAT.md
+  async "the formatter is a button, and can be undone"() {
+    await show("{a}");
+    const { x, y } = await place("#format");
+    await page.click(x, y);
+    await page.until("document.getElementById('text').value !== '{a}'");
+    assert.equal(await text(), "{\n  a\n}\n");
+    await focus("text");
+    await page.send("Input.dispatchKeyEvent", { type: "rawKeyDown", key: "z", code: "KeyZ", windowsVirtualKeyCode: 90, modifiers: CONTROL, commands: ["undo"] });
+    await page.until("document.getElementById('text').value === '{a}'");
+  },
+
+  async "a text with errors is not formatted"() {
+    await show("{a");
+    const { x, y } = await place("#format");
+    await page.click(x, y);
+    await says("not formatted");
+    assert.equal(await text(), "{a");
+  },
+
+  async "the document is in the address"() {
+    await show("{ a }");
+    await put(3);
+    await page.type("b");
+    await page.until(`location.hash === ${quote(`#${encodeURIComponent("{ ab }")}`)}`);
+    await page.evaluate("location.hash = encodeURIComponent('scalar S')");
+    await page.until("document.getElementById('text').value === 'scalar S'");
+    await page.evaluate("location.hash = '#%7Ba+b&c%'");
+    await page.until("document.getElementById('text').value === '{a+b&c%'");
+  },
+
+  async "there are examples"() {
+    await page.open(`${address}index.html`);
+    const values = await page.evaluate("[...document.getElementById('examples').options].map((it) => it.value)");
+    for (const value of values.filter((it) => !it.includes("*"))) {
+      await setField("examples", value);
+      await page.until(`fetch('examples/${value}').then((it) => it.text()).then((it) => it === document.getElementById('text').value)`);
+      await says(value === "errors.graphql" ? " errors" : "A GraphQL document");
+    }
+  },
+
+  async "a text of 1 MB does not stop the page"() {
+    await show("{ a }");
+    await page.evaluate("window.longest = 0; (function tick(last) { setTimeout(() => { const now = performance.now(); window.longest = Math.max(window.longest, now - last); tick(now); }, 1); })(performance.now())");
+    await setField("examples", await page.evaluate("[...document.getElementById('examples').options].find((it) => it.value.includes('*')).value"));
+    await page.until("document.getElementById('text').value.length > 1e6 && document.getElementById('summary').textContent.includes('A GraphQL document')", 60);
+    const loaded = await page.evaluate("window.longest");
+    await put(await page.evaluate("document.getElementById('text').value.indexOf('enum Episode', 500000)"));
+    await page.evaluate("window.longest = 0");
+    for (const letter of "# typed ") await page.type(letter);
+    await page.until("document.getElementById('summary').textContent.includes('error')", 60);
+    const typed = await page.evaluate("window.longest");
+    const made = await page.evaluate("document.querySelectorAll('.row').length");
+    console.log(`  the longest pause was ${loaded.toFixed(0)} ms while it was loaded, and ${typed.toFixed(0)} ms while it was typed in; the tree had ${made} rows in the page`);
+    assert.ok(made < 200);
+    assert.ok(typed < 1500, `the page stood still for ${typed} ms`);
+  },
+
+  async "a module whose stack is full is thrown away"() {
+    await show("{ a }");
+    await setField("recursion", "1000000");
+    await page.evaluate(`(it => { it.value = "{a".repeat(100000); it.dispatchEvent(new Event("input")); })(document.getElementById("text"))`);
+    await says("too small");
+    await page.evaluate(`(it => { it.value = "{ b }"; it.dispatchEvent(new Event("input")); })(document.getElementById("text"))`);
+    await says("A GraphQL document");
+  },
+
+  async "a text is never taken for HTML"() {
+    await show('<b>&amp;<img src="x"> "<i>"');
+    assert.equal(await page.evaluate("document.querySelectorAll('#editor b, #editor i, img, #tree b, #tree i, #errors b').length"), 0);
+    assert.equal(await page.evaluate("document.querySelector('.words').textContent"), '<b>&amp;<img src="x"> "<i>"\n');
+  },
+
+  async "a browser without 64-bit memory is told so"() {
+    const { identifier } = await page.send("Page.addScriptToEvaluateOnNewDocument", { source: "WebAssembly.validate = () => false" });
+    await page.open(`${address}index.html`);
+    await says("This browser has no 64-bit memory");
+    await page.send("Page.removeScriptToEvaluateOnNewDocument", { identifier });
+  },
+
+  async "there is a light and a dark scheme"() {
+    const colour = () => page.evaluate("getComputedStyle(document.body).backgroundColor");
+    await page.size(1280, 800, "dark");
+    await show("{ a }");
+    const dark = await colour();
+    await page.size(1280, 800);
+    assert.notEqual(await colour(), dark);
+  },
+
+  async "a screen reader finds names, roles and levels"() {
+    await show("{ a }");
+    const { nodes } = await page.send("Accessibility.getFullAXTree");
+    const found = nodes.filter((it) => !it.ignored).map((it) => ({ role: it.role.value, name: it.name?.value ?? "", level: it.properties?.find((one) => one.name === "level")?.value.value }));
+    const named = (role) => found.filter((it) => it.role === role).map((it) => it.name);
+    assert.deepEqual(named("tree"), ["Tree of the text"]);
+    assert.deepEqual(found.filter((it) => it.role === "treeitem").map((it) => it.level), [1, 2, 3, 4, 4, 5, 6, 4]);
+    for (const role of ["textbox", "spinbutton", "combobox", "checkbox", "button"]) assert.ok(named(role).every((name) => name !== ""), role);
+    assert.ok(named("textbox").includes("GraphQL text"));
+    assert.equal(found.filter((it) => it.role === "status").length, 1);
+  },
+
+  async "it fits a narrow window"() {
+    await page.size(400, 900);
+    await show("{ a }");
+    assert.ok(await page.evaluate("document.documentElement.scrollWidth <= innerWidth"));
+    await page.size(1280, 800);
+  },
+};
+
+async function takePictures(folder) {
+  for (const [name, width, height, scheme] of [["light", 1280, 800, "light"], ["dark", 1280, 800, "dark"], ["narrow", 400, 900, "light"]]) {
+    await page.size(width, height, scheme);
+    await page.open(`${address}index.html`);
+    await says("errors");
+    await page.evaluate("document.getElementById('text').setSelectionRange(150, 150), document.getElementById('text').focus({ preventScroll: true })");
+    await page.until("document.querySelector('.row[aria-selected=true]') !== null");
+    const { x, y } = await place(".underlines span");
+    await page.move(x, y);
+    await new Promise((done) => setTimeout(done, 200));
+    await page.picture(`${folder}/${name}.png`);
+  }
+}
+
+let failed = 0;
+await page.size(1280, 800);
+for (const [name, test] of Object.entries(tests)) {
+  try {
+    await test();
+    assert.deepEqual(page.faults.splice(0), []);
+    console.log(`passed: ${name}`);
+  } catch (error) {
+    failed++;
+    console.log(`FAILED: ${name}\n  ${error.message}\n  ${page.faults.splice(0).join("\n  ")}`);
+  }
+}
+if (pictures !== undefined) await takePictures(pictures);
+console.log(`${Object.keys(tests).length - failed} tests of the page passed, ${failed} failed`);
+page.stop();
+process.exit(failed === 0 ? 0 : 1);

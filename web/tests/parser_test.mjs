@@ -1,0 +1,73 @@
+// What the module answers in node: node parser_test.mjs MODULE < CASES. CASES is a list in JSON of texts and limits. For each a line is written: what `gqlcst tree`
+// writes of it, as a text in JSON. After that the other calls are tested.
+import assert from "node:assert/strict";
+import fs from "node:fs";
+import { Parser, STATUS } from "../parser.js";
+import { Tree } from "../tree.js";
+
+const parser = new Parser(new WebAssembly.Module(fs.readFileSync(process.argv[2])));
+const ESCAPES = { "\0": "\\0", "\t": "\\t", "\n": "\\n", "\r": "\\r", '"': '\\"', "\\": "\\\\" };
+
+// A text in quotes, with the escapes that gqlcst has.
+function quoted(text) {
+  return `"${text.replace(/[\0-\x1f"\\\x7f\ufeff]/g, (letter) => ESCAPES[letter] ?? `\\u{${letter.codePointAt(0).toString(16)}}`)}"`;
+}
+
+// The tree of a text with the places of its UTF-8, as gqlcst prints it.
+function printed(text, { recursion, tokens }) {
+  const { rows, errors, depth } = parser.parse(text, { recursion, tokens }, 100000);
+  const tree = new Tree(text, rows);
+  const bytes = (unit) => Buffer.byteLength(text.slice(0, unit));
+  const range = (start, end, between) => `@${bytes(start)}${between}${bytes(end)}`;
+  const lines = Array.from({ length: tree.length }, (_, element) => {
+    const token = tree.isToken(element) ? ` ${quoted(tree.textOf(element))}` : "";
+    return `${"    ".repeat(tree.depth(element))}- ${tree.kind(element)}${range(tree.start(element), tree.end(element), "..")}${token}\n`;
+  });
+  const faults = errors.map(({ start, end, message, isEnd }) => `- ERROR${range(start, end, ":")} ${quoted(message)} ${isEnd ? "EOF" : text.slice(start, end)}\n`);
+  return `${lines.join("")}${faults.join("")}recursion limit: ${recursion}, high: ${depth}\n`;
+}
+
+for (const { text, limits } of JSON.parse(fs.readFileSync(0, "utf8"))) console.log(JSON.stringify(printed(text, limits)));
+
+const LIMITS = { recursion: 1000000, tokens: null };
+const tests = {
+  // the values are those that GraphQL October 2021, section 2.9.4, gives
+  "string values"() {
+    assert.deepEqual(parser.stringValue('"a\\u00e9\\n"'), { status: STATUS.OK, text: "aé\n" });
+    assert.deepEqual(parser.stringValue('"""\n  b\n    c\n"""'), { status: STATUS.OK, text: "b\n  c" });
+    assert.equal(parser.stringValue("a").status, STATUS.NOT_A_STRING);
+  },
+
+  // the layout is that of docs/FORMAT.md
+  "formatting"() {
+    assert.deepEqual(parser.format("query Q($id:ID!){hero(id:$id){name}}"), { status: STATUS.OK, text: "query Q($id: ID!) {\n  hero(id: $id) {\n    name\n  }\n}\n" });
+    assert.equal(parser.format("{").status, STATUS.NOT_A_DOCUMENT);
+  },
+
+  "memory is taken back before the next call"() {
+    const text = "{ a(b: [1, 2, 3]) }\n".repeat(20000);
+    parser.parse(text);
+    const before = parser.memory.buffer.byteLength;
+    for (let i = 0; i < 10; i++) parser.parse(text);
+    assert.equal(parser.memory.buffer.byteLength, before);
+  },
+
+  "an instance whose stack was full is replaced"() {
+    const { exports } = parser;
+    for (const text of ["{a".repeat(100000), "{a(b:".padEnd(500000, "["), `{a(b:${"{c:".repeat(100000)}`, `type A{b:${"[".repeat(100000)}`]) assert.throws(() => parser.parse(text, LIMITS));
+    assert.notEqual(parser.exports, exports);
+    assert.equal(parser.parse("{ a }").errorCount, 0);
+  },
+
+  "there may be more errors and longer messages than there is room for at first"() {
+    const { errors, errorCount } = parser.parse("} ".repeat(5000), {}, 10);
+    assert.equal(errors.length, Math.min(10, errorCount));
+    const long = "a".repeat(200000);
+    assert.equal(parser.parse(`type A ${long} ${long}`).errors.every((error) => error.message.length > 0), true);
+  },
+};
+
+for (const [name, test] of Object.entries(tests)) {
+  test();
+  console.error(`passed: ${name}`);
+}

@@ -1,0 +1,56 @@
+// A tree as the parser wrote it: one table of rows in document order. An element is the index of its row.
+import { FIRST_NODE, KINDS } from "./kinds.js";
+import { WORDS } from "./parser.js";
+
+// Of numbers that never fall, given by their count and a function, the place of the last one that is at most `limit`, or 0.
+export function lastAtMost(count, numberAt, limit) {
+  let [low, high] = [0, count - 1];
+  while (low < high) {
+    const middle = (low + high + 1) >> 1;
+    if (numberAt(middle) <= limit) low = middle;
+    else high = middle - 1;
+  }
+  return low;
+}
+
+export class Tree {
+  constructor(text, rows) {
+    this.text = text;
+    this.rows = rows;
+    this.length = rows.length / WORDS;
+  }
+
+  start = (element) => this.rows[element * WORDS];
+  end = (element) => this.rows[element * WORDS + 1];
+  // The root's parent is the root.
+  parent = (element) => this.rows[element * WORDS + 2];
+  // The element after it and all below it.
+  next = (element) => this.rows[element * WORDS + 3];
+  kind = (element) => KINDS[this.rows[element * WORDS + 4] & 0xffff];
+  isToken = (element) => (this.rows[element * WORDS + 4] & 0xffff) < FIRST_NODE;
+  hasChildren = (element) => this.next(element) > element + 1;
+  textOf = (element) => this.text.slice(this.start(element), this.end(element));
+
+  depth(element) {
+    let depth = 0;
+    for (; element > 0; depth++) element = this.parent(element);
+    return depth;
+  }
+
+  // The lowest element that holds a part of the text. A place at the end of a word belongs to the word.
+  holding(start, end) {
+    const first = start === end && /\w/.test(this.text[start - 1] ?? "") ? start - 1 : start;
+    let element = lastAtMost(this.length, this.start, first);
+    while (element > 0 && this.end(element) < end) element = this.parent(element);
+    return element;
+  }
+}
+
+// Where places of an old text are in a new one, which differs from it in one part.
+export function movedTo(older, newer) {
+  const shorter = Math.min(older.length, newer.length);
+  let [same, alike] = [0, 0];
+  while (same < shorter && older.charCodeAt(same) === newer.charCodeAt(same)) same++;
+  while (alike < shorter - same && older.charCodeAt(older.length - 1 - alike) === newer.charCodeAt(newer.length - 1 - alike)) alike++;
+  return (place) => (place < older.length - alike ? Math.min(place, newer.length - alike) : place + newer.length - older.length);
+}
