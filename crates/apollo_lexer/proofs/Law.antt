@@ -1,5 +1,5 @@
 -- The law of answers, and how many there are.
-use Rattle.std.proofs.Common.{◌≡◌, ℕ, zero, suc, ◌+◌, ◌-◌, Bool, true, false, List, [], ◌∷◌, length, take, Option, Some, None, refl, sym, arith}
+use Rattle.std.proofs.Common.{◌≡◌, ℕ, zero, suc, ◌+◌, ◌-◌, ◌<◌, ◌≤◌, ◌^◌, Bool, true, false, List, [], ◌∷◌, length, take, Option, Some, None, refl, sym, arith}
 use Rattle.std.specs.Prelude.{min, if◌then◌else◌}
 use Rattle.std.proofs.lemmas.Bool.Decides.{nat_tests}
 use Rattle.lexical_grammar.specs.declared.TokenKind.{TokenKind}
@@ -57,3 +57,18 @@ limited-length zero [] = refl
 limited-length (suc limit) [] = sym (min-zero (suc limit + 1))
 limited-length zero (item ∷ items) = sym (min-one (length items))
 limited-length (suc limit) (item ∷ items) = omega (arith, limited-length limit items, min-next (length items) (limit + 1))
+
+-- an item but the end takes a byte
+pub few-from : (place inside : ℕ) (source : List ℕ) → length (items_from place inside source) ≤ length source + 1
+unfolding items_from
+few-from place inside [] = omega arith
+few-from place (suc inside) (b ∷ bs) = let h = few-from (1 + place) inside bs in omega (arith, h)
+few-from place zero (b ∷ bs) = let h = few-from (1 + place) ((first_item (b ∷ bs)).1 - 1) bs in omega (arith, h)
+
+unless-few : (done : Bool) (allowed place : ℕ) (source : List ℕ) → length source < 2 ^ 63 → length (limited allowed (if done then [] else items_from place 0 source)) < 2 ^ 64
+unless-few true allowed place source h = omega (arith, limited-length allowed [])
+unless-few false allowed place source h = omega (arith, limited-length allowed (items_from place 0 source), few-from place 0 source, h)
+
+pub answers-few : (l : Lexer) → length (answers_left l) < 2 ^ 64
+unfolding answers_left items_left
+answers-few l = unless-few l.is_finished (l.limit_tracker.limit - l.limit_tracker.current) l.index l.rest.now (omega (arith, l.in_range))

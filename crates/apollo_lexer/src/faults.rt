@@ -1,7 +1,8 @@
 // What is wrong with bad text, and the errors that say it.
-ghost use Rattle.std.specs.Prelude.{◌≡◌, ◌+◌, ◌≤◌, ◌<◌, ◌^◌, ◌++◌, IfOk, IfSome, codes, length, slice_index};
+ghost use Rattle.std.specs.Prelude.{◌≡◌, ℕ, ◌+◌, ◌≤◌, ◌<◌, ◌^◌, List, ◌++◌, IfOk, IfSome, length, slice_index};
 ghost use Rattle.apollo_lexer.specs.Diagnostics.{of_text};
 ghost use Rattle.apollo_lexer.specs.Faults.{words, fault_message, number_fault, IsFaultMessage};
+ghost use Rattle.apollo_lexer.specs.Wordings.{worded};
 
 use crate::error::Error;
 use crate::escapes::{bad_escape_len, begins_with_lead, escape_len};
@@ -189,33 +190,68 @@ fn words(fault: LexFault) -> &'static str
     }
 }
 
-// The error for a number, whose message quotes the character after what begins it: the words end with this.
-fn suffix_error<A: Allocator + Copy>(
-    alloc: A,
-    text: &str,
-    index: usize,
-    next: &str,
-    end: &str,
-) -> Result<Error<A>, AllocError>
-    requires { index + length text.now < 2 ^ 64 }
-    ensures { IfOk result (λ e. e ≡ record { message = codes "Unexpected character `" ++ next.now ++ end.now; subject = of_text text.now; index = index }) }
-{
-    Error::quoting_other(alloc, "Unexpected character `", next, end, text, index)
+// How a message is worded.
+#[derive(Clone, Copy)]
+enum Wording {
+    // these words alone
+    Plain(&'static str),
+    // the text is quoted
+    QuotesText,
+    // the character after what begins a number is quoted, and then come these words
+    QuotesNext(&'static str),
 }
 
-// The error for a fault of this text, when `next` is the character after what begins a number.
-fn fault_error<A: Allocator + Copy>(
+fn wording_of(fault: LexFault) -> Wording
+    ensures { (text : List ℕ) (next : List ℕ) → worded result text next ≡ fault_message fault text next }
+{
+    match fault {
+        LexFault::UnexpectedCharacter => Wording::QuotesText,
+        LexFault::NumberSuffix => Wording::QuotesNext("`"),
+        LexFault::IntegerSuffix => Wording::QuotesNext("` as integer suffix"),
+        LexFault::FractionalDigit => Wording::QuotesNext("`, expected fractional digit"),
+        LexFault::FloatSuffix => Wording::QuotesNext("` as float suffix"),
+        LexFault::ExponentDigitOrSign => Wording::QuotesNext("`, expected exponent digit or sign"),
+        LexFault::ExponentDigit => Wording::QuotesNext("`, expected exponent digit"),
+        _ => Wording::Plain(words(fault)),
+    }
+}
+
+// How the message for bad text is worded, by the text's last fault, and what follows the beginning of a number in the text.
+fn bad_text_wording(text: &str) -> (Wording, &str)
+    ensures { IsFaultMessage text.now (worded result.0 text.now result.1.now) }
+{
+    let bytes = text.as_bytes();
+    let (state, n) = number_len(bytes);
+    let next = &text[n..];
+    (wording_of(fault(bytes, state, n)), next)
+}
+
+/// The message for bad text, by its last fault, in three parts: words, what they quote of the text, and words after that.
+pub fn bad_text_message_parts(text: &str) -> (&'static str, &str, &'static str)
+    ensures { IsFaultMessage text.now (result.0.now ++ result.1.now ++ result.2.now) }
+{
+    let (wording, next) = bad_text_wording(text);
+    match wording {
+        Wording::Plain(words) => (words, "", ""),
+        Wording::QuotesText => ("Unexpected character \"", text, "\""),
+        Wording::QuotesNext(end) => ("Unexpected character `", next, end),
+    }
+}
+
+// The error for bad text whose message is worded so, when `next` is the character after what begins a number.
+fn worded_error<A: Allocator + Copy>(
     alloc: A,
-    fault: LexFault,
+    wording: Wording,
     text: &str,
     index: usize,
     next: &str,
 ) -> Result<Error<A>, AllocError>
     requires { index + length text.now < 2 ^ 64 }
-    ensures { IfOk result (λ e. e ≡ record { message = fault_message fault text.now next.now; subject = of_text text.now; index = index }) }
+    ensures { IfOk result (λ e. e ≡ record { message = worded wording text.now next.now; subject = of_text text.now; index = index }) }
 {
-    match fault {
-        LexFault::UnexpectedCharacter => Error::quoting(
+    match wording {
+        Wording::Plain(words) => Error::from_static(alloc, words, text, index),
+        Wording::QuotesText => Error::quoting(
             alloc,
             "Unexpected character ",
             "\"",
@@ -223,31 +259,14 @@ fn fault_error<A: Allocator + Copy>(
             "\"",
             index,
         ),
-        LexFault::NumberSuffix => suffix_error(alloc, text, index, next, "`"),
-        LexFault::IntegerSuffix => suffix_error(alloc, text, index, next, "` as integer suffix"),
-        LexFault::FractionalDigit => suffix_error(
+        Wording::QuotesNext(end) => Error::quoting_other(
             alloc,
+            "Unexpected character `",
+            next,
+            end,
             text,
             index,
-            next,
-            "`, expected fractional digit",
         ),
-        LexFault::FloatSuffix => suffix_error(alloc, text, index, next, "` as float suffix"),
-        LexFault::ExponentDigitOrSign => suffix_error(
-            alloc,
-            text,
-            index,
-            next,
-            "`, expected exponent digit or sign",
-        ),
-        LexFault::ExponentDigit => suffix_error(
-            alloc,
-            text,
-            index,
-            next,
-            "`, expected exponent digit",
-        ),
-        _ => Error::from_static(alloc, words(fault), text, index),
     }
 }
 
@@ -262,9 +281,7 @@ pub fn bad_text_error<A: Allocator + Copy>(
     ensures index { IfOk result (λ e. e.index ≡ index) }
     ensures message { IfOk result (λ e. IsFaultMessage text.now e.message) }
 {
-    let bytes = text.as_bytes();
-    let (state, n) = number_len(bytes);
-    let next = &text[n..];
-    let error = fault_error(alloc, fault(bytes, state, n), text, index, next)?;
+    let (wording, next) = bad_text_wording(text);
+    let error = worded_error(alloc, wording, text, index, next)?;
     Ok(error)
 }

@@ -1,5 +1,5 @@
 // What holds of a lexer's answers, as contracts of functions that do nothing.
-ghost use Rattle.std.specs.Prelude.{◌≡◌, ◌+◌, ◌≤◌, ◌↔◌, ℕ, List, length, min, true};
+ghost use Rattle.std.specs.Prelude.{◌≡◌, ◌+◌, ◌≤◌, ◌<◌, ◌^◌, ◌↔◌, ℕ, List, length, min, true};
 ghost use Rattle.lexical_grammar.specs.Answers.{AreAnswers, answers_text, limited};
 ghost use Rattle.lexical_grammar.specs.Cut.{Item};
 ghost use Rattle.apollo_lexer.specs.Answers.{answers_left};
@@ -22,6 +22,11 @@ pub fn answers_join(source: &str)
 /// There are as many answers as items, and no more than one above the limit.
 pub fn answers_count()
     ensures { (limit : ℕ) (items : List Item) → length (limited limit items) ≡ min (length items) (limit + 1) }
+{}
+
+/// The answers that are left are fewer than a `usize` counts.
+pub fn answers_fit(lexer: &Lexer)
+    ensures { length (answers_left lexer.now) < 2 ^ 64 }
 {}
 
 /// Errors are equal exactly where their messages, their indices and what they are about are; a text, the end and a limit are three

@@ -14,10 +14,10 @@ use Rattle.parser_rules.proofs.recovery.LeftOver.{all-rowed, left-over as run-le
 use Rattle.parser_rules.proofs.recovery.LaterChildren.{goes-on as run-goes-on}
 use Rattle.parser_rules.proofs.soundness.Settled.{EndedFit}
 use Rattle.parser_rules.proofs.recovery.IgnoredPlaces.{placed as run-placed}
-use Rattle.std.proofs.Common.{inl, inr, ◌≡◌, ◌≢◌, ℕ, zero, suc, Bool, ◌+◌, ◌-◌, ◌^◌, ◌*◌, ◌<◌, ◌≤◌, arith, min, true, false, List, [], length, map, take, drop, ◌++◌, Option, Some, None, refl, sym, ap, ◌∙◌, subst, ◌∷◌}
+use Rattle.std.proofs.Common.{inl, inr, ◌≡◌, ◌≢◌, ℕ, Bool, ◌+◌, ◌^◌, ◌*◌, ◌<◌, ◌≤◌, arith, min, true, false, List, [], length, map, take, drop, ◌++◌, Option, Some, None, refl, sym, ap, ◌∙◌, subst, ◌∷◌}
 use Rattle.std.specs.List.Sorted.{IsNonDecreasing}
 use Rattle.lexical_grammar.specs.Cut.{Cut, texts, Item}
-use Rattle.lexical_grammar.specs.Reads.{items_of, items_from, first_item}
+use Rattle.lexical_grammar.specs.Reads.{items_of}
 use Rattle.lexical_grammar.specs.Answers.{Answer, limited, usize_max, is_given, is_end}
 use Rattle.lexical_grammar.proofs.Limited.{limited-text, limited-answers, given-within}
 use Rattle.lexical_grammar.proofs.Cuts.{texts-append}
@@ -33,7 +33,7 @@ use Rattle.document_grammar.specs.Sentence.{Sentence, FirstSentence, Within}
 use Rattle.document_grammar.specs.FirstError.{tokens_of, OnlyDerivation, NotLate, NotEarly, NotEarlyLimit, EndedNodesFit}
 use Rattle.document_grammar.proofs.Texts.{one-cut, first-sentence}
 use Rattle.grammar_machine.proofs.SentenceTheorems.{one-derivation}
-use Rattle.apollo_lexer.proofs.Law.{limited-length}
+use Rattle.apollo_lexer.proofs.Law.{limited-length, few-from}
 use Rattle.apollo_parser.specs.ByRules.{ByRules}
 use Rattle.apollo_parser.specs.Promise.{Promise}
 use Rattle.apollo_parser.specs.Parsed.{Parsed, ErrorsOf, IsRecursionLimit, IsLimitWorded, IsTokenLimit, OfFirst, HasError, IsAbout, Recovers, root_children, IsLimit}
@@ -100,13 +100,6 @@ all-given-by (token_limit {reports = rs} h) n = absurd (n (_, refl, record { bef
 all-given-by (fault m {reports = rs} i j h) n = all-given-by h (λ l. n (limited-later (_ ∷ []) rs l))
 all-given-by (recursion_limit {reports = rs} i j h) n = absurd (n (_, refl, record { before = []; after = rs; split = refl }))
 all-given-by (passed i h) n = all-given-by h n
-
--- an item but the end takes a byte
-few-from : (place inside : ℕ) (source : List ℕ) → length (items_from place inside source) ≤ length source + 1
-unfolding items_from
-few-from place inside [] = omega arith
-few-from place (suc inside) (b ∷ bs) = let h = few-from (1 + place) inside bs in omega (arith, h)
-few-from place zero (b ∷ bs) = let h = few-from (1 + place) ((first_item (b ∷ bs)).1 - 1) bs in omega (arith, h)
 
 -- So there are fewer answers than a `usize` counts.
 pub few-answers : (k : ℕ) (source : List ℕ) → length source < 2 ^ 63 → length (answers k source) + 1 < usize_max

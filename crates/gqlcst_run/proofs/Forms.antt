@@ -1,9 +1,12 @@
 -- Printed forms, from their pieces.
-use Rattle.std.proofs.Common.{◌≡◌, ℕ, ◌+◌, true, false, List, ◌++◌, length, codes, true≢false, refl, sym, ap}
-use Rattle.std.specs.Prelude.{Option, Some, None, decimal}
+use Rattle.std.proofs.Common.{◌≡◌, ℕ, ◌+◌, Bool, true, false, List, [], ◌++◌, length, codes, true≢false, refl, sym, ap, ◌∙◌, subst}
+use Rattle.std.specs.Prelude.{Option, Some, None, decimal, IsTrue}
 use Rattle.std.specs.Fmt.{◌++?◌, debug_str}
 use Rattle.apollo_parser.specs.Diagnostics.{Subject, of_text, of_end, of_limit, Diagnostic, subject_text, is_end_subject, diagnostic_end}
-use Rattle.apollo_parser.specs.Printed.{place_text, subject_shown}
+use Rattle.apollo_parser.specs.declared.TokenKind.{TokenKind}
+use Rattle.apollo_parser.specs.declared.TokenKind.TheVariants.{Eof}
+use Rattle.apollo_parser.specs.LexErrors.{lex_subject}
+use Rattle.apollo_parser.specs.Printed.{place_text, subject_shown, token_name, token_text}
 use Rattle.gqlcst_run.specs.Rendering.{IsForm, IsErrorForm}
 
 pub end_shown : (subject : Subject) → is_end_subject subject ≡ true → codes "EOF" ≡ subject_shown subject
@@ -30,3 +33,22 @@ pub error-form : (d : Diagnostic) (message quoted shown : List ℕ) (start len :
     → shown ≡ subject_shown d.subject → IsErrorForm d (error_pieces start len quoted shown)
 error-form d message quoted shown start len is form starts long shows =
     rw (starts, long, shows) (around (debug_str d.message) (place_text (codes "ERROR") d.index (diagnostic_end d)) (codes " ") (subject_shown d.subject) quoted (rw is at form))
+
+after-place : (place space form : List ℕ) (stated : Option (List ℕ)) → IsForm stated form → IsForm (Some place ++? (Some space ++? stated)) (place ++ (space ++ form))
+after-place place space form None is = tt
+after-place place space form (Some text) is = ap (λ (bs : List ℕ). place ++ (space ++ bs)) is
+
+with-text : (kind : TokenKind) (text quoted : List ℕ) (index : ℕ) → (kind ≡ Eof → ⊥) → IsForm (debug_str text) quoted
+    → IsForm (token_text kind text index) (place_text (token_name kind) index (index + length text) ++ (codes " " ++ quoted))
+with-text Eof text quoted index other is = absurd (other refl)
+with-text kind text quoted index other is = after-place (place_text (token_name kind) index (index + length text)) (codes " ") quoted (debug_str text) is
+
+-- the form of a token that is not the end
+pub token-form : (kind : TokenKind) (text shown name quoted : List ℕ) (index start : ℕ) → (kind ≡ Eof → ⊥) → name ≡ token_name kind → shown ≡ text → start ≡ index → IsForm (debug_str shown) quoted
+    → IsForm (token_text kind text index) (place_text name start (start + length shown) ++ (codes " " ++ quoted))
+token-form kind text shown name quoted index start other named is place form = rw (named, is, place) (with-text kind text quoted index other (rw is at form))
+
+-- the text of a lexer's error is what it is about, and is shown
+pub lex-shown : (limit : Bool) (text : List ℕ) → (IsTrue limit → text ≡ []) → (text ≡ subject_text (lex_subject limit text)) × (text ≡ subject_shown (lex_subject limit text))
+lex-shown true text none = (none refl, none refl)
+lex-shown false text none = (refl, refl)

@@ -11,7 +11,7 @@ use Rattle.gqlcst_run.specs.declared.outcome.Outcome.{Outcome}
 use Rattle.gqlcst_run.specs.Parsing.{outcome_of, IsFound}
 use Rattle.gqlcst_run.specs.Rendering.{AreLines, IsAnswerForm, IsVerdict, error_count}
 use Rattle.gqlcst_run.specs.Program.{IsOutput}
-use Rattle.gqlcst_run.specs.Paging.{Paged, Puts, PutsSome, PutsAny}
+use Rattle.gqlcst_run.specs.Paging.{Paged, PutsSome, PutsAny}
 
 pub check_put : (mode : Mode) (limits : Limits) (text : List ℕ) (outcome : Outcome) (errors shown : List Diagnostic) (s t : Paged) → mode ≡ Check → IsFound limits text errors outcome
     → shown ≡ errors → PutsSome (IsVerdict shown) s t → PutsSome (IsOutput mode limits text outcome) s t
@@ -24,9 +24,9 @@ pub tree_put : (mode : Mode) (limits : Limits) (text : List ℕ) (outcome : Outc
 tree_put mode limits text outcome errors s t is found p =
     subst (λ (m : Mode). PutsSome (IsOutput m limits text outcome) s t) (sym is) (record { output = p.output; made = record { errors = errors; found = found }; puts = p.puts })
 
-pub tokens_put : (mode : Mode) (limits : Limits) (text : List ℕ) (outcome : Outcome) (answers : List Answer) (output : List ℕ) (s t : Paged) → mode ≡ Tokens → Cut text (items_of text)
-    → answers ≡ limited limits.tokens (items_of text) → AreLines IsAnswerForm answers output → outcome ≡ outcome_of (error_count answers) → Puts s output t
+pub tokens_put : (mode : Mode) (limits : Limits) (text : List ℕ) (outcome : Outcome) (answers : List Answer) (s t : Paged) → mode ≡ Tokens → Cut text (items_of text)
+    → answers ≡ limited limits.tokens (items_of text) → outcome ≡ outcome_of (error_count answers) → PutsSome (AreLines IsAnswerForm answers) s t
     → PutsSome (IsOutput mode limits text outcome) s t
-tokens_put mode limits text outcome answers output s t is cut limit lines counted p =
+tokens_put mode limits text outcome answers s t is cut limit counted p =
     subst (λ (m : Mode). PutsSome (IsOutput m limits text outcome) s t) (sym is)
-    (record { output = output; made = record { cut = cut; lines = rw limit at lines; counted = rw limit at counted }; puts = p })
+    (record { output = p.output; made = record { cut = cut; lines = rw limit at p.made; counted = rw limit at counted }; puts = p.puts })

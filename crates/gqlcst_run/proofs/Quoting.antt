@@ -8,6 +8,7 @@ use Rattle.std.specs.Char.{is_ascii}
 use Rattle.std.specs.Str.{IsAscii, IsNotAscii}
 use Rattle.std.specs.Fmt.{digits, digit_glyph, debug_escape, debug_escape_letter, debug_str}
 use Rattle.std.proofs.lemmas.List.{append-nil, take-append-drop, take_rest}
+use Rattle.std.proofs.lemmas.List.Folds.{list_all-append}
 use Rattle.std.proofs.lemmas.Fmt.{hex_one_digit, hex_two_digits}
 use Rattle.std.proofs.lemmas.Grind.{flat_map-append}
 use Rattle.std.proofs.lemmas.Bool.{and_parts}
@@ -150,3 +151,10 @@ quoted-by false text form escaped = tt
 -- the same in quotes
 pub quoted-form : (text form : List ℕ) → IsEscaped text form → IsForm (debug_str text) (34 ∷ (form ++ 34 ∷ []))
 quoted-form text form escaped = quoted-by (list_all is_ascii text) text form escaped
+
+-- the form of a text in three parts is that of the parts, one after the other
+pub escaped-parts : (a b c f g h : List ℕ) → IsEscaped a f → IsEscaped b g → IsEscaped c h → IsEscaped (a ++ b ++ c) (f ++ g ++ h)
+escaped-parts a b c f g h x y z = λ ascii.
+    let both = and_parts (list_all is_ascii (a ++ b)) (list_all is_ascii c) (sym (list_all-append is_ascii (a ++ b) c) ∙ ascii) in
+    let each = and_parts (list_all is_ascii a) (list_all is_ascii b) (sym (list_all-append is_ascii a b) ∙ both.0) in
+    rw (x each.0, y each.1, z both.1) (sym (flat_map-append (debug_escape 34) (a ++ b) c ∙ ap (λ (bs : List ℕ). bs ++ flat_map (debug_escape 34) c) (flat_map-append (debug_escape 34) a b)))

@@ -9,7 +9,7 @@ use crate::outcome::{Fault, Outcome};
 use crate::page::Page;
 use crate::parsing::{lexer, parse};
 use crate::reading::read_to_end;
-use crate::rendering::{put_errors, put_tree, render_tokens};
+use crate::rendering::{put_errors, put_tokens, put_tree};
 use std::alloc::{AllocError, Allocator};
 
 // Puts what a mode shows of a text, and answers what was found. Mode tokens needs no parse. All memory that it takes is asked for before the
@@ -33,8 +33,7 @@ fn put_output<A: Allocator + Copy, W: Sink>(
             Ok(outcome)
         }
         Mode::Tokens => {
-            let (text, outcome) = render_tokens(alloc, lexer(source, limits))?;
-            page.put_str(writer, text.as_str());
+            let outcome = put_tokens(page, writer, lexer(source, limits));
             Ok(outcome)
         }
         Mode::Tree => {

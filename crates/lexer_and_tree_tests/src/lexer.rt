@@ -1,6 +1,6 @@
 use apollo_lexer::{
     Error, LexError, Lexer, LimitTracker, Steps, Token, answers_are_items, answers_count,
-    answers_join, equal_errors_are_same,
+    answers_fit, answers_join, equal_errors_are_same,
 };
 use lexical_grammar::TokenKind;
 use std::alloc::{AllocError, Global};
@@ -319,10 +319,13 @@ fn copies_go_on_alike(rt: HostRuntime) -> Result<(), Fail> {
     let mut lexer = lexer_of("a b", 2);
     let first = lexer.next().ok_or("an item")?.ok().ok_or("a token")?;
     assert!(rt; first.data() == "a" && first.index() == 0);
+    assert_eq!(rt; first.name(), "NAME");
     let mut copy = lexer;
     assert!(rt; lexer.next() == copy.next_counted(&mut Steps::new()));
     let last = lexer.next().ok_or("an item")?.err().ok_or("an error")?;
     assert!(rt; last.is_limit() && last.data() == "" && last.index() == 2);
+    let parts = ("token limit reached, aborting lexing", "", "");
+    assert!(rt; last.message_parts() == parts);
     assert!(rt; lexer.next().is_none() && lexer.limit_tracker().high == 3);
     Ok(())
 }
@@ -332,6 +335,7 @@ fn laws_of_the_lexer_hold() {
     answers_are_items(&lexer_of("a b", 2));
     answers_join("a b");
     answers_count();
+    answers_fit(&lexer_of("a b", 2));
     equal_errors_are_same();
 }
 

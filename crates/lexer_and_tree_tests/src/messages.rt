@@ -53,10 +53,20 @@ fn first_message(alloc: Global, text: &str) -> Result<String, Fail> {
     Ok(String::from_str(alloc, error.message())?)
 }
 
+// The same message, joined from its parts.
+fn joined_message(alloc: Global, text: &str) -> Result<String, Fail> {
+    let mut lexer = Lexer::new(text);
+    let error = lexer.next().ok_or("an item")?.err().ok_or("bad text")?;
+    let (front, quoted, back) = error.message_parts();
+    Ok(format!(in alloc; "{front}{quoted}{back}")?)
+}
+
 fn all_have_their_message(rt: &impl Abort, alloc: Global, cases: &[BadText]) -> Result<(), Fail> {
     for case in cases {
         let first = first_message(alloc, case.text)?;
         assert_eq!(rt; first.as_str(), case.message, "at {}", case.text);
+        let joined = joined_message(alloc, case.text)?;
+        assert_eq!(rt; joined.as_str(), case.message, "at {}", case.text);
     }
     Ok(())
 }

@@ -176,4 +176,28 @@ impl Page {
         self.put_escaped(writer, text);
         self.put(writer, b"\"");
     }
+
+    // Puts a text that is in three parts as it is written between quotes.
+    fn put_escaped_parts<W: Sink>(&mut self, writer: &mut W, front: &str, middle: &str, back: &str)
+        ensures { PutsSome (IsEscaped (front.now ++ middle.now ++ back.now)) (self.old, W.account writer.old) (self.new, W.account writer.new) }
+    {
+        self.put_escaped(writer, front);
+        self.put_escaped(writer, middle);
+        self.put_escaped(writer, back);
+    }
+
+    /// Puts a text that is in three parts in quotes.
+    pub fn put_quoted_parts<W: Sink>(
+        &mut self,
+        writer: &mut W,
+        front: &str,
+        middle: &str,
+        back: &str,
+    )
+        ensures { PutsSome (IsForm (debug_str (front.now ++ middle.now ++ back.now))) (self.old, W.account writer.old) (self.new, W.account writer.new) }
+    {
+        self.put(writer, b"\"");
+        self.put_escaped_parts(writer, front, middle, back);
+        self.put(writer, b"\"");
+    }
 }

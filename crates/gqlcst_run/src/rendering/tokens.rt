@@ -1,33 +1,83 @@
 // The output of mode tokens.
-ghost use Rattle.std.specs.Prelude.{◌≡◌, IfOk, string_bytes};
-ghost use Rattle.apollo_parser.specs.LexerAnswers.{answers_left};
-ghost use Rattle.gqlcst_run.specs.Rendering.{AreLines, IsAnswerForm, error_count};
+ghost use Rattle.std.specs.Prelude.{◌≡◌, ◌+◌, [], ◌∷◌};
+ghost use Rattle.apollo_parser.specs.LexerAnswers.{answer_of, answers_left, error_answer};
+ghost use Rattle.apollo_parser.specs.Printed.{place_text, token_text};
+ghost use Rattle.gqlcst_run.specs.Paging.{Puts, PutsSome};
 ghost use Rattle.gqlcst_run.specs.Parsing.{outcome_of};
+ghost use Rattle.gqlcst_run.specs.Rendering.{AreLines, IsAnswerForm, IsForm, error_count};
 
+use crate::devices::Sink;
 use crate::outcome::{Outcome, outcome_of};
-use crate::rendering::lines::push_line;
-use apollo_parser::Lexer;
-use std::alloc::{AllocError, Allocator};
+use crate::page::Page;
+use apollo_parser::laws::answers_fit;
+use apollo_parser::{LexError, Lexer, Token, TokenKind};
 
-/// A line for each item that is left, an error in place of the first that the limit leaves out, and what the errors come to.
-pub fn render_tokens<A: Allocator + Copy>(
-    alloc: A,
-    items: Lexer<'_>,
-) -> Result<(String<A>, Outcome), AllocError>
-    ensures lines { IfOk result (λ it. AreLines IsAnswerForm (answers_left items.entry) (string_bytes it.0)) }
-    ensures outcome { IfOk result (λ it. it.1 ≡ outcome_of (error_count (answers_left items.entry))) }
+// Puts a name, and from where to where a text is.
+fn put_head<W: Sink>(page: &mut Page, writer: &mut W, name: &str, start: usize, len: usize)
+    ensures { Puts (page.old, W.account writer.old) (place_text name.now start (start + len)) (page.new, W.account writer.new) }
 {
-    let mut text = String::new(alloc);
-    let mut form = String::new(alloc);
-    let mut errors = 0;
-    for item in items {
-        match item {
-            Ok(token) => push_line(&mut text, &mut form, &token)?,
-            Err(error) => {
-                push_line(&mut text, &mut form, &error.to_error(alloc)?)?;
-                errors += 1;
-            }
+    page.put_str(writer, name);
+    page.put_str(writer, "@");
+    page.put_place(writer, start, len);
+}
+
+// Puts the printed form of a token.
+fn put_token<W: Sink>(page: &mut Page, writer: &mut W, token: Token<'_>)
+    ensures { PutsSome (IsForm (token_text token.entry.kind token.entry.text.now token.entry.index)) (page.old, W.account writer.old) (page.new, W.account writer.new) }
+{
+    let text = token.data();
+    put_head(page, writer, token.name(), token.index(), text.len());
+    if token.kind() == TokenKind::Eof {
+        return;
+    }
+    page.put_str(writer, " ");
+    page.put_quoted(writer, text);
+}
+
+// Puts the printed form of the error for bad text, or for the limit.
+fn put_lex_error<W: Sink>(page: &mut Page, writer: &mut W, error: LexError<'_>)
+    ensures { PutsSome (IsAnswerForm (error_answer error.entry.is_limit error.entry.text.now error.entry.index)) (page.old, W.account writer.old) (page.new, W.account writer.new) }
+{
+    let text = error.data();
+    let (front, quoted, back) = error.message_parts();
+    put_head(page, writer, "ERROR", error.index(), text.len());
+    page.put_str(writer, " ");
+    page.put_quoted_parts(writer, front, quoted, back);
+    page.put_str(writer, " ");
+    page.put_str(writer, text);
+}
+
+// Puts the printed form of an item, and answers how many errors it is.
+fn put_item<W: Sink>(
+    page: &mut Page,
+    writer: &mut W,
+    item: Result<Token<'_>, LexError<'_>>,
+) -> usize
+    ensures puts { PutsSome (IsAnswerForm (answer_of item.entry)) (page.old, W.account writer.old) (page.new, W.account writer.new) }
+    ensures count { result ≡ error_count (answer_of item.entry ∷ []) }
+{
+    match item {
+        Ok(token) => {
+            put_token(page, writer, token);
+            0
+        }
+        Err(error) => {
+            put_lex_error(page, writer, error);
+            1
         }
     }
-    Ok((text, outcome_of(errors)))
+}
+
+/// Puts a line for each item that is left, an error in place of the first that the limit leaves out. Answers what the errors come to.
+pub fn put_tokens<W: Sink>(page: &mut Page, writer: &mut W, items: Lexer<'_>) -> Outcome
+    ensures lines { PutsSome (AreLines IsAnswerForm (answers_left items.entry)) (page.old, W.account writer.old) (page.new, W.account writer.new) }
+    ensures outcome { result ≡ outcome_of (error_count (answers_left items.entry)) }
+{
+    answers_fit(&items);
+    let mut errors = 0;
+    for item in items {
+        errors += put_item(page, writer, item);
+        page.put_str(writer, "\n");
+    }
+    outcome_of(errors)
 }

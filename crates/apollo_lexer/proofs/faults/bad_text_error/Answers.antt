@@ -1,22 +1,8 @@
-use Rattle.std.proofs.Common.{◌∙◌, ap}
-use Rattle.lexical_grammar.specs.NumberStates.{live_len}
-use Rattle.lexical_grammar.specs.declared.NumberState.TheVariants.{Begin}
+use Rattle.std.proofs.Common.{ap, sym, subst}
 use Rattle.apollo_lexer.specs.Diagnostics.{Diagnostic}
-use Rattle.apollo_lexer.specs.Faults.{fault_message}
-use Rattle.apollo_lexer.proofs.Front.{number-boundary}
+use Rattle.apollo_lexer.specs.Faults.{IsFaultMessage}
 use Rattle.apollo_lexer.proofs.faults.bad_text_error.Goals as goal
 
--- after what begins a number
-pub range_from-next-requires : goal.range_from-next-requires
-range_from-next-requires g c = λ some.
-    number-boundary c.args.text.now c.number_len-state.result.1 c.utf8.text (c.number_len-state.ensures.len ∙ ap (live_len Begin) c.as_bytes-bytes.ensures.value)
-
--- the message is that of the fault, and quotes what follows the beginning of a number
 pub returns-clause-message : goal.returns-clause-message
 returns-clause-message g c =
-    let n = c.number_len-state.result.1 in
-    record {
-      fault = c.fault.result;
-      number_len = n;
-      words = ap (λ (d : Diagnostic). d.message) c.in_ok-error.ensures ∙ ap (fault_message c.fault.result c.args.text.now) c.range_from-next.ensures.value;
-    }
+    subst (IsFaultMessage c.args.text.now) (ap (λ (d : Diagnostic). d.message) (sym c.in_ok-error.ensures)) c.bad_text_wording.ensures

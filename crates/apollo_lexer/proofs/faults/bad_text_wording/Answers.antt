@@ -1,0 +1,19 @@
+use Rattle.std.proofs.Common.{◌∙◌, ap}
+use Rattle.lexical_grammar.specs.NumberStates.{live_len}
+use Rattle.lexical_grammar.specs.declared.NumberState.TheVariants.{Begin}
+use Rattle.apollo_lexer.specs.Faults.{fault_message}
+use Rattle.apollo_lexer.proofs.Front.{number-boundary}
+use Rattle.apollo_lexer.proofs.faults.bad_text_wording.Goals as goal
+
+-- after what begins a number
+pub range_from-next-requires : goal.range_from-next-requires
+range_from-next-requires c = λ some.
+    number-boundary c.args.text.now c.number_len-state.result.1 c.utf8.text (c.number_len-state.ensures.len ∙ ap (live_len Begin) c.as_bytes-bytes.ensures.value)
+
+-- the message is that of the fault, and quotes what follows the beginning of a number
+pub returns : goal.returns
+returns c = record {
+  fault = c.fault.result;
+  number_len = c.number_len-state.result.1;
+  words = c.wording_of.ensures c.args.text.now c.range_from-next.result.now ∙ ap (fault_message c.fault.result c.args.text.now) c.range_from-next.ensures.value;
+}

@@ -1,0 +1,13 @@
+use Rattle.std.proofs.Common.{[], ◌∷◌, ◌++◌}
+use Rattle.gqlcst_run.proofs.Pages.{puts_then}
+use Rattle.gqlcst_run.proofs.Quoting.{quoted-form}
+use Rattle.gqlcst_run.proofs.page.Page.put_quoted_parts.Goals as goal
+
+pub returns : goal.returns
+returns g c =
+    let escaped = c.put_escaped_parts.ensures in
+    record {
+      output = 34 ∷ (escaped.output ++ 34 ∷ []);
+      made = quoted-form (c.args.front.now ++ c.args.middle.now ++ c.args.back.now) escaped.output escaped.made;
+      puts = puts_then _ _ _ _ _ c.put.ensures (puts_then _ _ _ _ _ escaped.puts c.put-2.ensures);
+    }

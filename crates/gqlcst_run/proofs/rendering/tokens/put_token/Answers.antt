@@ -1,0 +1,19 @@
+use Rattle.std.proofs.Common.{◌≡◌, ◌+◌, true, false, ◌++◌, ◌∙◌, codes, length}
+use Rattle.apollo_parser.specs.declared.TokenKind.TheVariants.{Eof}
+use Rattle.apollo_parser.specs.Printed.{place_text}
+use Rattle.gqlcst_run.proofs.Pages.{puts_then}
+use Rattle.gqlcst_run.proofs.Forms.{token-form}
+use Rattle.gqlcst_run.proofs.rendering.tokens.put_token.Goals as goal
+
+pub returns : goal.returns
+returns g c =
+    let token = c.args.token in
+    let text = c.data-text.result.now in
+    let start = c.index.result in
+    let quoted = c.put_quoted.ensures in
+    let other : token.kind ≡ Eof → ⊥ = λ e. let is : false ≡ true = rw (c.kind.ensures ∙ e) at c.if-eq.ensures in (cc) in
+    record {
+      output = place_text c.name.result.now start (start + length text) ++ (codes " " ++ quoted.output);
+      made = token-form token.kind token.text.now text c.name.result.now quoted.output token.index start other c.name.ensures c.data-text.ensures c.index.ensures quoted.made;
+      puts = puts_then _ _ _ _ _ c.put_head.ensures (puts_then _ _ _ _ _ c.put_str.ensures quoted.puts);
+    }

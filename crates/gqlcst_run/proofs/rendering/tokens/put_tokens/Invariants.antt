@@ -1,0 +1,8 @@
+use Rattle.apollo_parser.specs.LexerAnswers.{answers_left}
+use Rattle.gqlcst_run.specs.Paging.{PutsSome}
+use Rattle.gqlcst_run.proofs.Items.{ArePrinted}
+use Rattle.gqlcst_run.proofs.rendering.tokens.put_tokens.Given as goal
+
+abbrev pub invariant-loop-item : goal.invariant-loop-item
+invariant-loop-item g l =
+    PutsSome (ArePrinted (answers_left l.initial.item-iterator) (answers_left l.item-iterator) l.errors) (l.initial.page, g.W.Sink.account l.initial.writer) (l.page, g.W.Sink.account l.writer)
