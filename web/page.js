@@ -67,8 +67,8 @@ function showParsed(text, found) {
   say(...verdict, `${count(tree.length, "element")} · nesting ${found.depth} · ${found.took.toFixed(1)} ms`);
   at("errors").replaceChildren(...errors.slice(0, MOST_LISTED).map(listed));
   if (found.errorCount > MOST_LISTED) at("errors").append(piece("more", `and ${count(found.errorCount - MOST_LISTED, "more error")}`, "li"));
-  editor.render();
-  if (document.activeElement === editor.area) follow(editor.area.selectionStart, editor.area.selectionEnd);
+  if (document.activeElement === editor.area && text === editor.text) follow(editor.area.selectionStart, editor.area.selectionEnd);
+  else editor.render();
   clearTimeout(linking);
   linking = setTimeout(() => history.replaceState(null, "", text.length <= LONGEST_LINK ? `#${encodeURIComponent(text)}` : location.pathname), 300);
 }
@@ -111,8 +111,8 @@ function words(start, end) {
 }
 
 function underlines(start, end) {
-  const ranges = errors.map((error) => ({ ...error, start: moved(error.start), end: moved(error.end), name: error.start === error.end ? "error empty" : "error" }));
-  return ranges.filter((it) => it.end >= start && it.start <= end);
+  const inSight = errors.filter((error) => moved(error.end) >= start && moved(error.start) <= end);
+  return inSight.map((error) => ({ ...error, start: moved(error.start), end: moved(error.end), name: error.start === error.end ? "error empty" : "error" }));
 }
 
 async function load(example) {
@@ -137,10 +137,7 @@ if (isSupported()) {
   worker.onmessage = answered;
   worker.onerror = () => say("The parser could not be loaded.", "failed");
   at("recursion").oninput = at("tokens").oninput = changed;
-  at("quiet").onchange = () => {
-    view.hasQuiet = at("quiet").checked;
-    view.refresh();
-  };
+  at("quiet").onchange = ({ target }) => view.refresh(target.checked);
   at("examples").onchange = () => load(at("examples").value);
   at("format").onclick = () => ask("format");
   onhashchange = loadLink;

@@ -12,7 +12,7 @@ export class TreeView {
   // `choose(element, intoText)` is called for an element that the reader chose.
   constructor(box, choose) {
     Object.assign(this, { box, choose, list: box.firstElementChild, tree: null, shown: [], chosen: 0, hasQuiet: false });
-    // What the reader opened or closed, by kinds and where they begin: so it stays so while the text changes.
+    // What the reader opened or closed, by the keys of the tree: so it stays so while the text changes.
     this.toggled = new Map();
     box.onscroll = () => this.#render();
     box.onkeydown = (event) => this.#press(event);
@@ -22,21 +22,18 @@ export class TreeView {
 
   // Shows the tree of a text. `moved` says where places of the text before are now; without it the text is another one.
   show(tree, moved) {
-    const before = moved === null ? [] : [...this.toggled.values()];
+    const before = moved === null ? [] : [...this.toggled];
     this.tree = tree;
-    this.toggled = new Map();
-    for (const { kind, start, isOpen } of before) this.#note(kind, moved(start), isOpen);
+    this.toggled = new Map(before.map(([key, isOpen]) => [moved(Math.floor(key / 0x10000)) * 0x10000 + (key % 0x10000), isOpen]));
     this.chosen = Math.min(this.chosen, tree.length - 1);
     this.refresh();
   }
 
-  #note = (kind, start, isOpen) => this.toggled.set(`${kind}@${start}`, { kind, start, isOpen });
-
-  refresh() {
+  refresh(hasQuiet = this.hasQuiet) {
     const { tree } = this;
-    this.shown = [];
+    Object.assign(this, { hasQuiet, shown: [] });
     for (let element = 0; element < tree.length; element = this.#isOpen(element) ? element + 1 : tree.next(element))
-      if (this.hasQuiet || !QUIET.has(tree.kind(element))) this.shown.push(element);
+      if (hasQuiet || !QUIET.has(tree.kind(element))) this.shown.push(element);
     this.list.style.height = `${this.shown.length * ROW_HEIGHT}px`;
     this.#render();
   }
@@ -44,11 +41,11 @@ export class TreeView {
   #isOpen(element) {
     const { tree } = this;
     if (!tree.hasChildren(element)) return false;
-    return this.toggled.get(`${tree.kind(element)}@${tree.start(element)}`)?.isOpen ?? (tree.length <= SMALL || element === 0);
+    return this.toggled.get(tree.key(element)) ?? (tree.length <= SMALL || element === 0);
   }
 
   #toggle(element) {
-    this.#note(this.tree.kind(element), this.tree.start(element), !this.#isOpen(element));
+    this.toggled.set(this.tree.key(element), !this.#isOpen(element));
     this.refresh();
   }
 
@@ -57,12 +54,16 @@ export class TreeView {
 
   // Opens what is above an element, and brings it into sight.
   reveal(element) {
+    let hasOpened = false;
     for (let above = element; above > 0; ) {
       above = this.tree.parent(above);
-      if (!this.#isOpen(above)) this.#note(this.tree.kind(above), this.tree.start(above), true);
+      hasOpened ||= !this.#isOpen(above);
+      this.toggled.set(this.tree.key(above), true);
     }
     this.chosen = element;
-    this.refresh();
+    // the list of a large tree is long
+    if (hasOpened) this.refresh();
+    else this.#render();
     const top = this.#place(element) * ROW_HEIGHT;
     const { scrollTop, clientHeight } = this.box;
     if (top < scrollTop || top + ROW_HEIGHT > scrollTop + clientHeight) this.box.scrollTop = top - clientHeight / 3;
