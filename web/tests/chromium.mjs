@@ -90,8 +90,9 @@ export class Chromium {
     for (const type of ["rawKeyDown", "keyUp"]) await this.send("Input.dispatchKeyEvent", { type, key, code: key, windowsVirtualKeyCode: code, modifiers });
   }
 
+  // Types by keys. Input.insertText is the way of input methods, whose time grows with the square of the lines before the cursor in any text area.
   async type(text) {
-    await this.send("Input.insertText", { text });
+    for (const letter of text) for (const type of ["keyDown", "keyUp"]) await this.send("Input.dispatchKeyEvent", { type, key: letter, text: type === "keyDown" ? letter : "" });
   }
 
   async move(x, y) {

@@ -240,6 +240,46 @@ const tests = {
     assert.ok(await page.evaluate("document.documentElement.scrollWidth <= innerWidth"));
     await page.size(1280, 800);
   },
+
+  // Chromium lays out all lines of a text area when it is filled, and at each letter. So the pauses are compared with those of a bare one.
+  async "a text of 1 MB does not stop the page"() {
+    const [file, copies] = (await page.evaluate("[...document.getElementById('examples').options].find((it) => it.value.includes('*')).value")).split("*");
+    const big = (await (await fetch(`${address}examples/${file}`)).text()).repeat(Number(copies));
+    // the longest pause in milliseconds from an act until an expression holds and is painted
+    const pause = async (act, done) => {
+      await page.evaluate("(window.longest = window.answers = 0, window.last ??= (setInterval(() => { longest = Math.max(longest, performance.now() - last); last = performance.now(); }, 1), performance.now()))");
+      await act();
+      await page.until(done, 60);
+      await page.evaluate("new Promise((done) => requestAnimationFrame(() => setTimeout(done, 20)))");
+      return page.evaluate("longest");
+    };
+    // of seven letters the pause in the middle, and of two loads the shorter one: other programs of the machine make some longer
+    const letter = async (done) => {
+      await put(big.indexOf("enum Episode", big.length / 2));
+      const pauses = [];
+      for (const one of "# typed") pauses.push(await pause(() => page.type(one), done));
+      return pauses.sort((a, b) => a - b)[3];
+    };
+    const isFull = `document.getElementById('text').value.length === ${big.length}`;
+    const loadBare = async () => {
+      await page.open("data:text/html,<textarea id=text wrap=off spellcheck=false style='position:absolute;width:600px;height:600px;font:14px/22px monospace'></textarea>");
+      return pause(() => page.evaluate(`document.getElementById("text").value = ${quote(big)}; 0`), isFull);
+    };
+    const loadOurs = async () => {
+      await show("{ a }");
+      await page.evaluate("new MutationObserver(() => window.answers++).observe(document.getElementById('details'), { childList: true })");
+      return pause(() => setField("examples", `${file}*${copies}`), `${isFull} && window.answers > 0`);
+    };
+
+    const bare = { load: Math.min(await loadBare(), await loadBare()), letter: await letter("true") };
+    const ours = { load: Math.min(await loadOurs(), await loadOurs()), letter: await letter("window.answers > 0") };
+    console.log(`  the page stood still for ${ours.load.toFixed(0)} ms when it was loaded, and ${ours.letter.toFixed(0)} at a letter; a bare text area ${bare.load.toFixed(0)} and ${bare.letter.toFixed(0)}`);
+    await says("error");
+    assert.ok((await rows()).length < 200);
+    assert.ok((await page.evaluate("document.querySelector('.words').textContent")).length < 10000);
+    assert.ok(ours.load < 3 * bare.load + 3000, `the page stood still for ${ours.load} ms when it was loaded`);
+    assert.ok(ours.letter < 3 * bare.letter + 500, `the page stood still for ${ours.letter} ms at a letter`);
+  },
 };
 
 async function takePictures(folder) {
