@@ -243,6 +243,7 @@ const tests = {
 
   // Chromium lays out all lines of a text area when it is filled, and at each letter. So the pauses are compared with those of a bare one.
   async "a text of 1 MB does not stop the page"() {
+    await show("{ a }");
     const [file, copies] = (await page.evaluate("[...document.getElementById('examples').options].find((it) => it.value.includes('*')).value")).split("*");
     const big = (await (await fetch(`${address}examples/${file}`)).text()).repeat(Number(copies));
     // the longest pause in milliseconds from an act until an expression holds and is painted
