@@ -10,7 +10,7 @@ use apollo_lexer::{Error, LexError, Token};
 use parser_rules::Message;
 use std::alloc::{AllocError, Allocator};
 
-/// What was found wrong. It takes no memory of its own; the errors are made of the reports when the parse ends.
+/// What was found wrong. The error is made of it.
 #[derive(Clone, Copy)]
 pub enum Report<'i> {
     /// Bad text, or that the token limit is met.

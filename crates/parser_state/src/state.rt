@@ -8,6 +8,7 @@ mod nesting;
 mod reader;
 mod reading;
 mod reporting;
+mod reports;
 mod start;
 mod tokens;
 
@@ -21,15 +22,14 @@ ghost use Rattle.parser_rules.specs.State as state;
 ghost use Rattle.parser_rules.specs.Open.{IsRoot};
 ghost use Rattle.parser_state.specs.Errors.{IsErrorOf};
 ghost use Rattle.parser_state.specs.Reading as reading;
-ghost use Rattle.parser_state.specs.View.{current_of, pending_of, report_of};
+ghost use Rattle.parser_state.specs.View.{current_of, pending_of};
 
-use crate::report::Report;
 use apollo_lexer::{Error, Lexer, LimitTracker, Steps, Token};
 use apollo_tree::{Checkpoint, SpanBuilder, Subtree};
 use building::push_all;
 use document_grammar::SyntaxKind;
 use reader::Reader;
-use reporting::errors_of;
+use reports::Reports;
 use std::alloc::{AllocError, Allocator};
 use std::marker::Model;
 pub use tokens::{is_eof, is_kind, is_word};
@@ -58,7 +58,8 @@ pub struct ParserState<'i, A: Allocator> {
     current_token: Option<Token<'i>>,
     builder: SpanBuilder<A>,
     pending: Vec<PendingToken<'i>, A>,
-    reports: Vec<Report<'i>, A>,
+    errors: Vec<Error<A>, A>,
+    reports: Reports,
     recursion_limit: LimitTracker,
     accept_errors: bool,
 }
@@ -76,7 +77,9 @@ impl<'i, A: Allocator> Model for ParserState<'i, A> {
     ghost use Rattle.apollo_lexer.specs.Answers.{answers_left, final_high};
     ghost use Rattle.parser_state.specs.Lengths.{text_length};
     ghost use Rattle.parser_state.specs.Lookahead.{all_given};
-    ghost use Rattle.parser_state.specs.View.{current_of, pending_of, report_of};
+    ghost use Rattle.std.specs.List.{AllZip};
+    ghost use Rattle.parser_state.specs.Errors.{IsErrorOf};
+    ghost use Rattle.parser_state.specs.View.{current_of, pending_of};
     ghost use Rattle.parser_rules.specs.State.{IsNow};
 
     ghost view = { λ p. record {
@@ -84,7 +87,7 @@ impl<'i, A: Allocator> Model for ParserState<'i, A> {
       current = current_of p.current_token;
       pending = map pending_of p.pending.items;
       tree = p.builder;
-      errors = map report_of p.reports.items;
+      errors = p.reports.list;
       limit = p.recursion_limit.limit;
       depth = p.recursion_limit.current;
       high = p.recursion_limit.high;
@@ -93,7 +96,7 @@ impl<'i, A: Allocator> Model for ParserState<'i, A> {
       budget = p.reader.start.count + 2 * all_given p.reader.lexer;
     } };
 
-    ghost invariant = { λ p. IsNow (current_of p.current_token) × (text_length p.builder (map pending_of p.pending.items) (current_of p.current_token) (answers_left p.reader.lexer) < 2 ^ 64) };
+    ghost invariant = { λ p. IsNow (current_of p.current_token) × (text_length p.builder (map pending_of p.pending.items) (current_of p.current_token) (answers_left p.reader.lexer) < 2 ^ 64) × ∥ AllZip IsErrorOf p.reports.list p.errors.items ∥₁ };
 }
 
 impl<'i, A: Allocator + Copy> ParserState<'i, A> {
@@ -113,7 +116,8 @@ impl<'i, A: Allocator + Copy> ParserState<'i, A> {
             current_token: None,
             builder: SpanBuilder::new(alloc),
             pending: Vec::new(alloc),
-            reports: Vec::new(alloc),
+            errors: Vec::new(alloc),
+            reports: Reports::new(),
             recursion_limit: LimitTracker::new(recursion_limit),
             accept_errors: true,
         }
@@ -170,7 +174,7 @@ impl<'i, A: Allocator + Copy> ParserState<'i, A> {
             reader,
             pending,
             mut builder,
-            reports,
+            errors,
             alloc,
             recursion_limit,
             ..
@@ -183,7 +187,7 @@ impl<'i, A: Allocator + Copy> ParserState<'i, A> {
         tokens.high = asked;
         Ok(Finished {
             tree: builder.finish(alloc, source)?,
-            errors: errors_of(alloc, &reports)?,
+            errors,
             recursion_limit,
             token_limit: tokens,
         })

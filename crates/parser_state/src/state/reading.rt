@@ -87,7 +87,7 @@ impl<'i, A: Allocator + Copy> ParserState<'i, A> {
         ensures step { OnOk result (self.new ≡ reading.refused error.entry.is_limit error.entry.text.now error.entry.index self.old) }
         ensures budget { self.new.budget ≡ self.old.budget }
     {
-        self.reports.push(Report::Lexer(error))?;
+        self.add_error(Report::Lexer(error))?;
         if error.is_limit() {
             self.accept_errors = false;
             return Ok(());

@@ -1,48 +1,43 @@
 // Reporting: what was found wrong, and the errors of it.
 #![tactic(auto, using(parser_rules::specs::Runs::does), unfolding(parser_rules::proofs::runs::Running::steps))]
 
-ghost use Rattle.std.specs.Prelude.{◌≡◌, ◌<◌, true, map, OnOk, IfOk};
-ghost use Rattle.std.specs.List.{AllZip};
+ghost use Rattle.std.specs.Prelude.{◌≡◌, ◌<◌, true, [], ◌∷◌, ◌++◌, OnOk};
 ghost use Rattle.lexical_grammar.specs.declared.TokenKind.TheVariants as token;
 ghost use Rattle.document_grammar.specs.declared.kind.SyntaxKind.TheVariants as kind;
 ghost use Rattle.parser_rules.specs.State as state;
 ghost use Rattle.parser_rules.specs.RuleLanguage.{At, Word, Ready, Note, Bump, Do, When, Skip, want, expect, expect_word, refuse};
 ghost use Rattle.document_grammar.specs.Choices.{is_keyword};
 ghost use Rattle.document_grammar.specs.Numbers.{number};
-ghost use Rattle.parser_state.specs.Errors.{IsErrorOf};
 ghost use Rattle.parser_state.specs.View.{report_of};
 ghost use Rattle.parser_state.specs.Parses.{Parses};
 
 use super::ParserState;
 use crate::report::Report;
-use apollo_lexer::Error;
 use document_grammar::SyntaxKind;
 use lexical_grammar::TokenKind;
 use parser_rules::Message;
 use std::alloc::{AllocError, Allocator};
 
-// An error for each report.
-pub(super) fn errors_of<A: Allocator + Copy>(
-    alloc: A,
-    reports: &[Report<'_>],
-) -> Result<Vec<Error<A>, A>, AllocError>
-    ensures { IfOk result (λ errors. AllZip IsErrorOf (map report_of reports.now) errors.items) }
-{
-    let mut errors = Vec::new(alloc);
-    for report in reports {
-        errors.push(report.to_error(alloc)?)?;
-    }
-    Ok(errors)
-}
-
 impl<'i, A: Allocator + Copy> ParserState<'i, A> {
+    // The report becomes an error.
+    #[cold]
+    pub(super) fn add_error(&mut self, report: Report<'i>) -> Result<(), AllocError>
+        ensures step { OnOk result (self.new ≡ record self.old { errors = self.old.errors ++ report_of report.entry ∷ [] }) }
+        ensures budget { self.new.budget ≡ self.old.budget }
+    {
+        let error = report.to_error(self.alloc)?;
+        self.errors.push(error)?;
+        self.reports = self.reports.one_more(&report);
+        Ok(())
+    }
+
     // After a limit error no more is reported.
     pub(super) fn push_report(&mut self, report: Report<'i>) -> Result<(), AllocError>
         ensures step { OnOk result (self.new ≡ state.reported (report_of report.entry) self.old) }
         ensures budget { self.new.budget ≡ self.old.budget }
     {
         if self.accept_errors {
-            self.reports.push(report)?;
+            self.add_error(report)?;
         }
         Ok(())
     }

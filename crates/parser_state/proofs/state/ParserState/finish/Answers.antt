@@ -1,13 +1,16 @@
-use Rattle.std.proofs.Common.{◌≡◌, ◌+◌, ◌<◌, ◌^◌, ◌∙◌, sym, ap, subst, map, length, List}
+use Rattle.std.proofs.Common.{◌≡◌, ◌+◌, ◌<◌, ◌^◌, ◌∙◌, List, sym, ap, subst, map, length}
+use Rattle.std.specs.List.{AllZip}
 use Rattle.document_grammar.specs.Builds.{Building, finish, built_text}
 use Rattle.apollo_tree.specs.Open.{IsComplete}
-use Rattle.parser_rules.specs.State.{State, add_all, finished}
+use Rattle.parser_rules.specs.State.{State, Report, add_all, finished}
 use Rattle.parser_rules.specs.Open.{IsRoot}
 use Rattle.parser_state.specs.declared.state.PendingToken.{PendingToken}
 use Rattle.parser_state.specs.Lengths.{pending_length}
+use Rattle.parser_state.specs.Errors.{IsErrorOf}
 use Rattle.parser_state.specs.View.{pending_of}
 use Rattle.parser_state.proofs.Lengths.{room-all}
 use Rattle.parser_state.proofs.Building.{free-fits, root-flushed, root-is-open, root-closes, begins-with}
+use Rattle.parser_state.proofs.Reporting.{errors-had}
 use Rattle.parser_state.proofs.state.ParserState.finish.Goals as goal
 
 pub push_all-requires : goal.push_all-requires
@@ -27,3 +30,8 @@ finish-requires g c =
     let here : c.finish_node.new.self.here ≡ finished c.args.self =
     ap (λ (b : Building). b.here) built ∙ ap (λ pending. (finish (add_all (map pending_of pending) c.self.inside.builder)).here) c.deref.ensures.value ∙ ap finished c.self.view_is in
     record { complete = complete; source = begins-with c.finish_node.new.self (finished c.args.self) c.args.source.now complete here c.requires.source }
+
+pub returns-clause-errors : goal.returns-clause-errors
+returns-clause-errors g c =
+    subst (λ (rs : List Report). AllZip IsErrorOf rs c.self.inside.errors.items) (ap (λ (s : State). s.errors) c.self.view_is)
+    (errors-had c.self.inside.reports.list c.self.inside.errors.items c.self.invariant.2)
