@@ -1,0 +1,4 @@
+pub mod FrameLemmas
+pub mod NumeralLemmas
+pub mod WrittenLemmas
+pub mod HeaderLemmas

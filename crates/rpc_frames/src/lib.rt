@@ -1,0 +1,202 @@
+//! The frames in which the Language Server Protocol sends its messages: a head of fields as in HTTP, of which `Content-Length` gives the length of the
+//! body in bytes, and the body.
+//!
+//! A `FrameBuffer` is given bytes as they come, in pieces of any length, and gives the bodies. It has no devices.
+#![tactic(auto)]
+
+ghost use Rattle.std.specs.Prelude.{◌≡◌, ◌≢◌, ◌≤◌, ◌^◌, ◌==◌, ◌++◌, [], length, map, All, IfOk, IfErr, IfSome, IfNone, OnOk, OnErr};
+ghost use Rattle.std.specs.Char.{is_ascii_digit};
+ghost use Rattle.std.specs.List.{list_all};
+ghost use Rattle.httparse.specs.Spans.{header_bytes, IsHeaderWithin};
+ghost use Rattle.rpc_frames.specs.Frames.{Agrees, BeginsWithFrame, HasNoFrame, IsBodyAt, IsFrame, IsHeadAt, NeverHasFrame, frame_of, is_length_name, length_in, numeral};
+ghost use Rattle.rpc_frames.specs.declared.FrameError.TheVariants.{Memory};
+
+use httparse::Status;
+use httparse::spans::{EMPTY_HEADER_SPAN, HeaderSpan, parse_headers};
+use std::alloc::{AllocError, Global};
+use std::marker::Model;
+
+/// Why no body is given.
+#[derive(Clone, Copy, Debug, PartialEq, Eq)]
+pub enum FrameError {
+    /// The head is no section of fields, has more than 16 of them, or its first `Content-Length` is missing or no decimal number.
+    Malformed,
+    /// The head doesn't end within 4096 bytes.
+    TooLong,
+    /// The body has more than 2 ^ 30 bytes.
+    TooLarge,
+    /// Memory was refused.
+    Memory,
+}
+
+impl From<AllocError> for FrameError {
+    ghost from_gives = { λ _ error. error ≡ Memory };
+
+    fn from(_error: AllocError) -> FrameError {
+        FrameError::Memory
+    }
+}
+
+/// Bytes that were read, and of which no body has been made yet.
+#[derive(Drop)]
+pub struct FrameBuffer {
+    bytes: Vec<u8>,
+}
+
+impl Model for FrameBuffer {
+    ghost use Rattle.std.specs.Prelude.{ℕ, List};
+
+    ghost Value = { List ℕ };
+
+    ghost view = { λ buffer. buffer.bytes.items };
+}
+
+impl FrameBuffer {
+    /// An empty buffer.
+    pub fn new(alloc: Global) -> FrameBuffer
+        ensures { result ≡ [] }
+    {
+        FrameBuffer {
+            bytes: Vec::new(alloc),
+        }
+    }
+
+    /// Whether no byte is left.
+    pub fn is_empty(&self) -> bool
+        ensures { result ≡ (length self.now == 0) }
+    {
+        self.bytes.is_empty()
+    }
+
+    /// Adds bytes that were read. Where memory is refused, the buffer stays as it was.
+    pub fn extend(&mut self, bytes: &[u8]) -> Result<(), AllocError>
+        ensures ok { OnOk result (self.new ≡ self.old ++ bytes.now) }
+        ensures err { OnErr result (self.new ≡ self.old) }
+    {
+        self.bytes.extend_from_slice(bytes)
+    }
+
+    /// The body of the next frame, which leaves the buffer; `None` when more bytes are needed. After an error the buffer is as it was.
+    pub fn next_body(&mut self, alloc: Global) -> Result<Option<Vec<u8>>, FrameError>
+        ensures found { IfOk result (λ next. IfSome next (λ body. BeginsWithFrame self.old body.items self.new)) }
+        ensures none { IfOk result (λ next. IfNone next (HasNoFrame self.old)) }
+        ensures kept { IfOk result (λ next. IfNone next (self.new ≡ self.old)) }
+        ensures err { OnErr result (self.new ≡ self.old) }
+        ensures never { IfErr result (λ error. error ≢ Memory → NeverHasFrame self.old) }
+    {
+        let range = body_range(self.bytes.as_slice())?;
+        match range {
+            None => Ok(None),
+            Some((start, end)) => {
+                let body = Vec::from_slice(alloc, &self.bytes[start..end])?;
+                let rest = Vec::from_slice(alloc, &self.bytes[end..])?;
+                self.bytes = rest;
+                Ok(Some(body))
+            }
+        }
+    }
+}
+
+const HEAD_LIMIT: usize = 4096;
+
+const FIELD_LIMIT: usize = 16;
+
+const BODY_LIMIT: usize = 1 << 30;
+
+// A head: where it ends, and the length of the body.
+#[derive(Clone, Copy)]
+struct FrameHead {
+    end: usize,
+    length: usize,
+}
+
+// The head of the first frame, or nothing when it isn't complete.
+fn head(bytes: &[u8]) -> Result<Option<FrameHead>, FrameError>
+    ensures found { IfOk result (λ next. IfSome next (λ head. IsHeadAt bytes.now head.end head.length)) }
+    ensures none { IfOk result (λ next. IfNone next (HasNoFrame bytes.now)) }
+    ensures never { OnErr result (NeverHasFrame bytes.now) }
+{
+    let front = &bytes[..bytes.len().min(HEAD_LIMIT)];
+    let mut headers = [EMPTY_HEADER_SPAN; FIELD_LIMIT];
+    match parse_headers(front, &mut headers) {
+        Ok(Status::Complete((end, count))) => match length_in(front, &headers[..count]) {
+            Some(length) => Ok(Some(FrameHead { end, length })),
+            None => Err(FrameError::Malformed),
+        },
+        Ok(Status::Partial) => {
+            if bytes.len() < HEAD_LIMIT {
+                Ok(None)
+            } else {
+                Err(FrameError::TooLong)
+            }
+        }
+        Err(_) => Err(FrameError::Malformed),
+    }
+}
+
+// Where the body of the first frame begins and ends, or nothing when it isn't complete.
+fn body_range(bytes: &[u8]) -> Result<Option<(usize, usize)>, FrameError>
+    ensures found { IfOk result (λ next. IfSome next (λ range. IsBodyAt bytes.now range.0 range.1)) }
+    ensures none { IfOk result (λ next. IfNone next (HasNoFrame bytes.now)) }
+    ensures never { OnErr result (NeverHasFrame bytes.now) }
+{
+    let Some(head) = head(bytes)? else {
+        return Ok(None);
+    };
+    if head.length > BODY_LIMIT {
+        return Err(FrameError::TooLarge);
+    }
+    if bytes.len() - head.end < head.length {
+        return Ok(None);
+    }
+    Ok(Some((head.end, head.end + head.length)))
+}
+
+// The length that the first field with its name gives.
+fn length_in(bytes: &[u8], headers: &[HeaderSpan]) -> Option<usize>
+    requires { All (IsHeaderWithin (length bytes.now)) headers.now }
+    ensures { Agrees (length_in (map (header_bytes bytes.now) headers.now)) result }
+{
+    for header in headers {
+        if is_length_name(header.name.of(bytes)) {
+            return numeral(header.value.of(bytes));
+        }
+    }
+    None
+}
+
+fn is_length_name(name: &[u8]) -> bool
+    ensures { result ≡ is_length_name name.now }
+{
+    name.eq_ignore_ascii_case(b"content-length")
+}
+
+fn are_digits(bytes: &[u8]) -> bool
+    ensures { result ≡ list_all is_ascii_digit bytes.now }
+{
+    bytes.iter().all(|byte| byte.is_ascii_digit())
+}
+
+// The number that decimal digits spell.
+fn numeral(digits: &[u8]) -> Option<usize>
+    ensures { Agrees (numeral digits.now) result }
+{
+    if !are_digits(digits) {
+        return None;
+    }
+    let Ok(text) = str::from_utf8(digits) else {
+        return None;
+    };
+    text.parse::<usize>().ok()
+}
+
+/// A body as a frame, to be written at once.
+pub fn frame(alloc: Global, body: &[u8]) -> Result<Vec<u8>, AllocError>
+    ensures bytes { IfOk result (λ frame. frame.items ≡ frame_of body.now) }
+    ensures frame { length body.now ≤ 2 ^ 30 → IfOk result (λ frame. IsFrame frame.items body.now) }
+{
+    let length = body.len();
+    let mut frame = format!(in alloc; "Content-Length: {length}\r\n\r\n")?.into_bytes();
+    frame.extend_from_slice(body)?;
+    Ok(frame)
+}
