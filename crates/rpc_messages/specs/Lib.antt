@@ -1,0 +1,3 @@
+pub mod Pieces
+pub mod Messages
+pub mod Replies

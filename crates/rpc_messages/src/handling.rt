@@ -1,0 +1,83 @@
+// Which messages have to be answered.
+ghost use Rattle.std.specs.Prelude.{◌≡◌, IfOk, None, Option, Some};
+ghost use Rattle.json.specs.Token as json;
+ghost use Rattle.json.specs.Tree.{HasNumbers};
+ghost use Rattle.json.specs.Value.{value_view};
+ghost use Rattle.rpc_messages.specs.Messages.{Asks, IsAnswer, asked, id_token};
+ghost use Rattle.rpc_messages.specs.Replies.{Replies};
+
+use crate::message::{code, refusal};
+use crate::reply::Reply;
+use json::{Error, Scratch, Value};
+use std::alloc::{AllocError, Global};
+
+/// What answers requests and receives notifications.
+pub trait Service {
+    /// The answer to a request, by its id, its method and its parameters. A method that is no text is empty.
+    fn request(
+        &mut self,
+        alloc: Global,
+        id: &Value<'_>,
+        method: &str,
+        params: &Value<'_>,
+    ) -> Result<Vec<u8>, AllocError>
+        requires { HasNumbers (value_view id.now) }
+        ensures { IfOk result (λ body. IsAnswer (id_token (value_view id.now)) body.items) };
+
+    /// What a notification brings about, by its method and its parameters.
+    fn notification(
+        &mut self,
+        alloc: Global,
+        method: &str,
+        params: &Value<'_>,
+    ) -> Result<Reply, AllocError>
+        ensures { IfOk result (Replies None) };
+}
+
+// The refusal of what is no message.
+fn refused(alloc: Global, code: i64, text: &str) -> Result<Reply, AllocError>
+    ensures { IfOk result (Replies (Some json.null)) }
+{
+    Ok(Reply::Answer(refusal(alloc, &Value::Null, code, text)?))
+}
+
+// What a message brings about, by whether it has an id and a method.
+fn reply<S: Service>(
+    alloc: Global,
+    service: &mut S,
+    message: &Value<'_>,
+) -> Result<Reply, AllocError>
+    requires { HasNumbers (value_view message.now) }
+    ensures { IfOk result (Replies (asked (value_view message.now))) }
+{
+    let nothing = Value::Null;
+    let params = message.get("params").unwrap_or(&nothing);
+    match (message.get("id"), message.get("method")) {
+        (Some(id), Some(method)) => {
+            let method = method.as_str().unwrap_or("");
+            Ok(Reply::Answer(service.request(alloc, id, method, params)?))
+        }
+        (Some(_), None) => Ok(Reply::Nothing),
+        (None, Some(method)) => {
+            let method = method.as_str().unwrap_or("");
+            service.notification(alloc, method, params)
+        }
+        (None, None) => refused(
+            alloc,
+            code::INVALID_REQUEST,
+            "neither a request nor a notification",
+        ),
+    }
+}
+
+/// What the body of a message brings about. It fails only where memory is refused.
+pub fn handle<S: Service>(alloc: Global, service: &mut S, body: &[u8]) -> Result<Reply, AllocError>
+    ensures { IfOk result (λ reply. (t : Option json.Token) × Asks body.now t × Replies t reply) }
+{
+    let mut scratch = Scratch::new(alloc);
+    match Value::from_slice(alloc, body, &mut scratch) {
+        Ok(message) => reply(alloc, service, &message),
+        Err(Error::Invalid) => refused(alloc, code::PARSE_ERROR, "not JSON"),
+        Err(_) => Err(AllocError),
+    }
+}

@@ -1,0 +1,68 @@
+// Pieces of JSON, from which messages are made.
+ghost use Rattle.std.specs.Prelude.{◌≡◌, OnOk, flat_map, map};
+ghost use Rattle.rpc_messages.specs.Pieces.{Adds, number_token, tokens_of};
+
+use json::Writer;
+use std::alloc::{AllocError, Global};
+
+/// A piece of JSON.
+#[derive(Clone, Copy)]
+pub enum Piece<'a> {
+    /// `{`
+    Object,
+    /// `}`
+    EndObject,
+    /// `[`
+    Array,
+    /// `]`
+    EndArray,
+    /// The name of a member.
+    Key(&'a str),
+    Text(&'a str),
+    Count(usize),
+    Number(i64),
+    Flag(bool),
+    Null,
+    /// The items of a list of numbers.
+    Counts(&'a [usize]),
+}
+
+// Writes the items of a list of numbers.
+fn put_counts(out: &mut Writer, counts: &[usize]) -> Result<(), AllocError>
+    ensures { Adds result out.old out.new (map number_token counts.now) }
+{
+    for count in counts {
+        out.u64(*count as u64)?;
+    }
+    Ok(())
+}
+
+// Writes a piece.
+#[tactic(auto, using(crate::proofs::Added::added_one))]
+fn put(out: &mut Writer, piece: Piece<'_>) -> Result<(), AllocError>
+    ensures { Adds result out.old out.new (tokens_of piece.entry) }
+{
+    match piece {
+        Piece::Object => out.begin_object(),
+        Piece::EndObject => out.end_object(),
+        Piece::Array => out.begin_array(),
+        Piece::EndArray => out.end_array(),
+        Piece::Key(name) => out.key(name),
+        Piece::Text(text) => out.string(text),
+        Piece::Count(count) => out.u64(count as u64),
+        Piece::Number(number) => out.i64(number),
+        Piece::Flag(flag) => out.boolean(flag),
+        Piece::Null => out.null(),
+        Piece::Counts(counts) => put_counts(out, counts),
+    }
+}
+
+/// Writes pieces, one after the other.
+pub(crate) fn put_all(out: &mut Writer, pieces: &[Piece<'_>]) -> Result<(), AllocError>
+    ensures { Adds result out.old out.new (flat_map tokens_of pieces.now) }
+{
+    for piece in pieces {
+        put(out, *piece)?;
+    }
+    Ok(())
+}
