@@ -5,8 +5,8 @@ import { movedTo, Tree } from "./tree.js";
 import { TreeView } from "./tree_view.js";
 
 const MOST_LISTED = 200;
-// Longer texts have no link.
-const LONGEST_LINK = 20000;
+// Longer texts have no link, and no undo once they are formatted: Chromium takes minutes to type a long text.
+const [LONGEST_LINK, LONGEST_UNDONE] = [20000, 100000];
 const NO_MEMORY64 = "This browser has no 64-bit memory for WebAssembly, which the parser needs: Chrome and Edge have it from version 133 on, Firefox from 134 on.";
 
 const at = (id) => document.getElementById(id);
@@ -84,7 +84,7 @@ function listed(error) {
 
 function showFormatted(text, { status, text: formatted }) {
   if (status === STATUS.NOT_A_DOCUMENT) say("A text with errors is not formatted.", "errors");
-  else if (status === STATUS.OK && text === editor.text && formatted !== text) editor.replace(formatted, true);
+  else if (status === STATUS.OK && text === editor.text && formatted !== text) editor.replace(formatted, Math.max(text.length, formatted.length) <= LONGEST_UNDONE);
 }
 
 // Chooses the element that the cursor or the selection is in.

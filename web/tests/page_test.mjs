@@ -281,6 +281,20 @@ const tests = {
     assert.ok(ours.load < 3 * bare.load + 3000, `the page stood still for ${ours.load} ms when it was loaded`);
     assert.ok(ours.letter < 3 * bare.letter + 500, `the page stood still for ${ours.letter} ms at a letter`);
   },
+
+  // Typed, it would take Chromium a minute or more.
+  async "a text of 1 MB is formatted at once"() {
+    const words = `type A{a(b:C="${"x".repeat(80)}"):D}\n`;
+    await show("{ a }");
+    await setField("text", words.repeat(10000));
+    await says("A GraphQL document");
+    const begun = Date.now();
+    await page.evaluate("document.getElementById('format').click()");
+    await page.until("document.getElementById('text').value.startsWith('type A {\\n')", 60);
+    const took = Date.now() - begun;
+    console.log(`  a text of 1 MB was formatted in ${took} ms`);
+    assert.ok(took < 20000, `it took ${took} ms`);
+  },
 };
 
 async function takePictures(folder) {
