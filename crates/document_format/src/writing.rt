@@ -12,14 +12,7 @@ use document_style::{Elements, Gaps};
 use lexical_grammar::TokenKind;
 use respelling::spelled;
 use std::alloc::{AllocError, Allocator};
-use token_layout::Layout;
-
-// Whether tokens of the kind are significant or comments.
-fn is_kept(kind: TokenKind) -> bool
-    ensures { result ≡ is_kept_kind kind }
-{
-    kind != TokenKind::Whitespace && kind != TokenKind::Comma && kind != TokenKind::Eof
-}
+use token_layout::{Layout, is_kept};
 
 // Writes the tokens of a text.
 #[derive(Drop)]
