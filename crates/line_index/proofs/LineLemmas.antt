@@ -1,10 +1,10 @@
 -- Lines by their places.
-use Rattle.std.proofs.Common.{◌≡◌, ℕ, zero, suc, ◌+◌, ◌-◌, ◌<◌, ◌≤◌, true, false, not, List, [], ◌∷◌, ◌++◌, length, take, drop, refl, sym, ap, ◌∙◌, subst, inl, inr, arith, eqb, eqb-true, leb, get_or, Some, None, length-drop}
+use Rattle.std.proofs.Common.{◌≡◌, ℕ, zero, suc, ◌+◌, ◌-◌, ◌<◌, ◌≤◌, true, false, not, List, length, take, drop, refl, sym, ap, ◌∙◌, subst, inl, inr, arith, eqb, eqb-true, leb, get_or, Some, None, length-drop}
 use Rattle.std.specs.Prelude.{slice_index, ◌&&◌, ◌||◌}
 use Rattle.std.specs.List.Sorted.{IsNonDecreasing, IsPartitionPoint}
 use Rattle.std.proofs.lemmas.Bool.{cases_Bool, cases_lt, false_from_ne_true, and_parts, or_left, leb-true, leb-false, not_from_false, not_from_true}
 use Rattle.std.proofs.lemmas.Bool.Decides.{nat_tests}
-use Rattle.std.proofs.lemmas.List.{take_all, take_rest, get_or-drop, get_or_append_left, get_or_push, get_or_past, get_or_read, length_push}
+use Rattle.std.proofs.lemmas.List.{take_all, take_rest, get_or-drop, get_or_past, get_or_read}
 use Rattle.std.proofs.lemmas.List.Sorted.{IsNonDecreasingBy-from_default}
 use Rattle.std.specs.Str.{IsUtf8, IsCharBoundary}
 use Rattle.std.specs.List.{take_while, prefix_len}
@@ -28,7 +28,7 @@ at-step text k = elim (cases_Bool (begins_line text (suc k))) [
   | inr h ↦ omega (arith, (not-begun text k h).0)
 ]
 
-start-le : (text : List ℕ) (k : ℕ) → line_start text k ≤ k
+pub start-le : (text : List ℕ) (k : ℕ) → line_start text k ≤ k
 start-le text zero = omega arith
 start-le text (suc k) = elim (cases_Bool (begins_line text (suc k))) [
   | inl h ↦ omega (arith, (begun text k h).1)
@@ -198,7 +198,7 @@ first-none text bytes e f =
 small-end : (a b : ℕ) → (eqb a 10 || (eqb a 13 && not (eqb b 10))) ≡ true → a < 128
 small-end a b h = grind (arith, nat_tests)
 
-start-boundary : (text : List ℕ) (k : ℕ) → IsUtf8 text → k ≤ length text → IsCharBoundary text (line_start text k)
+pub start-boundary : (text : List ℕ) (k : ℕ) → IsUtf8 text → k ≤ length text → IsCharBoundary text (line_start text k)
 start-boundary text zero u within = IsCharBoundary-start text u
 start-boundary text (suc k) u within = elim (cases_Bool (begins_line text (suc k))) [
   | inl b ↦

@@ -2,6 +2,7 @@
 use Rattle.std.specs.Prelude.{◌≡◌, ℕ, ◌+◌, ◌<◌, ◌≤◌, List, length, slice_index}
 use Rattle.std.specs.Str.{IsUtf8}
 use Rattle.line_index.specs.Places.{line_at, line_start}
+use Rattle.line_index.specs.Marks.{AreMarks}
 
 -- These are the places up to `end` at which a line begins, in order.
 pub record AreStarts (text : List ℕ) (end : ℕ) (starts : List ℕ) : Type 0 where
@@ -17,7 +18,8 @@ pub record IsNextStart (text : List ℕ) (place next : ℕ) : Type 0 where
   pub begins : line_start text next ≡ next
   pub number : line_at text next ≡ line_at text place + 1
 
--- these are the line starts of a text in UTF-8
-pub record IsIndexed (text places : List ℕ) : Type 0 where
+-- these are the line starts and the marks of a text in UTF-8
+pub record IsIndexed (text places counts : List ℕ) : Type 0 where
   pub utf8 : ∥ IsUtf8 text ∥₁
   pub starts : AreStarts text (length text) places
+  pub marks : AreMarks text counts

@@ -4,12 +4,15 @@
 //! end as GraphQL's line terminators do. All numbers count from 0.
 #![tactic(auto)]
 
-ghost use Rattle.std.specs.Prelude.{◌≡◌, ◌+◌, ◌^◌, ◌<◌, ◌==◌, ◌&&◌, ◌≤◌, length, slice_index, slice_range, IfOk, MatchOption, take_while, not};
+ghost use Rattle.std.specs.Prelude.{◌≡◌, ℕ, ◌+◌, ◌^◌, ◌<◌, ◌==◌, ◌&&◌, ◌≤◌, length, slice_index, slice_range, take, IfOk, MatchOption, take_while, not};
+ghost use Rattle.std.specs.Str.{IsCharBoundary};
 ghost use Rattle.lexical_grammar.specs.Characters.{is_line_terminator};
 ghost use Rattle.std.specs.List.Sorted.{IsNonDecreasing};
 ghost use Rattle.line_index.specs.Places.{line_at, line_start, line_text};
 ghost use Rattle.line_index.specs.Columns.{char_count, utf16_len, begins_character, utf16_units};
+ghost use Rattle.line_index.specs.Positions.{units, width, place_of, IsCursor};
 ghost use Rattle.line_index.specs.Starts.{AreStarts, IsNextStart};
+ghost use Rattle.line_index.specs.Marks.{AreMarks};
 
 use memchr::memchr2;
 use std::alloc::{AllocError, Allocator, Global};
@@ -103,6 +106,41 @@ fn utf16_len(bytes: &[u8]) -> usize
     bytes.iter().map(|byte| utf16_units(*byte)).sum()
 }
 
+// How many bytes lie between two marks.
+const STEP: usize = 64;
+
+// The units of UTF-16 before each multiple of STEP.
+fn marks<A: Allocator>(alloc: A, text: &str) -> Result<Vec<usize, A>, AllocError>
+    ensures { IfOk result (λ marks. AreMarks text.now marks.items) }
+{
+    let bytes = text.as_bytes();
+    let mut marks = Vec::new(alloc);
+    let mut units = 0;
+    marks.push(units)?;
+    for mark in 0..bytes.len() / STEP {
+        units += utf16_len(&bytes[mark * STEP..mark * STEP + STEP]);
+        marks.push(units)?;
+    }
+    Ok(marks)
+}
+
+// How many bytes there are before the one with which the units of UTF-16 exceed the room.
+fn fitting(bytes: &[u8], room: usize) -> usize
+    ensures within { result ≤ length bytes.now }
+    ensures fits { utf16_len (take result bytes.now) ≤ room }
+    ensures full { result < length bytes.now → room < utf16_len (take result bytes.now) + utf16_units (slice_index bytes.now result) }
+{
+    let mut left = room;
+    for (place, byte) in bytes.iter().enumerate() {
+        let units = utf16_units(*byte);
+        if units > left {
+            return place;
+        }
+        left -= units;
+    }
+    bytes.len()
+}
+
 // What is in front of the first line terminator.
 fn first_line(text: &str) -> &str
     ensures { result.now ≡ take_while (λ c. not (is_line_terminator c)) text.now }
@@ -113,8 +151,24 @@ fn first_line(text: &str) -> &str
     }
 }
 
+/// The units that the columns of a `Position` count.
+#[derive(Clone, Copy, Debug, PartialEq, Eq)]
+pub enum PositionEncoding {
+    /// Bytes of UTF-8.
+    Utf8,
+    /// Units of UTF-16.
+    Utf16,
+}
+
+/// A place as the Language Server Protocol gives it: the number of its line, and its column there in units of an encoding, both from 0.
+#[derive(Clone, Copy, Debug, PartialEq, Eq)]
+pub struct Position {
+    pub line: usize,
+    pub column: usize,
+}
+
 /// The lines of a text, indexed by where they begin. GraphQL's line terminators end them: LF, CR and CR LF. What follows the last of these
-/// is a line too, even when it is empty. It takes one number of memory for each line.
+/// is a line too, even when it is empty. It takes one number of memory for each line and for every 64 bytes.
 ///
 /// A place is given by its byte offset in the text, which may be the text's length; its line is found in the time of the logarithm of the
 /// number of lines. A place between the CR and the LF of a CR LF is in the line that they end.
@@ -122,6 +176,7 @@ fn first_line(text: &str) -> &str
 pub struct LineIndex<'a, A: Allocator = Global> {
     text: &'a str,
     starts: Vec<usize, A>,
+    marks: Vec<usize, A>,
 }
 
 impl<'a, A: Allocator> Model for LineIndex<'a, A> {
@@ -132,16 +187,23 @@ impl<'a, A: Allocator> Model for LineIndex<'a, A> {
 
     ghost view = { λ index. index.text.now };
 
-    ghost invariant = { λ index. IsIndexed index.text.now index.starts.items };
+    ghost invariant = { λ index. IsIndexed index.text.now index.starts.items index.marks.items };
 }
 
 impl<'a, A: Allocator> LineIndex<'a, A> {
     /// The index of a text. It reads the text once, and fails only where memory is refused.
     pub fn new(alloc: A, text: &'a str) -> Result<Self, AllocError>
+    where
+        A: Clone,
         ensures { IfOk result (λ index. index ≡ text.now) }
     {
-        let starts = line_starts(alloc, text.as_bytes())?;
-        Ok(LineIndex { text, starts })
+        let starts = line_starts(alloc.clone()?, text.as_bytes())?;
+        let marks = marks(alloc, text)?;
+        Ok(LineIndex {
+            text,
+            starts,
+            marks,
+        })
     }
 
     /// How many lines there are: at least one.
@@ -189,7 +251,79 @@ impl<'a, A: Allocator> LineIndex<'a, A> {
         ensures { result ≡ utf16_len (slice_range self.now (line_start self.now offset) offset) }
     {
         let start = offset - self.place(offset).column;
-        utf16_len(&self.text.as_bytes()[start..offset])
+        self.units_before(offset) - self.units_before(start)
+    }
+
+    // The units of UTF-16 before a byte offset.
+    fn units_before(&self, offset: usize) -> usize
+        requires { offset ≤ length self.now }
+        ensures { result ≡ utf16_len (take offset self.now) }
+    {
+        let mark = offset / STEP;
+        self.marks[mark] + utf16_len(&self.text.as_bytes()[mark * STEP..offset])
+    }
+
+    /// The position of a byte offset, as the protocol counts columns in this encoding. The client finds the same place by it, unless the offset is
+    /// inside a character or between the CR and the LF of a CR LF.
+    pub fn position(&self, encoding: PositionEncoding, offset: usize) -> Position
+        requires { offset ≤ length self.now }
+        ensures line { result.line ≡ line_at self.now offset }
+        ensures column { result.column ≡ width encoding (slice_range self.now (line_start self.now offset) offset) }
+        ensures names { IsCursor self.now offset → place_of encoding (units encoding self.now) result ≡ length (units encoding (take offset self.now)) }
+    {
+        let place = self.place(offset);
+        let part = &self.text.as_bytes()[offset - place.column..offset];
+        let column = match encoding {
+            PositionEncoding::Utf8 => part.len(),
+            PositionEncoding::Utf16 => self.column_in_utf16(offset),
+        };
+        Position {
+            line: place.line,
+            column,
+        }
+    }
+
+    // The offset in a part of a line at which the units of UTF-16 come to a column, or where a character begins that would exceed it.
+    fn column_end(&self, start: usize, end: usize, column: usize) -> usize
+        requires short { start + column < end }
+        requires within { end ≤ length self.now }
+        requires boundary { IsCharBoundary self.now start }
+        ensures from { start ≤ result }
+        ensures to { result ≤ end }
+        ensures fits { utf16_len (slice_range self.now start result) ≤ column }
+        ensures full { result < end → column < utf16_len (slice_range self.now start result) + utf16_units (slice_index self.now result) }
+    {
+        let bytes = self.text.as_bytes();
+        let wanted = self.units_before(start) + column;
+        let mark = last_up_to(self.marks.as_slice(), wanted) * STEP;
+        if mark >= end {
+            return end;
+        }
+        let from = mark.max(start);
+        let room = wanted - self.units_before(from);
+        from + fitting(&bytes[from..end], room)
+    }
+
+    /// The byte offset of a position, whose columns are counted in this encoding: always one at which a character begins or the text ends. A column
+    /// beyond the end of its line is that end, in front of the line terminator; a line beyond the last is the end of the text; a column inside a
+    /// character is where that begins. It takes the time of the logarithm of the text's length, and of a search for the line's end.
+    pub fn offset(&self, encoding: PositionEncoding, position: Position) -> usize
+        ensures boundary { IsCharBoundary self.now result }
+        ensures place { length (units encoding (take result self.now)) ≡ place_of encoding (units encoding self.now) position }
+    {
+        let bytes = self.text.as_bytes();
+        if position.line >= self.starts.len() {
+            return bytes.len();
+        }
+        let start = self.starts[position.line];
+        let end = start + self.line_text(start).len();
+        if position.column >= end - start {
+            return end;
+        }
+        match encoding {
+            PositionEncoding::Utf8 => self.text.floor_char_boundary(start + position.column),
+            PositionEncoding::Utf16 => self.column_end(start, end, position.column),
+        }
     }
 
     /// The text of the line that a byte offset is in, without its line terminator.
