@@ -1,8 +1,10 @@
-//! Tests of `rpc_frames` and `rpc_messages`.
+//! Tests of the positions of `line_index`, and of `open_document`, `rpc_frames` and `rpc_messages`.
 //!
 //! They have a crate of their own, since a crate with tests is proved twice.
 #![tactic(auto)]
 
+#[cfg(test)]
+mod documents;
 #[cfg(test)]
 mod frames;
 #[cfg(test)]
