@@ -52,11 +52,6 @@ item_put all old left answer errors more after s t u v before comes one feed cou
   puts = puts_then s t v before.output (line one.output) before.puts (puts_then t u v one.output (10 ∷ []) one.puts feed);
 }
 
--- an error is no token
-pub error-counts : (limit : Bool) (text : List ℕ) (index : ℕ) → 1 ≡ error_count (error_answer limit text index ∷ [])
-error-counts true text index = refl
-error-counts false text index = refl
-
 -- the printed form of a lexer's error is that of its answer
 pub error-form : (limit : Bool) (text form : List ℕ) (index : ℕ) (error : Diagnostic) → error.subject ≡ lex_subject limit text → error.index ≡ index → IsLexMessage limit text error.message
     → IsErrorForm error form → IsAnswerForm (error_answer limit text index) form

@@ -18,9 +18,6 @@ use Rattle.line_index.proofs.WalkLemmas.{Quiet, Quiet-append, Tail}
 high : (x : ℕ) → 14 ≤ x → is_line_terminator x ≡ false
 high x h = grind (arith, nat_tests)
 
-low-quiet : (c : ℕ) → 128 ≤ c → is_line_terminator c ≡ false
-low-quiet c h = high c (omega arith)
-
 -- the units of a character that ends no line end none
 quiet-utf8 : (c : ℕ) → is_line_terminator c ≡ false → Quiet (encode c)
 unfolding encode

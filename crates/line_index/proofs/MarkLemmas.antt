@@ -44,9 +44,6 @@ marks-ordered text marks a = IsNonDecreasingBy-from_default (λ x. x) marks 0 up
   up : (i j : ℕ) → i ≤ j → j < length marks → slice_index marks i ≤ slice_index marks j
   up i j le lt = omega (arith, a.units i (omega arith), a.units j lt, units-add text (64 * i) (64 * j - 64 * i) (64 * j) (omega arith))
 
-pub marks-first : (text marks : List ℕ) → AreMarks text marks → (0 < length marks) × (slice_index marks 0 ≡ 0)
-marks-first text marks a = (let some : 0 < length marks = omega (arith, a.all) in (some, a.units 0 some))
-
 -- as the code finds it
 pub before : (inner text bytes marks : List ℕ) (offset m u : ℕ) → inner ≡ text → bytes ≡ inner → AreMarks inner marks → offset ≤ length text → m ≡ get_or marks (offset / 64) m
     → u ≡ utf16_len (take (offset - offset / 64 * 64) (drop (offset / 64 * 64) bytes)) → m + u ≡ utf16_len (take offset text)

@@ -1,4 +1,3 @@
 pub mod FrameLemmas
 pub mod NumeralLemmas
 pub mod WrittenLemmas
-pub mod HeaderLemmas

@@ -41,9 +41,6 @@ test-some n h = grind (arith, nat_tests)
 pub numeral-digits : (ds : List ℕ) → 0 < length ds → list_all is_ascii_digit ds ≡ true → numeral ds ≡ Some (digits_value 10 ds)
 numeral-digits ds some all = (let t : ltb 0 (length ds) ≡ true = some-test (length ds) some in rw (t, all) refl)
 
-pub numeral-other : (ds : List ℕ) → list_all is_ascii_digit ds ≡ false → numeral ds ≡ None
-numeral-other ds other = elim (cases_Bool (ltb 0 (length ds))) [ inl t ↦ rw (t, other) refl | inr t ↦ rw t refl ]
-
 pub parsed : (E : Type 0) (ds : List ℕ) (n : ℕ) → list_all is_ascii_digit ds ≡ true → ParsesUnsigned {E = E} 64 10 ds (Ok n) → numeral ds ≡ Some n
 parsed E ds n all h =
     let plain = no-plus ds all in
