@@ -1,21 +1,17 @@
 // Documents.
 
 ghost use Rattle.std.specs.Prelude.{◌≡◌};
-ghost use Rattle.apollo_grammar.specs.Words.{fits, holds, Here, Call, second, current_of, Parses};
-ghost use Rattle.apollo_grammar.specs.Words.rule;
-ghost use Rattle.apollo_grammar.specs.Words.rules;
+ghost use Rattle.apollo_grammar_exec.specs.Words.{fits, holds, Here, Call, second, current_of, Parses};
+ghost use Rattle.apollo_grammar_exec.specs.Words.rule;
+ghost use Rattle.apollo_grammar_exec.specs.Words.rules;
 
-use super::directive::directive_definition;
-use super::enum_::enum_type_definition;
 use super::extensions::extensions;
-use super::fragment::fragment_definition;
-use super::input::input_object_type_definition;
-use super::interface::interface_type_definition;
-use super::object::object_type_definition;
-use super::operation::{operation_definition, query_shorthand};
-use super::scalar::scalar_type_definition;
-use super::schema::schema_definition;
-use super::union_::union_type_definition;
+use apollo_grammar_exec::{fragment_definition, operation_definition, query_shorthand};
+use apollo_grammar_types::{
+    directive_definition, enum_type_definition, input_object_type_definition,
+    interface_type_definition, object_type_definition, scalar_type_definition, schema_definition,
+    union_type_definition,
+};
 use apollo_lexer::Token;
 use document_grammar::SyntaxKind;
 use lexical_grammar::TokenKind;
@@ -122,7 +118,7 @@ fn starts_operation<A: Allocator + Copy>(p: &ParserState<'_, A>) -> bool
 }
 
 // A definition with its description: the token after the string says which.
-#[tactic(auto, using(crate::proofs::Looks::looking), unfolding(parser_rules::specs::Rules::body, parser_rules::specs::RuleLanguage::holds))]
+#[tactic(auto, using(apollo_grammar_exec::proofs::Looks::looking), unfolding(parser_rules::specs::Rules::body, parser_rules::specs::RuleLanguage::holds))]
 fn described_definition<A: Allocator + Copy>(p: &mut ParserState<'_, A>) -> Result<(), AllocError>
     ensures { Parses (Call rule.DescribedDefinition) result p.old p.new }
 {
@@ -131,7 +127,7 @@ fn described_definition<A: Allocator + Copy>(p: &mut ParserState<'_, A>) -> Resu
 }
 
 // The same, where the token after the string is known.
-#[tactic(auto, using(crate::proofs::Looks::looking), unfolding(parser_rules::specs::Rules::body, parser_rules::specs::RuleLanguage::holds))]
+#[tactic(auto, using(apollo_grammar_exec::proofs::Looks::looking), unfolding(parser_rules::specs::Rules::body, parser_rules::specs::RuleLanguage::holds))]
 fn described_definition_before<A: Allocator + Copy>(
     p: &mut ParserState<'_, A>,
     next: Option<Token<'_>>,
@@ -155,7 +151,7 @@ fn described_definition_before<A: Allocator + Copy>(
 }
 
 // The same for the type system.
-#[tactic(auto, using(crate::proofs::Looks::looking), unfolding(parser_rules::specs::Rules::body, parser_rules::specs::RuleLanguage::holds))]
+#[tactic(auto, using(apollo_grammar_exec::proofs::Looks::looking), unfolding(parser_rules::specs::Rules::body, parser_rules::specs::RuleLanguage::holds))]
 fn described_type_system<A: Allocator + Copy>(
     p: &mut ParserState<'_, A>,
     next: Option<Token<'_>>,
@@ -173,7 +169,7 @@ fn described_type_system<A: Allocator + Copy>(
 }
 
 // The same for the definition of a type. Before another token the string is popped.
-#[tactic(auto, using(crate::proofs::Looks::looking), unfolding(parser_rules::specs::Rules::body, parser_rules::specs::RuleLanguage::holds))]
+#[tactic(auto, using(apollo_grammar_exec::proofs::Looks::looking), unfolding(parser_rules::specs::Rules::body, parser_rules::specs::RuleLanguage::holds))]
 fn described_type<A: Allocator + Copy>(
     p: &mut ParserState<'_, A>,
     next: Option<Token<'_>>,

@@ -1,21 +1,17 @@
 // Extensions: the word after `extend` says which.
-#![tactic(auto, using(crate::proofs::Looks::looking), unfolding(parser_rules::specs::Rules::body, parser_rules::specs::RuleLanguage::holds))]
+#![tactic(auto, using(apollo_grammar_exec::proofs::Looks::looking), unfolding(parser_rules::specs::Rules::body, parser_rules::specs::RuleLanguage::holds))]
 
 ghost use Rattle.std.specs.Prelude.{◌≡◌};
-ghost use Rattle.apollo_grammar.specs.Words.{Call, second, current_of, Parses};
-ghost use Rattle.apollo_grammar.specs.Words.rule;
+ghost use Rattle.apollo_grammar_exec.specs.Words.{Call, second, current_of, Parses};
+ghost use Rattle.apollo_grammar_exec.specs.Words.rule;
 
-use super::enum_::enum_type_extension;
-use super::input::input_object_type_extension;
-use super::interface::interface_type_extension;
-use super::object::object_type_extension;
-use super::scalar::scalar_type_extension;
-use super::schema::schema_extension;
-use super::union_::union_type_extension;
+use apollo_grammar_types::{
+    enum_type_extension, input_object_type_extension, interface_type_extension,
+    object_type_extension, scalar_type_extension, schema_extension, union_type_extension,
+};
 use apollo_lexer::Token;
 use document_grammar::SyntaxKind;
-use lexical_grammar::TokenKind;
-use parser_rules::{Constness, Message};
+use parser_rules::Message;
 use parser_state::{ParserState, is_word};
 use std::alloc::{AllocError, Allocator};
 
