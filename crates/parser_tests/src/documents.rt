@@ -5,7 +5,7 @@ mod type_system;
 mod type_system_trees;
 
 use crate::expected::{Found, Limited, has_errors};
-use crate::parsing::{parse, parse_by, parse_counted};
+use crate::parsing::{parse, parse_by, parse_counted, sentence};
 use apollo_parser::cst::CstNode;
 use apollo_parser::{DocumentRoot, Parser, SyntaxTree};
 use std::alloc::{AllocError, Global};
@@ -149,14 +149,17 @@ fn texts_have_their_errors_and_counts(rt: HostRuntime) -> Result<(), Fail> {
     expect_limited(&rt, rows.as_slice())
 }
 
+// A tree as it is printed, with its errors.
+fn printed(alloc: Global, tree: SyntaxTree<DocumentRoot, Global>) -> Result<String, AllocError> {
+    format!(in alloc; "{tree:?}")
+}
+
 #[test]
 fn counting_changes_no_answer(rt: HostRuntime) -> Result<(), Fail> {
     let sources = ["{ a: b ...c }", "\"d\" type A", "extend type A @b", "{ a é"];
     for source in sources {
-        let counted = parse_counted(rt.alloc(), source)?;
-        let counted = format!(in rt.alloc(); "{counted:?}")?;
-        let plain = parse(rt.alloc(), source)?;
-        let plain = format!(in rt.alloc(); "{plain:?}")?;
+        let counted = printed(rt.alloc(), parse_counted(rt.alloc(), source)?)?;
+        let plain = printed(rt.alloc(), parse(rt.alloc(), source)?)?;
         assert_eq!(rt; counted.as_str(), plain.as_str(), "{source}");
     }
     Ok(())
@@ -198,24 +201,24 @@ fn expect_found(rt: &(impl Abort + AllocGlobal), rows: &[Found<'_>]) -> Result<(
 fn expect_printed(rt: &(impl Abort + AllocGlobal), rows: &[(&str, &str)]) -> Result<(), Fail> {
     for row in rows {
         let (source, wanted) = *row;
-        let tree = parse(rt.alloc(), source)?;
-        let printed = format!(in rt.alloc(); "{tree:?}")?;
-        assert_eq!(rt; printed.as_str(), wanted);
+        let text = printed(rt.alloc(), parse(rt.alloc(), source)?)?;
+        assert_eq!(rt; text.as_str(), wanted);
     }
     Ok(())
 }
 
+// Whether a text has one error, and just these definitions.
+fn has_definitions(alloc: Global, source: &str, wanted: &[&str]) -> Result<bool, AllocError> {
+    let tree = parse(alloc, source)?;
+    let texts = definitions(alloc, &tree)?;
+    Ok(tree.errors().len() == 1 && texts.as_slice() == wanted)
+}
+
 #[test]
 fn definitions_follow_unknown_words(rt: HostRuntime) -> Result<(), Fail> {
-    let alloc = rt.alloc();
-    let tree = parse(alloc, "\nuasdf21230jkdw\n\n{\n    pet\n    faveSnack\n}\n")?;
-    assert_eq!(rt; tree.errors().len(), 1);
-    assert!(rt;
-        definitions(alloc, &tree)?.as_slice() == ["{\n    pet\n    faveSnack\n}"].as_slice()
-    );
-    let tree = parse(alloc, "dtzt7777777777t7777777777z7")?;
-    assert_eq!(rt; tree.errors().len(), 1);
-    assert!(rt; definitions(alloc, &tree)?.is_empty());
+    let source = "\nuasdf21230jkdw\n\n{\n    pet\n    faveSnack\n}\n";
+    assert!(rt; has_definitions(rt.alloc(), source, &["{\n    pet\n    faveSnack\n}"])?);
+    assert!(rt; has_definitions(rt.alloc(), "dtzt7777777777t7777777777z7", &[])?);
     Ok(())
 }
 
@@ -305,6 +308,23 @@ fn limits_stop_a_parse(rt: HostRuntime) -> Result<(), Fail> {
     expect_limited(&rt, rows.as_slice())
 }
 
+// Whether the tree has so many elements, the first of which is all of it.
+fn has_elements(tree: &SyntaxTree<DocumentRoot, Global>, source: &str, count: usize) -> bool {
+    if tree.element_count() != count || count == 0 {
+        return false;
+    }
+    let root = tree.element(0);
+    (root.end, root.after_subtree) == (source.len(), count)
+}
+
+// A copy that outlives its tree.
+fn copied(
+    alloc: Global,
+    tree: SyntaxTree<DocumentRoot, Global>,
+) -> Result<SyntaxTree<DocumentRoot, Global>, AllocError> {
+    tree.try_clone(alloc)
+}
+
 #[test]
 fn trees_are_printed_counted_and_cloned(rt: HostRuntime) -> Result<(), Fail> {
     let rows = [
@@ -347,19 +367,11 @@ recursion limit: 500, high: 0",
     ];
     for (source, count, wanted) in rows {
         let tree = parse(rt.alloc(), source)?;
-        assert_eq!(rt; tree.element_count(), count, "{source}");
-        assert!(rt; 0 < count);
-        assert_eq!(rt;
-            (tree.element(0).end, tree.element(0).after_subtree),
-            (source.len(), count)
-        );
-        let printed = format!(in rt.alloc(); "{tree:?}")?;
-        assert_eq!(rt; printed.as_str(), wanted);
-        let copy = tree.try_clone(rt.alloc())?;
-        drop(tree);
-        let copied = format!(in rt.alloc(); "{copy:?}")?;
-        assert_eq!(rt; copied.as_str(), wanted);
+        assert!(rt; has_elements(&tree, source, count), "{source}");
+        let copy = copied(rt.alloc(), tree)?;
         assert_eq!(rt; copy.token_limit().limit, usize::MAX);
+        let text = printed(rt.alloc(), copy)?;
+        assert_eq!(rt; text.as_str(), wanted);
     }
     Ok(())
 }
@@ -367,10 +379,10 @@ recursion limit: 500, high: 0",
 // The place where a definition ends does not depend on what follows it.
 #[test]
 fn a_whole_definition_precedes_a_fault(rt: HostRuntime) -> Result<(), Fail> {
-    let tree = parse(rt.alloc(), "{ a } type B { c }")?;
+    let source = "{ a } type B { c }";
+    let tree = parse(rt.alloc(), source)?;
     assert!(rt; has_errors(&tree, &[("expected a type", "}", 17)]));
-    let texts = definitions(rt.alloc(), &tree)?;
-    assert!(rt; texts.as_slice() == ["{ a }", "type B { c }"].as_slice());
+    assert!(rt; has_definitions(rt.alloc(), source, &["{ a }", "type B { c }"])?);
     Ok(())
 }
 
@@ -383,8 +395,7 @@ fn a_document_gives_its_source_back(rt: HostRuntime) -> Result<(), Fail> {
         "\nquery Q($a: Int, $b: [Int], $c: String!, $d: [Int!]!,\n\n    $e: [String],\n) {\n  f(g: $a)\n}",
     ];
     for source in sources {
-        let tree = parse(rt.alloc(), source)?;
-        assert_eq!(rt; tree.errors().len(), 0, "{source}");
+        let tree = sentence(&rt, source)?;
         let text = tree.document().syntax().source_string(rt.alloc())?;
         assert_eq!(rt; text.as_str(), source);
     }
@@ -402,6 +413,15 @@ fn has_whole_characters(tree: &SyntaxTree<DocumentRoot, Global>, source: &str) -
     true
 }
 
+fn is_faulty_and_whole(alloc: Global, source: &str) -> Result<bool, AllocError> {
+    let tree = parse(alloc, source)?;
+    Ok(
+        tree.errors().len() > 0
+            && tree.root().text() == source
+            && has_whole_characters(&tree, source),
+    )
+}
+
 #[test]
 fn characters_of_several_bytes_keep_their_places(rt: HostRuntime) -> Result<(), Fail> {
     let sources = [
@@ -411,10 +431,7 @@ fn characters_of_several_bytes_keep_their_places(rt: HostRuntime) -> Result<(), 
         "extend schema @a(b: [\"c\", \"d])\ntype E { f: G }\n",
     ];
     for source in sources {
-        let tree = parse(rt.alloc(), source)?;
-        assert!(rt; tree.errors().len() > 0, "{source}");
-        assert_eq!(rt; tree.root().text(), source);
-        assert!(rt; has_whole_characters(&tree, source), "{source}");
+        assert!(rt; is_faulty_and_whole(rt.alloc(), source)?, "{source}");
     }
     Ok(())
 }

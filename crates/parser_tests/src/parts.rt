@@ -25,6 +25,16 @@ struct Part<'e> {
     nesting: usize,
 }
 
+fn is_field_set(alloc: Global, part: &Part<'_>) -> Result<bool, AllocError> {
+    let tree = parse_selections(alloc, Parser::new(part.source))?;
+    Ok(
+        has_errors(&tree, part.errors)
+            && tree.field_set().syntax().kind().is(part.root)
+            && tree.root().text() == part.text
+            && tree.recursion_limit().high == part.nesting,
+    )
+}
+
 #[test]
 fn selection_sets_are_read_by_themselves(rt: HostRuntime) -> Result<(), Fail> {
     let rows = [
@@ -73,12 +83,7 @@ fn selection_sets_are_read_by_themselves(rt: HostRuntime) -> Result<(), Fail> {
     ];
     for row in rows {
         let source = row.source;
-        let tree = parse_selections(rt.alloc(), Parser::new(source))?;
-        let root = tree.root();
-        assert!(rt; has_errors(&tree, row.errors), "{source}");
-        assert!(rt; tree.field_set().syntax().kind().is(row.root), "{source}");
-        assert_eq!(rt; root.text(), row.text);
-        assert_eq!(rt; tree.recursion_limit().high, row.nesting, "{source}");
+        assert!(rt; is_field_set(rt.alloc(), &row)?, "{source}");
     }
     Ok(())
 }
@@ -107,6 +112,19 @@ fn parse_type(
     parser: Parser<'_>,
 ) -> Result<SyntaxTree<TypeRoot, Global>, AllocError> {
     parser.parse_type(alloc)
+}
+
+fn is_type(alloc: Global, part: &Part<'_>) -> Result<bool, AllocError> {
+    let tree = parse_type(alloc, Parser::new(part.source))?;
+    let root = tree.root();
+    // only an ERROR is no type
+    Ok(
+        has_errors(&tree, part.errors)
+            && root.kind().is(part.root)
+            && tree.ty().is_none() == part.root.is(SyntaxKind::ERROR)
+            && root.text() == part.text
+            && tree.recursion_limit().high == part.nesting,
+    )
 }
 
 #[test]
@@ -171,29 +189,22 @@ fn types_are_read_by_themselves(rt: HostRuntime) -> Result<(), Fail> {
     ];
     for row in rows {
         let source = row.source;
-        let tree = parse_type(rt.alloc(), Parser::new(source))?;
-        let root = tree.root();
-        assert!(rt; has_errors(&tree, row.errors), "{source}");
-        assert!(rt; root.kind().is(row.root), "{source}");
-        // only an ERROR is no type
-        assert_eq!(rt;
-            tree.ty().is_none(),
-            row.root.is(SyntaxKind::ERROR),
-            "{source}"
-        );
-        assert_eq!(rt; root.text(), row.text);
-        assert_eq!(rt; tree.recursion_limit().high, row.nesting, "{source}");
+        assert!(rt; is_type(rt.alloc(), &row)?, "{source}");
     }
     Ok(())
+}
+
+fn type_name(ty: Type<'_>) -> Option<&str> {
+    match ty {
+        Type::NamedType(named) => Some(named.name()?.text().as_str()),
+        _ => None,
+    }
 }
 
 #[test]
 fn a_type_has_its_name(rt: HostRuntime) -> Result<(), Fail> {
     let tree = parse_type(rt.alloc(), Parser::new("Int Int"))?;
-    let Some(Type::NamedType(named)) = tree.ty() else {
-        return Err(Fail::new("no named type"));
-    };
-    let name = named.name().expect(&rt, "a name");
-    assert_eq!(rt; name.text().as_str(), "Int");
+    let ty = tree.ty().expect(&rt, "a type");
+    assert_eq!(rt; type_name(ty), Some("Int"));
     Ok(())
 }

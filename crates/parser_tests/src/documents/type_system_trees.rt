@@ -1,5 +1,5 @@
 // Printed trees of definitions of the type system.
-use super::expect_printed;
+use super::{expect_printed, printed};
 use crate::parsing::parse_by;
 use apollo_parser::Parser;
 use std::test::Fail;
@@ -9,10 +9,12 @@ use std::test::Fail;
 fn tree_before_the_token_limit(rt: HostRuntime) -> Result<(), Fail> {
     let source =
         "\n            type Query {\n                field(arg1: Int, missing_arg): Int\n                # limit reached here\n                field2: !String\n            } and then some garbage\n        ";
-    let tree = parse_by(rt.alloc(), Parser::new(source).token_limit(22))?;
-    let printed = format!(in rt.alloc(); "{tree:?}")?;
+    let text = printed(
+        rt.alloc(),
+        parse_by(rt.alloc(), Parser::new(source).token_limit(22))?,
+    )?;
     assert_eq!(rt;
-        printed.as_str(),
+        text.as_str(),
         "- DOCUMENT@0..113
     - WHITESPACE@0..13 \"\\n            \"
     - OBJECT_TYPE_DEFINITION@13..76

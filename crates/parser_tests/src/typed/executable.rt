@@ -1,10 +1,13 @@
 // Operations, selections and fragments.
-use super::{first_field, first_operation};
-use crate::parsing::parse;
+use super::{first_definition, first_field, first_operation, first_selections, variable_name};
+use crate::parsing::{parse, sentence};
 use apollo_parser::SyntaxKind;
 use apollo_parser::cst::{
-    CstNode, Document, InlineFragment, Name, Selection, SyntaxNodePtr, Type, Variable,
+    CstNode, Definition, Document, Field, InlineFragment, Name, OperationDefinition, Selection,
+    SelectionSet, SyntaxNodePtr, Type, Variable, VariableDefinition,
 };
+use std::alloc::{AllocError, Global};
+use std::process::Abort;
 use std::test::Fail;
 
 // What a selection is called: the name of the field or the fragment, or the type of an inline fragment.
@@ -20,47 +23,53 @@ fn type_of(fragment: InlineFragment<'_>) -> Option<Name<'_>> {
     fragment.type_condition()?.named_type()?.name()
 }
 
-#[test]
-fn selections_of_each_sort(rt: HostRuntime) -> Result<(), Fail> {
-    let source = "{ animal ...snackSelection ... on Pet { playmates { count } } }";
-    let tree = parse(rt.alloc(), source)?;
-    assert_eq!(rt; tree.errors().len(), 0);
-    let operation = first_operation(tree.document()).expect(&rt, "an operation");
-    let mut selections = operation
-        .selection_set()
-        .expect(&rt, "selections")
-        .selections();
+fn has_each_sort(rt: &impl Abort, set: SelectionSet<'_>) {
+    let mut selections = set.selections();
     for wanted in [
         ("field", "animal"),
         ("spread", "snackSelection"),
         ("inline", "Pet"),
     ] {
-        let selection = selections.next().expect(&rt, "a selection");
-        let (sort, name) = selected(selection).expect(&rt, "a name");
-        assert_eq!(rt; sort, wanted.0);
-        assert_eq!(rt; name.text().as_str(), wanted.1);
+        let selection = selections.next().expect(rt, "a selection");
+        let (sort, name) = selected(selection).expect(rt, "a name");
+        assert_eq!(rt; (sort, name.text().as_str()), wanted);
     }
     assert!(rt; selections.next().is_none());
+}
+
+#[test]
+fn selections_of_each_sort(rt: HostRuntime) -> Result<(), Fail> {
+    let source = "{ animal ...snackSelection ... on Pet { playmates { count } } }";
+    let tree = sentence(&rt, source)?;
+    let set = first_selections(tree.document()).expect(&rt, "selections");
+    has_each_sort(&rt, set);
     Ok(())
 }
 
-// The first variable of the first operation, and its type.
-fn first_variable(document: Document<'_>) -> Option<(Variable<'_>, Type<'_>)> {
+// The first variable of the first operation, as it is defined.
+fn first_variable_definition(document: Document<'_>) -> Option<VariableDefinition<'_>> {
     let definitions = first_operation(document)?.variable_definitions()?;
-    let definition = definitions.variable_definitions().next()?;
-    Some((definition.variable()?, definition.ty()?))
+    definitions.variable_definitions().next()
+}
+
+fn first_variable(document: Document<'_>) -> Option<Variable<'_>> {
+    first_variable_definition(document)?.variable()
+}
+
+// The name of its type, where that is no more than a name.
+fn type_name(definition: VariableDefinition<'_>) -> Option<&str> {
+    match definition.ty()? {
+        Type::NamedType(ty) => Some(ty.name()?.text().as_str()),
+        _ => None,
+    }
 }
 
 #[test]
 fn variable_and_its_type(rt: HostRuntime) -> Result<(), Fail> {
-    let tree = parse(rt.alloc(), "query GroceryStoreTrip($budget: Int) { name }")?;
-    assert_eq!(rt; tree.errors().len(), 0);
-    let (variable, ty) = first_variable(tree.document()).expect(&rt, "a variable");
-    assert_eq!(rt; variable.text().expect(&rt, "its name").as_str(), "budget");
-    let Type::NamedType(ty) = ty else {
-        return Err(Fail::new("no named type"));
-    };
-    assert_eq!(rt; ty.name().expect(&rt, "its name").text().as_str(), "Int");
+    let tree = sentence(&rt, "query GroceryStoreTrip($budget: Int) { name }")?;
+    let definition = first_variable_definition(tree.document()).expect(&rt, "a variable");
+    assert_eq!(rt; variable_name(definition), Some("budget"));
+    assert_eq!(rt; type_name(definition), Some("Int"));
     Ok(())
 }
 
@@ -69,67 +78,93 @@ fn variable_and_its_type(rt: HostRuntime) -> Result<(), Fail> {
 fn variable_without_a_name(rt: HostRuntime) -> Result<(), Fail> {
     let tree = parse(rt.alloc(), "query($: Int) { a }")?;
     assert_eq!(rt; tree.errors().len(), 1);
-    let (variable, _ty) = first_variable(tree.document()).expect(&rt, "a variable");
+    let variable = first_variable(tree.document()).expect(&rt, "a variable");
     assert!(rt; variable.text().is_none());
     Ok(())
 }
 
+fn has_selections_alone(operation: OperationDefinition<'_>) -> bool {
+    operation.operation_type().is_none()
+        && operation.name().is_none()
+        && operation.description().is_none()
+        && operation.selection_set().is_some()
+}
+
 #[test]
 fn a_query_without_a_keyword(rt: HostRuntime) -> Result<(), Fail> {
-    let tree = parse(rt.alloc(), "{ a }")?;
+    let tree = sentence(&rt, "{ a }")?;
     let operation = first_operation(tree.document()).expect(&rt, "an operation");
-    assert!(rt; operation.operation_type().is_none());
-    assert!(rt; operation.name().is_none());
-    assert!(rt; operation.description().is_none());
-    assert!(rt; operation.selection_set().is_some());
+    assert!(rt; has_selections_alone(operation));
+    Ok(())
+}
+
+fn is_cloned(rt: &(impl Abort + AllocGlobal), field: Field<'_>) -> Result<(), AllocError> {
+    let range = field.syntax().text_range();
+    assert_eq!(rt; (range.start(), range.end()), (2, 3));
+    assert_eq!(rt; field.syntax().source_string(rt.alloc())?.as_str(), "a");
+    let copy = field.syntax().clone_subtree(rt.alloc())?;
+    let root = copy.root();
+    let range = root.text_range();
+    assert!(rt; root.kind().is(SyntaxKind::FIELD));
+    assert_eq!(rt; (range.start(), range.end(), root.text()), (0, 1, "a"));
     Ok(())
 }
 
 #[test]
 fn a_field_is_cloned(rt: HostRuntime) -> Result<(), Fail> {
-    let tree = parse(rt.alloc(), "{ a }")?;
+    let tree = sentence(&rt, "{ a }")?;
     let field = first_field(tree.document()).expect(&rt, "a field");
-    let range = field.syntax().text_range();
-    assert_eq!(rt; (range.start(), range.end()), (2, 3));
-    let copy = field.syntax().clone_subtree(rt.alloc())?;
-    let range = copy.root().text_range();
-    assert!(rt; copy.root().kind().is(SyntaxKind::FIELD));
-    assert_eq!(rt; (range.start(), range.end()), (0, 1));
-    assert_eq!(rt; copy.root().text(), "a");
-    assert_eq!(rt; field.syntax().source_string(rt.alloc())?.as_str(), "a");
+    is_cloned(&rt, field)?;
     Ok(())
+}
+
+fn pointer_to_first_field(
+    alloc: Global,
+    source: &str,
+) -> Result<Option<SyntaxNodePtr>, AllocError> {
+    let tree = parse(alloc, source)?;
+    match first_field(tree.document()) {
+        Some(field) => Ok(Some(SyntaxNodePtr::new(field.syntax()))),
+        None => Ok(None),
+    }
+}
+
+// Whether the pointer finds a field with this text in the tree of a source, or nothing.
+fn finds(
+    alloc: Global,
+    pointer: &SyntaxNodePtr,
+    source: &str,
+    wanted: Option<&str>,
+) -> Result<bool, AllocError> {
+    let tree = parse(alloc, source)?;
+    Ok(match pointer.to_node(&tree.root()) {
+        Some(node) => node.kind().is(SyntaxKind::FIELD) && wanted == Some(node.text()),
+        None => wanted.is_none(),
+    })
 }
 
 // A pointer finds the node of its kind and its range in another tree.
 #[test]
 fn pointers_are_looked_up_in_other_parses(rt: HostRuntime) -> Result<(), Fail> {
-    let first = parse(rt.alloc(), "{a}")?;
-    let field = first_field(first.document()).expect(&rt, "a field");
-    let pointer = SyntaxNodePtr::new(field.syntax());
-    let other = parse(rt.alloc(), "{b}")?;
-    let found = pointer.to_node(&other.root()).expect(&rt, "a node");
-    assert!(rt; found.kind().is(SyntaxKind::FIELD));
-    assert_eq!(rt; found.text(), "b");
-    let longer = parse(rt.alloc(), "{ab}")?;
-    assert!(rt; pointer.to_node(&longer.root()).is_none());
+    let alloc = rt.alloc();
+    let pointer = pointer_to_first_field(alloc, "{a}")?.expect(&rt, "a field");
+    assert!(rt; finds(alloc, &pointer, "{b}", Some("b"))?);
+    assert!(rt; finds(alloc, &pointer, "{ab}", None)?);
     Ok(())
+}
+
+fn is_fragment(rt: &impl Abort, definition: Definition<'_>) {
+    assert_eq!(rt; definition.kind(), "FragmentDefinition");
+    let name = definition.name().expect(rt, "a name");
+    assert_eq!(rt; name.text().as_str(), "F");
+    assert!(rt; definition.is_executable_definition());
+    assert!(rt; !definition.is_extension_definition());
 }
 
 #[test]
 fn a_fragment_is_a_definition_with_a_name(rt: HostRuntime) -> Result<(), Fail> {
-    let tree = parse(rt.alloc(), "fragment F on T { a }")?;
-    assert_eq!(rt; tree.errors().len(), 0);
-    let definition = tree
-        .document()
-        .definitions()
-        .next()
-        .expect(&rt, "a definition");
-    assert_eq!(rt; definition.kind(), "FragmentDefinition");
-    assert_eq!(rt;
-        definition.name().expect(&rt, "a name").text().as_str(),
-        "F"
-    );
-    assert!(rt; definition.is_executable_definition());
-    assert!(rt; !definition.is_extension_definition());
+    let tree = sentence(&rt, "fragment F on T { a }")?;
+    let definition = first_definition(tree.document()).expect(&rt, "a definition");
+    is_fragment(&rt, definition);
     Ok(())
 }

@@ -1,7 +1,7 @@
 // The values of literals.
-use super::first_value;
-use crate::parsing::parse;
-use apollo_parser::cst::{LiteralError, Value};
+use super::{first_boolean, first_integer, first_string};
+use crate::parsing::{parse, sentence};
+use apollo_parser::cst::LiteralError;
 use std::alloc::{AllocError, Global};
 use std::test::Fail;
 
@@ -9,9 +9,9 @@ use std::test::Fail;
 fn string(alloc: Global, literal: &str) -> Result<Option<String>, AllocError> {
     let source = format!(in alloc; "{{ a(b: {literal}) }}")?;
     let tree = parse(alloc, source.as_str())?;
-    match first_value(tree.document()) {
-        Some(Value::StringValue(value)) => Ok(Some(value.to_string_in(alloc)?)),
-        _ => Ok(None),
+    match first_string(tree.document()) {
+        Some(value) => Ok(Some(value.to_string_in(alloc)?)),
+        None => Ok(None),
     }
 }
 
@@ -82,9 +82,9 @@ fn block_strings_have_their_values(rt: HostRuntime) -> Result<(), Fail> {
 fn integer(alloc: Global, literal: &str) -> Result<Option<Result<i32, LiteralError>>, AllocError> {
     let source = format!(in alloc; "{{ a(b: {literal}) }}")?;
     let tree = parse(alloc, source.as_str())?;
-    match first_value(tree.document()) {
-        Some(Value::IntValue(value)) => Ok(Some(i32::try_from(&value))),
-        _ => Ok(None),
+    match first_integer(tree.document()) {
+        Some(value) => Ok(Some(i32::try_from(&value))),
+        None => Ok(None),
     }
 }
 
@@ -110,10 +110,8 @@ fn integers_have_their_values(rt: HostRuntime) -> Result<(), Fail> {
 #[test]
 fn booleans_have_their_values(rt: HostRuntime) -> Result<(), Fail> {
     for (source, truth) in [("{ a(b: true) }", true), ("{ a(b: false) }", false)] {
-        let tree = parse(rt.alloc(), source)?;
-        let Some(Value::BooleanValue(value)) = first_value(tree.document()) else {
-            return Err(Fail::new("no boolean"));
-        };
+        let tree = sentence(&rt, source)?;
+        let value = first_boolean(tree.document()).expect(&rt, "a boolean");
         assert!(rt; bool::try_from(&value) == Ok(truth));
     }
     Ok(())
