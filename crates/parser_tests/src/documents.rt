@@ -165,16 +165,14 @@ fn counting_changes_no_answer(rt: HostRuntime) -> Result<(), Fail> {
     Ok(())
 }
 
-// The texts of the definitions, which are the nodes under the root.
-fn definitions<'t>(
-    alloc: Global,
-    tree: &'t SyntaxTree<DocumentRoot, Global>,
-) -> Result<Vec<&'t str>, AllocError> {
-    let mut texts = Vec::new(alloc);
-    for node in tree.root().children() {
-        texts.push(node.text())?;
+// Whether the definitions, which are the nodes under the root, have these texts.
+fn has_texts(tree: &SyntaxTree<DocumentRoot, Global>, wanted: &[&str]) -> bool {
+    for (node, text) in tree.root().children().zip(wanted) {
+        if node.text() != *text {
+            return false;
+        }
     }
-    Ok(texts)
+    tree.root().children().count() == wanted.len()
 }
 
 // Whether a text, read within a recursion limit, has these errors, this nesting and so many definitions, and is whole in its tree.
@@ -185,7 +183,7 @@ fn is_found(alloc: Global, row: &Found<'_>, limit: usize) -> Result<bool, AllocE
         has_errors(&tree, row.errors)
             && tree.root().text() == row.source
             && (tracker.limit, tracker.high) == (limit, row.nesting)
-            && definitions(alloc, &tree)?.len() == row.definitions,
+            && tree.root().children().count() == row.definitions,
     )
 }
 
@@ -210,8 +208,7 @@ fn expect_printed(rt: &(impl Abort + AllocGlobal), rows: &[(&str, &str)]) -> Res
 // Whether a text has one error, and just these definitions.
 fn has_definitions(alloc: Global, source: &str, wanted: &[&str]) -> Result<bool, AllocError> {
     let tree = parse(alloc, source)?;
-    let texts = definitions(alloc, &tree)?;
-    Ok(tree.errors().len() == 1 && texts.as_slice() == wanted)
+    Ok(tree.errors().len() == 1 && has_texts(&tree, wanted))
 }
 
 #[test]
