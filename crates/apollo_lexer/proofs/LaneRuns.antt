@@ -1,5 +1,5 @@
 -- From sixteen lanes to the bytes at the front that pass a test.
-use Rattle.std.proofs.Common.{◌≡◌, ℕ, ◌+◌, ◌-◌, ◌%◌, ◌^◌, ◌<◌, ◌≤◌, cond, eqb, Bool, true, not, List, [], ◌∷◌, map, length, take, drop, Fits, w8, refl, sym, ap, ap₂, ◌∙◌, arith, inl, inr, length-take-le, length-drop}
+use Rattle.std.proofs.Common.{◌≡◌, ℕ, ◌+◌, ◌-◌, ◌%◌, ◌^◌, ◌<◌, ◌≤◌, cond, eqb, Bool, true, not, List, [], ◌∷◌, map, length, take, drop, Fits, w8, refl, sym, ap, ap₂, ◌∙◌, arith, inl, inr, length-take-le, length-drop, drop-drop}
 use Rattle.std.proofs.lemmas.Bool.{agree_below, agree_below_at, cases_eq, eq-eqb, ne_eqb, cond-true, cond-false}
 use Rattle.std.proofs.lemmas.List.{length-map, take-append-drop, take_all}
 use Rattle.std.proofs.lemmas.List.Folds.{prefix_len-append}
@@ -49,3 +49,29 @@ goes-on test bytes n r m within is full rest =
           let long = length-take-le n bytes within in
           absurd (other (omega (arith, few, long, is, full)))
     ]
+
+-- the run that is left after n bytes, in a slice of them
+abbrev pub RunsOn : (ℕ → Bool) → List ℕ → ℕ → Type 0
+RunsOn test bytes n = prefix_len test bytes ≡ n + prefix_len test (drop n bytes)
+
+slice-all : (bytes : List ℕ) (n : ℕ) → take (length bytes - n) (drop n bytes) ≡ drop n bytes
+slice-all bytes n = take_all (length bytes - n) (drop n bytes) (omega (arith, length-drop n bytes))
+
+-- a step of a loop over sixteen bytes that all pass
+pub sixteen-more : (test : ℕ → Bool) (bytes : List ℕ) (n k : ℕ) → n + 16 ≤ length bytes → RunsOn test bytes n
+    → k ≡ prefix_len test (take 16 (take (length bytes - n) (drop n bytes))) → 16 ≤ k → RunsOn test bytes (n + 16)
+sixteen-more test bytes n k within so_far is full =
+    let rest = drop n bytes in
+    let here : k ≡ prefix_len test (take 16 rest) = is ∙ ap (λ l. prefix_len test (take 16 l)) (slice-all bytes n) in
+    let on = goes-on test rest 16 k (prefix_len test (take (length rest - 16) (drop 16 rest))) (omega (arith, length-drop n bytes)) here full refl in
+    let left : prefix_len test (take (length rest - 16) (drop 16 rest)) ≡ prefix_len test (drop (n + 16) bytes) = ap (prefix_len test) (slice-all rest 16 ∙ drop-drop 16 n bytes) in
+    omega (arith, so_far, on, left)
+
+-- the end of the run in the next sixteen
+pub sixteen-end : (test : ℕ → Bool) (bytes : List ℕ) (n k : ℕ) → n + 16 ≤ length bytes → RunsOn test bytes n
+    → k ≡ prefix_len test (take 16 (take (length bytes - n) (drop n bytes))) → k < 16 → n + k ≡ prefix_len test bytes
+sixteen-end test bytes n k within so_far is short =
+    let rest = drop n bytes in
+    let here : k ≡ prefix_len test (take 16 rest) = is ∙ ap (λ l. prefix_len test (take 16 l)) (slice-all bytes n) in
+    let ends = ends-within test rest 16 k (omega (arith, length-drop n bytes)) here short in
+    omega (arith, so_far, ends)

@@ -1,12 +1,13 @@
 -- A search meets a reading byte after byte: what the search passes over is passed at once.
-use Rattle.std.proofs.Common.{◌≡◌, ℕ, zero, suc, ◌+◌, ◌-◌, ◌<◌, ◌≤◌, Bool, true, false, List, [], ◌∷◌, length, drop, take, Option, Some, None, refl, sym, ap, ◌∙◌, arith, eqb, eqb-true, inl, inr, length-append, length-drop, length-take-le, ◌⊎◌, subst}
-use Rattle.std.specs.Prelude.{option_map, slice_index, not, is_some}
+use Rattle.std.proofs.Common.{◌≡◌, ℕ, zero, suc, ◌+◌, ◌-◌, ◌<◌, ◌≤◌, Bool, true, false, cond, List, [], ◌∷◌, length, drop, take, Option, Some, None, refl, sym, ap, ◌∙◌, arith, eqb, eqb-true, inl, inr, length-append, length-drop, subst}
+use Rattle.std.specs.Prelude.{option_map, slice_index}
 use Rattle.std.specs.List.{prefix_len}
 use Rattle.std.proofs.lemmas.Bool.Decides.{nat_tests}
 use Rattle.lexical_grammar.specs.Characters.{is_plain_string_character, is_comment_character}
-use Rattle.std.proofs.lemmas.Bool.{false_from_ne_true, ne_eqb, or_parts, eqb-false, or_cases, both_ways, not-false, cases_Bool}
-use Rattle.std.proofs.lemmas.List.{drop-drop, take_rest, get_or-drop, get_or-take}
-use Rattle.memchr.specs.Find.{is_byte2, Nowhere, NoneBefore, Passes, IsFirstByte}
+use Rattle.std.proofs.lemmas.Bool.{false_from_ne_true, ne_eqb, or_parts, eqb-false, or_cases, both_ways, cases_Bool}
+use Rattle.std.proofs.lemmas.List.{drop-drop, drop_all, take_rest, get_or-drop}
+use Rattle.std.proofs.lemmas.List.Sums.{prefix_len_stops}
+use Rattle.memchr.specs.Find.{is_byte2, Nowhere, NoneBefore, Passes}
 use Rattle.lexical_grammar.specs.Strings.{begins, triple_quote, escaped_triple_quote}
 use Rattle.lexical_grammar.specs.Reads.{block_len, quoted_len, string_character_len, bad_escape_len, bad_string_len}
 use Rattle.apollo_lexer.specs.Pieces.{read_bad}
@@ -188,23 +189,47 @@ bad-slash text i n f other e some within =
           (at-slash (drop i text) n (ap (λ b. eqb b 92) (byte-at text i) ∙ slash-of text i f other) (e ∙ ap bad_escape_len rest) some fits),
     )
 
--- quoted strings: a search for quotes and backslashes, and one for line terminators before them
-abbrev pub is_special : ℕ → Bool
-is_special b = not (is_plain_string_character b)
-
-quoted-quiet : (b : ℕ) (bs : List ℕ) → is_special b ≡ false → quoted_len 0 (b ∷ bs) ≡ option_map suc (quoted_len 0 bs)
-quoted-quiet b bs h =
-    let p : is_plain_string_character b ≡ true = not-false (is_plain_string_character b) h in
+-- quoted strings: the plain characters at the front, and what stops them
+quoted-quiet : (b : ℕ) (bs : List ℕ) → is_plain_string_character b ≡ true → quoted_len 0 (b ∷ bs) ≡ option_map suc (quoted_len 0 bs)
+quoted-quiet b bs p =
     let quote : eqb b 34 ≡ false = plain_quote b p in
     rw (p, quote) refl where
       plain_quote : (b : ℕ) → is_plain_string_character b ≡ true → eqb b 34 ≡ false
       plain_quote b h = grind (arith, nat_tests)
 
-special-is : (b : ℕ) → is_special b ≡ true → is_byte2 34 92 b ≡ false → is_byte2 10 13 b ≡ true
-special-is b h other = grind (arith, nat_tests)
+abbrev plain : List ℕ → ℕ
+plain text = prefix_len is_plain_string_character text
 
-special-split : (b : ℕ) → is_special b ≡ true → (is_byte2 34 92 b ≡ true) ⊎ (is_byte2 10 13 b ≡ true)
-special-split b h = elim (cases_Bool (is_byte2 34 92 b)) [ inl e ↦ inl e | inr e ↦ inr (special-is b h e) ]
+quoted-run : (text : List ℕ) → quoted_len 0 text ≡ longer (plain text) (quoted_len 0 (drop (plain text) text))
+quoted-run [] = refl
+quoted-run (b ∷ bs) = elim (cases_Bool (is_plain_string_character b)) [
+  | inl e ↦
+      let run : plain (b ∷ bs) ≡ suc (plain bs) = ap (λ t. cond t (1 + plain bs) 0) e ∙ omega arith in
+      subst (λ k. quoted_len 0 (b ∷ bs) ≡ longer k (quoted_len 0 (drop k (b ∷ bs)))) (sym run)
+      (quoted-quiet b bs e ∙ ap (option_map suc) (quoted-run bs) ∙ longer-suc (plain bs) (quoted_len 0 (drop (plain bs) bs)))
+  | inr other ↦
+      let none : plain (b ∷ bs) ≡ 0 = ap (λ t. cond t (1 + plain bs) 0) other in
+      subst (λ k. quoted_len 0 (b ∷ bs) ≡ longer k (quoted_len 0 (drop k (b ∷ bs)))) (sym none) (sym (longer-none (quoted_len 0 (b ∷ bs))))
+]
+
+pub quoted-open : (text : List ℕ) (i : ℕ) → i ≡ plain text → i ≡ length text → quoted_len 0 text ≡ None
+quoted-open text i is whole =
+    quoted-run text ∙ ap (λ k. longer k (quoted_len 0 (drop k text))) (sym is ∙ whole) ∙ ap (λ l. longer (length text) (quoted_len 0 l)) (drop_all (length text) text (omega arith))
+
+-- so far, and what is left
+quoted-to : (text : List ℕ) (i : ℕ) → i ≡ plain text → quoted_len 0 text ≡ longer i (quoted_len 0 (drop i text))
+quoted-to text i is = subst (λ k. quoted_len 0 text ≡ longer k (quoted_len 0 (drop k text))) (sym is) (quoted-run text)
+
+not-plain : (text : List ℕ) (i : ℕ) → i ≡ plain text → i < length text → is_plain_string_character (slice_index text i) ≡ false
+not-plain text i is lt = ap (λ k. is_plain_string_character (slice_index text k)) is ∙ prefix_len_stops is_plain_string_character text 0 (omega (arith, is))
+
+quote-ends : (tail : List ℕ) → 0 < length tail → eqb (slice_index tail 0) 34 ≡ true → quoted_len 0 tail ≡ Some 1
+quote-ends [] some h = absurd (omega arith)
+quote-ends (b ∷ bs) some h = rw h refl
+
+pub quoted-last : (text : List ℕ) (i : ℕ) → i ≡ plain text → i < length text → eqb (slice_index text i) 34 ≡ true → (i + 1 ≤ length text) × (quoted_len 0 text ≡ Some (i + 1))
+quoted-last text i is lt h =
+    (omega arith, quoted-to text i is ∙ ap (longer i) (quote-ends (drop i text) (omega (arith, length-drop i text)) (ap (λ b. eqb b 34) (byte-at text i) ∙ h)))
 
 -- at a line terminator none is read
 terminator : (b : ℕ) (bs : List ℕ) → is_byte2 10 13 b ≡ true → quoted_len 0 (b ∷ bs) ≡ None
@@ -213,56 +238,17 @@ terminator b bs h = elim (or_cases (eqb b 10) (eqb b 13) h) [
   | inr e ↦ let is = eqb-true b 13 e in rw is refl
 ]
 
-pub quoted-open : (text : List ℕ) → Nowhere (Passes (is_byte2 34 92) text) 0 (length text) → quoted_len 0 text ≡ None
-quoted-open [] none = refl
-quoted-open (b ∷ bs) none = elim (cases_Bool (is_special b)) [
-  | inl special ↦ elim (special-split b special) [
-    | inl is ↦ absurd (none 0 (omega arith) (omega arith) is)
-    | inr is ↦ terminator b bs is
-  ]
-  | inr plain ↦ quoted-quiet b bs plain ∙ ap (option_map suc) (quoted-open bs (λ k low lt. none (suc k) (omega arith) (omega arith)))
-]
-
-quoted-run : (text : List ℕ) (i : ℕ) → i ≤ length text → ((k : ℕ) → k < i → is_byte2 34 92 (slice_index text k) ≡ true → ⊥) → ((k : ℕ) → k < i → is_byte2 10 13 (slice_index text k) ≡ true → ⊥)
-    → quoted_len 0 text ≡ longer i (quoted_len 0 (drop i text))
-quoted-run text i le none clear = run-of (quoted_len 0) is_special quoted-quiet i text le (λ k lt s. elim (special-split (slice_index text k) s) [
-  | inl is ↦ none k lt is
-  | inr is ↦ clear k lt is
-])
-
 at-terminator : (tail : List ℕ) → 0 < length tail → is_byte2 10 13 (slice_index tail 0) ≡ true → quoted_len 0 tail ≡ None
 at-terminator [] some h = absurd (omega arith)
 at-terminator (b ∷ bs) some h = terminator b bs h
 
--- a line terminator comes before the first quote or backslash
-pub quoted-broken : (text : List ℕ) (i j : ℕ) → FirstAt (is_byte2 34 92) text i → FirstAt (is_byte2 10 13) (take i text) j → quoted_len 0 text ≡ None
-quoted-broken text i j f g =
-    let le : i < length text = f.0.high in
-    let len : length (take i text) ≡ i = length-take-le i text (omega arith) in
-    let lt : j < i = omega (arith, len, g.0.high) in
-    let same : (k : ℕ) → k < i → slice_index (take i text) k ≡ slice_index text k = λ k l. get_or-take i text k 0 l in
-    quoted-run text j (omega arith) (λ k l. f.0.before k (omega arith) (omega arith))
-    (λ k l is. g.0.before k (omega arith) l (ap (is_byte2 10 13) (same k (omega arith)) ∙ is))
-    ∙ ap (longer j) (at-terminator (drop j text) (omega (arith, length-drop j text)) (ap (is_byte2 10 13) (byte-at text j ∙ sym (same j lt)) ∙ g.1))
+special-is : (b : ℕ) → is_plain_string_character b ≡ false → eqb b 34 ≡ false → eqb b 92 ≡ false → is_byte2 10 13 b ≡ true
+special-is b h quote slash = grind (arith, nat_tests)
 
--- none does
-pub quoted-clear : (text : List ℕ) (i : ℕ) → FirstAt (is_byte2 34 92) text i → Nowhere (Passes (is_byte2 10 13) (take i text)) 0 (length (take i text))
-    → quoted_len 0 text ≡ longer i (quoted_len 0 (drop i text))
-quoted-clear text i f g =
-    let le : i < length text = f.0.high in
-    let len : length (take i text) ≡ i = length-take-le i text (omega arith) in
-    quoted-run text i (omega arith) (λ k l. f.0.before k (omega arith) l)
-    (λ k l is. g k (omega arith) (omega (arith, len)) (ap (is_byte2 10 13) (get_or-take i text k 0 l) ∙ is))
-
-quote-ends : (tail : List ℕ) → 0 < length tail → eqb (slice_index tail 0) 34 ≡ true → quoted_len 0 tail ≡ Some 1
-quote-ends [] some h = absurd (omega arith)
-quote-ends (b ∷ bs) some h = rw h refl
-
-pub quoted-last : (text : List ℕ) (i : ℕ) → FirstAt (is_byte2 34 92) text i → Nowhere (Passes (is_byte2 10 13) (take i text)) 0 (length (take i text)) → eqb (slice_index text i) 34 ≡ true
-    → (i + 1 ≤ length text) × (quoted_len 0 text ≡ Some (i + 1))
-quoted-last text i f g h =
-    let le : i < length text = f.0.high in
-    (omega arith, quoted-clear text i f g ∙ ap (longer i) (quote-ends (drop i text) (omega (arith, length-drop i text)) (ap (λ b. eqb b 34) (byte-at text i) ∙ h)))
+pub quoted-broken : (text : List ℕ) (i : ℕ) → i ≡ plain text → i < length text → eqb (slice_index text i) 34 ≡ false → eqb (slice_index text i) 92 ≡ false → quoted_len 0 text ≡ None
+quoted-broken text i is lt quote slash =
+    let end = special-is (slice_index text i) (not-plain text i is lt) quote slash in
+    quoted-to text i is ∙ ap (longer i) (at-terminator (drop i text) (omega (arith, length-drop i text)) (ap (is_byte2 10 13) (byte-at text i) ∙ end))
 
 -- an escape of n bytes is passed, and where there is none nothing is read
 skip-bytes : (n : ℕ) (bs : List ℕ) → n ≤ length bs → quoted_len n bs ≡ longer n (quoted_len 0 (drop n bs))
@@ -284,36 +270,28 @@ escape-none : (tail : List ℕ) → eqb (slice_index tail 0) 34 ≡ false → st
 escape-none [] quote e = refl
 escape-none (b ∷ bs) quote e = rw (e, quote) refl
 
-pub quoted-inner : (text : List ℕ) (i n : ℕ) → FirstAt (is_byte2 34 92) text i → Nowhere (Passes (is_byte2 10 13) (take i text)) 0 (length (take i text)) → eqb (slice_index text i) 34 ≡ false
-    → n ≡ string_character_len (take (length text - i) (drop i text)) → 0 < n → n ≤ length (take (length text - i) (drop i text))
-    → (0 < i + n) × (i + n ≤ length text) × (quoted_len 0 text ≡ longer (i + n) (quoted_len 0 (drop (i + n) text)))
-quoted-inner text i n f g other e some within =
-    let le : i < length text = f.0.high in
+pub quoted-inner : (text : List ℕ) (i n : ℕ) → i ≡ plain text → i < length text → eqb (slice_index text i) 34 ≡ false → n ≡ string_character_len (take (length text - i) (drop i text)) → 0 < n
+    → n ≤ length (take (length text - i) (drop i text)) → (0 < i + n) × (i + n ≤ length text) × (quoted_len 0 text ≡ longer (i + n) (quoted_len 0 (drop (i + n) text)))
+quoted-inner text i n is lt other e some within =
     let rest = slice-rest text i in
     let fits : n ≤ length (drop i text) = subst (λ (l : List ℕ). n ≤ length l) rest within in (
       omega arith,
       omega (arith, fits, length-drop i text),
-      behind (quoted_len 0) text i n (quoted-clear text i f g)
+      behind (quoted_len 0) text i n (quoted-to text i is)
           (escape-passed (drop i text) n (ap (λ b. eqb b 34) (byte-at text i) ∙ other) (e ∙ ap string_character_len rest) some fits),
     )
 
-pub quoted-bad : (text : List ℕ) (i n : ℕ) → FirstAt (is_byte2 34 92) text i → Nowhere (Passes (is_byte2 10 13) (take i text)) 0 (length (take i text)) → eqb (slice_index text i) 34 ≡ false
-    → n ≡ string_character_len (take (length text - i) (drop i text)) → n ≡ 0 → quoted_len 0 text ≡ None
-quoted-bad text i n f g other e none =
-    quoted-clear text i f g ∙ ap (longer i) (escape-none (drop i text) (ap (λ b. eqb b 34) (byte-at text i) ∙ other) (ap string_character_len (sym (slice-rest text i)) ∙ sym e ∙ none))
+pub quoted-bad : (text : List ℕ) (i n : ℕ) → i ≡ plain text → eqb (slice_index text i) 34 ≡ false → n ≡ string_character_len (take (length text - i) (drop i text)) → n ≡ 0 → quoted_len 0 text ≡ None
+quoted-bad text i n is other e none =
+    quoted-to text i is ∙ ap (longer i) (escape-none (drop i text) (ap (λ b. eqb b 34) (byte-at text i) ∙ other) (ap string_character_len (sym (slice-rest text i)) ∙ sym e ∙ none))
+
+-- a byte of the text in what is left of the text from there on
+byte-there : (text : List ℕ) (i b : ℕ) → slice_index text i ≡ b → slice_index (take (length text - i) (drop i text)) 0 ≡ b
+byte-there text i b is = ap (λ l. slice_index l 0) (slice-rest text i) ∙ byte-at text i ∙ is
 
 -- the byte where the search ended, if it is no quote, in what is left of the text
 pub backslash-there : (text : List ℕ) (i : ℕ) → FirstAt (is_byte2 34 92) text i → eqb (slice_index text i) 34 ≡ false → slice_index (take (length text - i) (drop i text)) 0 ≡ 92
-backslash-there text i f other = ap (λ l. slice_index l 0) (slice-rest text i) ∙ byte-at text i ∙ eqb-true _ _ (slash-of text i f other)
-
--- what `is_some` says of the second search
-pub found : (text : List ℕ) (i : ℕ) (r : Option ℕ) → FirstAt (is_byte2 34 92) text i → IsFirstByte (is_byte2 10 13) (take i text) r → is_some r ≡ true → quoted_len 0 text ≡ None
-found text i None f g h = absurd (let no : false ≡ true = h in (cc))
-found text i (Some j) f g h = quoted-broken text i j f g
-
-pub not-found : (text : List ℕ) (r : Option ℕ) → IsFirstByte (is_byte2 10 13) text r → is_some r ≡ false → Nowhere (Passes (is_byte2 10 13) text) 0 (length text)
-not-found text None g h = g
-not-found text (Some j) g h = absurd (let no : true ≡ false = h in (cc))
+backslash-there text i f other = byte-there text i 92 (eqb-true _ _ (slash-of text i f other))
 
 -- the end of a comment is the first line terminator, or the end of the text
 comment-quiet : (b : ℕ) (bs : List ℕ) → is_byte2 10 13 b ≡ false → prefix_len is_comment_character (b ∷ bs) ≡ suc (prefix_len is_comment_character bs)

@@ -2,7 +2,7 @@
 ghost use Rattle.std.specs.Prelude.{◌≡◌, ◌≤◌, ◌==◌, if◌then◌else◌, length, take};
 ghost use Rattle.std.specs.Int.{w64, trailing_zeros};
 ghost use Rattle.std.specs.List.{prefix_len};
-ghost use Rattle.lexical_grammar.specs.Characters.{is_name_continue};
+ghost use Rattle.lexical_grammar.specs.Characters.{is_name_continue, is_plain_string_character};
 ghost use Rattle.apollo_lexer.specs.Starts.{is_blank_byte};
 
 use std::simd::prelude::*;
@@ -47,4 +47,16 @@ pub fn blank_lanes(bytes: &[u8]) -> usize
     let no_space = v.simd_ne(u8x16::splat(b' ')) & v.simd_ne(u8x16::splat(b'\t'));
     let no_end = v.simd_ne(u8x16::splat(b'\n')) & v.simd_ne(u8x16::splat(b'\r'));
     first_set((no_space & no_end).to_bitmask())
+}
+
+/// Of the first sixteen bytes, how many are a plain character of a quoted string each.
+#[inline(always)]
+pub fn plain_lanes(bytes: &[u8]) -> usize
+    requires { LANES ≤ length bytes.now }
+    ensures { result ≡ prefix_len is_plain_string_character (take 16 bytes.now) }
+{
+    let v = u8x16::from_slice(bytes);
+    let mark = v.simd_eq(u8x16::splat(b'"')) | v.simd_eq(u8x16::splat(b'\\'));
+    let end = v.simd_eq(u8x16::splat(b'\n')) | v.simd_eq(u8x16::splat(b'\r'));
+    first_set((mark | end).to_bitmask())
 }

@@ -73,6 +73,7 @@ fn step(state: NumberState, b: u8) -> NumberState
 }
 
 /// The longest beginning of a number at the front, in bytes, and what it comes to.
+#[inline(never)]
 pub fn number_len(bytes: &[u8]) -> (NumberState, usize)
     ensures state { result.0 ≡ run Begin (take result.1 bytes.now) }
     ensures len { result.1 ≡ live_len Begin bytes.now }
@@ -113,7 +114,7 @@ fn ends_number(after: &[u8]) -> bool
 }
 
 /// The number at the front, and its length in bytes.
-#[inline(never)]
+#[inline(always)]
 pub fn number_at(bytes: &[u8]) -> Option<(TokenKind, usize)>
     ensures { result ≡ number_at bytes.now }
 {

@@ -145,6 +145,7 @@ fn marked_len(bytes: &[u8]) -> usize
 }
 
 // The spread at the front, when `others` is what follows its first dot.
+#[inline(always)]
 fn spread_at(others: &[u8]) -> Option<(TokenKind, usize)>
     ensures { result ≡ (if begins (46 ∷ 46 ∷ []) others.now then Some (token.Spread, 3) else None) }
 {
@@ -156,8 +157,7 @@ fn spread_at(others: &[u8]) -> Option<(TokenKind, usize)>
 }
 
 // What a byte order mark begins, if one is at the front.
-#[cold]
-#[inline(never)]
+#[inline(always)]
 fn other_at(bytes: &[u8]) -> Option<(TokenKind, usize)>
     ensures { result ≡ (if blank_len bytes.now == 0 then None else Some (token.Whitespace, blanks_len 0 bytes.now)) }
 {

@@ -1,14 +1,17 @@
-// How far strings go: from one quote or backslash to the next.
+// How far strings go: from one quote or backslash to the next, and in a quoted string no farther than its line.
 //
 // A search ends within the text that it is found to belong to, or at the end of the whole text, which is then bad text to its end. None is
 // repeated from a place that was passed, but for one: where a quoted string turns out to be bad, its end is searched for from its opening
 // quote again, and that end is no nearer than the last byte looked at. So no byte is looked at more than a fixed number of times, also in a
 // text of nothing but quotes, of bad strings or of backslashes.
 ghost use Rattle.std.specs.Prelude.{◌≡◌, ◌<◌, ◌≤◌, IfSome, Some, length};
+ghost use Rattle.std.specs.List.{prefix_len};
+ghost use Rattle.lexical_grammar.specs.Characters.{is_plain_string_character};
 ghost use Rattle.lexical_grammar.specs.Reads.{block_len, quoted_len, string_at};
 ghost use Rattle.apollo_lexer.specs.Pieces.{IsPiece, read_bad};
 
 use crate::escapes::{bad_escape_len, escape_len};
+use crate::lanes::{LANES, plain_lanes};
 use lexical_grammar::TokenKind;
 use memchr::memchr2;
 
@@ -39,6 +42,7 @@ fn block_piece(rest: &[u8]) -> Piece
 }
 
 // The bytes of the block characters at the front and of the quotes after them.
+#[inline(never)]
 fn block_len(bytes: &[u8]) -> Option<usize>
     ensures value { result ≡ block_len 0 bytes.now }
     ensures within { IfSome result (λ n. n ≤ length bytes.now) }
@@ -53,30 +57,63 @@ fn block_len(bytes: &[u8]) -> Option<usize>
     }
 }
 
-// In a quoted string: the plain characters up to a quote or a backslash, and that one or its escape.
+fn is_plain(b: u8) -> bool
+    ensures { result ≡ is_plain_string_character b }
+{
+    !((b == b'"' || b == b'\\') || (b == b'\n' || b == b'\r'))
+}
+
+// How many bytes at the front are plain characters of a quoted string, byte by byte.
+#[inline(never)]
+fn plain_len_by_bytes(bytes: &[u8]) -> usize
+    ensures value { result ≡ prefix_len is_plain_string_character bytes.now }
+    ensures within { result ≤ length bytes.now }
+{
+    bytes.iter().take_while(|b| is_plain(**b)).count()
+}
+
+// The same, sixteen bytes at a time.
+#[inline(always)]
+fn plain_len(bytes: &[u8]) -> usize
+    ensures value { result ≡ prefix_len is_plain_string_character bytes.now }
+    ensures within { result ≤ length bytes.now }
+{
+    let mut n = 0;
+    while LANES <= bytes.len() - n {
+        let k = plain_lanes(&bytes[n..]);
+        if k < LANES {
+            return n + k;
+        }
+        n += LANES;
+    }
+    n + plain_len_by_bytes(&bytes[n..])
+}
+
+// In a quoted string: the plain characters at the front, and the quote or the escape after them.
+#[inline(always)]
 fn quoted_piece(rest: &[u8]) -> Piece
     ensures { IsPiece (quoted_len 0) rest.now result }
 {
-    match memchr2(b'"', b'\\', rest) {
-        None => Piece::Open,
-        Some(i) => {
-            if memchr2(b'\n', b'\r', &rest[..i]).is_some() {
-                Piece::Open
-            } else if rest[i] == b'"' {
-                Piece::Last(i + 1)
-            } else {
-                let n = escape_len(&rest[i..]);
-                if n == 0 {
-                    Piece::Open
-                } else {
-                    Piece::Inner(i + n)
-                }
-            }
-        }
+    let i = plain_len(rest);
+    if i == rest.len() {
+        return Piece::Open;
+    }
+    if rest[i] == b'"' {
+        return Piece::Last(i + 1);
+    }
+    if rest[i] != b'\\' {
+        return Piece::Open;
+    }
+    let n = escape_len(&rest[i..]);
+    if n == 0 {
+        Piece::Open
+    } else {
+        Piece::Inner(i + n)
     }
 }
 
 // The bytes of the string characters at the front and of the quote after them.
+#[inline(never)]
 fn quoted_len(bytes: &[u8]) -> Option<usize>
     ensures value { result ≡ quoted_len 0 bytes.now }
     ensures within { IfSome result (λ n. n ≤ length bytes.now) }
@@ -124,7 +161,7 @@ pub fn bad_string_len(bytes: &[u8]) -> usize
 }
 
 /// The string at the front, which begins with a quote, and its length in bytes.
-#[inline(never)]
+#[inline(always)]
 pub fn string_at(bytes: &[u8]) -> Option<(TokenKind, usize)>
     requires { 0 < length bytes.now }
     ensures { result ≡ string_at bytes.now }
