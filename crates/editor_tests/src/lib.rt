@@ -1,10 +1,12 @@
-//! Tests of the positions of `line_index`, and of `open_document`, `rpc_frames` and `rpc_messages`.
+//! Tests of the positions of `line_index`, and of `open_document`, `rpc_frames`, `rpc_messages` and `rpc_exchange`.
 //!
 //! They have a crate of their own, since a crate with tests is proved twice.
 #![tactic(auto)]
 
 #[cfg(test)]
 mod documents;
+#[cfg(test)]
+mod exchange;
 #[cfg(test)]
 mod frames;
 #[cfg(test)]

@@ -5,9 +5,9 @@ use std::alloc::{AllocError, Global};
 use std::process::Abort;
 use std::test::Fail;
 
-// Knows no method.
+// Knows no method but `exit`.
 #[derive(Drop)]
-struct Refuses;
+pub(crate) struct Refuses;
 
 impl Service for Refuses {
     fn request(
@@ -23,9 +23,12 @@ impl Service for Refuses {
     fn notification(
         &mut self,
         _alloc: Global,
-        _method: &str,
+        method: &str,
         _params: &Value<'_>,
     ) -> Result<Reply, AllocError> {
+        if method == "exit" {
+            return Ok(Reply::Exit(3));
+        }
         Ok(Reply::Nothing)
     }
 }

@@ -3,13 +3,14 @@ use Rattle.std.proofs.Common.{◌≡◌, ℕ, ◌+◌, ◌-◌, ◌<◌, ◌≤�
 use Rattle.std.specs.Prelude.{slice_range, IfSome, IfErr}
 use Rattle.std.proofs.lemmas.List.{take-append-drop, take_at, drop_at, length-take, length-map, take-append-le}
 use Rattle.std.proofs.Math.Seq.{take-add}
-use Rattle.httparse.specs.Grammar.{Field, LineEnd, print_section, ReadsSection, HasNoSection}
+use Rattle.std.specs.List.{flat_map}
+use Rattle.httparse.specs.Grammar.{Field, LineEnd, crlf, lf, print_end, print_field, print_section, ReadsSection, HasNoSection}
 use Rattle.httparse.specs.declared.spans.HeaderSpan.{HeaderSpan}
 use Rattle.httparse.specs.Spans.{name_and_value, header_bytes, IsSectionAt, IsSectionOf, IsSectionWithin, SectionOverflows}
 use Rattle.httparse.proofs.GrammarLemmas.{section_unique, ReadsSection-append}
 use Rattle.rpc_frames.specs.declared.FrameError.{FrameError}
 use Rattle.rpc_frames.specs.declared.FrameError.TheVariants.{Memory}
-use Rattle.rpc_frames.specs.Frames.{length_in, IsFrame, HasNoFrame, NeverHasFrame, Agrees, IsHeadAt, IsBodyAt}
+use Rattle.rpc_frames.specs.Frames.{length_in, BeginsWithFrame, IsFrame, HasNoFrame, NeverHasFrame, Agrees, IsHeadAt, IsBodyAt}
 
 -- the section of a frame, in bytes that begin with it
 section : (bytes frame body more : List ℕ) (f : IsFrame frame body) → bytes ≡ frame ++ more → ReadsSection bytes f.fields f.last (body ++ more)
@@ -145,3 +146,12 @@ no-few bytes m room e over more body rest b =
 pub if-err : {A : Type 0} (r : Result A FrameError) (bytes : List ℕ) → NeverHasFrame bytes → IfErr r (λ error. error ≢ Memory → NeverHasFrame bytes)
 if-err (Ok x) bytes h = tt
 if-err (Err e) bytes h = λ other. h
+
+end-length : (last : LineEnd) → 0 < length (print_end last)
+end-length crlf = omega arith
+end-length lf = omega arith
+
+-- what follows a frame is shorter than what begins with it
+pub shorter : (now body more : List ℕ) → BeginsWithFrame now body more → length more < length now
+shorter now body more b =
+    omega (arith, ap length b.2, length-append b.0 more, ap length b.1.head.1, length-append (print_section b.1.fields b.1.last) body, length-append (flat_map print_field b.1.fields) (print_end b.1.last), end-length b.1.last)

@@ -4,7 +4,7 @@
 //! A `FrameBuffer` is given bytes as they come, in pieces of any length, and gives the bodies. It has no devices.
 #![tactic(auto)]
 
-ghost use Rattle.std.specs.Prelude.{◌≡◌, ◌≢◌, ◌≤◌, ◌^◌, ◌==◌, ◌++◌, [], length, map, All, IfOk, IfErr, IfSome, IfNone, OnOk, OnErr};
+ghost use Rattle.std.specs.Prelude.{◌≡◌, ◌≢◌, ◌≤◌, ◌^◌, ◌==◌, ◌++◌, [], length, map, drop, All, IfOk, IfErr, IfSome, IfNone, OnOk, OnErr};
 ghost use Rattle.std.specs.Char.{is_ascii_digit};
 ghost use Rattle.std.specs.List.{list_all};
 ghost use Rattle.httparse.specs.Spans.{header_bytes, IsHeaderWithin};
@@ -93,6 +93,15 @@ impl FrameBuffer {
                 self.bytes = rest;
                 Ok(Some(body))
             }
+        }
+    }
+
+    /// Leaves the first byte out, where there is one: after an error a frame may begin behind it.
+    pub fn skip_byte(&mut self)
+        ensures { self.new ≡ drop 1 self.old }
+    {
+        if !self.bytes.is_empty() {
+            self.bytes.remove(0);
         }
     }
 }

@@ -1,0 +1,54 @@
+-- A conversation: the bytes that a client sent, and those that are said to it.
+use Rattle.std.specs.Prelude.{◌≡◌, ℕ, List, [], ◌∷◌, ◌++◌, Option, Some, None}
+use Rattle.json.specs.Token.{Token}
+use Rattle.rpc_frames.specs.Frames.{BeginsWithFrame, HasNoFrame, NeverHasFrame, frame_of}
+use Rattle.rpc_messages.specs.declared.reply.Reply.{Reply}
+use Rattle.rpc_messages.specs.declared.reply.Reply.TheVariants.{Nothing, Answer, Notice, Exit}
+use Rattle.rpc_messages.specs.Messages.{Asks}
+use Rattle.rpc_messages.specs.Replies.{Replies}
+
+-- what is said for a reply: one frame, or nothing
+abbrev pub said_for : Reply → List ℕ
+said_for Nothing = []
+said_for (Answer body) = frame_of body.items
+said_for (Notice body) = frame_of body.items
+said_for (Exit status) = []
+
+-- the exit status, where a reply ends the conversation
+abbrev pub status_of : Reply → Option ℕ
+status_of Nothing = None
+status_of (Answer body) = None
+status_of (Notice body) = None
+status_of (Exit status) = Some status
+
+-- The bytes that came, what is said for them, the bytes that are left, and the exit status where a message ended the conversation. Each message has
+-- one reply, which is an answer exactly where one is asked for.
+pub data Exchange : List ℕ → List ℕ → List ℕ → Option ℕ → Type 0 where
+  -- no message has come as a whole
+  waits :
+      {bytes : List ℕ}
+      → HasNoFrame bytes
+      → Exchange bytes [] bytes None
+  -- a message has its reply, and so has what follows
+  replied :
+      {bytes body more said rest : List ℕ} {status : Option ℕ} (asked : Option Token) (reply : Reply)
+      → BeginsWithFrame bytes body more
+      → Asks body asked
+      → Replies asked reply
+      → status_of reply ≡ None
+      → Exchange more said rest status
+      → Exchange bytes (said_for reply ++ said) rest status
+  -- a message ends the conversation
+  ended :
+      {bytes body rest : List ℕ} (asked : Option Token) (reply : Reply) (status : ℕ)
+      → BeginsWithFrame bytes body rest
+      → Asks body asked
+      → Replies asked reply
+      → status_of reply ≡ Some status
+      → Exchange bytes (said_for reply) rest (Some status)
+  -- a byte is passed over, since no frame begins with it, whatever comes
+  passed_over :
+      {byte : ℕ} {bytes said rest : List ℕ} {status : Option ℕ}
+      → NeverHasFrame (byte ∷ bytes)
+      → Exchange bytes said rest status
+      → Exchange (byte ∷ bytes) said rest status
