@@ -1,8 +1,10 @@
-//! Tests of the positions of `line_index`, and of `open_document`, `rpc_frames`, `rpc_messages` and `rpc_exchange`.
+//! Tests of the positions of `line_index`, and of `open_document`, `rpc_frames`, `rpc_messages`, `rpc_exchange` and `diagnostic_messages`.
 //!
 //! They have a crate of their own, since a crate with tests is proved twice.
 #![tactic(auto)]
 
+#[cfg(test)]
+mod diagnostics;
 #[cfg(test)]
 mod documents;
 #[cfg(test)]

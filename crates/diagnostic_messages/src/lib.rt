@@ -1,0 +1,12 @@
+//! The notices by which a language server tells a client the errors of a document.
+//!
+//! `publication` tells of each error where it is, as the client counts lines and columns, and what is wrong; `withdrawal` takes all of them back.
+#![tactic(auto)]
+
+mod diagnostic;
+mod places;
+mod publishing;
+
+pub use diagnostic::TOLD;
+pub use places::Places;
+pub use publishing::{publication, withdrawal};
