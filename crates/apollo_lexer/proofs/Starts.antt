@@ -1,9 +1,11 @@
 -- What the first byte of an item says about it.
-use Rattle.std.proofs.Common.{◌≡◌, ℕ, ◌+◌, ◌||◌, ◌==◌, if◌then◌else◌, List, [], ◌∷◌, get_or, Option, Some, None, option_map, is_some, true, false, eqb, refl, sym, ap, ◌∙◌, inl, inr}
-use Rattle.std.proofs.lemmas.Bool.{cases_Bool}
+use Rattle.std.proofs.Common.{◌≡◌, ℕ, ◌+◌, ◌||◌, ◌==◌, if◌then◌else◌, List, [], ◌∷◌, get_or, Option, Some, None, option_map, is_some, true, false, cond, eqb, refl, sym, ap, ◌∙◌, inl, inr}
+use Rattle.std.proofs.lemmas.Bool.{cases_Bool, or_parts, both_ways}
 use Rattle.std.proofs.lemmas.Bool.Decides.{Decides-eqb}
 use Rattle.std.proofs.lemmas.Slice.Eq.{starts_is}
 use Rattle.std.specs.List.{prefix_len}
+use Rattle.std.specs.Int.{is_in_range}
+use Rattle.std.specs.Char.{is_ascii_alphanumeric}
 use Rattle.lexical_grammar.specs.declared.TokenKind.{TokenKind}
 use Rattle.lexical_grammar.specs.declared.TokenKind.TheVariants as token
 use Rattle.lexical_grammar.specs.Characters.{is_name_start, is_name_continue, is_comment_character, is_digit, is_white_space, is_line_terminator}
@@ -15,7 +17,7 @@ use Rattle.apollo_lexer.specs.Starts.{start_of, other_start}
 
 -- the token at the front
 abbrev pub token_from : Start → ℕ → List ℕ → Option (TokenKind × ℕ)
-token_from Name b bs = Some (token.Name, 1 + prefix_len is_name_continue bs)
+token_from Name b bs = Some (token.Name, prefix_len is_name_continue (b ∷ bs))
 token_from Number b bs = number_at (b ∷ bs)
 token_from Quote b bs = string_at (b ∷ bs)
 token_from NumberSign b bs = Some (token.Comment, 1 + prefix_len is_comment_character bs)
@@ -37,9 +39,27 @@ punctuator-at b bs blank (Some kind) is =
       | inr none ↦ rw (blank, none) refl
     ]
 
+-- what a name begins with may stand in it
+name-goes-on : (b : ℕ) → is_name_start b ≡ true → is_name_continue b ≡ true
+name-goes-on b h = elim (cases_Bool (is_name_continue b)) [
+  | inl e ↦ e
+  | inr other ↦
+      let all = or_parts (is_ascii_alphanumeric b) (b == 95) other in
+      let letters = or_parts (is_in_range 48 57 b || is_in_range 65 90 b) (is_in_range 97 122 b) all.0 in
+      let upper = (or_parts (is_in_range 48 57 b) (is_in_range 65 90 b) letters.0).1 in
+      let lower = letters.1 in
+      let line = all.1 in
+      let none : is_name_start b ≡ false = rw (upper, lower, line) refl in
+      absurd (both_ways (is_name_start b) none h)
+]
+
 by-start : (b : ℕ) (bs : List ℕ) → token_from (start_of b) b bs ≡ token_at (b ∷ bs)
 by-start b bs = elim (cases_Bool (is_name_start b)) [
-  | inl e ↦ rw e refl
+  | inl e ↦
+      let start : start_of b ≡ Name = rw e refl in
+      let here : token_at (b ∷ bs) ≡ Some (token.Name, 1 + prefix_len is_name_continue bs) = rw e refl in
+      let run : prefix_len is_name_continue (b ∷ bs) ≡ 1 + prefix_len is_name_continue bs = ap (λ t. cond t (1 + prefix_len is_name_continue bs) 0) (name-goes-on b e) in
+      ap (λ s. token_from s b bs) start ∙ sym (here ∙ ap (λ n. Some (token.Name, n)) (sym run))
   | inr name ↦ elim (cases_Bool (is_digit b || b == 45)) [
     | inl e ↦ rw (name, e) refl
     | inr number ↦ elim (cases_Bool (b == 34)) [

@@ -175,7 +175,7 @@ fn token_at(bytes: &[u8]) -> Option<(TokenKind, usize)>
 {
     let (first, others) = bytes.split_first()?;
     match start_of(*first) {
-        Start::Name => Some((TokenKind::Name, 1 + name_len(others))),
+        Start::Name => Some((TokenKind::Name, name_len(bytes))),
         Start::Number => number_at(bytes),
         Start::Quote => string_at(bytes),
         Start::NumberSign => Some((TokenKind::Comment, 1 + comment_len(others))),

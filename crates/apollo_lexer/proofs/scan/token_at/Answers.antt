@@ -1,5 +1,7 @@
 use Rattle.std.proofs.Common.{◌∙◌, ◌+◌, ◌==◌, if◌then◌else◌, Some, None, ap, sym}
+use Rattle.std.specs.List.{prefix_len}
 use Rattle.lexical_grammar.specs.declared.TokenKind.TheVariants as token
+use Rattle.lexical_grammar.specs.Characters.{is_name_continue}
 use Rattle.lexical_grammar.specs.Reads.{blank_len, blanks_len, number_at, string_at}
 use Rattle.apollo_lexer.specs.declared.bytes.Start.TheVariants.{Name, Number, Quote, NumberSign, Dot, Blank, Punctuator, Other}
 use Rattle.apollo_lexer.proofs.Starts.{token-by-start}
@@ -8,7 +10,7 @@ use Rattle.apollo_lexer.proofs.scan.token_at.Goals as goal
 pub returns-in-Name : goal.returns-in-Name
 returns-in-Name c =
     let is = c.in_ok-first.ensures.cases.0 in
-    ap (λ n. Some (token.Name, 1 + n)) c.name_len.ensures.value ∙ token-by-start Name c.in_ok-first.first.now c.in_ok-first.others.now c.args.bytes.now is (sym c.in-Name.is ∙ c.start_of.ensures)
+    ap (λ n. Some (token.Name, n)) (c.name_len.ensures.value ∙ ap (prefix_len is_name_continue) is) ∙ token-by-start Name c.in_ok-first.first.now c.in_ok-first.others.now c.args.bytes.now is (sym c.in-Name.is ∙ c.start_of.ensures)
 
 pub returns-in-Number : goal.returns-in-Number
 returns-in-Number c =
