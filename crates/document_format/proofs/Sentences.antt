@@ -9,7 +9,7 @@ use Rattle.lexical_grammar.specs.Kept.{Kept}
 use Rattle.lexical_grammar.proofs.TheCut.{is-cut}
 use Rattle.document_grammar.proofs.Texts.{one-cut}
 use Rattle.respelling.specs.Respelled.{AreSameWords}
-use Rattle.respelling.proofs.Sentences.{respelled}
+use Rattle.document_format.proofs.Respelling.{respelled}
 use Rattle.document_format.specs.Written.{HoldsSame}
 use Rattle.document_format.specs.Formatted.{IsSentence, Formatted}
 

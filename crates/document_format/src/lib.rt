@@ -1,10 +1,18 @@
 //! A document with another layout: its significant tokens and comments, and block strings spelled for their lines.
 //!
-//! `format_document` takes a tree and gives a text. The gaps come from `document_style`, the spelling of block strings from `respelling`, and
-//! `token_layout` writes.
+//! `format_document` takes a tree and gives a text. The layout is that of graphql-js's `print`, with comments: one walk over the tree gives a gap
+//! for each token. That is advice to a writer, so it has no contract beyond its safety: whatever the gaps, `token_layout` keeps the tokens. The
+//! spelling of block strings comes from `respelling`, and the laws say what a text keeps whose block strings are spelled anew.
 #![tactic(auto)]
 
+mod elements;
+mod gaps;
+pub mod laws;
+mod rules;
+mod size;
+mod slot;
+mod walk;
 mod writing;
 
-pub use document_style::Elements;
+pub use elements::Elements;
 pub use writing::format_document;

@@ -7,8 +7,9 @@ ghost use Rattle.lexical_grammar.specs.Kept.{Kept, is_kept_kind};
 ghost use Rattle.document_format.specs.Formatted.{Formatted, IsSentence};
 ghost use Rattle.document_format.specs.Written.{AddsSame, HoldsSame};
 
+use crate::elements::Elements;
+use crate::gaps::Gaps;
 use apollo_lexer::{Lexer, Token};
-use document_style::{Elements, Gaps};
 use lexical_grammar::TokenKind;
 use respelling::spelled;
 use std::alloc::{AllocError, Allocator};

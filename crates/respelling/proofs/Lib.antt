@@ -1,6 +1,1 @@
-pub mod Significant
-pub mod Derivations
-pub mod Relabeled
-pub mod Sentences
-pub mod Nests
 pub mod Blocks

@@ -1,11 +1,9 @@
 //! Block strings in other words with the same value.
 //!
-//! `spelled` spells a block string for the indent of its line, as a formatter needs it. The law says what a text keeps whose block strings are
-//! spelled anew. `is_string` says whether a text is one string token.
+//! `spelled` spells a block string for the indent of its line, as a formatter needs it. `is_string` says whether a text is one string token.
 #![tactic(auto)]
 
 mod block_text;
-pub mod laws;
 mod spelling;
 
 pub use spelling::{is_string, spelled};

@@ -3,7 +3,7 @@ use respelling::{is_string, spelled};
 use std::alloc::{AllocError, Allocator};
 
 /// How many characters a token will have, and whether it will have more than one line.
-#[derive(Clone, Copy, Debug)]
+#[derive(Clone, Copy)]
 pub struct Size {
     pub width: usize,
     pub has_lines: bool,

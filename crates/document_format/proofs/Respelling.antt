@@ -10,10 +10,10 @@ use Rattle.document_grammar.specs.Derivation.{Yield, document}
 use Rattle.document_grammar.specs.Sentence.{Sentence, token_of, leaf_number}
 use Rattle.document_grammar.proofs.Texts.{one-cut}
 use Rattle.lexical_grammar.specs.Kept.{Kept}
-use Rattle.respelling.proofs.Significant.{significant, significant-kept}
+use Rattle.document_format.proofs.Significant.{significant, significant-kept}
 use Rattle.respelling.specs.Respelled.{SameWord, AreSameWords, Respelled}
-use Rattle.respelling.proofs.Derivations.{alike-derivation}
-use Rattle.respelling.proofs.Relabeled.{SameToken, AreSame, relabel}
+use Rattle.document_format.proofs.Derivations.{alike-derivation}
+use Rattle.document_format.proofs.Relabeled.{SameToken, AreSame, relabel}
 
 both-same : (xs ys more others : List Word) → AreSameWords xs ys → AreSameWords more others → AreSameWords (xs ++ more) (ys ++ others)
 both-same [] [] more others a b = b

@@ -3,7 +3,7 @@ use crate::slot::Separator;
 use document_grammar::SyntaxKind;
 
 /// What a node's children are to each other.
-#[derive(Clone, Copy, Debug, PartialEq, Eq)]
+#[derive(Clone, Copy, PartialEq)]
 pub enum Inside {
     /// The definitions of a document.
     Document,

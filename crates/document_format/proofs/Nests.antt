@@ -5,7 +5,7 @@ use Rattle.document_grammar.specs.Kinds.{DOCUMENT}
 use Rattle.document_grammar.specs.Tree.{Tree, leaf, node, Forest, none, ◌▸◌, root}
 use Rattle.document_grammar.specs.Derivation.{counts, below, belows, nest}
 use Rattle.respelling.specs.Respelled.{Alike, AllAlike}
-use Rattle.respelling.proofs.Derivations.{alike-root}
+use Rattle.document_format.proofs.Derivations.{alike-root}
 
 mutual
   alike-below : (t u : Tree) → Alike t u → below u ≡ below t

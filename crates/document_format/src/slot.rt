@@ -1,7 +1,7 @@
 // What is known of the place before a token when the walk meets it. Whether the list around it breaks is known only where that ends.
 
 /// What separates a token from the one before it while no list breaks.
-#[derive(Clone, Copy, Debug, PartialEq, Eq)]
+#[derive(Clone, Copy, PartialEq)]
 pub enum Separator {
     /// Nothing.
     Nothing,
@@ -34,7 +34,7 @@ impl Separator {
 }
 
 /// Which bracket of a list that may break a token is.
-#[derive(Clone, Copy, Debug, PartialEq, Eq)]
+#[derive(Clone, Copy, PartialEq)]
 pub enum Bracket {
     /// None.
     Neither,
@@ -47,7 +47,7 @@ pub enum Bracket {
 }
 
 /// The place before a token or a comment.
-#[derive(Clone, Copy, Debug)]
+#[derive(Clone, Copy)]
 pub struct Slot {
     /// What is there while no list breaks.
     pub separator: Separator,
