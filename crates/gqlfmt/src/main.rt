@@ -1,11 +1,8 @@
 //! `gqlfmt` puts GraphQL documents into one layout: files in place, or standard input to standard output.
 //!
 //! It can also list the files that would change, or show the changes. Here are only the words, the standard devices and the exit status; what is
-//! done between them is in `gqlfmt_run`. The tests of that crate, of `text_excerpts` and of `line_index` are here too.
+//! done between them is in `gqlfmt_run`.
 #![tactic(auto)]
-
-#[cfg(test)]
-mod tests;
 
 use gqlcst_run::{StdSink, StdSource};
 use gqlfmt_run::{StdFiles, run};

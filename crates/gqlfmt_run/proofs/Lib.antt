@@ -1,2 +1,1 @@
 pub mod PathLemmas
-pub mod InputLemmas

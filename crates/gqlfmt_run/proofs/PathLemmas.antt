@@ -1,19 +1,13 @@
 -- Files, one after the other.
-use Rattle.std.proofs.Common.{◌≡◌, ℕ, ◌+◌, ◌<◌, Bool, List, [], ◌∷◌, ◌++◌, length, take, get_or, map, max, refl, sym, ap, inl, inr, ◌∙◌, subst, arith, Option, Result, Bor}
+use Rattle.std.proofs.Common.{◌≡◌, ℕ, ◌+◌, ◌<◌, Bool, List, [], ◌∷◌, ◌++◌, length, take, get_or, map, max, refl, sym, ap, ◌∙◌, subst, arith, Option, Result, Bor}
 use Rattle.std.specs.Ordering.{ord_max, nat_cmp}
 use Rattle.std.proofs.lemmas.Bool.Decides.{nat_tests}
 use Rattle.std.proofs.lemmas.List.{take_more, map-append}
 use Rattle.gqlcst_run.specs.declared.command.Limits.{Limits}
-use Rattle.gqlfmt_run.specs.declared.command.Mode.{Mode}
+use Rattle.gqlfmt_files.specs.declared.settling.Mode.{Mode}
 use Rattle.gqlfmt_run.specs.declared.fault.FileFault.{FileFault}
-use Rattle.gqlfmt_run.specs.declared.outcome.Outcome.{Outcome}
-use Rattle.gqlfmt_run.specs.declared.outcome.Outcome.TheVariants.{Found}
+use Rattle.gqlfmt_files.specs.declared.settling.Outcome.{Outcome}
 use Rattle.gqlfmt_run.specs.Outcome.{status_of}
-use Rattle.gqlfmt_run.specs.Formatting.{IsRefused, IsChanged}
-use Rattle.apollo_parser.specs.Diagnostics.{Diagnostic}
-use Rattle.std.specs.Str.{IsUtf8}
-use Rattle.std.specs.Prelude.{◌≢◌, Some, Ok}
-use Rattle.gqlfmt_run.specs.declared.command.Mode.TheVariants.{Write}
 use Rattle.gqlfmt_run.specs.Paths.{Handles, HandlesAll}
 
 ord_max-nat : (a b : ℕ) → ord_max nat_cmp a b ≡ max a b
@@ -41,35 +35,3 @@ module _ {S : Type 0} (reads : S → List ℕ → Option (List ℕ) → S → Ty
       subst (λ (n : ℕ). HandlesAll reads replaces mode limits (map (λ p. p.now) (take (i + 1) items)) n old new) (sym top)
       (subst (λ (paths : List (List ℕ)). HandlesAll reads replaces mode limits paths (max status (status_of ended)) old new) (sym more)
       (handles-more (map (λ p. p.now) (take i items)) status (get_or items i d).now ended old middle new h (subst (λ (p : List ℕ). Handles reads replaces mode limits p ended middle new) path last)))
-
-  -- a file that has errors is left alone
-  pub handles-refused : (old middle : S) (path input slice source : List ℕ) (errors : List Diagnostic) → reads old path (Some input) middle → slice ≡ input → (source ≡ slice) × IsUtf8 slice
-      → IsRefused limits source errors → Handles reads replaces mode limits path (Ok Found) old middle
-  handles-refused old middle path input slice source errors read whole text refused = record {
-    given = Some input;
-    middle = middle;
-    read = read;
-    follows = (
-      source,
-      ap Some (sym whole ∙ sym text.0),
-      subst IsUtf8 (sym text.0) text.1,
-      inl (record { errors = errors; refused = refused }),
-      refl,
-    );
-  }
-
-  -- so is one that has another layout, in a mode that changes nothing
-  pub handles-shown : (old middle : S) (path input slice source text : List ℕ) → reads old path (Some input) middle → slice ≡ input → (source ≡ slice) × IsUtf8 slice → mode ≢ Write
-      → IsChanged limits source text → Handles reads replaces mode limits path (Ok Found) old middle
-  handles-shown old middle path input slice source text read whole is other changed = record {
-    given = Some input;
-    middle = middle;
-    read = read;
-    follows = (
-      source,
-      ap Some (sym whole ∙ sym is.0),
-      subst IsUtf8 (sym is.0) is.1,
-      inr (other, (text, changed)),
-      refl,
-    );
-  }

@@ -3,10 +3,10 @@ use Rattle.std.specs.Prelude.{◌≡◌, ◌≢◌, ℕ, List, [], ◌∷◌, �
 use Rattle.formatter.specs.Outcome as format
 use Rattle.apollo_parser.specs.Diagnostics.{Diagnostic}
 use Rattle.gqlcst_run.specs.declared.command.Limits.{Limits}
-use Rattle.gqlfmt_run.specs.declared.command.Mode.{Mode}
-use Rattle.gqlfmt_run.specs.declared.command.Mode.TheVariants.{Write, Check, Diff}
-use Rattle.gqlfmt_run.specs.declared.formatting.Revised.{Revised}
-use Rattle.gqlfmt_run.specs.declared.formatting.Revised.TheVariants.{Same, Changed, Refused}
+use Rattle.gqlfmt_files.specs.declared.settling.Mode.{Mode}
+use Rattle.gqlfmt_files.specs.declared.settling.Mode.TheVariants.{Write, Check, Diff}
+use Rattle.gqlfmt_files.specs.declared.settling.Revised.{Revised}
+use Rattle.gqlfmt_files.specs.declared.settling.Revised.TheVariants.{Same, Changed, Refused}
 
 -- the source is a sentence within both limits, and this is its formatted text
 abbrev pub IsFormatted : Limits → List ℕ → List ℕ → Type 0
@@ -26,10 +26,10 @@ pub record IsChanged (limits : Limits) (source text : List ℕ) : Type 0 where
   pub formatted : IsFormatted limits source text
   pub other : text ≢ source
 
-abbrev pub IsRevised : {A : Type 0} → Limits → List ℕ → Revised A → Type 0
-IsRevised limits source Same = IsFormatted limits source source
-IsRevised limits source (Changed text) = IsChanged limits source (string_bytes text)
-IsRevised limits source (Refused errors) = IsRefused limits source errors.items
+abbrev pub IsRevised : {A E : Type 0} → (E → List Diagnostic) → Limits → List ℕ → Revised A E → Type 0
+IsRevised diagnostics limits source Same = IsFormatted limits source source
+IsRevised diagnostics limits source (Changed text) = IsChanged limits source (string_bytes text)
+IsRevised diagnostics limits source (Refused errors) = IsRefused limits source (diagnostics errors)
 
 -- What is written of a source that has this name and another text when formatted: that text, or the name as a line. How the changes are shown
 -- is not stated.

@@ -1,10 +1,10 @@
 -- What is written of standard input.
 use Rattle.std.specs.Prelude.{◌≡◌, ◌⊎◌, ℕ, List, [], codes}
 use Rattle.gqlcst_run.specs.declared.command.Limits.{Limits}
-use Rattle.gqlfmt_run.specs.declared.command.Mode.{Mode}
-use Rattle.gqlfmt_run.specs.declared.command.Mode.TheVariants.{Write, Check, Diff}
-use Rattle.gqlfmt_run.specs.declared.outcome.Outcome.{Outcome}
-use Rattle.gqlfmt_run.specs.declared.outcome.Outcome.TheVariants.{Done, Found}
+use Rattle.gqlfmt_files.specs.declared.settling.Mode.{Mode}
+use Rattle.gqlfmt_files.specs.declared.settling.Mode.TheVariants.{Write, Check, Diff}
+use Rattle.gqlfmt_files.specs.declared.settling.Outcome.{Outcome}
+use Rattle.gqlfmt_files.specs.declared.settling.Outcome.TheVariants.{Done, Found}
 use Rattle.gqlfmt_run.specs.Formatting.{IsFormatted, HasErrors, IsChanged, IsShown}
 
 abbrev pub input_name : List ℕ

@@ -1,7 +1,7 @@
 -- The status that the program ends with.
 use Rattle.std.specs.Prelude.{ℕ, Result, Ok, Err}
-use Rattle.gqlfmt_run.specs.declared.outcome.Outcome.{Outcome}
-use Rattle.gqlfmt_run.specs.declared.outcome.Outcome.TheVariants.{Done, Found}
+use Rattle.gqlfmt_files.specs.declared.settling.Outcome.{Outcome}
+use Rattle.gqlfmt_files.specs.declared.settling.Outcome.TheVariants.{Done, Found}
 use Rattle.gqlfmt_run.specs.declared.fault.FileFault.{FileFault}
 
 -- 0 where a text has the layout, 1 where it has errors or was found to have another layout, 2 where it was not formatted

@@ -2,11 +2,11 @@
 use Rattle.std.specs.Prelude.{◌≡◌, ◌≢◌, ◌⊎◌, ℕ, max, Bool, true, false, List, [], ◌∷◌, Option, Some, Result, Ok, Err}
 use Rattle.std.specs.Str.{IsUtf8}
 use Rattle.gqlcst_run.specs.declared.command.Limits.{Limits}
-use Rattle.gqlfmt_run.specs.declared.command.Mode.{Mode}
-use Rattle.gqlfmt_run.specs.declared.command.Mode.TheVariants.{Write}
+use Rattle.gqlfmt_files.specs.declared.settling.Mode.{Mode}
+use Rattle.gqlfmt_files.specs.declared.settling.Mode.TheVariants.{Write}
 use Rattle.gqlfmt_run.specs.declared.fault.FileFault.{FileFault}
-use Rattle.gqlfmt_run.specs.declared.outcome.Outcome.{Outcome}
-use Rattle.gqlfmt_run.specs.declared.outcome.Outcome.TheVariants.{Done, Found}
+use Rattle.gqlfmt_files.specs.declared.settling.Outcome.{Outcome}
+use Rattle.gqlfmt_files.specs.declared.settling.Outcome.TheVariants.{Done, Found}
 use Rattle.gqlfmt_run.specs.Formatting.{IsFormatted, HasErrors, IsChanged}
 use Rattle.gqlfmt_run.specs.Outcome.{status_of}
 

@@ -2,6 +2,7 @@
 ghost use Rattle.std.specs.Prelude.{◌≤◌, length, IfOk, IfSome};
 
 use gqlcst_run::{Limits, with_option};
+use gqlfmt_files::Mode;
 use std::alloc::{AllocError, Allocator};
 
 /// The version of the program.
@@ -27,17 +28,6 @@ A document that has errors is left as it is. The status is 0 when all is done,
 1 when a document has errors or --check or --diff found a change, and 2 when
 something could not be read or written.
 ";
-
-/// What is done with a text that formatting changes.
-#[derive(Clone, Copy, Debug, PartialEq, Eq)]
-pub enum Mode {
-    /// It is written: to standard output, or in place of the file.
-    Write,
-    /// Its name is listed.
-    Check,
-    /// Its changes are shown.
-    Diff,
-}
 
 /// A run over files, or over standard input where there are none.
 #[derive(Drop)]

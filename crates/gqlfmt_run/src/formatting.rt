@@ -5,26 +5,16 @@ ghost use Rattle.gqlfmt_run.specs.Formatting.{IsRevised};
 use apollo_parser::Error;
 use formatter::format;
 use gqlcst_run::Limits;
+use gqlfmt_files::Revised;
 use std::alloc::{AllocError, Allocator};
-
-/// What the formatter makes of a text.
-#[derive(Drop)]
-pub enum Revised<A: Allocator> {
-    /// The text itself.
-    Same,
-    /// Another text.
-    Changed(String<A>),
-    /// Errors.
-    Refused(Vec<Error<A>, A>),
-}
 
 /// Formats a text, and says whether that changes it.
 pub fn revise<A: Allocator + Copy>(
     alloc: A,
     source: &str,
     limits: Limits,
-) -> Result<Revised<A>, AllocError>
-    ensures { IfOk result (IsRevised limits source.now) }
+) -> Result<Revised<A, Vec<Error<A>, A>>, AllocError>
+    ensures { IfOk result (IsRevised (λ errors. errors.items) limits source.now) }
 {
     match format(alloc, source, limits.recursion, limits.tokens)? {
         Ok(text) => {

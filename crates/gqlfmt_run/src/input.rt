@@ -1,18 +1,46 @@
 // Formatting standard input.
-ghost use Rattle.std.specs.Prelude.{ℕ, List};
+ghost use Rattle.std.specs.Prelude.{ℕ, List, IfOk, string_bytes};
 ghost use Rattle.gqlcst_run.specs.Program.{Reads, Writes};
 ghost use Rattle.gqlfmt_run.specs.Input.{IsOutput};
 
-use crate::command::Mode;
-use crate::formatting::{Revised, revise};
-use crate::outcome::Outcome;
+use crate::formatting::revise;
 use crate::report::complain;
 use crate::showing::shown;
 use gqlcst_run::{Fault, Limits, Sink, Source, read_to_end, write_all};
-use std::alloc::Allocator;
+use gqlfmt_files::{Mode, Outcome, Revised};
+use std::alloc::{AllocError, Allocator};
 
 /// The name of standard input in messages.
 pub const INPUT: &str = "<stdin>";
+
+// What is written of a text, and what came of it. Errors go to `complaints`.
+fn output_of<A: Allocator + Copy, E: Sink>(
+    alloc: A,
+    complaints: &mut E,
+    source: &str,
+    mode: Mode,
+    limits: Limits,
+) -> Result<(Outcome, String<A>), AllocError>
+    ensures { IfOk result (λ it. IsOutput mode limits source.now it.0 (string_bytes it.1)) }
+{
+    match revise(alloc, source, limits)? {
+        Revised::Refused(errors) => {
+            complain(alloc, complaints, INPUT, source, errors.as_slice())?;
+            Ok((Outcome::Found, String::new(alloc)))
+        }
+        Revised::Same if mode == Mode::Write => {
+            Ok((Outcome::Done, String::from_str(alloc, source)?))
+        }
+        Revised::Same => Ok((Outcome::Done, String::new(alloc))),
+        Revised::Changed(text) => {
+            let output = shown(alloc, mode, INPUT, source, text)?;
+            if mode == Mode::Write {
+                return Ok((Outcome::Done, output));
+            }
+            Ok((Outcome::Found, output))
+        }
+    }
+}
 
 /// Reads to the end, formats the whole text in memory, and then writes what the mode shows of it. Errors of the text go to `complaints`.
 pub fn format_input<A: Allocator + Copy, R: Source, W: Sink, E: Sink>(
@@ -30,24 +58,7 @@ pub fn format_input<A: Allocator + Copy, R: Source, W: Sink, E: Sink>(
     let Ok(source) = str::from_utf8(bytes.as_slice()) else {
         return Err(Fault::Utf8);
     };
-    match revise(alloc, source, limits)? {
-        Revised::Refused(errors) => {
-            complain(alloc, complaints, INPUT, source, errors.as_slice())?;
-            Ok(Outcome::Found)
-        }
-        Revised::Same => {
-            if mode == Mode::Write {
-                write_all(writer, source.as_bytes())?;
-            }
-            Ok(Outcome::Done)
-        }
-        Revised::Changed(text) => {
-            let output = shown(alloc, mode, INPUT, source, text)?;
-            write_all(writer, output.as_bytes())?;
-            if mode == Mode::Write {
-                return Ok(Outcome::Done);
-            }
-            Ok(Outcome::Found)
-        }
-    }
+    let (outcome, output) = output_of(alloc, complaints, source, mode, limits)?;
+    write_all(writer, output.as_bytes())?;
+    Ok(outcome)
 }

@@ -5,8 +5,10 @@
 #![tactic(auto)]
 
 mod command;
+mod diff;
+mod edits;
+mod excerpt;
 mod fault;
-mod files;
 mod formatting;
 mod input;
 mod outcome;
@@ -16,11 +18,10 @@ mod report;
 mod showing;
 mod std_files;
 
-pub use command::{HELP, Mode, Plan, Request, USAGE, VERSION, options};
+pub use command::{HELP, Plan, Request, USAGE, VERSION, options};
+pub use diff::unified_diff;
 pub use fault::FileFault;
-pub use files::Files;
 pub use input::{INPUT, format_input};
-pub use outcome::Outcome;
 pub use paths::{format_file, format_files};
 pub use program::run;
 pub use report::render_report;

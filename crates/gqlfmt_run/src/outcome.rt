@@ -3,15 +3,7 @@ ghost use Rattle.std.specs.Prelude.{◌≡◌};
 ghost use Rattle.gqlfmt_run.specs.Outcome.{status_of};
 
 use crate::fault::FileFault;
-
-/// What came of a text.
-#[derive(Clone, Copy, Debug, PartialEq, Eq)]
-pub enum Outcome {
-    /// It has the layout now.
-    Done,
-    /// It has errors, or another layout in a mode that changes nothing.
-    Found,
-}
+use gqlfmt_files::Outcome;
 
 /// The status that the program ends with for this text alone.
 pub fn status_of(ended: &Result<Outcome, FileFault>) -> u8

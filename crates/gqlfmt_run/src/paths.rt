@@ -2,15 +2,39 @@
 ghost use Rattle.std.specs.Prelude.{map};
 ghost use Rattle.gqlfmt_run.specs.Paths.{Handles, HandlesAll};
 
-use crate::command::{Mode, Plan};
+use crate::command::Plan;
 use crate::fault::FileFault;
-use crate::files::Files;
-use crate::formatting::{Revised, revise};
-use crate::outcome::{Outcome, status_of};
+use crate::formatting::revise;
+use crate::outcome::status_of;
 use crate::report::{complain, tell_of_file};
 use crate::showing::shown;
+use apollo_parser::Error;
 use gqlcst_run::{Fault, Limits, Sink, write_all};
+use gqlfmt_files::{Files, Mode, Outcome, Revised, settle};
 use std::alloc::Allocator;
+
+// Tells the errors of a text, or writes what a mode that changes nothing shows of another one.
+fn show<A: Allocator + Copy, W: Sink, E: Sink>(
+    alloc: A,
+    writer: &mut W,
+    complaints: &mut E,
+    path: &str,
+    source: &str,
+    mode: Mode,
+    revised: Revised<A, Vec<Error<A>, A>>,
+) -> Result<(), Fault> {
+    match revised {
+        Revised::Same => Ok(()),
+        Revised::Refused(errors) => {
+            complain(alloc, complaints, path, source, errors.as_slice())?;
+            Ok(())
+        }
+        Revised::Changed(text) => {
+            let output = shown(alloc, mode, path, source, text)?;
+            write_all(writer, output.as_bytes())
+        }
+    }
+}
 
 /// Formats the file at a path: replaces it, or writes what the mode shows of the change. Errors of its text go to `complaints`.
 pub fn format_file<A: Allocator + Copy, F: Files, W: Sink, E: Sink>(
@@ -31,23 +55,14 @@ pub fn format_file<A: Allocator + Copy, F: Files, W: Sink, E: Sink>(
     let Ok(source) = str::from_utf8(bytes.as_slice()) else {
         return Err(FileFault::Device(Fault::Utf8));
     };
-    match revise(alloc, source, limits)? {
-        Revised::Refused(errors) => {
-            complain(alloc, complaints, path, source, errors.as_slice())?;
+    let revised = revise(alloc, source, limits)?;
+    match settle(files, path, mode, &revised) {
+        Ok(Outcome::Done) => Ok(Outcome::Done),
+        Ok(Outcome::Found) => {
+            show(alloc, writer, complaints, path, source, mode, revised)?;
             Ok(Outcome::Found)
         }
-        Revised::Same => Ok(Outcome::Done),
-        Revised::Changed(text) => {
-            if mode == Mode::Write {
-                files
-                    .replace(path, text.as_str())
-                    .map_err(FileFault::NotReplaced)?;
-                return Ok(Outcome::Done);
-            }
-            let output = shown(alloc, mode, path, source, text)?;
-            write_all(writer, output.as_bytes())?;
-            Ok(Outcome::Found)
-        }
+        Err(error) => Err(FileFault::NotReplaced(error)),
     }
 }
 

@@ -1,12 +1,12 @@
 // A run of the program.
 use crate::command::{HELP, Plan, Request, USAGE, VERSION, options};
 use crate::fault::FileFault;
-use crate::files::Files;
 use crate::input::{INPUT, format_input};
 use crate::outcome::status_of;
 use crate::paths::format_files;
 use crate::report::tell;
 use gqlcst_run::{Sink, Source, write_all};
+use gqlfmt_files::Files;
 use std::alloc::Allocator;
 
 // Writes a text, and gives the status.

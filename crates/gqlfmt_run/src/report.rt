@@ -1,14 +1,14 @@
 // The errors of a text, with their places.
 ghost use Rattle.std.specs.Prelude.{◌≤◌, length};
 
+use crate::excerpt::push_excerpt;
 use crate::fault::FileFault;
-use crate::files::Files;
 use apollo_parser::Error;
 use gqlcst_run::{Sink, write_all};
+use gqlfmt_files::Files;
 use line_index::LineIndex;
 use std::alloc::{AllocError, Allocator};
 use std::io::ErrorKind;
-use text_excerpts::push_excerpt;
 
 // Where an error is shown. One at the end of the text is shown after its last character that is no white space.
 fn offset_of<A: Allocator>(source: &str, error: &Error<A>) -> usize

@@ -2,9 +2,9 @@
 ghost use Rattle.std.specs.Prelude.{IfOk, string_bytes};
 ghost use Rattle.gqlfmt_run.specs.Formatting.{IsShown};
 
-use crate::command::Mode;
+use crate::diff::unified_diff;
+use gqlfmt_files::Mode;
 use std::alloc::{AllocError, Allocator};
-use text_excerpts::unified_diff;
 
 /// The formatted text itself, the name of its source as a line, or the changes from the source.
 pub fn shown<A: Allocator + Copy>(

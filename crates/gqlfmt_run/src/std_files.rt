@@ -1,7 +1,7 @@
 // The files of a runtime.
 ghost use Rattle.std.specs.Prelude.{◌≡◌};
 
-use crate::files::Files;
+use gqlfmt_files::Files;
 use std::alloc::Allocator;
 use std::fs::{File, OpenFile, Permissions};
 use std::io::{Error, ErrorKind, Read, Write};

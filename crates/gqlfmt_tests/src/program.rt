@@ -1,6 +1,6 @@
 // The program over words, texts and files of these tests, and the places of a text.
 use gqlcst_run::{StdSink, StdSource};
-use gqlfmt_run::{StdFiles, run};
+use gqlfmt_run::{StdFiles, run, unified_diff};
 use line_index::{LineIndex, Place};
 use std::alloc::{AllocError, Allocator, Global};
 use std::cell::Cell;
@@ -9,10 +9,8 @@ use std::io::{self, ErrorKind, PipeReader, PipeWriter, Read, Seek, SeekFrom, Wri
 use std::os::fd::BorrowedFd;
 use std::os::unix::net::SocketAddr;
 use std::path::{Path, PathBuf};
-use std::process::Abort;
 use std::rt;
 use std::test::Fail;
-use text_excerpts::unified_diff;
 
 // A disk with one file. Its calls are counted down, and one fails when none is left.
 #[derive(Drop)]
@@ -223,94 +221,24 @@ impl<'a> rt::Files for Machine<'a> {
     }
 }
 
-// What a run over a machine and an input writes, and its status.
-fn expect(
-    rt: &(impl Abort + AllocGlobal),
-    words: &[&str],
-    input: &str,
-    output: &str,
-    complaints: &str,
-    status: u8,
-) {
-    let disk = Disk::new(u8::MAX);
+#[test]
+fn formats_standard_input(rt: HostRuntime) {
+    let disk = Disk::new(0);
     let machine = Machine {
         disk: &disk,
         alloc: rt.alloc(),
     };
-    let (mut written, mut told) = (Vec::new(rt.alloc()), Vec::new(rt.alloc()));
+    let mut written = Vec::new(rt.alloc());
     let ended = run(
         rt.alloc(),
-        &mut StdSource::new(input.as_bytes()),
+        &mut StdSource::new(b"{a}".as_slice()),
         &mut StdSink::new(&mut written),
-        &mut StdSink::new(&mut told),
+        &mut StdSink::new(io::sink()),
         &mut StdFiles::new(&machine),
-        words,
-    );
-    assert_eq!(rt; str::from_utf8(written.as_slice()), Ok(output));
-    assert_eq!(rt; str::from_utf8(told.as_slice()), Ok(complaints));
-    assert_eq!(rt; ended, status);
-}
-
-const USAGE: &str = "usage: gqlfmt [--check | --diff] [--recursion N] [--tokens N] [FILE..]\n";
-
-#[test]
-fn runs(rt: HostRuntime) {
-    let laid_out = "{\n  a\n}\n";
-    expect(&rt, &[], "{a}", laid_out, "", 0);
-    expect(&rt, &[], laid_out, laid_out, "", 0);
-    expect(&rt, &["--check"], "{a}", "<stdin>\n", "", 1);
-    expect(&rt, &["--check"], laid_out, "", "", 0);
-    expect(&rt, &["--check", "a", "--", "-b"], "", "a\n-b\n", "", 1);
-    expect(
-        &rt,
-        &["--diff", "a"],
-        "",
-        "--- a\n+++ a\n@@ -1,1 +1,3 @@\n-{a}\n\\ No newline at end of file\n+{\n+  a\n+}\n",
-        "",
-        1,
-    );
-    for words in [
-        &["--check", "--diff"],
-        &["--tokens", "+3"],
-        &["a", "--recursion"],
-        &["a", "-"],
-    ] {
-        expect(&rt, words, "{a}", "", USAGE, 2);
-    }
-}
-
-#[test]
-fn tells_errors(rt: HostRuntime) {
-    expect(
-        &rt,
         &[],
-        "{\r\n\thero(n: \"\u{e9}\", id) { name }\n",
-        "",
-        "<stdin>:2:17: expected COLON, got )
-    \thero(n: \"\u{e9}\", id) { name }
-    \t               ^
-<stdin>:2:27: expected R_CURLY, got EOF
-    \thero(n: \"\u{e9}\", id) { name }
-    \t                         ^
-",
-        1,
     );
-    expect(
-        &rt,
-        &["--tokens", "3"],
-        "{a}",
-        "",
-        "<stdin>:1:3: token limit reached, aborting lexing\n    {a}\n      ^\n",
-        1,
-    );
-    expect(
-        &rt,
-        &["--check"],
-        "",
-        "",
-        "<stdin>:1:1: Unexpected <EOF>.\n",
-        1,
-    );
+    assert_eq!(rt; str::from_utf8(written.as_slice()), Ok("{\n  a\n}\n"));
+    assert_eq!(rt; ended, 0);
 }
 
 #[test]

@@ -1,5 +1,5 @@
 use Rattle.std.proofs.Common.{◌+◌, ◌-◌, ◌≤◌, length}
-use Rattle.text_excerpts.proofs.edits.edits.Given as goal
+use Rattle.gqlfmt_run.proofs.edits.edits.Given as goal
 
 abbrev pub invariant-loop-i : goal.invariant-loop-i
 invariant-loop-i g l = (l.i ≤ length l.old) × (l.j ≤ length l.new)

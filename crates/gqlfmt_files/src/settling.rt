@@ -1,0 +1,57 @@
+// Whether a file is replaced.
+ghost use Rattle.gqlfmt_files.specs.Settling.{Settles};
+
+use crate::files::Files;
+use std::alloc::Allocator;
+use std::io;
+
+/// What is done with a text that formatting changes.
+#[derive(Clone, Copy, PartialEq)]
+pub enum Mode {
+    /// It is written: to standard output, or in place of the file.
+    Write,
+    /// Its name is listed.
+    Check,
+    /// Its changes are shown.
+    Diff,
+}
+
+/// What the formatter makes of a text.
+#[derive(Drop)]
+pub enum Revised<A: Allocator, E> {
+    /// The text itself.
+    Same,
+    /// Another text.
+    Changed(String<A>),
+    /// Errors.
+    Refused(E),
+}
+
+/// What came of a text.
+#[derive(Clone, Copy)]
+pub enum Outcome {
+    /// It has the layout now.
+    Done,
+    /// It has errors, or another layout in a mode that changes nothing.
+    Found,
+}
+
+/// Replaces the file at a path, of whose text the formatter made this, or leaves it as it is.
+pub fn settle<F: Files, A: Allocator, E>(
+    files: &mut F,
+    path: &str,
+    mode: Mode,
+    revised: &Revised<A, E>,
+) -> io::Result<Outcome>
+    ensures { Settles F.replaces mode path.now revised.now result files.old files.new }
+{
+    match revised {
+        Revised::Same => Ok(Outcome::Done),
+        Revised::Refused(_) => Ok(Outcome::Found),
+        Revised::Changed(_) if mode != Mode::Write => Ok(Outcome::Found),
+        Revised::Changed(text) => match files.replace(path, text.as_str()) {
+            Ok(()) => Ok(Outcome::Done),
+            Err(error) => Err(error),
+        },
+    }
+}

@@ -1,0 +1,7 @@
+//! Tests of what `gqlfmt` does, of its files, of the changes that it shows, and of places in a text.
+//!
+//! They have a crate of their own, since a crate with tests is proved twice, and the program is not cheap to prove.
+#![tactic(auto)]
+
+#[cfg(test)]
+mod program;
