@@ -1,4 +1,4 @@
-//! Tests of the positions of `line_index`, and of `open_document`, `rpc_frames`, `rpc_messages`, `rpc_exchange` and `diagnostic_messages`.
+//! Tests of `line_index`, `open_document`, `rpc_frames`, `rpc_messages`, `rpc_exchange` and `diagnostic_messages`.
 //!
 //! They have a crate of their own, since a crate with tests is proved twice.
 #![tactic(auto)]
@@ -13,3 +13,5 @@ mod exchange;
 mod frames;
 #[cfg(test)]
 mod messages;
+#[cfg(test)]
+mod places;

@@ -1,7 +1,6 @@
-// The program over words, texts and files of these tests, and the places of a text.
+// The program over words, texts and files of these tests.
 use gqlcst_run::{StdSink, StdSource};
 use gqlfmt_run::{StdFiles, run, unified_diff};
-use line_index::{LineIndex, Place};
 use std::alloc::{AllocError, Allocator, Global};
 use std::cell::Cell;
 use std::fs::{Metadata, OpenFile, OpenOptions, Permissions};
@@ -221,24 +220,38 @@ impl<'a> rt::Files for Machine<'a> {
     }
 }
 
+// What a run answers, and what it writes.
+#[derive(Drop)]
+struct Ran {
+    ended: u8,
+    written: Vec<u8>,
+    told: Vec<u8>,
+}
+
+fn run_over(alloc: Global, disk: &Disk, input: &[u8], words: &[&str]) -> Ran {
+    let machine = Machine { disk, alloc };
+    let mut written = Vec::new(alloc);
+    let mut told = Vec::new(alloc);
+    let ended = run(
+        alloc,
+        &mut StdSource::new(input),
+        &mut StdSink::new(&mut written),
+        &mut StdSink::new(&mut told),
+        &mut StdFiles::new(&machine),
+        words,
+    );
+    Ran {
+        ended,
+        written,
+        told,
+    }
+}
+
 #[test]
 fn formats_standard_input(rt: HostRuntime) {
-    let disk = Disk::new(0);
-    let machine = Machine {
-        disk: &disk,
-        alloc: rt.alloc(),
-    };
-    let mut written = Vec::new(rt.alloc());
-    let ended = run(
-        rt.alloc(),
-        &mut StdSource::new(b"{a}".as_slice()),
-        &mut StdSink::new(&mut written),
-        &mut StdSink::new(io::sink()),
-        &mut StdFiles::new(&machine),
-        &[],
-    );
-    assert_eq!(rt; str::from_utf8(written.as_slice()), Ok("{\n  a\n}\n"));
-    assert_eq!(rt; ended, 0);
+    let ran = run_over(rt.alloc(), &Disk::new(0), b"{a}", &[]);
+    assert_eq!(rt; str::from_utf8(ran.written.as_slice()), Ok("{\n  a\n}\n"));
+    assert_eq!(rt; ran.ended, 0);
 }
 
 #[test]
@@ -246,18 +259,7 @@ fn leaves_a_file_whole(rt: HostRuntime) {
     let mut done = 0u8;
     for calls in 0..20 {
         let disk = Disk::new(calls);
-        let machine = Machine {
-            disk: &disk,
-            alloc: rt.alloc(),
-        };
-        let ended = run(
-            rt.alloc(),
-            &mut StdSource::new(b"".as_slice()),
-            &mut StdSink::new(io::sink()),
-            &mut StdSink::new(io::sink()),
-            &mut StdFiles::new(&machine),
-            &["a"],
-        );
+        let ended = run_over(rt.alloc(), &disk, b"", &["a"]).ended;
         assert!(rt; !disk.is_new_file_there.get());
         assert_eq!(rt; disk.is_replaced.get(), ended == 0);
         if ended == 0 {
@@ -274,27 +276,15 @@ fn leaves_a_file_whole(rt: HostRuntime) {
 fn names_a_file_that_is_left_over(rt: HostRuntime) {
     let disk = Disk::new(u8::MAX);
     disk.is_left_over.set(true);
-    let machine = Machine {
-        disk: &disk,
-        alloc: rt.alloc(),
-    };
-    let mut told = Vec::new(rt.alloc());
-    let ended = run(
-        rt.alloc(),
-        &mut StdSource::new(b"".as_slice()),
-        &mut StdSink::new(io::sink()),
-        &mut StdSink::new(&mut told),
-        &mut StdFiles::new(&machine),
-        &["b/a"],
-    );
+    let ran = run_over(rt.alloc(), &disk, b"", &["b/a"]);
     assert_eq!(rt;
-        str::from_utf8(told.as_slice()),
+        str::from_utf8(ran.told.as_slice()),
         Ok(
             "gqlfmt: b/a: cannot replace: entity already exists\ngqlfmt: b/.a.gqlfmt: left over from an earlier run: remove it\n"
         )
     );
     assert!(rt; !disk.is_replaced.get());
-    assert_eq!(rt; ended, 2);
+    assert_eq!(rt; ran.ended, 2);
 }
 
 #[test]
@@ -327,32 +317,5 @@ fn shows_changes(rt: HostRuntime) -> Result<(), Fail> {
 \\ No newline at end of file
 "
     );
-    Ok(())
-}
-
-// A text whose lines end in LF, CR LF and CR. The characters of the second and the last take 2 and 4 bytes, 1 and 2 units of UTF-16.
-const TEXT: &str = "a\n\u{e9}b\r\n\rx\u{1F600}y";
-
-#[test]
-fn finds_places(rt: HostRuntime) -> Result<(), Fail> {
-    let index = LineIndex::new(rt.alloc(), TEXT)?;
-    assert_eq!(rt; index.line_count(), 4);
-    assert_eq!(rt; index.line_start(1), 2);
-    // an offset, its line, its columns in bytes, characters and units, and the text of the line
-    for (offset, line, column, chars, units, text) in [
-        (1, 0, 1, 1, 1, "a"),
-        (2, 1, 0, 0, 0, "\u{e9}b"),
-        (4, 1, 2, 1, 1, "\u{e9}b"),
-        (6, 1, 4, 3, 3, "\u{e9}b"),
-        (7, 2, 0, 0, 0, ""),
-        (13, 3, 5, 2, 3, "x\u{1F600}y"),
-        (14, 3, 6, 3, 4, "x\u{1F600}y"),
-    ] {
-        assert!(rt; offset <= TEXT.len());
-        assert_eq!(rt; index.place(offset), Place { line, column });
-        assert_eq!(rt; index.column_in_chars(offset), chars);
-        assert_eq!(rt; index.column_in_utf16(offset), units);
-        assert_eq!(rt; index.line_text(offset), text);
-    }
     Ok(())
 }
