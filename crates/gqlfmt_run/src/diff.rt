@@ -45,6 +45,27 @@ fn push_range<A: Allocator>(
     write!(diff, "{first},{count}")
 }
 
+// The line before a hunk: the ranges of its lines, in the old text and in the new one.
+fn push_head<A: Allocator>(
+    diff: &mut String<A>,
+    first: Edit,
+    last: Edit,
+    start: usize,
+    end: usize,
+) -> Result<(), AllocError> {
+    let lead = first.old_start.saturating_sub(start);
+    let tail = end.saturating_sub(last.old_end);
+    diff.push_str("@@ -")?;
+    push_range(diff, start, end)?;
+    diff.push_str(" +")?;
+    push_range(
+        diff,
+        first.new_start.saturating_sub(lead),
+        last.new_end.saturating_add(tail),
+    )?;
+    diff.push_str(" @@\n")
+}
+
 // One hunk: some edits, with the lines around and between them.
 fn push_hunk<A: Allocator>(
     diff: &mut String<A>,
@@ -56,17 +77,7 @@ fn push_hunk<A: Allocator>(
 ) -> Result<(), AllocError> {
     let start = first.old_start.saturating_sub(CONTEXT);
     let end = last.old_end.saturating_add(CONTEXT).min(old.len());
-    let lead = first.old_start.saturating_sub(start);
-    let tail = end.saturating_sub(last.old_end);
-    diff.push_str("@@ -")?;
-    push_range(diff, start, end)?;
-    diff.push_str(" +")?;
-    push_range(
-        diff,
-        first.new_start.saturating_sub(lead),
-        last.new_end.saturating_add(tail),
-    )?;
-    diff.push_str(" @@\n")?;
+    push_head(diff, first, last, start, end)?;
     let mut place = start;
     for edit in hunk {
         push_lines(diff, ' ', old, place, edit.old_start)?;
@@ -91,6 +102,24 @@ fn hunk_len(edits: &[Edit]) -> usize
     edits.len()
 }
 
+// All hunks, one after the other.
+fn push_hunks<A: Allocator>(
+    diff: &mut String<A>,
+    old: &[&str],
+    new: &[&str],
+    edits: &[Edit],
+) -> Result<(), AllocError> {
+    let mut left = edits;
+    while !left.is_empty() {
+        let (hunk, more) = left.split_at(hunk_len(left));
+        if let (Some(first), Some(last)) = (hunk.first(), hunk.last()) {
+            push_hunk(diff, old, new, *first, *last, hunk)?;
+        }
+        left = more;
+    }
+    Ok(())
+}
+
 /// The changes from the old text to the new one, under the name of their file: empty where there are none.
 pub fn unified_diff<A: Allocator + Copy>(
     alloc: A,
@@ -106,20 +135,6 @@ pub fn unified_diff<A: Allocator + Copy>(
         return Ok(diff);
     }
     writeln!(diff, "--- {name}\n+++ {name}")?;
-    let mut left = edits.as_slice();
-    while !left.is_empty() {
-        let (hunk, more) = left.split_at(hunk_len(left));
-        if let (Some(first), Some(last)) = (hunk.first(), hunk.last()) {
-            push_hunk(
-                &mut diff,
-                old.as_slice(),
-                new.as_slice(),
-                *first,
-                *last,
-                hunk,
-            )?;
-        }
-        left = more;
-    }
+    push_hunks(&mut diff, old.as_slice(), new.as_slice(), edits.as_slice())?;
     Ok(diff)
 }

@@ -22,6 +22,24 @@ fn offset_of<A: Allocator>(source: &str, error: &Error<A>) -> usize
     offset.min(source.len())
 }
 
+// The line of one error, which is shown at an offset, and the line of the text with the place marked.
+fn push_error<A: Allocator>(
+    report: &mut String<A>,
+    name: &str,
+    index: &LineIndex<'_, A>,
+    offset: usize,
+    error: &Error<A>,
+) -> Result<(), AllocError>
+    requires { offset ≤ length index.now }
+{
+    let place = index.place(offset);
+    let line = place.line.saturating_add(1);
+    let column = index.column_in_chars(offset).saturating_add(1);
+    let message = error.message();
+    writeln!(report, "{name}:{line}:{column}: {message}")?;
+    push_excerpt(report, index.line_text(offset), place.column, error.data())
+}
+
 /// A line `NAME:LINE:COLUMN: MESSAGE` for each error, and below it the line of the text with the place marked. Lines and columns count from 1,
 /// columns in characters.
 pub fn render_report<A: Allocator + Copy>(
@@ -34,17 +52,7 @@ pub fn render_report<A: Allocator + Copy>(
     let mut report = String::new(alloc);
     for error in errors {
         let offset = offset_of(source, error);
-        let place = index.place(offset);
-        let line = place.line.saturating_add(1);
-        let column = index.column_in_chars(offset).saturating_add(1);
-        let message = error.message();
-        writeln!(report, "{name}:{line}:{column}: {message}")?;
-        push_excerpt(
-            &mut report,
-            index.line_text(offset),
-            place.column,
-            error.data(),
-        )?;
+        push_error(&mut report, name, &index, offset, error)?;
     }
     Ok(report)
 }
