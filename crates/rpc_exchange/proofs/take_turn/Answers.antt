@@ -1,7 +1,7 @@
-use Rattle.std.proofs.Common.{◌≡◌, ◌<◌, ℕ, List, Option, Some, None, length, drop, sym, ap, ◌∙◌, subst, arith}
+use Rattle.std.proofs.Common.{◌≡◌, ◌<◌, ℕ, List, None, length, drop, sym, ap, ◌∙◌, subst, arith}
 use Rattle.rpc_frames.specs.Frames.{BeginsWithFrame, HasNoFrame, NeverHasFrame}
 use Rattle.rpc_frames.proofs.FrameLemmas.{shorter}
-use Rattle.rpc_exchange.specs.Exchange.{Exchange, status_of}
+use Rattle.rpc_exchange.specs.Exchange.{Exchange}
 use Rattle.rpc_exchange.proofs.Turns.{IsReplyTo, LeadsTo, begun, goes_on, finished, waiting, never_now, passes, some_left, one_less}
 use Rattle.rpc_exchange.proofs.take_turn.Goals as goal
 
