@@ -1,5 +1,5 @@
 -- Printed forms, from their pieces.
-use Rattle.std.proofs.Common.{◌≡◌, ℕ, ◌+◌, Bool, true, false, List, [], ◌++◌, length, codes, true≢false, refl, sym, ap, ◌∙◌, subst}
+use Rattle.std.proofs.Common.{◌≡◌, ℕ, ◌+◌, Bool, true, false, List, [], ◌++◌, length, codes, true≢false, refl, sym, ap}
 use Rattle.std.specs.Prelude.{Option, Some, None, decimal, IsTrue}
 use Rattle.std.specs.Fmt.{◌++?◌, debug_str}
 use Rattle.apollo_parser.specs.Diagnostics.{Subject, of_text, of_end, of_limit, Diagnostic, subject_text, is_end_subject, diagnostic_end}

@@ -1,4 +1,4 @@
-use Rattle.std.proofs.Common.{◌≡◌, List, ◌++◌, ◌∙◌, length, ap, refl}
+use Rattle.std.proofs.Common.{◌++◌, ◌∙◌, length, ap, refl}
 use Rattle.apollo_parser.specs.Diagnostics.{Diagnostic}
 use Rattle.apollo_parser.specs.LexErrors.{lex_subject}
 use Rattle.gqlcst_run.proofs.Pages.{puts_then}

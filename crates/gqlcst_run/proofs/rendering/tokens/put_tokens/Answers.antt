@@ -1,4 +1,4 @@
-use Rattle.std.proofs.Common.{◌+◌, ◌∙◌, ap, arith, length, refl}
+use Rattle.std.proofs.Common.{◌∙◌, ap, arith, length, refl}
 use Rattle.apollo_parser.specs.LexerAnswers.{answers_left}
 use Rattle.gqlcst_run.specs.Parsing.{outcome_of}
 use Rattle.gqlcst_run.proofs.Items.{none_put, errors-within, item_put, all-printed}
