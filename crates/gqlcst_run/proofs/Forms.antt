@@ -1,5 +1,5 @@
 -- Printed forms, from their pieces.
-use Rattle.std.proofs.Common.{◌≡◌, ℕ, ◌+◌, Bool, true, false, List, [], ◌++◌, length, codes, true≢false, refl, sym, ap}
+use Rattle.std.proofs.Common.{◌≡◌, ℕ, ◌+◌, Bool, true, false, List, [], ◌++◌, length, codes, true≢false, refl, sym, ap, ◌∙◌, append_assoc, subst}
 use Rattle.std.specs.Prelude.{Option, Some, None, decimal, IsTrue}
 use Rattle.std.specs.Fmt.{◌++?◌, debug_str}
 use Rattle.apollo_parser.specs.Diagnostics.{Subject, of_text, of_end, of_limit, Diagnostic, subject_text, is_end_subject, diagnostic_end}
@@ -8,6 +8,8 @@ use Rattle.apollo_parser.specs.declared.TokenKind.TheVariants.{Eof}
 use Rattle.apollo_parser.specs.LexErrors.{lex_subject}
 use Rattle.apollo_parser.specs.Printed.{place_text, subject_shown, token_name, token_text}
 use Rattle.gqlcst_run.specs.Rendering.{IsForm, IsErrorForm}
+use Rattle.gqlcst_run.specs.Paging.{Paged, Puts}
+use Rattle.gqlcst_run.proofs.Pages.{puts_then}
 
 pub end_shown : (subject : Subject) → is_end_subject subject ≡ true → codes "EOF" ≡ subject_shown subject
 end_shown (of_text text) e = absurd (true≢false (sym e))
@@ -18,6 +20,15 @@ pub text_shown : (subject : Subject) → is_end_subject subject ≡ false → su
 text_shown (of_text text) e = refl
 text_shown of_end e = absurd (true≢false e)
 text_shown of_limit e = refl
+
+-- a name with a place, and the next place
+pub head_put : (name shown first second : List ℕ) (start end : ℕ) (s t u : Paged) → shown ≡ name → first ≡ decimal start → second ≡ decimal end
+    → Puts s (shown ++ (codes "@" ++ (first ++ codes ":"))) t → Puts t second u → Puts s (place_text name start end) u
+head_put name shown first second start end s t u names starts ends p q =
+    let front = shown ++ (codes "@" ++ (first ++ codes ":")) in
+    let inner = ap (λ (bs : List ℕ). shown ++ (codes "@" ++ bs)) (append_assoc first (codes ":") second) in
+    let joined : front ++ second ≡ place_text name start end = append_assoc shown (codes "@" ++ (first ++ codes ":")) second ∙ (inner ∙ rw (names, starts, ends) refl) in
+    subst (λ (bs : List ℕ). Puts s bs u) joined (puts_then s t u front second p q)
 
 around : (stated : Option (List ℕ)) (front space back form : List ℕ) → IsForm stated form
     → IsForm (Some front ++? (Some space ++? (stated ++? (Some space ++? Some back)))) (front ++ (space ++ (form ++ (space ++ back))))

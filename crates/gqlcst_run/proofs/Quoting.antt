@@ -1,19 +1,20 @@
 -- Texts between quotes, piece by piece.
 use Rattle.std.proofs.Common.{◌≡◌, ◌≢◌, ℕ, zero, suc, ◌+◌, ◌-◌, ◌/◌, ◌%◌, ◌<◌, ◌≤◌, Bool, true, false, cond, List, [], ◌∷◌, ◌++◌, length, get_or, take, drop, refl, sym, ap, ◌∙◌, append_assoc, subst, true≢false, arith}
 use borrow.Author.Tests.{eq-eqb, ne_eqb, ltb-true}
-use Rattle.std.specs.Prelude.{codes, Some, None, slice_index}
+use Rattle.std.specs.Prelude.{codes, Option, Some, None, slice_index}
 use Rattle.std.specs.Bool.{MatchBool}
 use Rattle.std.specs.List.{prefix_len, flat_map, list_all}
 use Rattle.std.specs.Char.{is_ascii}
 use Rattle.std.specs.Str.{IsAscii, IsNotAscii}
 use Rattle.std.specs.Fmt.{digits, digit_glyph, debug_escape, debug_escape_letter, debug_str}
+use Rattle.std.proofs.Math.Seq.{take-length}
 use Rattle.std.proofs.lemmas.List.{append-nil, take-append-drop, take_rest}
 use Rattle.std.proofs.lemmas.List.Folds.{list_all-append}
 use Rattle.std.proofs.lemmas.Fmt.{hex_one_digit, hex_two_digits}
 use Rattle.std.proofs.lemmas.Grind.{flat_map-append}
 use Rattle.std.proofs.lemmas.Bool.{and_parts}
 use Rattle.std.proofs.lemmas.Bool.Decides.{nat_tests}
-use Rattle.gqlcst_run.specs.Rendering.{IsForm}
+use Rattle.gqlcst_run.specs.Rendering.{IsForm, IsFormAfter}
 use Rattle.gqlcst_run.specs.Quoted.{is_plain, is_control, IsEscaped}
 use Rattle.gqlcst_run.specs.Paging.{Paged, Puts, PutsSome, PutsAny}
 use Rattle.gqlcst_run.proofs.Pages.{puts_nothing, puts_then}
@@ -151,6 +152,36 @@ quoted-by false text form escaped = tt
 -- the same in quotes
 pub quoted-form : (text form : List ℕ) → IsEscaped text form → IsForm (debug_str text) (34 ∷ (form ++ 34 ∷ []))
 quoted-form text form escaped = quoted-by (list_all is_ascii text) text form escaped
+
+-- a text of plain bytes, in quotes after another text
+plain-all : (text : List ℕ) → prefix_len is_plain text ≡ length text → flat_map (debug_escape 34) text ≡ text
+plain-all text all =
+    let front : take (prefix_len is_plain text) text ≡ text = ap (λ (n : ℕ). take n text) all ∙ take-length text in
+    subst (λ (bs : List ℕ). flat_map (debug_escape 34) bs ≡ bs) front (plain_front text)
+
+pub plain_put : (front text bytes : List ℕ) (n : ℕ) (s t : Paged) → bytes ≡ text → n ≡ prefix_len is_plain bytes → n ≡ length bytes
+    → Puts s (front ++ (34 ∷ (bytes ++ 34 ∷ []))) t → PutsSome (IsFormAfter front (debug_str text)) s t
+plain_put front text bytes n s t is count all p = record {
+  output = front ++ (34 ∷ (bytes ++ 34 ∷ []));
+  made = record {
+    form = 34 ∷ (bytes ++ 34 ∷ []);
+    stated_form = quoted-form text bytes (λ ascii. sym (plain-all bytes (sym count ∙ all)) ∙ ap (flat_map (debug_escape 34)) is);
+    joined = refl;
+  };
+  puts = p;
+}
+
+-- any text, in quotes after another text
+pub quoted_put : (front text : List ℕ) (s t u : Paged) → Puts s front t → PutsSome (IsForm (debug_str text)) t u → PutsSome (IsFormAfter front (debug_str text)) s u
+quoted_put front text s t u p q = record {
+  output = front ++ q.output;
+  made = record { form = q.output; stated_form = q.made; joined = refl };
+  puts = puts_then s t u front q.output p q.puts;
+}
+
+-- a text in quotes after none
+pub nothing_before : (stated : Option (List ℕ)) (s t : Paged) → PutsSome (IsFormAfter [] stated) s t → PutsSome (IsForm stated) s t
+nothing_before stated s t p = record { output = p.output; made = subst (IsForm stated) (sym p.made.joined) p.made.stated_form; puts = p.puts }
 
 -- the form of a text in three parts is that of the parts, one after the other
 pub escaped-parts : (a b c f g h : List ℕ) → IsEscaped a f → IsEscaped b g → IsEscaped c h → IsEscaped (a ++ b ++ c) (f ++ g ++ h)

@@ -56,3 +56,9 @@ IsAnswerForm (limit_at index) text = IsLexErrorForm (limit_at index) text
 -- how many of the answers are errors
 abbrev pub error_count : List Answer → ℕ
 error_count answers = count_by (λ answer. not (is_token answer)) answers
+
+-- the text is this front, and then the printed form of a value
+pub record IsFormAfter (front : List ℕ) (stated : Option (List ℕ)) (text : List ℕ) : Type 0 where
+  pub form : List ℕ
+  pub stated_form : IsForm stated form
+  pub joined : text ≡ front ++ form

@@ -1,5 +1,5 @@
 // A page: what is written is collected in it, so that the writer is called seldom, and writing asks for no memory.
-ghost use Rattle.std.specs.Prelude.{◌≡◌, ◌+◌, ◌≤◌, [], ◌++◌, length};
+ghost use Rattle.std.specs.Prelude.{◌≡◌, ◌+◌, ◌≤◌, [], ◌++◌, length, take};
 ghost use Rattle.gqlcst_run.specs.Passing.{IsPassed};
 
 use crate::devices::Sink;
@@ -33,6 +33,18 @@ fn pass<W: Sink>(writer: &mut W, is_broken: bool, bytes: &[u8]) -> bool
     }
 }
 
+// Writes a text into a page from a place on. Answers where it ends.
+#[inline(always)]
+fn write_at(page: &mut [u8; 65536], start: usize, text: &[u8]) -> usize
+    requires { start + length text.now ≤ 65536 }
+    ensures end { result ≡ start + length text.now }
+    ensures written { take result page.new ≡ take start page.old ++ text.now }
+{
+    let end = start + text.len();
+    page[start..end].copy_from_slice(text);
+    end
+}
+
 impl Page {
     ghost use Rattle.gqlcst_run.specs.Paging.{waiting, IsBlank, Puts, Finishes};
 
@@ -54,9 +66,7 @@ impl Page {
         ensures waiting { waiting self.new ≡ waiting self.old ++ bytes.now }
         ensures broken { self.new.is_broken ≡ self.old.is_broken }
     {
-        let end = self.filled + bytes.len();
-        self.bytes[self.filled..end].copy_from_slice(bytes);
-        self.filled = end;
+        self.filled = write_at(&mut self.bytes, self.filled, bytes);
     }
 
     // Writes what is on the page.
@@ -93,6 +103,60 @@ impl Page {
             self.fill(bytes);
         } else {
             self.put_on_next(writer, bytes);
+        }
+    }
+
+    // Puts four texts that there is room for.
+    #[inline(always)]
+    fn fill_four(&mut self, one: &[u8], two: &[u8], three: &[u8], four: &[u8])
+        requires { self.old.filled + (length one.now + (length two.now + (length three.now + length four.now))) ≤ 65536 }
+        ensures waiting { waiting self.new ≡ waiting self.old ++ (one.now ++ (two.now ++ (three.now ++ four.now))) }
+        ensures broken { self.new.is_broken ≡ self.old.is_broken }
+    {
+        let first = write_at(&mut self.bytes, self.filled, one);
+        let second = write_at(&mut self.bytes, first, two);
+        let third = write_at(&mut self.bytes, second, three);
+        self.filled = write_at(&mut self.bytes, third, four);
+    }
+
+    // Puts four texts, one after the other.
+    #[cold]
+    fn put_each<W: Sink>(
+        &mut self,
+        writer: &mut W,
+        one: &[u8],
+        two: &[u8],
+        three: &[u8],
+        four: &[u8],
+    )
+        ensures { Puts (self.old, W.account writer.old) (one.now ++ (two.now ++ (three.now ++ four.now))) (self.new, W.account writer.new) }
+    {
+        self.put(writer, one);
+        self.put(writer, two);
+        self.put(writer, three);
+        self.put(writer, four);
+    }
+
+    /// Puts four texts, one after the other, with one look at the room for them.
+    #[inline(always)]
+    #[tactic(auto, using(crate::proofs::Pages::filled))]
+    pub fn put_four<W: Sink>(
+        &mut self,
+        writer: &mut W,
+        one: &[u8],
+        two: &[u8],
+        three: &[u8],
+        four: &[u8],
+    )
+        ensures { Puts (self.old, W.account writer.old) (one.now ++ (two.now ++ (three.now ++ four.now))) (self.new, W.account writer.new) }
+    {
+        let room = SIZE - self.filled;
+        let front = one.len().saturating_add(two.len());
+        let back = three.len().saturating_add(four.len());
+        if front.saturating_add(back) <= room {
+            self.fill_four(one, two, three, four);
+        } else {
+            self.put_each(writer, one, two, three, four);
         }
     }
 

@@ -3,7 +3,7 @@ ghost use Rattle.std.specs.Prelude.{◌≡◌, ◌<◌, ◌≤◌, [], ◌∷◌
 ghost use Rattle.std.specs.List.{prefix_len, flat_map};
 ghost use Rattle.std.specs.Fmt.{digits, digit_glyph, debug_escape, debug_escape_letter, debug_str};
 ghost use Rattle.gqlcst_run.specs.Quoted.{is_plain, is_control, IsEscaped};
-ghost use Rattle.gqlcst_run.specs.Rendering.{IsForm};
+ghost use Rattle.gqlcst_run.specs.Rendering.{IsForm, IsFormAfter};
 
 use crate::devices::Sink;
 use crate::page::Page;
@@ -168,13 +168,36 @@ impl Page {
         self.put_any_escaped(writer, text);
     }
 
-    /// Puts a text in quotes.
-    pub fn put_quoted<W: Sink>(&mut self, writer: &mut W, text: &str)
+    // Puts a text in quotes, with escapes.
+    fn put_quoted_escaped<W: Sink>(&mut self, writer: &mut W, text: &str)
         ensures { PutsSome (IsForm (debug_str text.now)) (self.old, W.account writer.old) (self.new, W.account writer.new) }
     {
         self.put(writer, b"\"");
         self.put_escaped(writer, text);
         self.put(writer, b"\"");
+    }
+
+    /// Puts a text, and another one in quotes.
+    #[inline(always)]
+    #[tactic(auto, using(crate::proofs::Quoting::plain_put, crate::proofs::Quoting::quoted_put))]
+    pub fn put_quoted_after<W: Sink>(&mut self, writer: &mut W, front: &str, text: &str)
+        ensures { PutsSome (IsFormAfter front.now (debug_str text.now)) (self.old, W.account writer.old) (self.new, W.account writer.new) }
+    {
+        let bytes = text.as_bytes();
+        if plain_len(bytes) == bytes.len() {
+            self.put_four(writer, front.as_bytes(), b"\"", bytes, b"\"");
+            return;
+        }
+        self.put_str(writer, front);
+        self.put_quoted_escaped(writer, text);
+    }
+
+    /// Puts a text in quotes.
+    #[tactic(auto, using(crate::proofs::Quoting::nothing_before))]
+    pub fn put_quoted<W: Sink>(&mut self, writer: &mut W, text: &str)
+        ensures { PutsSome (IsForm (debug_str text.now)) (self.old, W.account writer.old) (self.new, W.account writer.new) }
+    {
+        self.put_quoted_after(writer, "", text);
     }
 
     // Puts a text that is in three parts as it is written between quotes.

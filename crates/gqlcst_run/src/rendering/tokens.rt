@@ -9,38 +9,47 @@ ghost use Rattle.gqlcst_run.specs.Rendering.{AreLines, IsAnswerForm, IsForm, err
 use crate::devices::Sink;
 use crate::outcome::{Outcome, outcome_of};
 use crate::page::Page;
+use crate::rendering::place::Place;
 use apollo_parser::laws::answers_fit;
 use apollo_parser::{LexError, Lexer, Token, TokenKind};
 
 // Puts a name, and from where to where a text is.
-fn put_head<W: Sink>(page: &mut Page, writer: &mut W, name: &str, start: usize, len: usize)
+#[inline(always)]
+fn put_head<W: Sink>(
+    page: &mut Page,
+    writer: &mut W,
+    place: &mut Place,
+    name: &str,
+    start: usize,
+    len: usize,
+)
     ensures { Puts (page.old, W.account writer.old) (place_text name.now start (start + len)) (page.new, W.account writer.new) }
 {
-    page.put_str(writer, name);
-    page.put_str(writer, "@");
-    page.put_place(writer, start, len);
+    place.move_to(start as u128);
+    page.put_four(writer, name.as_bytes(), b"@", place.digits(), b":");
+    place.move_to(start as u128 + len as u128);
+    page.put(writer, place.digits());
 }
 
 // Puts the printed form of a token.
-fn put_token<W: Sink>(page: &mut Page, writer: &mut W, token: Token<'_>)
+fn put_token<W: Sink>(page: &mut Page, writer: &mut W, place: &mut Place, token: Token<'_>)
     ensures { PutsSome (IsForm (token_text token.entry.kind token.entry.text.now token.entry.index)) (page.old, W.account writer.old) (page.new, W.account writer.new) }
 {
     let text = token.data();
-    put_head(page, writer, token.name(), token.index(), text.len());
+    put_head(page, writer, place, token.name(), token.index(), text.len());
     if token.kind() == TokenKind::Eof {
         return;
     }
-    page.put_str(writer, " ");
-    page.put_quoted(writer, text);
+    page.put_quoted_after(writer, " ", text);
 }
 
 // Puts the printed form of the error for bad text, or for the limit.
-fn put_lex_error<W: Sink>(page: &mut Page, writer: &mut W, error: LexError<'_>)
+fn put_lex_error<W: Sink>(page: &mut Page, writer: &mut W, place: &mut Place, error: LexError<'_>)
     ensures { PutsSome (IsAnswerForm (error_answer error.entry.is_limit error.entry.text.now error.entry.index)) (page.old, W.account writer.old) (page.new, W.account writer.new) }
 {
     let text = error.data();
     let (front, quoted, back) = error.message_parts();
-    put_head(page, writer, "ERROR", error.index(), text.len());
+    put_head(page, writer, place, "ERROR", error.index(), text.len());
     page.put_str(writer, " ");
     page.put_quoted_parts(writer, front, quoted, back);
     page.put_str(writer, " ");
@@ -51,6 +60,7 @@ fn put_lex_error<W: Sink>(page: &mut Page, writer: &mut W, error: LexError<'_>)
 fn put_item<W: Sink>(
     page: &mut Page,
     writer: &mut W,
+    place: &mut Place,
     item: Result<Token<'_>, LexError<'_>>,
 ) -> usize
     ensures puts { PutsSome (IsAnswerForm (answer_of item.entry)) (page.old, W.account writer.old) (page.new, W.account writer.new) }
@@ -58,11 +68,11 @@ fn put_item<W: Sink>(
 {
     match item {
         Ok(token) => {
-            put_token(page, writer, token);
+            put_token(page, writer, place, token);
             0
         }
         Err(error) => {
-            put_lex_error(page, writer, error);
+            put_lex_error(page, writer, place, error);
             1
         }
     }
@@ -74,9 +84,10 @@ pub fn put_tokens<W: Sink>(page: &mut Page, writer: &mut W, items: Lexer<'_>) ->
     ensures outcome { result ≡ outcome_of (error_count (answers_left items.entry)) }
 {
     answers_fit(&items);
+    let mut place = Place::new();
     let mut errors = 0;
     for item in items {
-        errors += put_item(page, writer, item);
+        errors += put_item(page, writer, &mut place, item);
         page.put_str(writer, "\n");
     }
     outcome_of(errors)

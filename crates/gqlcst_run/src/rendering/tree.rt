@@ -33,8 +33,8 @@ fn put_leaf<W: Sink>(page: &mut Page, writer: &mut W, element: IndexedElement, s
     if element.is_node {
         return;
     }
-    page.put_str(writer, " ");
-    page.put_quoted(writer, source.get(element.start..element.end).unwrap_or(""));
+    let text = source.get(element.start..element.end).unwrap_or("");
+    page.put_quoted_after(writer, " ", text);
 }
 
 // Puts the line of an element: its kind, where it is, and the text of a leaf.
