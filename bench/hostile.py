@@ -1,14 +1,15 @@
 #!/usr/bin/env python3
-"""Runs `gqlcst check` on hostile texts of N bytes (5,000,000 unless given), of twice as many, and so on, and prints a table: the seconds at each
-size, how many times those of the size before they are, and the peak memory at the last.
+"""Runs `gqlcst check` on hostile texts of N bytes (5,000,000 unless given), of twice as many, and so on, and prints a table: at each size the program's
+own seconds and those that the kernel takes for it, how many times the program's own are those of the size before, and the peak memory at the last. The
+kernel's go with the memory: it hands out and clears each page.
 
-hostile.py PROGRAM [N [SIZES [ROUNDS [GIGABYTES]]]]: SIZES of them (2), best of ROUNDS runs each, in turn (5). A size that would take more than
-GIGABYTES (8), by what the size before took, is left out. Ends with status 1 where twice a text takes more than 2.2 times as long."""
+hostile.py PROGRAM [N [SIZES [ROUNDS [GIGABYTES]]]]: SIZES of them (2), best of ROUNDS runs each, in turn (5), by the program's own seconds. A size that
+would take more than GIGABYTES (8), by what the size before took, is left out. Ends with status 1 where twice a text takes more than 2.2 times the program's
+own seconds."""
 import os
 import subprocess
 import sys
 import tempfile
-import time
 
 TEXTS = {
     "braces": lambda n: "{" * n,
@@ -35,16 +36,15 @@ NESTED_TEXTS = {
 
 
 def run(command, text):
-    """The seconds that the command takes, and the greatest memory that it held in gigabytes."""
+    """The command's own seconds, the kernel's for it, and the greatest memory that it held in gigabytes."""
     with open(text) as source:
-        started = time.perf_counter()
         process = subprocess.Popen(command, stdin=source, stdout=subprocess.DEVNULL)
         _, _, usage = os.wait4(process.pid, 0)
-        return time.perf_counter() - started, usage.ru_maxrss / 1e6
+        return usage.ru_utime, usage.ru_stime, usage.ru_maxrss / 1e6
 
 
 def measured(command, folder, make, sizes, rounds, most):
-    """The least seconds at each size, and the memory at each."""
+    """The seconds at each size, the command's own and the kernel's, of the run with the least of its own; and the memory at each."""
     texts = []
     for size in sizes:
         path = os.path.join(folder, str(size))
@@ -57,11 +57,11 @@ def measured(command, folder, make, sizes, rounds, most):
             if turn == 0 and i > 0 and 2 * memory[i - 1] > most:
                 texts = texts[:i]
                 break
-            spent, peak = run(command, path)
+            own, kernel, peak = run(command, path)
             if turn == 0:
-                seconds.append(spent)
+                seconds.append((own, kernel))
                 memory.append(peak)
-            seconds[i] = min(seconds[i], spent)
+            seconds[i] = min(seconds[i], (own, kernel))
     return seconds, memory
 
 
@@ -75,9 +75,9 @@ def main():
         for name, make in (TEXTS | NESTED_TEXTS).items():
             command = [sys.argv[1], "check", *(["--recursion", str(DEPTH)] if name in NESTED_TEXTS else [])]
             seconds, memory = measured(command, folder, make, sizes, int(rounds), most)
-            times = [after / before for before, after in zip(seconds, seconds[1:])]
+            times = [after / before for (before, _), (after, _) in zip(seconds, seconds[1:])]
             slow += any(ratio > 2.2 for ratio in times)
-            cells = [f"{spent:.2f}" for spent in seconds] + [""] * (len(sizes) - len(seconds))
+            cells = [f"{own:.2f} + {kernel:.2f}" for own, kernel in seconds] + [""] * (len(sizes) - len(seconds))
             ratios = ", ".join(f"{ratio:.2f}" for ratio in times)
             print(f"| {name} | " + " | ".join(cells) + f" | {ratios} | {memory[-1]:.2f} GB |", flush=True)
     sys.exit(1 if slow else 0)

@@ -1,8 +1,13 @@
 #!/usr/bin/env python3
-"""Runs programs in turn and prints best and median times in milliseconds, and the peak memory of each.
+"""Runs programs in turn and prints best and median times in milliseconds, the megabytes a second of a walk, and the peak memory of each.
 
-measure.py ROUNDS FOLDER OUR_MEASURE THEIR_MEASURE OUR_PROGRAM THEIR_PROGRAM: each is a program and its first words. The first two read a text and write
-lines `lex N` and `parse N` on standard error, N microseconds each; the other two take a mode. Texts of 5 MB are made in FOLDER."""
+measure.py ROUNDS FOLDER OUR_MEASURE THEIR_MEASURE OUR_WALK THEIR_WALK OUR_PROGRAM THEIR_PROGRAM: each is a program and its first words. All read a text.
+The first two write lines `lex N` and `parse N` on standard error, N microseconds each; a walk writes `N MB/s` there; the last two take a mode. Texts of
+5 MB are made in FOLDER.
+
+A host that gives its processors to others too makes programs up to twice as slow, for seconds at a time, and not all of them alike. So a round counts only
+when a fixed piece of work, done before and after each program on the same processor, takes no longer than it takes at rest. Rounds that do not count are
+made again, and their number is printed."""
 import os
 import statistics
 import subprocess
@@ -10,6 +15,53 @@ import sys
 import time
 
 MODES = ["check", "tokens", "tree"]
+SLACK = 1.12
+TRIES = 40
+
+
+def work():
+    """The seconds that a fixed piece of work takes."""
+    started = time.perf_counter()
+    total = 0
+    for number in range(100_000):
+        total += number
+    return time.perf_counter() - started
+
+
+class Rounds:
+    """Rounds on a processor that has nothing else to do."""
+
+    def __init__(self, count):
+        self.count = count
+        self.left_out = 0
+        self.processors = sorted(os.sched_getaffinity(0))
+        self.rest = min(work() for _ in range(200))
+
+    def is_calm(self):
+        return work() <= SLACK * self.rest
+
+    def settle(self):
+        """Moves to a processor at rest, if there is one."""
+        for _ in range(TRIES):
+            for processor in self.processors:
+                os.sched_setaffinity(0, {processor})
+                if self.is_calm():
+                    return
+            time.sleep(0.1)
+
+    def once(self, commands, text):
+        """What each of the commands gives in a round that counts, or in the last one that was tried."""
+        for _ in range(TRIES):
+            self.settle()
+            results = [(run(command, text), self.is_calm()) for command in commands]
+            if all(calm for _, calm in results):
+                break
+            self.left_out += 1
+        return [result for result, _ in results]
+
+    def all(self, commands, text):
+        """The results of each command, round for round."""
+        return list(zip(*(self.once(commands, text) for _ in range(self.count))))
 
 
 def run(command, text):
@@ -22,49 +74,56 @@ def run(command, text):
         return time.perf_counter() - started, usage.ru_maxrss / 1000, told
 
 
-def row(name, ours, theirs):
-    """Prints a line: our best and median, theirs, and how many times the original's throughput that is, at best and by median."""
+def row(name, ours, theirs, unit=1000):
+    """Prints a line: our best and median, theirs, and how many times as fast ours is, at best and by median. All are seconds."""
     best, median = min(theirs) / min(ours), statistics.median(theirs) / statistics.median(ours)
     figures = [min(ours), statistics.median(ours), min(theirs), statistics.median(theirs)]
-    print(f"| {name} | " + " | ".join(f"{1000 * seconds:.1f}" for seconds in figures) + f" | {best:.2f} | {median:.2f} |")
+    print(f"| {name} | " + " | ".join(f"{unit * seconds:.1f}" for seconds in figures) + f" | {best:.2f} | {median:.2f} |")
 
 
-def measured(rounds, text, commands):
-    """The times of `lex` and `parse`, by command."""
-    times = {}
-    for _ in range(rounds):
-        for command in commands:
-            for line in run(command.split(), text)[2].splitlines():
-                step, micros = line.split()
-                times.setdefault((step, command), []).append(int(micros) / 1e6)
-    return times
+def steps(results, step):
+    """The seconds of a step, in all rounds."""
+    lines = [line.split() for _, _, told in results for line in told.splitlines()]
+    return [int(micros) / 1e6 for name, micros in lines if name == step]
+
+
+def text_of(kind, folder):
+    """A file with a text of 5 MB."""
+    maker = os.path.join(os.path.dirname(os.path.abspath(__file__)), "text.py")
+    text = os.path.join(folder, kind)
+    with open(text, "w") as target:
+        subprocess.run([sys.executable, maker, kind], stdout=target, check=True)
+    return text
+
+
+def times_of(kind, rounds, folder, measures, programs):
+    """Prints the table of a text."""
+    text = text_of(kind, folder)
+    print(f"\n{kind}, {os.path.getsize(text)} bytes, {rounds.count} rounds\n")
+    print("| | best | median | original, best | median | times as fast, best | median |\n|---|---|---|---|---|---|---|")
+    ours, theirs = rounds.all(measures, text)
+    for step in ["lex", "parse"]:
+        row(step, steps(ours, step), steps(theirs, step))
+    for mode in MODES:
+        ours, theirs = rounds.all([[*program, mode] for program in programs], text)
+        row(mode, [spent for spent, _, _ in ours], [spent for spent, _, _ in theirs])
+        print(f"|   its memory in MB | {max(peak for _, peak, _ in ours):.1f} | | {max(peak for _, peak, _ in theirs):.1f} | | | |")
+
+
+def walk(rounds, folder, walks):
+    """Prints the throughput of the walks."""
+    speeds = [[int(told.split()[0]) for _, _, told in results] for results in rounds.all(walks, text_of("orders", folder))]
+    (best, median), (their_best, their_median) = [(max(each), statistics.median(each)) for each in speeds]
+    print(f"\nthe walk in MB/s: {best}, {median}; the original {their_best}, {their_median}; {best / their_best:.2f}, {median / their_median:.2f} times")
 
 
 def main():
-    rounds, folder = int(sys.argv[1]), sys.argv[2]
-    measures, programs = sys.argv[3:5], [words.split() for words in sys.argv[5:7]]
-    maker = os.path.join(os.path.dirname(os.path.abspath(__file__)), "text.py")
+    rounds, folder = Rounds(int(sys.argv[1])), sys.argv[2]
+    commands = [words.split() for words in sys.argv[3:9]]
     for kind in ["queries", "schema"]:
-        text = os.path.join(folder, kind)
-        with open(text, "w") as target:
-            subprocess.run([sys.executable, maker, kind], stdout=target, check=True)
-        print(f"\n{kind}, {os.path.getsize(text)} bytes, {rounds} rounds\n")
-        print("| | best | median | original, best | median | times as fast, best | median |\n|---|---|---|---|---|---|---|")
-        times = measured(rounds, text, measures)
-        for step in ["lex", "parse"]:
-            row(step, times[step, measures[0]], times[step, measures[1]])
-        memory = []
-        for mode in MODES:
-            taken = [[], []]
-            for _ in range(rounds):
-                for program, seconds in zip(programs, taken):
-                    spent, peak, _ = run([*program, mode], text)
-                    seconds.append(spent)
-                    memory.append((mode, program[0], peak))
-            row(mode, *taken)
-        for program in programs:
-            peak = max(megabytes for mode, name, megabytes in memory if mode == "check" and name == program[0])
-            print(f"\npeak memory of check, {os.path.basename(program[0])}: {peak:.1f} MB")
+        times_of(kind, rounds, folder, commands[:2], commands[4:])
+    walk(rounds, folder, commands[2:4])
+    print(f"\nrounds left out, since the processor had other work: {rounds.left_out}")
 
 
 main()

@@ -1,5 +1,5 @@
 //! The main file for a crate that has the original's lexer, grammar and values of strings over a tree of child lists in place of `rowan`'s: it
-//! parses a file, walks the tree and prints the throughput of the walk. The original's accessors need `rowan`; `child` and `children` search the
+//! parses a text, walks the tree and prints the throughput of the walk. The original's accessors need `rowan`; `child` and `children` search the
 //! children of a node by kind, as those do.
 #![allow(dead_code, unused_imports)]
 mod error;
@@ -113,8 +113,7 @@ fn string_value(text: &str) -> String {
 }
 
 fn main() {
-    let path = std::env::args().nth(1).expect("a file");
-    let text = std::fs::read_to_string(path).expect("a text");
+    let text = std::io::read_to_string(std::io::stdin()).expect("a text");
     let tree = Parser::new(&text).parse().tree;
     let started = std::time::Instant::now();
     let mut walk = Walk::default();
@@ -124,5 +123,6 @@ fn main() {
     let spent = started.elapsed();
     let speed = text.len() as u128 / spent.as_micros().max(1);
     let Walk { fields, arguments, string_bytes } = walk;
-    println!("{speed} MB/s {fields} fields, {arguments} arguments, {string_bytes} bytes of strings");
+    eprintln!("{speed} MB/s");
+    println!("{fields} fields, {arguments} arguments, {string_bytes} bytes of strings");
 }
