@@ -2,7 +2,7 @@
 
 /// What is to be between a token and the one before it: perhaps a comma, then line feeds, then spaces. It is advice: the writer puts in what
 /// keeps the tokens apart, and leaves a comma out after a comment.
-#[derive(Clone, Copy, Debug, PartialEq, Eq)]
+#[derive(Clone, Copy)]
 pub struct Gap {
     /// Whether a comma comes first.
     pub comma: bool,
