@@ -46,6 +46,42 @@ fn push_escaped<A: Allocator>(text: &mut String<A>, line: &str) -> Result<(), Al
     Ok(())
 }
 
+// The lines of a value, each in a new line: the first one only where the value begins below the quotes.
+fn push_lines<A: Allocator>(
+    text: &mut String<A>,
+    value: &str,
+    begins_below: bool,
+    indent: usize,
+) -> Result<(), AllocError> {
+    let mut is_below = begins_below;
+    for line in value.split('\n') {
+        if is_below {
+            begin_line(text, if line.is_empty() { 0 } else { indent })?;
+        }
+        is_below = true;
+        push_escaped(text, line)?;
+    }
+    Ok(())
+}
+
+// A value and the quotes after it: in the line of the quotes before it if it is short and has one line, else with each line below the quotes.
+fn push_value<A: Allocator>(
+    text: &mut String<A>,
+    value: &str,
+    indent: usize,
+) -> Result<(), AllocError> {
+    let has_one_line = !value.as_bytes().contains(&b'\n');
+    let is_indented = others_are_indented(value);
+    let joins_quotes = value.ends_with('"') || value.ends_with('\\');
+    let ends_below = !has_one_line || value.len() > MAX_INLINE || joins_quotes || is_indented;
+    let begins_below = is_indented || (ends_below && !(has_one_line && begins_white(value)));
+    push_lines(text, value, begins_below, indent)?;
+    if ends_below {
+        begin_line(text, indent)?;
+    }
+    text.push_str("\"\"\"")
+}
+
 /// A block string with this value, in a line that is indented by so many spaces: in one line with its quotes if it is short and has one line,
 /// else with each line below the quotes.
 pub fn block_text<A: Allocator>(
@@ -53,22 +89,7 @@ pub fn block_text<A: Allocator>(
     value: &str,
     indent: usize,
 ) -> Result<String<A>, AllocError> {
-    let has_one_line = !value.as_bytes().contains(&b'\n');
-    let is_indented = others_are_indented(value);
-    let joins_quotes = value.ends_with('"') || value.ends_with('\\');
-    let ends_below = !has_one_line || value.len() > MAX_INLINE || joins_quotes || is_indented;
-    let mut begins_below = is_indented || (ends_below && !(has_one_line && begins_white(value)));
     let mut text = String::from_str(alloc, "\"\"\"")?;
-    for line in value.split('\n') {
-        if begins_below {
-            begin_line(&mut text, if line.is_empty() { 0 } else { indent })?;
-        }
-        begins_below = true;
-        push_escaped(&mut text, line)?;
-    }
-    if ends_below {
-        begin_line(&mut text, indent)?;
-    }
-    text.push_str("\"\"\"")?;
+    push_value(&mut text, value, indent)?;
     Ok(text)
 }

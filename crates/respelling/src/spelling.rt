@@ -2,6 +2,7 @@
 ghost use Rattle.std.specs.Prelude.{◌≡◌, true, IfOk, IfSome, string_bytes};
 ghost use Rattle.lexical_grammar.specs.Strings.{begins, triple_quote};
 ghost use Rattle.lexical_grammar.specs.Tokens.{IsString};
+ghost use Rattle.apollo_cst_core.specs.StringValues.{IsStringValue};
 ghost use Rattle.respelling.specs.Respelled.{SameBlock};
 
 use crate::block_text::block_text;
@@ -31,6 +32,19 @@ pub fn is_string(text: &str) -> bool
     token.data() == text
 }
 
+// Whether the text is a block string with this value.
+fn is_block_of<A: Allocator + Copy>(alloc: A, text: &str, value: &str) -> Result<bool, AllocError>
+    ensures string { IfOk result (λ is. is ≡ true → IsString text.now) }
+    ensures block { IfOk result (λ is. is ≡ true → begins triple_quote text.now ≡ true) }
+    ensures value { IfOk result (λ is. is ≡ true → IsStringValue text.now value.now) }
+{
+    if !begins_block(text) || !is_string(text) {
+        return Ok(false);
+    }
+    let own = string_value(text, alloc)?;
+    Ok(own.as_str() == value)
+}
+
 /// The string spelled for a line that is indented by so many spaces, if it is a block string. `None` where it is to stay: a quoted string always,
 /// and a block string that is spelled so already. It fails only where memory is refused.
 pub fn spelled<A: Allocator + Copy>(
@@ -49,11 +63,7 @@ pub fn spelled<A: Allocator + Copy>(
     let value = string_value(text, alloc)?;
     let other = block_text(alloc, value.as_str(), indent)?;
     let words = other.as_str();
-    if words == text || !begins_block(words) || !is_string(words) {
-        return Ok(None);
-    }
-    let other_value = string_value(words, alloc)?;
-    if value.as_str() != other_value.as_str() {
+    if words == text || !is_block_of(alloc, words, value.as_str())? {
         return Ok(None);
     }
     Ok(Some(other))

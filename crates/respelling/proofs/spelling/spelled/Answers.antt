@@ -1,4 +1,4 @@
-use Rattle.std.proofs.Common.{◌≡◌, true, string_bytes, rules, arith, sym, ap, ◌∙◌, subst}
+use Rattle.std.proofs.Common.{◌≡◌, true, string_bytes, arith, sym, ap, ◌∙◌, subst}
 use Rattle.std.proofs.lemmas.Bool.Decides.{nat_tests}
 use Rattle.lexical_grammar.specs.Strings.{begins, triple_quote}
 use Rattle.apollo_cst_core.specs.StringValues.{IsStringValue}
@@ -8,8 +8,8 @@ use Rattle.respelling.proofs.spelling.spelled.Goals as goal
 pub returns-clause-same : goal.returns-clause-same
 returns-clause-same g c =
     let first : c.begins_block.result ≡ true = grind (arith, nat_tests) in
-    let second : c.begins_block-else-eq.result ≡ true = grind (arith, nat_tests) in
+    let is : c.in_ok-is_block_of.field-0 ≡ true = grind (arith, nat_tests) in
     let words = c.as_str-words.ensures.value in
-    let one_value : string_bytes c.in_ok-other_value.other_value ≡ string_bytes c.in_ok-value.value = search rules in
-    same-block _ _ (string_bytes c.in_ok-value.value) (sym c.begins_block.ensures ∙ first) (ap (begins triple_quote) (sym words) ∙ sym c.begins_block-else-eq.ensures ∙ second) c.in_ok-value.ensures
-    (subst (λ t. IsStringValue t (string_bytes c.in_ok-value.value)) words (subst (IsStringValue c.as_str-words.result.now) one_value c.in_ok-other_value.ensures))
+    let value = subst (IsStringValue c.as_str-words.result.now) c.as_str-else-eq.ensures.value (c.in_ok-is_block_of.ensures.value is) in
+    same-block _ _ (string_bytes c.in_ok-value.value) (sym c.begins_block.ensures ∙ first) (ap (begins triple_quote) (sym words) ∙ c.in_ok-is_block_of.ensures.block is) c.in_ok-value.ensures
+    (subst (λ t. IsStringValue t (string_bytes c.in_ok-value.value)) words value)
