@@ -2,7 +2,7 @@
 ghost use Rattle.std.specs.Prelude.{◌≡◌};
 
 use gqlfmt_files::Files;
-use std::alloc::Allocator;
+use std::alloc::{AllocError, Allocator};
 use std::fs::{File, OpenFile, Permissions};
 use std::io::{Error, ErrorKind, Read, Write};
 use std::path::{Path, PathBuf};
@@ -43,11 +43,39 @@ fn permissions_of<R: rt::Files>(runtime: &R, path: Path<'_>) -> io::Result<Permi
     Ok(permissions)
 }
 
-// The path of the new file that takes the place of this one: beside it, under a hidden name.
-fn hidden_path<R: rt::Files + Alloc>(runtime: &R, target: Path<'_>) -> io::Result<PathBuf<R::A>> {
+// The name of the new file that takes the place of this one: it is hidden, and beside it.
+fn hidden_name<A: Allocator>(alloc: A, target: Path<'_>) -> Result<String<A>, AllocError> {
     let name = target.file_name().unwrap_or("");
-    let hidden = format!(in runtime.alloc(); ".{name}.gqlfmt")?;
-    Ok(target.with_file_name(runtime.alloc(), hidden.as_str())?)
+    format!(in alloc; ".{name}.gqlfmt")
+}
+
+// The path of that file, in memory of the allocator's.
+fn hidden_path<R: rt::Files + Alloc, A: Allocator>(
+    runtime: &R,
+    target: Path<'_>,
+    alloc: A,
+) -> Result<PathBuf<A>, AllocError> {
+    let name = hidden_name(runtime.alloc(), target)?;
+    target.with_file_name(alloc, name.as_str())
+}
+
+// Makes a new file with this text, which takes the name of the target when it is stored. If it cannot, it is removed.
+fn store<R: rt::Files>(
+    runtime: &R,
+    target: Path<'_>,
+    fresh: Path<'_>,
+    text: &str,
+) -> io::Result<()> {
+    let permissions = permissions_of(runtime, target)?;
+    let mut file = File::create_new(runtime, fresh)?;
+    let stored = match fill(&mut file, text, permissions) {
+        Ok(()) => fs::rename(runtime, fresh, target),
+        Err(error) => Err(error),
+    };
+    if stored.is_err() {
+        let _ = fs::remove_file(runtime, fresh);
+    }
+    stored
 }
 
 impl<'a, R: rt::Files + Alloc> Files for StdFiles<'a, R> {
@@ -64,27 +92,17 @@ impl<'a, R: rt::Files + Alloc> Files for StdFiles<'a, R> {
         Ok(bytes)
     }
 
-    // The new file is made beside the old one, under a hidden name, and takes its name when it is stored. If it cannot, it is removed.
+    // The new file is made beside the old one, under a hidden name.
     fn replace(&mut self, path: &str, text: &str) -> io::Result<()> {
         let runtime = self.runtime;
         let target = fs::canonicalize(runtime, path)?;
-        let permissions = permissions_of(runtime, target.as_path())?;
-        let fresh = hidden_path(runtime, target.as_path())?;
-        let mut file = File::create_new(runtime, fresh.as_path())?;
-        let stored = fill(&mut file, text, permissions).and_then(|()| fs::rename(
-            runtime,
-            fresh.as_path(),
-            target.as_path(),
-        ));
-        if stored.is_err() {
-            let _ = fs::remove_file(runtime, fresh.as_path());
-        }
-        stored
+        let fresh = hidden_path(runtime, target.as_path(), runtime.alloc())?;
+        store(runtime, target.as_path(), fresh.as_path(), text)
     }
 
     fn new_path<A: Allocator>(&self, alloc: A, path: &str) -> io::Result<String<A>> {
         let target = fs::canonicalize(self.runtime, path)?;
-        let fresh = hidden_path(self.runtime, target.as_path())?;
-        Ok(format!(in alloc; "{}", fresh.display())?)
+        let fresh = hidden_path(self.runtime, target.as_path(), alloc)?;
+        Ok(fresh.into_string())
     }
 }
