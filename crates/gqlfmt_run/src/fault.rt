@@ -8,7 +8,7 @@ use std::alloc::AllocError;
 use std::{fmt, io};
 
 /// Why a file, or standard input, was not formatted.
-#[derive(Clone, Copy, Debug)]
+#[derive(Clone, Copy)]
 pub enum FileFault {
     /// The file was not read.
     NotRead(io::Error),
@@ -39,10 +39,10 @@ impl fmt::Display for FileFault {
         match self {
             FileFault::NotRead(error) => write!(f, "cannot read: {error}"),
             FileFault::NotReplaced(error) => write!(f, "cannot replace: {error}"),
-            FileFault::Device(Fault::Read) => write!(f, "cannot read"),
-            FileFault::Device(Fault::Utf8) => write!(f, "not UTF-8"),
-            FileFault::Device(Fault::Memory) => write!(f, "out of memory"),
-            FileFault::Device(Fault::Write) => write!(f, "cannot write"),
+            FileFault::Device(Fault::Read) => f.write_str("cannot read"),
+            FileFault::Device(Fault::Utf8) => f.write_str("not UTF-8"),
+            FileFault::Device(Fault::Memory) => f.write_str("out of memory"),
+            FileFault::Device(Fault::Write) => f.write_str("cannot write"),
         }
     }
 }
