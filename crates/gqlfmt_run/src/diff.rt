@@ -12,6 +12,16 @@ fn lines_of<A: Allocator>(alloc: A, text: &str) -> Result<Vec<&str, A>, AllocErr
     text.split_inclusive('\n').collect(alloc)
 }
 
+// A line after a sign.
+fn push_line<A: Allocator>(diff: &mut String<A>, sign: char, line: &str) -> Result<(), AllocError> {
+    diff.push(sign)?;
+    diff.push_str(line)?;
+    if line.ends_with('\n') {
+        return Ok(());
+    }
+    diff.push_str("\n\\ No newline at end of file\n")
+}
+
 // Lines from an index up to another, each after a sign.
 fn push_lines<A: Allocator>(
     diff: &mut String<A>,
@@ -21,49 +31,66 @@ fn push_lines<A: Allocator>(
     end: usize,
 ) -> Result<(), AllocError> {
     for line in lines.get(start..end).unwrap_or_default() {
-        diff.push(sign)?;
-        diff.push_str(line)?;
-        if !line.ends_with('\n') {
-            diff.push_str("\n\\ No newline at end of file\n")?;
-        }
+        push_line(diff, sign, line)?;
     }
     Ok(())
 }
 
 // The first line of a range, from 1, and how many there are. A range with no lines has the line before it.
-fn push_range<A: Allocator>(
-    diff: &mut String<A>,
-    start: usize,
-    end: usize,
-) -> Result<(), AllocError> {
-    let count = end.saturating_sub(start);
-    let first = if count == 0 {
-        start
+fn range(start: usize, end: usize) -> (usize, usize) {
+    if start < end {
+        (start.saturating_add(1), end.saturating_sub(start))
     } else {
-        start.saturating_add(1)
-    };
-    write!(diff, "{first},{count}")
+        (start, 0)
+    }
 }
 
 // The line before a hunk: the ranges of its lines, in the old text and in the new one.
 fn push_head<A: Allocator>(
     diff: &mut String<A>,
-    first: Edit,
-    last: Edit,
+    first: &Edit,
+    last: &Edit,
     start: usize,
     end: usize,
 ) -> Result<(), AllocError> {
     let lead = first.old_start.saturating_sub(start);
     let tail = end.saturating_sub(last.old_end);
-    diff.push_str("@@ -")?;
-    push_range(diff, start, end)?;
-    diff.push_str(" +")?;
-    push_range(
-        diff,
+    let (old, old_count) = range(start, end);
+    let (new, new_count) = range(
         first.new_start.saturating_sub(lead),
         last.new_end.saturating_add(tail),
-    )?;
-    diff.push_str(" @@\n")
+    );
+    writeln!(diff, "@@ -{old},{old_count} +{new},{new_count} @@")
+}
+
+// The lines of one edit, after those from an index on that both texts have.
+fn push_edit<A: Allocator>(
+    diff: &mut String<A>,
+    old: &[&str],
+    new: &[&str],
+    start: usize,
+    edit: &Edit,
+) -> Result<(), AllocError> {
+    push_lines(diff, ' ', old, start, edit.old_start)?;
+    push_lines(diff, '-', old, edit.old_start, edit.old_end)?;
+    push_lines(diff, '+', new, edit.new_start, edit.new_end)
+}
+
+// The lines of some edits, with those around and between them.
+fn push_body<A: Allocator>(
+    diff: &mut String<A>,
+    old: &[&str],
+    new: &[&str],
+    hunk: &[Edit],
+    start: usize,
+    end: usize,
+) -> Result<(), AllocError> {
+    let mut place = start;
+    for edit in hunk {
+        push_edit(diff, old, new, place, edit)?;
+        place = edit.old_end;
+    }
+    push_lines(diff, ' ', old, place, end)
 }
 
 // One hunk: some edits, with the lines around and between them.
@@ -71,21 +98,15 @@ fn push_hunk<A: Allocator>(
     diff: &mut String<A>,
     old: &[&str],
     new: &[&str],
-    first: Edit,
-    last: Edit,
     hunk: &[Edit],
 ) -> Result<(), AllocError> {
+    let (Some(first), Some(last)) = (hunk.first(), hunk.last()) else {
+        return Ok(());
+    };
     let start = first.old_start.saturating_sub(CONTEXT);
     let end = last.old_end.saturating_add(CONTEXT).min(old.len());
     push_head(diff, first, last, start, end)?;
-    let mut place = start;
-    for edit in hunk {
-        push_lines(diff, ' ', old, place, edit.old_start)?;
-        push_lines(diff, '-', old, edit.old_start, edit.old_end)?;
-        push_lines(diff, '+', new, edit.new_start, edit.new_end)?;
-        place = edit.old_end;
-    }
-    push_lines(diff, ' ', old, place, end)
+    push_body(diff, old, new, hunk, start, end)
 }
 
 // How many of the edits, at least one, have no more than twice the context between each two.
@@ -112,12 +133,38 @@ fn push_hunks<A: Allocator>(
     let mut left = edits;
     while !left.is_empty() {
         let (hunk, more) = left.split_at(hunk_len(left));
-        if let (Some(first), Some(last)) = (hunk.first(), hunk.last()) {
-            push_hunk(diff, old, new, *first, *last, hunk)?;
-        }
+        push_hunk(diff, old, new, hunk)?;
         left = more;
     }
     Ok(())
+}
+
+// The edits under the name of their file: nothing where there are none.
+fn push_edits<A: Allocator>(
+    diff: &mut String<A>,
+    name: &str,
+    old: &[&str],
+    new: &[&str],
+    edits: &[Edit],
+) -> Result<(), AllocError> {
+    if edits.is_empty() {
+        return Ok(());
+    }
+    writeln!(diff, "--- {name}\n+++ {name}")?;
+    push_hunks(diff, old, new, edits)
+}
+
+// The changes from the old lines to the new ones.
+fn diff_of<A: Allocator + Copy>(
+    alloc: A,
+    name: &str,
+    old: &[&str],
+    new: &[&str],
+) -> Result<String<A>, AllocError> {
+    let edits = edits(alloc, old, new)?;
+    let mut diff = String::new(alloc);
+    push_edits(&mut diff, name, old, new, edits.as_slice())?;
+    Ok(diff)
 }
 
 /// The changes from the old text to the new one, under the name of their file: empty where there are none.
@@ -129,12 +176,5 @@ pub fn unified_diff<A: Allocator + Copy>(
 ) -> Result<String<A>, AllocError> {
     let old = lines_of(alloc, old)?;
     let new = lines_of(alloc, new)?;
-    let edits = edits(alloc, old.as_slice(), new.as_slice())?;
-    let mut diff = String::new(alloc);
-    if edits.is_empty() {
-        return Ok(diff);
-    }
-    writeln!(diff, "--- {name}\n+++ {name}")?;
-    push_hunks(&mut diff, old.as_slice(), new.as_slice(), edits.as_slice())?;
-    Ok(diff)
+    diff_of(alloc, name, old.as_slice(), new.as_slice())
 }

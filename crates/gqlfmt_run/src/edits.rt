@@ -79,6 +79,38 @@ fn without_common_end(old: &[&str], new: &[&str]) -> (usize, usize)
     (removed, added)
 }
 
+// What comes next in both texts: how many lines that they have in common, and how many lines of each in the edit after them.
+#[derive(Clone, Copy)]
+struct Step {
+    same: usize,
+    removed: usize,
+    added: usize,
+}
+
+fn next_step(old: &[&str], new: &[&str]) -> Step
+    requires { 0 < length old.now + length new.now }
+    ensures old { result.same + result.removed ≤ length old.now }
+    ensures new { result.same + result.added ≤ length new.now }
+    ensures some { 0 < result.same + result.removed + result.added }
+{
+    let same = common_front(old, new);
+    let (old, new) = (&old[same..], &new[same..]);
+    if old.is_empty() && new.is_empty() {
+        return Step {
+            same,
+            removed: 0,
+            added: 0,
+        };
+    }
+    let (far_old, far_new) = gap(old, new);
+    let (removed, added) = without_common_end(&old[..far_old], &new[..far_new]);
+    Step {
+        same,
+        removed,
+        added,
+    }
+}
+
 /// The edits that make the old lines the new ones, in order. Each line is compared a bounded number of times.
 pub fn edits<A: Allocator>(
     alloc: A,
@@ -88,22 +120,22 @@ pub fn edits<A: Allocator>(
     let mut edits = Vec::new(alloc);
     let (mut i, mut j) = (0, 0);
     while i < old.len() || j < new.len() {
-        let same = common_front(&old[i..], &new[j..]);
-        i += same;
-        j += same;
-        if i == old.len() && j == new.len() {
-            break;
+        let Step {
+            same,
+            removed,
+            added,
+        } = next_step(&old[i..], &new[j..]);
+        let edit = Edit {
+            old_start: i + same,
+            old_end: i + same + removed,
+            new_start: j + same,
+            new_end: j + same + added,
+        };
+        i = edit.old_end;
+        j = edit.new_end;
+        if removed > 0 || added > 0 {
+            edits.push(edit)?;
         }
-        let (far_old, far_new) = gap(&old[i..], &new[j..]);
-        let (removed, added) = without_common_end(&old[i..i + far_old], &new[j..j + far_new]);
-        edits.push(Edit {
-            old_start: i,
-            old_end: i + removed,
-            new_start: j,
-            new_end: j + added,
-        })?;
-        i += removed;
-        j += added;
     }
     Ok(edits)
 }

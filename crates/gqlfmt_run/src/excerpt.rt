@@ -6,10 +6,6 @@ const BEFORE: usize = 60;
 
 const AFTER: usize = 100;
 
-const MARGIN: &str = "    ";
-
-const CUT: &str = "...";
-
 // What stands for a character: U+FFFD for each control character but a tab.
 fn shown(c: char) -> char {
     match c {
@@ -37,12 +33,41 @@ fn push_blanks<A: Allocator>(text: &mut String<A>, part: &str) -> Result<(), All
 
 // How many characters two texts have in common at their front, at least 1.
 fn mark_len(shown: &str, marked: &str) -> usize {
-    shown
-        .chars()
-        .zip(marked.chars())
-        .take_while(|(a, b)| a == b)
-        .count()
-        .max(1)
+    let mut count = 0usize;
+    for (a, b) in shown.chars().zip(marked.chars()) {
+        if a != b {
+            break;
+        }
+        count = count.saturating_add(1);
+    }
+    count.max(1)
+}
+
+// What is shown of a line, between a margin and an end.
+fn push_line<A: Allocator>(
+    report: &mut String<A>,
+    margin: &str,
+    text: &str,
+    end: &str,
+) -> Result<(), AllocError> {
+    report.push_str(margin)?;
+    push_shown(report, text)?;
+    report.push_str(end)
+}
+
+// Below it so many marks, after what is before them.
+fn push_marks<A: Allocator>(
+    report: &mut String<A>,
+    margin: &str,
+    before: &str,
+    count: usize,
+) -> Result<(), AllocError> {
+    push_blanks(report, margin)?;
+    push_blanks(report, before)?;
+    for _ in 0..count {
+        report.push('^')?;
+    }
+    report.push('\n')
 }
 
 /// Puts a line of a text at the end of a report, and below it a line that marks as many characters from the column on as are in `marked`.
@@ -56,22 +81,13 @@ pub fn push_excerpt<A: Allocator>(
     if line.is_empty() {
         return Ok(());
     }
-    let (before, rest) = line.split_at(line.floor_char_boundary(column));
-    let (cut, before) = before.split_at(before.floor_char_boundary(
-        before.len().saturating_sub(BEFORE),
-    ));
-    let (after, left) = rest.split_at(rest.floor_char_boundary(AFTER));
-    let front = if cut.is_empty() { "" } else { CUT };
-    report.push_str(MARGIN)?;
-    report.push_str(front)?;
-    push_shown(report, before)?;
-    push_shown(report, after)?;
-    report.push_str(if left.is_empty() { "\n" } else { "...\n" })?;
-    report.push_str(MARGIN)?;
-    push_blanks(report, front)?;
-    push_blanks(report, before)?;
-    for _ in 0..mark_len(after, marked) {
-        report.push('^')?;
-    }
-    report.push('\n')
+    let place = line.floor_char_boundary(column);
+    let (cut, rest) = line.split_at(line.floor_char_boundary(place.saturating_sub(BEFORE)));
+    let column = place.saturating_sub(cut.len());
+    let (text, left) = rest.split_at(rest.floor_char_boundary(column.saturating_add(AFTER)));
+    let (before, after) = text.split_at(text.floor_char_boundary(column));
+    let margin = if cut.is_empty() { "    " } else { "    ..." };
+    let end = if left.is_empty() { "\n" } else { "...\n" };
+    push_line(report, margin, text, end)?;
+    push_marks(report, margin, before, mark_len(after, marked))
 }
