@@ -1,4 +1,4 @@
-// The program over words, texts and files of these tests.
+// The formatter's program over words, texts and files of these tests, and the changes that it shows.
 use gqlcst_run::{StdSink, StdSource};
 use gqlfmt_run::{StdFiles, run, unified_diff};
 use std::alloc::{AllocError, Allocator, Global};
