@@ -1,8 +1,8 @@
 #!/usr/bin/env python3
-"""Prints a GraphQL document of about N bytes (5,000,000 unless given): text.py queries|orders|schema [N].
+"""Prints a GraphQL document of about N bytes (5,000,000 unless given): text.py queries|orders|schema|described [N].
 
 queries: operations and fragments alone. orders: operations with many arguments and strings. schema: type definitions with descriptions, comments,
-arguments and directives."""
+arguments and directives. described: definitions of which half of the text is descriptions, as schemas for the public have them."""
 import sys
 
 QUERIES = '''query Introspection_%(i)d {
@@ -191,9 +191,51 @@ extend type Seller @key(fields: "id") {
 
 '''
 
+DESCRIBED = '''"""
+What has to be told to close the account of a seller, number %(i)d.
+"""
+input CloseSellerInput_%(i)d {
+  """
+  The account that is to be closed.
+  """
+  sellerId: ID!
+
+  """
+  A text by which the one who asks will know the answer again.
+  """
+  clientMutationId: String
+
+  """
+  Whether what is still in stock goes back to the seller, at the price of the day on which the account is closed.
+  """
+  returnStock: Boolean = false
+}
+
+"""
+The properties by which the orders of a seller can be put in order.
+"""
+enum SellerOrderField_%(i)d {
+  """
+  By the time at which the order came in.
+  """
+  CREATED_AT
+
+  """
+  By the time at which something was last done for the order.
+  """
+  UPDATED_AT
+
+  """
+  By what the order comes to, without the cost of sending it.
+  """
+  AMOUNT
+}
+
+'''
+
 
 def main():
-    part = {"queries": QUERIES, "orders": ORDERS, "schema": SCHEMA}[sys.argv[1]]
+    part = {"queries": QUERIES, "orders": ORDERS, "schema": SCHEMA, "described": DESCRIBED}[sys.argv[1]]
     size = int(sys.argv[2]) if len(sys.argv) > 2 else 5_000_000
     written, i = 0, 0
     while written < size:
