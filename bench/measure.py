@@ -5,9 +5,9 @@ measure.py ROUNDS FOLDER OUR_MEASURE THEIR_MEASURE OUR_WALK THEIR_WALK OUR_PROGR
 The first two write lines `lex N` and `parse N` on standard error, N microseconds each; a walk writes `N MB/s` there; the last two take a mode. Texts of
 5 MB are made in FOLDER.
 
-A host that gives its processors to others too makes programs up to twice as slow, for seconds at a time, and not all of them alike. So a round counts only
-when a fixed piece of work, done before and after each program on the same processor, takes no longer than it takes at rest. Rounds that do not count are
-made again, and their number is printed."""
+A host that gives its processors to others too makes programs up to twice as slow, for parts of a second or for many, and not all of them alike. So a run counts
+only when a fixed piece of work, done before and after it on the same processor, takes no longer than it takes at rest. A run that does not count is made
+again, and the number of those is printed."""
 import os
 import statistics
 import subprocess
@@ -16,7 +16,7 @@ import time
 
 MODES = ["check", "tokens", "tree"]
 SLACK = 1.12
-TRIES = 40
+TRIES = 100
 
 
 def work():
@@ -29,13 +29,18 @@ def work():
 
 
 class Rounds:
-    """Rounds on a processor that has nothing else to do."""
+    """Rounds of runs on a processor that has nothing else to do."""
 
     def __init__(self, count):
         self.count = count
         self.left_out = 0
+        self.disturbed = 0
         self.processors = sorted(os.sched_getaffinity(0))
-        self.rest = min(work() for _ in range(200))
+        self.rest = work()
+        for _ in range(20):
+            for processor in self.processors:
+                os.sched_setaffinity(0, {processor})
+                self.rest = min(self.rest, *(work() for _ in range(20)))
 
     def is_calm(self):
         return work() <= SLACK * self.rest
@@ -47,21 +52,22 @@ class Rounds:
                 os.sched_setaffinity(0, {processor})
                 if self.is_calm():
                     return
-            time.sleep(0.1)
+            time.sleep(0.02)
 
-    def once(self, commands, text):
-        """What each of the commands gives in a round that counts, or in the last one that was tried."""
+    def once(self, command, text):
+        """What the command gives in a run that counts, or in the last one that was tried."""
         for _ in range(TRIES):
             self.settle()
-            results = [(run(command, text), self.is_calm()) for command in commands]
-            if all(calm for _, calm in results):
-                break
+            result = run(command, text)
+            if self.is_calm():
+                return result
             self.left_out += 1
-        return [result for result, _ in results]
+        self.disturbed += 1
+        return result
 
     def all(self, commands, text):
-        """The results of each command, round for round."""
-        return list(zip(*(self.once(commands, text) for _ in range(self.count))))
+        """The results of each command, round for round: one run of each, in turn."""
+        return list(zip(*([self.once(command, text) for command in commands] for _ in range(self.count))))
 
 
 def run(command, text):
@@ -123,7 +129,7 @@ def main():
     for kind in ["queries", "schema"]:
         times_of(kind, rounds, folder, commands[:2], commands[4:])
     walk(rounds, folder, commands[2:4])
-    print(f"\nrounds left out, since the processor had other work: {rounds.left_out}")
+    print(f"\nruns that did not count: {rounds.left_out}; that were disturbed each time, and count: {rounds.disturbed}; {1000 * rounds.rest:.2f} ms at rest")
 
 
 main()
