@@ -34,6 +34,7 @@ impl<'t> {name}<'t> {{
 
 def cast_text(of, name, kind, ghost="node", variable="n"):
     """The impl of the casts of a struct of a node or a leaf, without its closing brace."""
+    casts = node_casts_text(struct_cast(name)) if of == "Node" else leaf_cast_text(name)
     return f"""
 impl<'t> Cst{of}<'t> for {name}<'t> {{
     ghost casts = {{ is_kind {kind} }};
@@ -47,17 +48,45 @@ impl<'t> Cst{of}<'t> for {name}<'t> {{
         kind.is(SyntaxKind::{kind})
     }}
 
+{casts}
+    fn syntax(&self) -> &Syntax{of}<'t> {{
+        &self.syntax
+    }}
+"""
+
+
+def node_casts_text(body):
+    """The two casts of a type of nodes, of which the second has this body."""
+    return f"""    #[inline(always)]
+    fn cast(syntax: SyntaxNode<'t>) -> Option<Self> {{
+        Self::cast_as(syntax.kind(), syntax)
+    }}
+
     #[inline(always)]
-    fn cast(syntax: Syntax{of}<'t>) -> Option<Self> {{
+    fn cast_as(kind: SyntaxKind, syntax: SyntaxNode<'t>) -> Option<Self> {{
+{body}    }}
+"""
+
+
+def struct_cast(name):
+    """The node as a struct's, where its kind is the struct's."""
+    return f"""        if Self::can_cast(kind) {{
+            Some({name} {{ syntax }})
+        }} else {{
+            None
+        }}
+"""
+
+
+def leaf_cast_text(name):
+    """The cast of a type of leaves."""
+    return f"""    #[inline(always)]
+    fn cast(syntax: SyntaxToken<'t>) -> Option<Self> {{
         if Self::can_cast(syntax.kind()) {{
             Some({name} {{ syntax }})
         }} else {{
             None
         }}
-    }}
-
-    fn syntax(&self) -> &Syntax{of}<'t> {{
-        &self.syntax
     }}
 """
 
@@ -159,11 +188,7 @@ impl<'t> CstNode<'t> for {enum}<'t> {{
         {any_cast(types)}
     }}
 
-    #[inline(always)]
-    fn cast(syntax: SyntaxNode<'t>) -> Option<Self> {{
-{tried_casts(enum, types)}        None
-    }}
-
+{node_casts_text(tried_casts(enum, types))}
     fn syntax(&self) -> &SyntaxNode<'t> {{
         match self {{
 {nodes}        }}
@@ -181,13 +206,14 @@ def any_cast(types):
 
 def tried_casts(enum, types):
     """Each struct's cast in turn."""
-    return "".join(
-        f"""        if let Some(node) = {name}::cast(syntax) {{
+    tried = "".join(
+        f"""        if let Some(node) = {name}::cast_as(kind, syntax) {{
             return Some({enum}::{name}(node));
         }}
 """
         for name in types
     )
+    return tried + "        None\n"
 
 
 def enum_spec(enum, crate, module, grammar):

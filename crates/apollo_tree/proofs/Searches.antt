@@ -1,22 +1,19 @@
 -- A search along a span for the first tree that a test takes.
-use Rattle.std.proofs.Common.{◌≡◌, ℕ, ◌+◌, ◌-◌, ◌<◌, ◌≤◌, List, [], ◌∷◌, length, take, drop, get_or, map, refl, sym, ap, ◌∙◌, ⊎_elim, cond, Bool, true, false, Option, Some, None, MatchOption, arith}
-use Rattle.std.specs.Prelude.{⊤}
+use Rattle.std.proofs.Common.{◌≡◌, ℕ, ◌+◌, ◌-◌, ◌<◌, ◌≤◌, List, [], ◌∷◌, length, take, drop, get_or, map, refl, sym, ap, ◌∙◌, cond, Bool, true, false, arith}
 use Rattle.std.specs.List.{filter}
 use Rattle.std.proofs.lemmas.List.{length-map}
-use Rattle.std.proofs.lemmas.Bool.{cases_lt}
 use Rattle.document_grammar.specs.declared.kind.SyntaxKind.{SyntaxKind}
 use Rattle.apollo_tree.specs.declared.record.Record.{Record}
 use Rattle.apollo_tree.specs.declared.node.Table.{Table}
-use Rattle.apollo_tree.specs.declared.children.SyntaxElement.{SyntaxElement}
+use Rattle.apollo_tree.specs.declared.search.Found.{Found}
 use Rattle.apollo_tree.specs.Blank.{none_there}
 use Rattle.apollo_tree.specs.Forms.{readable}
 use Rattle.apollo_tree.specs.Records.{forest}
 use Rattle.apollo_tree.specs.References.{table_place}
 use Rattle.apollo_tree.specs.Order.{Place, kind_at}
-use Rattle.apollo_tree.specs.Children.{heads, span_heads, IsSpan}
+use Rattle.apollo_tree.specs.Children.{heads, tiled, span_heads, IsSpan}
 use Rattle.apollo_tree.specs.Table.{IsTable}
-use Rattle.apollo_tree.specs.Taken.{takes_place, takes_record, taken_places, PassesOver}
-use Rattle.apollo_tree.specs.Yields.{element_place}
+use Rattle.apollo_tree.specs.Taken.{takes_place, takes_record, taken_places, PassesOver, IsFirst}
 use Rattle.apollo_tree.proofs.Parts.{spot}
 use Rattle.apollo_tree.proofs.Places.{node_is, kind-is}
 use Rattle.apollo_tree.proofs.Spans.{IsStep, step}
@@ -27,6 +24,9 @@ element-test : (takes : Bool → SyntaxKind → Bool) (rs : List Record) (s : Li
 element-test takes rs s t i h =
     ap (λ b. takes b (kind_at (spot (forest s rs) i))) (sym (node_is rs s t i h none_there))
     ∙ ap (takes (get_or rs i none_there).is_node) (sym (kind-is rs s t i h none_there))
+
+abbrev pub rest_from : Table → ℕ → ℕ → List Place
+rest_from table at to = map (table_place table) (span_heads (readable table.records) at to)
 
 -- the trees from a place on are whole, and none before it is taken
 pub record IsSearched (takes : Bool → SyntaxKind → Bool) (rs : List Record) (from at to : ℕ) : Type 0 where
@@ -62,36 +62,42 @@ module _ {P : Type 0} (f : P → Record) (ps : List P) (takes : Bool → SyntaxK
         ∙ ap (λ b. cond b (spot (forest s rs) at ∷ rest) rest) left;
   }
 
--- ---- the tree that is found
-abbrev rest_from : Table → ℕ → ℕ → List Place
-rest_from table at to = map (table_place table) (span_heads (readable table.records) at to)
+  -- what the search gives where the test takes the record
+  pub first : takes_record takes r ≡ true → IsFirst takes (map f ps) from to (record { index = at; row = r })
+  first e = record { inside = lt; span = h.span; there = there; taken = e; passed = h.passed }
 
-head-is : (rs : List Record) (f : ℕ → Place) (at to : ℕ) (p : Place) (ps : List Place) → IsSpan rs at to → map f (span_heads rs at to) ≡ p ∷ ps → (at < to) × (f at ≡ p)
-head-is rs f at to p ps h e = ⊎_elim here nowhere_left (cases_lt at to)
-  where
-    here : at < to → (at < to) × (f at ≡ p)
-    here lt = (lt, ap (λ xs. get_or xs 0 p) (sym (ap (map f) (step rs at to h lt (get_or rs at none_there).size refl).heads) ∙ e))
+-- and where none was left
+pub no-first : (takes : Bool → SyntaxKind → Bool) (rs : List Record) (from at to : ℕ) → IsSearched takes rs from at to → to ≤ at → PassesOver takes rs from to to
+no-first takes rs from at to h n = λ s t. h.passed s t ∙ ap (λ i. taken_places takes (forest s rs) rs i to) (omega (arith, h.span.order))
 
-    nowhere_left : to ≤ at → (at < to) × (f at ≡ p)
-    nowhere_left ge =
-        let n : to - at ≡ 0 = omega arith in
-        let nil : map f (span_heads rs at to) ≡ [] = ap (λ n. map f (heads 0 at (take n (drop at rs)))) n in
-        let l : 0 ≡ length (p ∷ ps) = ap length (sym nil ∙ e) in
-        absurd (omega arith)
+-- ---- a table's trees, after the one that is found
+module _ (takes : Bool → SyntaxKind → Bool) (table : Table) (from to : ℕ) (found : Found) (h : IsFirst takes (readable table.records) from to found) where
+  abbrev rs : List Record
+  rs = readable table.records
 
-module _ (takes : Bool → SyntaxKind → Bool) (table : Table) (from at to : ℕ) (h : IsSpan (readable table.records) at to) (taken : at < to → takes_record takes (get_or (readable table.records) at none_there) ≡ true) where
-  head-taken : (p : Place) (ps : List Place) → rest_from table at to ≡ p ∷ ps → takes_place takes p ≡ true
-  head-taken p ps e =
-      let i = head-is (readable table.records) (table_place table) at to p ps h e in
-      let inside : at < length (readable table.records) = omega (arith, h.inside, i.0) in
-      ap (takes_place takes) (sym i.1) ∙ element-test takes (readable table.records) table.text.now table.is_table at inside ∙ taken i.0
+  pub after : IsStep rs found.index to found.row.size
+  after = step rs found.index to h.span h.inside found.row.size (ap (λ (r : Record). r.size) h.there)
 
-  pub found-taken : (r : Option SyntaxElement) (after : List Place) → MatchOption r ((rest_from table at to ≡ []) × (after ≡ [])) (λ x. rest_from table at to ≡ element_place x ∷ after) → MatchOption r ⊤ (λ x. takes_place takes (element_place x) ≡ true)
-  found-taken None after e = tt
-  found-taken (Some x) after e = head-taken (element_place x) after e
+  pub found-kind : found.row.kind ≡ kind_at (table_place table found.index)
+  found-kind = ap (λ (r : Record). r.kind) h.there ∙ kind-is rs table.text.now table.is_table found.index after.here none_there
 
-  pub found-first : PassesOver takes (readable table.records) from at to → (r : Option SyntaxElement) (after : List Place) → MatchOption r ((rest_from table at to ≡ []) × (after ≡ [])) (λ x. rest_from table at to ≡ element_place x ∷ after) → MatchOption r ((filter (takes_place takes) (rest_from table from to) ≡ []) × (filter (takes_place takes) after ≡ [])) (λ x. filter (takes_place takes) (rest_from table from to) ≡ element_place x ∷ filter (takes_place takes) after)
-  found-first passed None after e = (passed table.text.now table.is_table ∙ ap (filter (takes_place takes)) e.0, ap (filter (takes_place takes)) e.1)
-  found-first passed (Some x) after e =
-      let rest = filter (takes_place takes) after in
-      passed table.text.now table.is_table ∙ ap (filter (takes_place takes)) e ∙ ap (λ b. cond b (element_place x ∷ rest) rest) (head-taken (element_place x) after e)
+  pub found-taken : takes_place takes (table_place table found.index) ≡ true
+  found-taken = element-test takes rs table.text.now table.is_table found.index after.here ∙ ap (takes_record takes) (sym h.there) ∙ h.taken
+
+  pub found-first : filter (takes_place takes) (rest_from table from to) ≡ table_place table found.index ∷ filter (takes_place takes) (rest_from table (found.index + found.row.size) to)
+  found-first =
+      let rest = filter (takes_place takes) (rest_from table (found.index + found.row.size) to) in
+      h.passed table.text.now table.is_table
+      ∙ ap (λ is. filter (takes_place takes) (map (table_place table) is)) after.heads
+      ∙ ap (λ b. cond b (table_place table found.index ∷ rest) rest) found-taken
+
+-- and where none is found
+pub end-span : (rs : List Record) (from to : ℕ) → IsSpan rs from to → IsSpan rs to to
+end-span rs from to h =
+    let n : to - to ≡ 0 = omega arith in
+    record { order = omega arith; inside = h.inside; trees = ap (λ n. tiled 0 (take n (drop to rs))) n }
+
+pub none-left : (takes : Bool → SyntaxKind → Bool) (table : Table) (to : ℕ) → filter (takes_place takes) (rest_from table to to) ≡ []
+none-left takes table to =
+    let n : to - to ≡ 0 = omega arith in
+    ap (λ n. filter (takes_place takes) (map (table_place table) (heads 0 to (take n (drop to (readable table.records)))))) n

@@ -1,11 +1,11 @@
 // A search along the trees that follow one another in a table, for the first that a test takes.
-ghost use Rattle.std.specs.Prelude.{◌≡◌, Bool, ◌<◌, map, get_or, true};
+ghost use Rattle.std.specs.Prelude.{◌≡◌, Bool, map};
 ghost use Rattle.document_grammar.specs.declared.kind.SyntaxKind.{SyntaxKind as Kind};
-ghost use Rattle.apollo_tree.specs.Blank.{none_there};
 ghost use Rattle.apollo_tree.specs.Children.{IsSpan};
-ghost use Rattle.apollo_tree.specs.Taken.{takes_record, PassesOver};
+ghost use Rattle.apollo_tree.specs.Taken.{GivesFound};
 
 use crate::packed::Packed;
+use crate::record::Record;
 use document_grammar::SyntaxKind;
 
 /// A test of elements by their kind, and by whether they are nodes or leaves.
@@ -31,22 +31,31 @@ impl ElementTest for AnyNode {
     }
 }
 
-// The place of the first of a span's trees that the test takes, or where the span ends when it takes none. It goes over one slice of records, all
-// of one form.
+// A record that a search found, and its index.
+#[derive(Clone, Copy)]
+pub struct Found {
+    pub index: usize,
+    pub row: Record,
+}
+
+// The first of a span's trees that the test takes. It goes over one slice of records, all of one form.
 #[inline(always)]
-pub fn find_in<R: Packed, T: ElementTest>(records: &[R], from: usize, to: usize, test: T) -> usize
+pub fn find_in<R: Packed, T: ElementTest>(
+    records: &[R],
+    from: usize,
+    to: usize,
+    test: T,
+) -> Option<Found>
     requires { IsSpan (map R.plain records.now) from to }
-    ensures span { IsSpan (map R.plain records.now) result to }
-    ensures taken { result < to → takes_record (T.is_taken test) (get_or (map R.plain records.now) result none_there) ≡ true }
-    ensures passed { PassesOver (T.is_taken test) (map R.plain records.now) from result to }
+    ensures { GivesFound (T.is_taken test) (map R.plain records.now) from to result }
 {
     let mut index = from;
     while index < to {
-        let record = records[index].row();
-        if test.takes(record.is_node, record.kind) {
-            return index;
+        let row = records[index].row();
+        if test.takes(row.is_node, row.kind) {
+            return Some(Found { index, row });
         }
-        index += record.size;
+        index += row.size;
     }
-    index
+    None
 }
