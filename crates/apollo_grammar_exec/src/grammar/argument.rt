@@ -22,8 +22,7 @@ pub fn arguments<A: Allocator + Copy>(
     if !p.at(TokenKind::LParen) {
         return Ok(());
     }
-    p.start_node(SyntaxKind::ARGUMENTS)?;
-    p.bump(SyntaxKind::L_PAREN)?;
+    p.start_node_with(SyntaxKind::ARGUMENTS, SyntaxKind::L_PAREN)?;
     p.want(TokenKind::Name, Message::ExpectedArgument)?;
     while p.at(TokenKind::Name) {
         argument(p, constness)?;

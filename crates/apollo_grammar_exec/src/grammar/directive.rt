@@ -35,8 +35,7 @@ fn directive<A: Allocator + Copy>(
 ) -> Result<(), AllocError>
     ensures { Parses (Child (rule.Directive constness)) result p.old p.new }
 {
-    p.start_node(SyntaxKind::DIRECTIVE)?;
-    p.bump(SyntaxKind::AT)?;
+    p.start_node_with(SyntaxKind::DIRECTIVE, SyntaxKind::AT)?;
     name(p)?;
     arguments(p, constness)?;
     p.finish_node();

@@ -17,6 +17,7 @@ use std::alloc::{AllocError, Allocator};
 
 /// A field (GraphQL October 2021, section 2.5, "Fields").
 #[cycle(selection)]
+#[tactic(auto, using(parser_rules::proofs::runs::Running::running), unfolding(parser_rules::specs::Rules::inside, parser_rules::specs::Rules::body))]
 pub fn field<A: Allocator + Copy>(p: &mut ParserState<'_, A>) -> Result<(), AllocError>
     requires { true ≡ holds (At token.Name) p.old }
     ensures { Parses (Child rule.Field) result p.old p.new }

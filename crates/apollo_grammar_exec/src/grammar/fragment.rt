@@ -85,8 +85,7 @@ pub fn inline_fragment<A: Allocator + Copy>(p: &mut ParserState<'_, A>) -> Resul
     requires { true ≡ holds (At token.Spread) p.old }
     ensures { Parses (Child rule.InlineFragment) result p.old p.new }
 {
-    p.start_node(SyntaxKind::INLINE_FRAGMENT)?;
-    p.bump(SyntaxKind::SPREAD)?;
+    p.start_node_with(SyntaxKind::INLINE_FRAGMENT, SyntaxKind::SPREAD)?;
     optional_type_condition(p)?;
     directives(p, Constness::NotConst)?;
     if p.at(TokenKind::LCurly) {
@@ -102,8 +101,7 @@ pub fn inline_fragment<A: Allocator + Copy>(p: &mut ParserState<'_, A>) -> Resul
 pub fn fragment_spread<A: Allocator + Copy>(p: &mut ParserState<'_, A>) -> Result<(), AllocError>
     ensures { Parses (Child rule.FragmentSpread) result p.old p.new }
 {
-    p.start_node(SyntaxKind::FRAGMENT_SPREAD)?;
-    p.bump(SyntaxKind::SPREAD)?;
+    p.start_node_with(SyntaxKind::FRAGMENT_SPREAD, SyntaxKind::SPREAD)?;
     fragment_name(p)?;
     directives(p, Constness::NotConst)?;
     p.finish_node();

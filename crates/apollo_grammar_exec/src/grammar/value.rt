@@ -75,8 +75,7 @@ fn no_value<A: Allocator + Copy>(
 fn float_value<A: Allocator + Copy>(p: &mut ParserState<'_, A>) -> Result<(), AllocError>
     ensures { Parses (Child rule.FloatValue) result p.old p.new }
 {
-    p.start_node(SyntaxKind::FLOAT_VALUE)?;
-    p.bump(SyntaxKind::FLOAT)?;
+    p.start_node_with(SyntaxKind::FLOAT_VALUE, SyntaxKind::FLOAT)?;
     p.finish_node();
     Ok(())
 }
@@ -98,8 +97,7 @@ fn word_value<A: Allocator + Copy>(p: &mut ParserState<'_, A>) -> Result<(), All
 fn null_value<A: Allocator + Copy>(p: &mut ParserState<'_, A>) -> Result<(), AllocError>
     ensures { Parses (Child rule.NullValue) result p.old p.new }
 {
-    p.start_node(SyntaxKind::NULL_VALUE)?;
-    p.bump(SyntaxKind::null_KW)?;
+    p.start_node_with(SyntaxKind::NULL_VALUE, SyntaxKind::null_KW)?;
     p.finish_node();
     Ok(())
 }
@@ -155,8 +153,7 @@ fn list_value<A: Allocator + Copy>(
     requires { true ≡ holds (At token.LBracket) p.old }
     ensures { Parses (Child (rule.ListValue constness)) result p.old p.new }
 {
-    p.start_node(SyntaxKind::LIST_VALUE)?;
-    p.bump(SyntaxKind::L_BRACK)?;
+    p.start_node_with(SyntaxKind::LIST_VALUE, SyntaxKind::L_BRACK)?;
     list_items(p, constness)?;
     p.finish_node();
     Ok(())
@@ -199,8 +196,7 @@ fn object_value<A: Allocator + Copy>(
     requires { true ≡ holds (At token.LCurly) p.old }
     ensures { Parses (Child (rule.ObjectValue constness)) result p.old p.new }
 {
-    p.start_node(SyntaxKind::OBJECT_VALUE)?;
-    p.bump(SyntaxKind::L_CURLY)?;
+    p.start_node_with(SyntaxKind::OBJECT_VALUE, SyntaxKind::L_CURLY)?;
     while p.at(TokenKind::Name) {
         object_field(p, constness)?;
     }
@@ -240,8 +236,7 @@ pub fn default_value<A: Allocator + Copy>(p: &mut ParserState<'_, A>) -> Result<
     if !p.at(TokenKind::Eq) {
         return Ok(());
     }
-    p.start_node(SyntaxKind::DEFAULT_VALUE)?;
-    p.bump(SyntaxKind::EQ)?;
+    p.start_node_with(SyntaxKind::DEFAULT_VALUE, SyntaxKind::EQ)?;
     value(p, Constness::Const, false)?;
     p.finish_node();
     Ok(())

@@ -25,8 +25,7 @@ pub fn variable_definitions<A: Allocator + Copy>(
     if !p.at(TokenKind::LParen) {
         return Ok(());
     }
-    p.start_node(SyntaxKind::VARIABLE_DEFINITIONS)?;
-    p.bump(SyntaxKind::L_PAREN)?;
+    p.start_node_with(SyntaxKind::VARIABLE_DEFINITIONS, SyntaxKind::L_PAREN)?;
     want_variable(p)?;
     while starts_variable(p) {
         variable_definition(p)?;
@@ -104,8 +103,7 @@ pub fn variable_type<A: Allocator + Copy>(p: &mut ParserState<'_, A>) -> Result<
 pub fn variable<A: Allocator + Copy>(p: &mut ParserState<'_, A>) -> Result<(), AllocError>
     ensures { Parses (Child rule.Variable) result p.old p.new }
 {
-    p.start_node(SyntaxKind::VARIABLE)?;
-    p.bump(SyntaxKind::DOLLAR)?;
+    p.start_node_with(SyntaxKind::VARIABLE, SyntaxKind::DOLLAR)?;
     name(p)?;
     p.finish_node();
     Ok(())

@@ -20,8 +20,7 @@ pub fn arguments_definition<A: Allocator + Copy>(
     requires { true ≡ holds (At token.LParen) p.old }
     ensures { Parses (Child rule.ArgumentsDefinition) result p.old p.new }
 {
-    p.start_node(SyntaxKind::ARGUMENTS_DEFINITION)?;
-    p.bump(SyntaxKind::L_PAREN)?;
+    p.start_node_with(SyntaxKind::ARGUMENTS_DEFINITION, SyntaxKind::L_PAREN)?;
     want_named(p, Message::ExpectedArgumentDefinition)?;
     while starts_named(p) {
         input_value_definition(p)?;

@@ -36,8 +36,7 @@ pub fn enum_type_extension<A: Allocator + Copy>(
 ) -> Result<(), AllocError>
     ensures { Parses (Child rule.EnumTypeExtension) result p.old p.new }
 {
-    p.start_node(SyntaxKind::ENUM_TYPE_EXTENSION)?;
-    p.bump(SyntaxKind::extend_KW)?;
+    p.start_node_with(SyntaxKind::ENUM_TYPE_EXTENSION, SyntaxKind::extend_KW)?;
     p.bump(SyntaxKind::enum_KW)?;
     name(p)?;
     if p.at(TokenKind::At) {
@@ -59,8 +58,7 @@ fn enum_values_definition<A: Allocator + Copy>(p: &mut ParserState<'_, A>) -> Re
     requires { true ≡ holds (At token.LCurly) p.old }
     ensures { Parses (Child rule.EnumValuesDefinition) result p.old p.new }
 {
-    p.start_node(SyntaxKind::ENUM_VALUES_DEFINITION)?;
-    p.bump(SyntaxKind::L_CURLY)?;
+    p.start_node_with(SyntaxKind::ENUM_VALUES_DEFINITION, SyntaxKind::L_CURLY)?;
     want_named(p, Message::ExpectedEnumValueDefinition)?;
     while starts_named(p) {
         enum_value_definition(p)?;

@@ -20,8 +20,7 @@ pub fn fields_definition<A: Allocator + Copy>(p: &mut ParserState<'_, A>) -> Res
     requires { true ≡ holds (At token.LCurly) p.old }
     ensures { Parses (Child rule.FieldsDefinition) result p.old p.new }
 {
-    p.start_node(SyntaxKind::FIELDS_DEFINITION)?;
-    p.bump(SyntaxKind::L_CURLY)?;
+    p.start_node_with(SyntaxKind::FIELDS_DEFINITION, SyntaxKind::L_CURLY)?;
     want_named(p, Message::ExpectedFieldDefinition)?;
     while starts_named(p) {
         field_definition(p)?;

@@ -39,8 +39,7 @@ pub fn input_object_type_extension<A: Allocator + Copy>(
 ) -> Result<(), AllocError>
     ensures { Parses (Child rule.InputObjectTypeExtension) result p.old p.new }
 {
-    p.start_node(SyntaxKind::INPUT_OBJECT_TYPE_EXTENSION)?;
-    p.bump(SyntaxKind::extend_KW)?;
+    p.start_node_with(SyntaxKind::INPUT_OBJECT_TYPE_EXTENSION, SyntaxKind::extend_KW)?;
     p.bump(SyntaxKind::input_KW)?;
     name(p)?;
     if p.at(TokenKind::At) {
@@ -64,8 +63,7 @@ fn input_fields_definition<A: Allocator + Copy>(
     requires { true ≡ holds (At token.LCurly) p.old }
     ensures { Parses (Child rule.InputFieldsDefinition) result p.old p.new }
 {
-    p.start_node(SyntaxKind::INPUT_FIELDS_DEFINITION)?;
-    p.bump(SyntaxKind::L_CURLY)?;
+    p.start_node_with(SyntaxKind::INPUT_FIELDS_DEFINITION, SyntaxKind::L_CURLY)?;
     want_named(p, Message::ExpectedInputValueDefinition)?;
     while starts_named(p) {
         input_value_definition(p)?;

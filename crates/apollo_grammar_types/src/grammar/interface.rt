@@ -30,8 +30,7 @@ pub fn interface_type_extension<A: Allocator + Copy>(
 ) -> Result<(), AllocError>
     ensures { Parses (Child rule.InterfaceTypeExtension) result p.old p.new }
 {
-    p.start_node(SyntaxKind::INTERFACE_TYPE_EXTENSION)?;
-    p.bump(SyntaxKind::extend_KW)?;
+    p.start_node_with(SyntaxKind::INTERFACE_TYPE_EXTENSION, SyntaxKind::extend_KW)?;
     p.bump(SyntaxKind::interface_KW)?;
     name(p)?;
     implementing(p, Message::ExpectedInterfaceExtension)?;

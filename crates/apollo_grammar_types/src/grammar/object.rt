@@ -42,8 +42,7 @@ pub fn object_type_extension<A: Allocator + Copy>(
 ) -> Result<(), AllocError>
     ensures { Parses (Child rule.ObjectTypeExtension) result p.old p.new }
 {
-    p.start_node(SyntaxKind::OBJECT_TYPE_EXTENSION)?;
-    p.bump(SyntaxKind::extend_KW)?;
+    p.start_node_with(SyntaxKind::OBJECT_TYPE_EXTENSION, SyntaxKind::extend_KW)?;
     p.bump(SyntaxKind::type_KW)?;
     name(p)?;
     implementing(p, Message::ExpectedObjectExtension)?;
@@ -105,8 +104,7 @@ fn optional_implements<A: Allocator + Copy>(p: &mut ParserState<'_, A>) -> Resul
 fn implements_interfaces<A: Allocator + Copy>(p: &mut ParserState<'_, A>) -> Result<(), AllocError>
     ensures { Parses (Child rule.ImplementsInterfaces) result p.old p.new }
 {
-    p.start_node(SyntaxKind::IMPLEMENTS_INTERFACES)?;
-    p.bump(SyntaxKind::implements_KW)?;
+    p.start_node_with(SyntaxKind::IMPLEMENTS_INTERFACES, SyntaxKind::implements_KW)?;
     p.skip(TokenKind::Amp, SyntaxKind::AMP)?;
     interface_name(p)?;
     while p.at(TokenKind::Amp) {

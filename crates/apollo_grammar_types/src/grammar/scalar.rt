@@ -30,8 +30,7 @@ pub fn scalar_type_extension<A: Allocator + Copy>(
 ) -> Result<(), AllocError>
     ensures { Parses (Child rule.ScalarTypeExtension) result p.old p.new }
 {
-    p.start_node(SyntaxKind::SCALAR_TYPE_EXTENSION)?;
-    p.bump(SyntaxKind::extend_KW)?;
+    p.start_node_with(SyntaxKind::SCALAR_TYPE_EXTENSION, SyntaxKind::extend_KW)?;
     p.bump(SyntaxKind::scalar_KW)?;
     name(p)?;
     if p.at(TokenKind::At) {

@@ -31,8 +31,7 @@ pub fn schema_definition<A: Allocator + Copy>(p: &mut ParserState<'_, A>) -> Res
 pub fn schema_extension<A: Allocator + Copy>(p: &mut ParserState<'_, A>) -> Result<(), AllocError>
     ensures { Parses (Child rule.SchemaExtension) result p.old p.new }
 {
-    p.start_node(SyntaxKind::SCHEMA_EXTENSION)?;
-    p.bump(SyntaxKind::extend_KW)?;
+    p.start_node_with(SyntaxKind::SCHEMA_EXTENSION, SyntaxKind::extend_KW)?;
     p.bump(SyntaxKind::schema_KW)?;
     if p.at(TokenKind::At) {
         directives(p, Constness::Const)?;

@@ -33,8 +33,7 @@ pub fn union_type_extension<A: Allocator + Copy>(
 ) -> Result<(), AllocError>
     ensures { Parses (Child rule.UnionTypeExtension) result p.old p.new }
 {
-    p.start_node(SyntaxKind::UNION_TYPE_EXTENSION)?;
-    p.bump(SyntaxKind::extend_KW)?;
+    p.start_node_with(SyntaxKind::UNION_TYPE_EXTENSION, SyntaxKind::extend_KW)?;
     p.bump(SyntaxKind::union_KW)?;
     name(p)?;
     if p.at(TokenKind::At) {
@@ -55,8 +54,7 @@ pub fn union_type_extension<A: Allocator + Copy>(
 fn union_member_types<A: Allocator + Copy>(p: &mut ParserState<'_, A>) -> Result<(), AllocError>
     ensures { Parses (Child rule.UnionMemberTypes) result p.old p.new }
 {
-    p.start_node(SyntaxKind::UNION_MEMBER_TYPES)?;
-    p.bump(SyntaxKind::EQ)?;
+    p.start_node_with(SyntaxKind::UNION_MEMBER_TYPES, SyntaxKind::EQ)?;
     p.skip(TokenKind::Pipe, SyntaxKind::PIPE)?;
     union_member(p)?;
     while p.at(TokenKind::Pipe) {

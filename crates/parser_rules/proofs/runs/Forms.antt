@@ -41,6 +41,10 @@ unfolding step
 leaf_run n k leaf {s = s} e m i =
     child refl (e ∙ ap (λ j. closed (bump leaf (opened j s))) (sym m)) (subst (λ (a : Rule). Runs a (opened (kind_of n) s) (bump leaf (opened (kind_of n) s))) (sym i) (does refl))
 
+-- a node whose rule ran from where it was opened
+pub in-node : {n : Node} {s u v : State} → v ≡ closed u → Runs (inside n) (opened (kind_of n) s) u → Runs (Child n) s v
+in-node e h = child refl e h
+
 -- a name is also one for a fragment, and one for an enum's value
 pub for-fragment : {s t : State} → Runs (Child Name) s t → Runs (Child NameForFragment) s t
 unfolding inside

@@ -198,6 +198,9 @@ pub still-open : {r : Rule} {s t : State} → Runs r s t → IsOpen s.tree → I
 unfolding IsOpen
 still-open h o = subst (λ above. is_free_in above ≡ true) (sym (adds h).trees.above) o
 
+pub open-in-node : (k : SyntaxKind) (s : State) {r : Rule} {t : State} → is_free k ≡ true → Runs r (opened k s) t → IsOpen t.tree
+open-in-node k s free h = still-open h (is-open k s free refl)
+
 pub open-in-loop : {q : Test} {a : Rule} {s t : State} → Turns q a s t → IsOpen s.tree → IsOpen t.tree
 unfolding IsOpen
 open-in-loop h o = subst (λ above. is_free_in above ≡ true) (sym (turns-along adds_along h).trees.above) o

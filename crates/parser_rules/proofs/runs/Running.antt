@@ -3,8 +3,8 @@ use Rattle.parser_rules.specs.State.{same_kind, flush, opened, closed, bump, not
 use Rattle.parser_rules.specs.RuleLanguage.{holds, step}
 use Rattle.parser_rules.specs.Open.{IsInside, IsCheckpoint}
 use Rattle.parser_rules.specs.Runs.{skip, does, seq, yes, no, child, deeper, refused, call, plain, wrapped, begin, turn}
-use Rattle.parser_rules.proofs.runs.Forms.{wanted, chosen, optional, for-fragment, for-enum}
-use Rattle.parser_rules.proofs.runs.Frame.{ended, is-open, still-open, open-in-loop, budget-in-loop, open-too-deep, open-inside, open-outside, is-inside, still-inside, still-at}
+use Rattle.parser_rules.proofs.runs.Forms.{wanted, chosen, optional, in-node, for-fragment, for-enum}
+use Rattle.parser_rules.proofs.runs.Frame.{ended, is-open, still-open, open-in-node, open-in-loop, budget-in-loop, open-too-deep, open-inside, open-outside, is-inside, still-inside, still-at}
 
 -- a step, and one rule after the other
 pub ruleset sequence = (skip, seq, yes, no)
@@ -15,8 +15,8 @@ pub ruleset running = (sequence, child, call, wanted, chosen, optional, for-frag
 -- the same, with a loop
 pub ruleset looping = (running, begin, turn, ended, open-in-loop, budget-in-loop)
 
--- the same, one level deeper
-pub ruleset nesting = (looping, deeper, refused, plain, wrapped, open-too-deep, open-inside, open-outside, is-inside, still-inside)
+-- the same, one level deeper, or with a node that is opened with its first leaf
+pub ruleset nesting = (looping, deeper, refused, plain, wrapped, open-too-deep, open-inside, open-outside, is-inside, still-inside, in-node, open-in-node)
 
 -- what the steps of a state are
 unfoldable pub steps : Unit {0}

@@ -10,6 +10,7 @@ ghost use Rattle.apollo_tree.specs.Sound.{Fits};
 ghost use Rattle.parser_rules.specs.State as state;
 ghost use Rattle.parser_rules.specs.Nodes.{Name, IntValue, StringValue, BooleanValue};
 ghost use Rattle.parser_rules.specs.RuleLanguage.{Here, At, holds, Bump, Do, Child};
+ghost use Rattle.parser_rules.specs.Runs.{Runs};
 ghost use Rattle.parser_rules.specs.Open.{is_free, IsOpen, IsCheckpoint};
 ghost use Rattle.parser_rules.specs.Rules as rules;
 ghost use Rattle.parser_rules.specs.Fragments as fragments;
@@ -110,6 +111,15 @@ impl<'i, A: Allocator + Copy> ParserState<'i, A> {
         self.push_pending()?;
         self.push_token(kind, current.data())?;
         self.read_on()
+    }
+
+    /// Opens a node, after the pending tokens, and the current token becomes its first leaf.
+    pub fn start_node_with(&mut self, kind: SyntaxKind, leaf: SyntaxKind) -> Result<(), AllocError>
+        ensures runs { OnOk result (Runs (Do (Bump leaf)) (state.opened kind self.old) self.new) }
+        ensures budget { self.new.budget ≡ self.old.budget }
+    {
+        self.start_node(kind)?;
+        self.bump(leaf)
     }
 
     // The text of the current token becomes a node of one leaf, and no token is current any more.

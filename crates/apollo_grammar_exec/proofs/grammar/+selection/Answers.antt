@@ -22,7 +22,7 @@ field::field-selection_set-requires g t c =
 pub fragment::inline_fragment-selection_set-requires : goal.fragment::inline_fragment-selection_set-requires
 unfolding consuming
 fragment::inline_fragment-selection_set-requires g t c =
-    let h = opened-takes kind.INLINE_FRAGMENT _ c.in_ok-start_node.ensures.step c.in_ok-bump.ensures.runs (here-there (Kind token.Spread) _ c.requires) refl in
+    let h = opened-takes kind.INLINE_FRAGMENT c.args.p.now refl c.in_ok-start_node_with.ensures.runs (here-there (Kind token.Spread) _ c.requires) refl in
     let k = fewer c.in_ok-optional_type_condition.ensures.runs in
     let l = fewer c.in_ok-directives.ensures.runs in
     λ κs w. (omega (arith, h, k, l, c.decreases), (w, c.if-at.ensures))

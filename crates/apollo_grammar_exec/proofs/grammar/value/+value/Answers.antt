@@ -19,7 +19,7 @@ nested_value-value-requires g t c =
 pub list_value-list_items-requires : goal.list_value-list_items-requires
 unfolding consuming
 list_value-list_items-requires g t c =
-    let h = opened-takes kind.LIST_VALUE _ c.in_ok-start_node.ensures.step c.in_ok-bump.ensures.runs (here-there (Kind token.LBracket) _ c.requires) refl in
+    let h = opened-takes kind.LIST_VALUE c.args.p.now refl c.in_ok-start_node_with.ensures.runs (here-there (Kind token.LBracket) _ c.requires) refl in
     λ κs w. (omega (arith, h, c.decreases), w)
 
 pub list_items-nested_value-requires : goal.list_items-nested_value-requires
@@ -33,7 +33,7 @@ list_items-loop-constness-smaller g t c = item-taken c.in_ok-nested_value.ensure
 pub object_value-object_field-requires : goal.object_value-object_field-requires
 unfolding consuming
 object_value-object_field-requires g t c =
-    let h = opened-takes kind.OBJECT_VALUE _ c.in_ok-start_node.ensures.step c.in_ok-bump.ensures.runs (here-there (Kind token.LCurly) _ c.requires) refl in
+    let h = opened-takes kind.OBJECT_VALUE c.args.p.now refl c.in_ok-start_node_with.ensures.runs (here-there (Kind token.LCurly) _ c.requires) refl in
     let k = (turned c.loop-constness.invariant).fewer in
     λ κs w. (omega (arith, h, k, c.decreases), (w, c.loop-constness-test.ensures))
 
