@@ -1,9 +1,10 @@
 // Directives.
 
 ghost use Rattle.std.specs.Prelude.{◌≡◌};
-ghost use Rattle.apollo_grammar_exec.specs.Words.{fits, holds, Here, Child, Call, current_of, Parses};
+ghost use Rattle.apollo_grammar_exec.specs.Words.{holds, Here, Child, Call, current_of, Parses};
 ghost use Rattle.apollo_grammar_exec.specs.Words.rule;
 ghost use Rattle.apollo_grammar_exec.specs.Words.rules;
+ghost use Rattle.apollo_grammar_types.specs.Locations.{location_word};
 
 use super::argument::optional_arguments_definition;
 use apollo_grammar_exec::{described_keyword, name};
@@ -13,6 +14,29 @@ use lexical_grammar::TokenKind;
 use parser_rules::Message;
 use parser_state::{ParserState, is_word};
 use std::alloc::{AllocError, Allocator};
+
+// The executable directive locations, and after them those of the type system (GraphQL October 2021, section 3.13).
+static LOCATIONS: [SyntaxKind; 19] = [
+    SyntaxKind::QUERY_KW,
+    SyntaxKind::MUTATION_KW,
+    SyntaxKind::SUBSCRIPTION_KW,
+    SyntaxKind::FIELD_KW,
+    SyntaxKind::FRAGMENT_DEFINITION_KW,
+    SyntaxKind::FRAGMENT_SPREAD_KW,
+    SyntaxKind::INLINE_FRAGMENT_KW,
+    SyntaxKind::VARIABLE_DEFINITION_KW,
+    SyntaxKind::SCHEMA_KW,
+    SyntaxKind::SCALAR_KW,
+    SyntaxKind::OBJECT_KW,
+    SyntaxKind::FIELD_DEFINITION_KW,
+    SyntaxKind::ARGUMENT_DEFINITION_KW,
+    SyntaxKind::INTERFACE_KW,
+    SyntaxKind::UNION_KW,
+    SyntaxKind::ENUM_KW,
+    SyntaxKind::ENUM_VALUE_KW,
+    SyntaxKind::INPUT_OBJECT_KW,
+    SyntaxKind::INPUT_FIELD_DEFINITION_KW,
+];
 
 /// The definition of a directive (GraphQL October 2021, section 3.13, "Directives").
 pub fn directive_definition<A: Allocator + Copy>(
@@ -84,40 +108,11 @@ fn location<A: Allocator + Copy>(p: &mut ParserState<'_, A>) -> Result<(), Alloc
     p.err(Message::ExpectedLocation)
 }
 
-#[tactic(auto, unfolding(parser_rules::specs::RuleLanguage::holds))]
+#[tactic(auto, using(crate::proofs::Locations::at_location))]
 fn at_location<A: Allocator + Copy>(p: &ParserState<'_, A>) -> bool
     ensures { result ≡ holds (Here rules.location) p.now }
 {
-    is_executable_location(p.current()) || is_type_system_location(p.current())
-}
-
-fn is_executable_location(token: Option<Token<'_>>) -> bool
-    ensures { result ≡ fits (rules.one_of rules.executable_locations) (current_of token.entry) }
-{
-    is_word(token, SyntaxKind::QUERY_KW)
-        || is_word(token, SyntaxKind::MUTATION_KW)
-        || is_word(token, SyntaxKind::SUBSCRIPTION_KW)
-        || is_word(token, SyntaxKind::FIELD_KW)
-        || is_word(token, SyntaxKind::FRAGMENT_DEFINITION_KW)
-        || is_word(token, SyntaxKind::FRAGMENT_SPREAD_KW)
-        || is_word(token, SyntaxKind::INLINE_FRAGMENT_KW)
-        || is_word(token, SyntaxKind::VARIABLE_DEFINITION_KW)
-}
-
-fn is_type_system_location(token: Option<Token<'_>>) -> bool
-    ensures { result ≡ fits (rules.one_of rules.type_system_locations) (current_of token.entry) }
-{
-    is_word(token, SyntaxKind::SCHEMA_KW)
-        || is_word(token, SyntaxKind::SCALAR_KW)
-        || is_word(token, SyntaxKind::OBJECT_KW)
-        || is_word(token, SyntaxKind::FIELD_DEFINITION_KW)
-        || is_word(token, SyntaxKind::ARGUMENT_DEFINITION_KW)
-        || is_word(token, SyntaxKind::INTERFACE_KW)
-        || is_word(token, SyntaxKind::UNION_KW)
-        || is_word(token, SyntaxKind::ENUM_KW)
-        || is_word(token, SyntaxKind::ENUM_VALUE_KW)
-        || is_word(token, SyntaxKind::INPUT_OBJECT_KW)
-        || is_word(token, SyntaxKind::INPUT_FIELD_DEFINITION_KW)
+    location_kind(p.current()).is_some()
 }
 
 fn directive_location<A: Allocator + Copy>(p: &mut ParserState<'_, A>) -> Result<(), AllocError>
@@ -129,77 +124,25 @@ fn directive_location<A: Allocator + Copy>(p: &mut ParserState<'_, A>) -> Result
     Ok(())
 }
 
+// The word of a location, executable or of the type system.
+#[tactic(auto, using(crate::proofs::Locations::some_location, crate::proofs::Locations::no_location))]
 fn executable_location<A: Allocator + Copy>(p: &mut ParserState<'_, A>) -> Result<(), AllocError>
     ensures { Parses rules.executable_location result p.old p.new }
 {
-    if p.at_word(SyntaxKind::QUERY_KW) {
-        return p.bump(SyntaxKind::QUERY_KW);
+    match location_kind(p.current()) {
+        Some(kind) => p.bump(kind),
+        None => p.err(Message::ExpectedLocation),
     }
-    if p.at_word(SyntaxKind::MUTATION_KW) {
-        return p.bump(SyntaxKind::MUTATION_KW);
-    }
-    if p.at_word(SyntaxKind::SUBSCRIPTION_KW) {
-        return p.bump(SyntaxKind::SUBSCRIPTION_KW);
-    }
-    if p.at_word(SyntaxKind::FIELD_KW) {
-        return p.bump(SyntaxKind::FIELD_KW);
-    }
-    if p.at_word(SyntaxKind::FRAGMENT_DEFINITION_KW) {
-        return p.bump(SyntaxKind::FRAGMENT_DEFINITION_KW);
-    }
-    if p.at_word(SyntaxKind::FRAGMENT_SPREAD_KW) {
-        return p.bump(SyntaxKind::FRAGMENT_SPREAD_KW);
-    }
-    if p.at_word(SyntaxKind::INLINE_FRAGMENT_KW) {
-        return p.bump(SyntaxKind::INLINE_FRAGMENT_KW);
-    }
-    if p.at_word(SyntaxKind::VARIABLE_DEFINITION_KW) {
-        return p.bump(SyntaxKind::VARIABLE_DEFINITION_KW);
-    }
-    type_system_location(p)
 }
 
-fn type_system_location<A: Allocator + Copy>(p: &mut ParserState<'_, A>) -> Result<(), AllocError>
-    ensures { Parses rules.type_system_location result p.old p.new }
+// The first of the locations that the token is.
+fn location_kind(token: Option<Token<'_>>) -> Option<SyntaxKind>
+    ensures { result ≡ location_word (current_of token.entry) }
 {
-    if p.at_word(SyntaxKind::SCHEMA_KW) {
-        return p.bump(SyntaxKind::SCHEMA_KW);
+    for kind in &LOCATIONS {
+        if is_word(token, *kind) {
+            return Some(*kind);
+        }
     }
-    if p.at_word(SyntaxKind::SCALAR_KW) {
-        return p.bump(SyntaxKind::SCALAR_KW);
-    }
-    if p.at_word(SyntaxKind::OBJECT_KW) {
-        return p.bump(SyntaxKind::OBJECT_KW);
-    }
-    if p.at_word(SyntaxKind::FIELD_DEFINITION_KW) {
-        return p.bump(SyntaxKind::FIELD_DEFINITION_KW);
-    }
-    if p.at_word(SyntaxKind::ARGUMENT_DEFINITION_KW) {
-        return p.bump(SyntaxKind::ARGUMENT_DEFINITION_KW);
-    }
-    if p.at_word(SyntaxKind::INTERFACE_KW) {
-        return p.bump(SyntaxKind::INTERFACE_KW);
-    }
-    if p.at_word(SyntaxKind::UNION_KW) {
-        return p.bump(SyntaxKind::UNION_KW);
-    }
-    enum_or_input_location(p)
-}
-
-fn enum_or_input_location<A: Allocator + Copy>(p: &mut ParserState<'_, A>) -> Result<(), AllocError>
-    ensures { Parses rules.enum_or_input_location result p.old p.new }
-{
-    if p.at_word(SyntaxKind::ENUM_KW) {
-        return p.bump(SyntaxKind::ENUM_KW);
-    }
-    if p.at_word(SyntaxKind::ENUM_VALUE_KW) {
-        return p.bump(SyntaxKind::ENUM_VALUE_KW);
-    }
-    if p.at_word(SyntaxKind::INPUT_OBJECT_KW) {
-        return p.bump(SyntaxKind::INPUT_OBJECT_KW);
-    }
-    if p.at_word(SyntaxKind::INPUT_FIELD_DEFINITION_KW) {
-        return p.bump(SyntaxKind::INPUT_FIELD_DEFINITION_KW);
-    }
-    p.err(Message::ExpectedLocation)
+    None
 }
