@@ -19,7 +19,7 @@ ghost use Rattle.parser_state.specs.Reading.{rooted};
 
 use crate::syntax_tree::{DocumentRoot, SelectionSetRoot, SyntaxTree, TypeRoot};
 use apollo_grammar::document;
-use apollo_grammar_exec::{field_set, type_root};
+use apollo_grammar_definitions::{field_set, type_root};
 use apollo_lexer::{Lexer, Steps};
 use document_grammar::SyntaxKind;
 use parser_state::ParserState;

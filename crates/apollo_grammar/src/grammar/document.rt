@@ -1,16 +1,15 @@
 // Documents.
 
 ghost use Rattle.std.specs.Prelude.{◌≡◌};
-ghost use Rattle.apollo_grammar_exec.specs.Words.{fits, holds, Here, Call, second, current_of, Parses};
-ghost use Rattle.apollo_grammar_exec.specs.Words.rule;
-ghost use Rattle.apollo_grammar_exec.specs.Words.rules;
+ghost use Rattle.apollo_grammar_definitions.specs.Words.{fits, holds, Here, Call, second, current_of, Parses};
+ghost use Rattle.apollo_grammar_definitions.specs.Words.rule;
+ghost use Rattle.apollo_grammar_definitions.specs.Words.rules;
 
 use super::extensions::extensions;
-use apollo_grammar_exec::{fragment_definition, operation_definition, query_shorthand};
-use apollo_grammar_types::{
-    directive_definition, enum_type_definition, input_object_type_definition,
-    interface_type_definition, object_type_definition, scalar_type_definition, schema_definition,
-    union_type_definition,
+use apollo_grammar_definitions::{
+    directive_definition, enum_type_definition, fragment_definition, input_object_type_definition,
+    interface_type_definition, object_type_definition, operation_definition, query_shorthand,
+    scalar_type_definition, schema_definition, union_type_definition,
 };
 use apollo_lexer::Token;
 use document_grammar::SyntaxKind;
@@ -118,7 +117,7 @@ fn starts_operation<A: Allocator + Copy>(p: &ParserState<'_, A>) -> bool
 }
 
 // A definition with its description: the token after the string says which.
-#[tactic(auto, using(apollo_grammar_exec::proofs::Looks::looking), unfolding(parser_rules::specs::Rules::body, parser_rules::specs::RuleLanguage::holds))]
+#[tactic(auto, using(apollo_grammar_definitions::proofs::Looks::looking), unfolding(parser_rules::specs::Rules::body, parser_rules::specs::RuleLanguage::holds))]
 fn described_definition<A: Allocator + Copy>(p: &mut ParserState<'_, A>) -> Result<(), AllocError>
     ensures { Parses (Call rule.DescribedDefinition) result p.old p.new }
 {
@@ -127,7 +126,7 @@ fn described_definition<A: Allocator + Copy>(p: &mut ParserState<'_, A>) -> Resu
 }
 
 // The same, where the token after the string is known.
-#[tactic(auto, using(apollo_grammar_exec::proofs::Looks::looking), unfolding(parser_rules::specs::Rules::body, parser_rules::specs::RuleLanguage::holds))]
+#[tactic(auto, using(apollo_grammar_definitions::proofs::Looks::looking), unfolding(parser_rules::specs::Rules::body, parser_rules::specs::RuleLanguage::holds))]
 fn described_definition_before<A: Allocator + Copy>(
     p: &mut ParserState<'_, A>,
     next: Option<Token<'_>>,
@@ -151,7 +150,7 @@ fn described_definition_before<A: Allocator + Copy>(
 }
 
 // The same for the type system.
-#[tactic(auto, using(apollo_grammar_exec::proofs::Looks::looking), unfolding(parser_rules::specs::Rules::body, parser_rules::specs::RuleLanguage::holds))]
+#[tactic(auto, using(apollo_grammar_definitions::proofs::Looks::looking), unfolding(parser_rules::specs::Rules::body, parser_rules::specs::RuleLanguage::holds))]
 fn described_type_system<A: Allocator + Copy>(
     p: &mut ParserState<'_, A>,
     next: Option<Token<'_>>,
@@ -169,7 +168,7 @@ fn described_type_system<A: Allocator + Copy>(
 }
 
 // The same for the definition of a type. Before another token the string is popped.
-#[tactic(auto, using(apollo_grammar_exec::proofs::Looks::looking), unfolding(parser_rules::specs::Rules::body, parser_rules::specs::RuleLanguage::holds))]
+#[tactic(auto, using(apollo_grammar_definitions::proofs::Looks::looking), unfolding(parser_rules::specs::Rules::body, parser_rules::specs::RuleLanguage::holds))]
 fn described_type<A: Allocator + Copy>(
     p: &mut ParserState<'_, A>,
     next: Option<Token<'_>>,

@@ -1,11 +1,11 @@
 // Extensions: the word after `extend` says which.
-#![tactic(auto, using(apollo_grammar_exec::proofs::Looks::looking), unfolding(parser_rules::specs::Rules::body, parser_rules::specs::RuleLanguage::holds))]
+#![tactic(auto, using(apollo_grammar_definitions::proofs::Looks::looking), unfolding(parser_rules::specs::Rules::body, parser_rules::specs::RuleLanguage::holds))]
 
 ghost use Rattle.std.specs.Prelude.{◌≡◌};
-ghost use Rattle.apollo_grammar_exec.specs.Words.{Call, second, current_of, Parses};
-ghost use Rattle.apollo_grammar_exec.specs.Words.rule;
+ghost use Rattle.apollo_grammar_definitions.specs.Words.{Call, second, current_of, Parses};
+ghost use Rattle.apollo_grammar_definitions.specs.Words.rule;
 
-use apollo_grammar_types::{
+use apollo_grammar_definitions::{
     enum_type_extension, input_object_type_extension, interface_type_extension,
     object_type_extension, scalar_type_extension, schema_extension, union_type_extension,
 };

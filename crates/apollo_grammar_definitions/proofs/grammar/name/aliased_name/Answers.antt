@@ -1,0 +1,13 @@
+use Rattle.std.proofs.Common.{◌≡◌, true, sym, subst}
+use Rattle.lexical_grammar.specs.declared.TokenKind.TheVariants as token
+use Rattle.parser_rules.specs.State.{State}
+use Rattle.parser_rules.specs.Nodes.{AliasedName}
+use Rattle.parser_rules.specs.RuleLanguage.{At, Call, holds}
+use Rattle.parser_state.specs.Parses.{Parses}
+use Rattle.apollo_grammar_definitions.proofs.grammar.name.aliased_name.Goals as goal
+
+pub aliased_name_before-requires : goal.aliased_name_before-requires
+aliased_name_before-requires g c = record { at = subst (λ (s : State). true ≡ holds (At token.Name) s) (sym c.peek-next.ensures.same) c.requires; after = c.peek-next.ensures.found }
+
+pub returns : goal.returns
+returns g c = subst (λ (s : State). Parses (Call AliasedName) c.aliased_name_before.result s c.aliased_name_before.new.p) c.peek-next.ensures.same c.aliased_name_before.ensures

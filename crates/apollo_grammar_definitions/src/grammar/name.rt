@@ -1,0 +1,71 @@
+// Names.
+
+ghost use Rattle.std.specs.Prelude.{◌≡◌, true};
+ghost use Rattle.apollo_grammar_definitions.specs.Words.{holds, At, Child, Call, second, current_of, Parses};
+ghost use Rattle.apollo_grammar_definitions.specs.Words.rule;
+ghost use Rattle.apollo_grammar_definitions.specs.Words.token;
+
+use apollo_lexer::Token;
+use document_grammar::SyntaxKind;
+use lexical_grammar::TokenKind;
+use parser_rules::Message;
+use parser_state::{ParserState, is_kind};
+use std::alloc::{AllocError, Allocator};
+
+/// A name (GraphQL October 2021, section 2.1.9, "Names").
+pub fn name<A: Allocator + Copy>(p: &mut ParserState<'_, A>) -> Result<(), AllocError>
+    ensures { Parses (Call rule.RequiredName) result p.old p.new }
+{
+    if p.at(TokenKind::Name) {
+        return p.name();
+    }
+    p.err(Message::ExpectedName)
+}
+
+/// A name, where one comes next.
+pub fn optional_name<A: Allocator + Copy>(p: &mut ParserState<'_, A>) -> Result<(), AllocError>
+    ensures { Parses (Call rule.OptionalName) result p.old p.new }
+{
+    if p.at(TokenKind::Name) {
+        return p.name();
+    }
+    Ok(())
+}
+
+/// A field's alias (GraphQL October 2021, section 2.7, "Field Alias").
+fn alias<A: Allocator + Copy>(p: &mut ParserState<'_, A>) -> Result<(), AllocError>
+    requires { true ≡ holds (At token.Name) p.old }
+    ensures { Parses (Child rule.Alias) result p.old p.new }
+{
+    p.start_node(SyntaxKind::ALIAS)?;
+    p.name()?;
+    p.bump(SyntaxKind::COLON)?;
+    p.finish_node();
+    Ok(())
+}
+
+/// A field's name, with its alias.
+pub fn aliased_name<A: Allocator + Copy>(p: &mut ParserState<'_, A>) -> Result<(), AllocError>
+    requires { true ≡ holds (At token.Name) p.old }
+    ensures { Parses (Call rule.AliasedName) result p.old p.new }
+{
+    let next = p.peek();
+    aliased_name_before(p, next)
+}
+
+// The same, where the token after the first name is known.
+#[tactic(auto, using(parser_rules::proofs::runs::Running::running), unfolding(parser_rules::specs::Rules::inside, parser_rules::specs::Rules::body, parser_rules::specs::RuleLanguage::holds))]
+fn aliased_name_before<A: Allocator + Copy>(
+    p: &mut ParserState<'_, A>,
+    next: Option<Token<'_>>,
+) -> Result<(), AllocError>
+    requires at { true ≡ holds (At token.Name) p.old }
+    requires after { current_of next ≡ second p.old.items }
+    ensures { Parses (Call rule.AliasedName) result p.old p.new }
+{
+    if is_kind(next, TokenKind::Colon) {
+        alias(p)?;
+        return name(p);
+    }
+    p.name()
+}
