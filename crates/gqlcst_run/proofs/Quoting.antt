@@ -7,7 +7,6 @@ use Rattle.std.specs.List.{prefix_len, flat_map, list_all}
 use Rattle.std.specs.Char.{is_ascii}
 use Rattle.std.specs.Str.{IsAscii, IsNotAscii}
 use Rattle.std.specs.Fmt.{digits, digit_glyph, debug_escape, debug_escape_letter, debug_str}
-use Rattle.std.proofs.Math.Seq.{take-length}
 use Rattle.std.proofs.lemmas.List.{append-nil, take-append-drop, take_rest}
 use Rattle.std.proofs.lemmas.List.Folds.{list_all-append}
 use Rattle.std.proofs.lemmas.Fmt.{hex_one_digit, hex_two_digits}
@@ -79,11 +78,13 @@ no-letter b plain =
 no-control : (b : ℕ) → 32 ≤ b → b ≤ 126 → is_control b ≡ false
 no-control b low high = grind (arith, nat_tests)
 
+-- so it is written as it is
+plain-one : (b : ℕ) → is_plain b ≡ true → debug_escape 34 b ≡ b ∷ []
+plain-one b plain = escape-other b false (sym (no-letter b plain)) (no-control b (plain-low b plain) (plain-high b plain))
+
 plain-suc : (b : ℕ) (text : List ℕ) (n : ℕ) → is_plain b ≡ true → flat_map (debug_escape 34) (take n text) ≡ take n text
     → flat_map (debug_escape 34) (take (suc n) (b ∷ text)) ≡ take (suc n) (b ∷ text)
-plain-suc b text n plain rest =
-    let one : debug_escape 34 b ≡ b ∷ [] = escape-other b false (sym (no-letter b plain)) (no-control b (plain-low b plain) (plain-high b plain)) in
-    rw (one, rest) refl
+plain-suc b text n plain rest = rw (plain-one b plain, rest) refl
 
 plain-next : (t : Bool) (b : ℕ) (text : List ℕ) → is_plain b ≡ t → flat_map (debug_escape 34) (take (prefix_len is_plain text) text) ≡ take (prefix_len is_plain text) text
     → flat_map (debug_escape 34) (take (cond t (1 + prefix_len is_plain text) 0) (b ∷ text)) ≡ take (cond t (1 + prefix_len is_plain text) 0) (b ∷ text)
@@ -154,18 +155,19 @@ pub quoted-form : (text form : List ℕ) → IsEscaped text form → IsForm (deb
 quoted-form text form escaped = quoted-by (list_all is_ascii text) text form escaped
 
 -- a text of plain bytes, in quotes after another text
-plain-all : (text : List ℕ) → prefix_len is_plain text ≡ length text → flat_map (debug_escape 34) text ≡ text
-plain-all text all =
-    let front : take (prefix_len is_plain text) text ≡ text = ap (λ (n : ℕ). take n text) all ∙ take-length text in
-    subst (λ (bs : List ℕ). flat_map (debug_escape 34) bs ≡ bs) front (plain_front text)
+plain-all : (text : List ℕ) → list_all is_plain text ≡ true → flat_map (debug_escape 34) text ≡ text
+plain-all [] all = refl
+plain-all (b ∷ text) all =
+    let each = and_parts (is_plain b) (list_all is_plain text) all in
+    rw (plain-one b each.0, plain-all text each.1) refl
 
-pub plain_put : (front text bytes : List ℕ) (n : ℕ) (s t : Paged) → bytes ≡ text → n ≡ prefix_len is_plain bytes → n ≡ length bytes
+pub plain_put : (front text bytes : List ℕ) (plain : Bool) (s t : Paged) → bytes ≡ text → plain ≡ list_all is_plain bytes → plain ≡ true
     → Puts s (front ++ (34 ∷ (bytes ++ 34 ∷ []))) t → PutsSome (IsFormAfter front (debug_str text)) s t
-plain_put front text bytes n s t is count all p = record {
+plain_put front text bytes plain s t is tests all p = record {
   output = front ++ (34 ∷ (bytes ++ 34 ∷ []));
   made = record {
     form = 34 ∷ (bytes ++ 34 ∷ []);
-    stated_form = quoted-form text bytes (λ ascii. sym (plain-all bytes (sym count ∙ all)) ∙ ap (flat_map (debug_escape 34)) is);
+    stated_form = quoted-form text bytes (λ ascii. sym (plain-all bytes (sym tests ∙ all)) ∙ ap (flat_map (debug_escape 34)) is);
     joined = refl;
   };
   puts = p;

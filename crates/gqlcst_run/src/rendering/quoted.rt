@@ -1,6 +1,6 @@
 // Texts in quotes, as `{:?}` writes them.
 ghost use Rattle.std.specs.Prelude.{◌≡◌, ◌<◌, ◌≤◌, [], ◌∷◌, ◌++◌, false, length, take, codes};
-ghost use Rattle.std.specs.List.{prefix_len, flat_map};
+ghost use Rattle.std.specs.List.{prefix_len, flat_map, list_all};
 ghost use Rattle.std.specs.Fmt.{digits, digit_glyph, debug_escape, debug_escape_letter, debug_str};
 ghost use Rattle.gqlcst_run.specs.Quoted.{is_plain, is_control, IsEscaped};
 ghost use Rattle.gqlcst_run.specs.Rendering.{IsForm, IsFormAfter};
@@ -28,6 +28,21 @@ fn plain_len(bytes: &[u8]) -> usize
     ensures within { result ≤ length bytes.now }
 {
     bytes.iter().take_while(|b| is_plain(**b)).count()
+}
+
+// Whether all bytes are plain. A long text is gone over to its end, since a loop without an early end takes many bytes at a time.
+#[inline(always)]
+fn are_plain(bytes: &[u8]) -> bool
+    ensures { result ≡ list_all is_plain bytes.now }
+{
+    if bytes.len() < 16 {
+        return bytes.iter().all(|b| is_plain(*b));
+    }
+    let mut all = true;
+    for byte in bytes {
+        all &= is_plain(*byte);
+    }
+    all
 }
 
 // The letter that is written for a byte after a backslash, or 0 when there is none.
@@ -184,7 +199,7 @@ impl Page {
         ensures { PutsSome (IsFormAfter front.now (debug_str text.now)) (self.old, W.account writer.old) (self.new, W.account writer.new) }
     {
         let bytes = text.as_bytes();
-        if plain_len(bytes) == bytes.len() {
+        if are_plain(bytes) {
             self.put_four(writer, front.as_bytes(), b"\"", bytes, b"\"");
             return;
         }
