@@ -13,7 +13,8 @@ use Rattle.apollo_tree.specs.References.{table_place}
 use Rattle.apollo_tree.specs.Order.{Place, kind_at}
 use Rattle.apollo_tree.specs.Children.{heads, tiled, span_heads, IsSpan}
 use Rattle.apollo_tree.specs.Table.{IsTable}
-use Rattle.apollo_tree.specs.Taken.{takes_place, takes_record, taken_places, PassesOver, IsFirst}
+use Rattle.apollo_tree.specs.Taken.{takes_place}
+use Rattle.apollo_tree.specs.Searches.{takes_record, taken_places, PassesOver, IsFirst}
 use Rattle.apollo_tree.proofs.Parts.{spot}
 use Rattle.apollo_tree.proofs.Places.{node_is, kind-is}
 use Rattle.apollo_tree.proofs.Spans.{IsStep, step}

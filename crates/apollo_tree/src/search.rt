@@ -2,7 +2,7 @@
 ghost use Rattle.std.specs.Prelude.{◌≡◌, Bool, map};
 ghost use Rattle.document_grammar.specs.declared.kind.SyntaxKind.{SyntaxKind as Kind};
 ghost use Rattle.apollo_tree.specs.Children.{IsSpan};
-ghost use Rattle.apollo_tree.specs.Taken.{GivesFound};
+ghost use Rattle.apollo_tree.specs.Searches.{GivesFound};
 
 use crate::packed::Packed;
 use crate::record::Record;
