@@ -62,15 +62,6 @@ executable_locations =
     ∷ kind.VARIABLE_DEFINITION_KW
     ∷ []
 
--- of TypeSystemDirectiveLocation (3.13), those of enums and of input objects
-abbrev pub enum_and_input_locations : List SyntaxKind
-enum_and_input_locations =
-    kind.ENUM_KW
-    ∷ kind.ENUM_VALUE_KW
-    ∷ kind.INPUT_OBJECT_KW
-    ∷ kind.INPUT_FIELD_DEFINITION_KW
-    ∷ []
-
 -- TypeSystemDirectiveLocation (3.13)
 abbrev pub type_system_locations : List SyntaxKind
 type_system_locations =
@@ -81,7 +72,11 @@ type_system_locations =
     ∷ kind.ARGUMENT_DEFINITION_KW
     ∷ kind.INTERFACE_KW
     ∷ kind.UNION_KW
-    ∷ enum_and_input_locations
+    ∷ kind.ENUM_KW
+    ∷ kind.ENUM_VALUE_KW
+    ∷ kind.INPUT_OBJECT_KW
+    ∷ kind.INPUT_FIELD_DEFINITION_KW
+    ∷ []
 
 -- one of the keywords
 abbrev pub any_word : SyntaxKind → List SyntaxKind → TokenTest
@@ -128,10 +123,6 @@ nullable_type = When (At token.LBracket) (Child ListType) (Child NamedType)
 abbrev pub word_of : List SyntaxKind → Rule → Rule
 word_of [] none = none
 word_of (k ∷ ks) none = When (Word k) (Do (Bump k)) (word_of ks none)
-
--- the location's word, where the locations before it in the list are not there
-abbrev pub enum_or_input_location : Rule
-enum_or_input_location = word_of enum_and_input_locations (Do (Note message.ExpectedLocation))
 
 -- TypeSystemDirectiveLocation (3.13)
 abbrev pub type_system_location : Rule
