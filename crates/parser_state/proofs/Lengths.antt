@@ -171,6 +171,14 @@ room-built n b ps o xs m = omega (arith, length-built b ps o xs, m)
 pub room-all : (b : Building) (ps : List PendingToken) (o : Option Lexeme) (xs : List Answer) → text_length b ps o xs < 2 ^ 64 → length (built_text b) + pending_length ps < 2 ^ 64
 room-all b ps o xs m = omega (arith, length-built b ps o xs, m)
 
+-- a token that waits alone fits
+pub alone-fits : (qs ps : List Waiting) (d : Waiting) (b : Building) (o : Option Lexeme) (xs : List Answer) → qs ≡ ps → 1 ≤ length qs → length qs < 2
+    → text_length b (map pending_of ps) o xs < 2 ^ 64 → length (get_or qs 0 d).text.now + text_length b [] o xs < 2 ^ 64
+unfolding text_length
+alone-fits [] ps d b o xs e m n h = omega (arith, m)
+alone-fits (q ∷ []) ps d b o xs e m n h = let l = ap (λ ys. pending_length (map pending_of ys)) e in omega (arith, l, h)
+alone-fits (q ∷ r ∷ qs) ps d b o xs e m n h = omega (arith, n)
+
 -- the current token fits where what waits was taken in
 pub room-bumped : (s f : State) (x : Lexeme) (t : Text) → f ≡ flush s → s.current ≡ Some x → t ≡ x.text → length_of s < 2 ^ 64 → length t + text_length f.tree f.pending None f.items < 2 ^ 64
 unfolding flush

@@ -52,8 +52,23 @@ impl<'i, A: Allocator + Copy> ParserState<'i, A> {
         self.push_waiting()
     }
 
+    // Mostly one token waits: a blank.
     #[inline(never)]
     fn push_waiting(&mut self) -> Result<(), AllocError>
+        ensures step { OnOk result (self.new ≡ state.flush self.old) }
+        ensures budget { self.new.budget ≡ self.old.budget }
+    {
+        if let [token] = self.pending.as_slice() {
+            let token = *token;
+            self.pending.clear();
+            self.builder.token(token.kind, token.text)?;
+            return Ok(());
+        }
+        self.push_several()
+    }
+
+    #[inline(never)]
+    fn push_several(&mut self) -> Result<(), AllocError>
         ensures step { OnOk result (self.new ≡ state.flush self.old) }
         ensures budget { self.new.budget ≡ self.old.budget }
     {

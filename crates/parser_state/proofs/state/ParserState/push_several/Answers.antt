@@ -4,7 +4,7 @@ use Rattle.parser_state.specs.declared.state.PendingToken.{PendingToken}
 use Rattle.parser_state.specs.Lengths.{pending_length}
 use Rattle.parser_state.specs.View.{pending_of}
 use Rattle.parser_state.proofs.Lengths.{room-all, after-all}
-use Rattle.parser_state.proofs.state.ParserState.push_waiting.Goals as goal
+use Rattle.parser_state.proofs.state.ParserState.push_several.Goals as goal
 
 pub push_all-pushed-requires : goal.push_all-pushed-requires
 push_all-pushed-requires g c =
