@@ -14,16 +14,27 @@ use parser_rules::{Constness, Message};
 use parser_state::ParserState;
 use std::alloc::{AllocError, Allocator};
 
-/// Arguments (GraphQL October 2021, section 2.6, "Arguments"), where `(` comes next.
-pub fn arguments<A: Allocator + Copy>(
+/// Arguments (GraphQL October 2021, section 2.6, "Arguments"), if `(` comes next.
+#[inline(always)]
+pub fn optional_arguments<A: Allocator + Copy>(
     p: &mut ParserState<'_, A>,
     constness: Constness,
 ) -> Result<(), AllocError>
     ensures { Parses (Call (rule.OptionalArguments constness)) result p.old p.new }
 {
-    if !p.at(TokenKind::LParen) {
-        return Ok(());
+    if p.at(TokenKind::LParen) {
+        return arguments(p, constness);
     }
+    Ok(())
+}
+
+fn arguments<A: Allocator + Copy>(
+    p: &mut ParserState<'_, A>,
+    constness: Constness,
+) -> Result<(), AllocError>
+    requires { true ≡ holds (At token.LParen) p.old }
+    ensures { Parses (Child (rule.Arguments constness)) result p.old p.new }
+{
     p.start_node_with(SyntaxKind::ARGUMENTS, SyntaxKind::L_PAREN)?;
     p.want(TokenKind::Name, Message::ExpectedArgument)?;
     while p.at(TokenKind::Name) {

@@ -6,7 +6,7 @@ ghost use Rattle.apollo_grammar_definitions.specs.Words.rule;
 ghost use Rattle.apollo_grammar_definitions.specs.Words.rules;
 ghost use Rattle.apollo_grammar_definitions.specs.Locations.{location_word};
 
-use super::argument::{arguments, optional_arguments_definition};
+use super::argument::{optional_arguments, optional_arguments_definition};
 use super::description::described_keyword;
 use super::name::name;
 use apollo_lexer::Token;
@@ -16,16 +16,26 @@ use parser_rules::{Constness, Message};
 use parser_state::{ParserState, is_word};
 use std::alloc::{AllocError, Allocator};
 
-/// Directives (GraphQL October 2021, section 2.12, "Directives"), where `@` comes next.
-pub fn directives<A: Allocator + Copy>(
+/// Directives (GraphQL October 2021, section 2.12, "Directives"), if `@` comes next.
+#[inline(always)]
+pub fn optional_directives<A: Allocator + Copy>(
     p: &mut ParserState<'_, A>,
     constness: Constness,
 ) -> Result<(), AllocError>
     ensures { Parses (Call (rule.OptionalDirectives constness)) result p.old p.new }
 {
-    if !p.at(TokenKind::At) {
-        return Ok(());
+    if p.at(TokenKind::At) {
+        return directives(p, constness);
     }
+    Ok(())
+}
+
+fn directives<A: Allocator + Copy>(
+    p: &mut ParserState<'_, A>,
+    constness: Constness,
+) -> Result<(), AllocError>
+    ensures { Parses (Child (rule.Directives constness)) result p.old p.new }
+{
     p.start_node(SyntaxKind::DIRECTIVES)?;
     while p.at(TokenKind::At) {
         directive(p, constness)?;
@@ -42,7 +52,7 @@ fn directive<A: Allocator + Copy>(
 {
     p.start_node_with(SyntaxKind::DIRECTIVE, SyntaxKind::AT)?;
     name(p)?;
-    arguments(p, constness)?;
+    optional_arguments(p, constness)?;
     p.finish_node();
     Ok(())
 }

@@ -6,7 +6,7 @@ ghost use Rattle.apollo_grammar_definitions.specs.Words.rule;
 ghost use Rattle.apollo_grammar_definitions.specs.Words.token;
 
 use super::description::{described_keyword, optional_description, starts_named, want_named};
-use super::directive::directives;
+use super::directive::optional_directives;
 use super::name::name;
 use super::value::enum_value;
 use document_grammar::SyntaxKind;
@@ -24,7 +24,7 @@ pub fn enum_type_definition<A: Allocator + Copy>(
     p.start_node(SyntaxKind::ENUM_TYPE_DEFINITION)?;
     described_keyword(p, SyntaxKind::enum_KW)?;
     name(p)?;
-    directives(p, Constness::Const)?;
+    optional_directives(p, Constness::Const)?;
     if p.at(TokenKind::LCurly) {
         enum_values_definition(p)?;
     }
@@ -42,7 +42,7 @@ pub fn enum_type_extension<A: Allocator + Copy>(
     p.bump(SyntaxKind::enum_KW)?;
     name(p)?;
     if p.at(TokenKind::At) {
-        directives(p, Constness::Const)?;
+        optional_directives(p, Constness::Const)?;
         if p.at(TokenKind::LCurly) {
             enum_values_definition(p)?;
         }
@@ -81,7 +81,7 @@ fn enum_value_definition<A: Allocator + Copy>(p: &mut ParserState<'_, A>) -> Res
     p.start_node(SyntaxKind::ENUM_VALUE_DEFINITION)?;
     optional_description(p)?;
     enum_value(p)?;
-    directives(p, Constness::Const)?;
+    optional_directives(p, Constness::Const)?;
     p.finish_node();
     Ok(())
 }

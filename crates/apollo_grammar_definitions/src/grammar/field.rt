@@ -6,9 +6,9 @@ ghost use Rattle.apollo_grammar_definitions.specs.Words.rule;
 ghost use Rattle.apollo_grammar_definitions.specs.Words.rules;
 ghost use Rattle.apollo_grammar_definitions.specs.Words.token;
 
-use super::argument::{arguments, optional_arguments_definition};
+use super::argument::{optional_arguments, optional_arguments_definition};
 use super::description::{optional_description, starts_named, want_named};
-use super::directive::directives;
+use super::directive::optional_directives;
 use super::name::{aliased_name, name};
 use super::selection::selection_set;
 use super::ty::{starts_type, ty};
@@ -27,8 +27,8 @@ pub fn field<A: Allocator + Copy>(p: &mut ParserState<'_, A>) -> Result<(), Allo
 {
     p.start_node(SyntaxKind::FIELD)?;
     aliased_name(p)?;
-    arguments(p, Constness::NotConst)?;
-    directives(p, Constness::NotConst)?;
+    optional_arguments(p, Constness::NotConst)?;
+    optional_directives(p, Constness::NotConst)?;
     if p.at(TokenKind::LCurly) {
         selection_set(p)?;
     }
@@ -82,5 +82,5 @@ fn field_type<A: Allocator + Copy>(p: &mut ParserState<'_, A>) -> Result<(), All
         return p.err(Message::ExpectedType);
     }
     ty(p)?;
-    directives(p, Constness::Const)
+    optional_directives(p, Constness::Const)
 }

@@ -6,7 +6,7 @@ ghost use Rattle.apollo_grammar_definitions.specs.Words.rule;
 ghost use Rattle.apollo_grammar_definitions.specs.Words.token;
 
 use super::description::described_keyword;
-use super::directive::directives;
+use super::directive::optional_directives;
 use super::selection::selection_set;
 use super::ty::named_type;
 use document_grammar::SyntaxKind;
@@ -26,7 +26,7 @@ pub fn fragment_definition<A: Allocator + Copy>(
     described_keyword(p, SyntaxKind::fragment_KW)?;
     fragment_name(p)?;
     type_condition(p)?;
-    directives(p, Constness::NotConst)?;
+    optional_directives(p, Constness::NotConst)?;
     if p.at(TokenKind::LCurly) {
         selection_set(p)?;
     } else {
@@ -87,7 +87,7 @@ pub fn inline_fragment<A: Allocator + Copy>(p: &mut ParserState<'_, A>) -> Resul
 {
     p.start_node_with(SyntaxKind::INLINE_FRAGMENT, SyntaxKind::SPREAD)?;
     optional_type_condition(p)?;
-    directives(p, Constness::NotConst)?;
+    optional_directives(p, Constness::NotConst)?;
     if p.at(TokenKind::LCurly) {
         selection_set(p)?;
     } else {
@@ -103,7 +103,7 @@ pub fn fragment_spread<A: Allocator + Copy>(p: &mut ParserState<'_, A>) -> Resul
 {
     p.start_node_with(SyntaxKind::FRAGMENT_SPREAD, SyntaxKind::SPREAD)?;
     fragment_name(p)?;
-    directives(p, Constness::NotConst)?;
+    optional_directives(p, Constness::NotConst)?;
     p.finish_node();
     Ok(())
 }

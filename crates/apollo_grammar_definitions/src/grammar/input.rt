@@ -7,7 +7,7 @@ ghost use Rattle.apollo_grammar_definitions.specs.Words.rules;
 ghost use Rattle.apollo_grammar_definitions.specs.Words.token;
 
 use super::description::{described_keyword, optional_description, starts_named, want_named};
-use super::directive::directives;
+use super::directive::optional_directives;
 use super::name::name;
 use super::variable::variable_type;
 use document_grammar::SyntaxKind;
@@ -25,7 +25,7 @@ pub fn input_object_type_definition<A: Allocator + Copy>(
     p.start_node(SyntaxKind::INPUT_OBJECT_TYPE_DEFINITION)?;
     described_keyword(p, SyntaxKind::input_KW)?;
     name(p)?;
-    directives(p, Constness::Const)?;
+    optional_directives(p, Constness::Const)?;
     if p.at(TokenKind::LCurly) {
         input_fields_definition(p)?;
     }
@@ -46,7 +46,7 @@ pub fn input_object_type_extension<A: Allocator + Copy>(
     p.bump(SyntaxKind::input_KW)?;
     name(p)?;
     if p.at(TokenKind::At) {
-        directives(p, Constness::Const)?;
+        optional_directives(p, Constness::Const)?;
         if p.at(TokenKind::LCurly) {
             input_fields_definition(p)?;
         }

@@ -5,7 +5,7 @@ ghost use Rattle.apollo_grammar_definitions.specs.Words.rule;
 ghost use Rattle.apollo_grammar_definitions.specs.Words.rules;
 
 use super::description::described_keyword;
-use super::directive::directives;
+use super::directive::optional_directives;
 use super::field::fields_definition;
 use super::name::name;
 use super::ty::named_type;
@@ -62,14 +62,14 @@ pub fn implementing<A: Allocator + Copy>(
 {
     if p.at_word(SyntaxKind::implements_KW) {
         implements_interfaces(p)?;
-        directives(p, Constness::Const)?;
+        optional_directives(p, Constness::Const)?;
         if p.at(TokenKind::LCurly) {
             fields_definition(p)?;
         }
         return Ok(());
     }
     if p.at(TokenKind::At) {
-        directives(p, Constness::Const)?;
+        optional_directives(p, Constness::Const)?;
         if p.at(TokenKind::LCurly) {
             fields_definition(p)?;
         }
@@ -86,7 +86,7 @@ pub fn type_parts<A: Allocator + Copy>(p: &mut ParserState<'_, A>) -> Result<(),
     ensures { Parses rules.type_parts result p.old p.new }
 {
     optional_implements(p)?;
-    directives(p, Constness::Const)?;
+    optional_directives(p, Constness::Const)?;
     if p.at(TokenKind::LCurly) {
         return fields_definition(p);
     }

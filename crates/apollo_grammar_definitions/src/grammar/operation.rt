@@ -7,7 +7,7 @@ ghost use Rattle.apollo_grammar_definitions.specs.Words.rules;
 ghost use Rattle.apollo_grammar_definitions.specs.Words.token;
 
 use super::description::optional_description;
-use super::directive::directives;
+use super::directive::optional_directives;
 use super::name::optional_name;
 use super::selection::selection_set;
 use super::variable::variable_definitions;
@@ -27,7 +27,7 @@ pub fn operation_definition<A: Allocator + Copy>(
     operation_head(p)?;
     optional_name(p)?;
     variable_definitions(p)?;
-    directives(p, Constness::NotConst)?;
+    optional_directives(p, Constness::NotConst)?;
     if p.at(TokenKind::LCurly) {
         selection_set(p)?;
     } else {

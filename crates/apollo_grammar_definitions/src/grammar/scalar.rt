@@ -4,7 +4,7 @@ ghost use Rattle.apollo_grammar_definitions.specs.Words.{Child, Parses};
 ghost use Rattle.apollo_grammar_definitions.specs.Words.rule;
 
 use super::description::described_keyword;
-use super::directive::directives;
+use super::directive::optional_directives;
 use super::name::name;
 use document_grammar::SyntaxKind;
 use lexical_grammar::TokenKind;
@@ -21,7 +21,7 @@ pub fn scalar_type_definition<A: Allocator + Copy>(
     p.start_node(SyntaxKind::SCALAR_TYPE_DEFINITION)?;
     described_keyword(p, SyntaxKind::scalar_KW)?;
     name(p)?;
-    directives(p, Constness::Const)?;
+    optional_directives(p, Constness::Const)?;
     p.finish_node();
     Ok(())
 }
@@ -36,7 +36,7 @@ pub fn scalar_type_extension<A: Allocator + Copy>(
     p.bump(SyntaxKind::scalar_KW)?;
     name(p)?;
     if p.at(TokenKind::At) {
-        directives(p, Constness::Const)?;
+        optional_directives(p, Constness::Const)?;
     } else {
         p.err(Message::ExpectedScalarExtension)?;
     }

@@ -5,7 +5,7 @@ ghost use Rattle.apollo_grammar_definitions.specs.Words.rule;
 ghost use Rattle.apollo_grammar_definitions.specs.Words.rules;
 
 use super::description::described_keyword;
-use super::directive::directives;
+use super::directive::optional_directives;
 use super::operation::operation_type;
 use super::ty::named_type;
 use document_grammar::SyntaxKind;
@@ -20,7 +20,7 @@ pub fn schema_definition<A: Allocator + Copy>(p: &mut ParserState<'_, A>) -> Res
 {
     p.start_node(SyntaxKind::SCHEMA_DEFINITION)?;
     described_keyword(p, SyntaxKind::schema_KW)?;
-    directives(p, Constness::Const)?;
+    optional_directives(p, Constness::Const)?;
     if p.at(TokenKind::LCurly) {
         root_operations(p, Message::ExpectedRootOperation)?;
     } else {
@@ -37,7 +37,7 @@ pub fn schema_extension<A: Allocator + Copy>(p: &mut ParserState<'_, A>) -> Resu
     p.start_node_with(SyntaxKind::SCHEMA_EXTENSION, SyntaxKind::extend_KW)?;
     p.bump(SyntaxKind::schema_KW)?;
     if p.at(TokenKind::At) {
-        directives(p, Constness::Const)?;
+        optional_directives(p, Constness::Const)?;
         if p.at(TokenKind::LCurly) {
             root_operations(p, Message::ExpectedSchemaExtension)?;
         }

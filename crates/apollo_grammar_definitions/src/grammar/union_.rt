@@ -4,7 +4,7 @@ ghost use Rattle.apollo_grammar_definitions.specs.Words.{Child, Call, Parses};
 ghost use Rattle.apollo_grammar_definitions.specs.Words.rule;
 
 use super::description::described_keyword;
-use super::directive::directives;
+use super::directive::optional_directives;
 use super::name::name;
 use super::ty::named_type;
 use document_grammar::SyntaxKind;
@@ -22,7 +22,7 @@ pub fn union_type_definition<A: Allocator + Copy>(
     p.start_node(SyntaxKind::UNION_TYPE_DEFINITION)?;
     described_keyword(p, SyntaxKind::union_KW)?;
     name(p)?;
-    directives(p, Constness::Const)?;
+    optional_directives(p, Constness::Const)?;
     if p.at(TokenKind::Eq) {
         union_member_types(p)?;
     }
@@ -40,7 +40,7 @@ pub fn union_type_extension<A: Allocator + Copy>(
     p.bump(SyntaxKind::union_KW)?;
     name(p)?;
     if p.at(TokenKind::At) {
-        directives(p, Constness::Const)?;
+        optional_directives(p, Constness::Const)?;
         if p.at(TokenKind::Eq) {
             union_member_types(p)?;
         }

@@ -6,7 +6,7 @@ ghost use Rattle.apollo_grammar_definitions.specs.Words.rule;
 ghost use Rattle.apollo_grammar_definitions.specs.Words.rules;
 
 use super::description::description;
-use super::directive::directives;
+use super::directive::optional_directives;
 use super::name::name;
 use super::ty::{starts_type, ty};
 use super::value::default_value;
@@ -96,7 +96,7 @@ pub fn variable_type<A: Allocator + Copy>(p: &mut ParserState<'_, A>) -> Result<
     }
     ty(p)?;
     default_value(p)?;
-    directives(p, Constness::Const)
+    optional_directives(p, Constness::Const)
 }
 
 /// A variable (GraphQL October 2021, section 2.10, "Variables").

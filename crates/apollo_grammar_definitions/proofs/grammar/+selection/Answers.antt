@@ -15,8 +15,8 @@ pub field::field-selection_set-requires : goal.field::field-selection_set-requir
 unfolding consuming
 field::field-selection_set-requires g t c =
     let h = opened-takes kind.FIELD _ c.in_ok-start_node.ensures.step c.in_ok-aliased_name.ensures.runs (here-there (Kind token.Name) _ c.requires) refl in
-    let k = fewer c.in_ok-arguments.ensures.runs in
-    let l = fewer c.in_ok-directives.ensures.runs in
+    let k = fewer c.in_ok-optional_arguments.ensures.runs in
+    let l = fewer c.in_ok-optional_directives.ensures.runs in
     λ κs w. (omega (arith, h, k, l, c.decreases), (w, c.if-at.ensures))
 
 pub fragment::inline_fragment-selection_set-requires : goal.fragment::inline_fragment-selection_set-requires
@@ -24,7 +24,7 @@ unfolding consuming
 fragment::inline_fragment-selection_set-requires g t c =
     let h = opened-takes kind.INLINE_FRAGMENT c.args.p.now refl c.in_ok-start_node_with.ensures.runs (here-there (Kind token.Spread) _ c.requires) refl in
     let k = fewer c.in_ok-optional_type_condition.ensures.runs in
-    let l = fewer c.in_ok-directives.ensures.runs in
+    let l = fewer c.in_ok-optional_directives.ensures.runs in
     λ κs w. (omega (arith, h, k, l, c.decreases), (w, c.if-at.ensures))
 
 pub selection::selection_set-inside_selection_set-requires : goal.selection::selection_set-inside_selection_set-requires
