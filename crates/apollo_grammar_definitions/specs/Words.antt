@@ -5,7 +5,7 @@ pub use Rattle.document_grammar.specs.Numbers.{number}
 pub use Rattle.parser_rules.specs.Nodes as rule
 pub use Rattle.parser_rules.specs.Rules as rules
 pub use Rattle.parser_rules.specs.Fragments as fragments
-pub use Rattle.parser_rules.specs.RuleLanguage.{fits, holds, Here, At, Child, Call}
+pub use Rattle.parser_rules.specs.RuleLanguage.{fits, holds, Here, At, Next, Kind, Child, Call}
 pub use Rattle.parser_rules.specs.State.{second, flush}
 pub use Rattle.parser_state.specs.View.{current_of}
 pub use Rattle.parser_state.specs.Parses.{Parses}

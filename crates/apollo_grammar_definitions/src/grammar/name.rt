@@ -1,15 +1,14 @@
 // Names.
 
 ghost use Rattle.std.specs.Prelude.{◌≡◌, true};
-ghost use Rattle.apollo_grammar_definitions.specs.Words.{holds, At, Child, Call, second, current_of, Parses};
+ghost use Rattle.apollo_grammar_definitions.specs.Words.{holds, At, Next, Kind, Child, Call, Parses};
 ghost use Rattle.apollo_grammar_definitions.specs.Words.rule;
 ghost use Rattle.apollo_grammar_definitions.specs.Words.token;
 
-use apollo_lexer::Token;
 use document_grammar::SyntaxKind;
 use lexical_grammar::TokenKind;
 use parser_rules::Message;
-use parser_state::{ParserState, is_kind};
+use parser_state::ParserState;
 use std::alloc::{AllocError, Allocator};
 
 /// A name (GraphQL October 2021, section 2.1.9, "Names").
@@ -49,21 +48,21 @@ pub fn aliased_name<A: Allocator + Copy>(p: &mut ParserState<'_, A>) -> Result<(
     requires { true ≡ holds (At token.Name) p.old }
     ensures { Parses (Call rule.AliasedName) result p.old p.new }
 {
-    let next = p.peek();
-    aliased_name_before(p, next)
+    let next_is_colon = p.is_before(TokenKind::Colon);
+    aliased_name_before(p, next_is_colon)
 }
 
-// The same, where the token after the first name is known.
+// The same, where it is known whether a `:` follows the first name.
 #[tactic(auto, using(parser_rules::proofs::runs::Running::running), unfolding(parser_rules::specs::Rules::inside, parser_rules::specs::Rules::body, parser_rules::specs::RuleLanguage::holds))]
 fn aliased_name_before<A: Allocator + Copy>(
     p: &mut ParserState<'_, A>,
-    next: Option<Token<'_>>,
+    next_is_colon: bool,
 ) -> Result<(), AllocError>
     requires at { true ≡ holds (At token.Name) p.old }
-    requires after { current_of next ≡ second p.old.items }
+    requires after { next_is_colon ≡ holds (Next (Kind token.Colon)) p.old }
     ensures { Parses (Call rule.AliasedName) result p.old p.new }
 {
-    if is_kind(next, TokenKind::Colon) {
+    if next_is_colon {
         alias(p)?;
         return name(p);
     }

@@ -1,7 +1,7 @@
 // What a parser reads from: its lexer, what a copy of that found ahead, and the count of what both cut.
 #![tactic(auto)]
 
-ghost use Rattle.std.specs.Prelude.{◌≡◌, ◌≤◌, ◌+◌, ◌*◌};
+ghost use Rattle.std.specs.Prelude.{◌≡◌, ◌≤◌, ◌+◌, ◌*◌, true};
 ghost use Rattle.std.specs.Iterator.{YieldsFirstBy};
 ghost use Rattle.lexical_grammar.specs.declared.TokenKind.TheVariants as token;
 ghost use Rattle.apollo_lexer.specs.Answers.{answer_of, answers_left, final_high};
@@ -102,20 +102,31 @@ impl<'i> Reader<'i> {
         Some(answer)
     }
 
-    /// The significant token after the current one. A copy of the lexer looks for it, once.
-    pub(super) fn peek(&mut self) -> Option<Token<'i>>
-        ensures found { current_of result ≡ second (answers_left self.old.lexer) }
+    // Looks for the significant token after the current one, by a copy of the lexer, once.
+    #[inline(never)]
+    fn look_ahead(&mut self)
+        ensures known { self.new.ahead.is_known ≡ true }
         ensures lexer { self.new.lexer ≡ self.old.lexer }
         ensures start { self.new.start ≡ self.old.start }
     {
         if self.ahead.is_known {
-            return self.ahead.found;
+            return;
         }
         let found = next_significant(self.lexer, &mut self.steps);
         self.ahead = Ahead {
             is_known: true,
             found,
         };
-        found
+    }
+
+    /// The significant token after the current one. A copy of the lexer looks for it, once.
+    #[inline(always)]
+    pub(super) fn peek(&mut self) -> Option<Token<'i>>
+        ensures found { current_of result ≡ second (answers_left self.old.lexer) }
+        ensures lexer { self.new.lexer ≡ self.old.lexer }
+        ensures start { self.new.start ≡ self.old.start }
+    {
+        self.look_ahead();
+        self.ahead.found
     }
 }

@@ -7,7 +7,7 @@ ghost use Rattle.document_grammar.specs.declared.kind.SyntaxKind.TheVariants as 
 ghost use Rattle.document_grammar.specs.Forests.{none};
 ghost use Rattle.apollo_lexer.specs.Answers.{answer_of, answers_left};
 ghost use Rattle.parser_rules.specs.State as state;
-ghost use Rattle.parser_rules.specs.RuleLanguage.{Here, At, Word, Ready, holds};
+ghost use Rattle.parser_rules.specs.RuleLanguage.{Here, At, Next, Kind, Word, Ready, holds};
 ghost use Rattle.document_grammar.specs.Choices.{is_keyword};
 ghost use Rattle.document_grammar.specs.Numbers.{number};
 ghost use Rattle.parser_rules.specs.Rules as rules;
@@ -60,6 +60,15 @@ impl<'i, A: Allocator + Copy> ParserState<'i, A> {
         ensures budget { self.new.budget ≡ self.old.budget }
     {
         self.reader.peek()
+    }
+
+    /// Whether the significant token after the current one is of the kind.
+    pub fn is_before(&mut self, kind: TokenKind) -> bool
+        ensures next { result ≡ holds (Next (Kind kind)) self.new }
+        ensures same { self.new ≡ self.old }
+        ensures budget { self.new.budget ≡ self.old.budget }
+    {
+        is_kind(self.reader.peek(), kind)
     }
 
     /// Whether a token is left besides the end.

@@ -7,7 +7,9 @@ use Rattle.parser_state.specs.Parses.{Parses}
 use Rattle.apollo_grammar_definitions.proofs.grammar.name.aliased_name.Goals as goal
 
 pub aliased_name_before-requires : goal.aliased_name_before-requires
-aliased_name_before-requires g c = record { at = subst (λ (s : State). true ≡ holds (At token.Name) s) (sym c.peek-next.ensures.same) c.requires; after = c.peek-next.ensures.found }
+aliased_name_before-requires g c =
+    let l = c.is_before-next_is_colon.ensures in
+    record { at = subst (λ (s : State). true ≡ holds (At token.Name) s) (sym l.same) c.requires; after = l.next }
 
 pub returns : goal.returns
-returns g c = subst (λ (s : State). Parses (Call AliasedName) c.aliased_name_before.result s c.aliased_name_before.new.p) c.peek-next.ensures.same c.aliased_name_before.ensures
+returns g c = subst (λ (s : State). Parses (Call AliasedName) c.aliased_name_before.result s c.aliased_name_before.new.p) c.is_before-next_is_colon.ensures.same c.aliased_name_before.ensures
