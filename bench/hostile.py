@@ -3,13 +3,15 @@
 own seconds and those that the kernel takes for it, how many times the program's own are those of the size before, and the peak memory at the last. The
 kernel's go with the memory: it hands out and clears each page.
 
-hostile.py PROGRAM [N [SIZES [ROUNDS [GIGABYTES]]]]: SIZES of them (2), best of ROUNDS runs each, in turn (5), by the program's own seconds. A size that
-would take more than GIGABYTES (8), by what the size before took, is left out. Ends with status 1 where twice a text takes more than 2.2 times the program's
-own seconds."""
+hostile.py PROGRAM [N [SIZES [ROUNDS [GIGABYTES]]]]: SIZES of them (2), the median of ROUNDS runs each, in turn (5), and of up to five times as many where
+they are short: by samples it is told which part of a run's time is the program's own, so a short run may seem to have none. A size that would take more
+than GIGABYTES (8), by what the size before took, is left out. Ends with status 1 where twice a text takes more than 2.2 times the program's own seconds."""
 import os
+import statistics
 import subprocess
 import sys
 import tempfile
+import time
 
 TEXTS = {
     "braces": lambda n: "{" * n,
@@ -27,6 +29,8 @@ TEXTS = {
     "-": lambda n: "-" * n,
     "wrapped types": lambda n: ("query(" + "$a:" + "[" * 400 + "T" + "]!" * 400 + "){a}\n") * (n // 1220),
 }
+# For so many seconds further runs are made.
+SHORT = 15
 # Texts that nest deeper than the default limit, and the limit with which they are read: 8 MB of stack hold it (bench/stack.py).
 DEPTH = 10_000
 NESTED_TEXTS = {
@@ -44,25 +48,21 @@ def run(command, text):
 
 
 def measured(command, folder, make, sizes, rounds, most):
-    """The seconds at each size, the command's own and the kernel's, of the run with the least of its own; and the memory at each."""
+    """The seconds at each size, the command's own and the kernel's, by their medians; and the memory at each."""
     texts = []
     for size in sizes:
         path = os.path.join(folder, str(size))
         with open(path, "w") as target:
             target.write(make(size))
         texts.append(path)
-    seconds, memory = [], []
-    for turn in range(rounds):
-        for i, path in enumerate(texts):
-            if turn == 0 and i > 0 and 2 * memory[i - 1] > most:
-                texts = texts[:i]
+    runs, started = [[] for _ in texts], time.monotonic()
+    while len(runs[0]) < rounds or len(runs[0]) < 5 * rounds and time.monotonic() - started < SHORT:
+        for path, before, results in zip(texts, [None, *runs], runs):
+            if before and 2 * before[0][2] > most:
                 break
-            own, kernel, peak = run(command, path)
-            if turn == 0:
-                seconds.append((own, kernel))
-                memory.append(peak)
-            seconds[i] = min(seconds[i], (own, kernel))
-    return seconds, memory
+            results.append(run(command, path))
+    runs = [list(zip(*results)) for results in runs if results]
+    return [(statistics.median(own), statistics.median(kernel)) for own, kernel, _ in runs], [peak[0] for _, _, peak in runs]
 
 
 def main():
@@ -75,7 +75,7 @@ def main():
         for name, make in (TEXTS | NESTED_TEXTS).items():
             command = [sys.argv[1], "check", *(["--recursion", str(DEPTH)] if name in NESTED_TEXTS else [])]
             seconds, memory = measured(command, folder, make, sizes, int(rounds), most)
-            times = [after / before for (before, _), (after, _) in zip(seconds, seconds[1:])]
+            times = [after / max(before, 0.001) for (before, _), (after, _) in zip(seconds, seconds[1:])]
             slow += any(ratio > 2.2 for ratio in times)
             cells = [f"{own:.2f} + {kernel:.2f}" for own, kernel in seconds] + [""] * (len(sizes) - len(seconds))
             ratios = ", ".join(f"{ratio:.2f}" for ratio in times)
