@@ -3,9 +3,10 @@
 own seconds and those that the kernel takes for it, how many times the program's own are those of the size before, and the peak memory at the last. The
 kernel's go with the memory: it hands out and clears each page.
 
-hostile.py PROGRAM [N [SIZES [ROUNDS [GIGABYTES]]]]: SIZES of them (2), the median of ROUNDS runs each, in turn (5), and of up to five times as many where
-they are short: by samples it is told which part of a run's time is the program's own, so a short run may seem to have none. A size that would take more
-than GIGABYTES (8), by what the size before took, is left out. Ends with status 1 where twice a text takes more than 2.2 times the program's own seconds."""
+hostile.py PROGRAM [N [SIZES [ROUNDS [GIGABYTES]]]]: SIZES of them (2), ROUNDS runs each, in turn (5), and more where they are short; the seconds are the mean
+of the middle half of the runs. The kernel finds out by samples which part of a run's time is the program's own, so a single short run says little. A size
+that would take more than GIGABYTES (8), by what the size before took, is left out. Ends with status 1 where twice a text takes more than 2.2 times the
+program's own seconds."""
 import os
 import statistics
 import subprocess
@@ -29,8 +30,8 @@ TEXTS = {
     "-": lambda n: "-" * n,
     "wrapped types": lambda n: ("query(" + "$a:" + "[" * 400 + "T" + "]!" * 400 + "){a}\n") * (n // 1220),
 }
-# For so many seconds further runs are made.
-SHORT = 15
+# For so many seconds runs of a text are made.
+SHORT = 12
 # Texts that nest deeper than the default limit, and the limit with which they are read: 8 MB of stack hold it (bench/stack.py).
 DEPTH = 10_000
 NESTED_TEXTS = {
@@ -47,8 +48,14 @@ def run(command, text):
         return usage.ru_utime, usage.ru_stime, usage.ru_maxrss / 1e6
 
 
+def middle(seconds):
+    """The mean of the middle half."""
+    quarter = len(seconds) // 4
+    return statistics.mean(sorted(seconds)[quarter : len(seconds) - quarter])
+
+
 def measured(command, folder, make, sizes, rounds, most):
-    """The seconds at each size, the command's own and the kernel's, by their medians; and the memory at each."""
+    """The seconds at each size, the command's own and the kernel's; and the memory at each."""
     texts = []
     for size in sizes:
         path = os.path.join(folder, str(size))
@@ -56,13 +63,13 @@ def measured(command, folder, make, sizes, rounds, most):
             target.write(make(size))
         texts.append(path)
     runs, started = [[] for _ in texts], time.monotonic()
-    while len(runs[0]) < rounds or len(runs[0]) < 5 * rounds and time.monotonic() - started < SHORT:
+    while len(runs[0]) < rounds or time.monotonic() - started < SHORT:
         for path, before, results in zip(texts, [None, *runs], runs):
             if before and 2 * before[0][2] > most:
                 break
             results.append(run(command, path))
     runs = [list(zip(*results)) for results in runs if results]
-    return [(statistics.median(own), statistics.median(kernel)) for own, kernel, _ in runs], [peak[0] for _, _, peak in runs]
+    return [(middle(own), middle(kernel)) for own, kernel, _ in runs], [peak[0] for _, _, peak in runs]
 
 
 def main():
