@@ -3,7 +3,6 @@ pub mod Ends
 pub mod Forms
 pub mod Items
 pub mod Lines
-pub mod Numbers
 pub mod Outputs
 pub mod Pages
 pub mod Quoting

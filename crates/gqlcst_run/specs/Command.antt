@@ -1,7 +1,6 @@
 -- The words of the program: a mode, and then options in any order, each at most once.
-use Rattle.std.specs.Prelude.{ℕ, ◌^◌, Bool, ◌&&◌, nat_lt, List, [], ◌∷◌, length, codes, bytes_eq, if◌then◌else◌, Option, Some, None, option_and_then, option_map}
-use Rattle.std.specs.Str.{all_ascii_digits}
-use Rattle.std.specs.Str.Parse.{digits_value}
+use Rattle.std.specs.Prelude.{ℕ, List, [], ◌∷◌, codes, bytes_eq, if◌then◌else◌, Option, Some, None, option_and_then, option_map}
+use Rattle.decimal_numbers.specs.Numbers.{number_of}
 use Rattle.apollo_parser.specs.Answers.{usize_max}
 use Rattle.gqlcst_run.specs.declared.command.Mode.{Mode}
 use Rattle.gqlcst_run.specs.declared.command.Mode.TheVariants.{Check, Tokens, Tree}
@@ -14,13 +13,6 @@ mode_of word =
     else (if bytes_eq word (codes "tokens") then Some Tokens
     else (if bytes_eq word (codes "tree") then Some Tree
     else None))
-
--- one or more decimal digits, whose number fits in a usize
-abbrev pub is_number : List ℕ → Bool
-is_number word = (nat_lt 0 (length word) && all_ascii_digits word) && nat_lt (digits_value 10 word) (2 ^ 64)
-
-abbrev pub number_of : List ℕ → Option ℕ
-number_of word = if is_number word then Some (digits_value 10 word) else None
 
 abbrev pub none_set : Limits
 none_set = record { recursion = 500; tokens = usize_max }

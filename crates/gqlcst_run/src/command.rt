@@ -1,6 +1,8 @@
 // The words of the program.
 ghost use Rattle.std.specs.Prelude.{◌≡◌, map};
-ghost use Rattle.gqlcst_run.specs.Command.{mode_of, number_of, with_option, command_of};
+ghost use Rattle.gqlcst_run.specs.Command.{mode_of, with_option, command_of};
+
+use decimal_numbers::number_of;
 
 /// What is written of a text.
 #[derive(Clone, Copy, Debug, PartialEq, Eq)]
@@ -37,16 +39,6 @@ fn mode_of(word: &str) -> Option<Mode>
         "tree" => Some(Mode::Tree),
         _ => None,
     }
-}
-
-// The number that a word spells in decimal digits.
-fn number_of(word: &str) -> Option<usize>
-    ensures { result ≡ number_of word.now }
-{
-    if word.starts_with('+') {
-        return None;
-    }
-    word.parse::<usize>().ok()
 }
 
 /// The limits, with one of them set by an option's name and its value, or nothing where they are none. The value is in decimal digits.

@@ -1,6 +1,6 @@
 use Rattle.std.proofs.Common.{◌∙◌}
-use Rattle.gqlcst_run.proofs.Numbers.{number-parsed, no-plus}
-use Rattle.gqlcst_run.proofs.command.number_of.Goals as goal
+use Rattle.decimal_numbers.proofs.NumberLemmas.{number-parsed, no-plus}
+use Rattle.decimal_numbers.proofs.number_of.Goals as goal
 
 pub returns : goal.returns
 returns c =

@@ -9,7 +9,7 @@ use Rattle.std.specs.Str.Parse.{digits_value, ParsesUnsigned}
 use Rattle.std.proofs.lemmas.Str.Parse.{numerals_by_value, tells_all_ascii_digits, parse_plain}
 use Rattle.std.proofs.lemmas.Bool.{and_parts}
 use Rattle.std.proofs.lemmas.Bool.Decides.{nat_tests}
-use Rattle.gqlcst_run.specs.Command.{is_number, number_of}
+use Rattle.decimal_numbers.specs.Numbers.{is_number, number_of}
 
 -- a numeral passes the test
 number-some : (word : List ℕ) → all_ascii_digits word ≡ true → 0 < length word → digits_value 10 word < 2 ^ 64 → number_of word ≡ Some (digits_value 10 word)

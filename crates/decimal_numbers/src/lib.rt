@@ -1,0 +1,14 @@
+//! The numbers that programs are given in their words.
+#![tactic(auto)]
+ghost use Rattle.std.specs.Prelude.{◌≡◌};
+ghost use Rattle.decimal_numbers.specs.Numbers.{number_of};
+
+/// The number that a word spells in decimal digits, with no sign: nothing where it is none, or too large for a `usize`.
+pub fn number_of(word: &str) -> Option<usize>
+    ensures { result ≡ number_of word.now }
+{
+    if word.starts_with('+') {
+        return None;
+    }
+    word.parse::<usize>().ok()
+}
