@@ -41,8 +41,8 @@ fn mode_of(word: &str) -> Option<Mode>
     }
 }
 
-/// The limits, with one of them set by an option's name and its value, or nothing where they are none. The value is in decimal digits.
-pub fn with_option(limits: Limits, name: &str, value: &str) -> Option<Limits>
+// The limits, with one of them set by an option's name and its value, or nothing where they are none. The value is in decimal digits.
+fn with_option(limits: Limits, name: &str, value: &str) -> Option<Limits>
     ensures { result ≡ with_option limits name.now value.now }
 {
     let number = number_of(value)?;

@@ -17,7 +17,7 @@ mod std_devices;
 mod trace;
 mod writing;
 
-pub use command::{Limits, Mode, options, with_option};
+pub use command::{Limits, Mode, options};
 pub use devices::{DeviceError, Sink, Source};
 pub use outcome::{Fault, Outcome};
 pub use program::run;

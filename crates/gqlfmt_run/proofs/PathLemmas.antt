@@ -5,6 +5,7 @@ use Rattle.std.proofs.lemmas.Bool.Decides.{nat_tests}
 use Rattle.std.proofs.lemmas.List.{take_more, map-append}
 use Rattle.gqlcst_run.specs.declared.command.Limits.{Limits}
 use Rattle.gqlfmt_files.specs.declared.settling.Mode.{Mode}
+use Rattle.gqlfmt_files.specs.Words.{texts}
 use Rattle.gqlfmt_run.specs.declared.fault.FileFault.{FileFault}
 use Rattle.gqlfmt_files.specs.declared.settling.Outcome.{Outcome}
 use Rattle.gqlfmt_run.specs.Outcome.{status_of}
@@ -23,15 +24,13 @@ module _ {S : Type 0} (reads : S → List ℕ → Option (List ℕ) → S → Ty
       (h.0, max h.1 (status_of ended), h.2, (omega (arith, h.3)), h.4, handles-more paths h.1 path ended h.2 middle new h.5 one)
 
   -- the same where the path is the next of a list, as the code has it
-  pub handles-next : (items slice : List (Bor (List ℕ))) (i status one worst : ℕ) (d : Bor (List ℕ)) (ended : Result Outcome FileFault) (old middle new : S) → slice ≡ items → i < length slice
-      → HandlesAll reads replaces mode limits (map (λ p. p.now) (take i items)) status old middle → Handles reads replaces mode limits (get_or slice i d).now ended middle new
-      → one ≡ status_of ended → worst ≡ ord_max nat_cmp status one → HandlesAll reads replaces mode limits (map (λ p. p.now) (take (i + 1) items)) worst old new
-  handles-next items slice i status one worst d ended old middle new same within h last is most =
-      let short : i < length items = omega (arith, ap (λ (l : List (Bor (List ℕ))). length l) same) in
-      let path : (get_or slice i d).now ≡ (get_or items i d).now = ap (λ (l : List (Bor (List ℕ))). (get_or l i d).now) same in
-      let more : map (λ p. p.now) (take (i + 1) items) ≡ map (λ p. p.now) (take i items) ++ (get_or items i d).now ∷ [] =
-      ap (map (λ p. p.now)) (take_more items i d short) ∙ map-append (λ p. p.now) (take i items) (get_or items i d ∷ []) in
+  pub handles-next : (items : List (Bor (List ℕ))) (i status one worst : ℕ) (d : Bor (List ℕ)) (ended : Result Outcome FileFault) (old middle new : S) → i < length items
+      → HandlesAll reads replaces mode limits (texts (take i items)) status old middle → Handles reads replaces mode limits (get_or items i d).now ended middle new
+      → one ≡ status_of ended → worst ≡ ord_max nat_cmp status one → HandlesAll reads replaces mode limits (texts (take (i + 1) items)) worst old new
+  handles-next items i status one worst d ended old middle new within h last is most =
+      let more : texts (take (i + 1) items) ≡ texts (take i items) ++ (get_or items i d).now ∷ [] =
+      ap texts (take_more items i d within) ∙ map-append (λ p. p.now) (take i items) (get_or items i d ∷ []) in
       let top : worst ≡ max status (status_of ended) = most ∙ ord_max-nat status one ∙ ap (max status) is in
-      subst (λ (n : ℕ). HandlesAll reads replaces mode limits (map (λ p. p.now) (take (i + 1) items)) n old new) (sym top)
+      subst (λ (n : ℕ). HandlesAll reads replaces mode limits (texts (take (i + 1) items)) n old new) (sym top)
       (subst (λ (paths : List (List ℕ)). HandlesAll reads replaces mode limits paths (max status (status_of ended)) old new) (sym more)
-      (handles-more (map (λ p. p.now) (take i items)) status (get_or items i d).now ended old middle new h (subst (λ (p : List ℕ). Handles reads replaces mode limits p ended middle new) path last)))
+      (handles-more (texts (take i items)) status (get_or items i d).now ended old middle new h last))

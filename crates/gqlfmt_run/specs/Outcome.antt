@@ -2,10 +2,9 @@
 use Rattle.std.specs.Prelude.{ℕ, Result, Ok, Err}
 use Rattle.gqlfmt_files.specs.declared.settling.Outcome.{Outcome}
 use Rattle.gqlfmt_files.specs.declared.settling.Outcome.TheVariants.{Done, Found}
-use Rattle.gqlfmt_run.specs.declared.fault.FileFault.{FileFault}
 
 -- 0 where a text has the layout, 1 where it has errors or was found to have another layout, 2 where it was not formatted
-abbrev pub status_of : Result Outcome FileFault → ℕ
+abbrev pub status_of : {E : Type 0} → Result Outcome E → ℕ
 status_of (Ok Done) = 0
 status_of (Ok Found) = 1
 status_of (Err fault) = 2

@@ -1,9 +1,4 @@
-// The words of the program.
-ghost use Rattle.std.specs.Prelude.{◌≤◌, length, IfOk, IfSome};
-
-use gqlcst_run::{Limits, with_option};
-use gqlfmt_files::Mode;
-use std::alloc::{AllocError, Allocator};
+// What the program prints of itself.
 
 /// The version of the program.
 pub const VERSION: &str = "gqlfmt 0.1.0\n";
@@ -24,88 +19,10 @@ and writes to standard output; otherwise each FILE that changes is replaced.
   --help         print this text
   --version      print the version
 
+Each option may be given once, before FILE or after. After -- all words are
+files.
+
 A document that has errors is left as it is. The status is 0 when all is done,
 1 when a document has errors or --check or --diff found a change, and 2 when
 something could not be read or written.
 ";
-
-/// A run over files, or over standard input where there are none.
-#[derive(Drop)]
-pub struct Plan<'a, A: Allocator> {
-    pub mode: Mode,
-    pub limits: Limits,
-    pub files: Vec<&'a str, A>,
-}
-
-/// What the words ask for.
-#[derive(Drop)]
-pub enum Request<'a, A: Allocator> {
-    Help,
-    Version,
-    Format(Plan<'a, A>),
-}
-
-// The limits of a plan, with one of them set by the first of the words.
-fn take_limit<A: Allocator>(plan: &mut Plan<'_, A>, option: &str, words: &[&str]) -> Option<usize>
-    ensures { IfSome result (λ count. count ≤ length words.now) }
-{
-    plan.limits = with_option(plan.limits, option, words.first()?)?;
-    Some(1)
-}
-
-// Takes a word into a plan, and gives how many of the words after it go with it: nothing where there is no such option.
-fn take_word<'a, A: Allocator>(
-    plan: &mut Plan<'a, A>,
-    word: &'a str,
-    more: &[&'a str],
-) -> Result<Option<usize>, AllocError>
-    ensures { IfOk result (λ taken. IfSome taken (λ count. count ≤ length more.now)) }
-{
-    match word {
-        "--" => {
-            plan.files.extend_from_slice(more)?;
-            Ok(Some(more.len()))
-        }
-        "--check" if plan.mode == Mode::Write => {
-            plan.mode = Mode::Check;
-            Ok(Some(0))
-        }
-        "--diff" if plan.mode == Mode::Write => {
-            plan.mode = Mode::Diff;
-            Ok(Some(0))
-        }
-        "--recursion" | "--tokens" => Ok(take_limit(plan, word, more)),
-        option if option.starts_with('-') => Ok(None),
-        file => {
-            plan.files.push(file)?;
-            Ok(Some(0))
-        }
-    }
-}
-
-/// What the words after the program's name ask for, or nothing where they are no call of it. Options and files come in any order; after
-/// `--` all words are files. It fails only where memory is refused.
-pub fn options<'a, A: Allocator>(
-    alloc: A,
-    words: &[&'a str],
-) -> Result<Option<Request<'a, A>>, AllocError> {
-    let mut plan = Plan {
-        mode: Mode::Write,
-        limits: Limits::NONE_SET,
-        files: Vec::new(alloc),
-    };
-    let mut place = 0;
-    while place < words.len() {
-        let word = words[place];
-        match word {
-            "--help" => return Ok(Some(Request::Help)),
-            "--version" => return Ok(Some(Request::Version)),
-            _ => {}
-        }
-        let Some(count) = take_word(&mut plan, word, &words[place + 1..])? else {
-            return Ok(None);
-        };
-        place += 1 + count;
-    }
-    Ok(Some(Request::Format(plan)))
-}

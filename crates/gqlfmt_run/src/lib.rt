@@ -18,7 +18,7 @@ mod report;
 mod showing;
 mod std_files;
 
-pub use command::{HELP, Plan, Request, USAGE, VERSION, options};
+pub use command::{HELP, USAGE, VERSION};
 pub use diff::unified_diff;
 pub use fault::FileFault;
 pub use input::{INPUT, format_input};

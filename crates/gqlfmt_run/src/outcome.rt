@@ -2,11 +2,10 @@
 ghost use Rattle.std.specs.Prelude.{◌≡◌};
 ghost use Rattle.gqlfmt_run.specs.Outcome.{status_of};
 
-use crate::fault::FileFault;
 use gqlfmt_files::Outcome;
 
 /// The status that the program ends with for this text alone.
-pub fn status_of(ended: &Result<Outcome, FileFault>) -> u8
+pub fn status_of<E>(ended: &Result<Outcome, E>) -> u8
     ensures { result ≡ status_of ended.now }
 {
     match ended {

@@ -1,8 +1,7 @@
 // Formatting files.
-ghost use Rattle.std.specs.Prelude.{map};
+ghost use Rattle.gqlfmt_files.specs.Words.{texts};
 ghost use Rattle.gqlfmt_run.specs.Paths.{Handles, HandlesAll};
 
-use crate::command::Plan;
 use crate::fault::FileFault;
 use crate::formatting::revise;
 use crate::outcome::status_of;
@@ -66,27 +65,21 @@ pub fn format_file<A: Allocator + Copy, F: Files, W: Sink, E: Sink>(
     }
 }
 
-/// Formats all files of a plan in order, also after one that fails, and gives the greatest of their statuses.
+/// Formats the files at these paths in order, also after one that fails, and gives the greatest of their statuses.
 pub fn format_files<A: Allocator + Copy, F: Files, W: Sink, E: Sink>(
     alloc: A,
     files: &mut F,
     writer: &mut W,
     complaints: &mut E,
-    plan: &Plan<'_, A>,
+    paths: &[&str],
+    mode: Mode,
+    limits: Limits,
 ) -> u8
-    ensures { HandlesAll F.reads F.replaces plan.now.mode plan.now.limits (map (λ path. path.now) plan.now.files.items) result files.old files.new }
+    ensures { HandlesAll F.reads F.replaces mode limits (texts paths.now) result files.old files.new }
 {
     let mut status = 0;
-    for path in &plan.files {
-        let ended = format_file(
-            alloc,
-            files,
-            writer,
-            complaints,
-            path,
-            plan.mode,
-            plan.limits,
-        );
+    for path in paths {
+        let ended = format_file(alloc, files, writer, complaints, path, mode, limits);
         if let Err(fault) = &ended {
             tell_of_file(alloc, files, complaints, path, fault);
         }

@@ -1,17 +1,47 @@
 // A run of the program.
-use crate::command::{HELP, Plan, Request, USAGE, VERSION, options};
+ghost use Rattle.std.specs.Prelude.{◌≡◌, OnOk, OnErr};
+ghost use Rattle.gqlcst_run.specs.Devices.{moved};
+ghost use Rattle.gqlcst_run.specs.Writing.{IsBroken};
+ghost use Rattle.gqlfmt_files.specs.Words.{texts, request_of};
+ghost use Rattle.gqlfmt_run.specs.Program.{limits_of, page_text, IsPrinted, FormatsInput, Formats, Runs};
+
+use crate::command::{HELP, USAGE, VERSION};
 use crate::fault::FileFault;
 use crate::input::{INPUT, format_input};
 use crate::outcome::status_of;
 use crate::paths::format_files;
 use crate::report::tell;
-use gqlcst_run::{Sink, Source, write_all};
-use gqlfmt_files::Files;
+use gqlcst_run::{Fault, Limits, Sink, Source, write_all};
+use gqlfmt_files::{Files, Mode, Page, Plan, Request, Settings, WordsError, options};
 use std::alloc::Allocator;
 
-// Writes a text, and gives the status.
-fn print<W: Sink>(writer: &mut W, text: &str) -> u8 {
-    match write_all(writer, text.as_bytes()) {
+fn limits_of(settings: Settings) -> Limits
+    ensures { result ≡ limits_of settings }
+{
+    Limits {
+        recursion: settings.recursion.unwrap_or(Limits::NONE_SET.recursion),
+        tokens: settings.tokens.unwrap_or(Limits::NONE_SET.tokens),
+    }
+}
+
+fn write_page<W: Sink>(writer: &mut W, page: Page) -> Result<(), Fault>
+    ensures ok { OnOk result (W.account writer.new ≡ moved (W.account writer.old) (page_text page)) }
+    ensures err { OnErr result (IsBroken (page_text page) (W.account writer.old) (W.account writer.new)) }
+{
+    match page {
+        Page::Help => {
+            write_all(writer, USAGE.as_bytes())?;
+            write_all(writer, HELP.as_bytes())
+        }
+        Page::Version => write_all(writer, VERSION.as_bytes()),
+    }
+}
+
+// Prints a page, and gives the status.
+fn print<W: Sink>(writer: &mut W, page: Page) -> u8
+    ensures { IsPrinted (page_text page) result (W.account writer.old) (W.account writer.new) }
+{
+    match write_page(writer, page) {
         Ok(()) => 0,
         Err(_) => 2,
     }
@@ -23,19 +53,41 @@ fn format_standard_input<A: Allocator + Copy, R: Source, W: Sink, E: Sink>(
     reader: &mut R,
     writer: &mut W,
     complaints: &mut E,
-    plan: &Plan<'_, A>,
-) -> u8 {
-    let ended = format_input(alloc, reader, writer, complaints, plan.mode, plan.limits).map_err(
-        FileFault::Device,
-    );
-    if let Err(fault) = &ended {
-        tell(alloc, complaints, INPUT, fault);
+    mode: Mode,
+    limits: Limits,
+) -> u8
+    ensures { FormatsInput mode limits result (R.account reader.old) (W.account writer.old) (R.account reader.new) (W.account writer.new) }
+{
+    let ended = format_input(alloc, reader, writer, complaints, mode, limits);
+    if let Err(fault) = ended {
+        tell(alloc, complaints, INPUT, &FileFault::Device(fault));
     }
     status_of(&ended)
 }
 
+// Formats the files of a plan, or standard input where it has none, and gives the status.
+fn format<A: Allocator + Copy, R: Source, W: Sink, E: Sink, F: Files>(
+    alloc: A,
+    reader: &mut R,
+    writer: &mut W,
+    complaints: &mut E,
+    files: &mut F,
+    plan: &Plan<'_, A>,
+) -> u8
+    ensures { Formats F.reads F.replaces plan.now.settings (texts plan.now.files.items) result
+        (record { input = R.account reader.old; output = W.account writer.old; complaints = E.account complaints.old; files = files.old })
+        (record { input = R.account reader.new; output = W.account writer.new; complaints = E.account complaints.new; files = files.new }) }
+{
+    let mode = plan.settings.mode.unwrap_or(Mode::Write);
+    let limits = limits_of(plan.settings);
+    match plan.files.as_slice() {
+        [] => format_standard_input(alloc, reader, writer, complaints, mode, limits),
+        paths => format_files(alloc, files, writer, complaints, paths, mode, limits),
+    }
+}
+
 /// Does what the words after the program's name ask for, and gives the status: 0 when all is done, 1 when a text has errors or a mode that
-/// changes nothing found a change, 2 when something could not be done.
+/// changes nothing found a change, 2 when something could not be done or the program is not called so.
 pub fn run<A: Allocator + Copy, R: Source, W: Sink, E: Sink, F: Files>(
     alloc: A,
     reader: &mut R,
@@ -43,22 +95,20 @@ pub fn run<A: Allocator + Copy, R: Source, W: Sink, E: Sink, F: Files>(
     complaints: &mut E,
     files: &mut F,
     words: &[&str],
-) -> u8 {
+) -> u8
+    ensures { Runs F.reads F.replaces (request_of (texts words.now)) result
+        (record { input = R.account reader.old; output = W.account writer.old; complaints = E.account complaints.old; files = files.old })
+        (record { input = R.account reader.new; output = W.account writer.new; complaints = E.account complaints.new; files = files.new }) }
+{
     match options(alloc, words) {
-        Ok(Some(Request::Help)) => print(writer, USAGE).max(print(writer, HELP)),
-        Ok(Some(Request::Version)) => print(writer, VERSION),
-        Ok(Some(Request::Format(plan))) => {
-            if plan.files.is_empty() {
-                return format_standard_input(alloc, reader, writer, complaints, &plan);
-            }
-            format_files(alloc, files, writer, complaints, &plan)
-        }
-        Ok(None) => {
-            print(complaints, USAGE);
+        Ok(Request::Print(page)) => print(writer, page),
+        Ok(Request::Format(plan)) => format(alloc, reader, writer, complaints, files, &plan),
+        Err(WordsError::Usage) => {
+            let _ = write_all(complaints, USAGE.as_bytes());
             2
         }
-        Err(_) => {
-            print(complaints, "gqlfmt: out of memory\n");
+        Err(WordsError::Memory) => {
+            let _ = write_all(complaints, b"gqlfmt: out of memory\n");
             2
         }
     }

@@ -1,0 +1,76 @@
+-- What a run of the program does, by what its words ask for.
+use Rattle.std.specs.Prelude.{◌≡◌, ◌⊎◌, ℕ, Bool, List, [], ◌∷◌, ◌++◌, Option, Some, None, Result, unwrap_or}
+use Rattle.gqlcst_run.specs.Command.{none_set}
+use Rattle.gqlcst_run.specs.Devices.{Account, moved}
+use Rattle.gqlcst_run.specs.Writing.{IsBroken}
+use Rattle.gqlcst_run.specs.Program.{Reads, Writes}
+use Rattle.gqlcst_run.specs.declared.command.Limits.{Limits}
+use Rattle.gqlcst_run.specs.declared.outcome.Fault.{Fault}
+use Rattle.gqlfmt_files.specs.Words.{Run}
+use Rattle.gqlfmt_files.specs.declared.settling.Mode.{Mode}
+use Rattle.gqlfmt_files.specs.declared.settling.Mode.TheVariants.{Write}
+use Rattle.gqlfmt_files.specs.declared.settling.Outcome.{Outcome}
+use Rattle.gqlfmt_files.specs.declared.words.Settings.{Settings}
+use Rattle.gqlfmt_files.specs.declared.words.Page.{Page}
+use Rattle.gqlfmt_files.specs.declared.words.Page.TheVariants.{Help, Version}
+use Rattle.gqlfmt_files.specs.declared.words.Request.{Request}
+use Rattle.gqlfmt_files.specs.declared.words.Request.TheVariants.{Print, Format}
+use Rattle.gqlfmt_run.specs.declared.command.TheConstants.{USAGE, HELP, VERSION}
+use Rattle.gqlfmt_run.specs.Outcome.{status_of}
+use Rattle.gqlfmt_run.specs.Input.{IsOutput}
+use Rattle.gqlfmt_run.specs.Paths.{HandlesAll}
+
+-- the mode where no option sets it, and the limits
+abbrev pub mode_of : Settings → Mode
+mode_of settings = unwrap_or settings.mode Write
+
+abbrev pub limits_of : Settings → Limits
+limits_of settings = record { recursion = unwrap_or settings.recursion none_set.recursion; tokens = unwrap_or settings.tokens none_set.tokens }
+
+abbrev pub page_text : Page → List ℕ
+page_text Help = USAGE.now ++ HELP.now
+page_text Version = VERSION.now
+
+-- What a run finds and leaves: what went through standard input, standard output and standard error, and the files.
+pub record State (S : Type 0) : Type 0 where
+  pub input : Account
+  pub output : Account
+  pub complaints : Account
+  pub files : S
+
+-- All of the text is written, or the writer broke off.
+abbrev pub IsWritten : List ℕ → Account → Account → Type 0
+IsWritten text old new = (new ≡ moved old text) ⊎ IsBroken text old new
+
+-- the same, with the status for it
+abbrev pub IsPrinted : List ℕ → ℕ → Account → Account → Type 0
+IsPrinted text status old new = ((status ≡ 0) × (new ≡ moved old text)) ⊎ ((status ≡ 2) × IsBroken text old new)
+
+-- Standard input is read, and what comes of it is written.
+pub record FormatsInput (mode : Mode) (limits : Limits) (status : ℕ) (old_input old_output new_input new_output : Account) : Type 0 where
+  pub ended : Result Outcome Fault
+  pub input : List ℕ
+  pub reads : Reads ended input old_input new_input
+  pub writes : Writes (IsOutput mode limits) ended input old_output new_output
+  pub counted : status ≡ status_of ended
+
+-- the files, as a trait tells what its two calls do
+module _ {S : Type 0} (reads : S → List ℕ → Option (List ℕ) → S → Type 0) (replaces : S → List ℕ → List ℕ → Bool → S → Type 0) where
+  -- the files at these paths are handled, or standard input where there are none
+  abbrev pub Formats : Settings → List (List ℕ) → ℕ → State S → State S → Type 0
+  Formats settings [] status old new =
+      FormatsInput (mode_of settings) (limits_of settings) status old.input old.output new.input new.output × (new.files ≡ old.files)
+  Formats settings (path ∷ paths) status old new =
+      HandlesAll reads replaces (mode_of settings) (limits_of settings) (path ∷ paths) status old.files new.files × (new.input ≡ old.input)
+
+  -- What a run does for a request. Where there is none, it says on standard error how the program is called, and nothing else.
+  abbrev pub Does : Option (Request Run) → ℕ → State S → State S → Type 0
+  Does (Some (Print page)) status old new = IsPrinted (page_text page) status old.output new.output × (new.input ≡ old.input) × (new.files ≡ old.files)
+  Does (Some (Format run)) status old new = Formats run.settings run.files status old new
+  Does None status old new =
+      (status ≡ 2) × IsWritten USAGE.now old.complaints new.complaints × (new.output ≡ old.output) × (new.input ≡ old.input) × (new.files ≡ old.files)
+
+  -- What a run does: that, or nothing where memory was refused before the last of its words was read.
+  abbrev pub Runs : Option (Request Run) → ℕ → State S → State S → Type 0
+  Runs request status old new =
+      Does request status old new ⊎ ((status ≡ 2) × (new.output ≡ old.output) × (new.input ≡ old.input) × (new.files ≡ old.files))
