@@ -1,4 +1,4 @@
-//! Tests of `line_index`, `open_document`, `rpc_frames`, `rpc_messages`, `rpc_exchange` and `diagnostic_messages`.
+//! Tests of `line_index`, `open_document`, `rpc_frames`, `rpc_messages`, `rpc_exchange`, `rpc_serving` and `diagnostic_messages`.
 //!
 //! They have a crate of their own, since a crate with tests is proved twice.
 #![tactic(auto)]
@@ -15,3 +15,5 @@ mod frames;
 mod messages;
 #[cfg(test)]
 mod places;
+#[cfg(test)]
+mod serving;

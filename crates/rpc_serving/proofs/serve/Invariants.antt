@@ -1,0 +1,11 @@
+use Rattle.std.proofs.Common.{◌≡◌, ℕ, ◌≤◌, List, length}
+use Rattle.gqlcst_run.specs.Devices.{moved}
+use Rattle.rpc_frames.specs.Frames.{HasNoFrame}
+use Rattle.rpc_serving.proofs.Conversations.{GoesOn}
+use Rattle.rpc_serving.proofs.serve.Given as goal
+
+abbrev pub invariant-loop : goal.invariant-loop
+invariant-loop g l =
+    (input output : List ℕ) × (g.R.Source.account l.reader ≡ moved (g.R.Source.account l.initial.reader) input)
+    × (g.W.Sink.account l.writer ≡ moved (g.W.Sink.account l.initial.writer) output)
+    × GoesOn input output l.frames × HasNoFrame l.frames × (l.counter ≤ length input)

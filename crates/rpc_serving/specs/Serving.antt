@@ -1,0 +1,29 @@
+-- A conversation through a reader and a writer.
+use Rattle.std.specs.Prelude.{◌≡◌, ◌⊎◌, ℕ, ◌+◌, ◌≤◌, ◌^◌, List, length, Option, Some, None}
+use Rattle.gqlcst_run.specs.Devices.{Account, moved, stopped, failed}
+use Rattle.gqlcst_run.specs.Writing.{IsBroken}
+use Rattle.gqlcst_run.specs.declared.outcome.Fault.{Fault}
+use Rattle.gqlcst_run.specs.declared.outcome.Fault.TheVariants.{Read, Utf8, Memory, Write}
+use Rattle.rpc_exchange.specs.Exchange.{Exchange}
+
+-- The run ends with this status, after so many bytes: a message asked for it, or the input ended. No more than 2 ^ 64 - 1 reads are made.
+abbrev pub EndsWith : Option ℕ → ℕ → ℕ → Account → Account → Type 0
+EndsWith (Some asked) status count now end = (status ≡ asked) × (end ≡ now)
+EndsWith None status count now end = (status ≡ 1) × ((end ≡ stopped now) ⊎ ((end ≡ now) × (2 ^ 64 ≤ count + 1)))
+
+-- what was written is what the conversation about the bytes that were read says
+pub record IsServed (status : ℕ) (read_old read_new write_old write_new : Account) : Type 0 where
+  pub input : List ℕ
+  pub output : List ℕ
+  pub left : List ℕ
+  pub asked : Option ℕ
+  pub exchange : Exchange input output left asked
+  pub ends : EndsWith asked status (length input) (moved read_old input) read_new
+  pub written : write_new ≡ moved write_old output
+
+-- what the client sends makes no run fail: the reader failed, memory was refused, or the writer failed
+abbrev pub EndsServing : Fault → Account → Account → Account → Account → Type 0
+EndsServing Read read_old read_new write_old write_new = (input : List ℕ) × (read_new ≡ failed (moved read_old input))
+EndsServing Write read_old read_new write_old write_new = (output said : List ℕ) × IsBroken said (moved write_old output) write_new
+EndsServing Memory read_old read_new write_old write_new = Unit {0}
+EndsServing Utf8 read_old read_new write_old write_new = ⊥
