@@ -1,0 +1,159 @@
+// What the tokens of a text are, for colours.
+ghost use Rattle.std.specs.Prelude.{◌≡◌, ◌≤◌, IfOk, OnOk, false, max, slice_index_or};
+ghost use Rattle.document_answers.specs.Parts.{AreInOrder, EndBefore, HasNoLineEnd, IsInLine};
+
+use crate::names::{defines_type, extends_type, named_by};
+use crate::span::{Span, span_of};
+use apollo_tree::{SyntaxKind, SyntaxNode, SyntaxToken};
+use std::alloc::{AllocError, Global};
+
+/// What a token is, as the language server protocol names it.
+#[derive(Clone, Copy, PartialEq, Eq)]
+pub enum TokenType {
+    Comment,
+    Keyword,
+    String,
+    Number,
+    Operator,
+    Variable,
+    Type,
+    Property,
+    Parameter,
+    EnumMember,
+    Function,
+    Decorator,
+}
+
+/// The protocol's names of the types of tokens, in the order of the enum.
+pub const TOKEN_TYPES: [&str; 12] = [
+    "comment",
+    "keyword",
+    "string",
+    "number",
+    "operator",
+    "variable",
+    "type",
+    "property",
+    "parameter",
+    "enumMember",
+    "function",
+    "decorator",
+];
+
+/// A token, or the part of it that is in one line.
+#[derive(Clone, Copy, PartialEq, Eq)]
+pub struct SemanticToken {
+    pub span: Span,
+    pub token_type: TokenType,
+}
+
+// What a name in a node is.
+fn type_of_name(kind: SyntaxKind) -> TokenType {
+    match kind {
+        SyntaxKind::VARIABLE => TokenType::Variable,
+        SyntaxKind::ARGUMENT | SyntaxKind::INPUT_VALUE_DEFINITION => TokenType::Parameter,
+        SyntaxKind::ENUM_VALUE => TokenType::EnumMember,
+        SyntaxKind::DIRECTIVE | SyntaxKind::DIRECTIVE_DEFINITION => TokenType::Decorator,
+        SyntaxKind::FRAGMENT_NAME | SyntaxKind::OPERATION_DEFINITION => TokenType::Function,
+        SyntaxKind::NAMED_TYPE => TokenType::Type,
+        other if defines_type(other) || extends_type(other) => TokenType::Type,
+        _ => TokenType::Property,
+    }
+}
+
+fn type_of_leaf(leaf: SyntaxToken<'_>) -> Option<TokenType> {
+    match leaf.kind() {
+        SyntaxKind::COMMENT => Some(TokenType::Comment),
+        SyntaxKind::STRING => Some(TokenType::String),
+        SyntaxKind::INT | SyntaxKind::FLOAT => Some(TokenType::Number),
+        SyntaxKind::DOLLAR => Some(TokenType::Variable),
+        SyntaxKind::AT => Some(TokenType::Decorator),
+        SyntaxKind::BANG
+        | SyntaxKind::AMP
+        | SyntaxKind::SPREAD
+        | SyntaxKind::COLON
+        | SyntaxKind::EQ
+        | SyntaxKind::PIPE => Some(TokenType::Operator),
+        SyntaxKind::IDENT => Some(type_of_name(named_by(leaf)?.kind())),
+        other if other.keyword().is_some() => Some(TokenType::Keyword),
+        _ => None,
+    }
+}
+
+// Whether a line ends at a place of a text.
+fn is_line_end(source: &str, place: usize) -> bool
+    ensures { result ≡ false → IsInLine (slice_index_or source.now place 0) }
+{
+    match source.as_bytes().get(place) {
+        Some(byte) => *byte == b'\n' || *byte == b'\r',
+        None => false,
+    }
+}
+
+// Where the line ends that is at a place, or `end` when it goes on up to there.
+fn line_end(source: &str, start: usize, end: usize) -> usize
+    requires { start ≤ end }
+    ensures within { (start ≤ result) × (result ≤ end) }
+    ensures line { HasNoLineEnd source.now start result }
+{
+    for place in start..end {
+        if is_line_end(source, place) {
+            return place;
+        }
+    }
+    end
+}
+
+// Adds a token, in parts when it is in more than one line.
+fn push_token(
+    tokens: &mut Vec<SemanticToken>,
+    source: &str,
+    span: Span,
+    token_type: TokenType,
+) -> Result<(), AllocError>
+    requires order { AreInOrder source.now tokens.old.items }
+    requires before { EndBefore span.start tokens.old.items }
+    ensures order { OnOk result (AreInOrder source.now tokens.new.items) }
+    ensures before { OnOk result (EndBefore (max span.start span.end) tokens.new.items) }
+{
+    let mut start = span.start;
+    while start < span.end {
+        let end = line_end(source, start, span.end);
+        if start < end {
+            tokens.push(SemanticToken {
+                span: Span { start, end },
+                token_type,
+            })?;
+        }
+        start = end.saturating_add(1);
+    }
+    Ok(())
+}
+
+/// The tokens of the part of a text that `within` is, also those that are only partly in it, by the root of the text's tree. They are in the
+/// order of the text, and none goes over the end of a line. It fails only where memory is refused.
+pub fn semantic_tokens(
+    alloc: Global,
+    source: &str,
+    root: SyntaxNode<'_>,
+    within: Span,
+) -> Result<Vec<SemanticToken>, AllocError>
+    ensures { IfOk result (λ tokens. AreInOrder source.now tokens.items) }
+{
+    let mut tokens = Vec::new(alloc);
+    let mut end = 0;
+    for element in root.descendants_with_tokens() {
+        if let Some(leaf) = element.into_token() {
+            let mut span = span_of(leaf.text_range());
+            if span.start < within.end
+                && within.start < span.end
+                && let Some(token_type) = type_of_leaf(leaf)
+            {
+                span.start = span.start.max(end);
+                push_token(&mut tokens, source, span, token_type)?;
+                end = span.end.max(span.start);
+            }
+        }
+    }
+    Ok(tokens)
+}

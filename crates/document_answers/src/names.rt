@@ -1,0 +1,92 @@
+// What the names of a document mean.
+use apollo_tree::{SyntaxKind, SyntaxNode, SyntaxToken};
+
+/// What a name stands for.
+#[derive(Clone, Copy, PartialEq, Eq)]
+pub enum NameKind {
+    Fragment,
+    Variable,
+    Type,
+    Directive,
+}
+
+/// A name that has a definition: what it stands for, and whether it is the one in the definition.
+#[derive(Clone, Copy)]
+pub struct Meaning {
+    pub kind: NameKind,
+    pub defines: bool,
+}
+
+/// Whether a node defines a type.
+pub(crate) fn defines_type(kind: SyntaxKind) -> bool {
+    matches!(
+        kind,
+        SyntaxKind::SCALAR_TYPE_DEFINITION
+            | SyntaxKind::OBJECT_TYPE_DEFINITION
+            | SyntaxKind::INTERFACE_TYPE_DEFINITION
+            | SyntaxKind::UNION_TYPE_DEFINITION
+            | SyntaxKind::ENUM_TYPE_DEFINITION
+            | SyntaxKind::INPUT_OBJECT_TYPE_DEFINITION
+    )
+}
+
+/// Whether a node extends a type.
+pub(crate) fn extends_type(kind: SyntaxKind) -> bool {
+    matches!(
+        kind,
+        SyntaxKind::SCALAR_TYPE_EXTENSION
+            | SyntaxKind::OBJECT_TYPE_EXTENSION
+            | SyntaxKind::INTERFACE_TYPE_EXTENSION
+            | SyntaxKind::UNION_TYPE_EXTENSION
+            | SyntaxKind::ENUM_TYPE_EXTENSION
+            | SyntaxKind::INPUT_OBJECT_TYPE_EXTENSION
+    )
+}
+
+// Whether the parent of a node is of a kind.
+fn is_in(node: SyntaxNode<'_>, kind: SyntaxKind) -> bool {
+    match node.parent() {
+        Some(parent) => parent.kind().is(kind),
+        None => false,
+    }
+}
+
+// What a name in a node stands for.
+fn kind_in(kind: SyntaxKind) -> Option<NameKind> {
+    match kind {
+        SyntaxKind::FRAGMENT_NAME => Some(NameKind::Fragment),
+        SyntaxKind::VARIABLE => Some(NameKind::Variable),
+        SyntaxKind::NAMED_TYPE => Some(NameKind::Type),
+        SyntaxKind::DIRECTIVE | SyntaxKind::DIRECTIVE_DEFINITION => Some(NameKind::Directive),
+        other if defines_type(other) || extends_type(other) => Some(NameKind::Type),
+        _ => None,
+    }
+}
+
+// Whether a name in a node is defined there.
+fn is_defined_in(node: SyntaxNode<'_>) -> bool {
+    match node.kind() {
+        SyntaxKind::FRAGMENT_NAME => is_in(node, SyntaxKind::FRAGMENT_DEFINITION),
+        SyntaxKind::VARIABLE => is_in(node, SyntaxKind::VARIABLE_DEFINITION),
+        SyntaxKind::DIRECTIVE_DEFINITION => true,
+        other => defines_type(other),
+    }
+}
+
+/// The node that a leaf names, or is in the name of.
+pub(crate) fn named_by<'t>(leaf: SyntaxToken<'t>) -> Option<SyntaxNode<'t>> {
+    leaf.parent()?.parent()
+}
+
+/// What an identifier stands for, where it is the name of something that a document defines.
+pub fn meaning_of(leaf: SyntaxToken<'_>) -> Option<Meaning> {
+    if !leaf.kind().is(SyntaxKind::IDENT) {
+        return None;
+    }
+    let named = named_by(leaf)?;
+    let kind = kind_in(named.kind())?;
+    Some(Meaning {
+        kind,
+        defines: is_defined_in(named),
+    })
+}
