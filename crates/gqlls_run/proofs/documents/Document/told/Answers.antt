@@ -1,0 +1,12 @@
+use Rattle.std.proofs.Common.{◌≡◌}
+use Rattle.gqlls_run.proofs.Texts.{same_publication}
+use Rattle.gqlls_run.proofs.documents.Document.told.Goals as goal
+
+pub returns-clause-told : goal.returns-clause-told
+returns-clause-told c =
+    let errors : c.as_slice-errors.result.now ≡ c.args.self.now.tree.errors = cc (c.as_slice-errors.ensures.value, c.errors.ensures) in
+    record {
+      parsed = c.args.self.now.tree;
+      promise = c.requires;
+      published = same_publication _ _ _ _ _ _ _ _ _ _ c.as_str.ensures.value c.in_ok-places.ensures.encoding c.in_ok-places.ensures.text errors c.in_ok-body.ensures.published;
+    }

@@ -1,0 +1,107 @@
+// What the server says that it does.
+ghost use Rattle.std.specs.Prelude.{IfOk};
+ghost use Rattle.json.specs.Tree.{HasNumbers};
+ghost use Rattle.json.specs.Value.{value_view};
+ghost use Rattle.rpc_messages.specs.Messages.{IsAnswer, id_token};
+
+use document_answers::TOKEN_TYPES;
+use json::Value;
+use line_index::PositionEncoding;
+use rpc_messages::{Piece, answer};
+use std::alloc::{AllocError, Global};
+
+// What is served without any options.
+const SERVED: [&str; 8] = [
+    "documentSymbolProvider",
+    "foldingRangeProvider",
+    "selectionRangeProvider",
+    "documentFormattingProvider",
+    "documentRangeFormattingProvider",
+    "definitionProvider",
+    "referencesProvider",
+    "hoverProvider",
+];
+
+// The protocol's name of how columns are counted.
+fn encoding_name(encoding: PositionEncoding) -> &'static str {
+    match encoding {
+        PositionEncoding::Utf8 => "utf-8",
+        PositionEncoding::Utf16 => "utf-16",
+    }
+}
+
+fn push_sync(pieces: &mut Vec<Piece<'_>>) -> Result<(), AllocError> {
+    pieces.extend_from_slice(&[
+        Piece::Key("textDocumentSync"),
+        Piece::Object,
+        Piece::Key("openClose"),
+        Piece::Flag(true),
+        Piece::Key("change"),
+        Piece::Count(2),
+        Piece::Key("save"),
+        Piece::Flag(true),
+        Piece::EndObject,
+        Piece::Key("completionProvider"),
+        Piece::Object,
+        Piece::Key("triggerCharacters"),
+        Piece::Array,
+        Piece::Text("$"),
+        Piece::Text("@"),
+        Piece::EndArray,
+        Piece::EndObject,
+    ])
+}
+
+fn push_tokens(pieces: &mut Vec<Piece<'_>>) -> Result<(), AllocError> {
+    pieces.extend_from_slice(&[
+        Piece::Key("semanticTokensProvider"),
+        Piece::Object,
+        Piece::Key("full"),
+        Piece::Flag(true),
+        Piece::Key("range"),
+        Piece::Flag(true),
+        Piece::Key("legend"),
+        Piece::Object,
+        Piece::Key("tokenModifiers"),
+        Piece::Array,
+        Piece::EndArray,
+        Piece::Key("tokenTypes"),
+        Piece::Array,
+    ])?;
+    for name in TOKEN_TYPES {
+        pieces.push(Piece::Text(name))?;
+    }
+    pieces.extend_from_slice(&[Piece::EndArray, Piece::EndObject, Piece::EndObject])
+}
+
+/// The answer to the first request.
+pub(crate) fn answer_initialize(
+    alloc: Global,
+    id: &Value<'_>,
+    encoding: PositionEncoding,
+) -> Result<Vec<u8>, AllocError>
+    requires { HasNumbers (value_view id.now) }
+    ensures { IfOk result (λ body. IsAnswer (id_token (value_view id.now)) body.items) }
+{
+    let mut pieces = Vec::new(alloc);
+    pieces.extend_from_slice(&[
+        Piece::Key("result"),
+        Piece::Object,
+        Piece::Key("serverInfo"),
+        Piece::Object,
+        Piece::Key("name"),
+        Piece::Text("gqlls"),
+        Piece::EndObject,
+        Piece::Key("capabilities"),
+        Piece::Object,
+        Piece::Key("positionEncoding"),
+        Piece::Text(encoding_name(encoding)),
+    ])?;
+    for name in SERVED {
+        pieces.extend_from_slice(&[Piece::Key(name), Piece::Flag(true)])?;
+    }
+    push_sync(&mut pieces)?;
+    push_tokens(&mut pieces)?;
+    pieces.extend_from_slice(&[Piece::EndObject, Piece::EndObject])?;
+    answer(alloc, id, pieces.as_slice())
+}

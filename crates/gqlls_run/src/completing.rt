@@ -1,0 +1,250 @@
+// What may come next.
+ghost use Rattle.std.specs.Prelude.{IfOk};
+ghost use Rattle.json.specs.Tree.{HasNumbers};
+ghost use Rattle.json.specs.Value.{value_view};
+ghost use Rattle.rpc_messages.specs.Messages.{IsAnswer, id_token};
+
+use crate::parsing::parse;
+use apollo_parser::{DocumentRoot, SyntaxKind, SyntaxNode, SyntaxToken, SyntaxTree};
+use diagnostic_messages::Places;
+use document_answers::{NameKind, meaning_of, span_of};
+use json::Value;
+use rpc_messages::{Piece, answer};
+use std::alloc::{AllocError, Global};
+
+// A word that may come next.
+#[derive(Clone, Copy)]
+struct Candidate<'t> {
+    label: &'t str,
+    // What the word names; `None` for a keyword.
+    names: Option<NameKind>,
+}
+
+const BUILT_IN_TYPES: [&str; 5] = ["Boolean", "Float", "ID", "Int", "String"];
+
+const BUILT_IN_DIRECTIVES: [&str; 4] = ["deprecated", "include", "skip", "specifiedBy"];
+
+// How long the text of the definition that a place is in may be for words to be tried there.
+const LONGEST_FRONT: usize = 32768;
+
+// The text in front of a place, without the word that ends there.
+fn front_of(source: &str, offset: usize) -> &str {
+    match source.get(..offset) {
+        Some(before) => { before.trim_end_matches(|c: char| c.is_ascii_alphanumeric() || c == '_') }
+        None => "",
+    }
+}
+
+// The end of a text from where its last definition begins.
+fn last_definition<'t>(source: &'t str, root: SyntaxNode<'_>) -> Option<&'t str> {
+    let mut start = 0;
+    for child in root.children() {
+        start = span_of(child.text_range()).start;
+    }
+    let last = source.get(start..)?;
+    if last.len() > LONGEST_FRONT {
+        return None;
+    }
+    Some(last)
+}
+
+// The leaf at a place of a tree whose first error, if there is one, is that the text ends.
+fn leaf_at<'t>(tree: &'t SyntaxTree<DocumentRoot>, offset: usize) -> Option<SyntaxToken<'t>> {
+    if let Some(error) = tree.errors().as_slice().first()
+        && !error.is_eof()
+    {
+        return None;
+    }
+    for element in tree.root().descendants_with_tokens() {
+        if let Some(leaf) = element.into_token()
+            && leaf.text_range().start() == offset
+        {
+            return Some(leaf);
+        }
+    }
+    None
+}
+
+// The tree of a text with words after it.
+fn parse_with(
+    alloc: Global,
+    front: &str,
+    words: &str,
+) -> Result<SyntaxTree<DocumentRoot>, AllocError> {
+    let mut text = String::from_str(alloc, front)?;
+    text.push_str(words)?;
+    parse(alloc, text.as_str())
+}
+
+// A text that begins with a keyword, and shows how it goes on where the parser looks further.
+fn continued(kind: SyntaxKind, word: &'static str) -> &'static str {
+    match kind {
+        SyntaxKind::extend_KW => "extend type",
+        SyntaxKind::repeatable_KW => "repeatable on",
+        _ => word,
+    }
+}
+
+// Whether the grammar takes a keyword after a text, which the words begin with.
+fn is_keyword_after(alloc: Global, front: &str, words: &str) -> Result<bool, AllocError> {
+    let tree = parse_with(alloc, front, words)?;
+    match leaf_at(&tree, front.len()) {
+        Some(leaf) => Ok(leaf.kind().keyword().is_some()),
+        None => Ok(false),
+    }
+}
+
+// Adds the keywords that the grammar takes after a text.
+fn push_keywords(
+    alloc: Global,
+    front: &str,
+    found: &mut Vec<Candidate<'_>>,
+) -> Result<(), AllocError> {
+    for number in 0..SyntaxKind::COUNT {
+        if let Some(kind) = SyntaxKind::from_u16(number)
+            && let Some(label) = kind.keyword()
+            && is_keyword_after(alloc, front, continued(kind, label))?
+        {
+            found.push(Candidate { label, names: None })?;
+        }
+    }
+    Ok(())
+}
+
+// What a name after a text would stand for.
+fn name_after(alloc: Global, front: &str) -> Result<Option<NameKind>, AllocError> {
+    let tree = parse_with(alloc, front, "x")?;
+    let Some(leaf) = leaf_at(&tree, front.len()) else {
+        return Ok(None);
+    };
+    Ok(match meaning_of(leaf) {
+        Some(meaning) if !meaning.defines => Some(meaning.kind),
+        _ => None,
+    })
+}
+
+// Adds the names of a kind that a document defines, each once.
+fn push_names<'t>(
+    root: SyntaxNode<'t>,
+    kind: NameKind,
+    found: &mut Vec<Candidate<'t>>,
+) -> Result<(), AllocError> {
+    for element in root.descendants_with_tokens() {
+        if let Some(leaf) = element.into_token()
+            && let Some(meaning) = meaning_of(leaf)
+            && meaning.defines
+            && meaning.kind == kind
+            && !found.iter().any(|it| it.label == leaf.text())
+        {
+            found.push(Candidate {
+                label: leaf.text(),
+                names: Some(kind),
+            })?;
+        }
+    }
+    Ok(())
+}
+
+// Adds names of a kind.
+fn push_labels<'t>(
+    labels: &[&'t str],
+    kind: NameKind,
+    found: &mut Vec<Candidate<'t>>,
+) -> Result<(), AllocError> {
+    for label in labels {
+        found.push(Candidate {
+            label: *label,
+            names: Some(kind),
+        })?;
+    }
+    Ok(())
+}
+
+// Adds the names that need no definition.
+fn push_built_in<'t>(kind: NameKind, found: &mut Vec<Candidate<'t>>) -> Result<(), AllocError> {
+    match kind {
+        NameKind::Type => push_labels(&BUILT_IN_TYPES, kind, found),
+        NameKind::Directive => push_labels(&BUILT_IN_DIRECTIVES, kind, found),
+        _ => Ok(()),
+    }
+}
+
+// The words that may come after a front of a text: the keywords that the grammar takes, and where a name is expected those that the document
+// defines and that are built in. There are none after an error of the same definition.
+fn completions<'t>(
+    alloc: Global,
+    before: &str,
+    root: SyntaxNode<'t>,
+) -> Result<Vec<Candidate<'t>>, AllocError> {
+    let mut found = Vec::new(alloc);
+    let tree = parse(alloc, before)?;
+    let Some(front) = last_definition(before, tree.root()) else {
+        return Ok(found);
+    };
+    push_keywords(alloc, front, &mut found)?;
+    if let Some(kind) = name_after(alloc, front)? {
+        push_names(root, kind, &mut found)?;
+        push_built_in(kind, &mut found)?;
+    }
+    Ok(found)
+}
+
+// The protocol's number of what a word is.
+fn completion_number(names: Option<NameKind>) -> usize {
+    match names {
+        None => 14,
+        Some(NameKind::Fragment) => 3,
+        Some(NameKind::Variable) => 6,
+        Some(NameKind::Type) => 7,
+        Some(NameKind::Directive) => 24,
+    }
+}
+
+// Adds words, each with the range that it replaces.
+fn push_candidates<'t>(
+    pieces: &mut Vec<Piece<'t>>,
+    range: &[Piece<'t>],
+    found: &[Candidate<'t>],
+) -> Result<(), AllocError> {
+    for candidate in found {
+        pieces.extend_from_slice(&[
+            Piece::Object,
+            Piece::Key("label"),
+            Piece::Text(candidate.label),
+            Piece::Key("kind"),
+            Piece::Count(completion_number(candidate.names)),
+            Piece::Key("textEdit"),
+            Piece::Object,
+            Piece::Key("range"),
+        ])?;
+        pieces.extend_from_slice(range)?;
+        pieces.extend_from_slice(&[
+            Piece::Key("newText"),
+            Piece::Text(candidate.label),
+            Piece::EndObject,
+            Piece::EndObject,
+        ])?;
+    }
+    Ok(())
+}
+
+/// The answer to completion at a byte offset: the words that may be there instead of the one that ends there.
+pub(crate) fn answer_completion(
+    alloc: Global,
+    id: &Value<'_>,
+    root: SyntaxNode<'_>,
+    places: &Places<'_>,
+    offset: usize,
+) -> Result<Vec<u8>, AllocError>
+    requires { HasNumbers (value_view id.now) }
+    ensures { IfOk result (λ body. IsAnswer (id_token (value_view id.now)) body.items) }
+{
+    let before = front_of(places.text, offset);
+    let found = completions(alloc, before, root)?;
+    let range = places.range(before.len(), offset);
+    let mut pieces = Vec::new(alloc);
+    pieces.extend_from_slice(&[Piece::Key("result"), Piece::Array])?;
+    push_candidates(&mut pieces, &range, found.as_slice())?;
+    pieces.push(Piece::EndArray)?;
+    answer(alloc, id, pieces.as_slice())
+}

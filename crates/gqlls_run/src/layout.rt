@@ -1,0 +1,81 @@
+// The layout of a document, or of some of its definitions.
+ghost use Rattle.std.specs.Prelude.{◌≡◌, IfOk, IfSome, string_bytes};
+ghost use Rattle.apollo_parser.specs.Answers.{usize_max};
+ghost use Rattle.formatter.specs.Outcome.{IsFormatted};
+
+use crate::parsing::RECURSION_LIMIT;
+use apollo_parser::SyntaxNode;
+use document_answers::{Span, span_of};
+use formatter::format;
+use std::alloc::{AllocError, Global};
+
+/// A text for a part of another.
+#[derive(Drop)]
+pub(crate) struct Change {
+    pub span: Span,
+    pub text: String,
+}
+
+/// The whole document with the layout of `formatter`; `None` where it has errors. It fails only where memory is refused.
+pub(crate) fn format_whole(alloc: Global, source: &str) -> Result<Option<String>, AllocError>
+    ensures { IfOk result (λ r. IfSome r (λ text. IsFormatted source.now 500 usize_max (string_bytes text))) }
+{
+    match format(alloc, source, RECURSION_LIMIT, usize::MAX)? {
+        Ok(text) => Ok(Some(text)),
+        Err(_) => Ok(None),
+    }
+}
+
+// Whether a part of the text has a byte of another, or is an empty part in it or at its edge.
+fn meets(within: Span, span: Span) -> bool {
+    if within.start == within.end {
+        span.start <= within.start && within.start <= span.end
+    } else {
+        span.start < within.end && within.start < span.end
+    }
+}
+
+// The definitions that are at least partly in a part of the text, as one part of it.
+fn definitions_within(root: SyntaxNode<'_>, within: Span) -> Option<Span> {
+    let mut found: Option<Span> = None;
+    for definition in root.children() {
+        let span = span_of(definition.text_range());
+        if meets(within, span) {
+            let start = found.map_or(span.start, |it| it.start);
+            found = Some(Span {
+                start,
+                end: span.end,
+            });
+        }
+    }
+    found
+}
+
+/// The definitions that are at least partly in a part of the text, with the layout of `formatter`; `None` where there are none, or where they
+/// have errors. It fails only where memory is refused.
+pub(crate) fn format_part(
+    alloc: Global,
+    source: &str,
+    root: SyntaxNode<'_>,
+    within: Span,
+) -> Result<Option<Change>, AllocError> {
+    let Some(span) = definitions_within(root, within) else {
+        return Ok(None);
+    };
+    let Some(part) = source.get(span.start..span.end) else {
+        return Ok(None);
+    };
+    let part = part.trim_end();
+    let Some(text) = format_whole(alloc, part)? else {
+        return Ok(None);
+    };
+    let text = String::from_str(alloc, text.trim_end())?;
+    let end = span.start.saturating_add(part.len());
+    Ok(Some(Change {
+        span: Span {
+            start: span.start,
+            end,
+        },
+        text,
+    }))
+}

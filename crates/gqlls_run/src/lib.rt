@@ -1,0 +1,17 @@
+//! What the program `gqlls` replies to each message: a language server for GraphQL documents.
+//!
+//! A `Server` is the service of a conversation (`rpc_serving`). It keeps the open documents with their trees. What needs only a tree is made by
+//! `document_answers`; here are the states of a conversation, and what needs the parser: errors, layout and completion.
+#![tactic(auto)]
+
+mod capabilities;
+mod completing;
+mod documents;
+mod formatting;
+mod layout;
+mod parameters;
+mod parsing;
+mod questions;
+mod server;
+
+pub use server::Server;
