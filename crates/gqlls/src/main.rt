@@ -1,0 +1,32 @@
+//! `gqlls` is a language server for GraphQL documents over standard input and output.
+//!
+//! Here are only the standard devices and the exit status; what is done between them is in `gqlls_run` and `rpc_serving`.
+#![tactic(auto)]
+
+use gqlcst_run::{Fault, StdSink, StdSource};
+use gqlls_run::Server;
+use rpc_serving::serve;
+use std::process::ExitCode;
+
+// What is said on standard error about a run that failed.
+fn complaint_of(fault: Fault) -> &'static str {
+    match fault {
+        Fault::Read | Fault::Utf8 => "gqlls: cannot read",
+        Fault::Memory => "gqlls: out of memory",
+        Fault::Write => "gqlls: cannot write",
+    }
+}
+
+fn main(rt: HostRuntime) -> ExitCode {
+    let mut reader = StdSource::new(rt.stdin());
+    let mut writer = StdSink::new(rt.stdout());
+    let mut server = Server::new(rt.alloc());
+    match serve(rt.alloc(), &mut server, &mut reader, &mut writer) {
+        Ok(status) => ExitCode::from(status),
+        Err(fault) => {
+            let complaint = complaint_of(fault);
+            let _ = eprintln!(rt; "{complaint}");
+            ExitCode::from(2)
+        }
+    }
+}
