@@ -32,20 +32,20 @@ pub record AreInOrder (text : List ℕ) (tokens : List SemanticToken) : Type 0 w
   pub order : AllPairs IsBefore tokens
   pub lines : All (λ token. HasNoLineEnd text token.span.start token.span.end) tokens
 
--- tokens have ended at an offset
+-- each of the tokens ends at an offset or before it
 abbrev pub EndBefore : ℕ → List SemanticToken → Type 0
 EndBefore offset tokens = All (λ token. token.span.end ≤ offset) tokens
 
 abbrev pub text_in : List ℕ → Span → List ℕ
 text_in text part = slice_range text part.start part.end
 
--- the text is that of a part of a text at an offset, or that ends there
+-- the text is that of a part of a source, which has an offset in it or at its end
 pub record IsTextAt (source : List ℕ) (offset : ℕ) (text : List ℕ) : Type 0 where
   pub part : Span
   pub starts : part.start ≤ offset
   pub ends : offset ≤ part.end
   pub is : text ≡ text_in source part
 
--- the part of a text has the name that is at an offset, or that ends there
+-- a part of a source has the text of the name that has an offset in it or at its end
 abbrev pub HasNameAt : List ℕ → ℕ → Span → Type 0
 HasNameAt source offset part = IsTextAt source offset (text_in source part)

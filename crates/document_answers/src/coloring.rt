@@ -47,17 +47,29 @@ pub struct SemanticToken {
     pub token_type: TokenType,
 }
 
-// What a name in a node is.
+// What a name in a node is, by the kind of the node.
+const NAME_TYPES: [(SyntaxKind, TokenType); 9] = [
+    (SyntaxKind::VARIABLE, TokenType::Variable),
+    (SyntaxKind::ARGUMENT, TokenType::Parameter),
+    (SyntaxKind::INPUT_VALUE_DEFINITION, TokenType::Parameter),
+    (SyntaxKind::ENUM_VALUE, TokenType::EnumMember),
+    (SyntaxKind::DIRECTIVE, TokenType::Decorator),
+    (SyntaxKind::DIRECTIVE_DEFINITION, TokenType::Decorator),
+    (SyntaxKind::FRAGMENT_NAME, TokenType::Function),
+    (SyntaxKind::OPERATION_DEFINITION, TokenType::Function),
+    (SyntaxKind::NAMED_TYPE, TokenType::Type),
+];
+
 fn type_of_name(kind: SyntaxKind) -> TokenType {
-    match kind {
-        SyntaxKind::VARIABLE => TokenType::Variable,
-        SyntaxKind::ARGUMENT | SyntaxKind::INPUT_VALUE_DEFINITION => TokenType::Parameter,
-        SyntaxKind::ENUM_VALUE => TokenType::EnumMember,
-        SyntaxKind::DIRECTIVE | SyntaxKind::DIRECTIVE_DEFINITION => TokenType::Decorator,
-        SyntaxKind::FRAGMENT_NAME | SyntaxKind::OPERATION_DEFINITION => TokenType::Function,
-        SyntaxKind::NAMED_TYPE => TokenType::Type,
-        other if defines_type(other) || extends_type(other) => TokenType::Type,
-        _ => TokenType::Property,
+    for (named, token_type) in NAME_TYPES {
+        if kind.is(named) {
+            return token_type;
+        }
+    }
+    if defines_type(kind) || extends_type(kind) {
+        TokenType::Type
+    } else {
+        TokenType::Property
     }
 }
 

@@ -6,10 +6,20 @@ ghost use Rattle.apollo_tree.specs.References.{token_place};
 use crate::span::{Span, span_of};
 use apollo_tree::{SyntaxKind, SyntaxNode, SyntaxToken};
 
+/// Whether a kind is one of these.
+pub(crate) fn is_one_of(kind: SyntaxKind, kinds: &[SyntaxKind]) -> bool {
+    for one in kinds {
+        if kind.is(*one) {
+            return true;
+        }
+    }
+    false
+}
+
 /// The first child of one of these kinds.
 pub(crate) fn child_of<'t>(node: SyntaxNode<'t>, kinds: &[SyntaxKind]) -> Option<SyntaxNode<'t>> {
     for child in node.children() {
-        if kinds.iter().any(|kind| child.kind().is(*kind)) {
+        if is_one_of(child.kind(), kinds) {
             return Some(child);
         }
     }

@@ -1,4 +1,5 @@
 // What the names of a document mean.
+use crate::labels::is_one_of;
 use apollo_tree::{SyntaxKind, SyntaxNode, SyntaxToken};
 
 /// What a name stands for.
@@ -17,30 +18,32 @@ pub struct Meaning {
     pub defines: bool,
 }
 
+const TYPE_DEFINITIONS: [SyntaxKind; 6] = [
+    SyntaxKind::SCALAR_TYPE_DEFINITION,
+    SyntaxKind::OBJECT_TYPE_DEFINITION,
+    SyntaxKind::INTERFACE_TYPE_DEFINITION,
+    SyntaxKind::UNION_TYPE_DEFINITION,
+    SyntaxKind::ENUM_TYPE_DEFINITION,
+    SyntaxKind::INPUT_OBJECT_TYPE_DEFINITION,
+];
+
+const TYPE_EXTENSIONS: [SyntaxKind; 6] = [
+    SyntaxKind::SCALAR_TYPE_EXTENSION,
+    SyntaxKind::OBJECT_TYPE_EXTENSION,
+    SyntaxKind::INTERFACE_TYPE_EXTENSION,
+    SyntaxKind::UNION_TYPE_EXTENSION,
+    SyntaxKind::ENUM_TYPE_EXTENSION,
+    SyntaxKind::INPUT_OBJECT_TYPE_EXTENSION,
+];
+
 /// Whether a node defines a type.
 pub(crate) fn defines_type(kind: SyntaxKind) -> bool {
-    matches!(
-        kind,
-        SyntaxKind::SCALAR_TYPE_DEFINITION
-            | SyntaxKind::OBJECT_TYPE_DEFINITION
-            | SyntaxKind::INTERFACE_TYPE_DEFINITION
-            | SyntaxKind::UNION_TYPE_DEFINITION
-            | SyntaxKind::ENUM_TYPE_DEFINITION
-            | SyntaxKind::INPUT_OBJECT_TYPE_DEFINITION
-    )
+    is_one_of(kind, &TYPE_DEFINITIONS)
 }
 
 /// Whether a node extends a type.
 pub(crate) fn extends_type(kind: SyntaxKind) -> bool {
-    matches!(
-        kind,
-        SyntaxKind::SCALAR_TYPE_EXTENSION
-            | SyntaxKind::OBJECT_TYPE_EXTENSION
-            | SyntaxKind::INTERFACE_TYPE_EXTENSION
-            | SyntaxKind::UNION_TYPE_EXTENSION
-            | SyntaxKind::ENUM_TYPE_EXTENSION
-            | SyntaxKind::INPUT_OBJECT_TYPE_EXTENSION
-    )
+    is_one_of(kind, &TYPE_EXTENSIONS)
 }
 
 // Whether the parent of a node is of a kind.

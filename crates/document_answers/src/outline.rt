@@ -4,23 +4,28 @@ use crate::span::{Span, span_of};
 use apollo_tree::{SyntaxKind, SyntaxNode, SyntaxToken};
 use std::alloc::{AllocError, Global};
 
-/// What a part of a document is.
+/// What a part of a document is, with the protocol's number.
 #[derive(Clone, Copy, PartialEq, Eq)]
 pub enum SymbolKind {
-    Operation,
-    Fragment,
-    Schema,
-    Scalar,
-    Object,
-    Interface,
-    Union,
-    Enum,
-    InputObject,
-    Directive,
-    Field,
-    EnumValue,
-    Variable,
-    Argument,
+    /// A schema.
+    Namespace = 3,
+    /// An object type.
+    Class = 5,
+    /// An argument, or a field of an input object.
+    Property = 7,
+    Field = 8,
+    Enum = 10,
+    Interface = 11,
+    /// An operation or a fragment.
+    Function = 12,
+    Variable = 13,
+    EnumMember = 22,
+    /// A union or an input object.
+    Struct = 23,
+    /// A directive.
+    Event = 24,
+    /// A scalar.
+    TypeParameter = 26,
 }
 
 /// A definition, or a field, a value, an argument or a variable in one.
@@ -37,40 +42,46 @@ pub struct Symbol<'t> {
     pub name_span: Span,
 }
 
-fn symbol_kind(kind: SyntaxKind) -> Option<SymbolKind> {
-    let found = match kind {
-        SyntaxKind::OPERATION_DEFINITION => SymbolKind::Operation,
-        SyntaxKind::FRAGMENT_DEFINITION => SymbolKind::Fragment,
-        SyntaxKind::SCHEMA_DEFINITION | SyntaxKind::SCHEMA_EXTENSION => SymbolKind::Schema,
-        SyntaxKind::DIRECTIVE_DEFINITION => SymbolKind::Directive,
-        SyntaxKind::FIELD
-        | SyntaxKind::FIELD_DEFINITION
-        | SyntaxKind::ROOT_OPERATION_TYPE_DEFINITION => SymbolKind::Field,
-        SyntaxKind::FRAGMENT_SPREAD => SymbolKind::Fragment,
-        SyntaxKind::ENUM_VALUE_DEFINITION => SymbolKind::EnumValue,
-        SyntaxKind::VARIABLE_DEFINITION => SymbolKind::Variable,
-        SyntaxKind::INPUT_VALUE_DEFINITION => SymbolKind::Argument,
-        other => return type_kind(other),
-    };
-    Some(found)
-}
+const SYMBOL_KINDS: [(SyntaxKind, SymbolKind); 24] = [
+    (SyntaxKind::OPERATION_DEFINITION, SymbolKind::Function),
+    (SyntaxKind::FRAGMENT_DEFINITION, SymbolKind::Function),
+    (SyntaxKind::FRAGMENT_SPREAD, SymbolKind::Function),
+    (SyntaxKind::SCHEMA_DEFINITION, SymbolKind::Namespace),
+    (SyntaxKind::SCHEMA_EXTENSION, SymbolKind::Namespace),
+    (SyntaxKind::DIRECTIVE_DEFINITION, SymbolKind::Event),
+    (
+        SyntaxKind::SCALAR_TYPE_DEFINITION,
+        SymbolKind::TypeParameter,
+    ),
+    (SyntaxKind::SCALAR_TYPE_EXTENSION, SymbolKind::TypeParameter),
+    (SyntaxKind::OBJECT_TYPE_DEFINITION, SymbolKind::Class),
+    (SyntaxKind::OBJECT_TYPE_EXTENSION, SymbolKind::Class),
+    (SyntaxKind::INTERFACE_TYPE_DEFINITION, SymbolKind::Interface),
+    (SyntaxKind::INTERFACE_TYPE_EXTENSION, SymbolKind::Interface),
+    (SyntaxKind::UNION_TYPE_DEFINITION, SymbolKind::Struct),
+    (SyntaxKind::UNION_TYPE_EXTENSION, SymbolKind::Struct),
+    (SyntaxKind::ENUM_TYPE_DEFINITION, SymbolKind::Enum),
+    (SyntaxKind::ENUM_TYPE_EXTENSION, SymbolKind::Enum),
+    (SyntaxKind::INPUT_OBJECT_TYPE_DEFINITION, SymbolKind::Struct),
+    (SyntaxKind::INPUT_OBJECT_TYPE_EXTENSION, SymbolKind::Struct),
+    (SyntaxKind::FIELD, SymbolKind::Field),
+    (SyntaxKind::FIELD_DEFINITION, SymbolKind::Field),
+    (
+        SyntaxKind::ROOT_OPERATION_TYPE_DEFINITION,
+        SymbolKind::Field,
+    ),
+    (SyntaxKind::ENUM_VALUE_DEFINITION, SymbolKind::EnumMember),
+    (SyntaxKind::VARIABLE_DEFINITION, SymbolKind::Variable),
+    (SyntaxKind::INPUT_VALUE_DEFINITION, SymbolKind::Property),
+];
 
-fn type_kind(kind: SyntaxKind) -> Option<SymbolKind> {
-    let found = match kind {
-        SyntaxKind::SCALAR_TYPE_DEFINITION | SyntaxKind::SCALAR_TYPE_EXTENSION =>
-            SymbolKind::Scalar,
-        SyntaxKind::OBJECT_TYPE_DEFINITION | SyntaxKind::OBJECT_TYPE_EXTENSION =>
-            SymbolKind::Object,
-        SyntaxKind::INTERFACE_TYPE_DEFINITION | SyntaxKind::INTERFACE_TYPE_EXTENSION =>
-            SymbolKind::Interface,
-        SyntaxKind::UNION_TYPE_DEFINITION | SyntaxKind::UNION_TYPE_EXTENSION => SymbolKind::Union,
-        SyntaxKind::ENUM_TYPE_DEFINITION | SyntaxKind::ENUM_TYPE_EXTENSION => SymbolKind::Enum,
-        SyntaxKind::INPUT_OBJECT_TYPE_DEFINITION | SyntaxKind::INPUT_OBJECT_TYPE_EXTENSION => {
-            SymbolKind::InputObject
+fn symbol_kind(kind: SyntaxKind) -> Option<SymbolKind> {
+    for (part, symbol) in SYMBOL_KINDS {
+        if kind.is(part) {
+            return Some(symbol);
         }
-        _ => return None,
-    };
-    Some(found)
+    }
+    None
 }
 
 // The first word of a node, unless a brace comes first.
@@ -104,9 +115,21 @@ fn label_of<'t>(node: SyntaxNode<'t>) -> (&'t str, Span) {
 
 // Leaves the symbols that end before a place, and says how many are left: those that it is in. The ends that are open never rise.
 fn depth_at(open: &mut Vec<usize>, place: usize) -> usize {
-    let depth = open.iter().take_while(|end| place < **end).count();
-    open.truncate(depth);
-    depth
+    while let Some(end) = open.last().copied() {
+        if place < end {
+            break;
+        }
+        open.pop();
+    }
+    open.len()
+}
+
+// The text of the type that a node gives; empty where it gives none.
+fn detail_of<'t>(node: SyntaxNode<'t>) -> &'t str {
+    match type_of(node) {
+        Some(ty) => ty.text(),
+        None => "",
+    }
 }
 
 /// The symbols of a document, in the order of the text: each comes before those in it. It fails only where memory is refused.
@@ -124,7 +147,7 @@ pub fn symbols<'t>(alloc: Global, root: SyntaxNode<'t>) -> Result<Vec<Symbol<'t>
             depth,
             kind,
             name,
-            detail: type_of(node).map_or("", |ty| ty.text()),
+            detail: detail_of(node),
             span,
             name_span,
         })?;

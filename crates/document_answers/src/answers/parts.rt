@@ -69,7 +69,8 @@ fn push_parts(
     places: &Places<'_>,
     parts: &[Span],
 ) -> Result<(), AllocError> {
-    for (count, part) in parts.iter().rev().enumerate() {
+    for count in 0..parts.len() {
+        let part = parts[parts.len() - 1 - count];
         if count > 0 {
             pieces.push(Piece::Key("parent"))?;
         }

@@ -4,30 +4,12 @@ ghost use Rattle.json.specs.Tree.{HasNumbers};
 ghost use Rattle.json.specs.Value.{value_view};
 ghost use Rattle.rpc_messages.specs.Messages.{IsAnswer, id_token};
 
-use crate::outline::{Symbol, SymbolKind, symbols};
+use crate::outline::{Symbol, symbols};
 use apollo_tree::SyntaxNode;
 use diagnostic_messages::Places;
 use json::Value;
 use rpc_messages::{Piece, answer};
 use std::alloc::{AllocError, Global};
-
-// The protocol's number of a kind of symbol.
-fn symbol_number(kind: SymbolKind) -> usize {
-    match kind {
-        SymbolKind::Operation | SymbolKind::Fragment => 12,
-        SymbolKind::Schema => 3,
-        SymbolKind::Scalar => 26,
-        SymbolKind::Object => 5,
-        SymbolKind::Interface => 11,
-        SymbolKind::Union | SymbolKind::InputObject => 23,
-        SymbolKind::Enum => 10,
-        SymbolKind::Directive => 24,
-        SymbolKind::Field => 8,
-        SymbolKind::EnumValue => 22,
-        SymbolKind::Variable => 13,
-        SymbolKind::Argument => 7,
-    }
-}
 
 // Begins a symbol, up to the list of those in it.
 fn push_symbol<'t>(
@@ -40,7 +22,7 @@ fn push_symbol<'t>(
         Piece::Key("name"),
         Piece::Text(symbol.name),
         Piece::Key("kind"),
-        Piece::Count(symbol_number(symbol.kind)),
+        Piece::Count(symbol.kind as usize),
     ])?;
     if !symbol.detail.is_empty() {
         pieces.extend_from_slice(&[Piece::Key("detail"), Piece::Text(symbol.detail)])?;

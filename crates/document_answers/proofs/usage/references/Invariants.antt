@@ -1,5 +1,5 @@
 use Rattle.std.specs.List.{All}
-use Rattle.document_answers.specs.Parts.{HasNameAt, IsTextAt}
+use Rattle.document_answers.specs.Parts.{HasNameAt}
 use Rattle.document_answers.proofs.usage.references.Given as goal
 
 abbrev pub invariant-loop-element : goal.invariant-loop-element
