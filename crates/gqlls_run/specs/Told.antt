@@ -34,10 +34,10 @@ pub record TakesBack (params : Json) (documents : List Document) (body : List �
   pub closed : All (λ document. string_bytes document.uri ≢ uri) documents
   pub none_left : IsNoticeAbout uri None [] body
 
--- What the reply to a message tells, when these documents are open after it: the errors of the document that the message is about, by its text
--- now, or no errors when that document isn't open.
-abbrev pub Tells : Json → List Document → Reply → Type 0
-Tells params documents Nothing = Unit {0}
-Tells params documents (Answer body) = ⊥
-Tells params documents (Notice body) = TellsOfOne params documents body.items ⊎ TakesBack params documents body.items
-Tells params documents (Exit status) = Unit {0}
+-- What the reply to a message tells, by the documents that were open before it and those that are open after it. It is silent only where they
+-- are the same. Else it tells the errors of the document that the message is about, by its text now, or no errors when that document isn't open.
+abbrev pub Tells : Json → List Document → List Document → Reply → Type 0
+Tells params before after Nothing = after ≡ before
+Tells params before after (Answer body) = ⊥
+Tells params before after (Notice body) = TellsOfOne params after body.items ⊎ TakesBack params after body.items
+Tells params before after (Exit status) = after ≡ before

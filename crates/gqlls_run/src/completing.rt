@@ -27,12 +27,26 @@ const BUILT_IN_DIRECTIVES: [&str; 4] = ["deprecated", "include", "skip", "specif
 // How long the text of the definition that a place is in may be for words to be tried there.
 const LONGEST_FRONT: usize = 32768;
 
+// Whether a byte of a text is one of a word.
+fn is_in_word(source: &str, place: usize) -> bool {
+    match source.as_bytes().get(place) {
+        Some(byte) => byte.is_ascii_alphanumeric() || *byte == b'_',
+        None => false,
+    }
+}
+
+// Where the word begins that ends at a place of a text.
+fn word_start(source: &str, offset: usize) -> usize {
+    let mut start = offset;
+    while start > 0 && is_in_word(source, start - 1) {
+        start -= 1;
+    }
+    start
+}
+
 // The text in front of a place, without the word that ends there.
 fn front_of(source: &str, offset: usize) -> &str {
-    match source.get(..offset) {
-        Some(before) => { before.trim_end_matches(|c: char| c.is_ascii_alphanumeric() || c == '_') }
-        None => "",
-    }
+    source.get(..word_start(source, offset)).unwrap_or("")
 }
 
 // The end of a text from where its last definition begins.
@@ -123,6 +137,15 @@ fn name_after(alloc: Global, front: &str) -> Result<Option<NameKind>, AllocError
     })
 }
 
+fn has_label(found: &[Candidate<'_>], label: &str) -> bool {
+    for candidate in found {
+        if candidate.label == label {
+            return true;
+        }
+    }
+    false
+}
+
 // Adds the names of a kind that a document defines, each once.
 fn push_names<'t>(
     root: SyntaxNode<'t>,
@@ -134,7 +157,7 @@ fn push_names<'t>(
             && let Some(meaning) = meaning_of(leaf)
             && meaning.defines
             && meaning.kind == kind
-            && !found.iter().any(|it| it.label == leaf.text())
+            && !has_label(found.as_slice(), leaf.text())
         {
             found.push(Candidate {
                 label: leaf.text(),

@@ -41,10 +41,12 @@ fn definitions_within(root: SyntaxNode<'_>, within: Span) -> Option<Span> {
     for definition in root.children() {
         let span = span_of(definition.text_range());
         if meets(within, span) {
-            let start = found.map_or(span.start, |it| it.start);
-            found = Some(Span {
-                start,
-                end: span.end,
+            found = Some(match found {
+                Some(first) => Span {
+                    start: first.start,
+                    end: span.end,
+                },
+                None => span,
             });
         }
     }

@@ -10,8 +10,12 @@ use line_index::{Position, PositionEncoding};
 use open_document::{Change, PositionRange};
 use std::alloc::{AllocError, Global};
 
+fn unsigned_at(value: &Value<'_>, name: &str) -> Option<u64> {
+    value.get(name)?.as_u64()
+}
+
 fn number_at(value: &Value<'_>, name: &str) -> usize {
-    match value.get(name).and_then(|it| it.as_u64()) {
+    match unsigned_at(value, name) {
         Some(number) => number as usize,
         None => 0,
     }
@@ -98,6 +102,11 @@ pub(crate) fn text_of<'a>(params: &Value<'a>) -> Option<&'a str> {
     params.get("textDocument")?.get("text")?.as_str()
 }
 
+// The text of a change.
+fn new_text<'a>(change: &Value<'a>) -> Option<&'a str> {
+    change.get("text")?.as_str()
+}
+
 /// The changes of a document. One without a text is left out.
 pub(crate) fn changes_of<'a>(
     alloc: Global,
@@ -106,7 +115,7 @@ pub(crate) fn changes_of<'a>(
     let mut changes = Vec::new(alloc);
     if let Some(Value::Array(items)) = params.get("contentChanges") {
         for item in items {
-            if let Some(text) = item.get("text").and_then(|it| it.as_str()) {
+            if let Some(text) = new_text(item) {
                 changes.push(Change {
                     range: range_of(item),
                     text,
@@ -117,15 +126,13 @@ pub(crate) fn changes_of<'a>(
     Ok(changes)
 }
 
+fn include_declaration(params: &Value<'_>) -> Option<bool> {
+    params.get("context")?.get("includeDeclaration")?.as_bool()
+}
+
 /// Whether a search for references asks for the definition too.
 pub(crate) fn asks_for_definition(params: &Value<'_>) -> bool {
-    match params
-        .get("context")
-        .and_then(|it| it.get("includeDeclaration"))
-    {
-        Some(flag) => flag.as_bool() == Some(true),
-        None => false,
-    }
+    include_declaration(params) == Some(true)
 }
 
 // The encodings that a client offers.

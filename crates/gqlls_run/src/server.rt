@@ -81,7 +81,7 @@ impl Server {
     // Opens a document, and tells its errors.
     fn open(&mut self, alloc: Global, params: &Value<'_>) -> Result<Reply, AllocError>
         ensures replies { IfOk result (Replies None) }
-        ensures tells { IfOk result (Tells (value_view params.now) self.new.documents.items) }
+        ensures tells { IfOk result (Tells (value_view params.now) self.old.documents.items self.new.documents.items) }
     {
         let (Some(uri), Some(text)) = (uri_of(params), text_of(params)) else {
             return Ok(Reply::Nothing);
@@ -95,7 +95,7 @@ impl Server {
     // Changes a document, and tells its errors.
     fn change(&mut self, alloc: Global, params: &Value<'_>) -> Result<Reply, AllocError>
         ensures replies { IfOk result (Replies None) }
-        ensures tells { IfOk result (Tells (value_view params.now) self.new.documents.items) }
+        ensures tells { IfOk result (Tells (value_view params.now) self.old.documents.items self.new.documents.items) }
     {
         let Some(place) = self.place_of(params) else {
             return Ok(Reply::Nothing);
@@ -110,7 +110,7 @@ impl Server {
     // Closes a document, and takes its errors back.
     fn close(&mut self, alloc: Global, params: &Value<'_>) -> Result<Reply, AllocError>
         ensures replies { IfOk result (Replies None) }
-        ensures tells { IfOk result (Tells (value_view params.now) self.new.documents.items) }
+        ensures tells { IfOk result (Tells (value_view params.now) self.old.documents.items self.new.documents.items) }
     {
         let Some(uri) = uri_of(params) else {
             return Ok(Reply::Nothing);
@@ -154,7 +154,7 @@ impl Service for Server {
         params: &Value<'_>,
     ) -> Result<Reply, AllocError>
         ensures replies { IfOk result (Replies None) }
-        ensures tells { IfOk result (Tells (value_view params.now) self.new.documents.items) }
+        ensures tells { IfOk result (Tells (value_view params.now) self.old.documents.items self.new.documents.items) }
     {
         if method == "exit" {
             let status = if self.stage == Stage::ShutDown { 0 } else { 1 };
