@@ -1,4 +1,4 @@
-//! Tests of `line_index`, `open_document`, `rpc_frames`, `rpc_messages`, `rpc_exchange`, `rpc_serving` and `diagnostic_messages`.
+//! Tests of `line_index`, `open_document`, `rpc_frames`, `rpc_messages`, `rpc_serving` and `diagnostic_messages`.
 //!
 //! They have a crate of their own, since a crate with tests is proved twice.
 #![tactic(auto)]
@@ -7,8 +7,6 @@
 mod diagnostics;
 #[cfg(test)]
 mod documents;
-#[cfg(test)]
-mod exchange;
 #[cfg(test)]
 mod frames;
 #[cfg(test)]
