@@ -1,4 +1,4 @@
--- What a client is told of the documents that it has open.
+-- What is published of the documents that a client has open.
 use Rattle.std.specs.Prelude.{◌≡◌, ◌≢◌, ◌⊎◌, ℕ, ℤ, List, [], Option, Some, None, string_bytes}
 use Rattle.std.specs.List.{All, Contains}
 use Rattle.apollo_parser.specs.Answers.{usize_max}
@@ -12,13 +12,13 @@ use Rattle.rpc_messages.specs.declared.reply.Reply.TheVariants.{Nothing, Answer,
 use Rattle.gqlls_run.specs.Parameters.{IsVersionIn, uri_in}
 use Rattle.gqlls_run.specs.declared.documents.Document.{Document}
 
--- the body tells the errors of a parse of this text
+-- the body publishes the errors of a parse of this text
 pub record IsTold (uri : List ℕ) (version : Option ℤ) (encoding : PositionEncoding) (text body : List ℕ) : Type 0 where
   pub parsed : Parsed
   pub promise : Promise text 500 usize_max parsed
   pub published : IsPublication uri version encoding text parsed.errors body
 
--- the body tells the errors of the text that one of these documents has: the one that the parameters of a message name, in the version that they
+-- the body publishes the errors of the text of one of these documents: the one that the parameters of a message name, in the version that they
 -- give
 pub record TellsOfOne (params : Json) (documents : List Document) (body : List ℕ) : Type 0 where
   pub document : Document
@@ -34,8 +34,8 @@ pub record TakesBack (params : Json) (documents : List Document) (body : List �
   pub closed : All (λ document. string_bytes document.uri ≢ uri) documents
   pub none_left : IsNoticeAbout uri None [] body
 
--- What the reply to a message tells, by the documents that were open before it and those that are open after it. It is silent only where they
--- are the same. Else it tells the errors of the document that the message is about, by its text now, or no errors when that document isn't open.
+-- What the reply to a message publishes, by the documents that were open before it and those that are open after it: nothing only when they are the
+-- same, else the errors of the document that the message is about, of its text after the message, or no errors when that document isn't open.
 abbrev pub Tells : Json → List Document → List Document → Reply → Type 0
 Tells params before after Nothing = after ≡ before
 Tells params before after (Answer body) = ⊥

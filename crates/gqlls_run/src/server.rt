@@ -78,7 +78,7 @@ impl Server {
         }
     }
 
-    // Opens a document, and tells its errors.
+    // Opens a document, and publishes its errors.
     fn open(&mut self, alloc: Global, params: &Value<'_>) -> Result<Reply, AllocError>
         ensures replies { IfOk result (Replies None) }
         ensures tells { IfOk result (Tells (value_view params.now) self.old.documents.items self.new.documents.items) }
@@ -92,7 +92,7 @@ impl Server {
         Ok(Reply::Notice(told))
     }
 
-    // Changes a document, and tells its errors.
+    // Changes a document, and publishes its errors.
     fn change(&mut self, alloc: Global, params: &Value<'_>) -> Result<Reply, AllocError>
         ensures replies { IfOk result (Replies None) }
         ensures tells { IfOk result (Tells (value_view params.now) self.old.documents.items self.new.documents.items) }

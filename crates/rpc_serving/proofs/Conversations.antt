@@ -1,8 +1,7 @@
 -- Conversations over several reads.
-use Rattle.std.proofs.Common.{◌≡◌, ℕ, List, [], ◌∷◌, ◌++◌, Option, Some, None, sym, ap, ◌∙◌, refl, subst, append_assoc, arith}
+use Rattle.std.proofs.Common.{◌≡◌, ℕ, List, [], ◌∷◌, ◌++◌, Option, Some, None, sym, ap, ◌∙◌, refl, subst, append_assoc}
 use Rattle.std.proofs.lemmas.List.{append-nil}
 use Rattle.rpc_frames.specs.Frames.{BeginsWithFrame, HasNoFrame, NeverHasFrame}
-use Rattle.rpc_frames.proofs.FrameLemmas.{shorter}
 use Rattle.rpc_exchange.specs.Exchange.{Exchange, waits, replied, ended, passed_over, said_for}
 
 still_begins : (bytes body rest more : List ℕ) → BeginsWithFrame bytes body rest → BeginsWithFrame (bytes ++ more) body (rest ++ more)
@@ -31,15 +30,9 @@ left_over (replied asked reply begins asks replies goes e) is = left_over e is
 left_over (ended asked reply status begins asks replies some) is = absurd (some-none status is)
 left_over (passed_over never e) is = left_over e is
 
-pub nothing_yet : HasNoFrame []
-nothing_yet body rest b = absurd (omega (arith, shorter [] body rest b))
-
 -- What was said for the bytes that were read, where these are left: a conversation about them and what follows goes on from there.
 abbrev pub GoesOn : List ℕ → List ℕ → List ℕ → Type 0
 GoesOn input output left = (more later rest : List ℕ) (last : Option ℕ) → Exchange (left ++ more) later rest last → Exchange (input ++ more) (output ++ later) rest last
-
-pub begins_so : GoesOn [] [] []
-begins_so more later rest last e = e
 
 -- a read, and a turn that doesn't end the conversation
 pub goes_further : (input output left given said now : List ℕ) → GoesOn input output left → Exchange (left ++ given) said now None → GoesOn (input ++ given) (output ++ said) now
