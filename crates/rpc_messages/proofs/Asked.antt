@@ -7,12 +7,8 @@ use Rattle.json.specs.Find.{get}
 use Rattle.json.specs.Tree.{HasNumbers}
 use Rattle.json.proofs.Numbered.{HasNumbers-get}
 use Rattle.rpc_messages.specs.declared.reply.Reply.{Reply}
-use Rattle.rpc_messages.specs.Messages.{Asks, IsAnswer, IsAnswerOf, IsNotice, IsNoticeOf}
+use Rattle.rpc_messages.specs.Messages.{Asks, IsNotice, IsNoticeOf}
 use Rattle.rpc_messages.specs.Replies.{Replies}
-
--- an answer with some member is an answer
-pub answer_of : (id : Token) (member : List Token) (body : List ℕ) → IsAnswerOf id member body → IsAnswer id body
-answer_of id member body h = record { member = member; answers = h }
 
 -- a notice of some method is a notice
 pub notice_of : (method : List ℕ) (parameters : List Token) (body : List ℕ) → IsNoticeOf method parameters body → IsNotice body

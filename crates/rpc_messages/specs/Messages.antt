@@ -54,6 +54,11 @@ notice_front method = begin_object ∷ key (codes "jsonrpc") ∷ string (codes "
 pub record IsAnswerOf (id : Token) (member : List Token) (body : List ℕ) : Type 0 where
   pub is : tokens body ≡ answer_front id ++ (member ++ end_object ∷ [])
 
+-- of an answer with this id the front is written, and some tokens of its member
+pub record IsBegun (id : Token) (written : List Token) : Type 0 where
+  pub member : List Token
+  pub is : written ≡ answer_front id ++ member
+
 -- the member `error` of an answer that refuses a request
 abbrev pub error_member : ℤ → List ℕ → List Token
 error_member code text =

@@ -9,6 +9,6 @@ mod pieces;
 mod reply;
 
 pub use handling::{Service, handle};
-pub use message::{answer, code, notice, refusal};
+pub use message::{LongAnswer, answer, code, notice, refusal};
 pub use pieces::Piece;
 pub use reply::Reply;

@@ -8,6 +8,7 @@ ghost use Rattle.rpc_messages.specs.Messages.{IsAnswer, IsAnswerOf, IsNotice, Is
 use crate::pieces::{Piece, put_all};
 use json::{Value, Writer};
 use std::alloc::{AllocError, Global};
+use std::marker::Model;
 
 /// Why a request is refused, as JSON-RPC and the protocol number it.
 pub mod code {
@@ -35,25 +36,70 @@ fn put_id(out: &mut Writer, id: &Value<'_>) -> Result<(), AllocError>
     }
 }
 
-// The body of an answer.
-fn answer_body(alloc: Global, id: &Value<'_>, member: &[Piece<'_>]) -> Result<Vec<u8>, AllocError>
-    requires { HasNumbers (value_view id.now) }
-    ensures { IfOk result (λ body. IsAnswerOf (id_token (value_view id.now)) (flat_map tokens_of member.now) body.items) }
-{
-    let mut out = Writer::new(Vec::new(alloc));
-    put_all(
-        &mut out,
-        &[
-            Piece::Object,
-            Piece::Key("jsonrpc"),
-            Piece::Text("2.0"),
-            Piece::Key("id"),
-        ],
-    )?;
-    put_id(&mut out, id)?;
-    put_all(&mut out, member)?;
-    out.end_object()?;
-    Ok(out.into_inner())
+/// An answer that is written part by part: the list of all pieces of a long one would take more memory than its text.
+///
+/// Contracts see the tokens of JSON that have been written.
+#[derive(Drop)]
+pub struct LongAnswer {
+    out: Writer,
+}
+
+impl Model for LongAnswer {
+    ghost use Rattle.std.specs.Prelude.{◌≡◌, List, []};
+    ghost use Rattle.json.specs.Token.{Token, tokens_code};
+
+    ghost Value = { List Token };
+
+    ghost coded = { tokens_code };
+
+    ghost view = { λ a. a.out.tokens };
+
+    ghost invariant = { λ a. a.out.before ≡ [] };
+}
+
+impl LongAnswer {
+    ghost use Rattle.std.specs.Prelude.{List, OnOk, ◌++◌};
+    ghost use Rattle.json.specs.Token.{Token};
+    ghost use Rattle.rpc_messages.specs.Messages.{IsBegun, answer_front};
+
+    /// The answer to the request with an id, up to its member `result` or `error`. It fails only where memory is refused.
+    pub fn new(alloc: Global, id: &Value<'_>) -> Result<LongAnswer, AllocError>
+        requires { HasNumbers (value_view id.now) }
+        ensures front { IfOk result (λ a. a ≡ answer_front (id_token (value_view id.now))) }
+        ensures begun { IfOk result (IsBegun (id_token (value_view id.now))) }
+    {
+        let mut out = Writer::new(Vec::new(alloc));
+        put_all(
+            &mut out,
+            &[
+                Piece::Object,
+                Piece::Key("jsonrpc"),
+                Piece::Text("2.0"),
+                Piece::Key("id"),
+            ],
+        )?;
+        put_id(&mut out, id)?;
+        Ok(LongAnswer { out })
+    }
+
+    /// Adds pieces of the member. It fails only where memory is refused.
+    pub fn put(&mut self, pieces: &[Piece<'_>]) -> Result<(), AllocError>
+        ensures pieces { OnOk result (self.new ≡ self.old ++ flat_map tokens_of pieces.now) }
+        ensures begun { OnOk result ((id : Token) → IsBegun id self.old → IsBegun id self.new) }
+    {
+        put_all(&mut self.out, pieces)?;
+        Ok(())
+    }
+
+    /// The body of the answer. It fails only where memory is refused.
+    pub fn finish(self) -> Result<Vec<u8>, AllocError>
+        ensures member { IfOk result (λ body. (id : Token) (member : List Token) → self ≡ answer_front id ++ member → IsAnswerOf id member body.items) }
+        ensures answers { IfOk result (λ body. (id : Token) → IsBegun id self → IsAnswer id body.items) }
+    {
+        let LongAnswer { mut out } = self;
+        out.end_object()?;
+        Ok(out.into_inner())
+    }
 }
 
 /// The answer to the request with an id. The pieces are its member `result` or `error`. It fails only where memory is refused.
@@ -62,7 +108,9 @@ pub fn answer(alloc: Global, id: &Value<'_>, member: &[Piece<'_>]) -> Result<Vec
     ensures member { IfOk result (λ body. IsAnswerOf (id_token (value_view id.now)) (flat_map tokens_of member.now) body.items) }
     ensures answers { IfOk result (λ body. IsAnswer (id_token (value_view id.now)) body.items) }
 {
-    let body = answer_body(alloc, id, member)?;
+    let mut answer = LongAnswer::new(alloc, id)?;
+    answer.put(member)?;
+    let body = answer.finish()?;
     Ok(body)
 }
 

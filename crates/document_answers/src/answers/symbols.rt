@@ -1,23 +1,26 @@
 // The outline of a document as nested objects.
-ghost use Rattle.std.specs.Prelude.{IfOk};
+ghost use Rattle.std.specs.Prelude.{IfOk, OnOk};
+ghost use Rattle.json.specs.Token.{Token};
 ghost use Rattle.json.specs.Tree.{HasNumbers};
 ghost use Rattle.json.specs.Value.{value_view};
-ghost use Rattle.rpc_messages.specs.Messages.{IsAnswer, id_token};
+ghost use Rattle.rpc_messages.specs.Messages.{IsAnswer, IsBegun, id_token};
 
 use crate::outline::{Symbol, symbols};
 use apollo_tree::SyntaxNode;
 use diagnostic_messages::Places;
 use json::Value;
-use rpc_messages::{Piece, answer};
+use rpc_messages::{LongAnswer, Piece};
 use std::alloc::{AllocError, Global};
 
 // Begins a symbol, up to the list of those in it.
-fn push_symbol<'t>(
-    pieces: &mut Vec<Piece<'t>>,
+fn put_symbol(
+    answer: &mut LongAnswer,
     places: &Places<'_>,
-    symbol: &Symbol<'t>,
-) -> Result<(), AllocError> {
-    pieces.extend_from_slice(&[
+    symbol: &Symbol<'_>,
+) -> Result<(), AllocError>
+    ensures { OnOk result ((id : Token) → IsBegun id answer.old → IsBegun id answer.new) }
+{
+    answer.put(&[
         Piece::Object,
         Piece::Key("name"),
         Piece::Text(symbol.name),
@@ -25,36 +28,42 @@ fn push_symbol<'t>(
         Piece::Count(symbol.kind as usize),
     ])?;
     if !symbol.detail.is_empty() {
-        pieces.extend_from_slice(&[Piece::Key("detail"), Piece::Text(symbol.detail)])?;
+        answer.put(&[Piece::Key("detail"), Piece::Text(symbol.detail)])?;
     }
-    pieces.push(Piece::Key("range"))?;
-    pieces.extend_from_slice(&places.range(symbol.span.start, symbol.span.end))?;
-    pieces.push(Piece::Key("selectionRange"))?;
-    pieces.extend_from_slice(&places.range(symbol.name_span.start, symbol.name_span.end))?;
-    pieces.extend_from_slice(&[Piece::Key("children"), Piece::Array])
+    answer.put(&[Piece::Key("range")])?;
+    answer.put(&places.range(symbol.span.start, symbol.span.end))?;
+    answer.put(&[Piece::Key("selectionRange")])?;
+    answer.put(&places.range(symbol.name_span.start, symbol.name_span.end))?;
+    answer.put(&[Piece::Key("children"), Piece::Array])?;
+    Ok(())
 }
 
 // Ends so many symbols.
-fn end_symbols(pieces: &mut Vec<Piece<'_>>, count: usize) -> Result<(), AllocError> {
+fn end_symbols(answer: &mut LongAnswer, count: usize) -> Result<(), AllocError>
+    ensures { OnOk result ((id : Token) → IsBegun id answer.old → IsBegun id answer.new) }
+{
     for _ in 0..count {
-        pieces.extend_from_slice(&[Piece::EndArray, Piece::EndObject])?;
+        answer.put(&[Piece::EndArray, Piece::EndObject])?;
     }
     Ok(())
 }
 
-// Adds symbols, each in the one that it is in.
-fn push_symbols<'t>(
-    pieces: &mut Vec<Piece<'t>>,
+// Puts symbols, each in the one that it is in.
+fn put_symbols(
+    answer: &mut LongAnswer,
     places: &Places<'_>,
-    symbols: &[Symbol<'t>],
-) -> Result<(), AllocError> {
+    symbols: &[Symbol<'_>],
+) -> Result<(), AllocError>
+    ensures { OnOk result ((id : Token) → IsBegun id answer.old → IsBegun id answer.new) }
+{
     let mut open = 0usize;
     for symbol in symbols {
-        end_symbols(pieces, open.saturating_sub(symbol.depth))?;
-        push_symbol(pieces, places, symbol)?;
+        end_symbols(answer, open.saturating_sub(symbol.depth))?;
+        put_symbol(answer, places, symbol)?;
         open = symbol.depth.saturating_add(1);
     }
-    end_symbols(pieces, open)
+    end_symbols(answer, open)?;
+    Ok(())
 }
 
 /// The answer to documentSymbol. It fails only where memory is refused.
@@ -68,9 +77,10 @@ pub fn answer_symbols(
     ensures { IfOk result (λ body. IsAnswer (id_token (value_view id.now)) body.items) }
 {
     let found = symbols(alloc, root)?;
-    let mut pieces = Vec::new(alloc);
-    pieces.extend_from_slice(&[Piece::Key("result"), Piece::Array])?;
-    push_symbols(&mut pieces, places, found.as_slice())?;
-    pieces.push(Piece::EndArray)?;
-    answer(alloc, id, pieces.as_slice())
+    let mut answer = LongAnswer::new(alloc, id)?;
+    answer.put(&[Piece::Key("result"), Piece::Array])?;
+    put_symbols(&mut answer, places, found.as_slice())?;
+    answer.put(&[Piece::EndArray])?;
+    let body = answer.finish()?;
+    Ok(body)
 }
