@@ -1,0 +1,297 @@
+#!/usr/bin/env python3
+"""Tests what the protocol says of a server's states, errors and answers: protocol.py PROGRAM. The expected values are those of JSON-RPC 2.0, of the Language
+Server Protocol 3.17 and of the texts here, counted by hand."""
+import json
+import sys
+
+from client import Client
+
+PROGRAM = sys.argv[1]
+URI = "file:///a.graphql"
+DOCUMENT = {"uri": URI}
+OPTIONS = {"tabSize": 2, "insertSpaces": True}
+# Line 1 has a character of two units of UTF-16 and of four bytes.
+TEXT = """query Find($id: ID) {
+  pet(name: "😀", id: $id) { ...parts }
+}
+fragment parts on Pet { name }
+"A pet."
+type Pet {
+  "What it is called."
+  name: String
+}
+"""
+FEATURES = ["documentSymbol", "foldingRange", "selectionRange", "semanticTokens/full", "semanticTokens/range", "formatting", "rangeFormatting", "definition", "references", "hover",
+            "completion"]
+failed = 0
+
+
+def expect(what, found, wanted):
+    global failed
+    if found != wanted:
+        failed += 1
+        print(f"protocol: {what}: {found!r}, not {wanted!r}")
+
+
+def span(line, start, end):
+    return {"start": {"line": line, "character": start}, "end": {"line": line, "character": end}}
+
+
+def lines(start, end):
+    """The range from the front of a line to the front of another."""
+    return {"start": {"line": start, "character": 0}, "end": {"line": end, "character": 0}}
+
+
+def at(line, character):
+    return {"position": {"line": line, "character": character}}
+
+
+def started(*encodings):
+    client = Client(PROGRAM)
+    client.initialize(*encodings)
+    return client
+
+
+def opened(text, *encodings):
+    client = started(*encodings)
+    client.open(URI, text)
+    return client
+
+
+def code(answer):
+    return answer["error"]["code"]
+
+
+# ---- states and errors
+
+
+def states():
+    client = Client(PROGRAM)
+    expect("a request before initialize", code(client.ask("textDocument/hover", textDocument=DOCUMENT, **at(0, 0))), -32002)
+    expect("shutdown before initialize", code(client.ask("shutdown")), -32002)
+    client.notify("textDocument/didOpen", textDocument={**DOCUMENT, "languageId": "graphql", "version": 0, "text": "{"})
+    client.initialize()
+    expect("a second initialize", code(client.ask("initialize", capabilities={})), -32600)
+    for method in ["workspace/symbol", "textDocument/rename", "$/other", ""]:
+        expect(f"the method {method}", code(client.ask(method)), -32601)
+    for feature in FEATURES:
+        expect(f"{feature} of an unknown document", code(client.ask(f"textDocument/{feature}", textDocument=DOCUMENT, **at(0, 0))), -32602)
+    expect("no parameters", code(client.ask("textDocument/hover")), -32602)
+    for method in ["$/cancelRequest", "$/other", "workspace/didChangeConfiguration", "textDocument/didSave", "textDocument/didChange", "textDocument/didClose", "other"]:
+        client.notify(method, textDocument={**DOCUMENT, "version": 1}, contentChanges=[{"text": "{"}])
+    expect("nothing is said until shutdown", client.ask("shutdown")["result"], None)
+    expect("a request after shutdown", code(client.ask("textDocument/hover")), -32600)
+    client.notify("exit")
+    expect("the status after shutdown", client.process.wait(10), 0)
+
+
+def statuses_without_shutdown():
+    for client in [started(), Client(PROGRAM)]:
+        client.notify("exit")
+        expect("the status without shutdown", client.process.wait(10), 1)
+    client = started()
+    client.process.stdin.close()
+    expect("the status at the end of the input", client.process.wait(10), 1)
+
+
+def faulty_messages():
+    client = opened("{a}")
+    for body in [b"", b"{", b'{"a":1,}', b"\xff", b'{"jsonrpc":"2.0","method":"x","params":"\\ud800"}', b"[" * 100_000]:
+        client.send(body)
+        answer = client.read()
+        expect(f"the answer to {body[:60]}", (answer["id"], code(answer)), (None, -32700))
+    client.send(b'{"jsonrpc":"2.0","id":7}')
+    for body in [b"[]", b"1", b"{}"]:
+        client.send(body)
+        answer = client.read()
+        expect(f"the answer to {body}", (answer["id"], code(answer)), (None, -32600))
+    for number in ["12", '"twelve"', "-3", '"\\u00e9 \\n"', "12345678901234567890123456789"]:
+        client.send(b'{"jsonrpc":"2.0","id":%s,"method":"x"}' % number.encode())
+        expect("an id", client.read()["id"], json.loads(number))
+    lost = json.dumps({"jsonrpc": "2.0", "method": "textDocument/didChange", "params": {
+        "textDocument": {"uri": URI, "version": 1}, "contentChanges": [{"text": "{\ud800"}]}}).encode()
+    client.send(lost)
+    expect("a change with a lone surrogate", code(client.read()), -32700)
+    expect("the next full text", client.change(URI, 2, [{"text": "{b}"}]), {"uri": URI, "version": 2, "diagnostics": []})
+    client.write(b"Content-Length: x\r\n\r\nContent-Length 3\r\n\r\nabc\r\n\xff\x00")
+    expect("the message after heads that are none", client.ask("textDocument/hover", textDocument=DOCUMENT, **at(0, 0))["result"], None)
+    expect("the end", client.end(), 0)
+
+
+def pieces_of_input():
+    client = started()
+    body = json.dumps({"jsonrpc": "2.0", "id": 9, "method": "x"}).encode()
+    frame = b"content-length: %d\r\nContent-Type: x\r\n\r\n" % len(body) + body
+    for byte in frame:
+        client.write(bytes([byte]))
+    expect("a message a byte at a time", client.read()["id"], 9)
+    client.write(frame * 3 + frame[:-1])
+    expect("three messages and a part at once", [client.read()["id"] for _ in range(3)], [9, 9, 9])
+    client.write(frame[-1:])
+    expect("the rest of the part", client.read()["id"], 9)
+    expect("the end", client.end(), 0)
+
+
+def capabilities():
+    offers = [([], "utf-16"), (["utf-16"], "utf-16"), (["utf-8"], "utf-8"), (["utf-32"], "utf-16"), (["utf-32", "utf-8", "utf-16"], "utf-8")]
+    for offered, wanted in offers:
+        client = Client(PROGRAM)
+        found = client.initialize(*offered)
+        expect(f"the encoding for {offered}", found["positionEncoding"], wanted)
+        expect("the end", client.end(), 0)
+    expect("changes by ranges", (found["textDocumentSync"]["openClose"], found["textDocumentSync"]["change"]), (True, 2))
+    tokens = found["semanticTokensProvider"]
+    expect("all tokens and some", (tokens["full"], tokens["range"]), (True, True))
+    names = {"semanticTokens/full": "semanticTokens", "semanticTokens/range": "semanticTokens", "formatting": "documentFormatting", "rangeFormatting": "documentRangeFormatting"}
+    providers = {names.get(feature, feature) + "Provider" for feature in FEATURES}
+    expect("the features", {name for name in found if name.endswith("Provider")}, providers)
+
+
+# ---- changes and errors
+
+
+def changes():
+    client = opened("{\r\n  a\r}\n")
+    many = [
+        {"range": span(1, 2, 3), "text": "b😀"},
+        {"range": span(1, 3, 5), "text": "c {\nd"},
+        {"range": {"start": {"line": 2, "character": 1}, "end": {"line": 3, "character": 0}}, "text": "}"},
+    ]
+    expect("three changes", client.change(URI, 1, many)["diagnostics"], [])
+    symbols = client.ask_about(URI, "documentSymbol")
+    expect("what they left", symbols[0]["children"][0], {"name": "bc", "kind": 8, "range": {"start": {"line": 1, "character": 2}, "end": {"line": 2, "character": 2}},
+           "selectionRange": span(1, 2, 4), "children": [{"name": "d", "kind": 8, "range": span(2, 0, 1), "selectionRange": span(2, 0, 1), "children": []}]})
+    far = [{"range": {"start": {"line": 2, "character": 3}, "end": {"line": 900, "character": 7}}, "text": "!"}]
+    expect("a change up to a line that isn't there", client.change(URI, 2, far)["diagnostics"][-1]["range"], span(2, 3, 4))
+    expect("no range is the whole text", client.change(URI, 3, [{"range": None, "text": "{e}"}])["diagnostics"], [])
+    client.notify("textDocument/didSave", textDocument=DOCUMENT)
+    expect("the end", client.end(), 0)
+
+
+def diagnostics():
+    client = started()
+    one = client.open(URI, "{ hero(id) { name }")
+    expect("two errors", [(it["range"], it["severity"], it["source"], it["message"]) for it in one["diagnostics"]],
+           [(span(0, 9, 10), 1, "gqlls", "expected COLON, got )"), (span(0, 19, 19), 1, "gqlls", "expected R_CURLY, got EOF")])
+    expect("an error at the end", client.open(URI, "{ 😀a")["diagnostics"][-1]["range"], span(0, 5, 5))
+    published = client.open(URI, "! " * 300)["diagnostics"]
+    expect("how many are published", len(published), 101)
+    expect("where the hundredth is", published[99]["range"], span(0, 198, 199))
+    expect("the last one", (published[100]["range"], published[100]["message"]), (span(0, 0, 0), "200 more errors"))
+    expect("a hundred", len(client.open(URI, "! " * 100)["diagnostics"]), 100)
+    expect("closing", client.close(URI), {"uri": URI, "diagnostics": []})
+    client.notify("textDocument/didChange", textDocument={"uri": URI, "version": 3}, contentChanges=[{"text": "{"}])
+    client.notify("textDocument/didClose", textDocument=DOCUMENT)
+    expect("a closed document", code(client.ask("textDocument/documentSymbol", textDocument=DOCUMENT)), -32602)
+    expect("nothing is published after closing", client.end(), 0)
+
+
+# ---- features
+
+
+def names(encoding, far):
+    """The answers on TEXT. `far` is by how many columns the emoji is wider than in UTF-16."""
+    client = opened(TEXT, encoding)
+    use, definition = span(1, 23 + far, 25 + far), span(0, 12, 14)
+    expect("a variable", client.ask_about(URI, "definition", **at(1, 24 + far)), {"uri": URI, "range": definition})
+    found = client.ask_about(URI, "references", context={"includeDeclaration": True}, **at(0, 13))
+    expect("its uses", [it["range"] for it in found], [definition, use])
+    found = client.ask_about(URI, "references", context={"includeDeclaration": False}, **at(0, 13))
+    expect("its uses alone", [it["range"] for it in found], [use])
+    expect("a fragment", client.ask_about(URI, "definition", **at(1, 33 + far))["range"], span(3, 9, 14))
+    expect("a type", client.ask_about(URI, "definition", **at(3, 19))["range"], span(5, 5, 8))
+    expect("what is no name", client.ask_about(URI, "definition", **at(2, 1)), None)
+    expect("no uses", client.ask_about(URI, "references", **at(2, 1)), [])
+    expect("hover on a type", client.ask_about(URI, "hover", **at(3, 19)),
+           {"contents": {"kind": "markdown", "value": "```graphql\ntype Pet\n```\n\nA pet."}, "range": span(3, 18, 21)})
+    expect("hover on a field", client.ask_about(URI, "hover", **at(7, 3))["contents"]["value"], "```graphql\nname: String\n```\n\nWhat it is called.")
+    expect("hover on a bracket", client.ask_about(URI, "hover", **at(2, 0)), None)
+    expect("the end", client.end(), 0)
+
+
+def parts(encoding, far):
+    client = opened(TEXT, encoding)
+    symbols = client.ask_about(URI, "documentSymbol")
+    expect("symbols", [(it["name"], it["kind"]) for it in symbols], [("Find", 12), ("parts", 12), ("Pet", 5)])
+    expect("a field", [(it["name"], it["kind"], it["detail"]) for it in symbols[2]["children"]], [("name", 8, "String")])
+    expect("a variable of the query", [(it["name"], it["kind"]) for it in symbols[0]["children"]], [("$id", 13), ("pet", 8)])
+    folds = client.ask_about(URI, "foldingRange")
+    expect("folds", [(it["startLine"], it["endLine"], it.get("kind")) for it in folds], [(0, 1, None), (5, 7, None)])
+    selection = client.ask_about(URI, "selectionRange", positions=[{"line": 3, "character": 19}])[0]
+    expect("a selection", (selection["range"], selection["parent"]["range"]), (span(3, 18, 21), span(3, 15, 21)))
+    ranges = []
+    while selection:
+        ranges.append(selection["range"])
+        selection = selection.get("parent")
+    expect("the last selection", ranges[-2:], [span(3, 0, 30), lines(0, 9)])
+    tokens = client.ask_about(URI, "semanticTokens/range", range=span(3, 0, 30))["data"]
+    expect("tokens of a line", tokens, [3, 0, 8, 1, 0, 0, 9, 5, 10, 0, 0, 6, 2, 1, 0, 0, 3, 3, 6, 0, 0, 6, 4, 7, 0])
+    tokens = client.ask_about(URI, "semanticTokens/full")["data"]
+    expect("the second line", tokens[30:70], [1, 2, 3, 7, 0, 0, 4, 4, 8, 0, 0, 4, 1, 4, 0, 0, 2, 4 + far, 2, 0, 0, 6 + far, 2, 8, 0, 0, 2, 1, 4, 0, 0, 2, 1, 5, 0, 0, 1, 2, 5, 0])
+    expect("the end", client.end(), 0)
+
+
+def names_of_symbols():
+    client = started()
+    for text in ["fragment on X { a }", "type { a: B }", "scalar", "enum { A }", "{ a: }", "extend type { a: B }", "directive @ on FIELD"]:
+        client.open(URI, text)
+        found = client.ask_about(URI, "documentSymbol")
+        expect(f"a name in {text}", all(it["name"].strip() for it in found), True)
+    client.open(URI, "scalar")
+    expect("a scalar is no query", client.ask_about(URI, "documentSymbol")[0]["name"], "scalar")
+    client.end()
+
+
+def more_folds():
+    text = '"""\nd\n"""\nschema {\n query: Q\n}\nextend schema {\n mutation: Q\n}\n{ a(\n b: [\n 1\n ]\n )\n}\n'
+    client = opened(text)
+    found = [(it["startLine"], it["endLine"], it.get("kind")) for it in client.ask_about(URI, "foldingRange")]
+    expect("folds in their order", sorted(found), [(0, 2, "comment"), (3, 4, None), (6, 7, None), (9, 12, None), (9, 13, None), (10, 11, None)])
+    client.end()
+
+
+def completion():
+    def items(text, line, character):
+        client = opened(text)
+        found = client.ask_about(URI, "completion", **at(line, character))
+        client.end()
+        return found
+
+    def labels(text):
+        return [it["label"] for it in items(text, 0, len(text))]
+
+    expect("after $i", items("query ($id: ID) { a(b: $i", 0, 25), [{"label": "id", "kind": 6, "textEdit": {"range": span(0, 24, 25), "newText": "id"}}])
+    expect("after $", items('query ($id: ID) {a(b:"😀" c:$', 0, 29), [{"label": "id", "kind": 6, "textEdit": {"range": span(0, 29, 29), "newText": "id"}}])
+    expect("after a type's name", "implements" in labels("type T "), True)
+    expect("after on", [it for it in labels("directive @a on F") if it.startswith("FIELD")], ["FIELD", "FIELD_DEFINITION"])
+    expect("after @", labels("directive @mine on FIELD {a @"), ["mine", "deprecated", "include", "skip", "specifiedBy"])
+    expect("after a colon", labels("type T {a: "), ["T", "Boolean", "Float", "ID", "Int", "String"])
+    expect("after a fragment's name", labels("fragment F "), ["on"])
+    expect("after dots", labels("fragment F on T {a} {..."), ["on", "F"])
+    expect("in a comment", labels("# typ"), [])
+    expect("in a string", labels('"typ'), [])
+    expect("after an error", labels("type ! "), [])
+
+
+def layout():
+    client = opened("{a b}\ntype T{a:B}\ntype U{a:B}")
+    wanted = "{\n  a\n  b\n}\n\ntype T {\n  a: B\n}\n\ntype U {\n  a: B\n}\n"
+    found = client.ask_about(URI, "formatting", options=OPTIONS)
+    expect("layout", found, [{"range": {"start": {"line": 0, "character": 0}, "end": {"line": 2, "character": 11}}, "newText": wanted}])
+    part = [{"range": span(1, 0, 11), "newText": "type T {\n  a: B\n}"}]
+    for what, range in [("a part", span(1, 0, 4)), ("a line", lines(1, 2)), ("a cursor", span(1, 5, 5))]:
+        expect(f"layout of {what}", client.ask_about(URI, "rangeFormatting", range=range, options=OPTIONS), part)
+    client.change(URI, 1, [{"text": wanted}])
+    expect("the same layout", client.ask_about(URI, "formatting", options=OPTIONS), [])
+    expect("layout of no definition", client.ask_about(URI, "rangeFormatting", range=lines(4, 4), options=OPTIONS), None)
+    client.change(URI, 2, [{"text": "{"}])
+    expect("layout of a text with errors", client.ask_about(URI, "formatting", options=OPTIONS), None)
+    client.end()
+
+
+TESTS = [states, statuses_without_shutdown, faulty_messages, pieces_of_input, capabilities, changes, diagnostics, lambda: names("utf-16", 0), lambda: names("utf-8", 2),
+         lambda: parts("utf-16", 0), lambda: parts("utf-8", 2), names_of_symbols, more_folds, completion, layout]
+for test in TESTS:
+    test()
+print(f"protocol: {len(TESTS)} tests, {failed} differences")
+sys.exit(1 if failed else 0)

@@ -1,0 +1,125 @@
+#!/usr/bin/env python3
+"""Writes the conversation that `rt ci` has with gqlls: crates/gqlls/stdin, and what the protocol says that it has to answer, crates/gqlls/stdout. The answers
+here are written by hand; their members stand in the order in which the server writes them."""
+import json
+from pathlib import Path
+
+CRATE = Path(__file__).resolve().parent.parent.parent / "crates/gqlls"
+URI = "file:///a.graphql"
+DOCUMENT = {"uri": URI}
+# The errors of this text are those in README.md.
+FAULTY = "{ hero(id) { name }"
+# An emoji takes two units of UTF-16, so the type of b is at column 10.
+TEXT = 'type A { # 😀\n  "😀" b: C }\n'
+TYPES = ["comment", "keyword", "string", "number", "operator", "variable", "type", "property", "parameter", "enumMember", "function", "decorator"]
+SERVED = ["documentSymbolProvider", "foldingRangeProvider", "selectionRangeProvider", "documentFormattingProvider", "documentRangeFormattingProvider",
+          "definitionProvider", "referencesProvider", "hoverProvider"]
+# Two folds of brackets, and one of a description.
+FOLDED = '{ a(\n b: 1\n )\n}\n"""\nd\n"""\nscalar S\n'
+# The keywords with which a definition begins.
+DEFINITIONS = ["query", "mutation", "subscription", "fragment", "extend", "schema", "scalar", "type", "interface", "union", "enum", "input", "directive"]
+CAPABILITIES = {
+    "positionEncoding": "utf-16",
+    **{name: True for name in SERVED},
+    "textDocumentSync": {"openClose": True, "change": 2, "save": True},
+    "completionProvider": {"triggerCharacters": ["$", "@"]},
+    "semanticTokensProvider": {"full": True, "range": True, "legend": {"tokenModifiers": [], "tokenTypes": TYPES}},
+}
+
+
+def at(line, character):
+    return {"line": line, "character": character}
+
+
+def span(line, start, end):
+    return {"start": at(line, start), "end": at(line, end)}
+
+
+def frame(body):
+    if not isinstance(body, bytes):
+        body = json.dumps(body, ensure_ascii=False, separators=(",", ":")).encode()
+    return b"Content-Length: %d\r\n\r\n" % len(body) + body
+
+
+def request(number, method, **params):
+    return frame({"jsonrpc": "2.0", "id": number, "method": method, "params": params})
+
+
+def notification(method, **params):
+    return frame({"jsonrpc": "2.0", "method": method, "params": params})
+
+
+def result(number, value):
+    return frame({"jsonrpc": "2.0", "id": number, "result": value})
+
+
+def error(number, code, message):
+    return frame({"jsonrpc": "2.0", "id": number, "error": {"code": code, "message": message}})
+
+
+def published(version, *diagnostics):
+    return notification("textDocument/publishDiagnostics", uri=URI, **({} if version is None else {"version": version}), diagnostics=list(diagnostics))
+
+
+def diagnostic(start, end, message):
+    return {"range": span(0, start, end), "severity": 1, "source": "gqlls", "message": message}
+
+
+def symbol(name, kind, detail, range, chosen, *children):
+    found = {"name": name, "kind": kind, **({} if detail is None else {"detail": detail})}
+    return {**found, "range": range, "selectionRange": chosen, "children": list(children)}
+
+
+def word(label, kind, range):
+    return {"label": label, "kind": kind, "textEdit": {"range": range, "newText": label}}
+
+
+def selection(smallest, *others):
+    return {"range": smallest, **({"parent": selection(*others)} if others else {})}
+
+
+CONVERSATION = [
+    (request(0, "textDocument/hover", textDocument=DOCUMENT), error(0, -32002, "not initialized")),
+    (request(1, "initialize", capabilities={}), result(1, {"serverInfo": {"name": "gqlls"}, "capabilities": CAPABILITIES})),
+    (notification("initialized"), b""),
+    (notification("textDocument/didOpen", textDocument={"uri": URI, "languageId": "graphql", "version": 1, "text": FAULTY}),
+     published(1, diagnostic(9, 10, "expected COLON, got )"), diagnostic(19, 19, "expected R_CURLY, got EOF"))),
+    (notification("textDocument/didChange", textDocument={"uri": URI, "version": 2},
+                  contentChanges=[{"text": TEXT}, {"range": span(1, 10, 11), "text": "A"}]), published(2)),
+    (request("three", "textDocument/definition", textDocument=DOCUMENT, position=at(1, 10)), result("three", {"uri": URI, "range": span(0, 5, 6)})),
+    (request(4, "textDocument/hover", textDocument=DOCUMENT, position=at(1, 7)),
+     result(4, {"contents": {"kind": "markdown", "value": "```graphql\nb: A\n```\n\n😀"}, "range": span(1, 7, 8)})),
+    (request(5, "textDocument/semanticTokens/full", textDocument=DOCUMENT),
+     result(5, {"data": [0, 0, 4, 1, 0, 0, 5, 1, 6, 0, 0, 4, 4, 0, 0, 1, 2, 4, 2, 0, 0, 5, 1, 7, 0, 0, 1, 1, 4, 0, 0, 2, 1, 6, 0]})),
+    (request(6, "textDocument/formatting", textDocument=DOCUMENT),
+     result(6, [{"range": {"start": at(0, 0), "end": at(2, 0)}, "newText": 'type A { # 😀\n  "😀"\n  b: A\n}\n'}])),
+    (request(7, "textDocument/documentSymbol", textDocument=DOCUMENT),
+     result(7, [symbol("A", 5, None, {"start": at(0, 0), "end": at(1, 13)}, span(0, 5, 6), symbol("b", 8, "A", span(1, 2, 11), span(1, 7, 8)))])),
+    (request(8, "textDocument/selectionRange", textDocument=DOCUMENT, positions=[at(1, 10)]),
+     result(8, [selection(span(1, 10, 11), span(1, 2, 11), {"start": at(0, 7), "end": at(1, 13)}, {"start": at(0, 0), "end": at(1, 13)},
+                          {"start": at(0, 0), "end": at(2, 0)})])),
+    (request(9, "textDocument/references", textDocument=DOCUMENT, position=at(0, 5), context={"includeDeclaration": True}),
+     result(9, [{"uri": URI, "range": span(0, 5, 6)}, {"uri": URI, "range": span(1, 10, 11)}])),
+    (request(10, "textDocument/rangeFormatting", textDocument=DOCUMENT, range=span(0, 0, 1)),
+     result(10, [{"range": {"start": at(0, 0), "end": at(1, 13)}, "newText": 'type A { # 😀\n  "😀"\n  b: A\n}'}])),
+    (request(11, "textDocument/completion", textDocument=DOCUMENT, position=at(2, 0)),
+     result(11, [word(keyword, 14, span(2, 0, 0)) for keyword in DEFINITIONS])),
+    (request(12, "textDocument/completion", textDocument=DOCUMENT, position=at(1, 11)),
+     result(12, [word(name, 7, span(1, 10, 11)) for name in ["A", "Boolean", "Float", "ID", "Int", "String"]])),
+    (request(13, "textDocument/semanticTokens/range", textDocument=DOCUMENT, range=span(1, 0, 13)),
+     result(13, {"data": [1, 2, 4, 2, 0, 0, 5, 1, 7, 0, 0, 1, 1, 4, 0, 0, 2, 1, 6, 0]})),
+    (notification("textDocument/didChange", textDocument={"uri": URI, "version": 3}, contentChanges=[{"text": FOLDED}]), published(3)),
+    (request(14, "textDocument/foldingRange", textDocument=DOCUMENT),
+     result(14, [{"startLine": 0, "endLine": 2}, {"startLine": 0, "endLine": 1}, {"startLine": 4, "endLine": 6, "kind": "comment"}])),
+    (request(15, "textDocument/definition", textDocument=DOCUMENT, position=at(0, 2)), result(15, None)),
+    (frame(b'{"jsonrpc":"2.0","id":16,'), error(None, -32700, "not JSON")),
+    (b"Content-Length: two\r\n\r\n", b""),
+    (request(17, "workspace/symbol", query=""), error(17, -32601, "method not found")),
+    (notification("textDocument/didClose", textDocument=DOCUMENT), published(None)),
+    (request(18, "textDocument/hover", textDocument=DOCUMENT, position=at(0, 0)), error(18, -32602, "no such document is open")),
+    (request(19, "shutdown"), result(19, None)),
+    (notification("exit"), b""),
+]
+
+(CRATE / "stdin").write_bytes(b"".join(sent for sent, _ in CONVERSATION))
+(CRATE / "stdout").write_bytes(b"".join(answer for _, answer in CONVERSATION))
