@@ -1,7 +1,8 @@
 #!/usr/bin/env python3
-"""Writes the conversation that `rt ci` has with gqlls: crates/gqlls/stdin, and what the protocol says that it has to answer, crates/gqlls/stdout. The answers
-here are written by hand; their members stand in the order in which the server writes them."""
+"""Writes the conversation that `rt ci` has with gqlls: crates/gqlls/stdin, and what it has to answer, crates/gqlls/stdout. With --check it writes nothing, and ends with
+status 1 where the files differ. The answers are written by hand, from the protocol and the texts; their members are in the order in which the server writes them."""
 import json
+import sys
 from pathlib import Path
 
 CRATE = Path(__file__).resolve().parent.parent.parent / "crates/gqlls"
@@ -121,5 +122,17 @@ CONVERSATION = [
     (notification("exit"), b""),
 ]
 
-(CRATE / "stdin").write_bytes(b"".join(sent for sent, _ in CONVERSATION))
-(CRATE / "stdout").write_bytes(b"".join(answer for _, answer in CONVERSATION))
+
+def main():
+    wrong = False
+    for name, part in [("stdin", 0), ("stdout", 1)]:
+        file, wanted = CRATE / name, b"".join(turn[part] for turn in CONVERSATION)
+        if sys.argv[1:] != ["--check"]:
+            file.write_bytes(wanted)
+        elif file.read_bytes() != wanted:
+            wrong = True
+            print(f"recorded_run: crates/gqlls/{name} is not what tools/editor/recorded_run.py writes")
+    sys.exit(1 if wrong else 0)
+
+
+main()
