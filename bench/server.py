@@ -2,7 +2,9 @@
 """Measures gqlls on a schema of 1 MB: the time from an edit to its errors, the memory, and the times of the requests. Prints two tables for docs/SPEED.md.
 
 server.py GQLLS [EDITS]: EDITS (30) edits in the middle of the schema; every second one makes errors, and the next takes them away. Ends with status 1 where the middle
-one of the times is above 60 milliseconds, or the memory above 40 bytes for each byte of the text. The client's own time is in the times: it writes and reads JSON in Python."""
+one of the times is above 60 milliseconds, or the memory above 40 bytes for each byte of the text. A time is from the first byte that is sent to the last that is received: the client
+makes JSON of a message before, and reads it after."""
+import json
 import os
 import statistics
 import sys
@@ -16,7 +18,7 @@ MOST_BYTES = 40
 URI = "file:///schema.graphql"
 TYPE = '''"""Doc %d"""
 type T%d implements N & M @key(fields: "id") {
-  id: ID!
+  id:ID!
   name(first: Int = 10, after: String): [String!]! @deprecated(reason: "no")
   other: T%d
 }
@@ -30,11 +32,16 @@ def memory(client):
     return int(found.split()[1]) * 1024
 
 
-def timed(act):
-    """How many milliseconds something takes."""
+def timed(client, method, **params):
+    """How many milliseconds pass from a message to what the server says, and that."""
+    message = {"jsonrpc": "2.0", "method": f"textDocument/{method}", "params": params}
+    if not method.startswith("did"):
+        message["id"] = 1
+    body = json.dumps(message).encode()
     started = time.perf_counter()
-    act()
-    return (time.perf_counter() - started) * 1000
+    client.send(body)
+    said = client.receive()
+    return (time.perf_counter() - started) * 1000, json.loads(said)
 
 
 def edits(client, line, count):
@@ -44,7 +51,9 @@ def edits(client, line, count):
         is_fault = version % 2
         place = {"line": line, "character": 0}
         change = {"range": {"start": place, "end": {"line": line, "character": 1 - is_fault}}, "text": "!" * is_fault}
-        times.append(timed(lambda: client.change(URI, version, [change])))
+        spent, said = timed(client, "didChange", textDocument={"uri": URI, "version": version}, contentChanges=[change])
+        assert said["params"]["version"] == version and bool(said["params"]["diagnostics"]) == bool(is_fault)
+        times.append(spent)
     return times
 
 
@@ -55,8 +64,9 @@ def requests(client, line):
     asked = [("documentSymbol", {}), ("foldingRange", {}), ("semanticTokens/full", {}), ("semanticTokens/range", part), ("selectionRange", {"positions": [at["position"]]}),
              ("definition", at), ("references", {**at, "context": {"includeDeclaration": True}}), ("hover", at), ("completion", at), ("rangeFormatting", part), ("formatting", {})]
     for feature, params in asked:
-        times = [timed(lambda: client.ask_about(URI, feature, **params)) for _ in range(5)]
-        yield feature, statistics.median(times)
+        answers = [timed(client, feature, textDocument={"uri": URI}, **params) for _ in range(5)]
+        assert all(answer.get("result") for _, answer in answers)
+        yield feature, statistics.median(spent for spent, _ in answers)
 
 
 def main():
@@ -68,7 +78,8 @@ def main():
     size = len(text.encode())
     # the front of a line "  other: T3200", whose type the requests are about
     middle = 3200 * 7 + 4
-    opened = timed(lambda: client.open(URI, text))
+    opened, said = timed(client, "didOpen", textDocument={"uri": URI, "languageId": "graphql", "version": 0, "text": text})
+    assert said["params"]["diagnostics"] == []
     times = edits(client, middle, count - count % 2)
     median, used = statistics.median(times), memory(client) - before
     print("| text | to open it | from an edit to its errors, median of %d | longest | memory, bytes a byte of text |" % len(times))

@@ -24,8 +24,8 @@ class Client:
         body = message if isinstance(message, bytes) else json.dumps(message, ensure_ascii=False).encode()
         self.write(b"Content-Length: %d\r\n\r\n" % len(body) + body)
 
-    def read(self):
-        """The next message, or None at the end."""
+    def receive(self):
+        """The bytes of the next message, or None at the end."""
         length = None
         while True:
             line = self.answers.readline()
@@ -36,7 +36,12 @@ class Client:
             name, _, value = line.partition(b":")
             if name.lower() == b"content-length":
                 length = int(value)
-        return json.loads(self.answers.read(length))
+        return self.answers.read(length)
+
+    def read(self):
+        """The next message, or None at the end."""
+        body = self.receive()
+        return None if body is None else json.loads(body)
 
     def notify(self, method, **params):
         self.send({"jsonrpc": "2.0", "method": method, "params": params})

@@ -35,11 +35,11 @@ local function wait(is_ready)
   coroutine.yield()
 end
 
--- When errors of a document were published last.
+-- When errors of a document were published last, and of which version.
 local published = {}
 local show = vim.lsp.handlers["textDocument/publishDiagnostics"]
 vim.lsp.handlers["textDocument/publishDiagnostics"] = function(err, result, ...)
-  published[result.uri] = vim.loop.now()
+  published[result.uri] = { time = vim.loop.now(), version = result.version }
   return show(err, result, ...)
 end
 
@@ -49,7 +49,7 @@ local function after(document, act)
   act()
   wait(function()
     local last = published[document.uri]
-    return last and vim.loop.now() - last > 100
+    return last and vim.loop.now() - last.time > 100
   end)
 end
 
@@ -164,6 +164,34 @@ local function changes(encoding)
   return document
 end
 
+-- Random edits, after which the errors are those of a new server that is given the text as it is then. (A CR within a line is no line's end for neovim.)
+local function random_edits(document)
+  local pieces = { "😀", "é", "a", "{", "}", '"', '"""', "# x", "type T { a: B }", "query ($a: Int) { b }", "@d", "..." }
+  local function place(from)
+    local line = math.random(from, vim.fn.line("$"))
+    local text = vim.fn.getline(line)
+    return line, math.max(vim.fn.byteidx(text, math.random(0, vim.fn.strchars(text))), 0)
+  end
+  math.randomseed(5)
+  for _ = 1, 200 do
+    local line, column = place(1)
+    local last, to = place(line)
+    if last > line + 1 or (last == line and to < column) then last, to = line, column end
+    local new = { pieces[math.random(#pieces)] }
+    if math.random(3) == 1 then new = { new[1], pieces[math.random(#pieces)] } end
+    vim.api.nvim_buf_set_text(0, line - 1, column, last - 1, to, new)
+  end
+  local version = vim.api.nvim_buf_get_changedtick(0)
+  wait(function() return published[document.uri].version == version end)
+  local found = errors(document)
+  expect("some errors", #found > 0, true)
+  end_client(document)
+  vim.cmd("silent write")
+  local again = open("query.graphql", "utf-16")
+  expect("the errors of the text opened anew", found, errors(again))
+  return again
+end
+
 local function whole_texts()
   local document = open("whole.graphql", "utf-16")
   after(document, function() vim.api.nvim_buf_set_lines(0, 0, -1, true, { "{ a", "😀" }) end)
@@ -211,7 +239,7 @@ local function run()
     if encoding == "utf-16" then
       completion(document)
       layout(document)
-      closing(document)
+      closing(random_edits(document))
     else
       end_client(document)
       vim.cmd("bdelete!")
