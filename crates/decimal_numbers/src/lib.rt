@@ -1,5 +1,6 @@
 //! The numbers that programs are given in their words.
 #![tactic(auto)]
+
 ghost use Rattle.std.specs.Prelude.{◌≡◌};
 ghost use Rattle.decimal_numbers.specs.Numbers.{number_of};
 
