@@ -68,9 +68,9 @@ impl<'i> Parser<'i> {
     /// Sets the token limit: how many items of the text are read, ignored ones and the end among them.
     ///
     /// So it bounds memory: of n items that are read, a tree has at most 5 n + 1 elements, and there are at most 3 n + 1 errors. An element takes
-    /// 12 bytes while the tree has fewer than 2^24 of them, then 16, and 32 from 4 GiB of text on; an error takes 64. So a limit of k, up to three
-    /// million, takes at most 252 k + 76 bytes, besides the text, the words of the errors, the room that a list which grows keeps in reserve,
-    /// and 40 bytes for each error while the text is parsed.
+    /// 12 bytes while the tree has fewer than 2^28 of them and the text is shorter than 2 GiB, then 16, and 32 from 4 GiB of text on; an error takes
+    /// 64. So on such a text a limit of k, up to fifty million, takes at most 252 k + 76 bytes, besides the text, what an error says that is too long
+    /// to lie in it, and the room that a list which grows keeps in reserve.
     pub fn token_limit(self, limit: usize) -> Self
         ensures { result ≡ record self.entry { token_limit = limit } }
     {

@@ -1,5 +1,5 @@
 // Records in the forms that take fewer bytes.
-ghost use Rattle.std.specs.Prelude.{◌≡◌, ◌+◌, ◌*◌, ◌^◌, ◌<◌, true};
+ghost use Rattle.std.specs.Prelude.{◌≡◌, ◌+◌, ◌*◌, ◌/◌, ◌%◌, ◌==◌, ◌^◌, ◌<◌, true};
 ghost use Rattle.apollo_tree.specs.declared.record.Record.{Record as Plain};
 ghost use Rattle.apollo_tree.specs.Widened.{joined, of_small, widened, IsSmall, IsNarrow};
 
@@ -7,12 +7,14 @@ use crate::record::Record;
 use document_grammar::SyntaxKind;
 use std::mem::size_of;
 
-const LOW: usize = 65536;
+// The most records that a table of small ones has, and the greatest size and distance to a parent in it.
+pub const MOST_SMALL: usize = 268435455;
 
-const SMALL: usize = 16777216;
+// The bit that says that a small record is a node's. It comes above the record's start.
+const NODE: u32 = 2147483648;
 
-// The most records that a table of small ones has.
-pub const MOST_SMALL: usize = SMALL - 1;
+// The greatest start of a small record.
+pub const LAST_SMALL_START: usize = NODE as usize - 1;
 
 // A record in one of a table's forms.
 pub trait Packed: Copy {
@@ -23,15 +25,15 @@ pub trait Packed: Copy {
         ensures { result ≡ plain self };
 }
 
-// A record of a table with fewer than 2 ^ 24 records. The size and the distance to the parent are each in two parts.
+// A record of a table with fewer than 2 ^ 28 records, whose text begins before byte 2 ^ 31.
 #[derive(Clone, Copy)]
 pub struct SmallRecord {
-    start: u32,
-    size_low: u16,
-    size_high: u8,
-    is_node: bool,
+    // twice the start, and one more for a node
+    start_and_node: u32,
+    // sixteen times the size, and the highest four bits of the distance to the parent
+    size_and_parent: u32,
     parent_low: u16,
-    parent_high: u8,
+    parent_middle: u8,
     kind: SyntaxKind,
 }
 
@@ -49,20 +51,52 @@ pub struct NarrowRecord {
 
 const _: () = prove!(size_of::<NarrowRecord>() == 16);
 
+// The number with these parts: four bits, eight and sixteen.
 #[inline(always)]
-fn join(low: u16, high: u8) -> usize
-    ensures { result ≡ joined low high }
+fn join(high: u32, middle: u8, low: u16) -> usize
+    requires { high < 16 }
+    ensures { result ≡ joined high middle low }
 {
-    low as usize + LOW * high as usize
+    low as usize + 65536 * (middle as usize + 256 * high as usize)
 }
 
-// The parts of a number below 2 ^ 24.
-#[inline]
-fn split(number: usize) -> (u16, u8)
-    requires { number < 2 ^ 24 }
-    ensures { joined result.0 result.1 ≡ number }
+// The parts of a number below 2 ^ 28.
+#[inline(always)]
+fn split(number: usize) -> (u32, u8, u16)
+    requires { number < 2 ^ 28 }
+    ensures high { result.0 < 16 }
+    ensures number { joined result.0 result.1 result.2 ≡ number }
 {
-    ((number % LOW) as u16, (number / LOW) as u8)
+    (
+        (number / 65536 / 256) as u32,
+        (number / 65536 % 256) as u8,
+        (number % 65536) as u16,
+    )
+}
+
+// A start, and whether the record is a node's.
+#[inline(always)]
+fn start_word(start: usize, is_node: bool) -> u32
+    requires { start < 2 ^ 31 }
+    ensures start { result % 2 ^ 31 ≡ start }
+    ensures node { (result / 2 ^ 31 == 1) ≡ is_node }
+{
+    if is_node {
+        start as u32 + NODE
+    } else {
+        start as u32
+    }
+}
+
+// A size, and the highest part of a distance.
+#[inline(always)]
+fn size_word(size: usize, high: u32) -> u32
+    requires size { size < 2 ^ 28 }
+    requires high { high < 16 }
+    ensures size { result / 16 ≡ size }
+    ensures high { result % 16 ≡ high }
+{
+    size as u32 * 16 + high
 }
 
 impl Packed for SmallRecord {
@@ -72,10 +106,14 @@ impl Packed for SmallRecord {
     fn row(self) -> Record {
         Record {
             kind: self.kind,
-            is_node: self.is_node,
-            start: self.start as usize,
-            size: join(self.size_low, self.size_high),
-            to_parent: join(self.parent_low, self.parent_high),
+            is_node: self.start_and_node / NODE == 1,
+            start: (self.start_and_node % NODE) as usize,
+            size: (self.size_and_parent / 16) as usize,
+            to_parent: join(
+                self.size_and_parent % 16,
+                self.parent_middle,
+                self.parent_low,
+            ),
         }
     }
 }
@@ -108,13 +146,13 @@ impl SmallRecord {
     // Whether a table of so many records can take one more in this form.
     #[inline]
     pub fn fits(len: usize, row: Record) -> bool
-        ensures len { result ≡ true → len + 1 < 2 ^ 24 }
+        ensures len { result ≡ true → len + 1 < 2 ^ 28 }
         ensures row { result ≡ true → IsSmall row }
     {
         len < MOST_SMALL
-            && row.start <= u32::MAX as usize
-            && row.size < SMALL
-            && row.to_parent < SMALL
+            && row.start <= LAST_SMALL_START
+            && row.size <= MOST_SMALL
+            && row.to_parent <= MOST_SMALL
     }
 
     #[inline]
@@ -122,54 +160,52 @@ impl SmallRecord {
         requires { IsSmall row }
         ensures { of_small result ≡ row }
     {
-        let (size_low, size_high) = split(row.size);
-        let (parent_low, parent_high) = split(row.to_parent);
+        let (parent_high, parent_middle, parent_low) = split(row.to_parent);
         SmallRecord {
-            start: row.start as u32,
-            size_low,
-            size_high,
-            parent_high,
+            start_and_node: start_word(row.start, row.is_node),
+            size_and_parent: size_word(row.size, parent_high),
             parent_low,
+            parent_middle,
             kind: row.kind,
-            is_node: row.is_node,
         }
     }
 
     // The same record in the narrow form.
+    #[inline(always)]
     pub fn narrow(self) -> NarrowRecord
         ensures { widened result ≡ of_small self }
     {
+        let row = self.row();
         NarrowRecord {
-            kind: self.kind,
-            is_node: self.is_node,
-            start: self.start,
-            size: join(self.size_low, self.size_high) as u32,
-            to_parent: join(self.parent_low, self.parent_high) as u32,
+            kind: row.kind,
+            is_node: row.is_node,
+            start: row.start as u32,
+            size: row.size as u32,
+            to_parent: row.to_parent as u32,
         }
     }
 
     #[inline]
     pub fn with_size(self, size: usize) -> SmallRecord
-        requires { size < 2 ^ 24 }
+        requires { size < 2 ^ 28 }
         ensures { of_small result ≡ record (of_small self) { size = size } }
     {
-        let (size_low, size_high) = split(size);
         SmallRecord {
-            size_low,
-            size_high,
+            size_and_parent: size_word(size, self.size_and_parent % 16),
             ..self
         }
     }
 
     #[inline]
     pub fn with_parent(self, to_parent: usize) -> SmallRecord
-        requires { to_parent < 2 ^ 24 }
+        requires { to_parent < 2 ^ 28 }
         ensures { of_small result ≡ record (of_small self) { to_parent = to_parent } }
     {
-        let (parent_low, parent_high) = split(to_parent);
+        let (parent_high, parent_middle, parent_low) = split(to_parent);
         SmallRecord {
+            size_and_parent: size_word((self.size_and_parent / 16) as usize, parent_high),
             parent_low,
-            parent_high,
+            parent_middle,
             ..self
         }
     }
