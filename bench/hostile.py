@@ -1,18 +1,21 @@
 #!/usr/bin/env python3
-"""Runs `gqlcst check` on hostile texts of N bytes (5,000,000 unless given), of twice as many, and so on, and prints a table: at each size the program's
+"""Runs `gqlcst check` on hostile texts of N bytes (6,250,000 unless given), of twice as many, and so on, and prints a table: at each size the program's
 own seconds and those that the kernel takes for it, how many times the program's own are those of the size before, and the peak memory at the last. The
 kernel's go with the memory: it hands out and clears each page.
 
-hostile.py PROGRAM [N [SIZES [ROUNDS [GIGABYTES]]]]: SIZES of them (2), ROUNDS runs each, in turn (5), and more where they are short; the seconds are the mean
-of the middle half of the runs. The kernel finds out by samples which part of a run's time is the program's own, so a single short run says little. A size
-that would take more than GIGABYTES (8), by what the size before took, is left out. Ends with status 1 where twice a text takes more than 2.2 times the
-program's own seconds."""
+hostile.py PROGRAM [N [SIZES [ROUNDS [GIGABYTES [TEXT]]]]]: SIZES of them (4), ROUNDS runs each, in turn (5), and more where they are short. A run counts only on
+a processor at rest (`calm.py`). A size that would take more than GIGABYTES (10), by what the size before took, is left out. TEXT is the name of the only text
+that is run. Ends with status 1 where twice a text takes more than 2.2 times the program's own seconds.
+
+What a run takes in all is exact. Which part of it is the program's own the kernel finds out by samples, so a single short run says little of that: the
+seconds are those of the shortest run, divided as the sums of all runs are."""
 import os
-import statistics
 import subprocess
 import sys
 import tempfile
 import time
+
+from calm import Processors
 
 TEXTS = {
     "braces": lambda n: "{" * n,
@@ -30,8 +33,9 @@ TEXTS = {
     "-": lambda n: "-" * n,
     "wrapped types": lambda n: ("query(" + "$a:" + "[" * 400 + "T" + "]!" * 400 + "){a}\n") * (n // 1220),
 }
-# For so many seconds runs of a text are made.
+# For so many seconds runs of a text are made, and so many times one that does not count is made again.
 SHORT = 12
+TRIES = 3
 # Texts that nest deeper than the default limit, and the limit with which they are read: 8 MB of stack hold it (bench/stack.py).
 DEPTH = 10_000
 NESTED_TEXTS = {
@@ -48,45 +52,52 @@ def run(command, text):
         return usage.ru_utime, usage.ru_stime, usage.ru_maxrss / 1e6
 
 
-def middle(seconds):
-    """The mean of the middle half."""
-    quarter = len(seconds) // 4
-    return statistics.mean(sorted(seconds)[quarter : len(seconds) - quarter])
+def seconds(own, kernel):
+    """The program's own seconds and the kernel's, of several runs."""
+    total = min(mine + its for mine, its in zip(own, kernel))
+    share = sum(own) / (sum(own) + sum(kernel))
+    return total * share, total * (1 - share)
 
 
-def measured(command, folder, make, sizes, rounds, most):
-    """The seconds at each size, the command's own and the kernel's; and the memory at each."""
-    texts = []
-    for size in sizes:
-        path = os.path.join(folder, str(size))
-        with open(path, "w") as target:
-            target.write(make(size))
-        texts.append(path)
+def measured(processors, command, texts, rounds, most):
+    """The seconds at each size, the command's own and the kernel's; and the memory at the last."""
     runs, started = [[] for _ in texts], time.monotonic()
     while len(runs[0]) < rounds or time.monotonic() - started < SHORT:
         for path, before, results in zip(texts, [None, *runs], runs):
             if before and 2 * before[0][2] > most:
                 break
-            results.append(run(command, path))
+            results.append(processors.once(run, command, path, tries=TRIES))
     runs = [list(zip(*results)) for results in runs if results]
-    return [(middle(own), middle(kernel)) for own, kernel, _ in runs], [peak[0] for _, _, peak in runs]
+    return [seconds(own, kernel) for own, kernel, _ in runs], runs[-1][2][0]
+
+
+def written(folder, make, sizes):
+    """Files with a text of each size."""
+    texts = [os.path.join(folder, str(size)) for size in sizes]
+    for path, size in zip(texts, sizes):
+        with open(path, "w") as target:
+            target.write(make(size))
+    return texts
 
 
 def main():
-    given = [float(word) for word in sys.argv[2:]]
-    size, count, rounds, most = given + [5_000_000, 2, 5, 8][len(given):]
+    program, given, only = sys.argv[1], [float(word) for word in sys.argv[2:6]], sys.argv[6:]
+    size, count, rounds, most = given + [6_250_000, 4, 5, 10][len(given):]
     sizes = [int(size) * 2**i for i in range(int(count))]
     print("| | " + " | ".join(f"{size / 1e6:g} MB" for size in sizes) + " | times | memory |\n|" + "---|" * (len(sizes) + 3))
-    slow = 0
+    slow, processors = False, Processors()
     with tempfile.TemporaryDirectory() as folder:
         for name, make in (TEXTS | NESTED_TEXTS).items():
-            command = [sys.argv[1], "check", *(["--recursion", str(DEPTH)] if name in NESTED_TEXTS else [])]
-            seconds, memory = measured(command, folder, make, sizes, int(rounds), most)
-            times = [after / max(before, 0.001) for (before, _), (after, _) in zip(seconds, seconds[1:])]
-            slow += any(ratio > 2.2 for ratio in times)
-            cells = [f"{own:.2f} + {kernel:.2f}" for own, kernel in seconds] + [""] * (len(sizes) - len(seconds))
+            if only and name not in only:
+                continue
+            command = [program, "check", *(["--recursion", str(DEPTH)] if name in NESTED_TEXTS else [])]
+            took, memory = measured(processors, command, written(folder, make, sizes), int(rounds), most)
+            times = [after / max(before, 0.001) for (before, _), (after, _) in zip(took, took[1:])]
+            slow |= any(ratio > 2.2 for ratio in times)
+            cells = [f"{own:.3f} + {kernel:.3f}" for own, kernel in took] + [""] * (len(sizes) - len(took))
             ratios = ", ".join(f"{ratio:.2f}" for ratio in times)
-            print(f"| {name} | " + " | ".join(cells) + f" | {ratios} | {memory[-1]:.2f} GB |", flush=True)
+            print(f"| {name} | " + " | ".join(cells) + f" | {ratios} | {memory:.2f} GB |", flush=True)
+    print(f"\n{processors.summary()}")
     sys.exit(1 if slow else 0)
 
 

@@ -5,27 +5,16 @@ measure.py ROUNDS FOLDER OUR_MEASURE THEIR_MEASURE OUR_WALK THEIR_WALK OUR_PROGR
 The first two write lines `lex N` and `parse N` on standard error, N microseconds each; a walk writes `N MB/s` there; the last two take a mode. Texts of
 5 MB are made in FOLDER.
 
-A host that gives its processors to others too makes programs up to twice as slow, for parts of a second or for many, and not all of them alike. So a run counts
-only when a fixed piece of work, done before and after it on the same processor, takes no longer than it takes at rest. A run that does not count is made
-again, and the number of those is printed."""
+A run counts only on a processor at rest (`calm.py`). The number of those that did not count is printed."""
 import os
 import statistics
 import subprocess
 import sys
 import time
 
+from calm import Processors
+
 MODES = ["check", "tokens", "tree"]
-SLACK = 1.12
-TRIES = 100
-
-
-def work():
-    """The seconds that a fixed piece of work takes."""
-    started = time.perf_counter()
-    total = 0
-    for number in range(100_000):
-        total += number
-    return time.perf_counter() - started
 
 
 class Rounds:
@@ -33,41 +22,11 @@ class Rounds:
 
     def __init__(self, count):
         self.count = count
-        self.left_out = 0
-        self.disturbed = 0
-        self.processors = sorted(os.sched_getaffinity(0))
-        self.rest = work()
-        for _ in range(20):
-            for processor in self.processors:
-                os.sched_setaffinity(0, {processor})
-                self.rest = min(self.rest, *(work() for _ in range(20)))
-
-    def is_calm(self):
-        return work() <= SLACK * self.rest
-
-    def settle(self):
-        """Moves to a processor at rest, if there is one."""
-        for _ in range(TRIES):
-            for processor in self.processors:
-                os.sched_setaffinity(0, {processor})
-                if self.is_calm():
-                    return
-            time.sleep(0.02)
-
-    def once(self, command, text):
-        """What the command gives in a run that counts, or in the last one that was tried."""
-        for _ in range(TRIES):
-            self.settle()
-            result = run(command, text)
-            if self.is_calm():
-                return result
-            self.left_out += 1
-        self.disturbed += 1
-        return result
+        self.processors = Processors()
 
     def all(self, commands, text):
         """The results of each command, round for round: one run of each, in turn."""
-        return list(zip(*([self.once(command, text) for command in commands] for _ in range(self.count))))
+        return list(zip(*([self.processors.once(run, command, text) for command in commands] for _ in range(self.count))))
 
 
 def run(command, text):
@@ -129,7 +88,7 @@ def main():
     for kind in ["queries", "schema"]:
         times_of(kind, rounds, folder, commands[:2], commands[4:])
     walk(rounds, folder, commands[2:4])
-    print(f"\nruns that did not count: {rounds.left_out}; that were disturbed each time, and count: {rounds.disturbed}; {1000 * rounds.rest:.2f} ms at rest")
+    print(f"\n{rounds.processors.summary()}")
 
 
 main()
