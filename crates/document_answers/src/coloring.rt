@@ -2,13 +2,14 @@
 ghost use Rattle.std.specs.Prelude.{◌≡◌, ◌≤◌, IfOk, OnOk, false, max, slice_index_or};
 ghost use Rattle.document_answers.specs.Parts.{AreInOrder, EndBefore, HasNoLineEnd, IsInLine};
 
+use crate::labels::found_in;
 use crate::names::{defines_type, extends_type, named_by};
 use crate::span::{Span, span_of};
 use apollo_tree::{SyntaxKind, SyntaxNode, SyntaxToken};
 use std::alloc::{AllocError, Global};
 
 /// What a token is, as the language server protocol names it.
-#[derive(Clone, Copy, PartialEq, Eq)]
+#[derive(Clone, Copy)]
 pub enum TokenType {
     Comment,
     Keyword,
@@ -41,13 +42,13 @@ pub const TOKEN_TYPES: [&str; 12] = [
 ];
 
 /// A token, or the part of it that is in one line.
-#[derive(Clone, Copy, PartialEq, Eq)]
+#[derive(Clone, Copy)]
 pub struct SemanticToken {
     pub span: Span,
     pub token_type: TokenType,
 }
 
-// What a name in a node is, by the kind of the node.
+// What a name in a node is, by the kind of the node, where the node is no definition of a type and no extension of one.
 const NAME_TYPES: [(SyntaxKind, TokenType); 9] = [
     (SyntaxKind::VARIABLE, TokenType::Variable),
     (SyntaxKind::ARGUMENT, TokenType::Parameter),
@@ -60,36 +61,38 @@ const NAME_TYPES: [(SyntaxKind, TokenType); 9] = [
     (SyntaxKind::NAMED_TYPE, TokenType::Type),
 ];
 
+// What a leaf is that is neither a name nor a keyword, by its kind.
+const LEAF_TYPES: [(SyntaxKind, TokenType); 12] = [
+    (SyntaxKind::COMMENT, TokenType::Comment),
+    (SyntaxKind::STRING, TokenType::String),
+    (SyntaxKind::INT, TokenType::Number),
+    (SyntaxKind::FLOAT, TokenType::Number),
+    (SyntaxKind::DOLLAR, TokenType::Variable),
+    (SyntaxKind::AT, TokenType::Decorator),
+    (SyntaxKind::BANG, TokenType::Operator),
+    (SyntaxKind::AMP, TokenType::Operator),
+    (SyntaxKind::SPREAD, TokenType::Operator),
+    (SyntaxKind::COLON, TokenType::Operator),
+    (SyntaxKind::EQ, TokenType::Operator),
+    (SyntaxKind::PIPE, TokenType::Operator),
+];
+
 fn type_of_name(kind: SyntaxKind) -> TokenType {
-    for (named, token_type) in NAME_TYPES {
-        if kind.is(named) {
-            return token_type;
-        }
-    }
     if defines_type(kind) || extends_type(kind) {
-        TokenType::Type
-    } else {
-        TokenType::Property
+        return TokenType::Type;
     }
+    found_in(&NAME_TYPES, kind).unwrap_or(TokenType::Property)
 }
 
 fn type_of_leaf(leaf: SyntaxToken<'_>) -> Option<TokenType> {
-    match leaf.kind() {
-        SyntaxKind::COMMENT => Some(TokenType::Comment),
-        SyntaxKind::STRING => Some(TokenType::String),
-        SyntaxKind::INT | SyntaxKind::FLOAT => Some(TokenType::Number),
-        SyntaxKind::DOLLAR => Some(TokenType::Variable),
-        SyntaxKind::AT => Some(TokenType::Decorator),
-        SyntaxKind::BANG
-        | SyntaxKind::AMP
-        | SyntaxKind::SPREAD
-        | SyntaxKind::COLON
-        | SyntaxKind::EQ
-        | SyntaxKind::PIPE => Some(TokenType::Operator),
-        SyntaxKind::IDENT => Some(type_of_name(named_by(leaf)?.kind())),
-        other if other.keyword().is_some() => Some(TokenType::Keyword),
-        _ => None,
+    let kind = leaf.kind();
+    if kind.is(SyntaxKind::IDENT) {
+        return Some(type_of_name(named_by(leaf)?.kind()));
     }
+    if kind.keyword().is_some() {
+        return Some(TokenType::Keyword);
+    }
+    found_in(&LEAF_TYPES, kind)
 }
 
 // Whether a line ends at a place of a text.

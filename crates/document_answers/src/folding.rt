@@ -5,7 +5,7 @@ use apollo_tree::{SyntaxKind, SyntaxNode, SyntaxToken};
 use std::alloc::{AllocError, Global};
 
 /// A part of the text that may be folded, brackets included.
-#[derive(Clone, Copy, PartialEq, Eq)]
+#[derive(Clone, Copy)]
 pub struct Fold {
     pub span: Span,
     /// Whether it is a description; else it is what brackets hold.

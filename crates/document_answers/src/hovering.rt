@@ -1,5 +1,5 @@
 // What is said of a name.
-use crate::labels::{child_of, identifier_at, name_of};
+use crate::labels::{child_of, identifier_at, is_one_of, name_of};
 use crate::names::{NameKind, defines_type, meaning_of, named_by};
 use crate::span::{Span, span_of};
 use apollo_cst_core::CstNode;
@@ -8,15 +8,26 @@ use apollo_tree::{SyntaxKind, SyntaxNode, SyntaxToken};
 use std::alloc::{AllocError, Global};
 
 /// What is said of a name.
-#[derive(Drop)]
+#[derive(Clone, Copy)]
 pub struct Hover<'t> {
     /// Where the name is.
     pub span: Span,
-    /// The front of its definition, up to what is in braces.
-    pub heading: &'t str,
-    /// The value of its description, empty where it has none.
-    pub description: String,
+    /// Its definition.
+    pub definition: SyntaxNode<'t>,
 }
+
+// What names itself where it is defined, beside types, directives and the values of enums.
+const DESCRIBED: [SyntaxKind; 2] = [
+    SyntaxKind::FIELD_DEFINITION,
+    SyntaxKind::INPUT_VALUE_DEFINITION,
+];
+
+// The parts of a definition that are in braces.
+const IN_BRACES: [SyntaxKind; 3] = [
+    SyntaxKind::FIELDS_DEFINITION,
+    SyntaxKind::ENUM_VALUES_DEFINITION,
+    SyntaxKind::INPUT_FIELDS_DEFINITION,
+];
 
 // The definition of a type or a directive with a name.
 fn definition_of<'t>(root: SyntaxNode<'t>, kind: NameKind, name: &str) -> Option<SyntaxNode<'t>> {
@@ -36,37 +47,41 @@ fn definition_of<'t>(root: SyntaxNode<'t>, kind: NameKind, name: &str) -> Option
     None
 }
 
+// The definition of the value that a node of an enum's value names.
+fn enum_value_definition<'t>(node: SyntaxNode<'t>) -> Option<SyntaxNode<'t>> {
+    let parent = node.parent()?;
+    if parent.kind().is(SyntaxKind::ENUM_VALUE_DEFINITION) {
+        Some(parent)
+    } else {
+        None
+    }
+}
+
 // The definition that tells of a name: that of its type or directive, or the field, argument or value that it names.
 fn described_by<'t>(root: SyntaxNode<'t>, leaf: SyntaxToken<'t>) -> Option<SyntaxNode<'t>> {
     if let Some(meaning) = meaning_of(leaf) {
         return definition_of(root, meaning.kind, leaf.text());
     }
     let named = named_by(leaf)?;
-    match named.kind() {
-        SyntaxKind::FIELD_DEFINITION | SyntaxKind::INPUT_VALUE_DEFINITION => Some(named),
-        SyntaxKind::ENUM_VALUE => {
-            let parent = named.parent()?;
-            if parent.kind().is(SyntaxKind::ENUM_VALUE_DEFINITION) {
-                Some(parent)
-            } else {
-                None
-            }
-        }
-        _ => None,
+    if named.kind().is(SyntaxKind::ENUM_VALUE) {
+        return enum_value_definition(named);
     }
+    if is_one_of(named.kind(), &DESCRIBED) {
+        return Some(named);
+    }
+    None
 }
 
-// The text of a definition without its description and without what is in braces.
-fn heading_of<'t>(source: &'t str, node: SyntaxNode<'t>) -> &'t str {
+/// The text of a definition without its description and without what is in braces.
+pub(crate) fn heading_of<'t>(source: &'t str, node: SyntaxNode<'_>) -> &'t str {
     let mut span = span_of(node.text_range());
     for child in node.children() {
         let part = span_of(child.text_range());
-        match child.kind() {
-            SyntaxKind::DESCRIPTION => span.start = part.end,
-            SyntaxKind::FIELDS_DEFINITION
-            | SyntaxKind::ENUM_VALUES_DEFINITION
-            | SyntaxKind::INPUT_FIELDS_DEFINITION => span.end = part.start,
-            _ => {}
+        if child.kind().is(SyntaxKind::DESCRIPTION) {
+            span.start = part.end;
+        }
+        if is_one_of(child.kind(), &IN_BRACES) {
+            span.end = part.start;
         }
     }
     match source.get(span.start..span.end) {
@@ -75,8 +90,8 @@ fn heading_of<'t>(source: &'t str, node: SyntaxNode<'t>) -> &'t str {
     }
 }
 
-// The value of a definition's description.
-fn description_of(alloc: Global, node: SyntaxNode<'_>) -> Result<String, AllocError> {
+/// The value of a definition's description, empty where it has none. It fails only where memory is refused.
+pub(crate) fn description_of(alloc: Global, node: SyntaxNode<'_>) -> Result<String, AllocError> {
     if let Some(child) = child_of(node, &[SyntaxKind::DESCRIPTION])
         && let Some(description) = Description::cast(child)
         && let Some(value) = description.string_value()
@@ -87,22 +102,12 @@ fn description_of(alloc: Global, node: SyntaxNode<'_>) -> Result<String, AllocEr
 }
 
 /// What the document says of the name at a place, or that ends there: of a type or a directive by its definition, and of a field, an argument or
-/// a value where that is defined. `None` where it says nothing. It fails only where memory is refused.
-pub fn hover_at<'t>(
-    alloc: Global,
-    source: &'t str,
-    root: SyntaxNode<'t>,
-    offset: usize,
-) -> Result<Option<Hover<'t>>, AllocError> {
-    let Some(leaf) = identifier_at(root, offset) else {
-        return Ok(None);
-    };
-    let Some(node) = described_by(root, leaf) else {
-        return Ok(None);
-    };
-    Ok(Some(Hover {
+/// a value where that is defined. `None` where it says nothing.
+pub fn hover_at<'t>(root: SyntaxNode<'t>, offset: usize) -> Option<Hover<'t>> {
+    let leaf = identifier_at(root, offset)?;
+    let definition = described_by(root, leaf)?;
+    Some(Hover {
         span: span_of(leaf.text_range()),
-        heading: heading_of(source, node),
-        description: description_of(alloc, node)?,
-    }))
+        definition,
+    })
 }

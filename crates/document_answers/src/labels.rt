@@ -16,6 +16,16 @@ pub(crate) fn is_one_of(kind: SyntaxKind, kinds: &[SyntaxKind]) -> bool {
     false
 }
 
+/// What a table has for a kind.
+pub(crate) fn found_in<T: Copy>(table: &[(SyntaxKind, T)], kind: SyntaxKind) -> Option<T> {
+    for row in table {
+        if kind.is(row.0) {
+            return Some(row.1);
+        }
+    }
+    None
+}
+
 /// The first child of one of these kinds.
 pub(crate) fn child_of<'t>(node: SyntaxNode<'t>, kinds: &[SyntaxKind]) -> Option<SyntaxNode<'t>> {
     for child in node.children() {

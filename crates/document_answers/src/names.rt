@@ -1,5 +1,5 @@
 // What the names of a document mean.
-use crate::labels::is_one_of;
+use crate::labels::{found_in, is_one_of};
 use apollo_tree::{SyntaxKind, SyntaxNode, SyntaxToken};
 
 /// What a name stands for.
@@ -36,6 +36,15 @@ const TYPE_EXTENSIONS: [SyntaxKind; 6] = [
     SyntaxKind::INPUT_OBJECT_TYPE_EXTENSION,
 ];
 
+// What a name in a node stands for, where the node is no definition of a type and no extension of one.
+const NAME_KINDS: [(SyntaxKind, NameKind); 5] = [
+    (SyntaxKind::FRAGMENT_NAME, NameKind::Fragment),
+    (SyntaxKind::VARIABLE, NameKind::Variable),
+    (SyntaxKind::NAMED_TYPE, NameKind::Type),
+    (SyntaxKind::DIRECTIVE, NameKind::Directive),
+    (SyntaxKind::DIRECTIVE_DEFINITION, NameKind::Directive),
+];
+
 /// Whether a node defines a type.
 pub(crate) fn defines_type(kind: SyntaxKind) -> bool {
     is_one_of(kind, &TYPE_DEFINITIONS)
@@ -56,23 +65,21 @@ fn is_in(node: SyntaxNode<'_>, kind: SyntaxKind) -> bool {
 
 // What a name in a node stands for.
 fn kind_in(kind: SyntaxKind) -> Option<NameKind> {
-    match kind {
-        SyntaxKind::FRAGMENT_NAME => Some(NameKind::Fragment),
-        SyntaxKind::VARIABLE => Some(NameKind::Variable),
-        SyntaxKind::NAMED_TYPE => Some(NameKind::Type),
-        SyntaxKind::DIRECTIVE | SyntaxKind::DIRECTIVE_DEFINITION => Some(NameKind::Directive),
-        other if defines_type(other) || extends_type(other) => Some(NameKind::Type),
-        _ => None,
+    if defines_type(kind) || extends_type(kind) {
+        return Some(NameKind::Type);
     }
+    found_in(&NAME_KINDS, kind)
 }
 
 // Whether a name in a node is defined there.
 fn is_defined_in(node: SyntaxNode<'_>) -> bool {
-    match node.kind() {
-        SyntaxKind::FRAGMENT_NAME => is_in(node, SyntaxKind::FRAGMENT_DEFINITION),
-        SyntaxKind::VARIABLE => is_in(node, SyntaxKind::VARIABLE_DEFINITION),
-        SyntaxKind::DIRECTIVE_DEFINITION => true,
-        other => defines_type(other),
+    let kind = node.kind();
+    if kind.is(SyntaxKind::FRAGMENT_NAME) {
+        is_in(node, SyntaxKind::FRAGMENT_DEFINITION)
+    } else if kind.is(SyntaxKind::VARIABLE) {
+        is_in(node, SyntaxKind::VARIABLE_DEFINITION)
+    } else {
+        defines_type(kind) || kind.is(SyntaxKind::DIRECTIVE_DEFINITION)
     }
 }
 

@@ -1,11 +1,11 @@
 // The outline of a document.
-use crate::labels::{child_of, name_of, type_of};
+use crate::labels::{child_of, found_in, name_of, type_of};
 use crate::span::{Span, span_of};
 use apollo_tree::{SyntaxKind, SyntaxNode, SyntaxToken};
 use std::alloc::{AllocError, Global};
 
 /// What a part of a document is, with the protocol's number.
-#[derive(Clone, Copy, PartialEq, Eq)]
+#[derive(Clone, Copy)]
 pub enum SymbolKind {
     /// A schema.
     Namespace = 3,
@@ -75,15 +75,6 @@ const SYMBOL_KINDS: [(SyntaxKind, SymbolKind); 24] = [
     (SyntaxKind::INPUT_VALUE_DEFINITION, SymbolKind::Property),
 ];
 
-fn symbol_kind(kind: SyntaxKind) -> Option<SymbolKind> {
-    for (part, symbol) in SYMBOL_KINDS {
-        if kind.is(part) {
-            return Some(symbol);
-        }
-    }
-    None
-}
-
 // The first word of a node, unless a brace comes first.
 fn first_word<'t>(node: SyntaxNode<'t>) -> Option<SyntaxToken<'t>> {
     for element in node.descendants_with_tokens() {
@@ -137,7 +128,7 @@ pub fn symbols<'t>(alloc: Global, root: SyntaxNode<'t>) -> Result<Vec<Symbol<'t>
     let mut found = Vec::new(alloc);
     let mut open = Vec::new(alloc);
     for node in root.descendants() {
-        let Some(kind) = symbol_kind(node.kind()) else {
+        let Some(kind) = found_in(&SYMBOL_KINDS, node.kind()) else {
             continue;
         };
         let span = span_of(node.text_range());

@@ -4,7 +4,7 @@ ghost use Rattle.std.specs.Prelude.{◌≡◌, IfSome, IsTrue};
 use apollo_tree::TextRange;
 
 /// A part of a text, in bytes: from the offset `start` up to the offset `end`.
-#[derive(Clone, Copy, PartialEq, Eq)]
+#[derive(Clone, Copy)]
 pub struct Span {
     pub start: usize,
     pub end: usize,
@@ -24,7 +24,9 @@ impl Span {
     pub(crate) fn is_larger_than(self, part: Span) -> bool
         ensures { IsTrue result → Encloses self part }
     {
-        self.start <= part.start && part.end <= self.end && self != part
+        self.start <= part.start
+            && part.end <= self.end
+            && (self.start < part.start || part.end < self.end)
     }
 
     // What is in it; `None` where it isn't a part of the text.

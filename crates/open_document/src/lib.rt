@@ -13,7 +13,7 @@ use std::alloc::{AllocError, Global};
 use std::marker::Model;
 
 /// The part of a text between two positions. When the end comes before the start, it is the empty part at the start.
-#[derive(Clone, Copy, Debug, PartialEq, Eq)]
+#[derive(Clone, Copy)]
 pub struct PositionRange {
     pub start: Position,
     pub end: Position,

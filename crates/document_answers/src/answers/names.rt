@@ -4,7 +4,7 @@ ghost use Rattle.json.specs.Tree.{HasNumbers};
 ghost use Rattle.json.specs.Value.{value_view};
 ghost use Rattle.rpc_messages.specs.Messages.{IsAnswer, id_token};
 
-use crate::hovering::hover_at;
+use crate::hovering::{description_of, heading_of, hover_at};
 use crate::span::Span;
 use crate::usage::{definition, references};
 use apollo_tree::SyntaxNode;
@@ -102,9 +102,18 @@ pub fn answer_references(
     answer_locations(alloc, id, places, uri, found.as_slice())
 }
 
-// What is shown of a name, as Markdown.
-fn markdown_of(alloc: Global, heading: &str, description: &str) -> Result<String, AllocError> {
-    format!(in alloc; "```graphql\n{heading}\n```\n\n{description}")
+// What is shown of a definition, as Markdown.
+fn markdown_of(
+    alloc: Global,
+    source: &str,
+    definition: SyntaxNode<'_>,
+) -> Result<String, AllocError> {
+    let description = description_of(alloc, definition)?;
+    let mut text = String::from_str(alloc, "```graphql\n")?;
+    text.push_str(heading_of(source, definition))?;
+    text.push_str("\n```\n\n")?;
+    text.push_str(description.as_str())?;
+    Ok(text)
 }
 
 // The answer that shows a text in Markdown for a part of the document.
@@ -147,12 +156,11 @@ pub fn answer_hover(
     requires { HasNumbers (value_view id.now) }
     ensures { IfOk result (λ body. IsAnswer (id_token (value_view id.now)) body.items) }
 {
-    match hover_at(alloc, places.text, root, offset) {
-        Ok(Some(found)) => {
-            let text = markdown_of(alloc, found.heading, found.description.as_str())?;
+    match hover_at(root, offset) {
+        Some(found) => {
+            let text = markdown_of(alloc, places.text, found.definition)?;
             answer_markdown(alloc, id, places, found.span, text.as_str())
         }
-        Ok(None) => answer(alloc, id, &[Piece::Key("result"), Piece::Null]),
-        Err(error) => Err(error),
+        None => answer(alloc, id, &[Piece::Key("result"), Piece::Null]),
     }
 }
