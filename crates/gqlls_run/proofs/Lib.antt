@@ -1,2 +1,4 @@
+pub mod Changes
+pub mod Numbers
 pub mod Opened
 pub mod Texts

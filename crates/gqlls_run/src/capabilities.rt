@@ -68,8 +68,8 @@ fn push_tokens(pieces: &mut Vec<Piece<'_>>) -> Result<(), AllocError> {
         Piece::Key("tokenTypes"),
         Piece::Array,
     ])?;
-    for name in TOKEN_TYPES {
-        pieces.push(Piece::Text(name))?;
+    for name in &TOKEN_TYPES {
+        pieces.push(Piece::Text(*name))?;
     }
     pieces.extend_from_slice(&[Piece::EndArray, Piece::EndObject, Piece::EndObject])
 }
@@ -97,8 +97,8 @@ pub(crate) fn answer_initialize(
         Piece::Key("positionEncoding"),
         Piece::Text(encoding_name(encoding)),
     ])?;
-    for name in SERVED {
-        pieces.extend_from_slice(&[Piece::Key(name), Piece::Flag(true)])?;
+    for name in &SERVED {
+        pieces.extend_from_slice(&[Piece::Key(*name), Piece::Flag(true)])?;
     }
     push_sync(&mut pieces)?;
     push_tokens(&mut pieces)?;

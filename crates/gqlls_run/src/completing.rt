@@ -12,13 +12,15 @@ use json::Value;
 use rpc_messages::{Piece, answer};
 use std::alloc::{AllocError, Global};
 
-// A word that may come next.
+// A word that may come next, and the protocol's number of what it is.
 #[derive(Clone, Copy)]
 struct Candidate<'t> {
     label: &'t str,
-    // What the word names; `None` for a keyword.
-    names: Option<NameKind>,
+    number: usize,
 }
+
+// The protocol's number of a keyword.
+const KEYWORD: usize = 14;
 
 const BUILT_IN_TYPES: [&str; 5] = ["Boolean", "Float", "ID", "Int", "String"];
 
@@ -92,10 +94,12 @@ fn parse_with(
 
 // A text that begins with a keyword, and shows how it goes on where the parser looks further.
 fn continued(kind: SyntaxKind, word: &'static str) -> &'static str {
-    match kind {
-        SyntaxKind::extend_KW => "extend type",
-        SyntaxKind::repeatable_KW => "repeatable on",
-        _ => word,
+    if kind.is(SyntaxKind::extend_KW) {
+        "extend type"
+    } else if kind.is(SyntaxKind::repeatable_KW) {
+        "repeatable on"
+    } else {
+        word
     }
 }
 
@@ -119,7 +123,10 @@ fn push_keywords(
             && let Some(label) = kind.keyword()
             && is_keyword_after(alloc, front, continued(kind, label))?
         {
-            found.push(Candidate { label, names: None })?;
+            found.push(Candidate {
+                label,
+                number: KEYWORD,
+            })?;
         }
     }
     Ok(())
@@ -135,6 +142,16 @@ fn name_after(alloc: Global, front: &str) -> Result<Option<NameKind>, AllocError
         Some(meaning) if !meaning.defines => Some(meaning.kind),
         _ => None,
     })
+}
+
+// The protocol's number of what a name stands for.
+fn name_number(kind: NameKind) -> usize {
+    match kind {
+        NameKind::Fragment => 3,
+        NameKind::Variable => 6,
+        NameKind::Type => 7,
+        NameKind::Directive => 24,
+    }
 }
 
 fn has_label(found: &[Candidate<'_>], label: &str) -> bool {
@@ -161,7 +178,7 @@ fn push_names<'t>(
         {
             found.push(Candidate {
                 label: leaf.text(),
-                names: Some(kind),
+                number: name_number(kind),
             })?;
         }
     }
@@ -177,7 +194,7 @@ fn push_labels<'t>(
     for label in labels {
         found.push(Candidate {
             label: *label,
-            names: Some(kind),
+            number: name_number(kind),
         })?;
     }
     Ok(())
@@ -212,17 +229,6 @@ fn completions<'t>(
     Ok(found)
 }
 
-// The protocol's number of what a word is.
-fn completion_number(names: Option<NameKind>) -> usize {
-    match names {
-        None => 14,
-        Some(NameKind::Fragment) => 3,
-        Some(NameKind::Variable) => 6,
-        Some(NameKind::Type) => 7,
-        Some(NameKind::Directive) => 24,
-    }
-}
-
 // Adds words, each with the range that it replaces.
 fn push_candidates<'t>(
     pieces: &mut Vec<Piece<'t>>,
@@ -235,7 +241,7 @@ fn push_candidates<'t>(
             Piece::Key("label"),
             Piece::Text(candidate.label),
             Piece::Key("kind"),
-            Piece::Count(completion_number(candidate.names)),
+            Piece::Count(candidate.number),
             Piece::Key("textEdit"),
             Piece::Object,
             Piece::Key("range"),

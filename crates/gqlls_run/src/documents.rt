@@ -4,6 +4,7 @@ ghost use Rattle.std.specs.List.{All, Contains, HoldsAt};
 ghost use Rattle.apollo_parser.specs.Answers.{usize_max};
 ghost use Rattle.apollo_parser.specs.Promise.{Promise};
 ghost use Rattle.rpc_messages.specs.Messages.{IsNotice};
+ghost use Rattle.gqlls_run.specs.Contents.{IsChanged};
 ghost use Rattle.gqlls_run.specs.Told.{IsTold};
 
 use crate::parsing::parse;
@@ -41,6 +42,7 @@ impl Document {
     ) -> Result<Document, AllocError>
         ensures named { IfOk result (λ document. string_bytes document.uri ≡ uri.now) }
         ensures version { IfOk result (λ document. document.version ≡ version) }
+        ensures content { IfOk result (λ document. document.content ≡ record { encoding = encoding; text = text.now }) }
         ensures parsed { IfOk result (λ document. Promise document.content.text 500 usize_max document.tree) }
     {
         let uri = String::from_str(alloc, uri)?;
@@ -63,6 +65,7 @@ impl Document {
     ) -> Result<(), AllocError>
         ensures named { string_bytes self.new.uri ≡ string_bytes self.old.uri }
         ensures version { OnOk result (self.new.version ≡ version) }
+        ensures changed { OnOk result (IsChanged changes.now self.old.content self.new.content) }
         ensures parsed { OnOk result (Promise self.new.content.text 500 usize_max self.new.tree) }
     {
         self.content.change_all(alloc, changes)?;

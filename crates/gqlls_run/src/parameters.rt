@@ -1,7 +1,11 @@
 // What the parameters of a message say. What is missing or of another kind counts as 0, or as nothing.
-ghost use Rattle.std.specs.Prelude.{◌≡◌, option_map};
+ghost use Rattle.std.specs.Prelude.{◌≡◌, ◌++◌, [], IfOk, MatchOption, None, OnOk, map, ok_or, option_and_then, option_map, unwrap_or};
+ghost use Rattle.std.specs.List.{cons_option};
+ghost use Rattle.std.specs.Str.Parse.{ParsesUnsigned};
+ghost use Rattle.json.specs.Find.{as_array, as_number, get};
+ghost use Rattle.json.specs.Json.{no_items};
 ghost use Rattle.json.specs.Value.{value_view};
-ghost use Rattle.gqlls_run.specs.Parameters.{IsVersionIn, uri_in};
+ghost use Rattle.gqlls_run.specs.Parameters.{AreChangesIn, IsVersionIn, change_in, list_of, number_at, position_at, position_in, range_in, text_in, told, uri_in};
 
 use diagnostic_messages::Places;
 use document_answers::Span;
@@ -10,11 +14,15 @@ use line_index::{Position, PositionEncoding};
 use open_document::{Change, PositionRange};
 use std::alloc::{AllocError, Global};
 
-fn unsigned_at(value: &Value<'_>, name: &str) -> Option<u64> {
+fn unsigned_at(value: &Value<'_>, name: &str) -> Option<u64>
+    ensures { MatchOption (option_and_then as_number (get name.now (value_view value.now))) (result ≡ None) (λ digits. ParsesUnsigned 64 10 digits (ok_or result digits)) }
+{
     value.get(name)?.as_u64()
 }
 
-fn number_at(value: &Value<'_>, name: &str) -> usize {
+fn number_at(value: &Value<'_>, name: &str) -> usize
+    ensures { result ≡ number_at name.now (value_view value.now) }
+{
     match unsigned_at(value, name) {
         Some(number) => number as usize,
         None => 0,
@@ -22,7 +30,9 @@ fn number_at(value: &Value<'_>, name: &str) -> usize {
 }
 
 // A position.
-fn position_of(value: &Value<'_>) -> Position {
+fn position_of(value: &Value<'_>) -> Position
+    ensures { result ≡ position_in (value_view value.now) }
+{
     Position {
         line: number_at(value, "line"),
         column: number_at(value, "character"),
@@ -30,15 +40,16 @@ fn position_of(value: &Value<'_>) -> Position {
 }
 
 // The position that a value has by a name.
-fn position_at(value: &Value<'_>, name: &str) -> Position {
-    match value.get(name) {
-        Some(position) => position_of(position),
-        None => Position { line: 0, column: 0 },
-    }
+fn position_at(value: &Value<'_>, name: &str) -> Position
+    ensures { result ≡ position_at name.now (value_view value.now) }
+{
+    position_of(value.get(name).unwrap_or(&Value::Null))
 }
 
 // The range that a value has. What is no object is no range.
-fn range_of(value: &Value<'_>) -> Option<PositionRange> {
+fn range_of(value: &Value<'_>) -> Option<PositionRange>
+    ensures { result ≡ range_in (value_view value.now) }
+{
     let range = value.get("range")?;
     match range {
         Value::Object(_) => Some(PositionRange {
@@ -98,30 +109,55 @@ pub(crate) fn version_of(params: &Value<'_>) -> Option<i64>
 }
 
 /// The text of a document that is opened.
-pub(crate) fn text_of<'a>(params: &Value<'a>) -> Option<&'a str> {
+pub(crate) fn text_of<'a>(params: &Value<'a>) -> Option<&'a str>
+    ensures { option_map (λ text. text.now) result ≡ text_in (value_view params.now) }
+{
     params.get("textDocument")?.get("text")?.as_str()
 }
 
-// The text of a change.
-fn new_text<'a>(change: &Value<'a>) -> Option<&'a str> {
-    change.get("text")?.as_str()
+// The change that an item tells.
+fn change_of<'a>(item: &Value<'a>) -> Option<Change<'a>>
+    ensures { option_map told result ≡ change_in (value_view item.now) }
+{
+    let text = item.get("text")?.as_str()?;
+    Some(Change {
+        range: range_of(item),
+        text,
+    })
+}
+
+// Adds the change that an item tells, where it has a text.
+fn push_change<'a>(changes: &mut Vec<Change<'a>>, item: &Value<'a>) -> Result<(), AllocError>
+    ensures { OnOk result (map told changes.new.items ≡ map told changes.old.items ++ cons_option (change_in (value_view item.now)) []) }
+{
+    if let Some(change) = change_of(item) {
+        changes.push(change)?;
+    }
+    Ok(())
+}
+
+// The items of a list; none of what is no list.
+fn items_of<'v, 'a>(value: &'v Value<'a>) -> &'v [Value<'a>]
+    ensures { map (λ item. value_view item) result.now ≡ list_of (unwrap_or (as_array (value_view value.now)) no_items) }
+{
+    match value {
+        Value::Array(items) => items.as_slice(),
+        Value::Null | Value::Bool(_) | Value::Number(_) | Value::String(_) | Value::Object(_) => {
+            &[]
+        }
+    }
 }
 
 /// The changes of a document. One without a text is left out.
 pub(crate) fn changes_of<'a>(
     alloc: Global,
     params: &Value<'a>,
-) -> Result<Vec<Change<'a>>, AllocError> {
+) -> Result<Vec<Change<'a>>, AllocError>
+    ensures { IfOk result (λ changes. AreChangesIn (value_view params.now) changes.items) }
+{
     let mut changes = Vec::new(alloc);
-    if let Some(Value::Array(items)) = params.get("contentChanges") {
-        for item in items {
-            if let Some(text) = new_text(item) {
-                changes.push(Change {
-                    range: range_of(item),
-                    text,
-                })?;
-            }
-        }
+    for item in items_of(params.get("contentChanges").unwrap_or(&Value::Null)) {
+        push_change(&mut changes, item)?;
     }
     Ok(changes)
 }

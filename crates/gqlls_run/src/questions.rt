@@ -18,7 +18,7 @@ use json::Value;
 use std::alloc::{AllocError, Global};
 
 /// What is asked.
-#[derive(Clone, Copy, PartialEq, Eq)]
+#[derive(Clone, Copy)]
 pub(crate) enum Question {
     Symbols,
     Folds,
@@ -48,9 +48,9 @@ const QUESTIONS: [(&str, Question); 11] = [
 
 /// What a method asks for.
 pub(crate) fn question_of(method: &str) -> Option<Question> {
-    for (name, question) in QUESTIONS {
-        if name == method {
-            return Some(question);
+    for row in &QUESTIONS {
+        if row.0 == method {
+            return Some(row.1);
         }
     }
     None

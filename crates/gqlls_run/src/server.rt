@@ -1,12 +1,13 @@
 // The server: what it replies to each message.
-ghost use Rattle.std.specs.Prelude.{◌≡◌, ◌<◌, IfOk, IfSome, None, Some, length, string_bytes};
+ghost use Rattle.std.specs.Prelude.{◌≡◌, ◌≢◌, ◌<◌, IfOk, MatchOption, None, OnOk, codes, length};
 ghost use Rattle.std.specs.List.{HoldsAt};
 ghost use Rattle.json.specs.Tree.{HasNumbers};
 ghost use Rattle.json.specs.Value.{value_view};
 ghost use Rattle.rpc_messages.specs.Messages.{IsAnswer, id_token};
-ghost use Rattle.rpc_messages.specs.Replies.{Replies};
-ghost use Rattle.gqlls_run.specs.Parameters.{uri_in};
+ghost use Rattle.rpc_messages.specs.Replies.{EndsOnlyIf, Replies};
+ghost use Rattle.gqlls_run.specs.Contents.{Changes, NamesNone, Names, Opens};
 ghost use Rattle.gqlls_run.specs.Told.{Tells};
+ghost use Rattle.gqlls_run.specs.declared.server.Stage.TheVariants.{New, Running};
 
 use crate::capabilities::answer_initialize;
 use crate::documents::{Document, insert, place_of, remove};
@@ -18,7 +19,7 @@ use line_index::PositionEncoding;
 use rpc_messages::{Piece, Reply, Service, answer, code, refusal};
 use std::alloc::{AllocError, Global};
 
-#[derive(Clone, Copy, PartialEq, Eq)]
+#[derive(Clone, Copy)]
 enum Stage {
     New,
     Running,
@@ -45,8 +46,8 @@ impl Server {
 
     // The document that a message is about.
     fn place_of(&self, params: &Value<'_>) -> Option<usize>
-        ensures { IfSome result (λ place. (place < length self.now.documents.items)
-            × HoldsAt (λ document. uri_in (value_view params.now) ≡ Some (string_bytes document.uri)) self.now.documents.items place) }
+        ensures { MatchOption result (NamesNone (value_view params.now) self.now.documents.items)
+            (λ place. (place < length self.now.documents.items) × HoldsAt (Names (value_view params.now)) self.now.documents.items place) }
     {
         place_of(self.documents.as_slice(), uri_of(params)?)
     }
@@ -60,7 +61,8 @@ impl Server {
         params: &Value<'_>,
     ) -> Result<Vec<u8>, AllocError>
         requires { HasNumbers (value_view id.now) }
-        ensures { IfOk result (λ body. IsAnswer (id_token (value_view id.now)) body.items) }
+        ensures answers { IfOk result (λ body. IsAnswer (id_token (value_view id.now)) body.items) }
+        ensures runs { OnOk result (self.old.stage ≡ Running → method.now ≢ codes "shutdown" → self.new.stage ≡ Running) }
     {
         if method == "shutdown" {
             self.stage = Stage::ShutDown;
@@ -80,10 +82,16 @@ impl Server {
 
     // Opens a document, and publishes its errors.
     fn open(&mut self, alloc: Global, params: &Value<'_>) -> Result<Reply, AllocError>
+        ensures stage { self.new.stage ≡ self.old.stage }
         ensures replies { IfOk result (Replies None) }
+        ensures ends { IfOk result (EndsOnlyIf ⊥) }
         ensures tells { IfOk result (Tells (value_view params.now) self.old.documents.items self.new.documents.items) }
+        ensures opens { OnOk result (Opens (value_view params.now) self.old.encoding self.new.documents.items) }
     {
-        let (Some(uri), Some(text)) = (uri_of(params), text_of(params)) else {
+        let Some(uri) = uri_of(params) else {
+            return Ok(Reply::Nothing);
+        };
+        let Some(text) = text_of(params) else {
             return Ok(Reply::Nothing);
         };
         let document = Document::new(alloc, uri, version_of(params), self.encoding, text)?;
@@ -94,8 +102,11 @@ impl Server {
 
     // Changes a document, and publishes its errors.
     fn change(&mut self, alloc: Global, params: &Value<'_>) -> Result<Reply, AllocError>
+        ensures stage { self.new.stage ≡ self.old.stage }
         ensures replies { IfOk result (Replies None) }
+        ensures ends { IfOk result (EndsOnlyIf ⊥) }
         ensures tells { IfOk result (Tells (value_view params.now) self.old.documents.items self.new.documents.items) }
+        ensures changes { OnOk result (Changes (value_view params.now) self.old.documents.items self.new.documents.items) }
     {
         let Some(place) = self.place_of(params) else {
             return Ok(Reply::Nothing);
@@ -109,18 +120,31 @@ impl Server {
 
     // Closes a document, and takes its errors back.
     fn close(&mut self, alloc: Global, params: &Value<'_>) -> Result<Reply, AllocError>
+        ensures stage { self.new.stage ≡ self.old.stage }
         ensures replies { IfOk result (Replies None) }
+        ensures ends { IfOk result (EndsOnlyIf ⊥) }
         ensures tells { IfOk result (Tells (value_view params.now) self.old.documents.items self.new.documents.items) }
+        ensures closes { OnOk result (NamesNone (value_view params.now) self.new.documents.items) }
     {
         let Some(uri) = uri_of(params) else {
             return Ok(Reply::Nothing);
         };
-        if place_of(self.documents.as_slice(), uri).is_none() {
-            return Ok(Reply::Nothing);
+        match place_of(self.documents.as_slice(), uri) {
+            None => Ok(Reply::Nothing),
+            Some(_) => {
+                remove(&mut self.documents, uri);
+                let told = withdrawal(alloc, uri)?;
+                Ok(Reply::Notice(told))
+            }
         }
-        remove(&mut self.documents, uri);
-        let told = withdrawal(alloc, uri)?;
-        Ok(Reply::Notice(told))
+    }
+}
+
+// With which status `exit` ends the server.
+fn exit_status(stage: Stage) -> u8 {
+    match stage {
+        Stage::ShutDown => 0,
+        Stage::New | Stage::Running => 1,
     }
 }
 
@@ -133,7 +157,9 @@ impl Service for Server {
         params: &Value<'_>,
     ) -> Result<Vec<u8>, AllocError>
         requires { HasNumbers (value_view id.now) }
-        ensures { IfOk result (λ body. IsAnswer (id_token (value_view id.now)) body.items) }
+        ensures answers { IfOk result (λ body. IsAnswer (id_token (value_view id.now)) body.items) }
+        ensures starts { OnOk result (self.old.stage ≡ New → method.now ≡ codes "initialize" → self.new.stage ≡ Running) }
+        ensures runs { OnOk result (self.old.stage ≡ Running → method.now ≢ codes "shutdown" → self.new.stage ≡ Running) }
     {
         match self.stage {
             Stage::New if method == "initialize" => {
@@ -153,21 +179,28 @@ impl Service for Server {
         method: &str,
         params: &Value<'_>,
     ) -> Result<Reply, AllocError>
+        ensures stage { self.new.stage ≡ self.old.stage }
         ensures replies { IfOk result (Replies None) }
+        ensures ends { IfOk result (EndsOnlyIf (method.now ≡ codes "exit")) }
         ensures tells { IfOk result (Tells (value_view params.now) self.old.documents.items self.new.documents.items) }
+        ensures opens { OnOk result (self.old.stage ≡ Running → method.now ≡ codes "textDocument/didOpen"
+            → Opens (value_view params.now) self.old.encoding self.new.documents.items) }
+        ensures changes { OnOk result (self.old.stage ≡ Running → method.now ≡ codes "textDocument/didChange"
+            → Changes (value_view params.now) self.old.documents.items self.new.documents.items) }
+        ensures closes { OnOk result (self.old.stage ≡ Running → method.now ≡ codes "textDocument/didClose"
+            → NamesNone (value_view params.now) self.new.documents.items) }
     {
         if method == "exit" {
-            let status = if self.stage == Stage::ShutDown { 0 } else { 1 };
-            return Ok(Reply::Exit(status));
+            return Ok(Reply::Exit(exit_status(self.stage)));
         }
-        if self.stage != Stage::Running {
-            return Ok(Reply::Nothing);
-        }
-        match method {
-            "textDocument/didOpen" => self.open(alloc, params),
-            "textDocument/didChange" => self.change(alloc, params),
-            "textDocument/didClose" => self.close(alloc, params),
-            _ => Ok(Reply::Nothing),
+        match self.stage {
+            Stage::Running => match method {
+                "textDocument/didOpen" => self.open(alloc, params),
+                "textDocument/didChange" => self.change(alloc, params),
+                "textDocument/didClose" => self.close(alloc, params),
+                _ => Ok(Reply::Nothing),
+            },
+            Stage::New | Stage::ShutDown => Ok(Reply::Nothing),
         }
     }
 }

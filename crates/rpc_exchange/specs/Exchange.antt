@@ -4,7 +4,7 @@ use Rattle.json.specs.Token.{Token}
 use Rattle.rpc_frames.specs.Frames.{BeginsWithFrame, HasNoFrame, NeverHasFrame, frame_of}
 use Rattle.rpc_messages.specs.declared.reply.Reply.{Reply}
 use Rattle.rpc_messages.specs.declared.reply.Reply.TheVariants.{Nothing, Answer, Notice, Exit}
-use Rattle.rpc_messages.specs.Messages.{Asks}
+use Rattle.rpc_messages.specs.Messages.{Asks, AsksForEnd}
 use Rattle.rpc_messages.specs.Replies.{Replies}
 
 -- what is said for a reply: one frame, or nothing
@@ -22,7 +22,7 @@ status_of (Notice body) = None
 status_of (Exit status) = Some status
 
 -- The bytes that came, what is said for them, the bytes that are left, and the exit status where a message ended the conversation. Each message has
--- one reply, which is an answer exactly where one is asked for.
+-- one reply, which is an answer exactly where one is asked for. Only the notification `exit` ends the conversation.
 pub data Exchange : List ℕ → List ℕ → List ℕ → Option ℕ → Type 0 where
   -- no message has come as a whole
   waits :
@@ -38,10 +38,11 @@ pub data Exchange : List ℕ → List ℕ → List ℕ → Option ℕ → Type 0
       → status_of reply ≡ None
       → Exchange more said rest status
       → Exchange bytes (said_for reply ++ said) rest status
-  -- a message ends the conversation
+  -- a message asks for the end, and ends the conversation
   ended :
       {bytes body rest : List ℕ} (asked : Option Token) (reply : Reply) (status : ℕ)
       → BeginsWithFrame bytes body rest
+      → AsksForEnd body
       → Asks body asked
       → Replies asked reply
       → status_of reply ≡ Some status

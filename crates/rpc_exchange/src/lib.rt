@@ -13,7 +13,7 @@ use rpc_messages::{Reply, Service, handle};
 use std::alloc::{AllocError, Global};
 
 /// What is said to a client, and the exit status where it asked for the end.
-#[derive(Debug, Drop)]
+#[derive(Drop)]
 pub struct Turn {
     pub said: Vec<u8>,
     pub status: Option<u8>,
@@ -45,7 +45,7 @@ fn was_refused(error: FrameError) -> bool
     }
 }
 
-/// Replies to each message that has come as a whole, in their order, up to one that ends the conversation. A byte with which no frame can begin
+/// Replies to each message that has come as a whole, in their order, up to the notification `exit`, if the service ends the conversation there. A byte with which no frame can begin
 /// is passed over. It fails only where memory is refused.
 pub fn take_turn<S: Service>(
     alloc: Global,

@@ -42,6 +42,14 @@ IsJson body message = IsUtf8 body × (document body ≡ Some message)
 abbrev pub Asks : List ℕ → Option Token → Type 0
 Asks body t = (IsNoJson body × (t ≡ Some null)) ⊎ ((message : Json) × IsJson body message × (t ≡ asked message))
 
+-- the message is the notification `exit`
+abbrev pub IsExit : Json → Type 0
+IsExit message = (get (codes "id") message ≡ None) × (get (codes "method") message ≡ Some (json.string (codes "exit")))
+
+-- the body is a message that asks for the end
+abbrev pub AsksForEnd : List ℕ → Type 0
+AsksForEnd body = (message : Json) × IsJson body message × IsExit message
+
 -- ---- answers and notices
 
 abbrev pub answer_front : Token → List Token

@@ -1,5 +1,5 @@
 -- What a reply may be.
-use Rattle.std.specs.Prelude.{◌≡◌, Option, Some, None}
+use Rattle.std.specs.Prelude.{◌≡◌, ⊤, Option, Some, None}
 use Rattle.json.specs.Token.{Token}
 use Rattle.rpc_messages.specs.declared.reply.Reply.{Reply}
 use Rattle.rpc_messages.specs.declared.reply.Reply.TheVariants.{Nothing, Answer, Notice, Exit}
@@ -11,3 +11,10 @@ Replies t Nothing = t ≡ None
 Replies t (Answer body) = (id : Token) × (t ≡ Some id) × IsAnswer id body.items
 Replies t (Notice body) = (t ≡ None) × IsNotice body.items
 Replies t (Exit status) = t ≡ None
+
+-- the reply ends the conversation only where this holds
+abbrev pub EndsOnlyIf : Type 0 → Reply → Type 0
+EndsOnlyIf asked Nothing = ⊤
+EndsOnlyIf asked (Answer body) = ⊤
+EndsOnlyIf asked (Notice body) = ⊤
+EndsOnlyIf asked (Exit status) = asked

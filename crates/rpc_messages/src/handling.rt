@@ -1,10 +1,10 @@
 // Which messages have to be answered.
-ghost use Rattle.std.specs.Prelude.{◌≡◌, IfOk, None, Option, Some};
+ghost use Rattle.std.specs.Prelude.{◌≡◌, IfOk, None, Option, Some, codes};
 ghost use Rattle.json.specs.Token as json;
 ghost use Rattle.json.specs.Tree.{HasNumbers};
 ghost use Rattle.json.specs.Value.{value_view};
-ghost use Rattle.rpc_messages.specs.Messages.{Asks, IsAnswer, asked, id_token};
-ghost use Rattle.rpc_messages.specs.Replies.{Replies};
+ghost use Rattle.rpc_messages.specs.Messages.{Asks, AsksForEnd, IsAnswer, IsExit, asked, id_token};
+ghost use Rattle.rpc_messages.specs.Replies.{EndsOnlyIf, Replies};
 
 use crate::message::{code, refusal};
 use crate::reply::Reply;
@@ -24,19 +24,21 @@ pub trait Service {
         requires { HasNumbers (value_view id.now) }
         ensures { IfOk result (λ body. IsAnswer (id_token (value_view id.now)) body.items) };
 
-    /// What a notification brings about, by its method and its parameters.
+    /// What a notification brings about, by its method and its parameters. A method that is no text is empty. Only `exit` may end the conversation.
     fn notification(
         &mut self,
         alloc: Global,
         method: &str,
         params: &Value<'_>,
     ) -> Result<Reply, AllocError>
-        ensures { IfOk result (Replies None) };
+        ensures replies { IfOk result (Replies None) }
+        ensures ends { IfOk result (EndsOnlyIf (method.now ≡ codes "exit")) };
 }
 
 // The refusal of what is no message.
 fn refused(alloc: Global, code: i64, text: &str) -> Result<Reply, AllocError>
-    ensures { IfOk result (Replies (Some json.null)) }
+    ensures replies { IfOk result (Replies (Some json.null)) }
+    ensures ends { IfOk result (EndsOnlyIf ⊥) }
 {
     Ok(Reply::Answer(refusal(alloc, &Value::Null, code, text)?))
 }
@@ -48,7 +50,8 @@ fn reply<S: Service>(
     message: &Value<'_>,
 ) -> Result<Reply, AllocError>
     requires { HasNumbers (value_view message.now) }
-    ensures { IfOk result (Replies (asked (value_view message.now))) }
+    ensures replies { IfOk result (Replies (asked (value_view message.now))) }
+    ensures ends { IfOk result (EndsOnlyIf (IsExit (value_view message.now))) }
 {
     let nothing = Value::Null;
     let params = message.get("params").unwrap_or(&nothing);
@@ -70,9 +73,10 @@ fn reply<S: Service>(
     }
 }
 
-/// What the body of a message brings about. It fails only where memory is refused.
+/// What the body of a message brings about: the end only where it is the notification `exit`. It fails only where memory is refused.
 pub fn handle<S: Service>(alloc: Global, service: &mut S, body: &[u8]) -> Result<Reply, AllocError>
-    ensures { IfOk result (λ reply. (t : Option json.Token) × Asks body.now t × Replies t reply) }
+    ensures replies { IfOk result (λ reply. (t : Option json.Token) × Asks body.now t × Replies t reply) }
+    ensures ends { IfOk result (EndsOnlyIf (AsksForEnd body.now)) }
 {
     let mut scratch = Scratch::new(alloc);
     match Value::from_slice(alloc, body, &mut scratch) {

@@ -1,7 +1,7 @@
 // What a message brings about.
 
 /// What the server does after a message.
-#[derive(Debug, Drop)]
+#[derive(Drop)]
 pub enum Reply {
     /// It says nothing.
     Nothing,

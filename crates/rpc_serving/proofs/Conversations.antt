@@ -20,14 +20,14 @@ follows (waits none) is more later rest last e = e
 follows (replied {bytes = bytes} {body = body} {more = next} {said = said} asked reply begins asks replies goes e0) is more later rest last e =
     subst (λ (v : List ℕ). Exchange (bytes ++ more) v rest last) (sym (append_assoc (said_for reply) said later))
     (replied asked reply (still_begins bytes body next more begins) asks replies goes (follows e0 is more later rest last e))
-follows (ended asked reply status begins asks replies some) is more later rest last e = absurd (some-none status is)
+follows (ended asked reply status begins ends asks replies some) is more later rest last e = absurd (some-none status is)
 follows (passed_over {byte = byte} {bytes = bytes} never e0) is more later rest last e = passed_over (still_never (byte ∷ bytes) more never) (follows e0 is more later rest last e)
 
 -- what is left has no frame yet
 pub left_over : {bytes said left : List ℕ} {end : Option ℕ} → Exchange bytes said left end → end ≡ None → HasNoFrame left
 left_over (waits none) is = none
 left_over (replied asked reply begins asks replies goes e) is = left_over e is
-left_over (ended asked reply status begins asks replies some) is = absurd (some-none status is)
+left_over (ended asked reply status begins ends asks replies some) is = absurd (some-none status is)
 left_over (passed_over never e) is = left_over e is
 
 -- What was said for the bytes that were read, where these are left: a conversation about them and what follows goes on from there.

@@ -6,7 +6,7 @@ use Rattle.gqlcst_run.specs.declared.outcome.Fault.{Fault}
 use Rattle.gqlcst_run.specs.declared.outcome.Fault.TheVariants.{Read, Utf8, Memory, Write}
 use Rattle.rpc_exchange.specs.Exchange.{Exchange}
 
--- The run ends with this status, after so many bytes: a message asked for it, or the input ended. No more than 2 ^ 64 - 1 reads are made.
+-- The run ends with this status, after so many bytes: the notification `exit` asked for it, or the input ended. No more than 2 ^ 64 - 1 reads are made.
 abbrev pub EndsWith : Option ℕ → ℕ → ℕ → Account → Account → Type 0
 EndsWith (Some asked) status count now end = (status ≡ asked) × (end ≡ now)
 EndsWith None status count now end = (status ≡ 1) × ((end ≡ stopped now) ⊎ ((end ≡ now) × (2 ^ 64 ≤ count + 1)))

@@ -12,8 +12,8 @@ use rpc_frames::FrameBuffer;
 use rpc_messages::Service;
 use std::alloc::Global;
 
-/// Reads messages, has a service reply to them, and writes the replies, until a message asks for the end or the input ends. It gives the exit
-/// status, which is 1 at the end of the input. It fails only when the reader or the writer fails, or when memory is refused.
+/// Reads messages, has a service reply to them, and writes the replies, until the notification `exit` ends the conversation or the input ends. It
+/// gives the exit status, which is 1 at the end of the input. It fails only when the reader or the writer fails, or when memory is refused.
 pub fn serve<S: Service, R: Source, W: Sink>(
     alloc: Global,
     service: &mut S,

@@ -1,6 +1,8 @@
 use Rattle.std.proofs.Common.{◌≡◌, ◌<◌, ℕ, List, None, length, drop, sym, ap, ◌∙◌, subst, arith}
 use Rattle.rpc_frames.specs.Frames.{BeginsWithFrame, HasNoFrame, NeverHasFrame}
 use Rattle.rpc_frames.proofs.FrameLemmas.{shorter}
+use Rattle.rpc_messages.specs.Messages.{AsksForEnd}
+use Rattle.rpc_messages.specs.Replies.{EndsOnlyIf}
 use Rattle.rpc_exchange.specs.Exchange.{Exchange}
 use Rattle.rpc_exchange.proofs.Turns.{IsReplyTo, LeadsTo, begun, goes_on, finished, waiting, never_now, passes, some_left, one_less}
 use Rattle.rpc_exchange.proofs.take_turn.Goals as goal
@@ -12,8 +14,10 @@ pub returns-in-Some : goal.returns-in-Some
 returns-in-Some g c =
     let begins : BeginsWithFrame c.loop-body.frames c.in-Ok-Some.body.items c.next_body.new.self = rw c.in-Ok-Some.field-0-is at c.in-Ok-Some.ensures.found in
     let replies : IsReplyTo c.in-Ok-Some.body.items c.in_ok-reply-in-Ok-Some.reply =
-    subst (λ (body : List ℕ). IsReplyTo body c.in_ok-reply-in-Ok-Some.reply) c.as_slice.ensures.value c.in_ok-reply-in-Ok-Some.ensures in
-    finished _ _ _ _ _ _ _ _ c.loop-body.invariant begins replies (sym c.in_ok-status-in-Ok-Some.ensures.status ∙ c.in-Some.is) c.in_ok-status-in-Ok-Some.ensures.said
+    subst (λ (body : List ℕ). IsReplyTo body c.in_ok-reply-in-Ok-Some.reply) c.as_slice.ensures.value c.in_ok-reply-in-Ok-Some.ensures.replies in
+    let ends : EndsOnlyIf (AsksForEnd c.in-Ok-Some.body.items) c.in_ok-reply-in-Ok-Some.reply =
+    subst (λ (body : List ℕ). EndsOnlyIf (AsksForEnd body) c.in_ok-reply-in-Ok-Some.reply) c.as_slice.ensures.value c.in_ok-reply-in-Ok-Some.ensures.ends in
+    finished _ _ _ _ _ _ _ _ c.loop-body.invariant begins replies ends (sym c.in_ok-status-in-Ok-Some.ensures.status ∙ c.in-Some.is) c.in_ok-status-in-Ok-Some.ensures.said
 
 pub loop-body-smaller-in-Ok-Some : goal.loop-body-smaller-in-Ok-Some
 loop-body-smaller-in-Ok-Some g c =
@@ -24,7 +28,7 @@ pub loop-body-preserved-in-Ok-Some : goal.loop-body-preserved-in-Ok-Some
 loop-body-preserved-in-Ok-Some g c =
     let begins : BeginsWithFrame c.loop-body.frames c.in-Ok-Some.body.items c.next_body.new.self = rw c.in-Ok-Some.field-0-is at c.in-Ok-Some.ensures.found in
     let replies : IsReplyTo c.in-Ok-Some.body.items c.in_ok-reply-in-Ok-Some.reply =
-    subst (λ (body : List ℕ). IsReplyTo body c.in_ok-reply-in-Ok-Some.reply) c.as_slice.ensures.value c.in_ok-reply-in-Ok-Some.ensures in
+    subst (λ (body : List ℕ). IsReplyTo body c.in_ok-reply-in-Ok-Some.reply) c.as_slice.ensures.value c.in_ok-reply-in-Ok-Some.ensures.replies in
     goes_on _ _ _ _ _ _ _ c.loop-body.invariant begins replies (sym c.in_ok-status-in-Ok-Some.ensures.status ∙ c.in_default.is) c.in_ok-status-in-Ok-Some.ensures.said
 
 pub returns-in-Ok-None : goal.returns-in-Ok-None
