@@ -1,5 +1,5 @@
 // Frames, at any cut of the bytes into reads.
-use rpc_frames::{FrameBuffer, FrameError, frame};
+use rpc_frames::{FrameBuffer, FrameError, put_frame};
 
 // A frame with another field and another case, and one as `rpc_frames` writes it.
 const TWO: &str = "content-length:  5\r\nContent-Type: x\r\n\r\nhelloContent-Length: 2\r\n\r\n{}";
@@ -54,10 +54,11 @@ fn refuses_a_head_without_end(rt: HostRuntime) -> Result<(), FrameError> {
 
 #[test]
 fn writes_a_frame(rt: HostRuntime) -> Result<(), FrameError> {
-    let written = frame(rt.alloc(), b"{\"id\":1}")?;
+    let mut written = Vec::from_slice(rt.alloc(), b"-")?;
+    put_frame(rt.alloc(), &mut written, b"{\"id\":1}")?;
     assert_eq!(rt;
         written.as_slice(),
-        b"Content-Length: 8\r\n\r\n{\"id\":1}".as_slice()
+        b"-Content-Length: 8\r\n\r\n{\"id\":1}".as_slice()
     );
     Ok(())
 }

@@ -8,7 +8,7 @@ ghost use Rattle.std.specs.Prelude.{◌≡◌, ◌≢◌, ◌++◌, IfOk, OnOk, 
 ghost use Rattle.rpc_frames.specs.declared.FrameError.TheVariants.{Memory};
 ghost use Rattle.rpc_exchange.specs.Exchange.{Exchange, said_for, status_of};
 
-use rpc_frames::{FrameBuffer, FrameError, frame};
+use rpc_frames::{FrameBuffer, FrameError, put_frame};
 use rpc_messages::{Reply, Service, handle};
 use std::alloc::{AllocError, Global};
 
@@ -28,8 +28,7 @@ fn say(alloc: Global, said: &mut Vec<u8>, reply: &Reply) -> Result<Option<u8>, A
         Reply::Nothing => Ok(None),
         Reply::Exit(status) => Ok(Some(*status)),
         Reply::Answer(body) | Reply::Notice(body) => {
-            let framed = frame(alloc, body.as_slice())?;
-            said.extend_from_slice(framed.as_slice())?;
+            put_frame(alloc, said, body.as_slice())?;
             Ok(None)
         }
     }
@@ -45,8 +44,8 @@ fn was_refused(error: FrameError) -> bool
     }
 }
 
-/// Replies to each message that has come as a whole, in their order, up to the notification `exit`, if the service ends the conversation there. A byte with which no frame can begin
-/// is passed over. It fails only where memory is refused.
+/// Replies to each message that has come as a whole, in their order, up to the notification `exit`, if the service ends the conversation there. A byte
+/// with which no frame can begin is passed over. It fails only where memory is refused.
 pub fn take_turn<S: Service>(
     alloc: Global,
     service: &mut S,

@@ -199,13 +199,14 @@ fn numeral(digits: &[u8]) -> Option<usize>
     text.parse::<usize>().ok()
 }
 
-/// A body as a frame, to be written at once.
-pub fn frame(alloc: Global, body: &[u8]) -> Result<Vec<u8>, AllocError>
-    ensures bytes { IfOk result (λ frame. frame.items ≡ frame_of body.now) }
-    ensures frame { length body.now ≤ 2 ^ 30 → IfOk result (λ frame. IsFrame frame.items body.now) }
+/// Adds a body to some bytes, as a frame. It fails only where memory is refused.
+pub fn put_frame(alloc: Global, bytes: &mut Vec<u8>, body: &[u8]) -> Result<(), AllocError>
+    ensures bytes { OnOk result (bytes.new.items ≡ bytes.old.items ++ frame_of body.now) }
+    ensures frame { OnOk result (length body.now ≤ 2 ^ 30 → IsFrame (frame_of body.now) body.now) }
 {
     let length = body.len();
-    let mut frame = format!(in alloc; "Content-Length: {length}\r\n\r\n")?.into_bytes();
-    frame.extend_from_slice(body)?;
-    Ok(frame)
+    let head = format!(in alloc; "Content-Length: {length}\r\n\r\n")?;
+    bytes.extend_from_slice(head.as_bytes())?;
+    bytes.extend_from_slice(body)?;
+    Ok(())
 }
