@@ -70,47 +70,53 @@ fn finds_columns_of_a_long_line(rt: HostRuntime) -> Result<(), AllocError> {
     Ok(())
 }
 
+// A character of two units; a part over the ends of lines; a range that ends before it starts; the whole text.
+const CHANGES: [Change<'static>; 4] = [
+    Change {
+        range: Some(PositionRange {
+            start: Position { line: 1, column: 1 },
+            end: Position { line: 1, column: 3 },
+        }),
+        text: "xyz",
+    },
+    Change {
+        range: Some(PositionRange {
+            start: Position { line: 0, column: 1 },
+            end: Position { line: 2, column: 0 },
+        }),
+        text: "bc",
+    },
+    Change {
+        range: Some(PositionRange {
+            start: Position { line: 0, column: 2 },
+            end: Position { line: 0, column: 1 },
+        }),
+        text: "-",
+    },
+    Change {
+        range: None,
+        text: "new",
+    },
+];
+
+// The text after each of them.
+const CHANGED: [&str; 4] = ["a\n\u{e9}xyzb\r\n\rend", "abc\rend", "ab-c\rend", "new"];
+
 #[test]
 fn changes_texts(rt: HostRuntime) -> Result<(), AllocError> {
     let mut document = OpenDocument::new(rt.alloc(), UTF16, TEXT)?;
-    assert_eq!(rt; document.encoding(), UTF16);
-    let emoji = PositionRange {
-        start: at(1, 1),
-        end: at(1, 3),
-    };
-    let joined = PositionRange {
-        start: at(0, 1),
-        end: at(2, 0),
-    };
-    let backwards = PositionRange {
-        start: at(0, 2),
-        end: at(0, 1),
-    };
-    let change = Change {
-        range: Some(emoji),
-        text: "xyz",
-    };
-    document.change(rt.alloc(), &change)?;
-    assert_eq!(rt; document.text(), "a\n\u{e9}xyzb\r\n\rend");
-    document.change_all(
-        rt.alloc(),
-        &[
-            Change {
-                range: Some(joined),
-                text: "bc",
-            },
-            Change {
-                range: Some(backwards),
-                text: "-",
-            },
-        ],
-    )?;
+    for place in 0..CHANGES.len() {
+        document.change(rt.alloc(), &CHANGES[place])?;
+        assert_eq!(rt; document.text(), CHANGED[place]);
+    }
+    Ok(())
+}
+
+#[test]
+fn changes_texts_at_once(rt: HostRuntime) -> Result<(), AllocError> {
+    let mut document = OpenDocument::new(rt.alloc(), UTF16, TEXT)?;
+    document.change_all(rt.alloc(), &CHANGES[..3])?;
     assert_eq!(rt; document.text(), "ab-c\rend");
-    let whole = Change {
-        range: None,
-        text: "new",
-    };
-    document.change(rt.alloc(), &whole)?;
-    assert_eq!(rt; document.text(), "new");
+    assert_eq!(rt; document.encoding(), UTF16);
     Ok(())
 }
