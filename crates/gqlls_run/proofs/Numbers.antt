@@ -1,5 +1,5 @@
 -- Numbers of JSON that count lines and units.
-use Rattle.std.proofs.Common.{◌≡◌, ◌<◌, ◌^◌, Bool, true, false, cond, ℕ, List, [], ◌∷◌, Option, Some, None, ok_or, refl, ap, subst, inl, inr, arith, sym, ◌∙◌}
+use Rattle.std.proofs.Common.{◌≡◌, ◌<◌, ◌^◌, true, cond, ℕ, List, [], ◌∷◌, Option, Some, None, ok_or, refl, ap, inl, inr, arith, ◌∙◌}
 use Rattle.std.specs.Prelude.{◌&&◌, MatchOption, nat_lt, option_map, unwrap_or}
 use Rattle.std.specs.Char.{digit_value, is_digit}
 use Rattle.std.specs.List.{list_all}

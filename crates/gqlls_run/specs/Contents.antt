@@ -1,5 +1,5 @@
 -- The texts of the documents that a client has open, after a message.
-use Rattle.std.specs.Prelude.{◌≡◌, ℕ, ◌<◌, List, length, Option, Some, slice_index_or, slice_set, string_bytes}
+use Rattle.std.specs.Prelude.{◌≡◌, ℕ, ◌<◌, List, length, Some, slice_index_or, slice_set, string_bytes}
 use Rattle.std.specs.List.{All, Contains}
 use Rattle.json.specs.Json.{Json}
 use Rattle.line_index.specs.Positions.{units}
