@@ -1,11 +1,10 @@
 //! `gqlls` is a language server for GraphQL documents over standard input and output.
 //!
-//! Here are only the standard devices and the exit status; what is done between them is in `gqlls_run` and `rpc_serving`.
+//! Here are only the standard devices and the exit status; what is done between them is in `gqlls_run`.
 #![tactic(auto)]
 
 use gqlcst_run::{Fault, StdSink, StdSource};
-use gqlls_run::Server;
-use rpc_serving::serve;
+use gqlls_run::run;
 use std::process::ExitCode;
 
 // What is said on standard error about a run that failed.
@@ -20,8 +19,7 @@ fn complaint_of(fault: Fault) -> &'static str {
 fn main(rt: HostRuntime) -> ExitCode {
     let mut reader = StdSource::new(rt.stdin());
     let mut writer = StdSink::new(rt.stdout());
-    let mut server = Server::new(rt.alloc());
-    match serve(rt.alloc(), &mut server, &mut reader, &mut writer) {
+    match run(rt.alloc(), &mut reader, &mut writer) {
         Ok(status) => ExitCode::from(status),
         Err(fault) => {
             let complaint = complaint_of(fault);

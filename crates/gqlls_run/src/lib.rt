@@ -1,6 +1,6 @@
 //! What the program `gqlls` replies to each message: a language server for GraphQL documents.
 //!
-//! A `Server` is the service of a conversation (`rpc_serving`). It keeps the open documents with their trees. What needs only a tree is made by
+//! `run` is a whole run, and a `Server` the service of its conversation. It keeps the open documents with their trees. What needs only a tree is made by
 //! `document_answers`; here are the states of a conversation, and what needs the parser: errors, layout and completion.
 #![tactic(auto)]
 
@@ -12,6 +12,8 @@ mod layout;
 mod parameters;
 mod parsing;
 mod questions;
+mod running;
 mod server;
 
+pub use running::run;
 pub use server::Server;

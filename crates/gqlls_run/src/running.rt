@@ -1,0 +1,18 @@
+// A whole run.
+ghost use Rattle.std.specs.Prelude.{IfErr, IfOk};
+ghost use Rattle.rpc_serving.specs.Serving.{EndsServing, IsServed};
+
+use crate::server::Server;
+use gqlcst_run::{Fault, Sink, Source};
+use rpc_serving::serve;
+use std::alloc::Global;
+
+/// Serves a client, until the notification `exit` or the end of the input. It gives the exit status, and fails only when the reader or the writer
+/// fails, or when memory is refused.
+pub fn run<R: Source, W: Sink>(alloc: Global, reader: &mut R, writer: &mut W) -> Result<u8, Fault>
+    ensures ok { IfOk result (λ status. IsServed status (R.account reader.old) (R.account reader.new) (W.account writer.old) (W.account writer.new)) }
+    ensures err { IfErr result (λ fault. EndsServing fault (R.account reader.old) (R.account reader.new) (W.account writer.old) (W.account writer.new)) }
+{
+    let mut server = Server::new(alloc);
+    serve(alloc, &mut server, reader, writer)
+}
