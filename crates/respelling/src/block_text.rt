@@ -12,14 +12,14 @@ fn begins_white(text: &str) -> bool {
 // Whether there is a second line, and each line after the first is empty or indented: then the indent would be lost if the first line began
 // right after the quotes.
 fn others_are_indented(value: &str) -> bool {
-    let mut lines = value.split('\n');
-    let _first = lines.next();
     let mut has_others = false;
-    for line in lines {
-        if !line.is_empty() && !begins_white(line) {
+    let mut begins_line = false;
+    for byte in value.as_bytes() {
+        if begins_line && !matches!(byte, b' ' | b'\t' | b'\n') {
             return false;
         }
-        has_others = true;
+        begins_line = *byte == b'\n';
+        has_others = has_others || begins_line;
     }
     has_others
 }
@@ -35,15 +35,13 @@ fn begin_line<A: Allocator>(text: &mut String<A>, indent: usize) -> Result<(), A
 
 // A line, in which `"""` has a backslash before it.
 fn push_escaped<A: Allocator>(text: &mut String<A>, line: &str) -> Result<(), AllocError> {
-    let mut is_first = true;
-    for part in line.split("\"\"\"") {
-        if !is_first {
-            text.push_str("\\\"\"\"")?;
-        }
-        is_first = false;
-        text.push_str(part)?;
+    let mut left = line;
+    while let Some((front, more)) = left.split_once("\"\"\"") {
+        text.push_str(front)?;
+        text.push_str("\\\"\"\"")?;
+        left = more;
     }
-    Ok(())
+    text.push_str(left)
 }
 
 // The lines of a value, each in a new line: the first one only where the value begins below the quotes.
