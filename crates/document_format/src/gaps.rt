@@ -58,7 +58,7 @@ impl<A: Allocator + Copy> Gaps<A> {
     // What is in the slot of a bracket of a list, or of another token in one.
     fn list_gap(&mut self, slot: Slot) -> Result<Gap, AllocError> {
         let in_broken = self.open.last().copied().unwrap_or(false);
-        if slot.bracket == Bracket::Close {
+        if matches!(slot.bracket, Bracket::Close) {
             self.open.pop();
             if in_broken {
                 self.broken_count = self.broken_count.saturating_sub(1);
@@ -69,11 +69,13 @@ impl<A: Allocator + Copy> Gaps<A> {
         } else {
             self.plain_gap(slot)
         };
-        if slot.bracket == Bracket::Open {
-            self.open.push(false)?;
-        } else if slot.bracket == Bracket::OpenBroken {
-            self.open.push(true)?;
-            self.broken_count = self.broken_count.saturating_add(1);
+        match slot.bracket {
+            Bracket::Open => self.open.push(false)?,
+            Bracket::OpenBroken => {
+                self.open.push(true)?;
+                self.broken_count = self.broken_count.saturating_add(1);
+            }
+            Bracket::Neither | Bracket::Close => {}
         }
         Ok(gap)
     }
@@ -85,7 +87,7 @@ impl<A: Allocator + Copy> Gaps<A> {
             return Ok(Gap::SPACE);
         };
         self.next = self.next.saturating_add(1);
-        if slot.breaks_with_list || slot.bracket != Bracket::Neither {
+        if slot.breaks_with_list || !matches!(slot.bracket, Bracket::Neither) {
             self.list_gap(slot)
         } else {
             Ok(self.plain_gap(slot))

@@ -3,7 +3,7 @@ use crate::slot::Separator;
 use document_grammar::SyntaxKind;
 
 /// What a node's children are to each other.
-#[derive(Clone, Copy, PartialEq)]
+#[derive(Clone, Copy)]
 pub enum Inside {
     /// The definitions of a document.
     Document,
@@ -74,9 +74,13 @@ pub fn closes(kind: SyntaxKind) -> bool {
 /// Whether what follows this child has a line of its own between braces: in a schema, what follows the opening brace or a root operation.
 #[inline(always)]
 pub fn is_in_braces(inside: Inside, left: SyntaxKind) -> bool {
-    inside == Inside::Braces
-        || (inside == Inside::Schema
-            && (left == SyntaxKind::L_CURLY || left == SyntaxKind::ROOT_OPERATION_TYPE_DEFINITION))
+    match inside {
+        Inside::Braces => true,
+        Inside::Schema => {
+            left == SyntaxKind::L_CURLY || left == SyntaxKind::ROOT_OPERATION_TYPE_DEFINITION
+        }
+        _ => false,
+    }
 }
 
 // Whether nothing is between two neighbours below a node of this kind.

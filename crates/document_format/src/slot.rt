@@ -1,7 +1,7 @@
 // What is known of the place before a token when the walk meets it. Whether the list around it breaks is known only where that ends.
 
 /// What separates a token from the one before it while no list breaks.
-#[derive(Clone, Copy, PartialEq)]
+#[derive(Clone, Copy)]
 pub enum Separator {
     /// Nothing.
     Nothing,
@@ -19,7 +19,7 @@ impl Separator {
     /// Whether a line ends there.
     #[inline(always)]
     pub fn is_line(self) -> bool {
-        self == Separator::Line || self == Separator::BlankLine
+        matches!(self, Separator::Line | Separator::BlankLine)
     }
 
     /// How many characters it takes in a line.
@@ -34,7 +34,7 @@ impl Separator {
 }
 
 /// Which bracket of a list that may break a token is.
-#[derive(Clone, Copy, PartialEq)]
+#[derive(Clone, Copy)]
 pub enum Bracket {
     /// None.
     Neither,

@@ -133,8 +133,9 @@ impl<'t, E: Elements, A: Allocator + Copy> Walk<'t, E, A> {
     // What separates it when a comment is before it: a construct goes on in a new line after a comment inside it, and an empty line after a comment
     // stays, but none is added.
     fn after_comment(&self, parent: &Frame, child: SyntaxKind, slot: Slot) -> Slot {
-        if !slot.separator.is_line() && parent.inside != Inside::List {
-            let goes_on = Inside::of(child) != Inside::Braces && child != SyntaxKind::L_CURLY;
+        if !slot.separator.is_line() && !matches!(parent.inside, Inside::List) {
+            let goes_on = !matches!(Inside::of(child), Inside::Braces)
+                && child != SyntaxKind::L_CURLY;
             return Slot {
                 separator: Separator::Line,
                 level: slot.level.saturating_add(u16::from(goes_on)),
@@ -171,7 +172,7 @@ impl<'t, E: Elements, A: Allocator + Copy> Walk<'t, E, A> {
     fn slot(&mut self, parent: &Frame, child: SyntaxKind, level: u16) -> Result<(), AllocError> {
         let mut slot = Slot {
             separator: self.separator(parent, child),
-            breaks_with_list: parent.inside == Inside::List,
+            breaks_with_list: matches!(parent.inside, Inside::List),
             bracket: Bracket::Neither,
             level,
         };
@@ -190,7 +191,7 @@ impl<'t, E: Elements, A: Allocator + Copy> Walk<'t, E, A> {
 
     // What separates a comment in a line of its own from what is before it.
     fn comment_separator(&self, parent: &Frame, line_ends: u8) -> Separator {
-        let in_document = parent.inside == Inside::Document;
+        let in_document = matches!(parent.inside, Inside::Document);
         let keeps_blank = match parent.previous {
             Some(left) => {
                 (in_document && !self.after_comment)
@@ -218,8 +219,8 @@ impl<'t, E: Elements, A: Allocator + Copy> Walk<'t, E, A> {
         } else {
             Separator::Space
         };
-        let in_list = parent.inside == Inside::List;
-        let goes_on = parent.inside != Inside::Document
+        let in_list = matches!(parent.inside, Inside::List);
+        let goes_on = !matches!(parent.inside, Inside::Document)
             && !in_list
             && parent.previous != Some(SyntaxKind::DESCRIPTION);
         self.last_line = self.slots.len();
@@ -248,7 +249,7 @@ impl<'t, E: Elements, A: Allocator + Copy> Walk<'t, E, A> {
             let level = self.level(parent, kind);
             self.slot(parent, kind, level)?;
         }
-        if parent.inside == Inside::List {
+        if matches!(parent.inside, Inside::List) {
             self.bracket(kind);
         }
         if parent.in_field {
@@ -363,7 +364,7 @@ impl<'t, E: Elements, A: Allocator + Copy> Walk<'t, E, A> {
         let kind = element.kind;
         let level = self.level(parent, kind);
         let inside = Inside::of(kind);
-        if inside == Inside::List {
+        if matches!(inside, Inside::List) {
             self.list_count = self.list_count.saturating_add(1);
         }
         if !self.is_pending {
@@ -380,7 +381,8 @@ impl<'t, E: Elements, A: Allocator + Copy> Walk<'t, E, A> {
             kind,
             inside,
             previous: None,
-            in_field: kind == SyntaxKind::FIELD || (parent.in_field && inside != Inside::Braces),
+            in_field: kind == SyntaxKind::FIELD
+                || (parent.in_field && !matches!(inside, Inside::Braces)),
         })
     }
 
@@ -410,7 +412,7 @@ impl<'t, E: Elements, A: Allocator + Copy> Walk<'t, E, A> {
     fn leave(&mut self, open: &mut Vec<Frame, A>) {
         self.after_comment = false;
         if let Some(frame) = open.pop() {
-            if frame.inside == Inside::List {
+            if matches!(frame.inside, Inside::List) {
                 if let Some(parent) = open.last() {
                     self.leave_list(frame, *parent);
                 }
