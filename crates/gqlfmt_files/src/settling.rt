@@ -6,7 +6,7 @@ use std::alloc::Allocator;
 use std::io;
 
 /// What is done with a text that formatting changes.
-#[derive(Clone, Copy, PartialEq)]
+#[derive(Clone, Copy)]
 pub enum Mode {
     /// It is written: to standard output, or in place of the file.
     Write,
@@ -48,10 +48,12 @@ pub fn settle<F: Files, A: Allocator, E>(
     match revised {
         Revised::Same => Ok(Outcome::Done),
         Revised::Refused(_) => Ok(Outcome::Found),
-        Revised::Changed(_) if mode != Mode::Write => Ok(Outcome::Found),
-        Revised::Changed(text) => match files.replace(path, text.as_str()) {
-            Ok(()) => Ok(Outcome::Done),
-            Err(error) => Err(error),
+        Revised::Changed(text) => match mode {
+            Mode::Write => match files.replace(path, text.as_str()) {
+                Ok(()) => Ok(Outcome::Done),
+                Err(error) => Err(error),
+            },
+            Mode::Check | Mode::Diff => Ok(Outcome::Found),
         },
     }
 }

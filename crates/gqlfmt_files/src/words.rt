@@ -116,7 +116,7 @@ fn is_option(word: &str) -> bool
 fn takes_number(word: &str) -> bool
     ensures { result ≡ takes_number word.now }
 {
-    word == "--recursion" || word == "--tokens"
+    matches!(word, "--recursion" | "--tokens")
 }
 
 fn mode_of(word: &str) -> Option<Mode>
@@ -134,10 +134,9 @@ fn with_number(settings: Settings, name: &str, value: &str) -> Option<Settings>
     ensures { IsSet settings (with_number name.now value.now) result }
 {
     let number = number_of(value)?;
-    if name == "--recursion" {
-        settings.with_recursion(number)
-    } else {
-        settings.with_tokens(number)
+    match name {
+        "--recursion" => settings.with_recursion(number),
+        _ => settings.with_tokens(number),
     }
 }
 

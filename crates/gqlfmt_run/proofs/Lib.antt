@@ -1,2 +1,3 @@
 pub mod PathLemmas
 pub mod Printing
+pub mod Outputs

@@ -24,3 +24,15 @@ IsOutput Diff limits source Done output = IsFormatted limits source source × (o
 IsOutput Write limits source Found output = HasErrors limits source × (output ≡ [])
 IsOutput Check limits source Found output = (HasErrors limits source × (output ≡ [])) ⊎ IsListed Check limits source output
 IsOutput Diff limits source Found output = (HasErrors limits source × (output ≡ [])) ⊎ IsListed Diff limits source output
+
+-- the parts of that: what is written of a text that has the layout
+abbrev pub kept : Mode → List ℕ → List ℕ
+kept Write source = source
+kept Check source = []
+kept Diff source = []
+
+-- and what comes of one that has another
+abbrev pub outcome_of : Mode → Outcome
+outcome_of Write = Done
+outcome_of Check = Found
+outcome_of Diff = Found

@@ -16,13 +16,14 @@ pub fn revise<A: Allocator + Copy>(
 ) -> Result<Revised<A, Vec<Error<A>, A>>, AllocError>
     ensures { IfOk result (IsRevised (λ errors. errors.items) limits source.now) }
 {
-    match format(alloc, source, limits.recursion, limits.tokens)? {
-        Ok(text) => {
+    match format(alloc, source, limits.recursion, limits.tokens) {
+        Ok(Ok(text)) => {
             if text.as_str() == source {
                 return Ok(Revised::Same);
             }
             Ok(Revised::Changed(text))
         }
-        Err(errors) => Ok(Revised::Refused(errors)),
+        Ok(Err(errors)) => Ok(Revised::Refused(errors)),
+        Err(error) => Err(error),
     }
 }

@@ -1,7 +1,7 @@
 // Formatting standard input.
-ghost use Rattle.std.specs.Prelude.{ℕ, List, IfOk, string_bytes};
+ghost use Rattle.std.specs.Prelude.{◌≡◌, ℕ, List, IfOk, string_bytes};
 ghost use Rattle.gqlcst_run.specs.Program.{Reads, Writes};
-ghost use Rattle.gqlfmt_run.specs.Input.{IsOutput};
+ghost use Rattle.gqlfmt_run.specs.Input.{IsOutput, kept, outcome_of};
 
 use crate::formatting::revise;
 use crate::report::complain;
@@ -13,7 +13,28 @@ use std::alloc::{AllocError, Allocator};
 /// The name of standard input in messages.
 pub const INPUT: &str = "<stdin>";
 
+// What is written of a text that has the layout.
+fn kept<A: Allocator>(alloc: A, mode: Mode, source: &str) -> Result<String<A>, AllocError>
+    ensures { IfOk result (λ output. string_bytes output ≡ kept mode source.now) }
+{
+    match mode {
+        Mode::Write => String::from_str(alloc, source),
+        Mode::Check | Mode::Diff => Ok(String::new(alloc)),
+    }
+}
+
+// What comes of a text that has another layout.
+fn outcome_of(mode: Mode) -> Outcome
+    ensures { result ≡ outcome_of mode }
+{
+    match mode {
+        Mode::Write => Outcome::Done,
+        Mode::Check | Mode::Diff => Outcome::Found,
+    }
+}
+
 // What is written of a text, and what came of it. Errors go to `complaints`.
+#[tactic(auto, using(crate::proofs::Outputs::of_same, crate::proofs::Outputs::of_changed, crate::proofs::Outputs::of_refused))]
 fn output_of<A: Allocator + Copy, E: Sink>(
     alloc: A,
     complaints: &mut E,
@@ -23,22 +44,17 @@ fn output_of<A: Allocator + Copy, E: Sink>(
 ) -> Result<(Outcome, String<A>), AllocError>
     ensures { IfOk result (λ it. IsOutput mode limits source.now it.0 (string_bytes it.1)) }
 {
-    match revise(alloc, source, limits)? {
-        Revised::Refused(errors) => {
+    match revise(alloc, source, limits) {
+        Ok(Revised::Same) => Ok((Outcome::Done, kept(alloc, mode, source)?)),
+        Ok(Revised::Changed(text)) => {
+            let output = shown(alloc, mode, INPUT, source, text)?;
+            Ok((outcome_of(mode), output))
+        }
+        Ok(Revised::Refused(errors)) => {
             complain(alloc, complaints, INPUT, source, errors.as_slice())?;
             Ok((Outcome::Found, String::new(alloc)))
         }
-        Revised::Same if mode == Mode::Write => {
-            Ok((Outcome::Done, String::from_str(alloc, source)?))
-        }
-        Revised::Same => Ok((Outcome::Done, String::new(alloc))),
-        Revised::Changed(text) => {
-            let output = shown(alloc, mode, INPUT, source, text)?;
-            if mode == Mode::Write {
-                return Ok((Outcome::Done, output));
-            }
-            Ok((Outcome::Found, output))
-        }
+        Err(error) => Err(error),
     }
 }
 

@@ -1,0 +1,23 @@
+-- What is written of a text, by what formatting makes of it.
+use Rattle.std.proofs.Common.{◌≡◌, ℕ, List, [], inl, inr, sym, subst}
+use Rattle.gqlcst_run.specs.declared.command.Limits.{Limits}
+use Rattle.gqlfmt_files.specs.declared.settling.Mode.{Mode}
+use Rattle.gqlfmt_files.specs.declared.settling.Mode.TheVariants.{Write, Check, Diff}
+use Rattle.gqlfmt_files.specs.declared.settling.Outcome.TheVariants.{Done, Found}
+use Rattle.gqlfmt_run.specs.Formatting.{IsFormatted, HasErrors, IsChanged, IsShown}
+use Rattle.gqlfmt_run.specs.Input.{input_name, IsOutput, kept, outcome_of}
+
+pub of_same : (mode : Mode) (limits : Limits) (source output : List ℕ) → IsFormatted limits source source → output ≡ kept mode source → IsOutput mode limits source Done output
+of_same Write limits source output formatted same = subst (λ (text : List ℕ). IsFormatted limits source text) (sym same) formatted
+of_same Check limits source output formatted same = (formatted, same)
+of_same Diff limits source output formatted same = (formatted, same)
+
+pub of_changed : (mode : Mode) (limits : Limits) (source text output : List ℕ) → IsChanged limits source text → IsShown mode input_name text output → IsOutput mode limits source (outcome_of mode) output
+of_changed Write limits source text output changed shown = subst (λ (text : List ℕ). IsFormatted limits source text) (sym shown) changed.formatted
+of_changed Check limits source text output changed shown = inr (record { text = text; changed = changed; shown = shown })
+of_changed Diff limits source text output changed shown = inr (record { text = text; changed = changed; shown = shown })
+
+pub of_refused : (mode : Mode) (limits : Limits) (source output : List ℕ) → HasErrors limits source → output ≡ [] → IsOutput mode limits source Found output
+of_refused Write limits source output errors empty = (errors, empty)
+of_refused Check limits source output errors empty = inl (errors, empty)
+of_refused Diff limits source output errors empty = inl (errors, empty)
