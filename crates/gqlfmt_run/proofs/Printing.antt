@@ -1,6 +1,6 @@
 -- Texts that are written one after the other, and the status that says whether all was written.
-use Rattle.std.proofs.Common.{◌≡◌, ℕ, ◌<◌, ◌⊎◌, inl, inr, List, ◌++◌, length, length-append, append_assoc, sym, ap, ◌∙◌, subst, arith}
-use Rattle.std.specs.Prelude.{Result, Ok, Err, OnOk, OnErr, IfErr}
+use Rattle.std.proofs.Common.{◌≡◌, ℕ, inl, inr, List, ◌++◌, length-append, append_assoc, sym, ap, ◌∙◌, subst, arith}
+use Rattle.std.specs.Prelude.{Result, Ok, Err, OnErr, IfErr}
 use Rattle.gqlcst_run.specs.Devices.{Account, moved, stopped, failed}
 use Rattle.gqlcst_run.specs.Writing.{IsBroken, EndsWriting}
 use Rattle.gqlcst_run.specs.declared.outcome.Fault.{Fault}
