@@ -1,7 +1,8 @@
 // The program over readers and writers of `std` that stop or fail at a chosen place.
 ghost use Rattle.std.specs.Prelude.{◌≡◌, IfOk};
 
-use gqlcst_run::{Fault, Limits, Mode, Outcome, StdSink, StdSource, run};
+use byte_devices::{Fault, StdSink, StdSource};
+use gqlcst_run::{Limits, Mode, Outcome, run};
 use std::alloc::{AllocError, Global};
 use std::io::{self, ErrorKind, Read, Write};
 use std::process::Abort;

@@ -1,5 +1,5 @@
 // The formatter's program over words, texts and files of these tests, and the changes that it shows.
-use gqlcst_run::{StdSink, StdSource};
+use byte_devices::{StdSink, StdSource};
 use gqlfmt_run::{StdFiles, run, unified_diff};
 use std::alloc::{AllocError, Allocator, Global};
 use std::cell::Cell;

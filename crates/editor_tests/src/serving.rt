@@ -1,6 +1,6 @@
 // Conversations through a reader and a writer of these tests, which fail or end at a chosen point.
 use crate::messages::Refuses;
-use gqlcst_run::{DeviceError, Fault, Sink, Source, Trace};
+use byte_devices::{DeviceError, Fault, Sink, Source, Trace};
 use rpc_serving::serve;
 use std::alloc::Global;
 use std::process::Abort;
@@ -16,7 +16,7 @@ struct Pieces<'a> {
 }
 
 impl<'a> Source for Pieces<'a> {
-    ghost use Rattle.gqlcst_run.specs.Devices.{account_of};
+    ghost use Rattle.byte_devices.specs.Devices.{account_of};
 
     ghost account = { λ pieces. account_of pieces.trace };
 
@@ -44,7 +44,7 @@ struct Page {
 }
 
 impl Sink for Page {
-    ghost use Rattle.gqlcst_run.specs.Devices.{account_of};
+    ghost use Rattle.byte_devices.specs.Devices.{account_of};
 
     ghost account = { λ page. account_of page.trace };
 

@@ -7,8 +7,9 @@
 #[cfg(test)]
 mod tests;
 
+use byte_devices::{StdSink, StdSource};
 use gqlcst_run::ending::{USAGE, ending};
-use gqlcst_run::{Limits, Mode, StdSink, StdSource, options, run};
+use gqlcst_run::{Limits, Mode, options, run};
 use std::env;
 use std::process::ExitCode;
 

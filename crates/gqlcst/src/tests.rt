@@ -1,8 +1,9 @@
 // The program over readers and writers of these tests, which fail or stop at a chosen point.
 ghost use Rattle.std.specs.Prelude.{◌≡◌, IfOk};
 
+use byte_devices::{DeviceError, Fault, Sink, Source, Trace};
 use gqlcst_run::ending::ending;
-use gqlcst_run::{DeviceError, Fault, Limits, Mode, Outcome, Sink, Source, Trace, options, run};
+use gqlcst_run::{Limits, Mode, Outcome, options, run};
 use std::alloc::{AllocError, Global};
 use std::process::Abort;
 use std::test::Fail;
@@ -35,7 +36,7 @@ struct Pieces<'a> {
 }
 
 impl<'a> Source for Pieces<'a> {
-    ghost use Rattle.gqlcst_run.specs.Devices.{account_of};
+    ghost use Rattle.byte_devices.specs.Devices.{account_of};
 
     ghost account = { λ pieces. account_of pieces.trace };
 
@@ -65,7 +66,7 @@ struct Page {
 }
 
 impl Sink for Page {
-    ghost use Rattle.gqlcst_run.specs.Devices.{account_of};
+    ghost use Rattle.byte_devices.specs.Devices.{account_of};
 
     ghost account = { λ page. account_of page.trace };
 

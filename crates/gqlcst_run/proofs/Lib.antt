@@ -1,5 +1,3 @@
-pub mod Accounts
-pub mod Ends
 pub mod Forms
 pub mod Items
 pub mod Lines

@@ -1,14 +1,14 @@
 -- Pages, one call after the other.
 use Rattle.std.proofs.Common.{◌≡◌, ℕ, ◌<◌, ◌⊎◌, Bool, true, false, inl, inr, List, [], ◌++◌, length, length-append, sym, ap, ◌∙◌, append_assoc, subst, arith}
 use Rattle.std.proofs.lemmas.List.{append-nil}
-use Rattle.gqlcst_run.specs.declared.outcome.Fault.{Fault}
-use Rattle.gqlcst_run.specs.declared.outcome.Fault.TheVariants.{Read, Utf8, Memory, Write}
+use Rattle.byte_devices.specs.declared.fault.Fault.{Fault}
+use Rattle.byte_devices.specs.declared.fault.Fault.TheVariants.{Read, Utf8, Memory, Write}
 use Rattle.gqlcst_run.specs.declared.page.Page.{Page}
-use Rattle.gqlcst_run.specs.Devices.{Account, moved, stopped, failed}
-use Rattle.gqlcst_run.specs.Writing.{IsTaken, IsBroken, EndsWriting}
+use Rattle.byte_devices.specs.Devices.{Account, moved, stopped, failed}
+use Rattle.byte_devices.specs.Writing.{IsTaken, IsBroken, EndsWriting}
 use Rattle.gqlcst_run.specs.Passing.{IsPassed}
 use Rattle.gqlcst_run.specs.Paging.{Paged, waiting, IsBlank, HasTaken, IsPut, Puts, PutsSome, PutsAny}
-use Rattle.gqlcst_run.proofs.Accounts.{moved_moved, taken_none, taken_all}
+use Rattle.byte_devices.proofs.Accounts.{moved_moved, taken_none, taken_all}
 
 -- where writing ends before the end, the bytes are broken off
 pub ends_broken : (fault : Fault) (bytes : List ℕ) (old new : Account) → EndsWriting fault bytes old new → IsBroken bytes old new

@@ -2,8 +2,8 @@
 use Rattle.std.specs.Prelude.{ℕ, List, [], codes, Result, Ok, Err}
 use Rattle.gqlcst_run.specs.declared.outcome.Outcome.{Outcome}
 use Rattle.gqlcst_run.specs.declared.outcome.Outcome.TheVariants.{Clean, Errors}
-use Rattle.gqlcst_run.specs.declared.outcome.Fault.{Fault}
-use Rattle.gqlcst_run.specs.declared.outcome.Fault.TheVariants.{Read, Utf8, Memory, Write}
+use Rattle.byte_devices.specs.declared.fault.Fault.{Fault}
+use Rattle.byte_devices.specs.declared.fault.Fault.TheVariants.{Read, Utf8, Memory, Write}
 
 -- 0 where the text is clean, 1 where it has errors, 2 where that wasn't found out
 abbrev pub status_of : Result Outcome Fault → ℕ

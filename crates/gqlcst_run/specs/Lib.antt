@@ -1,9 +1,6 @@
 pub mod Command
-pub mod Devices
-pub mod Reading
 pub mod Parsing
 pub mod Rendering
-pub mod Writing
 pub mod Passing
 pub mod Paging
 pub mod Quoted

@@ -1,9 +1,9 @@
 -- What was put on a page, and how much of it the writer has.
 use Rattle.std.specs.Prelude.{◌≡◌, ℕ, Bool, true, false, List, [], ◌++◌, take, Result, Ok, Err}
-use Rattle.gqlcst_run.specs.Devices.{Account, moved}
-use Rattle.gqlcst_run.specs.Writing.{IsTaken, IsBroken, EndsWriting}
+use Rattle.byte_devices.specs.Devices.{Account, moved}
+use Rattle.byte_devices.specs.Writing.{IsTaken, IsBroken, EndsWriting}
 use Rattle.gqlcst_run.specs.declared.page.Page.{Page}
-use Rattle.gqlcst_run.specs.declared.outcome.Fault.{Fault}
+use Rattle.byte_devices.specs.declared.fault.Fault.{Fault}
 
 -- a page, and the account of the writer that it goes to
 abbrev pub Paged : Type 0

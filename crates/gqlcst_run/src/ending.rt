@@ -2,7 +2,8 @@
 ghost use Rattle.std.specs.Prelude.{◌≡◌};
 ghost use Rattle.gqlcst_run.specs.Ending.{status_of, complaint_of};
 
-use crate::outcome::{Fault, Outcome};
+use crate::outcome::Outcome;
+use byte_devices::Fault;
 
 /// How the program is called.
 pub const USAGE: &str = "usage: gqlcst check|tokens|tree [--recursion N] [--tokens N]";

@@ -5,23 +5,13 @@
 #![tactic(auto)]
 
 mod command;
-mod devices;
 pub mod ending;
 mod outcome;
 mod page;
 mod parsing;
 mod program;
-mod reading;
 mod rendering;
-mod std_devices;
-mod trace;
-mod writing;
 
 pub use command::{Limits, Mode, options};
-pub use devices::{DeviceError, Sink, Source};
-pub use outcome::{Fault, Outcome};
+pub use outcome::Outcome;
 pub use program::run;
-pub use reading::read_to_end;
-pub use std_devices::{StdSink, StdSource};
-pub use trace::Trace;
-pub use writing::write_all;

@@ -2,9 +2,7 @@
 ghost use Rattle.std.specs.Prelude.{◌≡◌, ◌+◌, ◌≤◌, [], ◌++◌, length, take};
 ghost use Rattle.gqlcst_run.specs.Passing.{IsPassed};
 
-use crate::devices::Sink;
-use crate::outcome::Fault;
-use crate::writing::write_all;
+use byte_devices::{Fault, Sink, write_all};
 
 // How many bytes a page holds.
 const SIZE: usize = 65536;

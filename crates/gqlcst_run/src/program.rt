@@ -1,15 +1,15 @@
 // A run of the program: it reads, parses and writes.
 ghost use Rattle.std.specs.Prelude.{◌≡◌, List, ℕ, IfOk, OnErr};
 ghost use Rattle.gqlcst_run.specs.Paging.{PutsSome};
-ghost use Rattle.gqlcst_run.specs.Program.{IsOutput, Reads, Writes};
+ghost use Rattle.byte_devices.specs.Runs.{Reads, Writes};
+ghost use Rattle.gqlcst_run.specs.Program.{IsOutput};
 
 use crate::command::{Limits, Mode};
-use crate::devices::{Sink, Source};
-use crate::outcome::{Fault, Outcome};
+use crate::outcome::Outcome;
 use crate::page::Page;
 use crate::parsing::{lexer, parse};
-use crate::reading::read_to_end;
 use crate::rendering::{put_errors, put_tokens, put_tree};
+use byte_devices::{Fault, Sink, Source, read_to_end};
 use std::alloc::{AllocError, Allocator};
 
 // Puts what a mode shows of a text, and answers what was found. Mode tokens needs no parse. All memory that it takes is asked for before the

@@ -4,7 +4,7 @@
 //! done between them is in `gqlfmt_run`.
 #![tactic(auto)]
 
-use gqlcst_run::{StdSink, StdSource};
+use byte_devices::{StdSink, StdSource};
 use gqlfmt_run::{StdFiles, run};
 use std::alloc::{AllocError, Global};
 use std::env;

@@ -1,11 +1,11 @@
 -- Texts that are written one after the other, and the status that says whether all was written.
 use Rattle.std.proofs.Common.{◌≡◌, ℕ, inl, inr, List, ◌++◌, length-append, append_assoc, sym, ap, ◌∙◌, subst, arith}
 use Rattle.std.specs.Prelude.{Result, Ok, Err, OnErr, IfErr}
-use Rattle.gqlcst_run.specs.Devices.{Account, moved, stopped, failed}
-use Rattle.gqlcst_run.specs.Writing.{IsBroken, EndsWriting}
-use Rattle.gqlcst_run.specs.declared.outcome.Fault.{Fault}
-use Rattle.gqlcst_run.specs.declared.outcome.Fault.TheVariants.{Read, Utf8, Memory, Write}
-use Rattle.gqlcst_run.proofs.Accounts.{moved_moved}
+use Rattle.byte_devices.specs.Devices.{Account, moved, stopped, failed}
+use Rattle.byte_devices.specs.Writing.{IsBroken, EndsWriting}
+use Rattle.byte_devices.specs.declared.fault.Fault.{Fault}
+use Rattle.byte_devices.specs.declared.fault.Fault.TheVariants.{Read, Utf8, Memory, Write}
+use Rattle.byte_devices.proofs.Accounts.{moved_moved}
 
 -- whatever the fault is called, the writer broke off
 pub broken-off : (fault : Fault) (text : List ℕ) (old new : Account) → EndsWriting fault text old new → IsBroken text old new

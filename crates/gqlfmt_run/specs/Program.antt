@@ -1,11 +1,11 @@
 -- What a run of the program does, by what its words ask for.
 use Rattle.std.specs.Prelude.{◌≡◌, ◌⊎◌, ℕ, Bool, List, [], ◌∷◌, ◌++◌, Option, Some, None, Result, unwrap_or}
 use Rattle.gqlcst_run.specs.Command.{none_set}
-use Rattle.gqlcst_run.specs.Devices.{Account, moved}
-use Rattle.gqlcst_run.specs.Writing.{IsBroken}
-use Rattle.gqlcst_run.specs.Program.{Reads, Writes}
+use Rattle.byte_devices.specs.Devices.{Account, moved}
+use Rattle.byte_devices.specs.Writing.{IsBroken}
+use Rattle.byte_devices.specs.Runs.{Reads, Writes}
 use Rattle.gqlcst_run.specs.declared.command.Limits.{Limits}
-use Rattle.gqlcst_run.specs.declared.outcome.Fault.{Fault}
+use Rattle.byte_devices.specs.declared.fault.Fault.{Fault}
 use Rattle.gqlfmt_files.specs.Words.{Run}
 use Rattle.gqlfmt_files.specs.declared.settling.Mode.{Mode}
 use Rattle.gqlfmt_files.specs.declared.settling.Mode.TheVariants.{Write}

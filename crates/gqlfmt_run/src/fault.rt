@@ -1,9 +1,9 @@
 // Why a text was not formatted.
 ghost use Rattle.std.specs.Prelude.{◌≡◌};
-ghost use Rattle.gqlcst_run.specs.declared.outcome.Fault.TheVariants.{Memory};
+ghost use Rattle.byte_devices.specs.declared.fault.Fault.TheVariants.{Memory};
 ghost use Rattle.gqlfmt_run.specs.declared.fault.FileFault.TheVariants.{Device};
 
-use gqlcst_run::Fault;
+use byte_devices::Fault;
 use std::alloc::AllocError;
 use std::{fmt, io};
 

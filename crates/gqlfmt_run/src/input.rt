@@ -1,12 +1,13 @@
 // Formatting standard input.
 ghost use Rattle.std.specs.Prelude.{◌≡◌, ℕ, List, IfOk, string_bytes};
-ghost use Rattle.gqlcst_run.specs.Program.{Reads, Writes};
+ghost use Rattle.byte_devices.specs.Runs.{Reads, Writes};
 ghost use Rattle.gqlfmt_run.specs.Input.{IsOutput, kept, outcome_of};
 
 use crate::formatting::revise;
 use crate::report::complain;
 use crate::showing::shown;
-use gqlcst_run::{Fault, Limits, Sink, Source, read_to_end, write_all};
+use byte_devices::{Fault, Sink, Source, read_to_end, write_all};
+use gqlcst_run::Limits;
 use gqlfmt_files::{Mode, Outcome, Revised};
 use std::alloc::{AllocError, Allocator};
 

@@ -8,7 +8,8 @@ use crate::outcome::status_of;
 use crate::report::{complain, tell_of_file};
 use crate::showing::shown;
 use apollo_parser::Error;
-use gqlcst_run::{Fault, Limits, Sink, write_all};
+use byte_devices::{Fault, Sink, write_all};
+use gqlcst_run::Limits;
 use gqlfmt_files::{Files, Mode, Outcome, Revised, settle};
 use std::alloc::Allocator;
 

@@ -1,7 +1,7 @@
 // A run of the program.
 ghost use Rattle.std.specs.Prelude.{◌≡◌, OnOk, OnErr};
-ghost use Rattle.gqlcst_run.specs.Devices.{moved};
-ghost use Rattle.gqlcst_run.specs.Writing.{IsBroken};
+ghost use Rattle.byte_devices.specs.Devices.{moved};
+ghost use Rattle.byte_devices.specs.Writing.{IsBroken};
 ghost use Rattle.gqlfmt_files.specs.Words.{texts, request_of};
 ghost use Rattle.gqlfmt_run.specs.Program.{limits_of, page_text, IsPrinted, FormatsInput, Formats, Runs};
 
@@ -11,7 +11,8 @@ use crate::input::{INPUT, format_input};
 use crate::outcome::status_of;
 use crate::paths::format_files;
 use crate::report::tell;
-use gqlcst_run::{Fault, Limits, Sink, Source, write_all};
+use byte_devices::{Fault, Sink, Source, write_all};
+use gqlcst_run::Limits;
 use gqlfmt_files::{Files, Mode, Page, Plan, Request, Settings, WordsError, options};
 use std::alloc::Allocator;
 

@@ -4,7 +4,7 @@ ghost use Rattle.std.specs.Prelude.{◌≤◌, length};
 use crate::excerpt::push_excerpt;
 use crate::fault::FileFault;
 use apollo_parser::Error;
-use gqlcst_run::{Sink, write_all};
+use byte_devices::{Sink, write_all};
 use gqlfmt_files::Files;
 use line_index::LineIndex;
 use std::alloc::{AllocError, Allocator};

@@ -3,7 +3,7 @@
 //! Here are only the standard devices and the exit status; what is done between them is in `gqlls_run`.
 #![tactic(auto)]
 
-use gqlcst_run::{Fault, StdSink, StdSource};
+use byte_devices::{Fault, StdSink, StdSource};
 use gqlls_run::run;
 use std::process::ExitCode;
 

@@ -3,7 +3,7 @@ ghost use Rattle.std.specs.Prelude.{IfErr, IfOk};
 ghost use Rattle.rpc_serving.specs.Serving.{EndsServing, IsServed};
 
 use crate::server::Server;
-use gqlcst_run::{Fault, Sink, Source};
+use byte_devices::{Fault, Sink, Source};
 use rpc_serving::serve;
 use std::alloc::Global;
 

@@ -1,9 +1,9 @@
 -- A conversation through a reader and a writer.
 use Rattle.std.specs.Prelude.{◌≡◌, ◌⊎◌, ℕ, ◌+◌, ◌≤◌, ◌^◌, List, length, Option, Some, None}
-use Rattle.gqlcst_run.specs.Devices.{Account, moved, stopped, failed}
-use Rattle.gqlcst_run.specs.Writing.{IsBroken}
-use Rattle.gqlcst_run.specs.declared.outcome.Fault.{Fault}
-use Rattle.gqlcst_run.specs.declared.outcome.Fault.TheVariants.{Read, Utf8, Memory, Write}
+use Rattle.byte_devices.specs.Devices.{Account, moved, stopped, failed}
+use Rattle.byte_devices.specs.Writing.{IsBroken}
+use Rattle.byte_devices.specs.declared.fault.Fault.{Fault}
+use Rattle.byte_devices.specs.declared.fault.Fault.TheVariants.{Read, Utf8, Memory, Write}
 use Rattle.rpc_exchange.specs.Exchange.{Exchange}
 
 -- The run ends with this status, after so many bytes: the notification `exit` asked for it, or the input ended. No more than 2 ^ 64 - 1 reads are made.

@@ -6,7 +6,7 @@
 ghost use Rattle.std.specs.Prelude.{IfErr, IfOk};
 ghost use Rattle.rpc_serving.specs.Serving.{EndsServing, IsServed};
 
-use gqlcst_run::{Fault, Sink, Source, write_all};
+use byte_devices::{Fault, Sink, Source, write_all};
 use rpc_exchange::take_turn;
 use rpc_frames::FrameBuffer;
 use rpc_messages::Service;

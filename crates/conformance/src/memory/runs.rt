@@ -1,6 +1,7 @@
 // A run of the program, with a request that is refused.
 use super::{Attempt, Heap};
-use gqlcst_run::{Fault, Limits, Mode, StdSink, StdSource, run};
+use byte_devices::{Fault, StdSink, StdSource};
+use gqlcst_run::{Limits, Mode, run};
 use std::alloc::{AllocError, Global};
 
 // What was found and written. What else is left is what was written although memory was refused: that is to be nothing.

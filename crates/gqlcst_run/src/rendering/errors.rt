@@ -4,9 +4,9 @@ ghost use Rattle.apollo_parser.specs.Printed.{subject_shown};
 ghost use Rattle.gqlcst_run.specs.Paging.{PutsSome};
 ghost use Rattle.gqlcst_run.specs.Rendering.{AreLines, IsErrorForm, IsVerdict};
 
-use crate::devices::Sink;
 use crate::page::Page;
 use apollo_parser::Error;
+use byte_devices::Sink;
 use std::alloc::Allocator;
 
 // What an error is about, as it is printed.

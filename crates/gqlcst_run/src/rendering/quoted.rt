@@ -5,8 +5,8 @@ ghost use Rattle.std.specs.Fmt.{digits, digit_glyph, debug_escape, debug_escape_
 ghost use Rattle.gqlcst_run.specs.Quoted.{is_plain, is_control, IsEscaped};
 ghost use Rattle.gqlcst_run.specs.Rendering.{IsForm, IsFormAfter};
 
-use crate::devices::Sink;
 use crate::page::Page;
+use byte_devices::Sink;
 
 // Whether a byte is written as it is between quotes: a character of ASCII that prints, but for the quote and the backslash.
 #[inline(always)]

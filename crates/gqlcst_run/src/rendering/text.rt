@@ -1,8 +1,8 @@
 // Texts, numbers and places, put on a page.
 ghost use Rattle.std.specs.Prelude.{◌≡◌, ◌+◌, ◌++◌, codes, decimal};
 
-use crate::devices::Sink;
 use crate::page::Page;
+use byte_devices::Sink;
 use itoa::Buffer;
 
 impl Page {

@@ -6,12 +6,12 @@ ghost use Rattle.gqlcst_run.specs.Paging.{Puts, PutsSome};
 ghost use Rattle.gqlcst_run.specs.Parsing.{outcome_of};
 ghost use Rattle.gqlcst_run.specs.Rendering.{AreLines, IsAnswerForm, IsForm, error_count};
 
-use crate::devices::Sink;
 use crate::outcome::{Outcome, outcome_of};
 use crate::page::Page;
 use crate::rendering::place::Place;
 use apollo_parser::laws::answers_fit;
 use apollo_parser::{LexError, Lexer, Token, TokenKind};
+use byte_devices::Sink;
 
 // Puts a name, and from where to where a text is.
 #[inline(always)]

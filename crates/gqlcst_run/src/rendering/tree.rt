@@ -1,11 +1,11 @@
 // The output of mode tree.
 ghost use Rattle.gqlcst_run.specs.Paging.{PutsAny};
 
-use crate::devices::Sink;
 use crate::page::Page;
 use crate::rendering::errors::put_error;
 use crate::rendering::kind_name::kind_name;
 use apollo_parser::{DocumentRoot, IndexedElement, LimitTracker, SyntaxTree};
+use byte_devices::Sink;
 use std::alloc::Allocator;
 
 // Four spaces for each of thirty-two levels.

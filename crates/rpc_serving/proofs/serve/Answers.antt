@@ -1,5 +1,5 @@
 use Rattle.std.proofs.Common.{ℕ, List, ◌++◌, Some, None, take, refl, subst, inl, inr, arith}
-use Rattle.gqlcst_run.proofs.Accounts.{gave}
+use Rattle.byte_devices.proofs.Accounts.{gave}
 use Rattle.rpc_exchange.specs.Exchange.{Exchange}
 use Rattle.rpc_serving.proofs.Accounts.{at_end, broke, longer, wrote}
 use Rattle.rpc_serving.proofs.Conversations.{ends_so, goes_further, left_over, stops_so}

@@ -1,5 +1,5 @@
 use Rattle.std.proofs.Common.{◌≡◌, ℕ, ◌≤◌, List, length}
-use Rattle.gqlcst_run.specs.Devices.{moved}
+use Rattle.byte_devices.specs.Devices.{moved}
 use Rattle.rpc_frames.specs.Frames.{HasNoFrame}
 use Rattle.rpc_serving.proofs.Conversations.{GoesOn}
 use Rattle.rpc_serving.proofs.serve.Given as goal

@@ -1,6 +1,6 @@
 use Rattle.std.proofs.Common.{string_bytes}
 use Rattle.std.proofs.lemmas.Result.{err_from_is_err_and}
-use Rattle.gqlcst_run.proofs.Ends.{cut}
+use Rattle.byte_devices.proofs.Ends.{cut}
 use Rattle.gqlfmt_run.specs.Input.{IsOutput}
 use Rattle.gqlfmt_run.proofs.input.format_input.Goals as goal
 

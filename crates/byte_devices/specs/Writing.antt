@@ -1,8 +1,8 @@
 -- How far writing some bytes has come.
 use Rattle.std.specs.Prelude.{◌≡◌, ℕ, ◌<◌, ◌⊎◌, List, ◌++◌, length}
-use Rattle.gqlcst_run.specs.Devices.{Account, moved, stopped, failed}
-use Rattle.gqlcst_run.specs.declared.outcome.Fault.{Fault}
-use Rattle.gqlcst_run.specs.declared.outcome.Fault.TheVariants.{Read, Utf8, Memory, Write}
+use Rattle.byte_devices.specs.Devices.{Account, moved, stopped, failed}
+use Rattle.byte_devices.specs.declared.fault.Fault.{Fault}
+use Rattle.byte_devices.specs.declared.fault.Fault.TheVariants.{Read, Utf8, Memory, Write}
 
 -- the writer took a beginning of the bytes, and these are left
 pub record IsTaken (bytes rest : List ℕ) (old new : Account) : Type 0 where

@@ -1,6 +1,6 @@
 use Rattle.std.proofs.Common.{length}
-use Rattle.gqlcst_run.specs.Writing.{IsTaken}
-use Rattle.gqlcst_run.proofs.writing.write_all.Given as goal
+use Rattle.byte_devices.specs.Writing.{IsTaken}
+use Rattle.byte_devices.proofs.writing.write_all.Given as goal
 
 abbrev pub invariant-loop-rest : goal.invariant-loop-rest
 invariant-loop-rest g l = IsTaken l.fn.bytes l.rest (g.W.Sink.account l.initial.writer) (g.W.Sink.account l.writer)

@@ -1,7 +1,7 @@
 use Rattle.std.proofs.Common.{◌++◌, take}
 use Rattle.std.proofs.lemmas.Result.{err_from_is_err_and}
-use Rattle.gqlcst_run.proofs.Accounts.{gave}
-use Rattle.gqlcst_run.proofs.reading.read_to_end.Goals as goal
+use Rattle.byte_devices.proofs.Accounts.{gave}
+use Rattle.byte_devices.proofs.reading.read_to_end.Goals as goal
 
 -- the bytes that were read before memory was refused, the last of them too
 pub returns-in_err-extend_from_slice-in-Ok-clause-err :

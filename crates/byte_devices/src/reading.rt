@@ -1,10 +1,10 @@
 // Reading to the end.
 ghost use Rattle.std.specs.Prelude.{◌≡◌, List, ℕ, IfOk, IfErr};
-ghost use Rattle.gqlcst_run.specs.Devices.{moved, stopped};
-ghost use Rattle.gqlcst_run.specs.Reading.{EndsReading};
+ghost use Rattle.byte_devices.specs.Devices.{moved, stopped};
+ghost use Rattle.byte_devices.specs.Reading.{EndsReading};
 
 use crate::devices::Source;
-use crate::outcome::Fault;
+use crate::fault::Fault;
 use std::alloc::Allocator;
 
 /// All that the reader gives until its end.

@@ -21,11 +21,11 @@ use denote.Triple.Entry.{on_entry, alive}
 use denote.Triple.Spec.{Meets, triple_of}
 use denote.Triple.Table.{entered}
 use denote.Triple.Walked.{says, Stays, walk_of, Walks, ends_at, walked, walk_Meets}
-use Rattle.gqlcst_run.specs.contracts.trace.Trace.new.Key.{name as key}
-use Rattle.gqlcst_run.specs.contracts.trace.Trace.new as f
-use Rattle.gqlcst_run.proofs.trace.Trace.new.Statement as stated
-use Rattle.gqlcst_run.proofs.trace.Trace.new.Code as code
-use Rattle.gqlcst_run.specs.contracts.trace.Trace as made
+use Rattle.byte_devices.specs.contracts.trace.Trace.new.Key.{name as key}
+use Rattle.byte_devices.specs.contracts.trace.Trace.new as f
+use Rattle.byte_devices.proofs.trace.Trace.new.Statement as stated
+use Rattle.byte_devices.proofs.trace.Trace.new.Code as code
+use Rattle.byte_devices.specs.contracts.trace.Trace as made
 
 abbrev stayed : Stays (f.ended).signature.params (f.ended).kept
 stayed = tt

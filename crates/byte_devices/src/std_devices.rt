@@ -1,7 +1,7 @@
 // Standard readers and writers as devices of the program.
 ghost use Rattle.std.specs.Prelude.{◌≡◌, ◌<◌, ◌≤◌, length, IfOk};
 ghost use Rattle.std.specs.Io.KnownBytes.{ReadConsumes, WriteAppends};
-ghost use Rattle.gqlcst_run.specs.Devices.{nothing_moved, after, account_of};
+ghost use Rattle.byte_devices.specs.Devices.{nothing_moved, after, account_of};
 
 use crate::devices::{DeviceError, Sink, Source};
 use crate::trace::Trace;

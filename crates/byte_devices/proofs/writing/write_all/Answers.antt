@@ -1,5 +1,5 @@
-use Rattle.gqlcst_run.proofs.Accounts.{taken_call}
-use Rattle.gqlcst_run.proofs.writing.write_all.Goals as goal
+use Rattle.byte_devices.proofs.Accounts.{taken_call}
+use Rattle.byte_devices.proofs.writing.write_all.Goals as goal
 
 pub loop-rest-preserved : goal.loop-rest-preserved
 loop-rest-preserved g c =

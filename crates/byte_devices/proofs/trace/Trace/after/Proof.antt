@@ -30,15 +30,15 @@ use denote.Triple.Entry.{on_entry, alive, Args}
 use denote.Triple.Spec.{Meets, triple_of}
 use denote.Triple.Table.{entered}
 use denote.Triple.Walked.{says, stay_none_ref, stay_none_slice, Goes-none_slice, Stays, walk_of, Walks, ends_at, walked, Goes-none_ref, walk_Meets}
-use Rattle.gqlcst_run.specs.contracts.trace.Trace.after.Key.{name as key}
-use Rattle.gqlcst_run.specs.contracts.trace.Trace.after as f
-use Rattle.gqlcst_run.proofs.trace.Trace.after.Statement as stated
-use Rattle.gqlcst_run.proofs.trace.Trace.after.Code as code
-use Rattle.gqlcst_run.specs.contracts.trace.Trace as trace
+use Rattle.byte_devices.specs.contracts.trace.Trace.after.Key.{name as key}
+use Rattle.byte_devices.specs.contracts.trace.Trace.after as f
+use Rattle.byte_devices.proofs.trace.Trace.after.Statement as stated
+use Rattle.byte_devices.proofs.trace.Trace.after.Code as code
+use Rattle.byte_devices.specs.contracts.trace.Trace as trace
 use Rattle.std.specs.contracts.result.Result as Result
-use Rattle.gqlcst_run.specs.contracts.devices.DeviceError as DeviceError
-use Rattle.gqlcst_run.specs.declared.trace.Trace.{Trace}
-use Rattle.gqlcst_run.specs.Devices.{Account, after, account_of}
+use Rattle.byte_devices.specs.contracts.devices.DeviceError as DeviceError
+use Rattle.byte_devices.specs.declared.trace.Trace.{Trace}
+use Rattle.byte_devices.specs.Devices.{Account, after, account_of}
 
 -- what `read` and `write` answer
 abbrev answer_row : RattleType

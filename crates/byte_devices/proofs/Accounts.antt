@@ -2,8 +2,8 @@
 use Rattle.std.proofs.Common.{◌≡◌, ℕ, zero, suc, ◌-◌, ◌<◌, ◌≤◌, inl, inr, List, [], ◌++◌, length, take, drop, refl, sym, ap, ◌∙◌, append_assoc, subst}
 use Rattle.std.proofs.lemmas.List.{take-append-drop, append-nil, take_rest}
 use Rattle.std.specs.Prelude.{◌≢◌, Result, Ok}
-use Rattle.gqlcst_run.specs.Devices.{Account, moved, stopped, failed, after}
-use Rattle.gqlcst_run.specs.Writing.{IsTaken, IsBroken}
+use Rattle.byte_devices.specs.Devices.{Account, moved, stopped, failed, after}
+use Rattle.byte_devices.specs.Writing.{IsTaken, IsBroken}
 
 -- nothing went through
 pub moved_nil : (a : Account) → moved a [] ≡ a

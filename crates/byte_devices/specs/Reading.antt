@@ -1,8 +1,8 @@
 -- How reading ends before the end.
 use Rattle.std.specs.Prelude.{◌≡◌}
-use Rattle.gqlcst_run.specs.Devices.{Account, failed}
-use Rattle.gqlcst_run.specs.declared.outcome.Fault.{Fault}
-use Rattle.gqlcst_run.specs.declared.outcome.Fault.TheVariants.{Read, Utf8, Memory, Write}
+use Rattle.byte_devices.specs.Devices.{Account, failed}
+use Rattle.byte_devices.specs.declared.fault.Fault.{Fault}
+use Rattle.byte_devices.specs.declared.fault.Fault.TheVariants.{Read, Utf8, Memory, Write}
 
 -- the reader failed, or memory was refused after a read
 abbrev pub EndsReading : Fault → Account → Account → Type 0

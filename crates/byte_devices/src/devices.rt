@@ -1,6 +1,6 @@
 // Where the program reads and where it writes.
 ghost use Rattle.std.specs.Prelude.{◌≡◌, ◌<◌, ◌≤◌, length, IfOk};
-ghost use Rattle.gqlcst_run.specs.Devices.{Account, after};
+ghost use Rattle.byte_devices.specs.Devices.{Account, after};
 
 /// That a device failed.
 #[derive(Clone, Copy, Debug, PartialEq, Eq)]

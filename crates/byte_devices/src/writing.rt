@@ -1,10 +1,10 @@
 // Writing to the end.
 ghost use Rattle.std.specs.Prelude.{◌≡◌, IfErr, OnOk};
-ghost use Rattle.gqlcst_run.specs.Devices.{moved};
-ghost use Rattle.gqlcst_run.specs.Writing.{EndsWriting};
+ghost use Rattle.byte_devices.specs.Devices.{moved};
+ghost use Rattle.byte_devices.specs.Writing.{EndsWriting};
 
 use crate::devices::Sink;
-use crate::outcome::Fault;
+use crate::fault::Fault;
 
 /// Writes all of the bytes, one call after the other.
 #[tactic(auto, using(crate::proofs::Accounts::taken_none, crate::proofs::Accounts::taken_call, crate::proofs::Accounts::taken_all, crate::proofs::Accounts::taken_failed, crate::proofs::Accounts::taken_stopped))]

@@ -18,7 +18,7 @@ impl Model for Trace {
 }
 
 impl Trace {
-    ghost use Rattle.gqlcst_run.specs.Devices.{nothing_moved, after, account_of};
+    ghost use Rattle.byte_devices.specs.Devices.{nothing_moved, after, account_of};
 
     /// The account of a device that was not called.
     pub fn new() -> Trace

@@ -1,0 +1,4 @@
+pub mod Devices
+pub mod Reading
+pub mod Writing
+pub mod Runs

@@ -1,0 +1,19 @@
+//! Where a program reads and where it writes, as values of types that contracts can speak of.
+//!
+//! A `Source` gives bytes and a `Sink` takes them. A contract names the bytes that went through a device, and how often it stopped or failed (`Account`).
+//! `read_to_end` and `write_all` go on to the end, and `Fault` says why a run has no outcome.
+#![tactic(auto)]
+
+mod devices;
+mod fault;
+mod reading;
+mod std_devices;
+mod trace;
+mod writing;
+
+pub use devices::{DeviceError, Sink, Source};
+pub use fault::Fault;
+pub use reading::read_to_end;
+pub use std_devices::{StdSink, StdSource};
+pub use trace::Trace;
+pub use writing::write_all;
