@@ -1,13 +1,10 @@
 -- Open documents, and their names.
 use Rattle.std.proofs.Common.{◌≡◌, ℕ, ◌<◌, List, length, get_or, slice_set, Option, Some, None, sym, ap, ◌∙◌, subst}
 use Rattle.std.specs.List.{Contains}
-use Rattle.std.specs.Prelude.{◌≢◌, string_bytes}
-use Rattle.std.specs.List.{All}
 use Rattle.std.specs.Option.{option_map}
 use Rattle.std.proofs.lemmas.List.{get_or-set_same, length-set}
 use Rattle.json.specs.Json.{Json}
 use Rattle.gqlls_run.specs.Contents.{Names, NamesNone}
-use Rattle.gqlls_run.specs.Parameters.{uri_in}
 use Rattle.gqlls_run.specs.declared.documents.Document.{Document}
 
 pub contains_written : {X : Type 0} (xs : List X) (i : ℕ) (x : X) → i < length xs → Contains (slice_set xs i x) x
@@ -23,13 +20,6 @@ found_once f r x found y e is so = (let same : Some (f x) ≡ Some y = sym (ap (
 -- what is missing isn't found
 pub not_found : {A B : Type 0} (f : A → B) (r : Option A) (found : Option B) (y : B) → option_map f r ≡ found → r ≡ None → found ≡ Some y → ⊥
 not_found f r found y e is so = (let same : None ≡ Some y = sym (ap (option_map f) is) ∙ (e ∙ so) in cc same)
-
-pub names_none : (params : Json) (uri : List ℕ) (documents : List Document) → uri_in params ≡ Some uri → All (λ document. string_bytes document.uri ≢ uri) documents → NamesNone params documents
-names_none params uri documents e none k d within named =
-    none k d within (let same : Some (string_bytes (get_or documents k d).uri) ≡ Some uri = sym named ∙ e in cc same)
-
-pub no_name : {A : Type 0} (f : A → List ℕ) (r : Option A) (params : Json) (documents : List Document) → option_map f r ≡ uri_in params → r ≡ None → NamesNone params documents
-no_name f r params documents e is k d within named = not_found f r (uri_in params) _ e is named
 
 pub none_named : (params : Json) (documents : List Document) (document : Document) → NamesNone params documents → Contains documents document → Names params document → ⊥
 none_named params documents document none there named = none there.0 document there.1 (subst (Names params) (sym there.2) named)
