@@ -5,7 +5,7 @@ kernel's go with the memory: it hands out and clears each page.
 
 hostile.py PROGRAM [N [SIZES [ROUNDS [GIGABYTES [TEXT]]]]]: SIZES of them (4), ROUNDS runs each, in turn (5), and more where they are short. A run counts only on
 a processor at rest (`calm.py`). A size that would take more than GIGABYTES (10), by what the size before took, is left out. TEXT is the name of the only text
-that is run. Ends with status 1 where twice a text takes more than 2.2 times the program's own seconds.
+that is run. Ends with status 1 where twice a text takes more than 2.2 times the program's own seconds, if the text takes a hundredth of a second or more.
 
 What a run takes in all is exact. Which part of it is the program's own the kernel finds out by samples, so a single short run says little of that: the
 seconds are those of the shortest run, divided as the sums of all runs are."""
@@ -36,6 +36,8 @@ TEXTS = {
 # For so many seconds runs of a text are made, and so many times one that does not count is made again.
 SHORT = 12
 TRIES = 3
+# The kernel's samples are 4 ms apart, so less than this is not compared.
+LEAST = 0.01
 # Texts that nest deeper than the default limit, and the limit with which they are read: 8 MB of stack hold it (bench/stack.py).
 DEPTH = 10_000
 NESTED_TEXTS = {
@@ -93,7 +95,7 @@ def main():
             command = [program, "check", *(["--recursion", str(DEPTH)] if name in NESTED_TEXTS else [])]
             took, memory = measured(processors, command, written(folder, make, sizes), int(rounds), most)
             times = [after / max(before, 0.001) for (before, _), (after, _) in zip(took, took[1:])]
-            slow |= any(ratio > 2.2 for ratio in times)
+            slow |= any(ratio > 2.2 and before >= LEAST for ratio, (before, _) in zip(times, took))
             cells = [f"{own:.3f} + {kernel:.3f}" for own, kernel in took] + [""] * (len(sizes) - len(took))
             ratios = ", ".join(f"{ratio:.2f}" for ratio in times)
             print(f"| {name} | " + " | ".join(cells) + f" | {ratios} | {memory:.2f} GB |", flush=True)
