@@ -2,7 +2,7 @@
 use Rattle.std.proofs.Common.{◌≡◌, ℕ, List, [], ◌∷◌, ◌++◌, Option, Some, None, sym, ap, ◌∙◌, refl, subst, append_assoc}
 use Rattle.std.proofs.lemmas.List.{append-nil}
 use Rattle.rpc_frames.specs.Frames.{BeginsWithFrame, HasNoFrame, NeverHasFrame}
-use Rattle.rpc_exchange.specs.Exchange.{Exchange, waits, replied, ended, passed_over, said_for}
+use Rattle.rpc_serving.specs.Exchange.{Exchange, waits, replied, ended, passed_over, said_for}
 
 still_begins : (bytes body rest more : List ℕ) → BeginsWithFrame bytes body rest → BeginsWithFrame (bytes ++ more) body (rest ++ more)
 still_begins bytes body rest more b = (b.0, b.1, ap (λ (v : List ℕ). v ++ more) b.2 ∙ append_assoc b.0 rest more)

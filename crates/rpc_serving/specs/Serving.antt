@@ -4,7 +4,7 @@ use Rattle.byte_devices.specs.Devices.{Account, moved, stopped, failed}
 use Rattle.byte_devices.specs.Writing.{IsBroken}
 use Rattle.byte_devices.specs.declared.fault.Fault.{Fault}
 use Rattle.byte_devices.specs.declared.fault.Fault.TheVariants.{Read, Utf8, Memory, Write}
-use Rattle.rpc_exchange.specs.Exchange.{Exchange}
+use Rattle.rpc_serving.specs.Exchange.{Exchange}
 
 -- The run ends with this status, after so many bytes: the notification `exit` asked for it, or the input ended. No more than 2 ^ 64 - 1 reads are made.
 abbrev pub EndsWith : Option ℕ → ℕ → ℕ → Account → Account → Type 0

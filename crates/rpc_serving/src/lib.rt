@@ -1,43 +1,12 @@
-//! A conversation by frames of JSON-RPC through a reader and a writer.
+//! Conversations by frames of JSON-RPC.
 //!
-//! `serve` reads what the client sends, takes a turn after each read, and writes what is said.
+//! `take_turn` gives each message that has come as a whole to a `Service`, and frames the replies. It has no devices. Whatever the client sends, a
+//! request has exactly one answer, with its id, and nothing but the message that asks for it ends the conversation. `serve` reads what the client
+//! sends through a reader, takes a turn after each read, and writes what is said.
 #![tactic(auto)]
 
-ghost use Rattle.std.specs.Prelude.{IfErr, IfOk};
-ghost use Rattle.rpc_serving.specs.Serving.{EndsServing, IsServed};
+mod exchange;
+mod serving;
 
-use byte_devices::{Fault, Sink, Source, write_all};
-use rpc_exchange::take_turn;
-use rpc_frames::FrameBuffer;
-use rpc_messages::Service;
-use std::alloc::Global;
-
-/// Reads messages, has a service reply to them, and writes the replies, until the notification `exit` ends the conversation or the input ends. It
-/// gives the exit status, which is 1 at the end of the input. It fails only when the reader or the writer fails, or when memory is refused.
-pub fn serve<S: Service, R: Source, W: Sink>(
-    alloc: Global,
-    service: &mut S,
-    reader: &mut R,
-    writer: &mut W,
-) -> Result<u8, Fault>
-    ensures ok { IfOk result (λ status. IsServed status (R.account reader.old) (R.account reader.new) (W.account writer.old) (W.account writer.new)) }
-    ensures err { IfErr result (λ fault. EndsServing fault (R.account reader.old) (R.account reader.new) (W.account writer.old) (W.account writer.new)) }
-{
-    let mut frames = FrameBuffer::new(alloc);
-    let mut buffer = [0u8; 65536];
-    for _ in 0..u64::MAX {
-        match reader.read(&mut buffer) {
-            Ok(0) => return Ok(1),
-            Ok(count) => {
-                frames.extend(&buffer[..count])?;
-                let turn = take_turn(alloc, service, &mut frames)?;
-                write_all(writer, turn.said.as_slice())?;
-                if let Some(status) = turn.status {
-                    return Ok(status);
-                }
-            }
-            Err(_) => return Err(Fault::Read),
-        }
-    }
-    Ok(1)
-}
+pub use exchange::{Turn, take_turn};
+pub use serving::serve;

@@ -1,9 +1,9 @@
 use Rattle.std.proofs.Common.{ℕ, List, ◌++◌, Some, None, take, refl, subst, inl, inr, arith}
 use Rattle.byte_devices.proofs.Accounts.{gave}
-use Rattle.rpc_exchange.specs.Exchange.{Exchange}
+use Rattle.rpc_serving.specs.Exchange.{Exchange}
 use Rattle.rpc_serving.proofs.Accounts.{at_end, broke, longer, wrote}
 use Rattle.rpc_serving.proofs.Conversations.{ends_so, goes_further, left_over, stops_so}
-use Rattle.rpc_serving.proofs.serve.Goals as goal
+use Rattle.rpc_serving.proofs.serving.serve.Goals as goal
 
 pub returns-in-Ok-eq0-clause-ok : goal.returns-in-Ok-eq0-clause-ok
 returns-in-Ok-eq0-clause-ok g c =

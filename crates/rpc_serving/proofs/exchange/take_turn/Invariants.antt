@@ -1,6 +1,6 @@
 use Rattle.std.proofs.Common.{length}
-use Rattle.rpc_exchange.proofs.Turns.{LeadsTo}
-use Rattle.rpc_exchange.proofs.take_turn.Given as goal
+use Rattle.rpc_serving.proofs.Turns.{LeadsTo}
+use Rattle.rpc_serving.proofs.exchange.take_turn.Given as goal
 
 abbrev pub invariant-loop-body : goal.invariant-loop-body
 invariant-loop-body g l = LeadsTo l.initial.frames l.said.items l.frames

@@ -3,9 +3,9 @@ use Rattle.rpc_frames.specs.Frames.{BeginsWithFrame, HasNoFrame, NeverHasFrame}
 use Rattle.rpc_frames.proofs.FrameLemmas.{shorter}
 use Rattle.rpc_messages.specs.Messages.{AsksForEnd}
 use Rattle.rpc_messages.specs.Replies.{EndsOnlyIf}
-use Rattle.rpc_exchange.specs.Exchange.{Exchange}
-use Rattle.rpc_exchange.proofs.Turns.{IsReplyTo, LeadsTo, begun, goes_on, finished, waiting, never_now, passes, some_left, one_less}
-use Rattle.rpc_exchange.proofs.take_turn.Goals as goal
+use Rattle.rpc_serving.specs.Exchange.{Exchange}
+use Rattle.rpc_serving.proofs.Turns.{IsReplyTo, LeadsTo, begun, goes_on, finished, waiting, never_now, passes, some_left, one_less}
+use Rattle.rpc_serving.proofs.exchange.take_turn.Goals as goal
 
 pub loop-body-init : goal.loop-body-init
 loop-body-init g c = subst (λ (said : List ℕ). LeadsTo c.args.frames.now said c.args.frames.now) (sym c.new-said.ensures.items) (begun c.args.frames.now)

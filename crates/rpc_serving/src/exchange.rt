@@ -1,12 +1,7 @@
-//! A conversation by frames of JSON-RPC: from the bytes that a client has sent to the bytes that are said to it.
-//!
-//! `take_turn` gives each message that has come as a whole to a `Service`, and frames the replies. It has no devices. Whatever the client sends, a
-//! request has exactly one answer, with its id, and nothing but the message that asks for it ends the conversation.
-#![tactic(auto)]
-
+// From the bytes that a client has sent to the bytes that are said to it, with no devices.
 ghost use Rattle.std.specs.Prelude.{◌≡◌, ◌≢◌, ◌++◌, IfOk, OnOk, false};
 ghost use Rattle.rpc_frames.specs.declared.FrameError.TheVariants.{Memory};
-ghost use Rattle.rpc_exchange.specs.Exchange.{Exchange, said_for, status_of};
+ghost use Rattle.rpc_serving.specs.Exchange.{Exchange, said_for, status_of};
 
 use rpc_frames::{FrameBuffer, FrameError, put_frame};
 use rpc_messages::{Reply, Service, handle};

@@ -2,7 +2,7 @@ use Rattle.std.proofs.Common.{◌≡◌, ℕ, ◌≤◌, List, length}
 use Rattle.byte_devices.specs.Devices.{moved}
 use Rattle.rpc_frames.specs.Frames.{HasNoFrame}
 use Rattle.rpc_serving.proofs.Conversations.{GoesOn}
-use Rattle.rpc_serving.proofs.serve.Given as goal
+use Rattle.rpc_serving.proofs.serving.serve.Given as goal
 
 abbrev pub invariant-loop : goal.invariant-loop
 invariant-loop g l =

@@ -8,7 +8,7 @@ use Rattle.rpc_messages.specs.declared.reply.Reply.{Reply}
 use Rattle.rpc_messages.specs.declared.reply.Reply.TheVariants.{Nothing, Answer, Notice, Exit}
 use Rattle.rpc_messages.specs.Messages.{Asks, AsksForEnd}
 use Rattle.rpc_messages.specs.Replies.{EndsOnlyIf, Replies}
-use Rattle.rpc_exchange.specs.Exchange.{Exchange, waits, replied, ended, passed_over, said_for, status_of}
+use Rattle.rpc_serving.specs.Exchange.{Exchange, waits, replied, ended, passed_over, said_for, status_of}
 
 -- What was said for a beginning of the bytes: a conversation about the others goes on from there.
 abbrev pub LeadsTo : List ℕ → List ℕ → List ℕ → Type 0
