@@ -1,38 +1,66 @@
 // Notices of errors, as the Language Server Protocol has them.
+use crate::messages::expect;
 use apollo_lexer::Error;
 use diagnostic_messages::{Places, publication, withdrawal};
 use line_index::{Position, PositionEncoding};
+use std::alloc::{AllocError, Global};
+use std::process::Abort;
+use std::slice;
 use std::test::Fail;
 
 // The first character takes 4 bytes, and 2 units of UTF-16.
 const TEXT: &str = "\u{1F600}b\nc";
 
+// The notice of one error.
+fn one_error(alloc: Global) -> Result<Vec<u8>, AllocError> {
+    let places = Places::new(alloc, TEXT, PositionEncoding::Utf16)?;
+    let error = Error::from_static(alloc, "no", "b", 4)?;
+    publication(alloc, "a", Some(3), &places, slice::from_ref(&error))
+}
+
 #[test]
 fn publishes_errors(rt: HostRuntime) -> Result<(), Fail> {
-    let alloc = rt.alloc();
-    let places = Places::new(alloc, TEXT, PositionEncoding::Utf16)?;
-    let errors = [Error::from_static(alloc, "no", "b", 4)?];
-    let body = publication(alloc, "a", Some(3), &places, &errors)?;
     let wanted =
         r#"{"jsonrpc":"2.0","method":"textDocument/publishDiagnostics","params":{"uri":"a","version":3,"diagnostics":[{"range":{"start":{"line":0,"character":2},"end":{"line":0,"character":3}},"severity":1,"source":"gqlls","message":"no"}]}}"#;
-    assert!(rt; body.as_slice() == wanted.as_bytes());
+    expect(&rt, one_error(rt.alloc())?, wanted);
+    Ok(())
+}
+
+#[test]
+fn takes_errors_back(rt: HostRuntime) -> Result<(), Fail> {
     let wanted =
         r#"{"jsonrpc":"2.0","method":"textDocument/publishDiagnostics","params":{"uri":"a","diagnostics":[]}}"#;
-    assert!(rt; withdrawal(alloc, "a")?.as_slice() == wanted.as_bytes());
+    expect(&rt, withdrawal(rt.alloc(), "a")?, wanted);
     Ok(())
+}
+
+#[test]
+fn finds_an_offset(rt: HostRuntime) -> Result<(), Fail> {
+    let places = Places::new(rt.alloc(), TEXT, PositionEncoding::Utf8)?;
+    assert!(rt; places.offset(Position { line: 1, column: 0 }) == 6);
+    Ok(())
+}
+
+// So many errors at the end of the text.
+fn errors_at_the_end(alloc: Global, count: u8) -> Result<Vec<Error>, Fail> {
+    let mut errors = Vec::new(alloc);
+    for _ in 0..count {
+        errors.push(Error::eof_from_static("end", 7))?;
+    }
+    Ok(errors)
+}
+
+fn expect_end(rt: &impl Abort, body: Vec<u8>, wanted: &str) {
+    assert!(rt; body.as_slice().ends_with(wanted.as_bytes()));
 }
 
 #[test]
 fn says_how_many_more(rt: HostRuntime) -> Result<(), Fail> {
     let alloc = rt.alloc();
+    let errors = errors_at_the_end(alloc, 103)?;
     let places = Places::new(alloc, TEXT, PositionEncoding::Utf8)?;
-    assert_eq!(rt; places.offset(Position { line: 1, column: 0 }), 6);
-    let mut errors = Vec::new(alloc);
-    for _ in 0..103u8 {
-        errors.push(Error::eof_from_static("end", 7))?;
-    }
     let body = publication(alloc, "a", None, &places, errors.as_slice())?;
-    let wanted = br#""character":0}},"severity":1,"source":"gqlls","message":"3 more errors"}]}}"#;
-    assert!(rt; body.as_slice().ends_with(wanted.as_slice()));
+    let wanted = r#""character":0}},"severity":1,"source":"gqlls","message":"3 more errors"}]}}"#;
+    expect_end(&rt, body, wanted);
     Ok(())
 }

@@ -1,7 +1,8 @@
 // Positions in a text, and changes of an open document.
 use line_index::{LineIndex, Position, PositionEncoding};
 use open_document::{Change, OpenDocument, PositionRange};
-use std::alloc::AllocError;
+use std::alloc::{AllocError, Global};
+use std::process::Abort;
 
 // Lines that end in LF, in CR LF, in CR and with the text. The characters of the second take 2, 4 and 1 bytes, and 1, 2 and 1 units of UTF-16.
 const TEXT: &str = "a\n\u{e9}\u{1F600}b\r\n\rend";
@@ -10,52 +11,74 @@ const UTF8: PositionEncoding = PositionEncoding::Utf8;
 
 const UTF16: PositionEncoding = PositionEncoding::Utf16;
 
-fn at(line: usize, column: usize) -> Position {
-    Position { line, column }
+// An encoding, the line and the column of a position, and an offset.
+type Row = (PositionEncoding, usize, usize, usize);
+
+const POSITIONS: [Row; 7] = [
+    (UTF16, 0, 1, 1),
+    (UTF16, 1, 1, 4),
+    (UTF16, 1, 3, 8),
+    (UTF16, 1, 4, 9),
+    (UTF16, 2, 0, 11),
+    (UTF16, 3, 3, 15),
+    (UTF8, 1, 6, 8),
+];
+
+// Beyond a line, beyond the last line, and inside a character.
+const OTHER_POSITIONS: [Row; 6] = [
+    (UTF16, 1, 99, 9),
+    (UTF16, 2, 5, 11),
+    (UTF16, 9, 0, 15),
+    (UTF16, 1, 2, 4),
+    (UTF8, 1, 1, 2),
+    (UTF8, 1, 5, 4),
+];
+
+fn check_position(rt: &impl Abort, alloc: Global, row: Row) -> Result<(), AllocError> {
+    let (encoding, line, column, offset) = row;
+    let lines = LineIndex::new(alloc, TEXT)?;
+    assert!(rt; offset <= TEXT.len());
+    assert!(rt; lines.position(encoding, offset) == Position { line, column });
+    Ok(())
+}
+
+fn check_offset(rt: &impl Abort, lines: &LineIndex<'_>, row: Row) {
+    let (encoding, line, column, offset) = row;
+    assert!(rt; lines.offset(encoding, Position { line, column }) == offset);
 }
 
 #[test]
 fn finds_positions(rt: HostRuntime) -> Result<(), AllocError> {
-    let lines = LineIndex::new(rt.alloc(), TEXT)?;
-    for (encoding, offset, line, column) in [
-        (UTF16, 1, 0, 1),
-        (UTF16, 4, 1, 1),
-        (UTF16, 8, 1, 3),
-        (UTF16, 9, 1, 4),
-        (UTF16, 11, 2, 0),
-        (UTF16, 15, 3, 3),
-        (UTF8, 8, 1, 6),
-    ] {
-        assert!(rt; offset <= TEXT.len());
-        assert_eq!(rt; lines.position(encoding, offset), at(line, column));
-        assert_eq!(rt; lines.offset(encoding, at(line, column)), offset);
+    for row in POSITIONS {
+        check_position(&rt, rt.alloc(), row)?;
     }
     Ok(())
 }
 
 #[test]
-fn finds_offsets_of_other_positions(rt: HostRuntime) -> Result<(), AllocError> {
+fn finds_offsets(rt: HostRuntime) -> Result<(), AllocError> {
     let lines = LineIndex::new(rt.alloc(), TEXT)?;
-    // beyond a line, beyond the last line, and inside a character
-    for (encoding, line, column, offset) in [
-        (UTF16, 1, 99, 9),
-        (UTF16, 2, 5, 11),
-        (UTF16, 9, 0, 15),
-        (UTF16, 1, 2, 4),
-        (UTF8, 1, 1, 2),
-        (UTF8, 1, 5, 4),
-    ] {
-        assert_eq!(rt; lines.offset(encoding, at(line, column)), offset);
+    for row in POSITIONS {
+        check_offset(&rt, &lines, row);
+    }
+    for row in OTHER_POSITIONS {
+        check_offset(&rt, &lines, row);
     }
     Ok(())
+}
+
+// A line of a hundred times two characters.
+fn long_line(alloc: Global) -> Result<String, AllocError> {
+    let mut text = String::new(alloc);
+    for _ in 0..100u8 {
+        text.push_str("\u{e9}\u{1F600}")?;
+    }
+    Ok(text)
 }
 
 #[test]
 fn finds_columns_of_a_long_line(rt: HostRuntime) -> Result<(), AllocError> {
-    let mut text = String::new(rt.alloc());
-    for _ in 0..100u8 {
-        text.push_str("\u{e9}\u{1F600}")?;
-    }
+    let text = long_line(rt.alloc())?;
     let lines = LineIndex::new(rt.alloc(), text.as_str())?;
     for (column, offset) in [
         (0, 0),
@@ -65,7 +88,7 @@ fn finds_columns_of_a_long_line(rt: HostRuntime) -> Result<(), AllocError> {
         (299, 596),
         (300, 600),
     ] {
-        assert_eq!(rt; lines.offset(UTF16, at(0, column)), offset);
+        check_offset(&rt, &lines, (UTF16, 0, column, offset));
     }
     Ok(())
 }
@@ -107,7 +130,7 @@ fn changes_texts(rt: HostRuntime) -> Result<(), AllocError> {
     let mut document = OpenDocument::new(rt.alloc(), UTF16, TEXT)?;
     for place in 0..CHANGES.len() {
         document.change(rt.alloc(), &CHANGES[place])?;
-        assert_eq!(rt; document.text(), CHANGED[place]);
+        assert!(rt; document.text() == CHANGED[place]);
     }
     Ok(())
 }
@@ -116,7 +139,7 @@ fn changes_texts(rt: HostRuntime) -> Result<(), AllocError> {
 fn changes_texts_at_once(rt: HostRuntime) -> Result<(), AllocError> {
     let mut document = OpenDocument::new(rt.alloc(), UTF16, TEXT)?;
     document.change_all(rt.alloc(), &CHANGES[..3])?;
-    assert_eq!(rt; document.text(), "ab-c\rend");
-    assert_eq!(rt; document.encoding(), UTF16);
+    assert!(rt; document.text() == "ab-c\rend");
+    assert!(rt; document.encoding() == UTF16);
     Ok(())
 }

@@ -41,7 +41,7 @@ fn answer_to(alloc: Global, body: &str) -> Result<Vec<u8>, AllocError> {
     }
 }
 
-fn expect(rt: &impl Abort, body: Vec<u8>, wanted: &str) {
+pub(crate) fn expect(rt: &impl Abort, body: Vec<u8>, wanted: &str) {
     assert!(rt; body.as_slice() == wanted.as_bytes());
 }
 
