@@ -53,8 +53,7 @@ fn reply<S: Service>(
     ensures replies { IfOk result (Replies (asked (value_view message.now))) }
     ensures ends { IfOk result (EndsOnlyIf (IsExit (value_view message.now))) }
 {
-    let nothing = Value::Null;
-    let params = message.get("params").unwrap_or(&nothing);
+    let params = message.get("params").unwrap_or(&Value::Null);
     match (message.get("id"), message.get("method")) {
         (Some(id), Some(method)) => {
             let method = method.as_str().unwrap_or("");
