@@ -6,7 +6,7 @@ use std::process::Abort;
 // A frame with another field and another case, and one as `rpc_frames` writes it.
 const TWO: &str = "content-length:  5\r\nContent-Type: x\r\n\r\nhelloContent-Length: 2\r\n\r\n{}";
 
-// Takes the next body, if it is there, and puts it and a space behind the others.
+// Takes the next body, if it is there, and puts it and a space after the others.
 fn take_body(
     alloc: Global,
     buffer: &mut FrameBuffer,
