@@ -1,10 +1,12 @@
-// The bodies of answers of the protocol.
+// The bodies of answers of the protocol, and what is in them.
 mod names;
 mod parts;
+mod ranges;
 mod symbols;
 mod tokens;
 
-pub use names::{answer_definition, answer_hover, answer_references};
-pub use parts::{answer_folds, answer_selections};
+pub use names::{answer_hover, push_definition, push_references};
+pub use parts::{push_folds, push_selections};
+pub use ranges::push_range;
 pub use symbols::answer_symbols;
 pub use tokens::answer_tokens;

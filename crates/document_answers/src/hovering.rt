@@ -1,9 +1,9 @@
 // What is said of a name.
-use crate::labels::{child_of, identifier_at, is_one_of, name_of};
+use crate::labels::{identifier_at, is_one_of, name_of};
 use crate::names::{NameKind, defines_type, meaning_of, named_by};
 use crate::span::{Span, span_of};
-use apollo_cst_core::CstNode;
-use apollo_cst_value::Description;
+use apollo_cst_core::child;
+use apollo_cst_value::{Description, StringValue};
 use apollo_tree::{SyntaxKind, SyntaxNode, SyntaxToken};
 use std::alloc::{AllocError, Global};
 
@@ -84,21 +84,21 @@ pub(crate) fn heading_of<'t>(source: &'t str, node: SyntaxNode<'_>) -> &'t str {
             span.end = part.start;
         }
     }
-    match source.get(span.start..span.end) {
-        Some(text) => text.trim(),
-        None => "",
-    }
+    span.text(source).unwrap_or("").trim()
+}
+
+// The string of a definition's description.
+fn described<'t>(node: SyntaxNode<'t>) -> Option<StringValue<'t>> {
+    let description: Description<'t> = child(&node)?;
+    description.string_value()
 }
 
 /// The value of a definition's description, empty where it has none. It fails only where memory is refused.
 pub(crate) fn description_of(alloc: Global, node: SyntaxNode<'_>) -> Result<String, AllocError> {
-    if let Some(child) = child_of(node, &[SyntaxKind::DESCRIPTION])
-        && let Some(description) = Description::cast(child)
-        && let Some(value) = description.string_value()
-    {
-        return value.to_string_in(alloc);
+    match described(node) {
+        Some(value) => value.to_string_in(alloc),
+        None => Ok(String::new(alloc)),
     }
-    Ok(String::new(alloc))
 }
 
 /// What the document says of the name at a place, or that ends there: of a type or a directive by its definition, and of a field, an argument or

@@ -1,7 +1,8 @@
 //! What an editor asks of a tree of a GraphQL document: an outline, folds, the tokens for colours, the names in it.
 //!
 //! Each answer is made from a tree; a parser is not needed here. A place is a byte offset in the tree's text, and a `Span` has two of them. The
-//! functions whose names begin with `answer` give the body of the answer to a request of the Language Server Protocol, with lines and columns.
+//! functions whose names begin with `answer` give the body of the answer to a request of the Language Server Protocol, with lines and columns; those
+//! whose names begin with `push` add the result of a request to the pieces of which its answer is made.
 #![tactic(auto)]
 
 mod answers;
@@ -16,14 +17,14 @@ mod span;
 mod usage;
 
 pub use answers::{
-    answer_definition, answer_folds, answer_hover, answer_references, answer_selections,
-    answer_symbols, answer_tokens,
+    answer_hover, answer_symbols, answer_tokens, push_definition, push_folds, push_range,
+    push_references, push_selections,
 };
 pub use coloring::{SemanticToken, TOKEN_TYPES, TokenType, semantic_tokens};
-pub use folding::{Fold, folds};
+pub use folding::fold_of;
 pub use hovering::{Hover, hover_at};
 pub use names::{Meaning, NameKind, meaning_of};
-pub use outline::{Symbol, SymbolKind, symbols};
+pub use outline::{Symbol, SymbolKind, symbol_of};
 pub use selecting::selection;
 pub use span::{Span, span_of};
 pub use usage::{definition, references};

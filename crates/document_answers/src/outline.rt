@@ -1,8 +1,7 @@
-// The outline of a document.
+// What is in the outline of a document.
 use crate::labels::{child_of, found_in, name_of, type_of};
 use crate::span::{Span, span_of};
 use apollo_tree::{SyntaxKind, SyntaxNode, SyntaxToken};
-use std::alloc::{AllocError, Global};
 
 /// What a part of a document is, with the protocol's number.
 #[derive(Clone, Copy)]
@@ -31,8 +30,6 @@ pub enum SymbolKind {
 /// A definition, or a field, a value, an argument or a variable in one.
 #[derive(Clone, Copy)]
 pub struct Symbol<'t> {
-    /// How many other symbols it is in.
-    pub depth: usize,
     pub kind: SymbolKind,
     pub name: &'t str,
     /// The type of a field, an argument or a variable, and the condition of a fragment; else empty.
@@ -104,17 +101,6 @@ fn label_of<'t>(node: SyntaxNode<'t>) -> (&'t str, Span) {
     }
 }
 
-// Leaves the symbols that end before a place, and says how many are left: those that it is in. The ends that are open never rise.
-fn depth_at(open: &mut Vec<usize>, place: usize) -> usize {
-    while let Some(end) = open.last().copied() {
-        if place < end {
-            break;
-        }
-        open.pop();
-    }
-    open.len()
-}
-
 // The text of the type that a node gives; empty where it gives none.
 fn detail_of<'t>(node: SyntaxNode<'t>) -> &'t str {
     match type_of(node) {
@@ -123,26 +109,15 @@ fn detail_of<'t>(node: SyntaxNode<'t>) -> &'t str {
     }
 }
 
-/// The symbols of a document, in the order of the text: each comes before those in it. It fails only where memory is refused.
-pub fn symbols<'t>(alloc: Global, root: SyntaxNode<'t>) -> Result<Vec<Symbol<'t>>, AllocError> {
-    let mut found = Vec::new(alloc);
-    let mut open = Vec::new(alloc);
-    for node in root.descendants() {
-        let Some(kind) = found_in(&SYMBOL_KINDS, node.kind()) else {
-            continue;
-        };
-        let span = span_of(node.text_range());
-        let depth = depth_at(&mut open, span.start);
-        let (name, name_span) = label_of(node);
-        found.push(Symbol {
-            depth,
-            kind,
-            name,
-            detail: detail_of(node),
-            span,
-            name_span,
-        })?;
-        open.push(span.end)?;
-    }
-    Ok(found)
+/// The symbol that a node is. `None` where it is none.
+pub fn symbol_of<'t>(node: SyntaxNode<'t>) -> Option<Symbol<'t>> {
+    let kind = found_in(&SYMBOL_KINDS, node.kind())?;
+    let (name, name_span) = label_of(node);
+    Some(Symbol {
+        kind,
+        name,
+        detail: detail_of(node),
+        span: span_of(node.text_range()),
+        name_span,
+    })
 }

@@ -69,7 +69,7 @@ fn push_tokens(pieces: &mut Vec<Piece<'_>>) -> Result<(), AllocError> {
         Piece::Array,
     ])?;
     for name in &TOKEN_TYPES {
-        pieces.push(Piece::Text(*name))?;
+        pieces.extend_from_slice(&[Piece::Text(*name)])?;
     }
     pieces.extend_from_slice(&[Piece::EndArray, Piece::EndObject, Piece::EndObject])
 }
@@ -95,8 +95,8 @@ pub(crate) fn answer_initialize(
         Piece::Key("capabilities"),
         Piece::Object,
         Piece::Key("positionEncoding"),
-        Piece::Text(encoding_name(encoding)),
     ])?;
+    pieces.extend_from_slice(&[Piece::Text(encoding_name(encoding))])?;
     for name in &SERVED {
         pieces.extend_from_slice(&[Piece::Key(*name), Piece::Flag(true)])?;
     }

@@ -1,15 +1,9 @@
 // What may come next.
-ghost use Rattle.std.specs.Prelude.{IfOk};
-ghost use Rattle.json.specs.Tree.{HasNumbers};
-ghost use Rattle.json.specs.Value.{value_view};
-ghost use Rattle.rpc_messages.specs.Messages.{IsAnswer, id_token};
-
 use crate::parsing::parse;
 use apollo_parser::{DocumentRoot, SyntaxKind, SyntaxNode, SyntaxToken, SyntaxTree};
 use diagnostic_messages::Places;
 use document_answers::{NameKind, meaning_of, span_of};
-use json::Value;
-use rpc_messages::{Piece, answer};
+use rpc_messages::Piece;
 use std::alloc::{AllocError, Global};
 
 // A word that may come next, and the protocol's number of what it is.
@@ -81,17 +75,6 @@ fn leaf_at<'t>(tree: &'t SyntaxTree<DocumentRoot>, offset: usize) -> Option<Synt
     None
 }
 
-// The tree of a text with words after it.
-fn parse_with(
-    alloc: Global,
-    front: &str,
-    words: &str,
-) -> Result<SyntaxTree<DocumentRoot>, AllocError> {
-    let mut text = String::from_str(alloc, front)?;
-    text.push_str(words)?;
-    parse(alloc, text.as_str())
-}
-
 // A text that begins with a keyword, and shows how it goes on where the parser looks further.
 fn continued(kind: SyntaxKind, word: &'static str) -> &'static str {
     if kind.is(SyntaxKind::extend_KW) {
@@ -103,11 +86,38 @@ fn continued(kind: SyntaxKind, word: &'static str) -> &'static str {
     }
 }
 
+// What the grammar takes a word for.
+#[derive(Clone, Copy)]
+struct Taken {
+    is_keyword: bool,
+    // what it is the name of, where that is defined elsewhere
+    names: Option<NameKind>,
+}
+
+// What the leaf at a place of a tree is taken for.
+fn taken_at(tree: &SyntaxTree<DocumentRoot>, offset: usize) -> Option<Taken> {
+    let leaf = leaf_at(tree, offset)?;
+    let names = match meaning_of(leaf) {
+        Some(meaning) if !meaning.defines => Some(meaning.kind),
+        _ => None,
+    };
+    Some(Taken {
+        is_keyword: leaf.kind().keyword().is_some(),
+        names,
+    })
+}
+
+// What the grammar takes the first of some words for, after a text; `None` where it fits nowhere.
+fn taken_after(alloc: Global, front: &str, words: &str) -> Result<Option<Taken>, AllocError> {
+    let text = format!(in alloc; "{front}{words}")?;
+    let tree = parse(alloc, text.as_str())?;
+    Ok(taken_at(&tree, front.len()))
+}
+
 // Whether the grammar takes a keyword after a text, which the words begin with.
 fn is_keyword_after(alloc: Global, front: &str, words: &str) -> Result<bool, AllocError> {
-    let tree = parse_with(alloc, front, words)?;
-    match leaf_at(&tree, front.len()) {
-        Some(leaf) => Ok(leaf.kind().keyword().is_some()),
+    match taken_after(alloc, front, words)? {
+        Some(taken) => Ok(taken.is_keyword),
         None => Ok(false),
     }
 }
@@ -134,14 +144,10 @@ fn push_keywords(
 
 // What a name after a text would stand for.
 fn name_after(alloc: Global, front: &str) -> Result<Option<NameKind>, AllocError> {
-    let tree = parse_with(alloc, front, "x")?;
-    let Some(leaf) = leaf_at(&tree, front.len()) else {
-        return Ok(None);
-    };
-    Ok(match meaning_of(leaf) {
-        Some(meaning) if !meaning.defines => Some(meaning.kind),
-        _ => None,
-    })
+    match taken_after(alloc, front, "x")? {
+        Some(taken) => Ok(taken.names),
+        None => Ok(None),
+    }
 }
 
 // The protocol's number of what a name stands for.
@@ -209,6 +215,12 @@ fn push_built_in<'t>(kind: NameKind, found: &mut Vec<Candidate<'t>>) -> Result<(
     }
 }
 
+// The end of a text from where its last definition begins, as its parse has it.
+fn last_front(alloc: Global, before: &str) -> Result<Option<&str>, AllocError> {
+    let tree = parse(alloc, before)?;
+    Ok(last_definition(before, tree.root()))
+}
+
 // The words that may come after a front of a text: the keywords that the grammar takes, and where a name is expected those that the document
 // defines and that are built in. There are none after an error of the same definition.
 fn completions<'t>(
@@ -217,8 +229,7 @@ fn completions<'t>(
     root: SyntaxNode<'t>,
 ) -> Result<Vec<Candidate<'t>>, AllocError> {
     let mut found = Vec::new(alloc);
-    let tree = parse(alloc, before)?;
-    let Some(front) = last_definition(before, tree.root()) else {
+    let Some(front) = last_front(alloc, before)? else {
         return Ok(found);
     };
     push_keywords(alloc, front, &mut found)?;
@@ -229,51 +240,48 @@ fn completions<'t>(
     Ok(found)
 }
 
-// Adds words, each with the range that it replaces.
-fn push_candidates<'t>(
-    pieces: &mut Vec<Piece<'t>>,
-    range: &[Piece<'t>],
-    found: &[Candidate<'t>],
+// Adds a word, with the range that it replaces.
+fn push_candidate<'p>(
+    pieces: &mut Vec<Piece<'p>>,
+    range: &[Piece<'p>],
+    candidate: &Candidate<'p>,
 ) -> Result<(), AllocError> {
-    for candidate in found {
-        pieces.extend_from_slice(&[
-            Piece::Object,
-            Piece::Key("label"),
-            Piece::Text(candidate.label),
-            Piece::Key("kind"),
-            Piece::Count(candidate.number),
-            Piece::Key("textEdit"),
-            Piece::Object,
-            Piece::Key("range"),
-        ])?;
-        pieces.extend_from_slice(range)?;
-        pieces.extend_from_slice(&[
-            Piece::Key("newText"),
-            Piece::Text(candidate.label),
-            Piece::EndObject,
-            Piece::EndObject,
-        ])?;
-    }
-    Ok(())
+    pieces.extend_from_slice(&[
+        Piece::Object,
+        Piece::Key("label"),
+        Piece::Text(candidate.label),
+        Piece::Key("kind"),
+        Piece::Count(candidate.number),
+    ])?;
+    pieces.extend_from_slice(&[Piece::Key("textEdit"), Piece::Object, Piece::Key("range")])?;
+    pieces.extend_from_slice(range)?;
+    pieces.extend_from_slice(&[Piece::Key("newText"), Piece::Text(candidate.label)])?;
+    pieces.extend_from_slice(&[Piece::EndObject, Piece::EndObject])
 }
 
-/// The answer to completion at a byte offset: the words that may be there instead of the one that ends there.
-pub(crate) fn answer_completion(
+// Adds a list of words, each with the range that it replaces.
+fn push_candidates<'p>(
+    pieces: &mut Vec<Piece<'p>>,
+    range: &[Piece<'p>],
+    found: &[Candidate<'p>],
+) -> Result<(), AllocError> {
+    pieces.extend_from_slice(&[Piece::Array])?;
+    for candidate in found {
+        push_candidate(pieces, range, candidate)?;
+    }
+    pieces.extend_from_slice(&[Piece::EndArray])
+}
+
+/// Adds the result of completion at a byte offset: the words that may be there instead of the one that ends there.
+pub(crate) fn push_completions<'p>(
     alloc: Global,
-    id: &Value<'_>,
-    root: SyntaxNode<'_>,
+    pieces: &mut Vec<Piece<'p>>,
+    root: SyntaxNode<'p>,
     places: &Places<'_>,
     offset: usize,
-) -> Result<Vec<u8>, AllocError>
-    requires { HasNumbers (value_view id.now) }
-    ensures { IfOk result (λ body. IsAnswer (id_token (value_view id.now)) body.items) }
-{
+) -> Result<(), AllocError> {
     let before = front_of(places.text, offset);
     let found = completions(alloc, before, root)?;
     let range = places.range(before.len(), offset);
-    let mut pieces = Vec::new(alloc);
-    pieces.extend_from_slice(&[Piece::Key("result"), Piece::Array])?;
-    push_candidates(&mut pieces, &range, found.as_slice())?;
-    pieces.push(Piece::EndArray)?;
-    answer(alloc, id, pieces.as_slice())
+    push_candidates(pieces, &range, found.as_slice())
 }

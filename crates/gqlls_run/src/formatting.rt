@@ -4,81 +4,43 @@ ghost use Rattle.json.specs.Tree.{HasNumbers};
 ghost use Rattle.json.specs.Value.{value_view};
 ghost use Rattle.rpc_messages.specs.Messages.{IsAnswer, id_token};
 
-use crate::layout::{format_part, format_whole};
-use apollo_parser::SyntaxNode;
+use crate::layout::Change;
 use diagnostic_messages::Places;
-use document_answers::Span;
+use document_answers::push_range;
 use json::Value;
 use rpc_messages::{Piece, answer};
 use std::alloc::{AllocError, Global};
 
-// The answer that puts a text in the place of a part.
-fn answer_change(
-    alloc: Global,
-    id: &Value<'_>,
+// Adds a list that has the change, unless it changes nothing.
+fn push_change<'p>(
+    pieces: &mut Vec<Piece<'p>>,
     places: &Places<'_>,
-    span: Span,
-    text: &str,
-) -> Result<Vec<u8>, AllocError>
-    requires { HasNumbers (value_view id.now) }
-    ensures { IfOk result (λ body. IsAnswer (id_token (value_view id.now)) body.items) }
-{
-    let mut pieces = Vec::new(alloc);
-    pieces.extend_from_slice(&[
-        Piece::Key("result"),
-        Piece::Array,
-        Piece::Object,
-        Piece::Key("range"),
-    ])?;
-    pieces.extend_from_slice(&places.range(span.start, span.end))?;
-    pieces.extend_from_slice(&[
-        Piece::Key("newText"),
-        Piece::Text(text),
-        Piece::EndObject,
-        Piece::EndArray,
-    ])?;
-    answer(alloc, id, pieces.as_slice())
+    change: &'p Change,
+) -> Result<(), AllocError> {
+    if change.leaves(places.text) {
+        return pieces.extend_from_slice(&[Piece::Array, Piece::EndArray]);
+    }
+    pieces.extend_from_slice(&[Piece::Array, Piece::Object])?;
+    push_range(pieces, places, "range", change.span)?;
+    pieces.extend_from_slice(&[Piece::Key("newText"), Piece::Text(change.text.as_str())])?;
+    pieces.extend_from_slice(&[Piece::EndObject, Piece::EndArray])
 }
 
-/// The answer to formatting: the whole text anew, nothing where it has this layout, and null where it has errors.
-pub(crate) fn answer_formatting(
+/// The answer to a request for a layout: the change, no change where the text has the layout, and null where there is none.
+pub(crate) fn answer_layout(
     alloc: Global,
     id: &Value<'_>,
     places: &Places<'_>,
+    change: &Option<Change>,
 ) -> Result<Vec<u8>, AllocError>
     requires { HasNumbers (value_view id.now) }
     ensures { IfOk result (λ body. IsAnswer (id_token (value_view id.now)) body.items) }
 {
-    let Some(formatted) = format_whole(alloc, places.text)? else {
+    let Some(change) = change else {
         return answer(alloc, id, &[Piece::Key("result"), Piece::Null]);
     };
-    if formatted.as_str() == places.text {
-        return answer(
-            alloc,
-            id,
-            &[Piece::Key("result"), Piece::Array, Piece::EndArray],
-        );
-    }
-    let whole = Span {
-        start: 0,
-        end: places.text.len(),
-    };
-    answer_change(alloc, id, places, whole, formatted.as_str())
-}
-
-/// The answer to rangeFormatting: the definitions in a part of the text anew, and null where there are none or where they have errors.
-pub(crate) fn answer_range_formatting(
-    alloc: Global,
-    id: &Value<'_>,
-    root: SyntaxNode<'_>,
-    places: &Places<'_>,
-    within: Span,
-) -> Result<Vec<u8>, AllocError>
-    requires { HasNumbers (value_view id.now) }
-    ensures { IfOk result (λ body. IsAnswer (id_token (value_view id.now)) body.items) }
-{
-    match format_part(alloc, places.text, root, within)? {
-        Some(change) => answer_change(alloc, id, places, change.span, change.text.as_str()),
-        None => answer(alloc, id, &[Piece::Key("result"), Piece::Null]),
-    }
+    let mut pieces = Vec::new(alloc);
+    pieces.extend_from_slice(&[Piece::Key("result")])?;
+    push_change(&mut pieces, places, change)?;
+    answer(alloc, id, pieces.as_slice())
 }

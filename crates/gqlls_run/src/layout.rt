@@ -16,8 +16,15 @@ pub(crate) struct Change {
     pub text: String,
 }
 
-/// The whole document with the layout of `formatter`; `None` where it has errors. It fails only where memory is refused.
-pub(crate) fn format_whole(alloc: Global, source: &str) -> Result<Option<String>, AllocError>
+impl Change {
+    /// Whether a text is the same after it.
+    pub(crate) fn leaves(&self, source: &str) -> bool {
+        source.get(self.span.start..self.span.end) == Some(self.text.as_str())
+    }
+}
+
+// A document with the layout of `formatter`; `None` where it has errors.
+fn formatted(alloc: Global, source: &str) -> Result<Option<String>, AllocError>
     ensures { IfOk result (λ r. IfSome r (λ text. IsFormatted source.now 500 usize_max (string_bytes text))) }
 {
     match format(alloc, source, RECURSION_LIMIT, usize::MAX)? {
@@ -53,6 +60,32 @@ fn definitions_within(root: SyntaxNode<'_>, within: Span) -> Option<Span> {
     found
 }
 
+/// The whole document with the layout of `formatter`; `None` where it has errors. It fails only where memory is refused.
+pub(crate) fn format_whole(alloc: Global, source: &str) -> Result<Option<Change>, AllocError> {
+    let Some(text) = formatted(alloc, source)? else {
+        return Ok(None);
+    };
+    let span = Span {
+        start: 0,
+        end: source.len(),
+    };
+    Ok(Some(Change { span, text }))
+}
+
+// A part of a text with the layout of `formatter`, without the space after it; `None` where it has errors.
+fn format_at(alloc: Global, source: &str, span: Span) -> Result<Option<Change>, AllocError> {
+    let part = source.get(span.start..span.end).unwrap_or("").trim_end();
+    let Some(text) = formatted(alloc, part)? else {
+        return Ok(None);
+    };
+    let span = Span {
+        start: span.start,
+        end: span.start.saturating_add(part.len()),
+    };
+    let text = String::from_str(alloc, text.trim_end())?;
+    Ok(Some(Change { span, text }))
+}
+
 /// The definitions that are at least partly in a part of the text, with the layout of `formatter`; `None` where there are none, or where they
 /// have errors. It fails only where memory is refused.
 pub(crate) fn format_part(
@@ -61,23 +94,8 @@ pub(crate) fn format_part(
     root: SyntaxNode<'_>,
     within: Span,
 ) -> Result<Option<Change>, AllocError> {
-    let Some(span) = definitions_within(root, within) else {
-        return Ok(None);
-    };
-    let Some(part) = source.get(span.start..span.end) else {
-        return Ok(None);
-    };
-    let part = part.trim_end();
-    let Some(text) = format_whole(alloc, part)? else {
-        return Ok(None);
-    };
-    let text = String::from_str(alloc, text.trim_end())?;
-    let end = span.start.saturating_add(part.len());
-    Ok(Some(Change {
-        span: Span {
-            start: span.start,
-            end,
-        },
-        text,
-    }))
+    match definitions_within(root, within) {
+        Some(span) => format_at(alloc, source, span),
+        None => Ok(None),
+    }
 }

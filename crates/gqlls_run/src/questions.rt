@@ -4,17 +4,19 @@ ghost use Rattle.json.specs.Tree.{HasNumbers};
 ghost use Rattle.json.specs.Value.{value_view};
 ghost use Rattle.rpc_messages.specs.Messages.{IsAnswer, id_token};
 
-use crate::completing::answer_completion;
+use crate::completing::push_completions;
 use crate::documents::Document;
-use crate::formatting::{answer_formatting, answer_range_formatting};
+use crate::formatting::answer_layout;
+use crate::layout::{Change, format_part, format_whole};
 use crate::parameters::{asks_for_definition, offset_of, offsets_of, span_of};
 use apollo_parser::SyntaxNode;
 use diagnostic_messages::Places;
 use document_answers::{
-    answer_definition, answer_folds, answer_hover, answer_references, answer_selections,
-    answer_symbols, answer_tokens,
+    answer_hover, answer_symbols, answer_tokens, push_definition, push_folds, push_references,
+    push_selections,
 };
 use json::Value;
+use rpc_messages::{Piece, answer};
 use std::alloc::{AllocError, Global};
 
 /// What is asked.
@@ -56,28 +58,77 @@ pub(crate) fn question_of(method: &str) -> Option<Question> {
     None
 }
 
-// The answer to a question about a name at a place.
-fn answer_at(
+// Adds the result of a question about a place.
+fn push_result_at<'p>(
+    alloc: Global,
+    pieces: &mut Vec<Piece<'p>>,
+    question: Question,
+    root: SyntaxNode<'p>,
+    places: &Places<'_>,
+    uri: &'p str,
+    params: &Value<'_>,
+) -> Result<(), AllocError> {
+    let offset = offset_of(places, params);
+    match question {
+        Question::Definition => push_definition(pieces, root, places, uri, offset),
+        Question::References => {
+            let with_definition = asks_for_definition(params);
+            push_references(alloc, pieces, root, places, uri, offset, with_definition)
+        }
+        _ => push_completions(alloc, pieces, root, places, offset),
+    }
+}
+
+// Adds the result of a question about parts of a text.
+fn push_result<'p>(
+    alloc: Global,
+    pieces: &mut Vec<Piece<'p>>,
+    question: Question,
+    root: SyntaxNode<'p>,
+    places: &Places<'_>,
+    uri: &'p str,
+    params: &Value<'_>,
+) -> Result<(), AllocError> {
+    match question {
+        Question::Folds => push_folds(pieces, root, places),
+        Question::Selections => {
+            let offsets = offsets_of(alloc, places, params)?;
+            push_selections(alloc, pieces, root, places, offsets.as_slice())
+        }
+        other => push_result_at(alloc, pieces, other, root, places, uri, params),
+    }
+}
+
+// The answer to a question about parts of a text.
+fn answer_result<'p>(
     alloc: Global,
     id: &Value<'_>,
     question: Question,
-    root: SyntaxNode<'_>,
+    root: SyntaxNode<'p>,
     places: &Places<'_>,
-    uri: &str,
+    uri: &'p str,
     params: &Value<'_>,
 ) -> Result<Vec<u8>, AllocError>
     requires { HasNumbers (value_view id.now) }
     ensures { IfOk result (λ body. IsAnswer (id_token (value_view id.now)) body.items) }
 {
-    let offset = offset_of(places, params);
+    let mut pieces = Vec::new(alloc);
+    pieces.extend_from_slice(&[Piece::Key("result")])?;
+    push_result(alloc, &mut pieces, question, root, places, uri, params)?;
+    answer(alloc, id, pieces.as_slice())
+}
+
+// The layout that is asked for.
+fn layout_of(
+    alloc: Global,
+    question: Question,
+    root: SyntaxNode<'_>,
+    places: &Places<'_>,
+    params: &Value<'_>,
+) -> Result<Option<Change>, AllocError> {
     match question {
-        Question::Definition => answer_definition(alloc, id, root, places, uri, offset),
-        Question::References => {
-            let with_definition = asks_for_definition(params);
-            answer_references(alloc, id, root, places, uri, offset, with_definition)
-        }
-        Question::Hover => answer_hover(alloc, id, root, places, offset),
-        _ => answer_completion(alloc, id, root, places, offset),
+        Question::Formatting => format_whole(alloc, places.text),
+        _ => format_part(alloc, places.text, root, span_of(places, params)),
     }
 }
 
@@ -96,17 +147,13 @@ fn answer_about(
 {
     match question {
         Question::Symbols => answer_symbols(alloc, id, root, places),
-        Question::Folds => answer_folds(alloc, id, root, places),
-        Question::Selections => {
-            let offsets = offsets_of(alloc, places, params)?;
-            answer_selections(alloc, id, root, places, offsets.as_slice())
-        }
         Question::Tokens => answer_tokens(alloc, id, root, places, span_of(places, params)),
-        Question::Formatting => answer_formatting(alloc, id, places),
-        Question::RangeFormatting => {
-            answer_range_formatting(alloc, id, root, places, span_of(places, params))
+        Question::Hover => answer_hover(alloc, id, root, places, offset_of(places, params)),
+        Question::Formatting | Question::RangeFormatting => {
+            let change = layout_of(alloc, question, root, places, params)?;
+            answer_layout(alloc, id, places, &change)
         }
-        other => answer_at(alloc, id, other, root, places, uri, params),
+        other => answer_result(alloc, id, other, root, places, uri, params),
     }
 }
 

@@ -4,6 +4,7 @@ ghost use Rattle.json.specs.Tree.{HasNumbers};
 ghost use Rattle.json.specs.Value.{value_view};
 ghost use Rattle.rpc_messages.specs.Messages.{IsAnswer, id_token};
 
+use crate::answers::ranges::push_range;
 use crate::hovering::{description_of, heading_of, hover_at};
 use crate::span::Span;
 use crate::usage::{definition, references};
@@ -20,36 +21,23 @@ fn push_location<'p>(
     uri: &'p str,
     span: Span,
 ) -> Result<(), AllocError> {
-    pieces.extend_from_slice(&[
-        Piece::Object,
-        Piece::Key("uri"),
-        Piece::Text(uri),
-        Piece::Key("range"),
-    ])?;
-    pieces.extend_from_slice(&places.range(span.start, span.end))?;
-    pieces.push(Piece::EndObject)?;
-    Ok(())
+    pieces.extend_from_slice(&[Piece::Object, Piece::Key("uri"), Piece::Text(uri)])?;
+    push_range(pieces, places, "range", span)?;
+    pieces.extend_from_slice(&[Piece::EndObject])
 }
 
-/// The answer to definition: the place of the definition of the name at a byte offset, or null. It fails only where memory is refused.
-pub fn answer_definition(
-    alloc: Global,
-    id: &Value<'_>,
+/// Adds the result of definition: the place of the definition of the name at a byte offset, or null. It fails only where memory is refused.
+pub fn push_definition<'p>(
+    pieces: &mut Vec<Piece<'p>>,
     root: SyntaxNode<'_>,
     places: &Places<'_>,
-    uri: &str,
+    uri: &'p str,
     offset: usize,
-) -> Result<Vec<u8>, AllocError>
-    requires { HasNumbers (value_view id.now) }
-    ensures { IfOk result (λ body. IsAnswer (id_token (value_view id.now)) body.items) }
-{
-    let mut pieces = Vec::new(alloc);
-    pieces.push(Piece::Key("result"))?;
+) -> Result<(), AllocError> {
     match definition(places.text, root, offset) {
-        Some(span) => push_location(&mut pieces, places, uri, span)?,
-        None => pieces.push(Piece::Null)?,
+        Some(span) => push_location(pieces, places, uri, span),
+        None => pieces.extend_from_slice(&[Piece::Null]),
     }
-    answer(alloc, id, pieces.as_slice())
 }
 
 // Adds a list of places in a document.
@@ -59,47 +47,26 @@ fn push_locations<'p>(
     uri: &'p str,
     found: &[Span],
 ) -> Result<(), AllocError> {
-    pieces.push(Piece::Array)?;
+    pieces.extend_from_slice(&[Piece::Array])?;
     for span in found {
         push_location(pieces, places, uri, *span)?;
     }
-    pieces.push(Piece::EndArray)?;
-    Ok(())
+    pieces.extend_from_slice(&[Piece::EndArray])
 }
 
-// The answer that gives some parts of a document.
-fn answer_locations(
-    alloc: Global,
-    id: &Value<'_>,
-    places: &Places<'_>,
-    uri: &str,
-    found: &[Span],
-) -> Result<Vec<u8>, AllocError>
-    requires { HasNumbers (value_view id.now) }
-    ensures { IfOk result (λ body. IsAnswer (id_token (value_view id.now)) body.items) }
-{
-    let mut pieces = Vec::new(alloc);
-    pieces.push(Piece::Key("result"))?;
-    push_locations(&mut pieces, places, uri, found)?;
-    answer(alloc, id, pieces.as_slice())
-}
-
-/// The answer to references: the places of the name at a byte offset, its definitions too when `with_definition` says so. It fails only where
+/// Adds the result of references: the places of the name at a byte offset, its definitions too when `with_definition` says so. It fails only where
 /// memory is refused.
-pub fn answer_references(
+pub fn push_references<'p>(
     alloc: Global,
-    id: &Value<'_>,
+    pieces: &mut Vec<Piece<'p>>,
     root: SyntaxNode<'_>,
     places: &Places<'_>,
-    uri: &str,
+    uri: &'p str,
     offset: usize,
     with_definition: bool,
-) -> Result<Vec<u8>, AllocError>
-    requires { HasNumbers (value_view id.now) }
-    ensures { IfOk result (λ body. IsAnswer (id_token (value_view id.now)) body.items) }
-{
+) -> Result<(), AllocError> {
     let found = references(alloc, places.text, root, offset, with_definition)?;
-    answer_locations(alloc, id, places, uri, found.as_slice())
+    push_locations(pieces, places, uri, found.as_slice())
 }
 
 // What is shown of a definition, as Markdown.
@@ -109,40 +76,31 @@ fn markdown_of(
     definition: SyntaxNode<'_>,
 ) -> Result<String, AllocError> {
     let description = description_of(alloc, definition)?;
-    let mut text = String::from_str(alloc, "```graphql\n")?;
-    text.push_str(heading_of(source, definition))?;
-    text.push_str("\n```\n\n")?;
-    text.push_str(description.as_str())?;
-    Ok(text)
+    let heading = heading_of(source, definition);
+    format!(in alloc; "```graphql\n{heading}\n```\n\n{description}")
 }
 
-// The answer that shows a text in Markdown for a part of the document.
-fn answer_markdown(
-    alloc: Global,
-    id: &Value<'_>,
+const MARKDOWN: [Piece<'static>; 7] = [
+    Piece::Key("result"),
+    Piece::Object,
+    Piece::Key("contents"),
+    Piece::Object,
+    Piece::Key("kind"),
+    Piece::Text("markdown"),
+    Piece::Key("value"),
+];
+
+// Adds a text in Markdown that is shown for a part of the document.
+fn push_markdown<'p>(
+    pieces: &mut Vec<Piece<'p>>,
     places: &Places<'_>,
     span: Span,
-    text: &str,
-) -> Result<Vec<u8>, AllocError>
-    requires { HasNumbers (value_view id.now) }
-    ensures { IfOk result (λ body. IsAnswer (id_token (value_view id.now)) body.items) }
-{
-    let mut pieces = Vec::new(alloc);
-    pieces.extend_from_slice(&[
-        Piece::Key("result"),
-        Piece::Object,
-        Piece::Key("contents"),
-        Piece::Object,
-        Piece::Key("kind"),
-        Piece::Text("markdown"),
-        Piece::Key("value"),
-        Piece::Text(text),
-        Piece::EndObject,
-        Piece::Key("range"),
-    ])?;
-    pieces.extend_from_slice(&places.range(span.start, span.end))?;
-    pieces.push(Piece::EndObject)?;
-    answer(alloc, id, pieces.as_slice())
+    text: &'p str,
+) -> Result<(), AllocError> {
+    pieces.extend_from_slice(&MARKDOWN)?;
+    pieces.extend_from_slice(&[Piece::Text(text), Piece::EndObject])?;
+    push_range(pieces, places, "range", span)?;
+    pieces.extend_from_slice(&[Piece::EndObject])
 }
 
 /// The answer to hover: what the document says of the name at a byte offset, or null. It fails only where memory is refused.
@@ -156,11 +114,11 @@ pub fn answer_hover(
     requires { HasNumbers (value_view id.now) }
     ensures { IfOk result (λ body. IsAnswer (id_token (value_view id.now)) body.items) }
 {
-    match hover_at(root, offset) {
-        Some(found) => {
-            let text = markdown_of(alloc, places.text, found.definition)?;
-            answer_markdown(alloc, id, places, found.span, text.as_str())
-        }
-        None => answer(alloc, id, &[Piece::Key("result"), Piece::Null]),
-    }
+    let Some(found) = hover_at(root, offset) else {
+        return answer(alloc, id, &[Piece::Key("result"), Piece::Null]);
+    };
+    let text = markdown_of(alloc, places.text, found.definition)?;
+    let mut pieces = Vec::new(alloc);
+    push_markdown(&mut pieces, places, found.span, text.as_str())?;
+    answer(alloc, id, pieces.as_slice())
 }

@@ -1,66 +1,74 @@
 // Folds and selections as the protocol answers them.
-ghost use Rattle.std.specs.Prelude.{IfOk};
-ghost use Rattle.json.specs.Tree.{HasNumbers};
-ghost use Rattle.json.specs.Value.{value_view};
-ghost use Rattle.rpc_messages.specs.Messages.{IsAnswer, id_token};
-
-use crate::folding::{Fold, folds};
+use crate::answers::ranges::push_range;
+use crate::folding::fold_of;
 use crate::selecting::selection;
 use crate::span::Span;
-use apollo_tree::SyntaxNode;
+use apollo_tree::{SyntaxKind, SyntaxNode};
 use diagnostic_messages::Places;
-use json::Value;
-use rpc_messages::{Piece, answer};
+use rpc_messages::Piece;
 use std::alloc::{AllocError, Global};
+
+const COMMENT_END: [Piece<'static>; 3] = [
+    Piece::Key("kind"),
+    Piece::Text("comment"),
+    Piece::EndObject,
+];
+
+// How a fold ends.
+fn fold_end(is_comment: bool) -> &'static [Piece<'static>] {
+    if is_comment {
+        &COMMENT_END
+    } else {
+        &[Piece::EndObject]
+    }
+}
 
 // Adds a fold, unless it is in one line. The closing bracket stays in sight.
 fn push_fold(
     pieces: &mut Vec<Piece<'_>>,
     places: &Places<'_>,
-    fold: &Fold,
+    span: Span,
+    is_comment: bool,
 ) -> Result<(), AllocError> {
-    let start = places.position(fold.span.start).line;
-    let end = places.position(fold.span.end).line;
-    let last = if fold.is_comment {
+    let first = places.position(span.start).line;
+    let end = places.position(span.end).line;
+    let last = if is_comment {
         end
     } else {
         end.saturating_sub(1)
     };
-    if start >= last {
+    if first >= last {
         return Ok(());
     }
     pieces.extend_from_slice(&[
         Piece::Object,
         Piece::Key("startLine"),
-        Piece::Count(start),
+        Piece::Count(first),
         Piece::Key("endLine"),
         Piece::Count(last),
     ])?;
-    if fold.is_comment {
-        pieces.extend_from_slice(&[Piece::Key("kind"), Piece::Text("comment")])?;
-    }
-    pieces.push(Piece::EndObject)?;
-    Ok(())
+    pieces.extend_from_slice(fold_end(is_comment))
 }
 
-/// The answer to foldingRange: the folds of more than one line, in the order of the text. It fails only where memory is refused.
-pub fn answer_folds(
-    alloc: Global,
-    id: &Value<'_>,
+/// Adds the result of foldingRange: the folds of more than one line, in the order of the text. A description is a comment, and what else is folded is
+/// in brackets. It fails only where memory is refused.
+pub fn push_folds(
+    pieces: &mut Vec<Piece<'_>>,
     root: SyntaxNode<'_>,
     places: &Places<'_>,
-) -> Result<Vec<u8>, AllocError>
-    requires { HasNumbers (value_view id.now) }
-    ensures { IfOk result (λ body. IsAnswer (id_token (value_view id.now)) body.items) }
-{
-    let found = folds(alloc, root)?;
-    let mut pieces = Vec::new(alloc);
-    pieces.extend_from_slice(&[Piece::Key("result"), Piece::Array])?;
-    for fold in found.iter() {
-        push_fold(&mut pieces, places, fold)?;
+) -> Result<(), AllocError> {
+    pieces.extend_from_slice(&[Piece::Array])?;
+    for node in root.descendants() {
+        if let Some(span) = fold_of(node) {
+            push_fold(
+                pieces,
+                places,
+                span,
+                node.kind().is(SyntaxKind::DESCRIPTION),
+            )?;
+        }
     }
-    pieces.push(Piece::EndArray)?;
-    answer(alloc, id, pieces.as_slice())
+    pieces.extend_from_slice(&[Piece::EndArray])
 }
 
 // Adds parts, the last first, each with the one before it as its parent.
@@ -69,16 +77,14 @@ fn push_parts(
     places: &Places<'_>,
     parts: &[Span],
 ) -> Result<(), AllocError> {
-    for count in 0..parts.len() {
-        let part = parts[parts.len() - 1 - count];
-        if count > 0 {
-            pieces.push(Piece::Key("parent"))?;
-        }
-        pieces.extend_from_slice(&[Piece::Object, Piece::Key("range")])?;
-        pieces.extend_from_slice(&places.range(part.start, part.end))?;
+    let mut front: &'static [Piece<'static>] = &[Piece::Object];
+    for part in parts.iter().rev() {
+        pieces.extend_from_slice(front)?;
+        push_range(pieces, places, "range", *part)?;
+        front = &[Piece::Key("parent"), Piece::Object];
     }
-    for _ in 0..parts.len() {
-        pieces.push(Piece::EndObject)?;
+    for _ in parts {
+        pieces.extend_from_slice(&[Piece::EndObject])?;
     }
     Ok(())
 }
@@ -87,37 +93,33 @@ fn push_parts(
 fn push_selection(
     alloc: Global,
     pieces: &mut Vec<Piece<'_>>,
-    places: &Places<'_>,
     root: SyntaxNode<'_>,
+    places: &Places<'_>,
     offset: usize,
 ) -> Result<(), AllocError> {
-    let mut parts = selection(alloc, root, offset)?;
-    if parts.is_empty() {
-        parts.push(Span {
-            start: offset,
-            end: offset,
-        })?;
+    let parts = selection(alloc, root, offset)?;
+    if !parts.is_empty() {
+        return push_parts(pieces, places, parts.as_slice());
     }
-    push_parts(pieces, places, parts.as_slice())
+    let end = Span {
+        start: offset,
+        end: offset,
+    };
+    push_parts(pieces, places, &[end])
 }
 
-/// The answer to selectionRange: for each byte offset the parts around it, each with the next larger as its parent. It fails only where memory
+/// Adds the result of selectionRange: for each byte offset the parts around it, each with the next larger as its parent. It fails only where memory
 /// is refused.
-pub fn answer_selections(
+pub fn push_selections(
     alloc: Global,
-    id: &Value<'_>,
+    pieces: &mut Vec<Piece<'_>>,
     root: SyntaxNode<'_>,
     places: &Places<'_>,
     offsets: &[usize],
-) -> Result<Vec<u8>, AllocError>
-    requires { HasNumbers (value_view id.now) }
-    ensures { IfOk result (λ body. IsAnswer (id_token (value_view id.now)) body.items) }
-{
-    let mut pieces = Vec::new(alloc);
-    pieces.extend_from_slice(&[Piece::Key("result"), Piece::Array])?;
+) -> Result<(), AllocError> {
+    pieces.extend_from_slice(&[Piece::Array])?;
     for offset in offsets {
-        push_selection(alloc, &mut pieces, places, root, *offset)?;
+        push_selection(alloc, pieces, root, places, *offset)?;
     }
-    pieces.push(Piece::EndArray)?;
-    answer(alloc, id, pieces.as_slice())
+    pieces.extend_from_slice(&[Piece::EndArray])
 }

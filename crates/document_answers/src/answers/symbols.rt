@@ -5,65 +5,90 @@ ghost use Rattle.json.specs.Tree.{HasNumbers};
 ghost use Rattle.json.specs.Value.{value_view};
 ghost use Rattle.rpc_messages.specs.Messages.{IsAnswer, IsBegun, id_token};
 
-use crate::outline::{Symbol, symbols};
+use crate::answers::ranges::push_range;
+use crate::outline::{Symbol, symbol_of};
 use apollo_tree::SyntaxNode;
 use diagnostic_messages::Places;
 use json::Value;
 use rpc_messages::{LongAnswer, Piece};
 use std::alloc::{AllocError, Global};
 
-// Begins a symbol, up to the list of those in it.
-fn put_symbol(
-    answer: &mut LongAnswer,
-    places: &Places<'_>,
-    symbol: &Symbol<'_>,
-) -> Result<(), AllocError>
-    ensures { OnOk result ((id : Token) → IsBegun id answer.old → IsBegun id answer.new) }
-{
-    answer.put(&[
+// Adds what a symbol is.
+fn push_labels<'t>(pieces: &mut Vec<Piece<'t>>, symbol: &Symbol<'t>) -> Result<(), AllocError> {
+    pieces.extend_from_slice(&[
         Piece::Object,
         Piece::Key("name"),
         Piece::Text(symbol.name),
         Piece::Key("kind"),
         Piece::Count(symbol.kind as usize),
     ])?;
-    if !symbol.detail.is_empty() {
-        answer.put(&[Piece::Key("detail"), Piece::Text(symbol.detail)])?;
+    if symbol.detail.is_empty() {
+        return Ok(());
     }
-    answer.put(&[Piece::Key("range")])?;
-    answer.put(&places.range(symbol.span.start, symbol.span.end))?;
-    answer.put(&[Piece::Key("selectionRange")])?;
-    answer.put(&places.range(symbol.name_span.start, symbol.name_span.end))?;
-    answer.put(&[Piece::Key("children"), Piece::Array])?;
-    Ok(())
+    pieces.extend_from_slice(&[Piece::Key("detail"), Piece::Text(symbol.detail)])
 }
 
-// Ends so many symbols.
-fn end_symbols(answer: &mut LongAnswer, count: usize) -> Result<(), AllocError>
-    ensures { OnOk result ((id : Token) → IsBegun id answer.old → IsBegun id answer.new) }
-{
-    for _ in 0..count {
-        answer.put(&[Piece::EndArray, Piece::EndObject])?;
-    }
-    Ok(())
-}
-
-// Puts symbols, each in the one that it is in.
-fn put_symbols(
-    answer: &mut LongAnswer,
+// Begins a symbol, up to the list of those in it.
+fn push_symbol<'t>(
+    pieces: &mut Vec<Piece<'t>>,
     places: &Places<'_>,
-    symbols: &[Symbol<'_>],
+    symbol: &Symbol<'t>,
+) -> Result<(), AllocError> {
+    push_labels(pieces, symbol)?;
+    push_range(pieces, places, "range", symbol.span)?;
+    push_range(pieces, places, "selectionRange", symbol.name_span)?;
+    pieces.extend_from_slice(&[Piece::Key("children"), Piece::Array])
+}
+
+// Ends the symbols that are open and end before a place, by where they end. These ends never rise.
+fn push_ends(
+    pieces: &mut Vec<Piece<'_>>,
+    open: &mut Vec<usize>,
+    place: usize,
+) -> Result<(), AllocError> {
+    while let Some(end) = open.last().copied() {
+        if place < end {
+            break;
+        }
+        open.pop();
+        pieces.extend_from_slice(&[Piece::EndArray, Piece::EndObject])?;
+    }
+    Ok(())
+}
+
+// Adds the symbol that a node is, if it is one, after the ends of those that it isn't in.
+fn push_node<'t>(
+    pieces: &mut Vec<Piece<'t>>,
+    open: &mut Vec<usize>,
+    places: &Places<'_>,
+    node: SyntaxNode<'t>,
+) -> Result<(), AllocError> {
+    if let Some(symbol) = symbol_of(node) {
+        push_ends(pieces, open, symbol.span.start)?;
+        push_symbol(pieces, places, &symbol)?;
+        open.push(symbol.span.end)?;
+    }
+    Ok(())
+}
+
+// Puts the symbols of a document, each in the one that it is in.
+fn put_symbols(
+    alloc: Global,
+    answer: &mut LongAnswer,
+    root: SyntaxNode<'_>,
+    places: &Places<'_>,
 ) -> Result<(), AllocError>
     ensures { OnOk result ((id : Token) → IsBegun id answer.old → IsBegun id answer.new) }
 {
-    let mut open = 0usize;
-    for symbol in symbols {
-        end_symbols(answer, open.saturating_sub(symbol.depth))?;
-        put_symbol(answer, places, symbol)?;
-        open = symbol.depth.saturating_add(1);
+    let mut open = Vec::new(alloc);
+    let mut pieces = Vec::new(alloc);
+    for node in root.descendants() {
+        push_node(&mut pieces, &mut open, places, node)?;
+        answer.put(pieces.as_slice())?;
+        pieces.clear();
     }
-    end_symbols(answer, open)?;
-    Ok(())
+    push_ends(&mut pieces, &mut open, usize::MAX)?;
+    answer.put(pieces.as_slice())
 }
 
 /// The answer to documentSymbol. It fails only where memory is refused.
@@ -76,10 +101,9 @@ pub fn answer_symbols(
     requires { HasNumbers (value_view id.now) }
     ensures { IfOk result (λ body. IsAnswer (id_token (value_view id.now)) body.items) }
 {
-    let found = symbols(alloc, root)?;
     let mut answer = LongAnswer::new(alloc, id)?;
     answer.put(&[Piece::Key("result"), Piece::Array])?;
-    put_symbols(&mut answer, places, found.as_slice())?;
+    put_symbols(alloc, &mut answer, root, places)?;
     answer.put(&[Piece::EndArray])?;
     let body = answer.finish()?;
     Ok(body)
