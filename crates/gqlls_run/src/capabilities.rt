@@ -10,16 +10,77 @@ use line_index::PositionEncoding;
 use rpc_messages::{Piece, answer};
 use std::alloc::{AllocError, Global};
 
-// What is served without any options.
-const SERVED: [&str; 8] = [
-    "documentSymbolProvider",
-    "foldingRangeProvider",
-    "selectionRangeProvider",
-    "documentFormattingProvider",
-    "documentRangeFormattingProvider",
-    "definitionProvider",
-    "referencesProvider",
-    "hoverProvider",
+// What comes before the encoding.
+const FRONT: [Piece<'static>; 10] = [
+    Piece::Key("result"),
+    Piece::Object,
+    Piece::Key("serverInfo"),
+    Piece::Object,
+    Piece::Key("name"),
+    Piece::Text("gqlls"),
+    Piece::EndObject,
+    Piece::Key("capabilities"),
+    Piece::Object,
+    Piece::Key("positionEncoding"),
+];
+
+// What is served, up to the types of tokens.
+const SERVED: [Piece<'static>; 46] = [
+    Piece::Key("documentSymbolProvider"),
+    Piece::Flag(true),
+    Piece::Key("foldingRangeProvider"),
+    Piece::Flag(true),
+    Piece::Key("selectionRangeProvider"),
+    Piece::Flag(true),
+    Piece::Key("documentFormattingProvider"),
+    Piece::Flag(true),
+    Piece::Key("documentRangeFormattingProvider"),
+    Piece::Flag(true),
+    Piece::Key("definitionProvider"),
+    Piece::Flag(true),
+    Piece::Key("referencesProvider"),
+    Piece::Flag(true),
+    Piece::Key("hoverProvider"),
+    Piece::Flag(true),
+    Piece::Key("textDocumentSync"),
+    Piece::Object,
+    Piece::Key("openClose"),
+    Piece::Flag(true),
+    Piece::Key("change"),
+    Piece::Count(2),
+    Piece::Key("save"),
+    Piece::Flag(true),
+    Piece::EndObject,
+    Piece::Key("completionProvider"),
+    Piece::Object,
+    Piece::Key("triggerCharacters"),
+    Piece::Array,
+    Piece::Text("$"),
+    Piece::Text("@"),
+    Piece::EndArray,
+    Piece::EndObject,
+    Piece::Key("semanticTokensProvider"),
+    Piece::Object,
+    Piece::Key("full"),
+    Piece::Flag(true),
+    Piece::Key("range"),
+    Piece::Flag(true),
+    Piece::Key("legend"),
+    Piece::Object,
+    Piece::Key("tokenModifiers"),
+    Piece::Array,
+    Piece::EndArray,
+    Piece::Key("tokenTypes"),
+    Piece::Array,
+];
+
+// What comes after the types of tokens.
+const END: [Piece<'static>; 5] = [
+    Piece::EndArray,
+    Piece::EndObject,
+    Piece::EndObject,
+    Piece::EndObject,
+    Piece::EndObject,
 ];
 
 // The protocol's name of how columns are counted.
@@ -30,48 +91,11 @@ fn encoding_name(encoding: PositionEncoding) -> &'static str {
     }
 }
 
-fn push_sync(pieces: &mut Vec<Piece<'_>>) -> Result<(), AllocError> {
-    pieces.extend_from_slice(&[
-        Piece::Key("textDocumentSync"),
-        Piece::Object,
-        Piece::Key("openClose"),
-        Piece::Flag(true),
-        Piece::Key("change"),
-        Piece::Count(2),
-        Piece::Key("save"),
-        Piece::Flag(true),
-        Piece::EndObject,
-        Piece::Key("completionProvider"),
-        Piece::Object,
-        Piece::Key("triggerCharacters"),
-        Piece::Array,
-        Piece::Text("$"),
-        Piece::Text("@"),
-        Piece::EndArray,
-        Piece::EndObject,
-    ])
-}
-
-fn push_tokens(pieces: &mut Vec<Piece<'_>>) -> Result<(), AllocError> {
-    pieces.extend_from_slice(&[
-        Piece::Key("semanticTokensProvider"),
-        Piece::Object,
-        Piece::Key("full"),
-        Piece::Flag(true),
-        Piece::Key("range"),
-        Piece::Flag(true),
-        Piece::Key("legend"),
-        Piece::Object,
-        Piece::Key("tokenModifiers"),
-        Piece::Array,
-        Piece::EndArray,
-        Piece::Key("tokenTypes"),
-        Piece::Array,
-    ])?;
+fn push_token_types(pieces: &mut Vec<Piece<'_>>) -> Result<(), AllocError> {
     for name in &TOKEN_TYPES {
         pieces.extend_from_slice(&[Piece::Text(*name)])?;
     }
-    pieces.extend_from_slice(&[Piece::EndArray, Piece::EndObject, Piece::EndObject])
+    Ok(())
 }
 
 /// The answer to the first request.
@@ -84,24 +108,10 @@ pub(crate) fn answer_initialize(
     ensures { IfOk result (λ body. IsAnswer (id_token (value_view id.now)) body.items) }
 {
     let mut pieces = Vec::new(alloc);
-    pieces.extend_from_slice(&[
-        Piece::Key("result"),
-        Piece::Object,
-        Piece::Key("serverInfo"),
-        Piece::Object,
-        Piece::Key("name"),
-        Piece::Text("gqlls"),
-        Piece::EndObject,
-        Piece::Key("capabilities"),
-        Piece::Object,
-        Piece::Key("positionEncoding"),
-    ])?;
+    pieces.extend_from_slice(&FRONT)?;
     pieces.extend_from_slice(&[Piece::Text(encoding_name(encoding))])?;
-    for name in &SERVED {
-        pieces.extend_from_slice(&[Piece::Key(*name), Piece::Flag(true)])?;
-    }
-    push_sync(&mut pieces)?;
-    push_tokens(&mut pieces)?;
-    pieces.extend_from_slice(&[Piece::EndObject, Piece::EndObject])?;
+    pieces.extend_from_slice(&SERVED)?;
+    push_token_types(&mut pieces)?;
+    pieces.extend_from_slice(&END)?;
     answer(alloc, id, pieces.as_slice())
 }

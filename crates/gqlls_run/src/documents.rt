@@ -108,22 +108,6 @@ pub(crate) fn place_of(documents: &[Document], uri: &str) -> Option<usize>
     None
 }
 
-/// Opens a document, in the place of the one with its name.
-pub(crate) fn insert(documents: &mut Vec<Document>, document: Document) -> Result<(), AllocError>
-    ensures { OnOk result (Contains documents.new.items document) }
-{
-    match place_of(documents.as_slice(), document.uri.as_str()) {
-        Some(place) => {
-            documents[place] = document;
-            Ok(())
-        }
-        None => {
-            documents.push(document)?;
-            Ok(())
-        }
-    }
-}
-
 /// Closes the document with a name.
 pub(crate) fn remove(documents: &mut Vec<Document>, uri: &str)
     ensures { All (λ document. string_bytes document.uri ≢ uri.now) documents.new.items }
@@ -131,4 +115,13 @@ pub(crate) fn remove(documents: &mut Vec<Document>, uri: &str)
     while let Some(place) = place_of(documents.as_slice(), uri) {
         documents.remove(place);
     }
+}
+
+/// Opens a document, in the place of the one with its name.
+pub(crate) fn insert(documents: &mut Vec<Document>, document: Document) -> Result<(), AllocError>
+    ensures { OnOk result (Contains documents.new.items document) }
+{
+    remove(documents, document.uri.as_str());
+    documents.push(document)?;
+    Ok(())
 }

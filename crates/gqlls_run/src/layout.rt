@@ -61,7 +61,9 @@ fn definitions_within(root: SyntaxNode<'_>, within: Span) -> Option<Span> {
 }
 
 /// The whole document with the layout of `formatter`; `None` where it has errors. It fails only where memory is refused.
-pub(crate) fn format_whole(alloc: Global, source: &str) -> Result<Option<Change>, AllocError> {
+pub(crate) fn format_whole(alloc: Global, source: &str) -> Result<Option<Change>, AllocError>
+    ensures { IfOk result (λ r. IfSome r (λ change. IsFormatted source.now 500 usize_max (string_bytes change.text))) }
+{
     let Some(text) = formatted(alloc, source)? else {
         return Ok(None);
     };
