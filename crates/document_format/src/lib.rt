@@ -1,10 +1,11 @@
 //! A document with another layout: its significant tokens and comments, and block strings spelled for their lines.
 //!
 //! `format_document` takes a tree and gives a text. The layout is that of graphql-js's `print`, with comments: one walk over the tree gives a gap
-//! for each token. That is advice to a writer, so it has no contract beyond its safety: whatever the gaps, `token_layout` keeps the tokens. The
-//! spelling of block strings comes from `respelling`, and the laws say what a text keeps whose block strings are spelled anew.
+//! for each token. That is advice to a writer, so it has no contract beyond its safety: whatever the gaps, `token_layout` keeps the tokens. So is
+//! how block strings are spelled: `respelling` compares the values, and the laws say what a text keeps whose block strings are spelled anew.
 #![tactic(auto)]
 
+mod block_text;
 mod elements;
 mod gaps;
 pub mod laws;

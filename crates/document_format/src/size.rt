@@ -1,4 +1,5 @@
 // How long a string will be in the document that is written.
+use crate::block_text::Indented;
 use respelling::{is_string, spelled};
 use std::alloc::{AllocError, Allocator};
 
@@ -21,7 +22,7 @@ impl Size {
     /// The size of a string: a block string's as it will be spelled, without an indent.
     pub fn of_string<A: Allocator + Copy>(alloc: A, text: &str) -> Result<Size, AllocError> {
         if text.starts_with("\"\"\"") && is_string(text) {
-            if let Some(other) = spelled(alloc, text, 0)? {
+            if let Some(other) = spelled(alloc, text, &Indented { spaces: 0 })? {
                 return Ok(Size::of_text(other.as_str()));
             }
         }

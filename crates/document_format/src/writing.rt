@@ -7,6 +7,7 @@ ghost use Rattle.lexical_grammar.specs.Kept.{Kept, is_kept_kind};
 ghost use Rattle.document_format.specs.Formatted.{Formatted, IsSentence};
 ghost use Rattle.document_format.specs.Written.{AddsSame, HoldsSame};
 
+use crate::block_text::Indented;
 use crate::elements::Elements;
 use crate::gaps::Gaps;
 use apollo_lexer::{Lexer, Token};
@@ -33,8 +34,10 @@ impl<A: Allocator + Copy> Writer<A> {
         ensures { OnOk result (AddsSame (string_bytes self.old.layout.text) self.old.layout.edge (record { kind = kind; text = text.now }) (string_bytes self.new.layout.text) self.new.layout.edge) }
     {
         if kind == TokenKind::StringValue {
-            let indent = usize::from(self.indent);
-            if let Some(other) = spelled(self.alloc, text, indent)? {
+            let style = Indented {
+                spaces: usize::from(self.indent),
+            };
+            if let Some(other) = spelled(self.alloc, text, &style)? {
                 self.layout.token(TokenKind::StringValue, other.as_str())?;
                 return Ok(());
             }

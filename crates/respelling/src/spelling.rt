@@ -5,7 +5,7 @@ ghost use Rattle.lexical_grammar.specs.Tokens.{IsString};
 ghost use Rattle.apollo_cst_core.specs.StringValues.{IsStringValue};
 ghost use Rattle.respelling.specs.Respelled.{SameBlock};
 
-use crate::block_text::block_text;
+use crate::style::BlockStyle;
 use apollo_cst_core::string_value;
 use apollo_lexer::{Lexer, answers_are_items};
 use lexical_grammar::TokenKind;
@@ -14,7 +14,7 @@ use std::alloc::{AllocError, Allocator};
 fn begins_block(text: &str) -> bool
     ensures { result ≡ begins triple_quote text.now }
 {
-    text.as_bytes().starts_with(b"\"\"\"")
+    matches!(text.as_bytes(), [b'"', b'"', b'"', ..])
 }
 
 /// Whether the text is one string, with nothing before it and nothing after it.
@@ -45,12 +45,12 @@ fn is_block_of<A: Allocator + Copy>(alloc: A, text: &str, value: &str) -> Result
     Ok(own.as_str() == value)
 }
 
-/// The string spelled for a line that is indented by so many spaces, if it is a block string. `None` where it is to stay: a quoted string always,
-/// and a block string that is spelled so already. It fails only where memory is refused.
-pub fn spelled<A: Allocator + Copy>(
+/// The string spelled in a style, if it is a block string. `None` where it is to stay: a quoted string always, and a block string that is spelled
+/// so already. It fails only where memory is refused, or the style fails.
+pub fn spelled<A: Allocator + Copy, S: BlockStyle>(
     alloc: A,
     text: &str,
-    indent: usize,
+    style: &S,
 ) -> Result<Option<String<A>>, AllocError>
     requires { IsString text.now }
     ensures string { IfOk result (λ o. IfSome o (λ other. IsString (string_bytes other))) }
@@ -61,7 +61,7 @@ pub fn spelled<A: Allocator + Copy>(
         return Ok(None);
     }
     let value = string_value(text, alloc)?;
-    let other = block_text(alloc, value.as_str(), indent)?;
+    let other = style.block_text(alloc, value.as_str())?;
     let words = other.as_str();
     if words == text || !is_block_of(alloc, words, value.as_str())? {
         return Ok(None);

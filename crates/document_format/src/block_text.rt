@@ -1,4 +1,5 @@
-// How a block string is spelled in an indented line. Nothing is promised of it: its caller compares the values.
+// How a block string is spelled in an indented line. Nothing is promised of it: `respelling` compares the values.
+use respelling::BlockStyle;
 use std::alloc::{AllocError, Allocator};
 
 // How many bytes a value may have that is written in one line with its quotes.
@@ -12,16 +13,15 @@ fn begins_white(text: &str) -> bool {
 // Whether there is a second line, and each line after the first is empty or indented: then the indent would be lost if the first line began
 // right after the quotes.
 fn others_are_indented(value: &str) -> bool {
-    let mut has_others = false;
-    let mut begins_line = false;
-    for byte in value.as_bytes() {
-        if begins_line && !matches!(byte, b' ' | b'\t' | b'\n') {
+    let Some((_, others)) = value.split_once('\n') else {
+        return false;
+    };
+    for line in others.split('\n') {
+        if !line.is_empty() && !begins_white(line) {
             return false;
         }
-        begins_line = *byte == b'\n';
-        has_others = has_others || begins_line;
     }
-    has_others
+    true
 }
 
 // A new line with its indent.
@@ -35,13 +35,15 @@ fn begin_line<A: Allocator>(text: &mut String<A>, indent: usize) -> Result<(), A
 
 // A line, in which `"""` has a backslash before it.
 fn push_escaped<A: Allocator>(text: &mut String<A>, line: &str) -> Result<(), AllocError> {
-    let mut left = line;
-    while let Some((front, more)) = left.split_once("\"\"\"") {
-        text.push_str(front)?;
-        text.push_str("\\\"\"\"")?;
-        left = more;
+    let mut is_after_quotes = false;
+    for part in line.split("\"\"\"") {
+        if is_after_quotes {
+            text.push_str("\\\"\"\"")?;
+        }
+        is_after_quotes = true;
+        text.push_str(part)?;
     }
-    text.push_str(left)
+    Ok(())
 }
 
 // The lines of a value, each in a new line: the first one only where the value begins below the quotes.
@@ -68,7 +70,7 @@ fn push_value<A: Allocator>(
     value: &str,
     indent: usize,
 ) -> Result<(), AllocError> {
-    let has_one_line = !value.as_bytes().contains(&b'\n');
+    let has_one_line = !value.contains('\n');
     let is_indented = others_are_indented(value);
     let joins_quotes = value.ends_with('"') || value.ends_with('\\');
     let ends_below = !has_one_line || value.len() > MAX_INLINE || joins_quotes || is_indented;
@@ -80,14 +82,17 @@ fn push_value<A: Allocator>(
     text.push_str("\"\"\"")
 }
 
-/// A block string with this value, in a line that is indented by so many spaces: in one line with its quotes if it is short and has one line,
+/// How block strings are spelled in a line that is indented by so many spaces: in one line with the quotes if the value is short and has one line,
 /// else with each line below the quotes.
-pub fn block_text<A: Allocator>(
-    alloc: A,
-    value: &str,
-    indent: usize,
-) -> Result<String<A>, AllocError> {
-    let mut text = String::from_str(alloc, "\"\"\"")?;
-    push_value(&mut text, value, indent)?;
-    Ok(text)
+#[derive(Clone, Copy)]
+pub struct Indented {
+    pub spaces: usize,
+}
+
+impl BlockStyle for Indented {
+    fn block_text<A: Allocator>(&self, alloc: A, value: &str) -> Result<String<A>, AllocError> {
+        let mut text = String::from_str(alloc, "\"\"\"")?;
+        push_value(&mut text, value, self.spaces)?;
+        Ok(text)
+    }
 }
