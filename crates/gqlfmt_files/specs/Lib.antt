@@ -1,3 +1,1 @@
 pub mod Settling
-pub mod Words
-pub mod Reading

@@ -6,15 +6,15 @@ use Rattle.byte_devices.specs.Writing.{IsBroken}
 use Rattle.byte_devices.specs.Runs.{Reads, Writes}
 use Rattle.gqlcst_run.specs.declared.command.Limits.{Limits}
 use Rattle.byte_devices.specs.declared.fault.Fault.{Fault}
-use Rattle.gqlfmt_files.specs.Words.{Run}
+use Rattle.gqlfmt_words.specs.Words.{Run}
 use Rattle.gqlfmt_files.specs.declared.settling.Mode.{Mode}
 use Rattle.gqlfmt_files.specs.declared.settling.Mode.TheVariants.{Write}
 use Rattle.gqlfmt_files.specs.declared.settling.Outcome.{Outcome}
-use Rattle.gqlfmt_files.specs.declared.words.Settings.{Settings}
-use Rattle.gqlfmt_files.specs.declared.words.Page.{Page}
-use Rattle.gqlfmt_files.specs.declared.words.Page.TheVariants.{Help, Version}
-use Rattle.gqlfmt_files.specs.declared.words.Request.{Request}
-use Rattle.gqlfmt_files.specs.declared.words.Request.TheVariants.{Print, Format}
+use Rattle.gqlfmt_words.specs.declared.words.Settings.{Settings}
+use Rattle.gqlfmt_words.specs.declared.words.Page.{Page}
+use Rattle.gqlfmt_words.specs.declared.words.Page.TheVariants.{Help, Version}
+use Rattle.gqlfmt_words.specs.declared.words.Request.{Request}
+use Rattle.gqlfmt_words.specs.declared.words.Request.TheVariants.{Print, Format}
 use Rattle.gqlfmt_run.specs.declared.command.TheConstants.{USAGE, HELP, VERSION}
 use Rattle.gqlfmt_run.specs.Outcome.{status_of}
 use Rattle.gqlfmt_run.specs.Input.{IsOutput}

@@ -1,5 +1,5 @@
 // Formatting files.
-ghost use Rattle.gqlfmt_files.specs.Words.{texts};
+ghost use Rattle.gqlfmt_words.specs.Words.{texts};
 ghost use Rattle.gqlfmt_run.specs.Paths.{Handles, HandlesAll};
 
 use crate::fault::FileFault;

@@ -2,7 +2,7 @@
 ghost use Rattle.std.specs.Prelude.{◌≡◌, OnOk, OnErr};
 ghost use Rattle.byte_devices.specs.Devices.{moved};
 ghost use Rattle.byte_devices.specs.Writing.{IsBroken};
-ghost use Rattle.gqlfmt_files.specs.Words.{texts, request_of};
+ghost use Rattle.gqlfmt_words.specs.Words.{texts, request_of};
 ghost use Rattle.gqlfmt_run.specs.Program.{limits_of, page_text, IsPrinted, FormatsInput, Formats, Runs};
 
 use crate::command::{HELP, USAGE, VERSION};
@@ -13,7 +13,8 @@ use crate::paths::format_files;
 use crate::report::tell;
 use byte_devices::{Fault, Sink, Source, write_all};
 use gqlcst_run::Limits;
-use gqlfmt_files::{Files, Mode, Page, Plan, Request, Settings, WordsError, options};
+use gqlfmt_files::{Files, Mode};
+use gqlfmt_words::{Page, Plan, Request, Settings, WordsError, options};
 use std::alloc::Allocator;
 
 fn limits_of(settings: Settings) -> Limits

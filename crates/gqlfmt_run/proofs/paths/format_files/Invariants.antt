@@ -1,5 +1,5 @@
 use Rattle.std.proofs.Common.{take}
-use Rattle.gqlfmt_files.specs.Words.{texts}
+use Rattle.gqlfmt_words.specs.Words.{texts}
 use Rattle.gqlfmt_run.specs.Paths.{HandlesAll}
 use Rattle.gqlfmt_run.proofs.paths.format_files.Given as goal
 

@@ -2,10 +2,10 @@
 use Rattle.std.specs.Prelude.{◌≡◌, ℕ, List, ◌∷◌, ◌++◌, drop, Option, Some, None, option_and_then, Result, Ok, Err}
 use denote.Ref.{Bor}
 use Rattle.std.specs.Option.{option_to_list}
-use Rattle.gqlfmt_files.specs.declared.words.Settings.{Settings}
-use Rattle.gqlfmt_files.specs.declared.words.WordsError.{WordsError}
-use Rattle.gqlfmt_files.specs.declared.words.WordsError.TheVariants.{Usage, Memory}
-use Rattle.gqlfmt_files.specs.Words.{texts, Given, Run, run_given, given_by}
+use Rattle.gqlfmt_words.specs.declared.words.Settings.{Settings}
+use Rattle.gqlfmt_words.specs.declared.words.WordsError.{WordsError}
+use Rattle.gqlfmt_words.specs.declared.words.WordsError.TheVariants.{Usage, Memory}
+use Rattle.gqlfmt_words.specs.Words.{texts, Given, Run, run_given, given_by}
 
 -- what the words ask for that gave these settings and files, and then more
 abbrev pub run_after : Settings → List (List ℕ) → Given → Option Run

@@ -3,9 +3,9 @@ use Rattle.std.proofs.Common.{◌≡◌, ℕ, List, ◌++◌, refl, ap}
 use Rattle.std.specs.Prelude.{Option, Some, None, option_and_then, option_map}
 use Rattle.std.specs.Option.{option_to_list}
 use Rattle.gqlfmt_files.specs.declared.settling.Mode.{Mode}
-use Rattle.gqlfmt_files.specs.declared.words.Settings.{Settings}
-use Rattle.gqlfmt_files.specs.Words.{Given, at_most_one, with_recursion, with_tokens}
-use Rattle.gqlfmt_files.specs.Reading.{run_after}
+use Rattle.gqlfmt_words.specs.declared.words.Settings.{Settings}
+use Rattle.gqlfmt_words.specs.Words.{Given, at_most_one, with_recursion, with_tokens}
+use Rattle.gqlfmt_words.specs.Reading.{run_after}
 
 -- nothing comes of two limits, whatever the other options are given
 two-recursions : (modes : Option (Option Mode)) → option_and_then {U = Settings} (λ mode. None) modes ≡ None

@@ -4,13 +4,13 @@ use denote.Ref.{Bor}
 use Rattle.decimal_numbers.specs.Numbers.{number_of}
 use Rattle.gqlfmt_files.specs.declared.settling.Mode.{Mode}
 use Rattle.gqlfmt_files.specs.declared.settling.Mode.TheVariants.{Check, Diff}
-use Rattle.gqlfmt_files.specs.declared.words.Settings.{Settings}
-use Rattle.gqlfmt_files.specs.declared.words.Page.{Page}
-use Rattle.gqlfmt_files.specs.declared.words.Page.TheVariants.{Help, Version}
-use Rattle.gqlfmt_files.specs.declared.words.Request.{Request}
-use Rattle.gqlfmt_files.specs.declared.words.Request.TheVariants.{Print, Format}
-use Rattle.gqlfmt_files.specs.declared.words.WordsError.{WordsError}
-use Rattle.gqlfmt_files.specs.declared.words.WordsError.TheVariants.{Usage, Memory}
+use Rattle.gqlfmt_words.specs.declared.words.Settings.{Settings}
+use Rattle.gqlfmt_words.specs.declared.words.Page.{Page}
+use Rattle.gqlfmt_words.specs.declared.words.Page.TheVariants.{Help, Version}
+use Rattle.gqlfmt_words.specs.declared.words.Request.{Request}
+use Rattle.gqlfmt_words.specs.declared.words.Request.TheVariants.{Print, Format}
+use Rattle.gqlfmt_words.specs.declared.words.WordsError.{WordsError}
+use Rattle.gqlfmt_words.specs.declared.words.WordsError.TheVariants.{Usage, Memory}
 
 -- the words as they are
 abbrev pub texts : List (Bor (List ℕ)) → List (List ℕ)

@@ -1,11 +1,11 @@
 // What the words of the program ask for.
 ghost use Rattle.std.specs.Prelude.{◌≡◌, ◌∷◌, ◌≤◌, length, IfOk};
-ghost use Rattle.gqlfmt_files.specs.declared.words.WordsError.TheVariants.{Memory};
-ghost use Rattle.gqlfmt_files.specs.Words.{texts, is_option, takes_number, mode_of, with_mode, with_recursion, with_tokens, with_number, with_word, page_of, run_of, request_of, request_map, IsRead};
-ghost use Rattle.gqlfmt_files.specs.Reading.{IsSet, IsTaken, IsTakenFrom};
+ghost use Rattle.gqlfmt_words.specs.declared.words.WordsError.TheVariants.{Memory};
+ghost use Rattle.gqlfmt_words.specs.Words.{texts, is_option, takes_number, mode_of, with_mode, with_recursion, with_tokens, with_number, with_word, page_of, run_of, request_of, request_map, IsRead};
+ghost use Rattle.gqlfmt_words.specs.Reading.{IsSet, IsTaken, IsTakenFrom};
 
-use crate::settling::Mode;
 use decimal_numbers::number_of;
+use gqlfmt_files::Mode;
 use std::alloc::{AllocError, Allocator};
 
 /// What the options set. What is not set has its default.

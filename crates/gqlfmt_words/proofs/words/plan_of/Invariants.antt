@@ -1,8 +1,8 @@
 use Rattle.std.proofs.Common.{◌≡◌, ◌-◌, ◌≤◌, drop, length}
 use Rattle.std.specs.Prelude.{option_and_then}
-use Rattle.gqlfmt_files.specs.Words.{texts, given_by, run_of}
-use Rattle.gqlfmt_files.specs.Reading.{run_after}
-use Rattle.gqlfmt_files.proofs.words.plan_of.Given as goal
+use Rattle.gqlfmt_words.specs.Words.{texts, given_by, run_of}
+use Rattle.gqlfmt_words.specs.Reading.{run_after}
+use Rattle.gqlfmt_words.proofs.words.plan_of.Given as goal
 
 abbrev pub invariant-loop-place : goal.invariant-loop-place
 invariant-loop-place g l =
