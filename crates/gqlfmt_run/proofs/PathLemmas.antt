@@ -3,7 +3,7 @@ use Rattle.std.proofs.Common.{◌≡◌, ℕ, ◌+◌, ◌<◌, Bool, List, [], 
 use Rattle.std.specs.Ordering.{ord_max, nat_cmp}
 use Rattle.std.proofs.lemmas.Bool.Decides.{nat_tests}
 use Rattle.std.proofs.lemmas.List.{take_more, map-append}
-use Rattle.gqlcst_run.specs.declared.command.Limits.{Limits}
+use Rattle.gqlfmt_run.specs.declared.limits.Limits.{Limits}
 use Rattle.gqlfmt_files.specs.declared.settling.Mode.{Mode}
 use Rattle.gqlfmt_words.specs.Words.{texts}
 use Rattle.gqlfmt_run.specs.declared.fault.FileFault.{FileFault}

@@ -2,7 +2,7 @@
 use Rattle.std.specs.Prelude.{◌≡◌, ◌≢◌, ℕ, List, [], ◌∷◌, ◌++◌, string_bytes}
 use Rattle.formatter.specs.Outcome as format
 use Rattle.apollo_parser.specs.Diagnostics.{Diagnostic}
-use Rattle.gqlcst_run.specs.declared.command.Limits.{Limits}
+use Rattle.gqlfmt_run.specs.declared.limits.Limits.{Limits}
 use Rattle.gqlfmt_files.specs.declared.settling.Mode.{Mode}
 use Rattle.gqlfmt_files.specs.declared.settling.Mode.TheVariants.{Write, Check, Diff}
 use Rattle.gqlfmt_files.specs.declared.settling.Revised.{Revised}

@@ -1,10 +1,10 @@
 -- What a run of the program does, by what its words ask for.
 use Rattle.std.specs.Prelude.{◌≡◌, ◌⊎◌, ℕ, Bool, List, [], ◌∷◌, ◌++◌, Option, Some, None, Result, unwrap_or}
-use Rattle.gqlcst_run.specs.Command.{none_set}
+use Rattle.apollo_parser.specs.Answers.{usize_max}
 use Rattle.byte_devices.specs.Devices.{Account, moved}
 use Rattle.byte_devices.specs.Writing.{IsBroken}
 use Rattle.byte_devices.specs.Runs.{Reads, Writes}
-use Rattle.gqlcst_run.specs.declared.command.Limits.{Limits}
+use Rattle.gqlfmt_run.specs.declared.limits.Limits.{Limits}
 use Rattle.byte_devices.specs.declared.fault.Fault.{Fault}
 use Rattle.gqlfmt_words.specs.Words.{Run}
 use Rattle.gqlfmt_files.specs.declared.settling.Mode.{Mode}
@@ -19,6 +19,10 @@ use Rattle.gqlfmt_run.specs.declared.command.TheConstants.{USAGE, HELP, VERSION}
 use Rattle.gqlfmt_run.specs.Outcome.{status_of}
 use Rattle.gqlfmt_run.specs.Input.{IsOutput}
 use Rattle.gqlfmt_run.specs.Paths.{HandlesAll}
+
+-- the limits where no option sets them
+abbrev pub none_set : Limits
+none_set = record { recursion = 500; tokens = usize_max }
 
 -- the mode where no option sets it, and the limits
 abbrev pub mode_of : Settings → Mode

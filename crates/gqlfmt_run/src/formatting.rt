@@ -2,9 +2,9 @@
 ghost use Rattle.std.specs.Prelude.{IfOk};
 ghost use Rattle.gqlfmt_run.specs.Formatting.{IsRevised};
 
+use crate::limits::Limits;
 use apollo_parser::Error;
 use formatter::format;
-use gqlcst_run::Limits;
 use gqlfmt_files::Revised;
 use std::alloc::{AllocError, Allocator};
 

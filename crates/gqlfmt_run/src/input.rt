@@ -4,10 +4,10 @@ ghost use Rattle.byte_devices.specs.Runs.{Reads, Writes};
 ghost use Rattle.gqlfmt_run.specs.Input.{IsOutput, kept, outcome_of};
 
 use crate::formatting::revise;
+use crate::limits::Limits;
 use crate::report::complain;
 use crate::showing::shown;
 use byte_devices::{Fault, Sink, Source, read_to_end, write_all};
-use gqlcst_run::Limits;
 use gqlfmt_files::{Mode, Outcome, Revised};
 use std::alloc::{AllocError, Allocator};
 

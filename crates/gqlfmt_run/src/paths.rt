@@ -4,12 +4,12 @@ ghost use Rattle.gqlfmt_run.specs.Paths.{Handles, HandlesAll};
 
 use crate::fault::FileFault;
 use crate::formatting::revise;
+use crate::limits::Limits;
 use crate::outcome::status_of;
 use crate::report::{complain, tell_of_file};
 use crate::showing::shown;
 use apollo_parser::Error;
 use byte_devices::{Fault, Sink, write_all};
-use gqlcst_run::Limits;
 use gqlfmt_files::{Files, Mode, Outcome, Revised, settle};
 use std::alloc::Allocator;
 

@@ -8,11 +8,11 @@ ghost use Rattle.gqlfmt_run.specs.Program.{limits_of, page_text, IsPrinted, Form
 use crate::command::{HELP, USAGE, VERSION};
 use crate::fault::FileFault;
 use crate::input::{INPUT, format_input};
+use crate::limits::Limits;
 use crate::outcome::status_of;
 use crate::paths::format_files;
 use crate::report::tell;
 use byte_devices::{Fault, Sink, Source, write_all};
-use gqlcst_run::Limits;
 use gqlfmt_files::{Files, Mode};
 use gqlfmt_words::{Page, Plan, Request, Settings, WordsError, options};
 use std::alloc::Allocator;
