@@ -8,10 +8,10 @@ const AFTER: usize = 100;
 
 // What stands for a character: U+FFFD for each control character but a tab.
 fn shown(c: char) -> char {
-    match c {
-        '\t' => '\t',
-        '\0'..='\x1f' | '\x7f'..='\u{9f}' => '\u{FFFD}',
-        _ => c,
+    if c.is_control() && c != '\t' {
+        '\u{FFFD}'
+    } else {
+        c
     }
 }
 

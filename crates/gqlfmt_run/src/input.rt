@@ -52,7 +52,7 @@ fn output_of<A: Allocator + Copy, E: Sink>(
             Ok((outcome_of(mode), output))
         }
         Ok(Revised::Refused(errors)) => {
-            complain(alloc, complaints, INPUT, source, errors.as_slice())?;
+            complain(alloc, complaints, INPUT, source, errors)?;
             Ok((Outcome::Found, String::new(alloc)))
         }
         Err(error) => Err(error),

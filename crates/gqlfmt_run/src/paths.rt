@@ -26,7 +26,7 @@ fn show<A: Allocator + Copy, W: Sink, E: Sink>(
     match revised {
         Revised::Same => Ok(()),
         Revised::Refused(errors) => {
-            complain(alloc, complaints, path, source, errors.as_slice())?;
+            complain(alloc, complaints, path, source, errors)?;
             Ok(())
         }
         Revised::Changed(text) => {

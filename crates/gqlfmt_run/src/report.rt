@@ -63,9 +63,9 @@ pub fn complain<A: Allocator + Copy, E: Sink>(
     complaints: &mut E,
     name: &str,
     source: &str,
-    errors: &[Error<A>],
+    errors: Vec<Error<A>, A>,
 ) -> Result<(), AllocError> {
-    let report = render_report(alloc, name, source, errors)?;
+    let report = render_report(alloc, name, source, errors.as_slice())?;
     let _ = write_all(complaints, report.as_bytes());
     Ok(())
 }
