@@ -1,6 +1,6 @@
 // The formatter's program over words, texts and files of these tests, and the changes that it shows.
 use byte_devices::{StdSink, StdSource};
-use gqlfmt_run::{StdFiles, run, unified_diff};
+use gqlfmt_run::{Formatter, StdFiles, run, unified_diff};
 use std::alloc::{AllocError, Allocator, Global};
 use std::cell::Cell;
 use std::fs::{Metadata, OpenFile, OpenOptions, Permissions};
@@ -234,6 +234,7 @@ fn run_over(alloc: Global, disk: &Disk, input: &[u8], words: &[&str]) -> Ran {
     let mut told = Vec::new(alloc);
     let ended = run(
         alloc,
+        &Formatter,
         &mut StdSource::new(input),
         &mut StdSink::new(&mut written),
         &mut StdSink::new(&mut told),

@@ -1,7 +1,7 @@
 //! Formats a GraphQL document: the same document with another layout, or the errors of a text that is none.
 //!
 //! `format` parses the text and writes it anew. It keeps significant tokens and comments, in their order; only block strings may be spelled
-//! anew, with the same value.
+//! anew, with the same value. `DocumentFormatter` is the same as a trait, for callers that are proved without the code of the parser.
 #![tactic(auto)]
 
 ghost use Rattle.std.specs.Prelude.{◌≡◌, IfErr, IfOk, string_bytes};
@@ -86,4 +86,34 @@ pub fn format<A: Allocator + Copy>(
     }
     let text = format_document(alloc, source, &TreeElements { tree: &tree })?;
     Ok(Ok(text))
+}
+
+/// What formats documents.
+pub trait DocumentFormatter {
+    /// The document with another layout, or the errors of a text that is none within both limits, as the function `format` has it.
+    fn format<A: Allocator + Copy>(
+        &self,
+        alloc: A,
+        source: &str,
+        recursion_limit: usize,
+        token_limit: usize,
+    ) -> Result<Result<String<A>, Vec<Error<A>, A>>, AllocError>
+        ensures formatted { IfOk result (λ r. IfOk r (λ text. IsFormatted source.now recursion_limit token_limit (string_bytes text))) }
+        ensures refused { IfOk result (λ r. IfErr r (λ errors. IsRefused source.now recursion_limit token_limit errors.items)) };
+}
+
+/// The function `format`.
+#[derive(Clone, Copy)]
+pub struct Formatter;
+
+impl DocumentFormatter for Formatter {
+    fn format<A: Allocator + Copy>(
+        &self,
+        alloc: A,
+        source: &str,
+        recursion_limit: usize,
+        token_limit: usize,
+    ) -> Result<Result<String<A>, Vec<Error<A>, A>>, AllocError> {
+        format(alloc, source, recursion_limit, token_limit)
+    }
 }

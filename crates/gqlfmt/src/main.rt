@@ -5,7 +5,7 @@
 #![tactic(auto)]
 
 use byte_devices::{StdSink, StdSource};
-use gqlfmt_run::{StdFiles, run};
+use gqlfmt_run::{Formatter, StdFiles, run};
 use std::alloc::{AllocError, Global};
 use std::env;
 use std::process::ExitCode;
@@ -39,6 +39,7 @@ fn main(rt: HostRuntime) -> ExitCode {
     let mut files = StdFiles::new(&rt);
     let status = run(
         rt.alloc(),
+        &Formatter,
         &mut reader,
         &mut writer,
         &mut complaints,

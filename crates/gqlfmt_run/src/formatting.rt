@@ -4,19 +4,20 @@ ghost use Rattle.gqlfmt_run.specs.Formatting.{IsRevised};
 
 use crate::limits::Limits;
 use apollo_parser::Error;
-use formatter::format;
+use formatter::DocumentFormatter;
 use gqlfmt_files::Revised;
 use std::alloc::{AllocError, Allocator};
 
 /// Formats a text, and says whether that changes it.
-pub fn revise<A: Allocator + Copy>(
+pub fn revise<A: Allocator + Copy, L: DocumentFormatter>(
     alloc: A,
+    formatter: &L,
     source: &str,
     limits: Limits,
 ) -> Result<Revised<A, Vec<Error<A>, A>>, AllocError>
     ensures { IfOk result (IsRevised (λ errors. errors.items) limits source.now) }
 {
-    match format(alloc, source, limits.recursion, limits.tokens) {
+    match formatter.format(alloc, source, limits.recursion, limits.tokens) {
         Ok(Ok(text)) => {
             if text.as_str() == source {
                 return Ok(Revised::Same);

@@ -8,6 +8,7 @@ use crate::limits::Limits;
 use crate::report::complain;
 use crate::showing::shown;
 use byte_devices::{Fault, Sink, Source, read_to_end, write_all};
+use formatter::DocumentFormatter;
 use gqlfmt_files::{Mode, Outcome, Revised};
 use std::alloc::{AllocError, Allocator};
 
@@ -36,8 +37,9 @@ fn outcome_of(mode: Mode) -> Outcome
 
 // What is written of a text, and what came of it. Errors go to `complaints`.
 #[tactic(auto, using(crate::proofs::Outputs::of_same, crate::proofs::Outputs::of_changed, crate::proofs::Outputs::of_refused))]
-fn output_of<A: Allocator + Copy, E: Sink>(
+fn output_of<A: Allocator + Copy, L: DocumentFormatter, E: Sink>(
     alloc: A,
+    formatter: &L,
     complaints: &mut E,
     source: &str,
     mode: Mode,
@@ -45,7 +47,7 @@ fn output_of<A: Allocator + Copy, E: Sink>(
 ) -> Result<(Outcome, String<A>), AllocError>
     ensures { IfOk result (λ it. IsOutput mode limits source.now it.0 (string_bytes it.1)) }
 {
-    match revise(alloc, source, limits) {
+    match revise(alloc, formatter, source, limits) {
         Ok(Revised::Same) => Ok((Outcome::Done, kept(alloc, mode, source)?)),
         Ok(Revised::Changed(text)) => {
             let output = shown(alloc, mode, INPUT, source, text)?;
@@ -60,8 +62,9 @@ fn output_of<A: Allocator + Copy, E: Sink>(
 }
 
 /// Reads to the end, formats the whole text in memory, and then writes what the mode shows of it. Errors of the text go to `complaints`.
-pub fn format_input<A: Allocator + Copy, R: Source, W: Sink, E: Sink>(
+pub fn format_input<A: Allocator + Copy, L: DocumentFormatter, R: Source, W: Sink, E: Sink>(
     alloc: A,
+    formatter: &L,
     reader: &mut R,
     writer: &mut W,
     complaints: &mut E,
@@ -75,7 +78,7 @@ pub fn format_input<A: Allocator + Copy, R: Source, W: Sink, E: Sink>(
     let Ok(source) = str::from_utf8(bytes.as_slice()) else {
         return Err(Fault::Utf8);
     };
-    let (outcome, output) = output_of(alloc, complaints, source, mode, limits)?;
+    let (outcome, output) = output_of(alloc, formatter, complaints, source, mode, limits)?;
     write_all(writer, output.as_bytes())?;
     Ok(outcome)
 }

@@ -1,7 +1,8 @@
 //! What the program `gqlfmt` does between its words, its devices and the files that it formats.
 //!
 //! `run` formats the standard input or files, and can instead list what would change or show the changes. Errors have their line and column.
-//! Devices and files are type parameters, so that contracts can name what is read and written.
+//! Devices and files are type parameters, so that contracts can name what is read and written; and so is what formats a text, since a caller of the
+//! parser is proved over all of its code.
 #![tactic(auto)]
 
 mod command;
@@ -22,6 +23,7 @@ mod std_files;
 pub use command::{HELP, USAGE, VERSION};
 pub use diff::unified_diff;
 pub use fault::FileFault;
+pub use formatter::{DocumentFormatter, Formatter};
 pub use input::{INPUT, format_input};
 pub use limits::Limits;
 pub use paths::{format_file, format_files};

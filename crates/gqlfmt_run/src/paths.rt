@@ -10,6 +10,7 @@ use crate::report::{complain, tell_of_file};
 use crate::showing::shown;
 use apollo_parser::Error;
 use byte_devices::{Fault, Sink, write_all};
+use formatter::DocumentFormatter;
 use gqlfmt_files::{Files, Mode, Outcome, Revised, settle};
 use std::alloc::Allocator;
 
@@ -37,8 +38,9 @@ fn show<A: Allocator + Copy, W: Sink, E: Sink>(
 }
 
 /// Formats the file at a path: replaces it, or writes what the mode shows of the change. Errors of its text go to `complaints`.
-pub fn format_file<A: Allocator + Copy, F: Files, W: Sink, E: Sink>(
+pub fn format_file<A: Allocator + Copy, L: DocumentFormatter, F: Files, W: Sink, E: Sink>(
     alloc: A,
+    formatter: &L,
     files: &mut F,
     writer: &mut W,
     complaints: &mut E,
@@ -55,7 +57,7 @@ pub fn format_file<A: Allocator + Copy, F: Files, W: Sink, E: Sink>(
     let Ok(source) = str::from_utf8(bytes.as_slice()) else {
         return Err(FileFault::Device(Fault::Utf8));
     };
-    let revised = revise(alloc, source, limits)?;
+    let revised = revise(alloc, formatter, source, limits)?;
     match settle(files, path, mode, &revised) {
         Ok(Outcome::Done) => Ok(Outcome::Done),
         Ok(Outcome::Found) => {
@@ -67,8 +69,9 @@ pub fn format_file<A: Allocator + Copy, F: Files, W: Sink, E: Sink>(
 }
 
 /// Formats the files at these paths in order, also after one that fails, and gives the greatest of their statuses.
-pub fn format_files<A: Allocator + Copy, F: Files, W: Sink, E: Sink>(
+pub fn format_files<A: Allocator + Copy, L: DocumentFormatter, F: Files, W: Sink, E: Sink>(
     alloc: A,
+    formatter: &L,
     files: &mut F,
     writer: &mut W,
     complaints: &mut E,
@@ -80,7 +83,9 @@ pub fn format_files<A: Allocator + Copy, F: Files, W: Sink, E: Sink>(
 {
     let mut status = 0;
     for path in paths {
-        let ended = format_file(alloc, files, writer, complaints, path, mode, limits);
+        let ended = format_file(
+            alloc, formatter, files, writer, complaints, path, mode, limits,
+        );
         if let Err(fault) = &ended {
             tell_of_file(alloc, files, complaints, path, fault);
         }

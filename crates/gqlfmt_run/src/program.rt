@@ -13,6 +13,7 @@ use crate::outcome::status_of;
 use crate::paths::format_files;
 use crate::report::tell;
 use byte_devices::{Fault, Sink, Source, write_all};
+use formatter::DocumentFormatter;
 use gqlfmt_files::{Files, Mode};
 use gqlfmt_words::{Page, Plan, Request, Settings, WordsError, options};
 use std::alloc::Allocator;
@@ -50,8 +51,9 @@ fn print<W: Sink>(writer: &mut W, page: Page) -> u8
 }
 
 // Formats standard input, and gives the status.
-fn format_standard_input<A: Allocator + Copy, R: Source, W: Sink, E: Sink>(
+fn format_standard_input<A: Allocator + Copy, L: DocumentFormatter, R: Source, W: Sink, E: Sink>(
     alloc: A,
+    formatter: &L,
     reader: &mut R,
     writer: &mut W,
     complaints: &mut E,
@@ -60,7 +62,7 @@ fn format_standard_input<A: Allocator + Copy, R: Source, W: Sink, E: Sink>(
 ) -> u8
     ensures { FormatsInput mode limits result (R.account reader.old) (W.account writer.old) (R.account reader.new) (W.account writer.new) }
 {
-    let ended = format_input(alloc, reader, writer, complaints, mode, limits);
+    let ended = format_input(alloc, formatter, reader, writer, complaints, mode, limits);
     if let Err(fault) = ended {
         tell(alloc, complaints, INPUT, &FileFault::Device(fault));
     }
@@ -68,8 +70,9 @@ fn format_standard_input<A: Allocator + Copy, R: Source, W: Sink, E: Sink>(
 }
 
 // Formats the files of a plan, or standard input where it has none, and gives the status.
-fn format<A: Allocator + Copy, R: Source, W: Sink, E: Sink, F: Files>(
+fn format<A: Allocator + Copy, L: DocumentFormatter, R: Source, W: Sink, E: Sink, F: Files>(
     alloc: A,
+    formatter: &L,
     reader: &mut R,
     writer: &mut W,
     complaints: &mut E,
@@ -83,15 +86,18 @@ fn format<A: Allocator + Copy, R: Source, W: Sink, E: Sink, F: Files>(
     let mode = plan.settings.mode.unwrap_or(Mode::Write);
     let limits = limits_of(plan.settings);
     match plan.files.as_slice() {
-        [] => format_standard_input(alloc, reader, writer, complaints, mode, limits),
-        paths => format_files(alloc, files, writer, complaints, paths, mode, limits),
+        [] => format_standard_input(alloc, formatter, reader, writer, complaints, mode, limits),
+        paths => format_files(
+            alloc, formatter, files, writer, complaints, paths, mode, limits,
+        ),
     }
 }
 
 /// Does what the words after the program's name ask for, and gives the status: 0 when all is done, 1 when a text has errors or a mode that
 /// changes nothing found a change, 2 when something could not be done or the program is not called so.
-pub fn run<A: Allocator + Copy, R: Source, W: Sink, E: Sink, F: Files>(
+pub fn run<A: Allocator + Copy, L: DocumentFormatter, R: Source, W: Sink, E: Sink, F: Files>(
     alloc: A,
+    formatter: &L,
     reader: &mut R,
     writer: &mut W,
     complaints: &mut E,
@@ -104,7 +110,9 @@ pub fn run<A: Allocator + Copy, R: Source, W: Sink, E: Sink, F: Files>(
 {
     match options(alloc, words) {
         Ok(Request::Print(page)) => print(writer, page),
-        Ok(Request::Format(plan)) => format(alloc, reader, writer, complaints, files, &plan),
+        Ok(Request::Format(plan)) => format(
+            alloc, formatter, reader, writer, complaints, files, &plan,
+        ),
         Err(WordsError::Usage) => {
             let _ = write_all(complaints, USAGE.as_bytes());
             2
