@@ -8,6 +8,7 @@ use std::io::{self, ErrorKind, PipeReader, PipeWriter, Read, Seek, SeekFrom, Wri
 use std::os::fd::BorrowedFd;
 use std::os::unix::net::SocketAddr;
 use std::path::{Path, PathBuf};
+use std::process::Abort;
 use std::rt;
 use std::test::Fail;
 
@@ -248,26 +249,35 @@ fn run_over(alloc: Global, disk: &Disk, input: &[u8], words: &[&str]) -> Ran {
     }
 }
 
+fn expect_ran(rt: &(impl Abort + AllocGlobal), ran: &Ran, ended: u8, written: &str, told: &str) {
+    assert!(rt; ran.ended == ended);
+    assert!(rt; ran.written.as_slice() == written.as_bytes());
+    assert!(rt; ran.told.as_slice() == told.as_bytes());
+}
+
 #[test]
 fn formats_standard_input(rt: HostRuntime) {
     let ran = run_over(rt.alloc(), &Disk::new(0), b"{a}", &[]);
-    assert_eq!(rt; str::from_utf8(ran.written.as_slice()), Ok("{\n  a\n}\n"));
-    assert_eq!(rt; ran.ended, 0);
+    expect_ran(&rt, &ran, 0, "{\n  a\n}\n", "");
+}
+
+// Formats a file of a disk that fails after so many calls, and gives whether it did.
+fn expect_whole(rt: &(impl Abort + AllocGlobal), calls: u8) -> bool {
+    let disk = Disk::new(calls);
+    let ended = run_over(rt.alloc(), &disk, b"", &["a"]).ended;
+    assert!(rt; !disk.is_new_file_there.get());
+    assert!(rt; disk.is_replaced.get() == (ended == 0));
+    assert!(rt; disk.written.get() == 8 || ended != 0);
+    assert!(rt; ended == 0 || ended == 2);
+    ended == 0
 }
 
 #[test]
 fn leaves_a_file_whole(rt: HostRuntime) {
     let mut done = 0u8;
     for calls in 0..20 {
-        let disk = Disk::new(calls);
-        let ended = run_over(rt.alloc(), &disk, b"", &["a"]).ended;
-        assert!(rt; !disk.is_new_file_there.get());
-        assert_eq!(rt; disk.is_replaced.get(), ended == 0);
-        if ended == 0 {
-            assert_eq!(rt; disk.written.get(), 8);
+        if expect_whole(&rt, calls) {
             done = done.wrapping_add(1);
-        } else {
-            assert_eq!(rt; ended, 2);
         }
     }
     assert!(rt; done > 5);
@@ -278,14 +288,14 @@ fn names_a_file_that_is_left_over(rt: HostRuntime) {
     let disk = Disk::new(u8::MAX);
     disk.is_left_over.set(true);
     let ran = run_over(rt.alloc(), &disk, b"", &["b/a"]);
-    assert_eq!(rt;
-        str::from_utf8(ran.told.as_slice()),
-        Ok(
-            "gqlfmt: b/a: cannot replace: entity already exists\ngqlfmt: b/.a.gqlfmt: left over from an earlier run: remove it\n"
-        )
+    expect_ran(
+        &rt,
+        &ran,
+        2,
+        "",
+        "gqlfmt: b/a: cannot replace: entity already exists\ngqlfmt: b/.a.gqlfmt: left over from an earlier run: remove it\n",
     );
     assert!(rt; !disk.is_replaced.get());
-    assert_eq!(rt; ran.ended, 2);
 }
 
 #[test]
