@@ -105,6 +105,5 @@ pub fn answer_symbols(
     answer.put(&[Piece::Key("result"), Piece::Array])?;
     put_symbols(alloc, &mut answer, root, places)?;
     answer.put(&[Piece::EndArray])?;
-    let body = answer.finish()?;
-    Ok(body)
+    answer.finish()
 }
