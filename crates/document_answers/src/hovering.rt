@@ -1,6 +1,6 @@
 // What is said of a name.
-use crate::labels::{identifier_at, is_one_of, name_of};
-use crate::names::{NameKind, defines_type, meaning_of, named_by};
+use crate::labels::{child_of, identifier_at, is_one_of, name_of};
+use crate::names::{NameKind, defines_type, is_in, meaning_of, named_by};
 use crate::span::{Span, span_of};
 use apollo_cst_core::child;
 use apollo_cst_value::{Description, StringValue};
@@ -47,24 +47,14 @@ fn definition_of<'t>(root: SyntaxNode<'t>, kind: NameKind, name: &str) -> Option
     None
 }
 
-// The definition of the value that a node of an enum's value names.
-fn enum_value_definition<'t>(node: SyntaxNode<'t>) -> Option<SyntaxNode<'t>> {
-    let parent = node.parent()?;
-    if parent.kind().is(SyntaxKind::ENUM_VALUE_DEFINITION) {
-        Some(parent)
-    } else {
-        None
-    }
-}
-
 // The definition that tells of a name: that of its type or directive, or the field, argument or value that it names.
 fn described_by<'t>(root: SyntaxNode<'t>, leaf: SyntaxToken<'t>) -> Option<SyntaxNode<'t>> {
     if let Some(meaning) = meaning_of(leaf) {
         return definition_of(root, meaning.kind, leaf.text());
     }
     let named = named_by(leaf)?;
-    if named.kind().is(SyntaxKind::ENUM_VALUE) {
-        return enum_value_definition(named);
+    if is_in(named, SyntaxKind::ENUM_VALUE_DEFINITION) {
+        return named.parent();
     }
     if is_one_of(named.kind(), &DESCRIBED) {
         return Some(named);
@@ -75,14 +65,11 @@ fn described_by<'t>(root: SyntaxNode<'t>, leaf: SyntaxToken<'t>) -> Option<Synta
 /// The text of a definition without its description and without what is in braces.
 pub(crate) fn heading_of<'t>(source: &'t str, node: SyntaxNode<'_>) -> &'t str {
     let mut span = span_of(node.text_range());
-    for child in node.children() {
-        let part = span_of(child.text_range());
-        if child.kind().is(SyntaxKind::DESCRIPTION) {
-            span.start = part.end;
-        }
-        if is_one_of(child.kind(), &IN_BRACES) {
-            span.end = part.start;
-        }
+    if let Some(description) = child_of(node, &[SyntaxKind::DESCRIPTION]) {
+        span.start = description.text_range().end();
+    }
+    if let Some(braces) = child_of(node, &IN_BRACES) {
+        span.end = braces.text_range().start();
     }
     span.text(source).unwrap_or("").trim()
 }

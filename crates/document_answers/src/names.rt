@@ -55,8 +55,8 @@ pub(crate) fn extends_type(kind: SyntaxKind) -> bool {
     is_one_of(kind, &TYPE_EXTENSIONS)
 }
 
-// Whether the parent of a node is of a kind.
-fn is_in(node: SyntaxNode<'_>, kind: SyntaxKind) -> bool {
+/// Whether the parent of a node is of a kind.
+pub(crate) fn is_in(node: SyntaxNode<'_>, kind: SyntaxKind) -> bool {
     match node.parent() {
         Some(parent) => parent.kind().is(kind),
         None => false,
