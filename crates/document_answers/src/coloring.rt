@@ -5,7 +5,7 @@ ghost use Rattle.document_answers.specs.Parts.{AreInOrder, EndBefore, HasNoLineE
 use crate::labels::found_in;
 use crate::names::{defines_type, extends_type, named_by};
 use crate::span::{Span, span_of};
-use apollo_tree::{SyntaxKind, SyntaxNode, SyntaxToken};
+use apollo_tree::{SyntaxElement, SyntaxKind, SyntaxNode, SyntaxToken};
 use std::alloc::{AllocError, Global};
 
 /// What a token is, as the language server protocol names it.
@@ -158,7 +158,7 @@ pub fn semantic_tokens(
     let mut tokens = Vec::new(alloc);
     let mut end = 0;
     for element in root.descendants_with_tokens() {
-        if let Some(leaf) = element.into_token() {
+        if let SyntaxElement::Token(leaf) = element {
             let mut span = span_of(leaf.text_range());
             if span.start < within.end
                 && within.start < span.end

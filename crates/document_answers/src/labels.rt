@@ -4,7 +4,7 @@ ghost use Rattle.apollo_tree.specs.Order.{range_at};
 ghost use Rattle.apollo_tree.specs.References.{token_place};
 
 use crate::span::{Span, span_of};
-use apollo_tree::{SyntaxKind, SyntaxNode, SyntaxToken};
+use apollo_tree::{SyntaxElement, SyntaxKind, SyntaxNode, SyntaxToken};
 
 /// Whether a kind is one of these.
 pub(crate) fn is_one_of(kind: SyntaxKind, kinds: &[SyntaxKind]) -> bool {
@@ -68,7 +68,7 @@ pub(crate) fn identifier_at<'t>(root: SyntaxNode<'t>, offset: usize) -> Option<S
     ensures { IfSome result (λ leaf. ((range_at (token_place leaf)).0 ≤ offset) × (offset ≤ (range_at (token_place leaf)).1)) }
 {
     for element in root.descendants_with_tokens() {
-        if let Some(token) = element.into_token() {
+        if let SyntaxElement::Token(token) = element {
             let span = span_of(token.text_range());
             if span.start <= offset && offset <= span.end && token.kind().is(SyntaxKind::IDENT) {
                 return Some(token);

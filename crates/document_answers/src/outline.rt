@@ -1,7 +1,7 @@
 // What is in the outline of a document.
 use crate::labels::{child_of, found_in, name_of, type_of};
 use crate::span::{Span, span_of};
-use apollo_tree::{SyntaxKind, SyntaxNode, SyntaxToken};
+use apollo_tree::{SyntaxElement, SyntaxKind, SyntaxNode, SyntaxToken};
 
 /// What a part of a document is, with the protocol's number.
 #[derive(Clone, Copy)]
@@ -75,7 +75,7 @@ const SYMBOL_KINDS: [(SyntaxKind, SymbolKind); 24] = [
 // The first word of a node, unless a brace comes first.
 fn first_word<'t>(node: SyntaxNode<'t>) -> Option<SyntaxToken<'t>> {
     for element in node.descendants_with_tokens() {
-        if let Some(leaf) = element.into_token() {
+        if let SyntaxElement::Token(leaf) = element {
             let kind = leaf.kind();
             if kind.is(SyntaxKind::L_CURLY) {
                 return None;

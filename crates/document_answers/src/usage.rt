@@ -6,33 +6,33 @@ ghost use Rattle.document_answers.specs.Parts.{HasNameAt, IsTextAt, text_in};
 use crate::labels::identifier_at;
 use crate::names::{NameKind, meaning_of};
 use crate::span::{Span, span_of};
-use apollo_tree::{SyntaxKind, SyntaxNode, SyntaxToken};
+use apollo_tree::{SyntaxElement, SyntaxKind, SyntaxNode, SyntaxToken};
 use std::alloc::{AllocError, Global};
 
-// A name that is looked for: what it stands for, how it is written, and the part of the text in which it means this.
+// A name that is looked for: what it stands for, how it is written, and the node in which it means this.
 #[derive(Clone, Copy)]
 struct Sought<'t> {
     kind: NameKind,
     text: &'t str,
-    scope: Span,
+    scope: SyntaxNode<'t>,
 }
 
 // Where a name has its meaning: a variable of an operation there, any other name in the whole document.
-fn scope_of(root: SyntaxNode<'_>, leaf: SyntaxToken<'_>, kind: NameKind) -> Span {
+fn scope_of<'t>(root: SyntaxNode<'t>, leaf: SyntaxToken<'t>, kind: NameKind) -> SyntaxNode<'t> {
     if kind == NameKind::Variable
         && let Some(node) = leaf.parent()
     {
         for outer in node.ancestors() {
             if outer.kind().is(SyntaxKind::OPERATION_DEFINITION) {
-                return span_of(outer.text_range());
+                return outer;
             }
         }
     }
-    span_of(root.text_range())
+    root
 }
 
 // The name at a place of a text.
-fn sought_at<'t>(source: &'t str, root: SyntaxNode<'_>, offset: usize) -> Option<Sought<'t>>
+fn sought_at<'t>(source: &'t str, root: SyntaxNode<'t>, offset: usize) -> Option<Sought<'t>>
     ensures { IfSome result (λ sought. IsTextAt source.now offset sought.text.now) }
 {
     let leaf = identifier_at(root, offset)?;
@@ -45,14 +45,10 @@ fn sought_at<'t>(source: &'t str, root: SyntaxNode<'_>, offset: usize) -> Option
     })
 }
 
-// Whether a leaf defines what is looked for; `None` where it is another name, or none.
-fn defines(leaf: SyntaxToken<'_>, sought: Sought<'_>) -> Option<bool> {
-    let span = span_of(leaf.text_range());
-    if span.start < sought.scope.start || sought.scope.end < span.end {
-        return None;
-    }
+// Whether a leaf defines a name that stands for this; `None` where it is another name, or none.
+fn defines(leaf: SyntaxToken<'_>, kind: NameKind) -> Option<bool> {
     let meaning = meaning_of(leaf)?;
-    if meaning.kind == sought.kind {
+    if meaning.kind == kind {
         Some(meaning.defines)
     } else {
         None
@@ -76,9 +72,9 @@ pub fn definition(source: &str, root: SyntaxNode<'_>, offset: usize) -> Option<S
     ensures { IfSome result (HasNameAt source.now offset) }
 {
     let sought = sought_at(source, root, offset)?;
-    for element in root.descendants_with_tokens() {
-        if let Some(leaf) = element.into_token()
-            && defines(leaf, sought) == Some(true)
+    for element in sought.scope.descendants_with_tokens() {
+        if let SyntaxElement::Token(leaf) = element
+            && let Some(true) = defines(leaf, sought.kind)
         {
             let span = span_of(leaf.text_range());
             if has_name(source, span, sought) {
@@ -104,9 +100,9 @@ pub fn references(
     let Some(sought) = sought_at(source, root, offset) else {
         return Ok(found);
     };
-    for element in root.descendants_with_tokens() {
-        if let Some(leaf) = element.into_token()
-            && let Some(is_definition) = defines(leaf, sought)
+    for element in sought.scope.descendants_with_tokens() {
+        if let SyntaxElement::Token(leaf) = element
+            && let Some(is_definition) = defines(leaf, sought.kind)
             && (with_definition || !is_definition)
         {
             let span = span_of(leaf.text_range());
