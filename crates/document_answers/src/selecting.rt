@@ -18,11 +18,10 @@ pub fn selection(
     ensures nests { IfOk result (λ parts. AllPairs Encloses parts.items) }
 {
     let mut parts: Vec<Span> = Vec::new(alloc);
-    let mut smallest = span_of(root.text_range());
-    if !smallest.holds(offset) {
-        return Ok(parts);
-    }
-    parts.push(smallest)?;
+    let mut smallest = Span {
+        start: 0,
+        end: usize::MAX,
+    };
     for element in root.descendants_with_tokens() {
         let span = span_of(element.text_range());
         if span.holds(offset) && smallest.is_larger_than(span) {
