@@ -83,10 +83,8 @@ fn push_parts(
         push_range(pieces, places, "range", *part)?;
         front = &[Piece::Key("parent"), Piece::Object];
     }
-    for _ in parts {
-        pieces.extend_from_slice(&[Piece::EndObject])?;
-    }
-    Ok(())
+    let ended = pieces.len().saturating_add(parts.len());
+    pieces.resize(ended, Piece::EndObject)
 }
 
 // Adds the parts around a place, the smallest first. At the end of the text there is none but that end.
