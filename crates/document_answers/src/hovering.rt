@@ -3,7 +3,7 @@ use crate::labels::{child_of, identifier_at, is_one_of, name_of};
 use crate::names::{NameKind, defines_type, is_in, meaning_of, named_by};
 use crate::span::{Span, span_of};
 use apollo_cst_core::child;
-use apollo_cst_value::{Description, StringValue};
+use apollo_cst_value::Description;
 use apollo_tree::{SyntaxKind, SyntaxNode, SyntaxToken};
 use std::alloc::{AllocError, Global};
 
@@ -74,27 +74,26 @@ pub(crate) fn heading_of<'t>(source: &'t str, node: SyntaxNode<'_>) -> &'t str {
     span.text(source).unwrap_or("").trim()
 }
 
-// The string of a definition's description.
-fn described<'t>(node: SyntaxNode<'t>) -> Option<StringValue<'t>> {
-    let description: Description<'t> = child(&node)?;
-    description.string_value()
-}
-
 /// The value of a definition's description, empty where it has none. It fails only where memory is refused.
 pub(crate) fn description_of(alloc: Global, node: SyntaxNode<'_>) -> Result<String, AllocError> {
-    match described(node) {
-        Some(value) => value.to_string_in(alloc),
-        None => Ok(String::new(alloc)),
+    if let Some(description) = child::<Description<'_>>(&node)
+        && let Some(value) = description.string_value()
+    {
+        return value.to_string_in(alloc);
     }
+    Ok(String::new(alloc))
 }
 
 /// What the document says of the name at a place, or that ends there: of a type or a directive by its definition, and of a field, an argument or
 /// a value where that is defined. `None` where it says nothing.
 pub fn hover_at<'t>(root: SyntaxNode<'t>, offset: usize) -> Option<Hover<'t>> {
-    let leaf = identifier_at(root, offset)?;
-    let definition = described_by(root, leaf)?;
-    Some(Hover {
-        span: span_of(leaf.text_range()),
-        definition,
-    })
+    if let Some(leaf) = identifier_at(root, offset)
+        && let Some(definition) = described_by(root, leaf)
+    {
+        return Some(Hover {
+            span: span_of(leaf.text_range()),
+            definition,
+        });
+    }
+    None
 }

@@ -90,13 +90,14 @@ pub(crate) fn named_by<'t>(leaf: SyntaxToken<'t>) -> Option<SyntaxNode<'t>> {
 
 /// What an identifier stands for, where it is the name of something that a document defines.
 pub fn meaning_of(leaf: SyntaxToken<'_>) -> Option<Meaning> {
-    if !leaf.kind().is(SyntaxKind::IDENT) {
-        return None;
+    if leaf.kind().is(SyntaxKind::IDENT)
+        && let Some(named) = named_by(leaf)
+        && let Some(kind) = kind_in(named.kind())
+    {
+        return Some(Meaning {
+            kind,
+            defines: is_defined_in(named),
+        });
     }
-    let named = named_by(leaf)?;
-    let kind = kind_in(named.kind())?;
-    Some(Meaning {
-        kind,
-        defines: is_defined_in(named),
-    })
+    None
 }

@@ -35,20 +35,24 @@ fn scope_of<'t>(root: SyntaxNode<'t>, leaf: SyntaxToken<'t>, kind: NameKind) -> 
 fn sought_at<'t>(source: &'t str, root: SyntaxNode<'t>, offset: usize) -> Option<Sought<'t>>
     ensures { IfSome result (λ sought. IsTextAt source.now offset sought.text.now) }
 {
-    let leaf = identifier_at(root, offset)?;
-    let kind = meaning_of(leaf)?.kind;
-    let text = span_of(leaf.text_range()).text(source)?;
-    Some(Sought {
-        kind,
-        text,
-        scope: scope_of(root, leaf, kind),
-    })
+    if let Some(leaf) = identifier_at(root, offset)
+        && let Some(meaning) = meaning_of(leaf)
+        && let Some(text) = span_of(leaf.text_range()).text(source)
+    {
+        return Some(Sought {
+            kind: meaning.kind,
+            text,
+            scope: scope_of(root, leaf, meaning.kind),
+        });
+    }
+    None
 }
 
 // Whether a leaf defines a name that stands for this; `None` where it is another name, or none.
 fn defines(leaf: SyntaxToken<'_>, kind: NameKind) -> Option<bool> {
-    let meaning = meaning_of(leaf)?;
-    if meaning.kind == kind {
+    if let Some(meaning) = meaning_of(leaf)
+        && meaning.kind == kind
+    {
         Some(meaning.defines)
     } else {
         None
