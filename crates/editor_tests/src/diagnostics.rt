@@ -11,31 +11,48 @@ use std::test::Fail;
 // The first character takes 4 bytes, and 2 units of UTF-16.
 const TEXT: &str = "\u{1F600}b\nc";
 
+// The notice of errors of the text.
+fn notice_of(
+    alloc: Global,
+    encoding: PositionEncoding,
+    version: Option<i64>,
+    errors: &[Error],
+) -> Result<Vec<u8>, AllocError> {
+    let places = Places::new(alloc, TEXT, encoding)?;
+    publication(alloc, "a", version, &places, errors)
+}
+
 // The notice of one error.
 fn one_error(alloc: Global) -> Result<Vec<u8>, AllocError> {
-    let places = Places::new(alloc, TEXT, PositionEncoding::Utf16)?;
     let error = Error::from_static(alloc, "no", "b", 4)?;
-    publication(alloc, "a", Some(3), &places, slice::from_ref(&error))
+    notice_of(
+        alloc,
+        PositionEncoding::Utf16,
+        Some(3),
+        slice::from_ref(&error),
+    )
 }
 
+const PUBLISHED: &str =
+    r#"{"jsonrpc":"2.0","method":"textDocument/publishDiagnostics","params":{"uri":"a","version":3,"diagnostics":[{"range":{"start":{"line":0,"character":2},"end":{"line":0,"character":3}},"severity":1,"source":"gqlls","message":"no"}]}}"#;
+
 #[test]
-fn publishes_errors(rt: HostRuntime) -> Result<(), Fail> {
-    let wanted =
-        r#"{"jsonrpc":"2.0","method":"textDocument/publishDiagnostics","params":{"uri":"a","version":3,"diagnostics":[{"range":{"start":{"line":0,"character":2},"end":{"line":0,"character":3}},"severity":1,"source":"gqlls","message":"no"}]}}"#;
-    expect(&rt, one_error(rt.alloc())?, wanted);
+fn publishes_errors(rt: HostRuntime) -> Result<(), AllocError> {
+    expect(&rt, one_error(rt.alloc())?, PUBLISHED);
+    Ok(())
+}
+
+const WITHDRAWN: &str =
+    r#"{"jsonrpc":"2.0","method":"textDocument/publishDiagnostics","params":{"uri":"a","diagnostics":[]}}"#;
+
+#[test]
+fn takes_errors_back(rt: HostRuntime) -> Result<(), AllocError> {
+    expect(&rt, withdrawal(rt.alloc(), "a")?, WITHDRAWN);
     Ok(())
 }
 
 #[test]
-fn takes_errors_back(rt: HostRuntime) -> Result<(), Fail> {
-    let wanted =
-        r#"{"jsonrpc":"2.0","method":"textDocument/publishDiagnostics","params":{"uri":"a","diagnostics":[]}}"#;
-    expect(&rt, withdrawal(rt.alloc(), "a")?, wanted);
-    Ok(())
-}
-
-#[test]
-fn finds_an_offset(rt: HostRuntime) -> Result<(), Fail> {
+fn finds_an_offset(rt: HostRuntime) -> Result<(), AllocError> {
     let places = Places::new(rt.alloc(), TEXT, PositionEncoding::Utf8)?;
     assert!(rt; places.offset(Position { line: 1, column: 0 }) == 6);
     Ok(())
@@ -54,13 +71,15 @@ fn expect_end(rt: &impl Abort, body: Vec<u8>, wanted: &str) {
     assert!(rt; body.as_slice().ends_with(wanted.as_bytes()));
 }
 
+// The end of a notice of 103 errors.
+const THREE_MORE: &str =
+    r#""character":0}},"severity":1,"source":"gqlls","message":"3 more errors"}]}}"#;
+
 #[test]
 fn says_how_many_more(rt: HostRuntime) -> Result<(), Fail> {
     let alloc = rt.alloc();
     let errors = errors_at_the_end(alloc, 103)?;
-    let places = Places::new(alloc, TEXT, PositionEncoding::Utf8)?;
-    let body = publication(alloc, "a", None, &places, errors.as_slice())?;
-    let wanted = r#""character":0}},"severity":1,"source":"gqlls","message":"3 more errors"}]}}"#;
-    expect_end(&rt, body, wanted);
+    let body = notice_of(alloc, PositionEncoding::Utf8, None, errors.as_slice())?;
+    expect_end(&rt, body, THREE_MORE);
     Ok(())
 }

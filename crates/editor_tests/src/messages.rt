@@ -3,7 +3,6 @@ use json::Value;
 use rpc_messages::{Piece, Reply, Service, answer, code, handle, notice, refusal};
 use std::alloc::{AllocError, Global};
 use std::process::Abort;
-use std::test::Fail;
 
 // Knows no method but `exit`.
 #[derive(Drop)]
@@ -45,29 +44,44 @@ pub(crate) fn expect(rt: &impl Abort, body: Vec<u8>, wanted: &str) {
     assert!(rt; body.as_slice() == wanted.as_bytes());
 }
 
+const REQUEST: &str = r#"{"jsonrpc":"2.0","id":7,"method":"x"}"#;
+
+const REFUSED: &str = r#"{"jsonrpc":"2.0","id":7,"error":{"code":-32601,"message":"no"}}"#;
+
+const NOTIFICATION: &str = r#"{"jsonrpc":"2.0","method":"x"}"#;
+
+const NOT_JSON: &str =
+    r#"{"jsonrpc":"2.0","id":null,"error":{"code":-32700,"message":"not JSON"}}"#;
+
 #[test]
-fn messages(rt: HostRuntime) -> Result<(), Fail> {
-    let alloc = rt.alloc();
-    let request = r#"{"jsonrpc":"2.0","id":7,"method":"x"}"#;
-    let refused = r#"{"jsonrpc":"2.0","id":7,"error":{"code":-32601,"message":"no"}}"#;
-    expect(&rt, answer_to(alloc, request)?, refused);
-    expect(
-        &rt,
-        answer_to(alloc, r#"{"jsonrpc":"2.0","method":"x"}"#)?,
-        "",
-    );
-    let not_json = r#"{"jsonrpc":"2.0","id":null,"error":{"code":-32700,"message":"not JSON"}}"#;
-    expect(&rt, answer_to(alloc, "{")?, not_json);
-    let counts = [1, 20];
-    let member = [
-        Piece::Key("result"),
-        Piece::Array,
-        Piece::Counts(&counts),
-        Piece::EndArray,
-    ];
-    let wanted = r#"{"jsonrpc":"2.0","id":"a","result":[1,20]}"#;
-    expect(&rt, answer(alloc, &Value::String("a"), &member)?, wanted);
-    let wanted = r#"{"jsonrpc":"2.0","method":"x","params":true}"#;
-    expect(&rt, notice(alloc, "x", &[Piece::Flag(true)])?, wanted);
+fn messages(rt: HostRuntime) -> Result<(), AllocError> {
+    expect(&rt, answer_to(rt.alloc(), REQUEST)?, REFUSED);
+    expect(&rt, answer_to(rt.alloc(), NOTIFICATION)?, "");
+    expect(&rt, answer_to(rt.alloc(), "{")?, NOT_JSON);
+    Ok(())
+}
+
+// The member of an answer.
+const MEMBER: [Piece<'static>; 4] = [
+    Piece::Key("result"),
+    Piece::Array,
+    Piece::Counts(&[1, 20]),
+    Piece::EndArray,
+];
+
+const ANSWERED: &str = r#"{"jsonrpc":"2.0","id":"a","result":[1,20]}"#;
+
+#[test]
+fn answers_by_pieces(rt: HostRuntime) -> Result<(), AllocError> {
+    let body = answer(rt.alloc(), &Value::String("a"), &MEMBER)?;
+    expect(&rt, body, ANSWERED);
+    Ok(())
+}
+
+const NOTICED: &str = r#"{"jsonrpc":"2.0","method":"x","params":true}"#;
+
+#[test]
+fn notices_by_pieces(rt: HostRuntime) -> Result<(), AllocError> {
+    expect(&rt, notice(rt.alloc(), "x", &[Piece::Flag(true)])?, NOTICED);
     Ok(())
 }
