@@ -24,6 +24,16 @@ const POSITIONS: [Row; 7] = [
     (UTF8, 1, 6, 8),
 ];
 
+// Of a line of a hundred times two characters.
+const LONG_POSITIONS: [Row; 6] = [
+    (UTF16, 0, 0, 0),
+    (UTF16, 0, 96, 192),
+    (UTF16, 0, 149, 296),
+    (UTF16, 0, 150, 300),
+    (UTF16, 0, 299, 596),
+    (UTF16, 0, 300, 600),
+];
+
 // Beyond a line, beyond the last line, and inside a character.
 const OTHER_POSITIONS: [Row; 6] = [
     (UTF16, 1, 99, 9),
@@ -34,22 +44,28 @@ const OTHER_POSITIONS: [Row; 6] = [
     (UTF8, 1, 5, 4),
 ];
 
-fn check_position(rt: &impl Abort, alloc: Global, row: Row) -> Result<(), AllocError> {
-    let (encoding, line, column, offset) = row;
+fn check_position(rt: &impl Abort, alloc: Global, row: &Row) -> Result<(), AllocError> {
+    let (encoding, line, column, offset) = *row;
     let lines = LineIndex::new(alloc, TEXT)?;
     assert!(rt; offset <= TEXT.len());
     assert!(rt; lines.position(encoding, offset) == Position { line, column });
     Ok(())
 }
 
-fn check_offset(rt: &impl Abort, lines: &LineIndex<'_>, row: Row) {
-    let (encoding, line, column, offset) = row;
+fn check_offset(rt: &impl Abort, lines: &LineIndex<'_>, row: &Row) {
+    let (encoding, line, column, offset) = *row;
     assert!(rt; lines.offset(encoding, Position { line, column }) == offset);
+}
+
+fn check_offsets(rt: &impl Abort, lines: &LineIndex<'_>, rows: &[Row]) {
+    for row in rows {
+        check_offset(rt, lines, row);
+    }
 }
 
 #[test]
 fn finds_positions(rt: HostRuntime) -> Result<(), AllocError> {
-    for row in POSITIONS {
+    for row in &POSITIONS {
         check_position(&rt, rt.alloc(), row)?;
     }
     Ok(())
@@ -58,38 +74,16 @@ fn finds_positions(rt: HostRuntime) -> Result<(), AllocError> {
 #[test]
 fn finds_offsets(rt: HostRuntime) -> Result<(), AllocError> {
     let lines = LineIndex::new(rt.alloc(), TEXT)?;
-    for row in POSITIONS {
-        check_offset(&rt, &lines, row);
-    }
-    for row in OTHER_POSITIONS {
-        check_offset(&rt, &lines, row);
-    }
+    check_offsets(&rt, &lines, &POSITIONS);
+    check_offsets(&rt, &lines, &OTHER_POSITIONS);
     Ok(())
-}
-
-// A line of a hundred times two characters.
-fn long_line(alloc: Global) -> Result<String, AllocError> {
-    let mut text = String::new(alloc);
-    for _ in 0..100u8 {
-        text.push_str("\u{e9}\u{1F600}")?;
-    }
-    Ok(text)
 }
 
 #[test]
 fn finds_columns_of_a_long_line(rt: HostRuntime) -> Result<(), AllocError> {
-    let text = long_line(rt.alloc())?;
+    let text = "\u{e9}\u{1F600}".repeat(rt.alloc(), 100)?;
     let lines = LineIndex::new(rt.alloc(), text.as_str())?;
-    for (column, offset) in [
-        (0, 0),
-        (96, 192),
-        (149, 296),
-        (150, 300),
-        (299, 596),
-        (300, 600),
-    ] {
-        check_offset(&rt, &lines, (UTF16, 0, column, offset));
-    }
+    check_offsets(&rt, &lines, &LONG_POSITIONS);
     Ok(())
 }
 
@@ -125,12 +119,16 @@ const CHANGES: [Change<'static>; 4] = [
 // The text after each of them.
 const CHANGED: [&str; 4] = ["a\n\u{e9}xyzb\r\n\rend", "abc\rend", "ab-c\rend", "new"];
 
+fn expect_text(rt: &impl Abort, document: &OpenDocument, wanted: &str) {
+    assert!(rt; document.text() == wanted);
+}
+
 #[test]
 fn changes_texts(rt: HostRuntime) -> Result<(), AllocError> {
     let mut document = OpenDocument::new(rt.alloc(), UTF16, TEXT)?;
     for place in 0..CHANGES.len() {
         document.change(rt.alloc(), &CHANGES[place])?;
-        assert!(rt; document.text() == CHANGED[place]);
+        expect_text(&rt, &document, CHANGED[place]);
     }
     Ok(())
 }
@@ -139,7 +137,7 @@ fn changes_texts(rt: HostRuntime) -> Result<(), AllocError> {
 fn changes_texts_at_once(rt: HostRuntime) -> Result<(), AllocError> {
     let mut document = OpenDocument::new(rt.alloc(), UTF16, TEXT)?;
     document.change_all(rt.alloc(), &CHANGES[..3])?;
-    assert!(rt; document.text() == "ab-c\rend");
+    expect_text(&rt, &document, CHANGED[2]);
     assert!(rt; document.encoding() == UTF16);
     Ok(())
 }
