@@ -6,7 +6,6 @@ use line_index::{Position, PositionEncoding};
 use std::alloc::{AllocError, Global};
 use std::process::Abort;
 use std::slice;
-use std::test::Fail;
 
 // The first character takes 4 bytes, and 2 units of UTF-16.
 const TEXT: &str = "\u{1F600}b\nc";
@@ -59,11 +58,9 @@ fn finds_an_offset(rt: HostRuntime) -> Result<(), AllocError> {
 }
 
 // So many errors at the end of the text.
-fn errors_at_the_end(alloc: Global, count: u8) -> Result<Vec<Error>, Fail> {
+fn errors_at_the_end(alloc: Global, count: usize) -> Result<Vec<Error>, AllocError> {
     let mut errors = Vec::new(alloc);
-    for _ in 0..count {
-        errors.push(Error::eof_from_static("end", 7))?;
-    }
+    errors.resize_with(count, || Error::eof_from_static("end", 7))?;
     Ok(errors)
 }
 
@@ -76,7 +73,7 @@ const THREE_MORE: &str =
     r#""character":0}},"severity":1,"source":"gqlls","message":"3 more errors"}]}}"#;
 
 #[test]
-fn says_how_many_more(rt: HostRuntime) -> Result<(), Fail> {
+fn says_how_many_more(rt: HostRuntime) -> Result<(), AllocError> {
     let alloc = rt.alloc();
     let errors = errors_at_the_end(alloc, 103)?;
     let body = notice_of(alloc, PositionEncoding::Utf8, None, errors.as_slice())?;
