@@ -21,25 +21,19 @@ impl Inside {
     /// What the children of a node of this kind are to each other.
     #[inline(always)]
     pub fn of(kind: SyntaxKind) -> Inside {
-        if kind == SyntaxKind::SELECTION_SET
-            || kind == SyntaxKind::FIELDS_DEFINITION
-            || kind == SyntaxKind::ENUM_VALUES_DEFINITION
-            || kind == SyntaxKind::INPUT_FIELDS_DEFINITION
-        {
-            Inside::Braces
-        } else if kind == SyntaxKind::ARGUMENTS
-            || kind == SyntaxKind::ARGUMENTS_DEFINITION
-            || kind == SyntaxKind::VARIABLE_DEFINITIONS
-            || kind == SyntaxKind::LIST_VALUE
-            || kind == SyntaxKind::OBJECT_VALUE
-        {
-            Inside::List
-        } else if kind == SyntaxKind::SCHEMA_DEFINITION || kind == SyntaxKind::SCHEMA_EXTENSION {
-            Inside::Schema
-        } else if kind == SyntaxKind::DOCUMENT {
-            Inside::Document
-        } else {
-            Inside::Construct
+        match kind {
+            SyntaxKind::SELECTION_SET
+            | SyntaxKind::FIELDS_DEFINITION
+            | SyntaxKind::ENUM_VALUES_DEFINITION
+            | SyntaxKind::INPUT_FIELDS_DEFINITION => Inside::Braces,
+            SyntaxKind::ARGUMENTS
+            | SyntaxKind::ARGUMENTS_DEFINITION
+            | SyntaxKind::VARIABLE_DEFINITIONS
+            | SyntaxKind::LIST_VALUE
+            | SyntaxKind::OBJECT_VALUE => Inside::List,
+            SyntaxKind::SCHEMA_DEFINITION | SyntaxKind::SCHEMA_EXTENSION => Inside::Schema,
+            SyntaxKind::DOCUMENT => Inside::Document,
+            _ => Inside::Construct,
         }
     }
 }
@@ -47,16 +41,19 @@ impl Inside {
 /// Whether a node of this kind always holds one token and nothing else.
 #[inline(always)]
 pub fn is_word(kind: SyntaxKind) -> bool {
-    kind == SyntaxKind::NAME
-        || kind == SyntaxKind::NAMED_TYPE
-        || kind == SyntaxKind::OPERATION_TYPE
-        || kind == SyntaxKind::DESCRIPTION
-        || kind == SyntaxKind::STRING_VALUE
-        || kind == SyntaxKind::INT_VALUE
-        || kind == SyntaxKind::FLOAT_VALUE
-        || kind == SyntaxKind::BOOLEAN_VALUE
-        || kind == SyntaxKind::NULL_VALUE
-        || kind == SyntaxKind::ENUM_VALUE
+    matches!(
+        kind,
+        SyntaxKind::NAME
+            | SyntaxKind::NAMED_TYPE
+            | SyntaxKind::OPERATION_TYPE
+            | SyntaxKind::DESCRIPTION
+            | SyntaxKind::STRING_VALUE
+            | SyntaxKind::INT_VALUE
+            | SyntaxKind::FLOAT_VALUE
+            | SyntaxKind::BOOLEAN_VALUE
+            | SyntaxKind::NULL_VALUE
+            | SyntaxKind::ENUM_VALUE
+    )
 }
 
 /// Whether a leaf of this kind is an opening bracket.
