@@ -59,13 +59,19 @@ pub fn is_word(kind: SyntaxKind) -> bool {
 /// Whether a leaf of this kind is an opening bracket.
 #[inline(always)]
 pub fn opens(kind: SyntaxKind) -> bool {
-    kind == SyntaxKind::L_PAREN || kind == SyntaxKind::L_BRACK || kind == SyntaxKind::L_CURLY
+    matches!(
+        kind,
+        SyntaxKind::L_PAREN | SyntaxKind::L_BRACK | SyntaxKind::L_CURLY
+    )
 }
 
 /// Whether a leaf of this kind is a closing bracket.
 #[inline(always)]
 pub fn closes(kind: SyntaxKind) -> bool {
-    kind == SyntaxKind::R_PAREN || kind == SyntaxKind::R_BRACK || kind == SyntaxKind::R_CURLY
+    matches!(
+        kind,
+        SyntaxKind::R_PAREN | SyntaxKind::R_BRACK | SyntaxKind::R_CURLY
+    )
 }
 
 /// Whether what follows this child has a line of its own between braces: in a schema, what follows the opening brace or a root operation.
@@ -74,7 +80,10 @@ pub fn is_in_braces(inside: Inside, left: SyntaxKind) -> bool {
     match inside {
         Inside::Braces => true,
         Inside::Schema => {
-            left == SyntaxKind::L_CURLY || left == SyntaxKind::ROOT_OPERATION_TYPE_DEFINITION
+            matches!(
+                left,
+                SyntaxKind::L_CURLY | SyntaxKind::ROOT_OPERATION_TYPE_DEFINITION
+            )
         }
         _ => false,
     }
@@ -83,15 +92,21 @@ pub fn is_in_braces(inside: Inside, left: SyntaxKind) -> bool {
 // Whether nothing is between two neighbours below a node of this kind.
 #[inline(always)]
 fn is_tight(parent: SyntaxKind, left: SyntaxKind, right: SyntaxKind) -> bool {
-    right == SyntaxKind::COLON
-        || right == SyntaxKind::BANG
-        || right == SyntaxKind::ARGUMENTS
-        || right == SyntaxKind::ARGUMENTS_DEFINITION
-        || left == SyntaxKind::AT
-        || left == SyntaxKind::DOLLAR
-        || parent == SyntaxKind::LIST_TYPE
-        || (parent == SyntaxKind::FRAGMENT_SPREAD && left == SyntaxKind::SPREAD)
-        || (right == SyntaxKind::VARIABLE_DEFINITIONS && left == SyntaxKind::NAME)
+    let joins_left = match right {
+        SyntaxKind::COLON
+        | SyntaxKind::BANG
+        | SyntaxKind::ARGUMENTS
+        | SyntaxKind::ARGUMENTS_DEFINITION => true,
+        SyntaxKind::VARIABLE_DEFINITIONS => left == SyntaxKind::NAME,
+        _ => false,
+    };
+    joins_left
+        || matches!(left, SyntaxKind::AT | SyntaxKind::DOLLAR)
+        || match parent {
+            SyntaxKind::LIST_TYPE => true,
+            SyntaxKind::FRAGMENT_SPREAD => left == SyntaxKind::SPREAD,
+            _ => false,
+        }
 }
 
 /// What is between two neighbours below a node of this kind while no list breaks.

@@ -316,15 +316,16 @@ impl<'t, E: Elements, A: Allocator + Copy> Walk<'t, E, A> {
         index: usize,
         open: &mut Vec<Frame, A>,
     ) -> Result<(), AllocError> {
-        if kind == SyntaxKind::COMMA {
-            return Ok(());
-        }
-        if kind == SyntaxKind::WHITESPACE {
-            if self.blank.is_some() {
-                self.line_ends = self.line_ends();
+        match kind {
+            SyntaxKind::COMMA => return Ok(()),
+            SyntaxKind::WHITESPACE => {
+                if self.blank.is_some() {
+                    self.line_ends = self.line_ends();
+                }
+                self.blank = Some(self.here);
+                return Ok(());
             }
-            self.blank = Some(self.here);
-            return Ok(());
+            _ => {}
         }
         self.leave_before(index, open);
         let Some(parent) = open.last_mut() else {
