@@ -10,7 +10,7 @@ const TWO: &str = "content-length:  5\r\nContent-Type: x\r\n\r\nhelloContent-Len
 // The same, both as `rpc_frames` writes them.
 const TWO_WRITTEN: &str = "Content-Length: 5\r\n\r\nhelloContent-Length: 2\r\n\r\n{}";
 
-// Takes the next body, if it is there, and frames it behind the others.
+// Takes the next body, if it is there, and frames it after the others.
 fn take_body(
     alloc: Global,
     buffer: &mut FrameBuffer,
