@@ -1,20 +1,15 @@
--- What a run of the program reads, and what it writes in each mode.
-use Rattle.std.specs.Prelude.{◌≡◌, ℕ, ◌⊎◌, List, Result, Ok, Err}
-use Rattle.std.specs.Str.{IsUtf8}
+-- What the program writes in each mode.
+use Rattle.std.specs.Prelude.{◌≡◌, ℕ, List}
 use Rattle.apollo_parser.specs.Cut.{Cut}
 use Rattle.apollo_parser.specs.Reads.{items_of}
 use Rattle.apollo_parser.specs.Answers.{limited}
 use Rattle.apollo_parser.specs.Diagnostics.{Diagnostic}
-use Rattle.byte_devices.specs.Devices.{Account, moved, stopped, failed}
 use Rattle.gqlcst_run.specs.Parsing.{outcome_of, IsFound}
 use Rattle.gqlcst_run.specs.Rendering.{AreLines, IsAnswerForm, IsVerdict, error_count}
-use Rattle.byte_devices.specs.Writing.{IsBroken}
 use Rattle.gqlcst_run.specs.declared.command.Mode.{Mode}
 use Rattle.gqlcst_run.specs.declared.command.Mode.TheVariants.{Check, Tokens, Tree}
 use Rattle.gqlcst_run.specs.declared.command.Limits.{Limits}
 use Rattle.gqlcst_run.specs.declared.outcome.Outcome.{Outcome}
-use Rattle.byte_devices.specs.declared.fault.Fault.{Fault}
-use Rattle.byte_devices.specs.declared.fault.Fault.TheVariants.{Read, Utf8, Memory, Write}
 
 -- What is written of a text in mode check: `clean`, or the errors that are found in it and their number.
 pub record IsCheck (limits : Limits) (text : List ℕ) (outcome : Outcome) (output : List ℕ) : Type 0 where
