@@ -1,7 +1,7 @@
 // The formatter's program over words, texts and files of these tests, and the changes that it shows.
 use byte_devices::{StdSink, StdSource};
 use gqlfmt_run::{Formatter, StdFiles, run, unified_diff};
-use std::alloc::{AllocError, Allocator, Global};
+use std::alloc::{Allocator, Global};
 use std::cell::Cell;
 use std::fs::{Metadata, OpenFile, OpenOptions, Permissions};
 use std::io::{self, ErrorKind, PipeReader, PipeWriter, Read, Seek, SeekFrom, Write};

@@ -3,7 +3,7 @@ ghost use Rattle.std.specs.Prelude.{◌≤◌, IfSome};
 ghost use Rattle.apollo_tree.specs.Order.{range_at};
 ghost use Rattle.apollo_tree.specs.References.{token_place};
 
-use crate::span::{Span, span_of};
+use crate::span::span_of;
 use apollo_tree::{SyntaxElement, SyntaxKind, SyntaxNode, SyntaxToken};
 
 /// Whether a kind is one of these.

@@ -1,5 +1,5 @@
 // What the words of the program ask for.
-ghost use Rattle.std.specs.Prelude.{◌≡◌, ◌∷◌, ◌≤◌, length, IfOk};
+ghost use Rattle.std.specs.Prelude.{◌≡◌, ◌≤◌, length, IfOk};
 ghost use Rattle.gqlfmt_words.specs.declared.words.WordsError.TheVariants.{Memory};
 ghost use Rattle.gqlfmt_words.specs.Words.{texts, is_option, takes_number, mode_of, with_mode, with_recursion, with_tokens, with_number, with_word, page_of, run_of, request_of, request_map, IsRead};
 ghost use Rattle.gqlfmt_words.specs.Reading.{IsSet, IsTaken, IsTakenFrom};

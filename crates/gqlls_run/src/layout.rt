@@ -1,5 +1,5 @@
 // The layout of a document, or of some of its definitions.
-ghost use Rattle.std.specs.Prelude.{◌≡◌, IfOk, IfSome, string_bytes};
+ghost use Rattle.std.specs.Prelude.{IfOk, IfSome, string_bytes};
 ghost use Rattle.apollo_parser.specs.Answers.{usize_max};
 ghost use Rattle.formatter.specs.Outcome.{IsFormatted};
 

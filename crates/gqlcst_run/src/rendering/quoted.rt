@@ -1,5 +1,5 @@
 // Texts in quotes, as `{:?}` writes them.
-ghost use Rattle.std.specs.Prelude.{◌≡◌, ◌<◌, ◌≤◌, [], ◌∷◌, ◌++◌, false, length, take, codes};
+ghost use Rattle.std.specs.Prelude.{◌≡◌, ◌<◌, ◌≤◌, ◌++◌, false, length, take, codes};
 ghost use Rattle.std.specs.List.{prefix_len, flat_map, list_all};
 ghost use Rattle.std.specs.Fmt.{digits, digit_glyph, debug_escape, debug_escape_letter, debug_str};
 ghost use Rattle.gqlcst_run.specs.Quoted.{is_plain, is_control, IsEscaped};

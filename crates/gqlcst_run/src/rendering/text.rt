@@ -1,5 +1,5 @@
 // Texts, numbers and places, put on a page.
-ghost use Rattle.std.specs.Prelude.{◌≡◌, ◌+◌, ◌++◌, codes, decimal};
+ghost use Rattle.std.specs.Prelude.{◌+◌, ◌++◌, codes, decimal};
 
 use crate::page::Page;
 use byte_devices::Sink;
