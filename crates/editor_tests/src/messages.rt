@@ -9,6 +9,11 @@ use std::process::Abort;
 pub(crate) struct Refuses;
 
 impl Service for Refuses {
+    ghost use Rattle.std.specs.Prelude.{⊤};
+
+    // nothing is stated of it
+    ghost steps = { λ old id method params reply new. ⊤ };
+
     fn request(
         &mut self,
         alloc: Global,

@@ -1,3 +1,4 @@
 pub mod Contents
+pub mod Conversation
 pub mod Parameters
 pub mod Told

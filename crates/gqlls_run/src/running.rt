@@ -1,6 +1,7 @@
 // A whole run.
 ghost use Rattle.std.specs.Prelude.{IfErr, IfOk};
-ghost use Rattle.rpc_serving.specs.Serving.{EndsServing, IsServed};
+ghost use Rattle.gqlls_run.specs.Conversation.{Serves};
+ghost use Rattle.rpc_serving.specs.Serving.{EndsServing};
 
 use crate::server::Server;
 use byte_devices::{Fault, Sink, Source};
@@ -10,7 +11,7 @@ use std::alloc::Global;
 /// Serves a client, until the notification `exit` or the end of the input. It gives the exit status, and fails only when the reader or the writer
 /// fails, or when memory is refused.
 pub fn run<R: Source, W: Sink>(alloc: Global, reader: &mut R, writer: &mut W) -> Result<u8, Fault>
-    ensures ok { IfOk result (λ status. IsServed status (R.account reader.old) (R.account reader.new) (W.account writer.old) (W.account writer.new)) }
+    ensures ok { IfOk result (λ status. Serves status (R.account reader.old) (R.account reader.new) (W.account writer.old) (W.account writer.new)) }
     ensures err { IfErr result (λ fault. EndsServing fault (R.account reader.old) (R.account reader.new) (W.account writer.old) (W.account writer.new)) }
 {
     let mut server = Server::new(alloc);

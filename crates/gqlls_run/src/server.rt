@@ -1,11 +1,12 @@
 // The server: what it replies to each message.
-ghost use Rattle.std.specs.Prelude.{◌≡◌, ◌≢◌, ◌<◌, IfOk, MatchOption, None, OnOk, codes, length};
+ghost use Rattle.std.specs.Prelude.{◌≡◌, ◌≢◌, ◌<◌, IfOk, MatchOption, None, OnOk, Some, codes, length};
 ghost use Rattle.std.specs.List.{HoldsAt};
 ghost use Rattle.json.specs.Tree.{HasNumbers};
 ghost use Rattle.json.specs.Value.{value_view};
 ghost use Rattle.rpc_messages.specs.Messages.{IsAnswer, id_token};
 ghost use Rattle.rpc_messages.specs.Replies.{EndsOnlyIf, Replies};
 ghost use Rattle.gqlls_run.specs.Contents.{Changes, NamesNone, Names, Opens};
+ghost use Rattle.gqlls_run.specs.Conversation.{IsAsked, IsFresh, IsHeard, Steps};
 ghost use Rattle.gqlls_run.specs.Told.{Tells};
 ghost use Rattle.gqlls_run.specs.declared.server.Stage.TheVariants.{New, Running};
 
@@ -36,7 +37,9 @@ pub struct Server {
 
 impl Server {
     /// A server that has read no message.
-    pub fn new(alloc: Global) -> Server {
+    pub fn new(alloc: Global) -> Server
+        ensures { IsFresh result }
+    {
         Server {
             documents: Vec::new(alloc),
             stage: Stage::New,
@@ -62,6 +65,8 @@ impl Server {
     ) -> Result<Vec<u8>, AllocError>
         requires { HasNumbers (value_view id.now) }
         ensures answers { IfOk result (λ body. IsAnswer (id_token (value_view id.now)) body.items) }
+        ensures documents { self.new.documents ≡ self.old.documents }
+        ensures encoding { self.new.encoding ≡ self.old.encoding }
         ensures runs { OnOk result (self.old.stage ≡ Running → method.now ≢ codes "shutdown" → self.new.stage ≡ Running) }
     {
         if method == "shutdown" {
@@ -83,6 +88,7 @@ impl Server {
     // Opens a document, and publishes its errors.
     fn open(&mut self, alloc: Global, params: &Value<'_>) -> Result<Reply, AllocError>
         ensures stage { self.new.stage ≡ self.old.stage }
+        ensures encoding { self.new.encoding ≡ self.old.encoding }
         ensures replies { IfOk result (Replies None) }
         ensures ends { IfOk result (EndsOnlyIf ⊥) }
         ensures tells { IfOk result (Tells (value_view params.now) self.old.documents.items self.new.documents.items) }
@@ -103,6 +109,7 @@ impl Server {
     // Changes a document, and publishes its errors.
     fn change(&mut self, alloc: Global, params: &Value<'_>) -> Result<Reply, AllocError>
         ensures stage { self.new.stage ≡ self.old.stage }
+        ensures encoding { self.new.encoding ≡ self.old.encoding }
         ensures replies { IfOk result (Replies None) }
         ensures ends { IfOk result (EndsOnlyIf ⊥) }
         ensures tells { IfOk result (Tells (value_view params.now) self.old.documents.items self.new.documents.items) }
@@ -121,6 +128,7 @@ impl Server {
     // Closes a document, and takes its errors back.
     fn close(&mut self, alloc: Global, params: &Value<'_>) -> Result<Reply, AllocError>
         ensures stage { self.new.stage ≡ self.old.stage }
+        ensures encoding { self.new.encoding ≡ self.old.encoding }
         ensures replies { IfOk result (Replies None) }
         ensures ends { IfOk result (EndsOnlyIf ⊥) }
         ensures tells { IfOk result (Tells (value_view params.now) self.old.documents.items self.new.documents.items) }
@@ -149,6 +157,8 @@ fn exit_status(stage: Stage) -> u8 {
 }
 
 impl Service for Server {
+    ghost steps = { Steps };
+
     fn request(
         &mut self,
         alloc: Global,
@@ -158,8 +168,7 @@ impl Service for Server {
     ) -> Result<Vec<u8>, AllocError>
         requires { HasNumbers (value_view id.now) }
         ensures answers { IfOk result (λ body. IsAnswer (id_token (value_view id.now)) body.items) }
-        ensures starts { OnOk result (self.old.stage ≡ New → method.now ≡ codes "initialize" → self.new.stage ≡ Running) }
-        ensures runs { OnOk result (self.old.stage ≡ Running → method.now ≢ codes "shutdown" → self.new.stage ≡ Running) }
+        ensures step { IfOk result (λ body. IsAsked method.now self.old self.new) }
     {
         match self.stage {
             Stage::New if method == "initialize" => {
@@ -179,16 +188,9 @@ impl Service for Server {
         method: &str,
         params: &Value<'_>,
     ) -> Result<Reply, AllocError>
-        ensures stage { self.new.stage ≡ self.old.stage }
         ensures replies { IfOk result (Replies None) }
         ensures ends { IfOk result (EndsOnlyIf (method.now ≡ codes "exit")) }
-        ensures tells { IfOk result (Tells (value_view params.now) self.old.documents.items self.new.documents.items) }
-        ensures opens { OnOk result (self.old.stage ≡ Running → method.now ≡ codes "textDocument/didOpen"
-            → Opens (value_view params.now) self.old.encoding self.new.documents.items) }
-        ensures changes { OnOk result (self.old.stage ≡ Running → method.now ≡ codes "textDocument/didChange"
-            → Changes (value_view params.now) self.old.documents.items self.new.documents.items) }
-        ensures closes { OnOk result (self.old.stage ≡ Running → method.now ≡ codes "textDocument/didClose"
-            → NamesNone (value_view params.now) self.new.documents.items) }
+        ensures step { IfOk result (λ reply. IsHeard method.now (value_view params.now) reply self.old self.new) }
     {
         if method == "exit" {
             return Ok(Reply::Exit(exit_status(self.stage)));

@@ -1,3 +1,4 @@
 pub mod Pieces
 pub mod Messages
 pub mod Replies
+pub mod Steps

@@ -1,10 +1,14 @@
 // Which messages have to be answered.
-ghost use Rattle.std.specs.Prelude.{◌≡◌, IfOk, None, Option, Some, codes};
+ghost use Rattle.std.specs.Prelude.{◌≡◌, ℕ, IfOk, List, None, Option, Some, codes};
 ghost use Rattle.json.specs.Token as json;
+ghost use Rattle.json.specs.Json.{Json};
 ghost use Rattle.json.specs.Tree.{HasNumbers};
 ghost use Rattle.json.specs.Value.{value_view};
 ghost use Rattle.rpc_messages.specs.Messages.{Asks, AsksForEnd, IsAnswer, IsExit, asked, id_token};
 ghost use Rattle.rpc_messages.specs.Replies.{EndsOnlyIf, Replies};
+ghost use Rattle.rpc_messages.specs.Steps.{IsRefusal, StepsOn, Takes};
+ghost use Rattle.rpc_messages.specs.declared.reply.Reply.{Reply};
+ghost use Rattle.rpc_messages.specs.declared.reply.Reply.TheVariants.{Answer};
 
 use crate::message::{code, refusal};
 use crate::reply::Reply;
@@ -13,6 +17,9 @@ use std::alloc::{AllocError, Global};
 
 /// What answers requests and receives notifications.
 pub trait Service {
+    // what a request (which has an id) or a notification (which has none) with this method and these parameters comes to: the reply, and what is left
+    ghost steps: { Self → Option Json → List ℕ → Json → Reply → Self → Type 0 };
+
     /// The answer to a request, by its id, its method and its parameters. A method that is no text is empty.
     fn request(
         &mut self,
@@ -22,7 +29,8 @@ pub trait Service {
         params: &Value<'_>,
     ) -> Result<Vec<u8>, AllocError>
         requires { HasNumbers (value_view id.now) }
-        ensures { IfOk result (λ body. IsAnswer (id_token (value_view id.now)) body.items) };
+        ensures answers { IfOk result (λ body. IsAnswer (id_token (value_view id.now)) body.items) }
+        ensures step { IfOk result (λ body. steps self.old (Some (value_view id.now)) method.now (value_view params.now) (Answer body) self.new) };
 
     /// What a notification brings about, by its method and its parameters. A method that is no text is empty. Only `exit` may end the conversation.
     fn notification(
@@ -32,13 +40,15 @@ pub trait Service {
         params: &Value<'_>,
     ) -> Result<Reply, AllocError>
         ensures replies { IfOk result (Replies None) }
-        ensures ends { IfOk result (EndsOnlyIf (method.now ≡ codes "exit")) };
+        ensures ends { IfOk result (EndsOnlyIf (method.now ≡ codes "exit")) }
+        ensures step { IfOk result (λ reply. steps self.old None method.now (value_view params.now) reply self.new) };
 }
 
 // The refusal of what is no message.
 fn refused(alloc: Global, code: i64, text: &str) -> Result<Reply, AllocError>
     ensures replies { IfOk result (Replies (Some json.null)) }
     ensures ends { IfOk result (EndsOnlyIf ⊥) }
+    ensures refuses { IfOk result (IsRefusal code) }
 {
     Ok(Reply::Answer(refusal(alloc, &Value::Null, code, text)?))
 }
@@ -52,6 +62,7 @@ fn reply<S: Service>(
     requires { HasNumbers (value_view message.now) }
     ensures replies { IfOk result (Replies (asked (value_view message.now))) }
     ensures ends { IfOk result (EndsOnlyIf (IsExit (value_view message.now))) }
+    ensures step { IfOk result (λ reply. StepsOn S.steps (value_view message.now) service.old reply service.new) }
 {
     let params = message.get("params").unwrap_or(&Value::Null);
     match (message.get("id"), message.get("method")) {
@@ -76,6 +87,7 @@ fn reply<S: Service>(
 pub fn handle<S: Service>(alloc: Global, service: &mut S, body: &[u8]) -> Result<Reply, AllocError>
     ensures replies { IfOk result (λ reply. (t : Option json.Token) × Asks body.now t × Replies t reply) }
     ensures ends { IfOk result (EndsOnlyIf (AsksForEnd body.now)) }
+    ensures takes { IfOk result (λ reply. Takes S.steps body.now service.old reply service.new) }
 {
     let mut scratch = Scratch::new(alloc);
     match Value::from_slice(alloc, body, &mut scratch) {

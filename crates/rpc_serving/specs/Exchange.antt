@@ -21,35 +21,38 @@ status_of (Answer body) = None
 status_of (Notice body) = None
 status_of (Exit status) = Some status
 
--- The bytes that came, what is said for them, the bytes that are left, and the exit status where a message ended the conversation. Each message has
--- one reply, which is an answer exactly where one is asked for. Only the notification `exit` ends the conversation.
-pub data Exchange : List ℕ → List ℕ → List ℕ → Option ℕ → Type 0 where
+-- A service in some state, the bytes that came, what is said for them, the bytes that are left, the exit status where a message ended the
+-- conversation, and the service in the state that it is left in. Each message, in order, is taken by the service in the state that the one before left,
+-- and has the reply that the service says: this is an answer exactly where one is asked for. Only the notification `exit` ends the conversation.
+pub data Exchange {S : Type 0} (takes : List ℕ → S → Reply → S → Type 0) : S → List ℕ → List ℕ → List ℕ → Option ℕ → S → Type 0 where
   -- no message has come as a whole
   waits :
-      {bytes : List ℕ}
+      {service : S} {bytes : List ℕ}
       → HasNoFrame bytes
-      → Exchange bytes [] bytes None
+      → Exchange takes service bytes [] bytes None service
   -- a message has its reply, and so has what follows
   replied :
-      {bytes body more said rest : List ℕ} {status : Option ℕ} (asked : Option Token) (reply : Reply)
+      {old next last : S} {bytes body more said rest : List ℕ} {status : Option ℕ} (asked : Option Token) (reply : Reply)
       → BeginsWithFrame bytes body more
       → Asks body asked
       → Replies asked reply
       → status_of reply ≡ None
-      → Exchange more said rest status
-      → Exchange bytes (said_for reply ++ said) rest status
+      → takes body old reply next
+      → Exchange takes next more said rest status last
+      → Exchange takes old bytes (said_for reply ++ said) rest status last
   -- a message asks for the end, and ends the conversation
   ended :
-      {bytes body rest : List ℕ} (asked : Option Token) (reply : Reply) (status : ℕ)
+      {old last : S} {bytes body rest : List ℕ} (asked : Option Token) (reply : Reply) (status : ℕ)
       → BeginsWithFrame bytes body rest
       → AsksForEnd body
       → Asks body asked
       → Replies asked reply
       → status_of reply ≡ Some status
-      → Exchange bytes (said_for reply) rest (Some status)
+      → takes body old reply last
+      → Exchange takes old bytes (said_for reply) rest (Some status) last
   -- a byte is passed over, since no frame begins with it, whatever comes
   passed_over :
-      {byte : ℕ} {bytes said rest : List ℕ} {status : Option ℕ}
+      {old last : S} {byte : ℕ} {bytes said rest : List ℕ} {status : Option ℕ}
       → NeverHasFrame (byte ∷ bytes)
-      → Exchange bytes said rest status
-      → Exchange (byte ∷ bytes) said rest status
+      → Exchange takes old bytes said rest status last
+      → Exchange takes old (byte ∷ bytes) said rest status last

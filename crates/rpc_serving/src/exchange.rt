@@ -1,6 +1,7 @@
 // From the bytes that a client has sent to the bytes that are said to it, with no devices.
 ghost use Rattle.std.specs.Prelude.{◌≡◌, ◌≢◌, ◌++◌, IfOk, OnOk, false};
 ghost use Rattle.rpc_frames.specs.declared.FrameError.TheVariants.{Memory};
+ghost use Rattle.rpc_messages.specs.Steps.{Takes};
 ghost use Rattle.rpc_serving.specs.Exchange.{Exchange, said_for, status_of};
 
 use rpc_frames::{FrameBuffer, FrameError, put_frame};
@@ -46,7 +47,7 @@ pub fn take_turn<S: Service>(
     service: &mut S,
     frames: &mut FrameBuffer,
 ) -> Result<Turn, AllocError>
-    ensures { IfOk result (λ turn. Exchange frames.old turn.said.items frames.new turn.status) }
+    ensures { IfOk result (λ turn. Exchange (Takes S.steps) service.old frames.old turn.said.items frames.new turn.status service.new) }
 {
     let mut said = Vec::new(alloc);
     loop {

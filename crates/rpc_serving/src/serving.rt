@@ -1,5 +1,6 @@
 // A conversation through a reader and a writer.
 ghost use Rattle.std.specs.Prelude.{IfErr, IfOk};
+ghost use Rattle.rpc_messages.specs.Steps.{Takes};
 ghost use Rattle.rpc_serving.specs.Serving.{EndsServing, IsServed};
 
 use crate::exchange::take_turn;
@@ -16,7 +17,7 @@ pub fn serve<S: Service, R: Source, W: Sink>(
     reader: &mut R,
     writer: &mut W,
 ) -> Result<u8, Fault>
-    ensures ok { IfOk result (λ status. IsServed status (R.account reader.old) (R.account reader.new) (W.account writer.old) (W.account writer.new)) }
+    ensures ok { IfOk result (λ status. IsServed (Takes S.steps) service.old service.new status (R.account reader.old) (R.account reader.new) (W.account writer.old) (W.account writer.new)) }
     ensures err { IfErr result (λ fault. EndsServing fault (R.account reader.old) (R.account reader.new) (W.account writer.old) (W.account writer.new)) }
 {
     let mut frames = FrameBuffer::new(alloc);
