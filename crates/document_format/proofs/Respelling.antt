@@ -3,8 +3,7 @@ use Rattle.std.proofs.Common.{◌≡◌, ℕ, inl, inr, true, List, [], ◌∷�
 use Rattle.std.specs.Prelude.{map}
 use Rattle.lexical_grammar.specs.declared.TokenKind.{TokenKind}
 use Rattle.lexical_grammar.specs.declared.TokenKind.TheVariants.{StringValue}
-use Rattle.lexical_grammar.specs.Cut.{Item, Word, Cut, Significant, significant_word}
-use Rattle.lexical_grammar.specs.Begins.{are_tokens}
+use Rattle.lexical_grammar.specs.Cut.{Item, Word, Cut, Significant, significant_word, are_tokens}
 use Rattle.document_grammar.specs.Tree.{Token, Tree}
 use Rattle.document_grammar.specs.Derivation.{Yield, document}
 use Rattle.document_grammar.specs.Sentence.{Sentence, token_of, leaf_number}

@@ -2,8 +2,7 @@
 use Rattle.std.proofs.Common.{◌≡◌, ℕ, ◌≤◌, true, List, length, sym, ap, ◌∙◌, subst, arith}
 use Rattle.std.specs.Str.{IsUtf8}
 use Rattle.lexical_grammar.specs.Answers.{usize_max}
-use Rattle.lexical_grammar.specs.Cut.{Item, Cut}
-use Rattle.lexical_grammar.specs.Begins.{are_tokens}
+use Rattle.lexical_grammar.specs.Cut.{Item, Cut, are_tokens}
 use Rattle.lexical_grammar.specs.Reads.{items_of}
 use Rattle.lexical_grammar.specs.Kept.{Kept}
 use Rattle.lexical_grammar.proofs.TheCut.{is-cut}

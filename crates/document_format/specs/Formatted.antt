@@ -1,8 +1,7 @@
 -- What a formatted text has in common with its source.
 use Rattle.std.specs.Prelude.{◌≡◌, ℕ, ◌≤◌, true, List}
 use Rattle.lexical_grammar.specs.Answers.{usize_max}
-use Rattle.lexical_grammar.specs.Cut.{Item, Cut}
-use Rattle.lexical_grammar.specs.Begins.{are_tokens}
+use Rattle.lexical_grammar.specs.Cut.{Item, Cut, are_tokens}
 use Rattle.lexical_grammar.specs.Kept.{Kept}
 use Rattle.document_grammar.specs.Tree.{Tree}
 use Rattle.document_grammar.specs.Derivation.{document}

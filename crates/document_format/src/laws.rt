@@ -1,8 +1,7 @@
 //! Laws of the definitions: calls that do nothing, each with a theorem as its contract.
 
 ghost use Rattle.std.specs.Prelude.{◌≡◌, true, ℕ, List};
-ghost use Rattle.lexical_grammar.specs.Cut.{Item, Cut};
-ghost use Rattle.lexical_grammar.specs.Begins.{are_tokens};
+ghost use Rattle.lexical_grammar.specs.Cut.{Item, Cut, are_tokens};
 ghost use Rattle.lexical_grammar.specs.Kept.{Kept};
 ghost use Rattle.document_grammar.specs.Tree.{Tree};
 ghost use Rattle.document_grammar.specs.Derivation.{document, nest};

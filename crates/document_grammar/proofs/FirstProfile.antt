@@ -4,7 +4,8 @@ use Rattle.document_grammar.specs.Tree.{Token, Tree, leaf, node, Forest, none, â
 use Rattle.document_grammar.specs.Pattern.{Matches}
 use Rattle.document_grammar.specs.Kinds.{OPERATION_DEFINITION, FRAGMENT_DEFINITION, VARIABLE_DEFINITION}
 use Rattle.document_grammar.specs.Rows.{Row, FirstRow, first_operation, first_fragment, first_variable}
-use Rattle.document_grammar.specs.Derivation.{FitsBy, AllFitBy, BareBy, Sort, document, selections, type, DerivationBy, Derivation, FirstSpells, Spells}
+use Rattle.document_grammar.specs.Derivation.{FitsBy, AllFitBy, BareBy, Sort, document, selections, type, DerivationBy, Derivation, Spells}
+use Rattle.document_grammar.specs.Beginnings.{FirstSpells}
 use Rattle.document_grammar.proofs.Booleans.{either}
 
 -- The three rows that differ may have a description first, and need not.

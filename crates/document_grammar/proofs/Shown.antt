@@ -5,14 +5,13 @@ use Rattle.std.proofs.lemmas.Bool.{and_parts}
 use Rattle.std.proofs.lemmas.List.{map-append, take_at}
 use Rattle.lexical_grammar.specs.declared.TokenKind.{TokenKind}
 use Rattle.lexical_grammar.specs.declared.TokenKind.TheVariants as token
-use Rattle.lexical_grammar.specs.Cut.{Item, IsItem, Cut, CutFrom, texts, Significant, significant_word}
-use Rattle.lexical_grammar.specs.Begins.{are_tokens}
+use Rattle.lexical_grammar.specs.Cut.{Item, IsItem, Cut, CutFrom, texts, Significant, significant_word, are_tokens}
 use Rattle.lexical_grammar.proofs.Cuts.{texts-append}
 use Rattle.lexical_grammar.proofs.Places.{item-some}
 use Rattle.document_grammar.specs.Tree.{Text, Token}
 use Rattle.document_grammar.specs.Derivation.{Terminal, word, terminals}
-use Rattle.document_grammar.specs.Sentence.{token_of}
-use Rattle.document_grammar.specs.FirstError.{tokens_of, shown_kind, shown_item, shown}
+use Rattle.document_grammar.specs.Sentence.{token_of, tokens_of}
+use Rattle.document_grammar.specs.FirstError.{shown_kind, shown_item, shown}
 
 -- ---- items of a cut
 

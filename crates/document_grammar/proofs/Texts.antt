@@ -2,12 +2,12 @@
 use Rattle.std.proofs.Common.{◌≡◌, ℕ, true, List, [], ◌∷◌, refl, sym, ap, ap₂, ◌∙◌, inl, inr, true≢false}
 use Rattle.std.proofs.lemmas.Bool.{and_parts}
 use Rattle.std.specs.Prelude.{is_some}
-use Rattle.lexical_grammar.specs.Cut.{Item, Cut}
-use Rattle.lexical_grammar.specs.Begins.{are_tokens}
+use Rattle.lexical_grammar.specs.Cut.{Item, Cut, are_tokens}
 use Rattle.lexical_grammar.specs.Agreement.{Agree}
 use Rattle.lexical_grammar.proofs.Agree.{agree}
 use Rattle.document_grammar.specs.Tree.{Tree}
-use Rattle.document_grammar.specs.Derivation.{Sort, document, Yield, Terminal, Starts, StartsWithin}
+use Rattle.document_grammar.specs.Derivation.{Sort, Yield, Terminal}
+use Rattle.document_grammar.specs.Beginnings.{Starts, StartsWithin}
 use Rattle.document_grammar.specs.Sentence.{Sentence, FirstSentence, StartSentence, StartSentenceWithin}
 use Rattle.document_grammar.proofs.FirstProfile.{derivation-kept}
 
@@ -30,8 +30,8 @@ first-sentence source t sort s =
     record { items = s.items; cut = s.cut; tokens = s.tokens; derivation = derivation-kept sort t s.derivation; yield = s.yield }
 
 -- What starts a sentence, starts the tokens that a derivation spells.
-pub sentence-starts : (front : List Terminal) → StartSentence front → Starts document front
-sentence-starts front s = (Yield s.tree, s.tree, s.rest, (s.sentence.derivation, refl), s.beginning)
+pub sentence-starts : (sort : Sort) (front : List Terminal) → StartSentence sort front → Starts sort front
+sentence-starts sort front (r, s) = (Yield s.tree, s.tree, s.rest, (s.sentence.derivation, refl), s.beginning)
 
-pub sentence-starts-within : (r : ℕ) (front : List Terminal) → StartSentenceWithin r front → StartsWithin document r front
-sentence-starts-within r front s = (Yield s.tree, s.tree, s.rest, (s.sentence.derivation, refl), s.beginning, s.nesting)
+pub sentence-starts-within : (sort : Sort) (r : ℕ) (front : List Terminal) → StartSentenceWithin sort r front → StartsWithin sort r front
+sentence-starts-within sort r front s = (Yield s.tree, s.tree, s.rest, (s.sentence.derivation, refl), s.beginning, s.nesting)

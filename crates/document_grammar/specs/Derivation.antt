@@ -1,9 +1,9 @@
 -- Derivations: trees whose nodes fit their rows and that keep four rules, on leaves, names, constants and braces (GraphQL October 2021,
--- section 2.2, "Document", and the sections that `Rows` names). Then the nesting of a tree, and which tokens start a sentence.
-use Rattle.std.specs.Prelude.{◌≡◌, ◌≢◌, ℕ, ◌+◌, ◌<◌, ◌≤◌, max, cond, List, [], ◌∷◌, ◌++◌, ◌⊎◌, IsTrue, IsFalse, codes}
+-- section 2.2, "Document", and the sections that `Rows` names). Then the nesting of a tree.
+use Rattle.std.specs.Prelude.{◌≡◌, ◌≢◌, ℕ, ◌+◌, ◌<◌, max, cond, List, [], ◌∷◌, ◌++◌, ◌⊎◌, IsTrue, IsFalse, codes}
 use Rattle.document_grammar.specs.Tree.{Text, Token, Tree, leaf, node, Forest, none, ◌▸◌, root}
 use Rattle.document_grammar.specs.Pattern.{Pattern, Matches, member}
-use Rattle.document_grammar.specs.Rows.{Row, FirstRow, bare_selections}
+use Rattle.document_grammar.specs.Rows.{Row, bare_selections}
 use Rattle.document_grammar.specs.Kinds.{L_CURLY, IDENT, STRING, DOCUMENT, OPERATION_DEFINITION, SELECTION_SET, FRAGMENT_NAME, DIRECTIVES, VARIABLE_DEFINITION, VARIABLE, DEFAULT_VALUE, ENUM_VALUE, LIST_VALUE, OBJECT_FIELD, LIST_TYPE, SCHEMA_DEFINITION, SCALAR_TYPE_DEFINITION, OBJECT_TYPE_DEFINITION, FIELDS_DEFINITION, FIELD_DEFINITION, INPUT_VALUE_DEFINITION, INTERFACE_TYPE_DEFINITION, UNION_TYPE_DEFINITION, ENUM_TYPE_DEFINITION, ENUM_VALUES_DEFINITION, ENUM_VALUE_DEFINITION, INPUT_OBJECT_TYPE_DEFINITION, INPUT_FIELDS_DEFINITION, SCHEMA_EXTENSION, SCALAR_TYPE_EXTENSION, OBJECT_TYPE_EXTENSION, INTERFACE_TYPE_EXTENSION, UNION_TYPE_EXTENSION, ENUM_TYPE_EXTENSION, INPUT_OBJECT_TYPE_EXTENSION, words}
 use Rattle.document_grammar.specs.Choices.{Types, Values, is_ignored, is_keyword}
 
@@ -194,10 +194,6 @@ Derivation t sort = DerivationBy Row t sort
 abbrev pub Spells : List Token → Tree → Sort → Type 0
 Spells w t sort = Derivation t sort × (Yield t ≡ w)
 
--- The same by the rows of the first profile.
-abbrev pub FirstSpells : List Token → Tree → Sort → Type 0
-FirstSpells w t sort = DerivationBy FirstRow t sort × (Yield t ≡ w)
-
 -- Whether a node of the kind `k` is counted below a parent of the kind `p`: each SELECTION_SET, each LIST_TYPE, and each value that
 -- is a child of a LIST_VALUE or an OBJECT_FIELD.
 abbrev pub counts : ℕ → ℕ → ℕ
@@ -226,12 +222,3 @@ pub data Terminal : Type 0 where
 abbrev pub terminals : List Token → List Terminal
 terminals [] = end ∷ []
 terminals (a ∷ w) = word a ∷ terminals w
-
--- The list is a beginning of the tokens that some derivation spells, and the end.
-abbrev pub Starts : Sort → List Terminal → Type 0
-Starts sort l = (w : List Token) × (t : Tree) × (v : List Terminal) × Spells w t sort × (terminals w ≡ l ++ v)
-
--- The same of a derivation whose nesting is at most `r`.
-abbrev pub StartsWithin : Sort → ℕ → List Terminal → Type 0
-StartsWithin sort r l =
-    (w : List Token) × (t : Tree) × (v : List Terminal) × Spells w t sort × (terminals w ≡ l ++ v) × (nest t ≤ r)

@@ -1,22 +1,13 @@
--- What a text says of its parse: that there is one derivation; and, where there are errors, what the place of the first one means. The standard
--- says nothing of errors, so these are this project's own promises.
-use Rattle.std.specs.Prelude.{◌≡◌, ◌≢◌, ℕ, ◌+◌, ◌<◌, ◌≤◌, List, [], ◌∷◌, ◌++◌, length, map, take, if◌then◌else◌, Option, Some, None}
+-- What the place of the first error says of the text. The standard says nothing of errors, so these are this project's own promises.
+use Rattle.std.specs.Prelude.{◌≡◌, ◌≢◌, ℕ, ◌+◌, ◌<◌, ◌≤◌, List, [], ◌∷◌, ◌++◌, length, take, if◌then◌else◌, Option, Some, None}
 use Rattle.std.specs.List.{flat_map}
 use Rattle.lexical_grammar.specs.declared.TokenKind.{TokenKind}
 use Rattle.lexical_grammar.specs.declared.TokenKind.TheVariants.{Eof}
 use Rattle.lexical_grammar.specs.Cut.{Item, Significant, is_significant_kind}
-use Rattle.document_grammar.specs.Tree.{Text, Token, Tree, leaf, node, Forest, none, ◌▸◌}
-use Rattle.document_grammar.specs.Derivation.{document, Spells, Fits, text, texts, Terminal, word, end}
+use Rattle.document_grammar.specs.Tree.{Text, Tree, leaf, node, Forest, none, ◌▸◌}
+use Rattle.document_grammar.specs.Derivation.{Sort, Fits, text, texts, Terminal, word, end}
 use Rattle.document_grammar.specs.Places.{bare}
-use Rattle.document_grammar.specs.Sentence.{leaf_number, token_of, Begins, StartSentence, StartSentenceWithin}
-
--- The significant tokens of some items.
-abbrev pub tokens_of : List Item → List Token
-tokens_of items = map token_of (Significant items)
-
--- The items have no other derivation: each that spells their significant tokens is this tree.
-abbrev pub OnlyDerivation : List Item → Tree → Type 0
-OnlyDerivation items t = (u : Tree) → Spells (tokens_of items) u document → u ≡ t
+use Rattle.document_grammar.specs.Sentence.{leaf_number, Begins, StartSentence, StartSentenceWithin}
 
 -- ---- a place in a text
 
@@ -50,18 +41,18 @@ AreAmong k items front = (rest : List Terminal) × (shown (take k items) ≡ fro
 
 -- ---- the first error
 
--- No late fault: the text before the place begins a sentence.
-abbrev pub NotLate : List ℕ → ℕ → Type 0
-NotLate source place = Begins (take place source)
+-- No late fault: the text before the place begins a sentence of the sort.
+abbrev pub NotLate : Sort → List ℕ → ℕ → Type 0
+NotLate sort source place = Begins sort (take place source)
 
 -- No early fault: where a token or the end is at the place, no sentence starts with the tokens before it, that one and the next, as long
 -- as all of these are among the first k items.
-abbrev pub NotEarly : ℕ → List Item → ℕ → Type 0
-NotEarly k items place = (a : At items place) × (a.item.kind ≢ None → AreAmong k items (up_to 2 a) → StartSentence (up_to 2 a) → ⊥)
+abbrev pub NotEarly : Sort → ℕ → List Item → ℕ → Type 0
+NotEarly sort k items place = (a : At items place) × (a.item.kind ≢ None → AreAmong k items (up_to 2 a) → StartSentence sort (up_to 2 a) → ⊥)
 
 -- No early limit: no sentence that nests at most r deep starts with the tokens before the place and the one there.
-abbrev pub NotEarlyLimit : ℕ → List Item → ℕ → Type 0
-NotEarlyLimit r items place = (a : At items place) × (StartSentenceWithin r (up_to 1 a) → ⊥)
+abbrev pub NotEarlyLimit : Sort → ℕ → List Item → ℕ → Type 0
+NotEarlyLimit sort r items place = (a : At items place) × (StartSentenceWithin sort r (up_to 1 a) → ⊥)
 
 -- Of a tree that begins at the place n: each node whose text ends at the place m or before fits its row and the rules, its ignored leaves left
 -- out.

@@ -1,5 +1,5 @@
 -- The leaves of a tree, and the items of a text: a leaf for an item.
-use Rattle.std.specs.Prelude.{◌≡◌, ℕ, List, [], ◌∷◌, ◌++◌, ◌⊎◌, Option, Some, None}
+use Rattle.std.specs.Prelude.{◌≡◌, ℕ, Bool, false, is_none, List, [], ◌∷◌, ◌++◌, ◌⊎◌, Option, Some, None}
 use Rattle.lexical_grammar.specs.declared.TokenKind.{TokenKind}
 use Rattle.lexical_grammar.specs.declared.TokenKind.TheVariants as token
 use Rattle.lexical_grammar.specs.Cut.{Item}
@@ -23,6 +23,14 @@ ignored token.Whitespace = Some kind.WHITESPACE
 ignored token.Comment = Some kind.COMMENT
 ignored token.Comma = Some kind.COMMA
 ignored _ = None
+
+-- whether the lexer's answer is a significant token, or the end
+abbrev pub shows : Answer → Bool
+shows (limit_at index) = false
+shows (gives item) = elim item.kind [
+  | None ↦ false
+  | Some k ↦ is_none (ignored k)
+]
 
 -- the leaves of a list of trees, from the first to the last
 abbrev pub leaves : Forest → List Leaf

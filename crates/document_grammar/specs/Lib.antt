@@ -6,6 +6,7 @@ pub mod Rows
 pub mod Derivation
 pub mod Places
 pub mod Sentence
+pub mod Beginnings
 pub mod Numbering
 pub mod Numbers
 pub mod Forests

@@ -4,8 +4,7 @@ use Rattle.std.specs.Prelude.{◌≡◌, ◌≢◌, ℕ, ◌+◌, ◌≤◌, Boo
 use Rattle.std.specs.List.{list_any, All}
 use Rattle.lexical_grammar.specs.declared.TokenKind.{TokenKind}
 use Rattle.lexical_grammar.specs.declared.TokenKind.TheVariants.{RBracket}
-use Rattle.lexical_grammar.specs.Cut.{Item, Significant, is_significant_kind}
-use Rattle.lexical_grammar.specs.Begins.{are_tokens}
+use Rattle.lexical_grammar.specs.Cut.{Item, Significant, is_significant_kind, are_tokens}
 use Rattle.document_grammar.specs.Tree.{Text, Tree, leaf, node, Forest, none, ◌▸◌}
 use Rattle.document_grammar.specs.Pattern.{Pattern, any_of, nothing, ◌then◌, ◌or_else◌, many, member}
 use Rattle.document_grammar.specs.Rows.{Row}
@@ -13,7 +12,8 @@ use Rattle.document_grammar.specs.Kinds.{ERROR, SPREAD, LIST_VALUE, DOCUMENT}
 use Rattle.document_grammar.specs.Forests as built
 use Rattle.document_grammar.specs.Numbered.{numbered}
 use Rattle.document_grammar.specs.Places.{bares}
-use Rattle.document_grammar.specs.FirstError.{tokens_of, At}
+use Rattle.document_grammar.specs.FirstError.{At}
+use Rattle.document_grammar.specs.Sentence.{tokens_of}
 use Rattle.document_grammar.specs.Choices.{is_ignored}
 use Rattle.document_grammar.specs.Derivation.{document, Spells, nest, texts}
 

@@ -4,12 +4,12 @@ use Rattle.std.specs.Prelude.{◌≡◌, ℕ, ◌≤◌, true, List, ◌++◌, l
 use Rattle.std.specs.Str.{IsUtf8}
 use Rattle.lexical_grammar.specs.declared.TokenKind.{TokenKind}
 use Rattle.lexical_grammar.specs.declared.TokenKind.TheVariants as token
-use Rattle.lexical_grammar.specs.Cut.{Item, Word, Cut, Significant}
-use Rattle.lexical_grammar.specs.Begins.{are_tokens}
+use Rattle.lexical_grammar.specs.Cut.{Item, Word, Cut, Significant, are_tokens}
 use Rattle.document_grammar.specs.Kinds.{WHITESPACE, COMMENT, COMMA, ERROR, BANG, DOLLAR, AMP, SPREAD, COLON, EQ, AT, L_PAREN, R_PAREN, L_BRACK, R_BRACK, L_CURLY, R_CURLY, PIPE, IDENT, INT, FLOAT, STRING}
 use Rattle.document_grammar.specs.Tree.{Token, Tree}
-use Rattle.document_grammar.specs.Rows.{FirstRow}
-use Rattle.document_grammar.specs.Derivation.{Sort, document, DerivationBy, Derivation, Yield, nest, Terminal, terminals}
+use Rattle.document_grammar.specs.Pattern.{Pattern}
+use Rattle.document_grammar.specs.Rows.{Row, FirstRow}
+use Rattle.document_grammar.specs.Derivation.{Sort, document, DerivationBy, Spells, Yield, nest, Terminal, terminals}
 
 -- the number of the leaf of a token, IDENT for each Name, keywords among them; the end, which has no leaf, has ERROR's
 abbrev pub leaf_number : TokenKind → ℕ
@@ -39,22 +39,29 @@ leaf_number token.StringValue = STRING
 abbrev pub token_of : Word → Token
 token_of word = (leaf_number word.kind, word.text)
 
--- The text is a sentence of the sort, with this derivation: a cut of it has no bad text, and the derivation's leaves are, text by text
--- and kind by kind, its significant tokens.
-pub record Sentence (source : List ℕ) (t : Tree) (sort : Sort) : Type 0 where
+-- The significant tokens of some items.
+abbrev pub tokens_of : List Item → List Token
+tokens_of items = map token_of (Significant items)
+
+-- The text is a sentence of the sort by a table of rows, with this derivation: a cut of it has no bad text, and the derivation's leaves
+-- are, text by text and kind by kind, its significant tokens.
+pub record SentenceBy (row : ℕ → Pattern) (source : List ℕ) (t : Tree) (sort : Sort) : Type 0 where
   pub items : List Item
   pub cut : Cut source items
   pub tokens : are_tokens items ≡ true
-  pub derivation : Derivation t sort
-  pub yield : Yield t ≡ map token_of (Significant items)
+  pub derivation : DerivationBy row t sort
+  pub yield : Yield t ≡ tokens_of items
+
+abbrev pub Sentence : List ℕ → Tree → Sort → Type 0
+Sentence = SentenceBy Row
 
 -- The same by the rows of the first profile.
-pub record FirstSentence (source : List ℕ) (t : Tree) (sort : Sort) : Type 0 where
-  pub items : List Item
-  pub cut : Cut source items
-  pub tokens : are_tokens items ≡ true
-  pub derivation : DerivationBy FirstRow t sort
-  pub yield : Yield t ≡ map token_of (Significant items)
+abbrev pub FirstSentence : List ℕ → Tree → Sort → Type 0
+FirstSentence = SentenceBy FirstRow
+
+-- The items have no other derivation: each that spells their significant tokens is this tree.
+abbrev pub OnlyDerivation : List Item → Tree → Type 0
+OnlyDerivation items t = (u : Tree) → Spells (tokens_of items) u document → u ≡ t
 
 -- The derivation nests at most r deep, and the text has at most k items, bad text and the end included.
 pub record Within (source : List ℕ) (t : Tree) (r k : ℕ) : Type 0 where
@@ -63,28 +70,24 @@ pub record Within (source : List ℕ) (t : Tree) (r k : ℕ) : Type 0 where
   pub cut : Cut source items
   pub count : length items ≤ k
 
--- The text is the beginning of a sentence: some text after it completes one.
-pub record Begins (front : List ℕ) : Type 0 where
+-- The text is the beginning of a sentence of the sort: some text after it completes one.
+pub record Begins (sort : Sort) (front : List ℕ) : Type 0 where
   pub rest : List ℕ
   pub tree : Tree
   pub characters : IsUtf8 (front ++ rest)
-  pub sentence : Sentence (front ++ rest) tree document
+  pub sentence : Sentence (front ++ rest) tree sort
 
--- The tokens, perhaps closed by the end, are a beginning of the significant tokens, and then the end, of some sentence.
-pub record StartSentence (front : List Terminal) : Type 0 where
+-- The tokens, perhaps closed by the end, are a beginning of the significant tokens, and then the end, of some sentence of the sort, whose
+-- derivation nests at most r deep.
+pub record StartSentenceWithin (sort : Sort) (r : ℕ) (front : List Terminal) : Type 0 where
   pub source : List ℕ
   pub tree : Tree
   pub rest : List Terminal
   pub characters : IsUtf8 source
-  pub sentence : Sentence source tree document
-  pub beginning : terminals (Yield tree) ≡ front ++ rest
-
--- The same of some sentence whose derivation nests at most r deep.
-pub record StartSentenceWithin (r : ℕ) (front : List Terminal) : Type 0 where
-  pub source : List ℕ
-  pub tree : Tree
-  pub rest : List Terminal
-  pub characters : IsUtf8 source
-  pub sentence : Sentence source tree document
+  pub sentence : Sentence source tree sort
   pub beginning : terminals (Yield tree) ≡ front ++ rest
   pub nesting : nest tree ≤ r
+
+-- The same of some sentence, however deep it nests.
+abbrev pub StartSentence : Sort → List Terminal → Type 0
+StartSentence sort front = (r : ℕ) × StartSentenceWithin sort r front

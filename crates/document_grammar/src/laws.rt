@@ -1,12 +1,12 @@
 //! Laws of the definitions: calls that do nothing, each with a theorem as its contract.
 
 ghost use Rattle.std.specs.Prelude.{◌≡◌, ℕ, true, List};
-ghost use Rattle.lexical_grammar.specs.Cut.{Item, Cut};
-ghost use Rattle.lexical_grammar.specs.Begins.{are_tokens};
+ghost use Rattle.lexical_grammar.specs.Cut.{Item, Cut, are_tokens};
 ghost use Rattle.document_grammar.specs.declared.kind.SyntaxKind.{SyntaxKind};
 ghost use Rattle.document_grammar.specs.Numbers.{number};
 ghost use Rattle.document_grammar.specs.Tree.{Token, Tree};
-ghost use Rattle.document_grammar.specs.Derivation.{Sort, document, Yield, nest, Spells, FirstSpells, Terminal, Starts, StartsWithin};
+ghost use Rattle.document_grammar.specs.Derivation.{Sort, Yield, nest, Spells, Terminal};
+ghost use Rattle.document_grammar.specs.Beginnings.{FirstSpells, Starts, StartsWithin};
 ghost use Rattle.document_grammar.specs.Places.{bare};
 ghost use Rattle.document_grammar.specs.Sentence.{Sentence, FirstSentence, StartSentence, StartSentenceWithin};
 
@@ -35,16 +35,17 @@ pub fn ignored_leaves()
 
 /// What starts a sentence, within a nesting too, starts the tokens that a derivation spells.
 pub fn starts()
-    ensures any { (front : List Terminal) → StartSentence front → Starts document front }
-    ensures within { (r : ℕ) (front : List Terminal) → StartSentenceWithin r front → StartsWithin document r front }
+    ensures any { (sort : Sort) (front : List Terminal) → StartSentence sort front → Starts sort front }
+    ensures within { (sort : Sort) (r : ℕ) (front : List Terminal) → StartSentenceWithin sort r front → StartsWithin sort r front }
 {}
 
 #[cfg(test)]
 mod tests {
     use super::*;
 
+    // A law does nothing, so this asserts nothing: it calls each once.
     #[test]
-    fn laws_end() {
+    fn each_law_returns() {
         one_kind();
         one_cut();
         first_profile();

@@ -7,8 +7,8 @@ use Rattle.std.proofs.Math.Seq.{take-length}
 use Rattle.lexical_grammar.specs.declared.TokenKind.{TokenKind}
 use Rattle.lexical_grammar.specs.declared.TokenKind.TheVariants as kind
 use Rattle.lexical_grammar.specs.Tokens.{Tok}
-use Rattle.lexical_grammar.specs.Cut.{Item, Word, Cut, texts, is_significant_kind, Significant}
-use Rattle.lexical_grammar.specs.Begins.{IsWord, AreWords, are_tokens, spaced, ends_in_whitespace, feed}
+use Rattle.lexical_grammar.specs.Cut.{Item, Word, Cut, texts, is_significant_kind, Significant, are_tokens}
+use Rattle.lexical_grammar.specs.Begins.{IsWord, AreWords, spaced, ends_in_whitespace, feed}
 use Rattle.lexical_grammar.specs.Reads.{token_at}
 use Rattle.lexical_grammar.proofs.Sound.{sound}
 use Rattle.lexical_grammar.proofs.Cuts.{goes_on-by-words}
@@ -16,7 +16,7 @@ use Rattle.lexical_grammar.proofs.Texts.{words-follow-text}
 use Rattle.document_grammar.specs.Tree.{Token, Tree, leaf}
 use Rattle.grammar_machine.specs.Table.{firsts}
 use Rattle.grammar_machine.proofs.generated.Samples.{spellings}
-use Rattle.document_grammar.specs.Derivation.{document, Spells}
+use Rattle.document_grammar.specs.Derivation.{Sort, Spells}
 use Rattle.document_grammar.specs.Booleans.{◌and◌, ◌or◌}
 use Rattle.grammar_machine.specs.Machine.{holds, is_leaf, entries, fires, class, token, Ok, Frame, Reached}
 use Rattle.document_grammar.specs.Sentence.{leaf_number, token_of, Begins}
@@ -99,10 +99,10 @@ listed-words (a ∷ v) h =
     let more = listed-words v h.1 in
     (one.0 ∷ more.0, (one.1, more.1), ap₂ (λ (x : Token) (y : List Token). x ∷ y) (one.2 ∙ sym h.0.2) more.2)
 
-pub begins-text : (source : List ℕ) (before : List Item) (item : Item) (more : List Item) (t : Tree) (v : List Token) → IsUtf8 source
+pub begins-text : (sort : Sort) (source : List ℕ) (before : List Item) (item : Item) (more : List Item) (t : Tree) (v : List Token) → IsUtf8 source
     → Cut source (before ++ item ∷ more) → are_tokens before ≡ true
-    → Spells (map token_of (Significant before) ++ v) t document → AllSpelt v → Begins (texts before)
-begins-text source before item more t v u cut h s spelt =
+    → Spells (map token_of (Significant before) ++ v) t sort → AllSpelt v → Begins sort (texts before)
+begins-text sort source before item more t v u cut h s spelt =
     let w = listed-words v spelt in
     let may = goes_on-by-words source before item more w.0 cut h w.1 in
     let utf : IsUtf8 (texts before ++ feed (ends_in_whitespace before) ++ spaced w.0) = words-follow-text source before item more w.0 cut w.1 u in
@@ -123,9 +123,9 @@ begins-text source before item more t v u cut h s spelt =
     }
 
 -- Wherever the machine comes in the tokens of a text, the text before begins a sentence.
-pub reached-begins-text : (source : List ℕ) (before : List Item) (item : Item) (more : List Item) (rest : List Token) (fs : List Frame)
+pub reached-begins-text : (sort : Sort) (source : List ℕ) (before : List Item) (item : Item) (more : List Item) (rest : List Token) (fs : List Frame)
     → IsUtf8 source → Cut source (before ++ item ∷ more) → are_tokens before ≡ true
-    → Reached document (map token_of (Significant before)) rest fs → Begins (texts before)
-reached-begins-text source before item more rest fs u cut h c =
-    let k = reached-begins document (map token_of (Significant before)) rest fs c in
-    begins-text source before item more k.0 k.1 u cut h k.2 k.3
+    → Reached sort (map token_of (Significant before)) rest fs → Begins sort (texts before)
+reached-begins-text sort source before item more rest fs u cut h c =
+    let k = reached-begins sort (map token_of (Significant before)) rest fs c in
+    begins-text sort source before item more k.0 k.1 u cut h k.2 k.3

@@ -5,7 +5,8 @@ use Rattle.document_grammar.proofs.Texts.{one-cut}
 use Rattle.lexical_grammar.specs.Cut.{Item, Significant}
 use Rattle.document_grammar.specs.Tree.{Token, Tree, node, Forest}
 use Rattle.grammar_machine.specs.Machine.{first, yield, yields, opening, close, Frame, frame, Reach, Reached, IsStuck}
-use Rattle.document_grammar.specs.Derivation.{Sort, Spells, Yield, Starts, Terminal, word, terminals}
+use Rattle.document_grammar.specs.Derivation.{Sort, Spells, Yield, Terminal, word, terminals}
+use Rattle.document_grammar.specs.Beginnings.{Starts}
 use Rattle.grammar_machine.proofs.Run.{next}
 use Rattle.grammar_machine.proofs.FromMachineTree.{show}
 use Rattle.grammar_machine.proofs.ShownDerivation.{show-yield, parse-sentence}

@@ -10,7 +10,8 @@ use Rattle.document_grammar.specs.Pattern.{member}
 use Rattle.grammar_machine.specs.Table.{rows, firsts}
 use Rattle.grammar_machine.proofs.generated.Samples.{spellings}
 use Rattle.grammar_machine.proofs.generated.Labels.{labels}
-use Rattle.document_grammar.specs.Derivation.{document, selections, type, Starts, word, end}
+use Rattle.document_grammar.specs.Derivation.{document, selections, type, word, end}
+use Rattle.document_grammar.specs.Beginnings.{Starts}
 use Rattle.document_grammar.specs.Booleans.{◌and◌, ◌or◌}
 use Rattle.grammar_machine.specs.Machine.{holds, is_leaf, at, ends, exit, arcs, has, target, entries, fires, move, class, first, second}
 use Rattle.document_grammar.specs.Sentence.{Sentence}

@@ -2,7 +2,8 @@
 use Rattle.std.proofs.Common.{◌≡◌, ℕ, zero, suc, ◌+◌, Bool, true, false, cond, List, [], ◌∷◌, ◌++◌, refl, sym, ◌∙◌, subst, inl, inr, true≢false, append-nil, eqb, ltb, not, map, ap, eqb-true, ltb-true}
 use Rattle.std.proofs.lemmas.List.{append_cancel_right}
 use Rattle.document_grammar.specs.Tree.{Token, Tree, leaf, node, Forest, none, ◌▸◌, ◌+++◌}
-use Rattle.document_grammar.specs.Derivation.{Sort, Spells, Starts, nest}
+use Rattle.document_grammar.specs.Derivation.{Sort, Spells, nest}
+use Rattle.document_grammar.specs.Beginnings.{Starts}
 use Rattle.document_grammar.specs.Booleans.{◌or◌, ◌and◌}
 use Rattle.grammar_machine.specs.Machine.{is_leaf, exit, target, Move, go, close, stuck, first, yields, Frame, frame, Reach, start, shift, open', closed}
 use Rattle.document_grammar.proofs.Booleans.{either, or-c, and-l, and-r, not-c, false-true}
@@ -17,8 +18,7 @@ use Prim.Native.String.{String}
 use Rattle.std.specs.Str.{IsAscii}
 use Rattle.std.proofs.lemmas.Str.{IsUtf8-from_ascii}
 use Rattle.std.proofs.lemmas.Str.Ascii.{IsAscii-nil, IsAscii-cons}
-use Rattle.lexical_grammar.specs.Cut.{Item, Cut, Significant}
-use Rattle.lexical_grammar.specs.Begins.{are_tokens}
+use Rattle.lexical_grammar.specs.Cut.{Item, Cut, Significant, are_tokens}
 use Rattle.lexical_grammar.specs.Reads.{items_of}
 use Rattle.lexical_grammar.proofs.TheCut.{is-cut}
 use Rattle.document_grammar.specs.Sentence.{token_of, Sentence}

@@ -8,8 +8,8 @@ use Rattle.lexical_grammar.specs.declared.TokenKind.TheVariants.{Whitespace, Com
 use Rattle.lexical_grammar.specs.Characters.{is_name_continue}
 use Rattle.lexical_grammar.specs.Tokens.{Tok}
 use Rattle.lexical_grammar.specs.Strings.{begins}
-use Rattle.lexical_grammar.specs.Cut.{may_follow, Stands, CutFrom, Cut, Word, texts}
-use Rattle.lexical_grammar.specs.Begins.{are_tokens, is_whitespace}
+use Rattle.lexical_grammar.specs.Cut.{may_follow, Stands, CutFrom, Cut, Word, texts, are_tokens}
+use Rattle.lexical_grammar.specs.Begins.{is_whitespace}
 use Rattle.lexical_grammar.specs.Reads.{blanks_len}
 use Rattle.lexical_grammar.proofs.TokenReads.{goes_on}
 use Rattle.lexical_grammar.proofs.Standing.{stands, read}

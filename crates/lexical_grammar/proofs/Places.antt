@@ -2,7 +2,8 @@
 use Rattle.std.proofs.Common.{◌≡◌, ℕ, ◌+◌, ◌<◌, List, [], ◌∷◌, ◌++◌, length, take, drop, Option, Some, None, refl, sym, ap, ◌∙◌, subst, arith, length-append, length-drop, length-take-le}
 use Rattle.std.proofs.lemmas.List.{take-append-drop, take_at, drop_at, drop-drop}
 use Rattle.lexical_grammar.specs.declared.TokenKind.{TokenKind}
-use Rattle.lexical_grammar.specs.Cut.{Stands, TokenAt, StandsAs, StandsIn, Item, IsItem, CutFrom, Cut, texts}
+use Rattle.lexical_grammar.specs.Cut.{Stands, Item, IsItem, CutFrom, Cut, texts}
+use Rattle.lexical_grammar.specs.TokensAt.{TokenAt, StandsAs, StandsIn}
 use Rattle.lexical_grammar.proofs.Standing.{one_token}
 use Rattle.lexical_grammar.proofs.Cuts.{tok-some, texts-append, item-before}
 use Rattle.lexical_grammar.proofs.Agree.{bad-some}

@@ -3,6 +3,7 @@ pub mod Numbers
 pub mod Strings
 pub mod Tokens
 pub mod Cut
+pub mod TokensAt
 pub mod Begins
 pub mod Edges
 pub mod Kept

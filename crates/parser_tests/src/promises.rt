@@ -4,13 +4,13 @@ ghost use Rattle.std.specs.List.{All, Any};
 ghost use Rattle.apollo_parser.specs.Accessors.{accessors};
 ghost use Rattle.apollo_parser.specs.Children.{is_node_place};
 ghost use Rattle.apollo_parser.specs.Derivation.{document as document_sort};
-ghost use Rattle.apollo_parser.specs.FirstError.{NotLate, OnlyDerivation};
+ghost use Rattle.apollo_parser.specs.FirstError.{NotLate};
 ghost use Rattle.apollo_parser.specs.Numbered.{tree_of};
 ghost use Rattle.apollo_parser.specs.Parsed.{IsLimit, IsTokenLimit, OfFirst, Recovers};
 ghost use Rattle.apollo_parser.specs.Places.{bare};
 ghost use Rattle.apollo_parser.specs.ReadingBack.{ReadsAt, place};
 ghost use Rattle.apollo_parser.specs.Reads.{items_of};
-ghost use Rattle.apollo_parser.specs.Sentence.{Sentence};
+ghost use Rattle.apollo_parser.specs.Sentence.{OnlyDerivation, Sentence};
 ghost use Rattle.apollo_parser.specs.Tree.{Tree};
 
 use apollo_parser::laws::{one_derivation, reading_back};
@@ -23,7 +23,7 @@ pub fn parsed<A: Allocator + Copy>(
     source: &str,
 ) -> Result<SyntaxTree<DocumentRoot, A>, AllocError>
     ensures only_derivation { IfOk result (λ t. t.errors ≡ [] → OnlyDerivation (items_of source.now) (bare (tree_of t.tree))) }
-    ensures not_late { IfOk result (λ t. OfFirst (λ e. ¬ IsTokenLimit e → NotLate source.now e.index) t.errors) }
+    ensures not_late { IfOk result (λ t. OfFirst (λ e. ¬ IsTokenLimit e → NotLate document_sort source.now e.index) t.errors) }
     ensures recovers { IfOk result (λ t. ¬ Any IsLimit t.errors → Recovers 500 (items_of source.now) t) }
     // without errors, each accessor finds at each node of the tree as many children as its row says
     ensures reads_back { IfOk result (λ t. t.errors ≡ [] → (i : ℕ) → is_node_place (place t.tree i) ≡ true → All (ReadsAt (place t.tree i)) accessors) }
