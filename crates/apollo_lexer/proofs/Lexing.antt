@@ -4,7 +4,7 @@ use Rattle.std.specs.Prelude.{filter, not}
 use Rattle.lexical_grammar.specs.Answers.{Answer, is_token}
 use Rattle.apollo_lexer.specs.Diagnostics.{Diagnostic}
 use Rattle.apollo_lexer.specs.Answers.{error_answer}
-use Rattle.apollo_lexer.specs.Faults.{IsFaultMessage}
+use Rattle.apollo_lexer.specs.BadText.{bad_text_message}
 use Rattle.apollo_lexer.specs.LexErrors.{lex_subject, limit_message, IsLexMessage, IsLexError, AreLexErrors}
 
 -- an error's answer is no token
@@ -55,6 +55,6 @@ pub limit-message-is : (limit : Bool) (text message : List ℕ) → limit ≡ tr
 limit-message-is true text message is m = m
 limit-message-is false text message is m = absurd (cc)
 
-pub fault-message-is : (limit : Bool) (text message : List ℕ) → limit ≡ false → IsFaultMessage text message → IsLexMessage limit text message
+pub fault-message-is : (limit : Bool) (text message : List ℕ) → limit ≡ false → message ≡ bad_text_message text → IsLexMessage limit text message
 fault-message-is true text message is m = absurd (cc)
 fault-message-is false text message is m = m

@@ -9,6 +9,9 @@ use Rattle.std.proofs.lemmas.Str.{IsAscii-append, IsAscii-drop}
 use Rattle.lexical_grammar.proofs.Sound.{ascii-run}
 use Rattle.apollo_lexer.specs.declared.faults.LexFault.{LexFault}
 use Rattle.apollo_lexer.specs.declared.faults.LexFault.TheVariants.{UnexpectedCharacter, NumberSuffix, IntegerSuffix, FractionalDigit, FloatSuffix, ExponentDigitOrSign, ExponentDigit}
+use Rattle.lexical_grammar.specs.NumberStates.{live_len}
+use Rattle.lexical_grammar.specs.declared.NumberState.TheVariants.{Begin}
+use Rattle.apollo_lexer.specs.BadText.{bad_text_message, fault_behind}
 use Rattle.apollo_lexer.specs.Faults.{words, fault_message, IsFaultMessage}
 
 -- what computes to ASCII is ASCII
@@ -51,3 +54,7 @@ fault-begins _ text next = refl
 -- a text that begins otherwise is none
 pub no-fault-message : (text message : List ℕ) → IsFaultMessage text message → begins_fault message ≡ false → ⊥
 no-fault-message text message m h = true≢false (sym (ap begins_fault m.words ∙ fault-begins m.fault text (drop m.number_len text)) ∙ h)
+
+-- the message for bad text is one of its list
+pub is-fault-message : (text message : List ℕ) → message ≡ bad_text_message text → IsFaultMessage text message
+is-fault-message text message m = record { fault = fault_behind (live_len Begin text) text; number_len = live_len Begin text; words = m }

@@ -162,7 +162,7 @@ at-slash (b ∷ bs) (suc n) h e some le =
     let more = taken-along n bs (omega arith) in
     step ∙ ap (λ m. Some (1 + bad_string_len m bs)) less ∙ ap Some (omega (arith, more))
 
-byte-at : (text : List ℕ) (i : ℕ) → slice_index (drop i text) 0 ≡ slice_index text i
+pub byte-at : (text : List ℕ) (i : ℕ) → slice_index (drop i text) 0 ≡ slice_index text i
 byte-at text i = get_or-drop i text 0 0 ∙ ap (slice_index text) (omega arith)
 
 pub bad-quote : (text : List ℕ) (i : ℕ) → FirstAt (is_byte2 34 92) text i → eqb (slice_index text i) 34 ≡ true → (i + 1 ≤ length text) × (read_bad text ≡ Some (i + 1))
@@ -170,7 +170,7 @@ bad-quote text i f h =
     let le : i < length text = f.0.high in
     (omega arith, bad-run text i f ∙ ap (longer i) (at-quote (drop i text) (omega (arith, length-drop i text)) (ap (λ b. eqb b 34) (byte-at text i) ∙ h)))
 
-slash-of : (text : List ℕ) (i : ℕ) → FirstAt (is_byte2 34 92) text i → eqb (slice_index text i) 34 ≡ false → eqb (slice_index text i) 92 ≡ true
+pub slash-of : (text : List ℕ) (i : ℕ) → FirstAt (is_byte2 34 92) text i → eqb (slice_index text i) 34 ≡ false → eqb (slice_index text i) 92 ≡ true
 slash-of text i f other = elim (or_cases (eqb (slice_index text i) 34) (eqb (slice_index text i) 92) f.1) [
   | inl is ↦ absurd (both_ways _ other is)
   | inr is ↦ is

@@ -70,26 +70,6 @@ impl<A: Allocator> Error<A> {
         }
     }
 
-    /// An error about a text of the source, at the byte where that begins. Only a text of more than 24 bytes takes memory, and it fails only
-    /// where that is refused.
-    pub fn from_static(
-        alloc: A,
-        message: &'static str,
-        text: &str,
-        index: usize,
-    ) -> Result<Self, AllocError>
-        requires { index + length text.now < 2 ^ 64 }
-        ensures value { IfOk result (λ e. e ≡ record { message = message.now; subject = of_text text.now; index = index }) }
-        ensures short { length text.now ≤ 24 → IsOk result }
-    {
-        if let Ok(text) = ArrayString::from(text) {
-            let data = ErrorData::Short(message, text);
-            return Ok(Error { data, index });
-        }
-        let data = ErrorData::Long(message, String::from_str(alloc, text)?);
-        Ok(Error { data, index })
-    }
-
     /// An error about a limit, at a byte of the source. It takes no memory.
     pub fn limit_from_static(message: &'static str, index: usize) -> Self
         ensures { result ≡ record { message = message.now; subject = of_limit; index = index } }
@@ -108,27 +88,6 @@ impl<A: Allocator> Error<A> {
             data: ErrorData::Eof(Words::Static(message)),
             index,
         }
-    }
-
-    /// An error about a text of the source, at the byte where that begins, whose message quotes the text: the words, an opening mark, the text
-    /// and a closing mark. Only a message of more than 40 bytes takes memory, and it fails only where that is refused.
-    pub fn quoting(
-        alloc: A,
-        words: &str,
-        opening: &str,
-        text: &str,
-        closing: &str,
-        index: usize,
-    ) -> Result<Self, AllocError>
-        requires { index + length text.now < 2 ^ 64 }
-        ensures value { IfOk result (λ e. e ≡ record { message = words.now ++ opening.now ++ text.now ++ closing.now; subject = of_text text.now; index = index }) }
-        ensures short { length words.now + length opening.now + length text.now + length closing.now ≤ 40 → IsOk result }
-    {
-        if let Ok(data) = ErrorData::quoting(words, opening, text, closing) {
-            return Ok(Error { data, index });
-        }
-        let data = ErrorData::quoting_long(alloc, words, opening, text, closing)?;
-        Ok(Error { data, index })
     }
 
     /// The text that it is about, which is empty for a limit and for the end.
@@ -178,26 +137,65 @@ impl<A: Allocator> Error<A> {
     }
 }
 
-impl<A: Allocator + Copy> Error<A> {
-    // An error about a text of the source, at the byte where that begins, whose message quotes something else between two pieces.
-    pub(crate) fn quoting_other(
-        alloc: A,
-        front: &str,
-        quoted: &str,
-        end: &str,
-        text: &str,
-        index: usize,
-    ) -> Result<Self, AllocError>
-        requires { index + length text.now < 2 ^ 64 }
-        ensures { IfOk result (λ e. e ≡ record { message = front.now ++ quoted.now ++ end.now; subject = of_text text.now; index = index }) }
-    {
-        if let Ok(data) = ErrorData::pair(front, quoted, end, text) {
-            return Ok(Error { data, index });
-        }
-        let message = format!(in alloc; "{front}{quoted}{end}")?;
-        let text = String::from_str(alloc, text)?;
-        Ok(Error::with_loc(message, text, index))
+/// An error about a text of the source, at the byte where that begins. Only a text of more than 24 bytes takes memory, and it fails only
+/// where that is refused.
+pub fn static_error<A: Allocator>(
+    alloc: A,
+    message: &'static str,
+    text: &str,
+    index: usize,
+) -> Result<Error<A>, AllocError>
+    requires { index + length text.now < 2 ^ 64 }
+    ensures value { IfOk result (λ e. e ≡ record { message = message.now; subject = of_text text.now; index = index }) }
+    ensures short { length text.now ≤ 24 → IsOk result }
+{
+    if let Ok(text) = ArrayString::from(text) {
+        let data = ErrorData::Short(message, text);
+        return Ok(Error { data, index });
     }
+    let data = ErrorData::Long(message, String::from_str(alloc, text)?);
+    Ok(Error { data, index })
+}
+
+/// An error about a text of the source, at the byte where that begins, whose message quotes the text: the words, an opening mark, the text
+/// and a closing mark. Only a message of more than 40 bytes takes memory, and it fails only where that is refused.
+pub fn quoting_error<A: Allocator>(
+    alloc: A,
+    words: &str,
+    opening: &str,
+    text: &str,
+    closing: &str,
+    index: usize,
+) -> Result<Error<A>, AllocError>
+    requires { index + length text.now < 2 ^ 64 }
+    ensures value { IfOk result (λ e. e ≡ record { message = words.now ++ opening.now ++ text.now ++ closing.now; subject = of_text text.now; index = index }) }
+    ensures short { length words.now + length opening.now + length text.now + length closing.now ≤ 40 → IsOk result }
+{
+    if let Ok(data) = ErrorData::quoting(words, opening, text, closing) {
+        return Ok(Error { data, index });
+    }
+    let data = ErrorData::quoting_long(alloc, words, opening, text, closing)?;
+    Ok(Error { data, index })
+}
+
+// An error about a text of the source, at the byte where that begins, whose message quotes something else between two pieces.
+pub(crate) fn quoting_other<A: Allocator + Copy>(
+    alloc: A,
+    front: &str,
+    quoted: &str,
+    end: &str,
+    text: &str,
+    index: usize,
+) -> Result<Error<A>, AllocError>
+    requires { index + length text.now < 2 ^ 64 }
+    ensures { IfOk result (λ e. e ≡ record { message = front.now ++ quoted.now ++ end.now; subject = of_text text.now; index = index }) }
+{
+    if let Ok(data) = ErrorData::pair(front, quoted, end, text) {
+        return Ok(Error { data, index });
+    }
+    let message = format!(in alloc; "{front}{quoted}{end}")?;
+    let text = String::from_str(alloc, text)?;
+    Ok(Error::with_loc(message, text, index))
 }
 
 impl<A: Allocator> Error<A> {

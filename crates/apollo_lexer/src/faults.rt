@@ -1,10 +1,16 @@
 // What is wrong with bad text, and the errors that say it.
-ghost use Rattle.std.specs.Prelude.{◌≡◌, ℕ, ◌+◌, ◌≤◌, ◌<◌, ◌^◌, List, ◌++◌, IfOk, IfSome, length, slice_index};
+ghost use Rattle.std.specs.Prelude.{◌≡◌, ℕ, ◌+◌, ◌≤◌, ◌<◌, ◌^◌, List, ◌++◌, IfOk, IsTrue, length, take};
+ghost use Rattle.lexical_grammar.specs.NumberStates.{run};
+ghost use Rattle.lexical_grammar.specs.declared.NumberState.TheVariants.{Begin};
+ghost use Rattle.apollo_lexer.specs.BadText.{bad_text_message, braced_fault, escape_fault, fault_behind, first, fixed_fault, has_second_escape, last_fault, string_fault};
 ghost use Rattle.apollo_lexer.specs.Diagnostics.{of_text};
-ghost use Rattle.apollo_lexer.specs.Faults.{words, fault_message, number_fault, IsFaultMessage};
+ghost use Rattle.apollo_lexer.specs.Faults.{words, fault_message, number_fault};
+ghost use Rattle.apollo_lexer.specs.Parts.{IsPart, after_characters, or_last};
+ghost use Rattle.apollo_lexer.specs.declared.faults.LexFault.{LexFault};
+ghost use Rattle.apollo_lexer.specs.declared.faults.LexFault.TheVariants.{UnterminatedString};
 ghost use Rattle.apollo_lexer.specs.Wordings.{worded};
 
-use crate::error::Error;
+use crate::error::{Error, quoting_error, quoting_other, static_error};
 use crate::escapes::{bad_escape_len, begins_with_lead, escape_len};
 use crate::numbers::number_len;
 use lexical_grammar::{NumberState, hex_digits_len};
@@ -59,37 +65,66 @@ fn number_fault(state: NumberState, next: Option<u8>) -> LexFault
     }
 }
 
-// What is wrong with an escape of four hex digits at the front, after its `\u`.
-fn fixed_fault(rest: &[u8]) -> LexFault
-    requires { 2 ≤ length rest.now }
+// The byte at the front, if there is one.
+fn first(bytes: &[u8]) -> Option<u8>
+    ensures { result ≡ first bytes.now }
 {
-    let n = hex_digits_len(&rest[2..]);
-    if n >= 4 {
-        return LexFault::UnpairedSurrogate;
-    }
-    match rest.get(2 + n) {
-        Some(b'"') => LexFault::IncompleteEscape,
-        _ => LexFault::InvalidEscape,
+    match bytes {
+        [b, ..] => Some(*b),
+        [] => None,
     }
 }
 
+// What is wrong with an escape of four hex digits at the front, after its `\u`.
+fn fixed_fault(rest: &[u8]) -> LexFault
+    requires { 2 ≤ length rest.now }
+    ensures { result ≡ fixed_fault rest.now }
+{
+    let n = hex_digits_len(&rest[2..]);
+    if n >= 4 {
+        LexFault::UnpairedSurrogate
+    } else if rest[2 + n..].starts_with(b"\"") {
+        LexFault::IncompleteEscape
+    } else {
+        LexFault::InvalidEscape
+    }
+}
+
+// What is wrong with an escape in braces, by what follows its digits.
+fn braced_fault(after: &[u8]) -> LexFault
+    ensures { result ≡ braced_fault after.now }
+{
+    if after.starts_with(b"}") {
+        LexFault::NoScalarValue
+    } else if after.starts_with(b"\"") {
+        LexFault::IncompleteEscape
+    } else {
+        LexFault::InvalidEscape
+    }
+}
+
+// Whether the escape of a leading surrogate is at the front, and another escape after it.
+fn has_second_escape(rest: &[u8]) -> bool
+    ensures value { result ≡ has_second_escape rest.now }
+    ensures within { IsTrue result → 8 ≤ length rest.now }
+{
+    begins_with_lead(rest) && rest[6..].starts_with(b"\\u")
+}
+
 // What is wrong with what a backslash at the front begins, which is no string character.
-fn escape_fault(rest: &[u8]) -> LexFault {
+fn escape_fault(rest: &[u8]) -> LexFault
+    ensures { result ≡ escape_fault rest.now }
+{
     if rest.starts_with(b"\\u{") {
         let n = hex_digits_len(&rest[3..]);
-        return match rest.get(3 + n) {
-            Some(b'}') => LexFault::NoScalarValue,
-            Some(b'"') => LexFault::IncompleteEscape,
-            _ => LexFault::InvalidEscape,
-        };
+        braced_fault(&rest[3 + n..])
+    } else if !rest.starts_with(b"\\u") {
+        LexFault::EscapedCharacter
+    } else if has_second_escape(rest) {
+        fixed_fault(&rest[6..])
+    } else {
+        fixed_fault(rest)
     }
-    if !rest.starts_with(b"\\u") {
-        return LexFault::EscapedCharacter;
-    }
-    if begins_with_lead(rest) && rest[6..].starts_with(b"\\u") {
-        return fixed_fault(&rest[6..]);
-    }
-    fixed_fault(rest)
 }
 
 // A piece of a bad string: its bytes, whether it ends the string, and its last fault.
@@ -100,19 +135,24 @@ struct Part {
     fault: Option<LexFault>,
 }
 
+// The fault of a line terminator, if one of the bytes is one.
+fn line_fault(bytes: &[u8]) -> Option<LexFault>
+    ensures { (last : LexFault) → or_last result last ≡ after_characters last bytes.now }
+{
+    match memchr2(b'\n', b'\r', bytes) {
+        Some(_) => Some(LexFault::LineTerminator),
+        None => None,
+    }
+}
+
 // The characters up to a quote or a backslash, and that one and what it takes along.
 fn first_part(rest: &[u8]) -> Option<Part>
-    ensures { IfSome result (λ p. (0 < p.len) × (p.len ≤ length rest.now)) }
+    ensures { IsPart rest.now result }
 {
     match memchr2(b'"', b'\\', rest) {
         None => None,
         Some(i) => {
-            let breaks = memchr2(b'\n', b'\r', &rest[..i]).is_some();
-            let fault = if breaks {
-                Some(LexFault::LineTerminator)
-            } else {
-                None
-            };
+            let fault = line_fault(&rest[..i]);
             if rest[i] == b'"' {
                 return Some(Part {
                     len: i + 1,
@@ -136,23 +176,17 @@ fn first_part(rest: &[u8]) -> Option<Part>
     }
 }
 
-// What is wrong with a bad string, when `inside` is what follows its opening quote.
-fn string_fault(inside: &[u8]) -> LexFault {
-    if inside.is_empty() {
-        return LexFault::UnfinishedString;
-    }
-    if inside.starts_with(b"\"\"") {
-        return LexFault::UnterminatedString;
-    }
+// The last fault of a bad string, which is not empty and does not begin with two quotes, behind its opening quote.
+fn last_fault(inside: &[u8]) -> LexFault
+    ensures { result ≡ last_fault UnterminatedString 0 inside.now }
+{
     let mut last = LexFault::UnterminatedString;
     let mut n = 0;
     loop {
         let Some(part) = first_part(&inside[n..]) else {
             return LexFault::UnterminatedString;
         };
-        if let Some(fault) = part.fault {
-            last = fault;
-        }
+        last = part.fault.unwrap_or(last);
         if part.is_last {
             return last;
         }
@@ -160,10 +194,27 @@ fn string_fault(inside: &[u8]) -> LexFault {
     }
 }
 
+// What is wrong with a bad string, when `inside` is what follows its opening quote.
+fn string_fault(inside: &[u8]) -> LexFault
+    ensures { result ≡ string_fault inside.now }
+{
+    if inside.is_empty() {
+        LexFault::UnfinishedString
+    } else if inside.starts_with(b"\"\"") {
+        LexFault::UnterminatedString
+    } else {
+        last_fault(inside)
+    }
+}
+
 // What is wrong with bad text, of which this much begins a number.
-fn fault(bytes: &[u8], state: NumberState, n: usize) -> LexFault {
+fn fault(bytes: &[u8], state: NumberState, n: usize) -> LexFault
+    requires read { state ≡ run Begin (take n bytes.now) }
+    requires within { n ≤ length bytes.now }
+    ensures { result ≡ fault_behind n bytes.now }
+{
     match bytes {
-        [b'-' | b'0'..=b'9', ..] => number_fault(state, bytes.get(n).copied()),
+        [b'-' | b'0'..=b'9', ..] => number_fault(state, first(&bytes[n..])),
         [b'"', ..] => string_fault(&bytes[1..]),
         [b'.', ..] => LexFault::UnterminatedSpread,
         _ => LexFault::UnexpectedCharacter,
@@ -218,7 +269,7 @@ fn wording_of(fault: LexFault) -> Wording
 
 // How the message for bad text is worded, by the text's last fault, and what follows the beginning of a number in the text.
 fn bad_text_wording(text: &str) -> (Wording, &str)
-    ensures { IsFaultMessage text.now (worded result.0 text.now result.1.now) }
+    ensures { worded result.0 text.now result.1.now ≡ bad_text_message text.now }
 {
     let bytes = text.as_bytes();
     let (state, n) = number_len(bytes);
@@ -228,7 +279,7 @@ fn bad_text_wording(text: &str) -> (Wording, &str)
 
 /// The message for bad text, by its last fault, in three parts: words, what they quote of the text, and words after that.
 pub fn bad_text_message_parts(text: &str) -> (&'static str, &str, &'static str)
-    ensures { IsFaultMessage text.now (result.0.now ++ result.1.now ++ result.2.now) }
+    ensures { result.0.now ++ result.1.now ++ result.2.now ≡ bad_text_message text.now }
 {
     let (wording, next) = bad_text_wording(text);
     match wording {
@@ -250,8 +301,8 @@ fn worded_error<A: Allocator + Copy>(
     ensures { IfOk result (λ e. e ≡ record { message = worded wording text.now next.now; subject = of_text text.now; index = index }) }
 {
     match wording {
-        Wording::Plain(words) => Error::from_static(alloc, words, text, index),
-        Wording::QuotesText => Error::quoting(
+        Wording::Plain(words) => static_error(alloc, words, text, index),
+        Wording::QuotesText => quoting_error(
             alloc,
             "Unexpected character ",
             "\"",
@@ -259,7 +310,7 @@ fn worded_error<A: Allocator + Copy>(
             "\"",
             index,
         ),
-        Wording::QuotesNext(end) => Error::quoting_other(
+        Wording::QuotesNext(end) => quoting_other(
             alloc,
             "Unexpected character `",
             next,
@@ -279,7 +330,7 @@ pub fn bad_text_error<A: Allocator + Copy>(
     requires { index + length text.now < 2 ^ 64 }
     ensures subject { IfOk result (λ e. e.subject ≡ of_text text.now) }
     ensures index { IfOk result (λ e. e.index ≡ index) }
-    ensures message { IfOk result (λ e. IsFaultMessage text.now e.message) }
+    ensures message { IfOk result (λ e. e.message ≡ bad_text_message text.now) }
 {
     let (wording, next) = bad_text_wording(text);
     let error = worded_error(alloc, wording, text, index, next)?;

@@ -1,6 +1,6 @@
 // Notices of errors, as the Language Server Protocol has them.
 use crate::messages::expect;
-use apollo_lexer::Error;
+use apollo_lexer::{Error, static_error};
 use diagnostic_messages::{Places, publication, withdrawal};
 use line_index::{Position, PositionEncoding};
 use std::alloc::{AllocError, Global};
@@ -23,7 +23,7 @@ fn notice_of(
 
 // The notice of one error.
 fn one_error(alloc: Global) -> Result<Vec<u8>, AllocError> {
-    let error = Error::from_static(alloc, "no", "b", 4)?;
+    let error = static_error(alloc, "no", "b", 4)?;
     notice_of(
         alloc,
         PositionEncoding::Utf16,

@@ -7,7 +7,8 @@ use Rattle.apollo_lexer.specs.Diagnostics.{Diagnostic, of_text, of_end}
 use Rattle.parser_rules.specs.declared.message.Message.{Message}
 use Rattle.parser_rules.specs.Messages.{Text, Found, at_text, at_end, at_limit, description, names_found, found_text, message_text}
 use Rattle.parser_rules.specs.State.{Lexeme, found_at, fault_report}
-use Rattle.parser_state.specs.Errors.{found_of, IsWorded, IsErrorOf}
+use Rattle.parser_state.specs.Errors.{IsWorded, IsErrorOf}
+use Rattle.parser_state.specs.Found.{found_of}
 
 worded : (found : Found) (words message : Text) → message ≡ words → IsWorded found (Some words) message
 worded (at_text text) words message e = e

@@ -9,10 +9,11 @@ use Rattle.std.proofs.lemmas.Slice.Zip.{all_zipped_more}
 use Rattle.std.proofs.Math.Logic.{∥∥₁_elim, ∥∥₁_map}
 use Rattle.apollo_lexer.specs.Diagnostics.{Subject, of_text, of_end, of_limit, Diagnostic}
 use Rattle.apollo_lexer.specs.LexErrors.{limit_message}
-use Rattle.apollo_lexer.proofs.FaultSearch.{fault-had}
+use Rattle.apollo_lexer.specs.BadText.{bad_text_message}
 use Rattle.parser_rules.specs.Messages.{Text, Found, at_text, at_end, at_limit}
 use Rattle.parser_rules.specs.State.{Report}
-use Rattle.parser_state.specs.Errors.{found_of, IsWorded, IsErrorOf}
+use Rattle.parser_state.specs.Errors.{IsWorded, IsErrorOf}
+use Rattle.parser_state.specs.Found.{found_of}
 
 -- an equation of texts, and of what a report is about
 text-had : (a b : Text) → ∥ a ≡ b ∥₁ → a ≡ b
@@ -38,7 +39,7 @@ found-had of_limit at_limit h = refl
 -- what is known of an error can be had
 words-had : (found : Found) (words : Option Text) (message : Text) → ∥ IsWorded found words message ∥₁ → IsWorded found words message
 words-had found (Some words) message h = text-had message words h
-words-had (at_text text) None message h = fault-had text message h
+words-had (at_text text) None message h = text-had message (bad_text_message text) h
 words-had at_end None message h = ∥∥₁_elim h (λ x y. absurd x) (λ e. e)
 words-had at_limit None message h = text-had message limit_message h
 

@@ -1,20 +1,16 @@
 -- What it is for an error to say a report.
 use Rattle.std.specs.Prelude.{◌≡◌, Option, Some, None}
-use Rattle.apollo_lexer.specs.Diagnostics.{Subject, of_text, of_end, of_limit, Diagnostic}
-use Rattle.apollo_lexer.specs.Faults.{IsFaultMessage}
+use Rattle.apollo_lexer.specs.Diagnostics.{Diagnostic}
+use Rattle.apollo_lexer.specs.BadText.{bad_text_message}
 use Rattle.apollo_lexer.specs.LexErrors.{limit_message}
 use Rattle.parser_rules.specs.Messages.{Text, Found, at_text, at_end, at_limit}
 use Rattle.parser_rules.specs.State.{Report}
+use Rattle.parser_state.specs.Found.{found_of}
 
-abbrev pub found_of : Subject → Found
-found_of (of_text text) = at_text text
-found_of of_end = at_end
-found_of of_limit = at_limit
-
--- the message is the report's; or the lexer's, which is that of the token limit, or one of those for the bad text
+-- the message is the report's; or the lexer's, for the token limit or for the bad text
 abbrev pub IsWorded : Found → Option Text → Text → Type 0
 IsWorded found (Some words) message = message ≡ words
-IsWorded (at_text text) None message = IsFaultMessage text message
+IsWorded (at_text text) None message = message ≡ bad_text_message text
 IsWorded at_end None message = ⊥
 IsWorded at_limit None message = message ≡ limit_message
 

@@ -1,5 +1,6 @@
 pub mod View
 pub mod Parses
+pub mod Found
 pub mod Errors
 pub mod Reading
 pub mod Lookahead

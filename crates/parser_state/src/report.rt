@@ -6,7 +6,7 @@ ghost use Rattle.parser_state.specs.View.{lexeme_of, report_of};
 ghost use Rattle.parser_state.specs.Errors.{IsErrorOf};
 
 use crate::state::is_eof;
-use apollo_lexer::{Error, LexError, Token};
+use apollo_lexer::{Error, LexError, Token, quoting_error, static_error};
 use parser_rules::Message;
 use std::alloc::{AllocError, Allocator};
 
@@ -44,7 +44,7 @@ fn found_error<A: Allocator + Copy>(
         return Ok(Error::eof(text, found.index()));
     }
     let words = message.description();
-    let error = Error::quoting(alloc, words, ", got ", found.data(), "", found.index())?;
+    let error = quoting_error(alloc, words, ", got ", found.data(), "", found.index())?;
     Ok(error)
 }
 
@@ -63,7 +63,7 @@ fn fault_error<A: Allocator + Copy>(
     if is_eof(found.kind()) {
         return Ok(Error::eof_from_static(words, found.index()));
     }
-    let error = Error::from_static(alloc, words, found.data(), found.index())?;
+    let error = static_error(alloc, words, found.data(), found.index())?;
     Ok(error)
 }
 

@@ -1,8 +1,6 @@
-use Rattle.std.proofs.Common.{ap, sym, subst}
+use Rattle.std.proofs.Common.{ap, ◌∙◌}
 use Rattle.apollo_lexer.specs.Diagnostics.{Diagnostic}
-use Rattle.apollo_lexer.specs.Faults.{IsFaultMessage}
 use Rattle.apollo_lexer.proofs.faults.bad_text_error.Goals as goal
 
 pub returns-clause-message : goal.returns-clause-message
-returns-clause-message g c =
-    subst (IsFaultMessage c.args.text.now) (ap (λ (d : Diagnostic). d.message) (sym c.in_ok-error.ensures)) c.bad_text_wording.ensures
+returns-clause-message g c = ap (λ (d : Diagnostic). d.message) c.in_ok-error.ensures ∙ c.bad_text_wording.ensures

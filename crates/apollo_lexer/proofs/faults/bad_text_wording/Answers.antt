@@ -1,7 +1,7 @@
 use Rattle.std.proofs.Common.{◌∙◌, ap}
 use Rattle.lexical_grammar.specs.NumberStates.{live_len}
 use Rattle.lexical_grammar.specs.declared.NumberState.TheVariants.{Begin}
-use Rattle.apollo_lexer.specs.Faults.{fault_message}
+use Rattle.apollo_lexer.proofs.BadStrings.{message-made}
 use Rattle.apollo_lexer.proofs.Front.{number-boundary}
 use Rattle.apollo_lexer.proofs.faults.bad_text_wording.Goals as goal
 
@@ -12,8 +12,7 @@ range_from-next-requires c = λ some.
 
 -- the message is that of the fault, and quotes what follows the beginning of a number
 pub returns : goal.returns
-returns c = record {
-  fault = c.fault.result;
-  number_len = c.number_len-state.result.1;
-  words = c.wording_of.ensures c.args.text.now c.range_from-next.result.now ∙ ap (fault_message c.fault.result c.args.text.now) c.range_from-next.ensures.value;
-}
+returns c =
+    c.wording_of.ensures c.args.text.now c.range_from-next.result.now
+    ∙ message-made c.args.text.now c.as_bytes-bytes.result.now c.range_from-next.result.now c.number_len-state.result.1 c.fault.result
+    c.as_bytes-bytes.ensures.value c.number_len-state.ensures.len c.fault.ensures c.range_from-next.ensures.value

@@ -1,0 +1,8 @@
+-- The parser's word for what an error of the lexer is about.
+use Rattle.apollo_lexer.specs.Diagnostics.{Subject, of_text, of_end, of_limit}
+use Rattle.parser_rules.specs.Messages.{Found, at_text, at_end, at_limit}
+
+abbrev pub found_of : Subject → Found
+found_of (of_text text) = at_text text
+found_of of_end = at_end
+found_of of_limit = at_limit
