@@ -26,7 +26,7 @@ pub struct {name}<'t> {{
     ghost of_kind: {{ is_kind {kind} (node_kind syntax) ≡ true }},
 }}
 {cast_text("Node", name, kind)}}}
-
+{known_cast_text(name, struct_cast(name))}
 impl<'t> {name}<'t> {{
 {accessors_text(kind, row, grammar)}}}
 """
@@ -34,7 +34,7 @@ impl<'t> {name}<'t> {{
 
 def cast_text(of, name, kind, ghost="node", variable="n"):
     """The impl of the casts of a struct of a node or a leaf, without its closing brace."""
-    casts = node_casts_text(struct_cast(name)) if of == "Node" else leaf_cast_text(name)
+    cast = NODE_CAST if of == "Node" else leaf_cast_text(name)
     return f"""
 impl<'t> Cst{of}<'t> for {name}<'t> {{
     ghost casts = {{ is_kind {kind} }};
@@ -48,23 +48,29 @@ impl<'t> Cst{of}<'t> for {name}<'t> {{
         kind.is(SyntaxKind::{kind})
     }}
 
-{casts}
+{cast}
     fn syntax(&self) -> &Syntax{of}<'t> {{
         &self.syntax
     }}
 """
 
 
-def node_casts_text(body):
-    """The two casts of a type of nodes, of which the second has this body."""
-    return f"""    #[inline(always)]
-    fn cast(syntax: SyntaxNode<'t>) -> Option<Self> {{
+# The cast of a type of nodes, by its cast where the kind is known.
+NODE_CAST = """    #[inline(always)]
+    fn cast(syntax: SyntaxNode<'t>) -> Option<Self> {
         Self::cast_as(syntax.kind(), syntax)
-    }}
+    }
+"""
 
+
+def known_cast_text(name, body):
+    """The impl of the cast of a type of nodes where the kind is known, which has this body."""
+    return f"""
+impl<'t> CastAs<'t> for {name}<'t> {{
     #[inline(always)]
     fn cast_as(kind: SyntaxKind, syntax: SyntaxNode<'t>) -> Option<Self> {{
 {body}    }}
+}}
 """
 
 
@@ -188,13 +194,13 @@ impl<'t> CstNode<'t> for {enum}<'t> {{
         {any_cast(types)}
     }}
 
-{node_casts_text(tried_casts(enum, types))}
+{NODE_CAST}
     fn syntax(&self) -> &SyntaxNode<'t> {{
         match self {{
 {nodes}        }}
     }}
 }}
-"""
+{known_cast_text(enum, tried_casts(enum, types))}"""
 
 
 def any_cast(types):
@@ -258,7 +264,7 @@ def ghost_uses(body, grammar):
 def rust_uses(body, crate, here, grammar):
     """What the code of a module calls: of this crate, of the crate of casts, of other crates, and of the tree's."""
     names = set(re.findall(r"\b[A-Z]\w*", body))
-    core = [name for name in ["CstChildren", "CstNode"] if name in names]
+    core = [name for name in ["CastAs", "CstChildren", "CstNode"] if name in names]
     core += [name for name in ["child", "children", "token"] if re.search(rf"\b{name}\(&self", body)]
     tree = [name for name in ["SyntaxKind", "SyntaxNode", "SyntaxToken"] if name in names]
     imports = {}

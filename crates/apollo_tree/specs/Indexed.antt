@@ -1,8 +1,8 @@
 -- An element as plain numbers.
-use Rattle.std.specs.Prelude.{suc, ◌+◌}
-use Rattle.document_grammar.specs.Forests.{count}
+use Rattle.std.specs.Prelude.{ℕ, suc, ◌+◌, nat_lt, length, if◌then◌else◌, Option, Some, None}
+use Rattle.document_grammar.specs.Forests.{Forest, count}
 use Rattle.apollo_tree.specs.declared.indexed.IndexedElement.{IndexedElement}
-use Rattle.apollo_tree.specs.Order.{Place, element, tree_at, tree_kids, kind_at, range_at, is_node}
+use Rattle.apollo_tree.specs.Order.{Place, order, element, tree_at, tree_kids, kind_at, range_at, is_node}
 
 abbrev pub indexed : Place → IndexedElement
 indexed p = record {
@@ -13,3 +13,7 @@ indexed p = record {
   parent = (element p).parent;
   after_subtree = p.index + suc (count (tree_kids (tree_at p)));
 }
+
+-- the element with an index, if there are more elements than that
+abbrev pub element_at : Forest → ℕ → Option IndexedElement
+element_at whole index = if nat_lt index (length (order whole)) then Some (indexed (record { whole = whole; index = index })) else None

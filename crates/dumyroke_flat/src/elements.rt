@@ -1,12 +1,21 @@
 // The rows of the elements.
 ghost use Rattle.std.specs.Prelude.{◌≡◌, ◌<◌, ◌^◌, length, get_or};
 ghost use Rattle.apollo_parser.specs.Forests.{text};
+ghost use Rattle.apollo_parser.specs.Indexed.{indexed};
 ghost use Rattle.apollo_parser.specs.Order.{nowhere, order};
 ghost use Rattle.dumyroke_flat.specs.Rows.{element_row, element_rows, filled};
 
 use crate::rows::ElementRow;
-use apollo_parser::{DocumentRoot, SyntaxTree};
+use apollo_parser::{DocumentRoot, IndexedElement, SyntaxTree};
 use std::alloc::Allocator;
+
+// An element that the tree has.
+fn element_at<A: Allocator>(tree: &SyntaxTree<DocumentRoot, A>, index: usize) -> IndexedElement
+    requires { index < length (order tree.now.tree) }
+    ensures { result ≡ indexed (record { whole = tree.now.tree; index = index }) }
+{
+    tree.element(index).unwrap()
+}
 
 fn row_of<A: Allocator>(tree: &SyntaxTree<DocumentRoot, A>, index: usize) -> ElementRow
     requires there { index < length (order tree.now.tree) }
@@ -14,7 +23,7 @@ fn row_of<A: Allocator>(tree: &SyntaxTree<DocumentRoot, A>, index: usize) -> Ele
     requires short { length (text tree.now.tree) < 2 ^ 32 }
     ensures { result ≡ element_row index (get_or (order tree.now.tree) index nowhere) }
 {
-    let element = tree.element(index);
+    let element = element_at(tree, index);
     ElementRow {
         start: element.start as u32,
         end: element.end as u32,

@@ -24,11 +24,7 @@ impl<'t, A: Allocator> Elements for TreeElements<'t, A> {
     }
 
     fn element(&self, index: usize) -> Option<IndexedElement> {
-        if index < self.tree.element_count() {
-            Some(self.tree.element(index))
-        } else {
-            None
-        }
+        self.tree.element(index)
     }
 }
 

@@ -102,7 +102,7 @@ fn errors_of_literals_are_compared_and_printed(rt: HostRuntime) -> Result<(), Fa
     Ok(())
 }
 
-// A law gives nothing but its contract.
+// A law does nothing, so this asserts nothing: it calls it once.
 #[test]
 fn the_law_on_reading_back_returns() {
     reading_back();

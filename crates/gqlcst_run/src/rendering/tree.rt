@@ -58,11 +58,7 @@ fn put_element<W: Sink>(
 
 // The parent of an element.
 fn parent_of<A: Allocator>(tree: &SyntaxTree<DocumentRoot, A>, index: usize) -> Option<usize> {
-    if index < tree.element_count() {
-        tree.element(index).parent
-    } else {
-        None
-    }
+    tree.element(index)?.parent
 }
 
 // The innermost open node, and how many are open.
@@ -109,7 +105,9 @@ fn put_elements<A: Allocator, W: Sink>(
         level: 0,
     };
     for index in 0..tree.element_count() {
-        let element = tree.element(index);
+        let Some(element) = tree.element(index) else {
+            return;
+        };
         open.close_to(tree, element.parent);
         put_element(page, writer, open.level, element, source);
         if element.is_node {

@@ -5,21 +5,21 @@ use Rattle.dumyroke_flat.proofs.elements.row_of.Goals as goal
 
 pub overflow_cast-result : goal.overflow_cast-result
 overflow_cast-result g c =
-    let inside : Within c.args.tree.now.tree c.args.index c.element-element.result = within _ _ _ c.requires.there c.element-element.ensures in
+    let inside : Within c.args.tree.now.tree c.args.index c.element_at-element.result = within _ _ _ c.requires.there c.element_at-element.ensures in
     omega arith
 
 pub overflow_cast-result-2 : goal.overflow_cast-result-2
 overflow_cast-result-2 g c =
-    let inside : Within c.args.tree.now.tree c.args.index c.element-element.result = within _ _ _ c.requires.there c.element-element.ensures in
+    let inside : Within c.args.tree.now.tree c.args.index c.element_at-element.result = within _ _ _ c.requires.there c.element_at-element.ensures in
     omega arith
 
 pub overflow_cast-result-3 : goal.overflow_cast-result-3
 overflow_cast-result-3 g c =
-    let inside : Within c.args.tree.now.tree c.args.index c.element-element.result = within _ _ _ c.requires.there c.element-element.ensures in
-    let parent : c.unwrap_or.result ≡ unwrap_or c.element-element.result.parent 0 = c.unwrap_or.ensures in
+    let inside : Within c.args.tree.now.tree c.args.index c.element_at-element.result = within _ _ _ c.requires.there c.element_at-element.ensures in
+    let parent : c.unwrap_or.result ≡ unwrap_or c.element_at-element.result.parent 0 = c.unwrap_or.ensures in
     omega arith
 
 pub overflow_cast-result-4 : goal.overflow_cast-result-4
 overflow_cast-result-4 g c =
-    let inside : Within c.args.tree.now.tree c.args.index c.element-element.result = within _ _ _ c.requires.there c.element-element.ensures in
+    let inside : Within c.args.tree.now.tree c.args.index c.element_at-element.result = within _ _ _ c.requires.there c.element_at-element.ensures in
     omega arith
