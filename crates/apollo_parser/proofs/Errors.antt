@@ -14,7 +14,7 @@ use Rattle.document_grammar.proofs.Booleans.{either}
 use Rattle.std.proofs.lemmas.Bool.{eqb-true, or_left, or_right}
 use Rattle.apollo_lexer.specs.Diagnostics.{Subject, Diagnostic, of_text, of_end, of_limit}
 use Rattle.apollo_lexer.specs.LexErrors.{limit_message}
-use Rattle.apollo_lexer.proofs.Messages.{ascii-text, fault-ascii, begins_fault, no-fault-message}
+use Rattle.apollo_lexer.proofs.Messages.{ascii-text, fault-ascii, begins_fault, is-fault-message, no-fault-message}
 use Rattle.grammar_machine.specs.Machine.{text_eq}
 use Rattle.parser_rules.specs.declared.message.Message.{Message}
 use Rattle.parser_rules.specs.declared.message.Message.TheVariants as message
@@ -25,7 +25,8 @@ use Rattle.parser_rules.proofs.reports.AtTheLimit.{found-other}
 use Rattle.parser_rules.proofs.runs.TreesWithSources.{Has, Limited}
 use Rattle.apollo_parser.specs.Parsed.{IsLimit, IsTokenLimit, IsRecursionLimit, IsLimitMessage, IsLimitWorded, ErrorsAlong}
 use Rattle.apollo_parser.specs.Parsed as parsed
-use Rattle.parser_state.specs.Errors.{found_of, IsWorded, IsErrorOf}
+use Rattle.parser_state.specs.Errors.{IsWorded, IsErrorOf}
+use Rattle.parser_state.specs.Found.{found_of}
 
 pub same-indices : (rs : List Report) (ds : List Diagnostic) → AllZip IsErrorOf rs ds → map (λ (d : Diagnostic). d.index) ds ≡ map (λ (r : Report). r.index) rs
 same-indices [] [] h = refl
@@ -109,7 +110,7 @@ module _ (Text_is : Text → Type 0) (P : Diagnostic → Type 0)
 
 pub ascii-messages : {answers : List Answer} {rs : List Report} (ds : List Diagnostic) → Reported true answers rs → AllTexts IsAscii answers → AllZip IsErrorOf rs ds → All (λ (d : Diagnostic). IsAscii d.message) ds
 ascii-messages = each-error IsAscii (λ d. IsAscii d.message)
-    (λ text index d h e. fault-ascii text d.message e.message h)
+    (λ text index d h e. fault-ascii text d.message (is-fault-message text d.message e.message) h)
     (λ index d e. subst IsAscii (sym e.message) (ascii-text limit_message refl))
     (λ m x d h e. subst IsAscii (sym e.message) (message-ascii m (found_at x) (found-ascii x h)))
     (λ x d e. subst IsAscii (sym e.message) (ascii-text recursion_limit_message refl))
@@ -181,7 +182,7 @@ any-text (limit_at index ∷ answers) = any-text answers
 
 pub limit-worded : {answers : List Answer} {rs : List Report} (ds : List Diagnostic) → Reported true answers rs → AllZip IsErrorOf rs ds → All IsLimitWorded ds
 limit-worded {answers = answers} ds h = each-error (λ text. ⊤) IsLimitWorded
-    (λ text index d i e. other-worded d (at_text text) e.subject refl (λ l. no-fault-message text d.message e.message (limit-otherwise d.message (limit-begins d.message l))))
+    (λ text index d i e. other-worded d (at_text text) e.subject refl (λ l. no-fault-message text d.message (is-fault-message text d.message e.message) (limit-otherwise d.message (limit-begins d.message l))))
     (λ index d e. record { limit = λ s. inl e.message; other = λ i. subject-limit d e.subject })
     (λ m x d i e. other-worded d (found_at x) e.subject (found-other x) (λ l. true≢false (sym (limit-begins d.message l) ∙ (ap begins_limit e.message ∙ message-begins m (found_at x)))))
     (λ x d e. record { limit = λ s. inr e.message; other = λ i. subject-limit d e.subject })
@@ -216,7 +217,8 @@ pub errors-along : {taken : Bool} {answers : List Answer} {rs : List Report} →
 errors-along no_more [] z = parsed.no_more
 errors-along no_more (d ∷ ds) z = absurd z
 errors-along (bad_text {item = item} e h) (d ∷ ds) z =
-    parsed.bad_text e (record { subject = subject-is d.subject (at_text item.text) z.0.subject; index = z.0.index }) z.0.message (errors-along h ds z.1)
+    parsed.bad_text e (record { subject = subject-is d.subject (at_text item.text) z.0.subject; index = z.0.index })
+    (is-fault-message item.text d.message z.0.message) (errors-along h ds z.1)
 errors-along (token_limit h) (d ∷ ds) z =
     let about = subject-limit d z.0.subject in
     parsed.token_limit (record { subject = about; index = z.0.index }) (record { subject = about; message = z.0.message }) (errors-along h ds z.1)

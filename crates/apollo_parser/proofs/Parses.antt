@@ -5,16 +5,13 @@ use Rattle.document_grammar.specs.Tree.{Tree}
 use Rattle.document_grammar.specs.Places.{Placed, bare}
 use Rattle.parser_rules.specs.Open.{IsRoot}
 use Rattle.parser_rules.proofs.reports.NoReport.{EndsWell, current_tokens, kind_tokens, end-kind}
-use Rattle.parser_rules.proofs.soundness.OverTexts.{accepts-text, accepts-tree, first-report-right, IsRight}
-use Rattle.parser_rules.proofs.soundness.FirstErrors.{not-late as report-not-late, not-early as report-not-early, not-early-limit as report-not-early-limit}
-use Rattle.parser_rules.proofs.soundness.EndedNodes.{ended-nodes}
+use Rattle.parser_rules.proofs.soundness.OverTexts.{RightFirst, accepts-text, accepts-tree, first-report-right}
 use Rattle.parser_rules.proofs.recovery.Popped.{document-recovers}
 use Rattle.parser_rules.proofs.recovery.RowSymbols.{document-rowed}
 use Rattle.parser_rules.proofs.recovery.LeftOver.{all-rowed, left-over as run-left-over}
 use Rattle.parser_rules.proofs.recovery.LaterChildren.{goes-on as run-goes-on}
-use Rattle.parser_rules.proofs.soundness.Settled.{EndedFit}
 use Rattle.parser_rules.proofs.recovery.IgnoredPlaces.{placed as run-placed}
-use Rattle.std.proofs.Common.{inl, inr, ◌≡◌, ◌≢◌, ℕ, Bool, ◌+◌, ◌^◌, ◌*◌, ◌<◌, ◌≤◌, arith, min, true, false, List, [], length, map, take, drop, ◌++◌, Option, Some, None, refl, sym, ap, ◌∙◌, subst, ◌∷◌}
+use Rattle.std.proofs.Common.{inl, inr, ◌≡◌, ◌≢◌, ℕ, Bool, ◌+◌, ◌^◌, ◌*◌, ◌<◌, ◌≤◌, append-nil, arith, min, true, false, List, [], length, map, take, drop, ◌++◌, Option, Some, None, refl, sym, ap, ◌∙◌, subst, ◌∷◌}
 use Rattle.std.specs.List.Sorted.{IsNonDecreasing}
 use Rattle.lexical_grammar.specs.Cut.{Cut, texts, Item}
 use Rattle.lexical_grammar.specs.Reads.{items_of}
@@ -29,8 +26,8 @@ use Rattle.document_grammar.specs.Recovery.{Rowed, children_of, LeftOver, GoesOn
 use Rattle.document_grammar.specs.Derivation.{document, nest, Yield}
 use Rattle.document_grammar.specs.Forests.{Forest, none, node, text}
 use Rattle.document_grammar.specs.Numbered.{tree_of}
-use Rattle.document_grammar.specs.Sentence.{Sentence, FirstSentence, Within}
-use Rattle.document_grammar.specs.FirstError.{tokens_of, OnlyDerivation, NotLate, NotEarly, NotEarlyLimit, EndedNodesFit}
+use Rattle.document_grammar.specs.Sentence.{Sentence, FirstSentence, Within, tokens_of, OnlyDerivation}
+use Rattle.document_grammar.specs.FirstError.{NotLate, NotEarly, NotEarlyLimit, EndedNodesFit}
 use Rattle.document_grammar.proofs.Texts.{one-cut, first-sentence}
 use Rattle.grammar_machine.proofs.SentenceTheorems.{one-derivation}
 use Rattle.apollo_lexer.proofs.Law.{limited-length, few-from}
@@ -38,8 +35,10 @@ use Rattle.apollo_parser.specs.ByRules.{ByRules}
 use Rattle.apollo_parser.specs.Promise.{Promise}
 use Rattle.apollo_parser.specs.Parsed.{Parsed, ErrorsOf, IsRecursionLimit, IsLimitWorded, IsTokenLimit, OfFirst, HasError, IsAbout, Recovers, root_children, IsLimit}
 use Rattle.apollo_lexer.specs.Diagnostics.{Diagnostic, of_text, of_limit}
-use Rattle.parser_state.specs.Errors.{found_of, IsErrorOf}
+use Rattle.parser_state.specs.Errors.{IsErrorOf}
+use Rattle.parser_state.specs.Found.{found_of}
 use Rattle.apollo_parser.proofs.Errors.{same-indices, same-length, no-reports, no-errors, token-limit-error, no-recursion, subject-limit, any-recursion, ascii-messages, limited-ascii, limit-worded, any-limit, any-said, fault-text, errors-along}
+use Rattle.apollo_parser.proofs.FirstOnes as first
 use Rattle.apollo_parser.proofs.Roots.{finished-node}
 use Rattle.parser_rules.specs.State.{State, Lexeme, Report, fault_report, is_over, begun, finished, add_all}
 use Rattle.parser_rules.specs.Nodes.{Document}
@@ -233,31 +232,23 @@ module _ {source : List ℕ} {r k : ℕ} {t : Parsed} (p : ByRules source r k t)
 
   -- ---- the first error
 
-  -- what holds of the error that says the first report, which is right
-  of-first : (P : Diagnostic → Type 0)
-      → ((e : Report) (d : Diagnostic) → IsErrorOf e d → (i : IsRight source items r k e) → EndedFit (length (tokens_of i.before)) 0 (finished s) → P d) → OfFirst P t.errors
-  of-first P h = on s.errors t.errors refl p.errors
-    where
-      on : (rs : List Report) (ds : List Diagnostic) → s.errors ≡ rs → AllZip IsErrorOf rs ds → OfFirst P ds
-      on rs [] e z = tt
-      on [] (d ∷ ds) e z = absurd z
-      on (first ∷ rs) (d ∷ ds) e z = let i = first-report-right r k source items s p.cut root p.run p.characters first rs e in h first d z.0 i.0 i.1
+  right : (e : Report) (more : List Report) → s.errors ≡ e ∷ more → RightFirst document source items r k t.tree e
+  right e more h = rw p.tree (first-report-right r k source items s p.cut root p.run p.characters e more h)
 
-  pub not-late : OfFirst (λ e. (IsTokenLimit e → ⊥) → NotLate source e.index) t.errors
-  not-late = of-first (λ d. (IsTokenLimit d → ⊥) → NotLate source d.index)
-      (λ e d z i f n. subst (NotLate source) (sym z.index) (report-not-late p.cut i (λ m j. n (token-limit-error m e d j z))))
+  all-leaves : OneLeafAnItem xs (leaves t.tree ++ [])
+  all-leaves = subst (OneLeafAnItem xs) (sym (append-nil (leaves t.tree))) one-leaf
 
-  pub not-early : OfFirst (λ e. e.subject ≢ of_limit → NotEarly k items e.index) t.errors
-  not-early = of-first (λ d. d.subject ≢ of_limit → NotEarly k items d.index)
-      (λ e d z i f n. subst (NotEarly k items) (sym z.index) (report-not-early p.cut i (λ j. n (subject-limit d (z.subject ∙ j)))))
+  pub not-late : OfFirst (λ e. (IsTokenLimit e → ⊥) → NotLate document source e.index) t.errors
+  not-late = first.not-late document r k t.tree p.cut s.errors t.errors p.errors right
 
-  pub not-early-limit : OfFirst (λ e. IsRecursionLimit e → NotEarlyLimit r items e.index) t.errors
-  not-early-limit = of-first (λ d. IsRecursionLimit d → NotEarlyLimit r items d.index)
-      (λ e d z i f n. subst (NotEarlyLimit r items) (sym z.index) (report-not-early-limit p.cut i (sym z.subject ∙ ap found_of n.subject) (λ m j. no-recursion m e d j z n)))
+  pub not-early : OfFirst (λ e. e.subject ≢ of_limit → NotEarly document k items e.index) t.errors
+  not-early = first.not-early document r k t.tree p.cut s.errors t.errors p.errors right
+
+  pub not-early-limit : OfFirst (λ e. IsRecursionLimit e → NotEarlyLimit document r items e.index) t.errors
+  not-early-limit = first.not-early-limit document r k t.tree p.cut s.errors t.errors p.errors right
 
   pub ended-nodes-fit : OfFirst (λ e. EndedNodesFit items e.index (tree_of t.tree)) t.errors
-  ended-nodes-fit = of-first (λ d. EndedNodesFit items d.index (tree_of t.tree))
-      (λ e d z i f. rw (z.index, p.tree) (ended-nodes (finished s) p.cut i (run-leaves k r source s p.cut p.run) f))
+  ended-nodes-fit = first.ended-nodes-fit document r k t.tree p.cut s.errors t.errors p.errors right [] all-leaves
 
   -- ---- after errors
 
@@ -312,6 +303,7 @@ promise p = record {
   limit_messages = limit-messages p;
   ascii = ascii p;
   in_order = in-order p;
+  by_rules = p;
   not_late = not-late p;
   not_early = not-early p;
   not_early_limit = not-early-limit p;

@@ -1,6 +1,6 @@
 -- What a run of a root's rule over the items of a text comes to, and so what the parse of a part of a document promises.
-use Rattle.std.proofs.Common.{◌≡◌, ℕ, ◌+◌, ◌*◌, ◌^◌, ◌<◌, ◌≤◌, arith, min, None, List, [], ◌∷◌, ◌++◌, length, map, take, drop, refl, sym, ap, ◌∙◌, subst, append_assoc, append-nil}
-use Rattle.std.specs.Str.{IsAscii}
+use Rattle.std.proofs.Common.{◌≡◌, ◌≢◌, ℕ, ◌+◌, ◌*◌, ◌^◌, ◌<◌, ◌≤◌, arith, min, None, List, [], ◌∷◌, ◌++◌, length, map, take, drop, refl, sym, ap, ◌∙◌, subst, append_assoc, append-nil}
+use Rattle.std.specs.Str.{IsAscii, IsUtf8}
 use Rattle.std.specs.List.{Any, All}
 use Rattle.std.specs.List.Sorted.{IsNonDecreasing}
 use Rattle.std.proofs.lemmas.List.{take-append-drop}
@@ -12,15 +12,19 @@ use Rattle.lexical_grammar.proofs.Limited.{limited-text}
 use Rattle.lexical_grammar.proofs.Cuts.{texts-append}
 use Rattle.document_grammar.specs.declared.kind.SyntaxKind.{SyntaxKind}
 use Rattle.document_grammar.specs.Derivation.{Sort, nest}
+use Rattle.document_grammar.specs.FirstError.{NotLate, NotEarly, NotEarlyLimit, EndedNodesFit}
+use Rattle.document_grammar.specs.Numbers.{number}
+use Rattle.document_grammar.specs.Recovery.{Rowed}
 use Rattle.document_grammar.specs.Places.{bare}
 use Rattle.document_grammar.specs.Sentence.{Sentence, Within}
 use Rattle.document_grammar.specs.Tree.{Tree}
 use Rattle.document_grammar.specs.Forests.{Forest, none, node, text, count}
 use Rattle.document_grammar.specs.Numbered.{tree_of}
-use Rattle.document_grammar.specs.Leaves.{leaves}
+use Rattle.document_grammar.specs.Leaves.{Leaf, leaves, OneLeafAnItem}
+use Rattle.apollo_lexer.specs.Diagnostics.{of_limit}
 use Rattle.apollo_lexer.specs.declared.limit.LimitTracker.{LimitTracker}
 use Rattle.apollo_lexer.proofs.Law.{limited-length}
-use Rattle.parser_rules.specs.State.{State, finished}
+use Rattle.parser_rules.specs.State.{State, Report, finished}
 use Rattle.parser_rules.specs.Fragments.{started, left_out}
 use Rattle.parser_rules.specs.RuleLanguage.{Rule}
 use Rattle.parser_rules.specs.Runs.{Runs}
@@ -28,19 +32,25 @@ use Rattle.parser_rules.proofs.reports.Endings.{ends-well}
 use Rattle.parser_rules.proofs.reports.PastTheLimit.{root-limited}
 use Rattle.parser_rules.proofs.leaves.OneLeaf as run_leaves
 use Rattle.parser_rules.proofs.leaves.OneLeaf.{root-leaves, joined, text-leaves}
+use Rattle.parser_rules.proofs.leaves.AllAnswers.{leaves-go-on}
 use Rattle.parser_rules.proofs.nesting.Nesting.{root-nesting}
+use Rattle.parser_rules.proofs.recovery.LeftOver.{all-rowed}
+use Rattle.parser_rules.proofs.recovery.RowSymbols.{root-rowed}
+use Rattle.parser_rules.proofs.soundness.OverTexts.{RightFirst}
 use Rattle.parser_rules.proofs.nesting.LevelTokens.{root-levels-within}
 use Rattle.parser_rules.proofs.fragments.RootChecks.{RootRule}
 use Rattle.parser_rules.proofs.fragments.PartTexts.{IsSoundPart}
-use Rattle.parser_rules.proofs.fragments.RootRuns.{root-above, levels-left, all-asked, limit-passed, front-reported, ordered-front}
+use Rattle.parser_rules.proofs.fragments.RootRuns.{root-above, levels-left, all-asked, limit-passed, ordered-front}
+use Rattle.parser_rules.proofs.fragments.OneFront.{OneFront, one-front as run-front}
 use Rattle.parser_rules.proofs.sizes.Sizes.{Sized, finished-count}
 use Rattle.apollo_tree.specs.Order.{order}
 use Rattle.apollo_tree.proofs.Places.{length-order}
 use Rattle.apollo_parser.specs.ByRules.{ByRootRule}
 use Rattle.apollo_parser.specs.Promise.{PartPromise}
-use Rattle.apollo_parser.specs.Parsed.{Parsed, IsLimit, IsRecursionLimit, IsLimitWorded}
-use Rattle.apollo_parser.specs.Parts.{FirstLeaves, FirstErrors}
+use Rattle.apollo_parser.specs.Parsed.{Parsed, IsLimit, IsTokenLimit, IsRecursionLimit, IsLimitWorded, OfFirst}
+use Rattle.apollo_parser.specs.Parts.{FirstItems}
 use Rattle.apollo_parser.proofs.Errors.{AllTexts, no-reports, no-errors, same-indices, same-length, any-recursion, ascii-messages, limited-ascii, limit-worded, any-limit, errors-along}
+use Rattle.apollo_parser.proofs.FirstOnes as first
 use Rattle.apollo_parser.proofs.Roots.{finished-node}
 use Rattle.apollo_parser.proofs.Parses.{answers, below-cap, few-answers}
 
@@ -58,25 +68,22 @@ module _ {q : Rule} (j : SyntaxKind) (k r : ℕ) (source : List ℕ) (s : State)
   root-is = finished-node (left_out s) j (root-above (answers k source) r j run)
 
   module _ (passes : RootRule j q) where
-    first : run_leaves.FirstLeaves (answers k source) (leaves s.tree.here)
-    first = root-leaves (answers k source) r j passes.leaves run
+    first-leaves : run_leaves.FirstLeaves (answers k source) (leaves s.tree.here)
+    first-leaves = root-leaves (answers k source) r j passes.leaves run
 
     leaves-are : leaves (finished (left_out s)) ≡ leaves s.tree.here
     leaves-are = ap leaves root-is ∙ append-nil (leaves s.tree.here)
-
-    pub root-first : FirstLeaves (answers k source) (leaves (finished (left_out s)))
-    root-first = record { front = first.front; back = first.back; split = first.split; leaves = rw leaves-are first.leaves }
 
     -- the source begins with the tree's text
     pub root-begins : Cut source (items_of source) → take (length (text (finished (left_out s)))) source ≡ text (finished (left_out s))
     root-begins cut =
         let items = items_of source in
-        let front = answers_text first.front in
-        let rest = answers_text first.back ++ texts (drop k items) in
-        let is : text (finished (left_out s)) ≡ front = text-leaves (finished (left_out s)) ∙ ap joined leaves-are ∙ first.text in
-        let taken : front ++ answers_text first.back ≡ texts (take k items) = sym (text-append first.front first.back) ∙ ap answers_text (sym first.split) ∙ limited-text k items in
+        let front = answers_text first-leaves.front in
+        let rest = answers_text first-leaves.back ++ texts (drop k items) in
+        let is : text (finished (left_out s)) ≡ front = text-leaves (finished (left_out s)) ∙ ap joined leaves-are ∙ first-leaves.text in
+        let taken : front ++ answers_text first-leaves.back ≡ texts (take k items) = sym (text-append first-leaves.front first-leaves.back) ∙ ap answers_text (sym first-leaves.split) ∙ limited-text k items in
         let whole : texts (take k items) ++ texts (drop k items) ≡ source = sym (texts-append (take k items) (drop k items)) ∙ ap texts (take-append-drop k items) ∙ cut.joined in
-        let joins : front ++ rest ≡ source = sym (append_assoc front (answers_text first.back) (texts (drop k items))) ∙ ap (λ (t : List ℕ). t ++ texts (drop k items)) taken ∙ whole in
+        let joins : front ++ rest ≡ source = sym (append_assoc front (answers_text first-leaves.back) (texts (drop k items))) ∙ ap (λ (t : List ℕ). t ++ texts (drop k items)) taken ∙ whole in
         ap (λ (t : List ℕ). take (length t) source) is ∙ ap (take (length front)) (sym joins) ∙ take-append_seam front rest ∙ sym is
 
     pub root-nested : count (finished (left_out s)) < 2 ^ 64 → nest (tree_of (finished (left_out s))) ≤ s.high
@@ -107,17 +114,27 @@ module _ {j : SyntaxKind} {q : Rule} {source : List ℕ} {r k : ℕ} {t : Parsed
     error-count : length t.errors ≤ 3 * min (length (items_of source)) k + 1
     error-count = let e = same-length p.last.errors t.errors p.errors in let b = sized.reports in omega (arith, e, b)
 
-  errors : FirstErrors (answers k source) t.errors
-  errors = let f = front-reported (answers k source) r j p.run in record { front = f.front; back = f.back; split = f.split; errors = errors-along f.reported t.errors p.errors }
+  module _ (passes : RootRule j q) where
+    one-front : OneFront (answers k source) (leaves t.tree) p.last.errors
+    one-front =
+        let f = run-front (answers k source) r j passes.leaves p.run in
+        let same : leaves p.last.tree.here ≡ leaves t.tree = sym (ap leaves (p.tree ∙ root-is j k r source p.last p.run) ∙ append-nil (leaves p.last.tree.here)) in
+        subst (λ (ls : List Leaf). OneFront (answers k source) ls p.last.errors) same f
 
-  limit-messages : All IsLimitWorded t.errors
-  limit-messages = limit-worded t.errors (front-reported (answers k source) r j p.run).reported p.errors
+    first-items : FirstItems (answers k source) (leaves t.tree) t.errors
+    first-items =
+        let f = one-front in
+        record { front = f.front; ahead = f.ahead; back = f.back; split = f.split; one_leaf = f.leaves; errors = errors-along f.reported t.errors p.errors; few = f.few }
 
-  ascii : IsAscii source → All (λ e. IsAscii e.message) t.errors
-  ascii h =
-      let f = front-reported (answers k source) r j p.run in
-      let all : AllTexts IsAscii (f.front ++ f.back) = subst (AllTexts IsAscii) f.split (limited-ascii k (items_of source) (rw p.cut.joined h)) in
-      ascii-messages t.errors f.reported (texts-front IsAscii f.front f.back all) p.errors
+    limit-messages : All IsLimitWorded t.errors
+    limit-messages = limit-worded t.errors one-front.reported p.errors
+
+    ascii : IsAscii source → All (λ e. IsAscii e.message) t.errors
+    ascii h =
+        let f = one-front in
+        let split = f.split ∙ sym (append_assoc f.front f.ahead f.back) in
+        let all : AllTexts IsAscii ((f.front ++ f.ahead) ++ f.back) = subst (AllTexts IsAscii) split (limited-ascii k (items_of source) (rw p.cut.joined h)) in
+        ascii-messages t.errors f.reported (texts-front IsAscii (f.front ++ f.ahead) f.back all) p.errors
 
   in-order : IsNonDecreasing (map (λ e. e.index) t.errors)
   in-order = subst IsNonDecreasing (sym (same-indices p.last.errors t.errors p.errors)) (ordered-front k source (items_of source) r j p.run p.cut)
@@ -131,9 +148,6 @@ module _ {j : SyntaxKind} {q : Rule} {source : List ℕ} {r k : ℕ} {t : Parsed
 
     beginning : take (length (text t.tree)) source ≡ text t.tree
     beginning = subst (λ f. take (length (text f)) source ≡ text f) (sym p.tree) (root-begins j k r source p.last p.run passes p.cut)
-
-    one-leaf : FirstLeaves (answers k source) (leaves t.tree)
-    one-leaf = subst (λ f. FirstLeaves (answers k source) (leaves f)) (sym p.tree) (root-first j k r source p.last p.run passes)
 
     nesting : nest (tree_of t.tree) ≤ t.recursion_limit.high
     nesting =
@@ -162,24 +176,54 @@ module _ {j : SyntaxKind} {q : Rule} {source : List ℕ} {r k : ℕ} {t : Parsed
       let c = accepted u h n in
       (no-errors p.last.errors t.errors p.errors c.0, rw p.tree c.1)
 
+  -- the first error, and each node's row
+  module _ (passes : RootRule j q) where
+    row-symbols : Rowed (tree_of t.tree)
+    row-symbols =
+        rw (p.tree ∙ root-is j k r source p.last p.run) (all-rowed (number j) p.last.tree.here (root-rowed r (answers k source) j p.last passes.row p.run))
+
+    module _ (sort : Sort) (right : IsUtf8 source → (e : Report) (more : List Report) → p.last.errors ≡ e ∷ more → RightFirst sort source (items_of source) r k (finished (left_out p.last)) e) where
+      first-right : (e : Report) (more : List Report) → p.last.errors ≡ e ∷ more → RightFirst sort source (items_of source) r k t.tree e
+      first-right e more h = rw p.tree (right p.characters e more h)
+
+      not-late : OfFirst (λ e. (IsTokenLimit e → ⊥) → NotLate sort source e.index) t.errors
+      not-late = first.not-late sort r k t.tree p.cut p.last.errors t.errors p.errors first-right
+
+      not-early : OfFirst (λ e. e.subject ≢ of_limit → NotEarly sort k (items_of source) e.index) t.errors
+      not-early = first.not-early sort r k t.tree p.cut p.last.errors t.errors p.errors first-right
+
+      not-early-limit : OfFirst (λ e. IsRecursionLimit e → NotEarlyLimit sort r (items_of source) e.index) t.errors
+      not-early-limit = first.not-early-limit sort r k t.tree p.cut p.last.errors t.errors p.errors first-right
+
+      ended-nodes-fit : OfFirst (λ e. EndedNodesFit (items_of source) e.index (tree_of t.tree)) t.errors
+      ended-nodes-fit =
+          let l = one-front passes in
+          let all = leaves-go-on l.front (l.ahead ++ l.back) (leaves t.tree) l.leaves in
+          first.ended-nodes-fit sort r k t.tree p.cut p.last.errors t.errors p.errors first-right all.0 (subst (λ (xs : List Answer). OneLeafAnItem xs (leaves t.tree ++ all.0)) (sym l.split) all.1)
+
   -- all of it
   pub promise : RootRule j q → Sized (min (length (items_of source)) k) p.last → (sort : Sort) → (p.last.errors ≡ [] → IsSoundPart sort r p.last)
-      → ((u : Tree) → Sentence source u sort → Within source u r k → (p.last.errors ≡ []) × (bare (tree_of (finished (left_out p.last))) ≡ u)) → PartPromise sort source r k t
-  promise passes sized sort right accepted = record {
+      → ((u : Tree) → Sentence source u sort → Within source u r k → (p.last.errors ≡ []) × (bare (tree_of (finished (left_out p.last))) ≡ u))
+      → (IsUtf8 source → (e : Report) (more : List Report) → p.last.errors ≡ e ∷ more → RightFirst sort source (items_of source) r k (finished (left_out p.last)) e) → PartPromise sort source r k t
+  promise passes sized sort right accepted reported = record {
     cut = p.cut;
     sound = sound sort right;
     accepts = accepts sort accepted;
     beginning = beginning passes;
-    one_leaf = one-leaf passes;
+    first_items = first-items passes;
     elements = elements sized;
     recursion = recursion;
     limit_met = limit-met passes;
     past_limit = past-limit passes;
     nesting = nesting passes;
     tokens = tokens;
-    errors = errors;
     error_count = error-count sized;
-    limit_messages = limit-messages;
-    ascii = ascii;
+    limit_messages = limit-messages passes;
+    ascii = ascii passes;
     in_order = in-order;
+    not_late = not-late passes sort reported;
+    not_early = not-early passes sort reported;
+    not_early_limit = not-early-limit passes sort reported;
+    ended_nodes_fit = ended-nodes-fit passes sort reported;
+    row_symbols = row-symbols passes;
   }

@@ -1,4 +1,5 @@
--- What the tree of a parse comes from: the parser's own rules. No public call promises it; the promises are theorems on such runs.
+-- What the tree of a parse comes from: the parser's own rules. The promises are theorems on such runs; only the law `one_parse` needs to know that
+-- there is one.
 use Rattle.std.specs.Prelude.{◌≡◌, ◌≤◌, ◌<◌, ◌^◌, ℕ, List, length}
 use Rattle.std.specs.List.{AllZip}
 use Rattle.std.specs.Str.{IsUtf8}
@@ -33,6 +34,7 @@ pub record ByRules (source : List ℕ) (r k : ℕ) (t : Parsed) : Type 0 where
 pub record ByRootRule (root : SyntaxKind) (rule : Rule) (source : List ℕ) (r k : ℕ) (t : Parsed) : Type 0 where
   pub last : State
   pub cut : Cut source (items_of source)
+  pub characters : IsUtf8 source
   pub short : length source < 2 ^ 63
   pub run : Runs rule (started (limited k (items_of source)) r root) last
   pub tree : t.tree ≡ finished (left_out last)

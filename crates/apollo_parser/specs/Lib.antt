@@ -11,6 +11,7 @@ pub use Rattle.lexical_grammar.specs.Strings
 pub use Rattle.lexical_grammar.specs.Values
 pub use Rattle.lexical_grammar.specs.Tokens
 pub use Rattle.lexical_grammar.specs.Cut
+pub use Rattle.lexical_grammar.specs.TokensAt
 pub use Rattle.lexical_grammar.specs.Begins
 pub use Rattle.lexical_grammar.specs.Reads
 pub use Rattle.lexical_grammar.specs.Answers
@@ -24,6 +25,7 @@ pub use Rattle.document_grammar.specs.Rows
 pub use Rattle.document_grammar.specs.Tree
 pub use Rattle.document_grammar.specs.Derivation
 pub use Rattle.document_grammar.specs.Sentence
+pub use Rattle.document_grammar.specs.Beginnings
 pub use Rattle.document_grammar.specs.FirstError
 pub use Rattle.document_grammar.specs.Recovery
 -- what is built

@@ -15,7 +15,7 @@ use Rattle.apollo_lexer.specs.Faults.{IsFaultMessage}
 use Rattle.apollo_lexer.specs.LexErrors.{limit_message}
 pub use Rattle.parser_rules.specs.declared.message.Message.{Message}
 use Rattle.parser_rules.specs.Messages.{Text, message_text, recursion_limit_message}
-pub use Rattle.parser_state.specs.Errors.{found_of}
+pub use Rattle.parser_state.specs.Found.{found_of}
 
 -- ---- what a parse gives
 

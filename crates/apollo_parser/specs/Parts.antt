@@ -1,28 +1,25 @@
 -- What is promised where a part of a document is parsed by itself, and the text after it is left.
-use Rattle.std.specs.Prelude.{◌≡◌, Bool, true, false, Option, Some, None, List, [], ◌∷◌, ◌++◌}
+use Rattle.std.specs.Prelude.{◌≡◌, ◌≤◌, length, filter, Bool, true, false, Option, Some, None, List, [], ◌∷◌, ◌++◌}
 use Rattle.lexical_grammar.specs.declared.TokenKind.{TokenKind}
 use Rattle.lexical_grammar.specs.declared.TokenKind.TheVariants as token
 use Rattle.lexical_grammar.specs.Answers.{Answer, gives, limit_at}
 use Rattle.document_grammar.specs.declared.kind.SyntaxKind.{SyntaxKind}
 use Rattle.document_grammar.specs.declared.kind.SyntaxKind.TheVariants as kind
 use Rattle.document_grammar.specs.Forests.{Forest, none, node}
-use Rattle.document_grammar.specs.Leaves.{Leaf, OneLeafAnItem, ignored}
+use Rattle.document_grammar.specs.Leaves.{Leaf, OneLeafAnItem, ignored, shows}
 use Rattle.apollo_lexer.specs.Diagnostics.{Diagnostic}
 use Rattle.apollo_parser.specs.Parsed.{ErrorsOf}
 
--- The leaves are one for one the first items.
-pub record FirstLeaves (answers : List Answer) (ls : List Leaf) : Type 0 where
+-- How far a part goes into the text: one for one the leaves are the items of the front. The errors go along these and what was read after the tree,
+-- where at most one token is significant, or the end.
+pub record FirstItems (answers : List Answer) (ls : List Leaf) (found : List Diagnostic) : Type 0 where
   pub front : List Answer
+  pub ahead : List Answer
   pub back : List Answer
-  pub split : answers ≡ front ++ back
-  pub leaves : OneLeafAnItem front ls
-
--- The errors go along the first answers.
-pub record FirstErrors (answers : List Answer) (found : List Diagnostic) : Type 0 where
-  pub front : List Answer
-  pub back : List Answer
-  pub split : answers ≡ front ++ back
-  pub errors : ErrorsOf front found
+  pub split : answers ≡ front ++ (ahead ++ back)
+  pub one_leaf : OneLeafAnItem front ls
+  pub errors : ErrorsOf (front ++ ahead) found
+  pub few : length (filter shows ahead) ≤ 1
 
 -- ---- types
 

@@ -11,18 +11,19 @@ use Rattle.lexical_grammar.specs.Cut.{Cut, texts}
 use Rattle.lexical_grammar.specs.Reads.{items_of}
 use Rattle.document_grammar.specs.declared.kind.SyntaxKind.TheVariants as kind
 use Rattle.document_grammar.specs.Derivation.{Sort, document, nest}
-use Rattle.document_grammar.specs.FirstError.{OnlyDerivation, NotLate, NotEarly, NotEarlyLimit, EndedNodesFit}
+use Rattle.document_grammar.specs.FirstError.{NotLate, NotEarly, NotEarlyLimit, EndedNodesFit}
 use Rattle.document_grammar.specs.Forests.{Forest, none, node, text}
 use Rattle.document_grammar.specs.Leaves.{leaves, OneLeafAnItem}
 use Rattle.document_grammar.specs.Numbered.{tree_of}
 use Rattle.document_grammar.specs.Places.{bare, Placed}
 use Rattle.document_grammar.specs.Recovery.{Rowed}
-use Rattle.document_grammar.specs.Sentence.{Sentence, FirstSentence, Within}
+use Rattle.document_grammar.specs.Sentence.{Sentence, FirstSentence, Within, OnlyDerivation}
 use Rattle.document_grammar.specs.Tree.{Tree}
 use Rattle.apollo_tree.specs.Order.{order}
 use Rattle.parser_rules.specs.Messages.{Text}
+use Rattle.apollo_parser.specs.ByRules.{ByRules}
 use Rattle.apollo_parser.specs.Parsed.{Parsed, IsLimit, IsTokenLimit, IsRecursionLimit, IsLimitWorded, ErrorsOf, OfFirst, Recovers}
-use Rattle.apollo_parser.specs.Parts.{FirstLeaves, FirstErrors}
+use Rattle.apollo_parser.specs.Parts.{FirstItems}
 
 -- What `Parser::parse` promises.
 pub record Promise (source : Text) (max_depth max_items : ℕ) (t : Parsed) : Type 0 where
@@ -78,11 +79,11 @@ pub record Promise (source : Text) (max_depth max_items : ℕ) (t : Parsed) : Ty
   -- ---- the first error
 
   -- the text before it begins a sentence, unless it is the token limit's
-  pub not_late : OfFirst (λ e. ¬ IsTokenLimit e → NotLate source e.index) t.errors
+  pub not_late : OfFirst (λ e. ¬ IsTokenLimit e → NotLate document source e.index) t.errors
   -- no sentence starts with the tokens before it, the one there and the next, if it is no limit's
-  pub not_early : OfFirst (λ e. ¬ IsLimit e → NotEarly max_items (items_of source) e.index) t.errors
+  pub not_early : OfFirst (λ e. ¬ IsLimit e → NotEarly document max_items (items_of source) e.index) t.errors
   -- no sentence that nests within the limit starts with the tokens before it and the one there, if it is the recursion limit's
-  pub not_early_limit : OfFirst (λ e. IsRecursionLimit e → NotEarlyLimit max_depth (items_of source) e.index) t.errors
+  pub not_early_limit : OfFirst (λ e. IsRecursionLimit e → NotEarlyLimit document max_depth (items_of source) e.index) t.errors
   -- each node that a significant token in front of it follows fits its row and the rules
   pub ended_nodes_fit : OfFirst (λ e. EndedNodesFit (items_of source) e.index (tree_of t.tree)) t.errors
   -- ---- after errors
@@ -92,6 +93,10 @@ pub record Promise (source : Text) (max_depth max_items : ℕ) (t : Parsed) : Ty
   -- Where no limit is met: each token that was left over has its error, and is a child of the root or of a list, or its node's only one. Where
   -- what follows a child of the root is a document of its own, the later children are its derivation's, and no error is beyond its first token.
   pub recovers : ¬ Any IsLimit t.errors → Recovers max_depth (items_of source) t
+  -- ---- that it is a function
+
+  -- There is no other result: the law `one_parse` says so of any two that keep this promise. What `ByRules` is has no part in it.
+  pub by_rules : ByRules source max_depth max_items t
 
 -- What the parse of a part of a document promises, of a selection set or of a type, which is the `sort`. The text after the part is left.
 pub record PartPromise (sort : Sort) (source : Text) (max_depth max_items : ℕ) (t : Parsed) : Type 0 where
@@ -108,8 +113,8 @@ pub record PartPromise (sort : Sort) (source : Text) (max_depth max_items : ℕ)
 
   -- the source begins with its text
   pub beginning : take (length (text t.tree)) source ≡ text t.tree
-  -- its leaves are, one for one, the first of the items that are allowed
-  pub one_leaf : FirstLeaves (limited max_items (items_of source)) (leaves t.tree)
+  -- its leaves are, one for one, the first of the items that are allowed, and the errors go along these and the next token
+  pub first_items : FirstItems (limited max_items (items_of source)) (leaves t.tree) t.errors
   -- there are at most five elements for each item that is read, and the root
   pub elements : length (order t.tree) ≤ 5 * min (length (items_of source)) max_items + 1
   -- ---- the limits, as those of a document; the last is `≤`, since the rest of the text is not read
@@ -119,10 +124,16 @@ pub record PartPromise (sort : Sort) (source : Text) (max_depth max_items : ℕ)
   pub past_limit : max_depth < t.recursion_limit.high → Any IsLimit t.errors
   pub nesting : nest (tree_of t.tree) ≤ t.recursion_limit.high
   pub tokens : (t.token_limit.limit ≡ max_items) × (t.token_limit.high ≤ min (length (items_of source)) (max_items + 1))
-  -- ---- the errors, as those of a document; they go along the first of the items that are allowed
+  -- ---- the errors, as those of a document
 
-  pub errors : FirstErrors (limited max_items (items_of source)) t.errors
   pub error_count : length t.errors ≤ 3 * min (length (items_of source)) max_items + 1
   pub limit_messages : All IsLimitWorded t.errors
   pub ascii : IsAscii source → All (λ e. IsAscii e.message) t.errors
   pub in_order : IsNonDecreasing (map (λ e. e.index) t.errors)
+  -- ---- the first error, and the row of each node, as those of a document
+
+  pub not_late : OfFirst (λ e. ¬ IsTokenLimit e → NotLate sort source e.index) t.errors
+  pub not_early : OfFirst (λ e. ¬ IsLimit e → NotEarly sort max_items (items_of source) e.index) t.errors
+  pub not_early_limit : OfFirst (λ e. IsRecursionLimit e → NotEarlyLimit sort max_depth (items_of source) e.index) t.errors
+  pub ended_nodes_fit : OfFirst (λ e. EndedNodesFit (items_of source) e.index (tree_of t.tree)) t.errors
+  pub row_symbols : Rowed (tree_of t.tree)

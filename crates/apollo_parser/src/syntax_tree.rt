@@ -68,12 +68,12 @@ impl<R: Root, A: Allocator> Model for SyntaxTree<R, A> {
 }
 
 impl<R: Root, A: Allocator> SyntaxTree<R, A> {
-    ghost use Rattle.std.specs.Prelude.{◌≡◌, ◌<◌};
+    ghost use Rattle.std.specs.Prelude.{◌≡◌};
     ghost use Rattle.std.specs.Slice.Iter.{iter_rest};
     ghost use Rattle.std.specs.Prelude.{length};
     ghost use Rattle.document_grammar.specs.Forests.{text};
     ghost use Rattle.apollo_tree.specs.Order.{order, text_at};
-    ghost use Rattle.apollo_tree.specs.Indexed.{indexed};
+    ghost use Rattle.apollo_tree.specs.Indexed.{element_at};
     ghost use Rattle.apollo_tree.specs.References.{node_place};
 
     /// The root, which holds all of the text.
@@ -112,11 +112,10 @@ impl<R: Root, A: Allocator> SyntaxTree<R, A> {
         self.tree.element_count()
     }
 
-    /// The element with an index, in constant time. The index counts the elements before it in document order: the root has 0, and any
-    /// index below `element_count` is one.
-    pub fn element(&self, index: usize) -> IndexedElement
-        requires { index < length (order self.now.tree) }
-        ensures { result ≡ indexed (record { whole = self.now.tree; index = index }) }
+    /// The element with an index, in constant time. The index counts the elements before it in document order: the root has 0. `None` where
+    /// there are no more elements than that.
+    pub fn element(&self, index: usize) -> Option<IndexedElement>
+        ensures { result ≡ element_at self.now.tree index }
     {
         self.tree.element(index)
     }

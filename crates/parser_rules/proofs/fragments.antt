@@ -7,3 +7,4 @@ pub mod TypeRoots
 pub mod Parts
 pub mod TypeParts
 pub mod PartTexts
+pub mod OneFront

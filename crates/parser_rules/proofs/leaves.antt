@@ -1,2 +1,3 @@
 pub mod LeafCheck
 pub mod OneLeaf
+pub mod AllAnswers

@@ -3,6 +3,7 @@ pub mod Reading
 pub mod Steps
 pub mod Reporting
 pub mod Frame
+pub mod OneResult
 pub mod TreesWithSources
 pub mod Walk
 pub mod AtTheEnd

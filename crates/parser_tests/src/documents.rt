@@ -7,6 +7,7 @@ mod type_system_trees;
 use crate::expected::{Found, Limited, has_errors};
 use crate::parsing::{parse, parse_by, parse_counted, sentence};
 use apollo_parser::cst::CstNode;
+use apollo_parser::laws::one_parse;
 use apollo_parser::{DocumentRoot, Parser, SyntaxTree};
 use std::alloc::{AllocError, Global};
 use std::process::Abort;
@@ -316,11 +317,10 @@ fn limits_stop_a_parse(rt: HostRuntime) -> Result<(), Fail> {
 
 // Whether the tree has so many elements, the first of which is all of it.
 fn has_elements(tree: &SyntaxTree<DocumentRoot, Global>, source: &str, count: usize) -> bool {
-    if tree.element_count() != count || count == 0 {
+    let Some(root) = tree.element(0) else {
         return false;
-    }
-    let root = tree.element(0);
-    (root.end, root.after_subtree) == (source.len(), count)
+    };
+    (tree.element_count(), root.end, root.after_subtree) == (count, source.len(), count)
 }
 
 // A copy that outlives its tree.
@@ -411,7 +411,9 @@ fn a_document_gives_its_source_back(rt: HostRuntime) -> Result<(), Fail> {
 // Each element begins and ends between two characters.
 fn has_whole_characters(tree: &SyntaxTree<DocumentRoot, Global>, source: &str) -> bool {
     for index in 0..tree.element_count() {
-        let element = tree.element(index);
+        let Some(element) = tree.element(index) else {
+            return false;
+        };
         if !source.is_char_boundary(element.start) || !source.is_char_boundary(element.end) {
             return false;
         }
@@ -440,4 +442,10 @@ fn characters_of_several_bytes_keep_their_places(rt: HostRuntime) -> Result<(), 
         assert!(rt; is_faulty_and_whole(rt.alloc(), source)?, "{source}");
     }
     Ok(())
+}
+
+// A law does nothing, so this asserts nothing: it calls it once.
+#[test]
+fn the_law_on_one_parse_returns() {
+    one_parse();
 }

@@ -1,6 +1,7 @@
 -- A part of a document over a text: where nothing is reported, the tree's text is a sentence of the sort; and over a sentence within both
 -- limits nothing is reported, and the tree is the sentence's derivation.
-use Rattle.std.proofs.Common.{◌≡◌, ℕ, ◌≤◌, true, List, [], ◌∷◌, ◌++◌, length, Option, Some, None, map, refl, sym, ap, ap₂, ◌∙◌, subst, append_assoc, append-nil}
+use Rattle.std.proofs.Common.{◌≡◌, ℕ, ◌≤◌, true, List, [], ◌∷◌, ◌++◌, length, Option, Some, None, map, refl, sym, ap, ap₂, ◌∙◌, subst, append_assoc, append-nil, inl, inr}
+use Rattle.std.specs.Str.{IsUtf8}
 use Rattle.std.proofs.lemmas.List.{append_cancel_right}
 use Rattle.lexical_grammar.specs.Answers.{Answer, gives, limit_at, limited, answers_text}
 use Rattle.lexical_grammar.specs.Cut.{Item, Word, Cut, Significant, texts, end_at}
@@ -16,12 +17,12 @@ use Rattle.document_grammar.specs.Tree.{Text, Token, Tree}
 use Rattle.document_grammar.specs.declared.kind.SyntaxKind.{SyntaxKind}
 use Rattle.document_grammar.specs.declared.kind.SyntaxKind.TheVariants as kind
 use Rattle.document_grammar.proofs.Booleans.{and-l, and-r, and-i}
-use Rattle.grammar_machine.proofs.TableLemmas.{head-same, tail-same}
+use Rattle.grammar_machine.proofs.TableLemmas.{head-same, no-cons, tail-same}
 use Rattle.parser_rules.specs.Fragments.{started, unopened, left_out, field_set, RunsTypeRoot}
 use Rattle.parser_rules.specs.Open.{is_free, IsRoot}
 use Rattle.parser_rules.specs.RuleLanguage.{Rule}
 use Rattle.parser_rules.specs.Runs.{Runs}
-use Rattle.parser_rules.specs.State.{State, Lexeme, PendingToken, ignored, finished}
+use Rattle.parser_rules.specs.State.{State, Report, Lexeme, PendingToken, ignored, finished}
 use Rattle.parser_rules.proofs.fragments.Parts.{Part, Outcome, Follows, outcome-sound, outcome-accepted, part-parsed, selections-root}
 use Rattle.parser_rules.proofs.fragments.RootChecks.{RootRule, selections_pass, type_passes, type-free}
 use Rattle.parser_rules.proofs.fragments.RootRuns.{is-root}
@@ -30,8 +31,8 @@ use Rattle.parser_rules.proofs.fragments.TypeRoots.{made-run}
 use Rattle.parser_rules.proofs.leaves.OneLeaf.{root-part}
 use Rattle.parser_rules.proofs.reports.Endings.{ends-well}
 use Rattle.parser_rules.proofs.reports.NoReport.{answers_tokens, all_tokens, item_tokens, given as given_by, ignored-tokens, EndsWell}
-use Rattle.parser_rules.proofs.runs.TreesWithSources.{TreesWithSources, none, leaf, node, Source, aside, text_of, erase, flat, set_aside, by-kind, now_of, sources, source_at, FirstPart}
-use Rattle.parser_rules.proofs.soundness.OverTexts.{before-at, sentence-answers}
+use Rattle.parser_rules.proofs.runs.TreesWithSources.{TreesWithSources, none, leaf, node, Source, aside, text_of, erase, flat, set_aside, by-kind, now_of, sources, sources-append, source_at, FirstPart}
+use Rattle.parser_rules.proofs.soundness.OverTexts.{RightFirst, before-at, right-report, sentence-answers}
 use Rattle.parser_rules.proofs.soundness.Soundness.{answers-append}
 
 -- ---- what the leaves are made of
@@ -59,11 +60,6 @@ unfolding sources_text
 answers-text [] = refl
 answers-text (limit_at index ∷ xs) = answers-text xs
 answers-text (gives item ∷ xs) = ap₂ (λ (a b : Text). a ++ b) (item-text item) (answers-text xs)
-
-sources-append : (xs ys : List Answer) → sources (xs ++ ys) ≡ sources xs ++ sources ys
-sources-append [] ys = refl
-sources-append (limit_at index ∷ xs) ys = sources-append xs ys
-sources-append (gives item ∷ xs) ys = ap (λ (v : List Source). source_at item item.kind ∷ v) (sources-append xs ys)
 
 -- the answers of which two lists of leaves are made
 record Halves (xs : List Answer) (v w : List Source) : Type 0 where
@@ -172,6 +168,13 @@ module _ (sort : Sort) (j : SyntaxKind) {q : Rule} (r k : ℕ) (source : List �
       let e = outcome-accepted sort r (limited k items) comes t a.1 n.nesting a.0 in
       (e, (outcome-sound sort r (limited k items) comes e).all t a.1)
 
+  -- The first report is right, and the nodes that end before its last token fit.
+  pub outcome-report : IsUtf8 source → (e : Report) (more : List Report) → s.errors ≡ e ∷ more → RightFirst sort source items r k (finished (left_out s)) e
+  outcome-report u e more h = elim comes [
+    | inl o ↦ right-report sort r k source items cut u (left_out s) root (record { report = o.report; more = o.more; reported = o.reported; taken = o.taken; right = o.right; settled = o.settled }) e more h
+    | inr o ↦ no-cons (sym o.0 ∙ h)
+  ]
+
 module _ (sort : Sort) (j : SyntaxKind) {q : Rule} (r k : ℕ) (source : List ℕ) (items : List Item) (s : State) (cut : Cut source items) (passes : RootRule j q) (free : is_free j ≡ true) (follows : Follows sort r (limited k items) j q) (run : Runs q (started (limited k items) r j) s) where
   outcome : EndsWell (limited k items) → IsRoot s.tree → Outcome sort r (limited k items) s
   outcome ends open_root = part-parsed sort r (limited k items) j follows ends open_root run
@@ -182,6 +185,9 @@ module _ (sort : Sort) (j : SyntaxKind) {q : Rule} (r k : ℕ) (source : List �
   pub accepts-part : (t : Tree) → Sentence source t sort → Within source t r k → (s.errors ≡ []) × (bare (tree_of (finished (left_out s))) ≡ t)
   accepts-part = outcome-accepts sort j r k source items s cut passes free run outcome
 
+  pub report-part : IsUtf8 source → (e : Report) (more : List Report) → s.errors ≡ e ∷ more → RightFirst sort source items r k (finished (left_out s)) e
+  report-part = outcome-report sort j r k source items s cut passes free run outcome
+
 -- ---- selection sets
 
 module _ (r k : ℕ) (source : List ℕ) (items : List Item) (s : State) (cut : Cut source items) (run : Runs field_set (started (limited k items) r kind.SELECTION_SET) s) where
@@ -190,6 +196,9 @@ module _ (r k : ℕ) (source : List ℕ) (items : List Item) (s : State) (cut : 
 
   pub selections-accepted : (t : Tree) → Sentence source t selections → Within source t r k → (s.errors ≡ []) × (bare (tree_of (finished (left_out s))) ≡ t)
   selections-accepted = accepts-part selections kind.SELECTION_SET r k source items s cut selections_pass refl (selections-root r (limited k items)) run
+
+  pub selections-report : IsUtf8 source → (e : Report) (more : List Report) → s.errors ≡ e ∷ more → RightFirst selections source items r k (finished (left_out s)) e
+  selections-report = report-part selections kind.SELECTION_SET r k source items s cut selections_pass refl (selections-root r (limited k items)) run
 
 -- ---- types
 
@@ -202,3 +211,6 @@ module _ (r k : ℕ) (source : List ℕ) (items : List Item) (s : State) (cut : 
 
   pub types-accepted : (t : Tree) → Sentence source t type → Within source t r k → (s.errors ≡ []) × (bare (tree_of (finished (left_out s))) ≡ t)
   types-accepted = let m = made-run (limited k items) r made in outcome-accepts type m.kind r k source items s cut (type_passes m.is) (type-free m.is) m.run type-outcome
+
+  pub types-report : IsUtf8 source → (e : Report) (more : List Report) → s.errors ≡ e ∷ more → RightFirst type source items r k (finished (left_out s)) e
+  types-report = let m = made-run (limited k items) r made in outcome-report type m.kind r k source items s cut (type_passes m.is) (type-free m.is) m.run type-outcome

@@ -24,6 +24,7 @@ use Rattle.parser_rules.proofs.runs.Walk.{walk, always}
 use Rattle.parser_rules.proofs.leaves.LeafCheck.{anything, leaf_check}
 use Rattle.parser_rules.proofs.nesting.LevelCheck.{at_first, level_check}
 use Rattle.parser_rules.proofs.nesting.TokenCheck.{untaken, token_check}
+use Rattle.parser_rules.proofs.recovery.RecoveryCheck.{row_check, row_of}
 use Rattle.parser_rules.proofs.reports.LimitCheck.{present, limit_check}
 use Rattle.parser_rules.proofs.sizes.SizeCheck.{PaysForAll}
 use Rattle.parser_rules.proofs.NodeChecks.{computing}
@@ -36,26 +37,27 @@ pub record RootRule (k : SyntaxKind) (q : Rule) : Type 0 where
   pub heavy : eqb (weight DOCUMENT (number k)) (counts_itself (number k)) and leb (counts_itself (number k)) 1 ≡ true
   pub limits : walk limit_check rules_deep q present always ≡ true
   pub tokens : walk token_check rules_deep q (record (untaken false) { spare = 1 }) always ≡ true
+  pub row : walk row_check rules_deep q (row_of k) (row_check.ends k) ≡ true
 
 pub selections_pass : RootRule kind.SELECTION_SET field_set
 unfolding computing
-selections_pass = record { leaves = refl; levels = refl; heavy = refl; limits = refl; tokens = refl }
+selections_pass = record { leaves = refl; levels = refl; heavy = refl; limits = refl; tokens = refl; row = refl }
 
 pub list_passes : RootRule kind.LIST_TYPE list_root
 unfolding computing
-list_passes = record { leaves = refl; levels = refl; heavy = refl; limits = refl; tokens = refl }
+list_passes = record { leaves = refl; levels = refl; heavy = refl; limits = refl; tokens = refl; row = refl }
 
 pub named_passes : RootRule kind.NAMED_TYPE named_root
 unfolding computing
-named_passes = record { leaves = refl; levels = refl; heavy = refl; limits = refl; tokens = refl }
+named_passes = record { leaves = refl; levels = refl; heavy = refl; limits = refl; tokens = refl; row = refl }
 
 pub non_null_passes : RootRule kind.NON_NULL_TYPE non_null_root
 unfolding computing
-non_null_passes = record { leaves = refl; levels = refl; heavy = refl; limits = refl; tokens = refl }
+non_null_passes = record { leaves = refl; levels = refl; heavy = refl; limits = refl; tokens = refl; row = refl }
 
 pub no_type_passes : RootRule kind.ERROR no_type_root
 unfolding computing
-no_type_passes = record { leaves = refl; levels = refl; heavy = refl; limits = refl; tokens = refl }
+no_type_passes = record { leaves = refl; levels = refl; heavy = refl; limits = refl; tokens = refl; row = refl }
 
 pub type_passes : {s : State} {k : SyntaxKind} {q : Rule} → IsTypeRoot s k q → RootRule k q
 type_passes (a_list e) = list_passes

@@ -1,5 +1,5 @@
 -- What holds of every run of a root's rule: it begins where the root is open and the text before the first token is in it.
-use Rattle.std.proofs.Common.{◌≡◌, ℕ, ◌+◌, ◌≤◌, min, true, List, [], ◌∷◌, ◌++◌, length, map, ap, ◌∙◌, refl}
+use Rattle.std.proofs.Common.{◌≡◌, ℕ, ◌+◌, ◌≤◌, min, true, None, List, [], ◌∷◌, ◌++◌, length, map, ap, ◌∙◌, refl}
 use Rattle.std.specs.List.{list_any}
 use Rattle.std.specs.List.Sorted.{IsNonDecreasing}
 use Rattle.lexical_grammar.specs.Cut.{Item, Cut}
@@ -15,10 +15,10 @@ use Rattle.parser_rules.specs.Runs.{Runs}
 use Rattle.parser_rules.specs.Fragments.{started}
 use Rattle.parser_rules.proofs.runs.Steps.{Holds_along, along}
 use Rattle.parser_rules.proofs.runs.Frame.{keeps_along, adds_along, root-open, kept-nesting, read-untouched}
-use Rattle.parser_rules.proofs.reports.AlongItems.{tells-along, so_far}
+use Rattle.parser_rules.proofs.reports.AlongItems.{Onward, tells-along, so_far}
 use Rattle.parser_rules.proofs.reports.AtTheLimit.{limits-along, asked-since}
 use Rattle.parser_rules.proofs.reports.InOrder.{in-order-front}
-use Rattle.parser_rules.proofs.fragments.FrontReports.{begins-reports, Front, front-of}
+use Rattle.parser_rules.proofs.fragments.FrontReports.{begins-reports}
 
 module _ {q : Rule} {s : State} (items : List Answer) (limit : ℕ) (k : SyntaxKind) (run : Runs q (started items limit k) s) where
   -- what holds along each step holds from the first token on
@@ -44,9 +44,9 @@ module _ {q : Rule} {s : State} (items : List Answer) (limit : ℕ) (k : SyntaxK
   pub all-reported : (later : List Report) × Reported true items (s.errors ++ later)
   all-reported = begins-reports items s (so_far items limit k s (since tells-along))
 
-  -- the reports are those of the first answers
-  pub front-reported : Front true items s.errors
-  front-reported = front-of all-reported.1 s.errors all-reported.0 refl
+  -- the answers that are gone, and the reports of them
+  pub so-far : Onward true None items [] s
+  so-far = so_far items limit k s (since tells-along)
 
 pub ordered-front : {q : Rule} {s : State} (n : ℕ) (source : List ℕ) (items : List Item) (limit : ℕ) (k : SyntaxKind) → Runs q (started (limited n items) limit k) s → Cut source items
     → IsNonDecreasing (map (λ (r : Report). r.index) s.errors)

@@ -283,7 +283,7 @@ pub record FirstLeaves (xs : List Answer) (ls : List PendingToken) : Type 0 wher
   pub leaves : OneLeafAnItem front ls
   pub text : joined ls ≡ answers_text front
 
-first-leaves : (xs : List Answer) {v : List Source} (w : List Source) {ls : List PendingToken} → LeavesOf v ls → v ++ w ≡ sources xs → FirstLeaves xs ls
+pub first-leaves : (xs : List Answer) {v : List Source} (w : List Source) {ls : List PendingToken} → LeavesOf v ls → v ++ w ≡ sources xs → FirstLeaves xs ls
 first-leaves xs w no_more e = record { front = []; back = xs; split = refl; leaves = nothing; text = refl }
 first-leaves [] w (one_more i m) e = absurd cc
 first-leaves (limit_at index ∷ xs) w (one_more i m) e =
@@ -299,6 +299,14 @@ first-leaves (gives item ∷ xs) w (one_more {l = l} {ls = ls} i m) e =
       leaves = one o.0 o.1 f.leaves;
       text = ap₂ (λ (a b : Text). a ++ b) o.0 f.text;
     }
+
+-- the others are made of what is left
+pub first-leaves-left : (xs : List Answer) {v : List Source} (w : List Source) {ls : List PendingToken} (m : LeavesOf v ls) (e : v ++ w ≡ sources xs) → sources (first-leaves xs w m e).back ≡ w
+unfolding first-leaves
+first-leaves-left xs w no_more e = sym e
+first-leaves-left [] w (one_more i m) e = absurd cc
+first-leaves-left (limit_at index ∷ xs) w (one_more i m) e = first-leaves-left xs w (one_more i m) e
+first-leaves-left (gives item ∷ xs) w (one_more i m) e = first-leaves-left xs w m (tail-same e)
 
 -- what the leaves of a root that was not left are made of
 pub root-part : {q : Rule} {t : State} (items : List Answer) (limit : ℕ) (k : SyntaxKind) → walk leaf_check rules_deep q anything always ≡ true → Runs q (flush (begun items limit k)) t → (f : TreesWithSources) × FirstPart items t f × Fit f

@@ -4,8 +4,7 @@ use Rattle.std.proofs.Common.{◌≡◌, ◌≢◌, ℕ, ◌+◌, ◌≤◌, Boo
 use Rattle.std.specs.List.{list_all}
 use Rattle.std.proofs.lemmas.Bool.{and_parts}
 use Rattle.std.proofs.lemmas.List.Elements.{All-map, All-weaker}
-use Rattle.lexical_grammar.specs.Cut.{Item, Cut, CutFrom, texts, end_at, Significant, significant_word}
-use Rattle.lexical_grammar.specs.Begins.{are_tokens}
+use Rattle.lexical_grammar.specs.Cut.{Item, Cut, CutFrom, texts, end_at, Significant, significant_word, are_tokens}
 use Rattle.lexical_grammar.specs.Answers.{Answer, gives, limit_at, limited, is_given}
 use Rattle.lexical_grammar.proofs.Limited.{all_given, within-limit}
 use Rattle.lexical_grammar.proofs.Places.{item-some}
@@ -16,7 +15,8 @@ use Rattle.document_grammar.specs.Forests as built
 use Rattle.document_grammar.specs.Builds.{Building, add_leaf}
 use Rattle.document_grammar.specs.Tree.{Token, Tree, node}
 use Rattle.document_grammar.specs.Derivation.{document, Spells, nest}
-use Rattle.document_grammar.specs.FirstError.{tokens_of, At}
+use Rattle.document_grammar.specs.FirstError.{At}
+use Rattle.document_grammar.specs.Sentence.{tokens_of}
 use Rattle.document_grammar.specs.Recovery.{NoneBeyond}
 use Rattle.document_grammar.specs.Booleans.{◌and◌}
 use Rattle.document_grammar.proofs.Added.{added-leaf}

@@ -103,12 +103,16 @@ pub record Two_rows : Type 0 where
   pub own : ℕ
   pub later : ℕ
 
+-- where a node of the kind is open
+abbrev pub row_of : SyntaxKind → Two_rows
+row_of j = record { own = number j; later = number j }
+
 -- only what is of the row is added
 unfoldable pub row_check : Domain Two_rows
 row_check = record (steady (record { own = DOCUMENT; later = DOCUMENT })) {
   leaf = λ j a k. (leaf_of_row a.own j and leaf_of_row a.later j) and k a;
   keeps = λ a c. eqb a.own c.own and eqb a.later c.later;
-  begins = λ n. record { own = number (kind_of n); later = number (kind_of n) };
+  begins = λ n. row_of (kind_of n);
   ends = λ j a. eqb a.own (number j);
   after = λ j a k. (of_row a.own j and of_row a.later j) and k a;
   types = λ a. record a { later = NON_NULL_TYPE };

@@ -11,13 +11,15 @@ use Rattle.document_grammar.specs.Booleans.{◌and◌, ◌or◌}
 use Rattle.document_grammar.proofs.Booleans.{and-i, and-l, and-r}
 use Rattle.parser_rules.specs.State.{State, PendingToken, flush, opened, closed, wrapped_from, moved, add_all, enter, leave, fresh, begun}
 use Rattle.parser_rules.specs.Nodes.{Document}
-use Rattle.parser_rules.specs.RuleLanguage.{Call}
+use Rattle.parser_rules.specs.RuleLanguage.{Rule, Call}
+use Rattle.parser_rules.specs.Fragments.{started}
 use Rattle.parser_rules.specs.Runs.{Runs}
-use Rattle.parser_rules.proofs.recovery.RecoveryCheck.{of_row, leaf_of_row, Two_rows, row_check}
+use Rattle.parser_rules.proofs.recovery.RecoveryCheck.{of_row, leaf_of_row, Two_rows, row_check, row_of}
 use Rattle.parser_rules.proofs.NodeChecks.{node-passes, document_passes}
 use Rattle.parser_rules.proofs.runs.Reading.{Reading, reading, all_kinds, reading-waits}
-use Rattle.parser_rules.proofs.runs.TreesWithSources.{TreesWithSources, none, leaf, node, token, moved_on, append, erase, erase-append, set_aside}
-use Rattle.parser_rules.proofs.runs.Walk.{after_pending, Sound, walked_whole}
+use Rattle.parser_rules.proofs.runs.TreesWithSources.{TreesWithSources, none, leaf, node, token, moved_on, append, erase, erase-append, set_aside, first-part}
+use Rattle.parser_rules.proofs.runs.Fuel.{rules_deep}
+use Rattle.parser_rules.proofs.runs.Walk.{after_pending, Sound, walk, walked_root, walked_whole}
 use Rattle.parser_rules.proofs.runs.Reporting.{after-note, after-too-deep}
 
 -- the children of a node of the kind with the number, and those below
@@ -97,3 +99,15 @@ unfolding row_check
 document-rowed r xs s run =
     let (f, a, e, h, g, w) = walked_whole row_check Fit sound xs r kind.DOCUMENT _ _ run document_passes.row (record { own = refl; later = refl; waits = read-aside (reading xs (fresh xs r kind.DOCUMENT)) (λ k. refl) }) in
     subst (λ (x : built.Forest). rows DOCUMENT x ≡ true) w.tree (subst (λ n. rows n (erase (append f (set_aside s.pending))) ≡ true) (eqb-true _ _ e) (rows-append a.own f (set_aside s.pending) h.own (rows-aside a.own s.pending h.waits)))
+
+-- The same of the tree of a root's rule, where a part of a document is parsed by itself.
+pub root-rowed : {q : Rule} (r : ℕ) (xs : List Answer) (k : SyntaxKind) (s : State) → walk row_check rules_deep q (row_of k) (row_check.ends k) ≡ true → Runs q (started xs r k) s
+    → rowed k s.tree.here ≡ true
+unfolding row_check flush
+root-rowed r xs k s check run =
+    let b : State = begun xs r k in
+    let waits : Waits b.pending = read-aside (reading xs (fresh xs r k)) (λ k. refl) in
+    let (f, a, e, h, g) = walked_root row_check Fit sound xs r k (row_of k) _ run check (record { own = refl; later = refl; waits = λ k. refl }) in
+    let all : TreesWithSources = append (set_aside b.pending) f in
+    let own = subst (λ n. rows n (erase f) ≡ true) (eqb-true _ _ e) h.own in
+    subst (λ (x : built.Forest). rows (number k) x ≡ true) (first-part xs r k s all g).tree (rows-append (number k) (set_aside b.pending) f (rows-aside (number k) b.pending waits) own)

@@ -100,6 +100,11 @@ sources [] = []
 sources (limit_at index ∷ rest) = sources rest
 sources (gives item ∷ rest) = source_at item item.kind ∷ sources rest
 
+pub sources-append : (xs ys : List Answer) → sources (xs ++ ys) ≡ sources xs ++ sources ys
+sources-append [] ys = refl
+sources-append (limit_at index ∷ xs) ys = sources-append xs ys
+sources-append (gives item ∷ xs) ys = ap (λ (v : List Source). source_at item item.kind ∷ v) (sources-append xs ys)
+
 abbrev pub to_come : State → List Source
 to_come s = flat (set_aside s.pending) ++ (now_of s.current ++ sources s.items)
 

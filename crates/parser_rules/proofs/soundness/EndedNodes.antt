@@ -4,8 +4,7 @@ use Rattle.std.specs.Prelude.{map}
 use Rattle.std.proofs.lemmas.Bool.{and_parts, false_from_ne_true}
 use Rattle.lexical_grammar.specs.declared.TokenKind.{TokenKind}
 use Rattle.lexical_grammar.specs.declared.TokenKind.TheVariants as token
-use Rattle.lexical_grammar.specs.Cut.{Item, Cut, CutFrom, texts, Significant, Word, significant_word}
-use Rattle.lexical_grammar.specs.Begins.{are_tokens}
+use Rattle.lexical_grammar.specs.Cut.{Item, Cut, CutFrom, texts, Significant, Word, significant_word, are_tokens}
 use Rattle.lexical_grammar.specs.Answers.{limited, limit_index, is_end}
 use Rattle.document_grammar.specs.Kinds.{ERROR}
 use Rattle.document_grammar.specs.Numbers.{number}
@@ -13,9 +12,9 @@ use Rattle.document_grammar.specs.declared.kind.SyntaxKind.{SyntaxKind}
 use Rattle.document_grammar.specs.Forests as built
 use Rattle.document_grammar.specs.Numbered.{numbered, tree_of}
 use Rattle.document_grammar.specs.Tree.{Text}
-use Rattle.document_grammar.specs.Derivation.{texts as tree_texts}
-use Rattle.document_grammar.specs.Sentence.{token_of}
-use Rattle.document_grammar.specs.FirstError.{tokens_of, EndedFit, AllEndedFit, EndedNodesFit}
+use Rattle.document_grammar.specs.Derivation.{Sort, texts as tree_texts}
+use Rattle.document_grammar.specs.Sentence.{token_of, tokens_of}
+use Rattle.document_grammar.specs.FirstError.{EndedFit, AllEndedFit, EndedNodesFit}
 use Rattle.document_grammar.specs.Leaves.{leaves, IsLeafOf, IsLeafOfToken, OneLeafAnItem, one, the_end, the_limit}
 use Rattle.document_grammar.proofs.Shown.{index-at, item-then, not-the-end, significant-some, tokens-append, earlier, tokens-before}
 use Rattle.parser_rules.specs.State.{PendingToken, Report, ignored}
@@ -88,10 +87,10 @@ first-ended : (m : ℕ) (f : built.Forest) → AllEndedFit m 0 (numbered f) → 
 first-ended m (built.node k kids rest) h = h.0
 first-ended m _ h = tt
 
--- Each node that a significant token in front of the first report follows fits.
-pub ended-nodes : {source : List ℕ} {items : List Item} {r k : ℕ} {e : Report} (f : built.Forest) (cut : Cut source items) (i : IsRight source items r k e) → OneLeafAnItem (limited k items) (leaves f)
-    → counted.EndedFit (length (tokens_of i.before)) 0 f → EndedNodesFit items e.index (tree_of f)
-ended-nodes {items = items} {k = k} {e = e} f cut i h c m a s l =
+-- Each node that a significant token in front of the first report follows fits. The leaves of the tree are of the first answers.
+pub ended-nodes : {sort : Sort} {source : List ℕ} {items : List Item} {r k : ℕ} {e : Report} (f : built.Forest) (back : List PendingToken) (cut : Cut source items) (i : IsRight sort source items r k e)
+    → OneLeafAnItem (limited k items) (leaves f ++ back) → counted.EndedFit (length (tokens_of i.before)) 0 f → EndedNodesFit items e.index (tree_of f)
+ended-nodes {items = items} {k = k} {e = e} f back cut i h c m a s l =
     let each : CutFrom 0 (a.before ++ a.item ∷ a.more) = subst (CutFrom 0) a.split cut.each in
     let there = index-at 0 a.before a.item a.more each in
     let own = index-at 0 i.before i.item i.more (subst (CutFrom 0) i.split cut.each) in
@@ -106,5 +105,5 @@ ended-nodes {items = items} {k = k} {e = e} f cut i h c m a s l =
     let own_words = ap length (item-words a.item.kind a.item.text) in
     let all = ap length (ap tokens_of b.split ∙ tokens-append a.before (a.item ∷ b.mid)) ∙ length-append (tokens_of a.before) (tokens_of (a.item ∷ b.mid)) in
     let few : 0 + length (tokens_of a.before) < length (tokens_of i.before) = omega (arith, count, own_words, all, words-length a.item b.mid) in
-    let one_each : OneLeafAnItem (limited k (a.before ++ a.item ∷ a.more)) (leaves f ++ []) = subst₂ (λ (is : List Item) (ls : List PendingToken). OneLeafAnItem (limited k is) ls) a.split (sym (append-nil (leaves f))) h in
-    first-ended m f (by-bytes m _ a.item a.more (significant-some 0 a.before a.item a.more each s) s 0 0 f [] (inr (k, a.before, each, tokens, few, omega (arith, there, at), one_each)) c).0
+    let one_each : OneLeafAnItem (limited k (a.before ++ a.item ∷ a.more)) (leaves f ++ back) = subst (λ (is : List Item). OneLeafAnItem (limited k is) (leaves f ++ back)) a.split h in
+    first-ended m f (by-bytes m _ a.item a.more (significant-some 0 a.before a.item a.more each s) s 0 0 f back (inr (k, a.before, each, tokens, few, omega (arith, there, at), one_each)) c).0

@@ -6,10 +6,10 @@ use Rattle.lexical_grammar.specs.declared.TokenKind.TheVariants as token
 use Rattle.lexical_grammar.specs.Cut.{Item, Cut, CutFrom}
 use Rattle.lexical_grammar.specs.Answers.{limited, limit_index, is_end}
 use Rattle.document_grammar.proofs.Booleans.{either}
-use Rattle.document_grammar.specs.Derivation.{Terminal, word, terminals}
-use Rattle.document_grammar.specs.Sentence.{Begins, StartSentence, StartSentenceWithin}
+use Rattle.document_grammar.specs.Derivation.{Sort, Terminal, word, terminals}
+use Rattle.document_grammar.specs.Sentence.{Begins, StartSentence, StartSentenceWithin, tokens_of}
 use Rattle.document_grammar.specs.Tree.{Text, Token}
-use Rattle.document_grammar.specs.FirstError.{tokens_of, At, shown_kind, shown_item, shown, AreAmong, NotLate, NotEarly, NotEarlyLimit}
+use Rattle.document_grammar.specs.FirstError.{At, shown_kind, shown_item, shown, AreAmong, NotLate, NotEarly, NotEarlyLimit}
 use Rattle.document_grammar.proofs.Shown.{cut-shown, before-shown, cut-from, text-before}
 use Rattle.parser_rules.specs.State.{State, Report, Lexeme, at_limit, token_limit_report, ignored}
 use Rattle.parser_rules.specs.Messages.{is_limit}
@@ -72,13 +72,13 @@ answered k place before t more cut now (v, e) = elim (either (is_end t.kind)) [
 -- ---- the clauses
 
 -- the token limit's report is another
-pub place-is : {items : List Item} {r k : ℕ} {before : List Item} {item : Item} {more : List Item} {e : Report} → Reason items r k before item more e → (e ≡ token_limit_report (limit_index item)) ⊎ (e.index ≡ item.index)
+pub place-is : {sort : Sort} {items : List Item} {r k : ℕ} {before : List Item} {item : Item} {more : List Item} {e : Report} → Reason sort items r k before item more e → (e ≡ token_limit_report (limit_index item)) ⊎ (e.index ≡ item.index)
 place-is (fault said t same now h) = inr (ap (λ (i : Item). i.index) same)
 place-is (too_deep t same h) = inr (ap (λ (i : Item). i.index) same)
 place-is (bad_text h) = inr refl
 place-is too_many = inl refl
 
-module _ {source : List ℕ} {items : List Item} {r k : ℕ} {e : Report} (cut : Cut source items) (i : IsRight source items r k e) where
+module _ {sort : Sort} {source : List ℕ} {items : List Item} {r k : ℕ} {e : Report} (cut : Cut source items) (i : IsRight sort source items r k e) where
   each : CutFrom 0 (i.before ++ i.item ∷ i.more)
   each = subst (CutFrom 0) i.split cut.each
 
@@ -90,33 +90,33 @@ module _ {source : List ℕ} {items : List Item} {r k : ℕ} {e : Report} (cut :
   up n = ap₂ (λ (a b : List Terminal). a ++ take n b) (before-shown 0 i.before i.item i.more each) (cut-shown _ (i.item ∷ i.more) (cut-from 0 i.before i.item i.more each))
 
   -- No late fault.
-  pub not-late : ((n : ℕ) → e ≢ token_limit_report n) → NotLate source e.index
+  pub not-late : ((n : ℕ) → e ≢ token_limit_report n) → NotLate sort source e.index
   not-late n = elim (place-is i.reason) [
     | inl h ↦ absurd (n _ h)
-    | inr h ↦ subst Begins (sym (ap (λ (n : ℕ). take n source) h ∙ text-before source i.before i.item i.more (subst (Cut source) i.split cut))) i.begins
+    | inr h ↦ subst (Begins sort) (sym (ap (λ (n : ℕ). take n source) h ∙ text-before source i.before i.item i.more (subst (Cut source) i.split cut))) i.begins
   ]
 
   -- No early fault.
-  pub not-early : e.found ≢ at_limit → NotEarly k items e.index
+  pub not-early : e.found ≢ at_limit → NotEarly sort k items e.index
   not-early = on i.reason
     where
-      on : {d : Report} → Reason items r k i.before i.item i.more d → d.found ≢ at_limit → NotEarly k items d.index
+      on : {d : Report} → Reason sort items r k i.before i.item i.more d → d.found ≢ at_limit → NotEarly sort k items d.index
       on (fault said t same now h) n = (
         here t.index (ap (λ (j : Item). j.index) (sym same)),
         λ some among starts. h (answered k 0 i.before t i.more (subst (λ (j : Item). CutFrom 0 (i.before ++ j ∷ i.more)) (sym same) each) now
             (subst (λ (j : Item). AreAmong k (i.before ++ j ∷ i.more) (shown i.before ++ take 2 (shown (j ∷ i.more)))) (sym same) (subst (λ (l : List Item). AreAmong k l (shown i.before ++ take 2 (shown (i.item ∷ i.more)))) i.split among)))
-            (subst StartSentence (up 2) starts),
+            (subst (StartSentence sort) (up 2) starts),
       )
       on (too_deep t same h) n = absurd (n refl)
       on (bad_text h) n = (here i.item.index refl, λ some. absurd (some h))
       on too_many n = absurd (n refl)
 
   -- No early limit.
-  pub not-early-limit : e.found ≡ at_limit → ((n : ℕ) → e ≢ token_limit_report n) → NotEarlyLimit r items e.index
+  pub not-early-limit : e.found ≡ at_limit → ((n : ℕ) → e ≢ token_limit_report n) → NotEarlyLimit sort r items e.index
   not-early-limit = on i.reason
     where
-      on : {d : Report} → Reason items r k i.before i.item i.more d → d.found ≡ at_limit → ((n : ℕ) → d ≢ token_limit_report n) → NotEarlyLimit r items d.index
+      on : {d : Report} → Reason sort items r k i.before i.item i.more d → d.found ≡ at_limit → ((n : ℕ) → d ≢ token_limit_report n) → NotEarlyLimit sort r items d.index
       on (fault said t same now h) f n = absurd (true≢false (sym (ap is_limit f) ∙ found-other t))
-      on (too_deep t same h) f n = (here t.index (ap (λ (j : Item). j.index) (sym same)), λ starts. h (subst (StartSentenceWithin r) (up 1) starts))
+      on (too_deep t same h) f n = (here t.index (ap (λ (j : Item). j.index) (sym same)), λ starts. h (subst (StartSentenceWithin sort r) (up 1) starts))
       on (bad_text h) f n = absurd cc
       on too_many f n = absurd (n _ refl)

@@ -9,15 +9,14 @@ use Rattle.std.specs.Prelude.{map, take}
 use Rattle.std.specs.Str.{IsUtf8}
 use Rattle.std.proofs.lemmas.List.{map-append, length-append}
 use Rattle.grammar_machine.proofs.SentenceTheorems.{not-starts, read-map, two-terminals, one-sentence}
-use Rattle.lexical_grammar.specs.Cut.{Item, Cut, texts, Significant, significant_word}
-use Rattle.lexical_grammar.specs.Begins.{are_tokens}
+use Rattle.lexical_grammar.specs.Cut.{Item, Cut, texts, Significant, significant_word, are_tokens}
 use Rattle.lexical_grammar.proofs.Limited.{limited-end}
 use Rattle.lexical_grammar.specs.Answers.{Answer, gives, limited, is_token, limit_at, limit_index, is_end, answers_text}
 use Rattle.document_grammar.specs.declared.kind.SyntaxKind.TheVariants as kind
-use Rattle.document_grammar.specs.Derivation.{Sort, document, Spells, Terminal, word, terminals, Starts, StartsWithin}
-use Rattle.document_grammar.specs.Sentence.{token_of, Sentence, Within, Begins, StartSentence, StartSentenceWithin, leaf_number}
+use Rattle.document_grammar.specs.Derivation.{Sort, document, Spells, Terminal, word, terminals}
+use Rattle.document_grammar.specs.Beginnings.{Starts, StartsWithin}
+use Rattle.document_grammar.specs.Sentence.{token_of, Sentence, Within, Begins, StartSentence, StartSentenceWithin, leaf_number, tokens_of}
 use Rattle.document_grammar.specs.Tree.{Token, Tree}
-use Rattle.document_grammar.specs.FirstError.{tokens_of}
 use Rattle.document_grammar.proofs.Booleans.{and-i, and-l, and-r, either, not-some}
 use Rattle.grammar_machine.proofs.Beginnings.{begins-text}
 use Rattle.document_grammar.proofs.Texts.{one-cut, sentence-starts, sentence-starts-within}
@@ -34,6 +33,8 @@ use Rattle.document_grammar.specs.Forests as built
 use Rattle.parser_rules.proofs.runs.Reading.{Reading, stops, cuts, bad_text as bad_item, waits, shows, looks}
 use Rattle.parser_rules.proofs.runs.Frame.{add_all-above, added-all}
 use Rattle.parser_rules.proofs.soundness.Settled.{EndedFit, ended-root, settled-added}
+use Rattle.parser_rules.proofs.soundness.Positions.{RightlyReported}
+use Rattle.parser_rules.proofs.soundness.Roots.{input_of}
 use Rattle.parser_rules.proofs.soundness.FirstReport.{RightReport, Viable, TokensBefore, stuck_here, deep_here, no_token}
 use Rattle.parser_rules.proofs.soundness.Soundness.{given, parsed, accepted, sound, item-words, answers-append, no-token-words, words-before, viable-begins, not-within-one}
 
@@ -175,23 +176,27 @@ module _ {k : ℕ} {items : List Item} {front ys : List Answer} (t : Lexeme) (b 
 -- The first report of a text, at an item: no sentence starts with the tokens before, that of the item, or the end, and the next; each that
 -- starts with them and that of the item nests deeper than the limit; or the item is bad text, or the first that is too many. Where
 -- two tokens count, the second was answered.
-pub data Reason (items : List Item) (r k : ℕ) (before : List Item) (item : Item) (more : List Item) : Report → Type 0 where
-  fault : (said : Message) (t : Lexeme) → item_of t ≡ item → ignored t.kind ≡ None → (Answered k before more t → StartSentence (map word (tokens_of before) ++ take 2 (terminals (tokens_of (item ∷ more)))) → ⊥)
-      → Reason items r k before item more (fault_report said t)
-  too_deep : (t : Lexeme) → item_of t ≡ item → (StartSentenceWithin r (map word (tokens_of before) ++ take 1 (terminals (tokens_of (item ∷ more)))) → ⊥)
-      → Reason items r k before item more (recursion_limit_report t)
-  bad_text : item.kind ≡ None → Reason items r k before item more (bad_report item.text item.index)
-  too_many : Reason items r k before item more (token_limit_report (limit_index item))
+pub data Reason (sort : Sort) (items : List Item) (r k : ℕ) (before : List Item) (item : Item) (more : List Item) : Report → Type 0 where
+  fault : (said : Message) (t : Lexeme) → item_of t ≡ item → ignored t.kind ≡ None → (Answered k before more t → StartSentence sort (map word (tokens_of before) ++ take 2 (terminals (tokens_of (item ∷ more)))) → ⊥)
+      → Reason sort items r k before item more (fault_report said t)
+  too_deep : (t : Lexeme) → item_of t ≡ item → (StartSentenceWithin sort r (map word (tokens_of before) ++ take 1 (terminals (tokens_of (item ∷ more)))) → ⊥)
+      → Reason sort items r k before item more (recursion_limit_report t)
+  bad_text : item.kind ≡ None → Reason sort items r k before item more (bad_report item.text item.index)
+  too_many : Reason sort items r k before item more (token_limit_report (limit_index item))
 
 -- The first report is right: the text before begins a sentence, and there is a reason at the item.
-pub record IsRight (source : List ℕ) (items : List Item) (r k : ℕ) (e : Report) : Type 0 where
+pub record IsRight (sort : Sort) (source : List ℕ) (items : List Item) (r k : ℕ) (e : Report) : Type 0 where
   pub before : List Item
   pub item : Item
   pub more : List Item
   pub split : items ≡ before ++ item ∷ more
   pub tokens : are_tokens before ≡ true
-  pub begins : Begins (texts before)
-  pub reason : Reason items r k before item more e
+  pub begins : Begins sort (texts before)
+  pub reason : Reason sort items r k before item more e
+
+-- It is right, and the nodes of a tree that end before its last token fit.
+abbrev pub RightFirst : Sort → List ℕ → List Item → ℕ → ℕ → built.Forest → Report → Type 0
+RightFirst sort source items r k f e = (i : IsRight sort source items r k e) × EndedFit (length (tokens_of i.before)) 0 f
 
 from-words : (front before : List Token) (l m : List Terminal) → front ≡ before → l ≡ m → map word before ++ l ≡ read front ++ m
 from-words front before l m e f = ap₂ (λ (l m : List Terminal). l ++ m) (read-map before ∙ ap read (sym e)) f
@@ -209,52 +214,61 @@ module _ (r k : ℕ) (source : List ℕ) (items : List Item) (s : State) (cut : 
       let c = sound r k source items s (ends-well k 0 items cut.each) (λ tokens. cut) root (accepts-text t h n) run in
       one-sentence source (bare (tree_of (finished s))) t document c.sentence h
 
+-- ---- the first report
+
+module _ (sort : Sort) (r k : ℕ) (source : List ℕ) (items : List Item) (cut : Cut source items) where
   xs : List Answer
   xs = limited k items
 
   -- the first report is right, and how many tokens are before
   abbrev Right_before : Report → ℕ → Type 0
-  Right_before e m = (i : IsRight source items r k e) × (m ≡ length (tokens_of i.before))
+  Right_before e m = (i : IsRight sort source items r k e) × (m ≡ length (tokens_of i.before))
 
   -- what holds at the place of an answer
-  at-place : IsUtf8 source → {x : Answer} {ys : List Answer} (e : Report) (m : ℕ) (p : Passed xs (x ∷ ys)) → Viable document xs r (answers_tokens xs) (answers_tokens (x ∷ ys))
-      → TokensBefore document xs r (answers_tokens xs) m (answers_tokens (x ∷ ys))
-      → ((b : Before k items p.front x ys) → Reason items r k b.before b.item b.more e) → Right_before e m
+  at-place : IsUtf8 source → {x : Answer} {ys : List Answer} (e : Report) (m : ℕ) (p : Passed xs (x ∷ ys)) → Viable sort xs r (answers_tokens xs) (answers_tokens (x ∷ ys))
+      → TokensBefore sort xs r (answers_tokens xs) m (answers_tokens (x ∷ ys))
+      → ((b : Before k items p.front x ys) → Reason sort items r k b.before b.item b.more e) → Right_before e m
   unfolding xs
   at-place u {x = x} {ys = ys} e m p v c reason =
       let b = before-at k items p.front x ys p.split p.tokens in
       let d : Cut source (b.before ++ b.item ∷ b.more) = subst (λ (l : List Item). Cut source l) b.split cut in
-      let begins = viable-begins r xs p.front (x ∷ ys) p.split v in
-      let spells : Spells (tokens_of b.before ++ begins.1) begins.0 document = subst (λ (v : List Token). Spells (v ++ begins.1) begins.0 document) b.words begins.2 in
+      let begins = viable-begins sort r xs p.front (x ∷ ys) p.split v in
+      let spells : Spells (tokens_of b.before ++ begins.1) begins.0 sort = subst (λ (v : List Token). Spells (v ++ begins.1) begins.0 sort) b.words begins.2 in
       let l : length (answers_tokens xs) ≡ length (answers_tokens p.front) + length (answers_tokens (x ∷ ys)) = ap length (ap answers_tokens p.split ∙ answers-append p.front (x ∷ ys))
       ∙ length-append (answers_tokens p.front) (answers_tokens (x ∷ ys)) in
       let w = ap length b.words in
-      (record { before = b.before; item = b.item; more = b.more; split = b.split; tokens = b.tokens; begins = begins-text source b.before b.item b.more begins.0 begins.1 u d b.tokens spells begins.3; reason = reason b }, omega (arith, l, c, w))
+      (record { before = b.before; item = b.item; more = b.more; split = b.split; tokens = b.tokens; begins = begins-text sort source b.before b.item b.more begins.0 begins.1 u d b.tokens spells begins.3; reason = reason b }, omega (arith, l, c, w))
 
-  other-reason : (front : List Answer) (x : Answer) (ys : List Answer) → is_token x ≡ false → (b : Before k items front x ys) → Reason items r k b.before b.item b.more (report_of x)
-  other-reason front (limit_at n) ys h b = subst (λ (m : ℕ). Reason items r k b.before b.item b.more (token_limit_report m)) (sym (limit-is _ n b.item b.more ys b.answers)) too_many
+  other-reason : (front : List Answer) (x : Answer) (ys : List Answer) → is_token x ≡ false → (b : Before k items front x ys) → Reason sort items r k b.before b.item b.more (report_of x)
+  other-reason front (limit_at n) ys h b = subst (λ (m : ℕ). Reason sort items r k b.before b.item b.more (token_limit_report m)) (sym (limit-is _ n b.item b.more ys b.answers)) too_many
   other-reason front (gives item) ys h b =
       let same : item ≡ b.item = (given-is _ b.item item b.more ys b.answers).0 in
-      subst (λ (i : Item). Reason items r k b.before b.item b.more (bad_report i.text i.index)) (sym same) (bad_text (subst (λ (i : Item). i.kind ≡ None) same (not-some item.kind h)))
+      subst (λ (i : Item). Reason sort items r k b.before b.item b.more (bad_report i.text i.index)) (sym same) (bad_text (subst (λ (i : Item). i.kind ≡ None) same (not-some item.kind h)))
 
-  right-before : IsUtf8 source → (e : Report) (m : ℕ) → RightReport document xs r (answers_tokens xs) e m → Right_before e m
+  right-before : IsUtf8 source → (e : Report) (m : ℕ) → RightReport sort xs r (answers_tokens xs) e m → Right_before e m
   unfolding xs
-  right-before u e m (stuck_here said {t = t} {items = ys} now p k c) = at-place u (fault_report said t) m p k.1 c (λ q. fault said t (item-there t q) now.0 (λ a z. not-starts document (answers_tokens xs) (answers_tokens (given_by t ∷ ys)) k.0
-      (subst (λ (l : List Terminal). Starts document l) (from-words k.0.before (tokens_of q.before) _ _ (words-before xs p.front (given_by t ∷ ys) k.0.before p.split k.0.split ∙ q.words) (two-at t q now a)) (sentence-starts _ z))))
-  right-before u e m (deep_here {t = t} {items = ys} now p k c) = at-place u (recursion_limit_report t) m p k.comes c (λ q. too_deep t (item-there t q) (λ z. not-within-one r xs (answers_tokens xs) (answers_tokens (given_by t ∷ ys)) k
-      (subst (λ (l : List Terminal). StartsWithin document r l) (from-words k.before (tokens_of q.before) _ _ (words-before xs p.front (given_by t ∷ ys) k.before p.split k.split ∙ q.words) (one-at t q now)) (sentence-starts-within r _ z))))
+  right-before u e m (stuck_here said {t = t} {items = ys} now p k c) = at-place u (fault_report said t) m p k.1 c (λ q. fault said t (item-there t q) now.0 (λ a z. not-starts sort (answers_tokens xs) (answers_tokens (given_by t ∷ ys)) k.0
+      (subst (λ (l : List Terminal). Starts sort l) (from-words k.0.before (tokens_of q.before) _ _ (words-before xs p.front (given_by t ∷ ys) k.0.before p.split k.0.split ∙ q.words) (two-at t q now a)) (sentence-starts sort _ z))))
+  right-before u e m (deep_here {t = t} {items = ys} now p k c) = at-place u (recursion_limit_report t) m p k.comes c (λ q. too_deep t (item-there t q) (λ z. not-within-one sort r xs (answers_tokens xs) (answers_tokens (given_by t ∷ ys)) k
+      (subst (λ (l : List Terminal). StartsWithin sort r l) (from-words k.before (tokens_of q.before) _ _ (words-before xs p.front (given_by t ∷ ys) k.before p.split k.split ∙ q.words) (one-at t q now)) (sentence-starts-within sort r _ z))))
   right-before u e m (no_token {x = x} {items = ys} p n v c) =
       let same = no-token-words x ys n in at-place u (report_of x) m p (rw same v) (rw same c) (other-reason p.front x ys n)
 
-  -- the first report is right, and the nodes that end before its last token fit
-  pub first-report-right : IsUtf8 source → (e : Report) (more : List Report) → s.errors ≡ e ∷ more → (i : IsRight source items r k e) × EndedFit (length (tokens_of i.before)) 0 (finished s)
+  -- the first report is right, and the nodes that end before its last token fit, whatever waits at the end
+  pub right-report : IsUtf8 source → (s : State) → IsRoot s.tree → RightlyReported (input_of sort r (limited k items)) s → (e : Report) (more : List Report) → s.errors ≡ e ∷ more
+      → RightFirst sort source items r k (finished s) e
   unfolding xs
-  first-report-right u e more h = elim (parsed r (limited k items) s (ends-well k 0 items cut.each) root run) [
-    | inl o ↦ (
-        let i = right-before u e o.taken (subst (λ (z : Report). RightReport document (limited k items) r (answers_tokens (limited k items)) z o.taken) (head-same (sym o.reported ∙ h)) o.right) in (
-          i.0,
-          subst (λ (n : ℕ). EndedFit n 0 (finished s)) i.1 (ended-root o.taken (add_all s.pending s.tree) (record { before = built.none; kind = root.0 })
-              (add_all-above s.pending s.tree ∙ root.2) (settled-added o.taken (added-all s.pending s.tree) o.settled)),
-        ))
-    | inr o ↦ no-cons (sym o.0 ∙ h)
-  ]
+  right-report u s root o e more h =
+      let i = right-before u e o.taken (subst (λ (z : Report). RightReport sort (limited k items) r (answers_tokens (limited k items)) z o.taken) (head-same (sym o.reported ∙ h)) o.right) in (
+        i.0,
+        subst (λ (n : ℕ). EndedFit n 0 (finished s)) i.1 (ended-root o.taken (add_all s.pending s.tree) (record { before = built.none; kind = root.0 })
+            (add_all-above s.pending s.tree ∙ root.2) (settled-added o.taken (added-all s.pending s.tree) o.settled)),
+      )
+
+-- The same of a whole document.
+pub first-report-right : (r k : ℕ) (source : List ℕ) (items : List Item) (s : State) (cut : Cut source items) → IsRoot s.tree → Runs (Call Document) (begun (limited k items) r kind.DOCUMENT) s
+    → IsUtf8 source → (e : Report) (more : List Report) → s.errors ≡ e ∷ more → RightFirst document source items r k (finished s) e
+first-report-right r k source items s cut root run u e more h = elim (parsed r (limited k items) s (ends-well k 0 items cut.each) root run) [
+  | inl o ↦ right-report document r k source items cut u s root o e more h
+  | inr o ↦ no-cons (sym o.0 ∙ h)
+]

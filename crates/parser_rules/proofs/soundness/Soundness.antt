@@ -7,8 +7,7 @@ use Rattle.std.specs.Prelude.{map}
 use Rattle.std.proofs.lemmas.Bool.{and_from}
 use Rattle.std.proofs.lemmas.List.{map-append, append_cancel_right}
 use Rattle.lexical_grammar.specs.declared.TokenKind.{TokenKind}
-use Rattle.lexical_grammar.specs.Cut.{Item, Cut, Significant, significant_word, is_significant_kind}
-use Rattle.lexical_grammar.specs.Begins.{are_tokens}
+use Rattle.lexical_grammar.specs.Cut.{Item, Cut, Significant, significant_word, is_significant_kind, are_tokens}
 use Rattle.lexical_grammar.specs.Answers.{Answer, gives, limit_at, limited, is_token}
 use Rattle.document_grammar.specs.declared.kind.SyntaxKind.TheVariants as kind
 use Rattle.document_grammar.specs.Numbers.{number}
@@ -19,20 +18,22 @@ use Rattle.document_grammar.specs.Numbered.{tree_of}
 use Rattle.grammar_machine.proofs.generated.Labels.{labels}
 use Rattle.document_grammar.specs.Pattern.{member}
 use Rattle.document_grammar.specs.Tree.{Token, Tree, node, Forest, none}
-use Rattle.document_grammar.specs.Derivation.{document, Spells, nest, StartsWithin}
+use Rattle.document_grammar.specs.Derivation.{Sort, document, Spells, nest}
+use Rattle.document_grammar.specs.Beginnings.{StartsWithin}
 use Rattle.document_grammar.specs.Places.{bare}
 use Rattle.document_grammar.specs.Sentence.{token_of, leaf_number, Sentence, Within}
 use Rattle.document_grammar.specs.Booleans.{◌and◌, ◌or◌}
-use Rattle.grammar_machine.specs.Machine.{holds as within, is_leaf, class, first, second, yields, close as closes_move}
+use Rattle.grammar_machine.specs.Machine.{holds as within, is_leaf, class, first, opening, second, yields, close as closes_move}
 use Rattle.document_grammar.proofs.Booleans.{false-true, and-l, and-r}
 use Rattle.grammar_machine.proofs.TableLemmas.{holds-subset, holds-disjoint, head-same, no-cons}
 use Rattle.grammar_machine.proofs.Depth.{count_in, nest-show, nesting_all}
 use Rattle.grammar_machine.proofs.SentenceTheorems.{sentence-parse, begins-at}
 use Rattle.grammar_machine.proofs.Patterns.{label}
+use Rattle.grammar_machine.proofs.MachineTheorems.{Parse}
 use Rattle.grammar_machine.proofs.Run.{next}
 use Rattle.grammar_machine.proofs.FromMachineTree.{show, shows}
 use Rattle.grammar_machine.proofs.Sound.{any, AllSpelt}
-use Rattle.grammar_machine.proofs.Starts.{read, next_one, after-one}
+use Rattle.grammar_machine.proofs.Starts.{first-same, read, next_one, after-one}
 use Rattle.grammar_machine.proofs.Steps.{closes-move}
 use Rattle.parser_rules.specs.State.{State, Lexeme, Report, add_all, fresh, begun, finished}
 use Rattle.parser_rules.specs.Nodes.{Definition, Document}
@@ -215,20 +216,21 @@ pub words-before : (xs front ys : List Answer) (b : List Token) → xs ≡ front
 words-before xs front ys b e h = append_cancel_right b (answers_tokens front) (answers_tokens ys) (sym h ∙ (ap answers_tokens e ∙ answers-append front ys))
 
 -- No late fault: the tokens before begin a sentence, which goes on with listed tokens.
-abbrev pub Begins_tokens : List Token → Type 0
-Begins_tokens b = (t : Tree) × (v : List Token) × Spells (b ++ v) t document × AllSpelt v
+abbrev pub Begins_tokens : Sort → List Token → Type 0
+Begins_tokens sort b = (t : Tree) × (v : List Token) × Spells (b ++ v) t sort × AllSpelt v
 
-pub viable-begins : (r : ℕ) (xs front ys : List Answer) → xs ≡ front ++ ys → Viable document xs r (answers_tokens xs) (answers_tokens ys) → Begins_tokens (answers_tokens front)
-viable-begins r xs front ys e v =
-    let h = begins-at document (answers_tokens xs) v.0 (answers_tokens ys) v.1 in
-    subst (λ (b : List Token). Begins_tokens b) (words-before xs front ys h.0 e h.1) h.2
+pub viable-begins : (sort : Sort) (r : ℕ) (xs front ys : List Answer) → xs ≡ front ++ ys → Viable sort xs r (answers_tokens xs) (answers_tokens ys) → Begins_tokens sort (answers_tokens front)
+viable-begins sort r xs front ys e v =
+    let h = begins-at sort (answers_tokens xs) v.0 (answers_tokens ys) v.1 in
+    subst (λ (b : List Token). Begins_tokens sort b) (words-before xs front ys h.0 e h.1) h.2
 
 -- No early limit: no sentence within the limit goes on with the next token.
-pub not-within-one : (r : ℕ) (xs : List Answer) (w rest : List Token) (k : TooMany document xs r w rest) → StartsWithin document r (read k.before ++ next_one rest) → ⊥
-not-within-one r xs w rest k h =
+pub not-within-one : (sort : Sort) (r : ℕ) (xs : List Answer) (w rest : List Token) (k : TooMany sort xs r w rest) → StartsWithin sort r (read k.before ++ next_one rest) → ⊥
+not-within-one sort r xs w rest k h =
     let a = after-one k.before rest h.0 h.2 h.4 in
-    let p = sentence-parse document (k.before ++ a.0) h.1 (subst (λ (z : List Token). Spells z h.1 document) a.1 h.3) in
-    let deeper = k.deeper p.0 a.0 p.1 a.2 in
+    let p = sentence-parse sort (k.before ++ a.0) h.1 (subst (λ (z : List Token). Spells z h.1 sort) a.1 h.3) in
+    let start : first (k.before ++ a.0) ≡ first w = sym (first-same k.before rest a.0 a.2) ∙ sym (ap first k.split) in
+    let deeper = k.deeper p.0 a.0 (subst (λ (c : ℕ). Parse (opening sort c) p.0 (k.before ++ a.0)) start p.1) a.2 in
     let nests : nest h.1 ≡ nesting_all p.0 = ap nest (sym p.2) ∙ nest-show p.0 p.1.0 in
     omega (arith, deeper, nests, h.5)
 

@@ -52,6 +52,7 @@ returns g c =
     record {
       last = s;
       cut = c.lexer.ensures.cut;
+      characters = c.lexer.ensures.characters;
       short = c.lexer.ensures.short;
       run = ran;
       tree = e.tree ∙ ap finished left;

@@ -67,6 +67,7 @@ returns g c =
       root = record {
         last = s;
         cut = c.lexer.ensures.cut;
+        characters = c.lexer.ensures.characters;
         short = c.lexer.ensures.short;
         run = m.run;
         tree = e.tree ∙ ap finished left;

@@ -1,0 +1,83 @@
+-- Where a part of a document is parsed by itself, one front of the answers has the leaves, and with what was read after it the reports.
+use Rattle.std.proofs.Common.{◌≡◌, ℕ, ◌≤◌, Bool, true, false, List, [], ◌∷◌, ◌++◌, length, Option, Some, None, refl, sym, ap, ◌∙◌, subst, append_assoc, arith}
+use Rattle.std.specs.Prelude.{filter, if◌then◌else◌, is_none}
+use Rattle.std.proofs.lemmas.List.{append_cancel_right}
+use Rattle.lexical_grammar.specs.declared.TokenKind.{TokenKind}
+use Rattle.lexical_grammar.specs.Cut.{Item}
+use Rattle.lexical_grammar.specs.Answers.{Answer, gives, limit_at}
+use Rattle.document_grammar.specs.declared.kind.SyntaxKind.{SyntaxKind}
+use Rattle.document_grammar.specs.Forests.{Forest}
+use Rattle.document_grammar.specs.Leaves.{Leaf, leaves, OneLeafAnItem, ignored, shows}
+use Rattle.grammar_machine.proofs.TableLemmas.{head-same, tail-same}
+use Rattle.parser_rules.specs.Fragments.{started}
+use Rattle.parser_rules.specs.Reports.{Reported}
+use Rattle.parser_rules.specs.RuleLanguage.{Rule}
+use Rattle.parser_rules.specs.Runs.{Runs}
+use Rattle.parser_rules.specs.State.{State, Lexeme, PendingToken, Report}
+use Rattle.parser_rules.proofs.fragments.RootRuns.{so-far}
+use Rattle.parser_rules.proofs.leaves.LeafCheck.{anything, leaf_check}
+use Rattle.parser_rules.proofs.leaves.OneLeaf.{first-leaves, first-leaves-left, root-part}
+use Rattle.parser_rules.proofs.reports.AlongItems.{reported-gone}
+use Rattle.parser_rules.proofs.runs.Fuel.{rules_deep}
+use Rattle.parser_rules.proofs.runs.TreesWithSources.{Source, aside, token, by-kind, flat, now_of, set_aside, source_at, sources, sources-append}
+use Rattle.parser_rules.proofs.runs.Walk.{always, walk}
+
+-- The leaves are of the front, and the reports of it and of what was read after it: at most one token there is not ignored.
+pub record OneFront (xs : List Answer) (ls : List Leaf) (rs : List Report) : Type 0 where
+  pub front : List Answer
+  pub ahead : List Answer
+  pub back : List Answer
+  pub split : xs ≡ front ++ (ahead ++ back)
+  pub leaves : OneLeafAnItem front ls
+  pub reported : Reported true (front ++ ahead) rs
+  pub few : length (filter shows ahead) ≤ 1
+
+-- ---- what was read after the tree
+
+-- what waits is no token that shows
+aside-hidden : (item : Item) (p : PendingToken) → source_at item item.kind ≡ aside p → shows (gives item) ≡ false
+aside-hidden item p = by-kind (λ found o. o ≡ aside p → shown found ≡ false) item (λ e. refl) (λ k i e. absurd cc) (λ k own i e. ap is_none i)
+  where
+    shown : Option TokenKind → Bool
+    shown None = false
+    shown (Some k) = is_none (ignored k)
+
+none-left : (xs : List Answer) → sources xs ≡ [] → length (filter shows xs) ≤ 0
+none-left [] e = omega arith
+none-left (limit_at index ∷ xs) e = none-left xs e
+none-left (gives item ∷ xs) e = absurd cc
+
+at-most-one : (xs : List Answer) (x : Answer) → length (filter shows xs) ≤ 0 → length (filter shows (x ∷ xs)) ≤ 1
+at-most-one xs x h = elim (shows x) as (λ b. length (if b then x ∷ filter shows xs else filter shows xs) ≤ 1) [ true ↦ omega (arith, h) | false ↦ omega (arith, h) ]
+
+few-shown : (xs : List Answer) (parts : List PendingToken) (o : Option Lexeme) → sources xs ≡ flat (set_aside parts) ++ now_of o → length (filter shows xs) ≤ 1
+few-shown [] parts o e = omega arith
+few-shown (limit_at index ∷ xs) parts o e = few-shown xs parts o e
+few-shown (gives item ∷ xs) (p ∷ parts) o e =
+    let hidden = aside-hidden item p (head-same e) in
+    subst (λ (b : Bool). length (if b then gives item ∷ filter shows xs else filter shows xs) ≤ 1) (sym hidden) (few-shown xs parts o (tail-same e))
+few-shown (gives item ∷ xs) [] None e = absurd cc
+few-shown (gives item ∷ xs) [] (Some x) e = at-most-one xs (gives item) (none-left xs (tail-same e))
+
+-- ---- a run
+
+pub one-front : {q : Rule} {s : State} (xs : List Answer) (limit : ℕ) (k : SyntaxKind) → walk leaf_check rules_deep q anything always ≡ true → Runs q (started xs limit k) s
+    → OneFront xs (leaves s.tree.here) s.errors
+one-front {s = s} xs limit k check run =
+    let h = so-far xs limit k run in
+    let p = root-part xs limit k check run in
+    let after : List Source = flat (set_aside s.pending) ++ now_of s.current in
+    let order : (flat p.0 ++ after) ++ sources s.items ≡ sources h.gone ++ sources s.items =
+    append_assoc (flat p.0) after (sources s.items) ∙ ap (λ (v : List Source). flat p.0 ++ v) (append_assoc (flat (set_aside s.pending)) (now_of s.current) (sources s.items))
+    ∙ p.1.order ∙ ap sources h.left ∙ sources-append h.gone s.items in
+    let gone = append_cancel_right (flat p.0 ++ after) (sources h.gone) (sources s.items) order in
+    let l = first-leaves h.gone after p.2 gone in
+    record {
+      front = l.front;
+      ahead = l.back;
+      back = s.items;
+      split = h.left ∙ ap (λ (ys : List Answer). ys ++ s.items) l.split ∙ append_assoc l.front l.back s.items;
+      leaves = subst (λ (f : Forest). OneLeafAnItem l.front (leaves f)) p.1.tree l.leaves;
+      reported = subst (λ (ys : List Answer). Reported true ys s.errors) l.split (reported-gone s h);
+      few = few-shown l.back s.pending s.current (first-leaves-left h.gone after p.2 gone);
+    }
