@@ -7,8 +7,11 @@ use Rattle.document_grammar.specs.Numbered.{tree_of}
 use Rattle.document_grammar.specs.Places.{bare}
 use Rattle.apollo_parser.specs.Promise.{Promise}
 use Rattle.apollo_parser.specs.Parsed.{Parsed}
+use Rattle.lexical_grammar.specs.Cut.{Cut}
+use Rattle.lexical_grammar.specs.Reads.{items_of}
 use Rattle.document_format.specs.Formatted.{IsSentence, Formatted}
-use Rattle.formatter.specs.Outcome.{IsFormatted, IsRefused}
+use Rattle.document_format.proofs.Nests.{alike-nest}
+use Rattle.formatter.specs.Outcome.{IsDocument, IsFormatted, IsRefused}
 
 pub empty-list : {X : Type 0} (xs : List X) → eqb (length xs) 0 ≡ true → xs ≡ []
 empty-list [] e = refl
@@ -22,15 +25,26 @@ pub same-parse : (source other : List ℕ) (r q k j : ℕ) (t : Parsed) → othe
 same-parse source other r q k j t s d n p = subst (λ x. Promise x r k t) s (subst (λ x. Promise other x k t) d (subst (λ x. Promise other q x t) n p))
 
 pub refused : (source : List ℕ) (r k : ℕ) (t : Parsed) (errors : List Diagnostic) → errors ≡ t.errors → eqb (length errors) 0 ≡ false → Promise source r k t → IsRefused source r k errors
-refused source r k t errors e some p = subst (IsRefused source r k) (sym e) (record {
-  refused = λ u s w. some-list errors (e ∙ p.accepts u s w) some;
-  errors_of = p.errors;
-  not_late = p.not_late;
-  not_early = p.not_early;
-})
+refused source r k t errors e some p = record {
+  no_document = λ d. some-list errors (e ∙ p.accepts d.tree d.sentence d.within) some;
+  parsed = t;
+  promise = p;
+  errors_of = e;
+  some = λ none. some-list errors none some;
+}
 
 pub sentence-of : (source : List ℕ) (r k : ℕ) (t : Parsed) → k ≤ usize_max → t.errors ≡ [] → Promise source r k t → IsSentence source
 sentence-of source r k t le clean p = record { tree = bare (tree_of t.tree); sentence = (p.sound clean).0; within = (r, k, le, (p.sound clean).1) }
 
 pub formatted-by : (source text : List ℕ) (r k : ℕ) (t : Parsed) → t.errors ≡ [] → Promise source r k t → Formatted source text → IsFormatted source r k text
-formatted-by source text r k t clean p f = record { tree = bare (tree_of t.tree); sentence = (p.sound clean).0; within = (p.sound clean).1; formatted = f }
+formatted-by source text r k t clean p f = record { document = record { tree = bare (tree_of t.tree); sentence = (p.sound clean).0; within = (p.sound clean).1 }; formatted = f }
+
+-- a formatted text nests as deep as its source
+pub formatted-within : (source text : List ℕ) (r k : ℕ) → Cut text (items_of text) → length (items_of text) ≤ k → IsFormatted source r k text → IsDocument text r k
+formatted-within source text r k cut few f =
+    let again = f.formatted.sentence f.document.tree f.document.sentence in
+    record {
+      tree = again.tree;
+      sentence = again.sentence;
+      within = record { nesting = omega (arith, alike-nest f.document.tree again.tree again.alike, f.document.within.nesting); items = items_of text; cut = cut; count = few };
+    }

@@ -4,11 +4,12 @@
 //! anew, with the same value. `DocumentFormatter` is the same as a trait, for callers that are proved without the code of the parser.
 #![tactic(auto)]
 
-ghost use Rattle.std.specs.Prelude.{◌≡◌, IfErr, IfOk, string_bytes};
+ghost use Rattle.std.specs.Prelude.{◌≡◌, ◌<◌, ℕ, true, false, List, length, IfErr, IfOk, string_bytes};
+ghost use Rattle.lexical_grammar.specs.Reads.{items_of};
 ghost use Rattle.apollo_parser.specs.Promise.{Promise};
-ghost use Rattle.formatter.specs.Outcome.{IsFormatted, IsRefused};
+ghost use Rattle.formatter.specs.Outcome.{IsDocument, IsFormatted, IsRefused};
 
-use apollo_parser::{DocumentRoot, Error, IndexedElement, Parser, SyntaxTree};
+use apollo_parser::{DocumentRoot, Error, IndexedElement, Lexer, Parser, SyntaxTree};
 use document_format::{Elements, format_document};
 use std::alloc::{AllocError, Allocator};
 
@@ -58,11 +59,11 @@ fn errors_of<A: Allocator + Copy>(
     Ok(errors)
 }
 
-/// The document with the layout of this crate, or the errors of `Parser::parse` where the text is no document within both limits. It fails only
-/// where memory is refused.
+/// The document with the layout of this crate, or the errors of `Parser::parse`, at least one, where the text is no document within both limits.
+/// It fails only where memory is refused.
 ///
 /// The recursion limit is how deep selection sets, list types and values may nest. The token limit is how many items the text may have, ignored
-/// ones and the end among them.
+/// ones and the end among them; it is no limit on the formatted text (`stays_within`).
 ///
 /// The layout alone changes: the significant tokens and the comments are those of the text, in their order, but that a block string may be
 /// spelled anew with the same value, for the indent of its line.
@@ -82,6 +83,16 @@ pub fn format<A: Allocator + Copy>(
     }
     let text = format_document(alloc, source, &TreeElements { tree: &tree })?;
     Ok(Ok(text))
+}
+
+/// Whether a formatted text has at most as many items as the limit, ignored ones and the end among them. It can then be formatted again within
+/// the limits of its source. It may have more items than its source has, since the layout parts tokens by white space.
+pub fn stays_within(text: &str, token_limit: usize) -> bool
+    ensures yes { result ≡ true → (source : List ℕ) (r : ℕ) → IsFormatted source r token_limit text.now → IsDocument text.now r token_limit }
+    ensures no { result ≡ false → token_limit < length (items_of text.now) }
+{
+    // each item but the end has a byte
+    text.len() < token_limit || Lexer::new(text).count() <= token_limit
 }
 
 /// What formats documents.
