@@ -1,3 +1,4 @@
 pub mod PathLemmas
 pub mod Printing
 pub mod Outputs
+pub mod Saying

@@ -1,10 +1,13 @@
 -- What is written of a text, by what formatting makes of it.
-use Rattle.std.proofs.Common.{◌≡◌, ℕ, List, [], inl, inr, sym, subst}
+use Rattle.std.proofs.Common.{◌≡◌, ◌≢◌, ℕ, List, [], inl, inr, sym, subst}
 use Rattle.gqlfmt_run.specs.declared.limits.Limits.{Limits}
 use Rattle.gqlfmt_files.specs.declared.settling.Mode.{Mode}
 use Rattle.gqlfmt_files.specs.declared.settling.Mode.TheVariants.{Write, Check, Diff}
 use Rattle.gqlfmt_files.specs.declared.settling.Outcome.TheVariants.{Done, Found}
-use Rattle.gqlfmt_run.specs.Formatting.{IsFormatted, HasErrors, IsChanged, IsShown}
+use Rattle.gqlfmt_files.specs.declared.settling.Revised.TheVariants.{Refused}
+use Rattle.gqlfmt_run.specs.declared.formatting.Refusal.{Refusal}
+use Rattle.gqlfmt_run.specs.declared.formatting.Refusal.TheVariants.{Errors, Outgrown}
+use Rattle.gqlfmt_run.specs.Formatting.{IsFormatted, IsRefused, IsChanged, IsRevised, IsShown}
 use Rattle.gqlfmt_run.specs.Input.{input_name, IsOutput, kept, outcome_of}
 
 pub of_same : (mode : Mode) (limits : Limits) (source output : List ℕ) → IsFormatted limits source source → output ≡ kept mode source → IsOutput mode limits source Done output
@@ -12,12 +15,18 @@ of_same Write limits source output formatted same = subst (λ (text : List ℕ).
 of_same Check limits source output formatted same = (formatted, same)
 of_same Diff limits source output formatted same = (formatted, same)
 
-pub of_changed : (mode : Mode) (limits : Limits) (source text output : List ℕ) → IsChanged limits source text → IsShown mode input_name text output → IsOutput mode limits source (outcome_of mode) output
-of_changed Write limits source text output changed shown = subst (λ (text : List ℕ). IsFormatted limits source text) (sym shown) changed.formatted
-of_changed Check limits source text output changed shown = inr (record { text = text; changed = changed; shown = shown })
-of_changed Diff limits source text output changed shown = inr (record { text = text; changed = changed; shown = shown })
+pub of_changed : (mode : Mode) (limits : Limits) (source text output : List ℕ) → IsChanged limits source text → (text ≢ source → IsShown mode input_name text output)
+    → IsOutput mode limits source (outcome_of mode) output
+of_changed Write limits source text output changed shown = subst (λ (text : List ℕ). IsFormatted limits source text) (sym (shown changed.other)) changed.formatted
+of_changed Check limits source text output changed shown = inr (record { looks = λ e. (cc); text = text; changed = changed; shown = shown changed.other })
+of_changed Diff limits source text output changed shown = inr (record { looks = λ e. (cc); text = text; changed = changed; shown = shown changed.other })
 
-pub of_refused : (mode : Mode) (limits : Limits) (source output : List ℕ) → HasErrors limits source → output ≡ [] → IsOutput mode limits source Found output
-of_refused Write limits source output errors empty = (errors, empty)
-of_refused Check limits source output errors empty = inl (errors, empty)
-of_refused Diff limits source output errors empty = inl (errors, empty)
+pub is_refused : {A : Type 0} (limits : Limits) (source : List ℕ) (refusal : Refusal A) → IsRevised limits source (Refused refusal) → IsRefused limits source
+is_refused limits source (Errors errors) h = inl (record { errors = errors.items; refused = h })
+is_refused limits source Outgrown h = inr h
+
+pub of_refused : {A : Type 0} (mode : Mode) (limits : Limits) (source output : List ℕ) (refusal : Refusal A) → IsRevised limits source (Refused refusal) → output ≡ []
+    → IsOutput mode limits source Found output
+of_refused Write limits source output refusal h empty = inl (is_refused limits source refusal h, empty)
+of_refused Check limits source output refusal h empty = inl (is_refused limits source refusal h, empty)
+of_refused Diff limits source output refusal h empty = inl (is_refused limits source refusal h, empty)

@@ -1,39 +1,63 @@
 -- What formatting makes of a text, and what is shown of that.
-use Rattle.std.specs.Prelude.{◌≡◌, ◌≢◌, ℕ, List, [], ◌∷◌, ◌++◌, string_bytes}
+use Rattle.std.specs.Prelude.{◌≡◌, ◌≢◌, ◌<◌, ◌⊎◌, ℕ, List, [], ◌∷◌, ◌++◌, codes, length, string_bytes}
+use Rattle.apollo_parser.specs.Reads.{items_of}
 use Rattle.formatter.specs.Outcome as format
 use Rattle.apollo_parser.specs.Diagnostics.{Diagnostic}
 use Rattle.gqlfmt_run.specs.declared.limits.Limits.{Limits}
+use Rattle.gqlfmt_run.specs.declared.formatting.Refusal.{Refusal}
+use Rattle.gqlfmt_run.specs.declared.formatting.Refusal.TheVariants.{Errors, Outgrown}
 use Rattle.gqlfmt_files.specs.declared.settling.Mode.{Mode}
 use Rattle.gqlfmt_files.specs.declared.settling.Mode.TheVariants.{Write, Check, Diff}
 use Rattle.gqlfmt_files.specs.declared.settling.Revised.{Revised}
 use Rattle.gqlfmt_files.specs.declared.settling.Revised.TheVariants.{Same, Changed, Refused}
 
--- the source is a sentence within both limits, and this is its formatted text
-abbrev pub IsFormatted : Limits → List ℕ → List ℕ → Type 0
-IsFormatted limits source text = format.IsFormatted source limits.recursion limits.tokens text
+-- The source is a document within both limits, and this is its formatted text, which is within them too: it is not refused when it is formatted
+-- once more.
+pub record IsFormatted (limits : Limits) (source text : List ℕ) : Type 0 where
+  pub formatted : format.IsFormatted source limits.recursion limits.tokens text
+  pub again : format.IsDocument text limits.recursion limits.tokens
 
--- the source is no sentence within both limits, and these are its errors
-abbrev pub IsRefused : Limits → List ℕ → List Diagnostic → Type 0
-IsRefused limits source errors = format.IsRefused source limits.recursion limits.tokens errors
+-- The source is a document within both limits, but its formatted text has more items than are allowed.
+pub record IsOutgrown (limits : Limits) (source : List ℕ) : Type 0 where
+  pub text : List ℕ
+  pub formatted : format.IsFormatted source limits.recursion limits.tokens text
+  pub more : limits.tokens < length (items_of text)
 
--- the source is no sentence within both limits
+-- the source is no document within both limits
 pub record HasErrors (limits : Limits) (source : List ℕ) : Type 0 where
   pub errors : List Diagnostic
-  pub refused : IsRefused limits source errors
+  pub refused : format.IsRefused source limits.recursion limits.tokens errors
+
+-- the source is left as it is
+abbrev pub IsRefused : Limits → List ℕ → Type 0
+IsRefused limits source = HasErrors limits source ⊎ IsOutgrown limits source
 
 -- this is its formatted text, and another text than the source
 pub record IsChanged (limits : Limits) (source text : List ℕ) : Type 0 where
   pub formatted : IsFormatted limits source text
   pub other : text ≢ source
 
-abbrev pub IsRevised : {A E : Type 0} → (E → List Diagnostic) → Limits → List ℕ → Revised A E → Type 0
-IsRevised diagnostics limits source Same = IsFormatted limits source source
-IsRevised diagnostics limits source (Changed text) = IsChanged limits source (string_bytes text)
-IsRevised diagnostics limits source (Refused errors) = IsRefused limits source (diagnostics errors)
+-- what formatting makes of a source; the errors of a refusal are those of its parse
+abbrev pub IsRevised : {A : Type 0} → Limits → List ℕ → Revised A (Refusal A) → Type 0
+IsRevised limits source Same = IsFormatted limits source source
+IsRevised limits source (Changed text) = IsChanged limits source (string_bytes text)
+IsRevised limits source (Refused (Errors errors)) = format.IsRefused source limits.recursion limits.tokens errors.items
+IsRevised limits source (Refused Outgrown) = IsOutgrown limits source
 
--- What is written of a source that has this name and another text when formatted: that text, or the name as a line. How the changes are shown
--- is not stated.
+-- a unified diff of two texts that have this name: both names at its head, and hunks
+abbrev pub IsDiff : List ℕ → List ℕ → Type 0
+IsDiff name output = (hunks : List ℕ) × (output ≡ codes "--- " ++ name ++ codes "\n+++ " ++ name ++ codes "\n" ++ hunks)
+
+-- What is written of a source that has this name and another text when formatted: that text, the name as a line, or the changes under the name.
+-- Which lines are shown of a change is not stated.
 abbrev pub IsShown : Mode → List ℕ → List ℕ → List ℕ → Type 0
 IsShown Write name text output = output ≡ text
 IsShown Check name text output = output ≡ name ++ 10 ∷ []
-IsShown Diff name text output = Unit {0}
+IsShown Diff name text output = IsDiff name output
+
+-- In a mode that changes nothing, the source has another layout, and this is shown of that.
+pub record IsListed (mode : Mode) (limits : Limits) (name source output : List ℕ) : Type 0 where
+  pub looks : mode ≢ Write
+  pub text : List ℕ
+  pub changed : IsChanged limits source text
+  pub shown : IsShown mode name text output

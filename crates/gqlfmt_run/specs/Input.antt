@@ -5,25 +5,17 @@ use Rattle.gqlfmt_files.specs.declared.settling.Mode.{Mode}
 use Rattle.gqlfmt_files.specs.declared.settling.Mode.TheVariants.{Write, Check, Diff}
 use Rattle.gqlfmt_files.specs.declared.settling.Outcome.{Outcome}
 use Rattle.gqlfmt_files.specs.declared.settling.Outcome.TheVariants.{Done, Found}
-use Rattle.gqlfmt_run.specs.Formatting.{IsFormatted, HasErrors, IsChanged, IsShown}
+use Rattle.gqlfmt_run.specs.Formatting.{IsFormatted, IsRefused, IsListed}
 
 abbrev pub input_name : List ℕ
 input_name = codes "<stdin>"
 
--- the text has another layout, and this is what a mode that changes nothing shows of that
-pub record IsListed (mode : Mode) (limits : Limits) (source output : List ℕ) : Type 0 where
-  pub text : List ℕ
-  pub changed : IsChanged limits source text
-  pub shown : IsShown mode input_name text output
-
--- What is written of a text, by what came of it. In mode write that is the formatted text, and nothing of a text with errors.
+-- What is written of a text, by what came of it. In mode write that is the formatted text, and nothing of a text that is refused.
 abbrev pub IsOutput : Mode → Limits → List ℕ → Outcome → List ℕ → Type 0
 IsOutput Write limits source Done output = IsFormatted limits source output
 IsOutput Check limits source Done output = IsFormatted limits source source × (output ≡ [])
 IsOutput Diff limits source Done output = IsFormatted limits source source × (output ≡ [])
-IsOutput Write limits source Found output = HasErrors limits source × (output ≡ [])
-IsOutput Check limits source Found output = (HasErrors limits source × (output ≡ [])) ⊎ IsListed Check limits source output
-IsOutput Diff limits source Found output = (HasErrors limits source × (output ≡ [])) ⊎ IsListed Diff limits source output
+IsOutput mode limits source Found output = (IsRefused limits source × (output ≡ [])) ⊎ IsListed mode limits input_name source output
 
 -- the parts of that: what is written of a text that has the layout
 abbrev pub kept : Mode → List ℕ → List ℕ

@@ -1,5 +1,7 @@
 pub mod Outcome
 pub mod Formatting
+pub mod Complaints
 pub mod Input
+pub mod Showing
 pub mod Paths
 pub mod Program

@@ -15,10 +15,11 @@ use Rattle.gqlfmt_words.specs.declared.words.Page.{Page}
 use Rattle.gqlfmt_words.specs.declared.words.Page.TheVariants.{Help, Version}
 use Rattle.gqlfmt_words.specs.declared.words.Request.{Request}
 use Rattle.gqlfmt_words.specs.declared.words.Request.TheVariants.{Print, Format}
-use Rattle.gqlfmt_run.specs.declared.command.TheConstants.{USAGE, HELP, VERSION}
+use Rattle.gqlfmt_run.specs.declared.command.TheConstants.{USAGE, HELP, VERSION, NO_MEMORY}
 use Rattle.gqlfmt_run.specs.Outcome.{status_of}
-use Rattle.gqlfmt_run.specs.Input.{IsOutput}
-use Rattle.gqlfmt_run.specs.Paths.{HandlesAll}
+use Rattle.gqlfmt_run.specs.Complaints.{IsWritten, Says}
+use Rattle.gqlfmt_run.specs.Input.{input_name, IsOutput}
+use Rattle.gqlfmt_run.specs.Paths.{Desk, HandlesAll}
 
 -- the limits where no option sets them
 abbrev pub none_set : Limits
@@ -35,46 +36,58 @@ abbrev pub page_text : Page → List ℕ
 page_text Help = USAGE.now ++ HELP.now
 page_text Version = VERSION.now
 
--- What a run finds and leaves: what went through standard input, standard output and standard error, and the files.
+-- What went through standard input, standard output and standard error.
+pub record Streams : Type 0 where
+  pub input : Account
+  pub output : Account
+  pub complaints : Account
+
+-- What a run finds and leaves: that, and the files.
 pub record State (S : Type 0) : Type 0 where
   pub input : Account
   pub output : Account
   pub complaints : Account
   pub files : S
 
--- All of the text is written, or the writer broke off.
-abbrev pub IsWritten : List ℕ → Account → Account → Type 0
-IsWritten text old new = (new ≡ moved old text) ⊎ IsBroken text old new
+abbrev pub streams : {S : Type 0} → State S → Streams
+streams state = record { input = state.input; output = state.output; complaints = state.complaints }
 
--- the same, with the status for it
+abbrev pub desk : {S : Type 0} → State S → Desk S
+desk state = record { files = state.files; output = state.output; complaints = state.complaints }
+
+-- the page is written, with the status for it
 abbrev pub IsPrinted : List ℕ → ℕ → Account → Account → Type 0
 IsPrinted text status old new = ((status ≡ 0) × (new ≡ moved old text)) ⊎ ((status ≡ 2) × IsBroken text old new)
 
--- Standard input is read, and what comes of it is written.
-pub record FormatsInput (mode : Mode) (limits : Limits) (status : ℕ) (old_input old_output new_input new_output : Account) : Type 0 where
+-- Standard input is read, what comes of it is written, and why it was not formatted is said.
+pub record FormatsInput (mode : Mode) (limits : Limits) (status : ℕ) (old new : Streams) : Type 0 where
   pub ended : Result Outcome Fault
   pub input : List ℕ
-  pub reads : Reads ended input old_input new_input
-  pub writes : Writes (IsOutput mode limits) ended input old_output new_output
+  pub reads : Reads ended input old.input new.input
+  pub writes : Writes (IsOutput mode limits) ended input old.output new.output
+  pub says : Says input_name ended old.complaints new.complaints
   pub counted : status ≡ status_of ended
+
+-- A text alone is said on standard error, and nothing else is done.
+abbrev pub OnlySays : {S : Type 0} → List ℕ → ℕ → State S → State S → Type 0
+OnlySays text status old new =
+    (status ≡ 2) × IsWritten text old.complaints new.complaints × (new.output ≡ old.output) × (new.input ≡ old.input) × (new.files ≡ old.files)
 
 -- the files, as a trait tells what its two calls do
 module _ {S : Type 0} (reads : S → List ℕ → Option (List ℕ) → S → Type 0) (replaces : S → List ℕ → List ℕ → Bool → S → Type 0) where
   -- the files at these paths are handled, or standard input where there are none
   abbrev pub Formats : Settings → List (List ℕ) → ℕ → State S → State S → Type 0
-  Formats settings [] status old new =
-      FormatsInput (mode_of settings) (limits_of settings) status old.input old.output new.input new.output × (new.files ≡ old.files)
+  Formats settings [] status old new = FormatsInput (mode_of settings) (limits_of settings) status (streams old) (streams new) × (new.files ≡ old.files)
   Formats settings (path ∷ paths) status old new =
-      HandlesAll reads replaces (mode_of settings) (limits_of settings) (path ∷ paths) status old.files new.files × (new.input ≡ old.input)
+      HandlesAll reads replaces (mode_of settings) (limits_of settings) (path ∷ paths) status (desk old) (desk new) × (new.input ≡ old.input)
 
   -- What a run does for a request. Where there is none, it says on standard error how the program is called, and nothing else.
   abbrev pub Does : Option (Request Run) → ℕ → State S → State S → Type 0
-  Does (Some (Print page)) status old new = IsPrinted (page_text page) status old.output new.output × (new.input ≡ old.input) × (new.files ≡ old.files)
+  Does (Some (Print page)) status old new =
+      IsPrinted (page_text page) status old.output new.output × (new.complaints ≡ old.complaints) × (new.input ≡ old.input) × (new.files ≡ old.files)
   Does (Some (Format run)) status old new = Formats run.settings run.files status old new
-  Does None status old new =
-      (status ≡ 2) × IsWritten USAGE.now old.complaints new.complaints × (new.output ≡ old.output) × (new.input ≡ old.input) × (new.files ≡ old.files)
+  Does None status old new = OnlySays USAGE.now status old new
 
-  -- What a run does: that, or nothing where memory was refused before the last of its words was read.
+  -- What a run does: that, or it says that memory was refused before the last of its words was read, and nothing else.
   abbrev pub Runs : Option (Request Run) → ℕ → State S → State S → Type 0
-  Runs request status old new =
-      Does request status old new ⊎ ((status ≡ 2) × (new.output ≡ old.output) × (new.input ≡ old.input) × (new.files ≡ old.files))
+  Runs request status old new = Does request status old new ⊎ OnlySays NO_MEMORY.now status old new

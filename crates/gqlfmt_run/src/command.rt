@@ -6,6 +6,9 @@ pub const VERSION: &str = "gqlfmt 0.1.0\n";
 /// How the program is called.
 pub const USAGE: &str = "usage: gqlfmt [--check | --diff] [--recursion N] [--tokens N] [FILE..]\n";
 
+/// What is said where there is no memory for more.
+pub const NO_MEMORY: &str = "gqlfmt: out of memory\n";
+
 /// What it does.
 pub const HELP: &str = "
 Puts GraphQL documents into one layout. Without FILE it reads standard input
@@ -15,14 +18,14 @@ and writes to standard output; otherwise each FILE that changes is replaced.
   --diff         change nothing; show what would change, as a unified diff
   --recursion N  how deep a document may nest (500 if not given)
   --tokens N     how many tokens it may have, with white space, commas and
-                 comments (no limit if not given)
+                 comments, before and after (no limit if not given)
   --help         print this text
   --version      print the version
 
 Each option may be given once, before FILE or after. After -- all words are
 files.
 
-A document that has errors is left as it is. The status is 0 when all is done,
-1 when a document has errors or --check or --diff found a change, and 2 when
-something could not be read or written.
+A document that has errors, or more than N tokens when formatted, is left as
+it is. The status is 0 when all is done, 1 when a document is left so or --check
+or --diff found a change, and 2 when something could not be read or written.
 ";

@@ -1,5 +1,6 @@
 // The changes from one text to another, as a unified diff.
-ghost use Rattle.std.specs.Prelude.{◌≤◌, ◌<◌, length};
+ghost use Rattle.std.specs.Prelude.{◌≡◌, ◌≢◌, ◌≤◌, ◌<◌, [], length, IfOk, string_bytes};
+ghost use Rattle.gqlfmt_run.specs.Formatting.{IsDiff};
 
 use crate::edits::{Edit, edits};
 use std::alloc::{AllocError, Allocator};
@@ -123,48 +124,29 @@ fn hunk_len(edits: &[Edit]) -> usize
     edits.len()
 }
 
-// All hunks, one after the other.
-fn push_hunks<A: Allocator>(
-    diff: &mut String<A>,
+// The hunks of some edits, one after the other.
+fn hunks_of<A: Allocator>(
+    alloc: A,
     old: &[&str],
     new: &[&str],
     edits: &[Edit],
-) -> Result<(), AllocError> {
+) -> Result<String<A>, AllocError> {
+    let mut hunks = String::new(alloc);
     let mut left = edits;
     while !left.is_empty() {
         let (hunk, more) = left.split_at(hunk_len(left));
-        push_hunk(diff, old, new, hunk)?;
+        push_hunk(&mut hunks, old, new, hunk)?;
         left = more;
     }
-    Ok(())
+    Ok(hunks)
 }
 
-// The edits under the name of their file: nothing where there are none.
-fn push_edits<A: Allocator>(
-    diff: &mut String<A>,
-    name: &str,
-    old: &[&str],
-    new: &[&str],
-    edits: &[Edit],
-) -> Result<(), AllocError> {
-    if edits.is_empty() {
-        return Ok(());
-    }
-    writeln!(diff, "--- {name}\n+++ {name}")?;
-    push_hunks(diff, old, new, edits)
-}
-
-// The changes from the old lines to the new ones.
-fn diff_of<A: Allocator + Copy>(
-    alloc: A,
-    name: &str,
-    old: &[&str],
-    new: &[&str],
-) -> Result<String<A>, AllocError> {
-    let edits = edits(alloc, old, new)?;
-    let mut diff = String::new(alloc);
-    push_edits(&mut diff, name, old, new, edits.as_slice())?;
-    Ok(diff)
+// The hunks of the changes from the old text to the new one.
+fn changes<A: Allocator + Copy>(alloc: A, old: &str, new: &str) -> Result<String<A>, AllocError> {
+    let old = lines_of(alloc, old)?;
+    let new = lines_of(alloc, new)?;
+    let edits = edits(alloc, old.as_slice(), new.as_slice())?;
+    hunks_of(alloc, old.as_slice(), new.as_slice(), edits.as_slice())
 }
 
 /// The changes from the old text to the new one, under the name of their file: empty where there are none.
@@ -173,8 +155,13 @@ pub fn unified_diff<A: Allocator + Copy>(
     name: &str,
     old: &str,
     new: &str,
-) -> Result<String<A>, AllocError> {
-    let old = lines_of(alloc, old)?;
-    let new = lines_of(alloc, new)?;
-    diff_of(alloc, name, old.as_slice(), new.as_slice())
+) -> Result<String<A>, AllocError>
+    ensures same { IfOk result (λ diff. old.now ≡ new.now → string_bytes diff ≡ []) }
+    ensures other { IfOk result (λ diff. old.now ≢ new.now → IsDiff name.now (string_bytes diff)) }
+{
+    if old == new {
+        return Ok(String::new(alloc));
+    }
+    let hunks = changes(alloc, old, new)?;
+    format!(in alloc; "--- {name}\n+++ {name}\n{hunks}")
 }

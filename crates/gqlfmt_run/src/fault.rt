@@ -1,11 +1,12 @@
 // Why a text was not formatted.
 ghost use Rattle.std.specs.Prelude.{◌≡◌};
+ghost use Rattle.gqlfmt_run.specs.Complaints.{reason_of};
 ghost use Rattle.byte_devices.specs.declared.fault.Fault.TheVariants.{Memory};
 ghost use Rattle.gqlfmt_run.specs.declared.fault.FileFault.TheVariants.{Device};
 
 use byte_devices::Fault;
 use std::alloc::AllocError;
-use std::{fmt, io};
+use std::io;
 
 /// Why a file, or standard input, was not formatted.
 #[derive(Clone, Copy)]
@@ -34,15 +35,14 @@ impl From<AllocError> for FileFault {
     }
 }
 
-impl fmt::Display for FileFault {
-    fn fmt<W: fmt::Write>(&self, f: &mut fmt::Formatter<W>) -> fmt::Result {
-        match self {
-            FileFault::NotRead(error) => write!(f, "cannot read: {error}"),
-            FileFault::NotReplaced(error) => write!(f, "cannot replace: {error}"),
-            FileFault::Device(Fault::Read) => f.write_str("cannot read"),
-            FileFault::Device(Fault::Utf8) => f.write_str("not UTF-8"),
-            FileFault::Device(Fault::Memory) => f.write_str("out of memory"),
-            FileFault::Device(Fault::Write) => f.write_str("cannot write"),
-        }
+/// Why, in words.
+pub fn reason_of(fault: Fault) -> &'static str
+    ensures { result.now ≡ reason_of fault }
+{
+    match fault {
+        Fault::Read => "cannot read",
+        Fault::Utf8 => "not UTF-8",
+        Fault::Memory => "out of memory",
+        Fault::Write => "cannot write",
     }
 }

@@ -1,30 +1,49 @@
 // What becomes of a text.
-ghost use Rattle.std.specs.Prelude.{IfOk};
+ghost use Rattle.std.specs.Prelude.{IfOk, string_bytes};
+ghost use Rattle.formatter.specs.Outcome as format;
 ghost use Rattle.gqlfmt_run.specs.Formatting.{IsRevised};
 
 use crate::limits::Limits;
 use apollo_parser::Error;
-use formatter::DocumentFormatter;
+use formatter::{DocumentFormatter, stays_within};
 use gqlfmt_files::Revised;
 use std::alloc::{AllocError, Allocator};
 
-/// Formats a text, and says whether that changes it.
+/// Why a text is left as it is.
+#[derive(Drop)]
+pub enum Refusal<A: Allocator> {
+    /// It has errors.
+    Errors(Vec<Error<A>, A>),
+    /// Its formatted text has more items than the token limit allows, and would have errors.
+    Outgrown,
+}
+
+// What a formatted text is to its source.
+fn compared<A: Allocator>(source: &str, text: String<A>, limits: Limits) -> Revised<A, Refusal<A>>
+    ensures { format.IsFormatted source.now limits.recursion limits.tokens (string_bytes text) → IsRevised limits source.now result }
+{
+    if text.as_str() == source {
+        return Revised::Same;
+    }
+    if stays_within(text.as_str(), limits.tokens) {
+        Revised::Changed(text)
+    } else {
+        Revised::Refused(Refusal::Outgrown)
+    }
+}
+
+/// Formats a text, and says whether that changes it. What it gives is not refused when it is formatted again.
 pub fn revise<A: Allocator + Copy, L: DocumentFormatter>(
     alloc: A,
     formatter: &L,
     source: &str,
     limits: Limits,
-) -> Result<Revised<A, Vec<Error<A>, A>>, AllocError>
-    ensures { IfOk result (IsRevised (λ errors. errors.items) limits source.now) }
+) -> Result<Revised<A, Refusal<A>>, AllocError>
+    ensures { IfOk result (IsRevised limits source.now) }
 {
     match formatter.format(alloc, source, limits.recursion, limits.tokens) {
-        Ok(Ok(text)) => {
-            if text.as_str() == source {
-                return Ok(Revised::Same);
-            }
-            Ok(Revised::Changed(text))
-        }
-        Ok(Err(errors)) => Ok(Revised::Refused(errors)),
+        Ok(Ok(text)) => Ok(compared(source, text, limits)),
+        Ok(Err(errors)) => Ok(Revised::Refused(Refusal::Errors(errors))),
         Err(error) => Err(error),
     }
 }

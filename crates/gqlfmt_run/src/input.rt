@@ -1,6 +1,8 @@
 // Formatting standard input.
-ghost use Rattle.std.specs.Prelude.{◌≡◌, ℕ, List, IfOk, string_bytes};
+ghost use Rattle.std.specs.Prelude.{◌≡◌, ◌⊎◌, ℕ, List, [], IfOk, MatchResult, string_bytes};
 ghost use Rattle.byte_devices.specs.Runs.{Reads, Writes};
+ghost use Rattle.gqlfmt_files.specs.declared.settling.Outcome.TheVariants.{Found};
+ghost use Rattle.gqlfmt_run.specs.Complaints.{IsSilent};
 ghost use Rattle.gqlfmt_run.specs.Input.{IsOutput, kept, outcome_of};
 
 use crate::formatting::revise;
@@ -35,7 +37,7 @@ fn outcome_of(mode: Mode) -> Outcome
     }
 }
 
-// What is written of a text, and what came of it. Errors go to `complaints`.
+// What is written of a text, and what came of it: nothing where it is refused, and `complaints` have why.
 #[tactic(auto, using(crate::proofs::Outputs::of_same, crate::proofs::Outputs::of_changed, crate::proofs::Outputs::of_refused))]
 fn output_of<A: Allocator + Copy, L: DocumentFormatter, E: Sink>(
     alloc: A,
@@ -45,7 +47,10 @@ fn output_of<A: Allocator + Copy, L: DocumentFormatter, E: Sink>(
     mode: Mode,
     limits: Limits,
 ) -> Result<(Outcome, String<A>), AllocError>
-    ensures { IfOk result (λ it. IsOutput mode limits source.now it.0 (string_bytes it.1)) }
+    ensures output { IfOk result (λ it. IsOutput mode limits source.now it.0 (string_bytes it.1)) }
+    ensures silent { MatchResult result
+        (λ it. (E.account complaints.new ≡ E.account complaints.old) ⊎ ((it.0 ≡ Found) × (string_bytes it.1 ≡ [])))
+        (λ error. E.account complaints.new ≡ E.account complaints.old) }
 {
     match revise(alloc, formatter, source, limits) {
         Ok(Revised::Same) => Ok((Outcome::Done, kept(alloc, mode, source)?)),
@@ -53,15 +58,16 @@ fn output_of<A: Allocator + Copy, L: DocumentFormatter, E: Sink>(
             let output = shown(alloc, mode, INPUT, source, text)?;
             Ok((outcome_of(mode), output))
         }
-        Ok(Revised::Refused(errors)) => {
-            complain(alloc, complaints, INPUT, source, errors)?;
+        Ok(Revised::Refused(refusal)) => {
+            complain(alloc, complaints, INPUT, source, refusal)?;
             Ok((Outcome::Found, String::new(alloc)))
         }
         Err(error) => Err(error),
     }
 }
 
-/// Reads to the end, formats the whole text in memory, and then writes what the mode shows of it. Errors of the text go to `complaints`.
+/// Reads to the end, formats the whole text in memory, and then writes what the mode shows of it. `complaints` have why a text is
+/// refused, and nothing else.
 pub fn format_input<A: Allocator + Copy, L: DocumentFormatter, R: Source, W: Sink, E: Sink>(
     alloc: A,
     formatter: &L,
@@ -71,8 +77,9 @@ pub fn format_input<A: Allocator + Copy, L: DocumentFormatter, R: Source, W: Sin
     mode: Mode,
     limits: Limits,
 ) -> Result<Outcome, Fault>
-    ensures { (input : List ℕ) × Reads result input (R.account reader.old) (R.account reader.new)
+    ensures output { (input : List ℕ) × Reads result input (R.account reader.old) (R.account reader.new)
         × Writes (IsOutput mode limits) result input (W.account writer.old) (W.account writer.new) }
+    ensures silent { IsSilent result (E.account complaints.old) (E.account complaints.new) }
 {
     let bytes = read_to_end(alloc, reader)?;
     let Ok(source) = str::from_utf8(bytes.as_slice()) else {

@@ -1,20 +1,22 @@
 // Formatting files.
+ghost use Rattle.std.specs.Prelude.{◌≡◌, OnErr};
 ghost use Rattle.gqlfmt_words.specs.Words.{texts};
+ghost use Rattle.gqlfmt_run.specs.Complaints.{IsSilent};
 ghost use Rattle.gqlfmt_run.specs.Paths.{Handles, HandlesAll};
+ghost use Rattle.gqlfmt_run.specs.Showing.{Shows};
 
 use crate::fault::FileFault;
-use crate::formatting::revise;
+use crate::formatting::{Refusal, revise};
 use crate::limits::Limits;
 use crate::outcome::status_of;
 use crate::report::{complain, tell_of_file};
 use crate::showing::shown;
-use apollo_parser::Error;
 use byte_devices::{Fault, Sink, write_all};
 use formatter::DocumentFormatter;
 use gqlfmt_files::{Files, Mode, Outcome, Revised, settle};
 use std::alloc::Allocator;
 
-// Tells the errors of a text, or writes what a mode that changes nothing shows of another one.
+// Tells why a text is refused, or writes what a mode that changes nothing shows of another one.
 fn show<A: Allocator + Copy, W: Sink, E: Sink>(
     alloc: A,
     writer: &mut W,
@@ -22,12 +24,15 @@ fn show<A: Allocator + Copy, W: Sink, E: Sink>(
     path: &str,
     source: &str,
     mode: Mode,
-    revised: Revised<A, Vec<Error<A>, A>>,
-) -> Result<(), Fault> {
+    revised: Revised<A, Refusal<A>>,
+) -> Result<(), Fault>
+    ensures output { Shows mode path.now source.now revised result (W.account writer.old) (W.account writer.new) }
+    ensures silent { OnErr result (E.account complaints.new ≡ E.account complaints.old) }
+{
     match revised {
         Revised::Same => Ok(()),
-        Revised::Refused(errors) => {
-            complain(alloc, complaints, path, source, errors)?;
+        Revised::Refused(refusal) => {
+            complain(alloc, complaints, path, source, refusal)?;
             Ok(())
         }
         Revised::Changed(text) => {
@@ -37,7 +42,8 @@ fn show<A: Allocator + Copy, W: Sink, E: Sink>(
     }
 }
 
-/// Formats the file at a path: replaces it, or writes what the mode shows of the change. Errors of its text go to `complaints`.
+/// Formats the file at a path: replaces it, or writes what the mode shows of the change. `complaints` have why its text is refused,
+/// and nothing else.
 pub fn format_file<A: Allocator + Copy, L: DocumentFormatter, F: Files, W: Sink, E: Sink>(
     alloc: A,
     formatter: &L,
@@ -48,7 +54,8 @@ pub fn format_file<A: Allocator + Copy, L: DocumentFormatter, F: Files, W: Sink,
     mode: Mode,
     limits: Limits,
 ) -> Result<Outcome, FileFault>
-    ensures { Handles F.reads F.replaces mode limits path.now result files.old files.new }
+    ensures handles { Handles F.reads F.replaces mode limits path.now result files.old (W.account writer.old) files.new (W.account writer.new) }
+    ensures silent { IsSilent result (E.account complaints.old) (E.account complaints.new) }
 {
     let bytes = match files.read(alloc, path) {
         Ok(bytes) => bytes,
@@ -68,7 +75,8 @@ pub fn format_file<A: Allocator + Copy, L: DocumentFormatter, F: Files, W: Sink,
     }
 }
 
-/// Formats the files at these paths in order, also after one that fails, and gives the greatest of their statuses.
+/// Formats the files at these paths in order, also after one that fails, and gives the greatest of their statuses. `complaints` have why a text
+/// is refused or was not formatted.
 pub fn format_files<A: Allocator + Copy, L: DocumentFormatter, F: Files, W: Sink, E: Sink>(
     alloc: A,
     formatter: &L,
@@ -79,16 +87,16 @@ pub fn format_files<A: Allocator + Copy, L: DocumentFormatter, F: Files, W: Sink
     mode: Mode,
     limits: Limits,
 ) -> u8
-    ensures { HandlesAll F.reads F.replaces mode limits (texts paths.now) result files.old files.new }
+    ensures { HandlesAll F.reads F.replaces mode limits (texts paths.now) result
+        (record { files = files.old; output = W.account writer.old; complaints = E.account complaints.old })
+        (record { files = files.new; output = W.account writer.new; complaints = E.account complaints.new }) }
 {
     let mut status = 0;
     for path in paths {
         let ended = format_file(
             alloc, formatter, files, writer, complaints, path, mode, limits,
         );
-        if let Err(fault) = &ended {
-            tell_of_file(alloc, files, complaints, path, fault);
-        }
+        tell_of_file(alloc, files, complaints, path, &ended);
         status = status.max(status_of(&ended));
     }
     status

@@ -5,13 +5,12 @@ ghost use Rattle.byte_devices.specs.Writing.{IsBroken};
 ghost use Rattle.gqlfmt_words.specs.Words.{texts, request_of};
 ghost use Rattle.gqlfmt_run.specs.Program.{limits_of, page_text, IsPrinted, FormatsInput, Formats, Runs};
 
-use crate::command::{HELP, USAGE, VERSION};
-use crate::fault::FileFault;
+use crate::command::{HELP, NO_MEMORY, USAGE, VERSION};
 use crate::input::{INPUT, format_input};
 use crate::limits::Limits;
 use crate::outcome::status_of;
 use crate::paths::format_files;
-use crate::report::tell;
+use crate::report::{say, tell};
 use byte_devices::{Fault, Sink, Source, write_all};
 use formatter::DocumentFormatter;
 use gqlfmt_files::{Files, Mode};
@@ -60,11 +59,13 @@ fn format_standard_input<A: Allocator + Copy, L: DocumentFormatter, R: Source, W
     mode: Mode,
     limits: Limits,
 ) -> u8
-    ensures { FormatsInput mode limits result (R.account reader.old) (W.account writer.old) (R.account reader.new) (W.account writer.new) }
+    ensures { FormatsInput mode limits result
+        (record { input = R.account reader.old; output = W.account writer.old; complaints = E.account complaints.old })
+        (record { input = R.account reader.new; output = W.account writer.new; complaints = E.account complaints.new }) }
 {
     let ended = format_input(alloc, formatter, reader, writer, complaints, mode, limits);
     if let Err(fault) = ended {
-        tell(alloc, complaints, INPUT, &FileFault::Device(fault));
+        tell(alloc, complaints, INPUT, fault);
     }
     status_of(&ended)
 }
@@ -114,11 +115,11 @@ pub fn run<A: Allocator + Copy, L: DocumentFormatter, R: Source, W: Sink, E: Sin
             alloc, formatter, reader, writer, complaints, files, &plan,
         ),
         Err(WordsError::Usage) => {
-            let _ = write_all(complaints, USAGE.as_bytes());
+            say(complaints, USAGE);
             2
         }
         Err(WordsError::Memory) => {
-            let _ = write_all(complaints, b"gqlfmt: out of memory\n");
+            say(complaints, NO_MEMORY);
             2
         }
     }

@@ -1,14 +1,18 @@
-// The errors of a text, with their places.
-ghost use Rattle.std.specs.Prelude.{◌≤◌, length};
+// What is said on standard error: the errors of a text, with their places, and why a text was not formatted.
+ghost use Rattle.std.specs.Prelude.{◌≡◌, ◌≤◌, length, OnErr};
+ghost use Rattle.byte_devices.specs.Devices.{Account};
+ghost use Rattle.gqlfmt_run.specs.Complaints.{IsSilent, IsWritten, Tells, SaysOfFile};
 
+use crate::command::NO_MEMORY;
 use crate::excerpt::push_excerpt;
-use crate::fault::FileFault;
+use crate::fault::{FileFault, reason_of};
+use crate::formatting::Refusal;
 use apollo_parser::Error;
-use byte_devices::{Sink, write_all};
-use gqlfmt_files::Files;
+use byte_devices::{Fault, Sink, write_all};
+use gqlfmt_files::{Files, Outcome};
 use line_index::LineIndex;
 use std::alloc::{AllocError, Allocator};
-use std::io::ErrorKind;
+use std::io::{self, ErrorKind};
 
 // Where an error is shown. One at the end of the text is shown after its last character that is no white space.
 fn offset_of<A: Allocator>(source: &str, error: &Error<A>) -> usize
@@ -57,62 +61,107 @@ pub fn render_report<A: Allocator + Copy>(
     Ok(report)
 }
 
-/// Tells the errors of a text. What the sink does not take is lost.
+/// Writes a text. What the sink does not take is lost.
+pub fn say<E: Sink>(complaints: &mut E, text: &str)
+    ensures { IsWritten text.now (E.account complaints.old) (E.account complaints.new) }
+{
+    let _ = write_all(complaints, text.as_bytes());
+}
+
+// Why a text is left as it is.
+fn reasons<A: Allocator + Copy>(
+    alloc: A,
+    name: &str,
+    source: &str,
+    refusal: &Refusal<A>,
+) -> Result<String<A>, AllocError> {
+    match refusal {
+        Refusal::Errors(errors) => render_report(alloc, name, source, errors.as_slice()),
+        Refusal::Outgrown => format!(in alloc;
+            "gqlfmt: {name}: it would have more tokens than allowed when formatted\n"
+        ),
+    }
+}
+
+/// Tells why a text is left as it is. What the sink does not take is lost.
 pub fn complain<A: Allocator + Copy, E: Sink>(
     alloc: A,
     complaints: &mut E,
     name: &str,
     source: &str,
-    errors: Vec<Error<A>, A>,
-) -> Result<(), AllocError> {
-    let report = render_report(alloc, name, source, errors.as_slice())?;
-    let _ = write_all(complaints, report.as_bytes());
+    refusal: Refusal<A>,
+) -> Result<(), AllocError>
+    ensures { OnErr result (E.account complaints.new ≡ E.account complaints.old) }
+{
+    let report = reasons(alloc, name, source, &refusal)?;
+    say(complaints, report.as_str());
     Ok(())
 }
 
 /// Tells why a text was not formatted. What the sink does not take is lost.
-pub fn tell<A: Allocator + Copy, E: Sink>(
-    alloc: A,
-    complaints: &mut E,
-    name: &str,
-    fault: &FileFault,
-) {
-    let _ = match format!(in alloc; "gqlfmt: {name}: {fault}\n") {
-        Ok(line) => write_all(complaints, line.as_bytes()),
-        Err(_) => write_all(complaints, b"gqlfmt: out of memory\n"),
-    };
-}
-
-// The new file of an earlier run that keeps this one from being replaced, when that is why.
-fn left_over<A: Allocator + Copy, F: Files>(
-    alloc: A,
-    files: &F,
-    path: &str,
-    fault: &FileFault,
-) -> Option<String<A>> {
-    match fault {
-        FileFault::NotReplaced(error) if error.kind() == ErrorKind::AlreadyExists => {
-            files.new_path(alloc, path).ok()
-        }
-        _ => None,
+pub fn tell<A: Allocator, E: Sink>(alloc: A, complaints: &mut E, name: &str, fault: Fault)
+    ensures { Tells name.now fault (E.account complaints.old) (E.account complaints.new) }
+{
+    let reason = reason_of(fault);
+    match format!(in alloc; "gqlfmt: {name}: {reason}\n") {
+        Ok(line) => say(complaints, line.as_str()),
+        Err(_) => say(complaints, NO_MEMORY),
     }
 }
 
-/// Tells why the file at a path was not formatted, and which file has to be removed when one is left over from an earlier run. What the sink does
-/// not take is lost.
+// The same with an error of the file system.
+fn tell_error<A: Allocator, E: Sink>(
+    alloc: A,
+    complaints: &mut E,
+    path: &str,
+    what: &str,
+    error: &io::Error,
+) {
+    match format!(in alloc; "gqlfmt: {path}: {what}: {error}\n") {
+        Ok(line) => say(complaints, line.as_str()),
+        Err(_) => say(complaints, NO_MEMORY),
+    }
+}
+
+// Tells which file is left over from an earlier run, when that keeps the one at a path from being replaced.
+fn tell_left_over<A: Allocator + Copy, F: Files, E: Sink>(
+    alloc: A,
+    files: &F,
+    complaints: &mut E,
+    path: &str,
+    error: &io::Error,
+) {
+    if error.kind() != ErrorKind::AlreadyExists {
+        return;
+    }
+    if let Ok(name) = files.new_path(alloc, path)
+        && let Ok(line) = format!(in alloc;
+            "gqlfmt: {name}: left over from an earlier run: remove it\n"
+        )
+    {
+        say(complaints, line.as_str());
+    }
+}
+
+/// Tells why the file at a path was not formatted, if it was not, and which file has to be removed when one is left over from an earlier run. What
+/// the sink does not take is lost.
+#[tactic(auto, using(crate::proofs::Saying::silent_says))]
 pub fn tell_of_file<A: Allocator + Copy, F: Files, E: Sink>(
     alloc: A,
     files: &F,
     complaints: &mut E,
     path: &str,
-    fault: &FileFault,
-) {
-    tell(alloc, complaints, path, fault);
-    if let Some(name) = left_over(alloc, files, path, fault) {
-        if let Ok(line) = format!(in alloc;
-            "gqlfmt: {name}: left over from an earlier run: remove it\n"
-        ) {
-            let _ = write_all(complaints, line.as_bytes());
+    ended: &Result<Outcome, FileFault>,
+)
+    ensures { (before : Account) → IsSilent ended.now before (E.account complaints.old) → SaysOfFile path.now ended.now before (E.account complaints.new) }
+{
+    match ended {
+        Ok(_) => {}
+        Err(FileFault::NotRead(error)) => tell_error(alloc, complaints, path, "cannot read", error),
+        Err(FileFault::NotReplaced(error)) => {
+            tell_error(alloc, complaints, path, "cannot replace", error);
+            tell_left_over(alloc, files, complaints, path, error);
         }
+        Err(FileFault::Device(fault)) => tell(alloc, complaints, path, *fault),
     }
 }

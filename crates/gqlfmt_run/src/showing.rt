@@ -1,12 +1,12 @@
 // What is written to standard output of a text that formatting changes.
-ghost use Rattle.std.specs.Prelude.{IfOk, string_bytes};
+ghost use Rattle.std.specs.Prelude.{◌≢◌, IfOk, string_bytes};
 ghost use Rattle.gqlfmt_run.specs.Formatting.{IsShown};
 
 use crate::diff::unified_diff;
 use gqlfmt_files::Mode;
 use std::alloc::{AllocError, Allocator};
 
-/// The formatted text itself, the name of its source as a line, or the changes from the source.
+/// What is shown of another text than its source: the formatted text itself, the name of its source as a line, or the changes from the source.
 pub fn shown<A: Allocator + Copy>(
     alloc: A,
     mode: Mode,
@@ -14,7 +14,7 @@ pub fn shown<A: Allocator + Copy>(
     source: &str,
     text: String<A>,
 ) -> Result<String<A>, AllocError>
-    ensures { IfOk result (λ output. IsShown mode name.now (string_bytes text) (string_bytes output)) }
+    ensures { IfOk result (λ output. string_bytes text ≢ source.now → IsShown mode name.now (string_bytes text) (string_bytes output)) }
 {
     match mode {
         Mode::Write => Ok(text),

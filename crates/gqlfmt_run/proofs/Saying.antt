@@ -1,0 +1,27 @@
+-- What is said on standard error, by how a text ended.
+use Rattle.std.proofs.Common.{◌≡◌, ℕ, List, [], length, inl, inr, sym, ap, ◌∙◌, arith, length-append}
+use Rattle.std.specs.Prelude.{◌⊎◌, Ok}
+use Rattle.byte_devices.specs.Devices.{Account}
+use Rattle.byte_devices.specs.Writing.{EndsWriting}
+use Rattle.byte_devices.specs.declared.fault.Fault.{Fault}
+use Rattle.byte_devices.specs.declared.fault.Fault.TheVariants.{Read, Utf8, Memory, Write}
+use Rattle.gqlfmt_files.specs.declared.settling.Outcome.{Outcome}
+use Rattle.gqlfmt_files.specs.declared.settling.Outcome.TheVariants.{Done, Found}
+use Rattle.gqlfmt_run.specs.declared.fault.FileFault.{FileFault}
+use Rattle.gqlfmt_run.specs.Complaints.{IsSilent, SaysOfFile}
+
+pub silent_says : (path : List ℕ) (outcome : Outcome) (old new : Account) → IsSilent {E = FileFault} (Ok outcome) old new → SaysOfFile path (Ok outcome) old new
+silent_says path Done old new same = same
+silent_says path Found old new any = any
+
+-- writing nothing does not break off
+all-written : (fault : Fault) (text : List ℕ) (old new : Account) → EndsWriting fault text old new → text ≡ [] → ⊥
+all-written Write text old new broken empty = omega (arith, ap length (sym empty), ap length broken.joined, length-append broken.written broken.rest, broken.more)
+all-written Read text old new ends empty = ends
+all-written Utf8 text old new ends empty = ends
+all-written Memory text old new ends empty = ends
+
+-- what was said is nothing where what is written breaks off
+pub silent-broken : {P : Type 0} (fault : Fault) (text bytes : List ℕ) (out out' old new : Account) → bytes ≡ text → EndsWriting fault bytes out out'
+    → ((new ≡ old) ⊎ (P × (text ≡ []))) → new ≡ old
+silent-broken fault text bytes out out' old new same ends said = elim said [ inl e ↦ e | inr none ↦ absurd (all-written fault bytes out out' ends (same ∙ none.1)) ]
