@@ -120,7 +120,7 @@ uint32_t dumyroke_parse(const uint8_t *text, size_t text_length, dumyroke_limits
  * Returns DUMYROKE_OK, DUMYROKE_NOT_UTF8, DUMYROKE_NOT_A_STRING or DUMYROKE_NO_MEMORY. Unless it is DUMYROKE_OK, only `bytes` is written. */
 uint32_t dumyroke_string_value(const uint8_t *literal, size_t literal_length, uint8_t *value, size_t room, size_t *bytes);
 
-/* Formats a document, as the program gqlfmt does (docs/FORMAT.md).
+/* Formats a document, as the program gqlfmt does (docs/FORMAT.md). The limits are those of the text: formatted, it may have more tokens.
  *
  *   text       `text_length` bytes of UTF-8.
  *   formatted  room for `room` bytes. If `bytes` says that there is more, call again with that much room.

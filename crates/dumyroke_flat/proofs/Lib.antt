@@ -3,3 +3,4 @@ pub mod ElementRows
 pub mod Messages
 pub mod OneString
 pub mod Outcomes
+pub mod ValueLengths

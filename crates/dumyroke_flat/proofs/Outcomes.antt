@@ -1,13 +1,19 @@
 -- What a call gives, by its status.
-use Rattle.std.proofs.Common.{◌≡◌, ◌≤◌, ◌<◌, ℕ, List, length, refl, arith}
+use Rattle.std.proofs.Common.{◌≡◌, sym, subst, ◌<◌, ℕ, List, [], ◌∷◌, length, refl, arith}
+use Rattle.std.specs.List.{Contains}
 use Rattle.std.specs.Str.{IsUtf8}
 use Rattle.apollo_parser.specs.Diagnostics.{Diagnostic}
 use Rattle.apollo_parser.specs.Order.{order}
 use Rattle.apollo_parser.specs.Parsed.{Parsed}
+use Rattle.apollo_parser.specs.StringValues.{IsStringValue}
+use Rattle.apollo_parser.specs.Tokens.{IsString}
+use Rattle.formatter.specs.Outcome.{IsRefused}
+use Rattle.dumyroke_flat.specs.declared.rows.ByteCount.{ByteCount}
 use Rattle.dumyroke_flat.specs.declared.rows.ElementRow.{ElementRow}
 use Rattle.dumyroke_flat.specs.declared.rows.ErrorRow.{ErrorRow}
 use Rattle.dumyroke_flat.specs.Rows.{element_rows, error_rows, filled, messages}
-use Rattle.dumyroke_flat.specs.Outcomes.{Buffers, IsParse, IsTooLong, Outcome, counts_of, no_counts, written, OK, NOT_UTF8, TOO_LONG, NO_MEMORY}
+use Rattle.dumyroke_flat.specs.Outcomes.{Buffers, IsParse, IsTooLong, Outcome, counts_of, FormatOutcome, StringOutcome, no_counts, written, OK, NOT_UTF8, TOO_LONG, NO_MEMORY, NOT_A_STRING, NOT_A_DOCUMENT}
+use Rattle.dumyroke_flat.proofs.ValueLengths.{no_longer}
 
 pub of-parse : (source : List ℕ) (r k : ℕ) (before : Buffers) (parsed : Parsed) → IsParse source r k parsed → Outcome source r k before (written before parsed) (counts_of parsed)
 of-parse source r k before parsed p = record {
@@ -15,10 +21,10 @@ of-parse source r k before parsed p = record {
   not_utf8 = λ e. absurd (omega (arith, e));
   too_long = λ e. absurd (omega (arith, e));
   refused = λ some. absurd (some refl);
-  known = omega arith;
+  known = (0, omega arith, refl);
 }
 
-pub of-refused : (source : List ℕ) (r k : ℕ) (before : Buffers) (status : ℕ) → OK < status → status ≤ NO_MEMORY → (status ≡ NOT_UTF8 → ¬ IsUtf8 source)
+pub of-refused : (source : List ℕ) (r k : ℕ) (before : Buffers) (status : ℕ) → OK < status → Contains (OK ∷ NOT_UTF8 ∷ TOO_LONG ∷ NO_MEMORY ∷ []) status → (status ≡ NOT_UTF8 → ¬ IsUtf8 source)
     → (status ≡ TOO_LONG → IsTooLong source r k) → Outcome source r k before before (no_counts status)
 of-refused source r k before status some known utf8 long = record {
   ok = λ e. absurd (omega (arith, e));
@@ -29,10 +35,13 @@ of-refused source r k before status some known utf8 long = record {
 }
 
 pub of-too-long : (source : List ℕ) (r k : ℕ) (before : Buffers) → IsTooLong source r k → Outcome source r k before before (no_counts TOO_LONG)
-of-too-long source r k before long = of-refused source r k before TOO_LONG (omega arith) (omega arith) (λ e. absurd (omega (arith, e))) (λ _. long)
+of-too-long source r k before long = of-refused source r k before TOO_LONG (omega arith) (2, omega arith, refl) (λ e. absurd (omega (arith, e))) (λ _. long)
+
+pub of-not-utf8 : (source : List ℕ) (r k : ℕ) (before : Buffers) → ¬ IsUtf8 source → Outcome source r k before before (no_counts NOT_UTF8)
+of-not-utf8 source r k before other = of-refused source r k before NOT_UTF8 (omega arith) (1, omega arith, refl) (λ _. other) (λ e. absurd (omega (arith, e)))
 
 pub of-no-memory : (source : List ℕ) (r k : ℕ) (before : Buffers) → Outcome source r k before before (no_counts NO_MEMORY)
-of-no-memory source r k before = of-refused source r k before NO_MEMORY (omega arith) (omega arith) (λ e. absurd (omega (arith, e))) (λ e. absurd (omega (arith, e)))
+of-no-memory source r k before = of-refused source r k before NO_MEMORY (omega arith) (3, omega arith, refl) (λ e. absurd (omega (arith, e))) (λ e. absurd (omega (arith, e)))
 
 -- the buffers after all was written, where the errors are known as `found`
 pub of-written : (source : List ℕ) (r k : ℕ) (before : Buffers) (parsed : Parsed) (rows : List ElementRow) (errors : List ErrorRow) (words : List ℕ) (found : List Diagnostic)
@@ -42,3 +51,39 @@ pub of-written : (source : List ℕ) (r k : ℕ) (before : Buffers) (parsed : Pa
     → Outcome source r k before (record { elements = rows; errors = errors; messages = words })
     (record { elements = elements; errors = length found; message_bytes = bytes; recursion_high = depth; token_high = items; status = OK })
 of-written source r k before parsed rows errors words found elements bytes depth items p f a b c d e g h = rw (a, b, c, d, e, g, h, f) (of-parse source r k before parsed p)
+
+-- ---- one text
+
+pub string-written : (literal text value shown before after : List ℕ) (count : ByteCount) → text ≡ literal → IsStringValue text value → shown ≡ value → after ≡ filled before shown
+    → count ≡ record { bytes = length shown; status = OK } → StringOutcome literal before after count
+string-written literal text value shown before after count same is as_value all counted =
+    let value_of : IsStringValue literal shown = subst (λ (t : List ℕ). IsStringValue t shown) same (subst (IsStringValue text) (sym as_value) is) in
+    rw (all, counted) (record {
+      ok = λ _. (shown, value_of, refl, refl);
+      not_utf8 = λ e. absurd (omega (arith, e));
+      not_a_string = λ e. absurd (omega (arith, e));
+      refused = λ some. absurd (some refl);
+      known = (0, omega arith, refl);
+      no_longer = no_longer literal shown value_of;
+    })
+
+pub not-a-string : (literal text before : List ℕ) (count : ByteCount) → text ≡ literal → ¬ IsString text → count ≡ record { bytes = 0; status = NOT_A_STRING }
+    → StringOutcome literal before before count
+not-a-string literal text before count same other counted = rw counted (record {
+  ok = λ e. absurd (omega (arith, e));
+  not_utf8 = λ e. absurd (omega (arith, e));
+  not_a_string = λ _. subst (λ (t : List ℕ). ¬ IsString t) same other;
+  refused = λ _. (refl, refl);
+  known = (2, omega arith, refl);
+  no_longer = omega arith;
+})
+
+pub not-a-document : (source text : List ℕ) (r k : ℕ) (before : List ℕ) (errors : List Diagnostic) (count : ByteCount) → text ≡ source → IsRefused text r k errors
+    → count ≡ record { bytes = 0; status = NOT_A_DOCUMENT } → FormatOutcome source r k before before count
+not-a-document source text r k before errors count same refused counted = rw counted (record {
+  ok = λ e. absurd (omega (arith, e));
+  not_utf8 = λ e. absurd (omega (arith, e));
+  not_a_document = λ _. (errors, subst (λ (t : List ℕ). IsRefused t r k errors) same refused);
+  refused = λ _. (refl, refl);
+  known = (2, omega arith, refl);
+})

@@ -1,5 +1,7 @@
--- What each call gives: for the status OK what it wrote, and for each other status why, and that it wrote nothing.
-use Rattle.std.specs.Prelude.{◌≡◌, ◌≢◌, ◌≤◌, ◌^◌, ◌⊎◌, ℕ, List, length}
+-- What each call gives: for the status OK what it wrote, and for each other status why, and that it wrote nothing. `known` has all statuses that a
+-- call may end with; that memory was refused, `NO_MEMORY`, has no further reason.
+use Rattle.std.specs.Prelude.{◌≡◌, ◌≢◌, ◌≤◌, ◌^◌, ◌⊎◌, ℕ, List, [], ◌∷◌, length}
+use Rattle.std.specs.List.{Contains}
 use Rattle.std.specs.Str.{IsUtf8}
 use Rattle.apollo_parser.specs.Diagnostics.{Diagnostic}
 use Rattle.apollo_parser.specs.Order.{order}
@@ -83,8 +85,7 @@ pub record Outcome (source : List ℕ) (max_depth max_items : ℕ) (before after
   pub too_long : counts.status ≡ TOO_LONG → IsTooLong source max_depth max_items
   -- nothing was written
   pub refused : counts.status ≢ OK → (after ≡ before) × (counts ≡ no_counts counts.status)
-  -- there is no other status than these three and that of refused memory
-  pub known : counts.status ≤ NO_MEMORY
+  pub known : Contains (OK ∷ NOT_UTF8 ∷ TOO_LONG ∷ NO_MEMORY ∷ []) counts.status
 
 -- ---- one text
 
@@ -100,13 +101,17 @@ pub record StringOutcome (literal before after : List ℕ) (count : ByteCount) :
   pub not_a_string : count.status ≡ NOT_A_STRING → ¬ IsString literal
   -- nothing was written
   pub refused : count.status ≢ OK → (after ≡ before) × (count.bytes ≡ 0)
+  pub known : Contains (OK ∷ NOT_UTF8 ∷ NOT_A_STRING ∷ NO_MEMORY ∷ []) count.status
+  -- the value has no more bytes than the text
+  pub no_longer : count.bytes ≤ length literal
 
 -- What formatting a text gives.
 pub record FormatOutcome (source : List ℕ) (max_depth max_items : ℕ) (before after : List ℕ) (count : ByteCount) : Type 0 where
   -- the text is a document within both limits, and that document with another layout was written
   pub ok : count.status ≡ OK → Writes (IsFormatted source max_depth max_items) before after count.bytes
   pub not_utf8 : count.status ≡ NOT_UTF8 → ¬ IsUtf8 source
-  -- these are the errors of its parse
+  -- it is no document within both limits, and these are the errors of its parse, at least one
   pub not_a_document : count.status ≡ NOT_A_DOCUMENT → (errors : List Diagnostic) × IsRefused source max_depth max_items errors
   -- nothing was written
   pub refused : count.status ≢ OK → (after ≡ before) × (count.bytes ≡ 0)
+  pub known : Contains (OK ∷ NOT_UTF8 ∷ NOT_A_DOCUMENT ∷ NO_MEMORY ∷ []) count.status

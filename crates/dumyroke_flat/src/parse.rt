@@ -60,6 +60,8 @@ fn parse_text<A: Allocator + Copy>(
         return refused(status::TOO_LONG);
     }
     let found = tree.errors().as_slice();
+    // These two never happen: each error is about a text of the source, and the messages of all, which are in memory, are fewer bytes than
+    // a `usize` counts. No clause of the parser says so, and the proof that follows from its clauses is longer than two tests.
     let Some(message_bytes) = message_bytes(found) else {
         return refused(status::NO_MEMORY);
     };
