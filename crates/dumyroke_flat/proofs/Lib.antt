@@ -4,3 +4,4 @@ pub mod Messages
 pub mod OneString
 pub mod Outcomes
 pub mod ValueLengths
+pub mod Again

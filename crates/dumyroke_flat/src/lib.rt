@@ -8,6 +8,7 @@ mod elements;
 mod errors;
 mod filling;
 mod format;
+pub mod laws;
 mod parse;
 mod rows;
 mod strings;
