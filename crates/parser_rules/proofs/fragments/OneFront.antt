@@ -19,7 +19,7 @@ use Rattle.parser_rules.proofs.leaves.LeafCheck.{anything, leaf_check}
 use Rattle.parser_rules.proofs.leaves.OneLeaf.{first-leaves, first-leaves-left, root-part}
 use Rattle.parser_rules.proofs.reports.AlongItems.{reported-gone}
 use Rattle.parser_rules.proofs.runs.Fuel.{rules_deep}
-use Rattle.parser_rules.proofs.runs.TreesWithSources.{Source, aside, token, by-kind, flat, now_of, set_aside, source_at, sources, sources-append}
+use Rattle.parser_rules.proofs.runs.TreesWithSources.{Source, aside, by-kind, flat, now_of, set_aside, source_at, sources, sources-append}
 use Rattle.parser_rules.proofs.runs.Walk.{always, walk}
 
 -- The leaves are of the front, and the reports of it and of what was read after it: at most one token there is not ignored.

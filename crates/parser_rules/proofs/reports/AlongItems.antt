@@ -4,7 +4,7 @@ use Rattle.lexical_grammar.specs.Cut.{Item}
 use Rattle.lexical_grammar.specs.Answers.{Answer, gives, limit_at}
 use Rattle.document_grammar.specs.declared.kind.SyntaxKind.{SyntaxKind}
 use Rattle.document_grammar.specs.Builds.{add_leaf}
-use Rattle.parser_rules.specs.State.{State, Lexeme, Report, bad_report, token_limit_report, recursion_limit_report, fault_report, lexeme, read_on, flush, closed, wrapped_from, enter, leave, fresh, begun}
+use Rattle.parser_rules.specs.State.{State, Lexeme, Report, bad_report, token_limit_report, recursion_limit_report, fault_report, read_on, flush, closed, wrapped_from, enter, leave, fresh, begun}
 use Rattle.parser_rules.specs.declared.message.Message.{Message}
 use Rattle.parser_rules.specs.RuleLanguage.{Test, Rule}
 use Rattle.parser_rules.specs.Runs.{Runs, Turns}
