@@ -1,9 +1,9 @@
 -- The search for the last fault of a bad string meets the definition byte after byte.
-use Rattle.std.proofs.Common.{◌≡◌, ℕ, zero, suc, ◌+◌, ◌-◌, ◌<◌, ◌≤◌, Bool, true, false, cond, List, [], ◌∷◌, length, drop, take, Option, Some, None, refl, sym, ap, ◌∙◌, arith, eqb, eqb-true, subst, inl, inr, length-append, length-drop}
-use Rattle.std.specs.Prelude.{slice_index, is_some}
+use Rattle.std.proofs.Common.{◌≡◌, ℕ, zero, suc, ◌+◌, ◌-◌, ◌<◌, ◌≤◌, true, false, cond, List, [], ◌∷◌, length, drop, take, Option, refl, sym, ap, ◌∙◌, arith, eqb, eqb-true, subst, inl, inr, length-drop}
+use Rattle.std.specs.Prelude.{slice_index}
 use Rattle.std.proofs.lemmas.Bool.{false_from_ne_true, ne_eqb, or_parts, cases_Bool, lt-ltb, le-ltb}
-use Rattle.std.proofs.lemmas.List.{drop-drop, drop_all}
-use Rattle.memchr.specs.Find.{is_byte2, Nowhere, NoneBefore, Passes, IsFirstByte}
+use Rattle.std.proofs.lemmas.List.{drop-drop}
+use Rattle.memchr.specs.Find.{is_byte2, Nowhere, Passes}
 use Rattle.lexical_grammar.specs.Characters.{is_line_terminator}
 use Rattle.lexical_grammar.specs.NumberStates.{live_len}
 use Rattle.lexical_grammar.specs.declared.NumberState.TheVariants.{Begin}
