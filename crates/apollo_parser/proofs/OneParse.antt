@@ -1,8 +1,6 @@
 -- A parse is a function of the text and of both limits: what the rules make of them, they make alone.
 use Rattle.std.proofs.Common.{◌≡◌, ℕ, Option, Some, None, List, [], ◌∷◌, refl, sym, ap, ap₂, ◌∙◌, subst}
 use Rattle.std.specs.List.{AllZip}
-use Rattle.document_grammar.specs.Forests.{Forest}
-use Rattle.apollo_lexer.specs.declared.limit.LimitTracker.{LimitTracker}
 use Rattle.apollo_lexer.specs.Diagnostics.{Subject, Diagnostic, of_text, of_end, of_limit}
 use Rattle.parser_rules.specs.Messages.{Text, Found, at_text, at_end, at_limit}
 use Rattle.parser_rules.specs.State.{State, Report, finished}

@@ -1,6 +1,6 @@
 -- What a run of the document's rule over the items of a text comes to, and so what a parse promises.
 use Rattle.std.specs.Str.{IsAscii}
-use Rattle.std.specs.List.{Any, All, AllZip, list_all}
+use Rattle.std.specs.List.{Any, All, list_all}
 use Rattle.document_grammar.specs.Tree.{Tree}
 use Rattle.document_grammar.specs.Places.{Placed, bare}
 use Rattle.parser_rules.specs.Open.{IsRoot}
@@ -35,9 +35,7 @@ use Rattle.apollo_parser.specs.ByRules.{ByRules}
 use Rattle.apollo_parser.specs.Promise.{Promise}
 use Rattle.apollo_parser.specs.Parsed.{Parsed, ErrorsOf, IsRecursionLimit, IsLimitWorded, IsTokenLimit, OfFirst, HasError, IsAbout, Recovers, root_children, IsLimit}
 use Rattle.apollo_lexer.specs.Diagnostics.{Diagnostic, of_text, of_limit}
-use Rattle.parser_state.specs.Errors.{IsErrorOf}
-use Rattle.parser_state.specs.Found.{found_of}
-use Rattle.apollo_parser.proofs.Errors.{same-indices, same-length, no-reports, no-errors, token-limit-error, no-recursion, subject-limit, any-recursion, ascii-messages, limited-ascii, limit-worded, any-limit, any-said, fault-text, errors-along}
+use Rattle.apollo_parser.proofs.Errors.{same-indices, same-length, no-reports, no-errors, any-recursion, ascii-messages, limited-ascii, limit-worded, any-limit, any-said, fault-text, errors-along}
 use Rattle.apollo_parser.proofs.FirstOnes as first
 use Rattle.apollo_parser.proofs.Roots.{finished-node}
 use Rattle.parser_rules.specs.State.{State, Lexeme, Report, fault_report, is_over, begun, finished, add_all}

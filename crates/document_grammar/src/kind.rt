@@ -403,6 +403,7 @@ mod tests {
     use super::*;
     use std::test::Fail;
 
+    // Each number below the count is that of one kind, and no other number is.
     #[test]
     fn numbers(rt: HostRuntime) {
         for number in 0..SyntaxKind::COUNT {

@@ -1,4 +1,5 @@
-// Texts that come near the bounds on elements and errors: each repeats one piece.
+// Texts that come near the bounds on elements and errors: each repeats one piece. The counts are those of `apollo-parser` 0.8.7 on the same texts,
+// with descriptions before operations, fragments and variables added to its grammar.
 use crate::parsing::parse;
 use apollo_parser::{Error, Parser};
 use std::alloc::{AllocError, Global};
