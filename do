@@ -1,0 +1,72 @@
+#!/usr/bin/env bash
+# The one door of this repository. `./do --help` has a line for each command.
+set -eu
+cd "$(dirname "$0")"
+
+usage() {
+    cat <<'LINES'
+usage: ./do COMMAND
+
+  quick              the checks that need no proof, in some eight seconds: generated files, names of rules, texts, promises
+  check CRATE [..]   proves one crate over what earlier checks left (rt check); further words go to rt check
+  try CRATE [..]     runs a program, or with --test a crate's tests, and proves nothing (rt try)
+  gate               what a merge has to pass: quick, rt ci, and test
+  test               the tests of what rt ci has built: formatted texts, C and Python, the page, editors, README
+  bench SCRIPT [..]  a script of bench/, by name: speed.sh, hostile.py, stack.py, format.py, server.py
+LINES
+}
+
+# As many checks at a time as there are processors, but no more than four and no more than memory holds at 3.5 GB each. RT_JOBS says another number.
+jobs_here() {
+    local jobs room
+    jobs=$(nproc)
+    room=$(awk '/^MemAvailable:/ { print int($2 / (3.5 * 1024 * 1024)) }' /proc/meminfo)
+    [ "$jobs" -le 4 ] || jobs=4
+    [ "$jobs" -le "$room" ] || jobs=$room
+    [ "$jobs" -ge 1 ] || jobs=1
+    echo "$jobs"
+}
+
+quick() {
+    tools/generate --check
+    tools/generate --test
+    tools/rule_names
+    tools/format_texts --check
+    tools/promises --check
+}
+
+tests() {
+    tools/format_texts --trial
+    tools/bindings
+    tools/bindings pages
+    tools/editor_tests
+    tools/readme --check
+}
+
+# The folder of a crate, which is the first word.
+enter() {
+    [ -d "crates/${1:-}/src" ] || { echo "./do: no such crate: ${1:-}" >&2; exit 2; }
+    cd "crates/$1"
+}
+
+command=${1:-}
+[ $# -eq 0 ] || shift
+case $command in
+    quick) quick ;;
+    check) enter "$@"; shift; exec rt check "$@" ;;
+    try) enter "$@"; shift; exec rt try "$@" ;;
+    test) tests ;;
+    gate)
+        quick
+        RT_JOBS="${RT_JOBS:-$(jobs_here)}" rt ci
+        tests
+        ;;
+    bench)
+        script=bench/${1:-}
+        [ -x "$script" ] && [ -f "$script" ] || { usage >&2; exit 2; }
+        shift
+        exec "$script" "$@"
+        ;;
+    --help | -h) usage ;;
+    *) usage >&2; exit 2 ;;
+esac
