@@ -1,5 +1,6 @@
 pub mod Changes
+pub mod Maps
+pub mod Messages
 pub mod Numbers
-pub mod Opened
-pub mod Stages
+pub mod Sessions
 pub mod Texts

@@ -1,12 +1,12 @@
 -- Numbers of JSON that count lines and units.
-use Rattle.std.proofs.Common.{◌≡◌, ◌<◌, ◌^◌, true, cond, ℕ, List, [], ◌∷◌, Option, Some, None, ok_or, refl, ap, inl, inr, arith, ◌∙◌}
-use Rattle.std.specs.Prelude.{◌&&◌, MatchOption, nat_lt, option_map, unwrap_or}
+use Rattle.std.proofs.Common.{◌≡◌, ◌<◌, ◌^◌, true, ℕ, List, [], ◌∷◌, Option, Some, None, ok_or, refl, ap, inl, inr, arith, ◌∙◌}
+use Rattle.std.specs.Prelude.{◌&&◌, MatchOption, nat_lt, option_and_then}
 use Rattle.std.specs.Char.{digit_value, is_digit}
 use Rattle.std.specs.List.{list_all}
 use Rattle.std.specs.Str.Parse.{AllDigits, IsNumeral, ParsesUnsigned, digits_value, without_leading_plus}
 use Rattle.std.proofs.lemmas.Bool.{cases_Bool, and_parts}
 use Rattle.std.proofs.lemmas.Bool.Decides.{nat_tests}
-use Rattle.gqlls_run.specs.Parameters.{digits_number}
+use Rattle.gqlls_run.specs.Parameters.{numeral}
 
 below : (n most : ℕ) → n < most → nat_lt n most ≡ true
 below n most h = grind (arith, nat_tests)
@@ -24,17 +24,14 @@ are-digits (c ∷ digits) h =
     let parts = and_parts (is_digit c 10) (list_all (λ c. is_digit c 10) digits) h in
     (is-below (digit_value c) 10 parts.0, are-digits digits parts.1)
 
--- digits_number, of a text without its plus
-abbrev number_of : List ℕ → ℕ
-number_of digits = cond (list_all (λ c. is_digit c 10) digits && nat_lt (digits_value 10 digits) (2 ^ 64)) (digits_value 10 digits) 0
-
-fits : (digits : List ℕ) → IsNumeral 10 digits → digits_value 10 digits < 2 ^ 64 → digits_value 10 digits ≡ number_of digits
-fits digits numeral small =
-    let all : list_all (λ c. is_digit c 10) digits ≡ true = listed digits numeral.1 in
-    let less : nat_lt (digits_value 10 digits) (2 ^ 64) ≡ true = below _ _ small in
+fits : (digits : List ℕ) → IsNumeral 10 digits → digits_value 10 digits < 2 ^ 64 → Some (digits_value 10 digits) ≡ numeral digits
+fits [] is small = absurd (let no : 0 < 0 = is.0 in omega arith)
+fits (c ∷ digits) is small =
+    let all : list_all (λ c. is_digit c 10) (c ∷ digits) ≡ true = listed (c ∷ digits) is.1 in
+    let less : nat_lt (digits_value 10 (c ∷ digits)) (2 ^ 64) ≡ true = below _ _ small in
     rw (all, less) refl
 
-no-number : (digits : List ℕ) → (IsNumeral 10 digits × (digits_value 10 digits < 2 ^ 64) → ⊥) → 0 ≡ number_of digits
+no-number : (digits : List ℕ) → (IsNumeral 10 digits × (digits_value 10 digits < 2 ^ 64) → ⊥) → None ≡ numeral digits
 no-number [] none = refl
 no-number (c ∷ digits) none = elim (cases_Bool (list_all (λ c. is_digit c 10) (c ∷ digits) && nat_lt (digits_value 10 (c ∷ digits)) (2 ^ 64))) [
   | inl t ↦
@@ -43,11 +40,11 @@ no-number (c ∷ digits) none = elim (cases_Bool (list_all (λ c. is_digit c 10)
   | inr f ↦ rw f refl
 ]
 
-parsed : {E : Type 0} (text : List ℕ) (found : Option ℕ) (e : E) → ParsesUnsigned 64 10 text (ok_or found e) → unwrap_or found 0 ≡ digits_number text
-parsed text (Some n) e h = h.1 ∙ fits (without_leading_plus text) h.0.0 h.0.1
+parsed : {E : Type 0} (text : List ℕ) (found : Option ℕ) (e : E) → ParsesUnsigned 64 10 text (ok_or found e) → found ≡ numeral (without_leading_plus text)
+parsed text (Some n) e h = ap (λ (m : ℕ). Some m) h.1 ∙ fits (without_leading_plus text) h.0.0 h.0.1
 parsed text None e h = no-number (without_leading_plus text) h
 
 pub number_of_text : (text : Option (List ℕ)) (found : Option ℕ) → MatchOption text (found ≡ None) (λ digits. ParsesUnsigned 64 10 digits (ok_or found digits))
-    → unwrap_or found 0 ≡ unwrap_or (option_map digits_number text) 0
-number_of_text None found h = ap (λ (o : Option ℕ). unwrap_or o 0) h
+    → found ≡ option_and_then (λ digits. numeral (without_leading_plus digits)) text
+number_of_text None found h = h
 number_of_text (Some text) found h = parsed text found text h

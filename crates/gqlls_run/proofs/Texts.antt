@@ -4,9 +4,11 @@ use Rattle.apollo_parser.specs.Diagnostics.{Diagnostic}
 use Rattle.line_index.specs.declared.PositionEncoding.{PositionEncoding}
 use Rattle.diagnostic_messages.specs.Publication.{IsPublication}
 
-pub same_publication : (uri name : List ℕ) (version : Option ℤ) (encoding units : PositionEncoding) (text source : List ℕ) (errors found : List Diagnostic) (body : List ℕ)
-    → uri ≡ name → encoding ≡ units → text ≡ source → errors ≡ found → IsPublication uri version encoding text errors body → IsPublication name version units source found body
-same_publication uri name version encoding units text source errors found body u e t d h =
-    subst (λ (x : List ℕ). IsPublication x version units source found body) u
-    (subst (λ (x : PositionEncoding). IsPublication uri version x source found body) e
-    (subst (λ (x : List ℕ). IsPublication uri version encoding x found body) t (subst (λ (x : List Diagnostic). IsPublication uri version encoding text x body) d h)))
+pub same_publication : (uri : List ℕ) (version : Option ℤ) (encoding units : PositionEncoding) (text source : List ℕ)
+    (errors found : List Diagnostic) (body : List ℕ)
+    → encoding ≡ units → text ≡ source → errors ≡ found → IsPublication uri version encoding text errors body
+    → IsPublication uri version units source found body
+same_publication uri version encoding units text source errors found body e t d h =
+    subst (λ (x : PositionEncoding). IsPublication uri version x source found body) e
+    (subst (λ (x : List ℕ). IsPublication uri version encoding x found body) t
+    (subst (λ (x : List Diagnostic). IsPublication uri version encoding text x body) d h))

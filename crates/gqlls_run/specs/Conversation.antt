@@ -1,46 +1,157 @@
--- What the server says to each message of a conversation, and what it keeps.
-use Rattle.std.specs.Prelude.{◌≡◌, ◌≢◌, ℕ, List, [], Option, Some, None, codes}
+-- What each message of a conversation comes to, by the Language Server Protocol 3.17.
+use Rattle.std.specs.Prelude.{◌≡◌, ◌≢◌, ℕ, ℤ, List, [], ◌∷◌, ◌++◌, Option, Some, None, MatchOption, codes}
+use lib.IntN.{pos, neg_ℤ}
 use Rattle.byte_devices.specs.Devices.{Account}
 use Rattle.json.specs.Json.{Json}
-use Rattle.line_index.specs.declared.PositionEncoding.TheVariants.{Utf16}
+use Rattle.json.specs.Token.{Token, begin_object, key, null, string}
+use Rattle.diagnostic_messages.specs.Publication.{IsNoticeAbout}
+use Rattle.line_index.specs.declared.PositionEncoding.{PositionEncoding}
+use Rattle.line_index.specs.declared.PositionEncoding.TheVariants.{Utf8, Utf16}
+use Rattle.open_document.specs.Client.{Opened}
+use Rattle.rpc_messages.specs.Messages.{IsAnswerOf, error_member, id_token}
 use Rattle.rpc_messages.specs.Steps.{Takes}
 use Rattle.rpc_messages.specs.declared.reply.Reply.{Reply}
+use Rattle.rpc_messages.specs.declared.reply.Reply.TheVariants.{Nothing, Answer, Notice, Exit}
 use Rattle.rpc_serving.specs.Serving.{IsServed}
-use Rattle.gqlls_run.specs.Contents.{Changes, NamesNone, Opens}
-use Rattle.gqlls_run.specs.Told.{Tells}
-use Rattle.gqlls_run.specs.declared.server.Server.{Server}
-use Rattle.gqlls_run.specs.declared.server.Stage.TheVariants.{New, Running}
+use Rattle.gqlls_run.specs.Parameters.{Edit, IsVersionIn, Offers, edits_in, text_in, uri_in}
+use Rattle.gqlls_run.specs.Session.{IsChanged, Session, Sets, begun}
+use Rattle.gqlls_run.specs.Told.{IsTold, Notifies}
+use Rattle.gqlls_run.specs.declared.server.Stage.{Stage}
+use Rattle.gqlls_run.specs.declared.server.Stage.TheVariants.{New, Running, ShutDown}
 
--- no document is open, and no message was read
-pub record IsFresh (server : Server) : Type 0 where
-  pub documents : server.documents.items ≡ []
-  pub stage : server.stage ≡ New
-  pub encoding : server.encoding ≡ Utf16
+-- ---- requests
 
--- What a request leaves: the open documents as they were, and, but for the first one, how columns are counted.
-pub record IsAsked (method : List ℕ) (old new : Server) : Type 0 where
-  pub documents : new.documents ≡ old.documents
-  pub encoding : old.stage ≢ New → new.encoding ≡ old.encoding
-  pub starts : old.stage ≡ New → method ≡ codes "initialize" → new.stage ≡ Running
-  pub runs : old.stage ≡ Running → method ≢ codes "shutdown" → new.stage ≡ Running
+-- the reply is an answer whose body is such
+abbrev pub Answers : (List ℕ → Type 0) → Reply → Type 0
+Answers IsSuch Nothing = ⊥
+Answers IsSuch (Answer body) = IsSuch body.items
+Answers IsSuch (Notice body) = ⊥
+Answers IsSuch (Exit status) = ⊥
 
--- what a notification leaves, and what is said to it
-pub record IsHeard (method : List ℕ) (params : Json) (reply : Reply) (old new : Server) : Type 0 where
-  pub stage : new.stage ≡ old.stage
-  pub encoding : new.encoding ≡ old.encoding
-  pub tells : Tells params old.documents.items new.documents.items reply
-  pub opens : old.stage ≡ Running → method ≡ codes "textDocument/didOpen" → Opens params old.encoding new.documents.items
-  pub changes : old.stage ≡ Running → method ≡ codes "textDocument/didChange" → Changes params old.documents.items new.documents.items
-  pub closes : old.stage ≡ Running → method ≡ codes "textDocument/didClose" → NamesNone params new.documents.items
+-- the body refuses the request with this id, with this code
+abbrev pub IsRefusalOf : Json → ℤ → List ℕ → Type 0
+IsRefusalOf id code body = (text : List ℕ) × IsAnswerOf (id_token id) (error_member code text) body
+
+-- `PositionEncodingKind`
+abbrev pub encoding_name : PositionEncoding → List ℕ
+encoding_name Utf8 = codes "utf-8"
+encoding_name Utf16 = codes "utf-16"
+
+-- the result of `initialize`, up to how columns are counted
+abbrev pub announcement : PositionEncoding → List Token
+announcement encoding =
+    key (codes "result") ∷ begin_object ∷ key (codes "capabilities") ∷ begin_object ∷ key (codes "positionEncoding") ∷ string (encoding_name encoding) ∷ []
+
+abbrev pub IsAnnounced : Json → PositionEncoding → List ℕ → Type 0
+IsAnnounced id encoding body = (more : List Token) × IsAnswerOf (id_token id) (announcement encoding ++ more) body
+
+-- The conversation begins, and counts columns from then on as the answer says. No client has to offer UTF-16.
+pub record Initializes (id params : Json) (reply : Reply) (old new : Session) : Type 0 where
+  pub session : new ≡ record old { stage = Running; encoding = new.encoding }
+  pub offered : new.encoding ≡ Utf8 → Offers params (codes "utf-8")
+  pub announced : Answers (IsAnnounced id new.encoding) reply
+
+-- the answer to `shutdown`, after which only `exit` is heard
+pub record ShutsDown (id : Json) (reply : Reply) (old new : Session) : Type 0 where
+  pub session : new ≡ record old { stage = ShutDown }
+  pub answered : Answers (IsAnswerOf (id_token id) (key (codes "result") ∷ null ∷ [])) reply
+
+-- the request is refused with this code, and changes nothing
+pub record IsRefused (id : Json) (code : ℤ) (reply : Reply) (old new : Session) : Type 0 where
+  pub session : new ≡ old
+  pub refusal : Answers (IsRefusalOf id code) reply
+
+-- What a request comes to. No request opens, changes or closes a document.
+pub record IsAsked (id : Json) (method : List ℕ) (params : Json) (reply : Reply) (old new : Session) : Type 0 where
+  pub initialize : old.stage ≡ New → method ≡ codes "initialize" → Initializes id params reply old new
+  pub too_early : old.stage ≡ New → method ≢ codes "initialize" → IsRefused id (neg_ℤ (pos 32002)) reply old new
+  pub shutdown : old.stage ≡ Running → method ≡ codes "shutdown" → ShutsDown id reply old new
+  pub others : old.stage ≡ Running → method ≢ codes "shutdown" → new ≡ old
+  pub too_late : old.stage ≡ ShutDown → IsRefused id (neg_ℤ (pos 32600)) reply old new
+
+-- ---- notifications
+
+-- nothing is said, and nothing changes
+pub record IsIgnored (reply : Reply) (old new : Session) : Type 0 where
+  pub silence : reply ≡ Nothing
+  pub session : new ≡ old
+
+-- A document has this text now. The reply publishes its errors, with the version that the message gives.
+pub record Publishes (uri : List ℕ) (content : Opened) (params : Json) (reply : Reply) (old new : Session) : Type 0 where
+  pub sets : Sets uri (Some content) old new
+  pub version : Option ℤ
+  pub versioned : IsVersionIn params version
+  pub told : Notifies (IsTold uri version content) reply
+
+-- a text that is opened, in the encoding of the conversation
+abbrev pub opened : Session → List ℕ → Opened
+opened session text = record { encoding = session.encoding; text = text }
+
+-- `textDocument/didOpen`: the document has the text of the message. Without a name or a text the message is ignored.
+abbrev pub Opens : Json → Reply → Session → Session → Type 0
+Opens params reply old new =
+    MatchOption (uri_in params) (IsIgnored reply old new)
+    (λ uri. MatchOption (text_in params) (IsIgnored reply old new) (λ text. Publishes uri (opened old text) params reply old new))
+
+-- an open document has some changes now
+pub record PublishesChanges (uri : List ℕ) (edits : List Edit) (before : Opened) (params : Json) (reply : Reply) (old new : Session) : Type 0 where
+  pub after : Opened
+  pub changed : IsChanged edits before after
+  pub publishes : Publishes uri after params reply old new
+
+-- `textDocument/didChange`: the document has the changes of the message. Where it isn't open, or a change isn't one of the protocol, the message is ignored.
+abbrev pub Changes : Json → Reply → Session → Session → Type 0
+Changes params reply old new =
+    MatchOption (uri_in params) (IsIgnored reply old new)
+    (λ uri. MatchOption (edits_in params) (IsIgnored reply old new)
+    (λ edits. MatchOption (old.documents uri) (IsIgnored reply old new) (λ before. PublishesChanges uri edits before params reply old new)))
+
+-- a document isn't open any more, and its errors are taken back
+pub record Withdraws (uri : List ℕ) (reply : Reply) (old new : Session) : Type 0 where
+  pub sets : Sets uri None old new
+  pub told : Notifies (IsNoticeAbout uri None []) reply
+
+-- `textDocument/didClose`: where the document isn't open, the message is ignored
+abbrev pub Closes : Json → Reply → Session → Session → Type 0
+Closes params reply old new =
+    MatchOption (uri_in params) (IsIgnored reply old new)
+    (λ uri. MatchOption (old.documents uri) (IsIgnored reply old new) (λ content. Withdraws uri reply old new))
+
+-- success only after `shutdown`
+abbrev pub exit_status : Stage → ℕ
+exit_status New = 1
+exit_status Running = 1
+exit_status ShutDown = 0
+
+-- the notification ends the conversation
+pub record Exits (reply : Reply) (old new : Session) : Type 0 where
+  pub exit : reply ≡ Exit (exit_status old.stage)
+  pub session : new ≡ old
+
+-- the notification is none of those that are heard
+pub record IsOther (method : List ℕ) : Type 0 where
+  pub no_exit : method ≢ codes "exit"
+  pub no_open : method ≢ codes "textDocument/didOpen"
+  pub no_change : method ≢ codes "textDocument/didChange"
+  pub no_close : method ≢ codes "textDocument/didClose"
+
+-- what a notification comes to
+pub record IsHeard (method : List ℕ) (params : Json) (reply : Reply) (old new : Session) : Type 0 where
+  pub exits : method ≡ codes "exit" → Exits reply old new
+  pub opens : old.stage ≡ Running → method ≡ codes "textDocument/didOpen" → Opens params reply old new
+  pub changes : old.stage ≡ Running → method ≡ codes "textDocument/didChange" → Changes params reply old new
+  pub closes : old.stage ≡ Running → method ≡ codes "textDocument/didClose" → Closes params reply old new
+  pub others : IsOther method → IsIgnored reply old new
+  pub not_running : old.stage ≢ Running → method ≢ codes "exit" → IsIgnored reply old new
+
+-- ---- conversations
 
 -- what a request, which has an id, or a notification comes to
-abbrev pub Steps : Server → Option Json → List ℕ → Json → Reply → Server → Type 0
-Steps old (Some id) method params reply new = IsAsked method old new
+abbrev pub Steps : Session → Option Json → List ℕ → Json → Reply → Session → Type 0
+Steps old (Some id) method params reply new = IsAsked id method params reply old new
 Steps old None method params reply new = IsHeard method params reply old new
 
--- what was written is what a server says that began with no documents
+-- what was written is what a conversation about the bytes that were read says, from its beginning
 pub record Serves (status : ℕ) (read_old read_new write_old write_new : Account) : Type 0 where
-  pub first : Server
-  pub last : Server
-  pub fresh : IsFresh first
-  pub served : IsServed (Takes Steps) first last status read_old read_new write_old write_new
+  pub last : Session
+  pub served : IsServed (Takes Steps) begun last status read_old read_new write_old write_new

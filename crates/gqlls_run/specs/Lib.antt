@@ -1,4 +1,5 @@
-pub mod Contents
 pub mod Conversation
 pub mod Parameters
+pub mod Session
+pub mod State
 pub mod Told

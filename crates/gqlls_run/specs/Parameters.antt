@@ -1,14 +1,17 @@
--- What the parameters of a message say.
-use Rattle.std.specs.Prelude.{◌≡◌, ℕ, ℤ, ◌^◌, ◌&&◌, nat_lt, if◌then◌else◌, List, [], ◌∷◌, map, Option, Some, None, MatchOption, codes, ok_or, option_and_then, option_map, unwrap_or}
+-- What the parameters of a message say, where they are those of the Language Server Protocol 3.17.
+use Rattle.std.specs.Prelude.{◌≡◌, ℕ, ℤ, ◌^◌, ◌&&◌, nat_lt, if◌then◌else◌, List, [], ◌∷◌, codes}
+use Rattle.std.specs.Prelude.{Option, Some, None, MatchOption, ok_or, option_and_then, option_map}
 use Rattle.std.specs.Char.{is_digit}
 use Rattle.std.specs.Int.{w64}
-use Rattle.std.specs.List.{filter_map, list_all}
+use Rattle.std.specs.List.{Contains, list_all}
 use Rattle.std.specs.Str.Parse.{ParsesSigned, digits_value, without_leading_plus}
-use Rattle.json.specs.Json.{Json, null, boolean, number, string, array, object, Items, no_items, item}
+use Rattle.json.specs.Json.{Json, string, Items, no_items, item}
 use Rattle.json.specs.Find.{as_array, as_number, as_str, get}
 use Rattle.line_index.specs.declared.Position.{Position}
 use Rattle.open_document.specs.declared.Change.{Change}
 use Rattle.open_document.specs.declared.PositionRange.{PositionRange}
+
+-- ---- documents
 
 -- the name of the document that the message is about
 abbrev pub uri_in : Json → Option (List ℕ)
@@ -27,51 +30,85 @@ text_in params = option_and_then (λ document. option_and_then as_str (get (code
 
 -- ---- changes
 
--- The number that digits spell, where it fits 64 bits; 0 for all else. No number of JSON begins with a plus.
-abbrev pub digits_number : List ℕ → ℕ
-digits_number text =
-    let digits = without_leading_plus text in
-    if list_all (λ c. is_digit c 10) digits && nat_lt (digits_value 10 digits) (2 ^ 64) then digits_value 10 digits else 0
+-- what is made of two values, where both are there
+abbrev pub both : {A B C : Type 0} → (A → B → C) → Option A → Option B → Option C
+both make None b = None
+both make (Some a) b = option_map (make a) b
 
--- the number that a value has by a name, and 0 where it has none
-abbrev pub number_at : List ℕ → Json → ℕ
-number_at name value = unwrap_or (option_map digits_number (option_and_then as_number (get name value))) 0
+-- what is made of each value, where all are there
+abbrev pub each : {A B : Type 0} → (A → Option B) → List A → Option (List B)
+each make [] = Some []
+each make (x ∷ xs) = both (λ y ys. y ∷ ys) (make x) (each make xs)
 
-abbrev pub position_in : Json → Position
-position_in value = record { line = number_at (codes "line") value; column = number_at (codes "character") value }
+-- the number that digits spell, where it fits 64 bits; those of the protocol fit 31
+abbrev pub numeral : List ℕ → Option ℕ
+numeral [] = None
+numeral (c ∷ digits) =
+    if list_all (λ c. is_digit c 10) (c ∷ digits) && nat_lt (digits_value 10 (c ∷ digits)) (2 ^ 64) then Some (digits_value 10 (c ∷ digits)) else None
 
--- the position that a value has by a name
-abbrev pub position_at : List ℕ → Json → Position
-position_at name value = position_in (unwrap_or (get name value) null)
+-- `uinteger`: the number that a value has by a name. No number of JSON begins with a plus.
+abbrev pub number_at : List ℕ → Json → Option ℕ
+number_at name value = option_and_then (λ digits. numeral (without_leading_plus digits)) (option_and_then as_number (get name value))
 
--- the range that a value is, where it is an object
-abbrev pub as_range : Json → Option PositionRange
-as_range null = None
-as_range (boolean b) = None
-as_range (number s) = None
-as_range (string s) = None
-as_range (array js) = None
-as_range (object ms) = Some (record { start = position_at (codes "start") (object ms); end = position_at (codes "end") (object ms) })
+abbrev pub position : ℕ → ℕ → Position
+position line column = record { line = line; column = column }
 
+-- `Position`
+abbrev pub position_in : Json → Option Position
+position_in value = both position (number_at (codes "line") value) (number_at (codes "character") value)
+
+abbrev pub position_at : List ℕ → Json → Option Position
+position_at name value = option_and_then position_in (get name value)
+
+abbrev pub range : Position → Position → PositionRange
+range start end = record { start = start; end = end }
+
+-- `Range`
 abbrev pub range_in : Json → Option PositionRange
-range_in value = option_and_then as_range (get (codes "range") value)
+range_in value = both range (position_at (codes "start") value) (position_at (codes "end") value)
 
--- the change that an item is, where it has a text: that text for a range, or for the whole document
-abbrev pub change_in : Json → Option (Option PositionRange × List ℕ)
-change_in change = option_map (λ text. (range_in change, text)) (option_and_then as_str (get (codes "text") change))
+-- a text, and the range that it replaces, if it isn't the whole document
+abbrev pub Edit : Type 0
+Edit = Option PositionRange × List ℕ
+
+abbrev pub edit : Option PositionRange → List ℕ → Edit
+edit extent text = (extent, text)
+
+-- the range that a value may have
+abbrev pub extent_in : Option Json → Option (Option PositionRange)
+extent_in None = Some None
+extent_in (Some value) = option_map (λ range. Some range) (range_in value)
+
+-- `TextDocumentContentChangeEvent`
+abbrev pub edit_in : Json → Option Edit
+edit_in value = both edit (extent_in (get (codes "range") value)) (option_and_then as_str (get (codes "text") value))
 
 abbrev pub list_of : Items → List Json
 list_of no_items = []
 list_of (item value items) = value ∷ list_of items
 
--- the changes that a message tells, without the items that have no text
-abbrev pub changes_in : Json → List (Option PositionRange × List ℕ)
-changes_in params = filter_map change_in (list_of (unwrap_or (as_array (unwrap_or (get (codes "contentChanges") params) null)) no_items))
+-- the items of a list that a value has by a name
+abbrev pub items_at : List ℕ → Json → Option (List Json)
+items_at name value = option_map list_of (option_and_then as_array (get name value))
+
+-- the changes of a document, each of which has to be one of the protocol
+abbrev pub edits_in : Json → Option (List Edit)
+edits_in params = option_and_then (each edit_in) (items_at (codes "contentChanges") params)
 
 -- what a change tells
-abbrev pub told : Change → Option PositionRange × List ℕ
-told change = (change.range, change.text.now)
+abbrev pub told : Change → Edit
+told change = edit change.range change.text.now
 
--- these are the changes that a message tells
-abbrev pub AreChangesIn : Json → List Change → Type 0
-AreChangesIn params changes = map told changes ≡ changes_in params
+-- ---- capabilities
+
+-- how a client says that it can count columns
+abbrev pub encodings_in : Json → Option (List Json)
+encodings_in capabilities = option_and_then (items_at (codes "positionEncodings")) (get (codes "general") capabilities)
+
+-- these are all the ways
+abbrev pub OffersAll : Json → List Json → Type 0
+OffersAll params names = option_and_then encodings_in (get (codes "capabilities") params) ≡ Some names
+
+-- this is one of the ways
+abbrev pub Offers : Json → List ℕ → Type 0
+Offers params name = (names : List Json) × OffersAll params names × Contains names (string name)

@@ -1,28 +1,16 @@
 // What the server says that it does.
-ghost use Rattle.std.specs.Prelude.{IfOk};
+ghost use Rattle.std.specs.Prelude.{◌≡◌, ◌++◌, IfOk, List, OnOk};
 ghost use Rattle.json.specs.Tree.{HasNumbers};
 ghost use Rattle.json.specs.Value.{value_view};
 ghost use Rattle.rpc_messages.specs.Messages.{IsAnswer, id_token};
+ghost use Rattle.rpc_messages.specs.declared.pieces.Piece.{Piece};
+ghost use Rattle.gqlls_run.specs.Conversation.{IsAnnounced, encoding_name};
 
 use document_answers::TOKEN_TYPES;
 use json::Value;
 use line_index::PositionEncoding;
 use rpc_messages::{Piece, answer};
 use std::alloc::{AllocError, Global};
-
-// What comes before the encoding.
-const FRONT: [Piece<'static>; 10] = [
-    Piece::Key("result"),
-    Piece::Object,
-    Piece::Key("serverInfo"),
-    Piece::Object,
-    Piece::Key("name"),
-    Piece::Text("gqlls"),
-    Piece::EndObject,
-    Piece::Key("capabilities"),
-    Piece::Object,
-    Piece::Key("positionEncoding"),
-];
 
 // What is served, up to the types of tokens.
 const SERVED: [Piece<'static>; 46] = [
@@ -75,27 +63,38 @@ const SERVED: [Piece<'static>; 46] = [
 ];
 
 // What comes after the types of tokens.
-const END: [Piece<'static>; 5] = [
+const END: [Piece<'static>; 10] = [
     Piece::EndArray,
     Piece::EndObject,
     Piece::EndObject,
+    Piece::EndObject,
+    Piece::Key("serverInfo"),
+    Piece::Object,
+    Piece::Key("name"),
+    Piece::Text("gqlls"),
     Piece::EndObject,
     Piece::EndObject,
 ];
 
 // The protocol's name of how columns are counted.
-fn encoding_name(encoding: PositionEncoding) -> &'static str {
+fn encoding_name(encoding: PositionEncoding) -> &'static str
+    ensures { result.now ≡ encoding_name encoding }
+{
     match encoding {
         PositionEncoding::Utf8 => "utf-8",
         PositionEncoding::Utf16 => "utf-16",
     }
 }
 
-fn push_token_types(pieces: &mut Vec<Piece<'_>>) -> Result<(), AllocError> {
+// Adds what is served, and ends the result.
+fn push_served(pieces: &mut Vec<Piece<'_>>) -> Result<(), AllocError>
+    ensures { OnOk result ((more : List Piece) × (pieces.new.items ≡ pieces.old.items ++ more)) }
+{
+    pieces.extend_from_slice(&SERVED)?;
     for name in &TOKEN_TYPES {
         pieces.extend_from_slice(&[Piece::Text(*name)])?;
     }
-    Ok(())
+    pieces.extend_from_slice(&END)
 }
 
 /// The answer to the first request.
@@ -105,13 +104,19 @@ pub(crate) fn answer_initialize(
     encoding: PositionEncoding,
 ) -> Result<Vec<u8>, AllocError>
     requires { HasNumbers (value_view id.now) }
-    ensures { IfOk result (λ body. IsAnswer (id_token (value_view id.now)) body.items) }
+    ensures answers { IfOk result (λ body. IsAnswer (id_token (value_view id.now)) body.items) }
+    ensures announces { IfOk result (λ body. IsAnnounced (value_view id.now) encoding body.items) }
 {
     let mut pieces = Vec::new(alloc);
-    pieces.extend_from_slice(&FRONT)?;
-    pieces.extend_from_slice(&[Piece::Text(encoding_name(encoding))])?;
-    pieces.extend_from_slice(&SERVED)?;
-    push_token_types(&mut pieces)?;
-    pieces.extend_from_slice(&END)?;
-    answer(alloc, id, pieces.as_slice())
+    pieces.extend_from_slice(&[
+        Piece::Key("result"),
+        Piece::Object,
+        Piece::Key("capabilities"),
+        Piece::Object,
+        Piece::Key("positionEncoding"),
+        Piece::Text(encoding_name(encoding)),
+    ])?;
+    push_served(&mut pieces)?;
+    let body = answer(alloc, id, pieces.as_slice())?;
+    Ok(body)
 }

@@ -1,10 +1,11 @@
 // The open documents.
-ghost use Rattle.std.specs.Prelude.{◌≡◌, ◌≢◌, ◌<◌, IfOk, MatchOption, OnOk, length, string_bytes};
-ghost use Rattle.std.specs.List.{All, Contains, HoldsAt};
+ghost use Rattle.std.specs.Prelude.{◌≡◌, IfOk, MatchBool, None, OnOk, Some, map};
 ghost use Rattle.apollo_parser.specs.Answers.{usize_max};
 ghost use Rattle.apollo_parser.specs.Promise.{Promise};
 ghost use Rattle.rpc_messages.specs.Messages.{IsNotice};
-ghost use Rattle.gqlls_run.specs.Contents.{IsChanged};
+ghost use Rattle.gqlls_run.specs.Parameters.{told};
+ghost use Rattle.gqlls_run.specs.Session.{IsChanged, Updates};
+ghost use Rattle.gqlls_run.specs.State.{contents};
 ghost use Rattle.gqlls_run.specs.Told.{IsTold};
 
 use crate::parsing::parse;
@@ -13,6 +14,7 @@ use diagnostic_messages::{Places, publication};
 use line_index::PositionEncoding;
 use open_document::{Change, OpenDocument};
 use std::alloc::{AllocError, Global};
+use std::collections::BTreeMap;
 
 // The tree of a document's text.
 fn parsed(alloc: Global, content: &OpenDocument) -> Result<SyntaxTree<DocumentRoot>, AllocError>
@@ -25,8 +27,6 @@ fn parsed(alloc: Global, content: &OpenDocument) -> Result<SyntaxTree<DocumentRo
 /// A document that a client has open.
 #[derive(Drop)]
 pub(crate) struct Document {
-    pub uri: String,
-    pub version: Option<i64>,
     pub content: OpenDocument,
     pub tree: SyntaxTree<DocumentRoot>,
 }
@@ -35,54 +35,41 @@ impl Document {
     /// A document with its tree.
     pub(crate) fn new(
         alloc: Global,
-        uri: &str,
-        version: Option<i64>,
         encoding: PositionEncoding,
         text: &str,
     ) -> Result<Document, AllocError>
-        ensures named { IfOk result (λ document. string_bytes document.uri ≡ uri.now) }
-        ensures version { IfOk result (λ document. document.version ≡ version) }
         ensures content { IfOk result (λ document. document.content ≡ record { encoding = encoding; text = text.now }) }
         ensures parsed { IfOk result (λ document. Promise document.content.text 500 usize_max document.tree) }
     {
-        let uri = String::from_str(alloc, uri)?;
         let content = OpenDocument::new(alloc, encoding, text)?;
         let tree = parsed(alloc, &content)?;
-        Ok(Document {
-            uri,
-            version,
-            content,
-            tree,
-        })
+        Ok(Document { content, tree })
     }
 
     /// Changes the text, and parses it.
-    pub(crate) fn change(
-        &mut self,
-        alloc: Global,
-        version: Option<i64>,
-        changes: &[Change<'_>],
-    ) -> Result<(), AllocError>
-        ensures named { string_bytes self.new.uri ≡ string_bytes self.old.uri }
-        ensures version { OnOk result (self.new.version ≡ version) }
-        ensures changed { OnOk result (IsChanged changes.now self.old.content self.new.content) }
+    pub(crate) fn change(&mut self, alloc: Global, changes: &[Change<'_>]) -> Result<(), AllocError>
+        ensures changed { OnOk result (IsChanged (map told changes.now) self.old.content self.new.content) }
         ensures parsed { OnOk result (Promise self.new.content.text 500 usize_max self.new.tree) }
     {
         self.content.change_all(alloc, changes)?;
         self.tree = parsed(alloc, &self.content)?;
-        self.version = version;
         Ok(())
     }
 
-    /// The notice of its errors.
-    pub(crate) fn told(&self, alloc: Global) -> Result<Vec<u8>, AllocError>
+    /// The notice of its errors, by its name and the version that the client gave it.
+    pub(crate) fn told(
+        &self,
+        alloc: Global,
+        uri: &str,
+        version: Option<i64>,
+    ) -> Result<Vec<u8>, AllocError>
         requires { Promise self.now.content.text 500 usize_max self.now.tree }
         ensures notifies { IfOk result (λ body. IsNotice body.items) }
-        ensures told { IfOk result (λ body. IsTold (string_bytes self.now.uri) self.now.version self.now.content.encoding self.now.content.text body.items) }
+        ensures told { IfOk result (λ body. IsTold uri.now version self.now.content body.items) }
     {
         let places = self.places(alloc)?;
         let errors = self.tree.errors().as_slice();
-        let body = publication(alloc, self.uri.as_str(), self.version, &places, errors)?;
+        let body = publication(alloc, uri, version, &places, errors)?;
         Ok(body)
     }
 
@@ -96,32 +83,16 @@ impl Document {
     }
 }
 
-/// The place of the document with a name.
-pub(crate) fn place_of(documents: &[Document], uri: &str) -> Option<usize>
-    ensures { MatchOption result (All (λ document. string_bytes document.uri ≢ uri.now) documents.now) (λ place. (place < length documents.now) × HoldsAt (λ document. string_bytes document.uri ≡ uri.now) documents.now place) }
-{
-    for place in 0..documents.len() {
-        if documents[place].uri.as_str() == uri {
-            return Some(place);
-        }
-    }
-    None
-}
-
-/// Closes the document with a name.
-pub(crate) fn remove(documents: &mut Vec<Document>, uri: &str)
-    ensures { All (λ document. string_bytes document.uri ≢ uri.now) documents.new.items }
-{
-    while let Some(place) = place_of(documents.as_slice(), uri) {
-        documents.remove(place);
-    }
-}
-
 /// Opens a document, in the place of the one with its name.
-pub(crate) fn insert(documents: &mut Vec<Document>, document: Document) -> Result<(), AllocError>
-    ensures { OnOk result (Contains documents.new.items document) }
+pub(crate) fn insert(
+    alloc: Global,
+    documents: &mut BTreeMap<String, Document>,
+    uri: &str,
+    document: Document,
+) -> Result<(), AllocError>
+    ensures { OnOk result (Updates uri.now (Some document.content) (contents documents.old) (contents documents.new)) }
 {
-    remove(documents, document.uri.as_str());
-    documents.push(document)?;
+    let name = String::from_str(alloc, uri)?;
+    documents.insert(name, document)?;
     Ok(())
 }

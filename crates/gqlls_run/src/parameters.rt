@@ -1,11 +1,13 @@
-// What the parameters of a message say. What is missing or of another kind counts as 0, or as nothing.
-ghost use Rattle.std.specs.Prelude.{◌≡◌, ◌++◌, [], IfOk, MatchOption, None, OnOk, map, ok_or, option_and_then, option_map, unwrap_or};
-ghost use Rattle.std.specs.List.{cons_option};
+// What the parameters of a message say. There is nothing where they are not those of the protocol.
+ghost use Rattle.std.specs.Prelude.{◌≡◌, IfOk, IfSome, IsTrue, MatchOption, None, codes, map, ok_or, option_and_then, option_map};
+ghost use Rattle.std.specs.List.{Contains};
 ghost use Rattle.std.specs.Str.Parse.{ParsesUnsigned};
 ghost use Rattle.json.specs.Find.{as_array, as_number, get};
-ghost use Rattle.json.specs.Json.{no_items};
+ghost use Rattle.json.specs.Json.{string};
 ghost use Rattle.json.specs.Value.{value_view};
-ghost use Rattle.gqlls_run.specs.Parameters.{AreChangesIn, IsVersionIn, change_in, list_of, number_at, position_at, position_in, range_in, text_in, told, uri_in};
+ghost use Rattle.line_index.specs.declared.PositionEncoding.TheVariants.{Utf8};
+ghost use Rattle.gqlls_run.specs.Parameters.{IsVersionIn, Offers, OffersAll, number_at, position_at, position_in, range_in, text_in, uri_in};
+ghost use Rattle.gqlls_run.specs.Parameters.{each, edit_in, edits_in, extent_in, items_at, list_of, told};
 
 use diagnostic_messages::Places;
 use document_answers::Span;
@@ -15,54 +17,59 @@ use open_document::{Change, PositionRange};
 use std::alloc::{AllocError, Global};
 
 fn unsigned_at(value: &Value<'_>, name: &str) -> Option<u64>
-    ensures { MatchOption (option_and_then as_number (get name.now (value_view value.now))) (result ≡ None) (λ digits. ParsesUnsigned 64 10 digits (ok_or result digits)) }
+    ensures { MatchOption (option_and_then as_number (get name.now (value_view value.now))) (result ≡ None)
+        (λ digits. ParsesUnsigned 64 10 digits (ok_or result digits)) }
 {
     value.get(name)?.as_u64()
 }
 
-fn number_at(value: &Value<'_>, name: &str) -> usize
+fn number_at(value: &Value<'_>, name: &str) -> Option<usize>
     ensures { result ≡ number_at name.now (value_view value.now) }
 {
     match unsigned_at(value, name) {
-        Some(number) => number as usize,
-        None => 0,
+        Some(number) => Some(number as usize),
+        None => None,
     }
 }
 
-// A position.
-fn position_of(value: &Value<'_>) -> Position
+// The position that a value is.
+fn position_of(value: &Value<'_>) -> Option<Position>
     ensures { result ≡ position_in (value_view value.now) }
 {
-    Position {
-        line: number_at(value, "line"),
-        column: number_at(value, "character"),
-    }
+    let line = number_at(value, "line")?;
+    let column = number_at(value, "character")?;
+    Some(Position { line, column })
 }
 
 // The position that a value has by a name.
-fn position_at(value: &Value<'_>, name: &str) -> Position
+fn position_at(value: &Value<'_>, name: &str) -> Option<Position>
     ensures { result ≡ position_at name.now (value_view value.now) }
 {
-    position_of(value.get(name).unwrap_or(&Value::Null))
+    position_of(value.get(name)?)
 }
 
-// The range that a value has. What is no object is no range.
+// The range that a value is.
 fn range_of(value: &Value<'_>) -> Option<PositionRange>
     ensures { result ≡ range_in (value_view value.now) }
 {
-    let range = value.get("range")?;
-    match range {
-        Value::Object(_) => Some(PositionRange {
-            start: position_at(range, "start"),
-            end: position_at(range, "end"),
-        }),
-        _ => None,
+    let start = position_at(value, "start")?;
+    let end = position_at(value, "end")?;
+    Some(PositionRange { start, end })
+}
+
+// The range that a value may have.
+fn extent_of(value: Option<&Value<'_>>) -> Option<Option<PositionRange>>
+    ensures { result ≡ extent_in (option_map (λ v. value_view v.now) value.entry) }
+{
+    match value {
+        Some(range) => Some(Some(range_of(range)?)),
+        None => Some(None),
     }
 }
 
 /// The byte offset that a message is about.
-pub(crate) fn offset_of(places: &Places<'_>, params: &Value<'_>) -> usize {
-    places.offset(position_at(params, "position"))
+pub(crate) fn offset_of(places: &Places<'_>, params: &Value<'_>) -> Option<usize> {
+    Some(places.offset(position_at(params, "position")?))
 }
 
 /// The byte offsets that a message is about.
@@ -70,19 +77,23 @@ pub(crate) fn offsets_of(
     alloc: Global,
     places: &Places<'_>,
     params: &Value<'_>,
-) -> Result<Vec<usize>, AllocError> {
+) -> Result<Option<Vec<usize>>, AllocError> {
+    let Some(positions) = items_at(params, "positions") else {
+        return Ok(None);
+    };
     let mut offsets = Vec::new(alloc);
-    if let Some(Value::Array(positions)) = params.get("positions") {
-        for position in positions {
-            offsets.push(places.offset(position_of(position)))?;
+    for value in positions {
+        match position_of(value) {
+            Some(position) => offsets.push(places.offset(position))?,
+            None => return Ok(None),
         }
     }
-    Ok(offsets)
+    Ok(Some(offsets))
 }
 
 /// The part of a text that a message is about: its range, or the whole text.
-pub(crate) fn span_of(places: &Places<'_>, params: &Value<'_>) -> Span {
-    match range_of(params) {
+pub(crate) fn span_of(places: &Places<'_>, params: &Value<'_>) -> Option<Span> {
+    let span = match extent_of(params.get("range"))? {
         Some(range) => Span {
             start: places.offset(range.start),
             end: places.offset(range.end),
@@ -91,7 +102,8 @@ pub(crate) fn span_of(places: &Places<'_>, params: &Value<'_>) -> Span {
             start: 0,
             end: places.text.len(),
         },
-    }
+    };
+    Some(span)
 }
 
 /// The name of the document that a message is about.
@@ -115,51 +127,62 @@ pub(crate) fn text_of<'a>(params: &Value<'a>) -> Option<&'a str>
     params.get("textDocument")?.get("text")?.as_str()
 }
 
-// The change that an item tells.
-fn change_of<'a>(item: &Value<'a>) -> Option<Change<'a>>
-    ensures { option_map told result ≡ change_in (value_view item.now) }
+// The change that a value is.
+fn change_of<'a>(value: &Value<'a>) -> Option<Change<'a>>
+    ensures { option_map told result ≡ edit_in (value_view value.now) }
 {
-    let text = item.get("text")?.as_str()?;
-    Some(Change {
-        range: range_of(item),
-        text,
-    })
+    let range = extent_of(value.get("range"))?;
+    let text = value.get("text")?.as_str()?;
+    Some(Change { range, text })
 }
 
-// Adds the change that an item tells, where it has a text.
-fn push_change<'a>(changes: &mut Vec<Change<'a>>, item: &Value<'a>) -> Result<(), AllocError>
-    ensures { OnOk result (map told changes.new.items ≡ map told changes.old.items ++ cons_option (change_in (value_view item.now)) []) }
-{
-    if let Some(change) = change_of(item) {
-        changes.push(change)?;
-    }
-    Ok(())
-}
-
-// The items of a list; none of what is no list.
-fn items_of<'v, 'a>(value: &'v Value<'a>) -> &'v [Value<'a>]
-    ensures { map (λ item. value_view item) result.now ≡ list_of (unwrap_or (as_array (value_view value.now)) no_items) }
+// The items of a list.
+fn items_of<'v, 'a>(value: &'v Value<'a>) -> Option<&'v [Value<'a>]>
+    ensures { option_map (λ items. map (λ item. value_view item) items.now) result ≡ option_map list_of (as_array (value_view value.now)) }
 {
     match value {
-        Value::Array(items) => items.as_slice(),
+        Value::Array(items) => Some(items.as_slice()),
         Value::Null | Value::Bool(_) | Value::Number(_) | Value::String(_) | Value::Object(_) => {
-            &[]
+            None
         }
     }
 }
 
-/// The changes of a document. One without a text is left out.
+// The items of a list that a value has by a name.
+fn items_at<'v, 'a>(value: &'v Value<'a>, name: &str) -> Option<&'v [Value<'a>]>
+    ensures { option_map (λ items. map (λ item. value_view item) items.now) result ≡ items_at name.now (value_view value.now) }
+{
+    items_of(value.get(name)?)
+}
+
+// The changes that some values are, where each is one.
+fn all_changes<'a>(
+    alloc: Global,
+    items: &[Value<'a>],
+) -> Result<Option<Vec<Change<'a>>>, AllocError>
+    ensures { IfOk result (λ found. option_map (λ changes. map told changes.items) found ≡ each edit_in (map (λ item. value_view item) items.now)) }
+{
+    let mut changes = Vec::new(alloc);
+    for item in items {
+        match change_of(item) {
+            Some(change) => changes.push(change)?,
+            None => return Ok(None),
+        }
+    }
+    Ok(Some(changes))
+}
+
+/// The changes of a document.
 pub(crate) fn changes_of<'a>(
     alloc: Global,
     params: &Value<'a>,
-) -> Result<Vec<Change<'a>>, AllocError>
-    ensures { IfOk result (λ changes. AreChangesIn (value_view params.now) changes.items) }
+) -> Result<Option<Vec<Change<'a>>>, AllocError>
+    ensures { IfOk result (λ found. option_map (λ changes. map told changes.items) found ≡ edits_in (value_view params.now)) }
 {
-    let mut changes = Vec::new(alloc);
-    for item in items_of(params.get("contentChanges").unwrap_or(&Value::Null)) {
-        push_change(&mut changes, item)?;
+    match items_at(params, "contentChanges") {
+        Some(items) => all_changes(alloc, items),
+        None => Ok(None),
     }
-    Ok(changes)
 }
 
 fn include_declaration(params: &Value<'_>) -> Option<bool> {
@@ -172,21 +195,31 @@ pub(crate) fn asks_for_definition(params: &Value<'_>) -> bool {
 }
 
 // The encodings that a client offers.
-fn offered<'v, 'a>(params: &'v Value<'a>) -> Option<&'v Value<'a>> {
-    params
-        .get("capabilities")?
-        .get("general")?
-        .get("positionEncodings")
+fn offered<'v, 'a>(params: &'v Value<'a>) -> Option<&'v [Value<'a>]>
+    ensures { IfSome result (λ names. OffersAll (value_view params.now) (map (λ name. value_view name) names.now)) }
+{
+    let capabilities = params.get("capabilities")?;
+    items_at(capabilities.get("general")?, "positionEncodings")
+}
+
+// Whether a list has a text.
+fn has_text(items: &[Value<'_>], text: &str) -> bool
+    ensures { IsTrue result → Contains (map (λ item. value_view item) items.now) (string text.now) }
+{
+    for item in items {
+        if item.as_str() == Some(text) {
+            return true;
+        }
+    }
+    false
 }
 
 /// How columns are counted: in UTF-8 where the client offers it, else in UTF-16.
-pub(crate) fn encoding_of(params: &Value<'_>) -> PositionEncoding {
-    if let Some(Value::Array(names)) = offered(params) {
-        for name in names {
-            if name.as_str() == Some("utf-8") {
-                return PositionEncoding::Utf8;
-            }
-        }
+pub(crate) fn encoding_of(params: &Value<'_>) -> PositionEncoding
+    ensures { result ≡ Utf8 → Offers (value_view params.now) (codes "utf-8") }
+{
+    match offered(params) {
+        Some(names) if has_text(names, "utf-8") => PositionEncoding::Utf8,
+        _ => PositionEncoding::Utf16,
     }
-    PositionEncoding::Utf16
 }

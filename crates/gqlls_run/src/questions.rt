@@ -7,7 +7,7 @@ ghost use Rattle.rpc_messages.specs.Messages.{IsAnswer, id_token};
 use crate::completing::push_completions;
 use crate::documents::Document;
 use crate::formatting::answer_layout;
-use crate::layout::{Change, format_part, format_whole};
+use crate::layout::{format_part, format_whole};
 use crate::parameters::{asks_for_definition, offset_of, offsets_of, span_of};
 use apollo_parser::SyntaxNode;
 use diagnostic_messages::Places;
@@ -16,7 +16,7 @@ use document_answers::{
     push_selections,
 };
 use json::Value;
-use rpc_messages::{Piece, answer};
+use rpc_messages::{Piece, answer, code, refusal};
 use std::alloc::{AllocError, Global};
 
 /// What is asked.
@@ -58,6 +58,14 @@ pub(crate) fn question_of(method: &str) -> Option<Question> {
     None
 }
 
+// The answer to a question that lacks a parameter.
+fn refused(alloc: Global, id: &Value<'_>) -> Result<Vec<u8>, AllocError>
+    requires { HasNumbers (value_view id.now) }
+    ensures { IfOk result (λ body. IsAnswer (id_token (value_view id.now)) body.items) }
+{
+    refusal(alloc, id, code::INVALID_PARAMS, "no such place")
+}
+
 // Adds the result of a question about a place.
 fn push_result_at<'p>(
     alloc: Global,
@@ -67,8 +75,8 @@ fn push_result_at<'p>(
     places: &Places<'_>,
     uri: &'p str,
     params: &Value<'_>,
+    offset: usize,
 ) -> Result<(), AllocError> {
-    let offset = offset_of(places, params);
     match question {
         Question::Definition => push_definition(pieces, root, places, uri, offset),
         Question::References => {
@@ -79,28 +87,8 @@ fn push_result_at<'p>(
     }
 }
 
-// Adds the result of a question about parts of a text.
-fn push_result<'p>(
-    alloc: Global,
-    pieces: &mut Vec<Piece<'p>>,
-    question: Question,
-    root: SyntaxNode<'p>,
-    places: &Places<'_>,
-    uri: &'p str,
-    params: &Value<'_>,
-) -> Result<(), AllocError> {
-    match question {
-        Question::Folds => push_folds(pieces, root, places),
-        Question::Selections => {
-            let offsets = offsets_of(alloc, places, params)?;
-            push_selections(alloc, pieces, root, places, offsets.as_slice())
-        }
-        other => push_result_at(alloc, pieces, other, root, places, uri, params),
-    }
-}
-
-// The answer to a question about parts of a text.
-fn answer_result<'p>(
+// The answer to a question about a place.
+fn answer_at<'p>(
     alloc: Global,
     id: &Value<'_>,
     question: Question,
@@ -112,23 +100,84 @@ fn answer_result<'p>(
     requires { HasNumbers (value_view id.now) }
     ensures { IfOk result (λ body. IsAnswer (id_token (value_view id.now)) body.items) }
 {
+    let Some(offset) = offset_of(places, params) else {
+        return refused(alloc, id);
+    };
+    if let Question::Hover = question {
+        return answer_hover(alloc, id, root, places, offset);
+    }
     let mut pieces = Vec::new(alloc);
     pieces.extend_from_slice(&[Piece::Key("result")])?;
-    push_result(alloc, &mut pieces, question, root, places, uri, params)?;
+    push_result_at(
+        alloc,
+        &mut pieces,
+        question,
+        root,
+        places,
+        uri,
+        params,
+        offset,
+    )?;
     answer(alloc, id, pieces.as_slice())
 }
 
-// The layout that is asked for.
-fn layout_of(
+// The answer to a question about several places.
+fn answer_selections(
     alloc: Global,
+    id: &Value<'_>,
+    root: SyntaxNode<'_>,
+    places: &Places<'_>,
+    params: &Value<'_>,
+) -> Result<Vec<u8>, AllocError>
+    requires { HasNumbers (value_view id.now) }
+    ensures { IfOk result (λ body. IsAnswer (id_token (value_view id.now)) body.items) }
+{
+    let Some(offsets) = offsets_of(alloc, places, params)? else {
+        return refused(alloc, id);
+    };
+    let mut pieces = Vec::new(alloc);
+    pieces.extend_from_slice(&[Piece::Key("result")])?;
+    push_selections(alloc, &mut pieces, root, places, offsets.as_slice())?;
+    answer(alloc, id, pieces.as_slice())
+}
+
+// The answer that has the folds of a document.
+fn answer_folds(
+    alloc: Global,
+    id: &Value<'_>,
+    root: SyntaxNode<'_>,
+    places: &Places<'_>,
+) -> Result<Vec<u8>, AllocError>
+    requires { HasNumbers (value_view id.now) }
+    ensures { IfOk result (λ body. IsAnswer (id_token (value_view id.now)) body.items) }
+{
+    let mut pieces = Vec::new(alloc);
+    pieces.extend_from_slice(&[Piece::Key("result")])?;
+    push_folds(&mut pieces, root, places)?;
+    answer(alloc, id, pieces.as_slice())
+}
+
+// The answer to a question about a part of a text.
+fn answer_within(
+    alloc: Global,
+    id: &Value<'_>,
     question: Question,
     root: SyntaxNode<'_>,
     places: &Places<'_>,
     params: &Value<'_>,
-) -> Result<Option<Change>, AllocError> {
+) -> Result<Vec<u8>, AllocError>
+    requires { HasNumbers (value_view id.now) }
+    ensures { IfOk result (λ body. IsAnswer (id_token (value_view id.now)) body.items) }
+{
+    let Some(within) = span_of(places, params) else {
+        return refused(alloc, id);
+    };
     match question {
-        Question::Formatting => format_whole(alloc, places.text),
-        _ => format_part(alloc, places.text, root, span_of(places, params)),
+        Question::Tokens => answer_tokens(alloc, id, root, places, within),
+        _ => {
+            let change = format_part(alloc, places.text, root, within)?;
+            answer_layout(alloc, id, places, &change)
+        }
     }
 }
 
@@ -147,21 +196,27 @@ fn answer_about(
 {
     match question {
         Question::Symbols => answer_symbols(alloc, id, root, places),
-        Question::Tokens => answer_tokens(alloc, id, root, places, span_of(places, params)),
-        Question::Hover => answer_hover(alloc, id, root, places, offset_of(places, params)),
-        Question::Formatting | Question::RangeFormatting => {
-            let change = layout_of(alloc, question, root, places, params)?;
+        Question::Folds => answer_folds(alloc, id, root, places),
+        Question::Selections => answer_selections(alloc, id, root, places, params),
+        Question::Formatting => {
+            let change = format_whole(alloc, places.text)?;
             answer_layout(alloc, id, places, &change)
         }
-        other => answer_result(alloc, id, other, root, places, uri, params),
+        Question::Tokens | Question::RangeFormatting => {
+            answer_within(alloc, id, question, root, places, params)
+        }
+        Question::Definition | Question::References | Question::Hover | Question::Completion => {
+            answer_at(alloc, id, question, root, places, uri, params)
+        }
     }
 }
 
-/// The answer to a question about a document.
+/// The answer to a question about the document with a name.
 pub(crate) fn answer_question(
     alloc: Global,
     id: &Value<'_>,
     question: Question,
+    uri: &str,
     document: &Document,
     params: &Value<'_>,
 ) -> Result<Vec<u8>, AllocError>
@@ -170,13 +225,5 @@ pub(crate) fn answer_question(
 {
     let places = document.places(alloc)?;
     let root = document.tree.root();
-    answer_about(
-        alloc,
-        id,
-        question,
-        root,
-        &places,
-        document.uri.as_str(),
-        params,
-    )
+    answer_about(alloc, id, question, root, &places, uri, params)
 }

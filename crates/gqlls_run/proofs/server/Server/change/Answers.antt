@@ -1,39 +1,37 @@
-use Rattle.std.proofs.Common.{◌≡◌, List, refl, inl, slice_index_or, subst, sym}
+use Rattle.std.proofs.Common.{List, ap, map, refl, rules, subst}
+use Rattle.std.specs.Prelude.{option_map}
 use Rattle.json.specs.Value.{value_view}
 use Rattle.open_document.specs.declared.Change.{Change}
-use Rattle.gqlls_run.specs.Contents.{IsChanged, Names}
-use Rattle.gqlls_run.specs.Parameters.{IsVersionIn}
-use Rattle.gqlls_run.proofs.Opened.{contains_written, none_named}
+use Rattle.rpc_messages.specs.declared.reply.Reply.TheVariants.{Notice}
+use Rattle.gqlls_run.specs.Parameters.{told}
+use Rattle.gqlls_run.specs.Session.{IsChanged}
+use Rattle.gqlls_run.specs.State.{content_of, session_of}
+use Rattle.gqlls_run.specs.declared.server.Server.{Server}
+use Rattle.gqlls_run.proofs.Maps.{updated}
+use Rattle.gqlls_run.proofs.Messages.{changes, found_in}
 use Rattle.gqlls_run.proofs.server.Server.change.Goals as goal
 
-pub returns-in_default-clause-changes : goal.returns-in_default-clause-changes
-returns-in_default-clause-changes c = λ document there named. absurd (none_named (value_view c.args.params.now) c.args.self.now.documents.items document c.in_default.ensures there named)
-
-pub returns-clause-tells : goal.returns-clause-tells
-returns-clause-tells c =
-    let before = c.in-Some.ensures.1 c.index_mut-document.result.now in
-    inl (record {
-      document = c.change.new.self;
-      open_now = contains_written c.args.self.now.documents.items c.in-Some.place c.change.new.self c.in-Some.ensures.0;
-      named = (cc (before, c.in_ok-change.ensures.named, c.index_mut-document.ensures.value));
-      versioned = subst (IsVersionIn (value_view c.args.params.now)) (sym c.in_ok-change.ensures.version) c.version_of.ensures;
-      told = c.in_ok-told.ensures.told;
-    })
-
 pub returns-clause-changes : goal.returns-clause-changes
-returns-clause-changes c = λ document there named.
-    let old = c.index_mut-document.result.now in
-    let was_there : slice_index_or c.args.self.now.documents.items c.in-Some.place old ≡ old = cc c.index_mut-document.ensures.value in
-    record {
-      place = c.in-Some.place;
-      old = old;
-      new = c.change.new.self;
-      changes = c.in_ok-changes.changes.items;
-      within = c.in-Some.ensures.0;
-      was_there = was_there;
-      is_there = refl;
-      named = subst (Names (value_view c.args.params.now)) was_there (c.in-Some.ensures.1 old);
-      same_name = c.in_ok-change.ensures.named;
-      told = c.in_ok-changes.ensures;
-      changed = subst (λ (changes : List Change). IsChanged changes old.content c.change.new.self.content) c.as_slice.ensures.value c.in_ok-change.ensures.changed;
-    }
+returns-clause-changes c =
+    let before = c.in-Some-get_mut.document.now in
+    let after : Server = record c.args.self.now { documents = c.get_mut.follows.lender c.change.new.self } in
+    changes (value_view c.args.params.now) (Notice c.in_ok-told.told) (session_of c.args.self.now) (session_of after)
+    c.in-Some.uri.now (map told c.in-Some-2.changes.items) before.content
+    (found_in _ _ _ _ c.uri_of.ensures c.in-Some.is) (found_in _ _ _ _ c.in_ok-changes.ensures c.in-Some-2.is)
+    (ap (option_map content_of) (found_in _ _ _ _ c.get_mut.ensures.value c.in-Some-get_mut.is))
+    (record {
+      after = c.change.new.self.content;
+      changed = subst (λ (changes : List Change). IsChanged (map told changes) before.content c.change.new.self.content)
+          c.as_slice.ensures.value c.in_ok-change.ensures.changed;
+      publishes = record {
+        sets = record {
+          documents = updated c.in-Some.uri.now c.in-Some.uri.now c.args.self.now.documents (c.get_mut.follows.lender c.change.new.self) _ _ refl
+              ((c.get_mut.follows.holds c.change.new.self).3 (search rules)) refl;
+          stage = refl;
+          encoding = refl;
+        };
+        version = c.version_of.result;
+        versioned = c.version_of.ensures;
+        told = c.in_ok-told.ensures.told;
+      };
+    })

@@ -1,31 +1,20 @@
-use Rattle.std.proofs.Common.{◌≡◌, List, ℕ, inl, subst, sym}
+use Rattle.std.proofs.Common.{refl}
 use Rattle.json.specs.Value.{value_view}
-use Rattle.gqlls_run.specs.Parameters.{IsVersionIn}
-use Rattle.gqlls_run.proofs.Opened.{found_once, given_name, not_found}
+use Rattle.rpc_messages.specs.declared.reply.Reply.TheVariants.{Notice}
+use Rattle.gqlls_run.specs.State.{session_of}
+use Rattle.gqlls_run.specs.declared.server.Server.{Server}
+use Rattle.gqlls_run.proofs.Messages.{found_in, opens}
 use Rattle.gqlls_run.proofs.server.Server.open.Goals as goal
 
-pub returns-in_default-clause-opens : goal.returns-in_default-clause-opens
-returns-in_default-clause-opens c = λ uri text named is. absurd (not_found _ _ _ _ c.uri_of.ensures c.in_default.is named)
-
-pub returns-in_default-text_of-clause-opens : goal.returns-in_default-text_of-clause-opens
-returns-in_default-text_of-clause-opens c = λ uri text named is. absurd (not_found _ _ _ _ c.text_of.ensures c.in_default-text_of.is is)
-
-pub returns-clause-tells : goal.returns-clause-tells
-returns-clause-tells c =
-    inl (record {
-      document = c.in_ok-document.document;
-      open_now = c.in_ok-insert.ensures;
-      named = given_name _ _ c.in-Some.uri _ _ c.uri_of.ensures c.in-Some.is c.in_ok-document.ensures.named;
-      versioned = subst (IsVersionIn (value_view c.args.params.now)) (sym c.in_ok-document.ensures.version) c.version_of.ensures;
+pub returns-clause-opens : goal.returns-clause-opens
+returns-clause-opens c =
+    let after : Server = record c.args.self.now { documents = c.insert.new.documents } in
+    opens (value_view c.args.params.now) (Notice c.in_ok-told.told) (session_of c.args.self.now) (session_of after)
+    c.in-Some.uri.now c.in-Some-text_of.text.now c.in_ok-document.document.content
+    (found_in _ _ _ _ c.uri_of.ensures c.in-Some.is) (found_in _ _ _ _ c.text_of.ensures c.in-Some-text_of.is) c.in_ok-document.ensures.content
+    (record {
+      sets = record { documents = c.in_ok-insert.ensures; stage = refl; encoding = refl };
+      version = c.version_of.result;
+      versioned = c.version_of.ensures;
       told = c.in_ok-told.ensures.told;
     })
-
-pub returns-clause-opens : goal.returns-clause-opens
-returns-clause-opens c = λ uri text named is.
-    record {
-      document = c.in_ok-document.document;
-      open_now = c.in_ok-insert.ensures;
-      named = given_name _ _ c.in-Some.uri _ _ c.uri_of.ensures c.in-Some.is c.in_ok-document.ensures.named;
-      content = subst (λ (t : List ℕ). c.in_ok-document.document.content ≡ record { encoding = c.args.self.now.encoding; text = t })
-          (found_once _ _ _ _ _ c.text_of.ensures c.in-Some-text_of.is is) c.in_ok-document.ensures.content;
-    }

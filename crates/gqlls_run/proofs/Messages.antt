@@ -1,0 +1,59 @@
+-- What messages come to.
+use Rattle.std.proofs.Common.{◌≡◌, ℕ, List, Option, Some, None, true, false, sym, ap, ◌∙◌, subst}
+use Rattle.std.specs.Prelude.{MatchOption, is_none, option_map}
+use Rattle.json.specs.Json.{Json}
+use Rattle.open_document.specs.Client.{Opened}
+use Rattle.rpc_messages.specs.declared.reply.Reply.{Reply}
+use Rattle.gqlls_run.specs.Conversation.{Changes, Closes, IsIgnored, Opens, Publishes, PublishesChanges, Withdraws, opened}
+use Rattle.gqlls_run.specs.Parameters.{Edit, edits_in, text_in, uri_in}
+use Rattle.gqlls_run.specs.Session.{Session}
+use Rattle.gqlls_run.specs.declared.server.Stage.{Stage}
+use Rattle.gqlls_run.specs.declared.server.Stage.TheVariants.{New, Running, ShutDown}
+
+pub found_in : {A B : Type 0} (f : A → B) (r : Option A) (x : A) (found : Option B) → option_map f r ≡ found → r ≡ Some x → found ≡ Some (f x)
+found_in f r x found e is = sym e ∙ ap (option_map f) is
+
+new_running : (stage : Stage) → stage ≡ New → stage ≡ Running → ⊥
+new_running stage is_new runs = cc
+
+new_shut : (stage : Stage) → stage ≡ New → stage ≡ ShutDown → ⊥
+new_shut stage is_new shut = cc
+
+running_shut : (stage : Stage) → stage ≡ Running → stage ≡ ShutDown → ⊥
+running_shut stage runs shut = cc
+
+module _ (params : Json) (reply : Reply) (old new : Session) where
+  pub opens : (uri text : List ℕ) (content : Opened) → uri_in params ≡ Some uri → text_in params ≡ Some text → content ≡ opened old text
+      → Publishes uri content params reply old new → Opens params reply old new
+  opens uri text content named told is published =
+      let there : (content : Opened) → Type 0 = λ content. Publishes uri content params reply old new in
+      let with_text : (o : Option (List ℕ)) → Type 0 =
+      λ o. MatchOption o (IsIgnored reply old new) (λ text. Publishes uri (opened old text) params reply old new) in
+      let with_name : (o : Option (List ℕ)) → Type 0 =
+      λ o. MatchOption o (IsIgnored reply old new)
+      (λ uri. MatchOption (text_in params) (IsIgnored reply old new) (λ text. Publishes uri (opened old text) params reply old new)) in
+      subst with_name (sym named) (subst with_text (sym told) (subst there is published))
+
+  pub changes : (uri : List ℕ) (edits : List Edit) (before : Opened) → uri_in params ≡ Some uri → edits_in params ≡ Some edits → old.documents uri ≡ Some before
+      → PublishesChanges uri edits before params reply old new → Changes params reply old new
+  changes uri edits before named told there published =
+      let with_before : (o : Option Opened) → Type 0 =
+      λ o. MatchOption o (IsIgnored reply old new) (λ before. PublishesChanges uri edits before params reply old new) in
+      let with_edits : (o : Option (List Edit)) → Type 0 =
+      λ o. MatchOption o (IsIgnored reply old new)
+      (λ edits. MatchOption (old.documents uri) (IsIgnored reply old new) (λ before. PublishesChanges uri edits before params reply old new)) in
+      let with_name : (o : Option (List ℕ)) → Type 0 =
+      λ o. MatchOption o (IsIgnored reply old new)
+      (λ uri. MatchOption (edits_in params) (IsIgnored reply old new)
+      (λ edits. MatchOption (old.documents uri) (IsIgnored reply old new) (λ before. PublishesChanges uri edits before params reply old new))) in
+      subst with_name (sym named) (subst with_edits (sym told) (subst with_before (sym there) published))
+
+  pub closes : {A : Type 0} (uri : List ℕ) (content : A → Opened) (removed : Option A) → uri_in params ≡ Some uri
+      → option_map content removed ≡ old.documents uri → is_none removed ≡ false
+      → Withdraws uri reply old new → Closes params reply old new
+  closes uri content None named there some withdraws = absurd (let no : true ≡ false = some in cc no)
+  closes uri content (Some document) named there some withdraws =
+      let with_before : (o : Option Opened) → Type 0 = λ o. MatchOption o (IsIgnored reply old new) (λ before. Withdraws uri reply old new) in
+      let with_name : (o : Option (List ℕ)) → Type 0 =
+      λ o. MatchOption o (IsIgnored reply old new) (λ uri. MatchOption (old.documents uri) (IsIgnored reply old new) (λ before. Withdraws uri reply old new)) in
+      subst with_name (sym named) (subst with_before there withdraws)

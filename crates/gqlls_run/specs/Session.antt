@@ -1,0 +1,35 @@
+-- What a client and the server have in common during a conversation.
+use Rattle.std.specs.Prelude.{◌≡◌, ◌≢◌, ℕ, List, fold, Option, None}
+use Rattle.line_index.specs.Positions.{units}
+use Rattle.line_index.specs.declared.PositionEncoding.{PositionEncoding}
+use Rattle.line_index.specs.declared.PositionEncoding.TheVariants.{Utf16}
+use Rattle.open_document.specs.Client.{Opened, replaced}
+use Rattle.gqlls_run.specs.Parameters.{Edit}
+use Rattle.gqlls_run.specs.declared.server.Stage.{Stage}
+use Rattle.gqlls_run.specs.declared.server.Stage.TheVariants.{New}
+
+-- how far the conversation is, how columns are counted, and by its name the text of each document that the client has open
+pub record Session : Type 0 where
+  pub stage : Stage
+  pub encoding : PositionEncoding
+  pub documents : List ℕ → Option Opened
+
+-- no message was read
+abbrev pub begun : Session
+begun = record { stage = New; encoding = Utf16; documents = λ name. None }
+
+-- one document is opened, changed or closed, and the others stay
+pub record Updates (uri : List ℕ) (content : Option Opened) (old new : List ℕ → Option Opened) : Type 0 where
+  pub this : new uri ≡ content
+  pub others : (name : List ℕ) → name ≢ uri → new name ≡ old name
+
+-- nothing else changes
+pub record Sets (uri : List ℕ) (content : Option Opened) (old new : Session) : Type 0 where
+  pub documents : Updates uri content old.documents new.documents
+  pub stage : new.stage ≡ old.stage
+  pub encoding : new.encoding ≡ old.encoding
+
+-- a text is the one before with some changes, each made by the client to the text that the one before it left
+pub record IsChanged (edits : List Edit) (old new : Opened) : Type 0 where
+  pub encoding : new.encoding ≡ old.encoding
+  pub text : units old.encoding new.text ≡ fold (λ text edit. replaced old.encoding text edit.0 (units old.encoding edit.1)) (units old.encoding old.text) edits

@@ -1,0 +1,25 @@
+-- What a server keeps of a conversation.
+use Rattle.std.specs.Prelude.{ℕ, List, Option, option_map}
+use Rattle.std.specs.BTreeMap.{BTreeMap, get_by_text}
+use Rattle.std.specs.declared.string.String.{String}
+use Rattle.json.specs.Json.{Json}
+use Rattle.open_document.specs.Client.{Opened}
+use Rattle.rpc_messages.specs.declared.reply.Reply.{Reply}
+use Rattle.gqlls_run.specs.Conversation.{Steps}
+use Rattle.gqlls_run.specs.Session.{Session}
+use Rattle.gqlls_run.specs.declared.documents.Document.{Document}
+use Rattle.gqlls_run.specs.declared.server.Server.{Server}
+
+abbrev pub content_of : Document → Opened
+content_of document = document.content
+
+-- the texts of documents, by their names
+abbrev pub contents : {A : Type 0} → BTreeMap (String A) Document → List ℕ → Option Opened
+contents documents name = option_map content_of (get_by_text documents name)
+
+abbrev pub session_of : Server → Session
+session_of server = record { stage = server.stage; encoding = server.encoding; documents = contents server.documents }
+
+-- the message takes the session that the server keeps from one to the next
+abbrev pub StepsOf : Server → Option Json → List ℕ → Json → Reply → Server → Type 0
+StepsOf old id method params reply new = Steps (session_of old) id method params reply (session_of new)
