@@ -1,5 +1,5 @@
 -- Parts of a text, and what is found in them.
-use Rattle.std.specs.Prelude.{◌≡◌, ◌≢◌, ℕ, ◌<◌, ◌≤◌, List, slice_index_or, slice_range}
+use Rattle.std.specs.Prelude.{◌≢◌, ℕ, ◌<◌, ◌≤◌, List, slice_index_or, slice_range}
 use Rattle.std.specs.List.{All, AllPairs}
 use Rattle.document_answers.specs.declared.span.Span.{Span}
 use Rattle.document_answers.specs.declared.coloring.SemanticToken.{SemanticToken}
@@ -39,13 +39,5 @@ EndBefore offset tokens = All (λ token. token.span.end ≤ offset) tokens
 abbrev pub text_in : List ℕ → Span → List ℕ
 text_in text part = slice_range text part.start part.end
 
--- the text is that of a part of a source, which has an offset in it or at its end
-pub record IsTextAt (source : List ℕ) (offset : ℕ) (text : List ℕ) : Type 0 where
-  pub part : Span
-  pub starts : part.start ≤ offset
-  pub ends : offset ≤ part.end
-  pub is : text ≡ text_in source part
-
--- a part of a source has the text of the name that has an offset in it or at its end
-abbrev pub HasNameAt : List ℕ → ℕ → Span → Type 0
-HasNameAt source offset part = IsTextAt source offset (text_in source part)
+abbrev pub bounds : Span → ℕ × ℕ
+bounds part = (part.start, part.end)

@@ -1,19 +1,19 @@
 // What a node is called.
-ghost use Rattle.std.specs.Prelude.{◌≤◌, IfSome};
-ghost use Rattle.apollo_tree.specs.Order.{range_at};
-ghost use Rattle.apollo_tree.specs.References.{token_place};
+ghost use Rattle.std.specs.Prelude.{◌≡◌, MatchOption, false, option_map, true};
+ghost use Rattle.std.specs.List.{find, list_any};
+ghost use Rattle.document_grammar.specs.Numbers.{is_kind};
+ghost use Rattle.apollo_tree.specs.Below.{at_or_below};
+ghost use Rattle.apollo_tree.specs.References.{node_place, token_place};
+ghost use Rattle.apollo_tree.specs.Yields.{element_place};
+ghost use Rattle.document_answers.specs.Names.{is_touched};
 
-use crate::span::span_of;
 use apollo_tree::{SyntaxElement, SyntaxKind, SyntaxNode, SyntaxToken};
 
 /// Whether a kind is one of these.
-pub(crate) fn is_one_of(kind: SyntaxKind, kinds: &[SyntaxKind]) -> bool {
-    for one in kinds {
-        if kind.is(*one) {
-            return true;
-        }
-    }
-    false
+pub(crate) fn is_one_of(kind: SyntaxKind, kinds: &[SyntaxKind]) -> bool
+    ensures { result ≡ list_any (λ one. is_kind one kind) kinds.now }
+{
+    kinds.iter().any(|one| kind.is(*one))
 }
 
 /// What a table has for a kind.
@@ -63,16 +63,27 @@ pub(crate) fn type_of<'t>(node: SyntaxNode<'t>) -> Option<SyntaxNode<'t>> {
     )
 }
 
+// The leaf of an element that is an identifier with a place in it or at its end.
+fn touched<'t>(element: SyntaxElement<'t>, offset: usize) -> Option<SyntaxToken<'t>>
+    ensures { MatchOption result (is_touched offset (element_place element.entry) ≡ false)
+        (λ leaf. (is_touched offset (element_place element.entry) ≡ true) × (token_place leaf ≡ element_place element.entry)) }
+{
+    let leaf = element.into_token()?;
+    let range = leaf.text_range();
+    if leaf.kind().is(SyntaxKind::IDENT) && range.start() <= offset && offset <= range.end() {
+        Some(leaf)
+    } else {
+        None
+    }
+}
+
 /// The identifier at a place, or that ends there.
 pub(crate) fn identifier_at<'t>(root: SyntaxNode<'t>, offset: usize) -> Option<SyntaxToken<'t>>
-    ensures { IfSome result (λ leaf. ((range_at (token_place leaf)).0 ≤ offset) × (offset ≤ (range_at (token_place leaf)).1)) }
+    ensures { option_map token_place result ≡ find (is_touched offset) (at_or_below (node_place root.entry)) }
 {
     for element in root.descendants_with_tokens() {
-        if let SyntaxElement::Token(token) = element {
-            let span = span_of(token.text_range());
-            if span.start <= offset && offset <= span.end && token.kind().is(SyntaxKind::IDENT) {
-                return Some(token);
-            }
+        if let Some(leaf) = touched(element, offset) {
+            return Some(leaf);
         }
     }
     None

@@ -1,10 +1,16 @@
 // Where a name is defined and where it is used.
-ghost use Rattle.std.specs.Prelude.{◌≡◌, IfOk, IfSome, true};
-ghost use Rattle.std.specs.List.{All};
-ghost use Rattle.document_answers.specs.Parts.{HasNameAt, IsTextAt, text_in};
+ghost use Rattle.std.specs.Prelude.{◌≡◌, IfOk, map, option_map};
+ghost use Rattle.std.specs.List.{find};
+ghost use Rattle.apollo_tree.specs.Above.{at_or_above};
+ghost use Rattle.apollo_tree.specs.Order.{parent_place, range_at};
+ghost use Rattle.apollo_tree.specs.References.{node_place, token_place};
+ghost use Rattle.apollo_tree.specs.Yields.{element_place};
+ghost use Rattle.document_grammar.specs.declared.kind.SyntaxKind.TheVariants.{OPERATION_DEFINITION};
+ghost use Rattle.document_answers.specs.Names.{above, definition_in, is_definition, is_name, is_of, is_reference, references_in, scope_of, wanted, wanted_at};
+ghost use Rattle.document_answers.specs.Parts.{bounds};
 
 use crate::labels::identifier_at;
-use crate::names::{NameKind, meaning_of};
+use crate::names::{NameKind, is_defined_by, is_name_of, kind_of};
 use crate::span::{Span, span_of};
 use apollo_tree::{SyntaxElement, SyntaxKind, SyntaxNode, SyntaxToken};
 use std::alloc::{AllocError, Global};
@@ -17,73 +23,92 @@ struct Sought<'t> {
     scope: SyntaxNode<'t>,
 }
 
-// Where a name has its meaning: a variable of an operation there, any other name in the whole document.
-fn scope_of<'t>(root: SyntaxNode<'t>, leaf: SyntaxToken<'t>, kind: NameKind) -> SyntaxNode<'t> {
-    if kind == NameKind::Variable
-        && let Some(node) = leaf.parent()
-    {
-        for outer in node.ancestors() {
-            if outer.kind().is(SyntaxKind::OPERATION_DEFINITION) {
-                return outer;
-            }
-        }
-    }
-    root
-}
-
-// The name at a place of a text.
-fn sought_at<'t>(source: &'t str, root: SyntaxNode<'t>, offset: usize) -> Option<Sought<'t>>
-    ensures { IfSome result (λ sought. IsTextAt source.now offset sought.text.now) }
+// The operation that a node is, or is in.
+fn operation_from<'t>(node: SyntaxNode<'t>) -> Option<SyntaxNode<'t>>
+    ensures { option_map node_place result ≡ find (is_of OPERATION_DEFINITION) (at_or_above (node_place node.entry)) }
 {
-    if let Some(leaf) = identifier_at(root, offset)
-        && let Some(meaning) = meaning_of(leaf)
-        && let Some(text) = span_of(leaf.text_range()).text(source)
-    {
-        return Some(Sought {
-            kind: meaning.kind,
-            text,
-            scope: scope_of(root, leaf, meaning.kind),
-        });
+    for outer in node.ancestors() {
+        if outer.kind().is(SyntaxKind::OPERATION_DEFINITION) {
+            return Some(outer);
+        }
     }
     None
 }
 
-// Whether a leaf defines a name that stands for this; `None` where it is another name, or none.
-fn defines(leaf: SyntaxToken<'_>, kind: NameKind) -> Option<bool> {
-    if let Some(meaning) = meaning_of(leaf)
-        && meaning.kind == kind
-    {
-        Some(meaning.defines)
-    } else {
-        None
+// The operation that a leaf is in.
+fn operation_around<'t>(leaf: SyntaxToken<'t>) -> Option<SyntaxNode<'t>>
+    ensures { option_map node_place result ≡ find (is_of OPERATION_DEFINITION) (above (parent_place (token_place leaf.entry))) }
+{
+    operation_from(leaf.parent()?)
+}
+
+// Where a name has its meaning: that of a variable in the operation that it is in, any other in the whole document.
+fn scope_of<'t>(root: SyntaxNode<'t>, leaf: SyntaxToken<'t>, kind: NameKind) -> SyntaxNode<'t>
+    ensures { node_place result ≡ scope_of (node_place root.entry) (token_place leaf.entry) kind }
+{
+    match kind {
+        NameKind::Variable => match operation_around(leaf) {
+            Some(operation) => operation,
+            None => root,
+        },
+        NameKind::Fragment | NameKind::Type | NameKind::Directive => root,
     }
 }
 
-// Whether a part of a text has the name that is looked for.
-fn has_name(source: &str, span: Span, sought: Sought<'_>) -> bool
-    ensures { result ≡ true → text_in source.now span ≡ sought.entry.text.now }
+// The name at a place.
+fn sought_at<'t>(root: SyntaxNode<'t>, offset: usize) -> Option<Sought<'t>>
+    ensures { option_map (λ sought. wanted sought.kind sought.text.now (node_place sought.scope)) result ≡ wanted_at (node_place root.entry) offset }
 {
-    match span.text(source) {
-        Some(text) => text == sought.text,
+    let leaf = identifier_at(root, offset)?;
+    let kind = kind_of(leaf)?;
+    Some(Sought {
+        kind,
+        text: leaf.text(),
+        scope: scope_of(root, leaf, kind),
+    })
+}
+
+// Whether an element is the leaf of the name that is looked for.
+fn is_name(element: SyntaxElement<'_>, sought: Sought<'_>) -> bool
+    ensures { result ≡ is_name sought.entry.kind sought.entry.text.now (element_place element.entry) }
+{
+    match element.into_token() {
+        Some(leaf) => {
+            leaf.kind().is(SyntaxKind::IDENT)
+                && is_name_of(leaf, sought.kind)
+                && leaf.text() == sought.text
+        }
         None => false,
     }
+}
+
+// Whether it is this in a definition.
+fn is_definition(element: SyntaxElement<'_>, sought: Sought<'_>) -> bool
+    ensures { result ≡ is_definition sought.entry.kind sought.entry.text.now (element_place element.entry) }
+{
+    match element.into_token() {
+        Some(leaf) => is_name(element, sought) && is_defined_by(leaf, sought.kind),
+        None => false,
+    }
+}
+
+// Whether it is a use of the name, or a definition where these are looked for too.
+fn is_reference(element: SyntaxElement<'_>, sought: Sought<'_>, with_definition: bool) -> bool
+    ensures { result ≡ is_reference with_definition sought.entry.kind sought.entry.text.now (element_place element.entry) }
+{
+    is_name(element, sought) && (with_definition || !is_definition(element, sought))
 }
 
 /// Where the fragment, variable, type or directive is defined whose name is at a place of a text, or ends there, by the root of the text's tree:
 /// the part that the name takes in the definition. `None` where there is no such name or no definition. The first counts where there are
 /// several.
-pub fn definition(source: &str, root: SyntaxNode<'_>, offset: usize) -> Option<Span>
-    ensures { IfSome result (HasNameAt source.now offset) }
+pub fn definition(root: SyntaxNode<'_>, offset: usize) -> Option<Span>
+    ensures { option_map bounds result ≡ option_map range_at (definition_in (node_place root.entry) offset) }
 {
-    let sought = sought_at(source, root, offset)?;
+    let sought = sought_at(root, offset)?;
     for element in sought.scope.descendants_with_tokens() {
-        if let SyntaxElement::Token(leaf) = element
-            && let Some(true) = defines(leaf, sought.kind)
-        {
-            let span = span_of(leaf.text_range());
-            if has_name(source, span, sought) {
-                return Some(span);
-            }
+        if is_definition(element, sought) {
+            return Some(span_of(element.text_range()));
         }
     }
     None
@@ -93,26 +118,19 @@ pub fn definition(source: &str, root: SyntaxNode<'_>, offset: usize) -> Option<S
 /// says so. It fails only where memory is refused.
 pub fn references(
     alloc: Global,
-    source: &str,
     root: SyntaxNode<'_>,
     offset: usize,
     with_definition: bool,
 ) -> Result<Vec<Span>, AllocError>
-    ensures { IfOk result (λ found. All (HasNameAt source.now offset) found.items) }
+    ensures { IfOk result (λ found. map bounds found.items ≡ map range_at (references_in (node_place root.entry) offset with_definition)) }
 {
     let mut found = Vec::new(alloc);
-    let Some(sought) = sought_at(source, root, offset) else {
+    let Some(sought) = sought_at(root, offset) else {
         return Ok(found);
     };
     for element in sought.scope.descendants_with_tokens() {
-        if let SyntaxElement::Token(leaf) = element
-            && let Some(is_definition) = defines(leaf, sought.kind)
-            && (with_definition || !is_definition)
-        {
-            let span = span_of(leaf.text_range());
-            if has_name(source, span, sought) {
-                found.push(span)?;
-            }
+        if is_reference(element, sought, with_definition) {
+            found.push(span_of(element.text_range()))?;
         }
     }
     Ok(found)

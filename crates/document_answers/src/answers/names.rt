@@ -34,7 +34,7 @@ pub fn push_definition<'p>(
     uri: &'p str,
     offset: usize,
 ) -> Result<(), AllocError> {
-    match definition(places.text, root, offset) {
+    match definition(root, offset) {
         Some(span) => push_location(pieces, places, uri, span),
         None => pieces.extend_from_slice(&[Piece::Null]),
     }
@@ -65,7 +65,7 @@ pub fn push_references<'p>(
     offset: usize,
     with_definition: bool,
 ) -> Result<(), AllocError> {
-    let found = references(alloc, places.text, root, offset, with_definition)?;
+    let found = references(alloc, root, offset, with_definition)?;
     push_locations(pieces, places, uri, found.as_slice())
 }
 
