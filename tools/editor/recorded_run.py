@@ -81,12 +81,15 @@ def selection(smallest, *others):
 
 CONVERSATION = [
     (request(0, "textDocument/hover", textDocument=DOCUMENT), error(0, -32002, "not initialized")),
-    (request(1, "initialize", capabilities={}), result(1, {"serverInfo": {"name": "gqlls"}, "capabilities": CAPABILITIES})),
+    (request(1, "initialize", capabilities={}), result(1, {"capabilities": CAPABILITIES, "serverInfo": {"name": "gqlls"}})),
     (notification("initialized"), b""),
     (notification("textDocument/didOpen", textDocument={"uri": URI, "languageId": "graphql", "version": 1, "text": FAULTY}),
      published(1, diagnostic(9, 10, "expected COLON, got )"), diagnostic(19, 19, "expected R_CURLY, got EOF"))),
     (notification("textDocument/didChange", textDocument={"uri": URI, "version": 2},
                   contentChanges=[{"text": TEXT}, {"range": span(1, 10, 11), "text": "A"}]), published(2)),
+    # a range that is none
+    (notification("textDocument/didChange", textDocument={"uri": URI, "version": 3}, contentChanges=[{"range": [], "text": ""}]), b""),
+    (request(2, "textDocument/hover", textDocument=DOCUMENT), error(2, -32602, "no such place")),
     (request("three", "textDocument/definition", textDocument=DOCUMENT, position=at(1, 10)), result("three", {"uri": URI, "range": span(0, 5, 6)})),
     (request(4, "textDocument/hover", textDocument=DOCUMENT, position=at(1, 7)),
      result(4, {"contents": {"kind": "markdown", "value": "```graphql\nb: A\n```\n\n😀"}, "range": span(1, 7, 8)})),

@@ -1,4 +1,5 @@
 pub mod Conversation
+pub mod Layout
 pub mod Parameters
 pub mod Session
 pub mod State

@@ -1,7 +1,8 @@
 // The layout of a document, or of some of its definitions.
-ghost use Rattle.std.specs.Prelude.{IfOk, IfSome, string_bytes};
+ghost use Rattle.std.specs.Prelude.{[], ◌∷◌, IfOk, IfSome, string_bytes};
 ghost use Rattle.apollo_parser.specs.Answers.{usize_max};
 ghost use Rattle.formatter.specs.Outcome.{IsFormatted};
+ghost use Rattle.gqlls_run.specs.Layout.{IsLayout};
 
 use crate::parsing::RECURSION_LIMIT;
 use apollo_parser::SyntaxNode;
@@ -62,7 +63,7 @@ fn definitions_within(root: SyntaxNode<'_>, within: Span) -> Option<Span> {
 
 /// The whole document with the layout of `formatter`; `None` where it has errors. It fails only where memory is refused.
 pub(crate) fn format_whole(alloc: Global, source: &str) -> Result<Option<Change>, AllocError>
-    ensures { IfOk result (λ r. IfSome r (λ change. IsFormatted source.now 500 usize_max (string_bytes change.text))) }
+    ensures { IfOk result (λ r. IfSome r (IsLayout source.now [])) }
 {
     let Some(text) = formatted(alloc, source)? else {
         return Ok(None);
@@ -74,17 +75,29 @@ pub(crate) fn format_whole(alloc: Global, source: &str) -> Result<Option<Change>
     Ok(Some(Change { span, text }))
 }
 
-// A part of a text with the layout of `formatter`, without the space after it; `None` where it has errors.
-fn format_at(alloc: Global, source: &str, span: Span) -> Result<Option<Change>, AllocError> {
-    let part = source.get(span.start..span.end).unwrap_or("").trim_end();
+// A part of a text without the space at its end.
+fn trimmed(source: &str, span: Span) -> Span {
+    let part = source.get(span.start..span.end).unwrap_or("");
+    Span {
+        start: span.start,
+        end: span.start.saturating_add(part.trim_end().len()),
+    }
+}
+
+// A part of a text with the layout of `formatter`, without the line end after it; `None` where it has errors.
+fn format_at(alloc: Global, source: &str, span: Span) -> Result<Option<Change>, AllocError>
+    ensures { IfOk result (λ r. IfSome r (IsLayout source.now (10 ∷ []))) }
+{
+    let Some(part) = source.get(span.start..span.end) else {
+        return Ok(None);
+    };
     let Some(text) = formatted(alloc, part)? else {
         return Ok(None);
     };
-    let span = Span {
-        start: span.start,
-        end: span.start.saturating_add(part.len()),
+    let Some(text) = text.as_str().strip_suffix("\n") else {
+        return Ok(None);
     };
-    let text = String::from_str(alloc, text.trim_end())?;
+    let text = String::from_str(alloc, text)?;
     Ok(Some(Change { span, text }))
 }
 
@@ -95,9 +108,11 @@ pub(crate) fn format_part(
     source: &str,
     root: SyntaxNode<'_>,
     within: Span,
-) -> Result<Option<Change>, AllocError> {
+) -> Result<Option<Change>, AllocError>
+    ensures { IfOk result (λ r. IfSome r (IsLayout source.now (10 ∷ []))) }
+{
     match definitions_within(root, within) {
-        Some(span) => format_at(alloc, source, span),
+        Some(span) => format_at(alloc, source, trimmed(source, span)),
         None => Ok(None),
     }
 }
