@@ -66,27 +66,39 @@ fn messages(rt: HostRuntime) -> Result<(), AllocError> {
     Ok(())
 }
 
-// The member of an answer.
-const MEMBER: [Piece<'static>; 4] = [
-    Piece::Key("result"),
-    Piece::Array,
-    Piece::Counts(&[1, 20]),
-    Piece::EndArray,
-];
-
 const ANSWERED: &str = r#"{"jsonrpc":"2.0","id":"a","result":[1,20]}"#;
+
+// What JSON-RPC says where there is no result.
+const FAILED: &str =
+    r#"{"jsonrpc":"2.0","id":"a","error":{"code":-32603,"message":"internal error"}}"#;
 
 #[test]
 fn answers_by_pieces(rt: HostRuntime) -> Result<(), AllocError> {
-    let body = answer(rt.alloc(), &Value::String("a"), &MEMBER)?;
-    expect(&rt, body, ANSWERED);
+    let id = Value::String("a");
+    expect(
+        &rt,
+        answer(rt.alloc(), &id, &[Piece::Counts(&[1, 20])])?,
+        ANSWERED,
+    );
+    expect(
+        &rt,
+        answer(rt.alloc(), &id, &[Piece::Array, Piece::EndObject])?,
+        FAILED,
+    );
     Ok(())
 }
 
-const NOTICED: &str = r#"{"jsonrpc":"2.0","method":"x","params":true}"#;
+const NOTICED: &str = r#"{"jsonrpc":"2.0","method":"x","params":{"a":true}}"#;
+
+const PARAMS: [Piece<'static>; 4] = [
+    Piece::Object,
+    Piece::Key("a"),
+    Piece::Flag(true),
+    Piece::EndObject,
+];
 
 #[test]
 fn notices_by_pieces(rt: HostRuntime) -> Result<(), AllocError> {
-    expect(&rt, notice(rt.alloc(), "x", &[Piece::Flag(true)])?, NOTICED);
+    expect(&rt, notice(rt.alloc(), "x", &PARAMS)?, NOTICED);
     Ok(())
 }

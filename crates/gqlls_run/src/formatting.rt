@@ -2,7 +2,7 @@
 ghost use Rattle.std.specs.Prelude.{IfOk};
 ghost use Rattle.json.specs.Tree.{HasNumbers};
 ghost use Rattle.json.specs.Value.{value_view};
-ghost use Rattle.rpc_messages.specs.Messages.{IsAnswer, id_token};
+ghost use Rattle.rpc_messages.specs.Messages.{IsAnswer};
 
 use crate::layout::Change;
 use diagnostic_messages::Places;
@@ -34,13 +34,12 @@ pub(crate) fn answer_layout(
     change: &Option<Change>,
 ) -> Result<Vec<u8>, AllocError>
     requires { HasNumbers (value_view id.now) }
-    ensures { IfOk result (λ body. IsAnswer (id_token (value_view id.now)) body.items) }
+    ensures { IfOk result (λ body. IsAnswer (value_view id.now) body.items) }
 {
     let Some(change) = change else {
-        return answer(alloc, id, &[Piece::Key("result"), Piece::Null]);
+        return answer(alloc, id, &[Piece::Null]);
     };
     let mut pieces = Vec::new(alloc);
-    pieces.extend_from_slice(&[Piece::Key("result")])?;
     push_change(&mut pieces, places, change)?;
     answer(alloc, id, pieces.as_slice())
 }

@@ -2,7 +2,7 @@
 ghost use Rattle.std.specs.Prelude.{IfOk};
 ghost use Rattle.json.specs.Tree.{HasNumbers};
 ghost use Rattle.json.specs.Value.{value_view};
-ghost use Rattle.rpc_messages.specs.Messages.{IsAnswer, id_token};
+ghost use Rattle.rpc_messages.specs.Messages.{IsAnswer};
 
 use crate::completing::push_completions;
 use crate::documents::Document;
@@ -98,7 +98,7 @@ fn answer_at<'p>(
     params: &Value<'_>,
 ) -> Result<Vec<u8>, AllocError>
     requires { HasNumbers (value_view id.now) }
-    ensures { IfOk result (λ body. IsAnswer (id_token (value_view id.now)) body.items) }
+    ensures { IfOk result (λ body. IsAnswer (value_view id.now) body.items) }
 {
     let Some(offset) = offset_of(places, params) else {
         return refused(alloc, id);
@@ -192,7 +192,7 @@ fn answer_about(
     params: &Value<'_>,
 ) -> Result<Vec<u8>, AllocError>
     requires { HasNumbers (value_view id.now) }
-    ensures { IfOk result (λ body. IsAnswer (id_token (value_view id.now)) body.items) }
+    ensures { IfOk result (λ body. IsAnswer (value_view id.now) body.items) }
 {
     match question {
         Question::Symbols => answer_symbols(alloc, id, root, places),
@@ -221,7 +221,7 @@ pub(crate) fn answer_question(
     params: &Value<'_>,
 ) -> Result<Vec<u8>, AllocError>
     requires { HasNumbers (value_view id.now) }
-    ensures { IfOk result (λ body. IsAnswer (id_token (value_view id.now)) body.items) }
+    ensures { IfOk result (λ body. IsAnswer (value_view id.now) body.items) }
 {
     let places = document.places(alloc)?;
     let root = document.tree.root();

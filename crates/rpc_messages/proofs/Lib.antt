@@ -1,3 +1,5 @@
 pub mod Added
+pub mod Answered
 pub mod Asked
+pub mod Nested
 pub mod Taken

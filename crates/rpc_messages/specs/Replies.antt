@@ -1,16 +1,16 @@
 -- What a reply may be.
 use Rattle.std.specs.Prelude.{◌≡◌, ⊤, Option, Some, None}
-use Rattle.json.specs.Token.{Token}
+use Rattle.json.specs.Json.{Json}
 use Rattle.rpc_messages.specs.declared.reply.Reply.{Reply}
 use Rattle.rpc_messages.specs.declared.reply.Reply.TheVariants.{Nothing, Answer, Notice, Exit}
 use Rattle.rpc_messages.specs.Messages.{IsAnswer, IsNotice}
 
 -- The reply to what asks for an answer with this id, or for none. There is an answer exactly where one is asked for, and it has that id.
-abbrev pub Replies : Option Token → Reply → Type 0
-Replies t Nothing = t ≡ None
-Replies t (Answer body) = (id : Token) × (t ≡ Some id) × IsAnswer id body.items
-Replies t (Notice body) = (t ≡ None) × IsNotice body.items
-Replies t (Exit status) = t ≡ None
+abbrev pub Replies : Option Json → Reply → Type 0
+Replies asked Nothing = asked ≡ None
+Replies asked (Answer body) = (id : Json) × (asked ≡ Some id) × IsAnswer id body.items
+Replies asked (Notice body) = (asked ≡ None) × IsNotice body.items
+Replies asked (Exit status) = asked ≡ None
 
 -- the reply ends the conversation only where this holds
 abbrev pub EndsOnlyIf : Type 0 → Reply → Type 0

@@ -1,12 +1,11 @@
 -- What a message comes to at the service that it is given to.
 use Rattle.std.specs.Prelude.{◌≡◌, ◌⊎◌, ℕ, ℤ, List, Option, Some, None, codes, unwrap_or}
 use lib.IntN.{pos, neg_ℤ}
-use Rattle.json.specs.Token as token
 use Rattle.json.specs.Json.{Json, null}
 use Rattle.json.specs.Find.{as_str, get}
 use Rattle.rpc_messages.specs.declared.reply.Reply.{Reply}
 use Rattle.rpc_messages.specs.declared.reply.Reply.TheVariants.{Nothing, Answer, Notice, Exit}
-use Rattle.rpc_messages.specs.Messages.{IsAnswerOf, IsJson, IsNoJson, error_member}
+use Rattle.rpc_messages.specs.Messages.{IsError, IsJson, IsNoJson}
 
 -- the parameters of a message: null where it has none
 abbrev pub params_of : Json → Json
@@ -19,7 +18,7 @@ method_of method = unwrap_or (as_str method) (codes "")
 -- the reply refuses what is no message with this code, and with no id
 abbrev pub IsRefusal : ℤ → Reply → Type 0
 IsRefusal code Nothing = ⊥
-IsRefusal code (Answer body) = (text : List ℕ) × IsAnswerOf token.null (error_member code text) body.items
+IsRefusal code (Answer body) = (text : List ℕ) × IsError null code text body.items
 IsRefusal code (Notice body) = ⊥
 IsRefusal code (Exit status) = ⊥
 

@@ -1,10 +1,9 @@
 // Which messages have to be answered.
 ghost use Rattle.std.specs.Prelude.{◌≡◌, ℕ, IfOk, List, None, Option, Some, codes};
-ghost use Rattle.json.specs.Token as json;
-ghost use Rattle.json.specs.Json.{Json};
+ghost use Rattle.json.specs.Json.{Json, null};
 ghost use Rattle.json.specs.Tree.{HasNumbers};
 ghost use Rattle.json.specs.Value.{value_view};
-ghost use Rattle.rpc_messages.specs.Messages.{Asks, AsksForEnd, IsAnswer, IsExit, asked, id_token};
+ghost use Rattle.rpc_messages.specs.Messages.{Asks, AsksForEnd, IsAnswer, IsExit, asked};
 ghost use Rattle.rpc_messages.specs.Replies.{EndsOnlyIf, Replies};
 ghost use Rattle.rpc_messages.specs.Steps.{IsRefusal, StepsOn, Takes};
 ghost use Rattle.rpc_messages.specs.declared.reply.Reply.{Reply};
@@ -29,7 +28,7 @@ pub trait Service {
         params: &Value<'_>,
     ) -> Result<Vec<u8>, AllocError>
         requires { HasNumbers (value_view id.now) }
-        ensures answers { IfOk result (λ body. IsAnswer (id_token (value_view id.now)) body.items) }
+        ensures answers { IfOk result (λ body. IsAnswer (value_view id.now) body.items) }
         ensures step { IfOk result (λ body. steps self.old (Some (value_view id.now)) method.now (value_view params.now) (Answer body) self.new) };
 
     /// What a notification brings about, by its method and its parameters. A method that is no text is empty. Only `exit` may end the conversation.
@@ -46,7 +45,7 @@ pub trait Service {
 
 // The refusal of what is no message.
 fn refused(alloc: Global, code: i64, text: &str) -> Result<Reply, AllocError>
-    ensures replies { IfOk result (Replies (Some json.null)) }
+    ensures replies { IfOk result (Replies (Some null)) }
     ensures ends { IfOk result (EndsOnlyIf ⊥) }
     ensures refuses { IfOk result (IsRefusal code) }
 {
@@ -85,7 +84,7 @@ fn reply<S: Service>(
 
 /// What the body of a message brings about: the end only where it is the notification `exit`. It fails only where memory is refused.
 pub fn handle<S: Service>(alloc: Global, service: &mut S, body: &[u8]) -> Result<Reply, AllocError>
-    ensures replies { IfOk result (λ reply. (t : Option json.Token) × Asks body.now t × Replies t reply) }
+    ensures replies { IfOk result (λ reply. (id : Option Json) × Asks body.now id × Replies id reply) }
     ensures ends { IfOk result (EndsOnlyIf (AsksForEnd body.now)) }
     ensures takes { IfOk result (λ reply. Takes S.steps body.now service.old reply service.new) }
 {

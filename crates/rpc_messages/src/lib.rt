@@ -5,6 +5,7 @@
 
 mod handling;
 mod message;
+mod nesting;
 mod pieces;
 mod reply;
 

@@ -1,10 +1,14 @@
 // Whole messages.
-ghost use Rattle.std.specs.Prelude.{◌≡◌, IfOk, ◌∷◌, [], flat_map};
-ghost use Rattle.json.specs.Tree.{HasNumbers};
+ghost use Rattle.std.specs.Prelude.{◌≡◌, ◌∷◌, ◌++◌, [], IfOk, flat_map};
+ghost use Rattle.json.specs.Json.{Members, object};
+ghost use Rattle.json.specs.Token.{end_object};
+ghost use Rattle.json.specs.Tree.{HasNumbers, json_tokens};
 ghost use Rattle.json.specs.Value.{value_view};
+ghost use Rattle.rpc_messages.specs.Answers.{AreOfObject, HasTokens, IsAnswerOf, error_member, id_token, notice_front, response_front};
+ghost use Rattle.rpc_messages.specs.Messages.{IsAnswer, IsError, IsNotice, IsNoticeOf};
 ghost use Rattle.rpc_messages.specs.Pieces.{Adds, tokens_of};
-ghost use Rattle.rpc_messages.specs.Messages.{IsAnswer, IsAnswerOf, IsNotice, IsNoticeOf, error_member, id_token};
 
+use crate::nesting::Nesting;
 use crate::pieces::{Piece, put_all};
 use json::{Value, Writer};
 use std::alloc::{AllocError, Global};
@@ -19,6 +23,8 @@ pub mod code {
     pub const METHOD_NOT_FOUND: i64 = -32601;
 
     pub const INVALID_PARAMS: i64 = -32602;
+
+    pub const INTERNAL_ERROR: i64 = -32603;
 
     pub const NOT_INITIALIZED: i64 = -32002;
 }
@@ -36,93 +42,41 @@ fn put_id(out: &mut Writer, id: &Value<'_>) -> Result<(), AllocError>
     }
 }
 
-/// An answer that is written part by part: the list of all pieces of a long one would take more memory than its text.
-///
-/// Contracts see the tokens of JSON that have been written.
-#[derive(Drop)]
-pub struct LongAnswer {
-    out: Writer,
-}
-
-impl Model for LongAnswer {
-    ghost use Rattle.std.specs.Prelude.{◌≡◌, List, []};
-    ghost use Rattle.json.specs.Token.{Token, tokens_code};
-
-    ghost Value = { List Token };
-
-    ghost coded = { tokens_code };
-
-    ghost view = { λ a. a.out.tokens };
-
-    ghost invariant = { λ a. a.out.before ≡ [] };
-}
-
-impl LongAnswer {
-    ghost use Rattle.std.specs.Prelude.{List, OnOk, ◌++◌};
-    ghost use Rattle.json.specs.Token.{Token};
-    ghost use Rattle.rpc_messages.specs.Messages.{IsBegun, answer_front};
-
-    /// The answer to the request with an id, up to its member `result` or `error`. It fails only where memory is refused.
-    pub fn new(alloc: Global, id: &Value<'_>) -> Result<LongAnswer, AllocError>
-        requires { HasNumbers (value_view id.now) }
-        ensures front { IfOk result (λ a. a ≡ answer_front (id_token (value_view id.now))) }
-        ensures begun { IfOk result (IsBegun (id_token (value_view id.now))) }
-    {
-        let mut out = Writer::new(Vec::new(alloc));
-        put_all(
-            &mut out,
-            &[
-                Piece::Object,
-                Piece::Key("jsonrpc"),
-                Piece::Text("2.0"),
-                Piece::Key("id"),
-            ],
-        )?;
-        put_id(&mut out, id)?;
-        Ok(LongAnswer { out })
-    }
-
-    /// Adds pieces of the member. It fails only where memory is refused.
-    pub fn put(&mut self, pieces: &[Piece<'_>]) -> Result<(), AllocError>
-        ensures pieces { OnOk result (self.new ≡ self.old ++ flat_map tokens_of pieces.now) }
-        ensures begun { OnOk result ((id : Token) → IsBegun id self.old → IsBegun id self.new) }
-    {
-        put_all(&mut self.out, pieces)?;
-        Ok(())
-    }
-
-    /// The body of the answer. It fails only where memory is refused.
-    pub fn finish(self) -> Result<Vec<u8>, AllocError>
-        ensures member { IfOk result (λ body. (id : Token) (member : List Token) → self ≡ answer_front id ++ member → IsAnswerOf id member body.items) }
-        ensures answers { IfOk result (λ body. (id : Token) → IsBegun id self → IsAnswer id body.items) }
-    {
-        let LongAnswer { mut out } = self;
-        out.end_object()?;
-        Ok(out.into_inner())
-    }
-}
-
-/// The answer to the request with an id. The pieces are its member `result` or `error`. It fails only where memory is refused.
-pub fn answer(alloc: Global, id: &Value<'_>, member: &[Piece<'_>]) -> Result<Vec<u8>, AllocError>
+// Writes a response up to the member after its id.
+fn put_front(out: &mut Writer, id: &Value<'_>) -> Result<(), AllocError>
     requires { HasNumbers (value_view id.now) }
-    ensures member { IfOk result (λ body. IsAnswerOf (id_token (value_view id.now)) (flat_map tokens_of member.now) body.items) }
-    ensures answers { IfOk result (λ body. IsAnswer (id_token (value_view id.now)) body.items) }
+    ensures { Adds result out.old out.new (response_front (value_view id.now)) }
 {
-    let mut answer = LongAnswer::new(alloc, id)?;
-    answer.put(member)?;
-    let body = answer.finish()?;
-    Ok(body)
+    put_all(
+        out,
+        &[
+            Piece::Object,
+            Piece::Key("jsonrpc"),
+            Piece::Text("2.0"),
+            Piece::Key("id"),
+        ],
+    )?;
+    put_id(out, id)
 }
 
-/// The answer that refuses a request, with a number of `code` and a text. It fails only where memory is refused.
-pub fn refusal(alloc: Global, id: &Value<'_>, code: i64, text: &str) -> Result<Vec<u8>, AllocError>
-    requires { HasNumbers (value_view id.now) }
-    ensures member { IfOk result (λ body. IsAnswerOf (id_token (value_view id.now)) (error_member code text.now) body.items) }
-    ensures answers { IfOk result (λ body. IsAnswer (id_token (value_view id.now)) body.items) }
+// Ends an object, and gives the text.
+fn end(mut out: Writer) -> Result<Vec<u8>, AllocError>
+    requires { out.before ≡ [] }
+    ensures { IfOk result (λ body. HasTokens (out.tokens ++ end_object ∷ []) body.items) }
 {
-    answer(
-        alloc,
-        id,
+    out.end_object()?;
+    Ok(out.into_inner())
+}
+
+// The body of the answer that refuses a request.
+fn refusal_body(alloc: Global, id: &Value<'_>, code: i64, text: &str) -> Result<Vec<u8>, AllocError>
+    requires { HasNumbers (value_view id.now) }
+    ensures { IfOk result (λ body. HasTokens (response_front (value_view id.now) ++ (error_member code text.now ++ end_object ∷ [])) body.items) }
+{
+    let mut out = Writer::new(Vec::new(alloc));
+    put_front(&mut out, id)?;
+    put_all(
+        &mut out,
         &[
             Piece::Key("error"),
             Piece::Object,
@@ -132,12 +86,110 @@ pub fn refusal(alloc: Global, id: &Value<'_>, code: i64, text: &str) -> Result<V
             Piece::Text(text),
             Piece::EndObject,
         ],
-    )
+    )?;
+    end(out)
+}
+
+/// An answer that is written part by part: the list of all pieces of a long one would take more memory than its text.
+///
+/// Contracts see the tokens of JSON that have been written.
+#[derive(Drop)]
+pub struct LongAnswer {
+    out: Writer,
+    // of the result
+    nesting: Nesting,
+}
+
+impl Model for LongAnswer {
+    ghost use Rattle.std.specs.Prelude.{List};
+    ghost use Rattle.json.specs.Token.{Token, tokens_code};
+    ghost use Rattle.rpc_messages.specs.Answers.{IsNested};
+
+    ghost Value = { List Token };
+
+    ghost coded = { tokens_code };
+
+    ghost view = { λ a. a.out.tokens };
+
+    ghost invariant = { IsNested };
+}
+
+impl LongAnswer {
+    ghost use Rattle.std.specs.Prelude.{List};
+    ghost use Rattle.json.specs.Json.{Json};
+    ghost use Rattle.json.specs.Token.{Token};
+    ghost use Rattle.rpc_messages.specs.Answers.{IsBegun, answer_front};
+
+    /// The answer to the request with an id, up to its result. It fails only where memory is refused.
+    pub fn new(alloc: Global, id: &Value<'_>) -> Result<LongAnswer, AllocError>
+        requires { HasNumbers (value_view id.now) }
+        ensures front { IfOk result (λ a. a ≡ answer_front (value_view id.now)) }
+        ensures begun { IfOk result (IsBegun (value_view id.now)) }
+    {
+        let mut out = Writer::new(Vec::new(alloc));
+        put_front(&mut out, id)?;
+        out.key("result")?;
+        let nesting = Nesting::new(alloc)?;
+        Ok(LongAnswer { out, nesting })
+    }
+
+    /// Adds pieces of the result. It fails only where memory is refused.
+    pub fn put(self, pieces: &[Piece<'_>]) -> Result<LongAnswer, AllocError>
+        ensures pieces { IfOk result (λ a. a ≡ self ++ flat_map tokens_of pieces.now) }
+        ensures begun { IfOk result (λ a. (id : Json) → IsBegun id self → IsBegun id a) }
+    {
+        let LongAnswer {
+            mut out,
+            mut nesting,
+        } = self;
+        put_all(&mut out, pieces)?;
+        nesting.take_all(pieces)?;
+        Ok(LongAnswer { out, nesting })
+    }
+
+    /// The body of the answer, by the id that it began with. Where the pieces are not those of one value, it refuses the request with the code
+    /// `INTERNAL_ERROR`. It fails only where memory is refused.
+    pub fn finish(self, alloc: Global, id: &Value<'_>) -> Result<Vec<u8>, AllocError>
+        requires numbers { HasNumbers (value_view id.now) }
+        requires begun { IsBegun (value_view id.now) self }
+        ensures member { IfOk result (λ body. (ts : List Token) → self ≡ answer_front (value_view id.now) ++ ts → IsAnswerOf (value_view id.now) ts body.items) }
+        ensures answers { IfOk result (λ body. IsAnswer (value_view id.now) body.items) }
+    {
+        let LongAnswer { out, nesting } = self;
+        if nesting.is_whole() {
+            end(out)
+        } else {
+            refusal(alloc, id, code::INTERNAL_ERROR, "internal error")
+        }
+    }
+}
+
+/// The answer to the request with an id, by the pieces of its result. Where they are not those of one value, it refuses the request with the code
+/// `INTERNAL_ERROR`. It fails only where memory is refused.
+pub fn answer(alloc: Global, id: &Value<'_>, pieces: &[Piece<'_>]) -> Result<Vec<u8>, AllocError>
+    requires { HasNumbers (value_view id.now) }
+    ensures member { IfOk result (λ body. IsAnswerOf (value_view id.now) (flat_map tokens_of pieces.now) body.items) }
+    ensures answers { IfOk result (λ body. IsAnswer (value_view id.now) body.items) }
+{
+    let answer = LongAnswer::new(alloc, id)?;
+    let answer = answer.put(pieces)?;
+    let body = answer.finish(alloc, id)?;
+    Ok(body)
+}
+
+/// The answer that refuses a request, with a number of `code` and a text. It fails only where memory is refused.
+pub fn refusal(alloc: Global, id: &Value<'_>, code: i64, text: &str) -> Result<Vec<u8>, AllocError>
+    requires { HasNumbers (value_view id.now) }
+    ensures refuses { IfOk result (λ body. IsError (value_view id.now) code text.now body.items) }
+    ensures answers { IfOk result (λ body. IsAnswer (value_view id.now) body.items) }
+{
+    let body = refusal_body(alloc, id, code, text)?;
+    Ok(body)
 }
 
 // The body of a notice.
-fn notice_body(alloc: Global, method: &str, parameters: &[Piece<'_>]) -> Result<Vec<u8>, AllocError>
-    ensures { IfOk result (λ body. IsNoticeOf method.now (flat_map tokens_of parameters.now) body.items) }
+fn notice_body(alloc: Global, method: &str, params: &[Piece<'_>]) -> Result<Vec<u8>, AllocError>
+    ensures { IfOk result (λ body. HasTokens (notice_front method.now ++ (flat_map tokens_of params.now ++ end_object ∷ [])) body.items) }
 {
     let mut out = Writer::new(Vec::new(alloc));
     put_all(
@@ -151,16 +203,16 @@ fn notice_body(alloc: Global, method: &str, parameters: &[Piece<'_>]) -> Result<
             Piece::Key("params"),
         ],
     )?;
-    put_all(&mut out, parameters)?;
-    out.end_object()?;
-    Ok(out.into_inner())
+    put_all(&mut out, params)?;
+    end(out)
 }
 
-/// A notice of the server: a method, and the pieces of its parameters. It fails only where memory is refused.
-pub fn notice(alloc: Global, method: &str, parameters: &[Piece<'_>]) -> Result<Vec<u8>, AllocError>
-    ensures parameters { IfOk result (λ body. IsNoticeOf method.now (flat_map tokens_of parameters.now) body.items) }
+/// A notice of the server: a method, and the pieces of its parameters, which are an object. It fails only where memory is refused.
+pub fn notice(alloc: Global, method: &str, params: &[Piece<'_>]) -> Result<Vec<u8>, AllocError>
+    requires { AreOfObject (flat_map tokens_of params.now) }
+    ensures params { IfOk result (λ body. (members : Members) → flat_map tokens_of params.now ≡ json_tokens (object members) → IsNoticeOf method.now members body.items) }
     ensures notifies { IfOk result (λ body. IsNotice body.items) }
 {
-    let body = notice_body(alloc, method, parameters)?;
+    let body = notice_body(alloc, method, params)?;
     Ok(body)
 }

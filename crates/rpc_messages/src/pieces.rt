@@ -1,6 +1,6 @@
 // Pieces of JSON, from which messages are made.
 ghost use Rattle.std.specs.Prelude.{◌≡◌, OnOk, flat_map, map};
-ghost use Rattle.rpc_messages.specs.Pieces.{Adds, number_token, tokens_of};
+ghost use Rattle.rpc_messages.specs.Pieces.{Adds, list_tokens, number_token, tokens_of};
 
 use json::Writer;
 use std::alloc::{AllocError, Global};
@@ -23,7 +23,7 @@ pub enum Piece<'a> {
     Number(i64),
     Flag(bool),
     Null,
-    /// The items of a list of numbers.
+    /// A list of numbers.
     Counts(&'a [usize]),
 }
 
@@ -35,6 +35,16 @@ fn put_counts(out: &mut Writer, counts: &[usize]) -> Result<(), AllocError>
         out.u64(*count as u64)?;
     }
     Ok(())
+}
+
+// Writes a list of numbers.
+#[tactic(auto, using(crate::proofs::Added::added_one))]
+fn put_list(out: &mut Writer, counts: &[usize]) -> Result<(), AllocError>
+    ensures { Adds result out.old out.new (list_tokens counts.now) }
+{
+    out.begin_array()?;
+    put_counts(out, counts)?;
+    out.end_array()
 }
 
 // Writes a piece.
@@ -53,7 +63,7 @@ fn put(out: &mut Writer, piece: Piece<'_>) -> Result<(), AllocError>
         Piece::Number(number) => out.i64(number),
         Piece::Flag(flag) => out.boolean(flag),
         Piece::Null => out.null(),
-        Piece::Counts(counts) => put_counts(out, counts),
+        Piece::Counts(counts) => put_list(out, counts),
     }
 }
 

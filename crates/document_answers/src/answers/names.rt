@@ -2,7 +2,7 @@
 ghost use Rattle.std.specs.Prelude.{IfOk};
 ghost use Rattle.json.specs.Tree.{HasNumbers};
 ghost use Rattle.json.specs.Value.{value_view};
-ghost use Rattle.rpc_messages.specs.Messages.{IsAnswer, id_token};
+ghost use Rattle.rpc_messages.specs.Messages.{IsAnswer};
 
 use crate::answers::ranges::push_range;
 use crate::hovering::{description_of, heading_of, hover_at};
@@ -80,8 +80,7 @@ fn markdown_of(
     format!(in alloc; "```graphql\n{heading}\n```\n\n{description}")
 }
 
-const MARKDOWN: [Piece<'static>; 7] = [
-    Piece::Key("result"),
+const MARKDOWN: [Piece<'static>; 6] = [
     Piece::Object,
     Piece::Key("contents"),
     Piece::Object,
@@ -112,10 +111,10 @@ pub fn answer_hover(
     offset: usize,
 ) -> Result<Vec<u8>, AllocError>
     requires { HasNumbers (value_view id.now) }
-    ensures { IfOk result (λ body. IsAnswer (id_token (value_view id.now)) body.items) }
+    ensures { IfOk result (λ body. IsAnswer (value_view id.now) body.items) }
 {
     let Some(found) = hover_at(root, offset) else {
-        return answer(alloc, id, &[Piece::Key("result"), Piece::Null]);
+        return answer(alloc, id, &[Piece::Null]);
     };
     let text = markdown_of(alloc, places.text, found.definition)?;
     let mut pieces = Vec::new(alloc);

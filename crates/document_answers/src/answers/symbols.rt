@@ -1,9 +1,10 @@
 // The outline of a document as nested objects.
-ghost use Rattle.std.specs.Prelude.{IfOk, OnOk};
-ghost use Rattle.json.specs.Token.{Token};
+ghost use Rattle.std.specs.Prelude.{IfOk};
+ghost use Rattle.json.specs.Json.{Json};
 ghost use Rattle.json.specs.Tree.{HasNumbers};
 ghost use Rattle.json.specs.Value.{value_view};
-ghost use Rattle.rpc_messages.specs.Messages.{IsAnswer, IsBegun, id_token};
+ghost use Rattle.rpc_messages.specs.Answers.{IsBegun};
+ghost use Rattle.rpc_messages.specs.Messages.{IsAnswer};
 
 use crate::answers::ranges::push_range;
 use crate::outline::{Symbol, symbol_of};
@@ -74,17 +75,18 @@ fn push_node<'t>(
 // Puts the symbols of a document, each in the one that it is in.
 fn put_symbols(
     alloc: Global,
-    answer: &mut LongAnswer,
+    answer: LongAnswer,
     root: SyntaxNode<'_>,
     places: &Places<'_>,
-) -> Result<(), AllocError>
-    ensures { OnOk result ((id : Token) → IsBegun id answer.old → IsBegun id answer.new) }
+) -> Result<LongAnswer, AllocError>
+    ensures { IfOk result (λ new. (id : Json) → IsBegun id answer → IsBegun id new) }
 {
+    let mut answer = answer;
     let mut open = Vec::new(alloc);
     let mut pieces = Vec::new(alloc);
     for node in root.descendants() {
         push_node(&mut pieces, &mut open, places, node)?;
-        answer.put(pieces.as_slice())?;
+        answer = answer.put(pieces.as_slice())?;
         pieces.clear();
     }
     push_ends(&mut pieces, &mut open, usize::MAX)?;
@@ -99,11 +101,11 @@ pub fn answer_symbols(
     places: &Places<'_>,
 ) -> Result<Vec<u8>, AllocError>
     requires { HasNumbers (value_view id.now) }
-    ensures { IfOk result (λ body. IsAnswer (id_token (value_view id.now)) body.items) }
+    ensures { IfOk result (λ body. IsAnswer (value_view id.now) body.items) }
 {
-    let mut answer = LongAnswer::new(alloc, id)?;
-    answer.put(&[Piece::Key("result"), Piece::Array])?;
-    put_symbols(alloc, &mut answer, root, places)?;
-    answer.put(&[Piece::EndArray])?;
-    answer.finish()
+    let answer = LongAnswer::new(alloc, id)?;
+    let answer = answer.put(&[Piece::Array])?;
+    let answer = put_symbols(alloc, answer, root, places)?;
+    let answer = answer.put(&[Piece::EndArray])?;
+    answer.finish(alloc, id)
 }

@@ -2,7 +2,7 @@
 ghost use Rattle.std.specs.Prelude.{IfOk};
 ghost use Rattle.json.specs.Tree.{HasNumbers};
 ghost use Rattle.json.specs.Value.{value_view};
-ghost use Rattle.rpc_messages.specs.Messages.{IsAnswer, id_token};
+ghost use Rattle.rpc_messages.specs.Messages.{IsAnswer};
 
 use crate::coloring::{SemanticToken, semantic_tokens};
 use crate::span::Span;
@@ -60,7 +60,7 @@ pub fn answer_tokens(
     within: Span,
 ) -> Result<Vec<u8>, AllocError>
     requires { HasNumbers (value_view id.now) }
-    ensures { IfOk result (λ body. IsAnswer (id_token (value_view id.now)) body.items) }
+    ensures { IfOk result (λ body. IsAnswer (value_view id.now) body.items) }
 {
     let tokens = semantic_tokens(alloc, places.text, root, within)?;
     let numbers = numbers_of(alloc, places, tokens.as_slice())?;
@@ -68,12 +68,9 @@ pub fn answer_tokens(
         alloc,
         id,
         &[
-            Piece::Key("result"),
             Piece::Object,
             Piece::Key("data"),
-            Piece::Array,
             Piece::Counts(numbers.as_slice()),
-            Piece::EndArray,
             Piece::EndObject,
         ],
     )
