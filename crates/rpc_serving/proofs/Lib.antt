@@ -1,3 +1,4 @@
 pub mod Accounts
 pub mod Conversations
+pub mod Failures
 pub mod Turns

@@ -2,7 +2,7 @@
 use Rattle.std.proofs.Common.{◌≡◌, ◌==◌, Bool, false, ℕ, ◌<◌, List, [], ◌∷◌, ◌++◌, length, drop, Option, Some, None, sym, ap, ◌∙◌, subst, append_assoc, arith}
 use Rattle.std.proofs.lemmas.Bool.Decides.{nat_tests}
 use Rattle.std.proofs.lemmas.List.{append-nil}
-use Rattle.json.specs.Token.{Token}
+use Rattle.json.specs.Json.{Json}
 use Rattle.rpc_frames.specs.Frames.{BeginsWithFrame, HasNoFrame, NeverHasFrame}
 use Rattle.rpc_messages.specs.declared.reply.Reply.{Reply}
 use Rattle.rpc_messages.specs.declared.reply.Reply.TheVariants.{Nothing, Answer, Notice, Exit}
@@ -12,7 +12,7 @@ use Rattle.rpc_serving.specs.Exchange.{Exchange, waits, replied, ended, passed_o
 
 -- the reply that a body asks for
 abbrev pub IsReplyTo : List ℕ → Reply → Type 0
-IsReplyTo body reply = (asked : Option Token) × Asks body asked × Replies asked reply
+IsReplyTo body reply = (asked : Option Json) × Asks body asked × Replies asked reply
 
 none-some : (status : ℕ) → None ≡ Some status → ⊥
 none-some status e = cc

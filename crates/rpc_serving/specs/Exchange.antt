@@ -1,6 +1,6 @@
 -- A conversation: the bytes that a client sent, and those that are said to it.
 use Rattle.std.specs.Prelude.{◌≡◌, ℕ, List, [], ◌∷◌, ◌++◌, Option, Some, None}
-use Rattle.json.specs.Token.{Token}
+use Rattle.json.specs.Json.{Json}
 use Rattle.rpc_frames.specs.Frames.{BeginsWithFrame, HasNoFrame, NeverHasFrame, frame_of}
 use Rattle.rpc_messages.specs.declared.reply.Reply.{Reply}
 use Rattle.rpc_messages.specs.declared.reply.Reply.TheVariants.{Nothing, Answer, Notice, Exit}
@@ -32,7 +32,7 @@ pub data Exchange {S : Type 0} (takes : List ℕ → S → Reply → S → Type 
       → Exchange takes service bytes [] bytes None service
   -- a message has its reply, and so has what follows
   replied :
-      {old next last : S} {bytes body more said rest : List ℕ} {status : Option ℕ} (asked : Option Token) (reply : Reply)
+      {old next last : S} {bytes body more said rest : List ℕ} {status : Option ℕ} (asked : Option Json) (reply : Reply)
       → BeginsWithFrame bytes body more
       → Asks body asked
       → Replies asked reply
@@ -42,7 +42,7 @@ pub data Exchange {S : Type 0} (takes : List ℕ → S → Reply → S → Type 
       → Exchange takes old bytes (said_for reply ++ said) rest status last
   -- a message asks for the end, and ends the conversation
   ended :
-      {old last : S} {bytes body rest : List ℕ} (asked : Option Token) (reply : Reply) (status : ℕ)
+      {old last : S} {bytes body rest : List ℕ} (asked : Option Json) (reply : Reply) (status : ℕ)
       → BeginsWithFrame bytes body rest
       → AsksForEnd body
       → Asks body asked

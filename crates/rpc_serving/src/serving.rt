@@ -18,7 +18,7 @@ pub fn serve<S: Service, R: Source, W: Sink>(
     writer: &mut W,
 ) -> Result<u8, Fault>
     ensures ok { IfOk result (λ status. IsServed (Takes S.steps) service.old service.new status (R.account reader.old) (R.account reader.new) (W.account writer.old) (W.account writer.new)) }
-    ensures err { IfErr result (λ fault. EndsServing fault (R.account reader.old) (R.account reader.new) (W.account writer.old) (W.account writer.new)) }
+    ensures err { IfErr result (λ fault. EndsServing (Takes S.steps) service.old service.new (R.account reader.old) (R.account reader.new) (W.account writer.old) (W.account writer.new) fault) }
 {
     let mut frames = FrameBuffer::new(alloc);
     let mut buffer = [0u8; 65536];
