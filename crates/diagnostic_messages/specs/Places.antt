@@ -1,22 +1,34 @@
--- Positions and ranges, and their JSON.
-use Rattle.std.specs.Prelude.{ℕ, List, [], ◌∷◌, ◌++◌, length, min, slice_range, codes}
-use Rattle.json.specs.Token.{Token, begin_object, end_object, key}
+-- Positions and ranges, as a client reads them.
+use Rattle.std.specs.Prelude.{◌≡◌, ℕ, zero, suc, ◌&&◌, ◌==◌, if◌then◌else◌, List, length, min, slice_index, slice_range, take, decimal, codes}
+use Rattle.std.specs.Str.{IsCharBoundary, IsUtf8}
+use Rattle.json.specs.Json.{Json, member, no_members, number, object}
 use Rattle.line_index.specs.declared.Position.{Position}
 use Rattle.line_index.specs.declared.PositionEncoding.{PositionEncoding}
 use Rattle.line_index.specs.Places.{line_at, line_start}
-use Rattle.line_index.specs.Positions.{width}
-use Rattle.rpc_messages.specs.Pieces.{number_token}
+use Rattle.line_index.specs.Positions.{place_of, units, width}
 
--- the position of a byte
+-- where a cursor may be: no client can name the place between the CR and the LF of a CR LF, and the line ends in front of them
+abbrev pub cursor_at : List ℕ → ℕ → ℕ
+cursor_at text zero = zero
+cursor_at text (suc k) = if slice_index text k == 13 && slice_index text (suc k) == 10 then k else suc k
+
+-- the position of a place
 abbrev pub position_in : PositionEncoding → List ℕ → ℕ → Position
 position_in encoding text offset = record { line = line_at text offset; column = width encoding (slice_range text (line_start text offset) offset) }
 
--- the same, where a byte after the text counts as its end
+-- the position of a byte offset, where one after the text counts as its end
 abbrev pub position_of : PositionEncoding → List ℕ → ℕ → Position
-position_of encoding text offset = position_in encoding text (min offset (length text))
+position_of encoding text offset = position_in encoding text (cursor_at text (min offset (length text)))
 
-abbrev pub position_tokens : Position → List Token
-position_tokens p = begin_object ∷ key (codes "line") ∷ number_token p.line ∷ key (codes "character") ∷ number_token p.column ∷ end_object ∷ []
+-- A client reads the position as the place of this byte offset: as many of its units are in front of both. The text is UTF-8, and a character begins at
+-- the offset, or the text ends.
+abbrev pub IsReadAt : PositionEncoding → List ℕ → ℕ → Position → Type 0
+IsReadAt encoding text offset position =
+    IsUtf8 text → IsCharBoundary text offset → place_of encoding (units encoding text) position ≡ length (units encoding (take (cursor_at text offset) text))
 
-abbrev pub range_tokens : Position → Position → List Token
-range_tokens start end = begin_object ∷ key (codes "start") ∷ (position_tokens start ++ key (codes "end") ∷ (position_tokens end ++ end_object ∷ []))
+-- `Position` and `Range` (Language Server Protocol 3.17)
+abbrev pub position_value : Position → Json
+position_value p = object (member (codes "line") (number (decimal p.line)) (member (codes "character") (number (decimal p.column)) no_members))
+
+abbrev pub range_value : Position → Position → Json
+range_value start end = object (member (codes "start") (position_value start) (member (codes "end") (position_value end) no_members))

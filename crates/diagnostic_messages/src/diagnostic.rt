@@ -1,8 +1,9 @@
 // One error as the protocol has it.
 ghost use Rattle.std.specs.Prelude.{◌≡◌, ◌++◌, OnOk, flat_map};
+ghost use Rattle.json.specs.Tree.{json_tokens, members_tokens};
 ghost use Rattle.rpc_messages.specs.Pieces.{tokens_of};
 ghost use Rattle.diagnostic_messages.specs.Places.{position_of};
-ghost use Rattle.diagnostic_messages.specs.Publication.{diagnostic_tokens, error_tokens, word_tokens};
+ghost use Rattle.diagnostic_messages.specs.Publication.{diagnostic, diagnostic_of, words_of};
 
 use crate::places::Places;
 use apollo_lexer::Error;
@@ -14,7 +15,7 @@ pub const TOLD: usize = 100;
 
 // What follows a diagnostic's range.
 fn words<'p>(message: &'p str) -> [Piece<'p>; 7]
-    ensures { flat_map tokens_of result ≡ word_tokens message.now }
+    ensures { flat_map tokens_of result ≡ members_tokens (words_of message.now) }
 {
     [
         Piece::Key("severity"),
@@ -36,7 +37,7 @@ pub(crate) fn push_diagnostic<'p>(
     message: &'p str,
 ) -> Result<(), AllocError>
     ensures { OnOk result (flat_map tokens_of pieces.new.items ≡ flat_map tokens_of pieces.old.items
-        ++ diagnostic_tokens (position_of places.now.encoding places.now.text.now start) (position_of places.now.encoding places.now.text.now end) message.now) }
+        ++ json_tokens (diagnostic (position_of places.now.encoding places.now.text.now start) (position_of places.now.encoding places.now.text.now end) message.now)) }
 {
     pieces.extend_from_slice(&[Piece::Object, Piece::Key("range")])?;
     pieces.extend_from_slice(&places.range(start, end))?;
@@ -52,7 +53,7 @@ pub(crate) fn push_error<'p>(
     error: &'p Error,
 ) -> Result<(), AllocError>
     ensures { OnOk result (flat_map tokens_of pieces.new.items ≡ flat_map tokens_of pieces.old.items
-        ++ error_tokens places.now.encoding places.now.text.now error.now) }
+        ++ json_tokens (diagnostic_of places.now.encoding places.now.text.now error.now)) }
 {
     let start = error.index();
     let end = places.end_of(start, error.data().len());

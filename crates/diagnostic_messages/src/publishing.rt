@@ -1,9 +1,13 @@
 // What a client is told of the errors of a document.
-ghost use Rattle.std.specs.Prelude.{◌≡◌, ◌++◌, ◌∷◌, [], IfOk, OnOk, None, codes, decimal, flat_map, take};
+ghost use Rattle.std.specs.Prelude.{◌≡◌, ◌++◌, ◌∷◌, [], IfOk, OnOk, None, flat_map, string_bytes, take};
+ghost use Rattle.json.specs.Json.{Members, object};
 ghost use Rattle.json.specs.Token.{end_array, end_object};
+ghost use Rattle.json.specs.Tree.{json_tokens};
+ghost use Rattle.rpc_messages.specs.Answers.{AreOfObject};
 ghost use Rattle.rpc_messages.specs.Messages.{IsNotice, IsNoticeOf};
 ghost use Rattle.rpc_messages.specs.Pieces.{tokens_of};
-ghost use Rattle.diagnostic_messages.specs.Publication.{IsNoticeAbout, IsPublication, all_tokens, front_tokens, method, more_tokens};
+ghost use Rattle.diagnostic_messages.specs.Publication.{IsNoticeAbout, IsPublication, method, more_diagnostics, more_words, noun_of};
+ghost use Rattle.diagnostic_messages.specs.Tokens.{all_tokens, front_tokens};
 
 use crate::diagnostic::{TOLD, push_diagnostic, push_error};
 use crate::places::Places;
@@ -64,6 +68,20 @@ fn push_errors<'p>(
     Ok(())
 }
 
+fn noun_for(count: usize) -> &'static str
+    ensures { result.now ≡ noun_of count }
+{
+    if count == 1 { "error" } else { "errors" }
+}
+
+// How many more errors there are, in words.
+fn words_for(alloc: Global, more: usize) -> Result<String, AllocError>
+    ensures { IfOk result (λ words. string_bytes words ≡ more_words more) }
+{
+    let noun = noun_for(more);
+    format!(in alloc; "{more} more {noun}")
+}
+
 // Adds how many more errors there are, unless there are none.
 fn push_more<'p>(
     pieces: &mut Vec<Piece<'p>>,
@@ -71,9 +89,9 @@ fn push_more<'p>(
     more: usize,
     words: &'p str,
 ) -> Result<(), AllocError>
-    requires { words.now ≡ decimal more ++ codes " more errors" }
+    requires { words.now ≡ more_words more }
     ensures { OnOk result (flat_map tokens_of pieces.new.items ≡ flat_map tokens_of pieces.old.items
-        ++ more_tokens places.now.encoding places.now.text.now more) }
+        ++ flat_map json_tokens (more_diagnostics places.now.encoding places.now.text.now more)) }
 {
     if more == 0 {
         return Ok(());
@@ -83,7 +101,9 @@ fn push_more<'p>(
 
 // Ends the parameters, and gives the notice.
 fn end(alloc: Global, pieces: &mut Vec<Piece<'_>>) -> Result<Vec<u8>, AllocError>
-    ensures parameters { IfOk result (λ body. IsNoticeOf method (flat_map tokens_of pieces.old.items ++ end_array ∷ end_object ∷ []) body.items) }
+    requires { AreOfObject (flat_map tokens_of pieces.old.items ++ end_array ∷ end_object ∷ []) }
+    ensures params { IfOk result (λ body. (members : Members) → flat_map tokens_of pieces.old.items ++ end_array ∷ end_object ∷ [] ≡ json_tokens (object members)
+        → IsNoticeOf method members body.items) }
     ensures notifies { IfOk result (λ body. IsNotice body.items) }
 {
     pieces.extend_from_slice(&[Piece::EndArray, Piece::EndObject])?;
@@ -104,7 +124,7 @@ pub fn publication(
 {
     let told = first_errors(errors);
     let more = errors.len().saturating_sub(TOLD);
-    let words = format!(in alloc; "{more} more errors")?;
+    let words = words_for(alloc, more)?;
     let mut pieces = Vec::new(alloc);
     push_front(&mut pieces, uri, version)?;
     push_errors(&mut pieces, places, told)?;

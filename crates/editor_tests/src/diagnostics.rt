@@ -72,11 +72,34 @@ fn expect_end(rt: &impl Abort, body: Vec<u8>, wanted: &str) {
 const THREE_MORE: &str =
     r#""character":0}},"severity":1,"source":"gqlls","message":"3 more errors"}]}}"#;
 
+// The end of a notice of 101 errors.
+const ONE_MORE: &str =
+    r#""character":0}},"severity":1,"source":"gqlls","message":"1 more error"}]}}"#;
+
+fn check_more(
+    rt: &impl Abort,
+    alloc: Global,
+    count: usize,
+    wanted: &str,
+) -> Result<(), AllocError> {
+    let errors = errors_at_the_end(alloc, count)?;
+    let body = notice_of(alloc, PositionEncoding::Utf8, None, errors.as_slice())?;
+    expect_end(rt, body, wanted);
+    Ok(())
+}
+
 #[test]
 fn says_how_many_more(rt: HostRuntime) -> Result<(), AllocError> {
-    let alloc = rt.alloc();
-    let errors = errors_at_the_end(alloc, 103)?;
-    let body = notice_of(alloc, PositionEncoding::Utf8, None, errors.as_slice())?;
-    expect_end(&rt, body, THREE_MORE);
+    check_more(&rt, rt.alloc(), 103, THREE_MORE)?;
+    check_more(&rt, rt.alloc(), 101, ONE_MORE)
+}
+
+// No column of a client is between a CR and its LF: the line ends in front of them.
+#[test]
+fn ends_a_line_in_front_of_its_end(rt: HostRuntime) -> Result<(), AllocError> {
+    let places = Places::new(rt.alloc(), "a\r\nb", PositionEncoding::Utf16)?;
+    let end = places.position(2);
+    assert!(rt; end.line == 0);
+    assert!(rt; end.column == 1);
     Ok(())
 }

@@ -1,11 +1,24 @@
-use Rattle.std.proofs.Common.{◌≡◌, ◌-◌, length, ap, rules}
-use Rattle.diagnostic_messages.specs.Publication.{all_tokens, more_tokens}
-use Rattle.diagnostic_messages.proofs.Told.{published}
+use Rattle.std.proofs.Common.{◌≡◌, ◌-◌, length, rules}
+use Rattle.diagnostic_messages.proofs.Cursors.{read_at}
+use Rattle.diagnostic_messages.specs.Publication.{diagnostics_of, publish_params}
+use Rattle.diagnostic_messages.proofs.Told.{whole_params}
 use Rattle.diagnostic_messages.proofs.publishing.publication.Goals as goal
+
+pub end-requires : goal.end-requires
+end-requires c =
+    let more : c.saturating_sub-more.result ≡ length c.args.errors.now - 100 = search rules in
+    record {
+      members = publish_params c.args.uri.now c.args.version (diagnostics_of c.args.places.now.encoding c.args.places.now.text.now c.args.errors.now);
+      is = whole_params c.args.uri.now c.args.version _ _ _ _ _ _ _ _ c.first_errors-told.ensures more c.in_ok-push_front.ensures
+      c.in_ok-push_errors.ensures c.in_ok-push_more.ensures;
+    }
 
 pub returns-clause-published : goal.returns-clause-published
 returns-clause-published c =
     let more : c.saturating_sub-more.result ≡ length c.args.errors.now - 100 = search rules in
-    published _ _ _ _ _ _ _ _ _ _ _ c.in_ok-push_front.ensures c.in_ok-push_errors.ensures c.in_ok-push_more.ensures
-    (ap (all_tokens c.args.places.now.encoding c.args.places.now.text.now) c.first_errors-told.ensures)
-    (ap (more_tokens c.args.places.now.encoding c.args.places.now.text.now) more) c.in_ok-body.ensures.parameters
+    record {
+      notice = c.in_ok-body.ensures.params _
+          (whole_params c.args.uri.now c.args.version _ _ _ _ _ _ _ _ c.first_errors-told.ensures more c.in_ok-push_front.ensures c.in_ok-push_errors.ensures
+          c.in_ok-push_more.ensures);
+      read = read_at _ _;
+    }

@@ -1,9 +1,16 @@
-use Rattle.std.proofs.Common.{List, [], ◌∷◌, ◌++◌, subst}
+use Rattle.std.proofs.Common.{List, [], ◌∷◌, ◌++◌, None, ap, sym, ◌∙◌}
 use Rattle.json.specs.Token.{Token, end_array, end_object}
-use Rattle.rpc_messages.specs.Messages.{IsNoticeOf}
-use Rattle.diagnostic_messages.specs.Publication.{method}
+use Rattle.diagnostic_messages.specs.Publication.{publish_params}
+use Rattle.diagnostic_messages.proofs.Told.{params_tokens}
 use Rattle.diagnostic_messages.proofs.publishing.withdrawal.Goals as goal
+
+pub end-requires : goal.end-requires
+end-requires c = record {
+  members = publish_params c.args.uri.now None [];
+  is = ap (λ (x : List Token). x ++ end_array ∷ end_object ∷ []) c.in_ok-push_front.ensures ∙ sym (params_tokens c.args.uri.now None []);
+}
 
 pub returns-clause-withdrawn : goal.returns-clause-withdrawn
 returns-clause-withdrawn c =
-    subst (λ (x : List Token). IsNoticeOf method (x ++ end_array ∷ end_object ∷ []) c.in_ok-body.body.items) c.in_ok-push_front.ensures c.in_ok-body.ensures.parameters
+    c.in_ok-body.ensures.params _ (ap (λ (x : List Token). x ++ end_array ∷ end_object ∷ []) c.in_ok-push_front.ensures
+    ∙ sym (params_tokens c.args.uri.now None []))
