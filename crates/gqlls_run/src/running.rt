@@ -1,7 +1,6 @@
 // A whole run.
 ghost use Rattle.std.specs.Prelude.{IfErr, IfOk};
-ghost use Rattle.gqlls_run.specs.Conversation.{Serves};
-ghost use Rattle.rpc_serving.specs.Serving.{EndsServing};
+ghost use Rattle.gqlls_run.specs.Conversation.{Fails, Serves};
 
 use crate::server::Server;
 use byte_devices::{Fault, Sink, Source};
@@ -12,7 +11,7 @@ use std::alloc::Global;
 /// fails, or when memory is refused.
 pub fn run<R: Source, W: Sink>(alloc: Global, reader: &mut R, writer: &mut W) -> Result<u8, Fault>
     ensures ok { IfOk result (λ status. Serves status (R.account reader.old) (R.account reader.new) (W.account writer.old) (W.account writer.new)) }
-    ensures err { IfErr result (λ fault. EndsServing fault (R.account reader.old) (R.account reader.new) (W.account writer.old) (W.account writer.new)) }
+    ensures err { IfErr result (Fails (R.account reader.old) (R.account reader.new) (W.account writer.old) (W.account writer.new)) }
 {
     let mut server = Server::new(alloc);
     serve(alloc, &mut server, reader, writer)
