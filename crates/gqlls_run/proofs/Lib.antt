@@ -1,3 +1,4 @@
+pub mod Announced
 pub mod Changes
 pub mod Maps
 pub mod Messages

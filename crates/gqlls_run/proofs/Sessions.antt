@@ -3,10 +3,12 @@ use Rattle.std.proofs.Common.{◌≡◌, ℕ, List, Option, Some, None, subst, a
 use Rattle.json.specs.Json.{Json}
 use Rattle.rpc_messages.specs.Steps.{StepsBy, Takes}
 use Rattle.rpc_messages.specs.declared.reply.Reply.{Reply}
-use Rattle.rpc_serving.specs.Serving.{IsServed}
+use Rattle.rpc_serving.specs.Serving.{EndsServing, IsServed}
 use Rattle.byte_devices.specs.Devices.{Account}
+use Rattle.byte_devices.specs.declared.fault.Fault.{Fault}
+use Rattle.byte_devices.specs.declared.fault.Fault.TheVariants.{Read, Utf8, Memory, Write}
 use Rattle.rpc_serving.specs.Exchange.{Exchange, waits, replied, ended, passed_over}
-use Rattle.gqlls_run.specs.Conversation.{Serves, Steps}
+use Rattle.gqlls_run.specs.Conversation.{Fails, Serves, Steps}
 use Rattle.gqlls_run.specs.Session.{Session, begun}
 use Rattle.gqlls_run.specs.State.{StepsOf, session_of}
 use Rattle.gqlls_run.specs.declared.server.Server.{Server}
@@ -31,20 +33,65 @@ exchange_of (replied asked reply begins asks replies goes_on takes more) =
 exchange_of (ended asked reply status begins ends asks replies is takes) = ended asked reply status begins ends asks replies is (takes_of _ _ _ reply takes)
 exchange_of (passed_over never more) = passed_over never (exchange_of more)
 
+from_begun : (first last : Server) (input output left : List ℕ) (asked : Option ℕ) → session_of first ≡ begun
+    → Exchange (Takes StepsOf) first input output left asked last → Exchange (Takes Steps) begun input output left asked (session_of last)
+from_begun first last input output left asked new e =
+    subst (λ (session : Session). Exchange (Takes Steps) session input output left asked (session_of last)) new (exchange_of e)
+
 -- the same of a whole run
 pub served_of : (first last : Server) (status : ℕ) (read_old read_new write_old write_new : Account) → session_of first ≡ begun
     → IsServed (Takes StepsOf) first last status read_old read_new write_old write_new → Serves status read_old read_new write_old write_new
-served_of first last status read_old read_new write_old write_new new served =
-    let from : Session → Type 0 = λ session. Exchange (Takes Steps) session served.input served.output served.left served.asked (session_of last) in
-    record {
-      last = session_of last;
-      served = record {
-        input = served.input;
-        output = served.output;
-        left = served.left;
-        asked = served.asked;
-        exchange = subst from new (exchange_of served.exchange);
-        ends = served.ends;
-        written = served.written;
-      };
-    }
+served_of first last status read_old read_new write_old write_new new served = record {
+  last = session_of last;
+  served = record {
+    input = served.input;
+    output = served.output;
+    left = served.left;
+    asked = served.asked;
+    exchange = from_begun first last served.input served.output served.left served.asked new served.exchange;
+    ends = served.ends;
+    written = served.written;
+  };
+}
+
+-- the same of a run that fails
+pub fails_of : (first last : Server) (read_old read_new write_old write_new : Account) (fault : Fault) → session_of first ≡ begun
+    → EndsServing (Takes StepsOf) first last read_old read_new write_old write_new fault → Fails read_old read_new write_old write_new fault
+fails_of first last read_old read_new write_old write_new Read new e = record {
+  last = session_of last;
+  ends = record {
+    input = e.input;
+    output = e.output;
+    left = e.left;
+    exchange = from_begun first last e.input e.output e.left None new e.exchange;
+    read = e.read;
+    written = e.written;
+  };
+}
+fails_of first last read_old read_new write_old write_new Write new e = record {
+  last = session_of last;
+  ends = record {
+    input = e.input;
+    output = e.output;
+    left = e.left;
+    asked = e.asked;
+    exchange = from_begun first last e.input e.output e.left e.asked new e.exchange;
+    read = e.read;
+    written = e.written;
+  };
+}
+fails_of first last read_old read_new write_old write_new Memory new e = record {
+  last = session_of last;
+  ends = record {
+    input = e.input;
+    more = e.more;
+    output = e.output;
+    left = e.left;
+    middle = session_of e.middle;
+    exchange = from_begun first e.middle e.input e.output e.left None new e.exchange;
+    read = e.read;
+    few = e.few;
+    written = e.written;
+  };
+}
+fails_of first last read_old read_new write_old write_new Utf8 new e = absurd e

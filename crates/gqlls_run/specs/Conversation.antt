@@ -3,17 +3,17 @@ use Rattle.std.specs.Prelude.{◌≡◌, ◌≢◌, ℕ, ℤ, List, [], ◌∷�
 use lib.IntN.{pos, neg_ℤ}
 use Rattle.byte_devices.specs.Devices.{Account}
 use Rattle.byte_devices.specs.declared.fault.Fault.{Fault}
-use Rattle.json.specs.Json.{Json}
-use Rattle.json.specs.Token.{Token, begin_object, key, null, string}
+use Rattle.json.specs.Json as json
+use Rattle.json.specs.Json.{Json, Members, member, object, string}
 use Rattle.diagnostic_messages.specs.Publication.{IsNoticeAbout}
 use Rattle.line_index.specs.declared.PositionEncoding.{PositionEncoding}
 use Rattle.line_index.specs.declared.PositionEncoding.TheVariants.{Utf8, Utf16}
 use Rattle.open_document.specs.Client.{Opened}
-use Rattle.rpc_messages.specs.Messages.{IsAnswerOf, error_member, id_token}
+use Rattle.rpc_messages.specs.Messages.{IsError, IsResult}
 use Rattle.rpc_messages.specs.Steps.{Takes}
 use Rattle.rpc_messages.specs.declared.reply.Reply.{Reply}
 use Rattle.rpc_messages.specs.declared.reply.Reply.TheVariants.{Nothing, Answer, Notice, Exit}
-use Rattle.rpc_serving.specs.Serving.{IsServed}
+use Rattle.rpc_serving.specs.Serving.{EndsServing, IsServed}
 use Rattle.gqlls_run.specs.Parameters.{Edit, IsVersionIn, Offers, edits_in, text_in, uri_in}
 use Rattle.gqlls_run.specs.Session.{IsChanged, Session, Sets, begun}
 use Rattle.gqlls_run.specs.Told.{IsTold, Notifies}
@@ -31,20 +31,20 @@ Answers IsSuch (Exit status) = ⊥
 
 -- the body refuses the request with this id, with this code
 abbrev pub IsRefusalOf : Json → ℤ → List ℕ → Type 0
-IsRefusalOf id code body = (text : List ℕ) × IsAnswerOf (id_token id) (error_member code text) body
+IsRefusalOf id code body = (text : List ℕ) × IsError id code text body
 
 -- `PositionEncodingKind`
 abbrev pub encoding_name : PositionEncoding → List ℕ
 encoding_name Utf8 = codes "utf-8"
 encoding_name Utf16 = codes "utf-16"
 
--- the result of `initialize`, up to how columns are counted
-abbrev pub announcement : PositionEncoding → List Token
-announcement encoding =
-    key (codes "result") ∷ begin_object ∷ key (codes "capabilities") ∷ begin_object ∷ key (codes "positionEncoding") ∷ string (encoding_name encoding) ∷ []
+-- an `InitializeResult` whose capabilities begin with how columns are counted
+abbrev pub announcement : PositionEncoding → Members → Members → Json
+announcement encoding capabilities others =
+    object (member (codes "capabilities") (object (member (codes "positionEncoding") (string (encoding_name encoding)) capabilities)) others)
 
 abbrev pub IsAnnounced : Json → PositionEncoding → List ℕ → Type 0
-IsAnnounced id encoding body = (more : List Token) × IsAnswerOf (id_token id) (announcement encoding ++ more) body
+IsAnnounced id encoding body = (capabilities others : Members) × IsResult id (announcement encoding capabilities others) body
 
 -- The conversation begins, and counts columns from then on as the answer says. No client has to offer UTF-16.
 pub record Initializes (id params : Json) (reply : Reply) (old new : Session) : Type 0 where
@@ -55,7 +55,7 @@ pub record Initializes (id params : Json) (reply : Reply) (old new : Session) : 
 -- the answer to `shutdown`, after which only `exit` is heard
 pub record ShutsDown (id : Json) (reply : Reply) (old new : Session) : Type 0 where
   pub session : new ≡ record old { stage = ShutDown }
-  pub answered : Answers (IsAnswerOf (id_token id) (key (codes "result") ∷ null ∷ [])) reply
+  pub answered : Answers (IsResult id json.null) reply
 
 -- the request is refused with this code, and changes nothing
 pub record IsRefused (id : Json) (code : ℤ) (reply : Reply) (old new : Session) : Type 0 where
@@ -156,3 +156,8 @@ Steps old None method params reply new = IsHeard method params reply old new
 pub record Serves (status : ℕ) (read_old read_new write_old write_new : Account) : Type 0 where
   pub last : Session
   pub served : IsServed (Takes Steps) begun last status read_old read_new write_old write_new
+
+-- the run fails, and what was written is what such a conversation says, as far as it came
+pub record Fails (read_old read_new write_old write_new : Account) (fault : Fault) : Type 0 where
+  pub last : Session
+  pub ends : EndsServing (Takes Steps) begun last read_old read_new write_old write_new fault

@@ -1,8 +1,10 @@
 // What the server says that it does.
-ghost use Rattle.std.specs.Prelude.{◌≡◌, ◌++◌, IfOk, List, OnOk};
+ghost use Rattle.std.specs.Prelude.{◌≡◌, ◌++◌, IfOk, List, OnOk, flat_map};
 ghost use Rattle.json.specs.Tree.{HasNumbers};
 ghost use Rattle.json.specs.Value.{value_view};
-ghost use Rattle.rpc_messages.specs.Messages.{IsAnswer, id_token};
+ghost use Rattle.rpc_messages.specs.Messages.{IsAnswer};
+ghost use Rattle.rpc_messages.specs.Nesting.{EndsTwoObjects};
+ghost use Rattle.rpc_messages.specs.Pieces.{tokens_of};
 ghost use Rattle.rpc_messages.specs.declared.pieces.Piece.{Piece};
 ghost use Rattle.gqlls_run.specs.Conversation.{IsAnnounced, encoding_name};
 
@@ -88,13 +90,14 @@ fn encoding_name(encoding: PositionEncoding) -> &'static str
 
 // Adds what is served, and ends the result.
 fn push_served(pieces: &mut Vec<Piece<'_>>) -> Result<(), AllocError>
-    ensures { OnOk result ((more : List Piece) × (pieces.new.items ≡ pieces.old.items ++ more)) }
+    ensures { OnOk result ((more : List Piece) × (pieces.new.items ≡ pieces.old.items ++ more) × EndsTwoObjects (flat_map tokens_of more)) }
 {
     pieces.extend_from_slice(&SERVED)?;
     for name in &TOKEN_TYPES {
         pieces.extend_from_slice(&[Piece::Text(*name)])?;
     }
-    pieces.extend_from_slice(&END)
+    pieces.extend_from_slice(&END)?;
+    Ok(())
 }
 
 /// The answer to the first request.
@@ -104,12 +107,11 @@ pub(crate) fn answer_initialize(
     encoding: PositionEncoding,
 ) -> Result<Vec<u8>, AllocError>
     requires { HasNumbers (value_view id.now) }
-    ensures answers { IfOk result (λ body. IsAnswer (id_token (value_view id.now)) body.items) }
+    ensures answers { IfOk result (λ body. IsAnswer (value_view id.now) body.items) }
     ensures announces { IfOk result (λ body. IsAnnounced (value_view id.now) encoding body.items) }
 {
     let mut pieces = Vec::new(alloc);
     pieces.extend_from_slice(&[
-        Piece::Key("result"),
         Piece::Object,
         Piece::Key("capabilities"),
         Piece::Object,

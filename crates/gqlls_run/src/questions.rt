@@ -61,7 +61,7 @@ pub(crate) fn question_of(method: &str) -> Option<Question> {
 // The answer to a question that lacks a parameter.
 fn refused(alloc: Global, id: &Value<'_>) -> Result<Vec<u8>, AllocError>
     requires { HasNumbers (value_view id.now) }
-    ensures { IfOk result (λ body. IsAnswer (id_token (value_view id.now)) body.items) }
+    ensures { IfOk result (λ body. IsAnswer (value_view id.now) body.items) }
 {
     refusal(alloc, id, code::INVALID_PARAMS, "no such place")
 }
@@ -107,7 +107,6 @@ fn answer_at<'p>(
         return answer_hover(alloc, id, root, places, offset);
     }
     let mut pieces = Vec::new(alloc);
-    pieces.extend_from_slice(&[Piece::Key("result")])?;
     push_result_at(
         alloc,
         &mut pieces,
@@ -130,13 +129,12 @@ fn answer_selections(
     params: &Value<'_>,
 ) -> Result<Vec<u8>, AllocError>
     requires { HasNumbers (value_view id.now) }
-    ensures { IfOk result (λ body. IsAnswer (id_token (value_view id.now)) body.items) }
+    ensures { IfOk result (λ body. IsAnswer (value_view id.now) body.items) }
 {
     let Some(offsets) = offsets_of(alloc, places, params)? else {
         return refused(alloc, id);
     };
     let mut pieces = Vec::new(alloc);
-    pieces.extend_from_slice(&[Piece::Key("result")])?;
     push_selections(alloc, &mut pieces, root, places, offsets.as_slice())?;
     answer(alloc, id, pieces.as_slice())
 }
@@ -149,10 +147,9 @@ fn answer_folds(
     places: &Places<'_>,
 ) -> Result<Vec<u8>, AllocError>
     requires { HasNumbers (value_view id.now) }
-    ensures { IfOk result (λ body. IsAnswer (id_token (value_view id.now)) body.items) }
+    ensures { IfOk result (λ body. IsAnswer (value_view id.now) body.items) }
 {
     let mut pieces = Vec::new(alloc);
-    pieces.extend_from_slice(&[Piece::Key("result")])?;
     push_folds(&mut pieces, root, places)?;
     answer(alloc, id, pieces.as_slice())
 }
@@ -167,7 +164,7 @@ fn answer_within(
     params: &Value<'_>,
 ) -> Result<Vec<u8>, AllocError>
     requires { HasNumbers (value_view id.now) }
-    ensures { IfOk result (λ body. IsAnswer (id_token (value_view id.now)) body.items) }
+    ensures { IfOk result (λ body. IsAnswer (value_view id.now) body.items) }
 {
     let Some(within) = span_of(places, params) else {
         return refused(alloc, id);

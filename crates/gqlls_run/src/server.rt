@@ -1,8 +1,9 @@
 // The server: what it replies to each message.
 ghost use Rattle.std.specs.Prelude.{◌≡◌, IfOk, None, codes};
+ghost use Rattle.json.specs.Json.{null};
 ghost use Rattle.json.specs.Tree.{HasNumbers};
 ghost use Rattle.json.specs.Value.{value_view};
-ghost use Rattle.rpc_messages.specs.Messages.{IsAnswer};
+ghost use Rattle.rpc_messages.specs.Messages.{IsAnswer, IsResult};
 ghost use Rattle.rpc_messages.specs.Replies.{EndsOnlyIf, Replies};
 ghost use Rattle.rpc_messages.specs.declared.reply.Reply.TheVariants.{Answer};
 ghost use Rattle.gqlls_run.specs.Conversation.{Changes, Closes, IsAsked, IsHeard, IsRefusalOf, Opens, exit_status};
@@ -56,7 +57,7 @@ impl Server {
         params: &Value<'_>,
     ) -> Result<Vec<u8>, AllocError>
         requires { HasNumbers (value_view id.now) }
-        ensures { IfOk result (λ body. IsAnswer (id_token (value_view id.now)) body.items) }
+        ensures { IfOk result (λ body. IsAnswer (value_view id.now) body.items) }
     {
         if method == "initialize" {
             return refusal(alloc, id, code::INVALID_REQUEST, "initialized before");
@@ -130,10 +131,20 @@ impl Server {
 // The answer that refuses a request.
 fn refused(alloc: Global, id: &Value<'_>, code: i64, text: &str) -> Result<Vec<u8>, AllocError>
     requires { HasNumbers (value_view id.now) }
-    ensures answers { IfOk result (λ body. IsAnswer (id_token (value_view id.now)) body.items) }
+    ensures answers { IfOk result (λ body. IsAnswer (value_view id.now) body.items) }
     ensures refuses { IfOk result (λ body. IsRefusalOf (value_view id.now) code body.items) }
 {
     let body = refusal(alloc, id, code, text)?;
+    Ok(body)
+}
+
+// The answer to `shutdown`, whose result is null.
+fn answer_shutdown(alloc: Global, id: &Value<'_>) -> Result<Vec<u8>, AllocError>
+    requires { HasNumbers (value_view id.now) }
+    ensures answers { IfOk result (λ body. IsAnswer (value_view id.now) body.items) }
+    ensures null { IfOk result (λ body. IsResult (value_view id.now) null body.items) }
+{
+    let body = answer(alloc, id, &[Piece::Null])?;
     Ok(body)
 }
 
@@ -158,7 +169,7 @@ impl Service for Server {
         params: &Value<'_>,
     ) -> Result<Vec<u8>, AllocError>
         requires { HasNumbers (value_view id.now) }
-        ensures answers { IfOk result (λ body. IsAnswer (id_token (value_view id.now)) body.items) }
+        ensures answers { IfOk result (λ body. IsAnswer (value_view id.now) body.items) }
         ensures step { IfOk result (λ body. IsAsked (value_view id.now) method.now (value_view params.now) (Answer body)
             (session_of self.old) (session_of self.new)) }
     {
@@ -171,7 +182,7 @@ impl Service for Server {
             Stage::New => refused(alloc, id, code::NOT_INITIALIZED, "not initialized"),
             Stage::Running if method == "shutdown" => {
                 self.stage = Stage::ShutDown;
-                answer(alloc, id, &[Piece::Key("result"), Piece::Null])
+                answer_shutdown(alloc, id)
             }
             Stage::Running => self.answered(alloc, id, method, params),
             Stage::ShutDown => refused(alloc, id, code::INVALID_REQUEST, "shut down"),

@@ -1,5 +1,5 @@
 -- Whether tokens of JSON nest as those of one value.
-use Rattle.std.specs.Prelude.{List, [], ◌∷◌, Option, Some, None, cond, option_and_then, option_map, reverse}
+use Rattle.std.specs.Prelude.{◌≡◌, List, [], ◌∷◌, Option, Some, None, cond, option_and_then, option_map, reverse}
 use Rattle.json.specs.Token.{Token, begin_object, end_object, begin_array, end_array, key, string, number, boolean, null, bad}
 use Rattle.rpc_messages.specs.declared.nesting.Expected.{Expected}
 use Rattle.rpc_messages.specs.declared.nesting.Expected.TheVariants.{Value, Item, Member}
@@ -54,3 +54,7 @@ after_all (t ∷ ts) state = after_all ts (option_and_then (after t) state)
 -- what is expected, the innermost first
 abbrev pub expected_in : Nesting → Option (List Expected)
 expected_in nesting = cond nesting.is_sound (Some (reverse nesting.expected.items)) None
+
+-- the tokens end an object that is the value of a member, and then the object around it
+abbrev pub EndsTwoObjects : List Token → Type 0
+EndsTwoObjects ts = after_all ts (Some (Member ∷ Member ∷ [])) ≡ Some []
