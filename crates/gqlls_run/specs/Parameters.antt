@@ -1,6 +1,7 @@
 -- What the parameters of a message say, where they are those of the Language Server Protocol 3.17.
 use Rattle.std.specs.Prelude.{◌≡◌, ℕ, ℤ, ◌^◌, ◌&&◌, nat_lt, if◌then◌else◌, List, [], ◌∷◌, codes}
 use Rattle.std.specs.Prelude.{Option, Some, None, MatchOption, ok_or, option_and_then, option_map}
+use Rattle.std.specs.Option.{option_zip}
 use Rattle.std.specs.Char.{is_digit}
 use Rattle.std.specs.Int.{w64}
 use Rattle.std.specs.List.{Contains, list_all}
@@ -50,29 +51,22 @@ numeral (c ∷ digits) =
 abbrev pub number_at : List ℕ → Json → Option ℕ
 number_at name value = option_and_then (λ digits. numeral (without_leading_plus digits)) (option_and_then as_number (get name value))
 
-abbrev pub position : ℕ → ℕ → Position
-position line column = record { line = line; column = column }
-
 -- `Position`
 abbrev pub position_in : Json → Option Position
-position_in value = both position (number_at (codes "line") value) (number_at (codes "character") value)
+position_in value =
+    both {C = Position} (λ line column. record { line = line; column = column }) (number_at (codes "line") value) (number_at (codes "character") value)
 
 abbrev pub position_at : List ℕ → Json → Option Position
 position_at name value = option_and_then position_in (get name value)
 
-abbrev pub range : Position → Position → PositionRange
-range start end = record { start = start; end = end }
-
 -- `Range`
 abbrev pub range_in : Json → Option PositionRange
-range_in value = both range (position_at (codes "start") value) (position_at (codes "end") value)
+range_in value =
+    both {C = PositionRange} (λ start end. record { start = start; end = end }) (position_at (codes "start") value) (position_at (codes "end") value)
 
 -- a text, and the range that it replaces, if it isn't the whole document
 abbrev pub Edit : Type 0
 Edit = Option PositionRange × List ℕ
-
-abbrev pub edit : Option PositionRange → List ℕ → Edit
-edit extent text = (extent, text)
 
 -- the range that a value may have
 abbrev pub extent_in : Option Json → Option (Option PositionRange)
@@ -81,7 +75,7 @@ extent_in (Some value) = option_map (λ range. Some range) (range_in value)
 
 -- `TextDocumentContentChangeEvent`
 abbrev pub edit_in : Json → Option Edit
-edit_in value = both edit (extent_in (get (codes "range") value)) (option_and_then as_str (get (codes "text") value))
+edit_in value = option_zip (extent_in (get (codes "range") value)) (option_and_then as_str (get (codes "text") value))
 
 abbrev pub list_of : Items → List Json
 list_of no_items = []
@@ -97,7 +91,7 @@ edits_in params = option_and_then (each edit_in) (items_at (codes "contentChange
 
 -- what a change tells
 abbrev pub told : Change → Edit
-told change = edit change.range change.text.now
+told change = (change.range, change.text.now)
 
 -- ---- capabilities
 
