@@ -82,7 +82,8 @@ fn reply<S: Service>(
     }
 }
 
-/// What the body of a message brings about: the end only where it is the notification `exit`. It fails only where memory is refused.
+/// What the body of a message brings about: the end only where it is the notification `exit`. A body that is not read as JSON, which is read to 128 levels,
+/// is refused with `PARSE_ERROR`, and one that is no message with `INVALID_REQUEST`. It fails only where memory is refused.
 pub fn handle<S: Service>(alloc: Global, service: &mut S, body: &[u8]) -> Result<Reply, AllocError>
     ensures replies { IfOk result (λ reply. (id : Option Json) × Asks body.now id × Replies id reply) }
     ensures ends { IfOk result (EndsOnlyIf (AsksForEnd body.now)) }

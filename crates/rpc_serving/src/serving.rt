@@ -10,7 +10,8 @@ use rpc_messages::Service;
 use std::alloc::Global;
 
 /// Reads messages, has a service reply to them, and writes the replies, until the notification `exit` ends the conversation or the input ends. It
-/// gives the exit status, which is 1 at the end of the input. It fails only when the reader or the writer fails, or when memory is refused.
+/// gives the exit status, which is 1 at the end of the input. It fails only when the reader or the writer fails, or when memory is refused. When the
+/// reader fails, all is written that the service says about what was read; else a beginning of it.
 pub fn serve<S: Service, R: Source, W: Sink>(
     alloc: Global,
     service: &mut S,
