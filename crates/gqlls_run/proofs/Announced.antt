@@ -1,11 +1,11 @@
 -- The answer to the first request.
-use Rattle.std.proofs.Common.{◌≡◌, ℕ, List, [], ◌∷◌, ◌++◌, Some, ap, sym, ◌∙◌, append_assoc}
+use Rattle.std.proofs.Common.{◌≡◌, ℕ, List, [], ◌∷◌, ◌++◌, ap, ◌∙◌, append_assoc}
 use Rattle.std.specs.List.{flat_map}
 use Rattle.std.specs.Prelude.{codes}
 use Rattle.std.proofs.lemmas.Grind.{flat_map-append}
-use Rattle.json.specs.Json.{Json, Members}
+use Rattle.json.specs.Json.{Json}
 use Rattle.json.specs.Token.{Token, begin_object, key, string}
-use Rattle.json.specs.Tree.{json_tokens, members_tokens}
+use Rattle.json.specs.Tree.{json_tokens}
 use Rattle.line_index.specs.declared.PositionEncoding.{PositionEncoding}
 use Rattle.rpc_messages.specs.Answers.{IsAnswerOf}
 use Rattle.rpc_messages.specs.Nesting.{EndsTwoObjects}

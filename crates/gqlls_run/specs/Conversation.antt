@@ -1,5 +1,5 @@
 -- What each message of a conversation comes to, by the Language Server Protocol 3.17.
-use Rattle.std.specs.Prelude.{◌≡◌, ◌≢◌, ℕ, ℤ, List, [], ◌∷◌, ◌++◌, Option, Some, None, MatchOption, codes}
+use Rattle.std.specs.Prelude.{◌≡◌, ◌≢◌, ℕ, ℤ, List, [], Option, Some, None, MatchOption, codes}
 use lib.IntN.{pos, neg_ℤ}
 use Rattle.byte_devices.specs.Devices.{Account}
 use Rattle.byte_devices.specs.declared.fault.Fault.{Fault}

@@ -10,7 +10,7 @@ end-requires c =
     record {
       members = publish_params c.args.uri.now c.args.version (diagnostics_of c.args.places.now.encoding c.args.places.now.text.now c.args.errors.now);
       is = whole_params c.args.uri.now c.args.version _ _ _ _ _ _ _ _ c.first_errors-told.ensures more c.in_ok-push_front.ensures
-      c.in_ok-push_errors.ensures c.in_ok-push_more.ensures;
+          c.in_ok-push_errors.ensures c.in_ok-push_more.ensures;
     }
 
 pub returns-clause-published : goal.returns-clause-published

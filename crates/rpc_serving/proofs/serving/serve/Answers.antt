@@ -40,7 +40,7 @@ returns-in-Some-clause-ok g c =
       left = c.take_turn.new.frames;
       asked = Some c.in-Some.status;
       exchange = ends_so (Takes g.S.Service.steps) c.args.service.now so.0 so.1 c.loop.service c.loop.frames given said c.take_turn.new.frames
-      (Some c.in-Some.status) c.take_turn.new.service so.4 last;
+          (Some c.in-Some.status) c.take_turn.new.service so.4 last;
       ends = (refl, gave c.read.result c.in-Ok.count so.0 c.read.new.buffer _ _ _ so.2 c.in-Ok.is c.in-Ok.count-test.1 c.read.ensures.account);
       written = wrote so.1 _ said _ _ _ so.3 c.in_ok-write_all-in-Ok.ensures.ok c.as_slice.ensures.value;
     }
@@ -112,7 +112,7 @@ loop-preserved g c =
       gave c.read.result c.in-Ok.count so.0 c.read.new.buffer _ _ _ so.2 c.in-Ok.is c.in-Ok.count-test.1 c.read.ensures.account,
       wrote so.1 _ said _ _ _ so.3 c.in_ok-write_all-in-Ok.ensures.ok c.as_slice.ensures.value,
       goes_further (Takes g.S.Service.steps) c.args.service.now so.0 so.1 c.loop.service c.loop.frames given said c.take_turn.new.service
-      c.take_turn.new.frames so.4 waits,
+          c.take_turn.new.frames so.4 waits,
       left_over (Takes g.S.Service.steps) waits refl,
       longer c.loop.counter c.in-Ok.count so.0 c.read.new.buffer so.6 c.in-Ok.count-test.1 c.in-Ok.ensures.within,
     )
