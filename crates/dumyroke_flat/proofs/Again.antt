@@ -7,8 +7,15 @@ use Rattle.lexical_grammar.specs.Values.{Block}
 use Rattle.lexical_grammar.proofs.StringValues.{quoted-one, block-one, quoted-or-block}
 use Rattle.apollo_parser.specs.StringValues.{IsStringValue}
 use Rattle.dumyroke_flat.specs.declared.rows.ByteCount.{ByteCount}
-use Rattle.dumyroke_flat.specs.Rows.{filled}
-use Rattle.dumyroke_flat.specs.Outcomes.{OK, StringOutcome}
+use Rattle.dumyroke_flat.specs.declared.rows.Counts.{Counts}
+use Rattle.apollo_parser.specs.Order.{order}
+use Rattle.apollo_parser.specs.Parsed.{Parsed}
+use Rattle.apollo_parser.proofs.OneParse.{one-parse}
+use Rattle.dumyroke_flat.specs.Rows.{element_rows, error_rows, filled, messages}
+use Rattle.dumyroke_flat.specs.Again.{HasRoom, HoldParse}
+use Rattle.dumyroke_flat.proofs.ElementRows.{length-rows}
+use Rattle.dumyroke_flat.proofs.Messages.{length-error_rows}
+use Rattle.dumyroke_flat.specs.Outcomes.{Buffers, Outcome, counts_of, OK, StringOutcome}
 
 -- a buffer of just the length is filled with the items
 pub filled-whole : {A : Type 0} (buffer items : List A) → length buffer ≡ length items → filled buffer items ≡ items
@@ -39,3 +46,26 @@ value-again literal before after room value first second one ok two ok' asked =
     let s = two.ok ok' in
     let same : f.0 ≡ s.0 = one-value literal f.0 s.0 f.1 s.1 in
     subst (IsStringValue literal) (sym (s.2 ∙ filled-whole room s.0 (asked ∙ f.3 ∙ ap length same))) s.1
+
+-- ---- parses
+
+pub parse-again : (source : List ℕ) (r k : ℕ) (before after room filled_room : Buffers) (first second : Counts) → Outcome source r k before after first → first.status ≡ OK
+    → Outcome source r k room filled_room second → second.status ≡ OK → (second ≡ first) × (HasRoom room first → HoldParse source r k filled_room)
+parse-again source r k before after room filled_room first second one ok two ok' =
+    let f = one.ok ok in
+    let s = two.ok ok' in
+    let same : f.0 ≡ s.0 = one-parse f.0 s.0 f.1.promise.by_rules s.1.promise.by_rules in (
+      s.3 ∙ ap counts_of (sym same) ∙ sym f.3,
+      λ asked. record {
+        parsed = s.0;
+        parse = s.1;
+        elements = ap (λ (b : Buffers). b.elements) s.2
+            ∙ filled-whole room.elements (element_rows s.0.tree)
+            (asked.elements ∙ ap (λ (c : Counts). c.elements) f.3 ∙ ap (λ (p : Parsed). length (order p.tree)) same ∙ sym (length-rows 0 (order s.0.tree)));
+        errors = ap (λ (b : Buffers). b.errors) s.2
+            ∙ filled-whole room.errors (error_rows 0 s.0.errors)
+            (asked.errors ∙ ap (λ (c : Counts). c.errors) f.3 ∙ ap (λ (p : Parsed). length p.errors) same ∙ sym (length-error_rows 0 s.0.errors));
+        messages = ap (λ (b : Buffers). b.messages) s.2
+            ∙ filled-whole room.messages (messages s.0.errors) (asked.messages ∙ ap (λ (c : Counts). c.message_bytes) f.3 ∙ ap (λ (p : Parsed). length (messages p.errors)) same);
+      },
+    )
