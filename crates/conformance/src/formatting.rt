@@ -261,6 +261,22 @@ fn formats_standard_input(rt: HostRuntime) {
     expect_ran(&rt, &ran, 0, "{\n  a\n}\n", "");
 }
 
+// `{a}` has four tokens with its end, and seven when white space parts them.
+#[test]
+fn never_writes_what_it_refuses(rt: HostRuntime) {
+    let ran = run_over(rt.alloc(), &Disk::new(0), b"{a}", &["--tokens", "4"]);
+    let told = "gqlfmt: <stdin>: it would have more tokens than allowed when formatted\n";
+    expect_ran(&rt, &ran, 1, "", told);
+    let disk = Disk::new(u8::MAX);
+    let ran = run_over(rt.alloc(), &disk, b"", &["--tokens", "4", "a"]);
+    assert!(rt; ran.ended == 1);
+    assert!(rt; !disk.is_replaced.get());
+    for text in [b"{a}".as_slice(), b"{\n  a\n}\n".as_slice()] {
+        let ran = run_over(rt.alloc(), &Disk::new(0), text, &["--tokens", "7"]);
+        expect_ran(&rt, &ran, 0, "{\n  a\n}\n", "");
+    }
+}
+
 // Formats a file of a disk that fails after so many calls, and gives whether it did.
 fn expect_whole(rt: &(impl Abort + AllocGlobal), calls: u8) -> bool {
     let disk = Disk::new(calls);
