@@ -10,14 +10,16 @@ use Rattle.gqlfmt_run.specs.declared.formatting.Refusal.TheVariants.{Errors, Out
 use Rattle.gqlfmt_run.specs.Formatting.{IsFormatted, IsRefused, IsChanged, IsRevised, IsShown}
 use Rattle.gqlfmt_run.specs.Input.{input_name, IsOutput, kept, outcome_of}
 
-pub of_same : (mode : Mode) (limits : Limits) (source output : List ℕ) → IsFormatted limits source source → output ≡ kept mode source → IsOutput mode limits source Done output
+pub of_same : (mode : Mode) (limits : Limits) (source output : List ℕ) → IsFormatted limits source source → output ≡ kept mode source
+    → IsOutput mode limits source Done output
 of_same Write limits source output formatted same = subst (λ (text : List ℕ). IsFormatted limits source text) (sym same) formatted
 of_same Check limits source output formatted same = (formatted, same)
 of_same Diff limits source output formatted same = (formatted, same)
 
-pub of_changed : (mode : Mode) (limits : Limits) (source text output : List ℕ) → IsChanged limits source text → (text ≢ source → IsShown mode input_name text output)
-    → IsOutput mode limits source (outcome_of mode) output
-of_changed Write limits source text output changed shown = subst (λ (text : List ℕ). IsFormatted limits source text) (sym (shown changed.other)) changed.formatted
+pub of_changed : (mode : Mode) (limits : Limits) (source text output : List ℕ) → IsChanged limits source text
+    → (text ≢ source → IsShown mode input_name text output) → IsOutput mode limits source (outcome_of mode) output
+of_changed Write limits source text output changed shown =
+    subst (λ (text : List ℕ). IsFormatted limits source text) (sym (shown changed.other)) changed.formatted
 of_changed Check limits source text output changed shown = inr (record { looks = λ e. (cc); text = text; changed = changed; shown = shown changed.other })
 of_changed Diff limits source text output changed shown = inr (record { looks = λ e. (cc); text = text; changed = changed; shown = shown changed.other })
 
@@ -25,7 +27,8 @@ pub is_refused : {A : Type 0} (limits : Limits) (source : List ℕ) (refusal : R
 is_refused limits source (Errors errors) h = inl (record { errors = errors.items; refused = h })
 is_refused limits source Outgrown h = inr h
 
-pub of_refused : {A : Type 0} (mode : Mode) (limits : Limits) (source output : List ℕ) (refusal : Refusal A) → IsRevised limits source (Refused refusal) → output ≡ []
+pub of_refused : {A : Type 0} (mode : Mode) (limits : Limits) (source output : List ℕ) (refusal : Refusal A) → IsRevised limits source (Refused refusal)
+    → output ≡ []
     → IsOutput mode limits source Found output
 of_refused Write limits source output refusal h empty = inl (is_refused limits source refusal h, empty)
 of_refused Check limits source output refusal h empty = inl (is_refused limits source refusal h, empty)

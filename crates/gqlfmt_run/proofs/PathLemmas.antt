@@ -1,5 +1,6 @@
 -- Files, one after the other.
-use Rattle.std.proofs.Common.{◌≡◌, ℕ, ◌+◌, ◌<◌, Bool, List, [], ◌∷◌, ◌++◌, length, take, get_or, max, refl, sym, ap, ◌∙◌, subst, arith, Option, Result, Bor, inl, inr}
+use Rattle.std.proofs.Common.{◌≡◌, ℕ, ◌+◌, ◌<◌, Bool, List, [], ◌∷◌, ◌++◌, length, take, get_or}
+use Rattle.std.proofs.Common.{max, refl, sym, ap, ◌∙◌, subst, arith, Option, Result, Bor, inl, inr}
 use Rattle.std.specs.Prelude.{Some, Ok}
 use Rattle.std.specs.Str.{IsUtf8}
 use Rattle.std.specs.Ordering.{ord_max, nat_cmp}
@@ -29,16 +30,19 @@ ord_max-nat : (a b : ℕ) → ord_max nat_cmp a b ≡ max a b
 ord_max-nat a b = grind (arith, nat_tests)
 
 module _ {S : Type 0} (reads : S → List ℕ → Option (List ℕ) → S → Type 0) (replaces : S → List ℕ → List ℕ → Bool → S → Type 0) where
-  found : {A : Type 0} (X : Type 0) (mode : Mode) (limits : Limits) (path source : List ℕ) (revised : Revised A (Refusal A)) (old new : S) (out out' : Account) → IsUtf8 source
+  found : {A : Type 0} (X : Type 0) (mode : Mode) (limits : Limits) (path source : List ℕ) (revised : Revised A (Refusal A)) (old new : S)
+      (out out' : Account) → IsUtf8 source
       → IsRevised limits source revised → Settles replaces {X = X} mode path revised (Ok Found) old new → Shows mode path source revised (Ok tt) out out'
       → FollowsText reads replaces mode limits path source (Ok Found) old out new out'
   found X mode limits path source Same old new out out' utf8 made settled shown = absurd settled
   found X mode limits path source (Changed text) old new out out' utf8 made settled shown =
       (utf8, settled.1, inr (shown.0, record { looks = settled.0; text = _; changed = made; shown = shown.1 made.other }, shown.2))
-  found X mode limits path source (Refused refusal) old new out out' utf8 made settled shown = (utf8, settled, inl (is_refused limits source refusal made, shown))
+  found X mode limits path source (Refused refusal) old new out out' utf8 made settled shown =
+      (utf8, settled, inl (is_refused limits source refusal made, shown))
 
   -- A file whose text is refused or shown. The text is known as it was read, as a slice and as a text.
-  pub found-handled : {A : Type 0} (X : Type 0) (mode : Mode) (limits : Limits) (path bytes slice source : List ℕ) (revised : Revised A (Refusal A)) (old middle new : S) (out out' : Account)
+  pub found-handled : {A : Type 0} (X : Type 0) (mode : Mode) (limits : Limits) (path bytes slice source : List ℕ) (revised : Revised A (Refusal A))
+      (old middle new : S) (out out' : Account)
       → reads old path (Some bytes) middle → slice ≡ bytes → (source ≡ slice) × IsUtf8 slice → IsRevised limits source revised
       → Settles replaces {X = X} mode path revised (Ok Found) middle new → Shows mode path source revised (Ok tt) out out'
       → Handles reads replaces mode limits path (Ok Found) old out new out'
@@ -52,8 +56,10 @@ module _ {S : Type 0} (reads : S → List ℕ → Option (List ℕ) → S → Ty
   }
 
   -- a run over some files
-  pub formats-files : (settings : Settings) (mode : Mode) (limits : Limits) (paths files : List (Bor (List ℕ))) (status : ℕ) (old new : State S) → paths ≡ files → 0 < length paths
-      → mode ≡ mode_of settings → limits ≡ limits_of settings → HandlesAll reads replaces mode limits (texts paths) status (desk old) (desk new) → new.input ≡ old.input
+  pub formats-files : (settings : Settings) (mode : Mode) (limits : Limits) (paths files : List (Bor (List ℕ))) (status : ℕ) (old new : State S)
+      → paths ≡ files → 0 < length paths
+      → mode ≡ mode_of settings → limits ≡ limits_of settings → HandlesAll reads replaces mode limits (texts paths) status (desk old) (desk new)
+      → new.input ≡ old.input
       → Formats reads replaces settings (texts files) status old new
   formats-files settings mode limits [] files status old new same some m l all input = absurd (omega (arith, some))
   formats-files settings mode limits (p ∷ paths) files status old new same some m l all input =
@@ -65,10 +71,12 @@ module _ {S : Type 0} (reads : S → List ℕ → Option (List ℕ) → S → Ty
 
   module _ (mode : Mode) (limits : Limits) where
     abbrev Ends : List ℕ → Result Outcome FileFault → Desk S → Desk S → Type 0
-    Ends path ended old new = Handles reads replaces mode limits path ended old.files old.output new.files new.output × SaysOfFile path ended old.complaints new.complaints
+    Ends path ended old new = Handles reads replaces mode limits path ended old.files old.output new.files new.output
+        × SaysOfFile path ended old.complaints new.complaints
 
     -- one file more
-    handles-more : (paths : List (List ℕ)) (status : ℕ) (path : List ℕ) (ended : Result Outcome FileFault) (old middle new : Desk S) → HandlesAll reads replaces mode limits paths status old middle
+    handles-more : (paths : List (List ℕ)) (status : ℕ) (path : List ℕ) (ended : Result Outcome FileFault) (old middle new : Desk S)
+        → HandlesAll reads replaces mode limits paths status old middle
         → Ends path ended middle new → HandlesAll reads replaces mode limits (paths ++ path ∷ []) (max status (status_of ended)) old new
     handles-more [] status path ended old middle new h one =
         let last : Ends path ended old new = subst (λ (s : Desk S). Ends path ended s new) h.1 one in
@@ -77,9 +85,11 @@ module _ {S : Type 0} (reads : S → List ℕ → Option (List ℕ) → S → Ty
         (h.0, max h.1 (status_of ended), h.2, (omega (arith, h.3)), h.4, h.5, handles-more paths h.1 path ended h.2 middle new h.6 one)
 
     -- the same where the path is the next of a list, as the code has it
-    pub handles-next : (items : List (Bor (List ℕ))) (i status one worst : ℕ) (d : Bor (List ℕ)) (ended : Result Outcome FileFault) (old middle new : Desk S) (said : Account) → i < length items
+    pub handles-next : (items : List (Bor (List ℕ))) (i status one worst : ℕ) (d : Bor (List ℕ)) (ended : Result Outcome FileFault)
+        (old middle new : Desk S) (said : Account) → i < length items
         → HandlesAll reads replaces mode limits (texts (take i items)) status old middle
-        → Handles reads replaces mode limits (get_or items i d).now ended middle.files middle.output new.files new.output → IsSilent ended middle.complaints said
+        → Handles reads replaces mode limits (get_or items i d).now ended middle.files middle.output new.files new.output
+        → IsSilent ended middle.complaints said
         → ((before : Account) → IsSilent ended before said → SaysOfFile (get_or items i d).now ended before new.complaints)
         → one ≡ status_of ended → worst ≡ ord_max nat_cmp status one → HandlesAll reads replaces mode limits (texts (take (i + 1) items)) worst old new
     handles-next items i status one worst d ended old middle new said within h last silent tells is most =

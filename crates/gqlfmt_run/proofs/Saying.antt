@@ -16,7 +16,8 @@ silent_says path Found old new any = any
 
 -- writing nothing does not break off
 all-written : (fault : Fault) (text : List ℕ) (old new : Account) → EndsWriting fault text old new → text ≡ [] → ⊥
-all-written Write text old new broken empty = omega (arith, ap length (sym empty), ap length broken.joined, length-append broken.written broken.rest, broken.more)
+all-written Write text old new broken empty =
+    omega (arith, ap length (sym empty), ap length broken.joined, length-append broken.written broken.rest, broken.more)
 all-written Read text old new ends empty = ends
 all-written Utf8 text old new ends empty = ends
 all-written Memory text old new ends empty = ends
@@ -24,4 +25,5 @@ all-written Memory text old new ends empty = ends
 -- what was said is nothing where what is written breaks off
 pub silent-broken : {P : Type 0} (fault : Fault) (text bytes : List ℕ) (out out' old new : Account) → bytes ≡ text → EndsWriting fault bytes out out'
     → ((new ≡ old) ⊎ (P × (text ≡ []))) → new ≡ old
-silent-broken fault text bytes out out' old new same ends said = elim said [ inl e ↦ e | inr none ↦ absurd (all-written fault bytes out out' ends (same ∙ none.1)) ]
+silent-broken fault text bytes out out' old new same ends said =
+    elim said [ inl e ↦ e | inr none ↦ absurd (all-written fault bytes out out' ends (same ∙ none.1)) ]

@@ -55,7 +55,8 @@ module _ {S : Type 0} (reads : S → List ℕ → Option (List ℕ) → S → Ty
   FollowsRead mode limits path None _ old output new output' = ⊥
 
   -- The file was read once, and then left alone or rewritten.
-  pub record Handles (mode : Mode) (limits : Limits) (path : List ℕ) (ended : Result Outcome FileFault) (old : S) (output : Account) (new : S) (output' : Account) : Type 0 where
+  pub record Handles (mode : Mode) (limits : Limits) (path : List ℕ) (ended : Result Outcome FileFault)
+      (old : S) (output : Account) (new : S) (output' : Account) : Type 0 where
     pub given : Option (List ℕ)
     pub middle : S
     pub read : reads old path given middle

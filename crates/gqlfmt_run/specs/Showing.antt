@@ -13,8 +13,10 @@ use Rattle.gqlfmt_run.specs.Formatting.{IsShown}
 -- What is written of a text of this name of which formatting made this, in a mode that changes nothing: how another text is shown, or a beginning
 -- of that, and then the writer broke off.
 abbrev pub Shows : {A E : Type 0} → Mode → List ℕ → List ℕ → Revised A E → Result (Unit {0}) Fault → Account → Account → Type 0
-Shows mode name source (Changed text) (Ok _) old new = (shown : List ℕ) × (string_bytes text ≢ source → IsShown mode name (string_bytes text) shown) × (new ≡ moved old shown)
-Shows mode name source (Changed text) (Err fault.Write) old new = (shown : List ℕ) × (string_bytes text ≢ source → IsShown mode name (string_bytes text) shown) × IsBroken shown old new
+Shows mode name source (Changed text) (Ok _) old new =
+    (shown : List ℕ) × (string_bytes text ≢ source → IsShown mode name (string_bytes text) shown) × (new ≡ moved old shown)
+Shows mode name source (Changed text) (Err fault.Write) old new =
+    (shown : List ℕ) × (string_bytes text ≢ source → IsShown mode name (string_bytes text) shown) × IsBroken shown old new
 Shows mode name source revised (Err Read) old new = ⊥
 Shows mode name source revised (Err Utf8) old new = ⊥
 Shows mode name source revised (Err Memory) old new = new ≡ old

@@ -9,8 +9,10 @@ use Rattle.gqlfmt_run.proofs.input.format_input.Goals as goal
 pub returns-in_err-write_all-clause-output : goal.returns-in_err-write_all-clause-output
 returns-in_err-write_all-clause-output g c =
     let k =
-    cut (IsOutput c.args.mode c.args.limits) c.in_err-write_all.field-0.0 c.in_ok-outcome.outcome c.in_ok-bytes.bytes.items c.as_slice.result.now c.in-Ok.source.now
-    (string_bytes c.in_ok-outcome.output) c.as_bytes.result.now _ _ _ _ c.in_ok-bytes.ensures.ok c.as_slice.ensures.value c.in-Ok.ensures.cases c.in_ok-outcome.ensures.output
+    cut (IsOutput c.args.mode c.args.limits) c.in_err-write_all.field-0.0 c.in_ok-outcome.outcome c.in_ok-bytes.bytes.items c.as_slice.result.now
+    c.in-Ok.source.now
+    (string_bytes c.in_ok-outcome.output) c.as_bytes.result.now _ _ _ _ c.in_ok-bytes.ensures.ok c.as_slice.ensures.value c.in-Ok.ensures.cases
+    c.in_ok-outcome.ensures.output
     c.as_bytes.ensures.value c.in_err-write_all.ensures.err in
     let p = err_from_is_err_and c.from_residual-in_err-write_all.result c.from_residual-in_err-write_all.ensures.1 in
     rw (p.1, p.2) (c.in_ok-bytes.bytes.items, k.0, k.1)
@@ -18,5 +20,6 @@ returns-in_err-write_all-clause-output g c =
 pub returns-in_err-write_all-clause-silent : goal.returns-in_err-write_all-clause-silent
 returns-in_err-write_all-clause-silent g c =
     let p = err_from_is_err_and c.from_residual-in_err-write_all.result c.from_residual-in_err-write_all.ensures.1 in
-    rw p.1 (silent-broken c.in_err-write_all.field-0.0 (string_bytes c.in_ok-outcome.output) c.as_bytes.result.now _ _ _ _ c.as_bytes.ensures.value c.in_err-write_all.ensures.err
+    rw p.1 (silent-broken c.in_err-write_all.field-0.0
+    (string_bytes c.in_ok-outcome.output) c.as_bytes.result.now _ _ _ _ c.as_bytes.ensures.value c.in_err-write_all.ensures.err
     c.in_ok-outcome.ensures.silent)
