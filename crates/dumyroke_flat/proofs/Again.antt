@@ -31,8 +31,10 @@ text-prop xs ys = hlevel props
 
 same-value : (text value other : List ℕ) → (Quoted text value ⊎ Block text value) → (Quoted text other ⊎ Block text other) → value ≡ other
 same-value text value other first second = ⊎_elim
-    (λ (q : Quoted text value). ⊎_elim (λ (p : Quoted text other). quoted-one text value other q p) (λ (b : Block text other). absurd (quoted-or-block text value other q b)) second)
-    (λ (b : Block text value). ⊎_elim (λ (q : Quoted text other). absurd (quoted-or-block text other value q b)) (λ (d : Block text other). block-one text value other b d) second)
+    (λ (q : Quoted text value). ⊎_elim (λ (p : Quoted text other). quoted-one text value other q p)
+    (λ (b : Block text other). absurd (quoted-or-block text value other q b)) second)
+    (λ (b : Block text value). ⊎_elim (λ (q : Quoted text other). absurd (quoted-or-block text other value q b))
+    (λ (d : Block text other). block-one text value other b d) second)
     first
 
 one-value : (text value other : List ℕ) → IsStringValue text value → IsStringValue text other → value ≡ other
@@ -49,7 +51,8 @@ value-again literal before after room value first second one ok two ok' asked =
 
 -- ---- parses
 
-pub parse-again : (source : List ℕ) (r k : ℕ) (before after room filled_room : Buffers) (first second : Counts) → Outcome source r k before after first → first.status ≡ OK
+pub parse-again : (source : List ℕ) (r k : ℕ) (before after room filled_room : Buffers) (first second : Counts) → Outcome source r k before after first
+    → first.status ≡ OK
     → Outcome source r k room filled_room second → second.status ≡ OK → (second ≡ first) × (HasRoom room first → HoldParse source r k filled_room)
 parse-again source r k before after room filled_room first second one ok two ok' =
     let f = one.ok ok in
@@ -66,6 +69,7 @@ parse-again source r k before after room filled_room first second one ok two ok'
             ∙ filled-whole room.errors (error_rows 0 s.0.errors)
             (asked.errors ∙ ap (λ (c : Counts). c.errors) f.3 ∙ ap (λ (p : Parsed). length p.errors) same ∙ sym (length-error_rows 0 s.0.errors));
         messages = ap (λ (b : Buffers). b.messages) s.2
-            ∙ filled-whole room.messages (messages s.0.errors) (asked.messages ∙ ap (λ (c : Counts). c.message_bytes) f.3 ∙ ap (λ (p : Parsed). length (messages p.errors)) same);
+            ∙ filled-whole room.messages (messages s.0.errors)
+            (asked.messages ∙ ap (λ (c : Counts). c.message_bytes) f.3 ∙ ap (λ (p : Parsed). length (messages p.errors)) same);
       },
     )

@@ -12,10 +12,12 @@ use Rattle.dumyroke_flat.specs.declared.rows.ByteCount.{ByteCount}
 use Rattle.dumyroke_flat.specs.declared.rows.ElementRow.{ElementRow}
 use Rattle.dumyroke_flat.specs.declared.rows.ErrorRow.{ErrorRow}
 use Rattle.dumyroke_flat.specs.Rows.{element_rows, error_rows, filled, messages}
-use Rattle.dumyroke_flat.specs.Outcomes.{Buffers, IsParse, IsTooLong, Outcome, counts_of, FormatOutcome, StringOutcome, no_counts, written, OK, NOT_UTF8, TOO_LONG, NO_MEMORY, NOT_A_STRING, NOT_A_DOCUMENT}
+use Rattle.dumyroke_flat.specs.Outcomes.{Buffers, IsParse, IsTooLong, Outcome, counts_of, FormatOutcome, StringOutcome}
+use Rattle.dumyroke_flat.specs.Outcomes.{no_counts, written, OK, NOT_UTF8, TOO_LONG, NO_MEMORY, NOT_A_STRING, NOT_A_DOCUMENT}
 use Rattle.dumyroke_flat.proofs.ValueLengths.{no_longer}
 
-pub of-parse : (source : List ℕ) (r k : ℕ) (before : Buffers) (parsed : Parsed) → IsParse source r k parsed → Outcome source r k before (written before parsed) (counts_of parsed)
+pub of-parse : (source : List ℕ) (r k : ℕ) (before : Buffers) (parsed : Parsed) → IsParse source r k parsed
+    → Outcome source r k before (written before parsed) (counts_of parsed)
 of-parse source r k before parsed p = record {
   ok = λ _. (parsed, p, refl, refl);
   not_utf8 = λ e. absurd (omega (arith, e));
@@ -24,7 +26,8 @@ of-parse source r k before parsed p = record {
   known = (0, omega arith, refl);
 }
 
-pub of-refused : (source : List ℕ) (r k : ℕ) (before : Buffers) (status : ℕ) → OK < status → Contains (OK ∷ NOT_UTF8 ∷ TOO_LONG ∷ NO_MEMORY ∷ []) status → (status ≡ NOT_UTF8 → ¬ IsUtf8 source)
+pub of-refused : (source : List ℕ) (r k : ℕ) (before : Buffers) (status : ℕ) → OK < status → Contains (OK ∷ NOT_UTF8 ∷ TOO_LONG ∷ NO_MEMORY ∷ []) status
+    → (status ≡ NOT_UTF8 → ¬ IsUtf8 source)
     → (status ≡ TOO_LONG → IsTooLong source r k) → Outcome source r k before before (no_counts status)
 of-refused source r k before status some known utf8 long = record {
   ok = λ e. absurd (omega (arith, e));
@@ -41,20 +44,25 @@ pub of-not-utf8 : (source : List ℕ) (r k : ℕ) (before : Buffers) → ¬ IsUt
 of-not-utf8 source r k before other = of-refused source r k before NOT_UTF8 (omega arith) (1, omega arith, refl) (λ _. other) (λ e. absurd (omega (arith, e)))
 
 pub of-no-memory : (source : List ℕ) (r k : ℕ) (before : Buffers) → Outcome source r k before before (no_counts NO_MEMORY)
-of-no-memory source r k before = of-refused source r k before NO_MEMORY (omega arith) (3, omega arith, refl) (λ e. absurd (omega (arith, e))) (λ e. absurd (omega (arith, e)))
+of-no-memory source r k before =
+    of-refused source r k before NO_MEMORY (omega arith) (3, omega arith, refl) (λ e. absurd (omega (arith, e))) (λ e. absurd (omega (arith, e)))
 
 -- the buffers after all was written, where the errors are known as `found`
-pub of-written : (source : List ℕ) (r k : ℕ) (before : Buffers) (parsed : Parsed) (rows : List ElementRow) (errors : List ErrorRow) (words : List ℕ) (found : List Diagnostic)
+pub of-written : (source : List ℕ) (r k : ℕ) (before : Buffers) (parsed : Parsed) (rows : List ElementRow) (errors : List ErrorRow) (words : List ℕ)
+    (found : List Diagnostic)
     (elements bytes depth items : ℕ) → IsParse source r k parsed → found ≡ parsed.errors → rows ≡ filled before.elements (element_rows parsed.tree)
-    → errors ≡ filled before.errors (error_rows 0 found) → words ≡ filled before.messages (messages found) → elements ≡ length (order parsed.tree) → bytes ≡ length (messages found)
+    → errors ≡ filled before.errors (error_rows 0 found) → words ≡ filled before.messages (messages found) → elements ≡ length (order parsed.tree)
+    → bytes ≡ length (messages found)
     → depth ≡ parsed.recursion_limit.high → items ≡ parsed.token_limit.high
     → Outcome source r k before (record { elements = rows; errors = errors; messages = words })
     (record { elements = elements; errors = length found; message_bytes = bytes; recursion_high = depth; token_high = items; status = OK })
-of-written source r k before parsed rows errors words found elements bytes depth items p f a b c d e g h = rw (a, b, c, d, e, g, h, f) (of-parse source r k before parsed p)
+of-written source r k before parsed rows errors words found elements bytes depth items p f a b c d e g h =
+    rw (a, b, c, d, e, g, h, f) (of-parse source r k before parsed p)
 
 -- ---- one text
 
-pub string-written : (literal text value shown before after : List ℕ) (count : ByteCount) → text ≡ literal → IsStringValue text value → shown ≡ value → after ≡ filled before shown
+pub string-written : (literal text value shown before after : List ℕ) (count : ByteCount) → text ≡ literal → IsStringValue text value → shown ≡ value
+    → after ≡ filled before shown
     → count ≡ record { bytes = length shown; status = OK } → StringOutcome literal before after count
 string-written literal text value shown before after count same is as_value all counted =
     let value_of : IsStringValue literal shown = subst (λ (t : List ℕ). IsStringValue t shown) same (subst (IsStringValue text) (sym as_value) is) in
@@ -78,7 +86,8 @@ not-a-string literal text before count same other counted = rw counted (record {
   no_longer = omega arith;
 })
 
-pub not-a-document : (source text : List ℕ) (r k : ℕ) (before : List ℕ) (errors : List Diagnostic) (count : ByteCount) → text ≡ source → IsRefused text r k errors
+pub not-a-document : (source text : List ℕ) (r k : ℕ) (before : List ℕ) (errors : List Diagnostic) (count : ByteCount) → text ≡ source
+    → IsRefused text r k errors
     → count ≡ record { bytes = 0; status = NOT_A_DOCUMENT } → FormatOutcome source r k before before count
 not-a-document source text r k before errors count same refused counted = rw counted (record {
   ok = λ e. absurd (omega (arith, e));

@@ -8,7 +8,8 @@ use Rattle.std.proofs.Props.{props}
 use Rattle.std.proofs.lemmas.Bool.{cases_Bool}
 use Rattle.std.proofs.lemmas.Str.{length-encode, len_utf8_bounds}
 use Rattle.lexical_grammar.specs.Characters.{is_line_terminator}
-use Rattle.lexical_grammar.specs.Strings.{StringCharacter, StringCharacters, BlockCharacters, Quoted, hex_value, plain, escaped, fixed, braced, pair, none, one_more, closing}
+use Rattle.lexical_grammar.specs.Strings.{StringCharacter, StringCharacters, BlockCharacters, Quoted, hex_value, plain}
+use Rattle.lexical_grammar.specs.Strings.{escaped, fixed, braced, pair, none, one_more, closing}
 use Rattle.apollo_parser.specs.StringValues.{IsStringValue}
 use Rattle.lexical_grammar.specs.Values.{Block, Lines, onto_first, common_indent, dedented, without_blank_ends, is_blank_line, joined_by_lf, block_string_value}
 
@@ -17,7 +18,8 @@ use Rattle.lexical_grammar.specs.Values.{Block, Lines, onto_first, common_indent
 one-character : (text value : List ℕ) → StringCharacter text value → length value ≤ length text
 one-character _ _ (plain {c} p) = omega arith
 one-character _ _ (escaped {e} {c} p) = omega arith
-one-character _ _ (fixed {text} {digits} f s) = omega (arith, ap length f.spelled, f.four, length-encode (hex_value digits), (len_utf8_bounds (hex_value digits)).1)
+one-character _ _ (fixed {text} {digits} f s) =
+    omega (arith, ap length f.spelled, f.four, length-encode (hex_value digits), (len_utf8_bounds (hex_value digits)).1)
 one-character _ _ (braced {text} {digits} b s) =
     omega (arith, ap length b.spelled, b.some, length-append digits (125 ∷ []), length-encode (hex_value digits), (len_utf8_bounds (hex_value digits)).1)
 one-character _ _ (pair {high} {high_digits} {low} {low_digits} h s l t) =
@@ -95,7 +97,12 @@ take-within (suc zero) (line ∷ []) = omega arith
 take-within (suc (suc n)) (line ∷ []) = omega arith
 take-within (suc zero) (line ∷ next ∷ lines) = omega (arith, length-append line (10 ∷ joined_by_lf (next ∷ lines)))
 take-within (suc (suc n)) (line ∷ next ∷ lines) =
-    omega (arith, take-within (suc n) (next ∷ lines), length-append line (10 ∷ joined_by_lf (next ∷ lines)), length-append line (10 ∷ joined_by_lf (next ∷ take n lines)))
+    omega (
+      arith,
+      take-within (suc n) (next ∷ lines),
+      length-append line (10 ∷ joined_by_lf (next ∷ lines)),
+      length-append line (10 ∷ joined_by_lf (next ∷ take n lines)),
+    )
 
 without-blanks : (lines : List (List ℕ)) → width (without_blank_ends lines) ≤ width lines
 without-blanks lines =
@@ -111,7 +118,8 @@ quoted-value : (text value : List ℕ) → Quoted text value → length value �
 quoted-value text value q = omega (arith, ap length q.spelled, length-append q.inside (34 ∷ []), characters q.inside value q.characters)
 
 block-value : (text value : List ℕ) → Block text value → length value ≤ length text
-block-value text value b = omega (arith, ap length b.string.spelled, raw-within b.string.inside b.raw b.string.characters, block-within b.raw, ap length b.value_is)
+block-value text value b =
+    omega (arith, ap length b.string.spelled, raw-within b.string.inside b.raw b.string.characters, block-within b.raw, ap length b.value_is)
 
 value-within : (text value : List ℕ) → (Quoted text value ⊎ Block text value) → length value ≤ length text
 value-within text value some = ⊎_elim (quoted-value text value) (block-value text value) some

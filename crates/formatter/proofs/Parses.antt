@@ -24,7 +24,8 @@ some-list xs e h = let no : true ≡ false = sym (ap (λ l. eqb (length l) 0) e)
 pub same-parse : (source other : List ℕ) (r q k j : ℕ) (t : Parsed) → other ≡ source → q ≡ r → j ≡ k → Promise other q j t → Promise source r k t
 same-parse source other r q k j t s d n p = subst (λ x. Promise x r k t) s (subst (λ x. Promise other x k t) d (subst (λ x. Promise other q x t) n p))
 
-pub refused : (source : List ℕ) (r k : ℕ) (t : Parsed) (errors : List Diagnostic) → errors ≡ t.errors → eqb (length errors) 0 ≡ false → Promise source r k t → IsRefused source r k errors
+pub refused : (source : List ℕ) (r k : ℕ) (t : Parsed) (errors : List Diagnostic) → errors ≡ t.errors → eqb (length errors) 0 ≡ false
+    → Promise source r k t → IsRefused source r k errors
 refused source r k t errors e some p = record {
   no_document = λ d. some-list errors (e ∙ p.accepts d.tree d.sentence d.within) some;
   parsed = t;
@@ -37,14 +38,23 @@ pub sentence-of : (source : List ℕ) (r k : ℕ) (t : Parsed) → k ≤ usize_m
 sentence-of source r k t le clean p = record { tree = bare (tree_of t.tree); sentence = (p.sound clean).0; within = (r, k, le, (p.sound clean).1) }
 
 pub formatted-by : (source text : List ℕ) (r k : ℕ) (t : Parsed) → t.errors ≡ [] → Promise source r k t → Formatted source text → IsFormatted source r k text
-formatted-by source text r k t clean p f = record { document = record { tree = bare (tree_of t.tree); sentence = (p.sound clean).0; within = (p.sound clean).1 }; formatted = f }
+formatted-by source text r k t clean p f = record {
+  document = record { tree = bare (tree_of t.tree); sentence = (p.sound clean).0; within = (p.sound clean).1 };
+  formatted = f;
+}
 
 -- a formatted text nests as deep as its source
-pub formatted-within : (source text : List ℕ) (r k : ℕ) → Cut text (items_of text) → length (items_of text) ≤ k → IsFormatted source r k text → IsDocument text r k
+pub formatted-within : (source text : List ℕ) (r k : ℕ) → Cut text (items_of text) → length (items_of text) ≤ k → IsFormatted source r k text
+    → IsDocument text r k
 formatted-within source text r k cut few f =
     let again = f.formatted.sentence f.document.tree f.document.sentence in
     record {
       tree = again.tree;
       sentence = again.sentence;
-      within = record { nesting = omega (arith, alike-nest f.document.tree again.tree again.alike, f.document.within.nesting); items = items_of text; cut = cut; count = few };
+      within = record {
+        nesting = omega (arith, alike-nest f.document.tree again.tree again.alike, f.document.within.nesting);
+        items = items_of text;
+        cut = cut;
+        count = few;
+      };
     }

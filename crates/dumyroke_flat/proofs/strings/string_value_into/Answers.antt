@@ -9,5 +9,6 @@ returns-then-not-is_string g c =
 
 pub returns-in-Ok-string_value : goal.returns-in-Ok-string_value
 returns-in-Ok-string_value g c =
-    string-written c.args.literal.now c.in-Ok.text.now (string_bytes c.in-Ok-string_value.found) c.as_str.result.now c.args.value.now c.written.new.buffer c.written.result
+    string-written c.args.literal.now c.in-Ok.text.now
+    (string_bytes c.in-Ok-string_value.found) c.as_str.result.now c.args.value.now c.written.new.buffer c.written.result
     c.in-Ok.ensures.cases.0 c.in-Ok-string_value.ensures c.as_str.ensures.value c.written.ensures.buffer c.written.ensures.count
