@@ -1,7 +1,8 @@
 pub mod Announced
 pub mod Changes
+pub mod Dialogues
+pub mod Layouts
 pub mod Maps
 pub mod Messages
 pub mod Numbers
-pub mod Sessions
 pub mod Texts

@@ -6,7 +6,7 @@ use Rattle.open_document.specs.Client.{Opened}
 use Rattle.rpc_messages.specs.declared.reply.Reply.{Reply}
 use Rattle.gqlls_run.specs.Conversation.{Changes, Closes, IsIgnored, Opens, Publishes, PublishesChanges, Withdraws, opened}
 use Rattle.gqlls_run.specs.Parameters.{Edit, edits_in, text_in, uri_in}
-use Rattle.gqlls_run.specs.Session.{Session}
+use Rattle.gqlls_run.specs.Dialogue.{Dialogue}
 use Rattle.gqlls_run.specs.declared.server.Stage.{Stage}
 use Rattle.gqlls_run.specs.declared.server.Stage.TheVariants.{New, Running, ShutDown}
 
@@ -22,7 +22,7 @@ new_shut stage is_new shut = cc
 running_shut : (stage : Stage) → stage ≡ Running → stage ≡ ShutDown → ⊥
 running_shut stage runs shut = cc
 
-module _ (params : Json) (reply : Reply) (old new : Session) where
+module _ (params : Json) (reply : Reply) (old new : Dialogue) where
   pub opens : (uri text : List ℕ) (content : Opened) → uri_in params ≡ Some uri → text_in params ≡ Some text → content ≡ opened old text
       → Publishes uri content params reply old new → Opens params reply old new
   opens uri text content named told is published =

@@ -14,8 +14,9 @@ use Rattle.rpc_messages.specs.Steps.{Takes}
 use Rattle.rpc_messages.specs.declared.reply.Reply.{Reply}
 use Rattle.rpc_messages.specs.declared.reply.Reply.TheVariants.{Nothing, Answer, Notice, Exit}
 use Rattle.rpc_serving.specs.Serving.{EndsServing, IsServed}
+use Rattle.gqlls_run.specs.Layout.{IsFormattingOf}
 use Rattle.gqlls_run.specs.Parameters.{Edit, IsVersionIn, Offers, edits_in, text_in, uri_in}
-use Rattle.gqlls_run.specs.Session.{IsChanged, Session, Sets, begun}
+use Rattle.gqlls_run.specs.Dialogue.{Dialogue, IsChanged, Sets, begun}
 use Rattle.gqlls_run.specs.Told.{IsTold, Notifies}
 use Rattle.gqlls_run.specs.declared.server.Stage.{Stage}
 use Rattle.gqlls_run.specs.declared.server.Stage.TheVariants.{New, Running, ShutDown}
@@ -47,73 +48,84 @@ abbrev pub IsAnnounced : Json → PositionEncoding → List ℕ → Type 0
 IsAnnounced id encoding body = (capabilities others : Members) × IsResult id (announcement encoding capabilities others) body
 
 -- The conversation begins, and counts columns from then on as the answer says. No client has to offer UTF-16.
-pub record Initializes (id params : Json) (reply : Reply) (old new : Session) : Type 0 where
-  pub session : new ≡ record old { stage = Running; encoding = new.encoding }
+pub record Initializes (id params : Json) (reply : Reply) (old new : Dialogue) : Type 0 where
+  pub dialogue : new ≡ record old { stage = Running; encoding = new.encoding }
   pub offered : new.encoding ≡ Utf8 → Offers params (codes "utf-8")
   pub announced : Answers (IsAnnounced id new.encoding) reply
 
 -- the answer to `shutdown`, after which only `exit` is heard
-pub record ShutsDown (id : Json) (reply : Reply) (old new : Session) : Type 0 where
-  pub session : new ≡ record old { stage = ShutDown }
+pub record ShutsDown (id : Json) (reply : Reply) (old new : Dialogue) : Type 0 where
+  pub dialogue : new ≡ record old { stage = ShutDown }
   pub answered : Answers (IsResult id json.null) reply
 
 -- the request is refused with this code, and changes nothing
-pub record IsRefused (id : Json) (code : ℤ) (reply : Reply) (old new : Session) : Type 0 where
-  pub session : new ≡ old
+pub record IsRefused (id : Json) (code : ℤ) (reply : Reply) (old new : Dialogue) : Type 0 where
+  pub dialogue : new ≡ old
   pub refusal : Answers (IsRefusalOf id code) reply
 
+-- the body refuses the request for want of a document: `InvalidParams`
+abbrev pub LacksDocument : Json → List ℕ → Type 0
+LacksDocument id body = IsRefusalOf id (neg_ℤ (pos 32602)) body
+
+-- `textDocument/formatting`: the body has the layout of the document that the message names, or refuses where none of that name is open
+abbrev pub Formats : Json → Json → Dialogue → List ℕ → Type 0
+Formats id params dialogue body =
+    MatchOption (uri_in params) (LacksDocument id body)
+    (λ uri. MatchOption (dialogue.documents uri) (LacksDocument id body) (λ content. IsFormattingOf id content body))
+
 -- What a request comes to. No request opens, changes or closes a document.
-pub record IsAsked (id : Json) (method : List ℕ) (params : Json) (reply : Reply) (old new : Session) : Type 0 where
+pub record IsAsked (id : Json) (method : List ℕ) (params : Json) (reply : Reply) (old new : Dialogue) : Type 0 where
   pub initialize : old.stage ≡ New → method ≡ codes "initialize" → Initializes id params reply old new
   pub too_early : old.stage ≡ New → method ≢ codes "initialize" → IsRefused id (neg_ℤ (pos 32002)) reply old new
   pub shutdown : old.stage ≡ Running → method ≡ codes "shutdown" → ShutsDown id reply old new
   pub others : old.stage ≡ Running → method ≢ codes "shutdown" → new ≡ old
+  pub formatting : old.stage ≡ Running → method ≡ codes "textDocument/formatting" → Answers (Formats id params old) reply
   pub too_late : old.stage ≡ ShutDown → IsRefused id (neg_ℤ (pos 32600)) reply old new
 
 -- ---- notifications
 
 -- nothing is said, and nothing changes
-pub record IsIgnored (reply : Reply) (old new : Session) : Type 0 where
+pub record IsIgnored (reply : Reply) (old new : Dialogue) : Type 0 where
   pub silence : reply ≡ Nothing
-  pub session : new ≡ old
+  pub dialogue : new ≡ old
 
 -- A document has this text now. The reply publishes its errors, with the version that the message gives.
-pub record Publishes (uri : List ℕ) (content : Opened) (params : Json) (reply : Reply) (old new : Session) : Type 0 where
+pub record Publishes (uri : List ℕ) (content : Opened) (params : Json) (reply : Reply) (old new : Dialogue) : Type 0 where
   pub sets : Sets uri (Some content) old new
   pub version : Option ℤ
   pub versioned : IsVersionIn params version
   pub told : Notifies (IsTold uri version content) reply
 
 -- a text that is opened, in the encoding of the conversation
-abbrev pub opened : Session → List ℕ → Opened
-opened session text = record { encoding = session.encoding; text = text }
+abbrev pub opened : Dialogue → List ℕ → Opened
+opened dialogue text = record { encoding = dialogue.encoding; text = text }
 
 -- `textDocument/didOpen`: the document has the text of the message. Without a name or a text the message is ignored.
-abbrev pub Opens : Json → Reply → Session → Session → Type 0
+abbrev pub Opens : Json → Reply → Dialogue → Dialogue → Type 0
 Opens params reply old new =
     MatchOption (uri_in params) (IsIgnored reply old new)
     (λ uri. MatchOption (text_in params) (IsIgnored reply old new) (λ text. Publishes uri (opened old text) params reply old new))
 
 -- an open document has some changes now
-pub record PublishesChanges (uri : List ℕ) (edits : List Edit) (before : Opened) (params : Json) (reply : Reply) (old new : Session) : Type 0 where
+pub record PublishesChanges (uri : List ℕ) (edits : List Edit) (before : Opened) (params : Json) (reply : Reply) (old new : Dialogue) : Type 0 where
   pub after : Opened
   pub changed : IsChanged edits before after
   pub publishes : Publishes uri after params reply old new
 
 -- `textDocument/didChange`: the document has the changes of the message. Where it isn't open, or a change isn't one of the protocol, the message is ignored.
-abbrev pub Changes : Json → Reply → Session → Session → Type 0
+abbrev pub Changes : Json → Reply → Dialogue → Dialogue → Type 0
 Changes params reply old new =
     MatchOption (uri_in params) (IsIgnored reply old new)
     (λ uri. MatchOption (edits_in params) (IsIgnored reply old new)
     (λ edits. MatchOption (old.documents uri) (IsIgnored reply old new) (λ before. PublishesChanges uri edits before params reply old new)))
 
 -- a document isn't open any more, and its errors are taken back
-pub record Withdraws (uri : List ℕ) (reply : Reply) (old new : Session) : Type 0 where
+pub record Withdraws (uri : List ℕ) (reply : Reply) (old new : Dialogue) : Type 0 where
   pub sets : Sets uri None old new
   pub told : Notifies (IsNoticeAbout uri None []) reply
 
 -- `textDocument/didClose`: where the document isn't open, the message is ignored
-abbrev pub Closes : Json → Reply → Session → Session → Type 0
+abbrev pub Closes : Json → Reply → Dialogue → Dialogue → Type 0
 Closes params reply old new =
     MatchOption (uri_in params) (IsIgnored reply old new)
     (λ uri. MatchOption (old.documents uri) (IsIgnored reply old new) (λ content. Withdraws uri reply old new))
@@ -125,9 +137,9 @@ exit_status Running = 1
 exit_status ShutDown = 0
 
 -- the notification ends the conversation
-pub record Exits (reply : Reply) (old new : Session) : Type 0 where
+pub record Exits (reply : Reply) (old new : Dialogue) : Type 0 where
   pub exit : reply ≡ Exit (exit_status old.stage)
-  pub session : new ≡ old
+  pub dialogue : new ≡ old
 
 -- the notification is none of those that are heard
 pub record IsOther (method : List ℕ) : Type 0 where
@@ -137,7 +149,7 @@ pub record IsOther (method : List ℕ) : Type 0 where
   pub no_close : method ≢ codes "textDocument/didClose"
 
 -- what a notification comes to
-pub record IsHeard (method : List ℕ) (params : Json) (reply : Reply) (old new : Session) : Type 0 where
+pub record IsHeard (method : List ℕ) (params : Json) (reply : Reply) (old new : Dialogue) : Type 0 where
   pub exits : method ≡ codes "exit" → Exits reply old new
   pub opens : old.stage ≡ Running → method ≡ codes "textDocument/didOpen" → Opens params reply old new
   pub changes : old.stage ≡ Running → method ≡ codes "textDocument/didChange" → Changes params reply old new
@@ -148,16 +160,16 @@ pub record IsHeard (method : List ℕ) (params : Json) (reply : Reply) (old new 
 -- ---- conversations
 
 -- what a request, which has an id, or a notification comes to
-abbrev pub Steps : Session → Option Json → List ℕ → Json → Reply → Session → Type 0
+abbrev pub Steps : Dialogue → Option Json → List ℕ → Json → Reply → Dialogue → Type 0
 Steps old (Some id) method params reply new = IsAsked id method params reply old new
 Steps old None method params reply new = IsHeard method params reply old new
 
 -- what was written is what a conversation about the bytes that were read says, from its beginning
 pub record Serves (status : ℕ) (read_old read_new write_old write_new : Account) : Type 0 where
-  pub last : Session
+  pub last : Dialogue
   pub served : IsServed (Takes Steps) begun last status read_old read_new write_old write_new
 
 -- the run fails, and what was written is what such a conversation says, as far as it came
 pub record Fails (read_old read_new write_old write_new : Account) (fault : Fault) : Type 0 where
-  pub last : Session
+  pub last : Dialogue
   pub ends : EndsServing (Takes Steps) begun last read_old read_new write_old write_new fault

@@ -1,6 +1,6 @@
 pub mod Conversation
 pub mod Layout
 pub mod Parameters
-pub mod Session
+pub mod Dialogue
 pub mod State
 pub mod Told

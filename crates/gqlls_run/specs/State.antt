@@ -6,7 +6,7 @@ use Rattle.json.specs.Json.{Json}
 use Rattle.open_document.specs.Client.{Opened}
 use Rattle.rpc_messages.specs.declared.reply.Reply.{Reply}
 use Rattle.gqlls_run.specs.Conversation.{Steps}
-use Rattle.gqlls_run.specs.Session.{Session}
+use Rattle.gqlls_run.specs.Dialogue.{Dialogue}
 use Rattle.gqlls_run.specs.declared.documents.Document.{Document}
 use Rattle.gqlls_run.specs.declared.server.Server.{Server}
 
@@ -17,9 +17,9 @@ content_of document = document.content
 abbrev pub contents : {A : Type 0} → BTreeMap (String A) Document → List ℕ → Option Opened
 contents documents name = option_map content_of (get_by_text documents name)
 
-abbrev pub session_of : Server → Session
-session_of server = record { stage = server.stage; encoding = server.encoding; documents = contents server.documents }
+abbrev pub dialogue_of : Server → Dialogue
+dialogue_of server = record { stage = server.stage; encoding = server.encoding; documents = contents server.documents }
 
--- the message takes the session that the server keeps from one to the next
+-- the message takes the dialogue from that of the old server to that of the new
 abbrev pub StepsOf : Server → Option Json → List ℕ → Json → Reply → Server → Type 0
-StepsOf old id method params reply new = Steps (session_of old) id method params reply (session_of new)
+StepsOf old id method params reply new = Steps (dialogue_of old) id method params reply (dialogue_of new)

@@ -4,7 +4,7 @@ ghost use Rattle.apollo_parser.specs.Answers.{usize_max};
 ghost use Rattle.apollo_parser.specs.Promise.{Promise};
 ghost use Rattle.rpc_messages.specs.Messages.{IsNotice};
 ghost use Rattle.gqlls_run.specs.Parameters.{told};
-ghost use Rattle.gqlls_run.specs.Session.{IsChanged, Updates};
+ghost use Rattle.gqlls_run.specs.Dialogue.{IsChanged, Updates};
 ghost use Rattle.gqlls_run.specs.State.{contents};
 ghost use Rattle.gqlls_run.specs.Told.{IsTold};
 

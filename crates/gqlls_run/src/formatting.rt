@@ -1,29 +1,42 @@
 // The answers to requests for a layout.
-ghost use Rattle.std.specs.Prelude.{IfOk};
-ghost use Rattle.json.specs.Tree.{HasNumbers};
+ghost use Rattle.std.specs.Prelude.{◌≡◌, ◌++◌, IfOk, List, OnOk, flat_map};
+ghost use Rattle.json.specs.Json.{Json};
+ghost use Rattle.json.specs.Tree.{HasNumbers, json_tokens};
 ghost use Rattle.json.specs.Value.{value_view};
-ghost use Rattle.rpc_messages.specs.Messages.{IsAnswer};
+ghost use Rattle.rpc_messages.specs.Messages.{IsAnswer, IsResult};
+ghost use Rattle.rpc_messages.specs.Pieces.{tokens_of};
+ghost use Rattle.gqlls_run.specs.Layout.{IsFormattingOf, IsListOf, IsResultOf};
 
-use crate::layout::Change;
+use crate::documents::Document;
+use crate::layout::{Change, format_whole};
 use diagnostic_messages::Places;
-use document_answers::push_range;
 use json::Value;
 use rpc_messages::{Piece, answer};
 use std::alloc::{AllocError, Global};
 
-// Adds a list that has the change, unless it changes nothing.
-fn push_change<'p>(
-    pieces: &mut Vec<Piece<'p>>,
+// The pieces of a list of the change.
+fn pieces_of<'p>(
+    alloc: Global,
     places: &Places<'_>,
     change: &'p Change,
-) -> Result<(), AllocError> {
+) -> Result<Vec<Piece<'p>>, AllocError>
+    ensures { IfOk result (λ pieces. (value : Json) × IsListOf places.now.encoding places.now.text.now change.now value
+        × (flat_map tokens_of pieces.items ≡ json_tokens value)) }
+{
+    let mut pieces = Vec::new(alloc);
     if change.leaves(places.text) {
-        return pieces.extend_from_slice(&[Piece::Array, Piece::EndArray]);
+        pieces.extend_from_slice(&[Piece::Array, Piece::EndArray])?;
+        return Ok(pieces);
     }
-    pieces.extend_from_slice(&[Piece::Array, Piece::Object])?;
-    push_range(pieces, places, "range", change.span)?;
-    pieces.extend_from_slice(&[Piece::Key("newText"), Piece::Text(change.text.as_str())])?;
-    pieces.extend_from_slice(&[Piece::EndObject, Piece::EndArray])
+    pieces.extend_from_slice(&[Piece::Array, Piece::Object, Piece::Key("range")])?;
+    pieces.extend_from_slice(&places.range(change.span.start, change.span.end))?;
+    pieces.extend_from_slice(&[
+        Piece::Key("newText"),
+        Piece::Text(change.text.as_str()),
+        Piece::EndObject,
+        Piece::EndArray,
+    ])?;
+    Ok(pieces)
 }
 
 /// The answer to a request for a layout: the change, no change where the text has the layout, and null where there is none.
@@ -34,12 +47,31 @@ pub(crate) fn answer_layout(
     change: &Option<Change>,
 ) -> Result<Vec<u8>, AllocError>
     requires { HasNumbers (value_view id.now) }
-    ensures { IfOk result (λ body. IsAnswer (value_view id.now) body.items) }
+    ensures answers { IfOk result (λ body. IsAnswer (value_view id.now) body.items) }
+    ensures changes { IfOk result (λ body. (value : Json) × IsResultOf places.now.encoding places.now.text.now change.now value
+        × IsResult (value_view id.now) value body.items) }
 {
     let Some(change) = change else {
-        return answer(alloc, id, &[Piece::Null]);
+        let body = answer(alloc, id, &[Piece::Null])?;
+        return Ok(body);
     };
-    let mut pieces = Vec::new(alloc);
-    push_change(&mut pieces, places, change)?;
-    answer(alloc, id, pieces.as_slice())
+    let pieces = pieces_of(alloc, places, change)?;
+    let body = answer(alloc, id, pieces.as_slice())?;
+    Ok(body)
+}
+
+/// The answer to `textDocument/formatting` about a document.
+pub(crate) fn answer_formatting(
+    alloc: Global,
+    id: &Value<'_>,
+    document: &Document,
+) -> Result<Vec<u8>, AllocError>
+    requires { HasNumbers (value_view id.now) }
+    ensures answers { IfOk result (λ body. IsAnswer (value_view id.now) body.items) }
+    ensures formats { IfOk result (λ body. IsFormattingOf (value_view id.now) document.now.content body.items) }
+{
+    let places = document.places(alloc)?;
+    let change = format_whole(alloc, places.text)?;
+    let body = answer_layout(alloc, id, &places, &change)?;
+    Ok(body)
 }

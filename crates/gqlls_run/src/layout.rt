@@ -1,8 +1,8 @@
 // The layout of a document, or of some of its definitions.
-ghost use Rattle.std.specs.Prelude.{[], ◌∷◌, IfOk, IfSome, string_bytes};
+ghost use Rattle.std.specs.Prelude.{◌≡◌, [], ◌∷◌, IfOk, IfSome, MatchOption, slice_range, string_bytes, true};
 ghost use Rattle.apollo_parser.specs.Answers.{usize_max};
-ghost use Rattle.formatter.specs.Outcome.{IsFormatted};
-ghost use Rattle.gqlls_run.specs.Layout.{IsLayout};
+ghost use Rattle.formatter.specs.Outcome.{IsDocument, IsFormatted};
+ghost use Rattle.gqlls_run.specs.Layout.{IsLayout, IsWhole};
 
 use crate::parsing::RECURSION_LIMIT;
 use apollo_parser::SyntaxNode;
@@ -19,14 +19,16 @@ pub(crate) struct Change {
 
 impl Change {
     /// Whether a text is the same after it.
-    pub(crate) fn leaves(&self, source: &str) -> bool {
+    pub(crate) fn leaves(&self, source: &str) -> bool
+        ensures { result ≡ true → slice_range source.now self.now.span.start self.now.span.end ≡ string_bytes self.now.text }
+    {
         source.get(self.span.start..self.span.end) == Some(self.text.as_str())
     }
 }
 
 // A document with the layout of `formatter`; `None` where it has errors.
 fn formatted(alloc: Global, source: &str) -> Result<Option<String>, AllocError>
-    ensures { IfOk result (λ r. IfSome r (λ text. IsFormatted source.now 500 usize_max (string_bytes text))) }
+    ensures { IfOk result (λ r. MatchOption r (¬ IsDocument source.now 500 usize_max) (λ text. IsFormatted source.now 500 usize_max (string_bytes text))) }
 {
     match format(alloc, source, RECURSION_LIMIT, usize::MAX)? {
         Ok(text) => Ok(Some(text)),
@@ -63,7 +65,7 @@ fn definitions_within(root: SyntaxNode<'_>, within: Span) -> Option<Span> {
 
 /// The whole document with the layout of `formatter`; `None` where it has errors. It fails only where memory is refused.
 pub(crate) fn format_whole(alloc: Global, source: &str) -> Result<Option<Change>, AllocError>
-    ensures { IfOk result (λ r. IfSome r (IsLayout source.now [])) }
+    ensures { IfOk result (λ r. MatchOption r (¬ IsDocument source.now 500 usize_max) (IsWhole source.now)) }
 {
     let Some(text) = formatted(alloc, source)? else {
         return Ok(None);

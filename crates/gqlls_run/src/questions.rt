@@ -7,7 +7,7 @@ ghost use Rattle.rpc_messages.specs.Messages.{IsAnswer};
 use crate::completing::push_completions;
 use crate::documents::Document;
 use crate::formatting::answer_layout;
-use crate::layout::{format_part, format_whole};
+use crate::layout::format_part;
 use crate::parameters::{asks_for_definition, offset_of, offsets_of, span_of};
 use apollo_parser::SyntaxNode;
 use diagnostic_messages::Places;
@@ -26,7 +26,6 @@ pub(crate) enum Question {
     Folds,
     Selections,
     Tokens,
-    Formatting,
     RangeFormatting,
     Definition,
     References,
@@ -34,13 +33,12 @@ pub(crate) enum Question {
     Completion,
 }
 
-const QUESTIONS: [(&str, Question); 11] = [
+const QUESTIONS: [(&str, Question); 10] = [
     ("textDocument/documentSymbol", Question::Symbols),
     ("textDocument/foldingRange", Question::Folds),
     ("textDocument/selectionRange", Question::Selections),
     ("textDocument/semanticTokens/full", Question::Tokens),
     ("textDocument/semanticTokens/range", Question::Tokens),
-    ("textDocument/formatting", Question::Formatting),
     ("textDocument/rangeFormatting", Question::RangeFormatting),
     ("textDocument/definition", Question::Definition),
     ("textDocument/references", Question::References),
@@ -195,10 +193,6 @@ fn answer_about(
         Question::Symbols => answer_symbols(alloc, id, root, places),
         Question::Folds => answer_folds(alloc, id, root, places),
         Question::Selections => answer_selections(alloc, id, root, places, params),
-        Question::Formatting => {
-            let change = format_whole(alloc, places.text)?;
-            answer_layout(alloc, id, places, &change)
-        }
         Question::Tokens | Question::RangeFormatting => {
             answer_within(alloc, id, question, root, places, params)
         }

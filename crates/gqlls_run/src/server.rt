@@ -6,12 +6,13 @@ ghost use Rattle.json.specs.Value.{value_view};
 ghost use Rattle.rpc_messages.specs.Messages.{IsAnswer, IsResult};
 ghost use Rattle.rpc_messages.specs.Replies.{EndsOnlyIf, Replies};
 ghost use Rattle.rpc_messages.specs.declared.reply.Reply.TheVariants.{Answer};
-ghost use Rattle.gqlls_run.specs.Conversation.{Changes, Closes, IsAsked, IsHeard, IsRefusalOf, Opens, exit_status};
-ghost use Rattle.gqlls_run.specs.Session.{begun};
-ghost use Rattle.gqlls_run.specs.State.{StepsOf, session_of};
+ghost use Rattle.gqlls_run.specs.Conversation.{Changes, Closes, Formats, IsAsked, IsHeard, IsRefusalOf, Opens, exit_status};
+ghost use Rattle.gqlls_run.specs.Dialogue.{begun};
+ghost use Rattle.gqlls_run.specs.State.{StepsOf, dialogue_of};
 
 use crate::capabilities::answer_initialize;
 use crate::documents::{Document, insert};
+use crate::formatting::answer_formatting;
 use crate::parameters::{changes_of, encoding_of, text_of, uri_of, version_of};
 use crate::questions::{answer_question, question_of};
 use diagnostic_messages::withdrawal;
@@ -20,6 +21,9 @@ use line_index::PositionEncoding;
 use rpc_messages::{Piece, Reply, Service, answer, code, refusal};
 use std::alloc::{AllocError, Global};
 use std::collections::BTreeMap;
+
+// Why a question about a document is refused.
+const NO_DOCUMENT: &str = "no such document is open";
 
 #[derive(Clone, Copy)]
 enum Stage {
@@ -39,13 +43,33 @@ pub struct Server {
 impl Server {
     /// A server that has read no message.
     pub fn new(alloc: Global) -> Server
-        ensures { session_of result ≡ begun }
+        ensures { dialogue_of result ≡ begun }
     {
         Server {
             documents: BTreeMap::new(alloc),
             stage: Stage::New,
             encoding: PositionEncoding::Utf16,
         }
+    }
+
+    // The answer to a request for the layout of an open document.
+    fn layout(
+        &self,
+        alloc: Global,
+        id: &Value<'_>,
+        params: &Value<'_>,
+    ) -> Result<Vec<u8>, AllocError>
+        requires { HasNumbers (value_view id.now) }
+        ensures answers { IfOk result (λ body. IsAnswer (value_view id.now) body.items) }
+        ensures formats { IfOk result (λ body. Formats (value_view id.now) (value_view params.now) (dialogue_of self.now) body.items) }
+    {
+        let Some(uri) = uri_of(params) else {
+            return refused(alloc, id, code::INVALID_PARAMS, NO_DOCUMENT);
+        };
+        let Some(document) = self.documents.get(uri) else {
+            return refused(alloc, id, code::INVALID_PARAMS, NO_DOCUMENT);
+        };
+        answer_formatting(alloc, id, document)
     }
 
     // The answer to a question about an open document.
@@ -57,27 +81,32 @@ impl Server {
         params: &Value<'_>,
     ) -> Result<Vec<u8>, AllocError>
         requires { HasNumbers (value_view id.now) }
-        ensures { IfOk result (λ body. IsAnswer (value_view id.now) body.items) }
+        ensures answers { IfOk result (λ body. IsAnswer (value_view id.now) body.items) }
+        ensures formats { IfOk result (λ body. method.now ≡ codes "textDocument/formatting"
+            → Formats (value_view id.now) (value_view params.now) (dialogue_of self.now) body.items) }
     {
         if method == "initialize" {
-            return refusal(alloc, id, code::INVALID_REQUEST, "initialized before");
+            return refused(alloc, id, code::INVALID_REQUEST, "initialized before");
+        }
+        if method == "textDocument/formatting" {
+            return self.layout(alloc, id, params);
         }
         let Some(question) = question_of(method) else {
-            return refusal(alloc, id, code::METHOD_NOT_FOUND, "method not found");
+            return refused(alloc, id, code::METHOD_NOT_FOUND, "method not found");
         };
         if let Some(uri) = uri_of(params)
             && let Some(document) = self.documents.get(uri)
         {
             return answer_question(alloc, id, question, uri, document, params);
         }
-        refusal(alloc, id, code::INVALID_PARAMS, "no such document is open")
+        refused(alloc, id, code::INVALID_PARAMS, NO_DOCUMENT)
     }
 
     // Opens a document, and publishes its errors.
     fn open(&mut self, alloc: Global, params: &Value<'_>) -> Result<Reply, AllocError>
         ensures replies { IfOk result (Replies None) }
         ensures ends { IfOk result (EndsOnlyIf ⊥) }
-        ensures opens { IfOk result (λ reply. Opens (value_view params.now) reply (session_of self.old) (session_of self.new)) }
+        ensures opens { IfOk result (λ reply. Opens (value_view params.now) reply (dialogue_of self.old) (dialogue_of self.new)) }
     {
         let Some(uri) = uri_of(params) else {
             return Ok(Reply::Nothing);
@@ -95,7 +124,7 @@ impl Server {
     fn change(&mut self, alloc: Global, params: &Value<'_>) -> Result<Reply, AllocError>
         ensures replies { IfOk result (Replies None) }
         ensures ends { IfOk result (EndsOnlyIf ⊥) }
-        ensures changes { IfOk result (λ reply. Changes (value_view params.now) reply (session_of self.old) (session_of self.new)) }
+        ensures changes { IfOk result (λ reply. Changes (value_view params.now) reply (dialogue_of self.old) (dialogue_of self.new)) }
     {
         let Some(uri) = uri_of(params) else {
             return Ok(Reply::Nothing);
@@ -115,7 +144,7 @@ impl Server {
     fn close(&mut self, alloc: Global, params: &Value<'_>) -> Result<Reply, AllocError>
         ensures replies { IfOk result (Replies None) }
         ensures ends { IfOk result (EndsOnlyIf ⊥) }
-        ensures closes { IfOk result (λ reply. Closes (value_view params.now) reply (session_of self.old) (session_of self.new)) }
+        ensures closes { IfOk result (λ reply. Closes (value_view params.now) reply (dialogue_of self.old) (dialogue_of self.new)) }
     {
         let Some(uri) = uri_of(params) else {
             return Ok(Reply::Nothing);
@@ -171,7 +200,7 @@ impl Service for Server {
         requires { HasNumbers (value_view id.now) }
         ensures answers { IfOk result (λ body. IsAnswer (value_view id.now) body.items) }
         ensures step { IfOk result (λ body. IsAsked (value_view id.now) method.now (value_view params.now) (Answer body)
-            (session_of self.old) (session_of self.new)) }
+            (dialogue_of self.old) (dialogue_of self.new)) }
     {
         match self.stage {
             Stage::New if method == "initialize" => {
@@ -197,7 +226,7 @@ impl Service for Server {
     ) -> Result<Reply, AllocError>
         ensures replies { IfOk result (Replies None) }
         ensures ends { IfOk result (EndsOnlyIf (method.now ≡ codes "exit")) }
-        ensures step { IfOk result (λ reply. IsHeard method.now (value_view params.now) reply (session_of self.old) (session_of self.new)) }
+        ensures step { IfOk result (λ reply. IsHeard method.now (value_view params.now) reply (dialogue_of self.old) (dialogue_of self.new)) }
     {
         if method == "exit" {
             return Ok(Reply::Exit(exit_status(self.stage)));

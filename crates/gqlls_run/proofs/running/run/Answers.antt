@@ -1,5 +1,5 @@
 use Rattle.std.proofs.lemmas.Result.{IfErr-weaker, IfOk-weaker}
-use Rattle.gqlls_run.proofs.Sessions.{fails_of, served_of}
+use Rattle.gqlls_run.proofs.Dialogues.{fails_of, served_of}
 use Rattle.gqlls_run.proofs.running.run.Goals as goal
 
 pub returns-clause-ok : goal.returns-clause-ok

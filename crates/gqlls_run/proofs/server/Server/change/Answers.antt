@@ -4,8 +4,8 @@ use Rattle.json.specs.Value.{value_view}
 use Rattle.open_document.specs.declared.Change.{Change}
 use Rattle.rpc_messages.specs.declared.reply.Reply.TheVariants.{Notice}
 use Rattle.gqlls_run.specs.Parameters.{told}
-use Rattle.gqlls_run.specs.Session.{IsChanged}
-use Rattle.gqlls_run.specs.State.{content_of, session_of}
+use Rattle.gqlls_run.specs.Dialogue.{IsChanged}
+use Rattle.gqlls_run.specs.State.{content_of, dialogue_of}
 use Rattle.gqlls_run.specs.declared.server.Server.{Server}
 use Rattle.gqlls_run.proofs.Maps.{updated}
 use Rattle.gqlls_run.proofs.Messages.{changes, found_in}
@@ -15,7 +15,7 @@ pub returns-clause-changes : goal.returns-clause-changes
 returns-clause-changes c =
     let before = c.in-Some-get_mut.document.now in
     let after : Server = record c.args.self.now { documents = c.get_mut.follows.lender c.change.new.self } in
-    changes (value_view c.args.params.now) (Notice c.in_ok-told.told) (session_of c.args.self.now) (session_of after)
+    changes (value_view c.args.params.now) (Notice c.in_ok-told.told) (dialogue_of c.args.self.now) (dialogue_of after)
     c.in-Some.uri.now (map told c.in-Some-2.changes.items) before.content
     (found_in _ _ _ _ c.uri_of.ensures c.in-Some.is) (found_in _ _ _ _ c.in_ok-changes.ensures c.in-Some-2.is)
     (ap (option_map content_of) (found_in _ _ _ _ c.get_mut.ensures.value c.in-Some-get_mut.is))

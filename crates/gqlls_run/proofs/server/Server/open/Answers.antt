@@ -1,7 +1,7 @@
 use Rattle.std.proofs.Common.{refl}
 use Rattle.json.specs.Value.{value_view}
 use Rattle.rpc_messages.specs.declared.reply.Reply.TheVariants.{Notice}
-use Rattle.gqlls_run.specs.State.{session_of}
+use Rattle.gqlls_run.specs.State.{dialogue_of}
 use Rattle.gqlls_run.specs.declared.server.Server.{Server}
 use Rattle.gqlls_run.proofs.Messages.{found_in, opens}
 use Rattle.gqlls_run.proofs.server.Server.open.Goals as goal
@@ -9,7 +9,7 @@ use Rattle.gqlls_run.proofs.server.Server.open.Goals as goal
 pub returns-clause-opens : goal.returns-clause-opens
 returns-clause-opens c =
     let after : Server = record c.args.self.now { documents = c.insert.new.documents } in
-    opens (value_view c.args.params.now) (Notice c.in_ok-told.told) (session_of c.args.self.now) (session_of after)
+    opens (value_view c.args.params.now) (Notice c.in_ok-told.told) (dialogue_of c.args.self.now) (dialogue_of after)
     c.in-Some.uri.now c.in-Some-text_of.text.now c.in_ok-document.document.content
     (found_in _ _ _ _ c.uri_of.ensures c.in-Some.is) (found_in _ _ _ _ c.text_of.ensures c.in-Some-text_of.is) c.in_ok-document.ensures.content
     (record {

@@ -9,13 +9,13 @@ use Rattle.gqlls_run.specs.declared.server.Stage.{Stage}
 use Rattle.gqlls_run.specs.declared.server.Stage.TheVariants.{New}
 
 -- how far the conversation is, how columns are counted, and by its name the text of each document that the client has open
-pub record Session : Type 0 where
+pub record Dialogue : Type 0 where
   pub stage : Stage
   pub encoding : PositionEncoding
   pub documents : List ℕ → Option Opened
 
 -- no message was read
-abbrev pub begun : Session
+abbrev pub begun : Dialogue
 begun = record { stage = New; encoding = Utf16; documents = λ name. None }
 
 -- one document is opened, changed or closed, and the others stay
@@ -24,7 +24,7 @@ pub record Updates (uri : List ℕ) (content : Option Opened) (old new : List �
   pub others : (name : List ℕ) → name ≢ uri → new name ≡ old name
 
 -- nothing else changes
-pub record Sets (uri : List ℕ) (content : Option Opened) (old new : Session) : Type 0 where
+pub record Sets (uri : List ℕ) (content : Option Opened) (old new : Dialogue) : Type 0 where
   pub documents : Updates uri content old.documents new.documents
   pub stage : new.stage ≡ old.stage
   pub encoding : new.encoding ≡ old.encoding

@@ -1,4 +1,4 @@
--- The session of a conversation, as its messages change it.
+-- The dialogue with a client, as its messages change it.
 use Rattle.std.proofs.Common.{◌≡◌, ℕ, List, Option, Some, None, subst, ap, inl, inr}
 use Rattle.json.specs.Json.{Json}
 use Rattle.rpc_messages.specs.Steps.{StepsBy, Takes}
@@ -9,40 +9,40 @@ use Rattle.byte_devices.specs.declared.fault.Fault.{Fault}
 use Rattle.byte_devices.specs.declared.fault.Fault.TheVariants.{Read, Utf8, Memory, Write}
 use Rattle.rpc_serving.specs.Exchange.{Exchange, waits, replied, ended, passed_over}
 use Rattle.gqlls_run.specs.Conversation.{Fails, Serves, Steps}
-use Rattle.gqlls_run.specs.Session.{Session, begun}
-use Rattle.gqlls_run.specs.State.{StepsOf, session_of}
+use Rattle.gqlls_run.specs.Dialogue.{Dialogue, begun}
+use Rattle.gqlls_run.specs.State.{StepsOf, dialogue_of}
 use Rattle.gqlls_run.specs.declared.server.Server.{Server}
 
 steps_by : (id method : Option Json) (params : Json) (old new : Server) (reply : Reply) → StepsBy StepsOf id method params old reply new
-    → StepsBy Steps id method params (session_of old) reply (session_of new)
+    → StepsBy Steps id method params (dialogue_of old) reply (dialogue_of new)
 steps_by (Some id) (Some method) params old new reply step = step
-steps_by (Some id) None params old new reply step = (step.0, ap session_of step.1)
+steps_by (Some id) None params old new reply step = (step.0, ap dialogue_of step.1)
 steps_by None (Some method) params old new reply step = step
-steps_by None None params old new reply step = (step.0, ap session_of step.1)
+steps_by None None params old new reply step = (step.0, ap dialogue_of step.1)
 
-takes_of : (body : List ℕ) (old new : Server) (reply : Reply) → Takes StepsOf body old reply new → Takes Steps body (session_of old) reply (session_of new)
-takes_of body old new reply (inl none) = inl (none.0, none.1, ap session_of none.2)
+takes_of : (body : List ℕ) (old new : Server) (reply : Reply) → Takes StepsOf body old reply new → Takes Steps body (dialogue_of old) reply (dialogue_of new)
+takes_of body old new reply (inl none) = inl (none.0, none.1, ap dialogue_of none.2)
 takes_of body old new reply (inr some) = inr (some.0, some.1, steps_by _ _ _ old new reply some.2)
 
--- a conversation with a server is one with the sessions that it keeps
+-- a conversation with a server is one over the dialogues that it keeps
 pub exchange_of : {first last : Server} {bytes said rest : List ℕ} {status : Option ℕ} → Exchange (Takes StepsOf) first bytes said rest status last
-    → Exchange (Takes Steps) (session_of first) bytes said rest status (session_of last)
+    → Exchange (Takes Steps) (dialogue_of first) bytes said rest status (dialogue_of last)
 exchange_of (waits none) = waits none
 exchange_of (replied asked reply begins asks replies goes_on takes more) =
     replied asked reply begins asks replies goes_on (takes_of _ _ _ reply takes) (exchange_of more)
 exchange_of (ended asked reply status begins ends asks replies is takes) = ended asked reply status begins ends asks replies is (takes_of _ _ _ reply takes)
 exchange_of (passed_over never more) = passed_over never (exchange_of more)
 
-from_begun : (first last : Server) (input output left : List ℕ) (asked : Option ℕ) → session_of first ≡ begun
-    → Exchange (Takes StepsOf) first input output left asked last → Exchange (Takes Steps) begun input output left asked (session_of last)
+from_begun : (first last : Server) (input output left : List ℕ) (asked : Option ℕ) → dialogue_of first ≡ begun
+    → Exchange (Takes StepsOf) first input output left asked last → Exchange (Takes Steps) begun input output left asked (dialogue_of last)
 from_begun first last input output left asked new e =
-    subst (λ (session : Session). Exchange (Takes Steps) session input output left asked (session_of last)) new (exchange_of e)
+    subst (λ (dialogue : Dialogue). Exchange (Takes Steps) dialogue input output left asked (dialogue_of last)) new (exchange_of e)
 
 -- the same of a whole run
-pub served_of : (first last : Server) (status : ℕ) (read_old read_new write_old write_new : Account) → session_of first ≡ begun
+pub served_of : (first last : Server) (status : ℕ) (read_old read_new write_old write_new : Account) → dialogue_of first ≡ begun
     → IsServed (Takes StepsOf) first last status read_old read_new write_old write_new → Serves status read_old read_new write_old write_new
 served_of first last status read_old read_new write_old write_new new served = record {
-  last = session_of last;
+  last = dialogue_of last;
   served = record {
     input = served.input;
     output = served.output;
@@ -55,10 +55,10 @@ served_of first last status read_old read_new write_old write_new new served = r
 }
 
 -- the same of a run that fails
-pub fails_of : (first last : Server) (read_old read_new write_old write_new : Account) (fault : Fault) → session_of first ≡ begun
+pub fails_of : (first last : Server) (read_old read_new write_old write_new : Account) (fault : Fault) → dialogue_of first ≡ begun
     → EndsServing (Takes StepsOf) first last read_old read_new write_old write_new fault → Fails read_old read_new write_old write_new fault
 fails_of first last read_old read_new write_old write_new Read new e = record {
-  last = session_of last;
+  last = dialogue_of last;
   ends = record {
     input = e.input;
     output = e.output;
@@ -69,7 +69,7 @@ fails_of first last read_old read_new write_old write_new Read new e = record {
   };
 }
 fails_of first last read_old read_new write_old write_new Write new e = record {
-  last = session_of last;
+  last = dialogue_of last;
   ends = record {
     input = e.input;
     output = e.output;
@@ -81,13 +81,13 @@ fails_of first last read_old read_new write_old write_new Write new e = record {
   };
 }
 fails_of first last read_old read_new write_old write_new Memory new e = record {
-  last = session_of last;
+  last = dialogue_of last;
   ends = record {
     input = e.input;
     more = e.more;
     output = e.output;
     left = e.left;
-    middle = session_of e.middle;
+    middle = dialogue_of e.middle;
     exchange = from_begun first e.middle e.input e.output e.left None new e.exchange;
     read = e.read;
     few = e.few;
