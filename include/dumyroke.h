@@ -123,7 +123,7 @@ uint32_t dumyroke_string_value(const uint8_t *literal, size_t literal_length, ui
 /* Formats a document, as the program gqlfmt does (docs/FORMAT.md). The limits are those of the text: formatted, it may have more tokens.
  *
  *   text       `text_length` bytes of UTF-8.
- *   formatted  room for `room` bytes. If `bytes` says that there is more, call again with that much room.
+ *   formatted  room for `room` bytes. If `bytes` says that there is more, call again with that much room. That it is enough is tested, not proved.
  *   bytes      how many bytes the formatted text has, whether or not there was room; 0 unless the result is DUMYROKE_OK. Never NULL.
  *
  * Any other pointer may be NULL where its length is 0. No two of the three may overlap.
