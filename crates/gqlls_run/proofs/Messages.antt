@@ -5,22 +5,11 @@ use Rattle.json.specs.Json.{Json}
 use Rattle.open_document.specs.Client.{Opened}
 use Rattle.rpc_messages.specs.declared.reply.Reply.{Reply}
 use Rattle.gqlls_run.specs.Conversation.{Changes, Closes, IsIgnored, Opens, Publishes, PublishesChanges, Withdraws, opened}
-use Rattle.gqlls_run.specs.Parameters.{Edit, edits_in, text_in, uri_in}
 use Rattle.gqlls_run.specs.Dialogue.{Dialogue}
-use Rattle.gqlls_run.specs.declared.server.Stage.{Stage}
-use Rattle.gqlls_run.specs.declared.server.Stage.TheVariants.{New, Running, ShutDown}
+use Rattle.gqlls_run.specs.Parameters.{Edit, edits_in, text_in, uri_in}
 
 pub found_in : {A B : Type 0} (f : A → B) (r : Option A) (x : A) (found : Option B) → option_map f r ≡ found → r ≡ Some x → found ≡ Some (f x)
 found_in f r x found e is = sym e ∙ ap (option_map f) is
-
-new_running : (stage : Stage) → stage ≡ New → stage ≡ Running → ⊥
-new_running stage is_new runs = cc
-
-new_shut : (stage : Stage) → stage ≡ New → stage ≡ ShutDown → ⊥
-new_shut stage is_new shut = cc
-
-running_shut : (stage : Stage) → stage ≡ Running → stage ≡ ShutDown → ⊥
-running_shut stage runs shut = cc
 
 module _ (params : Json) (reply : Reply) (old new : Dialogue) where
   pub opens : (uri text : List ℕ) (content : Opened) → uri_in params ≡ Some uri → text_in params ≡ Some text → content ≡ opened old text

@@ -2,4 +2,3 @@ pub mod Added
 pub mod Answered
 pub mod Asked
 pub mod Nested
-pub mod Taken
