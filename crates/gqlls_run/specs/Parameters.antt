@@ -7,7 +7,7 @@ use Rattle.std.specs.Int.{w64}
 use Rattle.std.specs.List.{Contains, list_all}
 use Rattle.std.specs.Str.Parse.{ParsesSigned, digits_value, without_leading_plus}
 use Rattle.json.specs.Json.{Json, string, Items, no_items, item}
-use Rattle.json.specs.Find.{as_array, as_number, as_str, get}
+use Rattle.json.specs.Find.{as_array, as_number, as_str, get, is_null}
 use Rattle.line_index.specs.declared.Position.{Position}
 use Rattle.open_document.specs.declared.Change.{Change}
 use Rattle.open_document.specs.declared.PositionRange.{PositionRange}
@@ -68,10 +68,10 @@ range_in value =
 abbrev pub Edit : Type 0
 Edit = Option PositionRange × List ℕ
 
--- the range that a value may have
+-- the range that a value may have; null counts as none
 abbrev pub extent_in : Option Json → Option (Option PositionRange)
 extent_in None = Some None
-extent_in (Some value) = option_map (λ range. Some range) (range_in value)
+extent_in (Some value) = if is_null value then Some None else option_map (λ range. Some range) (range_in value)
 
 -- `TextDocumentContentChangeEvent`
 abbrev pub edit_in : Json → Option Edit

@@ -57,13 +57,13 @@ fn range_of(value: &Value<'_>) -> Option<PositionRange>
     Some(PositionRange { start, end })
 }
 
-// The range that a value may have.
+// The range that a value may have. Clients write null for one that they leave out.
 fn extent_of(value: Option<&Value<'_>>) -> Option<Option<PositionRange>>
     ensures { result ≡ extent_in (option_map (λ v. value_view v.now) value.entry) }
 {
     match value {
-        Some(range) => Some(Some(range_of(range)?)),
-        None => Some(None),
+        Some(range) if !range.is_null() => Some(Some(range_of(range)?)),
+        Some(_) | None => Some(None),
     }
 }
 
