@@ -81,14 +81,15 @@ class Run:
 
 
 def at_their_places(text, errors):
-    """Whether the errors are where gqlcst finds them: a hundred at most, and then how many more there are."""
+    """Whether the errors are where gqlcst finds them, or at the line's end where that is between CR and LF: a hundred at most, and then how many more there are."""
     data = text.text.encode()
     report = subprocess.run([GQLCST, "check"], input=data, stdout=subprocess.PIPE).stdout
     parts = [(int(start), int(end)) for start, end in re.findall(rb'^ERROR@(\d+):(\d+) "', report, re.MULTILINE)]
-    wanted = [text.range(*(len(data[:offset].decode()) for offset in part)) for part in parts[:100]]
+    wanted = [text.range(*(text.boundary(len(data[:offset].decode())) for offset in part)) for part in parts[:100]]
     if len(parts) > 100:
         wanted.append(text.range(0, 0))
-    return [it["range"] for it in errors] == wanted and (len(parts) <= 100 or errors[100]["message"] == f"{len(parts) - 100} more errors")
+    more = len(parts) - 100
+    return [it["range"] for it in errors] == wanted and (more <= 0 or errors[100]["message"] == f"{more} more error{'s' if more > 1 else ''}")
 
 
 def main():
