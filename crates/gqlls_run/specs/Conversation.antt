@@ -73,7 +73,8 @@ Formats id params dialogue body =
     MatchOption (uri_in params) (LacksDocument id body)
     (λ uri. MatchOption (dialogue.documents uri) (LacksDocument id body) (λ content. IsFormattingOf id content body))
 
--- What a request comes to. No request opens, changes or closes a document.
+-- What a request comes to, by the stage and the method: the conversation begins, or the request is refused as `ServerNotInitialized`; it is shut
+-- down; or nothing changes, and a layout is the document's. After that each request is refused as `InvalidRequest`.
 pub record IsAsked (id : Json) (method : List ℕ) (params : Json) (reply : Reply) (old new : Dialogue) : Type 0 where
   pub initialize : old.stage ≡ New → method ≡ codes "initialize" → Initializes id params reply old new
   pub too_early : old.stage ≡ New → method ≢ codes "initialize" → IsRefused id (neg_ℤ (pos 32002)) reply old new
@@ -84,7 +85,7 @@ pub record IsAsked (id : Json) (method : List ℕ) (params : Json) (reply : Repl
 
 -- ---- notifications
 
--- nothing is said, and nothing changes
+-- no reply, and no change
 pub record IsIgnored (reply : Reply) (old new : Dialogue) : Type 0 where
   pub silence : reply ≡ Nothing
   pub dialogue : new ≡ old
@@ -141,14 +142,14 @@ pub record Exits (reply : Reply) (old new : Dialogue) : Type 0 where
   pub exit : reply ≡ Exit (exit_status old.stage)
   pub dialogue : new ≡ old
 
--- the notification is none of those that are heard
+-- a notification of any other method
 pub record IsOther (method : List ℕ) : Type 0 where
   pub no_exit : method ≢ codes "exit"
   pub no_open : method ≢ codes "textDocument/didOpen"
   pub no_change : method ≢ codes "textDocument/didChange"
   pub no_close : method ≢ codes "textDocument/didClose"
 
--- what a notification comes to
+-- What a notification comes to. Unless the conversation is running, only `exit` is heard.
 pub record IsHeard (method : List ℕ) (params : Json) (reply : Reply) (old new : Dialogue) : Type 0 where
   pub exits : method ≡ codes "exit" → Exits reply old new
   pub opens : old.stage ≡ Running → method ≡ codes "textDocument/didOpen" → Opens params reply old new

@@ -15,6 +15,13 @@ some-none : (status : ℕ) → Some status ≡ None → ⊥
 some-none status e = cc
 
 module _ {S : Type 0} (takes : List ℕ → S → Reply → S → Type 0) where
+  -- a conversation about bytes, with an end, is one about equal bytes with an equal end
+  pub equally : {first last : S} {bytes others said rest : List ℕ} {end status : Option ℕ} → bytes ≡ others → end ≡ status
+      → Exchange takes first bytes said rest end last → Exchange takes first others said rest status last
+  equally {first = first} {last = last} {bytes = bytes} {said = said} {rest = rest} {status = status} same_bytes same_end e =
+      subst (λ (v : List ℕ). Exchange takes first v said rest status last) same_bytes
+      (subst (λ (s : Option ℕ). Exchange takes first bytes said rest s last) same_end e)
+
   -- a conversation goes on with more bytes
   pub follows : {first middle : S} {bytes said left : List ℕ} {end : Option ℕ} → Exchange takes first bytes said left end middle → end ≡ None
       → (more later rest : List ℕ) (status : Option ℕ) (last : S) → Exchange takes middle (left ++ more) later rest status last

@@ -1,9 +1,9 @@
-use Rattle.std.proofs.Common.{ℕ, List, ◌++◌, Option, Some, None, take, refl, subst, inl, inr, arith, rules}
+use Rattle.std.proofs.Common.{ℕ, List, ◌++◌, Some, None, take, refl, inl, inr, arith, rules}
 use Rattle.byte_devices.proofs.Accounts.{gave}
 use Rattle.rpc_messages.specs.Steps.{Takes}
 use Rattle.rpc_serving.specs.Exchange.{Exchange}
 use Rattle.rpc_serving.proofs.Accounts.{at_end, broke, longer, wrote}
-use Rattle.rpc_serving.proofs.Conversations.{ends_so, goes_further, left_over, stops_so}
+use Rattle.rpc_serving.proofs.Conversations.{ends_so, equally, goes_further, left_over, stops_so}
 use Rattle.rpc_serving.proofs.Failures.{each_error, memory_refused, write_breaks}
 use Rattle.rpc_serving.proofs.serving.serve.Goals as goal
 
@@ -25,22 +25,14 @@ returns-in-Some-clause-ok g c =
     let so = c.loop.invariant in
     let given : List ℕ = take c.in-Ok.count c.read.new.buffer in
     let said : List ℕ = c.in_ok-turn-in-Ok.turn.said.items in
-    let turn : Exchange (Takes g.S.Service.steps) c.loop.service
-    (c.loop.frames ++ given) said c.take_turn.new.frames c.in_ok-turn-in-Ok.turn.status c.take_turn.new.service =
-    subst (λ (bytes : List ℕ). Exchange
-    (Takes g.S.Service.steps) c.loop.service bytes said c.take_turn.new.frames c.in_ok-turn-in-Ok.turn.status c.take_turn.new.service)
-    c.in_ok-extend-in-Ok.ensures.ok c.in_ok-turn-in-Ok.ensures in
-    let last : Exchange (Takes g.S.Service.steps) c.loop.service (c.loop.frames ++ given) said c.take_turn.new.frames
-    (Some c.in-Some.status) c.take_turn.new.service =
-    subst (λ (status : Option ℕ). Exchange (Takes g.S.Service.steps) c.loop.service
-    (c.loop.frames ++ given) said c.take_turn.new.frames status c.take_turn.new.service) c.in-Some.is turn in
     record {
       input = so.0 ++ given;
       output = so.1 ++ said;
       left = c.take_turn.new.frames;
       asked = Some c.in-Some.status;
       exchange = ends_so (Takes g.S.Service.steps) c.args.service.now so.0 so.1 c.loop.service c.loop.frames given said c.take_turn.new.frames
-          (Some c.in-Some.status) c.take_turn.new.service so.4 last;
+          (Some c.in-Some.status) c.take_turn.new.service so.4
+          (equally (Takes g.S.Service.steps) c.in_ok-extend-in-Ok.ensures.ok c.in-Some.is c.in_ok-turn-in-Ok.ensures);
       ends = (refl, gave c.read.result c.in-Ok.count so.0 c.read.new.buffer _ _ _ so.2 c.in-Ok.is c.in-Ok.count-test.1 c.read.ensures.account);
       written = wrote so.1 _ said _ _ _ so.3 c.in_ok-write_all-in-Ok.ensures.ok c.as_slice.ensures.value;
     }
@@ -80,11 +72,6 @@ returns-in_err-write_all-in-Ok-clause-err g c =
     let so = c.loop.invariant in
     let given : List ℕ = take c.in-Ok.count c.read.new.buffer in
     let said : List ℕ = c.in_ok-turn-in-Ok.turn.said.items in
-    let turn : Exchange (Takes g.S.Service.steps) c.loop.service
-    (c.loop.frames ++ given) said c.take_turn.new.frames c.in_ok-turn-in-Ok.turn.status c.take_turn.new.service =
-    subst (λ (bytes : List ℕ). Exchange
-    (Takes g.S.Service.steps) c.loop.service bytes said c.take_turn.new.frames c.in_ok-turn-in-Ok.turn.status c.take_turn.new.service)
-    c.in_ok-extend-in-Ok.ensures.ok c.in_ok-turn-in-Ok.ensures in
     each_error c.from_residual-in_err-write_all-in-Ok.result c.from_residual-in_err-write_all-in-Ok.ensures.1
     (λ fault is. write_breaks (Takes g.S.Service.steps) c.args.service.now c.take_turn.new.service _ _ _ _ fault _
     (so.0 ++ given) so.1 said _ c.take_turn.new.frames
@@ -92,21 +79,15 @@ returns-in_err-write_all-in-Ok-clause-err g c =
     (gave c.read.result c.in-Ok.count so.0 c.read.new.buffer _ _ _ so.2 c.in-Ok.is c.in-Ok.count-test.1 c.read.ensures.account)
     (ends_so (Takes g.S.Service.steps) c.args.service.now so.0 so.1 c.loop.service c.loop.frames given said c.take_turn.new.frames
     c.in_ok-turn-in-Ok.turn.status
-    c.take_turn.new.service so.4 turn))
+    c.take_turn.new.service so.4 (equally (Takes g.S.Service.steps) c.in_ok-extend-in-Ok.ensures.ok refl c.in_ok-turn-in-Ok.ensures)))
 
 pub loop-preserved : goal.loop-preserved
 loop-preserved g c =
     let so = c.loop.invariant in
     let given : List ℕ = take c.in-Ok.count c.read.new.buffer in
     let said : List ℕ = c.in_ok-turn-in-Ok.turn.said.items in
-    let turn : Exchange (Takes g.S.Service.steps) c.loop.service
-    (c.loop.frames ++ given) said c.take_turn.new.frames c.in_ok-turn-in-Ok.turn.status c.take_turn.new.service =
-    subst (λ (bytes : List ℕ). Exchange
-    (Takes g.S.Service.steps) c.loop.service bytes said c.take_turn.new.frames c.in_ok-turn-in-Ok.turn.status c.take_turn.new.service)
-    c.in_ok-extend-in-Ok.ensures.ok c.in_ok-turn-in-Ok.ensures in
     let waits : Exchange (Takes g.S.Service.steps) c.loop.service (c.loop.frames ++ given) said c.take_turn.new.frames None c.take_turn.new.service =
-    subst (λ (status : Option ℕ). Exchange (Takes g.S.Service.steps) c.loop.service
-    (c.loop.frames ++ given) said c.take_turn.new.frames status c.take_turn.new.service) c.in_default.is turn in (
+    equally (Takes g.S.Service.steps) c.in_ok-extend-in-Ok.ensures.ok c.in_default.is c.in_ok-turn-in-Ok.ensures in (
       so.0 ++ given,
       so.1 ++ said,
       gave c.read.result c.in-Ok.count so.0 c.read.new.buffer _ _ _ so.2 c.in-Ok.is c.in-Ok.count-test.1 c.read.ensures.account,
