@@ -10,7 +10,7 @@ import time
 from pathlib import Path
 
 FOLDER = Path(__file__).resolve().parent
-sys.path.insert(0, str(FOLDER.parent / "python"))
+sys.path.insert(0, str(FOLDER.parent / "bindings/python"))
 import dumyroke
 
 

@@ -1,4 +1,4 @@
-"""The kinds of elements for other languages, under the numbers that they have in a tree: include/dumyroke_kinds.h, python/dumyroke/kinds.py, web/kinds.js."""
+"""The kinds of elements for other languages, under the numbers that they have in a tree: bindings/c/include/dumyroke_kinds.h, bindings/python/dumyroke/kinds.py, bindings/web/kinds.js."""
 
 from .grammar import PUNCTUATORS, word
 from .layout import TOP, mark
@@ -44,9 +44,9 @@ static const char *const dumyroke_kind_names[DUMYROKE_KINDS] = {{
 def for_python(grammar):
     """The module of the Python package."""
     if len(grammar.kinds) > 256:
-        raise SystemExit("foreign_kinds.py: python/dumyroke/tree.py has one byte for a kind, and there are more than 256")
+        raise SystemExit("foreign_kinds.py: bindings/python/dumyroke/tree.py has one byte for a kind, and there are more than 256")
     numbers = "".join(f"{kind} = {number}\n" for number, kind in enumerate(grammar.kinds))
-    return f'''{mark("#", SOURCE)}"""The kinds of elements: their numbers, as in include/dumyroke_kinds.h, and their names."""
+    return f'''{mark("#", SOURCE)}"""The kinds of elements: their numbers, as in bindings/c/include/dumyroke_kinds.h, and their names."""
 
 {numbers}
 FIRST_NODE = {grammar.nodes[0]}
@@ -73,7 +73,7 @@ export const FIRST_NODE = {grammar.kinds.index(grammar.nodes[0])};
 def outputs(grammar):
     """The text of each file, by its path."""
     return {
-        TOP / "include/dumyroke_kinds.h": for_c(grammar),
-        TOP / "python/dumyroke/kinds.py": for_python(grammar),
-        TOP / "web/kinds.js": for_page(grammar),
+        TOP / "bindings/c/include/dumyroke_kinds.h": for_c(grammar),
+        TOP / "bindings/python/dumyroke/kinds.py": for_python(grammar),
+        TOP / "bindings/web/kinds.js": for_page(grammar),
     }

@@ -1,4 +1,4 @@
-"""The typed nodes of the Python package: python/dumyroke/nodes.py.
+"""The typed nodes of the Python package: bindings/python/dumyroke/nodes.py.
 
 There is a class for each kind of node, with a property for each accessor of the typed tree that gives nodes. A node that is no more than a list also
 gives its parent a property with what is in the list, as `fields`; where the two names are the same, that one takes the place of the node.
@@ -12,7 +12,7 @@ from .grammar import type_case
 from .layout import TOP, mark
 from .places import ENUMS
 
-FOLDER = TOP / "python/dumyroke"
+FOLDER = TOP / "bindings/python/dumyroke"
 SOURCE = "the rows of the grammar"
 
 # The nodes that are lists, with the name of what is in them for their parents.

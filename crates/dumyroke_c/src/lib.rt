@@ -1,4 +1,4 @@
-// What C calls: each export is a call of `dumyroke_flat`, with its contract. `include/dumyroke.h` declares them.
+// What C calls: each export is a call of `dumyroke_flat`, with its contract. `bindings/c/include/dumyroke.h` declares them.
 #![tactic(auto)]
 
 ghost use Rattle.std.specs.Prelude.{◌≡◌};

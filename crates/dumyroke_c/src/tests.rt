@@ -1,4 +1,4 @@
-// The calls, each through its export. `c/edges.c` makes them at more edges.
+// The calls, each through its export. `bindings/c/tests/edges.c` makes them at more edges.
 use super::*;
 use dumyroke_flat::status;
 

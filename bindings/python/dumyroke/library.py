@@ -1,4 +1,4 @@
-"""The C library, as include/dumyroke.h declares it. A call lets other threads run."""
+"""The C library, as bindings/c/include/dumyroke.h declares it. A call lets other threads run."""
 
 from __future__ import annotations
 

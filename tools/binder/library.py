@@ -1,0 +1,86 @@
+"""Makes the library for C, static and shared, puts it into the Python package, and installs it."""
+
+import os
+import shutil
+import subprocess
+import tempfile
+from pathlib import Path
+
+from .shared import BUILD, INCLUDE, PACKAGE, TOP, kit, need, rattle, run, static_library, stop, version
+
+CALLS = ["dumyroke_format", "dumyroke_parse", "dumyroke_string_value"]
+
+
+def make_archive(archive):
+    """Has rattle prove dumyroke_c once more, over the libraries that `rt ci` proved, and make the static library. `rt ci` itself makes none, and `rt lib`
+    would prove all libraries again, since it takes nothing from `rt ci`."""
+    return rattle("dumyroke_c", TOP / "crates/dumyroke_c", archive, *static_library())
+
+
+def pc_text(prefix, include, library):
+    """The file for pkg-config."""
+    return f"""prefix={prefix}
+includedir={include}
+libdir={library}
+
+Name: dumyroke
+Description: A lossless, error-tolerant parser of GraphQL, proved correct
+Version: {version()}
+Cflags: -I${{includedir}}
+Libs: -L${{libdir}} -ldumyroke
+"""
+
+
+def build(given=None):
+    """Makes both libraries and the file for pkg-config in build/, and puts the shared library into the Python package."""
+    need("gcc", "ar")
+    with tempfile.TemporaryDirectory() as folder:
+        made = given or make_archive(Path(folder) / "libdumyroke_c.a")
+        shutil.rmtree(BUILD, ignore_errors=True)
+        BUILD.mkdir()
+        archive, heap = BUILD / "libdumyroke.a", BUILD / "heap.pic.o"
+        shutil.copyfile(made, archive)
+    # the kit's object that has malloc, realloc and free under the names which the library calls
+    run("ar", "x", kit() / "c/liblibc_c.a", heap.name, cwd=BUILD)
+    run("ar", "rs", archive, heap, stderr=subprocess.DEVNULL)
+    heap.unlink()
+    shared, exports = BUILD / f"libdumyroke.so.{version()}", BUILD / "exports.map"
+    soname = f"libdumyroke.so.{version().partition('.')[0]}"
+    exports.write_text(f"{{ global: {' '.join(f'{call};' for call in CALLS)} local: *; }};\n")
+    words = ["-Wl,--whole-archive", archive, "-Wl,--no-whole-archive", f"-Wl,--version-script={exports}", f"-Wl,-soname,{soname}", "-Wl,-z,defs"]
+    run("gcc", "-shared", "-s", "-o", shared, *words)
+    exports.unlink()
+    # copies, since `rt ci` takes no link within the repository
+    for name in (soname, "libdumyroke.so"):
+        shutil.copy(shared, BUILD / name)
+    (BUILD / "dumyroke.pc").write_text(pc_text("${pcfiledir}/..", "${prefix}/include", "${pcfiledir}"))
+    shutil.copyfile(shared, PACKAGE / "libdumyroke.so")
+
+
+def install(settings):
+    """Copies what was built to DESTDIR/PREFIX."""
+    given = {"PREFIX": "/usr/local", "DESTDIR": "", **{name: os.environ[name] for name in ("PREFIX", "DESTDIR") if name in os.environ}}
+    for setting in settings:
+        name, found, value = setting.partition("=")
+        if not found or name not in given:
+            stop(f"install takes PREFIX=FOLDER and DESTDIR=FOLDER, and not {setting}")
+        given[name] = value
+    if not (BUILD / "dumyroke.pc").exists():
+        stop("there is nothing to install: `tools/bindings build` comes first")
+    prefix = Path(given["PREFIX"])
+    if not prefix.is_absolute():
+        stop("PREFIX has to begin with /")
+    to = Path(given["DESTDIR"] + str(prefix))
+    (to / "lib/pkgconfig").mkdir(parents=True, exist_ok=True)
+    (to / "include").mkdir(exist_ok=True)
+    for header in INCLUDE.glob("*.h"):
+        shutil.copy(header, to / "include")
+    shared = f"libdumyroke.so.{version()}"
+    for library in BUILD.glob("libdumyroke.*"):
+        installed = to / "lib" / library.name
+        installed.unlink(missing_ok=True)
+        if library.name in ("libdumyroke.a", shared):
+            shutil.copy(library, installed)
+        else:
+            installed.symlink_to(shared)
+    (to / "lib/pkgconfig/dumyroke.pc").write_text(pc_text(prefix, "${prefix}/include", "${prefix}/lib"))
