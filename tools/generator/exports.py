@@ -9,25 +9,17 @@ from .places import CRATES, enums_in, kinds_in
 SOURCE = "the rows of the grammar"
 
 ABOUT = {
-    "apollo_cst_value": """//! Typed nodes of names, values, directives and type references.
+    "apollo_cst_executable": """//! Typed nodes of operations, selections and fragments, and of the names, values, directives and types in them.
 //!
 //! There is a struct for each kind of node, and an enum for each choice of the grammar. An accessor gives a part of a node, which may be missing
 //! in a faulty text. The values of strings, integers and booleans and the texts of names are written by hand, in `literals` and `text`.
+//! `apollo_parser` passes all of them on as `cst`.
 """,
-    "apollo_cst_exec": """//! Typed nodes of operations, selections and fragments.
-//!
-//! There is a struct for each kind of node, and an enum for each choice of the grammar. An accessor gives a part of a node, which may be missing
-//! in a faulty text. Their values, directives and types are in `apollo_cst_value`.
-""",
-    "apollo_cst_types": """//! Typed nodes of the type system's definitions.
-//!
-//! There is a struct for each kind of node: schemas, types, their fields and their values. An accessor gives a part of a node, which may be
-//! missing in a faulty text. Definitions of directives and extensions are in `apollo_cst_document`.
-""",
-    "apollo_cst_document": """//! Typed nodes of documents, directive definitions and extensions.
+    "apollo_cst_type_system": """//! Typed nodes of the type system's definitions and extensions, and of the document, which holds definitions of all sorts.
 //!
 //! There is a struct for each kind of node, and `Definition` is the choice of all definitions. An accessor gives a part of a node, which may be
 //! missing in a faulty text. The calls of `Definition` and the names of directive locations are written by hand.
+//! `apollo_parser` passes all of them on as `cst`, and its `SyntaxTree::document` gives the root.
 """,
 }
 

@@ -7,26 +7,22 @@ from .grammar import type_case
 # The crates, from low to high, with the sections that their modules hold: by number, with the sections below it, or by the last word of the
 # title. A kind that is named goes elsewhere than its section.
 CRATES = {
-    "apollo_cst_value": {
+    "apollo_cst_executable": {
         "names": ["2.1.9", "2.9.6", "VARIABLE"],
         "values": ["2.9", "DEFAULT_VALUE"],
         "directives": ["2.6", "2.12", "Descriptions"],
         "types": ["2.11"],
-    },
-    "apollo_cst_exec": {
         "operations": ["2.3", "2.10"],
         "selections": ["2.4", "2.5", "2.7"],
         "fragments": ["2.8"],
     },
-    "apollo_cst_types": {
+    "apollo_cst_type_system": {
         "schema": ["Schema", "3.5"],
         "objects": ["3.6", "3.7"],
         "fields": ["3.6.1", "FIELDS_DEFINITION", "FIELD_DEFINITION"],
         "unions": ["3.8"],
         "enums": ["3.9"],
         "inputs": ["3.10"],
-    },
-    "apollo_cst_document": {
         "document": ["2.2"],
         "directives": ["3.13"],
         "extensions": ["Extension", "Extensions"],

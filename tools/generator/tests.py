@@ -200,7 +200,7 @@ MISTAKES = [
         PLACES,
         '"fragments": ["2.8"]',
         '"fragments": ["2.8"], "subscriptions": ["2.15"]',
-        "places.py: nothing is in the module subscriptions of apollo_cst_exec",
+        "places.py: nothing is in the module subscriptions of apollo_cst_executable",
     ),
     (PLACES, '"2.9.6", "VARIABLE"', '"2.9.6", "VARIABEL"', "places.py: CRATES has VARIABEL, which is no kind of node"),
     (PLACES, '"document": ["2.2"]', '"document": ["2.2", "FIELD"]', "places.py: the enum Selection is in a crate before that of FIELD"),
@@ -208,7 +208,7 @@ MISTAKES = [
         PLACES,
         '"document": ["2.2"]',
         '"document": ["2.2", "ALIAS"]',
-        "places.py: FIELD is in apollo_cst_exec, and has a part Alias, whose crate comes after it",
+        "places.py: FIELD is in apollo_cst_executable, and has a part Alias, whose crate comes after it",
     ),
     (PLACES, 'Enum("Selections"', 'Enum("Selected"', "places.py: ENUMS has Selection for the list Selected, which Choices.antt lacks"),
     (PLACES, '"Values", "value"', '"Values", None', "places.py: Value has no name for `one` child, which the row of"),
@@ -225,10 +225,7 @@ class Copy:
         for crate in WRITTEN:
             shutil.copytree(CRATES / crate, folder / "crates" / crate, ignore=unneeded)
         shutil.copytree(TOP / "tools", folder / "tools")
-        shutil.copytree(TOP / "include", folder / "include")
-        shutil.copytree(TOP / "python", folder / "python")
-        (folder / "web").mkdir()
-        shutil.copy(TOP / "web/kinds.js", folder / "web")
+        shutil.copytree(TOP / "bindings", folder / "bindings")
         sys.path.insert(0, str(folder / "tools"))
         self.unchanged, self.mistakes = self.package("unchanged"), 0
 
@@ -294,11 +291,11 @@ def a_mistake_ends_with_status_1(made):
 
 def each_struct_is_cast():
     """The test of casts, which is written by hand, has a row for each kind of node."""
-    text = (CRATES / "parser_tests/src/typed/casts.rt").read_text()
+    text = (CRATES / "tests_parser/src/typed/casts.rt").read_text()
     rows = re.findall(r"takes_only::<(\w+)>\(&rt, &\[SyntaxKind::(\w+)\]\);", text)
     wanted = [(type_case(kind), kind) for kind in Grammar().nodes]
     missing = [kind for struct, kind in wanted if (struct, kind) not in rows]
-    return f"parser_tests/src/typed/casts.rt has no row for {', '.join(missing)}" if missing else None
+    return f"tests_parser/src/typed/casts.rt has no row for {', '.join(missing)}" if missing else None
 
 
 def main():

@@ -56,10 +56,10 @@ pub use Rattle.apollo_cst_core.specs.ReadingBack
 pub use Rattle.apollo_cst_core.specs.Accessors
 pub use Rattle.apollo_cst_core.specs.Coverage
 pub use Rattle.apollo_cst_core.specs.StringValues
-pub use Rattle.apollo_cst_value.specs.Value
-pub use Rattle.apollo_cst_value.specs.Ty
-pub use Rattle.apollo_cst_value.specs.Literals
-pub use Rattle.apollo_cst_exec.specs.Selection
-pub use Rattle.apollo_cst_document.specs.Definition
-pub use Rattle.apollo_cst_document.specs.DefinitionQueries
-pub use Rattle.apollo_cst_document.specs.Locations
+pub use Rattle.apollo_cst_executable.specs.Value
+pub use Rattle.apollo_cst_executable.specs.Ty
+pub use Rattle.apollo_cst_executable.specs.Literals
+pub use Rattle.apollo_cst_executable.specs.Selection
+pub use Rattle.apollo_cst_type_system.specs.Definition
+pub use Rattle.apollo_cst_type_system.specs.DefinitionQueries
+pub use Rattle.apollo_cst_type_system.specs.Locations

@@ -6,26 +6,20 @@ pub use apollo_cst_core::{
     CommentToken, CstChildren, CstNode, CstToken, FloatToken, IdentToken, IntToken, LiteralError,
     StringToken, WhitespaceToken,
 };
-pub use apollo_cst_document::{
-    Definition, DirectiveDefinition, DirectiveLocation, DirectiveLocations, Document,
-    EnumTypeExtension, InputObjectTypeExtension, InterfaceTypeExtension, ObjectTypeExtension,
-    ScalarTypeExtension, SchemaExtension, UnionTypeExtension,
+pub use apollo_cst_executable::{
+    Alias, Argument, Arguments, BooleanValue, DefaultValue, Description, Directive, Directives,
+    EnumValue, Field, FloatValue, FragmentDefinition, FragmentName, FragmentSpread, InlineFragment,
+    IntValue, ListType, ListValue, Name, NamedType, NonNullType, NullValue, ObjectField,
+    ObjectValue, OperationDefinition, OperationType, Selection, SelectionSet, StringValue, Ty as
+    Type, TypeCondition, Value, Variable, VariableDefinition, VariableDefinitions,
 };
-pub use apollo_cst_exec::{
-    Alias, Field, FragmentDefinition, FragmentName, FragmentSpread, InlineFragment,
-    OperationDefinition, OperationType, Selection, SelectionSet, TypeCondition, VariableDefinition,
-    VariableDefinitions,
-};
-pub use apollo_cst_types::{
-    ArgumentsDefinition, EnumTypeDefinition, EnumValueDefinition, EnumValuesDefinition,
+pub use apollo_cst_type_system::{
+    ArgumentsDefinition, Definition, DirectiveDefinition, DirectiveLocation, DirectiveLocations,
+    Document, EnumTypeDefinition, EnumTypeExtension, EnumValueDefinition, EnumValuesDefinition,
     FieldDefinition, FieldsDefinition, ImplementsInterfaces, InputFieldsDefinition,
-    InputObjectTypeDefinition, InputValueDefinition, InterfaceTypeDefinition, ObjectTypeDefinition,
-    RootOperationTypeDefinition, ScalarTypeDefinition, SchemaDefinition, UnionMemberTypes,
-    UnionTypeDefinition,
-};
-pub use apollo_cst_value::{
-    Argument, Arguments, BooleanValue, DefaultValue, Description, Directive, Directives, EnumValue,
-    FloatValue, IntValue, ListType, ListValue, Name, NamedType, NonNullType, NullValue,
-    ObjectField, ObjectValue, StringValue, Ty as Type, Value, Variable,
+    InputObjectTypeDefinition, InputObjectTypeExtension, InputValueDefinition,
+    InterfaceTypeDefinition, InterfaceTypeExtension, ObjectTypeDefinition, ObjectTypeExtension,
+    RootOperationTypeDefinition, ScalarTypeDefinition, ScalarTypeExtension, SchemaDefinition,
+    SchemaExtension, UnionMemberTypes, UnionTypeDefinition, UnionTypeExtension,
 };
 pub use apollo_tree::{SyntaxNode, SyntaxNodePtr};

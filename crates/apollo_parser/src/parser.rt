@@ -18,8 +18,8 @@ ghost use Rattle.parser_rules.specs.Runs.{Runs};
 ghost use Rattle.parser_state.specs.Reading.{rooted};
 
 use crate::syntax_tree::{DocumentRoot, SelectionSetRoot, SyntaxTree, TypeRoot};
-use apollo_grammar::document;
-use apollo_grammar_definitions::{field_set, type_root};
+use apollo_document::document;
+use apollo_grammar::{field_set, type_root};
 use apollo_lexer::{Lexer, Steps};
 use document_grammar::SyntaxKind;
 use parser_state::ParserState;

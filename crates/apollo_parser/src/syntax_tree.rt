@@ -8,9 +8,9 @@ ghost use Rattle.document_grammar.specs.Numbers.{is_kind};
 ghost use Rattle.apollo_parser.specs.Roots.{root_kind};
 
 use apollo_cst_core::CstNode;
-use apollo_cst_document::Document;
-use apollo_cst_exec::SelectionSet;
-use apollo_cst_value::Ty;
+use apollo_cst_type_system::Document;
+use apollo_cst_executable::SelectionSet;
+use apollo_cst_executable::Ty;
 use apollo_lexer::{Error, LimitTracker};
 use apollo_tree::{IndexedElement, Subtree, SyntaxNode};
 use std::alloc::{AllocError, Allocator, Global};
@@ -146,7 +146,7 @@ impl<A: Allocator> SyntaxTree<SelectionSetRoot, A> {
 
 impl<A: Allocator> SyntaxTree<TypeRoot, A> {
     ghost use Rattle.apollo_cst_core.specs.Cast.{CastsTo};
-    ghost use Rattle.apollo_cst_value.specs.Ty.{ty_node};
+    ghost use Rattle.apollo_cst_executable.specs.Ty.{ty_node};
     ghost use Rattle.apollo_tree.specs.References.{node_place};
 
     /// The type (GraphQL October 2021, section 2.11), as the typed node of the root. `None` only where no type starts.

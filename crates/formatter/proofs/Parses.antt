@@ -9,8 +9,8 @@ use Rattle.apollo_parser.specs.Promise.{Promise}
 use Rattle.apollo_parser.specs.Parsed.{Parsed}
 use Rattle.lexical_grammar.specs.Cut.{Cut}
 use Rattle.lexical_grammar.specs.Reads.{items_of}
-use Rattle.document_format.specs.Formatted.{IsSentence, Formatted}
-use Rattle.document_format.proofs.Nests.{alike-nest}
+use Rattle.format_layout.specs.Formatted.{IsSentence, Formatted}
+use Rattle.format_layout.proofs.Nests.{alike-nest}
 use Rattle.formatter.specs.Outcome.{IsDocument, IsFormatted, IsRefused}
 
 pub empty-list : {X : Type 0} (xs : List X) → eqb (length xs) 0 ≡ true → xs ≡ []

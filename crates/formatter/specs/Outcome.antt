@@ -6,7 +6,7 @@ use Rattle.document_grammar.specs.Derivation.{document}
 use Rattle.document_grammar.specs.Sentence.{Sentence, Within}
 use Rattle.apollo_parser.specs.Parsed.{Parsed}
 use Rattle.apollo_parser.specs.Promise.{Promise}
-use Rattle.document_format.specs.Formatted.{Formatted}
+use Rattle.format_layout.specs.Formatted.{Formatted}
 
 -- The text is a document that nests at most r deep and has at most k items.
 pub record IsDocument (source : List ℕ) (r k : ℕ) : Type 0 where

@@ -10,7 +10,7 @@ ghost use Rattle.apollo_parser.specs.Promise.{Promise};
 ghost use Rattle.formatter.specs.Outcome.{IsDocument, IsFormatted, IsRefused};
 
 use apollo_parser::{DocumentRoot, Error, IndexedElement, Lexer, Parser, SyntaxTree};
-use document_format::{Elements, format_document};
+use format_layout::{Elements, format_document};
 use std::alloc::{AllocError, Allocator};
 
 // A tree, as the layout reads it.

@@ -11,13 +11,13 @@ use Rattle.std.proofs.lemmas.List.{append-nil}
 use Rattle.std.proofs.lemmas.Str.{chars-nil, IsCharBoundary-end, IsCharBoundary-from_drop}
 use Rattle.json.specs.Json.{Json}
 use Rattle.apollo_parser.specs.Answers.{usize_max}
-use Rattle.diagnostic_messages.specs.Places.{cursor_at, position_of}
-use Rattle.diagnostic_messages.proofs.Cursors.{read_at}
-use Rattle.diagnostic_messages.proofs.Told.{added_thrice}
+use Rattle.editor_diagnostics.specs.Places.{cursor_at, position_of}
+use Rattle.editor_diagnostics.proofs.Cursors.{read_at}
+use Rattle.editor_diagnostics.proofs.Told.{added_thrice}
 use Rattle.formatter.specs.Outcome.{IsDocument, IsFormatted}
 use Rattle.line_index.specs.Positions.{place_of, units, units_of}
 use Rattle.line_index.specs.declared.PositionEncoding.{PositionEncoding}
-use Rattle.open_document.specs.Client.{Opened, replaced}
+use Rattle.editor_text.specs.Client.{Opened, replaced}
 use Rattle.gqlls_run.specs.Layout.{IsFormatting, IsResultOf, IsWhole, extent_of}
 use Rattle.gqlls_run.specs.declared.layout.Change.{Change}
 

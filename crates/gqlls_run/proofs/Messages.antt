@@ -2,7 +2,7 @@
 use Rattle.std.proofs.Common.{◌≡◌, ℕ, List, Option, Some, None, true, false, sym, ap, ◌∙◌, subst}
 use Rattle.std.specs.Prelude.{MatchOption, is_none, option_map}
 use Rattle.json.specs.Json.{Json}
-use Rattle.open_document.specs.Client.{Opened}
+use Rattle.editor_text.specs.Client.{Opened}
 use Rattle.rpc_messages.specs.declared.reply.Reply.{Reply}
 use Rattle.gqlls_run.specs.Conversation.{Changes, Closes, IsIgnored, Opens, Publishes, PublishesChanges, Withdraws, opened}
 use Rattle.gqlls_run.specs.Dialogue.{Dialogue}

@@ -2,7 +2,7 @@
 use Rattle.std.proofs.Common.{◌≡◌, ℕ, ℤ, List, Option, subst}
 use Rattle.apollo_parser.specs.Diagnostics.{Diagnostic}
 use Rattle.line_index.specs.declared.PositionEncoding.{PositionEncoding}
-use Rattle.diagnostic_messages.specs.Publication.{IsPublication}
+use Rattle.editor_diagnostics.specs.Publication.{IsPublication}
 
 pub same_publication : (uri : List ℕ) (version : Option ℤ) (encoding units : PositionEncoding) (text source : List ℕ)
     (errors found : List Diagnostic) (body : List ℕ)

@@ -5,10 +5,10 @@ use Rattle.byte_devices.specs.Devices.{Account}
 use Rattle.byte_devices.specs.declared.fault.Fault.{Fault}
 use Rattle.json.specs.Json as json
 use Rattle.json.specs.Json.{Json, Members, member, object, string}
-use Rattle.diagnostic_messages.specs.Publication.{IsNoticeAbout}
+use Rattle.editor_diagnostics.specs.Publication.{IsNoticeAbout}
 use Rattle.line_index.specs.declared.PositionEncoding.{PositionEncoding}
 use Rattle.line_index.specs.declared.PositionEncoding.TheVariants.{Utf8, Utf16}
-use Rattle.open_document.specs.Client.{Opened}
+use Rattle.editor_text.specs.Client.{Opened}
 use Rattle.rpc_messages.specs.Messages.{IsError, IsResult}
 use Rattle.rpc_messages.specs.Steps.{Takes}
 use Rattle.rpc_messages.specs.declared.reply.Reply.{Reply}

@@ -3,7 +3,7 @@ use Rattle.std.specs.Prelude.{◌≡◌, ◌≢◌, ℕ, List, fold, Option, Non
 use Rattle.line_index.specs.Positions.{units}
 use Rattle.line_index.specs.declared.PositionEncoding.{PositionEncoding}
 use Rattle.line_index.specs.declared.PositionEncoding.TheVariants.{Utf16}
-use Rattle.open_document.specs.Client.{Opened, replaced}
+use Rattle.editor_text.specs.Client.{Opened, replaced}
 use Rattle.gqlls_run.specs.Parameters.{Edit}
 use Rattle.gqlls_run.specs.declared.server.Stage.{Stage}
 use Rattle.gqlls_run.specs.declared.server.Stage.TheVariants.{New}

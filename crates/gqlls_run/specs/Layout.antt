@@ -3,12 +3,12 @@ use Rattle.std.specs.Prelude.{◌≡◌, ◌⊎◌, ℕ, List, ◌++◌, length,
 use Rattle.std.specs.Str.{IsUtf8}
 use Rattle.json.specs.Json.{Json, array, item, member, no_items, no_members, null, object, string}
 use Rattle.apollo_parser.specs.Answers.{usize_max}
-use Rattle.diagnostic_messages.specs.Places.{position_of, range_value}
+use Rattle.editor_diagnostics.specs.Places.{position_of, range_value}
 use Rattle.formatter.specs.Outcome.{IsDocument, IsFormatted}
 use Rattle.line_index.specs.Positions.{units}
 use Rattle.line_index.specs.declared.PositionEncoding.{PositionEncoding}
-use Rattle.open_document.specs.Client.{Opened, replaced}
-use Rattle.open_document.specs.declared.PositionRange.{PositionRange}
+use Rattle.editor_text.specs.Client.{Opened, replaced}
+use Rattle.editor_text.specs.declared.PositionRange.{PositionRange}
 use Rattle.rpc_messages.specs.Messages.{IsResult}
 use Rattle.gqlls_run.specs.declared.layout.Change.{Change}
 

@@ -9,8 +9,8 @@ use Rattle.std.specs.Str.Parse.{ParsesSigned, digits_value, without_leading_plus
 use Rattle.json.specs.Json.{Json, string, Items, no_items, item}
 use Rattle.json.specs.Find.{as_array, as_number, as_str, get, is_null}
 use Rattle.line_index.specs.declared.Position.{Position}
-use Rattle.open_document.specs.declared.Change.{Change}
-use Rattle.open_document.specs.declared.PositionRange.{PositionRange}
+use Rattle.editor_text.specs.declared.Change.{Change}
+use Rattle.editor_text.specs.declared.PositionRange.{PositionRange}
 
 -- ---- documents
 

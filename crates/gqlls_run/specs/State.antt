@@ -3,7 +3,7 @@ use Rattle.std.specs.Prelude.{ℕ, List, Option, option_map}
 use Rattle.std.specs.BTreeMap.{BTreeMap, get_by_text}
 use Rattle.std.specs.declared.string.String.{String}
 use Rattle.json.specs.Json.{Json}
-use Rattle.open_document.specs.Client.{Opened}
+use Rattle.editor_text.specs.Client.{Opened}
 use Rattle.rpc_messages.specs.declared.reply.Reply.{Reply}
 use Rattle.gqlls_run.specs.Conversation.{Steps}
 use Rattle.gqlls_run.specs.Dialogue.{Dialogue}

@@ -3,8 +3,8 @@ use Rattle.std.specs.Prelude.{ℕ, ℤ, List, Option}
 use Rattle.apollo_parser.specs.Answers.{usize_max}
 use Rattle.apollo_parser.specs.Parsed.{Parsed}
 use Rattle.apollo_parser.specs.Promise.{Promise}
-use Rattle.diagnostic_messages.specs.Publication.{IsPublication}
-use Rattle.open_document.specs.Client.{Opened}
+use Rattle.editor_diagnostics.specs.Publication.{IsPublication}
+use Rattle.editor_text.specs.Client.{Opened}
 use Rattle.rpc_messages.specs.declared.reply.Reply.{Reply}
 use Rattle.rpc_messages.specs.declared.reply.Reply.TheVariants.{Nothing, Answer, Notice, Exit}
 

@@ -8,7 +8,7 @@ ghost use Rattle.rpc_messages.specs.Pieces.{tokens_of};
 ghost use Rattle.rpc_messages.specs.declared.pieces.Piece.{Piece};
 ghost use Rattle.gqlls_run.specs.Conversation.{IsAnnounced, encoding_name};
 
-use document_answers::TOKEN_TYPES;
+use editor_answers::TOKEN_TYPES;
 use json::Value;
 use line_index::PositionEncoding;
 use rpc_messages::{Piece, answer};

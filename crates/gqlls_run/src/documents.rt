@@ -10,9 +10,9 @@ ghost use Rattle.gqlls_run.specs.Told.{IsTold};
 
 use crate::parsing::parse;
 use apollo_parser::{DocumentRoot, SyntaxTree};
-use diagnostic_messages::{Places, publication};
+use editor_diagnostics::{Places, publication};
 use line_index::PositionEncoding;
-use open_document::{Change, OpenDocument};
+use editor_text::{Change, OpenDocument};
 use std::alloc::{AllocError, Global};
 use std::collections::BTreeMap;
 

@@ -9,7 +9,7 @@ ghost use Rattle.gqlls_run.specs.Layout.{IsFormattingOf, IsListOf, IsResultOf};
 
 use crate::documents::Document;
 use crate::layout::{Change, format_whole};
-use diagnostic_messages::Places;
+use editor_diagnostics::Places;
 use json::Value;
 use rpc_messages::{Piece, answer};
 use std::alloc::{AllocError, Global};

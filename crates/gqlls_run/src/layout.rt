@@ -6,7 +6,7 @@ ghost use Rattle.gqlls_run.specs.Layout.{IsLayout, IsWhole};
 
 use crate::parsing::RECURSION_LIMIT;
 use apollo_parser::SyntaxNode;
-use document_answers::{Span, span_of};
+use editor_answers::{Span, span_of};
 use formatter::format;
 use std::alloc::{AllocError, Global};
 

@@ -1,7 +1,7 @@
 //! What the program `gqlls` replies to each message: a language server for GraphQL documents.
 //!
 //! `run` is a whole run, and a `Server` the service of its conversation. It keeps the open documents with their trees. What needs only a tree is made by
-//! `document_answers`; here are the states of a conversation, and what needs the parser: errors, layout and completion.
+//! `editor_answers`; here are the states of a conversation, and what needs the parser: errors, layout and completion.
 #![tactic(auto)]
 
 mod capabilities;

@@ -15,7 +15,7 @@ use crate::documents::{Document, insert};
 use crate::formatting::answer_formatting;
 use crate::parameters::{changes_of, encoding_of, text_of, uri_of, version_of};
 use crate::questions::{answer_question, question_of};
-use diagnostic_messages::withdrawal;
+use editor_diagnostics::withdrawal;
 use json::Value;
 use line_index::PositionEncoding;
 use rpc_messages::{Piece, Reply, Service, answer, code, refusal};

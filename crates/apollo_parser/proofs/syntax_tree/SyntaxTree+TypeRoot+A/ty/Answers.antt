@@ -1,7 +1,7 @@
 use Rattle.std.proofs.Common.{◌∙◌, ap}
 use Rattle.document_grammar.specs.Choices.{Types}
 use Rattle.apollo_cst_core.specs.Cast.{one_of}
-use Rattle.apollo_cst_value.specs.Ty.{ty_node}
+use Rattle.apollo_cst_executable.specs.Ty.{ty_node}
 use Rattle.apollo_tree.specs.Order.{kind_at}
 use Rattle.apollo_tree.specs.References.{node_place}
 use Rattle.apollo_parser.proofs.Roots.{cast-place}

@@ -1,7 +1,7 @@
 use Rattle.std.proofs.Common.{List, ap, map, refl, rules, subst}
 use Rattle.std.specs.Prelude.{option_map}
 use Rattle.json.specs.Value.{value_view}
-use Rattle.open_document.specs.declared.Change.{Change}
+use Rattle.editor_text.specs.declared.Change.{Change}
 use Rattle.rpc_messages.specs.declared.reply.Reply.TheVariants.{Notice}
 use Rattle.gqlls_run.specs.Parameters.{told}
 use Rattle.gqlls_run.specs.Dialogue.{IsChanged}

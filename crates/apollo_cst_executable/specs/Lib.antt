@@ -1,0 +1,4 @@
+pub mod Value
+pub mod Ty
+pub mod Literals
+pub mod Selection

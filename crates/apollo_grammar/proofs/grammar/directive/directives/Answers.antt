@@ -1,0 +1,9 @@
+use Rattle.std.proofs.Common.{refl}
+use Rattle.lexical_grammar.specs.declared.TokenKind.TheVariants as token
+use Rattle.parser_rules.specs.RuleLanguage.{Kind}
+use Rattle.parser_rules.proofs.runs.Progress.{consuming, here-there, taken}
+use Rattle.apollo_grammar.proofs.grammar.directive.directives.Goals as goal
+
+pub loop-constness-smaller : goal.loop-constness-smaller
+unfolding consuming
+loop-constness-smaller g c = taken c.in_ok-directive.ensures.runs (here-there (Kind token.At) _ c.loop-constness-test.ensures) refl

@@ -1,8 +1,0 @@
-use Rattle.std.proofs.Common.{refl}
-use Rattle.parser_rules.specs.Rules.{named_start}
-use Rattle.parser_rules.proofs.runs.Progress.{consuming, here-there, taken}
-use Rattle.apollo_grammar_definitions.proofs.grammar.input.input_fields_definition.Goals as goal
-
-pub loop-p-smaller : goal.loop-p-smaller
-unfolding consuming
-loop-p-smaller g c = taken c.in_ok-input_value_definition.ensures.runs (here-there named_start _ c.loop-p-test.ensures) refl

@@ -1,8 +1,0 @@
-use Rattle.std.proofs.Common.{refl}
-use Rattle.parser_rules.specs.Rules.{variable_start}
-use Rattle.parser_rules.proofs.runs.Progress.{consuming, here-there, taken}
-use Rattle.apollo_grammar_definitions.proofs.grammar.variable.variable_definitions.Goals as goal
-
-pub loop-p-smaller : goal.loop-p-smaller
-unfolding consuming
-loop-p-smaller g c = taken c.in_ok-variable_definition.ensures.runs (here-there variable_start _ c.loop-p-test.ensures) refl

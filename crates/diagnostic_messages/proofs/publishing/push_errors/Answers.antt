@@ -1,9 +1,0 @@
-use Rattle.diagnostic_messages.specs.Tokens.{error_tokens}
-use Rattle.diagnostic_messages.proofs.Told.{one_more}
-use Rattle.diagnostic_messages.proofs.publishing.push_errors.Goals as goal
-
-pub loop-error-preserved : goal.loop-error-preserved
-loop-error-preserved c =
-    one_more (error_tokens c.args.places.now.encoding c.args.places.now.text.now) c.args.errors.now c.loop-error.error-index c.error-item.result _ _ _
-    c.error-item.is
-    c.loop-error-test.true c.loop-error.invariant c.in_ok-push_error.ensures

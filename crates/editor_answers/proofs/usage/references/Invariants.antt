@@ -1,0 +1,14 @@
+use Rattle.std.proofs.Common.{◌≡◌, ◌++◌, map}
+use Rattle.std.specs.List.{filter}
+use Rattle.apollo_tree.specs.Below.{at_or_below}
+use Rattle.apollo_tree.specs.Order.{range_at}
+use Rattle.apollo_tree.specs.References.{node_place}
+use Rattle.apollo_tree.specs.Yields.{rest_descendants}
+use Rattle.editor_answers.specs.Names.{is_reference}
+use Rattle.editor_answers.specs.Parts.{bounds}
+use Rattle.editor_answers.proofs.usage.references.Given as goal
+
+abbrev pub invariant-loop-element : goal.invariant-loop-element
+invariant-loop-element l =
+    map bounds l.found.items ++ map range_at (filter (is_reference l.with_definition l.sought.kind l.sought.text.now) (rest_descendants l.element-iterator))
+    ≡ map range_at (filter (is_reference l.with_definition l.sought.kind l.sought.text.now) (at_or_below (node_place l.sought.scope)))

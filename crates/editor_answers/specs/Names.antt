@@ -1,0 +1,111 @@
+-- The names in a document, what they stand for (GraphQL, October 2021), and where these things are defined and used.
+use Rattle.std.specs.Prelude.{ℕ, List, [], ◌∷◌, Bool, false, not, ◌&&◌, ◌||◌, nat_le, Option, Some, None, option_and_then, option_map, unwrap_or}
+use Rattle.std.specs.List.{filter, find, list_any}
+use Rattle.std.specs.Str.{bytes_eq}
+use Rattle.document_grammar.specs.declared.kind.SyntaxKind.{SyntaxKind}
+use Rattle.document_grammar.specs.declared.kind.SyntaxKind.TheVariants.{DIRECTIVE, DIRECTIVE_DEFINITION, FRAGMENT_DEFINITION, FRAGMENT_NAME}
+use Rattle.document_grammar.specs.declared.kind.SyntaxKind.TheVariants.{IDENT, NAMED_TYPE, OPERATION_DEFINITION, VARIABLE, VARIABLE_DEFINITION}
+use Rattle.document_grammar.specs.Numbers.{is_kind}
+use Rattle.apollo_tree.specs.Above.{at_or_above}
+use Rattle.apollo_tree.specs.Below.{at_or_below, is_leaf_place}
+use Rattle.apollo_tree.specs.Order.{Place, kind_at, parent_place, range_at, text_at}
+use Rattle.editor_answers.specs.declared.names.Meaning.{Meaning}
+use Rattle.editor_answers.specs.declared.names.NameKind.{NameKind}
+use Rattle.editor_answers.specs.declared.names.NameKind.TheVariants.{Fragment, Variable, «Type» as of_type, Directive}
+use Rattle.editor_answers.specs.declared.names.TheConstants.{TYPE_DEFINITIONS, TYPE_EXTENSIONS}
+
+-- ---- what a name stands for
+
+abbrev pub is_of : SyntaxKind → Place → Bool
+is_of kind place = is_kind kind (kind_at place)
+
+abbrev pub is_of_one : List SyntaxKind → Place → Bool
+is_of_one kinds place = list_any (λ kind. is_of kind place) kinds
+
+abbrev pub holds : {A : Type 0} → (A → Bool) → Option A → Bool
+holds test None = false
+holds test (Some x) = test x
+
+-- whether the name in a node stands for such a thing
+abbrev pub names : NameKind → Place → Bool
+names Fragment node = is_of FRAGMENT_NAME node
+names Variable node = is_of VARIABLE node
+names of_type node = is_of NAMED_TYPE node || is_of_one TYPE_DEFINITIONS node || is_of_one TYPE_EXTENSIONS node
+names Directive node = is_of DIRECTIVE node || is_of DIRECTIVE_DEFINITION node
+
+-- whether the thing is defined there
+abbrev pub defines : NameKind → Place → Bool
+defines Fragment node = holds (is_of FRAGMENT_DEFINITION) (parent_place node)
+defines Variable node = holds (is_of VARIABLE_DEFINITION) (parent_place node)
+defines of_type node = is_of_one TYPE_DEFINITIONS node
+defines Directive node = is_of DIRECTIVE_DEFINITION node
+
+-- the node in which a leaf is the name: that of the node NAME around the leaf
+abbrev pub named_by : Place → Option Place
+named_by leaf = option_and_then parent_place (parent_place leaf)
+
+abbrev pub kind_in : Place → Option NameKind
+kind_in node = find (λ kind. names kind node) (Fragment ∷ Variable ∷ of_type ∷ Directive ∷ [])
+
+-- what a leaf that is an identifier means, where it is the name of something that a document defines
+abbrev pub meaning_at : Place → Option Meaning
+meaning_at leaf = option_map (λ kind. record { kind = kind; defines = holds (defines kind) (named_by leaf) }) (option_and_then kind_in (named_by leaf))
+
+-- the leaf is a name, with this text, of such a thing
+abbrev pub is_name : NameKind → List ℕ → Place → Bool
+is_name kind text leaf = is_leaf_place leaf && (is_of IDENT leaf && (holds (names kind) (named_by leaf) && bytes_eq (text_at leaf) text))
+
+-- the leaf is this name, in the definition of the thing
+abbrev pub is_definition : NameKind → List ℕ → Place → Bool
+is_definition kind text leaf = is_name kind text leaf && holds (defines kind) (named_by leaf)
+
+-- ---- definitions and uses
+
+-- a leaf that is an identifier, with an offset in it or at its end
+abbrev pub is_touched : ℕ → Place → Bool
+is_touched offset leaf = is_leaf_place leaf && (is_of IDENT leaf && (nat_le (range_at leaf).0 offset && nat_le offset (range_at leaf).1))
+
+-- the nodes that an element is in
+abbrev pub above : Option Place → List Place
+above None = []
+above (Some parent) = at_or_above parent
+
+-- Where a name has its meaning: that of a variable in the operation that it is in, any other in the whole document.
+abbrev pub scope_of : Place → Place → NameKind → Place
+scope_of root leaf Fragment = root
+scope_of root leaf Variable = unwrap_or (find (is_of OPERATION_DEFINITION) (above (parent_place leaf))) root
+scope_of root leaf of_type = root
+scope_of root leaf Directive = root
+
+-- what is asked for: what a name stands for, its text, and the node in which it has this meaning
+pub record Wanted : Type 0 where
+  pub kind : NameKind
+  pub text : List ℕ
+  pub scope : Place
+
+abbrev pub wanted : NameKind → List ℕ → Place → Wanted
+wanted kind text scope = record { kind = kind; text = text; scope = scope }
+
+-- what a name asks for
+abbrev pub wanted_by : Place → Place → Option Wanted
+wanted_by root leaf = option_map (λ kind. wanted kind (text_at leaf) (scope_of root leaf kind)) (option_and_then kind_in (named_by leaf))
+
+-- what the name at an offset asks for
+abbrev pub wanted_at : Place → ℕ → Option Wanted
+wanted_at root offset = option_and_then (wanted_by root) (find (is_touched offset) (at_or_below root))
+
+-- the definition of the name at an offset: the first one in its scope
+abbrev pub definition_in : Place → ℕ → Option Place
+definition_in root offset = option_and_then (λ w. find (is_definition w.kind w.text) (at_or_below w.scope)) (wanted_at root offset)
+
+-- a use of the name, or a definition where these are asked for too
+abbrev pub is_reference : Bool → NameKind → List ℕ → Place → Bool
+is_reference with_definition kind text leaf = is_name kind text leaf && (with_definition || not (is_definition kind text leaf))
+
+abbrev pub references_of : Bool → Option Wanted → List Place
+references_of with_definition None = []
+references_of with_definition (Some w) = filter (is_reference with_definition w.kind w.text) (at_or_below w.scope)
+
+-- the uses of the name at an offset, all that are in its scope and in their order
+abbrev pub references_in : Place → ℕ → Bool → List Place
+references_in root offset with_definition = references_of with_definition (wanted_at root offset)

@@ -1,0 +1,99 @@
+// What is said of a name.
+use crate::labels::{child_of, identifier_at, is_one_of, name_of};
+use crate::names::{NameKind, defines_type, is_in, meaning_of, named_by};
+use crate::span::{Span, span_of};
+use apollo_cst_core::child;
+use apollo_cst_executable::Description;
+use apollo_tree::{SyntaxKind, SyntaxNode, SyntaxToken};
+use std::alloc::{AllocError, Global};
+
+/// What is said of a name.
+#[derive(Clone, Copy)]
+pub struct Hover<'t> {
+    /// Where the name is.
+    pub span: Span,
+    /// Its definition.
+    pub definition: SyntaxNode<'t>,
+}
+
+// What names itself where it is defined, beside types, directives and the values of enums.
+const DESCRIBED: [SyntaxKind; 2] = [
+    SyntaxKind::FIELD_DEFINITION,
+    SyntaxKind::INPUT_VALUE_DEFINITION,
+];
+
+// The parts of a definition that are in braces.
+const IN_BRACES: [SyntaxKind; 3] = [
+    SyntaxKind::FIELDS_DEFINITION,
+    SyntaxKind::ENUM_VALUES_DEFINITION,
+    SyntaxKind::INPUT_FIELDS_DEFINITION,
+];
+
+// The definition of a type or a directive with a name.
+fn definition_of<'t>(root: SyntaxNode<'t>, kind: NameKind, name: &str) -> Option<SyntaxNode<'t>> {
+    for node in root.children() {
+        let fits = match kind {
+            NameKind::Type => defines_type(node.kind()),
+            NameKind::Directive => node.kind().is(SyntaxKind::DIRECTIVE_DEFINITION),
+            _ => false,
+        };
+        if fits
+            && let Some(found) = name_of(node)
+            && found.text() == name
+        {
+            return Some(node);
+        }
+    }
+    None
+}
+
+// The definition that tells of a name: that of its type or directive, or the field, argument or value that it names.
+fn described_by<'t>(root: SyntaxNode<'t>, leaf: SyntaxToken<'t>) -> Option<SyntaxNode<'t>> {
+    if let Some(meaning) = meaning_of(leaf) {
+        return definition_of(root, meaning.kind, leaf.text());
+    }
+    let named = named_by(leaf)?;
+    if is_in(named, SyntaxKind::ENUM_VALUE_DEFINITION) {
+        return named.parent();
+    }
+    if is_one_of(named.kind(), &DESCRIBED) {
+        return Some(named);
+    }
+    None
+}
+
+/// The text of a definition without its description and without what is in braces.
+pub(crate) fn heading_of<'t>(source: &'t str, node: SyntaxNode<'_>) -> &'t str {
+    let mut span = span_of(node.text_range());
+    if let Some(description) = child_of(node, &[SyntaxKind::DESCRIPTION]) {
+        span.start = description.text_range().end();
+    }
+    if let Some(braces) = child_of(node, &IN_BRACES) {
+        span.end = braces.text_range().start();
+    }
+    span.text(source).unwrap_or("").trim()
+}
+
+/// The value of a definition's description, empty where it has none. It fails only where memory is refused.
+pub(crate) fn description_of(alloc: Global, node: SyntaxNode<'_>) -> Result<String, AllocError> {
+    if let Some(description) = child::<Description<'_>>(&node)
+        && let Some(value) = description.string_value()
+    {
+        return value.to_string_in(alloc);
+    }
+    Ok(String::new(alloc))
+}
+
+/// What the document says of the name at a place, or that ends there: of a type or a directive by its definition, and of a field, an argument or
+/// a value where that is defined. `None` where it says nothing.
+pub fn hover_at<'t>(root: SyntaxNode<'t>, offset: usize) -> Option<Hover<'t>> {
+    if let Some(leaf) = identifier_at(root, offset)
+        && let Some(definition) = described_by(root, leaf)
+    {
+        return Some(Hover {
+            span: span_of(leaf.text_range()),
+            definition,
+        });
+    }
+    None
+}

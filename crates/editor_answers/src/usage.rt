@@ -1,0 +1,137 @@
+// Where a name is defined and where it is used.
+ghost use Rattle.std.specs.Prelude.{◌≡◌, IfOk, map, option_map};
+ghost use Rattle.std.specs.List.{find};
+ghost use Rattle.apollo_tree.specs.Above.{at_or_above};
+ghost use Rattle.apollo_tree.specs.Order.{parent_place, range_at};
+ghost use Rattle.apollo_tree.specs.References.{node_place, token_place};
+ghost use Rattle.apollo_tree.specs.Yields.{element_place};
+ghost use Rattle.document_grammar.specs.declared.kind.SyntaxKind.TheVariants.{OPERATION_DEFINITION};
+ghost use Rattle.editor_answers.specs.Names.{above, definition_in, is_definition, is_name, is_of, is_reference, references_in, scope_of, wanted, wanted_at};
+ghost use Rattle.editor_answers.specs.Parts.{bounds};
+
+use crate::labels::identifier_at;
+use crate::names::{NameKind, is_defined_by, is_name_of, kind_of};
+use crate::span::{Span, span_of};
+use apollo_tree::{SyntaxElement, SyntaxKind, SyntaxNode, SyntaxToken};
+use std::alloc::{AllocError, Global};
+
+// A name that is looked for: what it stands for, how it is written, and the node in which it means this.
+#[derive(Clone, Copy)]
+struct Sought<'t> {
+    kind: NameKind,
+    text: &'t str,
+    scope: SyntaxNode<'t>,
+}
+
+// The operation that a node is, or is in.
+fn operation_from<'t>(node: SyntaxNode<'t>) -> Option<SyntaxNode<'t>>
+    ensures { option_map node_place result ≡ find (is_of OPERATION_DEFINITION) (at_or_above (node_place node.entry)) }
+{
+    for outer in node.ancestors() {
+        if outer.kind().is(SyntaxKind::OPERATION_DEFINITION) {
+            return Some(outer);
+        }
+    }
+    None
+}
+
+// The operation that a leaf is in.
+fn operation_around<'t>(leaf: SyntaxToken<'t>) -> Option<SyntaxNode<'t>>
+    ensures { option_map node_place result ≡ find (is_of OPERATION_DEFINITION) (above (parent_place (token_place leaf.entry))) }
+{
+    operation_from(leaf.parent()?)
+}
+
+// Where a name has its meaning: that of a variable in the operation that it is in, any other in the whole document.
+fn scope_of<'t>(root: SyntaxNode<'t>, leaf: SyntaxToken<'t>, kind: NameKind) -> SyntaxNode<'t>
+    ensures { node_place result ≡ scope_of (node_place root.entry) (token_place leaf.entry) kind }
+{
+    match kind {
+        NameKind::Variable => match operation_around(leaf) {
+            Some(operation) => operation,
+            None => root,
+        },
+        NameKind::Fragment | NameKind::Type | NameKind::Directive => root,
+    }
+}
+
+// The name at a place.
+fn sought_at<'t>(root: SyntaxNode<'t>, offset: usize) -> Option<Sought<'t>>
+    ensures { option_map (λ sought. wanted sought.kind sought.text.now (node_place sought.scope)) result ≡ wanted_at (node_place root.entry) offset }
+{
+    let leaf = identifier_at(root, offset)?;
+    let kind = kind_of(leaf)?;
+    Some(Sought {
+        kind,
+        text: leaf.text(),
+        scope: scope_of(root, leaf, kind),
+    })
+}
+
+// Whether an element is the leaf of the name that is looked for.
+fn is_name(element: SyntaxElement<'_>, sought: Sought<'_>) -> bool
+    ensures { result ≡ is_name sought.entry.kind sought.entry.text.now (element_place element.entry) }
+{
+    match element.into_token() {
+        Some(leaf) => {
+            leaf.kind().is(SyntaxKind::IDENT)
+                && is_name_of(leaf, sought.kind)
+                && leaf.text() == sought.text
+        }
+        None => false,
+    }
+}
+
+// Whether it is this in a definition.
+fn is_definition(element: SyntaxElement<'_>, sought: Sought<'_>) -> bool
+    ensures { result ≡ is_definition sought.entry.kind sought.entry.text.now (element_place element.entry) }
+{
+    match element.into_token() {
+        Some(leaf) => is_name(element, sought) && is_defined_by(leaf, sought.kind),
+        None => false,
+    }
+}
+
+// Whether it is a use of the name, or a definition where these are looked for too.
+fn is_reference(element: SyntaxElement<'_>, sought: Sought<'_>, with_definition: bool) -> bool
+    ensures { result ≡ is_reference with_definition sought.entry.kind sought.entry.text.now (element_place element.entry) }
+{
+    is_name(element, sought) && (with_definition || !is_definition(element, sought))
+}
+
+/// Where the fragment, variable, type or directive is defined whose name is at a place of a text, or ends there, by the root of the text's tree:
+/// the part that the name takes in the definition. `None` where there is no such name or no definition. The first counts where there are
+/// several.
+pub fn definition(root: SyntaxNode<'_>, offset: usize) -> Option<Span>
+    ensures { option_map bounds result ≡ option_map range_at (definition_in (node_place root.entry) offset) }
+{
+    let sought = sought_at(root, offset)?;
+    for element in sought.scope.descendants_with_tokens() {
+        if is_definition(element, sought) {
+            return Some(span_of(element.text_range()));
+        }
+    }
+    None
+}
+
+/// Where the name is used that is at a place of a text, or ends there, in the order of the text; where it is defined too when `with_definition`
+/// says so. It fails only where memory is refused.
+pub fn references(
+    alloc: Global,
+    root: SyntaxNode<'_>,
+    offset: usize,
+    with_definition: bool,
+) -> Result<Vec<Span>, AllocError>
+    ensures { IfOk result (λ found. map bounds found.items ≡ map range_at (references_in (node_place root.entry) offset with_definition)) }
+{
+    let mut found = Vec::new(alloc);
+    let Some(sought) = sought_at(root, offset) else {
+        return Ok(found);
+    };
+    for element in sought.scope.descendants_with_tokens() {
+        if is_reference(element, sought, with_definition) {
+            found.push(span_of(element.text_range()))?;
+        }
+    }
+    Ok(found)
+}

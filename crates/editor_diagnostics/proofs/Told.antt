@@ -1,0 +1,85 @@
+-- The tokens of lists of pieces that grow.
+use Rattle.std.proofs.Common.{◌≡◌, ℕ, ℤ, suc, ◌+◌, ◌-◌, ◌<◌, List, [], ◌∷◌, ◌++◌, Option, Some, None, append_assoc, subst, ap, sym, refl, ◌∙◌, length}
+use Rattle.std.proofs.Common.{map, take, get_or, min, arith}
+use Rattle.std.specs.List.{flat_map}
+use Rattle.std.proofs.lemmas.Grind.{flat_map-append}
+use Rattle.std.proofs.lemmas.List.{append-nil}
+use Rattle.std.proofs.lemmas.List.Concat.{flat_map-cons}
+use Rattle.std.proofs.lemmas.List.Folds.{flat_map-map}
+use Rattle.std.proofs.Math.Seq.{take-suc}
+use Rattle.json.specs.Json.{Json, object}
+use Rattle.json.specs.Token.{Token, end_array, end_object}
+use Rattle.json.specs.Tree.{items_tokens, json_tokens}
+use Rattle.json.specs.Value.{items_of}
+use Rattle.apollo_lexer.specs.Diagnostics.{Diagnostic}
+use Rattle.line_index.specs.declared.PositionEncoding.{PositionEncoding}
+use Rattle.editor_diagnostics.specs.Places.{cursor_at, position_in, position_of}
+use Rattle.editor_diagnostics.specs.Publication.{diagnostic_of, diagnostics_of, more_diagnostics, publish_params}
+use Rattle.editor_diagnostics.specs.Tokens.{all_tokens, front_tokens}
+
+-- three additions, one after the other
+told_thrice : {X Y : Type 0} (f : X → List Y) (old a b c one two three : List X) → one ≡ old ++ a → two ≡ one ++ b → three ≡ two ++ c
+    → flat_map f three ≡ flat_map f old ++ (flat_map f a ++ (flat_map f b ++ flat_map f c))
+told_thrice f old a b c one two three p q r =
+    rw (r, q, p, flat_map-append, flat_map-append, flat_map-append, append_assoc, append_assoc)
+
+-- the same, where the tokens of the last two are known
+pub added_thrice : {X Y : Type 0} (f : X → List Y) (old a b c one two three : List X) (bs cs : List Y) → one ≡ old ++ a → two ≡ one ++ b → three ≡ two ++ c
+    → flat_map f b ≡ bs → flat_map f c ≡ cs → flat_map f three ≡ flat_map f old ++ (flat_map f a ++ (bs ++ cs))
+added_thrice {Y = Y} f old a b c one two three bs cs p q r m n =
+    subst (λ (x : List Y). flat_map f three ≡ flat_map f old ++ (flat_map f a ++ (x ++ cs))) m
+    (subst (λ (x : List Y). flat_map f three ≡ flat_map f old ++ (flat_map f a ++ (flat_map f b ++ x))) n (told_thrice f old a b c one two three p q r))
+
+-- one more addition, after those of the first k of some things
+pub one_more : {E Y : Type 0} (g : E → List Y) (things : List E) (k : ℕ) (thing : E) (first old new : List Y) → thing ≡ get_or things k thing
+    → k < length things
+    → old ≡ first ++ flat_map g (take k things) → new ≡ old ++ g thing → new ≡ first ++ flat_map g (take (k + 1) things)
+one_more {E = E} {Y = Y} g things k thing first old new is within so_far added =
+    let next : k + 1 ≡ suc k = omega arith in
+    let step : take (k + 1) things ≡ take k things ++ (thing ∷ []) =
+    ap (λ (n : ℕ). take n things) next ∙ take-suc things k thing within ∙ ap (λ (x : E). take k things ++ (x ∷ [])) (sym is) in
+    let last : flat_map g (thing ∷ []) ≡ g thing = flat_map-cons g thing [] ∙ append-nil (g thing) in
+    let taken : flat_map g (take (k + 1) things) ≡ flat_map g (take k things) ++ g thing =
+    ap (flat_map g) step ∙ flat_map-append g (take k things) (thing ∷ []) ∙ ap (λ (x : List Y). flat_map g (take k things) ++ x) last in
+    added ∙ ap (λ (x : List Y). x ++ g thing) so_far ∙ append_assoc first (flat_map g (take k things)) (g thing) ∙ ap (λ (x : List Y). first ++ x) (sym taken)
+
+min_again : (x n : ℕ) → min (min x n) n ≡ min x n
+min_again x n = omega arith
+
+-- no place is after the end
+pub capped : (encoding : PositionEncoding) (text : List ℕ) (x : ℕ) → position_of encoding text (min x (length text)) ≡ position_of encoding text x
+capped encoding text x = ap (λ (k : ℕ). position_in encoding text (cursor_at text k)) (min_again x (length text))
+
+-- ---- the tokens of the parameters
+
+items_then : (values : List Json) (rest : List Token) → items_tokens (items_of values) ++ rest ≡ flat_map json_tokens values ++ end_array ∷ rest
+items_then [] rest = refl
+items_then (value ∷ values) rest =
+    append_assoc (json_tokens value) (items_tokens (items_of values)) rest ∙ ap (λ (x : List Token). json_tokens value ++ x) (items_then values rest)
+    ∙ sym (append_assoc (json_tokens value) (flat_map json_tokens values) (end_array ∷ rest))
+    ∙ ap (λ (x : List Token). x ++ end_array ∷ rest) (sym (flat_map-cons json_tokens value values))
+
+pub params_tokens : (uri : List ℕ) (version : Option ℤ) (values : List Json)
+    → json_tokens (object (publish_params uri version values)) ≡ front_tokens uri version ++ (flat_map json_tokens values ++ end_array ∷ end_object ∷ [])
+params_tokens uri None values = ap (λ (x : List Token). front_tokens uri None ++ x) (items_then values (end_object ∷ []))
+params_tokens uri (Some version) values = ap (λ (x : List Token). front_tokens uri (Some version) ++ x) (items_then values (end_object ∷ []))
+
+-- the front, the diagnostics and the end make the parameters
+pub whole_params : (uri : List ℕ) (version : Option ℤ) (encoding : PositionEncoding) (text : List ℕ) (errors told : List Diagnostic) (more : ℕ)
+    (p q r : List Token)
+    → told ≡ take 100 errors → more ≡ length errors - 100 → p ≡ front_tokens uri version → q ≡ p ++ all_tokens encoding text told
+    → r ≡ q ++ flat_map json_tokens (more_diagnostics encoding text more)
+    → r ++ end_array ∷ end_object ∷ [] ≡ json_tokens (object (publish_params uri version (diagnostics_of encoding text errors)))
+whole_params uri version encoding text errors told more p q r t m i j k =
+    let firsts : List Json = map (diagnostic_of encoding text) (take 100 errors) in
+    let others : List Json = more_diagnostics encoding text (length errors - 100) in
+    let f : List Token = front_tokens uri version in
+    let a : List Token = flat_map json_tokens firsts in
+    let b : List Token = flat_map json_tokens others in
+    let e : List Token = end_array ∷ end_object ∷ [] in
+    let q_is : q ≡ f ++ a = j ∙ ap (λ (x : List Token). x ++ all_tokens encoding text told) i
+    ∙ ap (λ (x : List Token). f ++ x) (ap (all_tokens encoding text) t ∙ sym (flat_map-map json_tokens (diagnostic_of encoding text) (take 100 errors))) in
+    let r_is : r ≡ (f ++ a) ++ b = k ∙ ap (λ (x : List Token). x ++ flat_map json_tokens (more_diagnostics encoding text more)) q_is
+    ∙ ap (λ (n : ℕ). (f ++ a) ++ flat_map json_tokens (more_diagnostics encoding text n)) m in
+    ap (λ (x : List Token). x ++ e) (r_is ∙ append_assoc f a b ∙ ap (λ (x : List Token). f ++ x) (sym (flat_map-append json_tokens firsts others)))
+    ∙ append_assoc f (flat_map json_tokens (firsts ++ others)) e ∙ sym (params_tokens uri version (firsts ++ others))

@@ -1,0 +1,61 @@
+// One error as the protocol has it.
+ghost use Rattle.std.specs.Prelude.{◌≡◌, ◌++◌, OnOk, flat_map};
+ghost use Rattle.json.specs.Tree.{json_tokens, members_tokens};
+ghost use Rattle.rpc_messages.specs.Pieces.{tokens_of};
+ghost use Rattle.editor_diagnostics.specs.Places.{position_of};
+ghost use Rattle.editor_diagnostics.specs.Publication.{diagnostic, diagnostic_of, words_of};
+
+use crate::places::Places;
+use apollo_lexer::Error;
+use rpc_messages::Piece;
+use std::alloc::AllocError;
+
+/// How many errors of a document a client is told.
+pub const TOLD: usize = 100;
+
+// What follows a diagnostic's range.
+fn words<'p>(message: &'p str) -> [Piece<'p>; 7]
+    ensures { flat_map tokens_of result ≡ members_tokens (words_of message.now) }
+{
+    [
+        Piece::Key("severity"),
+        Piece::Count(1),
+        Piece::Key("source"),
+        Piece::Text("gqlls"),
+        Piece::Key("message"),
+        Piece::Text(message),
+        Piece::EndObject,
+    ]
+}
+
+/// Adds a diagnostic from one byte offset up to another.
+pub(crate) fn push_diagnostic<'p>(
+    pieces: &mut Vec<Piece<'p>>,
+    places: &Places<'_>,
+    start: usize,
+    end: usize,
+    message: &'p str,
+) -> Result<(), AllocError>
+    ensures { OnOk result (flat_map tokens_of pieces.new.items ≡ flat_map tokens_of pieces.old.items
+        ++ json_tokens (diagnostic (position_of places.now.encoding places.now.text.now start) (position_of places.now.encoding places.now.text.now end) message.now)) }
+{
+    pieces.extend_from_slice(&[Piece::Object, Piece::Key("range")])?;
+    pieces.extend_from_slice(&places.range(start, end))?;
+    pieces.extend_from_slice(&words(message))?;
+    Ok(())
+}
+
+/// Adds the diagnostic of an error.
+#[tactic(auto, using(crate::proofs::Told::capped))]
+pub(crate) fn push_error<'p>(
+    pieces: &mut Vec<Piece<'p>>,
+    places: &Places<'_>,
+    error: &'p Error,
+) -> Result<(), AllocError>
+    ensures { OnOk result (flat_map tokens_of pieces.new.items ≡ flat_map tokens_of pieces.old.items
+        ++ json_tokens (diagnostic_of places.now.encoding places.now.text.now error.now)) }
+{
+    let start = error.index();
+    let end = places.end_of(start, error.data().len());
+    push_diagnostic(pieces, places, start, end, error.message())
+}

@@ -1,0 +1,145 @@
+// What a client is told of the errors of a document.
+ghost use Rattle.std.specs.Prelude.{◌≡◌, ◌++◌, ◌∷◌, [], IfOk, OnOk, None, flat_map, string_bytes, take};
+ghost use Rattle.json.specs.Json.{Members, object};
+ghost use Rattle.json.specs.Token.{end_array, end_object};
+ghost use Rattle.json.specs.Tree.{json_tokens};
+ghost use Rattle.rpc_messages.specs.Answers.{AreOfObject};
+ghost use Rattle.rpc_messages.specs.Messages.{IsNotice, IsNoticeOf};
+ghost use Rattle.rpc_messages.specs.Pieces.{tokens_of};
+ghost use Rattle.editor_diagnostics.specs.Publication.{IsNoticeAbout, IsPublication, method, more_diagnostics, more_words, noun_of};
+ghost use Rattle.editor_diagnostics.specs.Tokens.{all_tokens, front_tokens};
+
+use crate::diagnostic::{TOLD, push_diagnostic, push_error};
+use crate::places::Places;
+use apollo_lexer::Error;
+use rpc_messages::{Piece, notice};
+use std::alloc::{AllocError, Global};
+
+const METHOD: &str = "textDocument/publishDiagnostics";
+
+// Begins the parameters, up to the list of diagnostics.
+fn push_front<'p>(
+    pieces: &mut Vec<Piece<'p>>,
+    uri: &'p str,
+    version: Option<i64>,
+) -> Result<(), AllocError>
+    requires { pieces.old.items ≡ [] }
+    ensures { OnOk result (flat_map tokens_of pieces.new.items ≡ front_tokens uri.now version) }
+{
+    match version {
+        Some(version) => pieces.extend_from_slice(&[
+            Piece::Object,
+            Piece::Key("uri"),
+            Piece::Text(uri),
+            Piece::Key("version"),
+            Piece::Number(version),
+            Piece::Key("diagnostics"),
+            Piece::Array,
+        ]),
+        None => pieces.extend_from_slice(&[
+            Piece::Object,
+            Piece::Key("uri"),
+            Piece::Text(uri),
+            Piece::Key("diagnostics"),
+            Piece::Array,
+        ]),
+    }
+}
+
+// The errors that a client is told.
+fn first_errors(errors: &[Error]) -> &[Error]
+    ensures { result.now ≡ take 100 errors.now }
+{
+    &errors[..TOLD.min(errors.len())]
+}
+
+// Adds the diagnostics of errors.
+fn push_errors<'p>(
+    pieces: &mut Vec<Piece<'p>>,
+    places: &Places<'_>,
+    errors: &'p [Error],
+) -> Result<(), AllocError>
+    ensures { OnOk result (flat_map tokens_of pieces.new.items ≡ flat_map tokens_of pieces.old.items
+        ++ all_tokens places.now.encoding places.now.text.now errors.now) }
+{
+    for error in errors {
+        push_error(pieces, places, error)?;
+    }
+    Ok(())
+}
+
+fn noun_for(count: usize) -> &'static str
+    ensures { result.now ≡ noun_of count }
+{
+    if count == 1 { "error" } else { "errors" }
+}
+
+// How many more errors there are, in words.
+fn words_for(alloc: Global, more: usize) -> Result<String, AllocError>
+    ensures { IfOk result (λ words. string_bytes words ≡ more_words more) }
+{
+    let noun = noun_for(more);
+    format!(in alloc; "{more} more {noun}")
+}
+
+// Adds how many more errors there are, unless there are none.
+fn push_more<'p>(
+    pieces: &mut Vec<Piece<'p>>,
+    places: &Places<'_>,
+    more: usize,
+    words: &'p str,
+) -> Result<(), AllocError>
+    requires { words.now ≡ more_words more }
+    ensures { OnOk result (flat_map tokens_of pieces.new.items ≡ flat_map tokens_of pieces.old.items
+        ++ flat_map json_tokens (more_diagnostics places.now.encoding places.now.text.now more)) }
+{
+    if more == 0 {
+        return Ok(());
+    }
+    push_diagnostic(pieces, places, 0, 0, words)
+}
+
+// Ends the parameters, and gives the notice.
+fn end(alloc: Global, pieces: &mut Vec<Piece<'_>>) -> Result<Vec<u8>, AllocError>
+    requires { AreOfObject (flat_map tokens_of pieces.old.items ++ end_array ∷ end_object ∷ []) }
+    ensures params { IfOk result (λ body. (members : Members) → flat_map tokens_of pieces.old.items ++ end_array ∷ end_object ∷ [] ≡ json_tokens (object members)
+        → IsNoticeOf method members body.items) }
+    ensures notifies { IfOk result (λ body. IsNotice body.items) }
+{
+    pieces.extend_from_slice(&[Piece::EndArray, Piece::EndObject])?;
+    notice(alloc, METHOD, pieces.as_slice())
+}
+
+/// The notice of the errors of a document with this name, version and text: the first hundred, and then one at the front of the text that says how
+/// many more there are. It fails only where memory is refused.
+pub fn publication(
+    alloc: Global,
+    uri: &str,
+    version: Option<i64>,
+    places: &Places<'_>,
+    errors: &[Error],
+) -> Result<Vec<u8>, AllocError>
+    ensures notifies { IfOk result (λ body. IsNotice body.items) }
+    ensures published { IfOk result (λ body. IsPublication uri.now version places.now.encoding places.now.text.now errors.now body.items) }
+{
+    let told = first_errors(errors);
+    let more = errors.len().saturating_sub(TOLD);
+    let words = words_for(alloc, more)?;
+    let mut pieces = Vec::new(alloc);
+    push_front(&mut pieces, uri, version)?;
+    push_errors(&mut pieces, places, told)?;
+    push_more(&mut pieces, places, more, words.as_str())?;
+    let body = end(alloc, &mut pieces)?;
+    Ok(body)
+}
+
+/// The notice that takes the errors of a document back. It fails only where memory is refused.
+pub fn withdrawal(alloc: Global, uri: &str) -> Result<Vec<u8>, AllocError>
+    ensures notifies { IfOk result (λ body. IsNotice body.items) }
+    ensures withdrawn { IfOk result (λ body. IsNoticeAbout uri.now None [] body.items) }
+{
+    let mut pieces = Vec::new(alloc);
+    push_front(&mut pieces, uri, None)?;
+    let body = end(alloc, &mut pieces)?;
+    Ok(body)
+}

@@ -1,7 +1,0 @@
-use Rattle.std.proofs.Common.{[], ◌∷◌, true, refl}
-use Rattle.json.specs.Json.{boolean, member, no_members}
-use Rattle.editor_tests.proofs.messages.notices_by_pieces.Goals as goal
-
--- the parameters are {"a": true}
-pub notice-requires : goal.notice-requires
-notice-requires g c = record { members = member (97 ∷ []) (boolean true) no_members; is = refl }

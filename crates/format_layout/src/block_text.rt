@@ -1,0 +1,98 @@
+// How a block string is spelled in an indented line. Nothing is promised of it: `format_strings` compares the values.
+use format_strings::BlockStyle;
+use std::alloc::{AllocError, Allocator};
+
+// How many bytes a value may have that is written in one line with its quotes.
+const MAX_INLINE: usize = 70;
+
+// Whether the text begins with a space or a tab.
+fn begins_white(text: &str) -> bool {
+    text.starts_with(' ') || text.starts_with('\t')
+}
+
+// Whether there is a second line, and each line after the first is empty or indented: then the indent would be lost if the first line began
+// right after the quotes.
+fn others_are_indented(value: &str) -> bool {
+    let Some((_, others)) = value.split_once('\n') else {
+        return false;
+    };
+    for line in others.split('\n') {
+        if !line.is_empty() && !begins_white(line) {
+            return false;
+        }
+    }
+    true
+}
+
+// A new line with its indent.
+fn begin_line<A: Allocator>(text: &mut String<A>, indent: usize) -> Result<(), AllocError> {
+    text.push('\n')?;
+    for _ in 0..indent {
+        text.push(' ')?;
+    }
+    Ok(())
+}
+
+// A line, in which `"""` has a backslash before it.
+fn push_escaped<A: Allocator>(text: &mut String<A>, line: &str) -> Result<(), AllocError> {
+    let mut is_after_quotes = false;
+    for part in line.split("\"\"\"") {
+        if is_after_quotes {
+            text.push_str("\\\"\"\"")?;
+        }
+        is_after_quotes = true;
+        text.push_str(part)?;
+    }
+    Ok(())
+}
+
+// The lines of a value, each in a new line: the first one only where the value begins below the quotes.
+fn push_lines<A: Allocator>(
+    text: &mut String<A>,
+    value: &str,
+    begins_below: bool,
+    indent: usize,
+) -> Result<(), AllocError> {
+    let mut is_below = begins_below;
+    for line in value.split('\n') {
+        if is_below {
+            begin_line(text, if line.is_empty() { 0 } else { indent })?;
+        }
+        is_below = true;
+        push_escaped(text, line)?;
+    }
+    Ok(())
+}
+
+// A value and the quotes after it: in the line of the quotes before it if it is short and has one line, else with each line below the quotes.
+fn push_value<A: Allocator>(
+    text: &mut String<A>,
+    value: &str,
+    indent: usize,
+) -> Result<(), AllocError> {
+    let has_one_line = !value.contains('\n');
+    let is_indented = others_are_indented(value);
+    let joins_quotes = value.ends_with('"') || value.ends_with('\\');
+    let ends_below = !has_one_line || value.len() > MAX_INLINE || joins_quotes || is_indented;
+    let begins_below = is_indented || (ends_below && !(has_one_line && begins_white(value)));
+    push_lines(text, value, begins_below, indent)?;
+    if ends_below {
+        begin_line(text, indent)?;
+    }
+    text.push_str("\"\"\"")
+}
+
+/// How block strings are spelled in a line that is indented by so many spaces: in one line with the quotes if the value is short and has one line,
+/// else with each line below the quotes.
+#[derive(Clone, Copy)]
+pub struct Indented {
+    pub spaces: usize,
+}
+
+impl BlockStyle for Indented {
+    fn block_text<A: Allocator>(&self, alloc: A, value: &str) -> Result<String<A>, AllocError> {
+        let mut text = String::from_str(alloc, "\"\"\"")?;
+        push_value(&mut text, value, self.spaces)?;
+        Ok(text)
+    }
+}

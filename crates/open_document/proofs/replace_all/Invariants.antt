@@ -1,8 +1,0 @@
-use Rattle.std.proofs.Common.{◌≡◌, take}
-use Rattle.std.specs.Prelude.{string_bytes, fold}
-use Rattle.line_index.specs.Positions.{units}
-use Rattle.open_document.specs.Client.{changed}
-use Rattle.open_document.proofs.replace_all.Given as goal
-
-abbrev pub invariant-loop-change : goal.invariant-loop-change
-invariant-loop-change l = units l.encoding (string_bytes l.text) ≡ fold (changed l.encoding) (units l.encoding (string_bytes l.initial.text)) (take l.change-index l.changes)

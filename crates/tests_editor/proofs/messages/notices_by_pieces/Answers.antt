@@ -1,0 +1,7 @@
+use Rattle.std.proofs.Common.{[], ◌∷◌, true, refl}
+use Rattle.json.specs.Json.{boolean, member, no_members}
+use Rattle.tests_editor.proofs.messages.notices_by_pieces.Goals as goal
+
+-- the parameters are {"a": true}
+pub notice-requires : goal.notice-requires
+notice-requires g c = record { members = member (97 ∷ []) (boolean true) no_members; is = refl }

@@ -1,5 +1,0 @@
-use Rattle.token_layout.proofs.Written.{token-adds}
-use Rattle.token_layout.proofs.layout.Layout.put.Goals as goal
-
-pub returns : goal.returns
-returns g c = token-adds _ _ _ _ _ c.in_ok-push_str.ensures.bytes c.of-self.ensures c.requires.token c.requires.apart

@@ -1,6 +1,0 @@
-use Rattle.std.proofs.Common.{string_bytes}
-use Rattle.token_layout.specs.Laid.{Keeps}
-use Rattle.token_layout.proofs.layout.Layout.spaces.Given as goal
-
-abbrev pub invariant-loop : goal.invariant-loop
-invariant-loop g l = Keeps (string_bytes l.fn.self.text) l.fn.self.edge (string_bytes l.self.text) l.self.edge
