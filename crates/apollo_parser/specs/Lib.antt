@@ -47,6 +47,7 @@ pub use Rattle.apollo_lexer.specs.Equal
 pub use Rattle.apollo_lexer.specs.Printed
 pub use Rattle.apollo_lexer.specs.LexErrors
 pub use Rattle.apollo_lexer.specs.Faults
+pub use Rattle.apollo_lexer.specs.Limits
 pub use Rattle.apollo_lexer.specs.Answers as LexerAnswers
 pub use Rattle.parser_rules.specs.Messages
 -- typed nodes

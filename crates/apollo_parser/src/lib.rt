@@ -10,7 +10,7 @@ pub mod laws;
 mod parser;
 mod syntax_tree;
 
-pub use apollo_lexer::{Error, LexError, Lexer, LimitTracker, Steps, Token};
+pub use apollo_lexer::{Error, LexError, Lexer, LimitTracker, Limits, Steps, Token};
 pub use apollo_tree::{
     IndexedElement, Subtree, SyntaxElement, SyntaxElementChildren, SyntaxElementDescendants,
     SyntaxNode, SyntaxNodeAncestors, SyntaxNodeChildren, SyntaxNodeDescendants, SyntaxToken,

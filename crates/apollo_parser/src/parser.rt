@@ -5,6 +5,7 @@ ghost use Rattle.lexical_grammar.specs.Answers.{limited, usize_max};
 ghost use Rattle.lexical_grammar.specs.Cut.{Cut};
 ghost use Rattle.lexical_grammar.specs.Reads.{items_of};
 ghost use Rattle.apollo_lexer.specs.Answers.{answers_left};
+ghost use Rattle.apollo_lexer.specs.Limits.{default_recursion};
 ghost use Rattle.document_grammar.specs.declared.kind.SyntaxKind.TheVariants as kind;
 ghost use Rattle.document_grammar.specs.Forests.{Forest, none, node};
 ghost use Rattle.document_grammar.specs.Derivation.{selections as selections_sort, type as type_sort};
@@ -20,14 +21,12 @@ ghost use Rattle.parser_state.specs.Reading.{rooted};
 use crate::syntax_tree::{DocumentRoot, SelectionSetRoot, SyntaxTree, TypeRoot};
 use apollo_document::document;
 use apollo_grammar::{field_set, type_root};
-use apollo_lexer::{Lexer, Steps};
+use apollo_lexer::{Lexer, Limits, Steps};
 use document_grammar::SyntaxKind;
 use parser_state::ParserState;
 use std::alloc::{AllocError, Allocator};
 use std::marker::PhantomData;
 use std::mem;
-
-const DEFAULT_RECURSION_LIMIT: usize = 500;
 
 /// A parser of a text, with its limits.
 #[derive(Clone, Copy)]
@@ -41,13 +40,22 @@ impl<'i> Parser<'i> {
     /// A parser of the text, with the recursion limit 500 and no token limit.
     pub fn new(source: &'i str) -> Self
         ensures source { result.source.now ≡ source.now }
-        ensures recursion_limit { result.recursion_limit ≡ 500 }
+        ensures recursion_limit { result.recursion_limit ≡ default_recursion }
         ensures token_limit { result.token_limit ≡ usize_max }
+    {
+        Parser::within(source, Limits::DEFAULT)
+    }
+
+    /// A parser of the text, with these limits. `recursion_limit` and `token_limit` say what each is.
+    pub fn within(source: &'i str, limits: Limits) -> Self
+        ensures source { result.source.now ≡ source.now }
+        ensures recursion_limit { result.recursion_limit ≡ limits.recursion }
+        ensures token_limit { result.token_limit ≡ limits.tokens }
     {
         Parser {
             source,
-            recursion_limit: DEFAULT_RECURSION_LIMIT,
-            token_limit: usize::MAX,
+            recursion_limit: limits.recursion,
+            token_limit: limits.tokens,
         }
     }
 
