@@ -15,7 +15,7 @@ SITE = BUILD / "web"
 INCLUDE = C / "include"
 PACKAGE = PYTHON / "dumyroke"
 # The list of the page's crates.
-PAGES = "bindings/web/crates.txt"
+PAGES = "bindings/web/page_crates.txt"
 # The limits that the trees are printed with: the usual ones, and two that are met often.
 LIMITS = [(), ("3",), ("500", "12")]
 
