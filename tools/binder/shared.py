@@ -1,6 +1,5 @@
 """Where the files of the bindings are, how a crate is proved over what `rt ci` left, and what the tests compare with."""
 
-import re
 import shutil
 import subprocess
 import sys
@@ -43,11 +42,8 @@ def run(*words, **how):
 
 
 def version():
-    """The version of the Python package, which is that of all bindings, and has to be that of gqlfmt."""
-    found = re.search(r'^version = "(.*)"$', (PYTHON / "pyproject.toml").read_text(), re.MULTILINE)[1]
-    if f'"gqlfmt {found}\\n"' not in (TOP / "crates/gqlfmt_run/src/command.rt").read_text():
-        stop(f"bindings/python/pyproject.toml has the version {found}, and gqlfmt another one")
-    return found
+    """The version of all bindings."""
+    return (TOP / "VERSION").read_text().strip()
 
 
 def kit():

@@ -11,6 +11,7 @@ from pathlib import Path
 
 from .grammar import Grammar, type_case
 from .layout import CRATES, TOP
+from .version import PLACES as VERSION_PLACES
 
 KINDS = "crates/document_grammar/src/kind.rt"
 ROWS = "crates/document_grammar/specs/Rows.antt"
@@ -21,7 +22,7 @@ SYMBOLS = "tools/generator/symbols.py"
 PLACES = "tools/generator/places.py"
 WORDS = "tools/generator/typed_docs.py"
 # The crates that have generated files.
-WRITTEN = ("document_grammar", "grammar_machine", "parser_rules", "apollo_parser", "gqlcst_run", *(path.name for path in CRATES.glob("apollo_cst_*")))
+WRITTEN = ("document_grammar", "grammar_machine", "parser_rules", "apollo_parser", "gqlcst_run", "gqlfmt_run", *(path.name for path in CRATES.glob("apollo_cst_*")))
 
 # The file with the mistake, a text that is in it once, what is there in its place, and the message.
 MISTAKES = [
@@ -226,6 +227,8 @@ class Copy:
             shutil.copytree(CRATES / crate, folder / "crates" / crate, ignore=unneeded)
         shutil.copytree(TOP / "tools", folder / "tools")
         shutil.copytree(TOP / "bindings", folder / "bindings")
+        shutil.copytree(TOP / "editors", folder / "editors")
+        shutil.copy(TOP / "VERSION", folder)
         sys.path.insert(0, str(folder / "tools"))
         self.unchanged, self.mistakes = self.package("unchanged"), 0
 
@@ -282,6 +285,15 @@ def only_the_changed_file_differs(made):
     return None if found == (1, f"differs: {changed}\n") else f"{changed} was changed: {found}"
 
 
+def a_new_version_goes_everywhere(made):
+    """Each file that has the version differs when VERSION has another one."""
+    (made.folder / "VERSION").write_text("12.3.45\n")
+    status, said = run(made.folder)
+    (made.folder / "VERSION").write_text((TOP / "VERSION").read_text())
+    wanted = {f"differs: {path.relative_to(TOP)}" for path in VERSION_PLACES}
+    return None if status == 1 and wanted <= set(said.splitlines()) else f"VERSION was changed: {status}, {said}"
+
+
 def a_mistake_ends_with_status_1(made):
     file, old, new, message = MISTAKES[0]
     (made.folder / file).write_text((TOP / file).read_text().replace(old, new))
@@ -302,7 +314,7 @@ def main():
     with tempfile.TemporaryDirectory() as name:
         made = Copy(Path(name))
         found = [mistake_is_refused(made, *mistake) for mistake in MISTAKES]
-        found += [only_the_changed_file_differs(made), a_mistake_ends_with_status_1(made), each_struct_is_cast()]
+        found += [only_the_changed_file_differs(made), a_new_version_goes_everywhere(made), a_mistake_ends_with_status_1(made), each_struct_is_cast()]
     wrong = [what for what in found if what]
     print(*wrong, f"generator: {len(found)} tests, {len(wrong)} failed", sep="\n")
     sys.exit(1 if wrong else 0)
