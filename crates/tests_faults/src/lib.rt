@@ -1,4 +1,4 @@
-//! Tests that cross crates: memory that is refused, texts that nest deeply or are cut short, and devices and files that fail.
+//! Tests that cross crates: memory that is refused, and devices and files that fail.
 //!
 //! Each request for memory is refused in turn, by the allocator `RefusesOne`: the call then has to fail and to leave what was there as it was.
 //! The devices are readers and writers that fail after some bytes, and the files are those of a disk that fails after some calls. What the formatter's
@@ -14,5 +14,3 @@ mod memory;
 #[cfg(test)]
 mod parsing;
 pub mod refusing;
-#[cfg(test)]
-mod texts;

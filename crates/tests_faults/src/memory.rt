@@ -3,8 +3,10 @@ mod attempts;
 mod runs;
 
 use crate::refusing::RefusesOne;
+use apollo_parser::Error;
 use attempts::{Call, attempt};
 use std::alloc::{AllocError, Global};
+use std::mem::size_of;
 use std::process::Abort;
 use std::test::Fail;
 
@@ -116,5 +118,12 @@ fn a_refused_request_fails_the_call_alone(rt: HostRuntime) -> Result<(), Fail> {
     if expect_all(&rt).is_err() {
         expect_all(&rt)?;
     }
+    Ok(())
+}
+
+// The documentation of the token limit says it.
+#[test]
+fn an_error_takes_64_bytes(rt: HostRuntime) -> Result<(), Fail> {
+    assert_eq!(rt; size_of::<Error>(), 64);
     Ok(())
 }

@@ -1,16 +1,12 @@
+// Calls on lexers and errors. `tests_texts` says into which items which text is cut.
 use apollo_lexer::{
     Error, LexError, Lexer, LimitTracker, Steps, Token, answers_are_items, answers_count,
     answers_fit, answers_join, equal_errors_are_same, quoting_error, static_error,
 };
-use lexical_grammar::TokenKind;
 use std::alloc::{AllocError, Global};
 use std::hash::{DefaultHasher, Hash, Hasher};
 use std::process::Abort;
 use std::test::Fail;
-
-const QUERY: &str = "type Query { a a a a a a a a a }";
-
-const UNLIMITED: usize = usize::MAX;
 
 // A text, the token limit that it is read under, and its items in their printed form.
 #[derive(Clone, Copy)]
@@ -19,83 +15,6 @@ struct Case {
     limit: usize,
     items: &'static [&'static str],
 }
-
-#[rattlefmt::skip]
-const TOKENS: [Case; 5] = [
-    Case { source: "{a}", limit: UNLIMITED, items: &[r#"L_CURLY@0:1 "{""#, r#"NAME@1:2 "a""#, r#"R_CURLY@2:3 "}""#, "EOF@3:3"] },
-    Case { source: "a,\u{FEFF}#é\r[]", limit: UNLIMITED, items: &[
-        r#"NAME@0:1 "a""#,
-        r#"COMMA@1:2 ",""#,
-        r#"WHITESPACE@2:5 "\u{feff}""#,
-        r##"COMMENT@5:8 "#é""##,
-        r#"WHITESPACE@8:9 "\r""#,
-        r#"L_BRACKET@9:10 "[""#,
-        r#"R_BRACKET@10:11 "]""#,
-        "EOF@11:11",
-    ] },
-    Case { source: "é}", limit: UNLIMITED, items: &[r#"ERROR@0:2 "Unexpected character \"é\"" é"#, r#"R_CURLY@2:3 "}""#, "EOF@3:3"] },
-    Case { source: "!$&:=@()|", limit: UNLIMITED, items: &[
-        r#"BANG@0:1 "!""#,
-        r#"DOLLAR@1:2 "$""#,
-        r#"AMP@2:3 "&""#,
-        r#"COLON@3:4 ":""#,
-        r#"EQ@4:5 "=""#,
-        r#"AT@5:6 "@""#,
-        r#"L_PAREN@6:7 "(""#,
-        r#"R_PAREN@7:8 ")""#,
-        r#"PIPE@8:9 "|""#,
-        "EOF@9:9",
-    ] },
-    Case { source: "-0e1", limit: UNLIMITED, items: &[r#"FLOAT@0:4 "-0e1""#, "EOF@4:4"] },
-];
-
-#[rattlefmt::skip]
-const CUT_BY_THE_LIMIT: [Case; 4] = [
-    Case { source: "{a}", limit: 3, items: &[r#"L_CURLY@0:1 "{""#, r#"NAME@1:2 "a""#, r#"R_CURLY@2:3 "}""#, r#"ERROR@2:2 "token limit reached, aborting lexing" "#] },
-    Case { source: "{a}", limit: 0, items: &[r#"ERROR@0:0 "token limit reached, aborting lexing" "#] },
-    Case { source: "", limit: 0, items: &[r#"ERROR@0:0 "token limit reached, aborting lexing" "#] },
-    Case { source: "", limit: 1, items: &["EOF@0:0"] },
-];
-
-#[rattlefmt::skip]
-const BAD_SPREADS_AND_NUMBERS: [Case; 4] = [
-    Case { source: ".a ..b ...c", limit: UNLIMITED, items: &[
-        r#"ERROR@0:2 "Unterminated spread operator" .a"#,
-        r#"WHITESPACE@2:3 " ""#,
-        r#"ERROR@3:5 "Unterminated spread operator" .."#,
-        r#"NAME@5:6 "b""#,
-        r#"WHITESPACE@6:7 " ""#,
-        r#"SPREAD@7:10 "...""#,
-        r#"NAME@10:11 "c""#,
-        "EOF@11:11",
-    ] },
-    Case { source: "0xF", limit: UNLIMITED, items: &[r#"ERROR@0:2 "Unexpected character `x` as integer suffix" 0x"#, r#"NAME@2:3 "F""#, "EOF@3:3"] },
-    Case { source: "1.5.6", limit: UNLIMITED, items: &[r#"ERROR@0:4 "Unexpected character `.` as float suffix" 1.5."#, r#"INT@4:5 "6""#, "EOF@5:5"] },
-    Case { source: "1.5e", limit: UNLIMITED, items: &[r#"ERROR@0:4 "Unexpected EOF in float value" 1.5e"#, "EOF@4:4"] },
-];
-
-#[rattlefmt::skip]
-const BAD_STRINGS: [Case; 7] = [
-    Case { source: r#""\u{110000}""#, limit: UNLIMITED, items: &[
-        r#"ERROR@0:12 "unicode escape sequence must specify a Unicode scalar value" "\u{110000}""#,
-        "EOF@12:12",
-    ] },
-    Case { source: r#"""#, limit: UNLIMITED, items: &[r#"ERROR@0:1 "unexpected end of data while lexing string value" ""#, "EOF@1:1"] },
-    Case { source: r#""""a"#, limit: UNLIMITED, items: &[r#"ERROR@0:4 "unterminated string value" """a"#, "EOF@4:4"] },
-    Case { source: "\"\n\"", limit: UNLIMITED, items: &["ERROR@0:3 \"unexpected line terminator\" \"\n\"", "EOF@3:3"] },
-    Case { source: r#""\uD83D""#, limit: UNLIMITED, items: &[r#"ERROR@0:8 "unpaired surrogate in unicode escape sequence" "\uD83D""#, "EOF@8:8"] },
-    Case { source: r#""\u\"" x"#, limit: UNLIMITED, items: &[
-        r#"ERROR@0:5 "invalid unicode escape sequence" "\u\""#,
-        r#"ERROR@5:8 "unterminated string value" " x"#,
-        "EOF@8:8",
-    ] },
-    Case { source: r#""\uD83D\"" x"#, limit: UNLIMITED, items: &[
-        r#"ERROR@0:10 "unpaired surrogate in unicode escape sequence" "\uD83D\"""#,
-        r#"WHITESPACE@10:11 " ""#,
-        r#"NAME@11:12 "x""#,
-        "EOF@12:12",
-    ] },
-];
 
 // The helpers below have no contracts, so the proof of a test does not carry what the lexer promises from call to call.
 fn lexer_of<'a>(source: &'a str, limit: usize) -> Lexer<'a> {
@@ -132,22 +51,6 @@ fn gives(
         assert_eq!(rt; text.as_str(), *wanted.next().unwrap_or(&"nothing"));
     }
     assert!(rt; wanted.next().is_none());
-    Ok(())
-}
-
-fn all_give(rt: &impl Abort, alloc: Global, cases: &[Case]) -> Result<(), AllocError> {
-    for case in cases {
-        gives(rt, alloc, lexer_of(case.source, case.limit), case.items)?;
-    }
-    Ok(())
-}
-
-#[test]
-fn items_are_printed(rt: HostRuntime) -> Result<(), Fail> {
-    all_give(&rt, rt.alloc(), &TOKENS)?;
-    all_give(&rt, rt.alloc(), &CUT_BY_THE_LIMIT)?;
-    all_give(&rt, rt.alloc(), &BAD_SPREADS_AND_NUMBERS)?;
-    all_give(&rt, rt.alloc(), &BAD_STRINGS)?;
     Ok(())
 }
 
@@ -190,27 +93,12 @@ fn a_limit_set_later_counts_from_the_next_item(rt: HostRuntime) -> Result<(), Fa
 }
 
 #[test]
-fn a_limit_ends_the_list_of_tokens(rt: HostRuntime) -> Result<(), Fail> {
-    for (limit, count, index) in [(10, 10, Some(17)), (26, 26, None), (25, 25, Some(31))] {
-        let (tokens, errors) = lex(rt.alloc(), QUERY, limit)?;
-        assert_eq!(rt; tokens.len(), count);
-        assert_eq!(rt; errors.first().map(|e| e.index()), index);
-        assert!(rt; errors.iter().all(|e| e.is_limit()));
-    }
-    Ok(())
-}
-
-fn stray_slash(alloc: Global) -> Result<Error, AllocError> {
-    let message = String::from_str(alloc, "Unexpected character \"/\"")?;
-    Ok(Error::with_loc(message, String::from_str(alloc, "/")?, 33))
-}
-
-#[test]
-fn errors_have_their_text_and_place(rt: HostRuntime) -> Result<(), Fail> {
-    let source = "\ntype Query {\n    name: String\n}\n/\n        ";
-    let (_, errors) = lex(rt.alloc(), source, UNLIMITED)?;
-    assert_eq!(rt; errors.len(), 1);
-    assert!(rt; errors[0] == stray_slash(rt.alloc())?);
+fn tokens_and_errors_are_listed_apart(rt: HostRuntime) -> Result<(), Fail> {
+    let (tokens, errors) = lex(rt.alloc(), "type Query { ..a a a a a a a a a }", 10)?;
+    assert_eq!(rt; (tokens.len(), errors.len()), (9, 2));
+    let (spread, limit) = (&errors[0], &errors[1]);
+    assert!(rt; spread.data() == ".." && spread.index() == 13);
+    assert!(rt; limit.is_limit() && limit.index() == 18);
     Ok(())
 }
 
@@ -338,70 +226,4 @@ fn each_law_returns() {
     answers_count();
     answers_fit(&lexer_of("a b", 2));
     equal_errors_are_same();
-}
-
-#[test]
-fn errors_count_as_items(rt: HostRuntime) -> Result<(), Fail> {
-    let (tokens, errors) = lex(rt.alloc(), "type Query { ..a a a a a a a a a }", 10)?;
-    assert_eq!(rt; (tokens.len(), errors.len()), (9, 2));
-    let (spread, limit) = (&errors[0], &errors[1]);
-    assert_eq!(rt; spread.message(), "Unterminated spread operator");
-    assert!(rt; spread.data() == ".." && spread.index() == 13);
-    assert!(rt; limit.is_limit() && limit.index() == 18);
-    Ok(())
-}
-
-// A string of many characters past ASCII, in quotes.
-fn long_string(alloc: Global) -> Result<String, AllocError> {
-    let mut text = String::from_str(alloc, "\"")?;
-    for _ in 0..1000 {
-        text.push_str("é")?;
-    }
-    text.push_str("\"")?;
-    Ok(text)
-}
-
-#[test]
-fn long_string_is_one_token(rt: HostRuntime) -> Result<(), Fail> {
-    let text = long_string(rt.alloc())?;
-    let (tokens, _) = lex(rt.alloc(), text.as_str(), UNLIMITED)?;
-    let token = tokens.first().ok_or("a token")?;
-    assert!(rt; token.kind() == TokenKind::StringValue && token.data().len() == 2002);
-    Ok(())
-}
-
-#[test]
-fn items_join_to_the_source(rt: HostRuntime) -> Result<(), Fail> {
-    let source =
-        "\ntype Query {\n    name: String\n    format: String = \"Y-m-d\\\\TH:i:sP\"\n}\n        ";
-    let mut joined = String::new(rt.alloc());
-    for item in lexer_of(source, UNLIMITED) {
-        let token = item.ok().ok_or("a token")?;
-        joined.push_str(token.data())?;
-    }
-    assert_eq!(rt; joined.as_str(), source);
-    Ok(())
-}
-
-#[test]
-fn quotes_inside_block_strings_do_not_end_them(rt: HostRuntime) -> Result<(), Fail> {
-    let block =
-        "\"\"\"\nNot an escape character:\n'/\\W/'\nEscape character:\n\\\"\"\"\n\\\"\"\"\\\"\"\"\nNot escape characters:\n\\\" \\\"\"\nEscape character followed by a quote:\n\\\"\"\"\"\n\"\"\"";
-    let (tokens, errors) = lex(rt.alloc(), block, UNLIMITED)?;
-    assert!(rt; tokens.len() == 2 && errors.is_empty());
-    assert_eq!(rt; tokens[0].data(), block);
-    Ok(())
-}
-
-#[test]
-fn a_block_string_without_an_end_is_bad_text(rt: HostRuntime) -> Result<(), Fail> {
-    let source =
-        "\n# String contents: \"\"\"\n\"\"\"\\\"\"\"\"\"\"\n# Unclosed block string\n\"\"\"\\\"\"\"\n        ";
-    let (tokens, errors) = lex(rt.alloc(), source, UNLIMITED)?;
-    assert!(rt; tokens.len() > 3 && errors.len() == 1);
-    assert_eq!(rt; tokens[3].data(), "\"\"\"\\\"\"\"\"\"\"");
-    assert_eq!(rt; errors[0].message(), "unterminated string value");
-    assert_eq!(rt; errors[0].data(), "\"\"\"\\\"\"\"\n        ");
-    assert_eq!(rt; errors[0].index(), 59);
-    Ok(())
 }

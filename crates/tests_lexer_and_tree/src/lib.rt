@@ -7,8 +7,6 @@
 #[cfg(test)]
 mod lexer;
 #[cfg(test)]
-mod messages;
-#[cfg(test)]
 mod tree;
 #[cfg(test)]
 mod typed;

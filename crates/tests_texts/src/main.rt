@@ -1,0 +1,38 @@
+//! Tries the texts of the standard input, each with its findings, and prints those in which it finds something else.
+//!
+//! A record is a line `== MODE [RECURSION [TOKENS [COUNT]]]`, the text, a line `--`, and the findings; `-` sets no limit. With a count, the text
+//! is in five lines: its front, a piece that is repeated, what is inside, the piece that closes one, and its back. `finding` has the modes.
+//! The findings are those of `apollo-parser` 0.8.7, with the descriptions of September 2025 added to its grammar.
+#![tactic(auto)]
+
+mod finding;
+mod record;
+
+use record::Record;
+use std::alloc::{AllocError, Global};
+use std::io;
+
+// The findings, where they are not those of the record.
+fn other_findings(alloc: Global, record: &Record<'_>) -> Result<Option<String>, AllocError> {
+    let found = finding::findings(alloc, record)?;
+    if found.as_str().trim_end() == record.wanted {
+        return Ok(None);
+    }
+    Ok(Some(found))
+}
+
+fn main(rt: HostRuntime) -> io::Result<()> {
+    let input = io::read_to_string(rt.alloc(), rt.stdin())?;
+    let mut tried = 0usize;
+    for text in input.as_str().trim_end().split("\n== ").skip(1) {
+        let Some(record) = Record::read(text) else {
+            println!(rt; "no record: {text}")?;
+            continue;
+        };
+        if let Some(found) = other_findings(rt.alloc(), &record)? {
+            println!(rt; "== {text}\n-- but found was\n{found}")?;
+        }
+        tried = tried.saturating_add(1);
+    }
+    println!(rt; "{tried} texts")
+}
