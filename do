@@ -12,7 +12,7 @@ usage: ./do COMMAND
   try CRATE [..]     runs a program, or with --test a crate's tests, and proves nothing (rt try)
   gate               what a merge has to pass: quick, rt ci, and test
   test               the tests of what rt ci has built: formatted texts, C and Python, the page, editors, README
-  bench SCRIPT [..]  a script of bench/, by name: speed.sh, hostile.py, stack.py, format.py, server.py
+  bench [NAME [..]]  measures what `rt ci` has built: parse, hostile, stack, format, server, c or python, or else all of them
 LINES
 }
 
@@ -62,10 +62,17 @@ case $command in
         tests
         ;;
     bench)
-        script=bench/${1:-}
-        [ -x "$script" ] && [ -f "$script" ] || { usage >&2; exit 2; }
+        [ $# -gt 0 ] || set -- all
+        name=$1
         shift
-        exec "$script" "$@"
+        if [ "$name" = all ]; then
+            for each in parse hostile stack format server c python; do "bench/$each.py"; done
+        elif [ -x "bench/$name.py" ]; then
+            exec "bench/$name.py" "$@"
+        else
+            usage >&2
+            exit 2
+        fi
         ;;
     --help | -h) usage ;;
     *) usage >&2; exit 2 ;;

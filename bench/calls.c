@@ -1,5 +1,4 @@
-/* Processor time of the calls of the C library on the text on standard input, best and median of 15, in milliseconds:
- *     gcc -O2 calls.c $(pkg-config --cflags --libs dumyroke) -o calls && ./calls < FILE */
+/* Prints the processor time of the calls of the C library on the text on standard input, best and median of 15, in milliseconds. c.py compiles and runs it. */
 #include <dumyroke_tree.h>
 #include <stdio.h>
 #include <time.h>

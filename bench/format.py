@@ -1,18 +1,18 @@
 #!/usr/bin/env python3
 """Measures gqlfmt from standard input to standard output, and graphql-js's parse and print beside it in the same run. Prints tables for docs/SPEED.md.
 
-format.py GQLFMT [ROUNDS]: ROUNDS (15) of each in turn. The texts are those of text.py, of 5, 10 and 20 MB, and hostile ones of 1, 2 and 4 MB. graphql-js
-is run on those of 5 MB, three times at most; it needs node, and print.js says where graphql-js is looked for. Without node its columns are empty. Ends
-with status 1 where twice a text takes more than 2.2 times as much processor time."""
+The texts are those of text.py, of 5, 10 and 20 MB, and hostile ones of 1, 2 and 4 MB, each `--rounds` times in turn. graphql-js is run on those of 5 MB, three
+times at most; it needs node, and print.js says where graphql-js is looked for. Without node its columns are empty. Ends with status 1 where twice a text takes
+more than 2.2 times as much processor time."""
+
 import os
 import shutil
 import statistics
 import subprocess
 import sys
 import tempfile
-import time
 
-HERE = os.path.dirname(os.path.abspath(__file__))
+from programs import HERE, Run, arguments, built, made_text
 
 # Each with N bytes.
 HOSTILE = {
@@ -34,28 +34,19 @@ HOSTILE = {
 }
 
 
-class Run:
-    """One run of a program on a text: the seconds that it took, those of processor time, its greatest memory in bytes, and what it wrote on standard
-    error."""
-
-    def __init__(self, command, path):
-        with open(path) as source, open(os.devnull, "w") as sink:
-            started = time.perf_counter()
-            process = subprocess.Popen(command, stdin=source, stdout=sink, stderr=subprocess.PIPE, text=True)
-            self.told = process.stderr.read()
-            _, status, usage = os.wait4(process.pid, 0)
-            self.seconds = time.perf_counter() - started
-            self.processor = usage.ru_utime + usage.ru_stime
-            self.memory = usage.ru_maxrss * 1024
-        if status:
-            sys.exit(f"{command[0]} on {path}: status {status}\n{self.told}")
-
-
-def made(path, command):
-    """The file, with what the command prints. This program holds no long text itself, since what it held would count as memory of those that it starts."""
+def made(path, words):
+    """The file, with what this script prints for these words. It holds no long text itself, since that would count as memory of those that it starts."""
     with open(path, "w") as target:
-        subprocess.run(command, stdout=target, check=True)
+        subprocess.run([sys.executable, __file__, *words], stdout=target, check=True)
     return path
+
+
+def timed(command, path):
+    """A run, which has to end well."""
+    run = Run(command, path)
+    if run.status:
+        sys.exit(f"{command[0]} on {path}: status {run.status}\n{run.told}")
+    return run
 
 
 def written(program, path):
@@ -87,12 +78,12 @@ def ordinary(program, folder, rounds):
     node = shutil.which("node")
     for kind in ["queries", "schema"]:
         for size in [5_000_000, 10_000_000, 20_000_000]:
-            path = made(f"{folder}/{kind}", [sys.executable, f"{HERE}/text.py", kind, str(size)])
+            path = made_text(f"{folder}/{kind}", kind, size)
             ours, theirs = [], []
             for turn in range(rounds):
-                ours.append(Run([program], path))
+                ours.append(timed([program], path))
                 if node and size == 5_000_000 and turn < 3:
-                    theirs.append(Run([node, f"{HERE}/print.js"], path))
+                    theirs.append(timed([node, f"{HERE}/print.js"], path))
             print(row(kind, os.path.getsize(path), ours, theirs), flush=True)
 
 
@@ -103,8 +94,8 @@ def hostile(program, folder, rounds):
     print(f"\n| text | {names} | processor time, times | written at the last | memory |\n|" + "---|" * (len(sizes) + 4))
     slow = 0
     for name in HOSTILE:
-        paths = [made(f"{folder}/{size}", [sys.executable, __file__, "--text", name, str(size)]) for size in sizes]
-        runs = list(zip(*[[Run([program], path) for path in paths] for _ in range(rounds)]))
+        paths = [made(f"{folder}/{size}", ["--hostile", name, str(size)]) for size in sizes]
+        runs = list(zip(*[[timed([program], path) for path in paths] for _ in range(rounds)]))
         processor = [min(each.processor for each in each_size) for each_size in runs]
         times = [after / before for before, after in zip(processor, processor[1:])]
         slow += max(times) > 2.2
@@ -115,10 +106,10 @@ def hostile(program, folder, rounds):
 
 
 def main():
-    if sys.argv[1] == "--text":
+    if sys.argv[1:2] == ["--hostile"]:
         sys.stdout.write(HOSTILE[sys.argv[2]](int(sys.argv[3])))
         return
-    program, rounds = os.path.abspath(sys.argv[1]), int(sys.argv[2]) if len(sys.argv) > 2 else 15
+    rounds, program = arguments(__doc__, rounds=15).rounds, built("gqlfmt")
     with tempfile.TemporaryDirectory() as folder:
         ordinary(program, folder, rounds)
         slow = hostile(program, folder, rounds)

@@ -1,21 +1,22 @@
 #!/usr/bin/env python3
-"""Runs `gqlcst check` on hostile texts of N bytes (6,250,000 unless given), of twice as many, and so on, and prints a table: at each size the program's
-own seconds and those that the kernel takes for it, how many times the program's own are those of the size before, and the peak memory at the last. The
-kernel's go with the memory: it hands out and clears each page.
+"""Runs `gqlcst check` on hostile texts of some bytes, of twice as many, and so on, and prints a table: at each size the program's own seconds and those that the
+kernel takes for it, how many times the program's own are those of the size before, and the peak memory at the last. The kernel's go with the memory: it hands
+out and clears each page.
 
-hostile.py PROGRAM [N [SIZES [ROUNDS [GIGABYTES [TEXT]]]]]: SIZES of them (4), ROUNDS runs each, in turn (5), and more where they are short. A run counts only on
-a processor at rest (`calm.py`). A size that would take more than GIGABYTES (10), by what the size before took, is left out. TEXT is the name of the only text
-that is run. Ends with status 1 where twice a text takes more than 2.2 times the program's own seconds, if the text takes a hundredth of a second or more.
+There are `--sizes` sizes from `--bytes` on, and `--rounds` runs of each in turn, more where they are short. A run counts only on a processor at rest (calm.py).
+A size that would take more than `--gigabytes`, by what the size before took, is left out. `--text` is the only text that is run. Ends with status 1 where twice
+a text takes more than 2.2 times the program's own seconds, if the text takes a hundredth of a second or more.
 
 What a run takes in all is exact. Which part of it is the program's own the kernel finds out by samples, so a single short run says little of that: the
 seconds are those of the shortest run, divided as the sums of all runs are."""
+
 import os
-import subprocess
 import sys
 import tempfile
 import time
 
 from calm import Processors
+from programs import Run, arguments, built
 
 TEXTS = {
     "braces": lambda n: "{" * n,
@@ -48,10 +49,8 @@ NESTED_TEXTS = {
 
 def run(command, text):
     """The command's own seconds, the kernel's for it, and the greatest memory that it held in gigabytes."""
-    with open(text) as source:
-        process = subprocess.Popen(command, stdin=source, stdout=subprocess.DEVNULL)
-        _, _, usage = os.wait4(process.pid, 0)
-        return usage.ru_utime, usage.ru_stime, usage.ru_maxrss / 1e6
+    made = Run(command, text)
+    return made.own, made.kernel, made.memory / 1e9
 
 
 def seconds(own, kernel):
@@ -83,17 +82,16 @@ def written(folder, make, sizes):
 
 
 def main():
-    program, given, only = sys.argv[1], [float(word) for word in sys.argv[2:6]], sys.argv[6:]
-    size, count, rounds, most = given + [6_250_000, 4, 5, 10][len(given):]
-    sizes = [int(size) * 2**i for i in range(int(count))]
+    given, program = arguments(__doc__, bytes=6_250_000, sizes=4, rounds=5, gigabytes=10, text=None), built("gqlcst")
+    sizes = [given.bytes * 2**i for i in range(given.sizes)]
     print("| | " + " | ".join(f"{size / 1e6:g} MB" for size in sizes) + " | times | memory |\n|" + "---|" * (len(sizes) + 3))
     slow, processors = False, Processors()
     with tempfile.TemporaryDirectory() as folder:
         for name, make in (TEXTS | NESTED_TEXTS).items():
-            if only and name not in only:
+            if given.text not in (None, name):
                 continue
             command = [program, "check", *(["--recursion", str(DEPTH)] if name in NESTED_TEXTS else [])]
-            took, memory = measured(processors, command, written(folder, make, sizes), int(rounds), most)
+            took, memory = measured(processors, command, written(folder, make, sizes), given.rounds, given.gigabytes)
             times = [after / max(before, 0.001) for (before, _), (after, _) in zip(took, took[1:])]
             slow |= any(ratio > 2.2 and before >= LEAST for ratio, (before, _) in zip(times, took))
             cells = [f"{own:.3f} + {kernel:.3f}" for own, kernel in took] + [""] * (len(sizes) - len(took))

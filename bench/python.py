@@ -1,7 +1,7 @@
 #!/usr/bin/env python3
-"""Measures the Python package, and graphql-core where it is installed: python.py [FILE [ROUNDS]]. FILE is `text.py queries` of 5,000,000 bytes unless it is
-given. Prints the best and the median processor time in milliseconds, of calls in turn. graphql-core before 3 reads no block strings and no `null`: these are replaced in
-what it gets."""
+"""Measures the Python package, and graphql-core where it is installed: the best and the median processor time in milliseconds, of `--rounds` calls in turn, on
+the file `--text`, or on `text.py queries` unless it is given. graphql-core before 3 reads no block strings and no `null`: these are replaced in what it gets."""
+
 import re
 import statistics
 import subprocess
@@ -9,9 +9,10 @@ import sys
 import time
 from pathlib import Path
 
-FOLDER = Path(__file__).resolve().parent
-sys.path.insert(0, str(FOLDER.parent / "bindings/python"))
-import dumyroke
+from programs import HERE, TOP, arguments
+
+sys.path.insert(0, str(TOP / "bindings/python"))
+import dumyroke  # noqa: E402
 
 
 def nodes_below(node):
@@ -76,11 +77,11 @@ def in_turn(calls, rounds):
 
 
 def main():
-    made = None if sys.argv[1:] else subprocess.run([sys.executable, FOLDER / "text.py", "queries"], stdout=subprocess.PIPE, check=True).stdout
-    text = (made if made is not None else Path(sys.argv[1]).read_bytes()).decode()
-    rounds = int(sys.argv[2]) if sys.argv[2:] else 5
+    given = arguments(__doc__, text=None, rounds=5)
+    made = [sys.executable, HERE / "text.py", "queries"]
+    text = (Path(given.text).read_bytes() if given.text else subprocess.run(made, stdout=subprocess.PIPE, check=True).stdout).decode()
     print(f"{len(text.encode())} bytes, Python {sys.version.split()[0]}")
-    in_turn({**ours(text), **theirs(text)}, rounds)
+    in_turn({**ours(text), **theirs(text)}, given.rounds)
 
 
 main()

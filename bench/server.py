@@ -1,17 +1,19 @@
 #!/usr/bin/env python3
-"""Measures gqlls on a schema of 1 MB, in many lines and in one: the time from an edit to its errors, the memory, and the times of the requests. Prints two tables for
-docs/SPEED.md.
+"""Measures gqlls on a schema of 1 MB, in many lines and in one: the time from an edit to its errors, the memory, and the times of the requests. Prints two tables
+for docs/SPEED.md.
 
-server.py GQLLS [EDITS]: EDITS (30) edits in the middle of the schema; every second one makes errors, and the next takes them away. Ends with status 1 where the median of
-the times is above 60 milliseconds, or the memory above 40 bytes for each byte of the text. A time is from the first byte that is sent to the last that is received: the client
-makes JSON of a message before, and reads it after."""
+There are `--edits` edits in the middle of the schema; every second one makes errors, and the next takes them away. Ends with status 1 where the median of the
+times is above 60 milliseconds, or the memory above 40 bytes for each byte of the text. A time is from the first byte that is sent to the last that is received:
+the client makes JSON of a message before, and reads it after."""
+
 import json
-import os
 import statistics
 import sys
 import time
 
-sys.path.insert(0, os.path.join(os.path.dirname(os.path.abspath(__file__)), "../tools/editor"))
+from programs import TOP, arguments, built
+
+sys.path.insert(0, str(TOP / "tools/editor"))
 from client import Client  # noqa: E402
 
 MOST_MILLISECONDS = 60
@@ -88,8 +90,7 @@ def measured(program, name, text, line, character, count):
 
 
 def main():
-    program = sys.argv[1]
-    count = int(sys.argv[2]) // 2 * 2 if len(sys.argv) > 2 else 30
+    count, program = arguments(__doc__, edits=30).edits // 2 * 2, built("gqlls")
     many = "\n".join(TYPE % (i, i, i) for i in range(6400))
     one = many.replace("\n", " ")
     # before the name in "  other: T3200"

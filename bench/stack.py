@@ -2,10 +2,12 @@
 """Finds how deep a text may nest until `gqlcst check` runs out of stack, and prints a table: for each shape of text the levels that each stack holds, and
 the bytes of a level.
 
-stack.py PROGRAM [MEGABYTES..]: the stacks, 1, 8 and 64 MB unless given."""
+`--stacks` are the stacks in MB."""
+
 import resource
 import subprocess
-import sys
+
+from programs import arguments, built
 
 SHAPES = {
     "selection sets": lambda n: "{a" * n + "}" * n,
@@ -42,8 +44,7 @@ def deepest(program, shape, stack):
 
 
 def main():
-    program = sys.argv[1]
-    stacks = [int(size) for size in sys.argv[2:]] or [1, 8, 64]
+    stacks, program = arguments(__doc__, stacks=[1, 8, 64]).stacks, built("gqlcst")
     print("| | " + " | ".join(f"{size} MB" for size in stacks) + " | bytes a level |\n|" + "---|" * (len(stacks) + 2))
     for name, shape in SHAPES.items():
         levels = [deepest(program, shape, size * 2**20) for size in stacks]

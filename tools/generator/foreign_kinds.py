@@ -1,4 +1,5 @@
-"""The kinds of elements for other languages, under the numbers that they have in a tree: bindings/c/include/dumyroke_kinds.h, bindings/python/dumyroke/kinds.py, bindings/web/kinds.js."""
+"""The kinds of elements for other languages, under the numbers that they have in a tree: the header for C, the module for Python, that of the page, and
+the enum of bench/original."""
 
 from .grammar import PUNCTUATORS, word
 from .layout import TOP, mark
@@ -70,10 +71,31 @@ export const FIRST_NODE = {grammar.kinds.index(grammar.nodes[0])};
 """
 
 
+def for_original(grammar):
+    """The enum for the original's parser over a stand-in for `rowan`, in bench/original."""
+    entries = "".join(f"    {kind},\n" for kind in grammar.kinds)
+    quoted = lambda sign: f"'{sign}'" if sign in "()[]{}" else sign
+    arms = "".join(f"    [{quoted(sign)}] => {{ $crate::SyntaxKind::{kind} }};\n" for kind, sign in PUNCTUATORS.items())
+    return f"""{mark("//", SOURCE)}#![allow(non_camel_case_types)]
+
+#[derive(Debug, Clone, Copy, PartialEq, Eq, Hash)]
+#[repr(u16)]
+pub enum SyntaxKind {{
+{entries}    __LAST,
+}}
+
+/// The kind of a punctuator.
+#[macro_export]
+macro_rules! S {{
+{arms}}}
+"""
+
+
 def outputs(grammar):
     """The text of each file, by its path."""
     return {
         TOP / "bindings/c/include/dumyroke_kinds.h": for_c(grammar),
         TOP / "bindings/python/dumyroke/kinds.py": for_python(grammar),
         TOP / "bindings/web/kinds.js": for_page(grammar),
+        TOP / "bench/original/stand_in/src/parser/generated/syntax_kind.rs": for_original(grammar),
     }
