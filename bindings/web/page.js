@@ -1,6 +1,7 @@
 // The page: the text, the tree, the errors and the fields together. The parser is in a worker.
 import { Editor, piece } from "./editor.js";
-import { isSupported, STATUS } from "./parser.js";
+import { isSupported } from "./parser.js";
+import { STATUS } from "./rows.js";
 import { movedTo, Tree } from "./tree.js";
 import { TreeView } from "./tree_view.js";
 

@@ -1,10 +1,7 @@
 // The calls of the parser, a WebAssembly module with 64-bit memory: its addresses and lengths are BigInts. This runs in workers and in node.
 
-// Words of 32 bits in the row of an element: start, end, parent, next, and the kind with, in its upper half, whether it is a token.
-export const WORDS = 5;
-export const STATUS = { OK: 0, NOT_UTF8: 1, TOO_LONG: 2, NO_MEMORY: 3, NOT_A_STRING: 4, NOT_A_DOCUMENT: 5 };
+import { COUNTS, COUNTS_BYTES, ERROR, ERROR_BYTES, WORD, WORDS } from "./rows.js";
 
-const ERROR_BYTES = 40;
 const PAGE_BYTES = 65536;
 // Every type of the module may be aligned to this.
 const ALIGNMENT = 16;
@@ -111,14 +108,15 @@ export class Parser {
     const room = { elements: (text.length >> 1) + 64, messages: text.length + 65536 };
     for (;;) {
       const [source, length] = this.#write(text);
-      const [given, counts] = [this.#writeLimits(limits), this.#place(48)];
+      const [given, counts] = [this.#writeLimits(limits), this.#place(COUNTS_BYTES)];
       const [elements, errors, messages] = [room.elements * WORDS * 4, mostErrors * ERROR_BYTES, room.messages].map((bytes) => this.#place(bytes));
       const status = this.#call("dumyroke_parse", source, length, given, elements, room.elements, errors, mostErrors, messages, room.messages, counts);
-      const [elementCount, errorCount, messageBytes, depth, items] = Array.from(new BigUint64Array(this.memory.buffer, counts, 5), Number);
+      const there = new DataView(this.memory.buffer, counts, COUNTS_BYTES);
+      const [elementCount, errorCount, messageBytes, depth, items] = ["elements", "errors", "message_bytes", "recursion_high", "token_high"].map((field) => Number(there.getBigUint64(COUNTS[field], true)));
       if (elementCount <= room.elements && messageBytes <= room.messages) {
         const units = length === text.length ? null : unitsBefore(this.#bytes(source, length));
         const rows = new Uint32Array(this.memory.buffer, elements, elementCount * WORDS).slice();
-        if (units !== null) for (let i = 0; i < rows.length; i += WORDS) [rows[i], rows[i + 1]] = [units[rows[i]], units[rows[i + 1]]];
+        if (units !== null) for (let i = 0; i < rows.length; i += WORDS) for (const word of [i + WORD.start, i + WORD.end]) rows[word] = units[rows[word]];
         const found = this.#errors(errors, Math.min(errorCount, mostErrors), this.#bytes(messages, messageBytes), units);
         return { status, rows, errors: found, errorCount, depth, items };
       }
@@ -129,8 +127,8 @@ export class Parser {
   #errors(start, count, messages, units) {
     return Array.from({ length: count }, (_, i) => {
       const row = new DataView(this.memory.buffer, start + i * ERROR_BYTES, ERROR_BYTES);
-      const [from, to, message, bytes] = [0, 8, 16, 24].map((field) => Number(row.getBigUint64(field, true)));
-      const [isLimit, isEnd] = [32, 36].map((field) => row.getUint32(field, true) === 1);
+      const [from, to, message, bytes] = ["start", "end", "message", "message_length"].map((field) => Number(row.getBigUint64(ERROR[field], true)));
+      const [isLimit, isEnd] = ["is_limit", "is_eof"].map((field) => row.getUint32(ERROR[field], true) === 1);
       const said = new TextDecoder().decode(messages.subarray(message, message + bytes));
       return { start: units?.[from] ?? from, end: units?.[to] ?? to, message: said, isLimit, isEnd };
     });

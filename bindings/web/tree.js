@@ -1,6 +1,6 @@
 // A tree as the parser wrote it: one table of rows in document order. An element is the index of its row.
 import { FIRST_NODE, KINDS } from "./kinds.js";
-import { WORDS } from "./parser.js";
+import { WORD, WORDS } from "./rows.js";
 
 // Of numbers that never fall, given by their count and a function, the place of the last one that is at most `limit`, or 0.
 export function lastAtMost(count, numberAt, limit) {
@@ -20,16 +20,16 @@ export class Tree {
     this.length = rows.length / WORDS;
   }
 
-  start = (element) => this.rows[element * WORDS];
-  end = (element) => this.rows[element * WORDS + 1];
+  start = (element) => this.rows[element * WORDS + WORD.start];
+  end = (element) => this.rows[element * WORDS + WORD.end];
   // The root's parent is the root.
-  parent = (element) => this.rows[element * WORDS + 2];
+  parent = (element) => this.rows[element * WORDS + WORD.parent];
   // The element after it and all below it.
-  next = (element) => this.rows[element * WORDS + 3];
-  kind = (element) => KINDS[this.rows[element * WORDS + 4] & 0xffff];
-  isToken = (element) => (this.rows[element * WORDS + 4] & 0xffff) < FIRST_NODE;
+  next = (element) => this.rows[element * WORDS + WORD.next];
+  kind = (element) => KINDS[this.rows[element * WORDS + WORD.kind] & 0xffff];
+  isToken = (element) => (this.rows[element * WORDS + WORD.kind] & 0xffff) < FIRST_NODE;
   // One number for where it begins and its kind.
-  key = (element) => this.start(element) * 0x10000 + (this.rows[element * WORDS + 4] & 0xffff);
+  key = (element) => this.start(element) * 0x10000 + (this.rows[element * WORDS + WORD.kind] & 0xffff);
   hasChildren = (element) => this.next(element) > element + 1;
   textOf = (element) => this.text.slice(this.start(element), this.end(element));
 

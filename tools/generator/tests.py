@@ -22,7 +22,7 @@ SYMBOLS = "tools/generator/symbols.py"
 PLACES = "tools/generator/places.py"
 WORDS = "tools/generator/typed_docs.py"
 # The crates that have generated files.
-WRITTEN = ("document_grammar", "grammar_machine", "parser_rules", "apollo_parser", "gqlcst_run", "gqlfmt_run", *(path.name for path in CRATES.glob("apollo_cst_*")))
+WRITTEN = ("document_grammar", "grammar_machine", "parser_rules", "apollo_parser", "gqlcst_run", "gqlfmt_run", "dumyroke_flat", *(path.name for path in CRATES.glob("apollo_cst_*")))
 
 # The file with the mistake, a text that is in it once, what is there in its place, and the message.
 MISTAKES = [
@@ -216,6 +216,17 @@ MISTAKES = [
     (WORDS, '"FRAGMENT_NAME": "name', '"FRAGMENT_NAMES": "name', "typed_docs.py: PARTS has FRAGMENT_NAMES, which is no kind of node"),
 ]
 
+# The same for the rows of the C library, which the header has too.
+HEADERS = [
+    (
+        "bindings/c/include/dumyroke.h",
+        "    uint32_t is_eof;\n",
+        "    uint64_t is_eof;\n",
+        "dumyroke.h: the struct dumyroke_error has not the fields of ErrorRow in rows.rt",
+    ),
+    ("bindings/c/include/dumyroke.h", "DUMYROKE_NOT_A_STRING = 4", "DUMYROKE_NOT_A_STRING = 6", "dumyroke.h: its statuses are not those of rows.rt"),
+]
+
 
 class Copy:
     """A copy of what the generator reads and writes, and of the generator, in a folder that Python imports from."""
@@ -228,6 +239,7 @@ class Copy:
         shutil.copytree(TOP / "tools", folder / "tools")
         shutil.copytree(TOP / "bindings", folder / "bindings")
         shutil.copytree(TOP / "editors", folder / "editors")
+        shutil.copytree(TOP / "bench", folder / "bench", ignore=shutil.ignore_patterns("out", "target"))
         shutil.copy(TOP / "VERSION", folder)
         sys.path.insert(0, str(folder / "tools"))
         self.unchanged, self.mistakes = self.package("unchanged"), 0
@@ -294,6 +306,18 @@ def a_new_version_goes_everywhere(made):
     return None if status == 1 and wanted <= set(said.splitlines()) else f"VERSION was changed: {status}, {said}"
 
 
+def the_header_has_the_rows(made):
+    """A header that lacks a field of a row, or a status, is refused."""
+    for file, old, new, message in HEADERS:
+        text = (TOP / file).read_text()
+        (made.folder / file).write_text(text.replace(old, new))
+        found = run(made.folder)
+        (made.folder / file).write_text(text)
+        if text.count(old) != 1 or found != (1, f"{message}\n"):
+            return f"{file} with {new!r} for {old!r}: {found}"
+    return None
+
+
 def a_mistake_ends_with_status_1(made):
     file, old, new, message = MISTAKES[0]
     (made.folder / file).write_text((TOP / file).read_text().replace(old, new))
@@ -314,7 +338,7 @@ def main():
     with tempfile.TemporaryDirectory() as name:
         made = Copy(Path(name))
         found = [mistake_is_refused(made, *mistake) for mistake in MISTAKES]
-        found += [only_the_changed_file_differs(made), a_new_version_goes_everywhere(made), a_mistake_ends_with_status_1(made), each_struct_is_cast()]
+        found += [only_the_changed_file_differs(made), a_new_version_goes_everywhere(made), the_header_has_the_rows(made), a_mistake_ends_with_status_1(made), each_struct_is_cast()]
     wrong = [what for what in found if what]
     print(*wrong, f"generator: {len(found)} tests, {len(wrong)} failed", sep="\n")
     sys.exit(1 if wrong else 0)

@@ -6,8 +6,9 @@ import ctypes
 
 from . import library
 from .errors import Error
-from .library import ELEMENT_SIZE, NO_LIMIT, Counts, ErrorRow, Limits
+from .library import NO_LIMIT
 from .positions import Positions
+from .rows import ELEMENT_SIZE, NOT_A_DOCUMENT, Counts, ErrorRow, Limits
 from .tree import Tree
 
 
@@ -103,7 +104,7 @@ def format(text: str | bytes, recursion_limit: int = 500, token_limit: int | Non
         formatted, size = bytearray(room), ctypes.c_size_t()
         status = library.format_document(source, len(source), limits, library.place(formatted), room, ctypes.byref(size))
         library.raise_for(status, source)
-        if status == library.NOT_A_DOCUMENT:
+        if status == NOT_A_DOCUMENT:
             raise NotADocument(check(source, recursion_limit, token_limit))
         if size.value <= room:
             return formatted[: size.value].decode()

@@ -4,40 +4,12 @@ from __future__ import annotations
 
 import ctypes
 import os
-from ctypes import POINTER, Structure, c_char, c_char_p, c_size_t, c_uint32, c_void_p
+from ctypes import POINTER, c_char, c_char_p, c_size_t, c_uint32, c_void_p
 from typing import Any
 
-OK, NOT_UTF8, TOO_LONG, NO_MEMORY, NOT_A_STRING, NOT_A_DOCUMENT = range(6)
+from .rows import NO_MEMORY, NOT_A_STRING, NOT_UTF8, TOO_LONG, Counts, Limits
 
 NO_LIMIT = c_size_t(-1).value
-ELEMENT_SIZE = 20
-
-
-class Limits(Structure):
-    _fields_ = [("recursion", c_size_t), ("tokens", c_size_t)]
-
-
-class ErrorRow(Structure):
-    _fields_ = [
-        ("start", c_size_t),
-        ("end", c_size_t),
-        ("message", c_size_t),
-        ("message_length", c_size_t),
-        ("is_limit", c_uint32),
-        ("is_eof", c_uint32),
-    ]
-
-
-class Counts(Structure):
-    _fields_ = [
-        ("elements", c_size_t),
-        ("errors", c_size_t),
-        ("message_bytes", c_size_t),
-        ("recursion_high", c_size_t),
-        ("token_high", c_size_t),
-        ("status", c_uint32),
-    ]
-
 
 _library = ctypes.CDLL(os.path.join(os.path.dirname(__file__), "libdumyroke.so"))
 

@@ -11,8 +11,8 @@ from typing import TYPE_CHECKING, Any, Iterator, TypeVar, overload
 
 from .errors import Error
 from .kinds import FIRST_NODE, NAMES, NUMBERS
-from .library import ELEMENT_SIZE
 from .positions import Position, Positions
+from .rows import ELEMENT_SIZE
 
 if TYPE_CHECKING:
     from .nodes import Document

@@ -2,7 +2,8 @@
 // writes of it, as a text in JSON. After that the other calls are tested.
 import assert from "node:assert/strict";
 import fs from "node:fs";
-import { Parser, STATUS } from "../parser.js";
+import { Parser } from "../parser.js";
+import { STATUS } from "../rows.js";
 import { Tree } from "../tree.js";
 
 const parser = new Parser(new WebAssembly.Module(fs.readFileSync(process.argv[2])));

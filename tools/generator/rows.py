@@ -1,0 +1,115 @@
+"""The statuses and the rows of the library for C, for Python and for the page, from the structs in crates/dumyroke_flat/src/rows.rt. The header, which is
+written by hand, has to have the same fields."""
+
+import re
+
+from .layout import CRATES, TOP, mark
+
+SOURCE = "crates/dumyroke_flat/src/rows.rt"
+ROWS = CRATES / "dumyroke_flat/src/rows.rt"
+HEADER = TOP / "bindings/c/include/dumyroke.h"
+
+# The bytes of each type of a field, and its name in C and in Python.
+TYPES = {"usize": (8, "size_t", "c_size_t"), "u32": (4, "uint32_t", "c_uint32"), "u16": (2, "uint16_t", "c_uint16")}
+# The rows that languages read, with their names in C.
+READ = {"ElementRow": "element", "ErrorRow": "error", "Counts": "counts"}
+
+
+def statuses(text):
+    """The number of each status."""
+    return {name: int(number) for name, number in re.findall(r"pub const (\w+): u32 = (\d+);", text)}
+
+
+def structs(text):
+    """The fields of each struct with their types, in order."""
+    found = re.findall(r"^pub struct (\w+) \{\n(.*?)^\}", text, re.DOTALL | re.MULTILINE)
+    made = {name: re.findall(r"^    pub (\w+): (\w+),", body, re.MULTILINE) for name, body in found}
+    for name in READ:
+        if name not in made:
+            raise SystemExit(f"rows.rt: there is no struct {name}")
+        for field, kind in made[name]:
+            if kind not in TYPES:
+                raise SystemExit(f"rows.rt: {field} of {name} is a {kind}, which rows.py does not know")
+    return made
+
+
+def offsets(fields):
+    """The byte offset of each field, as C lays them out, and the size of the struct."""
+    at, most, found = 0, 1, {}
+    for field, kind in fields:
+        size = TYPES[kind][0]
+        at = -(-at // size) * size
+        found[field], at, most = at, at + size, max(most, size)
+    return found, -(-at // most) * most
+
+
+def in_header(header, name):
+    """The fields of a struct of the header with their types, in order."""
+    at = re.search(rf"^typedef struct dumyroke_{name} \{{\n(.*?)^\}}", header, re.DOTALL | re.MULTILINE)
+    lines = re.sub(r"/\*.*?\*/", "", at[1] if at else "", flags=re.DOTALL)
+    return [(field.strip(), kind) for kind, names in re.findall(r"^\s*(\w+) ([\w, ]+);", lines, re.MULTILINE) for field in names.split(",")]
+
+
+def check_header(text):
+    """Ends where the header has other fields or other statuses."""
+    header, made = HEADER.read_text(), structs(text)
+    for name, short in READ.items():
+        wanted = [(field, TYPES[kind][1]) for field, kind in made[name]]
+        if in_header(header, short) != wanted:
+            raise SystemExit(f"dumyroke.h: the struct dumyroke_{short} has not the fields of {name} in rows.rt")
+    found = {name: int(number) for name, number in re.findall(r"^    DUMYROKE_(\w+) = (\d+)", header, re.MULTILINE)}
+    if found != statuses(text):
+        raise SystemExit("dumyroke.h: its statuses are not those of rows.rt")
+
+
+def for_python(text):
+    """The module of the Python package."""
+    made = structs(text)
+    lines = "".join(f"{name} = {number}\n" for name, number in statuses(text).items())
+    classes = "".join(
+        f"\n\nclass {name}(Structure):\n    _fields_ = [\n" + "".join(f'        ("{field}", {TYPES[kind][2]}),\n' for field, kind in made[name]) + "    ]\n"
+        for name in ("ErrorRow", "Counts")
+    )
+    return f'''{mark("#", SOURCE)}"""The statuses and the rows of the C library."""
+
+from ctypes import Structure, c_size_t, c_uint32
+
+{lines}
+ELEMENT_SIZE = {offsets(made["ElementRow"])[1]}
+"""The bytes of an element's row."""
+
+
+class Limits(Structure):
+    _fields_ = [("recursion", c_size_t), ("tokens", c_size_t)]
+{classes}'''
+
+
+def for_page(text):
+    """The module of the page."""
+    made = structs(text)
+    named = ", ".join(f"{name}: {number}" for name, number in statuses(text).items())
+    element, size = offsets(made["ElementRow"])
+    words = ", ".join(f"{field}: {at // 4}" for field, at in element.items() if at % 4 == 0)
+    errors, error_size = offsets(made["ErrorRow"])
+    counts, counts_size = offsets(made["Counts"])
+    listed = lambda found: ", ".join(f"{field}: {at}" for field, at in found.items())
+    return f"""{mark("//", SOURCE)}// The statuses and the rows of the calls.
+export const STATUS = {{ {named} }};
+
+// An element's row: how many words of 32 bits it has, and the word of each field. The word of the kind has `is_token` in its upper half.
+export const WORDS = {size // 4};
+export const WORD = {{ {words} }};
+
+// An error's row and the counts: their bytes, and the byte of each field.
+export const ERROR_BYTES = {error_size};
+export const ERROR = {{ {listed(errors)} }};
+export const COUNTS_BYTES = {counts_size};
+export const COUNTS = {{ {listed(counts)} }};
+"""
+
+
+def outputs(_grammar):
+    """The text of each file, by its path."""
+    text = ROWS.read_text()
+    check_header(text)
+    return {TOP / "bindings/python/dumyroke/rows.py": for_python(text), TOP / "bindings/web/rows.js": for_page(text)}
