@@ -1,6 +1,6 @@
 // What each mode finds in a text.
 use crate::record::{Mode, Record};
-use apollo_parser::cst::{CstNode, Definition, IntValue, StringValue};
+use apollo_parser::cst::{CstNode, Definition, Document, IntValue, StringValue};
 use apollo_parser::{
     DocumentRoot, Error, LexError, Lexer, Limits, Parser, Root, SelectionSetRoot, SyntaxNode,
     SyntaxTree, Token, TypeRoot,
@@ -43,19 +43,36 @@ fn put_error(found: &mut String, error: &Error) -> Result<(), AllocError> {
     }
 }
 
-// A line for each of the first ten errors, with the byte offset, the text that it is about, and the message; and one with the root and the counts.
-fn put_tree<R: Root>(found: &mut String, tree: &SyntaxTree<R, Global>) -> Result<(), AllocError> {
+// A line for each of the first ten errors, with the byte offset, the text that it is about, and the message.
+fn put_errors<R: Root>(found: &mut String, tree: &SyntaxTree<R, Global>) -> Result<(), AllocError> {
     for error in tree.errors().take(10) {
         put_error(found, error)?;
     }
-    let root = tree.root();
-    let (kind, end) = (root.kind(), root.text().len());
-    let nodes = root.children().count();
+    Ok(())
+}
+
+fn node_count(root: SyntaxNode<'_>) -> usize {
+    let mut count = 0usize;
+    for _node in root.children() {
+        count = count.saturating_add(1);
+    }
+    count
+}
+
+fn put_root(found: &mut String, root: SyntaxNode<'_>) -> Result<(), AllocError> {
+    let (kind, end, nodes) = (root.kind(), root.text().len(), node_count(root));
+    write!(found, "{kind:?} of {end} bytes, {nodes} nodes below it; ")
+}
+
+// The errors, and a line with the root and the counts.
+fn put_tree<R: Root>(found: &mut String, tree: &SyntaxTree<R, Global>) -> Result<(), AllocError> {
+    put_errors(found, tree)?;
+    put_root(found, tree.root())?;
     let (nesting, items) = (tree.recursion_limit().high, tree.token_limit().high);
     let (elements, errors) = (tree.element_count(), tree.errors().len());
     writeln!(
         found,
-        "{kind:?} of {end} bytes, {nodes} nodes below it; {elements} elements, {items} items, nesting {nesting}, {errors} errors"
+        "{elements} elements, {items} items, nesting {nesting}, {errors} errors"
     )
 }
 
@@ -127,9 +144,9 @@ fn put_definition(
 fn put_definitions(
     alloc: Global,
     found: &mut String,
-    tree: &SyntaxTree<DocumentRoot, Global>,
+    document: Document<'_>,
 ) -> Result<(), AllocError> {
-    for definition in tree.document().definitions() {
+    for definition in document.definitions() {
         put_definition(alloc, found, definition)?;
     }
     Ok(())
@@ -150,15 +167,72 @@ fn put_value(alloc: Global, found: &mut String, node: SyntaxNode<'_>) -> Result<
 }
 
 // A line for each string and each integer, with its value.
-fn put_values(
-    alloc: Global,
-    found: &mut String,
-    tree: &SyntaxTree<DocumentRoot, Global>,
-) -> Result<(), AllocError> {
-    for node in tree.root().descendants() {
+fn put_values(alloc: Global, found: &mut String, root: SyntaxNode<'_>) -> Result<(), AllocError> {
+    for node in root.descendants() {
         put_value(alloc, found, node)?;
     }
     Ok(())
+}
+
+// Each mode has a function of its own, since the proof of a function pays for each tree in it.
+fn put_document(
+    alloc: Global,
+    found: &mut String,
+    source: &str,
+    limits: Limits,
+) -> Result<(), AllocError> {
+    let tree = document(alloc, source, limits)?;
+    put_tree(found, &tree)
+}
+
+fn put_selection_set(
+    alloc: Global,
+    found: &mut String,
+    source: &str,
+    limits: Limits,
+) -> Result<(), AllocError> {
+    let tree = selection_set(alloc, source, limits)?;
+    put_tree(found, &tree)
+}
+
+fn put_type(
+    alloc: Global,
+    found: &mut String,
+    source: &str,
+    limits: Limits,
+) -> Result<(), AllocError> {
+    let tree = type_reference(alloc, source, limits)?;
+    put_tree(found, &tree)
+}
+
+fn put_printed(
+    alloc: Global,
+    found: &mut String,
+    source: &str,
+    limits: Limits,
+) -> Result<(), AllocError> {
+    let tree = document(alloc, source, limits)?;
+    writeln!(found, "{tree:?}")
+}
+
+fn put_all_definitions(
+    alloc: Global,
+    found: &mut String,
+    source: &str,
+    limits: Limits,
+) -> Result<(), AllocError> {
+    let tree = document(alloc, source, limits)?;
+    put_definitions(alloc, found, tree.document())
+}
+
+fn put_all_values(
+    alloc: Global,
+    found: &mut String,
+    source: &str,
+    limits: Limits,
+) -> Result<(), AllocError> {
+    let tree = document(alloc, source, limits)?;
+    put_values(alloc, found, tree.root())
 }
 
 // What a mode finds in a text.
@@ -170,13 +244,13 @@ fn put_findings(
     limits: Limits,
 ) -> Result<(), AllocError> {
     match mode {
-        Mode::Document => put_tree(found, &document(alloc, source, limits)?),
-        Mode::SelectionSet => put_tree(found, &selection_set(alloc, source, limits)?),
-        Mode::Type => put_tree(found, &type_reference(alloc, source, limits)?),
-        Mode::Tree => writeln!(found, "{:?}", document(alloc, source, limits)?),
+        Mode::Document => put_document(alloc, found, source, limits),
+        Mode::SelectionSet => put_selection_set(alloc, found, source, limits),
+        Mode::Type => put_type(alloc, found, source, limits),
+        Mode::Tree => put_printed(alloc, found, source, limits),
         Mode::Tokens => put_items(alloc, found, source, limits),
-        Mode::Definitions => put_definitions(alloc, found, &document(alloc, source, limits)?),
-        Mode::Values => put_values(alloc, found, &document(alloc, source, limits)?),
+        Mode::Definitions => put_all_definitions(alloc, found, source, limits),
+        Mode::Values => put_all_values(alloc, found, source, limits),
     }
 }
 
