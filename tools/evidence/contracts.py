@@ -7,7 +7,7 @@ from pathlib import Path
 from .definitions import CRATES
 
 
-@dataclass
+@dataclass(eq=False)
 class Call:
     """A public call. `clauses` has the text of each clause by name; one without a name is `result`."""
 

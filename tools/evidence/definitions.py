@@ -2,6 +2,7 @@
 
 import re
 import subprocess
+from functools import cache
 from pathlib import Path
 
 TOP = Path(__file__).resolve().parent.parent.parent
@@ -27,6 +28,7 @@ def definition_lines(path):
     return sum(1 for line in path.read_text().splitlines() if line.strip() and not re.match(r"\s*(--|(pub )?use |pub mod )", line))
 
 
+@cache
 def spec(path):
     """The file of a module's path, which may be one that a crate passes on; nothing for those of the kit's other libraries and for types of the code."""
     crate, *rest = path.split(".")
@@ -87,6 +89,13 @@ class Source:
                 yield spec(module), other
 
 
+@cache
+def used_by(path, name):
+    """The definitions that a definition names, each a file and a name."""
+    source = Source.of(path)
+    return {found for body in source.definitions.get(name, []) for found in source.named(body, path)}
+
+
 def used_files(clauses, spared):
     """The files of definitions that clauses use, and those that these use, without the spared ones. Clauses are pairs of a text and the file it is in."""
     seen, left = set(), [found for text, file in clauses for found in Source.of(file).named(text, file)]
@@ -94,8 +103,7 @@ def used_files(clauses, spared):
         path, name = left.pop()
         if path and path not in spared and (path, name) not in seen:
             seen.add((path, name))
-            for body in Source.of(path).definitions.get(name, []):
-                left += Source.of(path).named(body, path)
+            left += used_by(path, name)
     return {path for path, _ in seen if path.suffix == ".antt"}
 
 

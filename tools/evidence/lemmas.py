@@ -2,10 +2,12 @@
 
 import re
 from collections import Counter
+from functools import cache
 
 from .definitions import CRATES, NAME, Source
 
 
+@cache
 def answers(call):
     """The files of a call's proof: what answers the goals of its clauses, and the invariants of its loops."""
     place = [call.file.stem] if call.file.stem != "lib" else []
@@ -18,9 +20,22 @@ def answers(call):
     return found
 
 
-def body(text, name):
-    """The lines of a definition: those that begin with its name, and what is indented below them."""
-    kept, indent = [], None
+@cache
+def text_of(path):
+    """A file without its comments."""
+    return re.sub(r"--.*", "", path.read_text())
+
+
+@cache
+def heads(path):
+    """The names of a file's lemmas."""
+    return set(re.findall(r"^\s*(?:pub |abbrev )*([^\s:(){}]+) :", text_of(path), re.MULTILINE))
+
+
+@cache
+def body(path, name):
+    """The lines of a definition: those that begin with its name, and those indented below them."""
+    text, kept, indent = text_of(path), [], None
     for line in text.splitlines():
         deep = len(line) - len(line.lstrip())
         if re.match(rf"\s*(?:pub |abbrev )*{re.escape(name)}(?=[\s:]|$)", line):
@@ -42,26 +57,15 @@ def proof(module):
 
 def named(path, name, seen=()):
     """The lemmas of other files that a lemma names, by itself or by the lemmas of its own file: each a file and a name, in their order."""
-    source, text = Source.of(path), re.sub(r"--.*", "", path.read_text())
-    found = []
-    for at in re.finditer(r"(?:(\w+)\.)?([^\s(){}\[\],;.:]+)", body(text, name)):
+    source, found = Source.of(path), []
+    for at in re.finditer(r"(?:(\w+)\.)?([^\s(){}\[\],;.:]+)", body(path, name)):
         if at[1] in source.modules and (file := proof(source.modules[at[1]])):
             found.append((file, at[2]))
         elif not at[1] and at[2] in source.uses and (file := proof(source.uses[at[2]][0])):
             found.append((file, source.uses[at[2]][1]))
-        elif not at[1] and at[2] != name and at[2] not in seen and at[2] in heads(path, text):
+        elif not at[1] and at[2] != name and at[2] not in seen and at[2] in heads(path):
             found += named(path, at[2], (*seen, name))
     return [lemma for lemma in dict.fromkeys(found) if lemma[1][0].islower()]
-
-
-HEADS = {}
-
-
-def heads(path, text):
-    """The names of a file's lemmas."""
-    if path not in HEADS:
-        HEADS[path] = set(re.findall(r"^\s*(?:pub |abbrev )*([^\s:(){}]+) :", text, re.MULTILINE))
-    return HEADS[path]
 
 
 def of_clause(call, clause):
@@ -76,7 +80,7 @@ def of_clause(call, clause):
 
 def of_fields(file, fields):
     """For each field the lemmas of other crates that the lemma of its name in the file rests on. A lemma on which more than five rest says little, and goes."""
-    names = heads(file, re.sub(r"--.*", "", file.read_text()))
+    names = heads(file)
     found = {field: below(file, name) for field in fields for name in (field, field.replace("_", "-")) if name in names}
     often = Counter(lemma for lemmas in found.values() for lemma in lemmas)
     return {field: [lemma for lemma in lemmas if often[lemma] <= 5] or lemmas for field, lemmas in found.items()}

@@ -6,7 +6,7 @@ import textwrap
 from . import contracts, lemmas
 from .definitions import CRATES, KIT, Source, definition_lines, head, in_order, is_generated, name_of, spec, used_files
 
-# The calls that a user reads, by what they are part of: a title, files and folders, and how much of the list of definitions is counted for it.
+# The calls that a user reads, by their part: a title, files and folders, and how much of the list of definitions is counted for it.
 PARTS = {
     "`parse`, and parts of documents": "apollo_parser/src/parser.rt",
     "trees, typed nodes and values": """apollo_parser/src/syntax_tree.rt apollo_tree/src/builder.rt apollo_tree/src/node.rt apollo_tree/src/children.rt
@@ -160,7 +160,7 @@ def proofs():
 
 
 def edits_wrong():
-    """Edits that are not in the list, and names in the list that are none."""
+    """Edits that are not in the list, and names in the list that are not edits."""
     there = {f"{path.parts[-3]}/{path.stem}" for path in CRATES.glob("*/must-fail/*.edit")}
     listed = {edit: (key, clauses) for key, found in edits().items() for edit, clauses in found}
     named = {(call.crate, call.title): call for call in all_calls()}
