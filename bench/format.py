@@ -52,7 +52,7 @@ class Run:
 
 
 def made(path, command):
-    """The file, with what the command prints. This program holds no long text itself, since what it held would count as memory of those that it starts."""
+    """The file, with the output of the command. This program holds no long text itself, since what it held would count as memory of those that it starts."""
     with open(path, "w") as target:
         subprocess.run(command, stdout=target, check=True)
     return path

@@ -4,7 +4,7 @@ own seconds and those that the kernel takes for it, how many times the program's
 kernel's go with the memory: it hands out and clears each page.
 
 hostile.py PROGRAM [N [SIZES [ROUNDS [GIGABYTES [TEXT]]]]]: SIZES of them (4), ROUNDS runs each, in turn (5), and more where they are short. A run counts only on
-a processor at rest (`calm.py`). A size that would take more than GIGABYTES (10), by what the size before took, is left out. TEXT is the name of the only text
+a processor at rest (`calm.py`). A size that would take more than GIGABYTES (10), by the memory of the size before, is left out. TEXT is the name of the only text
 that is run. Ends with status 1 where twice a text takes more than 2.2 times the program's own seconds, if the text takes a hundredth of a second or more.
 
 What a run takes in all is exact. Which part of it is the program's own the kernel finds out by samples, so a single short run says little of that: the
@@ -33,7 +33,7 @@ TEXTS = {
     "-": lambda n: "-" * n,
     "wrapped types": lambda n: ("query(" + "$a:" + "[" * 400 + "T" + "]!" * 400 + "){a}\n") * (n // 1220),
 }
-# For so many seconds runs of a text are made, and so many times one that does not count is made again.
+# For how many seconds runs of a text are made, and how many times one that does not count is made again.
 SHORT = 12
 TRIES = 3
 # The kernel's samples are 4 ms apart, so less than this is not compared.

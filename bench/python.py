@@ -1,7 +1,7 @@
 #!/usr/bin/env python3
 """Measures the Python package, and graphql-core where it is installed: python.py [FILE [ROUNDS]]. FILE is `text.py queries` of 5,000,000 bytes unless it is
-given. Prints the best and the median processor time in milliseconds, of calls in turn. graphql-core before 3 reads no block strings and no `null`: these are replaced in
-what it gets."""
+given. Prints the best and the median processor time in milliseconds, of calls in turn. graphql-core before 3 reads no block strings and no `null`: both are
+replaced in its text."""
 import re
 import statistics
 import subprocess

@@ -43,7 +43,7 @@ def run(*words, **how):
 
 
 def version():
-    """The version of the Python package, which is that of all bindings, and has to be that of gqlfmt."""
+    """The version of the Python package and of all bindings, which has to be gqlfmt's."""
     found = re.search(r'^version = "(.*)"$', (PYTHON / "pyproject.toml").read_text(), re.MULTILINE)[1]
     if f'"gqlfmt {found}\\n"' not in (TOP / "crates/gqlfmt_run/src/command.rt").read_text():
         stop(f"bindings/python/pyproject.toml has the version {found}, and gqlfmt another one")
