@@ -185,7 +185,7 @@ fn has_texts(tree: &SyntaxTree<DocumentRoot, Global>, wanted: &[&str]) -> bool {
     definition_count(tree) == wanted.len()
 }
 
-// Whether a text, read within a recursion limit, has these errors, this nesting and so many definitions, and is whole in its tree.
+// Whether a text, read within a recursion limit, has these errors, this nesting and this number of definitions, and is whole in its tree.
 fn is_found(alloc: Global, row: &Found<'_>, limit: usize) -> Result<bool, AllocError> {
     let tree = parse_by(alloc, Parser::new(row.source).recursion_limit(limit))?;
     let tracker = tree.recursion_limit();
@@ -315,7 +315,7 @@ fn limits_stop_a_parse(rt: HostRuntime) -> Result<(), Fail> {
     expect_limited(&rt, rows.as_slice())
 }
 
-// Whether the tree has so many elements, the first of which is all of it.
+// Whether the tree has this number of elements, the first of which is all of it.
 fn has_elements(tree: &SyntaxTree<DocumentRoot, Global>, source: &str, count: usize) -> bool {
     let Some(root) = tree.element(0) else {
         return false;
@@ -382,7 +382,7 @@ recursion limit: 500, high: 0",
     Ok(())
 }
 
-// The place where a definition ends does not depend on what follows it.
+// The place where a definition ends does not depend on the text after it.
 #[test]
 fn a_whole_definition_precedes_a_fault(rt: HostRuntime) -> Result<(), Fail> {
     let source = "{ a } type B { c }";

@@ -10,7 +10,7 @@ pub type ExpectedError<'e> = (&'e str, &'e str, usize);
 pub struct Found<'e> {
     pub source: &'e str,
     pub errors: &'e [ExpectedError<'e>],
-    /// The greatest nesting that was asked for.
+    /// The highest nesting, entered or refused.
     pub nesting: usize,
     pub definitions: usize,
 }
@@ -24,9 +24,9 @@ pub struct Limited<'e> {
     pub errors: &'e [ExpectedError<'e>],
     /// The text of the tree.
     pub text: &'e str,
-    /// The greatest nesting that was asked for.
+    /// The highest nesting, entered or refused.
     pub nesting: usize,
-    /// The greatest number of items that was asked for.
+    /// The number of items that were read, and one more where the token limit is met.
     pub items: usize,
 }
 

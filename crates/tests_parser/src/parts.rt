@@ -5,7 +5,7 @@ use apollo_parser::{Parser, SelectionSetRoot, SyntaxKind, SyntaxTree, TypeRoot};
 use std::alloc::{AllocError, Global};
 use std::test::Fail;
 
-// It has no contract, so that the proofs of the tests are not burdened by that of the parse.
+// It has no contract, so that the proofs of the tests are not burdened by the parse's.
 fn parse_selections(
     alloc: Global,
     parser: Parser<'_>,
@@ -21,7 +21,7 @@ struct Part<'e> {
     root: SyntaxKind,
     /// The text of the tree.
     text: &'e str,
-    /// The greatest nesting that was asked for.
+    /// The highest nesting, entered or refused.
     nesting: usize,
 }
 

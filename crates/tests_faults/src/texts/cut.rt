@@ -5,7 +5,7 @@ use std::alloc::{AllocError, Global};
 use std::process::Abort;
 use std::test::Fail;
 
-// Whether the parse keeps the text whole, and its errors stand in order.
+// Whether the parse keeps the text whole, and its errors are in order.
 fn keeps_text_and_order(alloc: Global, source: &str) -> Result<bool, AllocError> {
     let tree = parse(alloc, Parser::new(source))?;
     let mut last = 0;

@@ -1,4 +1,4 @@
-// Texts that repeat one piece: deep nesting, and long runs of what is ignored.
+// Texts that repeat one piece: deep nesting, and long runs of ignored tokens.
 use crate::parsing::parse;
 use apollo_parser::{DocumentRoot, Parser, SyntaxTree};
 use std::alloc::{AllocError, Global};
@@ -8,7 +8,7 @@ use std::test::Fail;
 // The message of an error, the text that it is about, and the byte offset of that text.
 type ExpectedError = (&'static str, &'static str, usize);
 
-// A text that is a front, a piece so many times, and a back; the token limit that it is read with; and what is found in it: its errors, how
+// A text that is a front, a piece a number of times, and a back; the token limit that it is read with; and what is found in it: its errors, how
 // much of it the tree holds, and the greatest counts of nesting and of items.
 #[derive(Clone, Copy)]
 struct Flood {

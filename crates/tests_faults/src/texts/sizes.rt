@@ -7,7 +7,7 @@ use std::mem::size_of;
 use std::process::Abort;
 use std::test::Fail;
 
-// A front and a piece so many times, the token limit, and what the parse finds: items, elements of the tree, errors.
+// A front and a piece a number of times, the token limit, and what the parse finds: items, elements of the tree, errors.
 #[derive(Clone, Copy)]
 struct Large {
     front: &'static str,
