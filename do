@@ -7,11 +7,11 @@ usage() {
     cat <<'LINES'
 usage: ./do COMMAND
 
-  quick              the checks that need no proof, in some eight seconds: generated files, names of rules, texts, promises
+  quick              the checks that need no proof, in some eight seconds: generated files, names of rules, texts, promises, words
   check CRATE [..]   proves one crate over what earlier checks left (rt check); further words go to rt check
   try CRATE [..]     runs a program, or with --test a crate's tests, and proves nothing (rt try)
   gate               what a merge has to pass: quick, rt ci, and test
-  test               the tests of what rt ci has built: formatted texts, C and Python, the page, editors, README
+  test               the tests of the output of rt ci: formatted texts, C and Python, the page, editors, README
   bench SCRIPT [..]  a script of bench/, by name: speed.sh, hostile.py, stack.py, format.py, server.py
 LINES
 }
@@ -33,6 +33,7 @@ quick() {
     tools/rule_names
     tools/format_texts --check
     tools/promises --check
+    tools/words
 }
 
 tests() {
