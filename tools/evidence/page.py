@@ -55,7 +55,20 @@ READING = """\
 ## What to read in order to believe it
 
 A clause is as good as the definitions that it uses. Each file comes with its number of lines, without imports, comments and blank lines, after those
-that it uses. A file is in the first list that needs it. PROMISES.md says what need not be read.
+that it uses. A file is in the first list that needs it.
+"""
+# Files whose definitions a reader may take as they are, and why.
+SPARED = """lexical_grammar/specs/Reads.antt lexical_grammar/specs/NumberStates.antt apollo_parser/specs/ByRules.antt parser_rules/specs/State.antt
+    parser_rules/specs/Nodes.antt parser_rules/specs/RuleLanguage.antt parser_rules/specs/Rules.antt parser_rules/specs/Runs.antt parser_state/specs/Errors.antt
+    grammar_machine/specs/Machine.antt grammar_machine/specs/Symbols.antt grammar_machine/specs/Table.antt document_grammar/specs/Booleans.antt"""
+UNREAD = """\
+### Not to be read
+
+`items_of`, in `lexical_grammar/specs/Reads.antt` and `lexical_grammar/specs/NumberStates.antt`, is how the lexer cuts a text: `cut` says that its result
+is a cut, and two cuts of a text agree up to the first bad string. `ByRules`, in `apollo_parser/specs/ByRules.antt`, is how the parser's rules ran. By
+`one_parse` it has one result, and nothing else about it matters: `State`, `Nodes`, `RuleLanguage`, `Rules` and `Runs` of `parser_rules`, `Errors` of
+`parser_state`, and the names that these use of `Machine`, `Symbols` and `Table` of `grammar_machine` and of `Booleans` of `document_grammar`. No other
+clause of `parse` names a rule of the parser.
 """
 
 
@@ -183,42 +196,46 @@ def clauses_of(doors):
     return [(text, call.file) for call in contracts.calls(doors) for text in call.clauses.values()]
 
 
-def files_of(doors, spared):
-    return used_files(clauses_of(doors), spared)
+def spared():
+    return {CRATES / name for name in SPARED.split()}
 
 
-def main_files(spared):
+def files_of(doors):
+    return used_files(clauses_of(doors), spared())
+
+
+def main_files():
     """The files that the main theorem needs."""
     path, fields = contracts.fields("Promise", "apollo_parser")
-    return used_files([(fields[name], path) for name in MAIN], spared) - {path}
+    return used_files([(fields[name], path) for name in MAIN], spared()) - {path}
 
 
-def lines_needed(doors, spared):
-    return sum(definition_lines(path) for path in files_of(doors, spared) if not is_generated(path))
+def lines_needed(doors):
+    return sum(definition_lines(path) for path in files_of(doors) if not is_generated(path))
 
 
-def counts(spared):
-    return {title: lines_needed([door], spared) for title, door in COUNTED.items()}
+def counts():
+    return {title: lines_needed([door]) for title, door in COUNTED.items()}
 
 
-def lists(spared):
+def lists():
     """The lists of files, each with its title and without the files of those before it."""
-    main = main_files(spared)
+    main = main_files()
     kit, listed = set(), set()
     yield "the main theorem: " + ", ".join(f"`{name}`" for name in MAIN), in_order(main)
     listed |= main
     for title, doors in PARTS.items():
-        files = files_of(doors.split(), spared) - listed
+        files = files_of(doors.split()) - listed
         listed |= files
         kit |= {path for path in files if KIT in path.parents}
         yield title, in_order({path for path in files if KIT not in path.parents})
     yield "the kit's words for JSON and for headers, which `gqlls` uses", in_order(kit)
 
 
-def reading(spared):
+def reading():
     made = ["\nA call needs these lines, without lists that a program wrote:\n"]
-    made += [f"- {title}, `{COUNTED[title]}`: {count:,}" for title, count in counts(spared).items()]
-    for title, files in lists(spared):
+    made += [f"- {title}, `{COUNTED[title]}`: {count:,}" for title, count in counts().items()]
+    for title, files in lists():
         by_hand = sum(definition_lines(path) for path in files if not is_generated(path))
         made.append(f"\n### For {title}: {by_hand:,} lines\n")
         for path in files:
@@ -227,5 +244,5 @@ def reading(spared):
     return "\n".join(made) + "\n"
 
 
-def page(spared):
-    return f"{HEAD}\n{CALLS}{proofs()}\n{READING}{reading(spared)}"
+def page():
+    return f"{HEAD}\n{CALLS}{proofs()}\n{READING}{reading()}\n{UNREAD}"
