@@ -48,8 +48,8 @@ CALLS = """\
 
 Below each public call are its clauses (`result` has no name), and below a clause that is a record its fields. After a clause come the lemmas that its
 proof names, each after its file, from the crate on and without `proofs`; after a field the lemmas of other crates on which the lemma of that name
-rests. Where no lemma follows, the prover derived the clause from the contracts of the calls in the body. `✗` precedes the edits that break a clause:
-`CRATE/NAME` is `crates/CRATE/must-fail/NAME.edit`, and `./do gate` checks that the prover refuses it.
+rests. Where no lemma follows, the proof needs none beside the contracts of the calls in the body and the invariants of its loops. `✗` precedes the
+edits that break a clause: `CRATE/NAME` is `crates/CRATE/must-fail/NAME.edit`, and `./do gate` checks that the prover refuses it.
 """
 READING = """\
 ## What to read in order to believe it
