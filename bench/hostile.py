@@ -4,8 +4,8 @@ own seconds and those that the kernel takes for it, how many times the program's
 kernel's go with the memory: it hands out and clears each page.
 
 hostile.py PROGRAM [N [SIZES [ROUNDS [GIGABYTES [TEXT]]]]]: SIZES of them (4), ROUNDS runs each, in turn (5), and more where they are short. A run counts only on
-a processor at rest (`calm.py`). A size that would take more than GIGABYTES (10), by the memory of the size before, is left out. TEXT is the name of the only text
-that is run. Ends with status 1 where twice a text takes more than 2.2 times the program's own seconds, if the text takes a hundredth of a second or more.
+a processor at rest (`calm.py`). A size that would take more than GIGABYTES (10), by the memory of the size before, is left out. TEXT is the name of the
+only text that is run. Ends with status 1 where twice a text takes more than 2.2 times the program's own seconds, if the text takes a hundredth of a second or more.
 
 What a run takes in all is exact. Which part of it is the program's own the kernel finds out by samples, so a single short run says little of that: the
 seconds are those of the shortest run, divided as the sums of all runs are."""

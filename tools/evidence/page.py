@@ -92,12 +92,13 @@ def all_calls():
 
 
 def fields_of(call, text):
-    """The record of this repository that a clause says holds, and its fields, each with its text."""
+    """The record of this repository that a clause says holds, and its fields, each with its text; nothing for a record of one field."""
     source = Source.of(call.file)
     said = re.match(r"\s*ensures \w* ?\{ (?:IfOk \w+ |IfErr \w+ |\(|λ \w+\. )*(\w+)", text)
     path = spec(source.uses[said[1]][0]) if said and said[1] in source.uses else None
     if path and CRATES in path.parents:
-        return contracts.fields(source.uses[said[1]][1], path.relative_to(CRATES).parts[0])[1]
+        fields = contracts.fields(source.uses[said[1]][1], path.relative_to(CRATES).parts[0])[1]
+        return fields if len(fields) > 1 else {}
     return {}
 
 
@@ -115,39 +116,42 @@ def said(text, broken, clause=None):
     return (f": {text}" if text else "") + (f" ✗ {', '.join(f'`{edit}`' for edit in edits)}" if edits else "")
 
 
+def names(found):
+    return ", ".join(f"`{name}`" for name in found)
+
+
 def field_lines(fields, file, broken, is_new):
-    """A line for each field of a record that a lemma of the file makes, in other crates than the first only those with an edit."""
+    """A line for each field of a record that has lemmas of other crates or edits, and one for the others. Where the record had its lines before, those
+    with edits alone."""
     rests = lemmas.of_fields(file, fields) if file and is_new else {}
-    bare = []
+    told = {field: said(by_file(rests.get(field, [])), broken, field) for field in fields}
     for field in fields:
-        text = said(by_file(rests.get(field, [])), broken, field)
-        if text:
-            yield 2, f"`{field}`{text}"
-        elif is_new:
-            bare.append(f"`{field}`")
-    if bare:
-        yield 2, ", ".join(bare)
+        if told[field]:
+            yield 2, f"`{field}`{told[field]}"
+    if is_new and not all(told.values()):
+        yield 2, names(field for field in fields if not told[field])
 
 
 def lines(call, others, broken, seen):
     """The lines of a call: the call, its clauses, and the fields of those that are records."""
-    yield 0, f"`{call.title}`" + said("", broken)
-    bare = []
+    clauses, bare = [], []
+    of_fields = [(edit, found) for edit, found in broken if not set(found) & set(call.clauses)]
     for clause, text in call.clauses.items():
         same = [other for other in others if other.clauses.get(clause) == text and other.file == call.file]
         found, fields = [lemma for other in same for lemma in lemmas.of_clause(other, clause)], fields_of(call, text)
         makes = next((file for file, name in found if name == clause), None)
         if fields and same[0] != call:
-            yield 1, f"`{clause}`, as `{same[0].title}`"
-            continue
-        if found or fields or said("", broken, clause):
-            yield 1, f"`{clause}`" + said(by_file(found), broken, clause)
-            yield from field_lines(fields, makes, broken, (makes or call.file, *fields) not in seen)
+            clauses.append((1, f"`{clause}`, as `{same[0].title}`"))
+        elif found or fields or (clause and said("", broken, clause)):
+            clauses.append((1, f"`{clause}`" + said(by_file(found), broken, clause)))
+            clauses += field_lines(fields, makes, of_fields, (makes or call.file, *fields) not in seen)
             seen.add((makes or call.file, *fields))
         elif clause:
-            bare.append(f"`{clause}`")
-    if bare and len(call.clauses) > 1:
-        yield 1, ", ".join(bare)
+            bare.append(clause)
+    named = bare if bare != ["result"] else []
+    if clauses:
+        return [(0, f"`{call.title}`" + said("", broken)), *clauses, *([(1, names(named))] if named else [])]
+    return [(0, f"`{call.title}`" + (f" ({names(named)})" if named else "") + said("", broken))]
 
 
 def wrapped(deep, text):
@@ -163,7 +167,7 @@ def proofs():
         made.append(f"\n### `{crate}`\n")
         bare = []
         for call in calls:
-            items = [*lines(call, calls, broken.get((call.crate, call.title), []), seen)]
+            items = lines(call, calls, broken.get((call.crate, call.title), []), seen)
             if len(items) == 1 and "✗" not in items[0][1]:
                 bare.append(items[0][1])
             else:
