@@ -7,7 +7,7 @@ usage() {
     cat <<'LINES'
 usage: ./do COMMAND
 
-  quick              the checks that need no proof, in some nine seconds: generated files, names of rules, texts, promises, words
+  quick              the checks that need no proof, in some eight seconds: generated files, names of rules, texts, promises, words
   check CRATE [..]   proves one crate over what earlier checks left (rt check); further words go to rt check
   try CRATE [..]     runs a program, or with --test a crate's tests, and proves nothing (rt try)
   gate               what a merge has to pass: quick, rt ci, and test
