@@ -11,8 +11,8 @@ usage: ./do COMMAND
   check CRATE [..]   proves one crate over what earlier checks left (rt check); further words go to rt check
   try CRATE [..]     runs a program, or with --test a crate's tests, and proves nothing (rt try)
   gate               what a merge has to pass: quick, rt ci, and test
-  test               the tests of what rt ci has built: formatted texts, C and Python, the page, editors, README
-  bench [NAME [..]]  measures what `rt ci` has built: parse, hostile, stack, format, server, c or python, or else all of them
+  test               the tests of the output of rt ci: formatted texts, C and Python, the page, editors, README
+  bench [NAME [..]]  measures the programs of `rt ci`: parse, hostile, stack, format, server, c or python, or else all of them
 LINES
 }
 
@@ -33,6 +33,7 @@ quick() {
     tools/rule_names
     tools/format_texts --check
     tools/promises --check
+    tools/words
 }
 
 tests() {

@@ -35,7 +35,7 @@ HOSTILE = {
 
 
 def made(path, words):
-    """The file, with what this script prints for these words. It holds no long text itself, since that would count as memory of those that it starts."""
+    """The file, with the output of this script for these words. It holds no long text itself, since that would count as memory of those that it starts."""
     with open(path, "w") as target:
         subprocess.run([sys.executable, __file__, *words], stdout=target, check=True)
     return path

@@ -4,7 +4,7 @@ kernel takes for it, how many times the program's own are those of the size befo
 out and clears each page.
 
 There are `--sizes` sizes from `--bytes` on, and `--rounds` runs of each in turn, more where they are short. A run counts only on a processor at rest (calm.py).
-A size that would take more than `--gigabytes`, by what the size before took, is left out. `--text` is the only text that is run. Ends with status 1 where twice
+A size that would take more than `--gigabytes`, by the memory of the size before, is left out. `--text` is the only text that is run. Ends with status 1 where twice
 a text takes more than 2.2 times the program's own seconds, if the text takes a hundredth of a second or more.
 
 What a run takes in all is exact. Which part of it is the program's own the kernel finds out by samples, so a single short run says little of that: the
@@ -34,7 +34,7 @@ TEXTS = {
     "-": lambda n: "-" * n,
     "wrapped types": lambda n: ("query(" + "$a:" + "[" * 400 + "T" + "]!" * 400 + "){a}\n") * (n // 1220),
 }
-# For so many seconds runs of a text are made, and so many times one that does not count is made again.
+# Runs of a text are made for this number of seconds, and one that does not count is made again this number of times.
 SHORT = 12
 TRIES = 3
 # The kernel's samples are 4 ms apart, so less than this is not compared.

@@ -1,6 +1,6 @@
 #!/usr/bin/env python3
 """Measures the Python package, and graphql-core where it is installed: the best and the median processor time in milliseconds, of `--rounds` calls in turn, on
-the file `--text`, or on `text.py queries` unless it is given. graphql-core before 3 reads no block strings and no `null`: these are replaced in what it gets."""
+the file `--text`, or on `text.py queries` unless it is given. graphql-core before 3 reads no block strings and no `null`: both are replaced in its text."""
 
 import re
 import statistics

@@ -40,7 +40,7 @@ def memory(client):
 
 
 def timed(client, method, **params):
-    """How many milliseconds pass from a message to what the server says, and that."""
+    """How many milliseconds pass from a message to the server's reply, and the reply."""
     message = {"jsonrpc": "2.0", "method": f"textDocument/{method}", "params": params}
     if not method.startswith("did"):
         message["id"] = 1

@@ -23,7 +23,7 @@ NO_LIMIT = "18446744073709551615"
 
 
 def holds(program, text, stack):
-    """Whether the program reads the text with so many bytes of stack."""
+    """Whether the program reads the text with this number of bytes of stack."""
 
     def set_stack():
         resource.setrlimit(resource.RLIMIT_STACK, (stack, resource.RLIM_INFINITY))

@@ -83,7 +83,7 @@ def test_python(folder):
 
 
 def test_install(folder):
-    """The C example compiles with what was installed, and its flags."""
+    """The C example compiles with the installed files and flags."""
     install([f"PREFIX={folder}/usr", "DESTDIR="])
     prefix, flags = folder / "usr", ["-I{0}/include", "-L{0}/lib", "-ldumyroke"]
     wanted = [flag.format(prefix) for flag in flags]

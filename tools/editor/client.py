@@ -102,7 +102,7 @@ class Text:
         self.ends = [*(end.start() for end in ends), len(text)]
 
     def boundary(self, offset):
-        """The offset, or between CR and LF that of the line's end."""
+        """The offset, or between CR and LF the offset of the line's end."""
         return min(offset, self.ends[bisect.bisect_right(self.starts, offset) - 1])
 
     def position(self, offset):
@@ -125,7 +125,7 @@ class Text:
         return None
 
     def part(self, range):
-        """The part of the text that a range is, as two offsets, or None where it is none."""
+        """The part of the text that a range is, as two offsets, or None where it is not a range."""
         start, end = self.offset(range["start"]), self.offset(range["end"])
         return None if start is None or end is None or end < start else (start, end)
 

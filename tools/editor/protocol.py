@@ -114,7 +114,7 @@ def faulty_messages():
     expect("a change with a lone surrogate", code(client.read()), -32700)
     expect("the next full text", client.change(URI, 2, [{"text": "{b}"}]), {"uri": URI, "version": 2, "diagnostics": []})
     client.write(b"Content-Length: x\r\n\r\nContent-Length 3\r\n\r\nabc\r\n\xff\x00")
-    expect("the message after heads that are none", client.ask("textDocument/hover", textDocument=DOCUMENT, **at(0, 0))["result"], None)
+    expect("the message after malformed heads", client.ask("textDocument/hover", textDocument=DOCUMENT, **at(0, 0))["result"], None)
     expect("the end", client.end(), 0)
 
 

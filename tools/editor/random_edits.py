@@ -1,8 +1,8 @@
 #!/usr/bin/env python3
-"""Makes random edits in many documents, and looks at what the server says after each: random_edits.py PROGRAM [EDITS] [SEED].
+"""Makes random edits in many documents, and checks the server's messages after each: random_edits.py PROGRAM [EDITS] [SEED].
 
 The texts and positions are the client's own. The errors that are published have to be those of the same text opened anew and, where gqlcst is built, be at the places that
-it gives. Then one of the other features is asked for, and its answer has to be as the protocol wants it (answers.py)."""
+it gives. Then it requests one of the other features, and its answer has to be as the protocol wants it (answers.py)."""
 import random
 import re
 import subprocess
@@ -52,7 +52,7 @@ class Run:
         return changes, text
 
     def fault(self, uri, text, errors):
-        """What is wrong of what is said about a document, or nothing."""
+        """The fault in the server's messages about a document, or nothing."""
         if errors != self.client.open("file:///anew", text.text)["diagnostics"]:
             return "other errors than the text opened anew"
         if GQLCST.exists() and not at_their_places(text, errors):

@@ -87,7 +87,7 @@ CONVERSATION = [
      published(1, diagnostic(9, 10, "expected COLON, got )"), diagnostic(19, 19, "expected R_CURLY, got EOF"))),
     (notification("textDocument/didChange", textDocument={"uri": URI, "version": 2},
                   contentChanges=[{"text": TEXT}, {"range": span(1, 10, 11), "text": "A"}]), published(2)),
-    # a range that is none
+    # a malformed range
     (notification("textDocument/didChange", textDocument={"uri": URI, "version": 3}, contentChanges=[{"range": [], "text": ""}]), b""),
     (request(2, "textDocument/hover", textDocument=DOCUMENT), error(2, -32602, "no such place")),
     (request("three", "textDocument/definition", textDocument=DOCUMENT, position=at(1, 10)), result("three", {"uri": URI, "range": span(0, 5, 6)})),

@@ -9,7 +9,7 @@ const { TokenKind } = require("./graphql.js");
 const { Random } = require("./random.js");
 const { bare, commented, printed, shaken, tokensOf } = require("./texts.js");
 
-// Whether a block string has a line of blanks alone, which could not be told from an empty line that print has indented.
+// Whether a block string has a line of blanks alone, which looks like an empty line that print has indented.
 function hasBlankLines(text) {
   return tokensOf(text).some((token) => token.kind === TokenKind.BLOCK_STRING && /^[ \t]+$/m.test(token.value));
 }

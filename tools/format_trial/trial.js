@@ -30,7 +30,7 @@ function formatted(program, text) {
   return ran.stdout;
 }
 
-// The first gap of a formatted text that is none of those that it may have.
+// The first gap of a formatted text that it may not have.
 function oddGap(text) {
   let last = 0;
   for (const token of tokensOf(text)) {

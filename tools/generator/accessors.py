@@ -51,7 +51,7 @@ class Accessor:
 def accessors(grammar, kind):
     """The accessors of the row of a kind: one for each symbol, in order.
 
-    The accessor of a node that is there at most once has the name of its kind, in lower case; that of one that may repeat has an `s` after
+    The accessor of a node that is there at most once has the name of its kind, in lower case; the accessor of one that may repeat has an `s` after
     it. The choices have the names of `ENUMS`. A leaf's has the name of its kind, without `_KW`, and then `_token`. A choice that is no
     enum has one accessor for each kind.
     """

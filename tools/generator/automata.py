@@ -1,4 +1,4 @@
-"""The row of each symbol as an automaton with as few states as possible, which are patterns of what may still come."""
+"""The row of each symbol as an automaton with as few states as possible, which are patterns of the children that may still come."""
 
 from dataclasses import dataclass
 

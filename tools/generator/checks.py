@@ -79,7 +79,7 @@ def check_places(grammar):
     for enum, choice in ENUMS.items():
         for kind in grammar.lists[choice.listed]:
             if crate_of(place_of_kind(kind, grammar)) > crate_of(home(enum, grammar)):
-                refuse(f"places.py: the enum {enum} is in a crate before that of {kind}, one of {choice.listed}")
+                refuse(f"places.py: the enum {enum} is in a crate before the crate of {kind}, one of {choice.listed}")
     for crate, modules in CRATES.items():
         for module in modules:
             if not kinds_in(crate, module, grammar) and not enums_in(crate, module):

@@ -1,5 +1,5 @@
-"""The kinds of elements for other languages, under the numbers that they have in a tree: the header for C, the module for Python, that of the page, and
-the enum of bench/original."""
+"""The kinds of elements for other languages, under the numbers that they have in a tree: the header for C, a module each for Python and the page,
+and the enum of bench/original."""
 
 from .grammar import PUNCTUATORS, word
 from .layout import TOP, mark

@@ -101,7 +101,7 @@ class Grammar:
                 raise SystemExit(f"Rows.antt: the kind {kind} has no row")
         for kind, row in zip(self.kinds[self.number["DOCUMENT"] :], self.rows):
             if kind != row:
-                raise SystemExit(f"Rows.antt: the row of {row} is in the place of that of {kind}; rows are in the order of kind.rt")
+                raise SystemExit(f"Rows.antt: the row of {row} is in the place of {kind}'s; rows are in the order of kind.rt")
 
     def body(self, name):
         """The text of a pattern, or of the table of rows."""

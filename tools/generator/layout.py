@@ -40,7 +40,7 @@ def use(path, names):
 
 
 def use_line(path, names, before=0):
-    """A `use` line in the layout of `rt fmt`, which breaks long lines. `before` is the length of what comes before it on the line."""
+    """A `use` line in the layout of `rt fmt`, which breaks long lines. `before` is the length of the line before it."""
     if len(names) == 1:
         return f"use {path}::{names[0]};\n"
     line = f"use {path}::{{{', '.join(names)}}};\n"

@@ -52,7 +52,7 @@ class Lookahead:
                 self.pairs[name] |= new
 
     def pairs_along(self, states, arc):
-        """The pairs with which a row begins whose first child is that of the arc."""
+        """The pairs with which a row begins whose first child is the arc's."""
         symbol, target = arc
         seconds = self.begins(states[target]) | ({ALONE} if states[target].ends else set())
         for first, second in self.pairs[symbol]:
@@ -62,7 +62,7 @@ class Lookahead:
                 yield first, second
 
     def begins(self, state):
-        """The classes of the first token of what may come in the state."""
+        """The classes of the first tokens that may come in the state."""
         return {first for symbol, _ in state.arcs for first in self.first(symbol)}
 
     def first(self, symbol):
@@ -114,7 +114,7 @@ class Lookahead:
         return found
 
     def children(self, name, states):
-        """Each symbol that may be a child, with what it adds to its parent's state, and the state after it."""
+        """Each symbol that may be a child, with its addition to its parent's state, and the state after it."""
         for state in states:
             for symbol, target in state.arcs:
                 for exit in self.exits(symbol):
@@ -133,7 +133,7 @@ class Lookahead:
                             raise SystemExit(f"Rows.antt: {name}, state {place}: two tokens do not tell {arc[0]} from {other}")
 
     def overlap(self, name, states, arc, other):
-        """Whether tokens with which the other symbol begins may also begin that of the arc, before what follows it in the row."""
+        """Whether tokens with which the other symbol begins may also begin the arc's, before its successors in the row."""
         symbol, target = arc
         after = set()
         for exit in self.exits(symbol):

@@ -44,7 +44,7 @@ def symbol_of(node, symbols):
 
 
 def symbols_of(node, symbols):
-    """The symbols of a node: that of a place that is not constant, and where it has a parameter that of a constant one."""
+    """The symbols of a node: its symbol in a place that is not constant, and where it has a parameter the one in a constant place."""
     symbol = symbol_of(node, symbols)
     if node.parameters and f"{symbol}_CONST" not in symbols.number:
         raise SystemExit(f"symbols.py: NODES lacks {symbol}_CONST, and the rule of {node.name} has a parameter for constant places")
@@ -89,7 +89,7 @@ pub data Node : Type 0 where
 -- the kind of a node
 abbrev pub kind_of : Node → SyntaxKind
 {kinds}
--- the machine's symbol of a node: that of its kind, but for these
+-- the machine's symbol of a node: its kind's, but for these
 unfoldable pub symbol : Node → ℕ
 {own_symbols(nodes, symbols)}symbol c = number (kind_of c)
 

@@ -84,7 +84,7 @@ class Reader:
         return kind
 
     def atom(self):
-        """A pattern in parentheses, or one of the words for patterns with what it is of."""
+        """A pattern in parentheses, or one of the words for patterns with its argument."""
         if self.peek() == "(":
             self.take("(")
             pattern = self.pattern()

@@ -1,7 +1,7 @@
 """The typed nodes of the Python package: bindings/python/dumyroke/nodes.py.
 
 There is a class for each kind of node, with a property for each accessor of the typed tree that gives nodes. A node that is no more than a list also
-gives its parent a property with what is in the list, as `fields`; where the two names are the same, that one takes the place of the node.
+gives its parent a property with its items, as `fields`; where the two names are the same, that one takes the place of the node.
 """
 
 import textwrap
@@ -15,7 +15,7 @@ from .places import ENUMS
 FOLDER = TOP / "bindings/python/dumyroke"
 SOURCE = "the rows of the grammar"
 
-# The nodes that are lists, with the name of what is in them for their parents.
+# The nodes that are lists, with the name of their items for their parents.
 LISTS = {
     "SELECTION_SET": "selections",
     "ARGUMENTS": "arguments",
@@ -77,7 +77,7 @@ def property_text(name, answer, doc, body):
 
 
 def accessor_text(kind, accessor, grammar):
-    """The property of an accessor, and before it that of the list which it leads to."""
+    """The property of an accessor, and before it the property of the list which it leads to."""
     name = RENAMED.get(accessor.name, accessor.name)
     doc = typed_docs.accessor_doc(kind, accessor).replace("`", "")
     if accessor.gives_all:
@@ -90,7 +90,7 @@ def accessor_text(kind, accessor, grammar):
 
 
 def list_text(kind, grammar):
-    """The property with what is in a list, for the parents of the list."""
+    """The property with the items of a list, for the parents of the list."""
     items = [accessor for accessor in accessors(grammar, kind) if accessor.gives_all]
     if len(items) != 1:
         raise SystemExit(f"python_nodes.py: {kind} is in LISTS, and its row has no single accessor that gives all nodes")

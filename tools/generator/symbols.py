@@ -53,7 +53,7 @@ class Symbols:
         return [name for name in self.names[: self.number["DOCUMENT"]] if name not in unread]
 
     def pattern_of(self, name):
-        """The pattern of a symbol: that of the kind as which it is shown, with other symbols in some places."""
+        """The pattern of a symbol: the pattern of the kind as which it is shown, with other symbols in some places."""
         grammar = self.grammar
         own = {
             "TYPE": ("then", any_of(["NAMED_TYPE", "LIST_TYPE"]), ("or_else", any_of(["BANG"]), NOTHING)),

@@ -101,7 +101,7 @@ def table_file(lookahead):
     rows = [f"row_{name}" for name in symbols.nodes]
     own_leaves = {symbols.number[name] for name, _, _ in LEAVES}
     tokens = lookahead.classes - lookahead.names - own_leaves - {symbols.number["WHITESPACE"], symbols.number["ERROR"]}
-    return f"""{mark("--", SOURCE)}-- The rows of the grammar as automata, with what each symbol begins with. proofs/Patterns and proofs/Checks show by computing that they
+    return f"""{mark("--", SOURCE)}-- The rows of the grammar as automata, with the tokens that begin each symbol. proofs/Patterns and proofs/Checks show by computing that they
 -- agree with the rows. A symbol before DOCUMENT is a leaf, one from DOCUMENT on a node.
 use Rattle.std.specs.Prelude.{{ℕ, Bool, true, false, List, [], ◌∷◌}}
 {uses(symbols, used)}

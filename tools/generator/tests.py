@@ -1,4 +1,4 @@
-"""The generator's own tests: `tools/generate --test` runs them. Each puts one mistake into a copy of what the generator reads, and wants
+"""The generator's own tests: `tools/generate --test` runs them. Each puts one mistake into a copy of the generator's input, and wants
 the message that names the file and the kind."""
 
 import importlib
@@ -204,7 +204,7 @@ MISTAKES = [
         "places.py: nothing is in the module subscriptions of apollo_cst_executable",
     ),
     (PLACES, '"2.9.6", "VARIABLE"', '"2.9.6", "VARIABEL"', "places.py: CRATES has VARIABEL, which is no kind of node"),
-    (PLACES, '"document": ["2.2"]', '"document": ["2.2", "FIELD"]', "places.py: the enum Selection is in a crate before that of FIELD"),
+    (PLACES, '"document": ["2.2"]', '"document": ["2.2", "FIELD"]', "places.py: the enum Selection is in a crate before the crate of FIELD"),
     (
         PLACES,
         '"document": ["2.2"]',
@@ -229,7 +229,7 @@ HEADERS = [
 
 
 class Copy:
-    """A copy of what the generator reads and writes, and of the generator, in a folder that Python imports from."""
+    """A copy of the generator's input and output, and of the generator, in a folder that Python imports from."""
 
     def __init__(self, folder):
         self.folder = folder

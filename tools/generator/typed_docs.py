@@ -63,7 +63,7 @@ def doc(lines, indent=""):
 
 
 def struct_doc(grammar, kind):
-    """The documentation of a struct: that of its kind, which names the section without the standard."""
+    """The documentation of a struct: its kind's, which names the section without the standard."""
     what, *production = grammar.documentation[kind]
     value = ["", VALUES[kind]] if kind in VALUES else []
     return doc([what.replace("(section", "(GraphQL October 2021, section"), *production, *value])

@@ -115,7 +115,7 @@ part-slash text i n found fault f other e some within is after =
           ∙ ap (last_fault (or_last found last) 0) (drop-drop n i text)),
     )
 
--- an escape that is a string character leaves the last fault, and one that is none has its own
+-- an escape that is a string character leaves the last fault, and any other escape has its own
 pub good-escape : (last : LexFault) (tail : List ℕ) (n : ℕ) → n ≡ string_character_len tail → 0 < n → last ≡ after_escape last tail
 good-escape last tail n e some = ap (λ t. cond t last (escape_fault tail)) (sym (lt-ltb 0 (string_character_len tail) (omega (arith, e, some))))
 

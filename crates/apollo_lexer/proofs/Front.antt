@@ -21,7 +21,7 @@ front-boundary source n some u e =
     let m = (first_item source).1 in
     subst (IsCharBoundary source) (length-take-le m source f.within ∙ sym e) (IsCharBoundary-at_seam source (take m source) (drop m source) (sym (take-append-drop m source)) f.rest)
 
--- after what begins a number
+-- after the beginning of a number
 pub number-boundary : (source : List ℕ) (n : ℕ) → IsUtf8 source → n ≡ live_len Begin source → IsCharBoundary source n
 number-boundary source n u e =
     let m = live_len Begin source in

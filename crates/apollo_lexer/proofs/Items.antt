@@ -1,4 +1,4 @@
--- The items of a text are its first item and those of what follows it.
+-- The items of a text are its first item and those of the text after it.
 use Rattle.std.proofs.Common.{◌≡◌, ℕ, zero, suc, ◌+◌, ◌-◌, ◌<◌, ◌≤◌, List, [], ◌∷◌, length, take, drop, Some, None, refl, sym, ap, ◌∙◌, arith}
 use Rattle.lexical_grammar.specs.Cut.{Item, end_at}
 use Rattle.lexical_grammar.specs.declared.TokenKind.{TokenKind}
@@ -17,7 +17,7 @@ use Rattle.lexical_grammar.specs.Answers.{Answer, gives, limit_at, limit_index, 
 max-next : (n : ℕ) → max n (n + 1) ≡ n + 1
 max-next n = grind (arith, nat_tests)
 
--- the first item, and the items of what follows it
+-- the first item, and the items of the text after it
 pub first-then : (place : ℕ) (source : List ℕ) → 0 < length source → 0 < (first_item source).1 → (first_item source).1 ≤ length source
     → items_from place 0 source ≡ record { kind = (first_item source).0; text = take (first_item source).1 source; index = place }
     ∷ items_from (place + (first_item source).1) 0 (drop (first_item source).1 source)
@@ -99,6 +99,6 @@ item-comes limit count next_limit next_count item items rest left more same one 
     let left_is : left ≡ rest = others ∙ ap (drop 1) first in
     ap (limited (limit - count)) first ∙ limited-some (limit - count) item rest (omega arith) ∙ (λ i. gives item ∷ limited (less i) (sym left_is i))
 
--- one more was asked for, and an answer less is left
+-- the count rose by one, and an answer less is left
 pub high-kept : (high next count : ℕ) (answer : Answer) (old new : List Answer) → old ≡ answer ∷ new → high ≡ count → next ≡ max high (count + 1) → next + length new ≡ high + length old
 high-kept high next count answer old new e same asked = omega (arith, ap (λ (l : List Answer). length l) e, max-next high)

@@ -1,4 +1,4 @@
--- Messages for bad text are ASCII where the text is, and none is that of a limit.
+-- Messages for bad text are ASCII where the text is, and none is a limit's.
 use Rattle.std.proofs.Common.{◌≡◌, ℕ, Bool, true, false, ◌||◌, eqb, List, [], ◌∷◌, ◌++◌, drop, refl, sym, ap, ◌∙◌, subst, true≢false}
 use Rattle.std.specs.Prelude.{codes}
 use Rattle.std.specs.List.{list_all}
@@ -51,7 +51,7 @@ fault-begins : (fault : LexFault) (text next : List ℕ) → begins_fault (fault
 fault-begins UnexpectedCharacter text next = refl
 fault-begins _ text next = refl
 
--- a text that begins otherwise is none
+-- a text that begins otherwise is not a message for bad text
 pub no-fault-message : (text message : List ℕ) → IsFaultMessage text message → begins_fault message ≡ false → ⊥
 no-fault-message text message m h = true≢false (sym (ap begins_fault m.words ∙ fault-begins m.fault text (drop m.number_len text)) ∙ h)
 

@@ -13,7 +13,7 @@ use Rattle.lexical_grammar.specs.Reads.{block_len, quoted_len, string_character_
 use Rattle.apollo_lexer.specs.Pieces.{read_bad}
 use Rattle.lexical_grammar.proofs.StringSound.{begins-is}
 
--- a length, so many bytes longer
+-- a length, longer by a number of bytes
 abbrev pub longer : ℕ → Option ℕ → Option ℕ
 longer n o = option_map (λ m. n + m) o
 
@@ -285,11 +285,11 @@ pub quoted-bad : (text : List ℕ) (i n : ℕ) → i ≡ plain text → eqb (sli
 quoted-bad text i n is other e none =
     quoted-to text i is ∙ ap (longer i) (escape-none (drop i text) (ap (λ b. eqb b 34) (byte-at text i) ∙ other) (ap string_character_len (sym (slice-rest text i)) ∙ sym e ∙ none))
 
--- a byte of the text in what is left of the text from there on
+-- a byte of the text, in the rest of the text
 byte-there : (text : List ℕ) (i b : ℕ) → slice_index text i ≡ b → slice_index (take (length text - i) (drop i text)) 0 ≡ b
 byte-there text i b is = ap (λ l. slice_index l 0) (slice-rest text i) ∙ byte-at text i ∙ is
 
--- the byte where the search ended, if it is no quote, in what is left of the text
+-- the byte where the search ended, if it is no quote, in the rest of the text
 pub backslash-there : (text : List ℕ) (i : ℕ) → FirstAt (is_byte2 34 92) text i → eqb (slice_index text i) 34 ≡ false → slice_index (take (length text - i) (drop i text)) 0 ≡ 92
 backslash-there text i f other = byte-there text i 92 (eqb-true _ _ (slash-of text i f other))
 

@@ -39,7 +39,7 @@ punctuator-at b bs blank (Some kind) is =
       | inr none ↦ rw (blank, none) refl
     ]
 
--- what a name begins with may stand in it
+-- a character that begins a name may go on in it
 name-goes-on : (b : ℕ) → is_name_start b ≡ true → is_name_continue b ≡ true
 name-goes-on b h = elim (cases_Bool (is_name_continue b)) [
   | inl e ↦ e

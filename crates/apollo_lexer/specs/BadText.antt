@@ -24,7 +24,7 @@ fixed_fault text =
     if nat_le 4 (digits_len text) then UnpairedSurrogate
     else (if begins (34 ∷ []) (drop (2 + digits_len text) text) then IncompleteEscape else InvalidEscape)
 
--- `\u{` with its digits, by what follows them
+-- `\u{` with its digits, by the character after them
 abbrev pub braced_fault : List ℕ → LexFault
 braced_fault after =
     if begins (125 ∷ []) after then NoScalarValue
@@ -58,7 +58,7 @@ last_fault last zero (b ∷ bs) =
     else (if b == 92 then last_fault (after_escape last (b ∷ bs)) (bad_escape_len (b ∷ bs) - 1) bs
     else last_fault (after_character last b) 0 bs)
 
--- of what follows an opening quote
+-- of the text after an opening quote
 abbrev pub string_fault : List ℕ → LexFault
 string_fault [] = UnfinishedString
 string_fault (b ∷ bs) = if begins (34 ∷ 34 ∷ []) (b ∷ bs) then UnterminatedString else last_fault UnterminatedString 0 (b ∷ bs)

@@ -33,7 +33,7 @@ words UnpairedSurrogate = codes "unpaired surrogate in unicode escape sequence"
 words NoScalarValue = codes "unicode escape sequence must specify a Unicode scalar value"
 words _ = codes "Unexpected character"
 
--- the message for a fault of the text, when `next` is the character after what begins a number
+-- the message for a fault of the text, when `next` is the character after the beginning of a number
 abbrev pub fault_message : LexFault → List ℕ → List ℕ → List ℕ
 fault_message UnexpectedCharacter text next = codes "Unexpected character \"" ++ text ++ codes "\""
 fault_message NumberSuffix text next = codes "Unexpected character `" ++ next ++ codes "`"

@@ -12,7 +12,7 @@ abbrev pub lex_subject : Bool → List ℕ → Subject
 lex_subject true text = of_limit
 lex_subject false text = of_text text
 
--- its message: that of the limit, or the bad text's
+-- its message: the limit's, or the bad text's
 abbrev pub IsLexMessage : Bool → List ℕ → List ℕ → Type 0
 IsLexMessage true text message = message ≡ limit_message
 IsLexMessage false text message = message ≡ bad_text_message text

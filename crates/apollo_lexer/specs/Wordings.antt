@@ -3,7 +3,7 @@ use Rattle.std.specs.Prelude.{ℕ, List, ◌++◌, codes}
 use Rattle.apollo_lexer.specs.declared.faults.Wording.{Wording}
 use Rattle.apollo_lexer.specs.declared.faults.Wording.TheVariants.{Plain, QuotesText, QuotesNext}
 
--- the message for a text, when `next` is the character after what begins a number
+-- the message for a text, when `next` is the character after the beginning of a number
 abbrev pub worded : Wording → List ℕ → List ℕ → List ℕ
 worded (Plain words) text next = words.now
 worded QuotesText text next = codes "Unexpected character \"" ++ text ++ codes "\""

@@ -210,7 +210,7 @@ impl<A: Allocator> Error<A> {
         }
     }
 
-    // What is printed of what it is about.
+    // How its subject is printed.
     fn shown(&self) -> &str
         ensures { result.now ≡ subject_shown self.now.subject }
     {

@@ -68,7 +68,7 @@ pub fn begins_with_lead(bytes: &[u8]) -> bool
     }
 }
 
-/// The bytes of a backslash at the front and of what it takes along in a bad string.
+/// The bytes of a backslash at the front and of the characters that it takes along in a bad string.
 pub fn bad_escape_len(bytes: &[u8]) -> usize
     requires { slice_index bytes.now 0 ≡ 92 }
     ensures value { result ≡ bad_escape_len bytes.now }

@@ -90,7 +90,7 @@ fn fixed_fault(rest: &[u8]) -> LexFault
     }
 }
 
-// What is wrong with an escape in braces, by what follows its digits.
+// The fault of an escape in braces, by the character after its digits.
 fn braced_fault(after: &[u8]) -> LexFault
     ensures { result ≡ braced_fault after.now }
 {
@@ -111,7 +111,7 @@ fn has_second_escape(rest: &[u8]) -> bool
     begins_with_lead(rest) && rest[6..].starts_with(b"\\u")
 }
 
-// What is wrong with what a backslash at the front begins, which is no string character.
+// The fault of a backslash at the front that begins no string character.
 fn escape_fault(rest: &[u8]) -> LexFault
     ensures { result ≡ escape_fault rest.now }
 {
@@ -248,7 +248,7 @@ enum Wording {
     Plain(&'static str),
     // the text is quoted
     QuotesText,
-    // the character after what begins a number is quoted, and then come these words
+    // the character after the beginning of a number is quoted, and then come these words
     QuotesNext(&'static str),
 }
 
@@ -289,7 +289,7 @@ pub fn bad_text_message_parts(text: &str) -> (&'static str, &str, &'static str)
     }
 }
 
-// The error for bad text whose message is worded so, when `next` is the character after what begins a number.
+// The error for bad text whose message is worded so, when `next` is the character after the beginning of a number.
 fn worded_error<A: Allocator + Copy>(
     alloc: A,
     wording: Wording,

@@ -72,7 +72,7 @@ fn step(state: NumberState, b: u8) -> NumberState
     }
 }
 
-/// The longest beginning of a number at the front, in bytes, and what it comes to.
+/// The longest beginning of a number at the front, in bytes, and its kind.
 #[inline(never)]
 pub fn number_len(bytes: &[u8]) -> (NumberState, usize)
     ensures state { result.0 ≡ run Begin (take result.1 bytes.now) }

@@ -10,8 +10,8 @@ pub use apollo_cst_executable::{
     Alias, Argument, Arguments, BooleanValue, DefaultValue, Description, Directive, Directives,
     EnumValue, Field, FloatValue, FragmentDefinition, FragmentName, FragmentSpread, InlineFragment,
     IntValue, ListType, ListValue, Name, NamedType, NonNullType, NullValue, ObjectField,
-    ObjectValue, OperationDefinition, OperationType, Selection, SelectionSet, StringValue, Ty as
-    Type, TypeCondition, Value, Variable, VariableDefinition, VariableDefinitions,
+    ObjectValue, OperationDefinition, OperationType, Selection, SelectionSet, StringValue,
+    Ty as Type, TypeCondition, Value, Variable, VariableDefinition, VariableDefinitions,
 };
 pub use apollo_cst_type_system::{
     ArgumentsDefinition, Definition, DirectiveDefinition, DirectiveLocation, DirectiveLocations,

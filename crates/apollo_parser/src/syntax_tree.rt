@@ -8,9 +8,8 @@ ghost use Rattle.document_grammar.specs.Numbers.{is_kind};
 ghost use Rattle.apollo_parser.specs.Roots.{root_kind};
 
 use apollo_cst_core::CstNode;
+use apollo_cst_executable::{SelectionSet, Ty};
 use apollo_cst_type_system::Document;
-use apollo_cst_executable::SelectionSet;
-use apollo_cst_executable::Ty;
 use apollo_lexer::{Error, LimitTracker};
 use apollo_tree::{IndexedElement, Subtree, SyntaxNode};
 use std::alloc::{AllocError, Allocator, Global};

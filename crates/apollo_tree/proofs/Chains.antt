@@ -9,7 +9,7 @@ use Rattle.apollo_tree.specs.References.{node_place}
 use Rattle.apollo_tree.specs.Yields.{up_from}
 use Rattle.apollo_tree.proofs.Parents.{parent-before}
 
--- so many are enough for what begins at a place
+-- this number of steps is enough for a chain from a place
 pub record IsEnough (n : ℕ) (p : Option Place) : Type 0 where
   pub before : (q : Place) → p ≡ Some q → q.index < n
 

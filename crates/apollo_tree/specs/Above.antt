@@ -2,7 +2,7 @@
 use Rattle.std.specs.Prelude.{◌≡◌, ℕ, zero, suc, List, [], ◌∷◌, Option, Some, None}
 use Rattle.apollo_tree.specs.Order.{Place, parent_place}
 
--- the places are that of an element, that of its parent, and so on, and the last of them has no parent
+-- the places are an element's, its parent's, and so on, and the last of them has no parent
 abbrev pub IsChainOfParents : Option Place → List Place → Type 0
 IsChainOfParents None ps = ps ≡ []
 IsChainOfParents (Some p) [] = ⊥

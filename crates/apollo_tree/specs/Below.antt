@@ -6,7 +6,7 @@ use Rattle.document_grammar.specs.Forests.{Forest, count}
 use Rattle.apollo_tree.specs.Order.{Place, tree_at, tree_kids, kind_at, range_at}
 use Rattle.apollo_tree.specs.Children.{is_node_place}
 
--- so many places of a tree's order, from the one with the number i on
+-- a number of places of a tree's order, from the place i on
 abbrev pub places_from : Forest → ℕ → ℕ → List Place
 places_from whole i zero = []
 places_from whole i (suc n) = record { whole = whole; index = i } ∷ places_from whole (suc i) n

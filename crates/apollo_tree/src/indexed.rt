@@ -19,7 +19,7 @@ pub struct IndexedElement {
     pub is_node: bool,
     /// The byte offset at which its text begins.
     pub start: usize,
-    /// The byte offset at which its text has ended, which is that of the first byte after it.
+    /// The byte offset of the first byte after its text.
     pub end: usize,
     /// The index of the node that it is a child of; `None` for the root.
     pub parent: Option<usize>,

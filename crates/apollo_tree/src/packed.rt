@@ -143,7 +143,7 @@ impl Packed for Record {
 }
 
 impl SmallRecord {
-    // Whether a table of so many records can take one more in this form.
+    // Whether a table with this number of records can take one more in this form.
     #[inline]
     pub fn fits(len: usize, row: Record) -> bool
         ensures len { result ≡ true → len + 1 < 2 ^ 28 }
@@ -212,7 +212,7 @@ impl SmallRecord {
 }
 
 impl NarrowRecord {
-    // Whether a table of so many records can take one more in this form.
+    // Whether a table with this number of records can take one more in this form.
     #[inline]
     pub fn fits(len: usize, row: Record) -> bool
         ensures len { result ≡ true → len + 1 < 2 ^ 32 }

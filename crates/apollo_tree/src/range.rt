@@ -42,7 +42,7 @@ impl TextRange {
         self.start
     }
 
-    /// The byte offset at which the range ends, which is that of the first byte after it.
+    /// The byte offset of the first byte after the range.
     pub fn end(self) -> usize
         ensures { result ≡ self.1 }
     {

@@ -15,7 +15,7 @@ use document_grammar::SyntaxKind;
 use std::alloc::{AllocError, Allocator, Global};
 use std::marker::Model;
 
-/// A place between the elements of what is being built, where a node can be opened later: the number of elements before it.
+/// A place between the elements built so far, where a node can be opened later: the number of elements before it.
 #[derive(Clone, Copy)]
 pub struct Checkpoint {
     pub place: usize,
@@ -66,7 +66,7 @@ impl<A: Allocator + Copy> SpanBuilder<A> {
         }
     }
 
-    // Opens a node as `start_node` does, where memory may have to be asked for.
+    // Opens a node as `start_node` does, where memory may have to grow.
     #[cold]
     #[inline(never)]
     fn start_node_growing(&mut self, kind: SyntaxKind) -> Result<(), AllocError>
@@ -82,7 +82,7 @@ impl<A: Allocator + Copy> SpanBuilder<A> {
         Ok(())
     }
 
-    /// Opens a node after what has been built. Its children are what is built until it is closed.
+    /// Opens a node after the trees built so far. Its children are what is built until it is closed.
     pub fn start_node(&mut self, kind: SyntaxKind) -> Result<(), AllocError>
         ensures ok { OnOk result (self.new ≡ start kind self.old) }
         ensures calls { OnOk result (written self.new ≡ written self.old ++ Opening kind ∷ []) }
@@ -151,7 +151,7 @@ impl<A: Allocator + Copy> SpanBuilder<A> {
         }
     }
 
-    // Adds a leaf as `token` does, where memory may have to be asked for.
+    // Adds a leaf as `token` does, where memory may have to grow.
     #[cold]
     #[inline(never)]
     fn token_growing(&mut self, kind: SyntaxKind, text: &str) -> Result<(), AllocError>
@@ -167,7 +167,7 @@ impl<A: Allocator + Copy> SpanBuilder<A> {
         Ok(())
     }
 
-    /// Adds a leaf after what has been built. The leaves' texts, joined, are the tree's text, which has to stay shorter than 2 ^ 64 bytes.
+    /// Adds a leaf after the trees built so far. The leaves' texts, joined, are the tree's text, which has to stay shorter than 2 ^ 64 bytes.
     pub fn token(&mut self, kind: SyntaxKind, text: &str) -> Result<(), AllocError>
         requires { length (built_text self.old) + length text.now < 2 ^ 64 }
         ensures ok { OnOk result (self.new ≡ add_leaf kind text.now self.old) }
@@ -184,7 +184,7 @@ impl<A: Allocator + Copy> SpanBuilder<A> {
         self.token_growing(kind, text)
     }
 
-    // Adds a node of one leaf as `leaf_node` does, where memory may have to be asked for.
+    // Adds a node of one leaf as `leaf_node` does, where memory may have to grow.
     #[cold]
     #[inline(never)]
     fn leaf_node_growing(

@@ -37,7 +37,7 @@ taken_failed bytes rest old now t some = record { written = t.written; rest = re
 pub taken_stopped : (bytes rest : List ℕ) (old now : Account) → IsTaken bytes rest old now → 0 < length rest → IsBroken bytes old (stopped now)
 taken_stopped bytes rest old now t some = record { written = t.written; rest = rest; joined = t.joined; more = some; ends = inr (ap stopped t.account) }
 
--- a call of the writer took some of what is left
+-- a call of the writer took some of the bytes that are left
 pub taken_call : {E : Type 0} (r : Result ℕ E) (n : ℕ) (bytes rest : List ℕ) (old now new : Account) → IsTaken bytes rest old now → r ≡ Ok n → n ≢ 0 → n ≤ length rest → new ≡ after now r rest
     → IsTaken bytes (take (length rest - n) (drop n rest)) old new
 taken_call r zero bytes rest old now new t e some within a = absurd (some refl)

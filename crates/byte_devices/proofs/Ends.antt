@@ -16,7 +16,7 @@ module _ {T : Type 0} (IsOutput : List ℕ → T → List ℕ → Type 0) where
   cut_off Utf8 input outcome output r r' w w' read text made broken = absurd broken
   cut_off Memory input outcome output r r' w w' read text made broken = absurd broken
 
-  -- the same, of what was read as a text, and of what was made as bytes
+  -- the same, of the input as a text, and of the output as bytes
   pub cut : (fault : Fault) (outcome : T) (input slice source output bytes : List ℕ) (r r' w w' : Account) → r' ≡ stopped (moved r input) → slice ≡ input
       → (source ≡ slice) × IsUtf8 slice → IsOutput source outcome output → bytes ≡ output → EndsWriting fault bytes w w' → Reads {T = T} (Err fault) input r r' × Writes IsOutput (Err fault) input w w'
   cut fault outcome input slice source output bytes r r' w w' read whole text made all broken =

@@ -14,7 +14,7 @@ Reads (Err Utf8) input old new = new ≡ stopped (moved old input)
 Reads (Err Write) input old new = new ≡ stopped (moved old input)
 Reads (Ok outcome) input old new = new ≡ stopped (moved old input)
 
--- `IsOutput input outcome output` says what is written of an input, by what was found in it
+-- `IsOutput input outcome output` is the output for an input, by its outcome
 module _ {T : Type 0} (IsOutput : List ℕ → T → List ℕ → Type 0) where
   -- all that is written of the input, which is UTF-8, was taken
   pub record IsWritten (outcome : T) (input : List ℕ) (old new : Account) : Type 0 where

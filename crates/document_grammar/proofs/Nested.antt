@@ -93,7 +93,7 @@ mutual
 pub nest-bare : (t : Tree) → nest (bare t) ≡ nest t
 nest-bare t = rw (root-bare t, below-bare t) refl
 
--- The nesting of what stands in a node of the kind `p`.
+-- The nesting inside a node of the kind `p`.
 unfoldable pub inner : ℕ → built.Forest → ℕ
 inner p f = belows p (numbered f)
 

@@ -1,4 +1,4 @@
--- A test of each kind and text of a list holds of one that stands there.
+-- A test of each kind and text of a list holds of each one in it.
 use Rattle.std.proofs.Common.{◌≡◌, ℕ, Bool, true, List, [], ◌∷◌, subst, inl, inr}
 use Rattle.document_grammar.specs.Booleans.{◌and◌}
 use Rattle.document_grammar.specs.Tree.{Text}

@@ -51,7 +51,7 @@ abbrev pub IsLeafOf : Option TokenKind → Leaf → Type 0
 IsLeafOf None l = l.kind ≡ kind.ERROR
 IsLeafOf (Some k) l = IsLeafOfToken k (ignored k) l
 
--- One for one and in order: each item is a leaf with its text. The limit is none, and the end may be left out.
+-- One for one and in order: each item is a leaf with its text. The limit has no leaf, and the end may be left out.
 pub data OneLeafAnItem : List Answer → List Leaf → Type 0 where
   nothing : OneLeafAnItem [] []
   one : {item : Item} {answers : List Answer} {l : Leaf} {ls : List Leaf} → l.text ≡ item.text → IsLeafOf item.kind l → OneLeafAnItem answers ls → OneLeafAnItem (gives item ∷ answers) (l ∷ ls)

@@ -1,4 +1,4 @@
--- What holds of a tree with errors: which children a node may have, and where tokens stand that were left over. The standard says nothing of such
+-- What holds of a tree with errors: which children a node may have, and where left over tokens are. The standard says nothing of such
 -- trees, so these are this project's own promises.
 use Rattle.std.specs.Prelude.{◌≡◌, ◌≢◌, ℕ, ◌+◌, ◌≤◌, Bool, true, false, ◌&&◌, ◌⊎◌, cond, eqb, List, [], ◌∷◌, ◌++◌, length, Option, Some, None, IsTrue, IsFalse}
 use Rattle.std.specs.List.{list_any, All}
@@ -32,7 +32,7 @@ abbrev pub MayStand : ℕ → Tree → Type 0
 MayStand k (leaf j x) = IsTrue (is_ignored j) ⊎ IsTrue (member j (ERROR ∷ SPREAD ∷ symbols (Row k)))
 MayStand k (node j f) = IsTrue (member j (symbols (Row k)))
 
--- Each child may stand in its node.
+-- Each child may be in its node.
 abbrev mutual
   pub Rowed : Tree → Type 0
   Rowed (leaf j x) = Unit {0}
@@ -81,7 +81,7 @@ NoBracket items place (node k g ▸ f) = NoBracket items (place + length (texts 
 abbrev pub Spares : List Item → ℕ → ℕ → Forest → Type 0
 Spares items place k f = (k ≡ LIST_VALUE → NoBracket items place f) × (k ≢ LIST_VALUE → count_left_over items place f ≤ 1)
 
--- Each token that was left over was told, with its place and its text; and the nodes below spare the others.
+-- Each token that was left over has an error with its place and its text; and the nodes below spare the others.
 abbrev pub LeftOver : (ℕ → Text → Type 0) → List Item → ℕ → Forest → Type 0
 LeftOver Told items place none = Unit {0}
 LeftOver Told items place (leaf k x ▸ f) = (IsTrue (left_over items place k) → Told place x) × LeftOver Told items (place + length x) f

@@ -135,7 +135,7 @@ children =
     )
     ∷ (DIRECTIVE_LOCATIONS, optional PIPE then one DIRECTIVE_LOCATION then many (one PIPE then one DIRECTIVE_LOCATION))
     ∷ (DIRECTIVE_LOCATION, any_of DirectiveLocations)
-    -- the extensions, in the sections of what they extend; each has at least one of its parts
+    -- the extensions, in the sections of the definitions that they extend; each has at least one of its parts
     ∷ (
       SCHEMA_EXTENSION,
       one extend_KW then one schema_KW
@@ -161,7 +161,7 @@ Row k = row_in children k
 abbrev pub bare_selections : Pattern
 bare_selections = some (any_of Selections)
 
--- The three rows of the first profile, which is that of the standard: without descriptions.
+-- The three rows of the first profile, the standard's: without descriptions.
 abbrev pub first_operation : Pattern
 first_operation =
     one SELECTION_SET

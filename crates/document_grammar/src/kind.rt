@@ -1,6 +1,6 @@
 /// The kinds of the leaves and nodes of syntax trees, in the order of their numbers, which are this project's own.
 ///
-/// Leaves come first. WHITESPACE, COMMENT and COMMA are those of ignored tokens (GraphQL October 2021, section 2.1.7), ERROR that of what
+/// Leaves come first. WHITESPACE, COMMENT and COMMA are those of ignored tokens (GraphQL October 2021, section 2.1.7), ERROR of text that
 /// the grammar refuses. Then come the punctuators, IDENT, INT, FLOAT and STRING, and the keywords, each a Name with the kind's name
 /// without `_KW` as its text. Nodes begin with DOCUMENT; their children are those of the standard's sections 2 and 3.
 ///
@@ -403,7 +403,7 @@ mod tests {
     use super::*;
     use std::test::Fail;
 
-    // Each number below the count is that of one kind, and no other number is.
+    // Each number below the count is one kind's, and no other number is.
     #[test]
     fn numbers(rt: HostRuntime) {
         for number in 0..SyntaxKind::COUNT {

@@ -27,7 +27,7 @@ text-within {source} {r} {k} t p =
     let first : length (texts (take k (items_of source))) ≤ length (texts (items_of source)) = first-of (λ (item : Item). item.text) k (items_of source) in
     omega (arith, ap length p.lossless, ap length p.cut.joined, first)
 
--- the messages with that of the next error
+-- the messages with the next error's
 pub messages-more : (es : List Diagnostic) (i j : ℕ) (d : Diagnostic) → j ≡ i + 1 → i < length es → messages (take j es) ≡ messages (take i es) ++ (get_or es i d).message
 messages-more [] i j d e l = absurd (omega arith)
 messages-more (x ∷ es) i zero d e l = absurd (omega arith)

@@ -1,4 +1,4 @@
--- What a caller asks for that calls again, with the room that the first call counted.
+-- A second call, with the room that the first call counted.
 use Rattle.std.specs.Prelude.{◌≡◌, ℕ, List, length}
 use Rattle.apollo_parser.specs.Parsed.{Parsed}
 use Rattle.dumyroke_flat.specs.declared.rows.Counts.{Counts}

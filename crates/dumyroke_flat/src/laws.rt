@@ -1,4 +1,4 @@
-//! Laws of what the calls give: calls that do nothing, each with a theorem as its contract.
+//! Laws of the calls' results: calls that do nothing, each with a theorem as its contract.
 
 ghost use Rattle.std.specs.Prelude.{◌≡◌, List, ℕ, length};
 ghost use Rattle.apollo_parser.specs.StringValues.{IsStringValue};

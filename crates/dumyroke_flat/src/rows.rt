@@ -83,9 +83,9 @@ pub struct Counts {
     pub errors: usize,
     /// How many bytes all messages have.
     pub message_bytes: usize,
-    /// The greatest nesting that was asked for.
+    /// The highest nesting, entered or refused.
     pub recursion_high: usize,
-    /// How many items were asked for.
+    /// How many items were read, and one more where the token limit is met.
     pub token_high: usize,
     /// One of the numbers of the module `status`.
     pub status: u32,

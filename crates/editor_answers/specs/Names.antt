@@ -1,4 +1,4 @@
--- The names in a document, what they stand for (GraphQL, October 2021), and where these things are defined and used.
+-- The names in a document, their meanings (GraphQL, October 2021), and where these are defined and used.
 use Rattle.std.specs.Prelude.{ℕ, List, [], ◌∷◌, Bool, false, not, ◌&&◌, ◌||◌, nat_le, Option, Some, None, option_and_then, option_map, unwrap_or}
 use Rattle.std.specs.List.{filter, find, list_any}
 use Rattle.std.specs.Str.{bytes_eq}
@@ -14,7 +14,7 @@ use Rattle.editor_answers.specs.declared.names.NameKind.{NameKind}
 use Rattle.editor_answers.specs.declared.names.NameKind.TheVariants.{Fragment, Variable, «Type» as of_type, Directive}
 use Rattle.editor_answers.specs.declared.names.TheConstants.{TYPE_DEFINITIONS, TYPE_EXTENSIONS}
 
--- ---- what a name stands for
+-- ---- the meaning of a name
 
 abbrev pub is_of : SyntaxKind → Place → Bool
 is_of kind place = is_kind kind (kind_at place)
@@ -26,7 +26,7 @@ abbrev pub holds : {A : Type 0} → (A → Bool) → Option A → Bool
 holds test None = false
 holds test (Some x) = test x
 
--- whether the name in a node stands for such a thing
+-- whether the name in a node has this meaning
 abbrev pub names : NameKind → Place → Bool
 names Fragment node = is_of FRAGMENT_NAME node
 names Variable node = is_of VARIABLE node
@@ -40,7 +40,7 @@ defines Variable node = holds (is_of VARIABLE_DEFINITION) (parent_place node)
 defines of_type node = is_of_one TYPE_DEFINITIONS node
 defines Directive node = is_of DIRECTIVE_DEFINITION node
 
--- the node in which a leaf is the name: that of the node NAME around the leaf
+-- the node in which a leaf is the name: the parent of the node NAME around the leaf
 abbrev pub named_by : Place → Option Place
 named_by leaf = option_and_then parent_place (parent_place leaf)
 
@@ -70,14 +70,14 @@ abbrev pub above : Option Place → List Place
 above None = []
 above (Some parent) = at_or_above parent
 
--- Where a name has its meaning: that of a variable in the operation that it is in, any other in the whole document.
+-- Where a name has its meaning: a variable's name in the operation that it is in, any other in the whole document.
 abbrev pub scope_of : Place → Place → NameKind → Place
 scope_of root leaf Fragment = root
 scope_of root leaf Variable = unwrap_or (find (is_of OPERATION_DEFINITION) (above (parent_place leaf))) root
 scope_of root leaf of_type = root
 scope_of root leaf Directive = root
 
--- what is asked for: what a name stands for, its text, and the node in which it has this meaning
+-- the name that is looked for: its meaning, its text, and the node in which it has this meaning
 pub record Wanted : Type 0 where
   pub kind : NameKind
   pub text : List ℕ
@@ -86,11 +86,11 @@ pub record Wanted : Type 0 where
 abbrev pub wanted : NameKind → List ℕ → Place → Wanted
 wanted kind text scope = record { kind = kind; text = text; scope = scope }
 
--- what a name asks for
+-- the search for a name
 abbrev pub wanted_by : Place → Place → Option Wanted
 wanted_by root leaf = option_map (λ kind. wanted kind (text_at leaf) (scope_of root leaf kind)) (option_and_then kind_in (named_by leaf))
 
--- what the name at an offset asks for
+-- the search for the name at an offset
 abbrev pub wanted_at : Place → ℕ → Option Wanted
 wanted_at root offset = option_and_then (wanted_by root) (find (is_touched offset) (at_or_below root))
 
@@ -98,7 +98,7 @@ wanted_at root offset = option_and_then (wanted_by root) (find (is_touched offse
 abbrev pub definition_in : Place → ℕ → Option Place
 definition_in root offset = option_and_then (λ w. find (is_definition w.kind w.text) (at_or_below w.scope)) (wanted_at root offset)
 
--- a use of the name, or a definition where these are asked for too
+-- a use of the name, or a definition where these count too
 abbrev pub is_reference : Bool → NameKind → List ℕ → Place → Bool
 is_reference with_definition kind text leaf = is_name kind text leaf && (with_definition || not (is_definition kind text leaf))
 

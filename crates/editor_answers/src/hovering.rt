@@ -47,7 +47,7 @@ fn definition_of<'t>(root: SyntaxNode<'t>, kind: NameKind, name: &str) -> Option
     None
 }
 
-// The definition that tells of a name: that of its type or directive, or the field, argument or value that it names.
+// The definition that describes a name: of its type or directive, or the field, argument or value that it names.
 fn described_by<'t>(root: SyntaxNode<'t>, leaf: SyntaxToken<'t>) -> Option<SyntaxNode<'t>> {
     if let Some(meaning) = meaning_of(leaf) {
         return definition_of(root, meaning.kind, leaf.text());

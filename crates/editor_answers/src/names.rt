@@ -10,7 +10,7 @@ ghost use Rattle.editor_answers.specs.Names.{defines, holds, is_of, kind_in, mea
 use crate::labels::is_one_of;
 use apollo_tree::{SyntaxKind, SyntaxNode, SyntaxToken};
 
-/// What a name stands for.
+/// The meaning of a name.
 #[derive(Clone, Copy, PartialEq, Eq)]
 pub enum NameKind {
     Fragment,
@@ -19,7 +19,7 @@ pub enum NameKind {
     Directive,
 }
 
-/// A name that has a definition: what it stands for, and whether it is the one in the definition.
+/// A name that has a definition: its meaning, and whether it is the one in the definition.
 #[derive(Clone, Copy)]
 pub struct Meaning {
     pub kind: NameKind,
@@ -68,7 +68,7 @@ pub(crate) fn is_in(node: SyntaxNode<'_>, kind: SyntaxKind) -> bool
     }
 }
 
-// Whether the name in a node stands for such a thing.
+// Whether the name in a node has this meaning.
 fn names(node: SyntaxNode<'_>, kind: NameKind) -> bool
     ensures { result ≡ names kind (node_place node.entry) }
 {
@@ -95,7 +95,7 @@ fn defines(node: SyntaxNode<'_>, kind: NameKind) -> bool
     }
 }
 
-// What the name in a node stands for.
+// The meaning of the name in a node.
 fn kind_in(node: SyntaxNode<'_>) -> Option<NameKind>
     ensures { result ≡ kind_in (node_place node.entry) }
 {
@@ -139,14 +139,14 @@ pub(crate) fn is_defined_by(leaf: SyntaxToken<'_>, kind: NameKind) -> bool
     }
 }
 
-/// What the name that a leaf is stands for.
+/// The meaning of a leaf that is a name.
 pub(crate) fn kind_of(leaf: SyntaxToken<'_>) -> Option<NameKind>
     ensures { result ≡ option_and_then kind_in (named_by (token_place leaf.entry)) }
 {
     kind_in(named_by(leaf)?)
 }
 
-/// What an identifier stands for, where it is the name of something that a document defines.
+/// The meaning of an identifier, where it is the name of something that a document defines.
 pub fn meaning_of(leaf: SyntaxToken<'_>) -> Option<Meaning>
     ensures { result ≡ (if is_of IDENT (token_place leaf.entry) then meaning_at (token_place leaf.entry) else None) }
 {

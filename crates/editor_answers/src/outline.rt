@@ -109,7 +109,7 @@ fn detail_of<'t>(node: SyntaxNode<'t>) -> &'t str {
     }
 }
 
-/// The symbol that a node is. `None` where it is none.
+/// The symbol of a node. `None` where it has none.
 pub fn symbol_of<'t>(node: SyntaxNode<'t>) -> Option<Symbol<'t>> {
     let kind = found_in(&SYMBOL_KINDS, node.kind())?;
     let (name, name_span) = label_of(node);

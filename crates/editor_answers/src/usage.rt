@@ -15,7 +15,7 @@ use crate::span::{Span, span_of};
 use apollo_tree::{SyntaxElement, SyntaxKind, SyntaxNode, SyntaxToken};
 use std::alloc::{AllocError, Global};
 
-// A name that is looked for: what it stands for, how it is written, and the node in which it means this.
+// A name that is looked for: its meaning, its text, and the node in which it means this.
 #[derive(Clone, Copy)]
 struct Sought<'t> {
     kind: NameKind,
@@ -42,7 +42,7 @@ fn operation_around<'t>(leaf: SyntaxToken<'t>) -> Option<SyntaxNode<'t>>
     operation_from(leaf.parent()?)
 }
 
-// Where a name has its meaning: that of a variable in the operation that it is in, any other in the whole document.
+// Where a name has its meaning: a variable's name in the operation that it is in, any other in the whole document.
 fn scope_of<'t>(root: SyntaxNode<'t>, leaf: SyntaxToken<'t>, kind: NameKind) -> SyntaxNode<'t>
     ensures { node_place result ≡ scope_of (node_place root.entry) (token_place leaf.entry) kind }
 {

@@ -1,4 +1,4 @@
--- What a client is told of the errors of a document.
+-- The notice of a document's errors to a client.
 use Rattle.std.specs.Prelude.{ℕ, zero, suc, ℤ, ◌==◌, if◌then◌else◌, ◌+◌, ◌-◌, List, [], ◌∷◌, ◌++◌, length, map, take, Option, Some, None, codes, decimal}
 use Rattle.std.specs.Fmt.{signed_decimal}
 use Rattle.json.specs.Json.{Json, Members, array, member, no_members, number, object, string}
@@ -31,7 +31,7 @@ noun_of n = if n == 1 then codes "error" else codes "errors"
 abbrev pub more_words : ℕ → List ℕ
 more_words n = decimal n ++ (codes " more " ++ noun_of n)
 
--- so many more errors, at the front of the text
+-- the number of further errors, at the front of the text
 abbrev pub more_diagnostics : PositionEncoding → List ℕ → ℕ → List Json
 more_diagnostics encoding text zero = []
 more_diagnostics encoding text (suc n) = diagnostic (position_of encoding text 0) (position_of encoding text 0) (more_words (suc n)) ∷ []

@@ -1,4 +1,4 @@
--- The tokens of what a client is told, part by part.
+-- The tokens of a notice of errors, part by part.
 use Rattle.std.specs.Prelude.{ℕ, ℤ, List, [], ◌∷◌, Option, Some, None, codes}
 use Rattle.std.specs.Fmt.{signed_decimal}
 use Rattle.std.specs.List.{flat_map}

@@ -10,7 +10,7 @@ use apollo_lexer::Error;
 use rpc_messages::Piece;
 use std::alloc::AllocError;
 
-/// How many errors of a document a client is told.
+/// How many errors of a document a client gets.
 pub const TOLD: usize = 100;
 
 // What follows a diagnostic's range.

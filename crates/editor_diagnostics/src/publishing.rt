@@ -1,4 +1,4 @@
-// What a client is told of the errors of a document.
+// The notice of a document's errors to a client.
 ghost use Rattle.std.specs.Prelude.{◌≡◌, ◌++◌, ◌∷◌, [], IfOk, OnOk, None, flat_map, string_bytes, take};
 ghost use Rattle.json.specs.Json.{Members, object};
 ghost use Rattle.json.specs.Token.{end_array, end_object};
@@ -46,7 +46,7 @@ fn push_front<'p>(
     }
 }
 
-// The errors that a client is told.
+// The errors that a client gets.
 fn first_errors(errors: &[Error]) -> &[Error]
     ensures { result.now ≡ take 100 errors.now }
 {

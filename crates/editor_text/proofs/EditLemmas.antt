@@ -1,4 +1,4 @@
--- A change of a text in bytes, and that of its units.
+-- A change of a text in bytes, and in its units.
 use Rattle.std.proofs.Common.{◌≡◌, ℕ, ◌+◌, ◌-◌, ◌≤◌, max, List, ◌++◌, length, take, drop, sym, ap, ◌∙◌, subst, inl, inr, arith, length-append}
 use Rattle.std.specs.Prelude.{Some}
 use Rattle.std.specs.List.{replace_range}

@@ -1,4 +1,4 @@
-// Syntax errors with their lines and columns, and with what they are about underlined.
+// Syntax errors with their lines and columns, and with their subjects underlined.
 ghost use Rattle.std.specs.Prelude.{◌≤◌, length};
 
 use apollo_parser::{DocumentRoot, Error, SyntaxTree};

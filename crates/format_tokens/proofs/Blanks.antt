@@ -1,4 +1,4 @@
--- Line feeds and spaces at the end of what was written: a token of their own, or more of the white space there.
+-- Line feeds and spaces at the end of the output: a token of their own, or more of the white space there.
 use Rattle.std.proofs.Common.{inl, inr, ◌≡◌, ℕ, ◌<◌, true, List, [], ◌∷◌, ◌++◌, length, get_or, take, zero, suc, refl, sym, ap, ◌∙◌, subst, arith, append_assoc, append-nil, length-append}
 use Rattle.std.specs.Prelude.{◌-◌, bytes_eq, encode_utf8_all, slice_index, slice_range}
 use Rattle.std.specs.List.{list_all}

@@ -1,4 +1,4 @@
--- One more token at the end of what was written.
+-- One more token at the end of the output.
 use Rattle.std.proofs.Common.{◌≡◌, ℕ, true, List, [], ◌∷◌, ◌++◌, refl, sym, ap, ◌∙◌, subst, append_assoc, append-nil}
 use Rattle.std.proofs.lemmas.Bool.{and_parts, and_from}
 use Rattle.lexical_grammar.specs.Tokens.{Tok}

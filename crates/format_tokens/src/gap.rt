@@ -1,6 +1,6 @@
 // What is to be between two tokens.
 
-/// What is to be between a token and the one before it: perhaps a comma, then line feeds, then spaces. It is advice: the writer puts in what
+/// What is to be between a token and the one before it: perhaps a comma, then line feeds, then spaces. It is advice: the writer adds the white space that
 /// keeps the tokens apart, and leaves a comma out after a comment.
 #[derive(Clone, Copy)]
 pub struct Gap {

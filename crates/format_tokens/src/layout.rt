@@ -1,4 +1,4 @@
-// The writer of tokens and of what is between them. What is called for each token is inlined: the whole program takes some 3 % less time.
+// The writer of tokens and of the gaps between them. Functions called for each token are inlined: the whole program takes some 3 % less time.
 ghost use Rattle.std.specs.Prelude.{◌≡◌, ◌<◌, true, [], List, IfOk, OnOk, length, slice_index, string_bytes};
 ghost use Rattle.std.specs.List.{list_all};
 ghost use Rattle.lexical_grammar.specs.Cut.{Word};
@@ -26,7 +26,7 @@ pub struct Layout<A: Allocator> {
 }
 
 impl<A: Allocator> Layout<A> {
-    /// A writer that has written nothing, with room for so many bytes. It fails only where memory is refused.
+    /// A writer that has written nothing, with room for `capacity` bytes. It fails only where memory is refused.
     pub fn with_capacity(alloc: A, capacity: usize) -> Result<Layout<A>, AllocError>
         ensures { IfOk result (λ l. Laid (string_bytes l.text) l.edge []) }
     {

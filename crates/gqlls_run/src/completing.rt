@@ -1,8 +1,8 @@
 // What may come next.
 use crate::parsing::parse;
 use apollo_parser::{DocumentRoot, SyntaxKind, SyntaxNode, SyntaxToken, SyntaxTree};
-use editor_diagnostics::Places;
 use editor_answers::{NameKind, meaning_of, span_of};
+use editor_diagnostics::Places;
 use rpc_messages::Piece;
 use std::alloc::{AllocError, Global};
 

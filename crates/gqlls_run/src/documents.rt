@@ -11,8 +11,8 @@ ghost use Rattle.gqlls_run.specs.Told.{IsTold};
 use crate::parsing::parse;
 use apollo_parser::{DocumentRoot, SyntaxTree};
 use editor_diagnostics::{Places, publication};
-use line_index::PositionEncoding;
 use editor_text::{Change, OpenDocument};
+use line_index::PositionEncoding;
 use std::alloc::{AllocError, Global};
 use std::collections::BTreeMap;
 

@@ -10,11 +10,11 @@ use crate::formatting::answer_layout;
 use crate::layout::format_part;
 use crate::parameters::{asks_for_definition, offset_of, offsets_of, span_of};
 use apollo_parser::SyntaxNode;
-use editor_diagnostics::Places;
 use editor_answers::{
     answer_hover, answer_symbols, answer_tokens, push_definition, push_folds, push_references,
     push_selections,
 };
+use editor_diagnostics::Places;
 use json::Value;
 use rpc_messages::{Piece, answer, code, refusal};
 use std::alloc::{AllocError, Global};

@@ -112,7 +112,7 @@ document-arc q u h o =
     let c = implies _ _ (arc-test document_test document-checked DOCUMENT q (root u) node-symbols.0 h) refl in
     (not-c _ (and-l _ _ (and-l _ _ c)), eqb-true _ _ (and-r _ _ (and-l _ _ c)), ltb-true _ _ (exits-at u (λ x. ltb x 2) (and-r _ _ c) o))
 
--- After a definition that lacks its block an operation is none that begins with a selection set.
+-- After a definition that lacks its block no operation begins with a selection set.
 abbrev no_selections : List (ℕ × ℕ) → Bool
 no_selections l = all_arcs l (λ k q. not (member SELECTION_SET (shown k)))
 

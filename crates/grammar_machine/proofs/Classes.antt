@@ -15,7 +15,7 @@ only (k ∷ ks) = 2 ^ k + only ks
 abbrev pub but : List ℕ → ℕ
 but ks = any - only ks
 
--- A class that is in two sets is in what they share.
+-- A class that is in two sets is in their intersection.
 pub holds-and : (a x y : ℕ) → holds a x ≡ true → holds a y ≡ true → holds a (bit_and x y) ≡ true
 unfolding holds
 holds-and a x y h k = let e : bit_at (bit_and x y) a ≡ 1 = omega (arith, bit_at_and x y a, eqb-true _ _ h, eqb-true _ _ k) in rw e refl

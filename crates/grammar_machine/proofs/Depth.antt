@@ -1,4 +1,4 @@
--- How deep the trees of the tables nest: the nesting of the open nodes, and that of a derivation, is that of the tree in the end.
+-- How deep the trees of the tables nest: the nesting of the open nodes, and of a derivation, is the nesting of the tree in the end.
 use Rattle.std.proofs.Common.{◌≡◌, ℕ, ◌+◌, ◌≤◌, max, List, [], ◌∷◌, ap, arith, refl, ap₂, ◌∙◌, ◌⊎◌, inl, inr, eqb, eqb-true, true}
 use Rattle.document_grammar.proofs.Booleans.{either, false-true}
 use Rattle.document_grammar.proofs.Nested.{weight, weight-none, weight-no_value, uncounted, belows-append, belows-same}
@@ -75,7 +75,7 @@ left-depth (frame s q f ∷ fs) r t h =
     let b : depth_above fs s + nestings s (f +++ h.0) ≤ nesting_all t = upper-depth fs (node s (f +++ h.0)) h.1 t h.4 in
     omega arith
 
--- The nesting of a derivation is that of its tree of the tables. A child's part, under a parent of the kind `j`:
+-- A derivation nests as deep as its tree of the tables. A child's part, under a parent of the kind `j`:
 abbrev part_of : ℕ → Tree → ℕ
 part_of j t = weight j (root t) + below t
 

@@ -103,6 +103,6 @@ module _ (s0 : ℕ) (b : begins_parse s0 ≡ true) where
   unfolding first
   fault-left w q f r c m left = faulty w (frame s0 q f ∷ []) r c (λ t u v p h e1 e2. left (e1 ∙ ap first (done-all t (u ++ v) q f v p h (rw (e1, e2) at m)).0))
 
-  -- So a fault before the end of the tokens of a tree is none.
+  -- So there is no fault before the end of the tokens of a tree.
   pub no-fault : (t : Tree) (w r : List Token) → Parse s0 t w → Fault w r → ⊥
   no-fault t w r p h = h.not_early t r (subst (λ (z : List Token). Parse s0 t z) h.split p) refl refl

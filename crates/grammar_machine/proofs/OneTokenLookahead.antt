@@ -1,4 +1,4 @@
--- Configurations that depend on the tokens read and the next one alone: those after a leaf, and after moves that don't ask for the
+-- Configurations that depend on the tokens read and the next one alone: those after a leaf, and after moves that don't look at the
 -- second token. For the recursion limit: each tree whose tokens begin with those read and the next one has these nodes open there.
 use Rattle.std.proofs.Common.{◌≡◌, ℕ, ◌+◌, true, List, [], ◌∷◌, ◌++◌, refl, sym, ◌∙◌, subst, IsTrue, append_assoc}
 use Rattle.document_grammar.specs.Tree.{Token, leaf, node, Forest, none, ◌▸◌, ◌+++◌}

@@ -61,7 +61,7 @@ sound-all sort w t f r h e =
     let d = done-all (start_symbol sort w) (opens sort (first w)) a.0 w e.0 f r a.1 e.1 e.2 in
     (d.0, ap show d.1 ∙ a.2)
 
--- Acceptance: a fault in the tokens of a sentence is none.
+-- Acceptance: the tokens of a sentence have no fault.
 pub accepts : (sort : Sort) (w r : List Token) (t : Tree) → Spells w t sort → FaultIn sort w r → ⊥
 accepts sort w r t h k = let a = sentence-parse sort w t h in no-fault (start_symbol sort w) (opens sort (first w)) a.0 w r a.1 k
 
@@ -74,7 +74,7 @@ begins-at sort w fs r c =
     let h = viable (no-leaf s o) (can-end s o) c in
     (spent fs, reach-spent c, (show h.0, h.1, parse-sentence sort (first w) (spent fs ++ h.1) h.0 h.2 h.3 h.4, h.5))
 
--- No early fault: no sentence begins with what is before it and the next two tokens.
+-- No early fault: no sentence begins with the tokens before it and the next two.
 pub not-starts : (sort : Sort) (w r : List Token) (k : FaultIn sort w r) → Starts sort (read k.before ++ next_two r) → ⊥
 not-starts sort w r k h =
     let a = after-two k.before r h.0 h.2 h.4 in

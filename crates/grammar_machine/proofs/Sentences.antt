@@ -1,4 +1,4 @@
--- Worked texts: sentences with the nesting of their derivations, near misses that are none, and tokens that start none.
+-- Worked texts: sentences with the nesting of their derivations, near misses that are not, and tokens that start no sentence.
 use Rattle.std.proofs.Common.{ℕ, List, [], ◌∷◌, refl}
 use Prim.Native.String.{String}
 use Rattle.std.specs.Prelude.{codes}
@@ -94,7 +94,7 @@ types-worked : AllWorked type types
 unfolding running
 types-worked = all-worked type types refl
 
--- Texts that are none.
+-- Texts that are not sentences.
 abbrev no_documents : List String
 no_documents =
     ""

@@ -107,7 +107,7 @@ leaf-token l b a i f =
     let c = fired (entries l) (λ x. cond (holds l name_leaves) (subset x name_classes) (eqb x (2 ^ l) and not (holds l name_classes) and not (eqb l ERROR))) (class a) b (below-at leaf_test DOCUMENT l (leaf-lt l i) leaf-classes-checked) f in
     ap (λ (n : ℕ). (n, a.1)) (leaf-kind l a (holds l name_leaves) c.0 refl c.1 c.2)
 
--- A leaf's entries don't ask for a second token.
+-- A leaf's entries don't look at a second token.
 fires-alone : (es : List Entry) (a b b' : ℕ) → all_entries es (λ x y a. a and eqb y 0) ≡ true → fires_in es a b ≡ true → fires_in es a b' ≡ true
 fires-alone es a b b' t h = rw fires-any (any-more es _ (begun_by a b') (any-with es (λ x y a. a and eqb y 0) (begun_by a b) t (rw fires-any at h))
     (λ x y alone p. and-i (and-l _ _ (and-r _ _ p)) (or-l _ _ (and-l _ _ (and-l _ _ p)))))
@@ -237,7 +237,7 @@ held-fillable s0 s (frame s1 q1 f1 ∷ fs) l h c b = fill-start s1 q1 s c.0 h l
 abbrev pub Whole : ℕ → List Token → Type 0
 Whole s0 u = (t : Tree) × (v : List Token) × Ok t × (root t ≡ s0) × (yield t ≡ u ++ v) × AllSpelt v
 
--- The open nodes end, each with what the row's state is completed with.
+-- The open nodes end, each with children that complete the row's state.
 complete : (s0 s q : ℕ) (f : Forest) (fs : List Frame) → Sound s0 (frame s q f ∷ fs) → fillable s q ≡ true → Whole s0 (spent fs ++ yields f)
 complete s0 s q f [] c b =
     let g = ending s q in

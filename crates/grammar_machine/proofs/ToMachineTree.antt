@@ -352,7 +352,7 @@ place-after s q k t f h (u, o, e, w) p d =
     let lacks : finish u ≡ 1 → LacksBlock t = λ z. subst (λ (y : Tree). LacksBlock y) w (finish-lacks u o a.0 z) in
     rw x (omega (arith, a), (λ z. not-before t f b.2.0 (lacks (omega (arith, a, z)))), b.2.1)
 
--- An operation in a document is read by what its children match.
+-- An operation in a document is read by its children.
 abbrev takes_operations : ℕ → Bool
 takes_operations q = has DOCUMENT q OPERATION_DEFINITION and (eqb q 2 or has DOCUMENT q SHORT_QUERY)
 

@@ -1,4 +1,4 @@
--- The machine run by computing, for examples: so many steps from the start, with what they show of the tokens.
+-- The machine run by computing, for examples: a number of steps from the start, and the tokens that they take.
 use Rattle.std.proofs.Common.{◌≡◌, ℕ, zero, suc, ◌+◌, Bool, true, false, cond, List, [], ◌∷◌, ◌++◌, refl, sym, ◌∙◌, subst, inl, inr, true≢false, append-nil, eqb, ltb, not, map, ap, eqb-true, ltb-true}
 use Rattle.std.proofs.lemmas.List.{append_cancel_right}
 use Rattle.document_grammar.specs.Tree.{Token, Tree, leaf, node, Forest, none, ◌▸◌, ◌+++◌}

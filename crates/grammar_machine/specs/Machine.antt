@@ -85,7 +85,7 @@ unfoldable pub move : ℕ → ℕ → ℕ → ℕ → Move
 unfolding arcs ends
 move s q a b = choose (arcs s q) (ends s q) a b
 
--- Classes of tokens: a Name that is a word has the word's class, another Name that of IDENT, and each other token that of its kind. The end
+-- Classes of tokens: a Name that is a word has the word's class, another Name the class of IDENT, any other token its kind's. The end
 -- has class 0.
 abbrev pub text_eq : Text → Text → Bool
 text_eq [] [] = true

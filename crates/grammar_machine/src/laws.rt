@@ -25,7 +25,7 @@ pub fn no_late_fault()
         → Begins sort (texts before) }
 {}
 
-/// No early fault: when the machine is stuck, no derivation spells tokens that begin with what it has read and the next two.
+/// No early fault: when the machine is stuck, no derivation spells tokens that begin with those it has read and the next two.
 pub fn no_early_fault()
     ensures { (sort : Sort) (before rest : List Token) → IsStuck sort before rest → ¬ Starts sort (map word before ++ take 2 (terminals rest)) }
 {}

@@ -60,7 +60,7 @@ pub items-text : (words : List Word) (place : ℕ) → texts (items_at place wor
 items-text [] place = refl
 items-text (word ∷ words) place = ap (λ l. word.text ++ l) (items-text words _)
 
--- the first of the tokens stands before the others
+-- the first of the tokens is before the others
 first-stands : (word : Word) (words : List Word) → AreTokens (word ∷ words) → are_apart (word ∷ words) ≡ true → Stands word.kind word.text (joined words)
 first-stands word [] ts h = stands word.kind word.text [] ts.0 (follow-end word.kind word.text) (goes-end word.kind)
 first-stands word (next ∷ words) ts h =

@@ -1,4 +1,4 @@
--- Which tokens may follow one another directly, with nothing between them. It depends on what the first ends with and the next begins
+-- Which tokens may follow one another directly, with nothing between them. It depends on how the first ends and the next begins
 -- with: a comment goes on to the end of its line, a name takes in letters and digits, a number is followed by no letter, and one more quote
 -- after the empty string begins a block string.
 use Rattle.std.specs.Prelude.{ℕ, ◌+◌, Bool, true, not, ◌&&◌, ◌||◌, ◌==◌, List, [], ◌∷◌, Some, length, slice_index, if◌then◌else◌, bytes_eq}

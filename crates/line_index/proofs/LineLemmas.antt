@@ -142,7 +142,7 @@ starts-first text end starts s =
     let some : 0 < length starts = omega (arith, s.all) in
     (some, sym (s.begin 0 some) ∙ same-start text 0 (slice_index starts 0) (omega arith) (s.number 0 some))
 
--- the last start up to a place is that of its line
+-- the last start up to a place is its line's
 pub starts-at : (text : List ℕ) (end : ℕ) (starts : List ℕ) (place i : ℕ) → AreStarts text end starts → place ≤ end → i < length starts → slice_index starts i ≤ place
     → (i + 1 < length starts → place < slice_index starts (i + 1)) → (i ≡ line_at text place) × (slice_index starts i ≡ line_start text place)
 starts-at text end starts place i s within some low high =

@@ -13,7 +13,7 @@ use Rattle.line_index.specs.Columns.{utf16_units, utf16_len}
 use Rattle.line_index.specs.Marks.{AreMarks}
 use Rattle.line_index.proofs.ColumnLemmas.{utf16_len-le}
 
--- the units before a place and those of what follows up to another
+-- the units before a place and those from there up to another
 pub units-add : (text : List ℕ) (n m k : ℕ) → k ≡ n + m → utf16_len (take k text) ≡ utf16_len (take n text) + utf16_len (take m (drop n text))
 units-add text n m k e = ap (λ (i : ℕ). utf16_len (take i text)) e ∙ ap utf16_len (take-add n m text) ∙ sum_by-append utf16_units (take n text) (take m (drop n text))
 

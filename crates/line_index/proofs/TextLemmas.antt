@@ -58,7 +58,7 @@ quiet-chars (c ∷ cs) s h =
       quiet-chars cs sc.1 (λ k lt. ap is_line_terminator (sym (get_or-append-add (encode c) (encodes cs) k 0)) ∙ h (length (encode c) + k) (omega arith)),
     )
 
--- what stops a column, from what follows
+-- what stops a column, from the text after it
 stops : (e : PositionEncoding) (room : ℕ) (ys : List ℕ) → scalars ys ≡ true → ((c : ℕ) (zs : List ℕ) → scalar c ≡ true → scalars zs ≡ true → encodes ys ≡ encode c ++ encodes zs → is_line_terminator c ≡ false → room < length (units_of e c)) → Stops e room ys
 stops e room [] s h = tt
 stops e room (c ∷ ys) s h = (let sc = and_parts (scalar c) (scalars ys) s in h c ys sc.0 sc.1 refl)

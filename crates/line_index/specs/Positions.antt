@@ -33,7 +33,7 @@ abbrev pub in_front : ℕ → List (List ℕ) → List (List ℕ)
 in_front x [] = (x ∷ []) ∷ []
 in_front x (line ∷ lines) = (x ∷ line) ∷ lines
 
--- the lines of a text, each with what ends it. What follows the last end is a line too, even when it is empty.
+-- the lines of a text, each with its end. The text after the last end is a line too, even when it is empty.
 abbrev pub lines_of : List ℕ → List (List ℕ)
 lines_of [] = [] ∷ []
 lines_of (x ∷ xs) = if ends_line x xs then (x ∷ []) ∷ lines_of xs else in_front x (lines_of xs)

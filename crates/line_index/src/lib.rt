@@ -283,7 +283,7 @@ impl<'a, A: Allocator> LineIndex<'a, A> {
         }
     }
 
-    // The offset in a part of a line at which the units of UTF-16 come to a column, or where a character begins that would exceed it.
+    // The offset in a part of a line at which the units of UTF-16 reach a column, or where a character begins that would exceed it.
     fn column_end(&self, start: usize, end: usize, column: usize) -> usize
         requires short { start + column < end }
         requires within { end ≤ length self.now }

@@ -72,7 +72,7 @@ faults_with fuel size_fuel c =
     (unless (pays_for_itself size_fuel element_rates c) TooManyElements
     (unless (pays_for_itself size_fuel report_rates c) TooManyReports [])))))))))
 
--- The rules that this one calls, and that these call, are no more than so many deep. Children are not looked into.
+-- The rules that this one calls, and that these call, are no deeper than this number. Children are not looked into.
 unfoldable calls_end : ℕ → Rule → Bool
 calls_end n (Seq a b) = calls_end n a and calls_end n b
 calls_end n (When t a b) = calls_end n a and calls_end n b

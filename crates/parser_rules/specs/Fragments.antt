@@ -32,7 +32,7 @@ unbraced_selections = Nested (Call Selections) Skip
 abbrev pub field_set : Rule
 field_set = When (At token.LCurly) (inside SelectionSet) unbraced_selections
 
--- Type (2.11) : the root's rule for each kind of type, and where no type stands. The rule of a list runs at `[` alone.
+-- Type (2.11) : the root's rule for each kind of type, and where there is no type. The rule of a list runs at `[` alone.
 abbrev pub list_root : Rule
 list_root = When (At token.LBracket) (inside ListType) (Nested (Do (Note message.ExpectedFieldType)) Skip)
 
@@ -58,7 +58,7 @@ pub data ClosesType (place : ℕ) (k : SyntaxKind) (s t : State) : Type 0 where
   nullable : false ≡ holds (At token.Bang) s → t ≡ wrapped_from 0 k s → ClosesType place k s t
   non_null : {u : State} → true ≡ holds (At token.Bang) s → Runs (Do (Bump kind.BANG)) (closed (wrapped_from place k s)) u → t ≡ wrapped_from 0 kind.NON_NULL_TYPE u → ClosesType place k s t
 
--- a type's rule ran where no root is open, and the root opened around what was built; or no type stands there
+-- a type's rule ran where no root is open, and the root opened around the trees that were built; or there is no type
 pub data RunsTypeRoot (s t : State) : Type 0 where
   makes_list : {u : State} → true ≡ holds (At token.LBracket) s → Runs (inside ListType) s u → ClosesType (built_count s.tree) kind.LIST_TYPE u t → RunsTypeRoot s t
   makes_name : {u : State} → false ≡ holds (At token.LBracket) s → true ≡ holds (At token.Name) s → Runs (inside NamedType) s u → ClosesType (built_count s.tree) kind.NAMED_TYPE u t → RunsTypeRoot s t

@@ -136,7 +136,7 @@ kind_of UnionTypeExtension = kind.UNION_TYPE_EXTENSION
 kind_of EnumTypeExtension = kind.ENUM_TYPE_EXTENSION
 kind_of InputObjectTypeExtension = kind.INPUT_OBJECT_TYPE_EXTENSION
 
--- the machine's symbol of a node: that of its kind, but for these
+-- the machine's symbol of a node: its kind's, but for these
 unfoldable pub symbol : Node → ℕ
 symbol QueryShorthand = symbols.SHORT_QUERY
 symbol NameForFragment = symbols.NAME_FOR_FRAGMENT

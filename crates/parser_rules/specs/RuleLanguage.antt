@@ -63,7 +63,7 @@ pub data Rule : Type 0 where
   Seq : Rule → Rule → Rule
   When : Test → Rule → Rule → Rule
   While : Test → Rule → Rule
-  -- a node, with what is in it
+  -- a node, with its inside
   Child : Node → Rule
   -- the report that the recursion limit is reached, in a place where it is
   TooDeep : Rule

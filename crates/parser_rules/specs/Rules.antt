@@ -142,7 +142,7 @@ implementing m =
     When (Word kind.implements_KW) (Child ImplementsInterfaces > Call (OptionalDirectives Const) > maybe token.LCurly FieldsDefinition)
     (extended token.LCurly FieldsDefinition m)
 
--- { RootOperationTypeDefinition+ }, with what is reported where there is none
+-- { RootOperationTypeDefinition+ }, with the report where there is none
 abbrev pub root_operations : Message → Rule
 root_operations m =
     Do (Bump kind.L_CURLY)
@@ -182,7 +182,7 @@ definitions first item none close leaf m =
 abbrev pub separated : TokenKind → SyntaxKind → Part → Rule
 separated k leaf name = When (At k) (Do (Bump leaf)) Skip > Call name > While (At k) (Do (Bump leaf) > Call name)
 
--- TypeDefinition (3.4), by the keyword where the test looks; the other rule where it is none
+-- TypeDefinition (3.4), by the keyword where the test looks; the other rule where there is none
 abbrev pub type_definition_at : (TokenTest → Test) → Rule → Rule
 type_definition_at at none =
     When (at (Keyword kind.scalar_KW)) (Child ScalarTypeDefinition)

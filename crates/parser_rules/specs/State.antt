@@ -53,7 +53,7 @@ abbrev pub fault_report : Message → Lexeme → Report
 fault_report m t = record { found = found_at t; index = t.index; message = Some (message_text m (found_at t)) }
 
 -- the answers that are left, the current token, what waits, what is built, the reports, the recursion limit with its count and the
--- greatest count that was asked for, whether the grammar's reports are still taken, how many answers there are in all, and how many items
+-- greatest count that was tried, whether the grammar's reports are still taken, how many answers there are in all, and how many items
 -- may be cut, by the reader and by copies that look ahead
 pub record State : Type 0 where
   pub items : List Answer
@@ -137,7 +137,7 @@ closed s = record s { tree = finish s.tree }
 unfoldable pub wrapped_from : ℕ → SyntaxKind → State → State
 wrapped_from place k s = record s { tree = wrap place k s.tree }
 
--- moves the current token into the tree after what waits, and reads on; where there is none, nothing happens
+-- moves the current token into the tree after the waiting leaves, and reads on; where there is none, nothing happens
 abbrev pub moved : SyntaxKind → State → Option Lexeme → State
 moved leaf s None = s
 moved leaf s (Some t) = let f = flush s in read_on f.items (record f { tree = add_leaf leaf t.text f.tree })
@@ -171,7 +171,7 @@ enter s = record s { depth = s.depth + 1; high = max s.high (s.depth + 1) }
 unfoldable pub leave : State → State
 leave s = record s { depth = s.depth - 1 }
 
--- one level more was asked for
+-- one level more was tried
 abbrev pub deepened : State → State
 deepened s = record s { high = max s.high (min (s.depth + 1) usize_max) }
 

@@ -2,7 +2,7 @@
 /// Whether a place is a constant one, where a value may hold no variable (section 2.10, "Variables").
 #[derive(Clone, Copy, Debug, PartialEq, Eq)]
 pub enum Constness {
-    /// It is, as that of a default value.
+    /// It is, as below a default value.
     Const,
     /// It is not.
     NotConst,

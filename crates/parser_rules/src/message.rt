@@ -176,7 +176,7 @@ impl Message {
         }
     }
 
-    /// Whether the words go on with what was found.
+    /// Whether the words go on with the token that was found.
     pub fn names_found(self) -> bool
         ensures { result ≡ names_found self }
     {

@@ -57,7 +57,7 @@ module _ (id : Json) (written ts : List Token) (body : List ℕ) (begun : writte
       let value = nested e in
       record { result = λ j is. whole j is h; refused = λ none. absurd (none value.0 value.1) }
 
-  -- a result that is none is refused
+  -- tokens that are not one value are refused
   pub refused_is : (text : List ℕ) → after_all (drop 6 written) (Some (Value ∷ [])) ≢ Some [] → IsError id (neg_ℤ (pos 32603)) text body → IsAnswerOf id ts body
   refused_is text none h = record {
     result = λ j is.

@@ -1,4 +1,4 @@
--- What is asked for, and what answers it.
+-- Which bodies need an answer, and with which id.
 use Rattle.std.proofs.Common.{◌≡◌, ℕ, List, Option, Some, None, refl, ap, ◌∙◌, sym, inl, option_map}
 use Rattle.std.specs.Str.{IsUtf8}
 use Rattle.json.specs.Json.{Json, document, null}

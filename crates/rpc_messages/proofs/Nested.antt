@@ -30,7 +30,7 @@ after_both (t ∷ a) b state = after_both a b (option_and_then (after t) state)
 
 -- ---- what is expected is what came
 
--- tokens are those of what is expected
+-- tokens are those of the expected values
 abbrev Means : Open → List Token → Type 0
 Means [] ts = ts ≡ []
 Means (Value ∷ outer) ts = (j : Json) × (rest : List Token) × (ts ≡ json_tokens j ++ rest) × Means outer rest

@@ -29,7 +29,7 @@ IsNoJson body = IsUtf8 body → document body ≡ None
 abbrev pub IsJson : List ℕ → Json → Type 0
 IsJson body message = IsUtf8 body × (document body ≡ Some message)
 
--- The id of the answer that a body has to get: that of its message, and null for a body that is not read as JSON.
+-- The id of the answer that a body has to get: its message's, and null for a body that is not read as JSON.
 abbrev pub Asks : List ℕ → Option Json → Type 0
 Asks body id = (IsNoJson body × (id ≡ Some null)) ⊎ ((message : Json) × IsJson body message × (id ≡ asked message))
 
@@ -37,7 +37,7 @@ Asks body id = (IsNoJson body × (id ≡ Some null)) ⊎ ((message : Json) × Is
 abbrev pub IsExit : Json → Type 0
 IsExit message = (get (codes "id") message ≡ None) × (get (codes "method") message ≡ Some (string (codes "exit")))
 
--- the body is a message that asks for the end
+-- the body is the notification `exit`
 abbrev pub AsksForEnd : List ℕ → Type 0
 AsksForEnd body = (message : Json) × IsJson body message × IsExit message
 

@@ -1,4 +1,4 @@
--- Which tokens of JSON a piece stands for.
+-- Which tokens of JSON a piece is.
 use Rattle.std.specs.Prelude.{◌≡◌, List, [], ◌∷◌, ◌++◌, ℕ, map, decimal, OnOk, Result}
 use Rattle.std.specs.Fmt.{signed_decimal}
 use Rattle.json.specs.Token as json

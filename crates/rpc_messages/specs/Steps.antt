@@ -1,4 +1,4 @@
--- What a message comes to at the service that it is given to.
+-- The reply to a message, and the new state of the service that takes it.
 use Rattle.std.specs.Prelude.{◌≡◌, ◌⊎◌, ℕ, ℤ, List, Option, Some, None, codes, unwrap_or}
 use lib.IntN.{pos, neg_ℤ}
 use Rattle.json.specs.Json.{Json, null}
@@ -22,9 +22,9 @@ IsRefusal code (Answer body) = (text : List ℕ) × IsError null code text body.
 IsRefusal code (Notice body) = ⊥
 IsRefusal code (Exit status) = ⊥
 
--- the service, as its trait tells what a request (which has an id) or a notification (which has none) with this method and these parameters comes to
+-- the service, as its trait says: the step for a request (which has an id) or a notification (which has none) with this method and these parameters
 module _ {S : Type 0} (steps : S → Option Json → List ℕ → Json → Reply → S → Type 0) where
-  -- What a message comes to, by its id and its method. A response is passed over, and what is neither a request nor a notification is refused; both
+  -- The step for a message, by its id and its method. A response is passed over, and a message that is neither request nor notification is refused; both
   -- leave the service as it is.
   abbrev pub StepsBy : Option Json → Option Json → Json → S → Reply → S → Type 0
   StepsBy (Some id) (Some method) params old reply new = steps old (Some id) (method_of method) params reply new
@@ -35,7 +35,7 @@ module _ {S : Type 0} (steps : S → Option Json → List ℕ → Json → Reply
   abbrev pub StepsOn : Json → S → Reply → S → Type 0
   StepsOn message old reply new = StepsBy (get (codes "id") message) (get (codes "method") message) (params_of message) old reply new
 
-  -- what the body of a message comes to
+  -- the step for the body of a message
   abbrev pub Takes : List ℕ → S → Reply → S → Type 0
   Takes body old reply new =
       (IsNoJson body × IsRefusal (neg_ℤ (pos 32700)) reply × (new ≡ old)) ⊎ ((message : Json) × IsJson body message × StepsOn message old reply new)

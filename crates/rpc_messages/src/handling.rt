@@ -16,7 +16,7 @@ use std::alloc::{AllocError, Global};
 
 /// What answers requests and receives notifications.
 pub trait Service {
-    // what a request (which has an id) or a notification (which has none) with this method and these parameters comes to: the reply, and what is left
+    // the step for a request (which has an id) or a notification (which has none) with this method and these parameters: the reply, and the new state
     ghost steps: { Self → Option Json → List ℕ → Json → Reply → Self → Type 0 };
 
     /// The answer to a request, by its id, its method and its parameters. A method that is no text is empty.
@@ -43,7 +43,7 @@ pub trait Service {
         ensures step { IfOk result (λ reply. steps self.old None method.now (value_view params.now) reply self.new) };
 }
 
-// The refusal of what is no message.
+// The refusal of a body that is not a message.
 fn refused(alloc: Global, code: i64, text: &str) -> Result<Reply, AllocError>
     ensures replies { IfOk result (Replies (Some null)) }
     ensures ends { IfOk result (EndsOnlyIf ⊥) }

@@ -10,7 +10,7 @@ use Rattle.rpc_messages.specs.Messages.{Asks, AsksForEnd}
 use Rattle.rpc_messages.specs.Replies.{EndsOnlyIf, Replies}
 use Rattle.rpc_serving.specs.Exchange.{Exchange, waits, replied, ended, passed_over, said_for, status_of}
 
--- the reply that a body asks for
+-- the reply that a body needs
 abbrev pub IsReplyTo : List ℕ → Reply → Type 0
 IsReplyTo body reply = (asked : Option Json) × Asks body asked × Replies asked reply
 

@@ -23,7 +23,7 @@ status_of (Exit status) = Some status
 
 -- A service in some state, the bytes that came, what is said for them, the bytes that are left, the exit status where a message ended the
 -- conversation, and the service in the state that it is left in. Each message, in order, is taken by the service in the state that the one before left,
--- and has the reply that the service says: this is an answer exactly where one is asked for. Only the notification `exit` ends the conversation.
+-- and has the reply that the service says: this is an answer exactly where one is needed. Only the notification `exit` ends the conversation.
 pub data Exchange {S : Type 0} (takes : List ℕ → S → Reply → S → Type 0) : S → List ℕ → List ℕ → List ℕ → Option ℕ → S → Type 0 where
   -- no message has come as a whole
   waits :
@@ -40,7 +40,7 @@ pub data Exchange {S : Type 0} (takes : List ℕ → S → Reply → S → Type 
       → takes body old reply next
       → Exchange takes next more said rest status last
       → Exchange takes old bytes (said_for reply ++ said) rest status last
-  -- a message asks for the end, and ends the conversation
+  -- the message `exit` ends the conversation
   ended :
       {old last : S} {bytes body rest : List ℕ} (asked : Option Json) (reply : Reply) (status : ℕ)
       → BeginsWithFrame bytes body rest

@@ -7,7 +7,7 @@ use Rattle.byte_devices.specs.declared.fault.Fault.TheVariants.{Read, Utf8, Memo
 use Rattle.rpc_messages.specs.declared.reply.Reply.{Reply}
 use Rattle.rpc_serving.specs.Exchange.{Exchange}
 
--- The run ends with this status, after so many bytes: the notification `exit` asked for it, or the input ended. No more than 2 ^ 64 - 1 reads are made.
+-- The run ends with this status, after these bytes: at the notification `exit`, or at the end of the input. No more than 2 ^ 64 - 1 reads are made.
 abbrev pub EndsWith : Option ℕ → ℕ → ℕ → Account → Account → Type 0
 EndsWith (Some asked) status count now end = (status ≡ asked) × (end ≡ now)
 EndsWith None status count now end = (status ≡ 1) × ((end ≡ stopped now) ⊎ ((end ≡ now) × (2 ^ 64 ≤ count + 1)))
@@ -33,7 +33,7 @@ module _ {S : Type 0} (takes : List ℕ → S → Reply → S → Type 0) (first
     pub read : read_new ≡ failed (moved read_old input)
     pub written : write_new ≡ moved write_old output
 
-  -- the writer failed: a beginning is written of what the service says, in the conversation about the bytes that were read
+  -- the writer failed: a beginning is written of the service's output, in the conversation about the bytes that were read
   pub record EndsWriting : Type 0 where
     pub input : List ℕ
     pub output : List ℕ

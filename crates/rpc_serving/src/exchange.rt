@@ -8,7 +8,7 @@ use rpc_frames::{FrameBuffer, FrameError, put_frame};
 use rpc_messages::{Reply, Service, handle};
 use std::alloc::{AllocError, Global};
 
-/// What is said to a client, and the exit status where it asked for the end.
+/// The output for a client, and the exit status where it sent `exit`.
 #[derive(Drop)]
 pub struct Turn {
     pub said: Vec<u8>,

@@ -128,7 +128,7 @@ impl<'t> Walk<'t> {
     }
 }
 
-/// The walk over a document of so many elements.
+/// The walk over a document with this number of elements.
 fn walk_document<'t>(
     alloc: Global,
     document: Document<'t>,

@@ -1,6 +1,6 @@
 // Positions in a text, and changes of an open document.
-use line_index::{LineIndex, Position, PositionEncoding};
 use editor_text::{Change, OpenDocument, PositionRange};
+use line_index::{LineIndex, Position, PositionEncoding};
 use std::alloc::{AllocError, Global};
 use std::process::Abort;
 

@@ -34,7 +34,7 @@ impl<'a> Source for Pieces<'a> {
     }
 }
 
-// Takes so many bytes as it has room for, and then it fails.
+// Takes as many bytes as it has room for, and then it fails.
 #[derive(Drop)]
 struct Page {
     taken: Vec<u8>,

@@ -82,7 +82,7 @@ fn writer_of(alloc: Global, piece: usize, room: usize, then: Then) -> Result<Pag
     })
 }
 
-// A mode, a text and limits, with what is found then and what is written.
+// A mode, a text and limits, with the outcome and the output.
 #[derive(Clone, Copy)]
 struct Row {
     mode: Mode,

@@ -277,7 +277,7 @@ fn never_writes_what_it_refuses(rt: HostRuntime) {
     }
 }
 
-// Formats a file of a disk that fails after so many calls, and gives whether it did.
+// Formats a file of a disk that fails after a number of calls, and gives whether it did.
 fn expect_whole(rt: &(impl Abort + AllocGlobal), calls: u8) -> bool {
     let disk = Disk::new(calls);
     let ended = run_over(rt.alloc(), &disk, b"", &["a"]).ended;

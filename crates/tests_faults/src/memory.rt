@@ -21,8 +21,8 @@ struct Attempt {
     beside: String,
 }
 
-// Refuses each request of the call in turn, up to the number past its last one. A call that asks for nothing would show nothing. A refusal
-// that is not the heap's is passed on: it is that of the allocator under it.
+// Refuses each request of the call in turn, up to the number past its last one. A call that requests nothing would show nothing. A refusal
+// that is not the heap's is passed on: it is the refusal of the allocator under it.
 fn expect_refusals(
     rt: &(impl Abort + AllocGlobal),
     call: Call,

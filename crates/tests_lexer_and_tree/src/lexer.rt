@@ -102,7 +102,7 @@ fn tokens_and_errors_are_listed_apart(rt: HostRuntime) -> Result<(), Fail> {
     Ok(())
 }
 
-// Three errors that differ only in what they are about: a text, the end and a limit.
+// Three errors that differ only in their subject: a text, the end and a limit.
 fn about_a_text(alloc: Global) -> Result<Error, AllocError> {
     let message = String::from_str(alloc, "m")?;
     Ok(Error::with_loc(message, String::new(alloc), 5))

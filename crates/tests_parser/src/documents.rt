@@ -20,7 +20,7 @@ fn counting_changes_no_answer(rt: HostRuntime) -> Result<(), Fail> {
     Ok(())
 }
 
-// Whether the tree has so many elements, the first of which is all of it.
+// Whether the tree has this number of elements, the first of which is all of it.
 fn has_elements(tree: &SyntaxTree<DocumentRoot, Global>, source: &str, count: usize) -> bool {
     let Some(root) = tree.element(0) else {
         return false;

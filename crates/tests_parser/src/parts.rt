@@ -4,7 +4,7 @@ use apollo_parser::{Parser, SelectionSetRoot, SyntaxTree, TypeRoot};
 use std::alloc::{AllocError, Global};
 use std::test::Fail;
 
-// It has no contract, so that the proofs of the tests are not burdened by that of the parse.
+// It has no contract, so that the parse's contract does not burden the proofs of the tests.
 fn parse_selections(
     alloc: Global,
     parser: Parser<'_>,

@@ -1,4 +1,4 @@
--- Where a part of a document is parsed by itself, one front of the answers has the leaves, and with what was read after it the reports.
+-- Where a part of a document is parsed by itself, one front of the answers has the leaves, and with the answers read after it the reports.
 use Rattle.std.proofs.Common.{◌≡◌, ℕ, ◌≤◌, Bool, true, false, List, [], ◌∷◌, ◌++◌, length, Option, Some, None, refl, sym, ap, ◌∙◌, subst, append_assoc, arith}
 use Rattle.std.specs.Prelude.{filter, if◌then◌else◌, is_none}
 use Rattle.std.proofs.lemmas.List.{append_cancel_right}
@@ -22,7 +22,7 @@ use Rattle.parser_rules.proofs.runs.Fuel.{rules_deep}
 use Rattle.parser_rules.proofs.runs.TreesWithSources.{Source, aside, by-kind, flat, now_of, set_aside, source_at, sources, sources-append}
 use Rattle.parser_rules.proofs.runs.Walk.{always, walk}
 
--- The leaves are of the front, and the reports of it and of what was read after it: at most one token there is not ignored.
+-- The leaves are of the front, and the reports of it and of the answers read after it: at most one token there is not ignored.
 pub record OneFront (xs : List Answer) (ls : List Leaf) (rs : List Report) : Type 0 where
   pub front : List Answer
   pub ahead : List Answer

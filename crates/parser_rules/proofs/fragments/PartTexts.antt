@@ -113,7 +113,7 @@ pub record IsSoundPart (sort : Sort) (r : ℕ) (s : State) : Type 0 where
   pub nesting : nest (bare (tree_of (finished (left_out s)))) ≤ r
   pub high : s.high ≡ nest (bare (tree_of (finished (left_out s))))
 
--- the answers of the tree's leaves, and those of what waits
+-- the answers of the tree's leaves, and those that wait
 parted : (sort : Sort) (r : ℕ) (xs : List Answer) (s : State) (c : Part sort r xs s) (f : TreesWithSources) → FirstPart xs s f → Halves c.front (flat f) (flat (set_aside s.pending))
 parted sort r xs s c f p =
     let waits = flat (set_aside s.pending) in
@@ -148,7 +148,7 @@ is-sound sort r k source items s cut root c f p =
       high = c.high;
     }
 
--- a run of a root's rule, from what it comes to over the answers
+-- a run of a root's rule, from its outcome over the answers
 module _ (sort : Sort) (j : SyntaxKind) {q : Rule} (r k : ℕ) (source : List ℕ) (items : List Item) (s : State) (cut : Cut source items) (passes : RootRule j q) (free : is_free j ≡ true) (run : Runs q (started (limited k items) r j) s)
     (outcome : EndsWell (limited k items) → IsRoot s.tree → Outcome sort r (limited k items) s) where
   root : IsRoot s.tree

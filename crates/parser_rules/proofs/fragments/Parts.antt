@@ -59,7 +59,7 @@ pub record PartAs (sort : Sort) (r : ℕ) (xs : List Answer) (s : State) (t : Tr
   -- over a sentence it is the sentence's derivation
   pub all : (u : Tree) → Spells (answers_tokens xs) u sort → t ≡ u
 
--- What a run that reports nothing comes to: the derivation is the tree.
+-- The outcome of a run that reports nothing: the derivation is the tree.
 abbrev pub Part : Sort → ℕ → List Answer → State → Type 0
 Part sort r xs s = PartAs sort r xs s (bare (tree_of (finished (left_out s))))
 
@@ -149,7 +149,7 @@ module _ (sort : Sort) (r : ℕ) (xs : List Answer) where
         };
       })
 
-  -- What a run comes to: a report, of which the first is right; or none, and the tree is a derivation.
+  -- The outcome of a run: a report, of which the first is right; or none, and the tree is a derivation.
   abbrev pub Outcome : State → Type 0
   Outcome s = RightlyReported R s ⊎ ((s.errors ≡ []) × Part sort r xs s)
 

@@ -54,12 +54,12 @@ root-tree : (k : SyntaxKind) (s : State) → s.tree.above ≡ [] → bare (tree_
 unfolding wrapped_from
 root-tree k s none_open = ap (λ (b : Building). bare (tree_of (finish b).here)) (wrapped-all k s.tree none_open)
 
--- a type with what comes after it is none by itself
+-- a type with more after it is not a type by itself
 two-trees : (t u : Tree) (f : Forest) → type_of (t ▸ (f +++ (u ▸ none))) ≡ node NON_NULL_TYPE (t ▸ (f +++ (u ▸ none)))
 two-trees t u none = refl
 two-trees t u (v ▸ f) = refl
 
--- the current token becomes a leaf, after what waits
+-- the current token becomes a leaf, after the waiting ones
 bump-tree : (k : SyntaxKind) (s : State) (t : Lexeme) → s.current ≡ Some t → (bump k s).tree ≡ add_leaf k t.text (add_all s.pending s.tree)
 unfolding bump flush
 bump-tree k s t e = ap (λ (o : Option Lexeme). (moved k s o).tree) e ∙ (read-untouched s.items (record s { tree = add_leaf k t.text (add_all s.pending s.tree); pending = [] })).tree
@@ -117,7 +117,7 @@ module _ (r : ℕ) (xs : List Answer) where
     | inr w ↦ false-true refl w.3
   ]
 
-  -- a type, where the root's tree is the type of what the type's rule built
+  -- a type, where the root's tree is the type that the type's rule built
   type-out : {v : State} (b : Building) → let t : State = record v { tree = b } in Runs type_rule first v → (RightlyReported R v → RightlyReported R t) → bare (tree_of (finished (left_out t))) ≡ type_of (here_of (stack v.tree)) → From t
   type-out {v = v} b run tells tree g = elim (part-out type r xs v (part-runs type r xs keeps-type g run)) [
     | inl o ↦ inl (tells o)
@@ -136,7 +136,7 @@ module _ (r : ℕ) (xs : List Answer) where
     more : Adds first u
     more = adds n.run
 
-    -- the type's node, after what was there
+    -- the type's node, after the trees there
     one_more : Added (built.node k more.more built.none) first.tree type_node.tree
     unfolding closed wrapped_from
     one_more = added-node k (added-wrap k more.trees)

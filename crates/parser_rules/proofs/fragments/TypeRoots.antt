@@ -1,4 +1,4 @@
--- The root of a type that is parsed by itself, from what its parts do.
+-- The root of a type that is parsed by itself, from the runs of its parts.
 use Rattle.std.proofs.Common.{◌≡◌, ℕ, Bool, true, false, List, [], ◌||◌, refl, sym, ap, ap₂, ◌∙◌, subst, arith}
 use Rattle.std.proofs.Math.Bool.{or-true}
 use Rattle.lexical_grammar.specs.declared.TokenKind.TheVariants as token
@@ -72,7 +72,7 @@ none-made s {t = t} {u = u} {v = v} place first f e n run a = subst (λ (z : Sta
 
 -- ---- a type and what follows it
 
--- What comes before the `!`, or is all of the type: as the root's rule ran, and as a node with what follows it.
+-- What comes before the `!`, or is all of the type: as the root's rule ran, and as a node with the trees after it.
 pub record Nullable (s : State) (k : SyntaxKind) (u : State) : Type 0 where
   pub starts : true ≡ holds (Here type_start) s
   pub rule : Rule

@@ -46,7 +46,7 @@ use Rattle.parser_rules.proofs.lookahead.Split.{split-at}
 use Rattle.parser_rules.proofs.leaves.LeafCheck.{is_error, belongs, Tokens, anything, leaf_check}
 use Rattle.parser_rules.proofs.NodeChecks.{node-passes, document_passes}
 
--- ---- the leaves of what is built
+-- ---- the leaves of the trees that are built
 
 leaves-join : (f g : Forest) → leaves (join f g) ≡ leaves f ++ leaves g
 leaves-join none g = refl
@@ -269,7 +269,7 @@ joined-answers (one {item = item} {answers = xs} {l = l} {ls = ls} e fit h) are 
 joined-answers (the_end {item = item} {answers = xs} {ls = ls} e h) are = joined-answers h are.2 ∙ sym (ap (λ t. t ++ answers_text xs) (end-text item e are.0))
 joined-answers (the_limit {answers = xs} h) are = joined-answers h (subst AreAnswers (sym are) tt)
 
--- where each item is a leaf, the text is that of the items
+-- where each item is a leaf, the text is the items'
 pub leaves-text : (f : Forest) {xs : List Answer} → OneLeafAnItem xs (leaves f) → AreAnswers xs → text f ≡ answers_text xs
 leaves-text f h are = text-leaves f ∙ joined-answers h are
 
@@ -300,7 +300,7 @@ first-leaves (gives item ∷ xs) w (one_more {l = l} {ls = ls} i m) e =
       text = ap₂ (λ (a b : Text). a ++ b) o.0 f.text;
     }
 
--- the others are made of what is left
+-- the others are made of the answers that are left
 pub first-leaves-left : (xs : List Answer) {v : List Source} (w : List Source) {ls : List PendingToken} (m : LeavesOf v ls) (e : v ++ w ≡ sources xs) → sources (first-leaves xs w m e).back ≡ w
 unfolding first-leaves
 first-leaves-left xs w no_more e = sym e

@@ -59,7 +59,7 @@ set_of (Kind k) = kind_set k
 set_of (Keyword k) = word_set k
 set_of (Or p q) = bit_or (set_of p) (set_of q)
 
--- all classes but that of no token, and that of the end
+-- all classes but those of no token and of the end
 abbrev pub present : ℕ
 present = any - 2 ^ absent
 

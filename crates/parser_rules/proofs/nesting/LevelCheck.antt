@@ -19,7 +19,7 @@ pub record Depth : Type 0 where
 abbrev pub at_first : ℕ → Depth
 at_first k = record { kind = k; open_nodes = counts_itself k; entered = 0; owed = counts_itself k }
 
--- each counted node that a rule leaves open has its level, entered or asked for
+-- each counted node that a rule leaves open has its level, entered or refused
 unfoldable pub level_check : Domain Depth
 level_check = record (steady (at_first DOCUMENT)) {
   leaf = λ j a k. uncounted (number j) and k a;

@@ -1,4 +1,4 @@
--- No more levels are asked for than there are tokens, since each is entered after a token that was taken inside the level around it.
+-- There are no more levels than tokens, since each is entered after a token that was taken inside the level around it.
 use Rattle.std.proofs.Common.{◌≡◌, ℕ, ◌+◌, ◌<◌, ◌≤◌, Bool, true, false, cond, List, length, Some, None, refl, ap, inl, inr, eqb-true, leb-true, arith}
 use Rattle.std.specs.Prelude.{is_some}
 use Rattle.lexical_grammar.specs.Answers.{Answer}
@@ -22,7 +22,7 @@ use Rattle.parser_rules.proofs.nesting.TokenCheck.{Taken, untaken, take, forget,
 use Rattle.parser_rules.proofs.NodeChecks.{node-passes, document_passes}
 
 module _ (n : ℕ) where
-  -- The levels that are entered, what is left to read, and a token to spare are no more than n, nor is what was asked for.
+  -- The levels that are entered, the tokens left to read, and one to spare are no more than n, nor is the highest nesting.
   record Held (a : Taken) (b s : State) (f : TreesWithSources) : Type 0 where
     depth : s.depth ≡ b.depth + a.entered
     fewer : left s ≤ left b

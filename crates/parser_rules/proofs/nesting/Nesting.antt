@@ -1,4 +1,4 @@
--- The greatest depth that was asked for covers what every tree nests, whatever is reported.
+-- The highest nesting covers the nesting of every tree, whatever is reported.
 use Rattle.std.proofs.Common.{◌≡◌, ℕ, suc, ◌+◌, ◌≤◌, max, min, Bool, true, List, [], ◌∷◌, Some, refl, sym, ap, ◌∙◌, eqb, leb, eqb-true, leb-true, arith}
 use Rattle.lexical_grammar.specs.Answers.{Answer, usize_max}
 use Rattle.document_grammar.specs.declared.kind.SyntaxKind.{SyntaxKind}
@@ -49,8 +49,8 @@ read-waits = reading-waits (λ k. uncounted (number k)) refl refl refl refl
 
 -- ---- runs
 
--- In the open node the depth is that where it began, with the levels that were entered in it; the greatest depth covers what the node and
--- its trees nest, but for what it owes.
+-- In the open node the depth is that where it began, with the levels that were entered in it; the greatest depth covers the nesting of the node
+-- and its trees, but for the levels that it owes.
 abbrev Held : Depth → State → State → TreesWithSources → Type 0
 Held a b s f = record {
   depth : s.depth ≡ b.depth + a.entered;

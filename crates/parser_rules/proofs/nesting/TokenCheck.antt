@@ -1,4 +1,4 @@
--- The computed check that a rule enters a level only after a token that it took inside the level around it: so no more levels are asked for
+-- The computed check that a rule enters a level only after a token that it took inside the level around it: so there are no more levels
 -- than there are tokens.
 use Rattle.std.proofs.Common.{ℕ, Bool, false, cond, eqb, leb, not}
 use Rattle.document_grammar.specs.Booleans.{◌and◌, ◌or◌}

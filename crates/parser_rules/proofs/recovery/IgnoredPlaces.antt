@@ -37,7 +37,7 @@ trim-aside (p ∷ parts) = trim-aside parts
 trim-append : (f g : TreesWithSources) → trim (erase f) ≡ true → trim (erase g) ≡ true → trim (erase (append f g)) ≡ true
 trim-append f g a b = subst (λ (x : built.Forest). trim x ≡ true) (sym (erase-append f g)) (trim-join (erase f) (erase g) a b)
 
--- The first tree is no ignored leaf where nothing waited; the last is none; some tree is added where `b` says so.
+-- The first tree is no ignored leaf where nothing waited; nor is the last; some tree is added where `b` says so.
 abbrev Tidy : Bool → State → State → TreesWithSources → Type 0
 Tidy c b s f = record {
   inner : trim (erase f) ≡ true;
@@ -53,7 +53,7 @@ empty s = record { inner = refl; starts = λ z. refl; idle = λ z y. z; ends = r
 weaken : (c e : Bool) (b s : State) (f : TreesWithSources) → (e ≡ true → c ≡ true) → Tidy c b s f → Tidy e b s f
 weaken c e b s f i h = record { inner = h.inner; starts = h.starts; idle = h.idle; ends = h.ends; some = λ z. h.some (i z) }
 
--- trees after what waited, of which the last is no ignored leaf
+-- trees after the waiting leaves, of which the last is no ignored leaf
 grows : (c : Bool) (b s t : State) (f g : TreesWithSources) → Tidy c b s f → trim (erase g) ≡ true → starts_well (erase g) ≡ true → ((e : Bool) → ends_with e (erase g) ≡ true) → Tidy true b t (append f (after_pending s g))
 grows c b s t f g h i j e = record {
   inner = trim-append f (after_pending s g) h.inner (trim-append (set_aside s.pending) g (trim-aside s.pending) i);

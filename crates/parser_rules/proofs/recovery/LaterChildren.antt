@@ -54,7 +54,7 @@ no-empty u h =
     let e : (note message.UnexpectedEof b).errors ≡ [] = accepted (nest u) xs (note message.UnexpectedEof b) u refl (root-kept xs (nest u) kind.DOCUMENT refl run) run h (omega arith) refl in
     absurd cc
 
--- the document's rule comes to its loop
+-- the document's rule reaches its loop
 document-loop : {b s : State} → Runs (Call Document) b s → (q : Rule) × (c : State) × Runs q b c × Grown b c none × Runs loops c s
 unfolding body step
 document-loop {b = b} (call (yes e h)) = (Skip, b, skip, grown-none b, h)
@@ -136,7 +136,7 @@ given-sources : (items : List Item) → sources (map gives items) ≡ map source
 given-sources [] = refl
 given-sources (item ∷ items) = ap (λ (v : List Source). source_item item ∷ v) (given-sources items)
 
--- what is left after so many bytes is of the items there, or none of them is a token
+-- the rest after a number of bytes is of the items there, or none of them is a token
 left-there : (place : ℕ) (before : List Item) (i : Item) (more : List Item) (v w : List Source) → CutFrom place (before ++ i ∷ more) → map source_item (before ++ i ∷ more) ≡ v ++ w → length (texts before) ≡ bytes v
     → (map source_item (i ∷ more) ≡ w) ⊎ (tokens_of (i ∷ more) ≡ [])
 left-there place [] i more [] w cut e h = inl e
@@ -171,7 +171,7 @@ module _ (r k : ℕ) (source : List ℕ) (items : List Item) (s : State) (cut : 
   started = ap (λ b. b.here) (read-untouched xs (fresh xs r kind.DOCUMENT)).tree
 
   module _ (q : Rule) (c : State) (first : Runs q b0 c) where
-    -- at a turn, where the first children are in the tree, and with them some of what waited
+    -- at a turn, where the first children are in the tree, and with them some of the waiting leaves
     module _ (st : State) (turns : Turns Ready (Call Definition) c st) (runs : Runs loops st s) (tree : Building) (p : List PendingToken) (same : add_all p tree ≡ add_all st.pending st.tree) (f : TreesWithSources) (grown : Grown b0 (record st { tree = tree; pending = p }) f) (ends : front ≡ erase f) where
       abbrev here : State
       here = record st { tree = tree; pending = p }

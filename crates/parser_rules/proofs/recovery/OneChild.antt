@@ -1,4 +1,4 @@
--- A turn of the document's loop adds one child to the root, after what waited; also where some of that is in the tree already.
+-- A turn of the document's loop adds one child to the root, after the waiting leaves; also where some of that is in the tree already.
 use Rattle.std.proofs.Common.{◌≡◌, ℕ, suc, Bool, true, false, if◌then◌else◌, [], ◌∷◌, ◌++◌, Some, None, refl, sym, ap, ◌∙◌, subst, ◌⊎◌, inl, inr}
 use Rattle.document_grammar.specs.declared.kind.SyntaxKind.{SyntaxKind}
 use Rattle.document_grammar.specs.Booleans.{◌and◌}
@@ -47,7 +47,7 @@ abbrev pub alone : Kid → TreesWithSources
 alone (leaf_of o k) = leaf o k none
 alone (node_of k g) = node k g none
 
--- a run that adds one tree to what waited, and ends alike where some of that is in the tree already
+-- a run that adds one tree to the waiting leaves, and ends alike where some of that is in the tree already
 abbrev pub One_more : Rule → State → State → Type 0
 One_more r s t = (a : Kid) × Grown (flush s) t (alone a) × ((z : State) → flush z ≡ flush s → Runs r z t)
 
@@ -103,7 +103,7 @@ turn-one {s = s} r h = let i = ready-there s r in one-more h 4 i.token refl i.is
 
 -- ---- the loop
 
--- what the turns from a state on add after what waits there
+-- the trees that the turns from a state on add after the waiting leaves
 abbrev pub behind : {s u : State} → Runs loops s u → built.Forest
 behind (done e) = built.none
 behind (again {t = t} e h k) = built.join (erase (alone (turn-one e h).0)) (built.join (parts_forest t.pending) (behind k))
@@ -113,7 +113,7 @@ unfolding flush
 added-behind {s = s} (done e) = subst (λ x. Added x s.tree (add_all s.pending s.tree)) (sym (join-none (parts_forest s.pending))) (added-all s.pending s.tree)
 added-behind {s = s} (again e h k) = added-then (added-all s.pending s.tree) (added-then (turn-one e h).1.trees (added-behind k))
 
--- a loop that is not over runs alike where some of what waits is in the tree already
+-- a loop that is not over runs alike where some of the waiting leaves are in the tree already
 pub loop-alike : {s u : State} → Runs loops s u → (z : State) → flush z ≡ flush s → (s ≡ u) ⊎ ((true ≡ holds Ready s) × Runs loops z u)
 loop-alike (done e) z f = inl refl
 loop-alike {s = s} (again e h k) z f = inr (e, again (e ∙ same-test Ready s z f) ((turn-one e h).2 z f) k)

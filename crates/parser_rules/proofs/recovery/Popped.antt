@@ -126,7 +126,7 @@ roomed-still no_bracket s f g e h = bracket-append f (after_pending s g) h (none
 roomed-still one_token s f g e h = let a = pops-append f (after_pending s g) in let b = pops-after s g in omega (arith, a, b, e, h)
 roomed-still no_token s f g e h = let a = pops-append f (after_pending s g) in let b = pops-after s g in omega (arith, a, b, e, h)
 
--- the room after trees with at most one popped token, which is no `]` where it is spared, and is none where the text is cut off
+-- the room after trees with at most one popped token, which is no `]` where it is spared, and there is none where the text is cut off
 roomed-pop : (a : Popping) (r : Room) (k : Popping → Bool) → pop a r k ≡ true
     → (q : Room) × (k (unknown q) ≡ true) × ((f g : TreesWithSources) → pops_of g ≤ 1 → (a.spared ≡ true → NoBracket g) → (a.cut ≡ true → pops_of g ≡ 0) → Roomed r f → Roomed q (append f g))
 roomed-pop a any_token k h = (any_token, h, λ f g n b c i. tt)
@@ -198,7 +198,7 @@ popped-on s t f g h = subst (λ (e : List Report). PoppedReported e f) (sym g.er
 right-on : (r : Room) (s t : State) (f : TreesWithSources) → Reports s t → Right r s f → Right r t f
 right-on r s t f g h y = let i = h (g.keeps y) in (popped-on s t f g i.0, i.1)
 
--- trees are added after what waited
+-- trees are added after the waiting leaves
 right-grows : (r q : Room) (s t : State) (f g : TreesWithSources) → Reports s t → Right r s f → (t.accepts ≡ true → PoppedReported t.errors g) → (t.accepts ≡ true → Roomed r f → Roomed q (append f (after_pending s g))) → Right q t (append f (after_pending s g))
 right-grows r q s t f g p h i j y =
     let k = h (p.keeps y) in

@@ -25,7 +25,7 @@ abbrev pub ahead : State → List Answer
 ahead s = ahead_of s.current s.items
 
 -- From a first token, these answers after it and these reports on to a state: some answers are gone, and the rest is left. Whatever comes in place of
--- the rest, reports of what the state has ahead then are reports of the whole.
+-- the rest, reports of the items that the state has ahead then are reports of the whole.
 abbrev pub Onward : Bool → Option Lexeme → List Answer → List Report → State → Type 0
 Onward taken first items reports t = record {
   gone : List Answer;

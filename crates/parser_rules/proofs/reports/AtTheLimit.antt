@@ -1,4 +1,4 @@
--- Where the recursion limit is reported, one level more than the limit was asked for.
+-- Where the recursion limit is reported, the highest nesting is one level more than the limit.
 use Rattle.std.proofs.Common.{◌≡◌, ◌+◌, ◌≤◌, ◌||◌, ◌&&◌, if◌then◌else◌, true≢false, ℕ, min, Bool, true, false, List, [], ◌∷◌, ◌++◌, refl, sym, ◌∙◌, ap, arith}
 use Rattle.std.specs.List.{list_any}
 use Rattle.std.proofs.lemmas.List.Folds.{list_any-append}
@@ -37,7 +37,7 @@ read-limited {s = s} (bad_text {item = item} e r) h = other-report s (bad_report
 read-limited (waits e i r) h = read-limited r h
 read-limited (shows e i) h = h
 
--- where it is reported, more than the limit was asked for
+-- where it is reported, the highest nesting is more than the limit
 abbrev pub LimitIsPast : State → Type 0
 LimitIsPast s = IsLimited s → PastLimit s
 
@@ -57,7 +57,7 @@ limits-along = record {
   wraps = λ k t u w h l e. l (h e);
 }
 
--- the limit is one below the greatest depth that was asked for, where it is reported
+-- the limit is one below the highest nesting, where it is reported
 pub asked-since : (items : List Answer) (limit : ℕ) (k : SyntaxKind) (t : State) → t.limit ≡ limit → (LimitIsPast (begun items limit k) → LimitIsPast t) → list_any is_recursion_limit t.errors ≡ true → min (limit + 1) usize_max ≤ t.high
 asked-since items limit k t l told h =
     let p = told (λ i. absurd (true≢false (sym (read-limited (reading items (fresh items limit k)) i)))) h in

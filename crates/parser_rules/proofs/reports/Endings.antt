@@ -1,4 +1,4 @@
--- The answers of a limited reader of a cut come to an end.
+-- The answers of a limited reader of a cut end.
 use Rattle.std.proofs.Common.{◌≡◌, ℕ, zero, suc, ◌+◌, Bool, false, List, [], ◌∷◌, Option, Some, None, length, refl, sym, subst}
 use Rattle.lexical_grammar.specs.declared.TokenKind.{TokenKind}
 use Rattle.lexical_grammar.specs.declared.TokenKind.TheVariants as token

@@ -48,13 +48,13 @@ abbrev pub ends : Option TokenKind → Bool
 ends None = false
 ends (Some k) = is_end k
 
--- the answers come to an end: nothing follows the end
+-- the answers end: nothing follows the end
 abbrev pub EndsWell : List Answer → Type 0
 EndsWell [] = ⊥
 EndsWell (limit_at index ∷ rest) = rest ≡ []
 EndsWell (gives item ∷ rest) = choose (ends item.kind) (rest ≡ []) (EndsWell rest)
 
--- there is a current token, and what follows comes to an end
+-- there is a current token, and the answers after it end
 abbrev pub Now : Option Lexeme → List Answer → Type 0
 Now None items = ⊥
 Now (Some t) items = (ignored t.kind ≡ None) × choose (is_end t.kind) (items ≡ []) (EndsWell items)
@@ -129,7 +129,7 @@ end-or-token t items n = elim (either (is_end t.kind)) [
   | inr e ↦ inr (record { is_end = e; shown = n.0; first = ap (λ (v : List Token). v ++ answers_tokens items) (significant t.kind t.text e n.0) })
 ]
 
--- What holds at each state of a run: the current token is shown, and what follows it comes to an end.
+-- What holds at each state of a run: the current token is shown, and the answers after it end.
 abbrev pub NowOrNone : Option Lexeme → List Answer → Type 0
 NowOrNone None items = ⊤
 NowOrNone (Some t) items = Now (Some t) items

@@ -1,4 +1,4 @@
--- Where more than the recursion limit was asked for, a limit is reported.
+-- Where the highest nesting is more than the recursion limit, a limit is reported.
 use Rattle.std.proofs.Common.{◌≡◌, ℕ, ◌≤◌, ◌<◌, Bool, true, false, ◌||◌, not, cond, if◌then◌else◌, List, [], ◌∷◌, ◌++◌, Option, Some, None, refl, sym, ap, ◌∙◌, subst, true≢false, inl, inr, arith}
 use Rattle.std.specs.Prelude.{is_some}
 use Rattle.std.proofs.lemmas.Bool.{leb-false, and_parts}
@@ -65,7 +65,7 @@ inner-present (Some x) h = refl
 
 -- ---- what a run keeps
 
--- While the grammar's reports are taken, no more than the limit was asked for.
+-- While the grammar's reports are taken, the highest nesting is at most the limit.
 record Held (a : Current) (b s : State) (f : TreesWithSources) : Type 0 where
   stood : NowOrNone s.current s.items
   bounded : s.accepts ≡ true → s.high ≤ s.limit
@@ -182,7 +182,7 @@ sound = record {
   nodes = λ n. (node-passes n).limits;
 }
 
--- Where more than the limit was asked for, a limit is reported: the recursion limit, or the token limit before it.
+-- Where the highest nesting is more than the limit, a limit is reported: the recursion limit, or the token limit before it.
 pub limit-reported : (r : ℕ) (xs : List Answer) (s : State) → EndsWell xs → Runs (Call Document) (begun xs r kind.DOCUMENT) s → s.limit < s.high → Limited s.errors
 limit-reported r xs s en run more =
     let o : State = fresh xs r kind.DOCUMENT in

@@ -1,4 +1,4 @@
--- A run does not depend on what was built and reported before: from the same state with other trees and reports there is a run that adds the
+-- A run does not depend on the trees and the reports before: from the same state with other trees and reports there is a run that adds the
 -- same trees and reports.
 use Rattle.std.proofs.Common.{◌≡◌, ℕ, ◌+◌, max, min, Bool, true, false, not, ◌&&◌, if◌then◌else◌, List, [], ◌∷◌, ◌++◌, Option, Some, None, refl, sym, ap, ap₂, ◌∙◌, subst, append_assoc, append-nil, arith}
 use Rattle.lexical_grammar.specs.declared.TokenKind.TheVariants as token
@@ -17,7 +17,7 @@ use Rattle.parser_rules.proofs.runs.Reading.{Reading, stops, cuts, bad_text, wai
 use Rattle.parser_rules.proofs.runs.Frame.{parts_forest, added-all}
 use Rattle.parser_rules.proofs.runs.TreesWithSources.{moved_on}
 
--- what was built and reported, and the greatest depth that was asked for
+-- the trees and the reports, and the highest nesting
 pub record Built : Type 0 where
   pub tree : Building
   pub errors : List Report
@@ -30,11 +30,11 @@ built_of s = record { tree = s.tree; errors = s.errors; high = s.high }
 abbrev pub on : State → Built → State
 on s d = record s { tree = d.tree; errors = d.errors; high = d.high }
 
--- `c` has the trees and the reports more than `b`, and the depth `h` was asked for
+-- `c` has the trees and the reports more than `b`, and the highest nesting is at least `h`
 abbrev pub More : built.Forest → List Report → ℕ → Built → Built → Type 0
 More f r h b c = record { trees : Added f b.tree c.tree; errors : c.errors ≡ b.errors ++ r; high : c.high ≡ max b.high h }
 
--- `c` comes of `b` as `c'` of `b'`: the same trees are added to the open node, and the same reports, and the same depth is asked for.
+-- `c` comes of `b` as `c'` of `b'`: the same trees are added to the open node, and the same reports, and the same depth is tried.
 abbrev pub Same_steps : Built → Built → Built → Built → Type 0
 Same_steps b c b' c' = record { more : built.Forest; reports : List Report; asked : ℕ; one : More more reports asked b c; other : More more reports asked b' c' }
 
@@ -67,7 +67,7 @@ grown f b c b' c' h k e e' n n' = record {
 still : (b b' : Built) → Same_steps b b b' b'
 still b b' = grown built.none b b b' b' (added-none b.tree) (added-none b'.tree) refl refl refl refl
 
--- a depth is asked for
+-- a depth is tried
 deeper-on : (n : ℕ) (b b' : Built) → Same_steps b (record b { high = max b.high n }) b' (record b' { high = max b'.high n })
 deeper-on n b b' = record {
   more = built.none;

@@ -11,7 +11,7 @@ use Rattle.parser_rules.specs.Runs.{Runs, skip, does, seq, yes, no, done, again,
 use Rattle.parser_rules.proofs.runs.Reading.{Reading, stops, cuts, bad_text, waits, shows, reading, found}
 
 module _ (n : ℕ) where
-  -- the same state, where so many items may be cut
+  -- the same state, where this number of items may be cut
   abbrev pub allowing : State → State
   allowing s = record s { budget = n }
 

@@ -1,4 +1,4 @@
--- A run of a rule, and after it a run of what follows: the forms that a rule with what follows computes to.
+-- A run of a rule, and after it a run of the rules that follow: the forms that both together compute to.
 use Rattle.std.proofs.Common.{◌≡◌, Some, ◌∙◌, ap, sym, subst, refl}
 use Rattle.document_grammar.specs.declared.kind.SyntaxKind.{SyntaxKind}
 use Rattle.parser_rules.specs.declared.message.Message.{Message}

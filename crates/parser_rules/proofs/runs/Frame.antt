@@ -166,7 +166,7 @@ added-all (p ∷ parts) b = added-then (added-leaf p.kind p.text b) (added-all p
 pub add_all-above : (parts : List PendingToken) (b : Building) → (add_all parts b).above ≡ b.above
 add_all-above parts b = (added-all parts b).above
 
--- a leaf that is taken, after what is read on
+-- a leaf that is taken, after reading on
 pub added-read : (k : SyntaxKind) (x : Text) (s : State) → Added (built.leaf k x built.none) s.tree (read_on s.items (record s { tree = add_leaf k x s.tree })).tree
 added-read k x s = subst (Added (built.leaf k x built.none) s.tree) (sym (read-untouched s.items (record s { tree = add_leaf k x s.tree })).tree) (added-leaf k x s.tree)
 
@@ -264,7 +264,7 @@ root-stays items limit k h = (adds h).trees.above ∙ ap (λ b. b.above) (root-o
 pub root-kept : {r : Rule} {t : State} (items : List Answer) (limit : ℕ) (k : SyntaxKind) → is_free k ≡ true → Runs r (begun items limit k) t → IsRoot t.tree
 root-kept items limit k free h = (k, free, root-stays items limit k h)
 
--- the nesting is taken back, the limit is the one that was set, and at most one level more than it was asked for
+-- the nesting is taken back, the limit is the one that was set, and the highest nesting is at most one level more
 pub kept-nesting : (items : List Answer) (limit : ℕ) (k : SyntaxKind) (t : State) → Keeps (begun items limit k) t → (t.depth ≡ 0) × (t.limit ≡ limit) × (t.high ≤ limit + 1)
 kept-nesting items limit k t n =
     let b = read-untouched items (fresh items limit k) in

@@ -11,7 +11,7 @@ use Rattle.parser_rules.specs.Nodes.{kind_of}
 use Rattle.parser_rules.specs.RuleLanguage.{Test, Prim, Bump, Note, step, Rule}
 use Rattle.parser_rules.specs.Runs.{Runs, skip, does, seq, yes, no, done, again, child, limited, deeper, refused, call, plain, wrapped, Turns, begin, turn}
 
--- one level more than the limit was asked for
+-- the highest nesting is one level more than the limit
 abbrev pub PastLimit : State → Type 0
 PastLimit s = min (s.limit + 1) usize_max ≤ s.high
 
@@ -24,9 +24,9 @@ pub record Holds_along (R : State → State → Type 0) : Type 0 where
   pub next : (s t u : State) → R s t → R t u → R s u
   -- what waits goes into the tree
   pub flushes : (s : State) → R s (flush s)
-  -- the current token goes into the tree after what waited, and the next one is read
+  -- the current token goes into the tree after the waiting leaves, and the next one is read
   pub moves : (leaf : SyntaxKind) (x : Lexeme) (s : State) → s.current ≡ Some x → s.pending ≡ [] → R s (read_on s.items (record s { tree = add_leaf leaf x.text s.tree }))
-  -- a report of the grammar at the current token, and that of the recursion limit, after which none is taken; more than the limit was asked for
+  -- a report of the grammar at the current token, and the recursion limit's, after which none is taken; the highest nesting is more than the limit
   pub reports : (m : Message) (x : Lexeme) (s : State) → s.current ≡ Some x → s.accepts ≡ true → R s (record s { errors = s.errors ++ fault_report m x ∷ [] })
   pub limits : (x : Lexeme) (s : State) → s.current ≡ Some x → s.accepts ≡ true → PastLimit s → R s (record s { errors = s.errors ++ recursion_limit_report x ∷ []; accepts = false })
   pub asks : (s : State) → R s (deepened s)

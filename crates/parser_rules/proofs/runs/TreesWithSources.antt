@@ -237,7 +237,7 @@ grown-deep s d = record {
   reports = too_deep-along reports-along s d;
 }
 
--- a node around what is added in it, after what waited
+-- a node around the trees in it, after the waiting leaves
 pub grown-node : (j : SyntaxKind) (s u : State) (g : TreesWithSources) → Grown (opened j s) u g → Grown (flush s) (closed u) (node j g none)
 unfolding opened closed flush
 grown-node j s u g h = record { trees = added-node j h.trees; order = ap (λ (l : List Source). l ++ to_come u) (append-nil (flat g)) ∙ h.order; reports = h.reports }

@@ -16,7 +16,7 @@ use Rattle.parser_rules.specs.Runs.{Runs, skip, does, seq, yes, no, done, again,
 use Rattle.parser_rules.proofs.runs.Fuel.{rules_deep}
 use Rattle.parser_rules.proofs.runs.TreesWithSources.{TreesWithSources, none, leaf, node, append, append-none, token, set_aside, Grown, grown-none, grown-then, grown-flush, grown-leaf, grown-note, grown-deep, grown-node, grown-wrap, Whole, whole}
 
--- What may be known at a place, and how each step of a rule changes it. A step also has the check of what follows it.
+-- What may be known at a place, and how each step of a rule changes it. A step also has the check of the rest after it.
 pub record Domain (K : Type 0) : Type 0 where
   -- a token becomes a leaf; a report is made; the report of the recursion limit; a test passes, or fails
   pub leaf : SyntaxKind → K → (K → Bool) → Bool
@@ -87,7 +87,7 @@ checks_with fuel d c = walk d fuel (inside c) (d.begins c) (d.ends (kind_of c))
 abbrev pub checks : {K : Type 0} → Domain K → Node → Bool
 checks d c = checks_with rules_deep d c
 
--- trees after what waited
+-- trees after the waiting leaves
 abbrev pub after_pending : State → TreesWithSources → TreesWithSources
 after_pending s g = append (set_aside s.pending) g
 
@@ -155,7 +155,7 @@ module _ {K : Type 0} (d : Domain K) (Held : K → State → State → TreesWith
     node-ends : (j : SyntaxKind) (a : K) (k : K → Bool) (b s u : State) (f : TreesWithSources) → d.after j a k ≡ true → Grown b s f → Held a b s f → Comes (d.ends j) (opened j s) u → Comes k b (closed u)
     node-ends j a k b s u f h g i (x, m, c) = comes-on k b s (closed u) f (after_pending s (node j x none)) g (node-on j s u x m) (r.closes j a c.0 k b s u f x c.1 h i c.2 m)
 
-    -- the checks of what follows a type: after a `!` that wraps it, where one is next, and in any case
+    -- the checks of the rest after a type: after a `!` that wraps it, where one is next, and in any case
     abbrev Banged : K → (K → Bool) → K → Bool
     Banged a k c = d.ends kind.NON_NULL_TYPE c and d.after kind.NON_NULL_TYPE a k
 

@@ -1,4 +1,4 @@
--- The computed check that the tokens which a rule takes pay for what it builds and reports. It keeps an account, as amortized analysis does: each
+-- The computed check that the tokens which a rule takes pay for its elements and reports. It keeps an account, as amortized analysis does: each
 -- item pays a fixed sum in; each element of the tree, and each report, takes its cost out. The account is never overdrawn.
 use Rattle.std.proofs.Common.{◌≡◌, ℕ, zero, suc, ◌+◌, ◌-◌, ◌^◌, Bool, true, false, cond, not, eqb, leb, bit_and, Option, Some, None}
 use Rattle.lexical_grammar.specs.declared.TokenKind.TheVariants as token
@@ -88,11 +88,11 @@ abbrev pub takes_first : Rule → Bool
 takes_first (Seq (Do (Bump leaf)) b) = true
 takes_first _ = false
 
--- what such a node leaves at least of what its tokens pay
+-- the least that such a node leaves of its tokens' payment
 abbrev pub saving : ℕ
 saving = 1
 
--- enough for what a rule opens before it takes a token
+-- enough for the nodes that a rule opens before it takes a token
 abbrev pub enough : ℕ
 enough = 20
 

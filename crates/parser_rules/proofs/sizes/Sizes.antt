@@ -334,7 +334,7 @@ module _ (d : Rates) (fair : d.element + d.report ≤ d.item) (cheap : d.element
 
 -- ---- elements and reports
 
--- in so many items
+-- in this number of items
 pub record Sized (n : ℕ) (s : State) : Type 0 where
   pub elements : size s ≤ 5 * n + 1
   pub reports : length s.errors ≤ 3 * n + 1

@@ -35,7 +35,7 @@ module _ (sort : Sort) (answers : List Answer) (lim : ℕ) (w : List Token) wher
   abbrev pub left : Lexeme → List Answer → List Token
   left t items = current_tokens (Some t) ++ answers_tokens items
 
-  -- so many tokens are before these
+  -- the number of tokens before these
   abbrev pub TokensBefore : ℕ → List Token → Type 0
   TokensBefore m r = m + length r ≡ length w
 

@@ -1,4 +1,4 @@
--- The open nodes of the builder and those of the machine: the machine's node of a type has none in the builder but that of a NON_NULL_TYPE.
+-- The open nodes of the builder and those of the machine: the machine's node of a type has none in the builder but a NON_NULL_TYPE.
 use Rattle.std.proofs.Common.{◌≡◌, ℕ, ◌+◌, true, false, cond, eqb, List, [], ◌∷◌, refl, sym, ap, ap₂, ◌∙◌, subst, inl, inr, eqb-true, add-zero, arith}
 use Rattle.document_grammar.specs.declared.kind.SyntaxKind.TheVariants as kind
 use Rattle.document_grammar.specs.Kinds.{BANG, NAMED_TYPE, LIST_TYPE, NON_NULL_TYPE}
@@ -98,7 +98,7 @@ one-type (t ▸ f) h = elim (or-c (eqb NAMED_TYPE (root t)) (eqb LIST_TYPE (root
   ]
 ]
 
--- its tree is that of the type
+-- its tree is the type's
 pub image-plain : (s q p : ℕ) (f g : Forest) (fs : List Frame) → Path TYPE 0 g 1 → image (frame TYPE 1 g ∷ frame s q f ∷ fs) ≡ put (show (node TYPE g) ▸ none) (image (frame s q f ∷ fs))
 image-plain s q p f g fs h =
     let o = one-type g h in

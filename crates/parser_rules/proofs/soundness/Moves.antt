@@ -244,7 +244,7 @@ module _ (R : ParserInput) where
         tt,
       )
 
-  -- a node is none of a leaf, a type and what only a root is, and its symbol's kind is its own
+  -- a node is not a leaf, a type or a kind of roots alone, and its symbol's kind is its own
   pub node-is : (c : Node) → (is_leaf (symbol c) ≡ false) × (eqb (symbol c) TYPE ≡ false) × (only_root (symbol c) ≡ false) × (label (symbol c) ≡ number (kind_of c))
   unfolding follows_table is_node
   node-is c = let h = and-l _ _ (node-passes c).table in let r = and-r _ _ h in (not-c _ (and-l _ _ h), not-c _ (and-l _ _ r), not-c _ (and-l _ _ (and-r _ _ r)), eqb-true _ _ (and-r _ _ (and-r _ _ r)))

@@ -173,8 +173,8 @@ module _ {k : ℕ} {items : List Item} {front ys : List Answer} (t : Lexeme) (b 
 
 -- ---- the headline
 
--- The first report of a text, at an item: no sentence starts with the tokens before, that of the item, or the end, and the next; each that
--- starts with them and that of the item nests deeper than the limit; or the item is bad text, or the first that is too many. Where
+-- The first report of a text, at an item: no sentence starts with the tokens before, the item's, or the end, and the next; each that
+-- starts with them and the item's nests deeper than the limit; or the item is bad text, or the first that is too many. Where
 -- two tokens count, the second was answered.
 pub data Reason (sort : Sort) (items : List Item) (r k : ℕ) (before : List Item) (item : Item) (more : List Item) : Report → Type 0 where
   fault : (said : Message) (t : Lexeme) → item_of t ≡ item → ignored t.kind ≡ None → (Answered k before more t → StartSentence sort (map word (tokens_of before) ++ take 2 (terminals (tokens_of (item ∷ more)))) → ⊥)

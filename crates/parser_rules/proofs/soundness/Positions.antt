@@ -189,7 +189,7 @@ module _ (R : ParserInput) where
     pub seen : Seen x y st
     pub position : PositionHolds s p fs st
 
-  -- the state fits a position and sets for which the check of what follows holds
+  -- the state fits a position and sets for which the check of the rest holds
   abbrev pub Continues : ℕ → List Frame → Then → State → Type 0
   Continues s fs k t = (p : Position) × (u : ℕ) × (v : ℕ) × (k p u v ≡ true) × StateFits s p u v fs t
 

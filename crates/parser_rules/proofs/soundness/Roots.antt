@@ -1,4 +1,4 @@
--- A root where it is opened, and where the machine ends it: for each sort of what is parsed.
+-- A root where it is opened, and where the machine ends it: for each sort of text.
 use Rattle.std.proofs.Common.{◌≡◌, ℕ, ◌≤◌, true, false, eqb, List, [], ◌∷◌, ◌++◌, length, refl, sym, ap, ◌∙◌, subst, ◌⊎◌, inl, inr, arith}
 use Rattle.lexical_grammar.specs.Answers.{Answer, is_token}
 use Rattle.document_grammar.proofs.Booleans.{false-true, and-l, and-r}
@@ -36,7 +36,7 @@ use Rattle.parser_rules.proofs.soundness.Positions.{ParserInput, top, start_begi
 abbrev pub input_of : Sort → ℕ → List Answer → ParserInput
 input_of sort r xs = record { sort = sort; answers = xs; limit = r; words = answers_tokens xs }
 
--- The symbol is that of a root, whose node is of the kind.
+-- The symbol is a root's, whose node is of the kind.
 pub record IsRootSymbol (s : ℕ) (k : SyntaxKind) : Type 0 where
   pub shown : label s ≡ number k
   pub counted : count_in DOCUMENT s ≡ counts_itself s
@@ -99,7 +99,7 @@ module _ (sort : Sort) (r : ℕ) (xs : List Answer) where
 
 -- ---- the end
 
--- The root's node is a derivation of the tokens before what is left; it nests within the limit, and as deep as the greatest depth.
+-- The root's node is a derivation of the tokens before the rest; it nests within the limit, and as deep as the greatest depth.
 pub record IsEnded (R : ParserInput) (f : Forest) (s : State) : Type 0 where
   pub split : R.words ≡ yields f ++ rest s
   pub spells : Spells (yields f) (show (node (top R) f)) R.sort

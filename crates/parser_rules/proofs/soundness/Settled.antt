@@ -1,4 +1,4 @@
--- The nodes of a tree that end before so many tokens fit their rows; and what an unfinished tree keeps of it, whatever is built later.
+-- The nodes of a tree that end before a number of tokens fit their rows; and what an unfinished tree keeps of it, whatever is built later.
 use Rattle.std.specs.Prelude.{⊤}
 use Rattle.std.proofs.Common.{◌≡◌, ℕ, ◌+◌, ◌-◌, ◌<◌, ◌≤◌, Bool, true, false, cond, ltb, eqb, List, [], ◌∷◌, ◌++◌, length, refl, sym, ap, ap₂, ◌∙◌, subst, inl, inr, arith}
 use Rattle.std.proofs.lemmas.List.{length-append}

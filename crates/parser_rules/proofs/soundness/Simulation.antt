@@ -1,7 +1,7 @@
 -- The simulation: each run of a rule that keeps to the machine's table follows the machine, or its first report is right.
 --
 -- It is one induction over runs (`simulation`). What is carried along is that the state fits a position and the two sets of the check
--- (`StateFits`), and that the check of the rest holds there; a run ends with the same for what follows it, or with a right first report
+-- (`StateFits`), and that the check of the rest holds there; a run ends with the same for the rest after it, or with a right first report
 -- (`RunOutcome`). The other lemmas are the cases of that induction that are not one line.
 --
 -- The letters are those of `TableCheck`; besides: `n` is the fuel, `fs` the machine's open nodes above the one of the symbol `s`, `st`, `t`, `u`
@@ -110,7 +110,7 @@ module _ (R : ParserInput) where
   loop_turn n s t a k p u v next = divide (λ a' b'. a' and b') true t p u v (λ q' u' v'. keeps_to_table n s q' u' v' a next) k
 
   -- What is asked of a rule. A loop's run is another run of the loop after a turn, so for a loop it is not the check from the loop's beginning,
-  -- but that of the turns that are left, with the states that were met.
+  -- but the check of the turns that are left, with the states that were met.
   pub Checked : ℕ → ℕ → Position → ℕ → ℕ → Rule → Then → Type 0
   Checked n s p x y (While t a) k = (j : ℕ) × (h : List LoopState) × (turns j (loop_turn n s t a k) h p x y ≡ true) × Met (loop_turn n s t a k) h
   Checked n s p x y r k = keeps_to_table n s p x y r k ≡ true
@@ -132,7 +132,7 @@ module _ (R : ParserInput) where
   then-on s fs f k t u g on (inl o) = inl (rightly-on R t u g o)
   then-on s fs f k t u g on (inr o) = on o
 
-  -- The machine begins the node. An inlined one is walked in its parent's check, with what is known of the next two tokens; of any other the check
+  -- The machine begins the node. An inlined one is walked in its parent's check, with the knowledge of the next two tokens; of any other the check
   -- of its kind is taken, which holds for all tokens that may begin it, with fuel of its own: so the nesting of a text needs no fuel.
   node-begins : (n s q x y : ℕ) (l : Level) (d : Certainty) (c : Node) (fs : List Frame) (k : Then) (st t u : State) → t ≡ opened (kind_of c) st → Simulates (inside c) t u
       → child_begins s q l x y c k (λ u v k'. keeps_to_table n (symbol c) at_start u v (inside c) k') ≡ true → StateFits R s (in_row q l d) x y fs st → RunOutcome R s fs k (closed u)
@@ -242,7 +242,7 @@ module _ (R : ParserInput) where
       al : OnlyBuilds u v
       al = rw i (wrapped-builds (built_count t.tree) kind.NON_NULL_TYPE u)
 
-      -- the builder's open nodes: that of the `!` and of what it follows is new
+      -- the builder's open nodes: the node of the `!` and of the type before it is new
       shape : Forest → Stack
       shape f = (NON_NULL_TYPE, f) ∷ image gs
 

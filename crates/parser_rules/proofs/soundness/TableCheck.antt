@@ -10,7 +10,7 @@
 --   position   (p) where the walk is: `in_row state level certainty`, or `machine_is_stuck`
 --   now        (x) a set of classes that has the class of the current token
 --   after      (y) a set of classes that has the class of the significant token after it
---   then       (k) the check of what follows, from the position and the sets with which this ends
+--   then       (k) the check of the rest, from the position and the sets with which this ends
 use Rattle.std.proofs.Common.{ℕ, zero, suc, ◌+◌, ◌^◌, Bool, true, false, not, eqb, ltb, List, [], ◌∷◌, cond, bit_and, bit_or}
 use Rattle.std.specs.Int.Bits.{bit_xor}
 use Rattle.lexical_grammar.specs.declared.TokenKind.TheVariants as token
@@ -99,7 +99,7 @@ abbrev pub level_left : Position → Position
 level_left (in_row state level certainty) = in_row state Left (limit_forgotten certainty)
 level_left machine_is_stuck = machine_is_stuck
 
--- The parent's state is moved on by what a node leaves for it.
+-- The parent's state moves on by the node's exit.
 abbrev pub moved_by : Position → ℕ → Position
 moved_by (in_row state level certainty) exit = in_row (state + exit) level certainty
 moved_by machine_is_stuck exit = machine_is_stuck
@@ -120,7 +120,7 @@ covered position now after (one ∷ more) = (same_position position one.position
 abbrev pub most_turns : ℕ
 most_turns = 5
 
--- The check of a loop from a state, where `turn` is that of one turn with what follows it, and of the loop's end. A state that is covered by
+-- The check of a loop from a state, where `turn` is the check of one turn with the rest, and of the loop's end. A state that is covered by
 -- one that was met before is not looked at again.
 unfoldable pub turns : ℕ → (Position → ℕ → ℕ → Then → Bool) → List LoopState → Then
 turns zero turn met position now after = covered position now after met
@@ -265,7 +265,7 @@ type_at symbol machine_is_stuck now after then walk = false
 -- many rules deep the walk may still go: a call takes one, and so does a child.
 unfoldable pub keeps_to_table : ℕ → ℕ → Position → ℕ → ℕ → Rule → Then → Bool
 keeps_to_table fuel symbol position now after Skip then = then position now after
--- a token is taken: its successor becomes the current one, and nothing is known of what is after that
+-- a token is taken: its successor becomes the current one, and nothing is known of the tokens after that
 keeps_to_table fuel symbol position now after (Do (Bump leaf)) then = takes_token symbol position now after (number leaf) (leaf_of symbol (number leaf)) (λ position'. then position' after any)
 -- what follows a first report is not looked at
 keeps_to_table fuel symbol position now after (Do (Note message)) then = may_report symbol position now after
@@ -291,7 +291,7 @@ keeps_to_table fuel symbol position now after (Typed rule) then = type_at symbol
 
 -- ---- nodes, and the document
 
--- The node is none of a leaf, a type and what only a root is, and its symbol's kind is its own.
+-- The node is not a leaf, a type or a kind of roots alone, and its symbol's kind is its own.
 unfoldable pub is_node : Node → Bool
 is_node node = not (is_leaf (symbol_of node)) and (not (eqb (symbol_of node) TYPE) and (not (only_root (symbol_of node)) and (eqb (label (symbol_of node)) (number (kind_of node)))))
 

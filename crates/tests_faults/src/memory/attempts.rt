@@ -27,7 +27,7 @@ pub enum Call {
     CloneSubtree,
     /// A node below the root as a tree of its own.
     CloneInnerSubtree,
-    /// A text as that of a token, in memory of its own.
+    /// A token's text, in memory of its own.
     CopyToken,
     /// The value of the string that is the first argument.
     ReadString,

@@ -12,7 +12,7 @@ pub fn run_once(
     source: &str,
     number: u64,
 ) -> Result<Attempt, AllocError> {
-    // with room for all output, so that the writer asks for no more
+    // with room for all output, so that the writer needs no more
     let mut written = Vec::with_capacity(alloc, 65_536)?;
     let mut reader = StdSource::new(source.as_bytes());
     let mut writer = StdSink::new(&mut written);

@@ -4,7 +4,7 @@ use Rattle.lexical_grammar.specs.declared.NumberState.TheVariants.{Begin}
 use Rattle.apollo_lexer.proofs.Front.{number-boundary, point-boundary}
 use Rattle.apollo_lexer.proofs.scan.bad_len.Goals as goal
 
--- after what begins a number
+-- after the beginning of a number
 pub range_from-requires : goal.range_from-requires
 range_from-requires c = λ some.
     number-boundary c.args.source.now c.number_len-n.result.1 c.utf8.source (c.number_len-n.ensures.len ∙ ap (live_len Begin) c.as_bytes-bytes.ensures.value)

@@ -1,0 +1,252 @@
+"""The page docs/EVIDENCE.md: from each clause to its lemmas and to the edits that break it, and what to read in order to believe a clause."""
+
+import re
+import textwrap
+
+from . import contracts, lemmas
+from .definitions import CRATES, KIT, Source, definition_lines, head, in_order, is_generated, name_of, spec, used_files
+
+# The calls that a user reads, by their part: a title, files and folders, and how much of the list of definitions is counted for it.
+PARTS = {
+    "`parse`, and parts of documents": "apollo_parser/src/parser.rt",
+    "trees, typed nodes and values": """apollo_parser/src/syntax_tree.rt apollo_tree/src/builder.rt apollo_tree/src/node.rt apollo_tree/src/children.rt
+        apollo_tree/src/pointer.rt apollo_tree/src/subtree.rt apollo_tree/src/range.rt apollo_tree/src/token_text.rt apollo_tree/src/indexed.rt
+        apollo_cst_core/src/laws.rt apollo_cst_executable/src apollo_cst_type_system/src""",
+    "the lexer": """apollo_lexer/src/lexer.rt apollo_lexer/src/limit.rt apollo_lexer/src/error.rt apollo_lexer/src/token.rt apollo_lexer/src/lex_error.rt""",
+    "`gqlcst`": "byte_devices/src gqlcst_run/src/program.rt gqlcst_run/src/ending.rt gqlcst_run/src/command.rt",
+    "`format`": "formatter/src/lib.rt",
+    "`gqlfmt`": """gqlfmt_files/src/settling.rt gqlfmt_words/src/words.rt gqlfmt_run/src/input.rt gqlfmt_run/src/paths.rt gqlfmt_run/src/program.rt""",
+    "C, Python and the page": """dumyroke_flat/src/parse.rt dumyroke_flat/src/strings.rt dumyroke_flat/src/format.rt dumyroke_flat/src/laws.rt
+        dumyroke_c/src/lib.rt""",
+    "places, and `gqlls`": """line_index/src/lib.rt editor_text/src/lib.rt rpc_frames/src/lib.rt rpc_messages/src rpc_serving/src editor_diagnostics/src
+        editor_answers/src gqlls_run/src/server.rt gqlls_run/src/running.rt""",
+}
+# Laws, and calls between crates: the page has their lemmas, and no definitions are listed for them.
+LAWS = """lexical_grammar/src/lib.rt lexical_grammar/src/escapes.rt document_grammar/src/kind.rt document_grammar/src/laws.rt grammar_machine/src/laws.rt
+    apollo_lexer/src/laws.rt apollo_parser/src/laws.rt apollo_cst_core/src/typed.rt apollo_cst_core/src/strings.rt format_tokens/src/layout.rt
+    format_strings/src/spelling.rt format_layout/src/laws.rt"""
+# How many lines of definitions a call needs, which README and docs/PROMISES.md say.
+COUNTED = {
+    "`parse`, and parts of documents": "apollo_parser/src/parser.rt",
+    "`format`": "formatter/src/lib.rt",
+    "`gqlcst`": "gqlcst_run/src/program.rt",
+    "`gqlfmt`": "gqlfmt_run/src/program.rt",
+    "`gqlls`, with the kit's words for JSON and for headers": "gqlls_run/src/running.rt",
+    "C, Python and the page": "dumyroke_c/src/lib.rt",
+}
+# The four clauses of `parse` that are the main theorem.
+MAIN = ["sound", "accepts", "only_derivation", "still_a_sentence"]
+# Generated calls: an accessor has the contract of one of three calls of `apollo_cst_core`, and the law `reading_back` is about all of them.
+ACCESSORS = ("apollo_cst_executable", "apollo_cst_type_system")
+HEAD = """\
+# Evidence
+
+`tools/promises` writes this page from the contracts, the proofs and the edits. [PROMISES.md](PROMISES.md) says in words what the clauses mean.
+"""
+CALLS = """\
+## From a clause to its proof
+
+Below each public call are its clauses (`result` has no name), and below a clause that is a record its fields. After a clause come the lemmas that its
+proof names, each after its file, from the crate on and without `proofs`; after a field the lemmas of other crates on which the lemma of that name
+rests. Where no lemma follows, the proof needs none beside the contracts of the calls in the body and the invariants of its loops. `✗` precedes the
+edits that break a clause: `CRATE/NAME` is `crates/CRATE/must-fail/NAME.edit`, and `./do gate` checks that the prover refuses it.
+"""
+READING = """\
+## What to read in order to believe it
+
+A clause is as good as the definitions that it uses. Each file comes with its number of lines, without imports, comments and blank lines, after those
+that it uses. A file is in the first list that needs it.
+"""
+# Files whose definitions a reader may take as they are, and why.
+SPARED = """lexical_grammar/specs/Reads.antt lexical_grammar/specs/NumberStates.antt apollo_parser/specs/ByRules.antt parser_rules/specs/State.antt
+    parser_rules/specs/Nodes.antt parser_rules/specs/RuleLanguage.antt parser_rules/specs/Rules.antt parser_rules/specs/Runs.antt parser_state/specs/Errors.antt
+    grammar_machine/specs/Machine.antt grammar_machine/specs/Symbols.antt grammar_machine/specs/Table.antt document_grammar/specs/Booleans.antt"""
+UNREAD = """\
+### Not to be read
+
+`items_of`, in `lexical_grammar/specs/Reads.antt` and `lexical_grammar/specs/NumberStates.antt`, is how the lexer cuts a text: `cut` says that its result
+is a cut, and two cuts of a text agree up to the first bad string. `ByRules`, in `apollo_parser/specs/ByRules.antt`, is how the parser's rules ran. By
+`one_parse` it has one result, and nothing else about it matters: `State`, `Nodes`, `RuleLanguage`, `Rules` and `Runs` of `parser_rules`, `Errors` of
+`parser_state`, and the names that these use of `Machine`, `Symbols` and `Table` of `grammar_machine` and of `Booleans` of `document_grammar`. No other
+clause of `parse` names a rule of the parser.
+"""
+
+
+# ---- the calls
+
+
+def edits():
+    """What each edit breaks: by (crate, call), the edits with their clauses."""
+    found = {}
+    for line in (CRATES.parent / "tools/evidence/edits").read_text().splitlines():
+        if line and not line.startswith("#"):
+            edit, _, broken = line.partition(": ")
+            crate, call, *clauses = broken.split()
+            found.setdefault((crate, call), []).append((edit, clauses))
+    return found
+
+
+def all_calls():
+    doors = " ".join([*PARTS.values(), LAWS]).split()
+    return [call for call in contracts.calls(doors) if call.crate not in ACCESSORS]
+
+
+def fields_of(call, text):
+    """The record of this repository that a clause says holds, and its fields, each with its text; nothing for a record of one field."""
+    source = Source.of(call.file)
+    said = re.match(r"\s*ensures \w* ?\{ (?:IfOk \w+ |IfErr \w+ |\(|λ \w+\. )*(\w+)", text)
+    path = spec(source.uses[said[1]][0]) if said and said[1] in source.uses else None
+    if path and CRATES in path.parents:
+        fields = contracts.fields(source.uses[said[1]][1], path.relative_to(CRATES).parts[0])[1]
+        return fields if len(fields) > 1 else {}
+    return {}
+
+
+def by_file(found):
+    """Lemmas, each file once."""
+    files = {}
+    for file, name in found:
+        files.setdefault(file, []).append(name)
+    return "; ".join(f"`{lemmas.module(file)}` " + ", ".join(f"`{name}`" for name in names) for file, names in files.items())
+
+
+def said(text, broken, clause=None):
+    """What is said of a clause, or of a call: its lemmas, and the edits that break it."""
+    edits = [edit for edit, clauses in broken if (clause in clauses if clause else not clauses)]
+    return (f": {text}" if text else "") + (f" ✗ {', '.join(f'`{edit}`' for edit in edits)}" if edits else "")
+
+
+def names(found):
+    return ", ".join(f"`{name}`" for name in found)
+
+
+def field_lines(fields, file, broken, is_new):
+    """A line for each field of a record that has lemmas of other crates or edits, and one for the others. Where the record had its lines before, those
+    with edits alone."""
+    rests = lemmas.of_fields(file, fields) if file and is_new else {}
+    told = {field: said(by_file(rests.get(field, [])), broken, field) for field in fields}
+    for field in fields:
+        if told[field]:
+            yield 2, f"`{field}`{told[field]}"
+    if is_new and not all(told.values()):
+        yield 2, names(field for field in fields if not told[field])
+
+
+def lines(call, others, broken, seen):
+    """The lines of a call: the call, its clauses, and the fields of those that are records."""
+    clauses, bare = [], []
+    of_fields = [(edit, found) for edit, found in broken if not set(found) & set(call.clauses)]
+    for clause, text in call.clauses.items():
+        same = [other for other in others if other.clauses.get(clause) == text and other.file == call.file]
+        found, fields = [lemma for other in same for lemma in lemmas.of_clause(other, clause)], fields_of(call, text)
+        makes = next((file for file, name in found if name == clause), None)
+        if fields and same[0] != call:
+            clauses.append((1, f"`{clause}`, as `{same[0].title}`"))
+        elif found or fields or (clause and said("", broken, clause)):
+            clauses.append((1, f"`{clause}`" + said(by_file(found), broken, clause)))
+            clauses += field_lines(fields, makes, of_fields, (makes or call.file, *fields) not in seen)
+            seen.add((makes or call.file, *fields))
+        elif clause:
+            bare.append(clause)
+    named = bare if bare != ["result"] else []
+    if clauses:
+        return [(0, f"`{call.title}`" + said("", broken)), *clauses, *([(1, names(named))] if named else [])]
+    return [(0, f"`{call.title}`" + (f" ({names(named)})" if named else "") + said("", broken))]
+
+
+def wrapped(deep, text):
+    """An item of a list, in lines of at most 150 characters."""
+    return textwrap.fill(f"- {text}", 150, initial_indent="  " * deep, subsequent_indent="  " * deep + "  ", break_long_words=False, break_on_hyphens=False)
+
+
+def proofs():
+    broken, found, seen, made = edits(), {}, set(), []
+    for call in all_calls():
+        found.setdefault(call.crate, []).append(call)
+    for crate, calls in found.items():
+        made.append(f"\n### `{crate}`\n")
+        bare = []
+        for call in calls:
+            items = lines(call, calls, broken.get((call.crate, call.title), []), seen)
+            if len(items) == 1 and "✗" not in items[0][1]:
+                bare.append(items[0][1])
+            else:
+                made += [wrapped(deep, text) for deep, text in items]
+        made += [wrapped(0, ", ".join(bare))] if bare else []
+    return "\n".join(made) + "\n"
+
+
+def edits_wrong():
+    """Edits that are not in the list, and names in the list that are not edits."""
+    there = {f"{path.parts[-3]}/{path.stem}" for path in CRATES.glob("*/must-fail/*.edit")}
+    listed = {edit: (key, clauses) for key, found in edits().items() for edit, clauses in found}
+    named = {(call.crate, call.title): call for call in all_calls()}
+    yield from (f"tools/evidence/edits: it lacks the edit {edit}" for edit in sorted(there - set(listed)))
+    yield from (f"tools/evidence/edits: there is no edit {edit}" for edit in sorted(set(listed) - there))
+    for edit, (key, clauses) in listed.items():
+        if key not in named:
+            yield f"tools/evidence/edits: {edit} breaks {' '.join(key)}, which is no public call"
+        else:
+            call = named[key]
+            known = set(call.clauses) | {field for text in call.clauses.values() for field in fields_of(call, text)}
+            yield from (f"tools/evidence/edits: {call.title} has no clause {clause}" for clause in clauses if clause not in known)
+
+
+# ---- the definitions
+
+
+def clauses_of(doors):
+    """The clauses of files and folders, with those of generated accessors."""
+    return [(text, call.file) for call in contracts.calls(doors) for text in call.clauses.values()]
+
+
+def spared():
+    return {CRATES / name for name in SPARED.split()}
+
+
+def files_of(doors):
+    return used_files(clauses_of(doors), spared())
+
+
+def main_files():
+    """The files that the main theorem needs."""
+    path, fields = contracts.fields("Promise", "apollo_parser")
+    return used_files([(fields[name], path) for name in MAIN], spared()) - {path}
+
+
+def lines_needed(doors):
+    return sum(definition_lines(path) for path in files_of(doors) if not is_generated(path))
+
+
+def counts():
+    return {title: lines_needed([door]) for title, door in COUNTED.items()}
+
+
+def lists():
+    """The lists of files, each with its title and without the files of those before it."""
+    main = main_files()
+    kit, listed = set(), set()
+    yield "the main theorem: " + ", ".join(f"`{name}`" for name in MAIN), in_order(main)
+    listed |= main
+    for title, doors in PARTS.items():
+        files = files_of(doors.split()) - listed
+        listed |= files
+        kit |= {path for path in files if KIT in path.parents}
+        yield title, in_order({path for path in files if KIT not in path.parents})
+    yield "the kit's words for JSON and for headers, which `gqlls` uses", in_order(kit)
+
+
+def reading():
+    made = ["\nA call needs these lines, without lists that a program wrote:\n"]
+    made += [f"- {title}, `{COUNTED[title]}`: {count:,}" for title, count in counts().items()]
+    for title, files in lists():
+        by_hand = sum(definition_lines(path) for path in files if not is_generated(path))
+        made.append(f"\n### For {title}: {by_hand:,} lines\n")
+        for path in files:
+            text = "generated" if is_generated(path) else head(path)
+            made.append(wrapped(0, f"`{name_of(path)}` {definition_lines(path)}: {text}"))
+    return "\n".join(made) + "\n"
+
+
+def page():
+    return f"{HEAD}\n{CALLS}{proofs()}\n{READING}{reading()}\n{UNREAD}"
