@@ -46,5 +46,6 @@ def use_line(path, names, before=0):
     line = f"use {path}::{{{', '.join(names)}}};\n"
     if before + len(line) <= 101:
         return line
-    rows = textwrap.wrap(", ".join(names) + ",", 95)
-    return f"use {path}::{{\n" + "".join(f"    {row}\n" for row in rows) + "};\n"
+    # a name with another one after `as` stays on one line
+    rows = textwrap.wrap(", ".join(name.replace(" ", "\0") for name in names) + ",", 95)
+    return f"use {path}::{{\n" + "".join(f"    {row}\n" for row in rows).replace("\0", " ") + "};\n"
