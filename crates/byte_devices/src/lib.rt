@@ -2,6 +2,8 @@
 //!
 //! A `Source` gives bytes and a `Sink` takes them. A contract names the bytes that went through a device, and how often it stopped or failed (`Account`).
 //! `read_to_end` and `write_all` go on to the end, and `Fault` says why a run has no outcome.
+//!
+//! The programs above run over a `Source` and a `Sink`; their `main` makes both with `StdSource::new` and `StdSink::new`.
 #![tactic(auto)]
 
 mod devices;

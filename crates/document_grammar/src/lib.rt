@@ -3,6 +3,8 @@
 //!
 //! `SyntaxKind` is the only code but for the laws. A reader of the parser's contracts has to believe these definitions and those of
 //! `lexical_grammar`.
+//!
+//! The crates above cite `Sentence` (`specs/Sentence.antt`) and use `SyntaxKind`.
 #![tactic(auto)]
 
 mod kind;

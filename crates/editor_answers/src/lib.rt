@@ -3,6 +3,8 @@
 //! Each answer is made from a tree; a parser is not needed here. A place is a byte offset in the tree's text, and a `Span` has two of them. The
 //! functions whose names begin with `answer` give the body of the answer to a request of the Language Server Protocol, with lines and columns; those
 //! whose names begin with `push` add the result of a request to the pieces of which its answer is made.
+//!
+//! `gqlls_run`, the crate above, calls one function for each request.
 #![tactic(auto)]
 
 mod answers;

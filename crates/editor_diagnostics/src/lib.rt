@@ -1,6 +1,8 @@
 //! The notices by which a language server tells a client the errors of a document.
 //!
 //! `publication` tells of each error where it is, as the client counts lines and columns, and what is wrong; `withdrawal` takes all of them back.
+//!
+//! `gqlls_run`, the crate above, calls `publication` after each change.
 #![tactic(auto)]
 
 mod diagnostic;

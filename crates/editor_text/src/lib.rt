@@ -2,6 +2,8 @@
 //!
 //! A change replaces a range of positions, or the whole text. After it the document has the text that the client has: the contract says so for
 //! a client that counts lines and units of an encoding.
+//!
+//! `gqlls_run`, the crate above, keeps an `OpenDocument` for each file and calls its `change_all`.
 #![tactic(auto)]
 
 ghost use Rattle.std.specs.Prelude.{◌≡◌, string_bytes, IfOk, OnOk, OnErr};

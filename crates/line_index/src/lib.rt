@@ -2,6 +2,8 @@
 //!
 //! `LineIndex` reads a text once and keeps where its lines begin. Columns are counted in bytes, in characters or in units of UTF-16, and lines
 //! end as GraphQL's line terminators do. All numbers count from 0.
+//!
+//! The crates above make one `LineIndex` for each text, and call its `place` and `position`.
 #![tactic(auto)]
 
 ghost use Rattle.std.specs.Prelude.{◌≡◌, ℕ, ◌+◌, ◌^◌, ◌<◌, ◌==◌, ◌&&◌, ◌≤◌, length, slice_index, slice_range, take, IfOk, MatchOption, take_while, not};

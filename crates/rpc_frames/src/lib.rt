@@ -2,6 +2,8 @@
 //! body in bytes, and the body.
 //!
 //! A `FrameBuffer` is given bytes as they come, in pieces of any length, and gives the bodies. It has no devices.
+//!
+//! `rpc_serving`, the crate above, takes bodies from a `FrameBuffer` and frames its own by `put_frame`.
 #![tactic(auto)]
 
 ghost use Rattle.std.specs.Prelude.{◌≡◌, ◌≢◌, ◌≤◌, ◌^◌, ◌==◌, ◌++◌, [], length, map, drop, All, IfOk, IfErr, IfSome, IfNone, OnOk, OnErr};
