@@ -7,6 +7,7 @@ ghost use Rattle.apollo_grammar.specs.Words.token;
 
 use super::description::{described_keyword, optional_description, starts_named, want_named};
 use super::directive::optional_directives;
+use super::extended::{Block, extended};
 use super::name::name;
 use super::value::enum_value;
 use document_grammar::SyntaxKind;
@@ -41,22 +42,19 @@ pub fn enum_type_extension<A: Allocator + Copy>(
     p.start_node_with(SyntaxKind::ENUM_TYPE_EXTENSION, SyntaxKind::extend_KW)?;
     p.bump(SyntaxKind::enum_KW)?;
     name(p)?;
-    if p.at(TokenKind::At) {
-        optional_directives(p, Constness::Const)?;
-        if p.at(TokenKind::LCurly) {
-            enum_values_definition(p)?;
-        }
-    } else if p.at(TokenKind::LCurly) {
-        enum_values_definition(p)?;
-    } else {
-        p.err(Message::ExpectedEnumExtension)?;
-    }
+    extended(
+        p,
+        Block::EnumValuesDefinition,
+        Message::ExpectedEnumExtension,
+    )?;
     p.finish_node();
     Ok(())
 }
 
-// The values of an enum, where `{` comes next.
-fn enum_values_definition<A: Allocator + Copy>(p: &mut ParserState<'_, A>) -> Result<(), AllocError>
+/// The values of an enum, where `{` comes next.
+pub fn enum_values_definition<A: Allocator + Copy>(
+    p: &mut ParserState<'_, A>,
+) -> Result<(), AllocError>
     requires { true ≡ holds (At token.LCurly) p.old }
     ensures { Parses (Child rule.EnumValuesDefinition) result p.old p.new }
 {

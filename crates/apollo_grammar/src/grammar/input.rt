@@ -8,6 +8,7 @@ ghost use Rattle.apollo_grammar.specs.Words.token;
 
 use super::description::{described_keyword, optional_description, starts_named, want_named};
 use super::directive::optional_directives;
+use super::extended::{Block, extended};
 use super::name::name;
 use super::variable::variable_type;
 use document_grammar::SyntaxKind;
@@ -45,22 +46,17 @@ pub fn input_object_type_extension<A: Allocator + Copy>(
     )?;
     p.bump(SyntaxKind::input_KW)?;
     name(p)?;
-    if p.at(TokenKind::At) {
-        optional_directives(p, Constness::Const)?;
-        if p.at(TokenKind::LCurly) {
-            input_fields_definition(p)?;
-        }
-    } else if p.at(TokenKind::LCurly) {
-        input_fields_definition(p)?;
-    } else {
-        p.err(Message::ExpectedInputExtension)?;
-    }
+    extended(
+        p,
+        Block::InputFieldsDefinition,
+        Message::ExpectedInputExtension,
+    )?;
     p.finish_node();
     Ok(())
 }
 
-// The fields of an input object, where `{` comes next.
-fn input_fields_definition<A: Allocator + Copy>(
+/// The fields of an input object, where `{` comes next.
+pub fn input_fields_definition<A: Allocator + Copy>(
     p: &mut ParserState<'_, A>,
 ) -> Result<(), AllocError>
     requires { true ≡ holds (At token.LCurly) p.old }

@@ -6,6 +6,7 @@ ghost use Rattle.apollo_grammar.specs.Words.rules;
 
 use super::description::described_keyword;
 use super::directive::optional_directives;
+use super::extended::{Block, extended};
 use super::field::fields_definition;
 use super::name::name;
 use super::ty::named_type;
@@ -64,21 +65,11 @@ pub fn implementing<A: Allocator + Copy>(
         implements_interfaces(p)?;
         optional_directives(p, Constness::Const)?;
         if p.at(TokenKind::LCurly) {
-            fields_definition(p)?;
+            return fields_definition(p);
         }
         return Ok(());
     }
-    if p.at(TokenKind::At) {
-        optional_directives(p, Constness::Const)?;
-        if p.at(TokenKind::LCurly) {
-            fields_definition(p)?;
-        }
-        return Ok(());
-    }
-    if p.at(TokenKind::LCurly) {
-        return fields_definition(p);
-    }
-    p.err(message)
+    extended(p, Block::FieldsDefinition, message)
 }
 
 /// What follows the name of an object type or of an interface that is defined.

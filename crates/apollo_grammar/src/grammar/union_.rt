@@ -5,6 +5,7 @@ ghost use Rattle.apollo_grammar.specs.Words.rule;
 
 use super::description::described_keyword;
 use super::directive::optional_directives;
+use super::extended::{Block, extended};
 use super::name::name;
 use super::ty::named_type;
 use document_grammar::SyntaxKind;
@@ -39,22 +40,13 @@ pub fn union_type_extension<A: Allocator + Copy>(
     p.start_node_with(SyntaxKind::UNION_TYPE_EXTENSION, SyntaxKind::extend_KW)?;
     p.bump(SyntaxKind::union_KW)?;
     name(p)?;
-    if p.at(TokenKind::At) {
-        optional_directives(p, Constness::Const)?;
-        if p.at(TokenKind::Eq) {
-            union_member_types(p)?;
-        }
-    } else if p.at(TokenKind::Eq) {
-        union_member_types(p)?;
-    } else {
-        p.err(Message::ExpectedUnionExtension)?;
-    }
+    extended(p, Block::UnionMemberTypes, Message::ExpectedUnionExtension)?;
     p.finish_node();
     Ok(())
 }
 
-// The members of a union, where `=` comes next.
-fn union_member_types<A: Allocator + Copy>(p: &mut ParserState<'_, A>) -> Result<(), AllocError>
+/// The members of a union, where `=` comes next.
+pub fn union_member_types<A: Allocator + Copy>(p: &mut ParserState<'_, A>) -> Result<(), AllocError>
     ensures { Parses (Child rule.UnionMemberTypes) result p.old p.new }
 {
     p.start_node_with(SyntaxKind::UNION_MEMBER_TYPES, SyntaxKind::EQ)?;
