@@ -21,6 +21,7 @@ use parser_state::{ParserState, is_kind, is_word};
 use std::alloc::{AllocError, Allocator};
 
 /// A document (GraphQL October 2021, section 2.2, "Document"), up to the end of the text.
+///     Document (2.2) : Definition+
 pub fn document<A: Allocator + Copy>(p: &mut ParserState<'_, A>) -> Result<(), AllocError>
     ensures { Parses (Call rule.Document) result p.old p.new }
 {
@@ -32,6 +33,7 @@ pub fn document<A: Allocator + Copy>(p: &mut ParserState<'_, A>) -> Result<(), A
 }
 
 // A definition, or a token in its place that is popped.
+//     Definition (2.2) : OperationDefinition, FragmentDefinition, or a definition or extension of the type system (3)
 #[tactic(auto, using(crate::proofs::Keywords::defining), unfolding(parser_rules::specs::Rules::body))]
 fn definition<A: Allocator + Copy>(p: &mut ParserState<'_, A>) -> Result<(), AllocError>
     ensures { Parses (Call rule.Definition) result p.old p.new }

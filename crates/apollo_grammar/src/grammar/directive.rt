@@ -30,6 +30,7 @@ pub fn optional_directives<A: Allocator + Copy>(
     Ok(())
 }
 
+//     Directives[Const] (2.12) : Directive[?Const]+
 fn directives<A: Allocator + Copy>(
     p: &mut ParserState<'_, A>,
     constness: Constness,
@@ -44,6 +45,7 @@ fn directives<A: Allocator + Copy>(
     Ok(())
 }
 
+//     Directive[Const] (2.12) : @ Name Arguments[?Const]?
 fn directive<A: Allocator + Copy>(
     p: &mut ParserState<'_, A>,
     constness: Constness,
@@ -81,6 +83,7 @@ static LOCATIONS: [SyntaxKind; 19] = [
 ];
 
 /// The definition of a directive (GraphQL October 2021, section 3.13, "Directives").
+///     DirectiveDefinition (3.13) : Description? `directive` @ Name ArgumentsDefinition? `repeatable`? `on` DirectiveLocations
 pub fn directive_definition<A: Allocator + Copy>(
     p: &mut ParserState<'_, A>,
 ) -> Result<(), AllocError>
@@ -123,6 +126,7 @@ fn starts_locations<A: Allocator + Copy>(p: &ParserState<'_, A>) -> bool
 }
 
 // The places where a directive may be.
+//     DirectiveLocations (3.13) : |? DirectiveLocation, or DirectiveLocations | DirectiveLocation
 fn directive_locations<A: Allocator + Copy>(p: &mut ParserState<'_, A>) -> Result<(), AllocError>
     ensures { Parses (Child rule.DirectiveLocations) result p.old p.new }
 {
@@ -150,6 +154,7 @@ fn location<A: Allocator + Copy>(p: &mut ParserState<'_, A>) -> Result<(), Alloc
 }
 
 // A location that is known to be next.
+//     DirectiveLocation (3.13) : ExecutableDirectiveLocation, or TypeSystemDirectiveLocation
 #[tactic(auto, using(crate::proofs::Locations::opening))]
 fn directive_location<A: Allocator + Copy>(
     p: &mut ParserState<'_, A>,

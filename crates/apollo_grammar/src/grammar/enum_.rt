@@ -17,6 +17,7 @@ use parser_state::ParserState;
 use std::alloc::{AllocError, Allocator};
 
 /// An enum (GraphQL October 2021, section 3.9, "Enums").
+///     EnumTypeDefinition (3.9) : Description? `enum` Name Directives[Const]? EnumValuesDefinition?, as above
 pub fn enum_type_definition<A: Allocator + Copy>(
     p: &mut ParserState<'_, A>,
 ) -> Result<(), AllocError>
@@ -34,6 +35,7 @@ pub fn enum_type_definition<A: Allocator + Copy>(
 }
 
 /// An extension of an enum (GraphQL October 2021, section 3.9.1, "Enum Extensions").
+///     EnumTypeExtension (3.9.1) : `extend` `enum` Name, and one of Directives[Const] and EnumValuesDefinition at least, in this order
 pub fn enum_type_extension<A: Allocator + Copy>(
     p: &mut ParserState<'_, A>,
 ) -> Result<(), AllocError>
@@ -52,6 +54,7 @@ pub fn enum_type_extension<A: Allocator + Copy>(
 }
 
 /// The values of an enum, where `{` comes next.
+///     EnumValuesDefinition (3.9) : { EnumValueDefinition+ }
 pub fn enum_values_definition<A: Allocator + Copy>(
     p: &mut ParserState<'_, A>,
 ) -> Result<(), AllocError>
@@ -73,6 +76,7 @@ pub fn enum_values_definition<A: Allocator + Copy>(
 }
 
 // The definition of an enum's value.
+//     EnumValueDefinition (3.9) : Description? EnumValue Directives[Const]?
 fn enum_value_definition<A: Allocator + Copy>(p: &mut ParserState<'_, A>) -> Result<(), AllocError>
     ensures { Parses (Child rule.EnumValueDefinition) result p.old p.new }
 {

@@ -17,6 +17,7 @@ use parser_state::ParserState;
 use std::alloc::{AllocError, Allocator};
 
 /// An object type (GraphQL October 2021, section 3.6, "Objects").
+///     ObjectTypeDefinition (3.6) : Description? `type` Name ImplementsInterfaces? Directives[Const]? FieldsDefinition?, where the block may be left
 pub fn object_type_definition<A: Allocator + Copy>(
     p: &mut ParserState<'_, A>,
 ) -> Result<(), AllocError>
@@ -41,6 +42,7 @@ fn type_name<A: Allocator + Copy>(p: &mut ParserState<'_, A>) -> Result<(), Allo
 }
 
 /// An extension of an object type (GraphQL October 2021, section 3.6.3, "Object Extensions").
+///     ObjectTypeExtension (3.6.3) : `extend` `type` Name, and one of ImplementsInterfaces, Directives[Const], FieldsDefinition at least, in this order
 pub fn object_type_extension<A: Allocator + Copy>(
     p: &mut ParserState<'_, A>,
 ) -> Result<(), AllocError>
@@ -95,6 +97,7 @@ fn optional_implements<A: Allocator + Copy>(p: &mut ParserState<'_, A>) -> Resul
 }
 
 // The interfaces that a type implements.
+//     ImplementsInterfaces (3.6) : `implements` &? NamedType, or ImplementsInterfaces & NamedType
 fn implements_interfaces<A: Allocator + Copy>(p: &mut ParserState<'_, A>) -> Result<(), AllocError>
     ensures { Parses (Child rule.ImplementsInterfaces) result p.old p.new }
 {

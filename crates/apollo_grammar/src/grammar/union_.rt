@@ -15,6 +15,7 @@ use parser_state::ParserState;
 use std::alloc::{AllocError, Allocator};
 
 /// A union (GraphQL October 2021, section 3.8, "Unions").
+///     UnionTypeDefinition (3.8) : Description? `union` Name Directives[Const]? UnionMemberTypes?
 pub fn union_type_definition<A: Allocator + Copy>(
     p: &mut ParserState<'_, A>,
 ) -> Result<(), AllocError>
@@ -32,6 +33,7 @@ pub fn union_type_definition<A: Allocator + Copy>(
 }
 
 /// An extension of a union (GraphQL October 2021, section 3.8.1, "Union Extensions").
+///     UnionTypeExtension (3.8.1) : `extend` `union` Name, and one of Directives[Const] and UnionMemberTypes at least, in this order
 pub fn union_type_extension<A: Allocator + Copy>(
     p: &mut ParserState<'_, A>,
 ) -> Result<(), AllocError>
@@ -46,6 +48,7 @@ pub fn union_type_extension<A: Allocator + Copy>(
 }
 
 /// The members of a union, where `=` comes next.
+///     UnionMemberTypes (3.8) : = |? NamedType, or UnionMemberTypes | NamedType
 pub fn union_member_types<A: Allocator + Copy>(p: &mut ParserState<'_, A>) -> Result<(), AllocError>
     ensures { Parses (Child rule.UnionMemberTypes) result p.old p.new }
 {
