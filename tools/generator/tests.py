@@ -22,7 +22,10 @@ SYMBOLS = "tools/generator/symbols.py"
 PLACES = "tools/generator/places.py"
 WORDS = "tools/generator/typed_docs.py"
 # The crates that have generated files.
-WRITTEN = ("document_grammar", "grammar_machine", "parser_rules", "apollo_parser", "gqlcst_run", "gqlfmt_run", "dumyroke_flat", *(path.name for path in CRATES.glob("apollo_cst_*")))
+WRITTEN = (
+    *("document_grammar", "grammar_machine", "parser_rules", "apollo_grammar", "apollo_document", "apollo_parser", "gqlcst_run", "gqlfmt_run"),
+    *("dumyroke_flat", *(path.name for path in CRATES.glob("apollo_cst_*"))),
+)
 
 # The file with the mistake, a text that is in it once, what is there in its place, and the message.
 MISTAKES = [
@@ -318,6 +321,29 @@ def the_header_has_the_rows(made):
     return None
 
 
+# A file of functions, what is in it once, and what may not be there in its place: no production, another one, and one above a function that
+# has none.
+PRODUCTIONS = [
+    ("name.rt", "///     Alias (2.7) : Name :\n", ""),
+    ("name.rt", "///     Alias (2.7) : Name :\n", "///     Alias (2.7) : Name\n"),
+    ("name.rt", "/// A field's name, with its alias.\n", "/// A field's name, with its alias.\n///     Field (2.5) : Name\n"),
+]
+
+
+def a_wrong_production_differs(made, name, old, new):
+    """A production that is missing, wrong or too much is found, and written as Rules.antt has it."""
+    changed = f"crates/apollo_grammar/src/grammar/{name}"
+    text = (TOP / changed).read_text()
+    if text.count(old) != 1:
+        return f"{changed} has this text {text.count(old)} times: {old}"
+    (made.folder / changed).write_text(text.replace(old, new))
+    found = run(made.folder)
+    subprocess.run([sys.executable, made.folder / "tools/generate"], stdout=subprocess.DEVNULL)
+    if (made.folder / changed).read_text() != text:
+        return f"{changed} with {new!r} for {old!r}: the production is not written"
+    return None if found == (1, f"differs: {changed}\n") else f"{changed} with {new!r} for {old!r}: {found}"
+
+
 def a_mistake_ends_with_status_1(made):
     file, old, new, message = MISTAKES[0]
     (made.folder / file).write_text((TOP / file).read_text().replace(old, new))
@@ -338,7 +364,9 @@ def main():
     with tempfile.TemporaryDirectory() as name:
         made = Copy(Path(name))
         found = [mistake_is_refused(made, *mistake) for mistake in MISTAKES]
-        found += [only_the_changed_file_differs(made), a_new_version_goes_everywhere(made), the_header_has_the_rows(made), a_mistake_ends_with_status_1(made), each_struct_is_cast()]
+        found += [a_wrong_production_differs(made, *production) for production in PRODUCTIONS]
+        found += [only_the_changed_file_differs(made), a_new_version_goes_everywhere(made), the_header_has_the_rows(made)]
+        found += [a_mistake_ends_with_status_1(made), each_struct_is_cast()]
     wrong = [what for what in found if what]
     print(*wrong, f"generator: {len(found)} tests, {len(wrong)} failed", sep="\n")
     sys.exit(1 if wrong else 0)

@@ -12,10 +12,14 @@ use Rattle.document_grammar.specs.Choices.{is_keyword}
 use Rattle.document_grammar.specs.Numbers.{number}
 use Rattle.document_grammar.proofs.Booleans.{either}
 use Rattle.parser_rules.specs.declared.message.Message.TheVariants as message
-use Rattle.parser_rules.specs.State.{State, Lexeme, is_word}
-use Rattle.parser_rules.specs.RuleLanguage.{Here, fits, holds, Bump, Note, Rule, Do}
-use Rattle.parser_rules.specs.Rules.{any_word, one_of, location, word_of, executable_locations, type_system_locations, executable_location}
-use Rattle.parser_rules.specs.Runs.{Runs, yes, no}
+use Rattle.lexical_grammar.specs.declared.TokenKind.TheVariants as token
+use Rattle.parser_rules.specs.Nodes.{DirectiveLocation, Location}
+use Rattle.parser_rules.specs.State.{State, Lexeme, is_word, flush, opened, closed}
+use Rattle.parser_rules.specs.RuleLanguage.{Here, At, fits, holds, Bump, Note, Rule, Do, When, Child, Call}
+use Rattle.parser_rules.specs.Rules.{any_word, one_of, location, word_of, executable_locations, type_system_locations, inside, body}
+use Rattle.parser_rules.specs.Runs.{Runs, yes, no, child, call}
+use Rattle.parser_rules.proofs.runs.Frame.{is-open, still-open}
+use Rattle.parser_rules.proofs.runs.Running.{sequence}
 use Rattle.apollo_grammar.specs.Locations.{locations, location_word}
 
 -- ---- the search, from place to place
@@ -74,10 +78,9 @@ found-one : (ks : List SyntaxKind) (o : Option Lexeme) → 0 < length ks → is_
 found-one [] o h = absurd (omega arith)
 found-one (k ∷ ks) o h = found-any k ks o
 
--- a location is there where one is found
-pub at_location : (s : State) → holds (Here location) s ≡ is_some (location_word s.current)
+is-location : (s : State) → holds (Here location) s ≡ is_some (location_word s.current)
 unfolding holds location_word
-at_location s =
+is-location s =
     let o = s.current in
     let test = λ (k : SyntaxKind). is_word k o in
     sym (ap is_some (find-append test executable_locations type_system_locations)
@@ -100,13 +103,23 @@ word-runs (k ∷ ks) none {s = s} h = elim (either (is_word k s.current)) [
   | inr e ↦ no (sym e) (word-runs ks none (rw e at h))
 ]
 
-location-runs : (x : Option SyntaxKind) (o : Option Lexeme) {s t : State} → x ≡ location_word o → o ≡ s.current → Runs (chosen x (Do (Note message.ExpectedLocation))) s t → Runs executable_location s t
-unfolding location_word
-location-runs x o {s = s} {t = t} e f h =
-    word-runs locations (Do (Note message.ExpectedLocation)) (subst (λ (y : Option SyntaxKind). Runs (chosen y (Do (Note message.ExpectedLocation))) s t) (e ∙ ap location_word f) h)
+pub found_location : {k : SyntaxKind} {o : Option Lexeme} {s t : State} → Some k ≡ location_word o → o ≡ s.current → Runs (Child DirectiveLocation) s t → Runs (Call Location) s t
+unfolding body
+found_location {s = s} e f h = call {p = Location} (yes (sym (is-location s ∙ ap is_some (sym (e ∙ ap location_word f)))) h)
 
-pub some_location : {k : SyntaxKind} {o : Option Lexeme} {s t : State} → Some k ≡ location_word o → o ≡ s.current → Runs (Do (Bump k)) s t → Runs executable_location s t
-some_location {k = k} {o = o} e f h = location-runs (Some k) o e f h
+pub no_location : {o : Option Lexeme} {s t : State} → None ≡ location_word o → o ≡ s.current
+    → Runs (When (At token.Name) (Do (Note message.ExpectedValidLocation)) (Do (Note message.ExpectedLocation))) s t → Runs (Call Location) s t
+unfolding body
+no_location {s = s} e f h = call {p = Location} (no (sym (is-location s ∙ ap is_some (sym (e ∙ ap location_word f)))) h)
 
-pub no_location : {o : Option Lexeme} {s t : State} → None ≡ location_word o → o ≡ s.current → Runs (Do (Note message.ExpectedLocation)) s t → Runs executable_location s t
-no_location {o = o} e f h = location-runs None o e f h
+-- the node of a location, where one was found
+pub in_location : {k : SyntaxKind} {s t u v : State} → Some k ≡ location_word s.current → t ≡ opened kind.DIRECTIVE_LOCATION s → Runs (Do (Bump k)) t u → v ≡ closed u → Runs (Child DirectiveLocation) s v
+unfolding inside location_word opened flush
+in_location {k = k} {s = s} {t = t} {u = u} e o h c =
+    let found : Some k ≡ find (λ j. is_word j t.current) locations = e ∙ sym (ap (λ (z : State). find (λ j. is_word j z.current) locations) o) in
+    child {n = DirectiveLocation} o c (word-runs locations (Do (Note message.ExpectedLocation)) (subst (λ x. Runs (chosen x (Do (Note message.ExpectedLocation))) t u) found h))
+
+-- what the function of a location is proved by, and that of its node
+pub ruleset choosing = (sequence, found_location)
+
+pub ruleset opening = (sequence, is-open, still-open, in_location)

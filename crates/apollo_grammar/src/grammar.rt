@@ -5,6 +5,7 @@ pub mod argument;
 pub mod description;
 pub mod directive;
 pub mod enum_;
+pub mod extended;
 pub mod field;
 pub mod fragment;
 pub mod input;

@@ -1,7 +1,7 @@
 -- A run is the same run, however many items may be cut.
 use Rattle.std.proofs.Common.{◌≡◌, ◌∙◌, ℕ, ◌+◌, ◌*◌, ◌≤◌, min, length, List, [], sym, ap, subst, arith}
 use Rattle.lexical_grammar.specs.Answers.{Answer, limited}
-use Rattle.lexical_grammar.specs.Cut.{Item}
+use Rattle.lexical_grammar.specs.Reads.{items_of}
 use Rattle.apollo_lexer.proofs.Law.{limited-length}
 use Rattle.document_grammar.specs.declared.kind.SyntaxKind.{SyntaxKind}
 use Rattle.document_grammar.specs.declared.kind.SyntaxKind.TheVariants as kind
@@ -58,8 +58,11 @@ module _ (xs : List Answer) (r n : ℕ) where
   unfolding flush
   not-open e f = ap (λ (z : State). z.tree.above) f ∙ ap (λ (z : State). (flush (read_on z.items z)).tree.above) e ∙ ap (λ (z : State). (flush z).tree.above) (reads n xs (unread xs r 0)) ∙ unopened-none xs r
 
--- no more is allowed than twice the items, and twice the limit
-pub twice : (items : List Item) (k c b n : ℕ) (xs : List Answer) → xs ≡ limited k items → b ≡ n + 2 * min (length xs) k → c ≤ b → c ≤ n + 2 * min (length items) k
-twice items k c b n xs e h l =
-    let j = ap length e ∙ limited-length k items in
-    omega (arith, j, h, l)
+-- from the count before a parse no more are cut than twice the items, and twice the limit
+pub twice : (k r : ℕ) (source : List ℕ) {before old budget c : ℕ} {start : State} → before ≡ old
+    → start ≡ unread (limited k (items_of source)) r (before + 2 * min (length (limited k (items_of source))) k)
+    → budget ≡ start.budget → c ≤ budget → c ≤ old + 2 * min (length (items_of source)) k
+twice k r source e a b c =
+    let l = limited-length k (items_of source) in
+    let all = ap (λ (s : State). s.budget) a in
+    omega (arith, e, l, all, b, c)

@@ -6,3 +6,4 @@ pub mod FirstOnes
 pub mod OneParse
 pub mod Roots
 pub mod Allowances
+pub mod PartRuns

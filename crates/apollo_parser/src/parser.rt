@@ -4,7 +4,6 @@ ghost use Rattle.std.specs.Str.{IsUtf8};
 ghost use Rattle.lexical_grammar.specs.Answers.{limited, usize_max};
 ghost use Rattle.lexical_grammar.specs.Cut.{Cut};
 ghost use Rattle.lexical_grammar.specs.Reads.{items_of};
-ghost use Rattle.apollo_lexer.specs.Answers.{answers_left};
 ghost use Rattle.apollo_lexer.specs.Limits.{default_recursion};
 ghost use Rattle.document_grammar.specs.declared.kind.SyntaxKind.TheVariants as kind;
 ghost use Rattle.document_grammar.specs.Forests.{Forest, none, node};
@@ -16,7 +15,7 @@ ghost use Rattle.parser_rules.specs.Fragments.{field_set};
 ghost use Rattle.parser_rules.specs.Nodes.{Document};
 ghost use Rattle.parser_rules.specs.RuleLanguage.{Call};
 ghost use Rattle.parser_rules.specs.Runs.{Runs};
-ghost use Rattle.parser_state.specs.Reading.{rooted};
+ghost use Rattle.parser_state.specs.Reading.{rooted, unread};
 
 use crate::syntax_tree::{DocumentRoot, SelectionSetRoot, SyntaxTree, TypeRoot};
 use apollo_document::document;
@@ -25,7 +24,6 @@ use apollo_lexer::{Lexer, Limits, Steps};
 use document_grammar::SyntaxKind;
 use parser_state::ParserState;
 use std::alloc::{AllocError, Allocator};
-use std::marker::PhantomData;
 use std::mem;
 
 /// A parser of a text, with its limits.
@@ -88,16 +86,15 @@ impl<'i> Parser<'i> {
         }
     }
 
-    // A lexer of the text that has read nothing. It also says what the text is made of.
-    fn lexer(source: &'i str, token_limit: usize) -> Lexer<'i>
-        ensures answers { answers_left result ≡ limited token_limit (items_of source.now) }
-        ensures fresh { result.limit_tracker.high ≡ 0 }
-        ensures limit { result.limit_tracker.limit ≡ token_limit }
-        ensures cut { Cut source.now (items_of source.now) }
-        ensures characters { IsUtf8 source.now }
-        ensures short { length source.now < 2 ^ 63 }
+    // The state before anything is read. It also says what the text is made of.
+    fn start<A: Allocator + Copy>(self, alloc: A, steps: Steps) -> ParserState<'i, A>
+        ensures unread { let answers = limited self.entry.token_limit (items_of self.entry.source.now) in result ≡ unread answers self.entry.recursion_limit (steps.count + 2 * min (length answers) self.entry.token_limit) }
+        ensures cut { Cut self.entry.source.now (items_of self.entry.source.now) }
+        ensures characters { IsUtf8 self.entry.source.now }
+        ensures short { length self.entry.source.now < 2 ^ 63 }
     {
-        Lexer::new(source).with_limit(token_limit)
+        let lexer = Lexer::new(self.source).with_limit(self.token_limit);
+        ParserState::new(alloc, lexer, self.recursion_limit, steps)
     }
 
     // Opens the root, and parses the document.
@@ -119,24 +116,13 @@ impl<'i> Parser<'i> {
         ensures lookahead { steps.new.count ≤ steps.old.count + 2 * min (length (items_of self.entry.source.now)) self.entry.token_limit }
     {
         let before = mem::replace(steps, Steps::new());
-        let mut p = ParserState::new(
-            alloc,
-            Self::lexer(self.source, self.token_limit),
-            self.recursion_limit,
-            before,
-        );
+        let mut p = self.start(alloc, before);
         if let Err(error) = Self::read_document(&mut p) {
             *steps = p.into_steps();
             return Err(error);
         }
         let finished = p.finish(self.token_limit, self.source, steps)?;
-        Ok(SyntaxTree {
-            tree: finished.tree,
-            errors: finished.errors,
-            recursion_limit: finished.recursion_limit,
-            token_limit: finished.token_limit,
-            root: PhantomData,
-        })
+        Ok(SyntaxTree::of(finished))
     }
 
     /// Parses a document (GraphQL October 2021, section 2.2, "Document").
@@ -172,24 +158,13 @@ impl<'i> Parser<'i> {
     ) -> Result<SyntaxTree<SelectionSetRoot, A>, AllocError>
         ensures { IfOk result (ByRootRule kind.SELECTION_SET field_set self.entry.source.now self.entry.recursion_limit self.entry.token_limit) }
     {
-        let mut p = ParserState::new(
-            alloc,
-            Self::lexer(self.source, self.token_limit),
-            self.recursion_limit,
-            Steps::new(),
-        );
+        let mut p = self.start(alloc, Steps::new());
         p.open(SyntaxKind::SELECTION_SET)?;
         p.push_pending()?;
         field_set(&mut p)?;
         p.drop_pending();
         let finished = p.finish(self.token_limit, self.source, &mut Steps::new())?;
-        Ok(SyntaxTree {
-            tree: finished.tree,
-            errors: finished.errors,
-            recursion_limit: finished.recursion_limit,
-            token_limit: finished.token_limit,
-            root: PhantomData,
-        })
+        Ok(SyntaxTree::of(finished))
     }
 
     /// Parses a selection set (GraphQL October 2021, section 2.4, "Selection Sets"), with its outer braces or with both left away.
@@ -211,23 +186,12 @@ impl<'i> Parser<'i> {
     fn run_type<A: Allocator + Copy>(self, alloc: A) -> Result<SyntaxTree<TypeRoot, A>, AllocError>
         ensures { IfOk result (ByTypeRule self.entry.source.now self.entry.recursion_limit self.entry.token_limit) }
     {
-        let mut p = ParserState::new(
-            alloc,
-            Self::lexer(self.source, self.token_limit),
-            self.recursion_limit,
-            Steps::new(),
-        );
+        let mut p = self.start(alloc, Steps::new());
         let first = p.read_first()?;
         type_root(&mut p, first)?;
         p.drop_pending();
         let finished = p.finish(self.token_limit, self.source, &mut Steps::new())?;
-        Ok(SyntaxTree {
-            tree: finished.tree,
-            errors: finished.errors,
-            recursion_limit: finished.recursion_limit,
-            token_limit: finished.token_limit,
-            root: PhantomData,
-        })
+        Ok(SyntaxTree::of(finished))
     }
 
     /// Parses a type (GraphQL October 2021, section 2.11, "Type References").

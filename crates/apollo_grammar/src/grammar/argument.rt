@@ -28,6 +28,7 @@ pub fn optional_arguments<A: Allocator + Copy>(
     Ok(())
 }
 
+//     Arguments[Const] (2.6) : ( Argument[?Const]+ )
 fn arguments<A: Allocator + Copy>(
     p: &mut ParserState<'_, A>,
     constness: Constness,
@@ -49,6 +50,7 @@ fn arguments<A: Allocator + Copy>(
     Ok(())
 }
 
+//     Argument[Const] (2.6) : Name : Value[?Const]
 fn argument<A: Allocator + Copy>(
     p: &mut ParserState<'_, A>,
     constness: Constness,
@@ -69,6 +71,7 @@ fn argument<A: Allocator + Copy>(
 }
 
 /// The arguments of a field or a directive that is defined (GraphQL October 2021, section 3.6.1, "Field Arguments"), where `(` comes next.
+///     ArgumentsDefinition (3.6.1) : ( InputValueDefinition+ )
 pub fn arguments_definition<A: Allocator + Copy>(
     p: &mut ParserState<'_, A>,
 ) -> Result<(), AllocError>

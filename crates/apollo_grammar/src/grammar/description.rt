@@ -13,6 +13,7 @@ use parser_state::ParserState;
 use std::alloc::{AllocError, Allocator};
 
 /// A description (GraphQL October 2021, section 3, "Descriptions"), where a string comes next.
+///     Description (3) : StringValue
 pub fn description<A: Allocator + Copy>(p: &mut ParserState<'_, A>) -> Result<(), AllocError>
     requires { true ≡ holds (At token.StringValue) p.old }
     ensures { Parses (Child rule.Description) result p.old p.new }

@@ -30,6 +30,7 @@ pub fn optional_directives<A: Allocator + Copy>(
     Ok(())
 }
 
+//     Directives[Const] (2.12) : Directive[?Const]+
 fn directives<A: Allocator + Copy>(
     p: &mut ParserState<'_, A>,
     constness: Constness,
@@ -44,6 +45,7 @@ fn directives<A: Allocator + Copy>(
     Ok(())
 }
 
+//     Directive[Const] (2.12) : @ Name Arguments[?Const]?
 fn directive<A: Allocator + Copy>(
     p: &mut ParserState<'_, A>,
     constness: Constness,
@@ -81,6 +83,7 @@ static LOCATIONS: [SyntaxKind; 19] = [
 ];
 
 /// The definition of a directive (GraphQL October 2021, section 3.13, "Directives").
+///     DirectiveDefinition (3.13) : Description? `directive` @ Name ArgumentsDefinition? `repeatable`? `on` DirectiveLocations
 pub fn directive_definition<A: Allocator + Copy>(
     p: &mut ParserState<'_, A>,
 ) -> Result<(), AllocError>
@@ -123,6 +126,7 @@ fn starts_locations<A: Allocator + Copy>(p: &ParserState<'_, A>) -> bool
 }
 
 // The places where a directive may be.
+//     DirectiveLocations (3.13) : |? DirectiveLocation, or DirectiveLocations | DirectiveLocation
 fn directive_locations<A: Allocator + Copy>(p: &mut ParserState<'_, A>) -> Result<(), AllocError>
     ensures { Parses (Child rule.DirectiveLocations) result p.old p.new }
 {
@@ -138,43 +142,31 @@ fn directive_locations<A: Allocator + Copy>(p: &mut ParserState<'_, A>) -> Resul
 }
 
 // A place where a directive may be.
+#[tactic(auto, using(crate::proofs::Locations::choosing))]
 fn location<A: Allocator + Copy>(p: &mut ParserState<'_, A>) -> Result<(), AllocError>
     ensures { Parses (Call rule.Location) result p.old p.new }
 {
-    if at_location(p) {
-        return directive_location(p);
+    match location_kind(p.current()) {
+        Some(kind) => directive_location(p, kind),
+        None if p.at(TokenKind::Name) => p.err(Message::ExpectedValidLocation),
+        None => p.err(Message::ExpectedLocation),
     }
-    if p.at(TokenKind::Name) {
-        return p.err(Message::ExpectedValidLocation);
-    }
-    p.err(Message::ExpectedLocation)
 }
 
-#[tactic(auto, using(crate::proofs::Locations::at_location))]
-fn at_location<A: Allocator + Copy>(p: &ParserState<'_, A>) -> bool
-    ensures { result ≡ holds (Here rules.location) p.now }
-{
-    location_kind(p.current()).is_some()
-}
-
-fn directive_location<A: Allocator + Copy>(p: &mut ParserState<'_, A>) -> Result<(), AllocError>
+// A location that is known to be next.
+//     DirectiveLocation (3.13) : ExecutableDirectiveLocation, or TypeSystemDirectiveLocation
+#[tactic(auto, using(crate::proofs::Locations::opening))]
+fn directive_location<A: Allocator + Copy>(
+    p: &mut ParserState<'_, A>,
+    kind: SyntaxKind,
+) -> Result<(), AllocError>
+    requires { Some kind ≡ location_word p.old.current }
     ensures { Parses (Child rule.DirectiveLocation) result p.old p.new }
 {
     p.start_node(SyntaxKind::DIRECTIVE_LOCATION)?;
-    executable_location(p)?;
+    p.bump(kind)?;
     p.finish_node();
     Ok(())
-}
-
-// The word of a location, executable or of the type system.
-#[tactic(auto, using(crate::proofs::Locations::some_location, crate::proofs::Locations::no_location))]
-fn executable_location<A: Allocator + Copy>(p: &mut ParserState<'_, A>) -> Result<(), AllocError>
-    ensures { Parses rules.executable_location result p.old p.new }
-{
-    match location_kind(p.current()) {
-        Some(kind) => p.bump(kind),
-        None => p.err(Message::ExpectedLocation),
-    }
 }
 
 // The first of the locations that the token is.

@@ -7,6 +7,7 @@ ghost use Rattle.apollo_grammar.specs.Words.token;
 
 use super::description::{described_keyword, optional_description, starts_named, want_named};
 use super::directive::optional_directives;
+use super::extended::{Block, extended};
 use super::name::name;
 use super::value::enum_value;
 use document_grammar::SyntaxKind;
@@ -16,6 +17,7 @@ use parser_state::ParserState;
 use std::alloc::{AllocError, Allocator};
 
 /// An enum (GraphQL October 2021, section 3.9, "Enums").
+///     EnumTypeDefinition (3.9) : Description? `enum` Name Directives[Const]? EnumValuesDefinition?, as above
 pub fn enum_type_definition<A: Allocator + Copy>(
     p: &mut ParserState<'_, A>,
 ) -> Result<(), AllocError>
@@ -33,6 +35,7 @@ pub fn enum_type_definition<A: Allocator + Copy>(
 }
 
 /// An extension of an enum (GraphQL October 2021, section 3.9.1, "Enum Extensions").
+///     EnumTypeExtension (3.9.1) : `extend` `enum` Name, and one of Directives[Const] and EnumValuesDefinition at least, in this order
 pub fn enum_type_extension<A: Allocator + Copy>(
     p: &mut ParserState<'_, A>,
 ) -> Result<(), AllocError>
@@ -41,22 +44,20 @@ pub fn enum_type_extension<A: Allocator + Copy>(
     p.start_node_with(SyntaxKind::ENUM_TYPE_EXTENSION, SyntaxKind::extend_KW)?;
     p.bump(SyntaxKind::enum_KW)?;
     name(p)?;
-    if p.at(TokenKind::At) {
-        optional_directives(p, Constness::Const)?;
-        if p.at(TokenKind::LCurly) {
-            enum_values_definition(p)?;
-        }
-    } else if p.at(TokenKind::LCurly) {
-        enum_values_definition(p)?;
-    } else {
-        p.err(Message::ExpectedEnumExtension)?;
-    }
+    extended(
+        p,
+        Block::EnumValuesDefinition,
+        Message::ExpectedEnumExtension,
+    )?;
     p.finish_node();
     Ok(())
 }
 
-// The values of an enum, where `{` comes next.
-fn enum_values_definition<A: Allocator + Copy>(p: &mut ParserState<'_, A>) -> Result<(), AllocError>
+/// The values of an enum, where `{` comes next.
+///     EnumValuesDefinition (3.9) : { EnumValueDefinition+ }
+pub fn enum_values_definition<A: Allocator + Copy>(
+    p: &mut ParserState<'_, A>,
+) -> Result<(), AllocError>
     requires { true ≡ holds (At token.LCurly) p.old }
     ensures { Parses (Child rule.EnumValuesDefinition) result p.old p.new }
 {
@@ -75,6 +76,7 @@ fn enum_values_definition<A: Allocator + Copy>(p: &mut ParserState<'_, A>) -> Re
 }
 
 // The definition of an enum's value.
+//     EnumValueDefinition (3.9) : Description? EnumValue Directives[Const]?
 fn enum_value_definition<A: Allocator + Copy>(p: &mut ParserState<'_, A>) -> Result<(), AllocError>
     ensures { Parses (Child rule.EnumValueDefinition) result p.old p.new }
 {

@@ -19,6 +19,7 @@ use parser_state::ParserState;
 use std::alloc::{AllocError, Allocator};
 
 /// A field (GraphQL October 2021, section 2.5, "Fields").
+///     Field (2.5) : Alias? Name Arguments? Directives? SelectionSet?
 #[cycle(selection)]
 #[tactic(auto, using(parser_rules::proofs::runs::Running::running), unfolding(parser_rules::specs::Rules::inside, parser_rules::specs::Rules::body))]
 pub fn field<A: Allocator + Copy>(p: &mut ParserState<'_, A>) -> Result<(), AllocError>
@@ -37,6 +38,7 @@ pub fn field<A: Allocator + Copy>(p: &mut ParserState<'_, A>) -> Result<(), Allo
 }
 
 /// The fields of a type (GraphQL October 2021, section 3.6, "Objects"), where `{` comes next.
+///     FieldsDefinition (3.6) : { FieldDefinition+ }
 pub fn fields_definition<A: Allocator + Copy>(p: &mut ParserState<'_, A>) -> Result<(), AllocError>
     requires { true ≡ holds (At token.LCurly) p.old }
     ensures { Parses (Child rule.FieldsDefinition) result p.old p.new }
@@ -56,6 +58,7 @@ pub fn fields_definition<A: Allocator + Copy>(p: &mut ParserState<'_, A>) -> Res
 }
 
 // The definition of a field.
+//     FieldDefinition (3.6) : Description? Name ArgumentsDefinition? : Type Directives[Const]?
 fn field_definition<A: Allocator + Copy>(p: &mut ParserState<'_, A>) -> Result<(), AllocError>
     requires { true ≡ holds (Here rules.named_start) p.old }
     ensures { Parses (Child rule.FieldDefinition) result p.old p.new }

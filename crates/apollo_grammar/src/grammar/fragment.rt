@@ -16,6 +16,7 @@ use parser_state::ParserState;
 use std::alloc::{AllocError, Allocator};
 
 /// A fragment definition (GraphQL October 2021, section 2.8, "Fragments").
+///     FragmentDefinition (2.8) : Description? `fragment` FragmentName TypeCondition Directives? SelectionSet
 #[tactic(auto, using(parser_rules::proofs::runs::Running::running), unfolding(parser_rules::specs::Rules::inside, parser_rules::specs::Rules::body))]
 pub fn fragment_definition<A: Allocator + Copy>(
     p: &mut ParserState<'_, A>,
@@ -37,6 +38,7 @@ pub fn fragment_definition<A: Allocator + Copy>(
 }
 
 // The name of a fragment, which is not `on`.
+//     FragmentName (2.8) : Name but not `on`
 fn fragment_name<A: Allocator + Copy>(p: &mut ParserState<'_, A>) -> Result<(), AllocError>
     ensures { Parses (Child rule.FragmentName) result p.old p.new }
 {
@@ -53,6 +55,7 @@ fn fragment_name<A: Allocator + Copy>(p: &mut ParserState<'_, A>) -> Result<(), 
 }
 
 // A type condition (section 2.8.1, "Type Conditions").
+//     TypeCondition (2.8.1) : `on` NamedType
 fn type_condition<A: Allocator + Copy>(p: &mut ParserState<'_, A>) -> Result<(), AllocError>
     ensures { Parses (Child rule.TypeCondition) result p.old p.new }
 {
@@ -80,6 +83,7 @@ fn optional_type_condition<A: Allocator + Copy>(
 }
 
 /// An inline fragment (GraphQL October 2021, section 2.8.2, "Inline Fragments").
+///     InlineFragment (2.8.2) : ... TypeCondition? Directives? SelectionSet
 #[cycle(selection)]
 pub fn inline_fragment<A: Allocator + Copy>(p: &mut ParserState<'_, A>) -> Result<(), AllocError>
     requires { true ≡ holds (At token.Spread) p.old }
@@ -98,6 +102,7 @@ pub fn inline_fragment<A: Allocator + Copy>(p: &mut ParserState<'_, A>) -> Resul
 }
 
 /// A fragment spread (GraphQL October 2021, section 2.8, "Fragments").
+///     FragmentSpread (2.8) : ... FragmentName Directives?
 pub fn fragment_spread<A: Allocator + Copy>(p: &mut ParserState<'_, A>) -> Result<(), AllocError>
     ensures { Parses (Child rule.FragmentSpread) result p.old p.new }
 {

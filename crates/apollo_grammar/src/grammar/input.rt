@@ -8,6 +8,7 @@ ghost use Rattle.apollo_grammar.specs.Words.token;
 
 use super::description::{described_keyword, optional_description, starts_named, want_named};
 use super::directive::optional_directives;
+use super::extended::{Block, extended};
 use super::name::name;
 use super::variable::variable_type;
 use document_grammar::SyntaxKind;
@@ -17,6 +18,7 @@ use parser_state::ParserState;
 use std::alloc::{AllocError, Allocator};
 
 /// An input object (GraphQL October 2021, section 3.10, "Input Objects").
+///     InputObjectTypeDefinition (3.10) : Description? `input` Name Directives[Const]? InputFieldsDefinition?, as above
 pub fn input_object_type_definition<A: Allocator + Copy>(
     p: &mut ParserState<'_, A>,
 ) -> Result<(), AllocError>
@@ -34,6 +36,7 @@ pub fn input_object_type_definition<A: Allocator + Copy>(
 }
 
 /// An extension of an input object (GraphQL October 2021, section 3.10.1, "Input Object Extensions").
+///     InputObjectTypeExtension (3.10.1) : `extend` `input` Name, and one of Directives[Const] and InputFieldsDefinition at least, in this order
 pub fn input_object_type_extension<A: Allocator + Copy>(
     p: &mut ParserState<'_, A>,
 ) -> Result<(), AllocError>
@@ -45,22 +48,18 @@ pub fn input_object_type_extension<A: Allocator + Copy>(
     )?;
     p.bump(SyntaxKind::input_KW)?;
     name(p)?;
-    if p.at(TokenKind::At) {
-        optional_directives(p, Constness::Const)?;
-        if p.at(TokenKind::LCurly) {
-            input_fields_definition(p)?;
-        }
-    } else if p.at(TokenKind::LCurly) {
-        input_fields_definition(p)?;
-    } else {
-        p.err(Message::ExpectedInputExtension)?;
-    }
+    extended(
+        p,
+        Block::InputFieldsDefinition,
+        Message::ExpectedInputExtension,
+    )?;
     p.finish_node();
     Ok(())
 }
 
-// The fields of an input object, where `{` comes next.
-fn input_fields_definition<A: Allocator + Copy>(
+/// The fields of an input object, where `{` comes next.
+///     InputFieldsDefinition (3.10) : { InputValueDefinition+ }
+pub fn input_fields_definition<A: Allocator + Copy>(
     p: &mut ParserState<'_, A>,
 ) -> Result<(), AllocError>
     requires { true ≡ holds (At token.LCurly) p.old }
@@ -81,6 +80,7 @@ fn input_fields_definition<A: Allocator + Copy>(
 }
 
 /// The definition of an argument or of an input field (GraphQL October 2021, section 3.6.1, "Field Arguments").
+///     InputValueDefinition (3.6.1) : Description? Name : Type DefaultValue? Directives[Const]?
 pub fn input_value_definition<A: Allocator + Copy>(
     p: &mut ParserState<'_, A>,
 ) -> Result<(), AllocError>

@@ -32,6 +32,7 @@ pub fn optional_name<A: Allocator + Copy>(p: &mut ParserState<'_, A>) -> Result<
 }
 
 /// A field's alias (GraphQL October 2021, section 2.7, "Field Alias").
+///     Alias (2.7) : Name :
 fn alias<A: Allocator + Copy>(p: &mut ParserState<'_, A>) -> Result<(), AllocError>
     requires { true ≡ holds (At token.Name) p.old }
     ensures { Parses (Child rule.Alias) result p.old p.new }

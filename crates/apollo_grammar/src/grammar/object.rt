@@ -6,6 +6,7 @@ ghost use Rattle.apollo_grammar.specs.Words.rules;
 
 use super::description::described_keyword;
 use super::directive::optional_directives;
+use super::extended::{Block, extended};
 use super::field::fields_definition;
 use super::name::name;
 use super::ty::named_type;
@@ -16,6 +17,7 @@ use parser_state::ParserState;
 use std::alloc::{AllocError, Allocator};
 
 /// An object type (GraphQL October 2021, section 3.6, "Objects").
+///     ObjectTypeDefinition (3.6) : Description? `type` Name ImplementsInterfaces? Directives[Const]? FieldsDefinition?, where the block may be left
 pub fn object_type_definition<A: Allocator + Copy>(
     p: &mut ParserState<'_, A>,
 ) -> Result<(), AllocError>
@@ -40,6 +42,7 @@ fn type_name<A: Allocator + Copy>(p: &mut ParserState<'_, A>) -> Result<(), Allo
 }
 
 /// An extension of an object type (GraphQL October 2021, section 3.6.3, "Object Extensions").
+///     ObjectTypeExtension (3.6.3) : `extend` `type` Name, and one of ImplementsInterfaces, Directives[Const], FieldsDefinition at least, in this order
 pub fn object_type_extension<A: Allocator + Copy>(
     p: &mut ParserState<'_, A>,
 ) -> Result<(), AllocError>
@@ -64,21 +67,11 @@ pub fn implementing<A: Allocator + Copy>(
         implements_interfaces(p)?;
         optional_directives(p, Constness::Const)?;
         if p.at(TokenKind::LCurly) {
-            fields_definition(p)?;
+            return fields_definition(p);
         }
         return Ok(());
     }
-    if p.at(TokenKind::At) {
-        optional_directives(p, Constness::Const)?;
-        if p.at(TokenKind::LCurly) {
-            fields_definition(p)?;
-        }
-        return Ok(());
-    }
-    if p.at(TokenKind::LCurly) {
-        return fields_definition(p);
-    }
-    p.err(message)
+    extended(p, Block::FieldsDefinition, message)
 }
 
 /// What follows the name of an object type or of an interface that is defined.
@@ -104,6 +97,7 @@ fn optional_implements<A: Allocator + Copy>(p: &mut ParserState<'_, A>) -> Resul
 }
 
 // The interfaces that a type implements.
+//     ImplementsInterfaces (3.6) : `implements` &? NamedType, or ImplementsInterfaces & NamedType
 fn implements_interfaces<A: Allocator + Copy>(p: &mut ParserState<'_, A>) -> Result<(), AllocError>
     ensures { Parses (Child rule.ImplementsInterfaces) result p.old p.new }
 {

@@ -18,6 +18,7 @@ use parser_state::ParserState;
 use std::alloc::{AllocError, Allocator};
 
 /// An operation with its type (GraphQL October 2021, section 2.3, "Operations").
+///     OperationDefinition (2.3) : Description? OperationType Name? VariableDefinitions? Directives? SelectionSet
 pub fn operation_definition<A: Allocator + Copy>(
     p: &mut ParserState<'_, A>,
 ) -> Result<(), AllocError>
@@ -38,6 +39,7 @@ pub fn operation_definition<A: Allocator + Copy>(
 }
 
 /// A query that is a selection set alone (GraphQL October 2021, section 2.3, "Operations", "Query shorthand").
+///     OperationDefinition (2.3) : SelectionSet
 pub fn query_shorthand<A: Allocator + Copy>(p: &mut ParserState<'_, A>) -> Result<(), AllocError>
     requires { true ≡ holds (At token.LCurly) p.old }
     ensures { Parses (Child rule.QueryShorthand) result p.old p.new }
@@ -57,6 +59,7 @@ fn operation_head<A: Allocator + Copy>(p: &mut ParserState<'_, A>) -> Result<(),
 }
 
 /// The type of an operation (GraphQL October 2021, section 2.3, "Operations").
+///     OperationType (2.3) : one of `query` `mutation` `subscription`
 pub fn operation_type<A: Allocator + Copy>(p: &mut ParserState<'_, A>) -> Result<(), AllocError>
     ensures { Parses (Child rule.OperationType) result p.old p.new }
 {

@@ -13,6 +13,7 @@ use parser_state::ParserState;
 use std::alloc::{AllocError, Allocator};
 
 /// A scalar (GraphQL October 2021, section 3.5, "Scalars").
+///     ScalarTypeDefinition (3.5) : Description? `scalar` Name Directives[Const]?
 pub fn scalar_type_definition<A: Allocator + Copy>(
     p: &mut ParserState<'_, A>,
 ) -> Result<(), AllocError>
@@ -27,6 +28,7 @@ pub fn scalar_type_definition<A: Allocator + Copy>(
 }
 
 /// An extension of a scalar (GraphQL October 2021, section 3.5.3, "Scalar Extensions").
+///     ScalarTypeExtension (3.5.3) : `extend` `scalar` Name Directives[Const]
 pub fn scalar_type_extension<A: Allocator + Copy>(
     p: &mut ParserState<'_, A>,
 ) -> Result<(), AllocError>

@@ -15,6 +15,7 @@ use parser_state::ParserState;
 use std::alloc::{AllocError, Allocator};
 
 /// A schema (GraphQL October 2021, section 3.3, "Schema").
+///     SchemaDefinition (3.3) : Description? `schema` Directives[Const]? { RootOperationTypeDefinition+ }
 pub fn schema_definition<A: Allocator + Copy>(p: &mut ParserState<'_, A>) -> Result<(), AllocError>
     ensures { Parses (Child rule.SchemaDefinition) result p.old p.new }
 {
@@ -31,6 +32,7 @@ pub fn schema_definition<A: Allocator + Copy>(p: &mut ParserState<'_, A>) -> Res
 }
 
 /// An extension of the schema (GraphQL October 2021, section 3.3.2, "Schema Extension").
+///     SchemaExtension (3.3.2) : `extend` `schema` Directives[Const]? { RootOperationTypeDefinition+ }, or `extend` `schema` Directives[Const]
 pub fn schema_extension<A: Allocator + Copy>(p: &mut ParserState<'_, A>) -> Result<(), AllocError>
     ensures { Parses (Child rule.SchemaExtension) result p.old p.new }
 {
@@ -70,6 +72,7 @@ fn root_operations<A: Allocator + Copy>(
 }
 
 // The type of a root operation.
+//     RootOperationTypeDefinition (3.3) : OperationType : NamedType
 fn root_operation_type_definition<A: Allocator + Copy>(
     p: &mut ParserState<'_, A>,
 ) -> Result<(), AllocError>

@@ -17,6 +17,7 @@ use parser_state::{ParserState, is_kind, is_word};
 use std::alloc::{AllocError, Allocator};
 
 /// A selection set (GraphQL October 2021, section 2.4, "Selection Sets").
+///     SelectionSet (2.4) : { Selection+ }
 #[cycle(selection)]
 pub fn selection_set<A: Allocator + Copy>(p: &mut ParserState<'_, A>) -> Result<(), AllocError>
     requires { true ≡ holds (At token.LCurly) p.old }
@@ -101,6 +102,7 @@ fn want_selection<A: Allocator + Copy>(p: &mut ParserState<'_, A>) -> Result<(),
     p.err(Message::ExpectedSelection)
 }
 
+//     Selection (2.4) : Field, FragmentSpread, or InlineFragment
 #[cycle(selection)]
 fn selection<A: Allocator + Copy>(p: &mut ParserState<'_, A>) -> Result<(), AllocError>
     requires { true ≡ holds (Here rules.selection_start) p.old }

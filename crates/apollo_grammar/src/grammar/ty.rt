@@ -24,6 +24,7 @@ pub fn starts_type<A: Allocator + Copy>(p: &ParserState<'_, A>) -> bool
 }
 
 /// A type (GraphQL October 2021, section 2.11, "Type References"). Whether it is a non-null type is known at its end.
+///     Type (2.11) : NamedType, ListType, or NonNullType; NonNullType : NamedType !, or ListType !
 #[cycle(ty)]
 pub fn ty<A: Allocator + Copy>(p: &mut ParserState<'_, A>) -> Result<(), AllocError>
     ensures { Parses (Call rule.Ty) result p.old p.new }
@@ -48,6 +49,7 @@ fn nullable_type<A: Allocator + Copy>(p: &mut ParserState<'_, A>) -> Result<(), 
     named_type(p)
 }
 
+//     ListType (2.11) : [ Type ]
 #[cycle(ty)]
 fn list_type<A: Allocator + Copy>(p: &mut ParserState<'_, A>) -> Result<(), AllocError>
     requires { true ≡ holds (At token.LBracket) p.old }
@@ -91,6 +93,7 @@ fn item_type<A: Allocator + Copy>(p: &mut ParserState<'_, A>) -> Result<(), Allo
 }
 
 /// A named type.
+///     NamedType (2.11) : Name
 pub fn named_type<A: Allocator + Copy>(p: &mut ParserState<'_, A>) -> Result<(), AllocError>
     ensures { Parses (Child rule.NamedType) result p.old p.new }
 {

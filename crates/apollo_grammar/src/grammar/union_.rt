@@ -5,6 +5,7 @@ ghost use Rattle.apollo_grammar.specs.Words.rule;
 
 use super::description::described_keyword;
 use super::directive::optional_directives;
+use super::extended::{Block, extended};
 use super::name::name;
 use super::ty::named_type;
 use document_grammar::SyntaxKind;
@@ -14,6 +15,7 @@ use parser_state::ParserState;
 use std::alloc::{AllocError, Allocator};
 
 /// A union (GraphQL October 2021, section 3.8, "Unions").
+///     UnionTypeDefinition (3.8) : Description? `union` Name Directives[Const]? UnionMemberTypes?
 pub fn union_type_definition<A: Allocator + Copy>(
     p: &mut ParserState<'_, A>,
 ) -> Result<(), AllocError>
@@ -31,6 +33,7 @@ pub fn union_type_definition<A: Allocator + Copy>(
 }
 
 /// An extension of a union (GraphQL October 2021, section 3.8.1, "Union Extensions").
+///     UnionTypeExtension (3.8.1) : `extend` `union` Name, and one of Directives[Const] and UnionMemberTypes at least, in this order
 pub fn union_type_extension<A: Allocator + Copy>(
     p: &mut ParserState<'_, A>,
 ) -> Result<(), AllocError>
@@ -39,22 +42,14 @@ pub fn union_type_extension<A: Allocator + Copy>(
     p.start_node_with(SyntaxKind::UNION_TYPE_EXTENSION, SyntaxKind::extend_KW)?;
     p.bump(SyntaxKind::union_KW)?;
     name(p)?;
-    if p.at(TokenKind::At) {
-        optional_directives(p, Constness::Const)?;
-        if p.at(TokenKind::Eq) {
-            union_member_types(p)?;
-        }
-    } else if p.at(TokenKind::Eq) {
-        union_member_types(p)?;
-    } else {
-        p.err(Message::ExpectedUnionExtension)?;
-    }
+    extended(p, Block::UnionMemberTypes, Message::ExpectedUnionExtension)?;
     p.finish_node();
     Ok(())
 }
 
-// The members of a union, where `=` comes next.
-fn union_member_types<A: Allocator + Copy>(p: &mut ParserState<'_, A>) -> Result<(), AllocError>
+/// The members of a union, where `=` comes next.
+///     UnionMemberTypes (3.8) : = |? NamedType, or UnionMemberTypes | NamedType
+pub fn union_member_types<A: Allocator + Copy>(p: &mut ParserState<'_, A>) -> Result<(), AllocError>
     ensures { Parses (Child rule.UnionMemberTypes) result p.old p.new }
 {
     p.start_node_with(SyntaxKind::UNION_MEMBER_TYPES, SyntaxKind::EQ)?;

@@ -15,6 +15,7 @@ use parser_state::ParserState;
 use std::alloc::{AllocError, Allocator};
 
 /// A value (GraphQL October 2021, section 2.9, "Input Values"). A token that starts none is reported, and popped where that is asked.
+///     Value[Const] (2.9) : [if not Const] Variable, IntValue, FloatValue, StringValue, BooleanValue, NullValue, EnumValue, ListValue[?Const], or
 #[cycle(value)]
 pub fn value<A: Allocator + Copy>(
     p: &mut ParserState<'_, A>,
@@ -94,6 +95,7 @@ fn word_value<A: Allocator + Copy>(p: &mut ParserState<'_, A>) -> Result<(), All
     enum_value(p)
 }
 
+//     NullValue (2.9.5) : `null`
 fn null_value<A: Allocator + Copy>(p: &mut ParserState<'_, A>) -> Result<(), AllocError>
     ensures { Parses (Child rule.NullValue) result p.old p.new }
 {
@@ -103,6 +105,7 @@ fn null_value<A: Allocator + Copy>(p: &mut ParserState<'_, A>) -> Result<(), All
 }
 
 /// An enum value (GraphQL October 2021, section 2.9.6, "Enum Value"), or a report of what is there in its place.
+///     EnumValue (2.9.6) : Name but not `true`, `false` or `null`
 pub fn enum_value<A: Allocator + Copy>(p: &mut ParserState<'_, A>) -> Result<(), AllocError>
     ensures { Parses (Child rule.EnumValue) result p.old p.new }
 {
@@ -145,6 +148,7 @@ fn nested_value<A: Allocator + Copy>(
 }
 
 // A list value (section 2.9.7, "List Value").
+//     ListValue[Const] (2.9.7) : [ ], or [ Value[?Const]+ ]
 #[cycle(value)]
 fn list_value<A: Allocator + Copy>(
     p: &mut ParserState<'_, A>,
@@ -188,6 +192,7 @@ fn has_item<A: Allocator + Copy>(p: &ParserState<'_, A>) -> bool
 }
 
 // An input object value (section 2.9.8, "Input Object Values").
+//     ObjectValue[Const] (2.9.8) : { }, or { ObjectField[?Const]+ }
 #[cycle(value)]
 fn object_value<A: Allocator + Copy>(
     p: &mut ParserState<'_, A>,
@@ -209,6 +214,7 @@ fn object_value<A: Allocator + Copy>(
     Ok(())
 }
 
+//     ObjectField[Const] (2.9.8) : Name : Value[?Const]
 #[cycle(value)]
 fn object_field<A: Allocator + Copy>(
     p: &mut ParserState<'_, A>,
@@ -230,6 +236,7 @@ fn object_field<A: Allocator + Copy>(
 }
 
 /// A default value (GraphQL October 2021, section 2.10, "Variables"), where `=` comes next.
+///     DefaultValue (2.10) : = Value[Const]
 pub fn default_value<A: Allocator + Copy>(p: &mut ParserState<'_, A>) -> Result<(), AllocError>
     ensures { Parses (Call rule.OptionalDefaultValue) result p.old p.new }
 {

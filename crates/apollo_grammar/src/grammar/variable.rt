@@ -17,6 +17,7 @@ use parser_state::ParserState;
 use std::alloc::{AllocError, Allocator};
 
 /// Variable definitions (GraphQL October 2021, section 2.10, "Variables"), where `(` comes next.
+///     VariableDefinitions (2.10) : ( VariableDefinition+ )
 pub fn variable_definitions<A: Allocator + Copy>(
     p: &mut ParserState<'_, A>,
 ) -> Result<(), AllocError>
@@ -39,6 +40,7 @@ pub fn variable_definitions<A: Allocator + Copy>(
     Ok(())
 }
 
+//     VariableDefinition (2.10) : Description? Variable : Type DefaultValue? Directives[Const]?
 fn variable_definition<A: Allocator + Copy>(p: &mut ParserState<'_, A>) -> Result<(), AllocError>
     ensures { Parses (Child rule.VariableDefinition) result p.old p.new }
 {
@@ -100,6 +102,7 @@ pub fn variable_type<A: Allocator + Copy>(p: &mut ParserState<'_, A>) -> Result<
 }
 
 /// A variable (GraphQL October 2021, section 2.10, "Variables").
+///     Variable (2.10) : $ Name
 pub fn variable<A: Allocator + Copy>(p: &mut ParserState<'_, A>) -> Result<(), AllocError>
     ensures { Parses (Child rule.Variable) result p.old p.new }
 {
