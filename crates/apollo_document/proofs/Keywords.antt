@@ -25,7 +25,8 @@ use Rattle.parser_state.specs.View.{current_of, lexeme_of}
 use Rattle.parser_state.proofs.Keywords.{name-is-word}
 use Rattle.apollo_document.specs.Keywords.{kind_of, definition_of, extension_of}
 use Rattle.apollo_document.specs.declared.grammar.keyword.DefinitionKeyword.{DefinitionKeyword}
-use Rattle.apollo_document.specs.declared.grammar.keyword.DefinitionKeyword.TheVariants.{Query, Mutation, Subscription, Fragment, Schema, Directive, Scalar, Object, Interface, Union, Enum, InputObject}
+use Rattle.apollo_document.specs.declared.grammar.keyword.DefinitionKeyword.TheVariants.{Query, Mutation, Subscription, Fragment, Schema, Directive, Scalar}
+use Rattle.apollo_document.specs.declared.grammar.keyword.DefinitionKeyword.TheVariants.{Object, Interface, Union, Enum, InputObject}
 
 -- ---- the text of a keyword
 
@@ -57,7 +58,8 @@ module _ {o : Option Token} {t : Token} {text : Text} (is : o ≡ Some t) (name 
   same-text : (k : DefinitionKeyword) → bytes_eq text (word_of k) ≡ is_word (kind_of k) (current_of o)
   same-text k =
       let named : true ≡ is_at token.Name (current_of (Some t)) = subst (λ p. true ≡ is_at token.Name (current_of p)) is name in
-      name-is-word (kind_of k) (lexeme_of t) text (word_of k) (are-keywords k) (words-are k) named text-is ∙ sym (ap (λ p. is_word (kind_of k) (current_of p)) is)
+      name-is-word (kind_of k) (lexeme_of t) text (word_of k) (are-keywords k) (words-are k) named text-is
+          ∙ sym (ap (λ p. is_word (kind_of k) (current_of p)) is)
 
   pub spelled : (k : DefinitionKeyword) → text ≡ word_of k → is_word (kind_of k) (current_of o) ≡ true
   spelled k e = sym (same-text k) ∙ (bytes_eq-Decides text (word_of k)).1 e
@@ -97,7 +99,8 @@ none-of-three a b c e f g = rw (e, f, g) refl
 no-operation : (k : SyntaxKind) (o : Option Lexeme) → is_word k o ≡ true
     → eqb (number k) (number kind.query_KW) ≡ false → eqb (number k) (number kind.mutation_KW) ≡ false → eqb (number k) (number kind.subscription_KW) ≡ false
     → fits operation_type o ≡ false
-no-operation k o h l m n = none-of-three _ _ _ (other-word k kind.query_KW o h l) (other-word k kind.mutation_KW o h m) (other-word k kind.subscription_KW o h n)
+no-operation k o h l m n = none-of-three _ _ _ (other-word k kind.query_KW o h l) (other-word k kind.mutation_KW o h m)
+    (other-word k kind.subscription_KW o h n)
 
 -- ---- tests of keywords, one after the other
 
@@ -117,7 +120,8 @@ module _ (at : TokenTest → Test) (o : Option Lexeme) {s : State} (is : (q : To
   missing : {q : TokenTest} {a b : Rule} {t : State} → fits q o ≡ false → Runs b s t → Runs (When (at q) a b) s t
   missing {q = q} e r = no (sym (is q ∙ e)) r
 
-  chosen : (k : SyntaxKind) (ws : List (SyntaxKind × Rule)) (none : Rule) {t : State} → is_word k o ≡ true → Runs (choice (number k) ws none) s t → Runs (ladder at ws none) s t
+  chosen : (k : SyntaxKind) (ws : List (SyntaxKind × Rule)) (none : Rule) {t : State} → is_word k o ≡ true → Runs (choice (number k) ws none) s t
+      → Runs (ladder at ws none) s t
   chosen k [] none h r = r
   chosen k (w ∷ more) none h r = elim (either (eqb (number k) (number w.0))) [
     | inl e ↦ there {q = Keyword w.0} (same-word k w.0 o h e) (rw e at r)
@@ -145,7 +149,8 @@ definition_at at brace extension none =
     (When (at (Kind token.LCurly)) brace
     (ladder at ((kind.extend_KW, extension) ∷ type_system) none)))
 
-module _ (at : TokenTest → Test) (o : Option Lexeme) {s : State} (is : (q : TokenTest) → holds (at q) s ≡ fits q o) {brace extension none : Rule} {t : State} where
+module _ (at : TokenTest → Test) (o : Option Lexeme) {s : State} (is : (q : TokenTest)
+    → holds (at q) s ≡ fits q o) {brace extension none : Rule} {t : State} where
   found : (k : DefinitionKeyword) → is_word (kind_of k) o ≡ true → Runs (Child (definition_of k)) s t → Runs (definition_at at brace extension none) s t
   found Query h r = there at o is (or_left _ _ h) r
   found Mutation h r = there at o is (or_right (is_word kind.query_KW o) _ (or_left _ _ h)) r
@@ -172,7 +177,8 @@ module _ (at : TokenTest → Test) (o : Option Lexeme) {s : State} (is : (q : To
       after (no e (yes f r)) = no e (yes f r)
       after (no e (no f r)) = no e (no f (rest r))
 
-pub by_keyword : (k : DefinitionKeyword) {o : Option Lexeme} {s t : State} → is_word (kind_of k) o ≡ true → o ≡ s.current → Runs (Child (definition_of k)) s t → Runs (Call Definition) s t
+pub by_keyword : (k : DefinitionKeyword) {o : Option Lexeme} {s t : State} → is_word (kind_of k) o ≡ true → o ≡ s.current → Runs (Child (definition_of k)) s t
+    → Runs (Call Definition) s t
 unfolding holds body
 by_keyword k {o = o} h e r = call {p = Definition} (found Here o (λ q. sym (ap (fits q) e)) k h r)
 
@@ -187,7 +193,8 @@ unfolding holds body
 described_by_keyword k {o = o} h e r = call {p = DescribedDefinition} (found Next o (λ q. sym (ap (fits q) e)) k h r)
 
 pub described_without_keyword : {o : Option Lexeme} {s t : State} → ((k : DefinitionKeyword) → is_word (kind_of k) o ≡ false) → o ≡ second s.items
-    → Runs (When (Next (Kind token.LCurly)) (refuse message.ExpectedOperation) (When (Next (Keyword kind.extend_KW)) (refuse message.InvalidExtension) no_described)) s t
+    → Runs (When (Next (Kind token.LCurly)) (refuse message.ExpectedOperation)
+    (When (Next (Keyword kind.extend_KW)) (refuse message.InvalidExtension) no_described)) s t
     → Runs (Call DescribedDefinition) s t
 unfolding holds body
 described_without_keyword {o = o} h e r = call {p = DescribedDefinition} (not-found Next o (λ q. sym (ap (fits q) e)) h r)

@@ -7,7 +7,8 @@ use Rattle.parser_rules.specs.Nodes as rule
 use Rattle.parser_rules.specs.Nodes.{Node}
 use Rattle.parser_rules.specs.RuleLanguage.{Rule, Child, refuse}
 use Rattle.apollo_document.specs.declared.grammar.keyword.DefinitionKeyword.{DefinitionKeyword}
-use Rattle.apollo_document.specs.declared.grammar.keyword.DefinitionKeyword.TheVariants.{Query, Mutation, Subscription, Fragment, Schema, Directive, Scalar, Object, Interface, Union, Enum, InputObject}
+use Rattle.apollo_document.specs.declared.grammar.keyword.DefinitionKeyword.TheVariants.{Query, Mutation, Subscription, Fragment, Schema, Directive, Scalar}
+use Rattle.apollo_document.specs.declared.grammar.keyword.DefinitionKeyword.TheVariants.{Object, Interface, Union, Enum, InputObject}
 
 -- the word
 abbrev pub kind_of : DefinitionKeyword → SyntaxKind

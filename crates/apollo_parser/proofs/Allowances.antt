@@ -56,7 +56,8 @@ module _ (xs : List Answer) (r n : ℕ) where
 
   pub not-open : {s u : State} → s ≡ unread xs r n → u ≡ flush (read_on s.items s) → u.tree.above ≡ []
   unfolding flush
-  not-open e f = ap (λ (z : State). z.tree.above) f ∙ ap (λ (z : State). (flush (read_on z.items z)).tree.above) e ∙ ap (λ (z : State). (flush z).tree.above) (reads n xs (unread xs r 0)) ∙ unopened-none xs r
+  not-open e f = ap (λ (z : State). z.tree.above) f ∙ ap (λ (z : State). (flush (read_on z.items z)).tree.above) e
+      ∙ ap (λ (z : State). (flush z).tree.above) (reads n xs (unread xs r 0)) ∙ unopened-none xs r
 
 -- from the count before a parse no more are cut than twice the items, and twice the limit
 pub twice : (k r : ℕ) (source : List ℕ) {before old budget c : ℕ} {start : State} → before ≡ old

@@ -1,5 +1,6 @@
 -- What the errors of a parse are, by the reports that they say.
-use Rattle.std.proofs.Common.{◌≡◌, ℕ, zero, suc, Bool, true, false, ◌&&◌, ◌||◌, if◌then◌else◌, eqb, List, [], ◌∷◌, ◌++◌, length, map, arith, Option, Some, None, refl, sym, ◌∙◌, ap, ap₂, subst, inl, inr, true≢false}
+use Rattle.std.proofs.Common.{◌≡◌, ℕ, zero, suc, Bool, true, false, ◌&&◌, ◌||◌, if◌then◌else◌, eqb, List, [], ◌∷◌, ◌++◌, length, map, arith, Option, Some, None}
+use Rattle.std.proofs.Common.{refl, sym, ◌∙◌, ap, ap₂, subst, inl, inr, true≢false}
 use Rattle.std.specs.Prelude.{codes, is_some, IsAscii, ⊤}
 use Rattle.std.specs.List.{AllZip, Any, All, list_all, list_any}
 use Rattle.std.specs.Char.{is_ascii}
@@ -18,7 +19,8 @@ use Rattle.apollo_lexer.proofs.Messages.{ascii-text, fault-ascii, begins_fault, 
 use Rattle.grammar_machine.specs.Machine.{text_eq}
 use Rattle.parser_rules.specs.declared.message.Message.{Message}
 use Rattle.parser_rules.specs.declared.message.Message.TheVariants as message
-use Rattle.parser_rules.specs.Messages.{Text, Found, at_text, at_end, at_limit, is_limit, description, names_found, found_text, message_text, recursion_limit_message}
+use Rattle.parser_rules.specs.Messages.{Text, Found, at_text, at_end, at_limit, is_limit, description, names_found, found_text, message_text}
+use Rattle.parser_rules.specs.Messages.{recursion_limit_message}
 use Rattle.parser_rules.specs.State.{Report, Lexeme, bad_report, token_limit_report, recursion_limit_report, fault_report, found_at, lexeme}
 use Rattle.parser_rules.specs.Reports.{Reported, no_more, bad_text, token_limit, fault, recursion_limit, passed, is_recursion_limit}
 use Rattle.parser_rules.proofs.reports.AtTheLimit.{found-other}
@@ -51,7 +53,8 @@ no-errors (r ∷ rs) (d ∷ ds) h e = absurd cc
 -- ---- the recursion limit
 
 -- the lexer's words for a limit are others
-own-words : (found : Found) (said : Option Text) (words : Text) → is_limit found ≡ true → IsWorded found said words → words ≡ recursion_limit_message → is_some said ≡ true
+own-words : (found : Found) (said : Option Text) (words : Text) → is_limit found ≡ true → IsWorded found said words → words ≡ recursion_limit_message
+    → is_some said ≡ true
 unfolding ◌and◌
 own-words at_limit None words l h e = absurd (true≢false (ap (λ (t : Text). text_eq t limit_message) (sym h ∙ e)))
 own-words _ (Some said) words l h e = refl
@@ -77,7 +80,8 @@ description-ascii _ = refl
 
 message-ascii : (m : Message) (found : Found) → IsAscii (found_text found) → IsAscii (message_text m found)
 message-ascii m found h = elim (names_found m) as (λ b. IsAscii (if b then description m ++ codes ", got " ++ found_text found else description m)) [
-  | true ↦ IsAscii-append (description m ++ codes ", got ") (found_text found) (IsAscii-append (description m) (codes ", got ") (ascii-text (description m) (description-ascii m)) (ascii-text (codes ", got ") refl)) h
+  | true ↦ IsAscii-append (description m ++ codes ", got ") (found_text found)
+      (IsAscii-append (description m) (codes ", got ") (ascii-text (description m) (description-ascii m)) (ascii-text (codes ", got ") refl)) h
   | false ↦ ascii-text (description m) (description-ascii m)
 ]
 
@@ -99,7 +103,8 @@ module _ (Text_is : Text → Type 0) (P : Diagnostic → Type 0)
     (of_tokens : (index : ℕ) (d : Diagnostic) → IsErrorOf (token_limit_report index) d → P d)
     (of_fault : (m : Message) (x : Lexeme) (d : Diagnostic) → Text_is x.text → IsErrorOf (fault_report m x) d → P d)
     (of_depth : (x : Lexeme) (d : Diagnostic) → IsErrorOf (recursion_limit_report x) d → P d) where
-  each-error : {taken : Bool} {answers : List Answer} {rs : List Report} (ds : List Diagnostic) → Reported taken answers rs → AllTexts Text_is answers → AllZip IsErrorOf rs ds → All P ds
+  each-error : {taken : Bool} {answers : List Answer} {rs : List Report} (ds : List Diagnostic) → Reported taken answers rs → AllTexts Text_is answers
+      → AllZip IsErrorOf rs ds → All P ds
   each-error [] h a z = All-nil P
   each-error (d ∷ ds) no_more a z = absurd z
   each-error (d ∷ ds) (bad_text {item = item} e h) a z = All-cons P d ds (of_bad item.text item.index d a.0 z.0) (each-error ds h a.1 z.1)
@@ -108,7 +113,8 @@ module _ (Text_is : Text → Type 0) (P : Diagnostic → Type 0)
   each-error (d ∷ ds) (recursion_limit {k = k} {item = item} e i h) a z = All-cons P d ds (of_depth (lexeme k item) d z.0) (each-error ds h a z.1)
   each-error (d ∷ ds) (passed e h) a z = each-error (d ∷ ds) h a.1 z
 
-pub ascii-messages : {answers : List Answer} {rs : List Report} (ds : List Diagnostic) → Reported true answers rs → AllTexts IsAscii answers → AllZip IsErrorOf rs ds → All (λ (d : Diagnostic). IsAscii d.message) ds
+pub ascii-messages : {answers : List Answer} {rs : List Report} (ds : List Diagnostic) → Reported true answers rs → AllTexts IsAscii answers
+    → AllZip IsErrorOf rs ds → All (λ (d : Diagnostic). IsAscii d.message) ds
 ascii-messages = each-error IsAscii (λ d. IsAscii d.message)
     (λ text index d h e. fault-ascii text d.message (is-fault-message text d.message e.message) h)
     (λ index d e. subst IsAscii (sym e.message) (ascii-text limit_message refl))
@@ -120,7 +126,8 @@ pub limited-ascii : (k : ℕ) (items : List Item) → IsAscii (texts items) → 
 limited-ascii k [] h = subst (AllTexts IsAscii) (sym (limited-end k)) tt
 limited-ascii zero (item ∷ items) h = tt
 limited-ascii (suc k) (item ∷ items) h =
-    (subst IsAscii (take-append_seam item.text (texts items)) (IsAscii-take _ (length item.text) h), limited-ascii k items (subst IsAscii (drop-append_seam item.text (texts items)) (IsAscii-drop _ (length item.text) h)))
+    (subst IsAscii (take-append_seam item.text (texts items)) (IsAscii-take _ (length item.text) h),
+        limited-ascii k items (subst IsAscii (drop-append_seam item.text (texts items)) (IsAscii-drop _ (length item.text) h)))
 
 -- ---- the messages of limits
 
@@ -154,7 +161,8 @@ subject-limit d e = subject-is d.subject at_limit e
 
 -- the report of the token limit has its error
 pub token-limit-error : (n : ℕ) (r : Report) (d : Diagnostic) → r ≡ token_limit_report n → IsErrorOf r d → IsTokenLimit d
-token-limit-error n r d e h = let i : IsErrorOf (token_limit_report n) d = subst (λ (x : Report). IsErrorOf x d) e h in record { subject = subject-limit d i.subject; message = i.message }
+token-limit-error n r d e h = let i : IsErrorOf (token_limit_report n) d = subst (λ (x : Report). IsErrorOf x d) e h in
+    record { subject = subject-limit d i.subject; message = i.message }
 
 -- which is not that of the recursion limit
 pub no-recursion : (n : ℕ) (r : Report) (d : Diagnostic) → r ≡ token_limit_report n → IsErrorOf r d → IsRecursionLimit d → ⊥
@@ -173,7 +181,8 @@ limit-otherwise (c ∷ text) h = on c h
 
 -- an error about something else, with another message
 other-worded : (d : Diagnostic) (found : Found) → found_of d.subject ≡ found → is_limit found ≡ false → (IsLimitMessage d.message → ⊥) → IsLimitWorded d
-other-worded d found e l n = record { limit = λ s. absurd (true≢false (sym (ap (λ (x : Subject). is_limit (found_of x)) s) ∙ (ap is_limit e ∙ l))); other = λ i. absurd (n i) }
+other-worded d found e l n = record { limit = λ s. absurd (true≢false (sym (ap (λ (x : Subject). is_limit (found_of x)) s) ∙ (ap is_limit e ∙ l))); other =
+    λ i. absurd (n i) }
 
 any-text : (answers : List Answer) → AllTexts (λ text. ⊤) answers
 any-text [] = tt
@@ -182,14 +191,17 @@ any-text (limit_at index ∷ answers) = any-text answers
 
 pub limit-worded : {answers : List Answer} {rs : List Report} (ds : List Diagnostic) → Reported true answers rs → AllZip IsErrorOf rs ds → All IsLimitWorded ds
 limit-worded {answers = answers} ds h = each-error (λ text. ⊤) IsLimitWorded
-    (λ text index d i e. other-worded d (at_text text) e.subject refl (λ l. no-fault-message text d.message (is-fault-message text d.message e.message) (limit-otherwise d.message (limit-begins d.message l))))
+    (λ text index d i e. other-worded d (at_text text) e.subject refl (λ l. no-fault-message text d.message (is-fault-message text d.message e.message)
+        (limit-otherwise d.message (limit-begins d.message l))))
     (λ index d e. record { limit = λ s. inl e.message; other = λ i. subject-limit d e.subject })
-    (λ m x d i e. other-worded d (found_at x) e.subject (found-other x) (λ l. true≢false (sym (limit-begins d.message l) ∙ (ap begins_limit e.message ∙ message-begins m (found_at x)))))
+    (λ m x d i e. other-worded d (found_at x) e.subject (found-other x) (λ l. true≢false
+        (sym (limit-begins d.message l) ∙ (ap begins_limit e.message ∙ message-begins m (found_at x)))))
     (λ x d e. record { limit = λ s. inr e.message; other = λ i. subject-limit d e.subject })
     ds h (any-text answers)
 
 -- each report has its error
-pub any-said : (P : Diagnostic → Type 0) (rs : List Report) (ds : List Diagnostic) (r : Report) → Has rs r → ((d : Diagnostic) → IsErrorOf r d → P d) → AllZip IsErrorOf rs ds → Any P ds
+pub any-said : (P : Diagnostic → Type 0) (rs : List Report) (ds : List Diagnostic) (r : Report) → Has rs r → ((d : Diagnostic) → IsErrorOf r d → P d)
+    → AllZip IsErrorOf rs ds → Any P ds
 any-said P rs ds r h f z = on h.before ds (subst (λ (all : List Report). AllZip IsErrorOf all ds) h.split z)
   where
     on : (before : List Report) (ds : List Diagnostic) → AllZip IsErrorOf (before ++ r ∷ h.after) ds → Any P ds
@@ -213,7 +225,8 @@ fault-text m x d i h = subject-is d.subject (at_text x.text) (h.subject ∙ ap (
 -- ---- all errors
 
 -- the errors that say the reports of some answers
-pub errors-along : {taken : Bool} {answers : List Answer} {rs : List Report} → Reported taken answers rs → (ds : List Diagnostic) → AllZip IsErrorOf rs ds → ErrorsAlong taken answers ds
+pub errors-along : {taken : Bool} {answers : List Answer} {rs : List Report} → Reported taken answers rs → (ds : List Diagnostic) → AllZip IsErrorOf rs ds
+    → ErrorsAlong taken answers ds
 errors-along no_more [] z = parsed.no_more
 errors-along no_more (d ∷ ds) z = absurd z
 errors-along (bad_text {item = item} e h) (d ∷ ds) z =
@@ -223,7 +236,8 @@ errors-along (token_limit h) (d ∷ ds) z =
     let about = subject-limit d z.0.subject in
     parsed.token_limit (record { subject = about; index = z.0.index }) (record { subject = about; message = z.0.message }) (errors-along h ds z.1)
 errors-along (fault m {k = k} {item = item} e i h) (d ∷ ds) z =
-    parsed.fault m e i (record { subject = subject-here (is_end k) d.subject item.text z.0.subject; index = z.0.index }) (z.0.message ∙ ap (message_text m) (sym z.0.subject)) (errors-along h ds z.1)
+    parsed.fault m e i (record { subject = subject-here (is_end k) d.subject item.text z.0.subject; index = z.0.index })
+        (z.0.message ∙ ap (message_text m) (sym z.0.subject)) (errors-along h ds z.1)
 errors-along (recursion_limit e i h) (d ∷ ds) z =
     let about = subject-limit d z.0.subject in
     parsed.recursion_limit e i (record { subject = about; index = z.0.index }) (record { subject = about; message = z.0.message }) (errors-along h ds z.1)

@@ -18,10 +18,12 @@ use Rattle.parser_state.specs.Found.{found_of}
 use Rattle.apollo_parser.specs.Parsed.{IsRecursionLimit, IsTokenLimit, OfFirst}
 use Rattle.apollo_parser.proofs.Errors.{no-recursion, subject-limit, token-limit-error}
 
-module _ (sort : Sort) {source : List ℕ} {items : List Item} (r k : ℕ) (f : Forest) (cut : Cut source items) (rs : List Report) (ds : List Diagnostic) (said : AllZip IsErrorOf rs ds)
-    (right : (e : Report) (more : List Report) → rs ≡ e ∷ more → RightFirst sort source items r k f e) where
+module _ (sort : Sort) {source : List ℕ} {items : List Item} (max_depth max_items : ℕ) (f : Forest) (cut : Cut source items) (rs : List Report)
+    (ds : List Diagnostic) (said : AllZip IsErrorOf rs ds)
+    (right : (e : Report) (more : List Report) → rs ≡ e ∷ more → RightFirst sort source items max_depth max_items f e) where
   -- what holds of the error that says the first report
-  of-first : (P : Diagnostic → Type 0) → ((e : Report) (d : Diagnostic) → IsErrorOf e d → RightFirst sort source items r k f e → P d) → OfFirst P ds
+  of-first : (P : Diagnostic → Type 0) → ((e : Report) (d : Diagnostic) → IsErrorOf e d → RightFirst sort source items max_depth max_items f e → P d)
+      → OfFirst P ds
   of-first P h = on rs ds refl said
     where
       on : (es : List Report) (ds : List Diagnostic) → rs ≡ es → AllZip IsErrorOf es ds → OfFirst P ds
@@ -29,18 +31,20 @@ module _ (sort : Sort) {source : List ℕ} {items : List Item} (r k : ℕ) (f : 
       on [] (d ∷ ds) same z = absurd z
       on (first ∷ es) (d ∷ ds) same z = h first d z.0 (right first es same)
 
-  pub not-late : OfFirst (λ e. (IsTokenLimit e → ⊥) → NotLate sort source e.index) ds
-  not-late = of-first (λ d. (IsTokenLimit d → ⊥) → NotLate sort source d.index)
+  pub not_late : OfFirst (λ e. (IsTokenLimit e → ⊥) → NotLate sort source e.index) ds
+  not_late = of-first (λ d. (IsTokenLimit d → ⊥) → NotLate sort source d.index)
       (λ e d z i n. subst (NotLate sort source) (sym z.index) (report-not-late cut i.0 (λ m j. n (token-limit-error m e d j z))))
 
-  pub not-early : OfFirst (λ e. e.subject ≢ of_limit → NotEarly sort k items e.index) ds
-  not-early = of-first (λ d. d.subject ≢ of_limit → NotEarly sort k items d.index)
-      (λ e d z i n. subst (NotEarly sort k items) (sym z.index) (report-not-early cut i.0 (λ j. n (subject-limit d (z.subject ∙ j)))))
+  pub not_early : OfFirst (λ e. e.subject ≢ of_limit → NotEarly sort max_items items e.index) ds
+  not_early = of-first (λ d. d.subject ≢ of_limit → NotEarly sort max_items items d.index)
+      (λ e d z i n. subst (NotEarly sort max_items items) (sym z.index) (report-not-early cut i.0 (λ j. n (subject-limit d (z.subject ∙ j)))))
 
-  pub not-early-limit : OfFirst (λ e. IsRecursionLimit e → NotEarlyLimit sort r items e.index) ds
-  not-early-limit = of-first (λ d. IsRecursionLimit d → NotEarlyLimit sort r items d.index)
-      (λ e d z i n. subst (NotEarlyLimit sort r items) (sym z.index) (report-not-early-limit cut i.0 (sym z.subject ∙ ap found_of n.subject) (λ m j. no-recursion m e d j z n)))
+  pub not_early_limit : OfFirst (λ e. IsRecursionLimit e → NotEarlyLimit sort max_depth items e.index) ds
+  not_early_limit = of-first (λ d. IsRecursionLimit d → NotEarlyLimit sort max_depth items d.index)
+      (λ e d z i n. subst (NotEarlyLimit sort max_depth items) (sym z.index)
+          (report-not-early-limit cut i.0 (sym z.subject ∙ ap found_of n.subject) (λ m j. no-recursion m e d j z n)))
 
   -- the tree's leaves are of the first answers
-  pub ended-nodes-fit : (back : List Leaf) → OneLeafAnItem (limited k items) (leaves f ++ back) → OfFirst (λ e. EndedNodesFit items e.index (tree_of f)) ds
-  ended-nodes-fit back all = of-first (λ d. EndedNodesFit items d.index (tree_of f)) (λ e d z i. rw z.index (ended-nodes f back cut i.0 all i.1))
+  pub ended_nodes_fit : (back : List Leaf) → OneLeafAnItem (limited max_items items) (leaves f ++ back)
+      → OfFirst (λ e. EndedNodesFit items e.index (tree_of f)) ds
+  ended_nodes_fit back all = of-first (λ d. EndedNodesFit items d.index (tree_of f)) (λ e d z i. rw z.index (ended-nodes f back cut i.0 all i.1))

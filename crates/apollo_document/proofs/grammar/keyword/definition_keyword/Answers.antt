@@ -1,6 +1,7 @@
 use Rattle.std.proofs.Common.{◌≡◌}
 use Rattle.apollo_document.proofs.Keywords.{word_of, spelled, misspelled}
-use Rattle.apollo_document.specs.declared.grammar.keyword.DefinitionKeyword.TheVariants.{Query, Mutation, Subscription, Fragment, Schema, Directive, Scalar, Object, Interface, Union, Enum, InputObject}
+use Rattle.apollo_document.specs.declared.grammar.keyword.DefinitionKeyword.TheVariants.{Query, Mutation, Subscription, Fragment, Schema, Directive, Scalar}
+use Rattle.apollo_document.specs.declared.grammar.keyword.DefinitionKeyword.TheVariants.{Object, Interface, Union, Enum, InputObject}
 use Rattle.apollo_document.proofs.grammar.keyword.definition_keyword.Goals as goal
 
 pub returns-in-query : goal.returns-in-query

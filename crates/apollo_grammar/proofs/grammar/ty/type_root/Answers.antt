@@ -21,13 +21,20 @@ close_type-requires-then-at-2 g c = record {
 }
 
 pub wrap-requires : goal.wrap-requires
-wrap-requires g c = root-checkpoint c.args.first.place c.err_and_pop.new.self c.requires.first (still-none c.in_ok-err_and_pop.ensures.runs (flushed-none c.args.p.now c.in_ok-place.ensures.flushed c.requires.not_open))
+wrap-requires g c = root-checkpoint c.args.first.place c.err_and_pop.new.self c.requires.first
+    (still-none c.in_ok-err_and_pop.ensures.runs (flushed-none c.args.p.now c.in_ok-place.ensures.flushed c.requires.not_open))
 
 pub returns-then-at-clause-runs : goal.returns-then-at-clause-runs
-returns-then-at-clause-runs g c = on_ok_weaker _ (λ e. list-made c.args.p.now _ c.in_ok-place.ensures.flushed c.in_ok-place.ensures.place c.if-at.ensures c.in_ok-inside_list_type.ensures.runs e) c.close_type.ensures.step
+returns-then-at-clause-runs g c =
+    on_ok_weaker _ (λ e. list-made c.args.p.now _ c.in_ok-place.ensures.flushed c.in_ok-place.ensures.place c.if-at.ensures
+    c.in_ok-inside_list_type.ensures.runs e) c.close_type.ensures.step
 
 pub returns-then-at-2-clause-runs : goal.returns-then-at-2-clause-runs
-returns-then-at-2-clause-runs g c = on_ok_weaker _ (λ e. name-made c.args.p.now _ c.in_ok-place.ensures.flushed c.in_ok-place.ensures.place c.if-at.ensures c.if-at-2.ensures c.in_ok-name.ensures.runs e) c.close_type-then-at-2.ensures.step
+returns-then-at-2-clause-runs g c =
+    on_ok_weaker _ (λ e. name-made c.args.p.now _ c.in_ok-place.ensures.flushed c.in_ok-place.ensures.place c.if-at.ensures c.if-at-2.ensures
+    c.in_ok-name.ensures.runs e) c.close_type-then-at-2.ensures.step
 
 pub returns-clause-runs : goal.returns-clause-runs
-returns-clause-runs g c = on_ok_weaker _ (λ e. none-made c.args.p.now c.args.first.place c.requires.first c.in_ok-place.ensures.flushed c.if-at.ensures c.if-at-2.ensures c.in_ok-err_and_pop.ensures.runs e) c.wrap.ensures.step
+returns-clause-runs g c =
+    on_ok_weaker _ (λ e. none-made c.args.p.now c.args.first.place c.requires.first c.in_ok-place.ensures.flushed c.if-at.ensures c.if-at-2.ensures
+    c.in_ok-err_and_pop.ensures.runs e) c.wrap.ensures.step
