@@ -9,7 +9,8 @@ use Rattle.apollo_tree.specs.Taken.{takes_place}
 use Rattle.apollo_cst_core.specs.Cast.{casts_at}
 use Rattle.apollo_cst_core.specs.Children.{is_typed}
 
-pub typed-children : (casts : SyntaxKind → Bool) (ps : List Place) → filter (takes_place (is_typed casts)) ps ≡ filter (casts_at casts) (filter is_node_place ps)
+pub typed-children : (casts : SyntaxKind → Bool) (ps : List Place) → filter (takes_place (is_typed casts)) ps
+    ≡ filter (casts_at casts) (filter is_node_place ps)
 typed-children casts [] = refl
 typed-children casts (p ∷ ps) = elim (either (is_node_place p)) [
   | inl n ↦ (rw n (elim (either (casts (kind_at p))) [

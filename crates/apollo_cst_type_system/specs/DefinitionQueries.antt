@@ -6,7 +6,12 @@ use Rattle.apollo_tree.specs.Order.{Place}
 use Rattle.apollo_tree.specs.References.{node_place}
 use Rattle.apollo_cst_core.specs.Cast.{cast_children, first_of}
 use Rattle.apollo_cst_type_system.specs.declared.document.Definition.{Definition}
-use Rattle.apollo_cst_type_system.specs.declared.document.Definition.TheVariants.{OperationDefinition, FragmentDefinition, DirectiveDefinition, SchemaDefinition, ScalarTypeDefinition, ObjectTypeDefinition, InterfaceTypeDefinition, UnionTypeDefinition, EnumTypeDefinition, InputObjectTypeDefinition, SchemaExtension, ScalarTypeExtension, ObjectTypeExtension, InterfaceTypeExtension, UnionTypeExtension, EnumTypeExtension, InputObjectTypeExtension}
+use Rattle.apollo_cst_type_system.specs.declared.document.Definition.TheVariants.{OperationDefinition, FragmentDefinition, DirectiveDefinition}
+use Rattle.apollo_cst_type_system.specs.declared.document.Definition.TheVariants.{SchemaDefinition, ScalarTypeDefinition, ObjectTypeDefinition}
+use Rattle.apollo_cst_type_system.specs.declared.document.Definition.TheVariants.{InterfaceTypeDefinition, UnionTypeDefinition, EnumTypeDefinition}
+use Rattle.apollo_cst_type_system.specs.declared.document.Definition.TheVariants.{InputObjectTypeDefinition, SchemaExtension, ScalarTypeExtension}
+use Rattle.apollo_cst_type_system.specs.declared.document.Definition.TheVariants.{ObjectTypeExtension, InterfaceTypeExtension, UnionTypeExtension}
+use Rattle.apollo_cst_type_system.specs.declared.document.Definition.TheVariants.{EnumTypeExtension, InputObjectTypeExtension}
 use Rattle.apollo_cst_type_system.specs.Definition.{definition_node}
 
 -- the first child NAME of an element

@@ -1,5 +1,6 @@
 -- The search for the last fault of a bad string meets the definition byte after byte.
-use Rattle.std.proofs.Common.{◌≡◌, ℕ, zero, suc, ◌+◌, ◌-◌, ◌<◌, ◌≤◌, true, false, cond, List, [], ◌∷◌, length, drop, take, Option, refl, sym, ap, ◌∙◌, arith, eqb, eqb-true, subst, inl, inr, length-drop}
+use Rattle.std.proofs.Common.{◌≡◌, ℕ, zero, suc, ◌+◌, ◌-◌, ◌<◌, ◌≤◌, true, false, cond, List, [], ◌∷◌, length, drop, take, Option, refl, sym, ap, ◌∙◌, arith}
+use Rattle.std.proofs.Common.{eqb, eqb-true, subst, inl, inr, length-drop}
 use Rattle.std.specs.Prelude.{slice_index}
 use Rattle.std.proofs.lemmas.Bool.{false_from_ne_true, ne_eqb, or_parts, cases_Bool, lt-ltb, le-ltb}
 use Rattle.std.proofs.lemmas.List.{drop-drop}
@@ -17,7 +18,8 @@ use Rattle.apollo_lexer.proofs.Searches.{FirstAt, slash-of, byte-at, slice-rest}
 
 -- ---- line terminators
 
-no-terminator : (last : LexFault) (bytes : List ℕ) → ((k : ℕ) → k < length bytes → is_byte2 10 13 (slice_index bytes k) ≡ true → ⊥) → after_characters last bytes ≡ last
+no-terminator : (last : LexFault) (bytes : List ℕ) → ((k : ℕ) → k < length bytes → is_byte2 10 13 (slice_index bytes k) ≡ true → ⊥)
+    → after_characters last bytes ≡ last
 no-terminator last [] none = refl
 no-terminator last (b ∷ bs) none =
     let here : after_character last b ≡ last = ap (λ t. cond t LineTerminator last) (false_from_ne_true (is_byte2 10 13 b) (none 0 (omega arith))) in
@@ -30,7 +32,8 @@ stays (b ∷ bs) = elim (cases_Bool (is_line_terminator b)) [
   | inr e ↦ ap (λ t. after_characters (cond t LineTerminator LineTerminator) bs) e ∙ stays bs
 ]
 
-some-terminator : (i : ℕ) (last : LexFault) (bytes : List ℕ) → i < length bytes → is_byte2 10 13 (slice_index bytes i) ≡ true → after_characters last bytes ≡ LineTerminator
+some-terminator : (i : ℕ) (last : LexFault) (bytes : List ℕ) → i < length bytes → is_byte2 10 13 (slice_index bytes i) ≡ true
+    → after_characters last bytes ≡ LineTerminator
 some-terminator i last [] lt is = absurd (omega arith)
 some-terminator zero last (b ∷ bs) lt is = ap (λ t. after_characters (cond t LineTerminator last) bs) is ∙ stays bs
 some-terminator (suc i) last (b ∷ bs) lt is = some-terminator i (after_character last b) bs (omega arith) is
@@ -53,7 +56,8 @@ passed (suc i) last [] le none = absurd (omega arith)
 passed (suc i) last (b ∷ bs) le none =
     plain-step last b bs (false_from_ne_true _ (none 0 (omega arith))) ∙ passed i (after_character last b) bs (omega arith) (λ k lt. none (suc k) (omega arith))
 
-all-passed : (last : LexFault) (text : List ℕ) → ((k : ℕ) → k < length text → is_byte2 34 92 (slice_index text k) ≡ true → ⊥) → last_fault last 0 text ≡ UnterminatedString
+all-passed : (last : LexFault) (text : List ℕ) → ((k : ℕ) → k < length text → is_byte2 34 92 (slice_index text k) ≡ true → ⊥)
+    → last_fault last 0 text ≡ UnterminatedString
 all-passed last [] none = refl
 all-passed last (b ∷ bs) none =
     plain-step last b bs (false_from_ne_true _ (none 0 (omega arith))) ∙ all-passed (after_character last b) bs (λ k lt. none (suc k) (omega arith))
@@ -62,7 +66,8 @@ pub part-open : (text : List ℕ) → Nowhere (Passes (is_byte2 34 92) text) 0 (
 part-open text none last = all-passed last text (λ k lt. none k (omega arith) lt)
 
 -- the characters before the place, and the fault that they leave
-before : (text : List ℕ) (i : ℕ) (fault : Option LexFault) → FirstAt (is_byte2 34 92) text i → ((last : LexFault) → or_last fault last ≡ after_characters last (take i text))
+before : (text : List ℕ) (i : ℕ) (fault : Option LexFault) → FirstAt (is_byte2 34 92) text i
+    → ((last : LexFault) → or_last fault last ≡ after_characters last (take i text))
     → (last : LexFault) → last_fault last 0 text ≡ last_fault (or_last fault last) 0 (drop i text)
 before text i fault f is last =
     passed i last text (omega (arith, f.0.high)) (λ k lt. f.0.before k (omega arith) lt) ∙ ap (λ l. last_fault l 0 (drop i text)) (sym (is last))
@@ -119,12 +124,14 @@ part-slash text i n found fault f other e some within is after =
 pub good-escape : (last : LexFault) (tail : List ℕ) (n : ℕ) → n ≡ string_character_len tail → 0 < n → last ≡ after_escape last tail
 good-escape last tail n e some = ap (λ t. cond t last (escape_fault tail)) (sym (lt-ltb 0 (string_character_len tail) (omega (arith, e, some))))
 
-pub bad-escape : (last fault : LexFault) (tail : List ℕ) (n : ℕ) → n ≡ string_character_len tail → n ≤ 0 → fault ≡ escape_fault tail → fault ≡ after_escape last tail
+pub bad-escape : (last fault : LexFault) (tail : List ℕ) (n : ℕ) → n ≡ string_character_len tail → n ≤ 0 → fault ≡ escape_fault tail
+    → fault ≡ after_escape last tail
 bad-escape last fault tail n e none is = is ∙ ap (λ t. cond t last (escape_fault tail)) (sym (le-ltb 0 (string_character_len tail) (omega (arith, e, none))))
 
 -- ---- the message
 
-pub message-made : (text bytes next : List ℕ) (n : ℕ) (fault : LexFault) → bytes ≡ text → n ≡ live_len Begin bytes → fault ≡ fault_behind n bytes → next ≡ drop n text
+pub message-made : (text bytes next : List ℕ) (n : ℕ) (fault : LexFault) → bytes ≡ text → n ≡ live_len Begin bytes → fault ≡ fault_behind n bytes
+    → next ≡ drop n text
     → fault_message fault text next ≡ bad_text_message text
 message-made text bytes next n fault same len is rest =
     let all : n ≡ live_len Begin text = len ∙ ap (live_len Begin) same in

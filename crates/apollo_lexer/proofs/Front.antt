@@ -1,5 +1,6 @@
 -- The item at the front of a text: it has some bytes, and the text may be cut after it.
-use Rattle.std.proofs.Common.{◌≡◌, ℕ, ◌<◌, List, [], ◌∷◌, length, take, drop, Some, None, refl, sym, ap, ◌∙◌, subst, arith, length-take-le, IsUtf8, IsCharBoundary}
+use Rattle.std.proofs.Common.{◌≡◌, ℕ, ◌<◌, List, [], ◌∷◌, length, take, drop, Some, None, refl, sym, ap, ◌∙◌, subst, arith, length-take-le, IsUtf8}
+use Rattle.std.proofs.Common.{IsCharBoundary}
 use Rattle.std.specs.Prelude.{slice_index}
 use Rattle.std.proofs.lemmas.List.{take-append-drop}
 use Rattle.std.proofs.lemmas.Str.{IsCharBoundary-at_seam, IsCharBoundary-from_take, IsUtf8-from_ascii}
@@ -19,14 +20,16 @@ pub front-boundary : (source : List ℕ) (n : ℕ) → 0 < length source → IsU
 front-boundary source n some u e =
     let f = front source some u in
     let m = (first_item source).1 in
-    subst (IsCharBoundary source) (length-take-le m source f.within ∙ sym e) (IsCharBoundary-at_seam source (take m source) (drop m source) (sym (take-append-drop m source)) f.rest)
+    subst (IsCharBoundary source) (length-take-le m source f.within ∙ sym e)
+        (IsCharBoundary-at_seam source (take m source) (drop m source) (sym (take-append-drop m source)) f.rest)
 
 -- after the beginning of a number
 pub number-boundary : (source : List ℕ) (n : ℕ) → IsUtf8 source → n ≡ live_len Begin source → IsCharBoundary source n
 number-boundary source n u e =
     let m = live_len Begin source in
     subst (IsCharBoundary source) (sym e)
-    (IsCharBoundary-from_take source m u (live-within Begin source) (IsUtf8-from_ascii (take m source) (live-ascii Begin (take m source) (live-is Begin source refl))))
+    (IsCharBoundary-from_take source m u (live-within Begin source) (IsUtf8-from_ascii (take m source)
+        (live-ascii Begin (take m source) (live-is Begin source refl))))
 
 -- after an ASCII character
 one-boundary : (source : List ℕ) → IsUtf8 source → 0 < length source → slice_index source 0 < 128 → IsCharBoundary source 1

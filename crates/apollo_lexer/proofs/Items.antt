@@ -47,7 +47,8 @@ not_end _ place h = refl
 token-not-end : (kind : TokenKind) (text : List ℕ) → Tok kind text → kind ≡ Eof → ⊥
 token-not-end kind text tok e = subst (λ k. Tok k text) e tok
 
-first-not-end : (place : ℕ) (source : List ℕ) (found : Option (TokenKind × ℕ)) → token_at source ≡ found → limit_index_at (item_of_token source found).0 place ≡ place
+first-not-end : (place : ℕ) (source : List ℕ) (found : Option (TokenKind × ℕ)) → token_at source ≡ found
+    → limit_index_at (item_of_token source found).0 place ≡ place
 first-not-end place source None e = refl
 first-not-end place source (Some token) e = not_end token.0 place (token-not-end token.0 (take token.1 source) (sound source token.0 token.1 e).stands.token)
 
@@ -61,7 +62,8 @@ limit-met count limit place (b ∷ bs) met some =
     (items_from (1 + place) ((first_item (b ∷ bs)).1 - 1) bs) (omega arith)
     ∙ ap (λ n. limit_at n ∷ []) (first-not-end place (b ∷ bs) (token_at (b ∷ bs)) refl)
 
-limit-met-end : (count limit place : ℕ) (source : List ℕ) → limit < count + 1 → length source ≡ 0 → limited (limit - count) (items_from place 0 source) ≡ limit_at (place - 1) ∷ []
+limit-met-end : (count limit place : ℕ) (source : List ℕ) → limit < count + 1 → length source ≡ 0
+    → limited (limit - count) (items_from place 0 source) ≡ limit_at (place - 1) ∷ []
 limit-met-end count limit place source met none =
     ap (limited (limit - count)) (end-then place source none) ∙ limited_none (limit - count) (end_at place) [] (omega arith)
 
@@ -92,7 +94,8 @@ items-next place source text after kind some k t a one within =
     ∙ (λ i. record { kind = sym k i; text = sym t i; index = place } ∷ items_from (place + sym len i) 0 (sym a i))
 
 -- an item comes
-pub item-comes : (limit count next_limit next_count : ℕ) (item : Item) (items rest left : List Item) → count + 1 ≤ limit → next_limit ≡ limit → next_count ≡ count + 1
+pub item-comes : (limit count next_limit next_count : ℕ) (item : Item) (items rest left : List Item) → count + 1 ≤ limit → next_limit ≡ limit
+    → next_count ≡ count + 1
     → items ≡ item ∷ rest → left ≡ drop 1 items → limited (limit - count) items ≡ gives item ∷ limited (next_limit - next_count) left
 item-comes limit count next_limit next_count item items rest left more same one first others =
     let less : limit - count - 1 ≡ next_limit - next_count = omega arith in
@@ -100,5 +103,6 @@ item-comes limit count next_limit next_count item items rest left more same one 
     ap (limited (limit - count)) first ∙ limited-some (limit - count) item rest (omega arith) ∙ (λ i. gives item ∷ limited (less i) (sym left_is i))
 
 -- the count rose by one, and an answer less is left
-pub high-kept : (high next count : ℕ) (answer : Answer) (old new : List Answer) → old ≡ answer ∷ new → high ≡ count → next ≡ max high (count + 1) → next + length new ≡ high + length old
+pub high-kept : (high next count : ℕ) (answer : Answer) (old new : List Answer) → old ≡ answer ∷ new → high ≡ count → next ≡ max high (count + 1)
+    → next + length new ≡ high + length old
 high-kept high next count answer old new e same asked = omega (arith, ap (λ (l : List Answer). length l) e, max-next high)

@@ -12,7 +12,8 @@ use Rattle.lexical_grammar.specs.Answers.{IsItemText, IsLast, AreAnswers}
 use Rattle.apollo_lexer.specs.declared.lexer.Lexer.{Lexer}
 use Rattle.lexical_grammar.proofs.Sound.{sound}
 
-item-text : (source : List ℕ) (found : Option (TokenKind × ℕ)) → token_at source ≡ found → IsItemText (item_of_token source found).0 (take (item_of_token source found).1 source)
+item-text : (source : List ℕ) (found : Option (TokenKind × ℕ)) → token_at source ≡ found
+    → IsItemText (item_of_token source found).0 (take (item_of_token source found).1 source)
 item-text source None e = tt
 item-text source (Some token) e = token_text token.0 (take token.1 source) (sound source token.0 token.1 e).stands.token
 
@@ -65,7 +66,8 @@ few-from place inside [] = omega arith
 few-from place (suc inside) (b ∷ bs) = let h = few-from (1 + place) inside bs in omega (arith, h)
 few-from place zero (b ∷ bs) = let h = few-from (1 + place) ((first_item (b ∷ bs)).1 - 1) bs in omega (arith, h)
 
-unless-few : (done : Bool) (allowed place : ℕ) (source : List ℕ) → length source < 2 ^ 63 → length (limited allowed (if done then [] else items_from place 0 source)) < 2 ^ 64
+unless-few : (done : Bool) (allowed place : ℕ) (source : List ℕ) → length source < 2 ^ 63
+    → length (limited allowed (if done then [] else items_from place 0 source)) < 2 ^ 64
 unless-few true allowed place source h = omega (arith, limited-length allowed [])
 unless-few false allowed place source h = omega (arith, limited-length allowed (items_from place 0 source), few-from place 0 source, h)
 

@@ -25,7 +25,8 @@ ErrorsBefore all [] rest = all ≡ rest
 ErrorsBefore [] (d ∷ ds) rest = ⊥
 ErrorsBefore (answer ∷ all) (d ∷ ds) rest = IsLexError answer d × ErrorsBefore all ds rest
 
-pub added-error : (all : List Answer) (ds : List Diagnostic) (answer : Answer) (d : Diagnostic) (rest : List Answer) → ErrorsBefore all ds (answer ∷ rest) → IsLexError answer d
+pub added-error : (all : List Answer) (ds : List Diagnostic) (answer : Answer) (d : Diagnostic) (rest : List Answer) → ErrorsBefore all ds (answer ∷ rest)
+    → IsLexError answer d
     → ErrorsBefore all (ds ++ d ∷ []) rest
 added-error all [] answer d rest h t = subst (λ l. ErrorsBefore l (d ∷ []) rest) (sym h) (t, refl)
 added-error [] (e ∷ ds) answer d rest h t = absurd h
@@ -45,7 +46,8 @@ errors-more all ds d limit text index old rest e t h =
     added-error all ds (error_answer limit text index) d (filter (λ a. not (is_token a)) rest) (rw error-no-token at kept) t
 
 -- the error that is made from an answer is that answer's
-pub lex-error-made : (limit : Bool) (text : List ℕ) (index : ℕ) (d : Diagnostic) → d.subject ≡ lex_subject limit text → d.index ≡ index → IsLexMessage limit text d.message
+pub lex-error-made : (limit : Bool) (text : List ℕ) (index : ℕ) (d : Diagnostic) → d.subject ≡ lex_subject limit text → d.index ≡ index
+    → IsLexMessage limit text d.message
     → IsLexError (error_answer limit text index) d
 lex-error-made true text index d s i m = λ j. record { message = m j; subject = s j; index = i j }
 lex-error-made false text index d s i m = (s, i, m)

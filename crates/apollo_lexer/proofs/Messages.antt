@@ -8,7 +8,8 @@ use Rattle.std.proofs.lemmas.Bool.{ltb-true}
 use Rattle.std.proofs.lemmas.Str.{IsAscii-append, IsAscii-drop}
 use Rattle.lexical_grammar.proofs.Sound.{ascii-run}
 use Rattle.apollo_lexer.specs.declared.faults.LexFault.{LexFault}
-use Rattle.apollo_lexer.specs.declared.faults.LexFault.TheVariants.{UnexpectedCharacter, NumberSuffix, IntegerSuffix, FractionalDigit, FloatSuffix, ExponentDigitOrSign, ExponentDigit}
+use Rattle.apollo_lexer.specs.declared.faults.LexFault.TheVariants.{UnexpectedCharacter, NumberSuffix, IntegerSuffix, FractionalDigit, FloatSuffix}
+use Rattle.apollo_lexer.specs.declared.faults.LexFault.TheVariants.{ExponentDigitOrSign, ExponentDigit}
 use Rattle.lexical_grammar.specs.NumberStates.{live_len}
 use Rattle.lexical_grammar.specs.declared.NumberState.TheVariants.{Begin}
 use Rattle.apollo_lexer.specs.BadText.{bad_text_message, fault_behind}

@@ -1,5 +1,6 @@
 -- A search meets a reading byte after byte: what the search passes over is passed at once.
-use Rattle.std.proofs.Common.{◌≡◌, ℕ, zero, suc, ◌+◌, ◌-◌, ◌<◌, ◌≤◌, Bool, true, false, cond, List, [], ◌∷◌, length, drop, take, Option, Some, None, refl, sym, ap, ◌∙◌, arith, eqb, eqb-true, inl, inr, length-append, length-drop, subst}
+use Rattle.std.proofs.Common.{◌≡◌, ℕ, zero, suc, ◌+◌, ◌-◌, ◌<◌, ◌≤◌, Bool, true, false, cond, List, [], ◌∷◌, length, drop, take, Option, Some, None, refl, sym}
+use Rattle.std.proofs.Common.{ap, ◌∙◌, arith, eqb, eqb-true, inl, inr, length-append, length-drop, subst}
 use Rattle.std.specs.Prelude.{option_map, slice_index}
 use Rattle.std.specs.List.{prefix_len}
 use Rattle.std.proofs.lemmas.Bool.Decides.{nat_tests}
@@ -59,7 +60,8 @@ block-quiet b bs h =
 pub block-piece-none : (text : List ℕ) → Nowhere (Passes (is_byte2 34 92) text) 0 (length text) → block_len 0 text ≡ None
 block-piece-none text none = none-of (block_len 0) (is_byte2 34 92) block-quiet refl text (λ k lt. none k (omega arith) lt)
 
-pub block-piece-run : (text : List ℕ) (i : ℕ) → i ≤ length text → Nowhere (Passes (is_byte2 34 92) text) 0 i → block_len 0 text ≡ longer i (block_len 0 (drop i text))
+pub block-piece-run : (text : List ℕ) (i : ℕ) → i ≤ length text → Nowhere (Passes (is_byte2 34 92) text) 0 i
+    → block_len 0 text ≡ longer i (block_len 0 (drop i text))
 block-piece-run text i le none = run-of (block_len 0) (is_byte2 34 92) block-quiet i text le (λ k lt. none k (omega arith) lt)
 
 -- what is left where the search ended
@@ -81,7 +83,8 @@ map-one (Some m) = ap Some (omega arith)
 at-escaped : (tail : List ℕ) → begins escaped_triple_quote tail ≡ true → block_len 0 tail ≡ longer 4 (block_len 0 (drop 4 tail))
 at-escaped tail h = ap (block_len 0) (begins-is escaped_triple_quote tail h) ∙ map-four (block_len 0 (drop 4 tail))
 
-at-other : (tail : List ℕ) → 0 < length tail → begins triple_quote tail ≡ false → begins escaped_triple_quote tail ≡ false → block_len 0 tail ≡ longer 1 (block_len 0 (drop 1 tail))
+at-other : (tail : List ℕ) → 0 < length tail → begins triple_quote tail ≡ false → begins escaped_triple_quote tail ≡ false
+    → block_len 0 tail ≡ longer 1 (block_len 0 (drop 1 tail))
 at-other [] some h g = absurd (omega arith)
 at-other (b ∷ bs) some h g = rw (h, g) (map-one (block_len 0 bs))
 
@@ -97,7 +100,8 @@ long-as front text i le h =
 of-slice : (front text : List ℕ) (i : ℕ) (b : Bool) → begins front (take (length text - i) (drop i text)) ≡ b → begins front (drop i text) ≡ b
 of-slice front text i b h = ap (begins front) (sym (slice-rest text i)) ∙ h
 
-behind : (read : List ℕ → Option ℕ) (text : List ℕ) (i n : ℕ) → read text ≡ longer i (read (drop i text)) → read (drop i text) ≡ longer n (read (drop n (drop i text)))
+behind : (read : List ℕ → Option ℕ) (text : List ℕ) (i n : ℕ) → read text ≡ longer i (read (drop i text))
+    → read (drop i text) ≡ longer n (read (drop n (drop i text)))
     → read text ≡ longer (i + n) (read (drop (i + n) text))
 behind read text i n e f = e ∙ ap (longer i) f ∙ longer-more i n (i + n) _ refl ∙ ap (λ l. longer (i + n) (read l)) (drop-drop n i text)
 
@@ -151,7 +155,8 @@ taken-along zero bs le = let same : bad_string_len 0 (drop 0 bs) ≡ bad_string_
 taken-along (suc n) [] le = absurd (omega arith)
 taken-along (suc n) (b ∷ bs) le = let more = taken-along n bs (omega arith) in omega (arith, more)
 
-at-slash : (tail : List ℕ) (n : ℕ) → eqb (slice_index tail 0) 92 ≡ true → n ≡ bad_escape_len tail → 0 < n → n ≤ length tail → read_bad tail ≡ longer n (read_bad (drop n tail))
+at-slash : (tail : List ℕ) (n : ℕ) → eqb (slice_index tail 0) 92 ≡ true → n ≡ bad_escape_len tail → 0 < n → n ≤ length tail
+    → read_bad tail ≡ longer n (read_bad (drop n tail))
 at-slash [] n h e some le = absurd (omega arith)
 at-slash (b ∷ bs) zero h e some le = absurd (omega arith)
 at-slash (b ∷ bs) (suc n) h e some le =
@@ -165,7 +170,8 @@ at-slash (b ∷ bs) (suc n) h e some le =
 pub byte-at : (text : List ℕ) (i : ℕ) → slice_index (drop i text) 0 ≡ slice_index text i
 byte-at text i = get_or-drop i text 0 0 ∙ ap (slice_index text) (omega arith)
 
-pub bad-quote : (text : List ℕ) (i : ℕ) → FirstAt (is_byte2 34 92) text i → eqb (slice_index text i) 34 ≡ true → (i + 1 ≤ length text) × (read_bad text ≡ Some (i + 1))
+pub bad-quote : (text : List ℕ) (i : ℕ) → FirstAt (is_byte2 34 92) text i → eqb (slice_index text i) 34 ≡ true
+    → (i + 1 ≤ length text) × (read_bad text ≡ Some (i + 1))
 bad-quote text i f h =
     let le : i < length text = f.0.high in
     (omega arith, bad-run text i f ∙ ap (longer i) (at-quote (drop i text) (omega (arith, length-drop i text)) (ap (λ b. eqb b 34) (byte-at text i) ∙ h)))
@@ -214,7 +220,8 @@ quoted-run (b ∷ bs) = elim (cases_Bool (is_plain_string_character b)) [
 
 pub quoted-open : (text : List ℕ) (i : ℕ) → i ≡ plain text → i ≡ length text → quoted_len 0 text ≡ None
 quoted-open text i is whole =
-    quoted-run text ∙ ap (λ k. longer k (quoted_len 0 (drop k text))) (sym is ∙ whole) ∙ ap (λ l. longer (length text) (quoted_len 0 l)) (drop_all (length text) text (omega arith))
+    quoted-run text ∙ ap (λ k. longer k (quoted_len 0 (drop k text))) (sym is ∙ whole)
+        ∙ ap (λ l. longer (length text) (quoted_len 0 l)) (drop_all (length text) text (omega arith))
 
 -- so far, and what is left
 quoted-to : (text : List ℕ) (i : ℕ) → i ≡ plain text → quoted_len 0 text ≡ longer i (quoted_len 0 (drop i text))
@@ -227,7 +234,8 @@ quote-ends : (tail : List ℕ) → 0 < length tail → eqb (slice_index tail 0) 
 quote-ends [] some h = absurd (omega arith)
 quote-ends (b ∷ bs) some h = rw h refl
 
-pub quoted-last : (text : List ℕ) (i : ℕ) → i ≡ plain text → i < length text → eqb (slice_index text i) 34 ≡ true → (i + 1 ≤ length text) × (quoted_len 0 text ≡ Some (i + 1))
+pub quoted-last : (text : List ℕ) (i : ℕ) → i ≡ plain text → i < length text → eqb (slice_index text i) 34 ≡ true
+    → (i + 1 ≤ length text) × (quoted_len 0 text ≡ Some (i + 1))
 quoted-last text i is lt h =
     (omega arith, quoted-to text i is ∙ ap (longer i) (quote-ends (drop i text) (omega (arith, length-drop i text)) (ap (λ b. eqb b 34) (byte-at text i) ∙ h)))
 
@@ -245,7 +253,8 @@ at-terminator (b ∷ bs) some h = terminator b bs h
 special-is : (b : ℕ) → is_plain_string_character b ≡ false → eqb b 34 ≡ false → eqb b 92 ≡ false → is_byte2 10 13 b ≡ true
 special-is b h quote slash = grind (arith, nat_tests)
 
-pub quoted-broken : (text : List ℕ) (i : ℕ) → i ≡ plain text → i < length text → eqb (slice_index text i) 34 ≡ false → eqb (slice_index text i) 92 ≡ false → quoted_len 0 text ≡ None
+pub quoted-broken : (text : List ℕ) (i : ℕ) → i ≡ plain text → i < length text → eqb (slice_index text i) 34 ≡ false → eqb (slice_index text i) 92 ≡ false
+    → quoted_len 0 text ≡ None
 quoted-broken text i is lt quote slash =
     let end = special-is (slice_index text i) (not-plain text i is lt) quote slash in
     quoted-to text i is ∙ ap (longer i) (at-terminator (drop i text) (omega (arith, length-drop i text)) (ap (is_byte2 10 13) (byte-at text i) ∙ end))
@@ -256,7 +265,8 @@ skip-bytes zero bs le = sym (longer-none (quoted_len 0 bs))
 skip-bytes (suc n) [] le = absurd (omega arith)
 skip-bytes (suc n) (b ∷ bs) le = ap (option_map suc) (skip-bytes n bs (omega arith)) ∙ longer-suc n (quoted_len 0 (drop n bs))
 
-escape-passed : (tail : List ℕ) (n : ℕ) → eqb (slice_index tail 0) 34 ≡ false → n ≡ string_character_len tail → 0 < n → n ≤ length tail → quoted_len 0 tail ≡ longer n (quoted_len 0 (drop n tail))
+escape-passed : (tail : List ℕ) (n : ℕ) → eqb (slice_index tail 0) 34 ≡ false → n ≡ string_character_len tail → 0 < n → n ≤ length tail
+    → quoted_len 0 tail ≡ longer n (quoted_len 0 (drop n tail))
 escape-passed [] n quote e some le = absurd (omega arith)
 escape-passed (b ∷ bs) zero quote e some le = absurd (omega arith)
 escape-passed (b ∷ bs) (suc n) quote e some le =
@@ -270,8 +280,10 @@ escape-none : (tail : List ℕ) → eqb (slice_index tail 0) 34 ≡ false → st
 escape-none [] quote e = refl
 escape-none (b ∷ bs) quote e = rw (e, quote) refl
 
-pub quoted-inner : (text : List ℕ) (i n : ℕ) → i ≡ plain text → i < length text → eqb (slice_index text i) 34 ≡ false → n ≡ string_character_len (take (length text - i) (drop i text)) → 0 < n
-    → n ≤ length (take (length text - i) (drop i text)) → (0 < i + n) × (i + n ≤ length text) × (quoted_len 0 text ≡ longer (i + n) (quoted_len 0 (drop (i + n) text)))
+pub quoted-inner : (text : List ℕ) (i n : ℕ) → i ≡ plain text → i < length text → eqb (slice_index text i) 34 ≡ false
+    → n ≡ string_character_len (take (length text - i) (drop i text)) → 0 < n
+    → n ≤ length (take (length text - i) (drop i text)) → (0 < i + n) × (i + n ≤ length text)
+    × (quoted_len 0 text ≡ longer (i + n) (quoted_len 0 (drop (i + n) text)))
 quoted-inner text i n is lt other e some within =
     let rest = slice-rest text i in
     let fits : n ≤ length (drop i text) = subst (λ (l : List ℕ). n ≤ length l) rest within in (
@@ -281,16 +293,19 @@ quoted-inner text i n is lt other e some within =
           (escape-passed (drop i text) n (ap (λ b. eqb b 34) (byte-at text i) ∙ other) (e ∙ ap string_character_len rest) some fits),
     )
 
-pub quoted-bad : (text : List ℕ) (i n : ℕ) → i ≡ plain text → eqb (slice_index text i) 34 ≡ false → n ≡ string_character_len (take (length text - i) (drop i text)) → n ≡ 0 → quoted_len 0 text ≡ None
+pub quoted-bad : (text : List ℕ) (i n : ℕ) → i ≡ plain text → eqb (slice_index text i) 34 ≡ false
+    → n ≡ string_character_len (take (length text - i) (drop i text)) → n ≡ 0 → quoted_len 0 text ≡ None
 quoted-bad text i n is other e none =
-    quoted-to text i is ∙ ap (longer i) (escape-none (drop i text) (ap (λ b. eqb b 34) (byte-at text i) ∙ other) (ap string_character_len (sym (slice-rest text i)) ∙ sym e ∙ none))
+    quoted-to text i is ∙ ap (longer i) (escape-none (drop i text) (ap (λ b. eqb b 34) (byte-at text i) ∙ other)
+        (ap string_character_len (sym (slice-rest text i)) ∙ sym e ∙ none))
 
 -- a byte of the text, in the rest of the text
 byte-there : (text : List ℕ) (i b : ℕ) → slice_index text i ≡ b → slice_index (take (length text - i) (drop i text)) 0 ≡ b
 byte-there text i b is = ap (λ l. slice_index l 0) (slice-rest text i) ∙ byte-at text i ∙ is
 
 -- the byte where the search ended, if it is no quote, in the rest of the text
-pub backslash-there : (text : List ℕ) (i : ℕ) → FirstAt (is_byte2 34 92) text i → eqb (slice_index text i) 34 ≡ false → slice_index (take (length text - i) (drop i text)) 0 ≡ 92
+pub backslash-there : (text : List ℕ) (i : ℕ) → FirstAt (is_byte2 34 92) text i → eqb (slice_index text i) 34 ≡ false
+    → slice_index (take (length text - i) (drop i text)) 0 ≡ 92
 backslash-there text i f other = byte-there text i 92 (eqb-true _ _ (slash-of text i f other))
 
 -- the end of a comment is the first line terminator, or the end of the text
@@ -303,12 +318,14 @@ comment-whole (b ∷ bs) none =
     comment-quiet b bs (false_from_ne_true _ (none 0 (omega arith) (omega arith)))
     ∙ ap suc (comment-whole bs (λ k low lt. none (suc k) (omega arith) (omega arith))) ∙ omega arith
 
-comment-until : (i : ℕ) (text : List ℕ) → i < length text → ((k : ℕ) → k < i → is_byte2 10 13 (slice_index text k) ≡ true → ⊥) → is_byte2 10 13 (slice_index text i) ≡ true
+comment-until : (i : ℕ) (text : List ℕ) → i < length text → ((k : ℕ) → k < i → is_byte2 10 13 (slice_index text k) ≡ true → ⊥)
+    → is_byte2 10 13 (slice_index text i) ≡ true
     → prefix_len is_comment_character text ≡ i
 comment-until i [] lt none is = absurd (omega arith)
 comment-until zero (b ∷ bs) lt none is = rw is refl
 comment-until (suc i) (b ∷ bs) lt none is =
-    comment-quiet b bs (false_from_ne_true _ (none 0 (omega arith))) ∙ ap suc (comment-until i bs (omega arith) (λ k l. none (suc k) (omega arith)) is) ∙ omega arith
+    comment-quiet b bs (false_from_ne_true _ (none 0 (omega arith))) ∙ ap suc (comment-until i bs (omega arith) (λ k l. none (suc k) (omega arith)) is)
+        ∙ omega arith
 
 pub comment-ends : (text : List ℕ) (i : ℕ) → FirstAt (is_byte2 10 13) text i → prefix_len is_comment_character text ≡ i
 comment-ends text i f = comment-until i text f.0.high (λ k lt. f.0.before k (omega arith) lt) f.1

@@ -10,7 +10,9 @@ use Rattle.lexical_grammar.specs.Strings.{begins}
 use Rattle.lexical_grammar.specs.declared.NumberState.TheVariants.{Begin}
 use Rattle.apollo_lexer.specs.Faults.{fault_message, number_fault}
 use Rattle.apollo_lexer.specs.declared.faults.LexFault.{LexFault}
-use Rattle.apollo_lexer.specs.declared.faults.LexFault.TheVariants.{UnexpectedCharacter, UnterminatedSpread, UnfinishedString, UnterminatedString, LineTerminator, EscapedCharacter, IncompleteEscape, InvalidEscape, UnpairedSurrogate, NoScalarValue}
+use Rattle.apollo_lexer.specs.declared.faults.LexFault.TheVariants.{UnexpectedCharacter, UnterminatedSpread, UnfinishedString, UnterminatedString}
+use Rattle.apollo_lexer.specs.declared.faults.LexFault.TheVariants.{LineTerminator, EscapedCharacter, IncompleteEscape, InvalidEscape, UnpairedSurrogate}
+use Rattle.apollo_lexer.specs.declared.faults.LexFault.TheVariants.{NoScalarValue}
 
 -- ---- escapes
 

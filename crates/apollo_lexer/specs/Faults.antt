@@ -4,7 +4,10 @@ use Rattle.lexical_grammar.specs.Characters.{is_digit}
 use Rattle.lexical_grammar.specs.declared.NumberState.{NumberState}
 use Rattle.lexical_grammar.specs.declared.NumberState.TheVariants.{Minus, Zero, Integer, Point, ExponentIndicator, ExponentSign}
 use Rattle.apollo_lexer.specs.declared.faults.LexFault.{LexFault}
-use Rattle.apollo_lexer.specs.declared.faults.LexFault.TheVariants.{UnexpectedCharacter, LeadingZero, NumberSuffix, IntegerSuffix, FractionalDigit, FloatSuffix, ExponentDigitOrSign, ExponentDigit, UnfinishedFloat, UnterminatedSpread, UnfinishedString, UnterminatedString, LineTerminator, EscapedCharacter, IncompleteEscape, InvalidEscape, UnpairedSurrogate, NoScalarValue}
+use Rattle.apollo_lexer.specs.declared.faults.LexFault.TheVariants.{UnexpectedCharacter, LeadingZero, NumberSuffix, IntegerSuffix, FractionalDigit, FloatSuffix}
+use Rattle.apollo_lexer.specs.declared.faults.LexFault.TheVariants.{ExponentDigitOrSign, ExponentDigit, UnfinishedFloat, UnterminatedSpread, UnfinishedString}
+use Rattle.apollo_lexer.specs.declared.faults.LexFault.TheVariants.{UnterminatedString, LineTerminator, EscapedCharacter, IncompleteEscape, InvalidEscape}
+use Rattle.apollo_lexer.specs.declared.faults.LexFault.TheVariants.{UnpairedSurrogate, NoScalarValue}
 
 -- a number that was read so far, where it ends with the text, or where a byte follows that can't go on with it
 abbrev pub number_fault : NumberState → Option ℕ → LexFault

@@ -2,7 +2,8 @@
 use Rattle.std.specs.Prelude.{ℕ, ◌+◌, List, ◌++◌, length, codes, decimal, Option, Some}
 use Rattle.std.specs.Fmt.{◌++?◌, debug_str}
 use Rattle.lexical_grammar.specs.declared.TokenKind.{TokenKind}
-use Rattle.lexical_grammar.specs.declared.TokenKind.TheVariants.{Whitespace, Comment, Bang, Dollar, Amp, Spread, Comma, Colon, Eq, At, LParen, RParen, LBracket, RBracket, LCurly, RCurly, Pipe, Eof, Name, StringValue, Int, Float}
+use Rattle.lexical_grammar.specs.declared.TokenKind.TheVariants.{Whitespace, Comment, Bang, Dollar, Amp, Spread, Comma, Colon, Eq, At, LParen, RParen, LBracket}
+use Rattle.lexical_grammar.specs.declared.TokenKind.TheVariants.{RBracket, LCurly, RCurly, Pipe, Eof, Name, StringValue, Int, Float}
 use Rattle.apollo_lexer.specs.Diagnostics.{Subject, of_text, of_end, of_limit, Diagnostic, diagnostic_end}
 
 -- as `recursion limit: 500, high: 1`
@@ -49,4 +50,5 @@ subject_shown of_limit = codes ""
 
 -- as `ERROR@5:6 "expected COLON, got )" )`
 abbrev pub error_text : Diagnostic → Option (List ℕ)
-error_text d = Some (place_text (codes "ERROR") d.index (diagnostic_end d)) ++? (Some (codes " ") ++? (debug_str d.message ++? (Some (codes " ") ++? Some (subject_shown d.subject))))
+error_text d = Some (place_text (codes "ERROR") d.index (diagnostic_end d)) ++?
+    (Some (codes " ") ++? (debug_str d.message ++? (Some (codes " ") ++? Some (subject_shown d.subject))))

@@ -106,7 +106,8 @@ pub record PartPromise (sort : Sort) (source : Text) (max_depth max_items : ℕ)
   pub cut : Cut source (items_of source)
   -- without errors, the tree's text is a sentence of the sort, and the tree without its ignored leaves is its derivation; it nests within the
   -- limit, and as deep as was asked for
-  pub sound : t.errors ≡ [] → Sentence (text t.tree) (bare (tree_of t.tree)) sort × (nest (bare (tree_of t.tree)) ≤ max_depth) × (t.recursion_limit.high ≡ nest (bare (tree_of t.tree)))
+  pub sound : t.errors ≡ [] → Sentence (text t.tree) (bare (tree_of t.tree)) sort × (nest (bare (tree_of t.tree)) ≤ max_depth)
+      × (t.recursion_limit.high ≡ nest (bare (tree_of t.tree)))
   -- a sentence within both limits has no errors, and the tree is its derivation, so it holds every significant token
   pub accepts : (u : Tree) → Sentence source u sort → Within source u max_depth max_items → (t.errors ≡ []) × (bare (tree_of t.tree) ≡ u)
   -- ---- the tree, also where there are errors

@@ -21,7 +21,8 @@ use Rattle.apollo_tree.proofs.Spans.{IsStep, step}
 use Rattle.apollo_tree.proofs.Widening.{packed-there}
 
 -- a record passes the test as its element does
-element-test : (takes : Bool → SyntaxKind → Bool) (rs : List Record) (s : List ℕ) → IsTable rs s → (i : ℕ) → i < length rs → takes_place takes (spot (forest s rs) i) ≡ takes_record takes (get_or rs i none_there)
+element-test : (takes : Bool → SyntaxKind → Bool) (rs : List Record) (s : List ℕ) → IsTable rs s → (i : ℕ) → i < length rs
+    → takes_place takes (spot (forest s rs) i) ≡ takes_record takes (get_or rs i none_there)
 element-test takes rs s t i h =
     ap (λ b. takes b (kind_at (spot (forest s rs) i))) (sym (node_is rs s t i h none_there))
     ∙ ap (takes (get_or rs i none_there).is_node) (sym (kind-is rs s t i h none_there))
@@ -38,7 +39,8 @@ pub begins : (takes : Bool → SyntaxKind → Bool) (rs : List Record) (from to 
 begins takes rs from to h = record { span = h; passed = λ s t. refl }
 
 -- one step, over records in some form
-module _ {P : Type 0} (f : P → Record) (ps : List P) (takes : Bool → SyntaxKind → Bool) (from at to : ℕ) (h : IsSearched takes (map f ps) from at to) (lt : at < to) (p : P) (is : p ≡ get_or ps at p) (r : Record) (e : r ≡ f p) where
+module _ {P : Type 0} (f : P → Record) (ps : List P) (takes : Bool → SyntaxKind
+    → Bool) (from at to : ℕ) (h : IsSearched takes (map f ps) from at to) (lt : at < to) (p : P) (is : p ≡ get_or ps at p) (r : Record) (e : r ≡ f p) where
   there : r ≡ get_or (map f ps) at none_there
   there = e ∙ packed-there f (map f ps) ps at refl p is (omega (arith, h.span.inside, length-map ps f))
 
@@ -68,7 +70,8 @@ module _ {P : Type 0} (f : P → Record) (ps : List P) (takes : Bool → SyntaxK
   first e = record { inside = lt; span = h.span; there = there; taken = e; passed = h.passed }
 
 -- and where none was left
-pub no-first : (takes : Bool → SyntaxKind → Bool) (rs : List Record) (from at to : ℕ) → IsSearched takes rs from at to → to ≤ at → PassesOver takes rs from to to
+pub no-first : (takes : Bool → SyntaxKind → Bool) (rs : List Record) (from at to : ℕ) → IsSearched takes rs from at to → to ≤ at
+    → PassesOver takes rs from to to
 no-first takes rs from at to h n = λ s t. h.passed s t ∙ ap (λ i. taken_places takes (forest s rs) rs i to) (omega (arith, h.span.order))
 
 -- ---- a table's trees, after the one that is found
@@ -85,7 +88,8 @@ module _ (takes : Bool → SyntaxKind → Bool) (table : Table) (from to : ℕ) 
   pub found-taken : takes_place takes (table_place table found.index) ≡ true
   found-taken = element-test takes rs table.text.now table.is_table found.index after.here ∙ ap (takes_record takes) (sym h.there) ∙ h.taken
 
-  pub found-first : filter (takes_place takes) (rest_from table from to) ≡ table_place table found.index ∷ filter (takes_place takes) (rest_from table (found.index + found.row.size) to)
+  pub found-first : filter (takes_place takes) (rest_from table from to) ≡ table_place table found.index
+      ∷ filter (takes_place takes) (rest_from table (found.index + found.row.size) to)
   found-first =
       let rest = filter (takes_place takes) (rest_from table (found.index + found.row.size) to) in
       h.passed table.text.now table.is_table

@@ -30,4 +30,5 @@ tiled-records at up (leaf k s rest) = tiled-records (at + length s) (further up 
 tiled-records at up (node k kids rest) =
     let at2 = at + length (text kids) in
     let up2 = further up (suc (count kids)) in
-    ap (λ n. tiled n (records at 1 kids ++ records at2 up2 rest)) (sym (length-records at 1 kids)) ∙ tiled-past (records at 1 kids) _ ∙ tiled-records at2 up2 rest
+    ap (λ n. tiled n (records at 1 kids ++ records at2 up2 rest)) (sym (length-records at 1 kids)) ∙ tiled-past (records at 1 kids) _
+        ∙ tiled-records at2 up2 rest

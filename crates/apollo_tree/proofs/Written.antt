@@ -12,7 +12,8 @@ brackets-join : (f g : Forest) → brackets (join f g) ≡ brackets f ++ bracket
 brackets-join none g = refl
 brackets-join (leaf k s rest) g = ap (λ x. Single k s ∷ x) (brackets-join rest g)
 brackets-join (node k kids rest) g =
-    ap (λ x. Opening k ∷ x) (ap (λ x. brackets kids ++ Closing ∷ x) (brackets-join rest g) ∙ sym (append_assoc (brackets kids) (Closing ∷ brackets rest) (brackets g)))
+    ap (λ x. Opening k ∷ x) (ap (λ x. brackets kids ++ Closing ∷ x) (brackets-join rest g)
+        ∙ sym (append_assoc (brackets kids) (Closing ∷ brackets rest) (brackets g)))
 
 pub written-start : (k : SyntaxKind) (b : Building) → written (start k b) ≡ written b ++ Opening k ∷ []
 written-start k b = append-nil _ ∙ sym (append_assoc (open_brackets b.above) (brackets b.here) (Opening k ∷ []))
@@ -24,14 +25,16 @@ written-joined f b = ap (λ x. open_brackets b.above ++ x) (brackets-join b.here
 pub written-leaf : (k : SyntaxKind) (s : List ℕ) (b : Building) → written (add_leaf k s b) ≡ written b ++ Single k s ∷ []
 written-leaf k s b = written-joined (leaf k s none) b
 
-close-written : (here : Forest) (above : List Open) → FitsInnermost here above → written (close here above) ≡ (open_brackets above ++ brackets here) ++ Closing ∷ []
+close-written : (here : Forest) (above : List Open) → FitsInnermost here above
+    → written (close here above) ≡ (open_brackets above ++ brackets here) ++ Closing ∷ []
 close-written here [] h = absurd h
 close-written here (o ∷ above) h =
     ap (λ x. open_brackets above ++ x) (brackets-join o.before (node o.kind here none))
     ∙ sym (append_assoc (open_brackets above) (brackets o.before) _)
     ∙ rest
   where
-    rest : (open_brackets above ++ brackets o.before) ++ (Opening o.kind ∷ (brackets here ++ Closing ∷ [])) ≡ ((open_brackets above ++ (brackets o.before ++ Opening o.kind ∷ [])) ++ brackets here) ++ Closing ∷ []
+    rest : (open_brackets above ++ brackets o.before) ++ (Opening o.kind ∷ (brackets here ++ Closing ∷ []))
+        ≡ ((open_brackets above ++ (brackets o.before ++ Opening o.kind ∷ [])) ++ brackets here) ++ Closing ∷ []
     rest = simp append_assoc
 
 pub written-finish : (b : Building) → CanFinish b → written (finish b) ≡ written b ++ Closing ∷ []
@@ -53,12 +56,14 @@ elements-append (Closing ∷ xs) ys = elements-append xs ys
 elements-brackets : (f : Forest) → elements (brackets f) ≡ count f
 elements-brackets none = refl
 elements-brackets (leaf k s rest) = ap suc (elements-brackets rest)
-elements-brackets (node k kids rest) = ap suc (elements-append (brackets kids) (Closing ∷ brackets rest) ∙ omega (arith, elements-brackets kids, elements-brackets rest))
+elements-brackets (node k kids rest) = ap suc (elements-append (brackets kids) (Closing ∷ brackets rest)
+    ∙ omega (arith, elements-brackets kids, elements-brackets rest))
 
 elements-open : (above : List Open) → elements (open_brackets above) ≡ open_count above
 elements-open [] = refl
 elements-open (o ∷ above) =
-    elements-append (open_brackets above) _ ∙ omega (arith, elements-append (brackets o.before) (Opening o.kind ∷ []), elements-brackets o.before, elements-open above)
+    elements-append (open_brackets above) _ ∙ omega (arith, elements-append (brackets o.before) (Opening o.kind ∷ []), elements-brackets o.before,
+        elements-open above)
 
 open-past : (n : ℕ) (k : SyntaxKind) (xs ys : List Bracket) → n ≡ elements xs → open_at n k (xs ++ ys) ≡ xs ++ open_at 0 k ys
 open-past n k [] ys e = ap (λ m. open_at m k ys) e
@@ -79,10 +84,13 @@ written-wrap p k b place =
     let f = front n b.here in
     let g = back n b.here in
     let xs = open_brackets b.above ++ brackets f in
-    let whole : written b ≡ xs ++ brackets g = ap (λ x. open_brackets b.above ++ brackets x) (sym (join-front_back n b.here)) ∙ ap (λ x. open_brackets b.above ++ x) (brackets-join f g) ∙ sym (append_assoc (open_brackets b.above) (brackets f) (brackets g)) in
-    let l : p ≡ elements xs = sym (elements-append (open_brackets b.above) (brackets f) ∙ omega (arith, elements-open b.above, elements-brackets f, place.inside, place.seam)) in
+    let whole : written b ≡ xs ++ brackets g = ap (λ x. open_brackets b.above ++ brackets x) (sym (join-front_back n b.here))
+        ∙ ap (λ x. open_brackets b.above ++ x) (brackets-join f g) ∙ sym (append_assoc (open_brackets b.above) (brackets f) (brackets g)) in
+    let l : p ≡ elements xs = sym (elements-append (open_brackets b.above) (brackets f)
+        ∙ omega (arith, elements-open b.above, elements-brackets f, place.inside, place.seam)) in
     sym (ap (open_at p k) whole ∙ open-past p k xs (brackets g) l ∙ ap (λ x. xs ++ x) (open-first k g)
-    ∙ sym (ap (λ x. x ++ brackets g) (sym (append_assoc (open_brackets b.above) (brackets f) (Opening k ∷ []))) ∙ append_assoc xs (Opening k ∷ []) (brackets g)))
+    ∙ sym (ap (λ x. x ++ brackets g) (sym (append_assoc (open_brackets b.above) (brackets f) (Opening k ∷ [])))
+        ∙ append_assoc xs (Opening k ∷ []) (brackets g)))
 
 whole-written : (above : List Open) (here : Forest) → above ≡ [] → brackets here ≡ open_brackets above ++ brackets here
 whole-written above here e = ap (λ x. open_brackets x ++ brackets here) (sym e)

@@ -23,7 +23,8 @@ string_fits STRING_VALUE kids e f = f
 string_fits _ kids e f = absurd cc
 
 -- what is known of the leaf's text holds of the node's
-one_leaf_text : (P : SyntaxKind → List ℕ → Type 0) (Q : List ℕ → Type 0) → ((k : SyntaxKind) (s : List ℕ) → P k s → Q s) → (kids : Forest) → IsOneLeaf P kids → Q (text kids)
+one_leaf_text : (P : SyntaxKind → List ℕ → Type 0) (Q : List ℕ → Type 0) → ((k : SyntaxKind) (s : List ℕ) → P k s → Q s) → (kids : Forest) → IsOneLeaf P kids
+    → Q (text kids)
 one_leaf_text P Q says kids f = subst Q (sym (ap text f.2 ∙ append-nil f.1)) (says f.0 f.1 f.3)
 
 pub IsName-from_sound : (t : Tree) → is_node t ≡ true → is_kind NAME (tree_kind t) ≡ true → IsSoundTree t → IsName (tree_text t)

@@ -38,13 +38,16 @@ pub taken_stopped : (bytes rest : List ℕ) (old now : Account) → IsTaken byte
 taken_stopped bytes rest old now t some = record { written = t.written; rest = rest; joined = t.joined; more = some; ends = inr (ap stopped t.account) }
 
 -- a call of the writer took some of the bytes that are left
-pub taken_call : {E : Type 0} (r : Result ℕ E) (n : ℕ) (bytes rest : List ℕ) (old now new : Account) → IsTaken bytes rest old now → r ≡ Ok n → n ≢ 0 → n ≤ length rest → new ≡ after now r rest
+pub taken_call : {E : Type 0} (r : Result ℕ E) (n : ℕ) (bytes rest : List ℕ) (old now new : Account) → IsTaken bytes rest old now → r ≡ Ok n → n ≢ 0
+    → n ≤ length rest → new ≡ after now r rest
     → IsTaken bytes (take (length rest - n) (drop n rest)) old new
 taken_call r zero bytes rest old now new t e some within a = absurd (some refl)
 taken_call r (suc n) bytes rest old now new t e some within a =
-    rw (a, e) (subst (λ (more : List ℕ). IsTaken bytes more old (moved now (take (suc n) rest))) (sym (take_rest rest (suc n))) (taken-more (suc n) bytes rest old now t))
+    rw (a, e) (subst (λ (more : List ℕ). IsTaken bytes more old (moved now (take (suc n) rest))) (sym (take_rest rest (suc n)))
+        (taken-more (suc n) bytes rest old now t))
 
 -- a call of the reader gave some bytes
-pub gave : {E : Type 0} (r : Result ℕ E) (n : ℕ) (bytes buffer : List ℕ) (old now new : Account) → now ≡ moved old bytes → r ≡ Ok n → n ≢ 0 → new ≡ after now r buffer → new ≡ moved old (bytes ++ take n buffer)
+pub gave : {E : Type 0} (r : Result ℕ E) (n : ℕ) (bytes buffer : List ℕ) (old now new : Account) → now ≡ moved old bytes → r ≡ Ok n → n ≢ 0
+    → new ≡ after now r buffer → new ≡ moved old (bytes ++ take n buffer)
 gave r zero bytes buffer old now new before e some a = absurd (some refl)
 gave r (suc n) bytes buffer old now new before e some a = rw (a, e, before) (moved_moved old bytes (take (suc n) buffer))

@@ -22,16 +22,19 @@ added-then {f = f} {g = g} {b = b} h k = record { above = k.above ∙ h.above; h
 
 pub added-node : {f : Forest} {b t : Building} (k : SyntaxKind) → Added f (start k b) t → Added (node k f none) b (finish t)
 added-node {b = b} {t = t} k h =
-    let e = ap (close t.here) h.above in record { above = ap (λ (z : Building). z.above) e; here = ap (λ (z : Building). z.here) e ∙ ap (λ (x : Forest). join b.here (node k x none)) h.here }
+    let e = ap (close t.here) h.above in record { above = ap (λ (z : Building). z.above) e;
+        here = ap (λ (z : Building). z.here) e ∙ ap (λ (x : Forest). join b.here (node k x none)) h.here }
 
 -- the new node holds what was added since
-pub wrap-added : (k : SyntaxKind) (b t : Building) (f : Forest) → t.above ≡ b.above → t.here ≡ join b.here f → wrap (built_count b) k t ≡ record { here = f; above = record { before = b.here; kind = k } ∷ b.above }
+pub wrap-added : (k : SyntaxKind) (b t : Building) (f : Forest) → t.above ≡ b.above → t.here ≡ join b.here f
+    → wrap (built_count b) k t ≡ record { here = f; above = record { before = b.here; kind = k } ∷ b.above }
 wrap-added k b t f a e =
     let left : (open_count b.above + count b.here) - open_count b.above ≡ count b.here = omega arith in
     ap₂ (λ above here. wrap (built_count b) k (record { here = here; above = above })) a e ∙ rw (left, front-join b.here f, back-join b.here f) refl
 
 pub added-wrap : {f : Forest} {b t : Building} (k : SyntaxKind) → Added f b t → Added f (start k b) (wrap (built_count b) k t)
-added-wrap {f = f} {b = b} {t = t} k h = let e = wrap-added k b t f h.above h.here in record { above = ap (λ (z : Building). z.above) e; here = ap (λ (z : Building). z.here) e }
+added-wrap {f = f} {b = b} {t = t} k h = let e = wrap-added k b t f h.above h.here in
+    record { above = ap (λ (z : Building). z.above) e; here = ap (λ (z : Building). z.here) e }
 
 -- ---- places
 
@@ -49,10 +52,12 @@ seam-join (suc n) (node k kids rest) g h =
 pub place-last : (b : Building) → IsPlace (built_count b) b
 place-last b = record {
   inside = omega arith;
-  seam = let left : built_count b - open_count b.above ≡ count b.here = omega arith in let e = front-join b.here none in rw (left, ap count (rw join-none at e)) refl;
+  seam = let left : built_count b - open_count b.above ≡ count b.here = omega arith in let e = front-join b.here none in
+      rw (left, ap count (rw join-none at e)) refl;
 }
 
 pub place-added : {f : Forest} {b t : Building} (place : ℕ) → Added f b t → IsPlace place b → IsPlace place t
 place-added {f = f} {b = b} {t = t} place h m =
     subst (λ x. IsPlace place (record { here = x; above = t.above })) (sym h.here)
-    (subst (λ above. IsPlace place (record { here = join b.here f; above = above })) (sym h.above) (record { inside = m.inside; seam = seam-join (place - open_count b.above) b.here f m.seam }))
+    (subst (λ above. IsPlace place (record { here = join b.here f; above = above })) (sym h.above)
+        (record { inside = m.inside; seam = seam-join (place - open_count b.above) b.here f m.seam }))

@@ -59,13 +59,16 @@ join-front_back (suc n) (built.node k kids rest) = ap (built.node k kids) (join-
 pub front-join : (f g : built.Forest) → front (built.count f) (built.join f g) ≡ f
 front-join built.none g = refl
 front-join (built.leaf k s rest) g = ap (built.leaf k s) (front-join rest g)
-front-join (built.node k kids rest) g = let e : (built.count kids + built.count rest) - built.count kids ≡ built.count rest = omega arith in rw (e, front-join rest g) refl
+front-join (built.node k kids rest) g = let e : (built.count kids + built.count rest) - built.count kids ≡ built.count rest = omega arith in
+    rw (e, front-join rest g) refl
 
 pub back-join : (f g : built.Forest) → back (built.count f) (built.join f g) ≡ g
 back-join built.none g = refl
 back-join (built.leaf k s rest) g = back-join rest g
-back-join (built.node k kids rest) g = let e : (built.count kids + built.count rest) - built.count kids ≡ built.count rest = omega arith in rw (e, back) (back-join rest g)
+back-join (built.node k kids rest) g = let e : (built.count kids + built.count rest) - built.count kids ≡ built.count rest = omega arith in
+    rw (e, back) (back-join rest g)
 
 -- A node that is closed is an element as it was when it was open.
-pub count-close : (here : built.Forest) (o : Open) (above : List Open) → built_count (close here (o ∷ above)) ≡ built_count (record { here = here; above = o ∷ above })
+pub count-close : (here : built.Forest) (o : Open) (above : List Open)
+    → built_count (close here (o ∷ above)) ≡ built_count (record { here = here; above = o ∷ above })
 count-close here o above = omega (arith, count-join o.before (built.node o.kind here built.none))

@@ -1,5 +1,6 @@
 -- How deep trees nest in a node of a kind: what one tree and one list of trees add, by the kinds alone; and the same of built trees.
-use Rattle.std.proofs.Common.{not, ◌≡◌, ℕ, zero, suc, ◌+◌, ◌<◌, ◌≤◌, max, Bool, true, false, cond, List, refl, sym, ap, ap₂, ◌∙◌, inl, inr, true≢false, ltb-true, arith}
+use Rattle.std.proofs.Common.{not, ◌≡◌, ℕ, zero, suc, ◌+◌, ◌<◌, ◌≤◌, max, Bool, true, false, cond, List, refl, sym, ap, ap₂, ◌∙◌, inl, inr, true≢false}
+use Rattle.std.proofs.Common.{ltb-true, arith}
 use Rattle.document_grammar.specs.declared.kind.SyntaxKind.{SyntaxKind}
 use Rattle.document_grammar.specs.Kinds.{SELECTION_SET, LIST_TYPE, LIST_VALUE, OBJECT_FIELD}
 use Rattle.document_grammar.specs.Choices.{Values, is_ignored}
@@ -123,4 +124,5 @@ pub inner-count : (p : ℕ) (f : built.Forest) → inner p f ≤ built.count f
 unfolding inner weight
 inner-count p built.none = omega arith
 inner-count p (built.leaf k x rest) = let w = weight-le p (number k) in let r = inner-count p rest in omega (arith, w, r)
-inner-count p (built.node k kids rest) = let w = weight-le p (number k) in let b = inner-count (number k) kids in let r = inner-count p rest in omega (arith, w, b, r)
+inner-count p (built.node k kids rest) = let w = weight-le p (number k) in let b = inner-count (number k) kids in let r = inner-count p rest in
+    omega (arith, w, b, r)

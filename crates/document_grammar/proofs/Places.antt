@@ -13,7 +13,8 @@ abbrev name : Forest → Tree
 name f = node FIELD (node NAME (leaf IDENT (codes "a") ▸ f) ▸ none)
 
 abbrev query : Forest → Tree → Tree
-query f t = node DOCUMENT (node OPERATION_DEFINITION (node SELECTION_SET (leaf L_CURLY (codes "{") ▸ (f +++ (t ▸ leaf R_CURLY (codes "}") ▸ none))) ▸ none) ▸ space ▸ none)
+query f t = node DOCUMENT (node OPERATION_DEFINITION (node SELECTION_SET (leaf L_CURLY (codes "{") ▸ (f +++ (t ▸ leaf R_CURLY (codes "}") ▸ none))) ▸ none) ▸
+    space ▸ none)
 
 no : {A : Type 0} → IsTrue false → A
 no h = absurd (true≢false (sym h))

@@ -1,5 +1,6 @@
 -- What the items of a cut show: their significant tokens, and the end; and where each item of a cut is.
-use Rattle.std.proofs.Common.{◌≡◌, ◌≢◌, ℕ, ◌+◌, ◌<◌, List, [], ◌∷◌, ◌++◌, length, take, true, Option, Some, None, refl, sym, ap, ap₂, ◌∙◌, subst, arith, append_assoc, length-append}
+use Rattle.std.proofs.Common.{◌≡◌, ◌≢◌, ℕ, ◌+◌, ◌<◌, List, [], ◌∷◌, ◌++◌, length, take, true, Option, Some, None, refl, sym, ap, ap₂, ◌∙◌, subst, arith}
+use Rattle.std.proofs.Common.{append_assoc, length-append}
 use Rattle.std.specs.Prelude.{map, is_some}
 use Rattle.std.proofs.lemmas.Bool.{and_parts}
 use Rattle.std.proofs.lemmas.List.{map-append, take_at}
@@ -22,7 +23,8 @@ item-then place [] item more first cut = cut
 item-then place (b ∷ before) item more first cut = cut
 
 -- each item is at its place
-pub index-at : (place : ℕ) (before : List Item) (item : Item) (more : List Item) → CutFrom place (before ++ item ∷ more) → item.index ≡ place + length (texts before)
+pub index-at : (place : ℕ) (before : List Item) (item : Item) (more : List Item) → CutFrom place (before ++ item ∷ more)
+    → item.index ≡ place + length (texts before)
 index-at place [] item [] cut = let e = ap (λ (i : Item). i.index) cut in omega (arith, e)
 index-at place [] item (next ∷ more) cut = let e = cut.0 in omega (arith, e)
 index-at place (first ∷ before) item more cut =
@@ -31,7 +33,8 @@ index-at place (first ∷ before) item more cut =
     omega (arith, e, length-append first.text (texts before))
 
 -- the text before an item
-pub text-before : (source : List ℕ) (before : List Item) (item : Item) (more : List Item) → Cut source (before ++ item ∷ more) → take item.index source ≡ texts before
+pub text-before : (source : List ℕ) (before : List Item) (item : Item) (more : List Item) → Cut source (before ++ item ∷ more)
+    → take item.index source ≡ texts before
 text-before source before item more cut =
     let i = index-at 0 before item more cut.each in
     let e : item.index ≡ length (texts before) = omega (arith, i) in
@@ -44,10 +47,12 @@ not-the-end (Some token.Eof) text after i e = absurd i.token
 not-the-end (Some _) text after i e = absurd cc
 
 -- a significant token has some bytes
-pub significant-some : (place : ℕ) (before : List Item) (item : Item) (more : List Item) → CutFrom place (before ++ item ∷ more) → Significant (item ∷ []) ≢ [] → 0 < length item.text
+pub significant-some : (place : ℕ) (before : List Item) (item : Item) (more : List Item) → CutFrom place (before ++ item ∷ more) → Significant (item ∷ []) ≢ []
+    → 0 < length item.text
 significant-some place [] item [] cut h = absurd (h (ap (λ (i : Item). Significant (i ∷ [])) cut))
 significant-some place [] item (next ∷ more) cut h = item-some item.kind item.text (texts (next ∷ more)) cut.1
-significant-some place (first ∷ before) item more cut h = significant-some (place + length first.text) before item more (item-then place before item more first cut).2 h
+significant-some place (first ∷ before) item more cut h = significant-some (place + length first.text) before item more
+    (item-then place before item more first cut).2 h
 
 -- ---- what they show
 
@@ -61,7 +66,8 @@ shown-word token.Comma text h = refl
 shown-word token.Eof text h = absurd (h refl)
 shown-word _ text h = refl
 
-item-shown : (found : Option TokenKind) (text after : List ℕ) → IsItem found text after → shown_item found text ≡ words (map token_of (significant_word found text))
+item-shown : (found : Option TokenKind) (text after : List ℕ) → IsItem found text after
+    → shown_item found text ≡ words (map token_of (significant_word found text))
 item-shown None text after i = refl
 item-shown (Some k) text after i = shown-word k text (λ e. not-the-end (Some k) text after i (ap Some e))
 
@@ -72,7 +78,8 @@ pub tokens-append : (before more : List Item) → tokens_of (before ++ more) ≡
 tokens-append [] more = refl
 tokens-append (item ∷ before) more =
     tokens-cons item (before ++ more) ∙ (ap (λ (w : List Token). map token_of (significant_word item.kind item.text) ++ w) (tokens-append before more)
-    ∙ (sym (append_assoc (map token_of (significant_word item.kind item.text)) (tokens_of before) (tokens_of more)) ∙ ap (λ (w : List Token). w ++ tokens_of more) (sym (tokens-cons item before))))
+    ∙ (sym (append_assoc (map token_of (significant_word item.kind item.text)) (tokens_of before) (tokens_of more))
+        ∙ ap (λ (w : List Token). w ++ tokens_of more) (sym (tokens-cons item before))))
 
 terminals-append : (v w : List Token) → terminals (v ++ w) ≡ words v ++ terminals w
 terminals-append [] w = refl
@@ -83,11 +90,14 @@ pub cut-shown : (place : ℕ) (items : List Item) → CutFrom place items → sh
 cut-shown place [] cut = absurd cut
 cut-shown place (item ∷ []) cut = subst (λ (i : Item). shown (i ∷ []) ≡ terminals (tokens_of (i ∷ []))) (sym cut) refl
 cut-shown place (item ∷ next ∷ items) cut =
-    ap₂ (λ (a b : List Terminal). a ++ b) (item-shown item.kind item.text (texts (next ∷ items)) cut.1) (cut-shown (place + length item.text) (next ∷ items) cut.2)
-    ∙ (sym (terminals-append (map token_of (significant_word item.kind item.text)) (tokens_of (next ∷ items))) ∙ ap terminals (sym (tokens-cons item (next ∷ items))))
+    ap₂ (λ (a b : List Terminal). a ++ b) (item-shown item.kind item.text (texts (next ∷ items)) cut.1)
+        (cut-shown (place + length item.text) (next ∷ items) cut.2)
+    ∙ (sym (terminals-append (map token_of (significant_word item.kind item.text)) (tokens_of (next ∷ items)))
+        ∙ ap terminals (sym (tokens-cons item (next ∷ items))))
 
 -- and before an item its tokens
-pub before-shown : (place : ℕ) (before : List Item) (item : Item) (more : List Item) → CutFrom place (before ++ item ∷ more) → shown before ≡ words (tokens_of before)
+pub before-shown : (place : ℕ) (before : List Item) (item : Item) (more : List Item) → CutFrom place (before ++ item ∷ more)
+    → shown before ≡ words (tokens_of before)
 before-shown place [] item more cut = refl
 before-shown place (first ∷ before) item more cut =
     let rest = item-then place before item more first cut in
@@ -95,10 +105,12 @@ before-shown place (first ∷ before) item more cut =
     ∙ (sym (map-append word (map token_of (significant_word first.kind first.text)) (tokens_of before)) ∙ ap words (sym (tokens-cons first before)))
 
 -- an item and those after it are a cut
-pub cut-from : (place : ℕ) (before : List Item) (item : Item) (more : List Item) → CutFrom place (before ++ item ∷ more) → CutFrom (place + length (texts before)) (item ∷ more)
+pub cut-from : (place : ℕ) (before : List Item) (item : Item) (more : List Item) → CutFrom place (before ++ item ∷ more)
+    → CutFrom (place + length (texts before)) (item ∷ more)
 cut-from place [] item more cut = let e : place + 0 ≡ place = omega arith in rw e cut
 cut-from place (first ∷ before) item more cut =
-    let e : place + length (first.text ++ texts before) ≡ (place + length first.text) + length (texts before) = omega (arith, length-append first.text (texts before)) in
+    let e : place + length (first.text ++ texts before) ≡ (place + length first.text) + length (texts before) = omega (arith,
+        length-append first.text (texts before)) in
     subst (λ (n : ℕ). CutFrom n (item ∷ more)) (sym e) (cut-from (place + length first.text) before item more (item-then place before item more first cut).2)
 
 -- ---- two items of one list
@@ -108,7 +120,8 @@ pub record Between (before : List Item) (x : Item) (before' : List Item) : Type 
   pub split : before' ≡ before ++ x ∷ mid
 
 -- one that begins before another is before it
-pub earlier : (before : List Item) (x : Item) (more before' : List Item) (y : Item) (more' : List Item) → before ++ x ∷ more ≡ before' ++ y ∷ more' → length (texts before) < length (texts before') → Between before x before'
+pub earlier : (before : List Item) (x : Item) (more before' : List Item) (y : Item) (more' : List Item) → before ++ x ∷ more ≡ before' ++ y ∷ more'
+    → length (texts before) < length (texts before') → Between before x before'
 earlier before x more [] y more' e h = absurd (omega (arith, h))
 earlier [] x more (b ∷ before') y more' e h = record { mid = before'; split = ap (λ (i : Item). i ∷ before') (cc) }
 earlier (c ∷ before) x more (b ∷ before') y more' e h =

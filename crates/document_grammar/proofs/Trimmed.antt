@@ -94,10 +94,13 @@ mutual
 ends-spell : (f : built.Forest) → ends_with false f ≡ true → AllFit (bares (numbered f)) → Yields (numbered f) ≢ []
 ends-spell built.none h a = absurd (true≢false (sym h))
 ends-spell (built.leaf k x rest) h a = elim (either (is_ignored k)) [
-  | inl p ↦ λ z. ends-spell rest (rw p at h) (fits-tail (leaf (number k) x) (numbered rest) a) (nil-parts (Yield (leaf (number k) x)) (Yields (numbered rest)) z).1
-  | inr p ↦ λ z. (let g : AllFit (leaf (number k) x ▸ bares (numbered rest)) = rw p at a in spells-tree (leaf (number k) x) p g.0 (nil-parts (Yield (leaf (number k) x)) (Yields (numbered rest)) z).0)
+  | inl p ↦ λ z. ends-spell rest (rw p at h) (fits-tail (leaf (number k) x) (numbered rest) a)
+      (nil-parts (Yield (leaf (number k) x)) (Yields (numbered rest)) z).1
+  | inr p ↦ λ z. (let g : AllFit (leaf (number k) x ▸ bares (numbered rest)) = rw p at a in
+      spells-tree (leaf (number k) x) p g.0 (nil-parts (Yield (leaf (number k) x)) (Yields (numbered rest)) z).0)
 ]
-ends-spell (built.node k kids rest) h a = λ z. spells-tree (node (number k) (numbered kids)) refl a.0 (nil-parts (Yields (numbered kids)) (Yields (numbered rest)) z).0
+ends-spell (built.node k kids rest) h a = λ z. spells-tree (node (number k) (numbered kids)) refl a.0
+    (nil-parts (Yields (numbered kids)) (Yields (numbered rest)) z).0
 
 between : (c : Bool) (b : List Token) (f : built.Forest) → b ≢ [] → ends_with c f ≡ true → AllFit (bares (numbered f)) → Between b (numbered f)
 between c b built.none n e a = tt
@@ -124,7 +127,9 @@ trims (built.node k kids rest) h a =
     let e = and-r _ _ g in
     ((from-start kids (and-l _ _ g) (and-l _ _ e) a.0.4, trims kids (and-r _ _ e) a.0.4), trims rest (and-r _ _ h) a.1)
 
-pub root-placed : (b : Building) (o : Open) → o.before ≡ built.none → b.above ≡ o ∷ [] → trim b.here ≡ true → Fits (bare (tree_of (finish b).here)) → Placed (tree_of (finish b).here)
+pub root-placed : (b : Building) (o : Open) → o.before ≡ built.none → b.above ≡ o ∷ [] → trim b.here ≡ true → Fits (bare (tree_of (finish b).here))
+    → Placed (tree_of (finish b).here)
 root-placed b o n a h =
-    let e : (finish b).here ≡ built.node o.kind b.here built.none = ap (λ (above : List Open). (close b.here above).here) a ∙ ap (λ (f : built.Forest). built.join f (built.node o.kind b.here built.none)) n in
+    let e : (finish b).here ≡ built.node o.kind b.here built.none = ap (λ (above : List Open). (close b.here above).here) a
+        ∙ ap (λ (f : built.Forest). built.join f (built.node o.kind b.here built.none)) n in
     rw e (λ g. trims b.here h g.4)

@@ -74,7 +74,8 @@ count_left_over items place (node k g ▸ f) = count_left_over items (place + le
 -- None of them is `]`.
 abbrev pub NoBracket : List Item → ℕ → Forest → Type 0
 NoBracket items place none = Unit {0}
-NoBracket items place (leaf k x ▸ f) = (IsTrue (left_over items place k) → IsFalse (token_at is_right_bracket items place)) × NoBracket items (place + length x) f
+NoBracket items place (leaf k x ▸ f) = (IsTrue (left_over items place k) → IsFalse (token_at is_right_bracket items place))
+    × NoBracket items (place + length x) f
 NoBracket items place (node k g ▸ f) = NoBracket items (place + length (texts g)) f
 
 -- The children of a node but the root: in a LIST_VALUE all but `]` may be left over, in another node one.

@@ -5,7 +5,8 @@ use Rattle.std.specs.Str.{IsUtf8}
 use Rattle.lexical_grammar.specs.declared.TokenKind.{TokenKind}
 use Rattle.lexical_grammar.specs.declared.TokenKind.TheVariants as token
 use Rattle.lexical_grammar.specs.Cut.{Item, Word, Cut, Significant, are_tokens}
-use Rattle.document_grammar.specs.Kinds.{WHITESPACE, COMMENT, COMMA, ERROR, BANG, DOLLAR, AMP, SPREAD, COLON, EQ, AT, L_PAREN, R_PAREN, L_BRACK, R_BRACK, L_CURLY, R_CURLY, PIPE, IDENT, INT, FLOAT, STRING}
+use Rattle.document_grammar.specs.Kinds.{WHITESPACE, COMMENT, COMMA, ERROR, BANG, DOLLAR, AMP, SPREAD, COLON, EQ, AT, L_PAREN, R_PAREN, L_BRACK, R_BRACK}
+use Rattle.document_grammar.specs.Kinds.{L_CURLY, R_CURLY, PIPE, IDENT, INT, FLOAT, STRING}
 use Rattle.document_grammar.specs.Tree.{Token, Tree}
 use Rattle.document_grammar.specs.Pattern.{Pattern}
 use Rattle.document_grammar.specs.Rows.{Row, FirstRow}

@@ -17,13 +17,16 @@ use Rattle.editor_text.specs.Client.{AreOffsets, replaced}
 split : (e : PositionEncoding) (text : List ℕ) (k : ℕ) → IsUtf8 text → IsCharBoundary text k → units e text ≡ units e (take k text) ++ units e (drop k text)
 split e text k u b = ap (units e) (sym (take-append-drop k text)) ∙ units-append e (take k text) (drop k text) (IsUtf8-take text k u b) (IsUtf8-drop text k u b)
 
-front : (e : PositionEncoding) (text : List ℕ) (k i : ℕ) → IsUtf8 text → IsCharBoundary text k → length (units e (take k text)) ≡ i → take i (units e text) ≡ units e (take k text)
+front : (e : PositionEncoding) (text : List ℕ) (k i : ℕ) → IsUtf8 text → IsCharBoundary text k → length (units e (take k text)) ≡ i
+    → take i (units e text) ≡ units e (take k text)
 front e text k i u b len = ap (λ (v : List ℕ). take i v) (split e text k u b) ∙ take_at (units e (take k text)) (units e (drop k text)) i len
 
-back : (e : PositionEncoding) (text : List ℕ) (k i : ℕ) → IsUtf8 text → IsCharBoundary text k → length (units e (take k text)) ≡ i → drop i (units e text) ≡ units e (drop k text)
+back : (e : PositionEncoding) (text : List ℕ) (k i : ℕ) → IsUtf8 text → IsCharBoundary text k → length (units e (take k text)) ≡ i
+    → drop i (units e text) ≡ units e (drop k text)
 back e text k i u b len = ap (λ (v : List ℕ). drop i v) (split e text k u b) ∙ drop_at (units e (take k text)) (units e (drop k text)) i len
 
-pub replaced-units : (e : PositionEncoding) (text new : List ℕ) (range : PositionRange) (start end : ℕ) → IsUtf8 text → IsUtf8 new → AreOffsets e text range start end
+pub replaced-units : (e : PositionEncoding) (text new : List ℕ) (range : PositionRange) (start end : ℕ) → IsUtf8 text → IsUtf8 new
+    → AreOffsets e text range start end
     → units e (replace_range text start end new) ≡ replaced e (units e text) (Some range) (units e new)
 replaced-units e text new range start end u v h =
     let left : IsUtf8 (take start text) = IsUtf8-take text start u h.starts in
@@ -36,15 +39,18 @@ replaced-units e text new range start end u v h =
     ∙ ap (λ (w : List ℕ). (take i (units e text) ++ units e new) ++ w) (sym (back e text end j u h.ends h.end_place))
 
 -- a later place has no fewer units before it
-mono : (e : PositionEncoding) (text : List ℕ) (a b : ℕ) → IsUtf8 text → a ≤ b → IsCharBoundary text a → IsCharBoundary text b → length (units e (take a text)) ≤ length (units e (take b text))
+mono : (e : PositionEncoding) (text : List ℕ) (a b : ℕ) → IsUtf8 text → a ≤ b → IsCharBoundary text a → IsCharBoundary text b
+    → length (units e (take a text)) ≤ length (units e (take b text))
 mono e text a b u le x y =
     let to : a + (b - a) ≡ b = omega arith in
     let parts : take b text ≡ take a text ++ take (b - a) (drop a text) = ap (λ (n : ℕ). take n text) (sym to) ∙ take-add a (b - a) text in
     let both = ap (units e) parts ∙ units-append e (take a text) (take (b - a) (drop a text)) (IsUtf8-take text a u x) (IsUtf8-between text a b u le x y) in
     omega (arith, ap length both, length-append (units e (take a text)) (units e (take (b - a) (drop a text))))
 
-pub are-offsets : (e : PositionEncoding) (text : List ℕ) (range : PositionRange) (start end later : ℕ) → IsUtf8 text → IsCharBoundary text start → IsCharBoundary text end
-    → length (units e (take start text)) ≡ place_of e (units e text) range.start → length (units e (take end text)) ≡ place_of e (units e text) range.end → later ≡ max end start
+pub are-offsets : (e : PositionEncoding) (text : List ℕ) (range : PositionRange) (start end later : ℕ) → IsUtf8 text → IsCharBoundary text start
+    → IsCharBoundary text end
+    → length (units e (take start text)) ≡ place_of e (units e text) range.start → length (units e (take end text)) ≡ place_of e (units e text) range.end
+    → later ≡ max end start
     → AreOffsets e text range start later
 are-offsets e text range start end later u x y at to is =
     elim (cases_lt end start) [
@@ -56,7 +62,9 @@ are-offsets e text range start end later u x y at to is =
             starts = x;
             ends = subst (IsCharBoundary text) same x;
             start_place = at;
-            end_place = ap (λ (n : ℕ). length (units e (take n text))) (sym same) ∙ (let m : length (units e (take start text)) ≡ max (place_of e (units e text) range.start) (place_of e (units e text) range.end) = omega (arith, at, to, less) in m);
+            end_place = ap (λ (n : ℕ). length (units e (take n text))) (sym same) ∙
+                (let m : length (units e (take start text)) ≡ max (place_of e (units e text) range.start) (place_of e (units e text) range.end) = omega (arith,
+                at, to, less) in m);
           }
       | inr ge ↦
           let same : end ≡ later = omega arith in
@@ -66,6 +74,8 @@ are-offsets e text range start end later u x y at to is =
             starts = x;
             ends = subst (IsCharBoundary text) same y;
             start_place = at;
-            end_place = ap (λ (n : ℕ). length (units e (take n text))) (sym same) ∙ (let m : length (units e (take end text)) ≡ max (place_of e (units e text) range.start) (place_of e (units e text) range.end) = omega (arith, at, to, less) in m);
+            end_place = ap (λ (n : ℕ). length (units e (take n text))) (sym same) ∙
+                (let m : length (units e (take end text)) ≡ max (place_of e (units e text) range.start) (place_of e (units e text) range.end) = omega (arith,
+                at, to, less) in m);
           }
     ]

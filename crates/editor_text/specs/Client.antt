@@ -36,4 +36,5 @@ pub record AreOffsets (encoding : PositionEncoding) (text : List ℕ) (range : P
   pub starts : IsCharBoundary text start
   pub ends : IsCharBoundary text end
   pub start_place : length (units encoding (take start text)) ≡ place_of encoding (units encoding text) range.start
-  pub end_place : length (units encoding (take end text)) ≡ max (place_of encoding (units encoding text) range.start) (place_of encoding (units encoding text) range.end)
+  pub end_place : length (units encoding (take end text)) ≡ max (place_of encoding (units encoding text) range.start)
+      (place_of encoding (units encoding text) range.end)

@@ -31,5 +31,6 @@ block-value : (text value : List ℕ) → begins triple_quote text ≡ true → 
 block-value text value h s = ∥∥₁_elim s (hlevel props) (λ q. elim q [ inl a ↦ absurd (not-quoted text value h a) | inr b ↦ ∣ b ∣₁ ])
 
 -- two of them with one value
-pub same-block : (text other value : List ℕ) → begins triple_quote text ≡ true → begins triple_quote other ≡ true → IsStringValue text value → IsStringValue other value → SameBlock text other
+pub same-block : (text other value : List ℕ) → begins triple_quote text ≡ true → begins triple_quote other ≡ true → IsStringValue text value
+    → IsStringValue other value → SameBlock text other
 same-block text other value h g a b = record { value = value; first = block-value text value h a; second = block-value other value g b }

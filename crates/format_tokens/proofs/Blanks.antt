@@ -1,5 +1,6 @@
 -- Line feeds and spaces at the end of the output: a token of their own, or more of the white space there.
-use Rattle.std.proofs.Common.{inl, inr, ◌≡◌, ℕ, ◌<◌, true, List, [], ◌∷◌, ◌++◌, length, get_or, take, zero, suc, refl, sym, ap, ◌∙◌, subst, arith, append_assoc, append-nil, length-append}
+use Rattle.std.proofs.Common.{inl, inr, ◌≡◌, ℕ, ◌<◌, true, List, [], ◌∷◌, ◌++◌, length, get_or, take, zero, suc, refl, sym, ap, ◌∙◌, subst, arith, append_assoc}
+use Rattle.std.proofs.Common.{append-nil, length-append}
 use Rattle.std.specs.Prelude.{◌-◌, bytes_eq, encode_utf8_all, slice_index, slice_range}
 use Rattle.std.specs.List.{list_all}
 use Rattle.std.specs.Str.{IsAscii}
@@ -66,7 +67,8 @@ extended (word ∷ next ∷ words) run = word ∷ extended (next ∷ words) run
 extended-text : (words : List Word) (run : List ℕ) → last_edge words ≡ ends.Whitespace → joined (extended words run) ≡ joined words ++ run
 extended-text [] run e = absurd (cc)
 extended-text (word ∷ []) run e = append-nil _ ∙ ap (λ l. l ++ run) (sym (append-nil word.text))
-extended-text (word ∷ next ∷ words) run e = ap (λ l. word.text ++ l) (extended-text (next ∷ words) run e) ∙ sym (append_assoc word.text (joined (next ∷ words)) run)
+extended-text (word ∷ next ∷ words) run e = ap (λ l. word.text ++ l) (extended-text (next ∷ words) run e)
+    ∙ sym (append_assoc word.text (joined (next ∷ words)) run)
 
 extended-tokens : (words : List Word) (run : List ℕ) → IsBlanks run → last_edge words ≡ ends.Whitespace → AreTokens words → AreTokens (extended words run)
 extended-tokens [] run b e ts = tt
@@ -112,12 +114,14 @@ goes-on text run words b l = record {
 }
 
 -- white space as a token of its own
-begins : (text run : List ℕ) (edge : Edge) (words : List Word) → IsBlanks run → may_touch edge Whitespace (slice_index run 0) ≡ true → Laid text edge words → Laid (text ++ run) ends.Whitespace words
+begins : (text run : List ℕ) (edge : Edge) (words : List Word) → IsBlanks run → may_touch edge Whitespace (slice_index run 0) ≡ true → Laid text edge words
+    → Laid (text ++ run) ends.Whitespace words
 begins text run edge words b h l =
     subst (λ k. Laid (text ++ run) ends.Whitespace k) (append-nil words) (one-more text edge words (record { kind = Whitespace; text = run }) l b h)
 
 -- line feeds and spaces where the first of them may follow
-blanks-keep : (text run : List ℕ) (edge : Edge) → 0 < length run → list_all is_gap_byte run ≡ true → takes_blank edge (slice_index run 0) ≡ true → Keeps text edge (text ++ run) ends.Whitespace
+blanks-keep : (text run : List ℕ) (edge : Edge) → 0 < length run → list_all is_gap_byte run ≡ true → takes_blank edge (slice_index run 0) ≡ true
+    → Keeps text edge (text ++ run) ends.Whitespace
 blanks-keep text run ends.Whitespace some g h words l = goes-on text run words (blanks run some g) l
 blanks-keep text run ends.Free some g h words l = begins text run ends.Free words (blanks run some g) h l
 blanks-keep text run ends.Comment some g h words l = begins text run ends.Comment words (blanks run some g) h l
@@ -125,7 +129,8 @@ blanks-keep text run ends.Name some g h words l = begins text run ends.Name word
 blanks-keep text run ends.Number some g h words l = begins text run ends.Number words (blanks run some g) h l
 blanks-keep text run ends.EmptyString some g h words l = begins text run ends.EmptyString words (blanks run some g) h l
 
-pub blanks-pushed : (text more run : List ℕ) (edge : Edge) → more ≡ text ++ run → 0 < length run → list_all is_gap_byte run ≡ true → takes_blank edge (slice_index run 0) ≡ true → Keeps text edge more ends.Whitespace
+pub blanks-pushed : (text more run : List ℕ) (edge : Edge) → more ≡ text ++ run → 0 < length run → list_all is_gap_byte run ≡ true
+    → takes_blank edge (slice_index run 0) ≡ true → Keeps text edge more ends.Whitespace
 blanks-pushed text more run edge m some g h words l = subst (λ t. Laid t ends.Whitespace words) (sym m) (blanks-keep text run edge some g h words l)
 
 -- the front of spaces is spaces

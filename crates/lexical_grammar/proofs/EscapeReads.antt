@@ -1,5 +1,6 @@
 -- An escape at the front of a text, form by form: how long it is, and which character it represents.
-use Rattle.std.proofs.Common.{◌≡◌, ℕ, ◌+◌, ◌-◌, ◌<◌, ◌≤◌, Bool, true, false, cond, List, [], ◌∷◌, length, take, drop, min, nat_lt, Some, None, refl, sym, ap, ◌∙◌, subst, inl, inr, arith, length-append}
+use Rattle.std.proofs.Common.{◌≡◌, ℕ, ◌+◌, ◌-◌, ◌<◌, ◌≤◌, Bool, true, false, cond, List, [], ◌∷◌, length, take, drop, min, nat_lt, Some, None, refl, sym, ap}
+use Rattle.std.proofs.Common.{◌∙◌, subst, inl, inr, arith, length-append}
 use Rattle.std.specs.Prelude.{slice_index, is_some, ◌&&◌, encode_utf8}
 use Rattle.std.specs.Char.{IsScalar}
 use Rattle.std.specs.Char.Utf16.{is_high_surrogate, is_low_surrogate, surrogate_pair_char}
@@ -131,7 +132,8 @@ pub record IsBraced (text : List ℕ) (n v : ℕ) : Type 0 where
 scalar-small : (v : ℕ) → scalar v ≡ true → v < 1114112
 scalar-small v h = grind (arith, nat_tests)
 
-pub braced-by : (text : List ℕ) (n v : ℕ) → begins (92 ∷ 117 ∷ 123 ∷ []) text ≡ true → n ≡ prefix_len is_hex_digit (take (length text - 3) (drop 3 text)) → 0 < n
+pub braced-by : (text : List ℕ) (n v : ℕ) → begins (92 ∷ 117 ∷ 123 ∷ []) text ≡ true → n ≡ prefix_len is_hex_digit (take (length text - 3) (drop 3 text))
+    → 0 < n
     → begins (125 ∷ []) (take (length text - (3 + n)) (drop (3 + n) text)) ≡ true
     → (list_all is_hex_digit (take (3 + n - 3) (drop 3 text)) ≡ true → v ≡ min (hex_value (take (3 + n - 3) (drop 3 text))) 1114112) → IsBraced text n v
 braced-by text n v front e some close value =
@@ -142,7 +144,8 @@ braced-by text n v front e some close value =
     let closes : begins (125 ∷ []) (drop (3 + braced_digits_len text) text) ≡ true =
     ap (λ m. begins (125 ∷ []) (drop (3 + m) text)) (sym same) ∙ ap (begins (125 ∷ [])) (sym (take_rest text (3 + n))) ∙ close in
     let is : v ≡ min (hex_value (take (braced_digits_len text) (drop 3 text))) 1114112 = value all ∙ ap (λ l. min (hex_value l) 1114112) ds in
-    let names : scalar (hex_value (take (braced_digits_len text) (drop 3 text))) ≡ scalar v = sym (scalar-least (hex_value (take (braced_digits_len text) (drop 3 text)))) ∙ ap scalar (sym is) in
+    let names : scalar (hex_value (take (braced_digits_len text) (drop 3 text)))
+        ≡ scalar v = sym (scalar-least (hex_value (take (braced_digits_len text) (drop 3 text)))) ∙ ap scalar (sym is) in
     let digits : nat_lt 0 (braced_digits_len text) ≡ true = ap (nat_lt 0) (sym same) ∙ lt-ltb 0 n some in
     record { len = same; names = rw (front, digits, closes) names; value = λ s. omega (arith, is, scalar-small v s) }
 
@@ -150,7 +153,8 @@ braced-at : (bs : List ℕ) → begins_fixed_escape (92 ∷ bs) ≡ false → be
     → IsRead (92 ∷ bs) (4 + braced_digits_len (92 ∷ bs)) (encode_utf8 (hex_value (take (braced_digits_len (92 ∷ bs)) (drop 3 (92 ∷ bs)))))
 braced-at bs h b = record { len = rw (h, b) refl; value = rw (h, b) refl }
 
-pub braced-escape : (text : List ℕ) (n v c : ℕ) → slice_index text 0 ≡ 92 → begins_fixed_escape text ≡ false → IsBraced text n v → scalar v ≡ true → c ≡ v → IsEscape text c (4 + n)
+pub braced-escape : (text : List ℕ) (n v c : ℕ) → slice_index text 0 ≡ 92 → begins_fixed_escape text ≡ false → IsBraced text n v → scalar v ≡ true → c ≡ v
+    → IsEscape text c (4 + n)
 braced-escape text n v c e h b s is =
     slashed (λ t. begins_fixed_escape t ≡ false → IsBraced t n v → IsEscape t c (4 + n)) text e
     (λ bs h b. subst (λ (m : ℕ). IsEscape (92 ∷ bs) c (4 + m)) (sym b.len)
@@ -160,10 +164,12 @@ unbraced-at : (bs : List ℕ) → begins (92 ∷ 117 ∷ []) (92 ∷ bs) ≡ tru
     → string_character_len (92 ∷ bs) ≡ 0
 unbraced-at bs front h b = rw (h, b, no-other bs front) refl
 
-pub no-braced-escape : (text : List ℕ) → slice_index text 0 ≡ 92 → begins (92 ∷ 117 ∷ []) text ≡ true → begins_fixed_escape text ≡ false → begins_braced_escape text ≡ false
+pub no-braced-escape : (text : List ℕ) → slice_index text 0 ≡ 92 → begins (92 ∷ 117 ∷ []) text ≡ true → begins_fixed_escape text ≡ false
+    → begins_braced_escape text ≡ false
     → string_character_len text ≡ 0
 no-braced-escape text e front h b =
-    slashed (λ t. begins (92 ∷ 117 ∷ []) t ≡ true → begins_fixed_escape t ≡ false → begins_braced_escape t ≡ false → string_character_len t ≡ 0) text e unbraced-at front h b
+    slashed (λ t. begins (92 ∷ 117 ∷ []) t ≡ true → begins_fixed_escape t ≡ false → begins_braced_escape t ≡ false
+        → string_character_len t ≡ 0) text e unbraced-at front h b
 
 pub no-number : (text : List ℕ) (n v : ℕ) → IsBraced text n v → (IsScalar v → ⊥) → begins_braced_escape text ≡ false
 no-number text n v b none = b.names ∙ false_from_ne_true _ none

@@ -18,7 +18,8 @@ use Rattle.lexical_grammar.specs.Edges.{edge_of, may_touch, touches, AreTokens, 
 use Rattle.lexical_grammar.specs.Kept.{kept_word, kept, Kept, Holds}
 
 -- what follows the token is allowed
-follows-byte : (kind next : TokenKind) (text : List ℕ) (b : ℕ) (after : List ℕ) → may_touch (edge_of kind text) next b ≡ true → may_follow kind text (b ∷ after) ≡ true
+follows-byte : (kind next : TokenKind) (text : List ℕ) (b : ℕ) (after : List ℕ) → may_touch (edge_of kind text) next b ≡ true
+    → may_follow kind text (b ∷ after) ≡ true
 follows-byte Int next text b after h = h
 follows-byte Float next text b after h = h
 follows-byte StringValue next text b after h = elim (cases_Bool (bytes_eq text (34 ∷ 34 ∷ []))) [
@@ -39,11 +40,13 @@ stops-byte Comment next text b after h blank = rw h refl
 stops-byte Name next text b after h blank = let e : is_name_continue b ≡ false = grind (arith, nat_tests) in rw e refl
 stops-byte _ next text b after h blank = refl
 
-by-front : (word : Word) (kind : TokenKind) (text rest : List ℕ) → Tok word.kind word.text → Stands kind text rest → may_touch (edge_of word.kind word.text) kind (get_or text 0 0) ≡ true
+by-front : (word : Word) (kind : TokenKind) (text rest : List ℕ) → Tok word.kind word.text → Stands kind text rest
+    → may_touch (edge_of word.kind word.text) kind (get_or text 0 0) ≡ true
     → Stands word.kind word.text (text ++ rest)
 by-front word kind [] rest tok s h = absurd (omega (arith, tok-some kind [] s.token))
 by-front word kind (b ∷ text) rest tok s h = stands word.kind word.text ((b ∷ text) ++ rest) tok (follows-byte word.kind kind word.text b (text ++ rest) h)
-    (stops-byte word.kind kind word.text b (text ++ rest) h (λ other. not-blank kind (length (b ∷ text)) ((b ∷ text) ++ rest) (read kind (b ∷ text) rest s) other))
+    (stops-byte word.kind kind word.text b (text ++ rest) h (λ other. not-blank kind (length (b ∷ text)) ((b ∷ text) ++ rest)
+        (read kind (b ∷ text) rest s) other))
 
 -- a token before another one that may follow it directly
 before-token : (word next : Word) (rest : List ℕ) → Tok word.kind word.text → touches (edge_of word.kind word.text) next ≡ true

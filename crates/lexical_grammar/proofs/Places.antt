@@ -1,5 +1,6 @@
 -- Tokens at the places of a text, and the items of a cut at theirs.
-use Rattle.std.proofs.Common.{◌≡◌, ℕ, ◌+◌, ◌<◌, List, [], ◌∷◌, ◌++◌, length, take, drop, Option, Some, None, refl, sym, ap, ◌∙◌, subst, arith, length-append, length-drop, length-take-le}
+use Rattle.std.proofs.Common.{◌≡◌, ℕ, ◌+◌, ◌<◌, List, [], ◌∷◌, ◌++◌, length, take, drop, Option, Some, None, refl, sym, ap, ◌∙◌, subst, arith, length-append}
+use Rattle.std.proofs.Common.{length-drop, length-take-le}
 use Rattle.std.proofs.lemmas.List.{take-append-drop, take_at, drop_at, drop-drop}
 use Rattle.lexical_grammar.specs.declared.TokenKind.{TokenKind}
 use Rattle.lexical_grammar.specs.Cut.{Stands, Item, IsItem, CutFrom, Cut, texts}
@@ -12,7 +13,8 @@ use Rattle.lexical_grammar.proofs.Agree.{bad-some}
 parts : (source : List ℕ) (place n : ℕ) → take n (drop place source) ++ drop (place + n) source ≡ drop place source
 parts source place n = ap (λ l. take n (drop place source) ++ l) (sym (drop-drop n place source)) ∙ take-append-drop n (drop place source)
 
-pub one-place : (source : List ℕ) (place m n : ℕ) (kind other : TokenKind) → TokenAt source place kind m → TokenAt source place other n → (kind ≡ other) × (m ≡ n)
+pub one-place : (source : List ℕ) (place m n : ℕ) (kind other : TokenKind) → TokenAt source place kind m → TokenAt source place other n
+    → (kind ≡ other) × (m ≡ n)
 one-place source place m n kind other a b =
     let same = one_token kind other _ _ _ _ a.stands b.stands (parts source place m ∙ sym (parts source place n)) in
     let left = length-take-le m (drop place source) (omega (arith, a.within, length-drop place source)) in

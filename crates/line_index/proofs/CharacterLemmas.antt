@@ -1,5 +1,6 @@
 -- Characters and their units, in an encoding.
-use Rattle.std.proofs.Common.{◌⊎◌, ◌≡◌, ℕ, ◌+◌, ◌-◌, ◌/◌, ◌%◌, ◌<◌, ◌≤◌, true, false, List, [], ◌∷◌, ◌++◌, length, refl, sym, ap, ◌∙◌, subst, inl, inr, arith, eqb, ltb, length-append}
+use Rattle.std.proofs.Common.{◌⊎◌, ◌≡◌, ℕ, ◌+◌, ◌-◌, ◌/◌, ◌%◌, ◌<◌, ◌≤◌, true, false, List, [], ◌∷◌, ◌++◌, length, refl, sym, ap, ◌∙◌, subst, inl, inr, arith}
+use Rattle.std.proofs.Common.{eqb, ltb, length-append}
 use Rattle.std.specs.Prelude.{slice_index}
 use Rattle.std.specs.List.{flat_map}
 use lib.Utf8.{encode, encodes, scalar, scalars, scalar_cases}
@@ -27,7 +28,8 @@ quiet-utf8 c h = elim (cases_Bool (ltb c 128)) [
     | inl b ↦ rw (a, b) (high (192 + c / 64) (omega arith), (high (128 + c % 64) (omega arith), tt))
     | inr b ↦ elim (cases_Bool (ltb c 65536)) [
       | inl d ↦ rw (a, b, d) (high (224 + c / 4096) (omega arith), (high (128 + (c / 64) % 64) (omega arith), (high (128 + c % 64) (omega arith), tt)))
-      | inr d ↦ rw (a, b, d) (high (240 + c / 262144) (omega arith), (high (128 + (c / 4096) % 64) (omega arith), (high (128 + (c / 64) % 64) (omega arith), (high (128 + c % 64) (omega arith), tt))))
+      | inr d ↦ rw (a, b, d) (high (240 + c / 262144) (omega arith), (high (128 + (c / 4096) % 64) (omega arith),
+          (high (128 + (c / 64) % 64) (omega arith), (high (128 + c % 64) (omega arith), tt))))
     ]
   ]
 ]
@@ -165,7 +167,8 @@ all_units e cs = flat_map (units_of e) cs
 
 pub QuietAll : (e : PositionEncoding) (cs : List ℕ) → Quiet cs → Quiet (all_units e cs)
 QuietAll e [] q = tt
-QuietAll e (c ∷ cs) q = subst Quiet (sym (flat_map-cons (units_of e) c cs)) (Quiet-append (units_of e c) (all_units e cs) (quiet-of e c q.0) (QuietAll e cs q.1))
+QuietAll e (c ∷ cs) q = subst Quiet (sym (flat_map-cons (units_of e) c cs))
+    (Quiet-append (units_of e c) (all_units e cs) (quiet-of e c q.0) (QuietAll e cs q.1))
 
 nothing : (e : PositionEncoding) → continues e 0 ≡ false
 nothing Utf8 = refl
@@ -175,14 +178,16 @@ pub fresh : (e : PositionEncoding) (cs : List ℕ) → scalars cs ≡ true → c
 fresh e [] s = nothing e
 fresh e (c ∷ cs) s =
     let b = begins-of e c (and_parts (scalar c) (scalars cs) s).0 in
-    let at : slice_index (all_units e (c ∷ cs)) 0 ≡ b.head = ap (λ (u : List ℕ). slice_index u 0) (flat_map-cons (units_of e) c cs ∙ ap (λ (u : List ℕ). u ++ all_units e cs) b.are) in
+    let at : slice_index (all_units e (c ∷ cs)) 0 ≡ b.head = ap (λ (u : List ℕ). slice_index u 0)
+        (flat_map-cons (units_of e) c cs ∙ ap (λ (u : List ℕ). u ++ all_units e cs) b.are) in
     ap (continues e) at ∙ b.first
 
 pub first-feed : (e : PositionEncoding) (cs : List ℕ) → scalars cs ≡ true → eqb (slice_index (all_units e cs) 0) 10 ≡ eqb (slice_index cs 0) 10
 first-feed e [] s = refl
 first-feed e (c ∷ cs) s =
     let b = begins-of e c (and_parts (scalar c) (scalars cs) s).0 in
-    let at : slice_index (all_units e (c ∷ cs)) 0 ≡ b.head = ap (λ (u : List ℕ). slice_index u 0) (flat_map-cons (units_of e) c cs ∙ ap (λ (u : List ℕ). u ++ all_units e cs) b.are) in
+    let at : slice_index (all_units e (c ∷ cs)) 0 ≡ b.head = ap (λ (u : List ℕ). slice_index u 0)
+        (flat_map-cons (units_of e) c cs ∙ ap (λ (u : List ℕ). u ++ all_units e cs) b.are) in
     ap (λ (x : ℕ). eqb x 10) at ∙ b.feed
 
 -- how wide a character is in UTF-16
@@ -239,7 +244,8 @@ wide c = elim (cases_Bool (ltb c 128)) [
 pub utf16-length : (cs : List ℕ) → length (all_units Utf16 cs) ≡ utf16_len (encodes cs)
 utf16-length [] = refl
 utf16-length (c ∷ cs) =
-    let l : length (all_units Utf16 (c ∷ cs)) ≡ length (encode_utf16 c) + length (all_units Utf16 cs) = ap length (flat_map-cons (units_of Utf16) c cs) ∙ length-append (encode_utf16 c) (all_units Utf16 cs) in
+    let l : length (all_units Utf16 (c ∷ cs)) ≡ length (encode_utf16 c) + length (all_units Utf16 cs) = ap length (flat_map-cons (units_of Utf16) c cs)
+        ∙ length-append (encode_utf16 c) (all_units Utf16 cs) in
     let w = wide c in
     omega (arith, l, w.len, utf16-length cs, sum_by-append utf16_units (encode c) (encodes cs))
 

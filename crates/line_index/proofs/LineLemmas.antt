@@ -1,5 +1,6 @@
 -- Lines by their places.
-use Rattle.std.proofs.Common.{◌≡◌, ℕ, zero, suc, ◌+◌, ◌-◌, ◌<◌, ◌≤◌, true, false, not, List, length, take, drop, refl, sym, ap, ◌∙◌, subst, inl, inr, arith, eqb, eqb-true, leb, get_or, Some, None, length-drop}
+use Rattle.std.proofs.Common.{◌≡◌, ℕ, zero, suc, ◌+◌, ◌-◌, ◌<◌, ◌≤◌, true, false, not, List, length, take, drop, refl, sym, ap, ◌∙◌, subst, inl, inr, arith}
+use Rattle.std.proofs.Common.{eqb, eqb-true, leb, get_or, Some, None, length-drop}
 use Rattle.std.specs.Prelude.{slice_index, ◌&&◌, ◌||◌}
 use Rattle.std.specs.List.Sorted.{IsNonDecreasing, IsPartitionPoint}
 use Rattle.std.proofs.lemmas.Bool.{cases_Bool, cases_lt, false_from_ne_true, and_parts, or_left, leb-true, leb-false, not_from_false, not_from_true}
@@ -67,7 +68,8 @@ plain : (text : List ℕ) (k : ℕ) → is_line_terminator (slice_index text k) 
 plain text k h = grind (arith, nat_tests)
 
 -- up to the first line terminator after a place, and to the end where there is none
-clear-after : (text : List ℕ) (place k : ℕ) → place ≤ k → (is_line_terminator (slice_index (drop place text) (k - place)) ≡ true → ⊥) → begins_line text (suc k) ≡ false
+clear-after : (text : List ℕ) (place k : ℕ) → place ≤ k → (is_line_terminator (slice_index (drop place text) (k - place)) ≡ true → ⊥)
+    → begins_line text (suc k) ≡ false
 clear-after text place k low clear =
     let at : place + (k - place) ≡ k = omega arith in
     let here : slice_index (drop place text) (k - place) ≡ slice_index text k = get_or-drop place text (k - place) 0 ∙ ap (slice_index text) at in
@@ -83,13 +85,15 @@ to-terminator text place i within f =
       quiet text place (place + i) (omega arith) (λ k low high. clear-after text place k low (g.0.before (k - place) (omega arith) (omega arith))),
     )
 
-pub to-end : (text : List ℕ) (place : ℕ) → place ≤ length text → IsFirstByte (is_byte2 10 13) (take (length text - place) (drop place text)) None → line_at text (length text) ≡ line_at text place
+pub to-end : (text : List ℕ) (place : ℕ) → place ≤ length text → IsFirstByte (is_byte2 10 13) (take (length text - place) (drop place text)) None
+    → line_at text (length text) ≡ line_at text place
 to-end text place within f =
     let g : IsFirstByte (is_byte2 10 13) (drop place text) None = subst (λ b. IsFirstByte (is_byte2 10 13) b None) (take_rest text place) f in
     quiet text place (length text) within (λ k low high. clear-after text place k low (g (k - place) (omega arith) (omega (arith, length-drop place text))))
 
 -- after a line terminator
-next-start : (text : List ℕ) (place e : ℕ) → place ≤ e → e < length text → line_at text e ≡ line_at text place → begins_line text (suc e) ≡ true → IsNextStart text place (suc e)
+next-start : (text : List ℕ) (place e : ℕ) → place ≤ e → e < length text → line_at text e ≡ line_at text place → begins_line text (suc e) ≡ true
+    → IsNextStart text place (suc e)
 next-start text place e low within same b = record {
   after = omega arith;
   within = omega arith;
@@ -100,12 +104,15 @@ next-start text place e low within same b = record {
 ends-line : (a b : ℕ) → is_line_terminator a ≡ true → (eqb a 13 && eqb b 10) ≡ false → (eqb a 10 || (eqb a 13 && not (eqb b 10))) ≡ true
 ends-line a b t n = grind (arith, nat_tests)
 
-pub after-one : (text : List ℕ) (place e : ℕ) → place ≤ e → e < length text → line_at text e ≡ line_at text place → is_line_terminator (slice_index text e) ≡ true
+pub after-one : (text : List ℕ) (place e : ℕ) → place ≤ e → e < length text → line_at text e ≡ line_at text place
+    → is_line_terminator (slice_index text e) ≡ true
     → (eqb (slice_index text e) 13 && eqb (slice_index text (e + 1)) 10) ≡ false → IsNextStart text place (e + 1)
 after-one text place e low within same t cr =
     let more : e + 1 ≡ suc e = omega arith in
-    let cr' : (eqb (slice_index text e) 13 && eqb (slice_index text (suc e)) 10) ≡ false = sym (ap (λ (k : ℕ). eqb (slice_index text e) 13 && eqb (slice_index text k) 10) more) ∙ cr in
-    subst (λ (k : ℕ). IsNextStart text place k) (sym more) (next-start text place e low within same (ends-line (slice_index text e) (slice_index text (suc e)) t cr'))
+    let cr' : (eqb (slice_index text e) 13 && eqb (slice_index text (suc e)) 10)
+        ≡ false = sym (ap (λ (k : ℕ). eqb (slice_index text e) 13 && eqb (slice_index text k) 10) more) ∙ cr in
+    subst (λ (k : ℕ). IsNextStart text place k) (sym more) (next-start text place e low within same
+        (ends-line (slice_index text e) (slice_index text (suc e)) t cr'))
 
 inside : (a b : ℕ) → (eqb a 13 && eqb b 10) ≡ true → (eqb a 10 || (eqb a 13 && not (eqb b 10))) ≡ false
 inside a b h = grind (arith, nat_tests)
@@ -115,7 +122,8 @@ pub after-two : (text : List ℕ) (place e : ℕ) → place ≤ e → e < length
 after-two text place e low within same crlf =
     let more : e + 1 ≡ suc e = omega arith in
     let two : e + 2 ≡ suc (suc e) = omega arith in
-    let h : (eqb (slice_index text e) 13 && eqb (slice_index text (suc e)) 10) ≡ true = sym (ap (λ (k : ℕ). eqb (slice_index text e) 13 && eqb (slice_index text k) 10) more) ∙ crlf in
+    let h : (eqb (slice_index text e) 13 && eqb (slice_index text (suc e)) 10)
+        ≡ true = sym (ap (λ (k : ℕ). eqb (slice_index text e) 13 && eqb (slice_index text k) 10) more) ∙ crlf in
     let lf : eqb (slice_index text (suc e)) 10 ≡ true = (and_parts (eqb (slice_index text e) 13) (eqb (slice_index text (suc e)) 10) h).1 in
     let stays : line_at text (suc e) ≡ line_at text e = (not-begun text e (inside (slice_index text e) (slice_index text (suc e)) h)).0 in
     let some : suc e < length text = elim (cases_lt (suc e) (length text)) [
@@ -143,7 +151,8 @@ starts-first text end starts s =
     (some, sym (s.begin 0 some) ∙ same-start text 0 (slice_index starts 0) (omega arith) (s.number 0 some))
 
 -- the last start up to a place is its line's
-pub starts-at : (text : List ℕ) (end : ℕ) (starts : List ℕ) (place i : ℕ) → AreStarts text end starts → place ≤ end → i < length starts → slice_index starts i ≤ place
+pub starts-at : (text : List ℕ) (end : ℕ) (starts : List ℕ) (place i : ℕ) → AreStarts text end starts → place ≤ end → i < length starts
+    → slice_index starts i ≤ place
     → (i + 1 < length starts → place < slice_index starts (i + 1)) → (i ≡ line_at text place) × (slice_index starts i ≡ line_start text place)
 starts-at text end starts place i s within some low high =
     let up = mono text (slice_index starts i) place low in
@@ -160,37 +169,46 @@ starts-at text end starts place i s within some low high =
     (is, sym (s.begin i some) ∙ sym (same-start text (slice_index starts i) place low (sym is ∙ sym (s.number i some))))
 
 -- the last of the places up to one
-pub some-up-to : (places : List ℕ) (place n : ℕ) → 0 < length places → slice_index places 0 ≤ place → IsPartitionPoint (λ y. leb y place ≡ true) (λ y. leb y place ≡ false) places n → 1 ≤ n
+pub some-up-to : (places : List ℕ) (place n : ℕ) → 0 < length places → slice_index places 0 ≤ place
+    → IsPartitionPoint (λ y. leb y place ≡ true) (λ y. leb y place ≡ false) places n → 1 ≤ n
 some-up-to places place zero some first p = absurd (omega (arith, leb-false (slice_index places 0) place (p.1 0 0 (omega arith) some)))
 some-up-to places place (suc n) some first p = omega arith
 
-pub at-up-to : (places : List ℕ) (place n : ℕ) → 1 ≤ n → IsPartitionPoint (λ y. leb y place ≡ true) (λ y. leb y place ≡ false) places n → slice_index places (n - 1) ≤ place
+pub at-up-to : (places : List ℕ) (place n : ℕ) → 1 ≤ n → IsPartitionPoint (λ y. leb y place ≡ true) (λ y. leb y place ≡ false) places n
+    → slice_index places (n - 1) ≤ place
 at-up-to places place n some p = leb-true (slice_index places (n - 1)) place (p.0 (n - 1) 0 (omega arith) (omega arith))
 
-pub past-up-to : (places : List ℕ) (place n : ℕ) → IsPartitionPoint (λ y. leb y place ≡ true) (λ y. leb y place ≡ false) places n → (k : ℕ) → n ≤ k → k < length places → place < slice_index places k
+pub past-up-to : (places : List ℕ) (place n : ℕ) → IsPartitionPoint (λ y. leb y place ≡ true) (λ y. leb y place ≡ false) places n → (k : ℕ) → n ≤ k
+    → k < length places → place < slice_index places k
 past-up-to places place n p k low high = leb-false (slice_index places k) place (p.1 k 0 low high)
 
 -- as the code finds it
-pub found : (inner text starts slice : List ℕ) (offset i s : ℕ) → inner ≡ text → slice ≡ starts → AreStarts inner (length inner) starts → offset ≤ length text → i < length slice
-    → slice_index slice i ≤ offset → (i + 1 < length slice → offset < slice_index slice (i + 1)) → s ≡ get_or starts i s → (i ≡ line_at text offset) × (line_start text offset + (offset - s) ≡ offset)
+pub found : (inner text starts slice : List ℕ) (offset i s : ℕ) → inner ≡ text → slice ≡ starts → AreStarts inner (length inner) starts → offset ≤ length text
+    → i < length slice
+    → slice_index slice i ≤ offset → (i + 1 < length slice → offset < slice_index slice (i + 1)) → s ≡ get_or starts i s
+    → (i ≡ line_at text offset) × (line_start text offset + (offset - s) ≡ offset)
 found inner text starts slice offset i s view items h within some low high read =
-    let h' : AreStarts text (length text) slice = subst (λ (t : List ℕ). AreStarts t (length t) slice) view (subst (λ (l : List ℕ). AreStarts inner (length inner) l) (sym items) h) in
+    let h' : AreStarts text (length text) slice = subst (λ (t : List ℕ). AreStarts t (length t) slice) view
+        (subst (λ (l : List ℕ). AreStarts inner (length inner) l) (sym items) h) in
     let read' : s ≡ get_or slice i s = read ∙ ap (λ (l : List ℕ). get_or l i s) (sym items) in
     let at = starts-at text (length text) slice offset i h' within some low high in
     let is = get_or_read slice i s some read' 0 in
     (at.0, omega (arith, at.1, is))
 
 -- the text in front of the first line terminator
-pub first-some : (text bytes : List ℕ) (i : ℕ) → bytes ≡ text → IsFirstByte (is_byte2 10 13) bytes (Some i) → take_while (λ c. not (is_line_terminator c)) text ≡ take i text
+pub first-some : (text bytes : List ℕ) (i : ℕ) → bytes ≡ text → IsFirstByte (is_byte2 10 13) bytes (Some i)
+    → take_while (λ c. not (is_line_terminator c)) text ≡ take i text
 first-some text bytes i e f =
     let g : IsFirstByte (is_byte2 10 13) text (Some i) = subst (λ b. IsFirstByte (is_byte2 10 13) b (Some i)) e f in
     ap (λ (n : ℕ). take n text) (prefix_len_is (λ c. not (is_line_terminator c)) text i 0 (omega (arith, g.0.high))
-    (λ k lt. not_from_false (is_line_terminator (slice_index text k)) (false_from_ne_true _ (g.0.before k (omega arith) lt))) (λ lt. not_from_true (is_line_terminator (slice_index text i)) g.1))
+    (λ k lt. not_from_false (is_line_terminator (slice_index text k)) (false_from_ne_true _ (g.0.before k (omega arith) lt)))
+        (λ lt. not_from_true (is_line_terminator (slice_index text i)) g.1))
 
 pub first-none : (text bytes : List ℕ) → bytes ≡ text → IsFirstByte (is_byte2 10 13) bytes None → take_while (λ c. not (is_line_terminator c)) text ≡ text
 first-none text bytes e f =
     let g : IsFirstByte (is_byte2 10 13) text None = subst (λ b. IsFirstByte (is_byte2 10 13) b None) e f in
-    let whole : prefix_len (λ c. not (is_line_terminator c)) text ≡ length text = prefix_len_is (λ c. not (is_line_terminator c)) text (length text) 0 (omega arith)
+    let whole : prefix_len (λ c. not (is_line_terminator c)) text ≡ length text = prefix_len_is (λ c. not (is_line_terminator c)) text (length text) 0
+        (omega arith)
     (λ k lt. not_from_false (is_line_terminator (slice_index text k)) (false_from_ne_true _ (g k (omega arith) lt))) (λ lt. absurd (omega arith)) in
     take_all (prefix_len (λ c. not (is_line_terminator c)) text) text (omega arith)
 
@@ -203,11 +221,13 @@ start-boundary text zero u within = IsCharBoundary-start text u
 start-boundary text (suc k) u within = elim (cases_Bool (begins_line text (suc k))) [
   | inl b ↦
       let more : k + 1 ≡ suc k = omega arith in
-      subst (IsCharBoundary text) (more ∙ sym (begun text k b).1) (IsCharBoundary-after_ascii text k u (omega arith) (small-end (slice_index text k) (slice_index text (suc k)) b))
+      subst (IsCharBoundary text) (more ∙ sym (begun text k b).1) (IsCharBoundary-after_ascii text k u (omega arith)
+          (small-end (slice_index text k) (slice_index text (suc k)) b))
   | inr b ↦ subst (IsCharBoundary text) (sym (not-begun text k b).1) (start-boundary text k u (omega arith))
 ]
 
-pub column-boundary : (text : List ℕ) (offset column : ℕ) → IsUtf8 text → offset ≤ length text → line_start text offset + column ≡ offset → IsCharBoundary text (offset - column)
+pub column-boundary : (text : List ℕ) (offset column : ℕ) → IsUtf8 text → offset ≤ length text → line_start text offset + column ≡ offset
+    → IsCharBoundary text (offset - column)
 column-boundary text offset column u within c =
     let at : line_start text offset ≡ offset - column = omega arith in
     subst (IsCharBoundary text) at (start-boundary text offset u within)

@@ -1,5 +1,6 @@
 -- The offset of a position, in the line that it names.
-use Rattle.std.proofs.Common.{◌≡◌, ℕ, zero, suc, ◌+◌, ◌-◌, ◌<◌, ◌≤◌, Bool, true, false, not, List, [], ◌∷◌, ◌++◌, length, take, drop, refl, sym, ap, ◌∙◌, subst, inl, inr, arith, get_or, length-append, length-drop}
+use Rattle.std.proofs.Common.{◌≡◌, ℕ, zero, suc, ◌+◌, ◌-◌, ◌<◌, ◌≤◌, Bool, true, false, not, List, [], ◌∷◌, ◌++◌, length, take, drop, refl, sym, ap, ◌∙◌, subst}
+use Rattle.std.proofs.Common.{inl, inr, arith, get_or, length-append, length-drop}
 use Rattle.std.specs.Prelude.{slice_index, slice_range}
 use Rattle.std.specs.Str.{IsUtf8, IsCharBoundary}
 use Rattle.std.specs.List.{prefix_len}
@@ -32,11 +33,13 @@ pub record IsLine (text : List ℕ) (start end line : ℕ) : Type 0 where
   pub quiet : (k : ℕ) → start ≤ k → k < end → is_line_terminator (slice_index text k) ≡ false
   pub ends : end < length text → is_line_terminator (slice_index text end) ≡ true
 
-passes-more : (p : ℕ → Bool) (x : ℕ) (xs : List ℕ) (k : ℕ) → p x ≡ true → k < 1 + prefix_len p xs → ((j : ℕ) → j < prefix_len p xs → p (slice_index xs j) ≡ true) → p (slice_index (x ∷ xs) k) ≡ true
+passes-more : (p : ℕ → Bool) (x : ℕ) (xs : List ℕ) (k : ℕ) → p x ≡ true → k < 1 + prefix_len p xs
+    → ((j : ℕ) → j < prefix_len p xs → p (slice_index xs j) ≡ true) → p (slice_index (x ∷ xs) k) ≡ true
 passes-more p x xs zero b h more = b
 passes-more p x xs (suc k) b h more = more k (omega arith)
 
-fails-more : (p : ℕ → Bool) (x : ℕ) (xs : List ℕ) (n : ℕ) → p x ≡ true → n ≡ 1 + prefix_len p xs → n < length (x ∷ xs) → ((m : ℕ) → m ≡ prefix_len p xs → m < length xs → p (slice_index xs m) ≡ false) → p (slice_index (x ∷ xs) n) ≡ false
+fails-more : (p : ℕ → Bool) (x : ℕ) (xs : List ℕ) (n : ℕ) → p x ≡ true → n ≡ 1 + prefix_len p xs → n < length (x ∷ xs)
+    → ((m : ℕ) → m ≡ prefix_len p xs → m < length xs → p (slice_index xs m) ≡ false) → p (slice_index (x ∷ xs) n) ≡ false
 fails-more p x xs zero b e h more = absurd (omega arith)
 fails-more p x xs (suc n) b e h more = more n (omega arith) (omega arith)
 
@@ -62,7 +65,8 @@ not-false : (b : Bool) → not b ≡ false → b ≡ true
 not-false true h = refl
 not-false false h = cc
 
-line-of : (text line : List ℕ) (number s : ℕ) → s ≤ length text → line_start text s ≡ s → line_at text s ≡ number → IsUtf8 text → line ≡ line_text text s → IsLine text s (s + length line) number
+line-of : (text line : List ℕ) (number s : ℕ) → s ≤ length text → line_start text s ≡ s → line_at text s ≡ number → IsUtf8 text → line ≡ line_text text s
+    → IsLine text s (s + length line) number
 line-of text line number s within begin at u is =
     let plain : ℕ → Bool = λ c. not (is_line_terminator c) in
     let n : ℕ = prefix_len plain (drop s text) in
@@ -78,15 +82,18 @@ line-of text line number s within begin at u is =
       number = sym at;
       quiet = λ k low high. (
           let there : s + (k - s) ≡ k = omega arith in
-          not-true (is_line_terminator (slice_index text k)) (ap (λ (j : ℕ). plain (slice_index text j)) (sym there) ∙ ap plain (sym (get_or-drop s text (k - s) 0)) ∙ passes plain (drop s text) (k - s) (omega arith))
+          not-true (is_line_terminator (slice_index text k)) (ap (λ (j : ℕ). plain (slice_index text j)) (sym there)
+              ∙ ap plain (sym (get_or-drop s text (k - s) 0)) ∙ passes plain (drop s text) (k - s) (omega arith))
           );
       ends = λ less. (
           let there : s + n ≡ s + length line = omega arith in
-          not-false (is_line_terminator (slice_index text (s + length line))) (ap (λ (j : ℕ). plain (slice_index text j)) (sym there) ∙ ap plain (sym (get_or-drop s text n 0)) ∙ fails plain (drop s text) n refl (omega (arith, length-drop s text)))
+          not-false (is_line_terminator (slice_index text (s + length line))) (ap (λ (j : ℕ). plain (slice_index text j)) (sym there)
+              ∙ ap plain (sym (get_or-drop s text n 0)) ∙ fails plain (drop s text) n refl (omega (arith, length-drop s text)))
           );
     }
 
-pub is-line : (inner text starts line : List ℕ) (number s : ℕ) → inner ≡ text → AreStarts inner (length inner) starts → IsUtf8 inner → number < length starts → s ≡ get_or starts number s
+pub is-line : (inner text starts line : List ℕ) (number s : ℕ) → inner ≡ text → AreStarts inner (length inner) starts → IsUtf8 inner → number < length starts
+    → s ≡ get_or starts number s
     → line ≡ line_text text s → IsLine text s (s + length line) number
 is-line inner text starts line number s view a u some read is =
     let a' : AreStarts text (length text) starts = subst (λ (t : List ℕ). AreStarts t (length t) starts) view a in
@@ -106,14 +113,17 @@ end-boundary text start end line l = elim (cases_lt end (length text)) [
   | inr ge ↦ (let e : length text ≡ end = omega (arith, l.within) in subst (IsCharBoundary text) e (IsCharBoundary-end text))
 ]
 
-width-le : (e : PositionEncoding) (text : List ℕ) (start place : ℕ) → IsUtf8 text → start ≤ place → place ≤ length text → IsCharBoundary text start → IsCharBoundary text place
+width-le : (e : PositionEncoding) (text : List ℕ) (start place : ℕ) → IsUtf8 text → start ≤ place → place ≤ length text → IsCharBoundary text start
+    → IsCharBoundary text place
     → width e (slice_range text start place) ≤ place - start
 width-le Utf8 text start place u le within b d = omega (arith, length-take (place - start) (drop start text), length-drop start text)
 width-le Utf16 text start place u le within b d =
-    omega (arith, utf16_len-le (slice_range text start place) (IsUtf8-between text start place u le b d), length-take (place - start) (drop start text), length-drop start text)
+    omega (arith, utf16_len-le (slice_range text start place) (IsUtf8-between text start place u le b d), length-take (place - start) (drop start text),
+        length-drop start text)
 
 -- the character behind a place
-behind : (text : List ℕ) (place c : ℕ) (v : List ℕ) → scalar c ≡ true → drop place text ≡ encode c ++ v → (place < length text) × (slice_index text place ≡ slice_index (encode c) 0)
+behind : (text : List ℕ) (place c : ℕ) (v : List ℕ) → scalar c ≡ true → drop place text ≡ encode c ++ v
+    → (place < length text) × (slice_index text place ≡ slice_index (encode c) 0)
 behind text place c v s eq =
     let b = begins-of Utf8 c s in
     let some : 0 < length (encode c) = omega (arith, ap length b.are) in
@@ -123,12 +133,14 @@ behind text place c v s eq =
       ap (slice_index text) (sym here) ∙ sym (get_or-drop place text 0 0) ∙ ap (λ (u : List ℕ). slice_index u 0) eq ∙ get_or_append_left (encode c) v 0 0 some,
     )
 
-none-behind : (text : List ℕ) (start end line c : ℕ) (v : List ℕ) → IsLine text start end line → scalar c ≡ true → drop end text ≡ encode c ++ v → is_line_terminator c ≡ false → ⊥
+none-behind : (text : List ℕ) (start end line c : ℕ) (v : List ℕ) → IsLine text start end line → scalar c ≡ true → drop end text ≡ encode c ++ v
+    → is_line_terminator c ≡ false → ⊥
 none-behind text start end line c v l s eq plain =
     let b = behind text end c v s eq in
     let own : is_line_terminator (slice_index (encode c ++ v) 0) ≡ is_line_terminator c = quiet-front c v s in
     let some : 0 < length (encode c) = omega (arith, some-unit Utf8 c s) in
-    let first : is_line_terminator (slice_index text end) ≡ is_line_terminator c = ap is_line_terminator (b.1 ∙ sym (get_or_append_left (encode c) v 0 0 some)) ∙ own in
+    let first : is_line_terminator (slice_index text end) ≡ is_line_terminator c = ap is_line_terminator (b.1 ∙ sym (get_or_append_left (encode c) v 0 0 some))
+        ∙ own in
     let both : true ≡ false = sym (l.ends b.0) ∙ first ∙ plain in
     cc
 
@@ -152,20 +164,24 @@ at-end e text start end line column l far = found-place e text start end line co
 not-range : (x : ℕ) → continues Utf8 x ≡ false → 128 ≤ x → 192 ≤ x
 not-range x h low = grind (arith, nat_tests)
 
-boundary-behind : (text : List ℕ) (place c : ℕ) (zs : List ℕ) → place ≤ length text → scalars zs ≡ true → drop place text ≡ encode c ++ encodes zs → IsCharBoundary text (place + length (encode c))
+boundary-behind : (text : List ℕ) (place c : ℕ) (zs : List ℕ) → place ≤ length text → scalars zs ≡ true → drop place text ≡ encode c ++ encodes zs
+    → IsCharBoundary text (place + length (encode c))
 boundary-behind text place c zs within s eq =
     let len : length (drop place text) ≡ length (encode c) + length (encodes zs) = ap length eq ∙ length-append (encode c) (encodes zs) in
     let zero-more : length (encode c) + 0 ≡ length (encode c) = omega arith in
     let at : slice_index text (place + length (encode c)) ≡ slice_index (encodes zs) 0
     = sym (get_or-drop place text (length (encode c)) 0) ∙ ap (λ (u : List ℕ). slice_index u (length (encode c))) eq
     ∙ ap (slice_index (encode c ++ encodes zs)) (sym zero-more) ∙ get_or-append-add (encode c) (encodes zs) 0 0 in
-    let new : continues Utf8 (slice_index text (place + length (encode c))) ≡ false = ap (continues Utf8) at ∙ ap (λ (u : List ℕ). continues Utf8 (slice_index u 0)) (sym (utf8-units zs)) ∙ fresh Utf8 zs s in
+    let new : continues Utf8 (slice_index text (place + length (encode c))) ≡ false = ap (continues Utf8) at
+        ∙ ap (λ (u : List ℕ). continues Utf8 (slice_index u 0)) (sym (utf8-units zs)) ∙ fresh Utf8 zs s in
     (omega (arith, length-drop place text), λ less low. not-range (slice_index text (place + length (encode c))) new low)
 
-floor-after : (text : List ℕ) (start to place : ℕ) → IsCharBoundary text start → start ≤ to → ((i : ℕ) → place < i → i ≤ to → IsCharBoundary text i → ⊥) → start ≤ place
+floor-after : (text : List ℕ) (start to place : ℕ) → IsCharBoundary text start → start ≤ to → ((i : ℕ) → place < i → i ≤ to → IsCharBoundary text i → ⊥)
+    → start ≤ place
 floor-after text start to place b le nearest = elim (cases_lt place start) [ inl lt ↦ absurd (nearest start lt le b) | inr ge ↦ ge ]
 
-pub at-floor : (text : List ℕ) (start end line column place : ℕ) → IsLine text start end line → start + column < end → place ≤ start + column → IsCharBoundary text place
+pub at-floor : (text : List ℕ) (start end line column place : ℕ) → IsLine text start end line → start + column < end → place ≤ start + column
+    → IsCharBoundary text place
     → ((i : ℕ) → place < i → i ≤ start + column → IsCharBoundary text i → ⊥)
     → length (units Utf8 (take place text)) ≡ whole Utf8 (units Utf8 text) (units_before (lines_of (units Utf8 text)) line column)
 at-floor text start end line column place l short bound b nearest =
@@ -184,7 +200,8 @@ at-floor text start end line column place l short bound b nearest =
       fits = omega arith;
       stops = λ c zs sc sz eq plain. elim (cases_lt column (length (slice_range text start place) + length (encode c))) [
         | inl lt ↦ lt
-        | inr ge ↦ absurd (nearest (place + length (encode c)) (omega (arith, some-unit Utf8 c sc)) (omega arith) (boundary-behind text place c zs within sz eq))
+        | inr ge ↦ absurd (nearest (place + length (encode c)) (omega (arith, some-unit Utf8 c sc)) (omega arith)
+            (boundary-behind text place c zs within sz eq))
       ];
     })
 
@@ -192,14 +209,16 @@ at-floor text start end line column place l short bound b nearest =
 counted : (x : ℕ) → 0 < utf16_units x → 128 ≤ x → 192 ≤ x
 counted x h low = grind (arith, nat_tests)
 
-pub units-boundary : (text : List ℕ) (start end line column place : ℕ) → IsLine text start end line → place ≤ end → utf16_len (slice_range text start place) ≤ column
+pub units-boundary : (text : List ℕ) (start end line column place : ℕ) → IsLine text start end line → place ≤ end
+    → utf16_len (slice_range text start place) ≤ column
     → (place < end → column < utf16_len (slice_range text start place) + utf16_units (slice_index text place)) → IsCharBoundary text place
 units-boundary text start end line column place l to fits full = elim (cases_lt place end) [
   | inl lt ↦ (omega (arith, l.within), λ less low. counted (slice_index text place) (omega (arith, full lt)) low)
   | inr ge ↦ (let e : end ≡ place = omega arith in subst (IsCharBoundary text) e (end-boundary text start end line l))
 ]
 
-pub at-units : (text : List ℕ) (start end line column place : ℕ) → IsLine text start end line → start ≤ place → place ≤ end → utf16_len (slice_range text start place) ≤ column
+pub at-units : (text : List ℕ) (start end line column place : ℕ) → IsLine text start end line → start ≤ place → place ≤ end
+    → utf16_len (slice_range text start place) ≤ column
     → (place < end → column < utf16_len (slice_range text start place) + utf16_units (slice_index text place))
     → length (units Utf16 (take place text)) ≡ whole Utf16 (units Utf16 text) (units_before (lines_of (units Utf16 text)) line column)
 at-units text start end line column place l from to fits full = found-place Utf16 text start place line column (record {
@@ -214,7 +233,8 @@ at-units text start end line column place l from to fits full = found-place Utf1
   fits = fits;
   stops = λ c zs sc sz eq plain. elim (cases_lt place end) [
     | inl lt ↦ omega (arith, full lt, ap utf16_units (behind text place c (encodes zs) sc eq).1, (wide c).lead)
-    | inr ge ↦ (let e : place ≡ end = omega arith in absurd (none-behind text start end line c (encodes zs) l sc (ap (λ (n : ℕ). drop n text) (sym e) ∙ eq) plain))
+    | inr ge ↦ (let e : place ≡ end = omega arith in absurd (none-behind text start end line c (encodes zs) l sc
+        (ap (λ (n : ℕ). drop n text) (sym e) ∙ eq) plain))
   ];
 })
 

@@ -1,5 +1,6 @@
 -- The place of a position in a text.
-use Rattle.std.proofs.Common.{◌≡◌, ℕ, zero, suc, ◌+◌, ◌-◌, ◌<◌, ◌≤◌, true, false, not, List, [], ◌∷◌, ◌++◌, length, take, drop, refl, sym, ap, ◌∙◌, subst, inl, inr, arith, eqb, length-append, length-drop}
+use Rattle.std.proofs.Common.{◌≡◌, ℕ, zero, suc, ◌+◌, ◌-◌, ◌<◌, ◌≤◌, true, false, not, List, [], ◌∷◌, ◌++◌, length, take, drop, refl, sym, ap, ◌∙◌, subst, inl}
+use Rattle.std.proofs.Common.{inr, arith, eqb, length-append, length-drop}
 use Rattle.std.specs.Prelude.{slice_index, slice_range, ◌&&◌, ◌||◌}
 use Rattle.std.specs.Str.{IsUtf8, IsCharBoundary}
 use Rattle.std.specs.List.{flat_map}
@@ -29,11 +30,14 @@ spelled-width Utf8 cs = ap length (sym (utf8-units cs))
 spelled-width Utf16 cs = sym (utf16-length cs)
 
 place-spelled : (e : PositionEncoding) (ws xs ys : List ℕ) (line column : ℕ) → scalars ws ≡ true → scalars xs ≡ true → scalars ys ≡ true
-    → begins_line (encodes (ws ++ (xs ++ ys))) (length (encodes ws)) ≡ true → line ≡ line_at (encodes (ws ++ (xs ++ ys))) (length (encodes ws)) → Quiet xs → length (all_units e xs) ≤ column
+    → begins_line (encodes (ws ++ (xs ++ ys))) (length (encodes ws)) ≡ true → line ≡ line_at (encodes (ws ++ (xs ++ ys))) (length (encodes ws)) → Quiet xs
+    → length (all_units e xs) ≤ column
     → Stops e (column - length (all_units e xs)) ys
-    → length (units e (encodes (ws ++ xs))) ≡ whole e (units e (encodes (ws ++ (xs ++ ys)))) (units_before (lines_of (units e (encodes (ws ++ (xs ++ ys))))) line column)
+    → length (units e (encodes (ws ++ xs))) ≡ whole e (units e (encodes (ws ++ (xs ++ ys))))
+    (units_before (lines_of (units e (encodes (ws ++ (xs ++ ys))))) line column)
 place-spelled e ws xs ys line column sa sx sy b at q fits h =
-    let whole-text : units e (encodes (ws ++ (xs ++ ys))) ≡ all_units e (ws ++ (xs ++ ys)) = spelled-units e (ws ++ (xs ++ ys)) (scalars-both ws (xs ++ ys) sa (scalars-both xs ys sx sy)) in
+    let whole-text : units e (encodes (ws ++ (xs ++ ys))) ≡ all_units e (ws ++ (xs ++ ys)) = spelled-units e (ws ++ (xs ++ ys))
+        (scalars-both ws (xs ++ ys) sa (scalars-both xs ys sx sy)) in
     let front : units e (encodes (ws ++ xs)) ≡ all_units e (ws ++ xs) = spelled-units e (ws ++ xs) (scalars-both ws xs sa sx) in
     let u = all_units e (ws ++ (xs ++ ys)) in
     ap length front ∙ sym (lands e ws xs ys column sa sx sy b q fits h)
@@ -59,7 +63,9 @@ quiet-chars (c ∷ cs) s h =
     )
 
 -- what stops a column, from the text after it
-stops : (e : PositionEncoding) (room : ℕ) (ys : List ℕ) → scalars ys ≡ true → ((c : ℕ) (zs : List ℕ) → scalar c ≡ true → scalars zs ≡ true → encodes ys ≡ encode c ++ encodes zs → is_line_terminator c ≡ false → room < length (units_of e c)) → Stops e room ys
+stops : (e : PositionEncoding) (room : ℕ) (ys : List ℕ) → scalars ys ≡ true
+    → ((c : ℕ) (zs : List ℕ) → scalar c ≡ true → scalars zs ≡ true → encodes ys ≡ encode c ++ encodes zs → is_line_terminator c ≡ false
+    → room < length (units_of e c)) → Stops e room ys
 stops e room [] s h = tt
 stops e room (c ∷ ys) s h = (let sc = and_parts (scalar c) (scalars ys) s in h c ys sc.0 sc.1 refl)
 
@@ -100,23 +106,29 @@ found-place e text start place line column h =
     let eq-a : encodes a.0 ≡ take start text = a.1.1 in
     let eq-x : encodes x.0 ≡ take (place - start) (drop start text) = x.1.1 in
     let eq-y : encodes y.0 ≡ drop place text = y.1.1 in
-    let eq-xy : encodes (x.0 ++ y.0) ≡ take (place - start) (drop start text) ++ drop place text = encodes-append x.0 y.0 ∙ ap (λ (v : List ℕ). v ++ encodes y.0) eq-x ∙ ap (λ (v : List ℕ). take (place - start) (drop start text) ++ v) eq-y in
+    let eq-xy : encodes (x.0 ++ y.0) ≡ take (place - start) (drop start text) ++ drop place text = encodes-append x.0 y.0
+        ∙ ap (λ (v : List ℕ). v ++ encodes y.0) eq-x ∙ ap (λ (v : List ℕ). take (place - start) (drop start text) ++ v) eq-y in
     let eq-all : encodes (a.0 ++ (x.0 ++ y.0)) ≡ text
-    = encodes-append a.0 (x.0 ++ y.0) ∙ ap (λ (v : List ℕ). v ++ encodes (x.0 ++ y.0)) eq-a ∙ ap (λ (v : List ℕ). take start text ++ v) eq-xy ∙ three text start place h.ordered in
+    = encodes-append a.0 (x.0 ++ y.0) ∙ ap (λ (v : List ℕ). v ++ encodes (x.0 ++ y.0)) eq-a ∙ ap (λ (v : List ℕ). take start text ++ v) eq-xy
+        ∙ three text start place h.ordered in
     let eq-front : encodes (a.0 ++ x.0) ≡ take place text
     = encodes-append a.0 x.0 ∙ ap (λ (v : List ℕ). v ++ encodes x.0) eq-a ∙ ap (λ (v : List ℕ). take start text ++ v) eq-x ∙ two text start place h.ordered in
-    let at : length (encodes a.0) ≡ start = ap length eq-a ∙ (let l : length (take start text) ≡ start = omega (arith, length-take start text, h.ordered, h.within) in l) in
+    let at : length (encodes a.0) ≡ start = ap length eq-a ∙ (let l : length (take start text)
+        ≡ start = omega (arith, length-take start text, h.ordered, h.within) in l) in
     let b : begins_line (encodes (a.0 ++ (x.0 ++ y.0))) (length (encodes a.0)) ≡ true
     = ap (λ (t : List ℕ). begins_line t (length (encodes a.0))) eq-all ∙ ap (begins_line text) at ∙ h.begins in
     let n : line ≡ line_at (encodes (a.0 ++ (x.0 ++ y.0))) (length (encodes a.0))
     = h.number ∙ ap (line_at text) (sym at) ∙ ap (λ (t : List ℕ). line_at t (length (encodes a.0))) (sym eq-all) in
-    let len-x : length (encodes x.0) ≡ place - start = ap length eq-x ∙ (let l : length (take (place - start) (drop start text)) ≡ place - start = omega (arith, length-take (place - start) (drop start text), length-drop start text, h.ordered, h.within) in l) in
+    let len-x : length (encodes x.0) ≡ place - start = ap length eq-x ∙ (let l : length (take (place - start) (drop start text))
+        ≡ place - start = omega (arith, length-take (place - start) (drop start text), length-drop start text, h.ordered, h.within) in l) in
     let q : Quiet x.0 = quiet-chars x.0 x.1.0 (λ k lt. ap (λ (v : List ℕ). is_line_terminator (slice_index v k)) eq-x
     ∙ ap is_line_terminator (part-byte text start place k h.within (omega arith)) ∙ h.quiet (start + k) (omega arith) (omega arith)) in
     let w : width e (slice_range text start place) ≡ length (all_units e x.0) = ap (width e) (sym eq-x) ∙ spelled-width e x.0 in
-    let st : Stops e (column - length (all_units e x.0)) y.0 = stops e (column - length (all_units e x.0)) y.0 y.1.0 (λ c zs sc sz eq plain. omega (arith, w, h.stops c zs sc sz (sym eq-y ∙ eq) plain)) in
+    let st : Stops e (column - length (all_units e x.0)) y.0 = stops e (column - length (all_units e x.0)) y.0 y.1.0
+        (λ c zs sc sz eq plain. omega (arith, w, h.stops c zs sc sz (sym eq-y ∙ eq) plain)) in
     let result = place-spelled e a.0 x.0 y.0 line column a.1.0 x.1.0 y.1.0 b n q (omega (arith, w, h.fits)) st in
-    ap (λ (t : List ℕ). length (units e t)) (sym eq-front) ∙ result ∙ ap (λ (t : List ℕ). whole e (units e t) (units_before (lines_of (units e t)) line column)) eq-all
+    ap (λ (t : List ℕ). length (units e t)) (sym eq-front) ∙ result ∙ ap (λ (t : List ℕ). whole e (units e t) (units_before (lines_of (units e t)) line column))
+        eq-all
 
 -- behind the last line
 beyond-end : (c : ℕ) (u t : List ℕ) (k line column : ℕ) → eqb (slice_index u 0) 10 ≡ eqb (slice_index t 0) 10 → line_at (c ∷ t) (suc k) < line
@@ -141,23 +153,28 @@ beyond-quiet us bytes u t k n (suc line) column q qb e h ih =
     omega (arith, walk-lines us u line column q, ih (suc line) more, length-append us u)
 
 beyond-one : (e : PositionEncoding) (c : ℕ) (u t : List ℕ) (k line column : ℕ) → scalar c ≡ true → eqb (slice_index u 0) 10 ≡ eqb (slice_index t 0) 10
-    → line_at (encode c ++ t) (length (encode c) + k) < line → ((l : ℕ) → line_at t k < l → walk u l column ≡ length u) → walk (units_of e c ++ u) line column ≡ length (units_of e c ++ u)
+    → line_at (encode c ++ t) (length (encode c) + k) < line → ((l : ℕ) → line_at t k < l → walk u l column ≡ length u)
+    → walk (units_of e c ++ u) line column ≡ length (units_of e c ++ u)
 beyond-one e c u t k line column s feed h ih = elim (cases_Bool (is_line_terminator c)) [
   | inl b ↦
       let one : 1 + k ≡ suc k = omega arith in
-      let h' : line_at (c ∷ t) (suc k) < line = subst (λ (n : ℕ). line_at (c ∷ t) n < line) one (subst (λ (v : List ℕ). line_at (v ++ t) (length v + k) < line) (one-of Utf8 c b) h) in
+      let h' : line_at (c ∷ t) (suc k) < line = subst (λ (n : ℕ). line_at (c ∷ t) n < line) one
+          (subst (λ (v : List ℕ). line_at (v ++ t) (length v + k) < line) (one-of Utf8 c b) h) in
       subst (λ (v : List ℕ). walk (v ++ u) line column ≡ length (v ++ u)) (sym (one-of e c b)) (beyond-end c u t k line column feed h' ih)
   | inr b ↦ beyond-quiet (units_of e c) (encode c) u t k (length (encode c) + k) line column (quiet-of e c b) (quiet-of Utf8 c b) refl h ih
 ]
 
-beyond-lines : (e : PositionEncoding) (cs : List ℕ) (line column : ℕ) → scalars cs ≡ true → line_at (encodes cs) (length (encodes cs)) < line → walk (all_units e cs) line column ≡ length (all_units e cs)
+beyond-lines : (e : PositionEncoding) (cs : List ℕ) (line column : ℕ) → scalars cs ≡ true → line_at (encodes cs) (length (encodes cs)) < line
+    → walk (all_units e cs) line column ≡ length (all_units e cs)
 beyond-lines e [] line column s h = refl
 beyond-lines e (c ∷ cs) line column s h =
     let sc = and_parts (scalar c) (scalars cs) s in
     let far : length (encode c ++ encodes cs) ≡ length (encode c) + length (encodes cs) = length-append (encode c) (encodes cs) in
-    let h' : line_at (encode c ++ encodes cs) (length (encode c) + length (encodes cs)) < line = subst (λ (n : ℕ). line_at (encode c ++ encodes cs) n < line) far h in
+    let h' : line_at (encode c ++ encodes cs) (length (encode c) + length (encodes cs)) < line = subst
+        (λ (n : ℕ). line_at (encode c ++ encodes cs) n < line) far h in
     subst (λ (v : List ℕ). walk v line column ≡ length v) (sym (flat_map-cons (units_of e) c cs))
-    (beyond-one e c (all_units e cs) (encodes cs) (length (encodes cs)) line column sc.0 (feed-same e cs sc.1) h' (λ l less. beyond-lines e cs l column sc.1 less))
+    (beyond-one e c (all_units e cs) (encodes cs) (length (encodes cs)) line column sc.0 (feed-same e cs sc.1) h'
+        (λ l less. beyond-lines e cs l column sc.1 less))
 
 past-end : (e : PositionEncoding) (u : List ℕ) → whole e u (length u) ≡ length u
 past-end e u = whole-here e u (length u) (ap (continues e) (get_or_past u (length u) 0 (omega arith)) ∙ nothing e) where
@@ -174,7 +191,8 @@ beyond e text line column u h =
     let eq : encodes u.0 ≡ text = u.1.1 in
     let all : units e text ≡ all_units e u.0 = ap (units e) (sym eq) ∙ spelled-units e u.0 u.1.0 in
     let h' : line_at (encodes u.0) (length (encodes u.0)) < line = subst (λ (t : List ℕ). line_at t (length t) < line) (sym eq) h in
-    let there : walk (units e text) line column ≡ length (units e text) = subst (λ (v : List ℕ). walk v line column ≡ length v) (sym all) (beyond-lines e u.0 line column u.1.0 h') in
+    let there : walk (units e text) line column ≡ length (units e text) = subst (λ (v : List ℕ). walk v line column ≡ length v) (sym all)
+        (beyond-lines e u.0 line column u.1.0 h') in
     ap (λ (t : List ℕ). length (units e t)) (take-all text)
     ∙ sym (past-end e (units e text)) ∙ ap (whole e (units e text)) (sym there) ∙ ap (whole e (units e text)) (sym (walk-is (units e text) line column))
 
@@ -197,12 +215,15 @@ cr-lf a b t h = grind (arith, nat_tests)
 lf : (a b : ℕ) → (eqb a 13 && eqb b 10) ≡ true → (x : ℕ) → (eqb b 10 || (eqb b 13 && not (eqb x 10))) ≡ false → ⊥
 lf a b h x none = grind (arith, nat_tests)
 
-pub cursor-quiet : (text : List ℕ) (place : ℕ) → IsCursor text place → (k : ℕ) → line_start text place ≤ k → k < place → is_line_terminator (slice_index text k) ≡ false
+pub cursor-quiet : (text : List ℕ) (place : ℕ) → IsCursor text place → (k : ℕ) → line_start text place ≤ k → k < place
+    → is_line_terminator (slice_index text k) ≡ false
 cursor-quiet text place c k low high = false_from_ne_true _ (λ t. (
-    let pair : (eqb (slice_index text k) 13 && eqb (slice_index text (suc k)) 10) ≡ true = cr-lf (slice_index text k) (slice_index text (suc k)) t (none-begin text k place low high) in
+    let pair : (eqb (slice_index text k) 13 && eqb (slice_index text (suc k)) 10)
+        ≡ true = cr-lf (slice_index text k) (slice_index text (suc k)) t (none-begin text k place low high) in
     elim (cases_lt (suc k) place) [
       | inl lt ↦ lf (slice_index text k) (slice_index text (suc k)) pair (slice_index text (suc (suc k))) (none-begin text (suc k) place (omega arith) lt)
-      | inr ge ↦ (let e : place ≡ suc k = omega arith in c.apart k e (subst (λ (n : ℕ). (eqb (slice_index text k) 13 && eqb (slice_index text n) 10) ≡ true) (sym e) pair))
+      | inr ge ↦ (let e : place ≡ suc k = omega arith in c.apart k e (subst (λ (n : ℕ). (eqb (slice_index text k) 13 && eqb (slice_index text n) 10) ≡ true)
+          (sym e) pair))
     ]))
 
 pub start-begins : (text : List ℕ) (place : ℕ) → begins_line text (line_start text place) ≡ true

@@ -1,5 +1,6 @@
 -- The lines of a list of units, in one walk over it.
-use Rattle.std.proofs.Common.{◌≡◌, ℕ, zero, suc, ◌+◌, ◌-◌, ◌<◌, ◌≤◌, min, Bool, true, false, cond, List, [], ◌∷◌, ◌++◌, length, refl, sym, ap, ◌∙◌, inl, inr, arith, eqb, zero-add}
+use Rattle.std.proofs.Common.{◌≡◌, ℕ, zero, suc, ◌+◌, ◌-◌, ◌<◌, ◌≤◌, min, Bool, true, false, cond, List, [], ◌∷◌, ◌++◌, length, refl, sym, ap, ◌∙◌, inl, inr}
+use Rattle.std.proofs.Common.{arith, eqb, zero-add}
 use Rattle.std.specs.Prelude.{slice_index}
 use Rattle.std.specs.List.{position_or_len}
 use Rattle.std.proofs.lemmas.Bool.{cases_Bool}
@@ -86,7 +87,8 @@ walk-terminator x v column h = rw h refl
 walk-to : (us v : List ℕ) (k column : ℕ) → k ≡ column → Quiet us → column ≤ length us → walk (us ++ v) zero k ≡ column
 walk-to [] v k column e q h = (let z : k ≡ 0 = omega arith in ap (λ (n : ℕ). walk v zero n) z ∙ walk-none v ∙ (let w : 0 ≡ column = omega arith in w))
 walk-to (x ∷ us) v k zero e q h = ap (λ (n : ℕ). walk ((x ∷ us) ++ v) zero n) e ∙ walk-none ((x ∷ us) ++ v)
-walk-to (x ∷ us) v k (suc column) e q h = (let less : k - 1 ≡ column = omega arith in walk-stop x (us ++ v) k q.0 (omega arith) ∙ ap suc (walk-to us v (k - 1) column less q.1 (omega arith)))
+walk-to (x ∷ us) v k (suc column) e q h = (let less : k - 1 ≡ column = omega arith in
+    walk-stop x (us ++ v) k q.0 (omega arith) ∙ ap suc (walk-to us v (k - 1) column less q.1 (omega arith)))
 
 pub walk-inside : (us v : List ℕ) (column : ℕ) → Quiet us → column ≤ length us → walk (us ++ v) zero column ≡ column
 walk-inside us v column q h = walk-to us v column column refl q h
@@ -106,7 +108,8 @@ walk-lines (x ∷ us) v line column q =
     (let n : ends_line x (us ++ v) ≡ false = plain-end x (us ++ v) q.0 in rw n (omega (arith, walk-lines us v line column q.1)))
 
 -- one unit, where the lines of another text go on in the same way
-pub walk-step : (x : ℕ) (u t : List ℕ) (n l column : ℕ) → ends_line x u ≡ ends_line x t → n ≡ cond (ends_line x t) 1 0 + l → 0 < n → walk (x ∷ u) n column ≡ suc (walk u l column)
+pub walk-step : (x : ℕ) (u t : List ℕ) (n l column : ℕ) → ends_line x u ≡ ends_line x t → n ≡ cond (ends_line x t) 1 0 + l → 0 < n
+    → walk (x ∷ u) n column ≡ suc (walk u l column)
 walk-step x u t zero l column same e some = absurd (omega arith)
 walk-step x u t (suc m) l column same e some = elim (cases_Bool (ends_line x t)) [
   | inl h ↦
@@ -170,7 +173,8 @@ here [] b k n e = (let z : n ≡ k = omega arith in ap (slice_index b) z)
 here (x ∷ a) b k zero e = absurd (omega arith)
 here (x ∷ a) b k (suc n) e = here a b k n (omega arith)
 
-pub whole-past : (e : PositionEncoding) (a b : List ℕ) (k n : ℕ) → n ≡ length a + k → continues e (slice_index b 0) ≡ false → whole e (a ++ b) n ≡ length a + whole e b k
+pub whole-past : (e : PositionEncoding) (a b : List ℕ) (k n : ℕ) → n ≡ length a + k → continues e (slice_index b 0) ≡ false
+    → whole e (a ++ b) n ≡ length a + whole e b k
 whole-past e [] b k n eq h = (let z : n ≡ k = omega arith in ap (whole e b) z ∙ sym (zero-add (whole e b k)))
 whole-past e (x ∷ a) b zero n eq h =
     let at : slice_index ((x ∷ a) ++ b) n ≡ slice_index b 0 = here (x ∷ a) b 0 n eq in
@@ -200,4 +204,5 @@ tail-at e (x ∷ xs) v (suc k) t h = tail-at e xs v k t.1 (omega arith)
 
 pub whole-first : (e : PositionEncoding) (x : ℕ) (xs v : List ℕ) (k : ℕ) → Tail e xs → k ≤ length xs → whole e (x ∷ (xs ++ v)) k ≡ 0
 whole-first e x xs v zero t h = refl
-whole-first e x xs v (suc k) t h = (let c : continues e (slice_index (xs ++ v) k) ≡ true = tail-at e xs v k t (omega arith) in rw c (whole-first e x xs v k t (omega arith)))
+whole-first e x xs v (suc k) t h = (let c : continues e (slice_index (xs ++ v) k) ≡ true = tail-at e xs v k t (omega arith) in
+    rw c (whole-first e x xs v k t (omega arith)))

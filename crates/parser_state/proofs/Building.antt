@@ -36,7 +36,8 @@ unfolding IsOpen
 root-is-open b h = subst (λ above. is_free_in above ≡ true) (sym h.2) h.1
 
 -- the text of what was built is that of the finished tree
-pub begins-with : (b : Building) (f : Forest) (source : List ℕ) → IsComplete b → b.here ≡ f → take (length (text f)) source ≡ text f → take (length (built_text b)) source ≡ built_text b
+pub begins-with : (b : Building) (f : Forest) (source : List ℕ) → IsComplete b → b.here ≡ f → take (length (text f)) source ≡ text f
+    → take (length (built_text b)) source ≡ built_text b
 begins-with b f source complete here h =
     let e : built_text b ≡ text f = ap (λ above. open_text above ++ text b.here) complete.closed ∙ ap text here in
     ap (λ s. take (length s) source) e ∙ h ∙ sym e

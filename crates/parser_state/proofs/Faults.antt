@@ -32,7 +32,8 @@ quoting-message m text n =
     ∙ sym (ap (λ (b : Bool). if b then description m ++ codes ", got " ++ text else description m) n)
 
 -- an error at a token, and one at the end
-pub text-error : (m : Message) (x : Lexeme) (d : Diagnostic) (message text : Text) (index : ℕ) → is_end x.kind ≡ false → text ≡ x.text → message ≡ message_text m (at_text text)
+pub text-error : (m : Message) (x : Lexeme) (d : Diagnostic) (message text : Text) (index : ℕ) → is_end x.kind ≡ false → text ≡ x.text
+    → message ≡ message_text m (at_text text)
     → index ≡ x.index → d ≡ record { message = message; subject = of_text text; index = index } → IsErrorOf (fault_report m x) d
 text-error m x d message text index p t w i e =
     let found : at_text text ≡ found_at x = ap at_text t ∙ sym (found-text x p) in

@@ -1,5 +1,6 @@
 -- A text is a keyword's word exactly where its class is the keyword's.
-use Rattle.std.proofs.Common.{◌≡◌, ℕ, Bool, true, false, not, ◌&&◌, eqb, List, [], ◌∷◌, Option, Some, None, is_some, refl, sym, ◌∙◌, ap, subst, inl, inr, true≢false, eqb-true}
+use Rattle.std.proofs.Common.{◌≡◌, ℕ, Bool, true, false, not, ◌&&◌, eqb, List, [], ◌∷◌, Option, Some, None, is_some, refl, sym, ◌∙◌, ap, subst, inl, inr}
+use Rattle.std.proofs.Common.{true≢false, eqb-true}
 use Rattle.std.proofs.lemmas.Bool.{eqb-false, and_parts, and_right}
 use Rattle.std.specs.Str.{bytes_eq}
 use Rattle.std.proofs.lemmas.Slice.Eq.{bytes_eq-Decides}
@@ -81,13 +82,16 @@ no-class n e other x = elim (either (eqb (word_class words x) n)) [
 ]
 
 -- the test of a name
-pub name-is-word : (k : SyntaxKind) (x : Lexeme) (a b : Text) → is_keyword (number k) ≡ true → keyword_word (number k) ≡ Some b → true ≡ same_kind x.kind token.Name → a ≡ x.text → bytes_eq a b ≡ is_word k (Some x)
+pub name-is-word : (k : SyntaxKind) (x : Lexeme) (a b : Text) → is_keyword (number k) ≡ true → keyword_word (number k) ≡ Some b
+    → true ≡ same_kind x.kind token.Name → a ≡ x.text → bytes_eq a b ≡ is_word k (Some x)
 name-is-word k x a b h f n e =
     ap (λ (t : Text). bytes_eq t b) e ∙ word-class (number k) b f h x.text ∙ ap (λ (c : Bool). c && eqb (word_class words x.text) (number k)) n
 
 -- the text of a token that is the keyword
-pub word_is : (k : SyntaxKind) (x : Lexeme) (w : Text) → is_keyword (number k) ≡ true → keyword_word (number k) ≡ Some w → true ≡ is_word k (Some x) → x.text ≡ w
-word_is k x w h f e = equal-bytes x.text w (word-class (number k) w f h x.text ∙ (and_parts (same_kind x.kind token.Name) (eqb (word_class words x.text) (number k)) (sym e)).1)
+pub word_is : (k : SyntaxKind) (x : Lexeme) (w : Text) → is_keyword (number k) ≡ true → keyword_word (number k) ≡ Some w → true ≡ is_word k (Some x)
+    → x.text ≡ w
+word_is k x w h f e = equal-bytes x.text w (word-class (number k) w f h x.text
+    ∙ (and_parts (same_kind x.kind token.Name) (eqb (word_class words x.text) (number k)) (sym e)).1)
 
 -- a kind without a word is no token
 pub no_word : (k : SyntaxKind) (o : Option Lexeme) → is_keyword (number k) ≡ true → keyword_word (number k) ≡ None → is_word k o ≡ false

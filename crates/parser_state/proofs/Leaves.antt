@@ -43,5 +43,6 @@ fits-now kind.BOOLEAN_VALUE kind.false_KW None n e = absurd cc
 fits-now kind.BOOLEAN_VALUE kind.false_KW (Some x) n e = (kind.false_KW, x.text, refl, inr (refl, word_is kind.false_KW x (codes "false") refl refl e))
 fits-now _ _ o n e = absurd cc
 
-pub fits-text : (node l : SyntaxKind) (o : Option Lexeme) (x : Lexeme) (text : Text) → o ≡ Some x → text ≡ x.text → IsNow o → true ≡ is_leaf_of node l o → Fits node (leaf l text none)
+pub fits-text : (node l : SyntaxKind) (o : Option Lexeme) (x : Lexeme) (text : Text) → o ≡ Some x → text ≡ x.text → IsNow o → true ≡ is_leaf_of node l o
+    → Fits node (leaf l text none)
 fits-text node l o x text c t n e = subst (λ (y : Text). Fits node (leaf l y none)) (sym t) (subst (FitsNow node l) c (fits-now node l o n e))

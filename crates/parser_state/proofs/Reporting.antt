@@ -62,7 +62,9 @@ no-errors rs ds r d =
     subst (λ (xs : List Report). ∥ AllZip IsErrorOf xs ds ∥₁) (sym r) (subst (λ (ys : List Diagnostic). ∥ AllZip IsErrorOf [] ys ∥₁) (sym d) ∣ tt ∣₁)
 
 -- one more
-pub one-more-error : (rs ts : List Report) (ds es : List Diagnostic) (r : Report) (d : Diagnostic) → AllZip IsErrorOf rs ds → IsErrorOf r d → ts ≡ rs ++ r ∷ [] → es ≡ ds ++ d ∷ []
+pub one-more-error : (rs ts : List Report) (ds es : List Diagnostic) (r : Report) (d : Diagnostic) → AllZip IsErrorOf rs ds → IsErrorOf r d → ts ≡ rs ++ r ∷ []
+    → es ≡ ds ++ d ∷ []
     → AllZip IsErrorOf ts es
 one-more-error rs ts ds es r d z i t e =
-    subst (λ (xs : List Report). AllZip IsErrorOf xs es) (sym t) (subst (λ (ys : List Diagnostic). AllZip IsErrorOf (rs ++ r ∷ []) ys) (sym e) (all_zipped_more IsErrorOf rs ds r d z i))
+    subst (λ (xs : List Report). AllZip IsErrorOf xs es) (sym t) (subst (λ (ys : List Diagnostic). AllZip IsErrorOf (rs ++ r ∷ []) ys) (sym e)
+        (all_zipped_more IsErrorOf rs ds r d z i))

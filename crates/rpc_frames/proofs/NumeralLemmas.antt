@@ -1,5 +1,6 @@
 -- Numbers in decimal digits.
-use Rattle.std.proofs.Common.{◌≡◌, ℕ, zero, suc, Result, ◌<◌, ◌≤◌, ◌^◌, true, false, Option, Some, None, Ok, Err, List, [], ◌∷◌, length, refl, sym, ap, ◌∙◌, subst, inl, inr, arith, eqb, ltb}
+use Rattle.std.proofs.Common.{◌≡◌, ℕ, zero, suc, Result, ◌<◌, ◌≤◌, ◌^◌, true, false, Option, Some, None, Ok, Err, List, [], ◌∷◌, length, refl, sym, ap, ◌∙◌}
+use Rattle.std.proofs.Common.{subst, inl, inr, arith, eqb, ltb}
 use Rattle.std.specs.Prelude.{IfSome}
 use Rattle.std.specs.Result.{result_ok}
 use Rattle.std.specs.Str.{IsAscii, IsUtf8}
@@ -52,13 +53,15 @@ not-parsed E ds e all h = elim (cases_Bool (ltb 0 (length ds))) [
       let plain = no-plus ds all in
       let some : 0 < length ds = test-some (length ds) t in
       subst (λ (o : Option ℕ). IfSome o (λ n. 2 ^ 64 ≤ n)) (sym (numeral-digits ds some all)) (elim (cases_lt (digits_value 10 ds) (2 ^ 64)) [
-        | inl lt ↦ absurd (h (subst (λ (t : List ℕ). ((0 < length t) × AllDigits 10 t) × (digits_value 10 t < 2 ^ 64)) (sym plain) ((some, listed-digits ds all), lt)))
+        | inl lt ↦ absurd (h (subst (λ (t : List ℕ). ((0 < length t) × AllDigits 10 t) × (digits_value 10 t < 2 ^ 64)) (sym plain)
+            ((some, listed-digits ds all), lt)))
         | inr ge ↦ ge
       ])
   | inr t ↦ (let none : numeral ds ≡ None = rw t refl in subst (λ (o : Option ℕ). IfSome o (λ n. 2 ^ 64 ≤ n)) (sym none) tt)
 ]
 
-pub agrees-parsed : (E : Type 0) (ds : List ℕ) (r : Result ℕ E) → list_all is_ascii_digit ds ≡ true → ParsesUnsigned {E = E} 64 10 ds r → Agrees (numeral ds) (result_ok r)
+pub agrees-parsed : (E : Type 0) (ds : List ℕ) (r : Result ℕ E) → list_all is_ascii_digit ds ≡ true → ParsesUnsigned {E = E} 64 10 ds r
+    → Agrees (numeral ds) (result_ok r)
 agrees-parsed E ds (Ok n) all h = parsed E ds n all h
 agrees-parsed E ds (Err e) all h = not-parsed E ds e all h
 

@@ -143,7 +143,8 @@ two_objects ts h =
     let outer : Means (Member ∷ []) m.1 = m.3 in (
       m.0,
       outer.0,
-      m.2 ∙ ap (λ (x : List Token). members_tokens m.0 ++ x) (outer.2 ∙ ap (λ (x : List Token). members_tokens outer.0 ++ x) outer.3 ∙ append-nil (members_tokens outer.0)),
+      m.2 ∙ ap (λ (x : List Token). members_tokens m.0 ++ x) (outer.2 ∙ ap (λ (x : List Token). members_tokens outer.0 ++ x) outer.3
+          ∙ append-nil (members_tokens outer.0)),
     )
 
 -- ---- what comes is expected

@@ -6,11 +6,13 @@ use Rattle.byte_devices.specs.Devices.{Account, moved, stopped, failed, after}
 use Rattle.byte_devices.proofs.Accounts.{moved_moved}
 
 -- the reader came to its end
-pub at_end : {E : Type 0} (r : Result ℕ E) (n : ℕ) (buffer : List ℕ) (old now new : Account) → now ≡ old → r ≡ Ok n → n ≡ 0 → new ≡ after now r buffer → new ≡ stopped old
+pub at_end : {E : Type 0} (r : Result ℕ E) (n : ℕ) (buffer : List ℕ) (old now new : Account) → now ≡ old → r ≡ Ok n → n ≡ 0 → new ≡ after now r buffer
+    → new ≡ stopped old
 at_end r n buffer old now new before e none a = rw (a, e, none, before) refl
 
 -- the reader failed
-pub broke : {E : Type 0} (r : Result ℕ E) (error : E) (buffer : List ℕ) (old now new : Account) → now ≡ old → r ≡ Err error → new ≡ after now r buffer → new ≡ failed old
+pub broke : {E : Type 0} (r : Result ℕ E) (error : E) (buffer : List ℕ) (old now new : Account) → now ≡ old → r ≡ Err error → new ≡ after now r buffer
+    → new ≡ failed old
 broke r error buffer old now new before e a = rw (a, e, before) refl
 
 -- the writer took what is said

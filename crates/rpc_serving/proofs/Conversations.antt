@@ -27,7 +27,8 @@ module _ {S : Type 0} (takes : List ℕ → S → Reply → S → Type 0) where
       → (more later rest : List ℕ) (status : Option ℕ) (last : S) → Exchange takes middle (left ++ more) later rest status last
       → Exchange takes first (bytes ++ more) (said ++ later) rest status last
   follows (waits none) is more later rest status last e = e
-  follows {first = first} (replied {bytes = bytes} {body = body} {more = next} {said = said} asked reply begins asks replies goes takes_it e0) is more later rest status last e =
+  follows {first = first} (replied {bytes = bytes} {body = body} {more = next} {said = said} asked reply begins asks replies goes takes_it e0) is more later
+      rest status last e =
       subst (λ (v : List ℕ). Exchange takes first (bytes ++ more) v rest status last) (sym (append_assoc (said_for reply) said later))
       (replied asked reply (still_begins bytes body next more begins) asks replies goes takes_it (follows e0 is more later rest status last e))
   follows (ended asked reply code begins ends asks replies some takes_it) is more later rest status last e = absurd (some-none code is)
@@ -35,7 +36,8 @@ module _ {S : Type 0} (takes : List ℕ → S → Reply → S → Type 0) where
       passed_over (still_never (byte ∷ bytes) more never) (follows e0 is more later rest status last e)
 
   -- what is left has no frame yet
-  pub left_over : {first middle : S} {bytes said left : List ℕ} {end : Option ℕ} → Exchange takes first bytes said left end middle → end ≡ None → HasNoFrame left
+  pub left_over : {first middle : S} {bytes said left : List ℕ} {end : Option ℕ} → Exchange takes first bytes said left end middle → end ≡ None
+      → HasNoFrame left
   left_over (waits none) is = none
   left_over (replied asked reply begins asks replies goes takes_it e) is = left_over e is
   left_over (ended asked reply status begins ends asks replies some takes_it) is = absurd (some-none status is)

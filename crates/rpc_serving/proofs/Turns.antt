@@ -37,27 +37,35 @@ module _ {S : Type 0} (takes : List ℕ → S → Reply → S → Type 0) where
   -- What was said for a beginning of the bytes, and the state that the service is in now: a conversation about the others goes on from there.
   abbrev pub LeadsTo : S → List ℕ → List ℕ → S → List ℕ → Type 0
   LeadsTo first start said service now =
-      (later rest : List ℕ) (status : Option ℕ) (last : S) → Exchange takes service now later rest status last → Exchange takes first start (said ++ later) rest status last
+      (later rest : List ℕ) (status : Option ℕ) (last : S) → Exchange takes service now later rest status last
+          → Exchange takes first start (said ++ later) rest status last
 
   pub begun : (first : S) (start : List ℕ) → LeadsTo first start [] first start
   begun first start later rest status last e = e
 
-  pub goes_on : (first : S) (start said : List ℕ) (old next : S) (now body more new : List ℕ) (reply : Reply) → LeadsTo first start said old now → BeginsWithFrame now body more → IsReplyTo body reply
+  pub goes_on : (first : S) (start said : List ℕ) (old next : S) (now body more new : List ℕ) (reply : Reply) → LeadsTo first start said old now
+      → BeginsWithFrame now body more → IsReplyTo body reply
       → status_of reply ≡ None → takes body old reply next → new ≡ said ++ said_for reply → LeadsTo first start new next more
   goes_on first start said old next now body more new reply leads begins r none takes_it is later rest status last e =
-      let joined : said ++ (said_for reply ++ later) ≡ new ++ later = sym (append_assoc said (said_for reply) later) ∙ ap (λ (v : List ℕ). v ++ later) (sym is) in
-      subst (λ (v : List ℕ). Exchange takes first start v rest status last) joined (leads (said_for reply ++ later) rest status last (replied r.0 reply begins r.1 r.2 none takes_it e))
+      let joined : said ++ (said_for reply ++ later) ≡ new ++ later = sym (append_assoc said (said_for reply) later)
+          ∙ ap (λ (v : List ℕ). v ++ later) (sym is) in
+      subst (λ (v : List ℕ). Exchange takes first start v rest status last) joined
+          (leads (said_for reply ++ later) rest status last (replied r.0 reply begins r.1 r.2 none takes_it e))
 
-  pub finished : (first : S) (start said : List ℕ) (old last : S) (now body more new : List ℕ) (reply : Reply) (status : ℕ) → LeadsTo first start said old now → BeginsWithFrame now body more
+  pub finished : (first : S) (start said : List ℕ) (old last : S) (now body more new : List ℕ) (reply : Reply) (status : ℕ) → LeadsTo first start said old now
+      → BeginsWithFrame now body more
       → IsReplyTo body reply → EndsOnlyIf (AsksForEnd body) reply → status_of reply ≡ Some status → takes body old reply last → new ≡ said ++ said_for reply
       → Exchange takes first start new more (Some status) last
   finished first start said old last now body more new reply status leads begins r ends some takes_it is =
       subst (λ (v : List ℕ). Exchange takes first start v more (Some status) last) (sym is)
       (leads (said_for reply) more (Some status) last (ended r.0 reply status begins (asks_for_end _ reply status ends some) r.1 r.2 some takes_it))
 
-  pub waiting : (first : S) (start said : List ℕ) (service : S) (now : List ℕ) → LeadsTo first start said service now → HasNoFrame now → Exchange takes first start said now None service
-  waiting first start said service now leads none = subst (λ (v : List ℕ). Exchange takes first start v now None service) (append-nil said) (leads [] now None service (waits none))
+  pub waiting : (first : S) (start said : List ℕ) (service : S) (now : List ℕ) → LeadsTo first start said service now → HasNoFrame now
+      → Exchange takes first start said now None service
+  waiting first start said service now leads none = subst (λ (v : List ℕ). Exchange takes first start v now None service) (append-nil said)
+      (leads [] now None service (waits none))
 
-  pub passes : (first : S) (start said : List ℕ) (service : S) (now : List ℕ) → LeadsTo first start said service now → NeverHasFrame now → 0 < length now → LeadsTo first start said service (drop 1 now)
+  pub passes : (first : S) (start said : List ℕ) (service : S) (now : List ℕ) → LeadsTo first start said service now → NeverHasFrame now → 0 < length now
+      → LeadsTo first start said service (drop 1 now)
   passes first start said service [] leads never some = absurd (omega (arith, some))
   passes first start said service (byte ∷ bytes) leads never some = λ later rest status last e. leads later rest status last (passed_over never e)

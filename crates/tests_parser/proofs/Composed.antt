@@ -28,5 +28,6 @@ module _ {source : List ℕ} {r k : ℕ} {t : Parsed} (p : Promise source r k t)
       let sentence = (p.sound none).0 in
       reads (place t.tree i) (fits t.tree (ap one_node is) sentence.derivation.1 i h)
 
-  pub one-tree : ((text : List ℕ) (u v : Tree) → Sentence text u document → Sentence text v document → u ≡ v) → t.errors ≡ [] → (u : Tree) → Sentence source u document → bare (tree_of t.tree) ≡ u
+  pub one-tree : ((text : List ℕ) (u v : Tree) → Sentence text u document → Sentence text v document → u ≡ v) → t.errors ≡ [] → (u : Tree)
+      → Sentence source u document → bare (tree_of t.tree) ≡ u
   one-tree one none u s = one source (bare (tree_of t.tree)) u (p.sound none).0 s

@@ -9,4 +9,5 @@ returns-then-blank_len-eq0-2-clause-value c =
 
 -- a byte order mark follows them
 pub returns-clause-value : goal.returns-clause-value
-returns-clause-value c = blanks-in-two c.args.bytes.now c.blank_bytes_len-n.result c.marked_len.result c.blank_bytes_len-n.ensures.value c.marked_len.ensures.value
+returns-clause-value c = blanks-in-two c.args.bytes.now c.blank_bytes_len-n.result c.marked_len.result c.blank_bytes_len-n.ensures.value
+    c.marked_len.ensures.value

@@ -9,7 +9,8 @@ pub returns-then-starts_with : goal.returns-then-starts_with
 returns-then-starts_with c = block-last c.args.rest.now c.in-Some.i c.in-Some.ensures (sym c.starts_with.ensures.value ∙ c.if-starts_with.true)
 
 pub returns-then-starts_with-2 : goal.returns-then-starts_with-2
-returns-then-starts_with-2 c = block-inner c.args.rest.now c.in-Some.i c.in-Some.ensures (sym c.starts_with-else-starts_with.ensures.value ∙ c.if-starts_with-2.true)
+returns-then-starts_with-2 c = block-inner c.args.rest.now c.in-Some.i c.in-Some.ensures
+    (sym c.starts_with-else-starts_with.ensures.value ∙ c.if-starts_with-2.true)
 
 pub returns-else-starts_with-2 : goal.returns-else-starts_with-2
 returns-else-starts_with-2 c =

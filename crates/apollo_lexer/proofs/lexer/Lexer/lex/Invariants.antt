@@ -8,6 +8,8 @@ use Rattle.apollo_lexer.proofs.lexer.Lexer.lex.Given as goal
 -- the tokens so far and those that are left are the tokens, and the same of the errors
 abbrev pub invariant-loop-item : goal.invariant-loop-item
 invariant-loop-item g l = record {
-  tokens_so_far : map (λ token. answer_of (Ok token)) l.tokens.items ++ filter is_token (answers_left l.item-iterator) ≡ filter is_token (answers_left l.fn.self);
-  errors_so_far : ErrorsBefore (filter (λ answer. not (is_token answer)) (answers_left l.fn.self)) l.errors.items (filter (λ answer. not (is_token answer)) (answers_left l.item-iterator));
+  tokens_so_far : map (λ token. answer_of (Ok token)) l.tokens.items ++ filter is_token (answers_left l.item-iterator)
+      ≡ filter is_token (answers_left l.fn.self);
+  errors_so_far : ErrorsBefore (filter (λ answer. not (is_token answer)) (answers_left l.fn.self)) l.errors.items
+      (filter (λ answer. not (is_token answer)) (answers_left l.item-iterator));
 }

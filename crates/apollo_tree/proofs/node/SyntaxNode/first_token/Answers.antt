@@ -39,5 +39,6 @@ loop-index-preserved c =
     let node : not (is_node_place (spot whole c.loop-index.index)) ≡ false = ap not (sym c.record-in-loop-index.ensures.node) ∙ c.if-not-record.false in
     record {
       inside = c.loop-index.invariant.inside;
-      rest = sym (find-pass-one is_leaf_place whole c.loop-index.index (now.index + c.record.result.size) c.loop-index-test.true node) ∙ c.loop-index.invariant.rest;
+      rest = sym (find-pass-one is_leaf_place whole c.loop-index.index (now.index + c.record.result.size) c.loop-index-test.true node)
+          ∙ c.loop-index.invariant.rest;
     }

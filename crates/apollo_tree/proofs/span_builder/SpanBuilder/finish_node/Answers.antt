@@ -11,7 +11,8 @@ use Rattle.apollo_tree.proofs.span_builder.SpanBuilder.finish_node.Goals as goal
 pub unwrap-place-requires : goal.unwrap-place-requires
 unwrap-place-requires g c =
     let h = (holds c.self.view_is c.self.invariant.0).parts in
-    c.pop.ensures.variant.1 (omega (arith, ap length h.places, can-finish-open c.args.self.now c.requires, length-open_places c.args.self.now.above, c.self.inside.unfinished.ok.0))
+    c.pop.ensures.variant.1 (omega (arith, ap length h.places, can-finish-open c.args.self.now c.requires, length-open_places c.args.self.now.above,
+        c.self.inside.unfinished.ok.0))
 
 pub overflow_sub-size : goal.overflow_sub-size
 overflow_sub-size g c =
@@ -32,7 +33,8 @@ pub invariant_of-self : goal.invariant_of-self
 invariant_of-self g c =
     let held = holds c.self.view_is c.self.invariant.0 in
     let i = innermost held c.pop.ensures.items c.unwrap-place.ensures in
-    (kept (moved (i.done (c.len.result - c.unwrap-place.result) (omega (arith, i.inside))) c.set_size.ensures refl refl) (finish-here _ held.here held.above c.requires) (finish-above _ held.above), c.self.invariant.1)
+    (kept (moved (i.done (c.len.result - c.unwrap-place.result) (omega (arith, i.inside))) c.set_size.ensures refl refl)
+        (finish-here _ held.here held.above c.requires) (finish-above _ held.above), c.self.invariant.1)
 
 pub returns-clause-after : goal.returns-clause-after
 returns-clause-after g c =
@@ -42,7 +44,8 @@ returns-clause-after g c =
 pub returns-clause-calls : goal.returns-clause-calls
 returns-clause-calls g c = ap written (returns-clause-after g c) ∙ written-finish c.args.self.now c.requires
 
-finished_count : (here : Forest) (above : List Open) → FitsInnermost here above → built_count (close here above) ≡ built_count (record { here = here; above = above })
+finished_count : (here : Forest) (above : List Open) → FitsInnermost here above
+    → built_count (close here above) ≡ built_count (record { here = here; above = above })
 finished_count here [] h = absurd h
 finished_count here (o ∷ above) h = count-close here o above
 

@@ -15,4 +15,6 @@ wrap-requires-3 g c =
     root-checkpoint c.args.first.place c.bump.new.self c.requires.first (still-none c.in_ok-bump.ensures.runs none)
 
 pub returns-clause-step : goal.returns-clause-step
-returns-clause-step g c = on_ok_weaker _ (λ e. from-place c.args.first.place c.args.place.place c.args.kind c.args.self.now c.requires.first c.if-not-at.ensures c.in_ok-wrap.ensures.step c.finish_node.ensures.step c.in_ok-bump.ensures.runs e) c.wrap-3.ensures.step
+returns-clause-step g c =
+    on_ok_weaker _ (λ e. from-place c.args.first.place c.args.place.place c.args.kind c.args.self.now c.requires.first c.if-not-at.ensures
+    c.in_ok-wrap.ensures.step c.finish_node.ensures.step c.in_ok-bump.ensures.runs e) c.wrap-3.ensures.step
