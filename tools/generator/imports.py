@@ -4,6 +4,7 @@ import re
 
 from . import nodes
 from .grammar import FOLDER
+from .layout import uses
 
 # The files of document_grammar that have rows, choices of kinds and rules on kinds.
 FILES = ("Rows", "Choices", "Derivation")
@@ -16,9 +17,9 @@ def kinds_used(text, grammar):
 
 
 def with_names(path, module, names):
-    """The text of a file with these names in the `use` line of a module."""
-    line = re.compile(rf"^use Rattle\.{re.escape(module)}\.\{{.*\}}$", re.M)
-    return line.sub(f"use Rattle.{module}.{{{', '.join(names)}}}", path.read_text())
+    """The text of a file with these names in the `use` lines of a module, which follow one another."""
+    lines = re.compile(rf"(?:^use Rattle\.{re.escape(module)}\.\{{.*\}}\n)+", re.M)
+    return lines.sub(uses(module, names), path.read_text())
 
 
 def outputs(grammar):

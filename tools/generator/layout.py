@@ -39,6 +39,12 @@ def use(path, names):
     return f"use Rattle.{path}.{{{', '.join(names)}}}\n" if names else ""
 
 
+def uses(path, names):
+    """The same in lines of at most 160 characters."""
+    rows = textwrap.wrap(", ".join(names), 160 - len(use(path, ["", ""])) + 3, break_long_words=False, break_on_hyphens=False)
+    return "".join(use(path, [row.removesuffix(",")]) for row in rows)
+
+
 def use_line(path, names, before=0):
     """A `use` line in the layout of `rt fmt`, which breaks long lines. `before` is the length of the line before it."""
     if len(names) == 1:

@@ -11,7 +11,20 @@ use Rattle.parser_rules.specs.declared.constness.Constness.{Constness}
 use Rattle.parser_rules.specs.declared.constness.Constness.TheVariants.{Const, NotConst}
 use Rattle.parser_rules.specs.declared.message.Message.TheVariants as message
 use Rattle.parser_rules.specs.RuleLanguage.{TokenTest, Kind, Keyword, Or, Test, Here, At, Word, Next, Ready, HasNext, Deep, Not, Both, Bump, Note, TooDeep, Rule, Skip, Do, Seq, When, While, Child, Nested, Call, Typed, ◌>◌, expect, want, refuse, expect_word, maybe}
-use Rattle.parser_rules.specs.Nodes.{Node, OperationDefinition, QueryShorthand, OperationType, SelectionSet, Field, Alias, Name, FragmentSpread, InlineFragment, FragmentDefinition, FragmentName, NameForFragment, TypeCondition, Arguments, Argument, Directives, Directive, VariableDefinitions, VariableDefinition, Variable, DefaultValue, IntValue, FloatValue, StringValue, BooleanValue, NullValue, EnumValue, NameForEnum, ListValue, ObjectValue, ObjectField, NamedType, ListType, Description, SchemaDefinition, RootOperationTypeDefinition, ScalarTypeDefinition, ObjectTypeDefinition, ImplementsInterfaces, FieldsDefinition, FieldDefinition, ArgumentsDefinition, InputValueDefinition, InterfaceTypeDefinition, UnionTypeDefinition, UnionMemberTypes, EnumTypeDefinition, EnumValuesDefinition, EnumValueDefinition, InputObjectTypeDefinition, InputFieldsDefinition, DirectiveDefinition, DirectiveLocations, DirectiveLocation, SchemaExtension, ScalarTypeExtension, ObjectTypeExtension, InterfaceTypeExtension, UnionTypeExtension, EnumTypeExtension, InputObjectTypeExtension, Part, Document, Definition, DescribedDefinition, Extensions, OptionalName, Selections, Selection, Spread, AliasedName, RequiredName, OptionalArguments, OptionalDirectives, OptionalVariableDefinitions, TypedVariable, OptionalDescription, OptionalArgumentsDefinition, TypeName, RootType, FieldType, OptionalImplements, InterfaceName, UnionMember, DirectiveName, OnLocations, Location, VariableType, OptionalDefaultValue, OptionalTypeCondition, Value, WordValue, NestedValue, ListItems, Ty, ItemType}
+use Rattle.parser_rules.specs.Nodes.{Node, OperationDefinition, QueryShorthand, OperationType, SelectionSet, Field, Alias, Name, FragmentSpread}
+use Rattle.parser_rules.specs.Nodes.{InlineFragment, FragmentDefinition, FragmentName, NameForFragment, TypeCondition, Arguments, Argument, Directives}
+use Rattle.parser_rules.specs.Nodes.{Directive, VariableDefinitions, VariableDefinition, Variable, DefaultValue, IntValue, FloatValue, StringValue}
+use Rattle.parser_rules.specs.Nodes.{BooleanValue, NullValue, EnumValue, NameForEnum, ListValue, ObjectValue, ObjectField, NamedType, ListType, Description}
+use Rattle.parser_rules.specs.Nodes.{SchemaDefinition, RootOperationTypeDefinition, ScalarTypeDefinition, ObjectTypeDefinition, ImplementsInterfaces}
+use Rattle.parser_rules.specs.Nodes.{FieldsDefinition, FieldDefinition, ArgumentsDefinition, InputValueDefinition, InterfaceTypeDefinition}
+use Rattle.parser_rules.specs.Nodes.{UnionTypeDefinition, UnionMemberTypes, EnumTypeDefinition, EnumValuesDefinition, EnumValueDefinition}
+use Rattle.parser_rules.specs.Nodes.{InputObjectTypeDefinition, InputFieldsDefinition, DirectiveDefinition, DirectiveLocations, DirectiveLocation}
+use Rattle.parser_rules.specs.Nodes.{SchemaExtension, ScalarTypeExtension, ObjectTypeExtension, InterfaceTypeExtension, UnionTypeExtension, EnumTypeExtension}
+use Rattle.parser_rules.specs.Nodes.{InputObjectTypeExtension, Part, Document, Definition, DescribedDefinition, Extensions, OptionalName, Selections}
+use Rattle.parser_rules.specs.Nodes.{Selection, Spread, AliasedName, RequiredName, OptionalArguments, OptionalDirectives, OptionalVariableDefinitions}
+use Rattle.parser_rules.specs.Nodes.{TypedVariable, OptionalDescription, OptionalArgumentsDefinition, TypeName, RootType, FieldType, OptionalImplements}
+use Rattle.parser_rules.specs.Nodes.{InterfaceName, UnionMember, DirectiveName, OnLocations, Location, VariableType, OptionalDefaultValue}
+use Rattle.parser_rules.specs.Nodes.{OptionalTypeCondition, Value, WordValue, NestedValue, ListItems, Ty, ItemType}
 
 -- a selection starts with the token
 abbrev pub selection_start : TokenTest
