@@ -2,8 +2,8 @@
 use crate::elements::Elements;
 use crate::slot::{Bracket, Separator, Slot};
 use crate::walk::slots_of;
-use std::alloc::{AllocError, Allocator};
 use format_tokens::Gap;
+use std::alloc::{AllocError, Allocator};
 
 // How many spaces a level of indent has.
 const INDENT: u16 = 2;

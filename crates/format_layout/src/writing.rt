@@ -11,10 +11,10 @@ use crate::block_text::Indented;
 use crate::elements::Elements;
 use crate::gaps::Gaps;
 use apollo_lexer::{Lexer, Token};
-use lexical_grammar::TokenKind;
 use format_strings::spelled;
-use std::alloc::{AllocError, Allocator};
 use format_tokens::{Layout, is_kept};
+use lexical_grammar::TokenKind;
+use std::alloc::{AllocError, Allocator};
 
 // Writes the tokens of a text.
 #[derive(Drop)]
