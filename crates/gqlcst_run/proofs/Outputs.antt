@@ -4,9 +4,9 @@ use Rattle.apollo_parser.specs.Cut.{Cut}
 use Rattle.apollo_parser.specs.Reads.{items_of}
 use Rattle.apollo_parser.specs.Answers.{Answer, limited}
 use Rattle.apollo_parser.specs.Diagnostics.{Diagnostic}
-use Rattle.gqlcst_run.specs.declared.command.Mode.{Mode}
-use Rattle.gqlcst_run.specs.declared.command.Mode.TheVariants.{Check, Tokens, Tree}
-use Rattle.gqlcst_run.specs.declared.command.Limits.{Limits}
+use Rattle.program_words.specs.declared.gqlcst.Mode.{Mode}
+use Rattle.program_words.specs.declared.gqlcst.Mode.TheVariants.{Check, Tokens, Tree}
+use Rattle.apollo_parser.specs.declared.Limits.{Limits}
 use Rattle.gqlcst_run.specs.declared.outcome.Outcome.{Outcome}
 use Rattle.gqlcst_run.specs.Parsing.{outcome_of, IsFound}
 use Rattle.gqlcst_run.specs.Rendering.{AreLines, IsAnswerForm, IsVerdict, error_count}

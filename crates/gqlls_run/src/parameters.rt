@@ -9,11 +9,11 @@ ghost use Rattle.line_index.specs.declared.PositionEncoding.TheVariants.{Utf8};
 ghost use Rattle.gqlls_run.specs.Parameters.{IsVersionIn, Offers, OffersAll, number_at, position_at, position_in, range_in, text_in, uri_in};
 ghost use Rattle.gqlls_run.specs.Parameters.{each, edit_in, edits_in, extent_in, items_at, list_of, told};
 
-use editor_diagnostics::Places;
 use editor_answers::Span;
+use editor_diagnostics::Places;
+use editor_text::{Change, PositionRange};
 use json::Value;
 use line_index::{Position, PositionEncoding};
-use editor_text::{Change, PositionRange};
 use std::alloc::{AllocError, Global};
 
 fn unsigned_at(value: &Value<'_>, name: &str) -> Option<u64>
