@@ -33,4 +33,6 @@ two-words set new [] d e limits some is after = absurd (omega (arith, some))
 two-words set new (name ∷ []) d e limits some is after = absurd (omega (arith, some))
 two-words set new (name ∷ value ∷ more) d e limits some is after =
     let all : take (length (name ∷ value ∷ more) - 2) more ≡ more = take_all (length (name ∷ value ∷ more) - 2) more (omega arith) in
-    after ∙ ap (λ (words : List (Bor (List ℕ))). option_and_then (limits_after new) (given_by (texts words))) all ∙ option-more set new (with_option name.now value.now) (given_by (texts more)) is
+    after
+    ∙ ap (λ (words : List (Bor (List ℕ))). option_and_then (limits_after new) (given_by (texts words))) all
+    ∙ option-more set new (with_option name.now value.now) (given_by (texts more)) is

@@ -1,7 +1,8 @@
 // The words of `gqlfmt`.
 ghost use Rattle.std.specs.Prelude.{◌≡◌, ◌≤◌, length, IfOk};
 ghost use Rattle.program_words.specs.declared.gqlfmt.WordsError.TheVariants.{Memory};
-ghost use Rattle.program_words.specs.Gqlfmt.{texts, is_option, takes_number, mode_of, with_mode, with_limit, with_word, page_of, run_of, request_of, request_map, IsRead};
+ghost use Rattle.program_words.specs.Gqlfmt.{texts, is_option, takes_number, mode_of, with_mode, with_limit, with_word};
+ghost use Rattle.program_words.specs.Gqlfmt.{page_of, run_of, request_of, request_map, IsRead};
 ghost use Rattle.program_words.specs.Reading.{IsSet, IsTaken, IsTakenFrom};
 
 use crate::limits::SetLimits;
@@ -200,7 +201,8 @@ pub fn options<'a, A: Allocator>(
     alloc: A,
     words: &[&'a str],
 ) -> Result<Request<Plan<'a, A>>, WordsError>
-    ensures { IsRead (request_map (λ plan. record { mode = plan.mode; limits = plan.limits; files = texts plan.files.items })) (request_of (texts words.now)) result }
+    ensures { IsRead (request_map (λ plan. record { mode = plan.mode; limits = plan.limits; files = texts plan.files.items }))
+        (request_of (texts words.now)) result }
 {
     if let Some(page) = page_of(words) {
         return Ok(Request::Print(page));

@@ -6,7 +6,8 @@ use Rattle.program_words.proofs.gqlfmt.plan_of.Given as goal
 
 abbrev pub invariant-loop-place : goal.invariant-loop-place
 invariant-loop-place g l =
-    (l.place ≤ length l.words) × (option_and_then (run_after l.read.settings (texts l.read.files.items)) (given_by (texts (drop l.place l.words))) ≡ run_of (texts l.words))
+    (l.place ≤ length l.words)
+    × (option_and_then (run_after l.read.settings (texts l.read.files.items)) (given_by (texts (drop l.place l.words))) ≡ run_of (texts l.words))
 
 abbrev pub decreases-loop-place : goal.decreases-loop-place
 decreases-loop-place g l = length l.words - l.place
