@@ -13,9 +13,9 @@ PARTS = {
         apollo_tree/src/pointer.rt apollo_tree/src/subtree.rt apollo_tree/src/range.rt apollo_tree/src/token_text.rt apollo_tree/src/indexed.rt
         apollo_cst_core/src/laws.rt apollo_cst_executable/src apollo_cst_type_system/src""",
     "the lexer": """apollo_lexer/src/lexer.rt apollo_lexer/src/limit.rt apollo_lexer/src/error.rt apollo_lexer/src/token.rt apollo_lexer/src/lex_error.rt""",
-    "`gqlcst`": "byte_devices/src gqlcst_run/src/program.rt gqlcst_run/src/ending.rt gqlcst_run/src/command.rt",
+    "`gqlcst`": "byte_devices/src gqlcst_run/src/program.rt gqlcst_run/src/ending.rt program_words/src/gqlcst.rt",
     "`format`": "formatter/src/lib.rt",
-    "`gqlfmt`": """gqlfmt_files/src/settling.rt gqlfmt_words/src/words.rt gqlfmt_run/src/input.rt gqlfmt_run/src/paths.rt gqlfmt_run/src/program.rt""",
+    "`gqlfmt`": """gqlfmt_files/src/settling.rt program_words/src/gqlfmt.rt gqlfmt_run/src/input.rt gqlfmt_run/src/paths.rt gqlfmt_run/src/program.rt""",
     "C, Python and the page": """dumyroke_flat/src/parse.rt dumyroke_flat/src/strings.rt dumyroke_flat/src/format.rt dumyroke_flat/src/laws.rt
         dumyroke_c/src/lib.rt""",
     "places, and `gqlls`": """line_index/src/lib.rt editor_text/src/lib.rt rpc_frames/src/lib.rt rpc_messages/src rpc_serving/src editor_diagnostics/src

@@ -59,7 +59,7 @@ module _ {o : Option Token} {t : Token} {text : Text} (is : o ≡ Some t) (name 
   same-text k =
       let named : true ≡ is_at token.Name (current_of (Some t)) = subst (λ p. true ≡ is_at token.Name (current_of p)) is name in
       name-is-word (kind_of k) (lexeme_of t) text (word_of k) (are-keywords k) (words-are k) named text-is
-          ∙ sym (ap (λ p. is_word (kind_of k) (current_of p)) is)
+      ∙ sym (ap (λ p. is_word (kind_of k) (current_of p)) is)
 
   pub spelled : (k : DefinitionKeyword) → text ≡ word_of k → is_word (kind_of k) (current_of o) ≡ true
   spelled k e = sym (same-text k) ∙ (bytes_eq-Decides text (word_of k)).1 e

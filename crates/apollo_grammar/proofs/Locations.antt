@@ -121,7 +121,7 @@ unfolding inside location_word opened flush
 in_location {k = k} {s = s} {t = t} {u = u} e o h c =
     let found : Some k ≡ find (λ j. is_word j t.current) locations = e ∙ sym (ap (λ (z : State). find (λ j. is_word j z.current) locations) o) in
     child {n = DirectiveLocation} o c (word-runs locations (Do (Note message.ExpectedLocation))
-        (subst (λ x. Runs (chosen x (Do (Note message.ExpectedLocation))) t u) found h))
+    (subst (λ x. Runs (chosen x (Do (Note message.ExpectedLocation))) t u) found h))
 
 -- what the function of a location is proved by, and that of its node
 pub ruleset choosing = (sequence, found_location)

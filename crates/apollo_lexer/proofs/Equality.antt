@@ -26,7 +26,7 @@ equal-same a b h =
     let t = and_parts _ _ n.1 in
     same-fields a b ((bytes_decides a.message b.message).0 m.0)
     (same-subject a.subject b.subject (eqb-true _ _ n.0) ((bytes_decides (subject_text a.subject) (subject_text b.subject)).0 t.0))
-        (eqb-true a.index b.index t.1)
+    (eqb-true a.index b.index t.1)
 
 itself : (a : Diagnostic) → same_diagnostic a a ≡ true
 itself a =

@@ -21,7 +21,7 @@ front-boundary source n some u e =
     let f = front source some u in
     let m = (first_item source).1 in
     subst (IsCharBoundary source) (length-take-le m source f.within ∙ sym e)
-        (IsCharBoundary-at_seam source (take m source) (drop m source) (sym (take-append-drop m source)) f.rest)
+    (IsCharBoundary-at_seam source (take m source) (drop m source) (sym (take-append-drop m source)) f.rest)
 
 -- after the beginning of a number
 pub number-boundary : (source : List ℕ) (n : ℕ) → IsUtf8 source → n ≡ live_len Begin source → IsCharBoundary source n
@@ -29,7 +29,7 @@ number-boundary source n u e =
     let m = live_len Begin source in
     subst (IsCharBoundary source) (sym e)
     (IsCharBoundary-from_take source m u (live-within Begin source) (IsUtf8-from_ascii (take m source)
-        (live-ascii Begin (take m source) (live-is Begin source refl))))
+    (live-ascii Begin (take m source) (live-is Begin source refl))))
 
 -- after an ASCII character
 one-boundary : (source : List ℕ) → IsUtf8 source → 0 < length source → slice_index source 0 < 128 → IsCharBoundary source 1

@@ -22,7 +22,7 @@ pub lanes-run : (test : ℕ → Bool) (f : ℕ → ℕ) (v lanes : List ℕ) (n 
 lanes-run test f v lanes n long fit computed found agree =
     let mask : mask_l (map (top 7) lanes) % 2 ^ 64 ≡ mask_l (map (λ b. top 7 (f b)) v) =
     ap (λ l. mask_l l % 2 ^ 64) (ap (map (top 7)) computed ∙ map-map (top 7) f v)
-        ∙ mask_l-mod (map (λ b. top 7 (f b)) v) 64 (omega (arith, length-map v (λ b. top 7 (f b)), long)) in
+    ∙ mask_l-mod (map (λ b. top 7 (f b)) v) 64 (omega (arith, length-map v (λ b. top 7 (f b)), long)) in
     found ∙ ap (λ m. cond (eqb m 0) 16 (trailing_zeros w64 m)) mask ∙ first_set_mask_l (λ b. top 7 (f b)) v 16 long (omega arith)
     ∙ same-run (λ b. not (top 7 (f b))) test agree v fit
 
@@ -32,7 +32,7 @@ run-cut : (test : ℕ → Bool) (bytes : List ℕ) (n : ℕ) → n ≤ length by
 run-cut test bytes n within =
     ap (prefix_len test) (sym (take-append-drop n bytes)) ∙ prefix_len-append test (take n bytes) (drop n bytes)
     ∙ ap (λ l. cond (eqb (prefix_len test (take n bytes)) l) (l + prefix_len test (drop n bytes)) (prefix_len test (take n bytes)))
-        (length-take-le n bytes within)
+    (length-take-le n bytes within)
 
 pub ends-within : (test : ℕ → Bool) (bytes : List ℕ) (n r : ℕ) → n ≤ length bytes → r ≡ prefix_len test (take n bytes) → r < n → r ≡ prefix_len test bytes
 ends-within test bytes n r within is short =
@@ -68,7 +68,7 @@ sixteen-more test bytes n k within so_far is full =
     let here : k ≡ prefix_len test (take 16 rest) = is ∙ ap (λ l. prefix_len test (take 16 l)) (slice-all bytes n) in
     let on = goes-on test rest 16 k (prefix_len test (take (length rest - 16) (drop 16 rest))) (omega (arith, length-drop n bytes)) here full refl in
     let left : prefix_len test (take (length rest - 16) (drop 16 rest)) ≡ prefix_len test (drop (n + 16) bytes) = ap (prefix_len test)
-        (slice-all rest 16 ∙ drop-drop 16 n bytes) in
+    (slice-all rest 16 ∙ drop-drop 16 n bytes) in
     omega (arith, so_far, on, left)
 
 -- the end of the run in the next sixteen

@@ -221,7 +221,7 @@ quoted-run (b ∷ bs) = elim (cases_Bool (is_plain_string_character b)) [
 pub quoted-open : (text : List ℕ) (i : ℕ) → i ≡ plain text → i ≡ length text → quoted_len 0 text ≡ None
 quoted-open text i is whole =
     quoted-run text ∙ ap (λ k. longer k (quoted_len 0 (drop k text))) (sym is ∙ whole)
-        ∙ ap (λ l. longer (length text) (quoted_len 0 l)) (drop_all (length text) text (omega arith))
+    ∙ ap (λ l. longer (length text) (quoted_len 0 l)) (drop_all (length text) text (omega arith))
 
 -- so far, and what is left
 quoted-to : (text : List ℕ) (i : ℕ) → i ≡ plain text → quoted_len 0 text ≡ longer i (quoted_len 0 (drop i text))
@@ -297,7 +297,7 @@ pub quoted-bad : (text : List ℕ) (i n : ℕ) → i ≡ plain text → eqb (sli
     → n ≡ string_character_len (take (length text - i) (drop i text)) → n ≡ 0 → quoted_len 0 text ≡ None
 quoted-bad text i n is other e none =
     quoted-to text i is ∙ ap (longer i) (escape-none (drop i text) (ap (λ b. eqb b 34) (byte-at text i) ∙ other)
-        (ap string_character_len (sym (slice-rest text i)) ∙ sym e ∙ none))
+    (ap string_character_len (sym (slice-rest text i)) ∙ sym e ∙ none))
 
 -- a byte of the text, in the rest of the text
 byte-there : (text : List ℕ) (i b : ℕ) → slice_index text i ≡ b → slice_index (take (length text - i) (drop i text)) 0 ≡ b
@@ -325,7 +325,7 @@ comment-until i [] lt none is = absurd (omega arith)
 comment-until zero (b ∷ bs) lt none is = rw is refl
 comment-until (suc i) (b ∷ bs) lt none is =
     comment-quiet b bs (false_from_ne_true _ (none 0 (omega arith))) ∙ ap suc (comment-until i bs (omega arith) (λ k l. none (suc k) (omega arith)) is)
-        ∙ omega arith
+    ∙ omega arith
 
 pub comment-ends : (text : List ℕ) (i : ℕ) → FirstAt (is_byte2 10 13) text i → prefix_len is_comment_character text ≡ i
 comment-ends text i f = comment-until i text f.0.high (λ k lt. f.0.before k (omega arith) lt) f.1

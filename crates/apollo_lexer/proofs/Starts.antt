@@ -60,7 +60,7 @@ by-start b bs = elim (cases_Bool (is_name_start b)) [
       let start : start_of b ≡ Name = rw e refl in
       let here : token_at (b ∷ bs) ≡ Some (token.Name, 1 + prefix_len is_name_continue bs) = rw e refl in
       let run : prefix_len is_name_continue (b ∷ bs) ≡ 1 + prefix_len is_name_continue bs = ap (λ t. cond t (1 + prefix_len is_name_continue bs) 0)
-          (name-goes-on b e) in
+      (name-goes-on b e) in
       ap (λ s. token_from s b bs) start ∙ sym (here ∙ ap (λ n. Some (token.Name, n)) (sym run))
   | inr name ↦ elim (cases_Bool (is_digit b || b == 45)) [
     | inl e ↦ rw (name, e) refl
@@ -79,8 +79,10 @@ by-start b bs = elim (cases_Bool (is_name_start b)) [
                 ap (λ s. token_from s b bs) start ∙ sym (here ∙ ap (λ n. Some (token.Whitespace, n)) step)
             | inr blank ↦
                 let start : start_of b ≡ other_start (punctuator b) = rw (name, number, quote, sign, dot, blank) refl in
-                let here : token_at (b ∷ bs) ≡ (if blank_len (b ∷ bs) == 0 then option_map (λ kind. (kind, 1)) (punctuator b) else Some (token.Whitespace,
-                    blanks_len 0 (b ∷ bs))) = rw (name, number, quote, sign, dot) refl in
+                let here : token_at (b ∷ bs) ≡ (if blank_len (b ∷ bs) == 0 then option_map (λ kind. (kind, 1)) (punctuator b) else Some (
+                  token.Whitespace,
+                  blanks_len 0 (b ∷ bs),
+                )) = rw (name, number, quote, sign, dot) refl in
                 ap (λ s. token_from s b bs) start ∙ punctuator-at b bs blank (punctuator b) refl ∙ sym here
           ]
         ]

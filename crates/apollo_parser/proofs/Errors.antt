@@ -125,9 +125,10 @@ ascii-messages = each-error IsAscii (λ d. IsAscii d.message)
 pub limited-ascii : (k : ℕ) (items : List Item) → IsAscii (texts items) → AllTexts IsAscii (limited k items)
 limited-ascii k [] h = subst (AllTexts IsAscii) (sym (limited-end k)) tt
 limited-ascii zero (item ∷ items) h = tt
-limited-ascii (suc k) (item ∷ items) h =
-    (subst IsAscii (take-append_seam item.text (texts items)) (IsAscii-take _ (length item.text) h),
-        limited-ascii k items (subst IsAscii (drop-append_seam item.text (texts items)) (IsAscii-drop _ (length item.text) h)))
+limited-ascii (suc k) (item ∷ items) h = (
+  subst IsAscii (take-append_seam item.text (texts items)) (IsAscii-take _ (length item.text) h),
+  limited-ascii k items (subst IsAscii (drop-append_seam item.text (texts items)) (IsAscii-drop _ (length item.text) h)),
+)
 
 -- ---- the messages of limits
 
@@ -181,8 +182,11 @@ limit-otherwise (c ∷ text) h = on c h
 
 -- an error about something else, with another message
 other-worded : (d : Diagnostic) (found : Found) → found_of d.subject ≡ found → is_limit found ≡ false → (IsLimitMessage d.message → ⊥) → IsLimitWorded d
-other-worded d found e l n = record { limit = λ s. absurd (true≢false (sym (ap (λ (x : Subject). is_limit (found_of x)) s) ∙ (ap is_limit e ∙ l))); other =
-    λ i. absurd (n i) }
+other-worded d found e l n = record {
+  limit = λ s. absurd (true≢false (sym (ap (λ (x : Subject). is_limit (found_of x)) s) ∙ (ap is_limit e ∙ l)));
+  other =
+      λ i. absurd (n i);
+}
 
 any-text : (answers : List Answer) → AllTexts (λ text. ⊤) answers
 any-text [] = tt
@@ -192,10 +196,10 @@ any-text (limit_at index ∷ answers) = any-text answers
 pub limit-worded : {answers : List Answer} {rs : List Report} (ds : List Diagnostic) → Reported true answers rs → AllZip IsErrorOf rs ds → All IsLimitWorded ds
 limit-worded {answers = answers} ds h = each-error (λ text. ⊤) IsLimitWorded
     (λ text index d i e. other-worded d (at_text text) e.subject refl (λ l. no-fault-message text d.message (is-fault-message text d.message e.message)
-        (limit-otherwise d.message (limit-begins d.message l))))
+    (limit-otherwise d.message (limit-begins d.message l))))
     (λ index d e. record { limit = λ s. inl e.message; other = λ i. subject-limit d e.subject })
     (λ m x d i e. other-worded d (found_at x) e.subject (found-other x) (λ l. true≢false
-        (sym (limit-begins d.message l) ∙ (ap begins_limit e.message ∙ message-begins m (found_at x)))))
+    (sym (limit-begins d.message l) ∙ (ap begins_limit e.message ∙ message-begins m (found_at x)))))
     (λ x d e. record { limit = λ s. inr e.message; other = λ i. subject-limit d e.subject })
     ds h (any-text answers)
 
@@ -237,7 +241,7 @@ errors-along (token_limit h) (d ∷ ds) z =
     parsed.token_limit (record { subject = about; index = z.0.index }) (record { subject = about; message = z.0.message }) (errors-along h ds z.1)
 errors-along (fault m {k = k} {item = item} e i h) (d ∷ ds) z =
     parsed.fault m e i (record { subject = subject-here (is_end k) d.subject item.text z.0.subject; index = z.0.index })
-        (z.0.message ∙ ap (message_text m) (sym z.0.subject)) (errors-along h ds z.1)
+    (z.0.message ∙ ap (message_text m) (sym z.0.subject)) (errors-along h ds z.1)
 errors-along (recursion_limit e i h) (d ∷ ds) z =
     let about = subject-limit d z.0.subject in
     parsed.recursion_limit e i (record { subject = about; index = z.0.index }) (record { subject = about; message = z.0.message }) (errors-along h ds z.1)

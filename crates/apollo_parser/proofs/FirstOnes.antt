@@ -42,7 +42,7 @@ module _ (sort : Sort) {source : List ℕ} {items : List Item} (max_depth max_it
   pub not_early_limit : OfFirst (λ e. IsRecursionLimit e → NotEarlyLimit sort max_depth items e.index) ds
   not_early_limit = of-first (λ d. IsRecursionLimit d → NotEarlyLimit sort max_depth items d.index)
       (λ e d z i n. subst (NotEarlyLimit sort max_depth items) (sym z.index)
-          (report-not-early-limit cut i.0 (sym z.subject ∙ ap found_of n.subject) (λ m j. no-recursion m e d j z n)))
+      (report-not-early-limit cut i.0 (sym z.subject ∙ ap found_of n.subject) (λ m j. no-recursion m e d j z n)))
 
   -- the tree's leaves are of the first answers
   pub ended_nodes_fit : (back : List Leaf) → OneLeafAnItem (limited max_items items) (leaves f ++ back)

@@ -51,9 +51,9 @@ one-parse {k = k} a b p q =
     let last : p.last ≡ q.last = one-result refl p.run q.run in
     let tree : a.tree ≡ b.tree = p.tree ∙ ap finished last ∙ sym q.tree in
     let errors : a.errors ≡ b.errors = one-list q.last.errors a.errors b.errors
-        (subst (λ (s : State). AllZip IsErrorOf s.errors a.errors) last p.errors) q.errors in
+    (subst (λ (s : State). AllZip IsErrorOf s.errors a.errors) last p.errors) q.errors in
     let recursion : a.recursion_limit ≡ b.recursion_limit =
     p.recursion_limit ∙ ap (λ (s : State). record { current = s.depth; high = s.high; limit = s.limit }) last ∙ sym q.recursion_limit in
     let tokens : a.token_limit ≡ b.token_limit = p.token_limit ∙ ap (λ (s : State). record { current = 0; high = s.asked; limit = k }) last
-        ∙ sym q.token_limit in
+    ∙ sym q.token_limit in
     λ i. record { tree = tree i; errors = errors i; recursion_limit = recursion i; token_limit = tokens i }

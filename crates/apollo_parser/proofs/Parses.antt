@@ -84,7 +84,7 @@ module _ (max_items max_depth : ℕ) (source : List ℕ) (s : State) (cut : Cut 
       let front = texts (take max_items items) in
       let back = texts (drop max_items items) in
       let joined : front ++ back ≡ source = sym (texts-append (take max_items items) (drop max_items items)) ∙ ap texts (take-append-drop max_items items)
-          ∙ cut.joined in
+      ∙ cut.joined in
       ap (λ t. take (length t) source) run-text ∙ ap (take (length front)) (sym joined) ∙ take-append_seam front back ∙ sym run-text
 
   pub run-read : s.items ≡ []
@@ -177,7 +177,7 @@ module _ {source : List ℕ} {max_depth max_items : ℕ} {t : Parsed} (p : ByRul
   limit_met h =
       let past = asked-past xs max_depth kind.DOCUMENT p.run (any-recursion s.errors t.errors p.errors h) in
       rw p.recursion_limit (below-cap max_depth s.high past (levels-within xs max_depth s p.run) (let f = few-answers max_items source p.short in
-          omega (arith, f)))
+      omega (arith, f)))
 
   pub past_limit : max_depth < t.recursion_limit.high → Any IsLimit t.errors
   past_limit more =
@@ -277,11 +277,14 @@ module _ {source : List ℕ} {max_depth max_items : ℕ} {t : Parsed} (p : ByRul
     goes-on : GoesOn max_depth items (map (λ e. e.index) t.errors) (root_children t.tree)
     goes-on front later a u same whole spells nests =
         let count : length items ≤ max_items = given-within max_items items (all-given-by in-answers none-met) in
-        let taken : s.accepts ≡ true = elim (taken-or-limited xs max_depth kind.DOCUMENT s (along reports-along p.run)) [ inl y ↦ y | inr l ↦
-            absurd (none-met l) ] in
+        let taken : s.accepts ≡ true = elim (taken-or-limited xs max_depth kind.DOCUMENT s (along reports-along p.run)) [
+          | inl y ↦ y
+          | inr l ↦
+              absurd (none-met l)
+        ] in
         let here : kids ≡ built.join front later = sym (ap root_children one-tree) ∙ same in
         let g = run-goes-on max_depth max_items source items s p.cut p.run count taken read
-            (over-tokens s.current (document-over p.run)) front later a u here whole spells nests in
+        (over-tokens s.current (document-over p.run)) front later a u here whole spells nests in
         (g.0, subst (NoneBeyond (a.item ∷ a.more)) (sym same-places) g.1)
 
   pub recovers : (Any IsLimit t.errors → ⊥) → Recovers max_depth items t

@@ -85,18 +85,18 @@ module _ {q : Rule} (j : SyntaxKind) (max_items max_depth : ℕ) (source : List 
         let rest = answers_text first-leaves.back ++ texts (drop max_items items) in
         let is : text (finished (left_out s)) ≡ front = text-leaves (finished (left_out s)) ∙ ap joined leaves-are ∙ first-leaves.text in
         let taken : front ++ answers_text first-leaves.back ≡ texts (take max_items items) =
-            sym (text-append first-leaves.front first-leaves.back) ∙ ap answers_text (sym first-leaves.split) ∙ limited-text max_items items in
+        sym (text-append first-leaves.front first-leaves.back) ∙ ap answers_text (sym first-leaves.split) ∙ limited-text max_items items in
         let whole : texts (take max_items items) ++ texts (drop max_items items) ≡ source =
-            sym (texts-append (take max_items items) (drop max_items items)) ∙ ap texts (take-append-drop max_items items) ∙ cut.joined in
+        sym (texts-append (take max_items items) (drop max_items items)) ∙ ap texts (take-append-drop max_items items) ∙ cut.joined in
         let joins : front ++ rest ≡ source = sym (append_assoc front (answers_text first-leaves.back) (texts (drop max_items items)))
-            ∙ ap (λ (t : List ℕ). t ++ texts (drop max_items items)) taken ∙ whole in
+        ∙ ap (λ (t : List ℕ). t ++ texts (drop max_items items)) taken ∙ whole in
         ap (λ (t : List ℕ). take (length t) source) is ∙ ap (take (length front)) (sym joins) ∙ take-append_seam front rest ∙ sym is
 
     pub root-nested : count (finished (left_out s)) < 2 ^ 64 → nest (tree_of (finished (left_out s))) ≤ s.high
     root-nested c =
         let n = ap count root-is in
         subst (λ f. nest (tree_of f) ≤ s.high) (sym root-is) (root-nesting (answers max_items source) max_depth j s passes.heavy passes.levels run
-            (omega (arith, c, n)))
+        (omega (arith, c, n)))
 
 -- ---- a parse
 
@@ -128,14 +128,22 @@ module _ {j : SyntaxKind} {q : Rule} {source : List ℕ} {max_depth max_items : 
     one-front =
         let f = run-front (answers max_items source) max_depth j passes.leaves p.run in
         let same : leaves p.last.tree.here ≡ leaves t.tree = sym (ap leaves (p.tree ∙ root-is j max_items max_depth source p.last p.run)
-            ∙ append-nil (leaves p.last.tree.here)) in
+        ∙ append-nil (leaves p.last.tree.here)) in
         subst (λ (ls : List Leaf). OneFront (answers max_items source) ls p.last.errors) same f
 
     first_items : FirstItems (answers max_items source) (leaves t.tree) t.errors
     first_items =
         let f = one-front in
-        record { front = f.front; ahead = f.ahead; back = f.back; split = f.split; one_leaf = f.leaves; errors =
-            errors-along f.reported t.errors p.errors; few = f.few }
+        record {
+          front = f.front;
+          ahead = f.ahead;
+          back = f.back;
+          split = f.split;
+          one_leaf = f.leaves;
+          errors =
+              errors-along f.reported t.errors p.errors;
+          few = f.few;
+        }
 
     limit_messages : All IsLimitWorded t.errors
     limit_messages = limit-worded t.errors one-front.reported p.errors
@@ -145,7 +153,7 @@ module _ {j : SyntaxKind} {q : Rule} {source : List ℕ} {max_depth max_items : 
         let f = one-front in
         let split = f.split ∙ sym (append_assoc f.front f.ahead f.back) in
         let all : AllTexts IsAscii ((f.front ++ f.ahead) ++ f.back) = subst (AllTexts IsAscii) split
-            (limited-ascii max_items (items_of source) (rw p.cut.joined h)) in
+        (limited-ascii max_items (items_of source) (rw p.cut.joined h)) in
         ascii-messages t.errors f.reported (texts-front IsAscii (f.front ++ f.ahead) f.back all) p.errors
 
   in_order : IsNonDecreasing (map (λ e. e.index) t.errors)
@@ -158,7 +166,7 @@ module _ {j : SyntaxKind} {q : Rule} {source : List ℕ} {max_depth max_items : 
         let xs = answers max_items source in
         let past = limit-passed xs max_depth j p.run (any-recursion p.last.errors t.errors p.errors h) in
         subst (λ (l : LimitTracker). max_depth + 1 ≤ l.high) (sym p.recursion_limit)
-            (below-cap max_depth p.last.high past (root-levels-within xs max_depth j p.last passes.tokens p.run) (few-answers max_items source p.short))
+        (below-cap max_depth p.last.high past (root-levels-within xs max_depth j p.last passes.tokens p.run) (few-answers max_items source p.short))
 
     beginning : take (length (text t.tree)) source ≡ text t.tree
     beginning = subst (λ f. take (length (text f)) source ≡ text f) (sym p.tree) (root-begins j max_items max_depth source p.last p.run passes p.cut)
@@ -175,7 +183,7 @@ module _ {j : SyntaxKind} {q : Rule} {source : List ℕ} {max_depth max_items : 
         let high : max_depth < p.last.high = subst (λ (l : LimitTracker). max_depth < l.high) p.recursion_limit more in
         any-limit p.last.errors t.errors p.errors
         (root-limited max_depth (answers max_items source) j p.last (ends-well max_items 0 (items_of source) p.cut.each) passes.limits p.run
-            (subst (λ (n : ℕ). n < p.last.high) (sym limit) high))
+        (subst (λ (n : ℕ). n < p.last.high) (sym limit) high))
 
   -- without errors, the tree's text is a sentence, and the tree its derivation
   sound : (sort : Sort) → (p.last.errors ≡ [] → IsSoundPart sort max_depth p.last)
@@ -198,7 +206,7 @@ module _ {j : SyntaxKind} {q : Rule} {source : List ℕ} {max_depth max_items : 
     row_symbols : Rowed (tree_of t.tree)
     row_symbols =
         rw (p.tree ∙ root-is j max_items max_depth source p.last p.run) (all-rowed (number j) p.last.tree.here
-            (root-rowed max_depth (answers max_items source) j p.last passes.row p.run))
+        (root-rowed max_depth (answers max_items source) j p.last passes.row p.run))
 
     module _ (sort : Sort) (right : IsUtf8 source → (e : Report) (more : List Report) → p.last.errors ≡ e ∷ more
         → RightFirst sort source (items_of source) max_depth max_items (finished (left_out p.last)) e) where
@@ -219,7 +227,7 @@ module _ {j : SyntaxKind} {q : Rule} {source : List ℕ} {max_depth max_items : 
           let l = one-front passes in
           let all = leaves-go-on l.front (l.ahead ++ l.back) (leaves t.tree) l.leaves in
           first.ended_nodes_fit sort max_depth max_items t.tree p.cut p.last.errors t.errors p.errors first-right all.0
-              (subst (λ (xs : List Answer). OneLeafAnItem xs (leaves t.tree ++ all.0)) (sym l.split) all.1)
+          (subst (λ (xs : List Answer). OneLeafAnItem xs (leaves t.tree ++ all.0)) (sym l.split) all.1)
 
   -- all of it
   pub promise : RootRule j q → Sized (min (length (items_of source)) max_items) p.last → (sort : Sort)

@@ -85,5 +85,10 @@ type-rooted (no_type e) = refl
 pub one-type : {source : List ℕ} {r k : ℕ} {t : Parsed} → ByTypeRule source r k t → OneType (first_kind (answers k source)) t.tree
 one-type {source = source} {r = r} {k = k} p =
     let (kids, is) = one-root p.root in
-    record { kind = p.kind; kids = kids; is = is; starts = subst (λ (first : Option TokenKind). IsTypeKind first p.kind) (first-is (answers k source) r)
-        (type-kind p.is) }
+    record {
+      kind = p.kind;
+      kids = kids;
+      is = is;
+      starts = subst (λ (first : Option TokenKind). IsTypeKind first p.kind) (first-is (answers k source) r)
+          (type-kind p.is);
+    }

@@ -49,4 +49,4 @@ chain-step n None e = ap (λ ps. node_place n ∷ ps) (ap (first_parents n.index
 chain-step n (Some u) e =
     let p = node_place n in
     ap (λ ps. p ∷ ps) (ap (first_parents n.index) (sym e) ∙ same-chain n.index (suc u.index) (Some (node_place u))
-        (subst (IsEnough n.index) (sym e) (above n.index p (omega arith))) (own (node_place u)))
+    (subst (IsEnough n.index) (sym e) (above n.index p (omega arith))) (own (node_place u)))

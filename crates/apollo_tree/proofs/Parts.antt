@@ -45,7 +45,7 @@ part at i p (leaf k s rest) (suc n) d h =
     let e : Element = record { tree = Leaf k s; start = at; parent = p; children = [] } in
     let ys = order_from (at + length s) (suc i) p rest in
     moved_on (e ∷ []) [] at i p (leaf k s rest) (suc n) (part (at + length s) (suc i) p rest n d (omega arith)) (omega arith) (omega arith)
-        (ap (λ x. e ∷ x) (sym (append-nil ys)))
+    (ap (λ x. e ∷ x) (sym (append-nil ys)))
 part at i p (node k kids rest) zero d h =
     let same : i ≡ i + 0 = omega arith in
     let at2 = at + length (text kids) in
@@ -74,7 +74,7 @@ part at i p (node k kids rest) (suc n) d h =
     let q : get_or (inner ++ outer) n d ≡ get_or outer m d = ap (λ x. get_or (inner ++ outer) x d) (omega arith) ∙ get_or-append-add inner outer m d in
     subst (λ x. Part at i p f2 (suc n) x) (sym q)
     (moved_on (e ∷ inner) [] at i p f2 (suc n) (part at2 (suc (i + count kids)) p rest m d (omega arith)) (omega arith) (omega arith)
-        (ap (λ x. e ∷ (inner ++ x)) (sym (append-nil outer)))))
+    (ap (λ x. e ∷ (inner ++ x)) (sym (append-nil outer)))))
     (cases_lt n (count kids))
 
 -- ---- tiles
@@ -121,7 +121,7 @@ tiles whole at i p (node k kids rest) h =
     (tiles whole at2 (suc (i + count kids)) p rest
     (λ m b.
     let past : get_or (inner ++ outer) (count kids + m) nowhere ≡ get_or outer m nowhere = ap (λ j. get_or (inner ++ outer) (j + m) nowhere) (sym l)
-        ∙ get_or-append-add inner outer m nowhere in
+    ∙ get_or-append-add inner outer m nowhere in
     ap (λ j. get_or (order whole) j nowhere) (omega arith) ∙ h (suc (count kids + m)) (omega arith) ∙ past)))
 
 -- ---- at an element of a table
@@ -149,7 +149,7 @@ module _ (rs : List Record) (s : List ℕ) (t : IsTable rs s) (i : ℕ) (h : i <
       let sub = order_from e.start (suc i) (Some i) (tree_kids e.tree) in
       let l : length sub ≡ count (tree_kids e.tree) = length-order e.start (suc i) (Some i) (tree_kids e.tree) in
       let whole : order (forest s rs) ≡ c.front ++ (e ∷ (sub ++ c.back)) = c.order
-          ∙ ap (λ j. c.front ++ (e ∷ (order_from e.start (suc j) (Some j) (tree_kids e.tree) ++ c.back))) plain in
+      ∙ ap (λ j. c.front ++ (e ∷ (order_from e.start (suc j) (Some j) (tree_kids e.tree) ++ c.back))) plain in
       let at : suc i + k ≡ length c.front + suc k = omega (arith, c.index) in
       ap (λ x. get_or x (suc i + k) nowhere) whole
       ∙ ap (λ j. get_or (c.front ++ (e ∷ (sub ++ c.back))) j nowhere) at
@@ -169,9 +169,9 @@ module _ (rs : List Record) (s : List ℕ) (t : IsTable rs s) (i : ℕ) (h : i <
       let kids = tree_kids e.tree in
       let end : e.start + length (text kids) ≡ e.start + length (tree_text e.tree) = ap (λ x. e.start + length x) (sym (node-text e.tree n)) in
       let filled : AreTiles e.start (e.start + length (text kids)) (ranges (forest s rs) (places (suc i) kids)) = tiles (forest s rs) e.start (suc i)
-          (Some i) kids stands in
+      (Some i) kids stands in
       let ended : AreTiles e.start (e.start + length (tree_text e.tree)) (ranges (forest s rs) (places (suc i) kids)) = subst
-          (λ j. AreTiles e.start j (ranges (forest s rs) (places (suc i) kids))) end filled in
+      (λ j. AreTiles e.start j (ranges (forest s rs) (places (suc i) kids))) end filled in
       subst (λ is. AreTiles e.start (e.start + length (tree_text e.tree)) (ranges (forest s rs) is)) (sym children-at) ended
 
   -- the range of each element below it lies within its own
@@ -186,7 +186,7 @@ module _ (rs : List Record) (s : List ℕ) (t : IsTable rs s) (i : ℕ) (h : i <
       let c : Cut e.start 1 kids k x = cut e.start 1 (suc i) (Some i) kids k nowhere b in
       let begins : (element (spot (forest s rs) (suc i + k))).start ≡ x.start = ap (λ (y : Element). y.start) same in
       let long : length (tree_text (element (spot (forest s rs) (suc i + k))).tree)
-          ≡ length (tree_text x.tree) = ap (λ (y : Element). length (tree_text y.tree)) same in
+      ≡ length (tree_text x.tree) = ap (λ (y : Element). length (tree_text y.tree)) same in
       let parts : length (text kids) ≡ length c.before + (length (tree_text x.tree) + length c.after) =
       ap length c.words ∙ length-append c.before (tree_text x.tree ++ c.after) ∙ ap (λ n. length c.before + n) (length-append (tree_text x.tree) c.after) in
       let own : length (tree_text e.tree) ≡ length (text kids) = ap length (under-text e.tree (omega arith)) in

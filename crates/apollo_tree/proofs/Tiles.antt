@@ -31,4 +31,4 @@ tiled-records at up (node k kids rest) =
     let at2 = at + length (text kids) in
     let up2 = further up (suc (count kids)) in
     ap (λ n. tiled n (records at 1 kids ++ records at2 up2 rest)) (sym (length-records at 1 kids)) ∙ tiled-past (records at 1 kids) _
-        ∙ tiled-records at2 up2 rest
+    ∙ tiled-records at2 up2 rest

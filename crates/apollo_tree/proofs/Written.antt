@@ -13,7 +13,7 @@ brackets-join none g = refl
 brackets-join (leaf k s rest) g = ap (λ x. Single k s ∷ x) (brackets-join rest g)
 brackets-join (node k kids rest) g =
     ap (λ x. Opening k ∷ x) (ap (λ x. brackets kids ++ Closing ∷ x) (brackets-join rest g)
-        ∙ sym (append_assoc (brackets kids) (Closing ∷ brackets rest) (brackets g)))
+    ∙ sym (append_assoc (brackets kids) (Closing ∷ brackets rest) (brackets g)))
 
 pub written-start : (k : SyntaxKind) (b : Building) → written (start k b) ≡ written b ++ Opening k ∷ []
 written-start k b = append-nil _ ∙ sym (append_assoc (open_brackets b.above) (brackets b.here) (Opening k ∷ []))
@@ -62,8 +62,12 @@ elements-brackets (node k kids rest) = ap suc (elements-append (brackets kids) (
 elements-open : (above : List Open) → elements (open_brackets above) ≡ open_count above
 elements-open [] = refl
 elements-open (o ∷ above) =
-    elements-append (open_brackets above) _ ∙ omega (arith, elements-append (brackets o.before) (Opening o.kind ∷ []), elements-brackets o.before,
-        elements-open above)
+    elements-append (open_brackets above) _ ∙ omega (
+      arith,
+      elements-append (brackets o.before) (Opening o.kind ∷ []),
+      elements-brackets o.before,
+      elements-open above,
+    )
 
 open-past : (n : ℕ) (k : SyntaxKind) (xs ys : List Bracket) → n ≡ elements xs → open_at n k (xs ++ ys) ≡ xs ++ open_at 0 k ys
 open-past n k [] ys e = ap (λ m. open_at m k ys) e
@@ -85,12 +89,12 @@ written-wrap p k b place =
     let g = back n b.here in
     let xs = open_brackets b.above ++ brackets f in
     let whole : written b ≡ xs ++ brackets g = ap (λ x. open_brackets b.above ++ brackets x) (sym (join-front_back n b.here))
-        ∙ ap (λ x. open_brackets b.above ++ x) (brackets-join f g) ∙ sym (append_assoc (open_brackets b.above) (brackets f) (brackets g)) in
+    ∙ ap (λ x. open_brackets b.above ++ x) (brackets-join f g) ∙ sym (append_assoc (open_brackets b.above) (brackets f) (brackets g)) in
     let l : p ≡ elements xs = sym (elements-append (open_brackets b.above) (brackets f)
-        ∙ omega (arith, elements-open b.above, elements-brackets f, place.inside, place.seam)) in
+    ∙ omega (arith, elements-open b.above, elements-brackets f, place.inside, place.seam)) in
     sym (ap (open_at p k) whole ∙ open-past p k xs (brackets g) l ∙ ap (λ x. xs ++ x) (open-first k g)
     ∙ sym (ap (λ x. x ++ brackets g) (sym (append_assoc (open_brackets b.above) (brackets f) (Opening k ∷ [])))
-        ∙ append_assoc xs (Opening k ∷ []) (brackets g)))
+    ∙ append_assoc xs (Opening k ∷ []) (brackets g)))
 
 whole-written : (above : List Open) (here : Forest) → above ≡ [] → brackets here ≡ open_brackets above ++ brackets here
 whole-written above here e = ap (λ x. open_brackets x ++ brackets here) (sym e)

@@ -44,7 +44,7 @@ pub taken_call : {E : Type 0} (r : Result ℕ E) (n : ℕ) (bytes rest : List �
 taken_call r zero bytes rest old now new t e some within a = absurd (some refl)
 taken_call r (suc n) bytes rest old now new t e some within a =
     rw (a, e) (subst (λ (more : List ℕ). IsTaken bytes more old (moved now (take (suc n) rest))) (sym (take_rest rest (suc n)))
-        (taken-more (suc n) bytes rest old now t))
+    (taken-more (suc n) bytes rest old now t))
 
 -- a call of the reader gave some bytes
 pub gave : {E : Type 0} (r : Result ℕ E) (n : ℕ) (bytes buffer : List ℕ) (old now new : Account) → now ≡ moved old bytes → r ≡ Ok n → n ≢ 0

@@ -12,8 +12,10 @@ module _ {T : Type 0} (IsOutput : List ℕ → T → List ℕ → Type 0) where
   cut_off : (fault : Fault) (input : List ℕ) (outcome : T) (output : List ℕ) (r r' w w' : Account) → r' ≡ stopped (moved r input) → IsUtf8 input
       → IsOutput input outcome output
       → EndsWriting fault output w w' → Reads {T = T} (Err fault) input r r' × Writes IsOutput (Err fault) input w w'
-  cut_off Write input outcome output r r' w w' read text made broken = (read,
-      record { utf8 = text; outcome = outcome; output = output; made = made; broken = broken })
+  cut_off Write input outcome output r r' w w' read text made broken = (
+    read,
+    record { utf8 = text; outcome = outcome; output = output; made = made; broken = broken },
+  )
   cut_off Read input outcome output r r' w w' read text made broken = absurd broken
   cut_off Utf8 input outcome output r r' w w' read text made broken = absurd broken
   cut_off Memory input outcome output r r' w w' read text made broken = absurd broken

@@ -22,8 +22,10 @@ added-then {f = f} {g = g} {b = b} h k = record { above = k.above ∙ h.above; h
 
 pub added-node : {f : Forest} {b t : Building} (k : SyntaxKind) → Added f (start k b) t → Added (node k f none) b (finish t)
 added-node {b = b} {t = t} k h =
-    let e = ap (close t.here) h.above in record { above = ap (λ (z : Building). z.above) e;
-        here = ap (λ (z : Building). z.here) e ∙ ap (λ (x : Forest). join b.here (node k x none)) h.here }
+    let e = ap (close t.here) h.above in record {
+      above = ap (λ (z : Building). z.above) e;
+      here = ap (λ (z : Building). z.here) e ∙ ap (λ (x : Forest). join b.here (node k x none)) h.here;
+    }
 
 -- the new node holds what was added since
 pub wrap-added : (k : SyntaxKind) (b t : Building) (f : Forest) → t.above ≡ b.above → t.here ≡ join b.here f
@@ -60,4 +62,4 @@ pub place-added : {f : Forest} {b t : Building} (place : ℕ) → Added f b t �
 place-added {f = f} {b = b} {t = t} place h m =
     subst (λ x. IsPlace place (record { here = x; above = t.above })) (sym h.here)
     (subst (λ above. IsPlace place (record { here = join b.here f; above = above })) (sym h.above)
-        (record { inside = m.inside; seam = seam-join (place - open_count b.above) b.here f m.seam }))
+    (record { inside = m.inside; seam = seam-join (place - open_count b.above) b.here f m.seam }))

@@ -79,7 +79,7 @@ tokens-append [] more = refl
 tokens-append (item ∷ before) more =
     tokens-cons item (before ++ more) ∙ (ap (λ (w : List Token). map token_of (significant_word item.kind item.text) ++ w) (tokens-append before more)
     ∙ (sym (append_assoc (map token_of (significant_word item.kind item.text)) (tokens_of before) (tokens_of more))
-        ∙ ap (λ (w : List Token). w ++ tokens_of more) (sym (tokens-cons item before))))
+    ∙ ap (λ (w : List Token). w ++ tokens_of more) (sym (tokens-cons item before))))
 
 terminals-append : (v w : List Token) → terminals (v ++ w) ≡ words v ++ terminals w
 terminals-append [] w = refl
@@ -91,9 +91,9 @@ cut-shown place [] cut = absurd cut
 cut-shown place (item ∷ []) cut = subst (λ (i : Item). shown (i ∷ []) ≡ terminals (tokens_of (i ∷ []))) (sym cut) refl
 cut-shown place (item ∷ next ∷ items) cut =
     ap₂ (λ (a b : List Terminal). a ++ b) (item-shown item.kind item.text (texts (next ∷ items)) cut.1)
-        (cut-shown (place + length item.text) (next ∷ items) cut.2)
+    (cut-shown (place + length item.text) (next ∷ items) cut.2)
     ∙ (sym (terminals-append (map token_of (significant_word item.kind item.text)) (tokens_of (next ∷ items)))
-        ∙ ap terminals (sym (tokens-cons item (next ∷ items))))
+    ∙ ap terminals (sym (tokens-cons item (next ∷ items))))
 
 -- and before an item its tokens
 pub before-shown : (place : ℕ) (before : List Item) (item : Item) (more : List Item) → CutFrom place (before ++ item ∷ more)
@@ -109,8 +109,10 @@ pub cut-from : (place : ℕ) (before : List Item) (item : Item) (more : List Ite
     → CutFrom (place + length (texts before)) (item ∷ more)
 cut-from place [] item more cut = let e : place + 0 ≡ place = omega arith in rw e cut
 cut-from place (first ∷ before) item more cut =
-    let e : place + length (first.text ++ texts before) ≡ (place + length first.text) + length (texts before) = omega (arith,
-        length-append first.text (texts before)) in
+    let e : place + length (first.text ++ texts before) ≡ (place + length first.text) + length (texts before) = omega (
+      arith,
+      length-append first.text (texts before),
+    ) in
     subst (λ (n : ℕ). CutFrom n (item ∷ more)) (sym e) (cut-from (place + length first.text) before item more (item-then place before item more first cut).2)
 
 -- ---- two items of one list

@@ -131,5 +131,5 @@ pub root-placed : (b : Building) (o : Open) → o.before ≡ built.none → b.ab
     → Placed (tree_of (finish b).here)
 root-placed b o n a h =
     let e : (finish b).here ≡ built.node o.kind b.here built.none = ap (λ (above : List Open). (close b.here above).here) a
-        ∙ ap (λ (f : built.Forest). built.join f (built.node o.kind b.here built.none)) n in
+    ∙ ap (λ (f : built.Forest). built.join f (built.node o.kind b.here built.none)) n in
     rw e (λ g. trims b.here h g.4)

@@ -1,4 +1,6 @@
-// What C calls: each export is a call of `dumyroke_flat`, with its contract. `bindings/c/include/dumyroke.h` declares them.
+//! The calls of `dumyroke_flat` for C, each with its contract: a static library, which Python loads too.
+//!
+//! `bindings/c/include/dumyroke.h` declares `dumyroke_parse`, `dumyroke_string_value` and `dumyroke_format`, and says what each number is.
 #![tactic(auto)]
 
 ghost use Rattle.std.specs.Prelude.{◌≡◌};

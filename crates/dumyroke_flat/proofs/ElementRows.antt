@@ -17,7 +17,8 @@ pub length-rows : (index : ℕ) (es : List Element) → length (rows_from index 
 length-rows index [] = refl
 length-rows index (e ∷ es) = ap suc (length-rows (suc index) es)
 
-pub row-there : (index i : ℕ) (es : List Element) (d : ElementRow) → i < length es → get_or (rows_from index es) i d ≡ element_row (index + i) (get_or es i nowhere)
+pub row-there : (index i : ℕ) (es : List Element) (d : ElementRow) → i < length es
+    → get_or (rows_from index es) i d ≡ element_row (index + i) (get_or es i nowhere)
 row-there index i [] d l = absurd (omega arith)
 row-there index zero (e ∷ es) d l = let same : index ≡ index + 0 = omega arith in ap (λ (n : ℕ). element_row n e) same
 row-there index (suc i) (e ∷ es) d l =
@@ -62,10 +63,13 @@ within f i e l is =
 
 -- the row of one more element is written
 pub next-row : (buffer rows : List ElementRow) (f : Forest) (i : ℕ) (row : ElementRow) → rows ≡ filled buffer (take i (element_rows f))
-    → row ≡ element_row i (get_or (order f) i nowhere) → i < length buffer → i < length (order f) → set rows i row ≡ filled buffer (take (i + 1) (element_rows f))
+    → row ≡ element_row i (get_or (order f) i nowhere) → i < length buffer → i < length (order f)
+    → set rows i row ≡ filled buffer (take (i + 1) (element_rows f))
 next-row buffer rows f i row e r l k =
     let all : List ElementRow = element_rows f in
     let same : 0 + i ≡ i = omega arith in
-    let there : get_or all i row ≡ element_row i (get_or (order f) i nowhere) = row-there 0 i (order f) row k ∙ ap (λ (n : ℕ). element_row n (get_or (order f) i nowhere)) same in
+    let there : get_or all i row ≡ element_row i (get_or (order f) i nowhere) = row-there 0 i (order f) row k
+    ∙ ap (λ (n : ℕ). element_row n (get_or (order f) i nowhere)) same in
     let more : i < length all = omega (arith, length-rows 0 (order f)) in
-    ap (λ (xs : List ElementRow). set xs i row) e ∙ ap (λ (x : ElementRow). set (filled buffer (take i all)) i x) (r ∙ sym there) ∙ filled-by-one-more buffer all i (i + 1) row refl l more
+    ap (λ (xs : List ElementRow). set xs i row) e ∙ ap (λ (x : ElementRow). set (filled buffer (take i all)) i x) (r ∙ sym there)
+    ∙ filled-by-one-more buffer all i (i + 1) row refl l more

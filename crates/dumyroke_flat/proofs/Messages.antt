@@ -28,12 +28,14 @@ text-within {source} {r} {k} t p =
     omega (arith, ap length p.lossless, ap length p.cut.joined, first)
 
 -- the messages with the next error's
-pub messages-more : (es : List Diagnostic) (i j : ℕ) (d : Diagnostic) → j ≡ i + 1 → i < length es → messages (take j es) ≡ messages (take i es) ++ (get_or es i d).message
+pub messages-more : (es : List Diagnostic) (i j : ℕ) (d : Diagnostic) → j ≡ i + 1 → i < length es
+    → messages (take j es) ≡ messages (take i es) ++ (get_or es i d).message
 messages-more [] i j d e l = absurd (omega arith)
 messages-more (x ∷ es) i zero d e l = absurd (omega arith)
 messages-more (x ∷ es) zero (suc j) d e l = let none : j ≡ 0 = omega arith in rw none (append-nil x.message)
 messages-more (x ∷ es) (suc i) (suc j) d e l =
-    ap (λ (r : List ℕ). x.message ++ r) (messages-more es i j d (omega arith) (omega arith)) ∙ sym (append_assoc x.message (messages (take i es)) (get_or es i d).message)
+    ap (λ (r : List ℕ). x.message ++ r) (messages-more es i j d (omega arith) (omega arith))
+    ∙ sym (append_assoc x.message (messages (take i es)) (get_or es i d).message)
 
 pub length-error_rows : (place : ℕ) (es : List Diagnostic) → length (error_rows place es) ≡ length es
 length-error_rows place [] = refl
@@ -44,24 +46,31 @@ pub error-row-there : (place i : ℕ) (es : List Diagnostic) (d : ErrorRow) (e :
 error-row-there place i [] d e l = absurd (omega arith)
 error-row-there place zero (x ∷ es) d e l = let same : place ≡ place + 0 = omega arith in ap (λ (n : ℕ). error_row n x) same
 error-row-there place (suc i) (x ∷ es) d e l =
-    let same : place + length x.message + length (messages (take i es)) ≡ place + length (x.message ++ messages (take i es)) = omega (arith, length-append x.message (messages (take i es))) in
+    let same : place + length x.message + length (messages (take i es)) ≡ place + length (x.message ++ messages (take i es)) = omega (
+      arith,
+      length-append x.message (messages (take i es)),
+    ) in
     error-row-there (place + length x.message) i es d e (omega arith) ∙ ap (λ (n : ℕ). error_row n (get_or es i e)) same
 
 -- ---- a loop over the errors, at the error with the index i, whose message is m
 
 pub next-messages : (es : List Diagnostic) (i : ℕ) (e : Diagnostic) (m : List ℕ) → e ≡ get_or es i e → m ≡ e.message → i < length es
     → messages (take i es) ++ m ≡ messages (take (i + 1) es)
-next-messages es i e m is w l = ap (λ (x : List ℕ). messages (take i es) ++ x) (w ∙ ap (λ (x : Diagnostic). x.message) is) ∙ sym (messages-more es i (i + 1) e refl l)
+next-messages es i e m is w l = ap (λ (x : List ℕ). messages (take i es) ++ x) (w ∙ ap (λ (x : Diagnostic). x.message) is)
+    ∙ sym (messages-more es i (i + 1) e refl l)
 
-pub next-place : (es : List Diagnostic) (i at : ℕ) (e : Diagnostic) (m : List ℕ) → e ≡ get_or es i e → m ≡ e.message → at ≡ length (messages (take i es)) → i < length es
+pub next-place : (es : List Diagnostic) (i at : ℕ) (e : Diagnostic) (m : List ℕ) → e ≡ get_or es i e → m ≡ e.message → at ≡ length (messages (take i es))
+    → i < length es
     → at + length m ≡ length (messages (take (i + 1) es))
 next-place es i at e m is w p l = omega (arith, p, simp length-append at (ap length (next-messages es i e m is w l)))
 
-pub next-fits : (es : List Diagnostic) (i at : ℕ) (e : Diagnostic) (m : List ℕ) → e ≡ get_or es i e → m ≡ e.message → at ≡ length (messages (take i es)) → i < length es
+pub next-fits : (es : List Diagnostic) (i at : ℕ) (e : Diagnostic) (m : List ℕ) → e ≡ get_or es i e → m ≡ e.message → at ≡ length (messages (take i es))
+    → i < length es
     → at + length m ≤ length (messages es)
 next-fits es i at e m is w p l = omega (arith, next-place es i at e m is w p l, messages-within (i + 1) es)
 
-pub next-row : (buffer rows : List ErrorRow) (es : List Diagnostic) (i at : ℕ) (e : Diagnostic) (row : ErrorRow) → rows ≡ filled buffer (take i (error_rows 0 es))
+pub next-row : (buffer rows : List ErrorRow) (es : List Diagnostic) (i at : ℕ) (e : Diagnostic) (row : ErrorRow)
+    → rows ≡ filled buffer (take i (error_rows 0 es))
     → e ≡ get_or es i e → row ≡ error_row at e → at ≡ length (messages (take i es)) → i < length buffer → i < length es
     → set rows i row ≡ filled buffer (take (i + 1) (error_rows 0 es))
 next-row buffer rows es i at e row f is r p l k =
@@ -70,4 +79,5 @@ next-row buffer rows es i at e row f is r p l k =
     let there : error_row at e ≡ get_or all i row =
     ap (λ (n : ℕ). error_row n e) place ∙ ap (λ (x : Diagnostic). error_row (0 + length (messages (take i es))) x) is ∙ sym (error-row-there 0 i es row e k) in
     let more : i < length all = omega (arith, length-error_rows 0 es) in
-    ap (λ (xs : List ErrorRow). set xs i row) f ∙ ap (λ (x : ErrorRow). set (filled buffer (take i all)) i x) (r ∙ there) ∙ filled-by-one-more buffer all i (i + 1) row refl l more
+    ap (λ (xs : List ErrorRow). set xs i row) f ∙ ap (λ (x : ErrorRow). set (filled buffer (take i all)) i x) (r ∙ there)
+    ∙ filled-by-one-more buffer all i (i + 1) row refl l more

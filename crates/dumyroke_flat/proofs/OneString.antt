@@ -34,10 +34,12 @@ of-length source k (item ∷ next ∷ more) t i rest c e l =
     let whole : t ≡ source = sym (take_at t after (length source) l) ∙ ap (take (length source)) joined ∙ take_all (length source) source (omega arith) in
     subst IsString whole stands.token
 
-pub is-string : (source : List ℕ) (k : ℕ) (items : List Item) (kind : TokenKind) (t : List ℕ) (i : ℕ) (rest : List Answer) → Cut source items → StringValue ≡ kind
+pub is-string : (source : List ℕ) (k : ℕ) (items : List Item) (kind : TokenKind) (t : List ℕ) (i : ℕ) (rest : List Answer) → Cut source items
+    → StringValue ≡ kind
     → limited (suc k) items ≡ gives (record { kind = Some kind; text = t; index = i }) ∷ rest → length t ≡ length source → IsString source
 is-string source k items kind t i rest c is e l =
-    of-length source k items t i rest c (subst (λ (x : TokenKind). limited (suc k) items ≡ gives (record { kind = Some x; text = t; index = i }) ∷ rest) (sym is) e) l
+    of-length source k items t i rest c (subst (λ (x : TokenKind). limited (suc k) items ≡ gives (record { kind = Some x; text = t; index = i }) ∷ rest)
+    (sym is) e) l
 
 -- ---- the first item of a string is the string
 
@@ -52,13 +54,15 @@ stands-alone source s = record {
   longest = λ other longer rest e t f. omega (arith, simp length-append at (ap length e));
 }
 
-string-item : (kind : Option TokenKind) (text after source : List ℕ) → IsItem kind text after → text ++ after ≡ source → IsString source → (kind ≡ Some StringValue) × (text ≡ source)
+string-item : (kind : Option TokenKind) (text after source : List ℕ) → IsItem kind text after → text ++ after ≡ source → IsString source
+    → (kind ≡ Some StringValue) × (text ≡ source)
 string-item None text after source h e s = absurd (h.0 StringValue source [] (append-nil source ∙ sym e) (stands-alone source s))
 string-item (Some kind) text after source h e s =
     let one = one_token kind StringValue text after source [] h (stands-alone source s) (e ∙ sym (append-nil source)) in
     (ap (λ (k : TokenKind). Some k) one.0, one.1)
 
-same-item : (item : Item) (kind : Option TokenKind) (text : List ℕ) (index : ℕ) → item.kind ≡ kind → item.text ≡ text → item.index ≡ index → item ≡ record { kind = kind; text = text; index = index }
+same-item : (item : Item) (kind : Option TokenKind) (text : List ℕ) (index : ℕ) → item.kind ≡ kind → item.text ≡ text → item.index ≡ index
+    → item ≡ record { kind = kind; text = text; index = index }
 same-item item kind text index k t i = rw (← k, ← t, ← i) refl
 
 pub string-first : (source : List ℕ) (k : ℕ) (items : List Item) → Cut source items → IsString source
@@ -77,7 +81,8 @@ first [] = limit_at 0
 first (answer ∷ answers) = answer
 
 -- so the first answer of a string's lexer is the string
-pub first-answer : (source : List ℕ) (k : ℕ) (items : List Item) (answer : Answer) (rest : List Answer) → Cut source items → limited (suc k) items ≡ answer ∷ rest → IsString source
+pub first-answer : (source : List ℕ) (k : ℕ) (items : List Item) (answer : Answer) (rest : List Answer) → Cut source items
+    → limited (suc k) items ≡ answer ∷ rest → IsString source
     → answer ≡ gives (record { kind = Some StringValue; text = source; index = 0 })
 unfolding first
 first-answer source k items answer rest c e s = ap first (sym e ∙ (string-first source k items c s).1)
@@ -101,7 +106,8 @@ string-token kind text source index e =
     let same : kind ≡ StringValue = (cc) in
     (same, ap answer_text e)
 
-pub no-error : (limit : Bool) (text source : List ℕ) (index : ℕ) → error_answer limit text index ≡ gives (record { kind = Some StringValue; text = source; index = 0 }) → ⊥
+pub no-error : (limit : Bool) (text source : List ℕ) (index : ℕ) → error_answer limit text index
+    ≡ gives (record { kind = Some StringValue; text = source; index = 0 }) → ⊥
 unfolding answer_kind
 no-error true text source index e = let none : ◌≡◌ {A = Option TokenKind} None (Some StringValue) = ap answer_kind e in (cc)
 no-error false text source index e = let none : ◌≡◌ {A = Option TokenKind} None (Some StringValue) = ap answer_kind e in (cc)

@@ -21,7 +21,7 @@ pub fn format_into<A: Allocator + Copy>(
     let Ok(text) = std::str::from_utf8(source) else {
         return refused(status::NOT_UTF8);
     };
-    match format(alloc, text, limits.recursion, limits.tokens) {
+    match format(alloc, text, limits.of_parser()) {
         Ok(Ok(document)) => written(formatted, document.as_str()),
         Ok(Err(_)) => refused(status::NOT_A_DOCUMENT),
         Err(_) => refused(status::NO_MEMORY),

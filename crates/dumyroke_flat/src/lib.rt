@@ -1,7 +1,7 @@
-//! A parse as flat rows, in buffers of the caller's: what other languages read in place of a tree.
+//! A parse, a string's value and a formatted text in buffers of the caller's: what other languages read in place of a tree.
 //!
-//! Each call writes what there is as far as there is room, and answers how much there is. So a caller that had too little room calls again with
-//! enough. A call that is refused writes nothing.
+//! `dumyroke_c` and the page call `parse_into`, `string_value_into` and `format_into`. Each writes what there is as far as there is room, and answers how
+//! much there is. So a caller that had too little room calls again with enough. A call that is refused writes nothing.
 #![tactic(auto)]
 
 mod elements;

@@ -1,14 +1,12 @@
 // A parse into rows.
-ghost use Rattle.std.specs.Prelude.{◌≡◌, ◌<◌, ◌^◌, length, IfOk};
-ghost use Rattle.std.specs.Str.{IsUtf8};
-ghost use Rattle.apollo_parser.specs.Promise.{Promise};
+ghost use Rattle.std.specs.Prelude.{◌≡◌, ◌<◌, ◌^◌, length};
 ghost use Rattle.dumyroke_flat.specs.Outcomes.{Outcome, no_counts};
 
 use crate::elements::write_elements;
 use crate::errors::{ends_fit, message_bytes, write_errors, write_messages};
 use crate::rows::{Counts, ElementRow, ErrorRow, Limits, status};
-use apollo_parser::{DocumentRoot, Parser, SyntaxTree};
-use std::alloc::{AllocError, Allocator};
+use apollo_parser::Parser;
+use std::alloc::Allocator;
 
 // Nothing was written.
 fn refused(status: u32) -> Counts
@@ -24,22 +22,7 @@ fn refused(status: u32) -> Counts
     }
 }
 
-// The parse of a text.
-fn parse<A: Allocator + Copy>(
-    alloc: A,
-    source: &str,
-    limits: Limits,
-) -> Result<SyntaxTree<DocumentRoot, A>, AllocError>
-    ensures { IfOk result (Promise source.now limits.recursion limits.tokens) }
-{
-    let tree = Parser::new(source)
-        .recursion_limit(limits.recursion)
-        .token_limit(limits.tokens)
-        .parse(alloc)?;
-    Ok(tree)
-}
-
-// The same of a text that is UTF-8 and not too long.
+// The parse of a text that is UTF-8 and not too long.
 fn parse_text<A: Allocator + Copy>(
     alloc: A,
     source: &str,
@@ -52,7 +35,7 @@ fn parse_text<A: Allocator + Copy>(
     ensures { Outcome source.now limits.recursion limits.tokens (record { elements = elements.old; errors = errors.old; messages = messages.old })
         (record { elements = elements.new; errors = errors.new; messages = messages.new }) result }
 {
-    let Ok(tree) = parse(alloc, source, limits) else {
+    let Ok(tree) = Parser::within(source, limits.of_parser()).parse(alloc) else {
         return refused(status::NO_MEMORY);
     };
     let element_count = tree.element_count();

@@ -26,4 +26,4 @@ pub still_smallest : (parts new : List Span) (smallest part : Span) → new ≡ 
 still_smallest parts new smallest part e all in' =
     subst (λ (xs : List Span). All (λ outer. Encloses outer part) xs) (sym e)
     (All-push (λ outer. Encloses outer part) parts part (λ k d lt. through _ smallest part (all k d lt) in')
-        (record { starts = omega arith; ends = omega arith }))
+    (record { starts = omega arith; ends = omega arith }))

@@ -63,8 +63,12 @@ are-offsets e text range start end later u x y at to is =
             ends = subst (IsCharBoundary text) same x;
             start_place = at;
             end_place = ap (λ (n : ℕ). length (units e (take n text))) (sym same) ∙
-                (let m : length (units e (take start text)) ≡ max (place_of e (units e text) range.start) (place_of e (units e text) range.end) = omega (arith,
-                at, to, less) in m);
+                (let m : length (units e (take start text)) ≡ max (place_of e (units e text) range.start) (place_of e (units e text) range.end) = omega (
+                  arith,
+                  at,
+                  to,
+                  less,
+                ) in m);
           }
       | inr ge ↦
           let same : end ≡ later = omega arith in
@@ -75,7 +79,11 @@ are-offsets e text range start end later u x y at to is =
             ends = subst (IsCharBoundary text) same y;
             start_place = at;
             end_place = ap (λ (n : ℕ). length (units e (take n text))) (sym same) ∙
-                (let m : length (units e (take end text)) ≡ max (place_of e (units e text) range.start) (place_of e (units e text) range.end) = omega (arith,
-                at, to, less) in m);
+                (let m : length (units e (take end text)) ≡ max (place_of e (units e text) range.start) (place_of e (units e text) range.end) = omega (
+                  arith,
+                  at,
+                  to,
+                  less,
+                ) in m);
           }
     ]

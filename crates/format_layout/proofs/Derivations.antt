@@ -8,7 +8,9 @@ use Rattle.document_grammar.specs.Kinds.{STRING}
 use Rattle.document_grammar.specs.Tree.{Text, Tree, leaf, node, Forest, none, ◌▸◌, root}
 use Rattle.document_grammar.specs.Pattern.{Pattern, Matches, member}
 use Rattle.document_grammar.specs.Rows.{Row}
-use Rattle.document_grammar.specs.Derivation.{kinds, text, texts, LeafRule, NameRule, on_text, true_text, false_text, null_text, NoVariable, NoVariables, ConstantDirectives, Braced, NoBlock, LacksBlock, StartsWithSelections, IsQuery, NotBefore, BraceRule, FitsBy, AllFitBy, Derivation, document}
+use Rattle.document_grammar.specs.Derivation.{kinds, text, texts, LeafRule, NameRule, on_text, true_text, false_text, null_text, NoVariable, NoVariables}
+use Rattle.document_grammar.specs.Derivation.{ConstantDirectives, Braced, NoBlock, LacksBlock, StartsWithSelections, IsQuery, NotBefore, BraceRule, FitsBy}
+use Rattle.document_grammar.specs.Derivation.{AllFitBy, Derivation, document}
 use Rattle.format_strings.specs.Respelled.{SameBlock, Alike, AllAlike}
 
 pub alike-root : (t u : Tree) → Alike t u → root u ≡ root t

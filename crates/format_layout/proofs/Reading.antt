@@ -31,7 +31,8 @@ pub record Writes (text : List ℕ) (edge : Edge) (left all : List Word) : Type 
   pub same : words ++ left ≡ all
 
 -- nothing was written
-pub writes-begin : (text : List ℕ) (edge : Edge) (answers : List Answer) (allowed : ℕ) (items : List Item) → Laid text edge [] → answers ≡ limited allowed items → length items ≤ allowed
+pub writes-begin : (text : List ℕ) (edge : Edge) (answers : List Answer) (allowed : ℕ) (items : List Item) → Laid text edge [] → answers ≡ limited allowed items
+    → length items ≤ allowed
     → Writes text edge (kept_answers answers) (Kept items)
 writes-begin text edge answers allowed items l e le = record {
   words = [];
@@ -50,5 +51,6 @@ writes-token text more edge next kind word index old rest all e a w = record {
 }
 
 -- its text is one of its kind
-pub token-text : (kind : TokenKind) (text : List ℕ) (index : ℕ) (old rest : List Answer) → old ≡ gives (record { kind = Some kind; text = text; index = index }) ∷ rest → AreAnswers old → IsTokenText kind text
+pub token-text : (kind : TokenKind) (text : List ℕ) (index : ℕ) (old rest : List Answer)
+    → old ≡ gives (record { kind = Some kind; text = text; index = index }) ∷ rest → AreAnswers old → IsTokenText kind text
 token-text kind text index old rest e a = (subst AreAnswers e a).0

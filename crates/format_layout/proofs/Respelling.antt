@@ -30,7 +30,8 @@ string-word _ text e = absurd (cc)
 
 word-same : (a b : Word) → SameWord a b → AreSameWords (significant_word (Some a.kind) a.text) (significant_word (Some b.kind) b.text)
 word-same a b s = elim s [
-  | inl e ↦ subst (λ (w : Word). AreSameWords (significant_word (Some a.kind) a.text) (significant_word (Some w.kind) w.text)) e (same-refl (significant_word (Some a.kind) a.text))
+  | inl e ↦ subst (λ (w : Word). AreSameWords (significant_word (Some a.kind) a.text) (significant_word (Some w.kind) w.text)) e
+      (same-refl (significant_word (Some a.kind) a.text))
   | inr d ↦ subst (λ l. AreSameWords l (significant_word (Some b.kind) b.text)) (sym (string-word a.kind a.text d.0))
       (subst (λ l. AreSameWords (a ∷ []) l) (sym (string-word b.kind b.text d.1)) (inr d, tt))
 ]
@@ -39,7 +40,8 @@ significant-same : (xs ys : List Word) → AreSameWords xs ys → AreSameWords (
 significant-same [] [] s = tt
 significant-same [] (y ∷ ys) s = absurd s
 significant-same (x ∷ xs) [] s = absurd s
-significant-same (x ∷ xs) (y ∷ ys) s = both-same (significant_word (Some x.kind) x.text) (significant_word (Some y.kind) y.text) (significant xs) (significant ys) (word-same x y s.0) (significant-same xs ys s.1)
+significant-same (x ∷ xs) (y ∷ ys) s = both-same (significant_word (Some x.kind) x.text) (significant_word (Some y.kind) y.text) (significant xs)
+    (significant ys) (word-same x y s.0) (significant-same xs ys s.1)
 
 token-same : (a b : Word) → SameWord a b → SameToken (token_of a) (token_of b)
 token-same a b s = elim s [
@@ -57,14 +59,17 @@ none-left : (left : List Token) → AreSame [] left → left ≡ []
 none-left [] s = refl
 none-left (b ∷ bs) s = absurd s
 
-pub respelled : (source text : List ℕ) (items others : List Item) (t : Tree) → Cut source items → are_tokens items ≡ true → Cut text others → are_tokens others ≡ true
+pub respelled : (source text : List ℕ) (items others : List Item) (t : Tree) → Cut source items → are_tokens items ≡ true → Cut text others
+    → are_tokens others ≡ true
     → AreSameWords (Kept items) (Kept others) → Sentence source t document → Respelled text t
 respelled source text items others t c h d k s sentence =
     let cuts : items ≡ sentence.items = one-cut source items sentence.items c sentence.cut h in
     let words : AreSameWords (Significant items) (Significant others) =
-    subst (λ l. AreSameWords l (Significant others)) (significant-kept items) (subst (λ l. AreSameWords (significant (Kept items)) l) (significant-kept others) (significant-same (Kept items) (Kept others) s)) in
+    subst (λ l. AreSameWords l (Significant others)) (significant-kept items)
+    (subst (λ l. AreSameWords (significant (Kept items)) l) (significant-kept others) (significant-same (Kept items) (Kept others) s)) in
     let yield : Yield t ++ [] ≡ map token_of (Significant items) = append-nil (Yield t) ∙ sentence.yield ∙ ap (λ l. map token_of (Significant l)) (sym cuts) in
-    let r = relabel t [] (map token_of (Significant others)) (subst (λ l. AreSame l (map token_of (Significant others))) (sym yield) (tokens-same (Significant items) (Significant others) words)) in
+    let r = relabel t [] (map token_of (Significant others)) (subst (λ l. AreSame l (map token_of (Significant others))) (sym yield)
+    (tokens-same (Significant items) (Significant others) words)) in
     record {
       tree = r.tree;
       alike = r.alike;

@@ -26,7 +26,8 @@ few-items source u s =
 -- what holds the tokens and comments of a sentence is that sentence with another layout
 pub formatted : (source text : List ℕ) → IsUtf8 source → IsSentence source → HoldsSame text (Kept (items_of source)) → Formatted source text
 formatted source text u s h =
-    let tokens : are_tokens (items_of source) ≡ true = subst (λ l. are_tokens l ≡ true) (same-items source s.sentence.items u s.sentence.cut s.sentence.tokens) s.sentence.tokens in
+    let tokens : are_tokens (items_of source) ≡ true = subst (λ l. are_tokens l ≡ true)
+    (same-items source s.sentence.items u s.sentence.cut s.sentence.tokens) s.sentence.tokens in
     let same : AreSameWords (Kept (items_of source)) (Kept h.holds.items) = subst (AreSameWords (Kept (items_of source))) (sym h.holds.same) h.same in
     record {
       words = record {

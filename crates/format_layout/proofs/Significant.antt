@@ -11,7 +11,8 @@ significant words = flat_map (λ word. significant_word (Some word.kind) word.te
 
 significant-append : (xs ys : List Word) → significant (xs ++ ys) ≡ significant xs ++ significant ys
 significant-append [] ys = refl
-significant-append (x ∷ xs) ys = ap (λ l. significant_word (Some x.kind) x.text ++ l) (significant-append xs ys) ∙ sym (append_assoc (significant_word (Some x.kind) x.text) (significant xs) (significant ys))
+significant-append (x ∷ xs) ys = ap (λ l. significant_word (Some x.kind) x.text ++ l) (significant-append xs ys)
+    ∙ sym (append_assoc (significant_word (Some x.kind) x.text) (significant xs) (significant ys))
 
 significant-token : (kind : TokenKind) (text : List ℕ) → significant (kept_word (record { kind = kind; text = text })) ≡ significant_word (Some kind) text
 significant-token Whitespace text = refl

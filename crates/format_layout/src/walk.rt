@@ -1,5 +1,6 @@
 // The walk over the tree of a document, which finds the slots before its tokens. What is called for each of them is inlined: the whole program takes
 // some 6 % less time. The walk itself is not, since its loop and the writer's would have to share the processor's registers.
+use crate::comments::CommentState;
 use crate::elements::Elements;
 use crate::rules::{Inside, between, closes, is_in_braces, is_word, opens};
 use crate::size::Size;
@@ -11,21 +12,22 @@ use std::alloc::{AllocError, Allocator};
 // How many characters a field has at most up to the end of its arguments, while these are in its line.
 const MAX_FIELD_WIDTH: usize = 80;
 
-// A node on the way down.
+/// A node on the way down.
 #[derive(Clone, Copy)]
-struct Frame {
+pub struct Frame {
     // the index of the first element after it and all below it
     after: usize,
     // the number of its first slot
     first: usize,
     // the width of all that is before its first token
     start: usize,
-    // how many levels deep a line is indented that begins with the node
-    level: u16,
+    /// How many levels deep a line is indented that begins with the node.
+    pub level: u16,
     kind: SyntaxKind,
-    inside: Inside,
-    // the last child that is no comment
-    previous: Option<SyntaxKind>,
+    /// What its children are to each other.
+    pub inside: Inside,
+    /// The last child that is no comment.
+    pub previous: Option<SyntaxKind>,
     // whether it is a field, or in one and not among its selections
     in_field: bool,
 }
@@ -55,15 +57,9 @@ struct Walk<'t, E, A: Allocator> {
     slots: Vec<Slot, A>,
     // whether the last slot is that of a token still to come, fixed by a node that begins with it
     is_pending: bool,
-    // where the last white space since the last token or comment begins, and how many line ends were in what white space was before it, two at most
-    blank: Option<usize>,
-    line_ends: u8,
     // where the element begins that is met
     here: usize,
-    // whether the last token or comment was a comment
-    in_comment: bool,
-    // whether the last child of the innermost open node was a comment in a line of its own
-    after_comment: bool,
+    comments: CommentState,
     // how many of the open nodes are lists that may break
     list_count: usize,
     // the number of the last slot in which a line ends, and of the last token of a list that has more than one line
@@ -71,20 +67,6 @@ struct Walk<'t, E, A: Allocator> {
     last_long_token: usize,
     // the width of the tokens of fields, without their selections, and of what is before each of them while no line ends
     width: usize,
-}
-
-// How many line ends a text has, LF, CR and CR LF, two at most.
-fn count_line_ends(text: &[u8]) -> u8 {
-    let mut count = 0;
-    let mut after_return = false;
-    for byte in text {
-        let is_return = *byte == b'\r';
-        if (is_return || (*byte == b'\n' && !after_return)) && count < 2 {
-            count += 1;
-        }
-        after_return = is_return;
-    }
-    count
 }
 
 impl<'t, E: Elements, A: Allocator + Copy> Walk<'t, E, A> {
@@ -97,11 +79,8 @@ impl<'t, E: Elements, A: Allocator + Copy> Walk<'t, E, A> {
             // no more than a part of this is used, and the rest is never touched
             slots: Vec::with_capacity(alloc, elements.element_count())?,
             is_pending: false,
-            blank: None,
-            line_ends: 0,
             here: 0,
-            in_comment: false,
-            after_comment: false,
+            comments: CommentState::NONE,
             list_count: 0,
             last_line: 0,
             last_long_token: 0,
@@ -109,15 +88,9 @@ impl<'t, E: Elements, A: Allocator + Copy> Walk<'t, E, A> {
         })
     }
 
-    // How many line ends were met since the last token or comment, two at most: the most that are not parted by commas.
+    // How many line ends were met since the last token or comment.
     fn line_ends(&self) -> u8 {
-        let Some(start) = self.blank else {
-            return 0;
-        };
-        match self.source.as_bytes().get(start..self.here) {
-            Some(blanks) => self.line_ends.max(count_line_ends(blanks)),
-            None => self.line_ends,
-        }
+        self.comments.line_ends(self.source, self.here)
     }
 
     // What separates a child, which is no comment, from what is before it.
@@ -128,32 +101,6 @@ impl<'t, E: Elements, A: Allocator + Copy> Walk<'t, E, A> {
             None if self.slots.is_empty() => Separator::Nothing,
             None => Separator::Line,
         }
-    }
-
-    // What separates it when a comment is before it: a construct goes on in a new line after a comment inside it, and an empty line after a comment
-    // stays, but none is added.
-    fn after_comment(&self, parent: &Frame, child: SyntaxKind, slot: Slot) -> Slot {
-        if !slot.separator.is_line() && !matches!(parent.inside, Inside::List) {
-            let goes_on = !matches!(Inside::of(child), Inside::Braces)
-                && child != SyntaxKind::L_CURLY;
-            return Slot {
-                separator: Separator::Line,
-                level: slot.level.saturating_add(u16::from(goes_on)),
-                ..slot
-            };
-        }
-        if self.after_comment && slot.separator.is_line() {
-            let keeps_blank = self.line_ends() > 1 && child != SyntaxKind::R_CURLY;
-            return Slot {
-                separator: if keeps_blank {
-                    Separator::BlankLine
-                } else {
-                    Separator::Line
-                },
-                ..slot
-            };
-        }
-        slot
     }
 
     // How many levels deep a line is indented that begins with this child.
@@ -176,8 +123,10 @@ impl<'t, E: Elements, A: Allocator + Copy> Walk<'t, E, A> {
             bracket: Bracket::Neither,
             level,
         };
-        if self.in_comment {
-            slot = self.after_comment(parent, child, slot);
+        if self.comments.last_was_comment() {
+            slot = self
+                .comments
+                .slot_after_comment(parent, child, self.line_ends(), slot);
         }
         if slot.separator.is_line() {
             self.last_line = self.slots.len();
@@ -189,51 +138,14 @@ impl<'t, E: Elements, A: Allocator + Copy> Walk<'t, E, A> {
         Ok(())
     }
 
-    // What separates a comment in a line of its own from what is before it.
-    fn comment_separator(&self, parent: &Frame, line_ends: u8) -> Separator {
-        let in_document = matches!(parent.inside, Inside::Document);
-        let keeps_blank = match parent.previous {
-            Some(left) => {
-                (in_document && !self.after_comment)
-                    || (line_ends > 1
-                        && left != SyntaxKind::L_CURLY
-                        && (in_document || is_in_braces(parent.inside, left)))
-            }
-            None => in_document && line_ends > 1,
-        };
-        if keeps_blank {
-            Separator::BlankLine
-        } else {
-            Separator::Line
-        }
-    }
-
     // A comment: in the line of the token before it, or in a line of its own.
     fn comment(&mut self, parent: &Frame) -> Result<(), AllocError> {
         let line_ends = self.line_ends();
         let is_first = self.slots.is_empty();
-        let separator = if is_first {
-            Separator::Nothing
-        } else if line_ends > 0 {
-            self.comment_separator(parent, line_ends)
-        } else {
-            Separator::Space
-        };
-        let in_list = matches!(parent.inside, Inside::List);
-        let goes_on = !matches!(parent.inside, Inside::Document)
-            && !in_list
-            && parent.previous != Some(SyntaxKind::DESCRIPTION);
+        let slot = self.comments.slot_of_comment(parent, is_first, line_ends);
         self.last_line = self.slots.len();
-        self.slots.push(Slot {
-            separator,
-            breaks_with_list: in_list && line_ends > 0,
-            bracket: Bracket::Neither,
-            level: parent.level.saturating_add(u16::from(goes_on)),
-        })?;
-        self.blank = None;
-        self.line_ends = 0;
-        self.in_comment = true;
-        self.after_comment = is_first || line_ends > 0;
+        self.slots.push(slot)?;
+        self.comments.meet_comment(is_first || line_ends > 0);
         Ok(())
     }
 
@@ -256,10 +168,7 @@ impl<'t, E: Elements, A: Allocator + Copy> Walk<'t, E, A> {
             self.width = self.width.saturating_add(width);
         }
         self.is_pending = false;
-        self.blank = None;
-        self.line_ends = 0;
-        self.in_comment = false;
-        self.after_comment = false;
+        self.comments.meet_token();
         parent.previous = Some(kind);
         Ok(())
     }
@@ -319,10 +228,7 @@ impl<'t, E: Elements, A: Allocator + Copy> Walk<'t, E, A> {
         match kind {
             SyntaxKind::COMMA => return Ok(()),
             SyntaxKind::WHITESPACE => {
-                if self.blank.is_some() {
-                    self.line_ends = self.line_ends();
-                }
-                self.blank = Some(self.here);
+                self.comments.meet_white_space(self.source, self.here);
                 return Ok(());
             }
             _ => {}
@@ -372,7 +278,7 @@ impl<'t, E: Elements, A: Allocator + Copy> Walk<'t, E, A> {
             self.slot(parent, kind, level)?;
             self.is_pending = true;
         }
-        self.after_comment = false;
+        self.comments.meet_node();
         parent.previous = Some(kind);
         Ok(Frame {
             after: element.after_subtree,
@@ -411,7 +317,7 @@ impl<'t, E: Elements, A: Allocator + Copy> Walk<'t, E, A> {
     // The end of the innermost open node.
     #[inline(always)]
     fn leave(&mut self, open: &mut Vec<Frame, A>) {
-        self.after_comment = false;
+        self.comments.meet_node();
         if let Some(frame) = open.pop() {
             if matches!(frame.inside, Inside::List) {
                 if let Some(parent) = open.last() {

@@ -1,5 +1,5 @@
 -- What a parse with errors comes to, and one without.
-use Rattle.std.proofs.Common.{◌≡◌, ℕ, ◌≤◌, true, false, List, [], ◌∷◌, length, refl, sym, ap, ◌∙◌, subst, eqb, arith}
+use Rattle.std.proofs.Common.{◌≡◌, ℕ, ◌≤◌, true, false, List, [], ◌∷◌, length, refl, sym, ap, ◌∙◌, eqb, arith}
 use Rattle.std.proofs.lemmas.Bool.Decides.{nat_tests}
 use Rattle.lexical_grammar.specs.Answers.{usize_max}
 use Rattle.apollo_lexer.specs.Diagnostics.{Diagnostic}
@@ -19,10 +19,6 @@ empty-list (x ∷ xs) e = absurd (grind (arith, nat_tests))
 
 some-list : {X : Type 0} (xs : List X) → xs ≡ [] → eqb (length xs) 0 ≡ false → ⊥
 some-list xs e h = let no : true ≡ false = sym (ap (λ l. eqb (length l) 0) e) ∙ h in (cc)
-
--- a parse of the same text within the same limits
-pub same-parse : (source other : List ℕ) (r q k j : ℕ) (t : Parsed) → other ≡ source → q ≡ r → j ≡ k → Promise other q j t → Promise source r k t
-same-parse source other r q k j t s d n p = subst (λ x. Promise x r k t) s (subst (λ x. Promise other x k t) d (subst (λ x. Promise other q x t) n p))
 
 pub refused : (source : List ℕ) (r k : ℕ) (t : Parsed) (errors : List Diagnostic) → errors ≡ t.errors → eqb (length errors) 0 ≡ false
     → Promise source r k t → IsRefused source r k errors

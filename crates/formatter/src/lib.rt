@@ -1,15 +1,15 @@
 //! Formats a GraphQL document: the same document with another layout, or the errors of a text that is none.
 //!
 //! `format` parses the text and writes it anew. It keeps significant tokens and comments, in their order; only block strings may be spelled
-//! anew, with the same value. `DocumentFormatter` is the same as a trait, for callers that are proved without the code of the parser.
+//! anew, with the same value. `gqlls_run` and `dumyroke_flat` call it. `gqlfmt_run` calls it through the trait `DocumentFormatter`, so that it is proved
+//! without the code of the parser.
 #![tactic(auto)]
 
 ghost use Rattle.std.specs.Prelude.{◌≡◌, ◌<◌, ℕ, true, false, List, length, IfErr, IfOk, string_bytes};
 ghost use Rattle.lexical_grammar.specs.Reads.{items_of};
-ghost use Rattle.apollo_parser.specs.Promise.{Promise};
 ghost use Rattle.formatter.specs.Outcome.{IsDocument, IsFormatted, IsRefused};
 
-use apollo_parser::{DocumentRoot, Error, IndexedElement, Lexer, Parser, SyntaxTree};
+use apollo_parser::{DocumentRoot, Error, IndexedElement, Lexer, Limits, Parser, SyntaxTree};
 use format_layout::{Elements, format_document};
 use std::alloc::{AllocError, Allocator};
 
@@ -29,23 +29,7 @@ impl<'t, A: Allocator> Elements for TreeElements<'t, A> {
     }
 }
 
-// The parse of a text.
-fn parse<A: Allocator + Copy>(
-    alloc: A,
-    source: &str,
-    recursion_limit: usize,
-    token_limit: usize,
-) -> Result<SyntaxTree<DocumentRoot, A>, AllocError>
-    ensures { IfOk result (Promise source.now recursion_limit token_limit) }
-{
-    let tree = Parser::new(source)
-        .recursion_limit(recursion_limit)
-        .token_limit(token_limit)
-        .parse(alloc)?;
-    Ok(tree)
-}
-
-// Its errors, in memory of their own.
+// The errors of a parse, in memory of their own.
 fn errors_of<A: Allocator + Copy>(
     alloc: A,
     tree: &SyntaxTree<DocumentRoot, A>,
@@ -62,21 +46,19 @@ fn errors_of<A: Allocator + Copy>(
 /// The document with the layout of this crate, or the errors of `Parser::parse`, at least one, where the text is no document within both limits.
 /// It fails only where memory is refused.
 ///
-/// The recursion limit is how deep selection sets, list types and values may nest. The token limit is how many items the text may have, ignored
-/// ones and the end among them; it is no limit on the formatted text (`stays_within`).
+/// The token limit is one on the text, and none on the formatted text (`stays_within`).
 ///
 /// The layout alone changes: the significant tokens and the comments are those of the text, in their order, but that a block string may be
 /// spelled anew with the same value, for the indent of its line.
 pub fn format<A: Allocator + Copy>(
     alloc: A,
     source: &str,
-    recursion_limit: usize,
-    token_limit: usize,
+    limits: Limits,
 ) -> Result<Result<String<A>, Vec<Error<A>, A>>, AllocError>
-    ensures formatted { IfOk result (λ r. IfOk r (λ text. IsFormatted source.now recursion_limit token_limit (string_bytes text))) }
-    ensures refused { IfOk result (λ r. IfErr r (λ errors. IsRefused source.now recursion_limit token_limit errors.items)) }
+    ensures formatted { IfOk result (λ r. IfOk r (λ text. IsFormatted source.now limits.recursion limits.tokens (string_bytes text))) }
+    ensures refused { IfOk result (λ r. IfErr r (λ errors. IsRefused source.now limits.recursion limits.tokens errors.items)) }
 {
-    let tree = parse(alloc, source, recursion_limit, token_limit)?;
+    let tree = Parser::within(source, limits).parse(alloc)?;
     let errors = errors_of(alloc, &tree)?;
     if !errors.as_slice().is_empty() {
         return Ok(Err(errors));
@@ -102,11 +84,10 @@ pub trait DocumentFormatter {
         &self,
         alloc: A,
         source: &str,
-        recursion_limit: usize,
-        token_limit: usize,
+        limits: Limits,
     ) -> Result<Result<String<A>, Vec<Error<A>, A>>, AllocError>
-        ensures formatted { IfOk result (λ r. IfOk r (λ text. IsFormatted source.now recursion_limit token_limit (string_bytes text))) }
-        ensures refused { IfOk result (λ r. IfErr r (λ errors. IsRefused source.now recursion_limit token_limit errors.items)) };
+        ensures formatted { IfOk result (λ r. IfOk r (λ text. IsFormatted source.now limits.recursion limits.tokens (string_bytes text))) }
+        ensures refused { IfOk result (λ r. IfErr r (λ errors. IsRefused source.now limits.recursion limits.tokens errors.items)) };
 }
 
 /// The function `format`.
@@ -118,9 +99,8 @@ impl DocumentFormatter for Formatter {
         &self,
         alloc: A,
         source: &str,
-        recursion_limit: usize,
-        token_limit: usize,
+        limits: Limits,
     ) -> Result<Result<String<A>, Vec<Error<A>, A>>, AllocError> {
-        format(alloc, source, recursion_limit, token_limit)
+        format(alloc, source, limits)
     }
 }

@@ -114,21 +114,21 @@ struct Row {
 }
 
 // What the program takes where no option sets a limit.
-const UNSET: Limits = Limits::NONE_SET;
+const UNSET: Limits = Limits::DEFAULT;
 
 const ONE_LEVEL: Limits = Limits {
     recursion: 1,
-    tokens: usize::MAX,
+    ..Limits::DEFAULT
 };
 
 const TWO_ITEMS: Limits = Limits {
-    recursion: 500,
     tokens: 2,
+    ..Limits::DEFAULT
 };
 
 const THREE_ITEMS: Limits = Limits {
-    recursion: 500,
     tokens: 3,
+    ..Limits::DEFAULT
 };
 
 const CLEAN: Result<Outcome, Fault> = Ok(Outcome::Clean);
@@ -296,7 +296,7 @@ fn refuses_other_bytes(rt: HostRuntime) -> Result<(), Fail> {
 
 #[test]
 fn a_reader_that_fails_is_reported(rt: HostRuntime) {
-    let limits = Limits::NONE_SET;
+    let limits = Limits::DEFAULT;
     for mode in [Mode::Check, Mode::Tokens, Mode::Tree] {
         for text in [b"{a", b"\x7b\xff"] {
             let mut reader = reader_of(text, 100, Then::Fails);
@@ -310,7 +310,7 @@ fn a_reader_that_fails_is_reported(rt: HostRuntime) {
 
 #[test]
 fn a_writer_that_fails_is_reported(rt: HostRuntime) {
-    let limits = Limits::NONE_SET;
+    let limits = Limits::DEFAULT;
     for (mode, front) in [
         (Mode::Check, b"cle"),
         (Mode::Tokens, b"L_C"),

@@ -27,7 +27,8 @@ pub head_put : (name shown first second : List ℕ) (start end : ℕ) (s t u : P
 head_put name shown first second start end s t u names starts ends p q =
     let front = shown ++ (codes "@" ++ (first ++ codes ":")) in
     let inner = ap (λ (bs : List ℕ). shown ++ (codes "@" ++ bs)) (append_assoc first (codes ":") second) in
-    let joined : front ++ second ≡ place_text name start end = append_assoc shown (codes "@" ++ (first ++ codes ":")) second ∙ (inner ∙ rw (names, starts, ends) refl) in
+    let joined : front ++ second ≡ place_text name start end = append_assoc shown (codes "@" ++ (first ++ codes ":")) second
+    ∙ (inner ∙ rw (names, starts, ends) refl) in
     subst (λ (bs : List ℕ). Puts s bs u) joined (puts_then s t u front second p q)
 
 around : (stated : Option (List ℕ)) (front space back form : List ℕ) → IsForm stated form
@@ -37,15 +38,19 @@ around (Some text) front space back form is = ap (λ (bs : List ℕ). front ++ (
 
 -- what is put for an error
 abbrev pub error_pieces : ℕ → ℕ → List ℕ → List ℕ → List ℕ
-error_pieces start len quoted shown = codes "ERROR@" ++ ((decimal start ++ (codes ":" ++ decimal (start + len))) ++ (codes " " ++ (quoted ++ (codes " " ++ shown))))
+error_pieces start len quoted shown = codes "ERROR@" ++ ((decimal start ++ (codes ":" ++ decimal (start + len)))
+    ++ (codes " " ++ (quoted ++ (codes " " ++ shown))))
 
 -- is its form
-pub error-form : (d : Diagnostic) (message quoted shown : List ℕ) (start len : ℕ) → message ≡ d.message → IsForm (debug_str message) quoted → start ≡ d.index → len ≡ length (subject_text d.subject)
+pub error-form : (d : Diagnostic) (message quoted shown : List ℕ) (start len : ℕ) → message ≡ d.message → IsForm (debug_str message) quoted → start ≡ d.index
+    → len ≡ length (subject_text d.subject)
     → shown ≡ subject_shown d.subject → IsErrorForm d (error_pieces start len quoted shown)
 error-form d message quoted shown start len is form starts long shows =
-    rw (starts, long, shows) (around (debug_str d.message) (place_text (codes "ERROR") d.index (diagnostic_end d)) (codes " ") (subject_shown d.subject) quoted (rw is at form))
+    rw (starts, long, shows) (around (debug_str d.message) (place_text (codes "ERROR") d.index (diagnostic_end d)) (codes " ") (subject_shown d.subject) quoted
+    (rw is at form))
 
-after-place : (place space form : List ℕ) (stated : Option (List ℕ)) → IsForm stated form → IsForm (Some place ++? (Some space ++? stated)) (place ++ (space ++ form))
+after-place : (place space form : List ℕ) (stated : Option (List ℕ)) → IsForm stated form
+    → IsForm (Some place ++? (Some space ++? stated)) (place ++ (space ++ form))
 after-place place space form None is = tt
 after-place place space form (Some text) is = ap (λ (bs : List ℕ). place ++ (space ++ bs)) is
 
@@ -55,11 +60,13 @@ with-text Eof text quoted index other is = absurd (other refl)
 with-text kind text quoted index other is = after-place (place_text (token_name kind) index (index + length text)) (codes " ") quoted (debug_str text) is
 
 -- the form of a token that is not the end
-pub token-form : (kind : TokenKind) (text shown name quoted : List ℕ) (index start : ℕ) → (kind ≡ Eof → ⊥) → name ≡ token_name kind → shown ≡ text → start ≡ index → IsForm (debug_str shown) quoted
+pub token-form : (kind : TokenKind) (text shown name quoted : List ℕ) (index start : ℕ) → (kind ≡ Eof → ⊥) → name ≡ token_name kind → shown ≡ text
+    → start ≡ index → IsForm (debug_str shown) quoted
     → IsForm (token_text kind text index) (place_text name start (start + length shown) ++ (codes " " ++ quoted))
 token-form kind text shown name quoted index start other named is place form = rw (named, is, place) (with-text kind text quoted index other (rw is at form))
 
 -- the text of a lexer's error is what it is about, and is shown
-pub lex-shown : (limit : Bool) (text : List ℕ) → (IsTrue limit → text ≡ []) → (text ≡ subject_text (lex_subject limit text)) × (text ≡ subject_shown (lex_subject limit text))
+pub lex-shown : (limit : Bool) (text : List ℕ) → (IsTrue limit → text ≡ [])
+    → (text ≡ subject_text (lex_subject limit text)) × (text ≡ subject_shown (lex_subject limit text))
 lex-shown true text none = (none refl, none refl)
 lex-shown false text none = (refl, refl)

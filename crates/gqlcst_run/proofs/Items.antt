@@ -1,5 +1,6 @@
 -- Items, printed one after the other.
-use Rattle.std.proofs.Common.{◌≡◌, ℕ, ◌+◌, ◌≤◌, Bool, true, false, List, [], ◌∷◌, ◌++◌, length, length-append, not, cond, refl, sym, ap, ◌∙◌, subst, append_assoc, arith}
+use Rattle.std.proofs.Common.{◌≡◌, ℕ, ◌+◌, ◌≤◌, Bool, true, false, List, [], ◌∷◌, ◌++◌, length, length-append, not, cond, refl, sym, ap, ◌∙◌, subst}
+use Rattle.std.proofs.Common.{append_assoc, arith}
 use Rattle.std.proofs.lemmas.List.Sums.{sum_by-append, count_by-le-length}
 use Rattle.std.proofs.lemmas.List.{append-nil}
 use Rattle.apollo_parser.specs.Answers.{Answer, is_token}
@@ -25,7 +26,8 @@ few-errors : (answers : List Answer) → error_count answers ≤ length answers
 few-errors answers = count_by-le-length (λ (a : Answer). not (is_token a)) answers
 
 -- with the next answer there are no more errors than answers
-pub errors-within : (all old left : List Answer) (answer : Answer) (errors more : ℕ) (s t : Paged) → PutsSome (ArePrinted all old errors) s t → old ≡ answer ∷ left
+pub errors-within : (all old left : List Answer) (answer : Answer) (errors more : ℕ) (s t : Paged) → PutsSome (ArePrinted all old errors) s t
+    → old ≡ answer ∷ left
     → more ≡ error_count (answer ∷ []) → errors + more ≤ length all
 errors-within all old left answer errors more s t p comes counts =
     let h = p.made in
@@ -35,7 +37,8 @@ count-more : (printed : List Answer) (answer : Answer) → error_count (printed 
 count-more printed answer = sum_by-append (λ (a : Answer). cond (not (is_token a)) 1 0) printed (answer ∷ [])
 
 -- one more answer is printed
-printed-more : (all old left : List Answer) (answer : Answer) (output form : List ℕ) (errors more after : ℕ) → ArePrinted all old errors output → old ≡ answer ∷ left → IsAnswerForm answer form
+printed-more : (all old left : List Answer) (answer : Answer) (output form : List ℕ) (errors more after : ℕ) → ArePrinted all old errors output
+    → old ≡ answer ∷ left → IsAnswerForm answer form
     → more ≡ error_count (answer ∷ []) → after ≡ errors + more → ArePrinted all left after (output ++ line form)
 printed-more all old left answer output form errors more after h comes one counts sum = record {
   printed = h.printed ++ answer ∷ [];
@@ -44,8 +47,10 @@ printed-more all old left answer output form errors more after h comes one count
   counted = omega (arith, count-more h.printed answer, h.counted, counts, sum);
 }
 
-pub item_put : (all old left : List Answer) (answer : Answer) (errors more after : ℕ) (s t u v : Paged) → PutsSome (ArePrinted all old errors) s t → old ≡ answer ∷ left
-    → PutsSome (IsAnswerForm answer) t u → Puts u (10 ∷ []) v → more ≡ error_count (answer ∷ []) → after ≡ errors + more → PutsSome (ArePrinted all left after) s v
+pub item_put : (all old left : List Answer) (answer : Answer) (errors more after : ℕ) (s t u v : Paged) → PutsSome (ArePrinted all old errors) s t
+    → old ≡ answer ∷ left
+    → PutsSome (IsAnswerForm answer) t u → Puts u (10 ∷ []) v → more ≡ error_count (answer ∷ []) → after ≡ errors + more
+    → PutsSome (ArePrinted all left after) s v
 item_put all old left answer errors more after s t u v before comes one feed counts sum = record {
   output = before.output ++ line one.output;
   made = printed-more all old left answer before.output one.output errors more after before.made comes one.made counts sum;
@@ -53,7 +58,8 @@ item_put all old left answer errors more after s t u v before comes one feed cou
 }
 
 -- the printed form of a lexer's error is that of its answer
-pub error-form : (limit : Bool) (text form : List ℕ) (index : ℕ) (error : Diagnostic) → error.subject ≡ lex_subject limit text → error.index ≡ index → IsLexMessage limit text error.message
+pub error-form : (limit : Bool) (text form : List ℕ) (index : ℕ) (error : Diagnostic) → error.subject ≡ lex_subject limit text → error.index ≡ index
+    → IsLexMessage limit text error.message
     → IsErrorForm error form → IsAnswerForm (error_answer limit text index) form
 error-form true text form index error subject place message one =
     record { error = error; of_answer = (λ j. record { message = message j; subject = subject j; index = place j }); form = one }

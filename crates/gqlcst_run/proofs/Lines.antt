@@ -32,7 +32,8 @@ lines-more R values value front form h one = record {
 }
 
 -- the same where the value is the next of a list
-pub lines-next : {A : Type 0} (R : A → List ℕ → Type 0) (values : List A) (i : ℕ) (value : A) (front form output : List ℕ) → AreLines R (take i values) front → value ≡ get_or values i value → i < length values
+pub lines-next : {A : Type 0} (R : A → List ℕ → Type 0) (values : List A) (i : ℕ) (value : A) (front form output : List ℕ) → AreLines R (take i values) front
+    → value ≡ get_or values i value → i < length values
     → R value form → output ≡ front ++ line form → AreLines R (take (i + 1) values) output
 lines-next {A} R values i value front form output before is within one joined =
     let more = take_more values i value within ∙ ap (λ (v : A). take i values ++ v ∷ []) (sym is) in

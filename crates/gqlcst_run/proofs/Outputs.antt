@@ -4,27 +4,39 @@ use Rattle.apollo_parser.specs.Cut.{Cut}
 use Rattle.apollo_parser.specs.Reads.{items_of}
 use Rattle.apollo_parser.specs.Answers.{Answer, limited}
 use Rattle.apollo_parser.specs.Diagnostics.{Diagnostic}
-use Rattle.gqlcst_run.specs.declared.command.Mode.{Mode}
-use Rattle.gqlcst_run.specs.declared.command.Mode.TheVariants.{Check, Tokens, Tree}
-use Rattle.gqlcst_run.specs.declared.command.Limits.{Limits}
+use Rattle.program_words.specs.declared.gqlcst.Mode.{Mode}
+use Rattle.program_words.specs.declared.gqlcst.Mode.TheVariants.{Check, Tokens, Tree}
+use Rattle.apollo_parser.specs.declared.Limits.{Limits}
 use Rattle.gqlcst_run.specs.declared.outcome.Outcome.{Outcome}
 use Rattle.gqlcst_run.specs.Parsing.{outcome_of, IsFound}
 use Rattle.gqlcst_run.specs.Rendering.{AreLines, IsAnswerForm, IsVerdict, error_count}
 use Rattle.gqlcst_run.specs.Program.{IsOutput}
 use Rattle.gqlcst_run.specs.Paging.{Paged, PutsSome, PutsAny}
 
-pub check_put : (mode : Mode) (limits : Limits) (text : List ℕ) (outcome : Outcome) (errors shown : List Diagnostic) (s t : Paged) → mode ≡ Check → IsFound limits text errors outcome
+pub check_put : (mode : Mode) (limits : Limits) (text : List ℕ) (outcome : Outcome) (errors shown : List Diagnostic) (s t : Paged) → mode ≡ Check
+    → IsFound limits text errors outcome
     → shown ≡ errors → PutsSome (IsVerdict shown) s t → PutsSome (IsOutput mode limits text outcome) s t
 check_put mode limits text outcome errors shown s t is found all p =
     subst (λ (m : Mode). PutsSome (IsOutput m limits text outcome) s t) (sym is)
-    (record { output = p.output; made = record { errors = shown; found = subst (λ (es : List Diagnostic). IsFound limits text es outcome) (sym all) found; verdict = p.made }; puts = p.puts })
+    (record {
+      output = p.output;
+      made = record {
+        errors = shown;
+        found = subst (λ (es : List Diagnostic). IsFound limits text es outcome) (sym all) found;
+        verdict = p.made;
+      };
+      puts = p.puts;
+    })
 
-pub tree_put : (mode : Mode) (limits : Limits) (text : List ℕ) (outcome : Outcome) (errors : List Diagnostic) (s t : Paged) → mode ≡ Tree → IsFound limits text errors outcome
+pub tree_put : (mode : Mode) (limits : Limits) (text : List ℕ) (outcome : Outcome) (errors : List Diagnostic) (s t : Paged) → mode ≡ Tree
+    → IsFound limits text errors outcome
     → PutsAny s t → PutsSome (IsOutput mode limits text outcome) s t
 tree_put mode limits text outcome errors s t is found p =
-    subst (λ (m : Mode). PutsSome (IsOutput m limits text outcome) s t) (sym is) (record { output = p.output; made = record { errors = errors; found = found }; puts = p.puts })
+    subst (λ (m : Mode). PutsSome (IsOutput m limits text outcome) s t) (sym is)
+    (record { output = p.output; made = record { errors = errors; found = found }; puts = p.puts })
 
-pub tokens_put : (mode : Mode) (limits : Limits) (text : List ℕ) (outcome : Outcome) (answers : List Answer) (s t : Paged) → mode ≡ Tokens → Cut text (items_of text)
+pub tokens_put : (mode : Mode) (limits : Limits) (text : List ℕ) (outcome : Outcome) (answers : List Answer) (s t : Paged) → mode ≡ Tokens
+    → Cut text (items_of text)
     → answers ≡ limited limits.tokens (items_of text) → outcome ≡ outcome_of (error_count answers) → PutsSome (AreLines IsAnswerForm answers) s t
     → PutsSome (IsOutput mode limits text outcome) s t
 tokens_put mode limits text outcome answers s t is cut limit counted p =

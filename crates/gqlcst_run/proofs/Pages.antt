@@ -88,7 +88,8 @@ broken-rest bytes rest old now new t b = record {
 }
 
 -- more bytes wait, or come after those that the writer broke off
-waits : (is_broken : Bool) (bytes rest more : List ℕ) (old new : Account) → HasTaken is_broken bytes rest old new → HasTaken is_broken (bytes ++ more) (rest ++ more) old new
+waits : (is_broken : Bool) (bytes rest more : List ℕ) (old new : Account) → HasTaken is_broken bytes rest old new
+    → HasTaken is_broken (bytes ++ more) (rest ++ more) old new
 waits true bytes rest more old new h = broken-more bytes more old new h
 waits false bytes rest more old new h = taken-waits bytes rest more old new h
 
@@ -96,7 +97,8 @@ no-broken : {A : Type 0} → false ≡ true → A
 no-broken {A} e = grind arith
 
 -- what waited is passed to the writer
-passed : (was is : Bool) (bytes rest : List ℕ) (start old new : Account) → HasTaken was bytes rest start old → IsPassed was rest old is new → HasTaken is bytes [] start new
+passed : (was is : Bool) (bytes rest : List ℕ) (start old new : Account) → HasTaken was bytes rest start old → IsPassed was rest old is new
+    → HasTaken is bytes [] start new
 passed true true bytes rest start old new h p = subst (λ (a : Account). IsBroken bytes start a) (sym p.1) h
 passed true false bytes rest start old new h p = absurd (no-broken p.0)
 passed false true bytes rest start old new h p = broken-rest bytes rest start old new h p
@@ -115,11 +117,13 @@ turned old new a b p blank = record {
 }
 
 -- bytes are put that are larger than a page, when nothing waits
-pub put_through : (old new : Page) (a b : Account) (more : List ℕ) → waiting old ≡ [] → IsPassed old.is_broken more a new.is_broken b → waiting new ≡ [] → Puts (old, a) more (new, b)
+pub put_through : (old new : Page) (a b : Account) (more : List ℕ) → waiting old ≡ [] → IsPassed old.is_broken more a new.is_broken b → waiting new ≡ []
+    → Puts (old, a) more (new, b)
 put_through old new a b more before p blank = record {
   after = λ bytes start is.
       let all = waits old.is_broken bytes (waiting old) more start a is in
-      rw blank (passed old.is_broken new.is_broken (bytes ++ more) more start a b (subst (λ (rest : List ℕ). HasTaken old.is_broken (bytes ++ more) (rest ++ more) start a) before all) p);
+      rw blank (passed old.is_broken new.is_broken (bytes ++ more) more start a b
+      (subst (λ (rest : List ℕ). HasTaken old.is_broken (bytes ++ more) (rest ++ more) start a) before all) p);
 }
 
 -- what is put on a blank page is all that was put
@@ -127,10 +131,12 @@ pub put-all : (blank page : Page) (a b : Account) (bytes : List ℕ) → IsBlank
 put-all blank page a b bytes is p = p.after [] a (rw (is.0, is.1) (taken_none [] a))
 
 -- nothing waits any more
-pub finished_ok : (s : Paged) (page : Page) (a : Account) → Puts s [] (page, a) → waiting page ≡ [] → page.is_broken ≡ false → (bytes : List ℕ) (start : Account) → IsPut bytes start s → a ≡ moved start bytes
+pub finished_ok : (s : Paged) (page : Page) (a : Account) → Puts s [] (page, a) → waiting page ≡ [] → page.is_broken ≡ false
+    → (bytes : List ℕ) (start : Account) → IsPut bytes start s → a ≡ moved start bytes
 finished_ok s page a p blank unbroken bytes start is =
     let done = rw (append-nil bytes, blank, unbroken) at (p.after bytes start is) in
     taken_all bytes start a done
 
-pub finished_err : (s : Paged) (page : Page) (a : Account) → Puts s [] (page, a) → page.is_broken ≡ true → (bytes : List ℕ) (start : Account) → IsPut bytes start s → EndsWriting Write bytes start a
+pub finished_err : (s : Paged) (page : Page) (a : Account) → Puts s [] (page, a) → page.is_broken ≡ true → (bytes : List ℕ) (start : Account)
+    → IsPut bytes start s → EndsWriting Write bytes start a
 finished_err s page a p broken bytes start is = rw (append-nil bytes, broken) at (p.after bytes start is)

@@ -1,5 +1,6 @@
 -- Texts between quotes, piece by piece.
-use Rattle.std.proofs.Common.{◌≡◌, ◌≢◌, ℕ, zero, suc, ◌+◌, ◌-◌, ◌/◌, ◌%◌, ◌<◌, ◌≤◌, Bool, true, false, cond, List, [], ◌∷◌, ◌++◌, length, get_or, take, drop, refl, sym, ap, ◌∙◌, append_assoc, subst, true≢false, arith}
+use Rattle.std.proofs.Common.{◌≡◌, ◌≢◌, ℕ, zero, suc, ◌+◌, ◌-◌, ◌/◌, ◌%◌, ◌<◌, ◌≤◌, Bool, true, false, cond, List, [], ◌∷◌, ◌++◌, length, get_or, take, drop}
+use Rattle.std.proofs.Common.{refl, sym, ap, ◌∙◌, append_assoc, subst, true≢false, arith}
 use borrow.Author.Tests.{eq-eqb, ne_eqb, ltb-true}
 use Rattle.std.specs.Prelude.{codes, Option, Some, None, slice_index}
 use Rattle.std.specs.Bool.{MatchBool}
@@ -40,7 +41,8 @@ control_put b letter control s t is none tests passes p =
     let form : debug_escape 34 b ≡ codes "\\u{" ++ (digits 16 false b ++ codes "}") = escape-other b true (sym is ∙ none) (sym tests ∙ passes) in
     subst (λ (bytes : List ℕ). Puts s bytes t) (sym form) p
 
-pub other_put : (b letter : ℕ) (control : Bool) (s t : Paged) → letter ≡ debug_escape_letter b 34 → letter ≡ 0 → control ≡ is_control b → control ≡ false → Puts s (b ∷ []) t → Puts s (debug_escape 34 b) t
+pub other_put : (b letter : ℕ) (control : Bool) (s t : Paged) → letter ≡ debug_escape_letter b 34 → letter ≡ 0 → control ≡ is_control b → control ≡ false
+    → Puts s (b ∷ []) t → Puts s (debug_escape 34 b) t
 other_put b letter control s t is none tests fails p =
     let form : debug_escape 34 b ≡ b ∷ [] = escape-other b false (sym is ∙ none) (sym tests ∙ fails) in
     subst (λ (bytes : List ℕ). Puts s bytes t) (sym form) p
@@ -49,7 +51,8 @@ other_put b letter control s t is none tests fails p =
 pub hex_put_one : (b digit : ℕ) (s t : Paged) → b < 16 → digit ≡ digit_glyph false b → Puts s (digit ∷ []) t → Puts s (digits 16 false b) t
 hex_put_one b digit s t small is p = subst (λ (form : List ℕ). Puts s form t) (ap (λ (d : ℕ). d ∷ []) is ∙ sym (hex_one_digit false b small)) p
 
-pub hex_put_two : (b high low : ℕ) (s t : Paged) → 16 ≤ b → b < 256 → high ≡ digit_glyph false (b / 16) → low ≡ digit_glyph false (b % 16) → Puts s (high ∷ low ∷ []) t
+pub hex_put_two : (b high low : ℕ) (s t : Paged) → 16 ≤ b → b < 256 → high ≡ digit_glyph false (b / 16) → low ≡ digit_glyph false (b % 16)
+    → Puts s (high ∷ low ∷ []) t
     → Puts s (digits 16 false b) t
 hex_put_two b high low s t large small h l p = subst (λ (form : List ℕ). Puts s form t) (rw (h, l) (sym (hex_two_digits false b large small))) p
 
@@ -86,7 +89,8 @@ plain-suc : (b : ℕ) (text : List ℕ) (n : ℕ) → is_plain b ≡ true → fl
     → flat_map (debug_escape 34) (take (suc n) (b ∷ text)) ≡ take (suc n) (b ∷ text)
 plain-suc b text n plain rest = rw (plain-one b plain, rest) refl
 
-plain-next : (t : Bool) (b : ℕ) (text : List ℕ) → is_plain b ≡ t → flat_map (debug_escape 34) (take (prefix_len is_plain text) text) ≡ take (prefix_len is_plain text) text
+plain-next : (t : Bool) (b : ℕ) (text : List ℕ) → is_plain b ≡ t → flat_map (debug_escape 34) (take (prefix_len is_plain text) text)
+    ≡ take (prefix_len is_plain text) text
     → flat_map (debug_escape 34) (take (cond t (1 + prefix_len is_plain text) 0) (b ∷ text)) ≡ take (cond t (1 + prefix_len is_plain text) 0) (b ∷ text)
 plain-next true b text p rest =
     let n = prefix_len is_plain text in
@@ -108,11 +112,13 @@ pub record IsPartWritten (text rest : List ℕ) (old new : Paged) : Type 0 where
 pub part_none : (text : List ℕ) (s : Paged) → IsPartWritten text text s s
 part_none text s = record { front = []; joined = refl; puts = puts_nothing s }
 
-part-more : (text rest : List ℕ) (n : ℕ) (s t u : Paged) → IsPartWritten text rest s t → Puts t (flat_map (debug_escape 34) (take n rest)) u → IsPartWritten text (drop n rest) s u
+part-more : (text rest : List ℕ) (n : ℕ) (s t u : Paged) → IsPartWritten text rest s t → Puts t (flat_map (debug_escape 34) (take n rest)) u
+    → IsPartWritten text (drop n rest) s u
 part-more text rest n s t u h p = record {
   front = h.front ++ take n rest;
   joined = h.joined ∙ (ap (λ (bs : List ℕ). h.front ++ bs) (sym (take-append-drop n rest)) ∙ sym (append_assoc h.front (take n rest) (drop n rest)));
-  puts = subst (λ (bs : List ℕ). Puts s bs u) (sym (flat_map-append (debug_escape 34) h.front (take n rest))) (puts_then s t u (flat_map (debug_escape 34) h.front) (flat_map (debug_escape 34) (take n rest)) h.puts p);
+  puts = subst (λ (bs : List ℕ). Puts s bs u) (sym (flat_map-append (debug_escape 34) h.front (take n rest)))
+      (puts_then s t u (flat_map (debug_escape 34) h.front) (flat_map (debug_escape 34) (take n rest)) h.puts p);
 }
 
 pub part_more : (text rest : List ℕ) (n : ℕ) (s t u : Paged) → IsPartWritten text rest s t → Puts t (flat_map (debug_escape 34) (take n rest)) u
@@ -127,10 +133,12 @@ one-escape [] some = absurd (omega arith)
 one-escape (b ∷ bytes) some = append-nil (debug_escape 34 b)
 
 -- the bytes at the front, and one escape
-pub front_put : (bytes : List ℕ) (n : ℕ) (s t : Paged) → n ≡ prefix_len is_plain bytes → Puts s (take n bytes) t → Puts s (flat_map (debug_escape 34) (take n bytes)) t
+pub front_put : (bytes : List ℕ) (n : ℕ) (s t : Paged) → n ≡ prefix_len is_plain bytes → Puts s (take n bytes) t
+    → Puts s (flat_map (debug_escape 34) (take n bytes)) t
 front_put bytes n s t is p = subst (λ (form : List ℕ). Puts s form t) (rw is (sym (plain_front bytes))) p
 
-pub escape_put : (bytes : List ℕ) (s t : Paged) → 0 < length bytes → Puts s (debug_escape 34 (get_or bytes 0 0)) t → Puts s (flat_map (debug_escape 34) (take 1 bytes)) t
+pub escape_put : (bytes : List ℕ) (s t : Paged) → 0 < length bytes → Puts s (debug_escape 34 (get_or bytes 0 0)) t
+    → Puts s (flat_map (debug_escape 34) (take 1 bytes)) t
 escape_put bytes s t some p = subst (λ (form : List ℕ). Puts s form t) (sym (one-escape bytes some)) p
 
 -- the form of a text of ASCII, and of another one
@@ -142,11 +150,13 @@ ascii-at (b ∷ text) (suc i) all = ascii-at text i (and_parts (is_ascii b) (lis
 pub ascii_put : (text bytes : List ℕ) (s t : Paged) → bytes ≡ text → Puts s (flat_map (debug_escape 34) bytes) t → PutsSome (IsEscaped text) s t
 ascii_put text bytes s t is p = record { output = flat_map (debug_escape 34) bytes; made = λ ascii. ap (flat_map (debug_escape 34)) is; puts = p }
 
-pub any_put : (text : List ℕ) (test : Bool) (s t : Paged) → MatchBool test (IsAscii text) (IsNotAscii text) → test ≡ false → PutsAny s t → PutsSome (IsEscaped text) s t
+pub any_put : (text : List ℕ) (test : Bool) (s t : Paged) → MatchBool test (IsAscii text) (IsNotAscii text) → test ≡ false → PutsAny s t
+    → PutsSome (IsEscaped text) s t
 any_put text true s t cases fails p = absurd (true≢false fails)
 any_put text false s t other fails p = record { output = p.output; made = λ ascii. absurd (omega (arith, ascii-at text other.0 ascii, other.1)); puts = p.puts }
 
-quoted-by : (t : Bool) (text form : List ℕ) → (t ≡ true → form ≡ flat_map (debug_escape 34) text) → IsForm (cond t (Some (34 ∷ (flat_map (debug_escape 34) text ++ 34 ∷ []))) None) (34 ∷ (form ++ 34 ∷ []))
+quoted-by : (t : Bool) (text form : List ℕ) → (t ≡ true → form ≡ flat_map (debug_escape 34) text)
+    → IsForm (cond t (Some (34 ∷ (flat_map (debug_escape 34) text ++ 34 ∷ []))) None) (34 ∷ (form ++ 34 ∷ []))
 quoted-by true text form escaped = ap (λ (bs : List ℕ). 34 ∷ (bs ++ 34 ∷ [])) (escaped refl)
 quoted-by false text form escaped = tt
 
@@ -174,7 +184,8 @@ plain_put front text bytes plain s t is tests all p = record {
 }
 
 -- any text, in quotes after another text
-pub quoted_put : (front text : List ℕ) (s t u : Paged) → Puts s front t → PutsSome (IsForm (debug_str text)) t u → PutsSome (IsFormAfter front (debug_str text)) s u
+pub quoted_put : (front text : List ℕ) (s t u : Paged) → Puts s front t → PutsSome (IsForm (debug_str text)) t u
+    → PutsSome (IsFormAfter front (debug_str text)) s u
 quoted_put front text s t u p q = record {
   output = front ++ q.output;
   made = record { form = q.output; stated_form = q.made; joined = refl };
@@ -190,4 +201,5 @@ pub escaped-parts : (a b c f g h : List ℕ) → IsEscaped a f → IsEscaped b g
 escaped-parts a b c f g h x y z = λ ascii.
     let both = and_parts (list_all is_ascii (a ++ b)) (list_all is_ascii c) (sym (list_all-append is_ascii (a ++ b) c) ∙ ascii) in
     let each = and_parts (list_all is_ascii a) (list_all is_ascii b) (sym (list_all-append is_ascii a b) ∙ both.0) in
-    rw (x each.0, y each.1, z both.1) (sym (flat_map-append (debug_escape 34) (a ++ b) c ∙ ap (λ (bs : List ℕ). bs ++ flat_map (debug_escape 34) c) (flat_map-append (debug_escape 34) a b)))
+    rw (x each.0, y each.1, z both.1) (sym (flat_map-append (debug_escape 34) (a ++ b) c
+    ∙ ap (λ (bs : List ℕ). bs ++ flat_map (debug_escape 34) c) (flat_map-append (debug_escape 34) a b)))

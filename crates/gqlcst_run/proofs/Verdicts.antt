@@ -14,11 +14,13 @@ verdict-report : (errors : List Diagnostic) (output : List ℕ) → 0 < length e
 verdict-report [] output some report = absurd (omega arith)
 verdict-report (error ∷ errors) output some report = report
 
-pub report_put : (errors : List Diagnostic) (count : ℕ) (s t u v w : Paged) → 0 < length errors → PutsSome (AreLines IsErrorForm errors) s t → Puts t (codes "errors: ") u → count ≡ length errors
+pub report_put : (errors : List Diagnostic) (count : ℕ) (s t u v w : Paged) → 0 < length errors → PutsSome (AreLines IsErrorForm errors) s t
+    → Puts t (codes "errors: ") u → count ≡ length errors
     → Puts u (decimal count) v → Puts v (codes "\n") w → PutsSome (IsVerdict errors) s w
 report_put errors count s t u v w some lines p counts q r =
     let output : List ℕ = lines.output ++ (codes "errors: " ++ (decimal count ++ codes "\n")) in
-    let joined : output ≡ lines.output ++ line (codes "errors: " ++ decimal (length errors)) = ap (λ (n : ℕ). lines.output ++ (codes "errors: " ++ (decimal n ++ codes "\n"))) counts in
+    let joined : output ≡ lines.output ++ line (codes "errors: " ++ decimal (length errors)) = ap
+    (λ (n : ℕ). lines.output ++ (codes "errors: " ++ (decimal n ++ codes "\n"))) counts in
     record {
       output = output;
       made = verdict-report errors output some (record { lines = lines.output; each = lines.made; joined = joined });

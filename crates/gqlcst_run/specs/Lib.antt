@@ -1,4 +1,3 @@
-pub mod Command
 pub mod Parsing
 pub mod Rendering
 pub mod Passing

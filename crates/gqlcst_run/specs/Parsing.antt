@@ -8,7 +8,7 @@ use Rattle.apollo_parser.specs.Derivation.{document}
 use Rattle.apollo_parser.specs.Sentence.{Sentence, Within}
 use Rattle.apollo_parser.specs.Diagnostics.{Diagnostic}
 use Rattle.apollo_parser.specs.Parsed.{ErrorsOf}
-use Rattle.gqlcst_run.specs.declared.command.Limits.{Limits}
+use Rattle.apollo_parser.specs.declared.Limits.{Limits}
 use Rattle.gqlcst_run.specs.declared.outcome.Outcome.{Outcome}
 use Rattle.gqlcst_run.specs.declared.outcome.Outcome.TheVariants.{Clean, Errors}
 

@@ -6,9 +6,9 @@ use Rattle.apollo_parser.specs.Answers.{limited}
 use Rattle.apollo_parser.specs.Diagnostics.{Diagnostic}
 use Rattle.gqlcst_run.specs.Parsing.{outcome_of, IsFound}
 use Rattle.gqlcst_run.specs.Rendering.{AreLines, IsAnswerForm, IsVerdict, error_count}
-use Rattle.gqlcst_run.specs.declared.command.Mode.{Mode}
-use Rattle.gqlcst_run.specs.declared.command.Mode.TheVariants.{Check, Tokens, Tree}
-use Rattle.gqlcst_run.specs.declared.command.Limits.{Limits}
+use Rattle.program_words.specs.declared.gqlcst.Mode.{Mode}
+use Rattle.program_words.specs.declared.gqlcst.Mode.TheVariants.{Check, Tokens, Tree}
+use Rattle.apollo_parser.specs.declared.Limits.{Limits}
 use Rattle.gqlcst_run.specs.declared.outcome.Outcome.{Outcome}
 
 -- What is written of a text in mode check: `clean`, or the errors that are found in it and their number.

@@ -6,9 +6,8 @@ ghost use Rattle.apollo_parser.specs.Reads.{items_of};
 ghost use Rattle.apollo_parser.specs.LexerAnswers.{answers_left};
 ghost use Rattle.gqlcst_run.specs.Parsing.{IsFound};
 
-use crate::command::Limits;
 use crate::outcome::{Outcome, outcome_of};
-use apollo_parser::{DocumentRoot, Lexer, Parser, SyntaxTree};
+use apollo_parser::{DocumentRoot, Lexer, Limits, Parser, SyntaxTree};
 use std::alloc::{AllocError, Allocator};
 
 /// A lexer of the text, with the token limit.
@@ -19,17 +18,6 @@ pub fn lexer(source: &str, limits: Limits) -> Lexer<'_>
     Lexer::new(source).with_limit(limits.tokens)
 }
 
-// A parser of the text, with these limits.
-fn parser(source: &str, limits: Limits) -> Parser<'_>
-    ensures source { result.source.now ≡ source.now }
-    ensures recursion { result.recursion_limit ≡ limits.recursion }
-    ensures tokens { result.token_limit ≡ limits.tokens }
-{
-    Parser::new(source)
-        .recursion_limit(limits.recursion)
-        .token_limit(limits.tokens)
-}
-
 /// The tree of a text with its errors, and what their number comes to.
 pub fn parse<A: Allocator + Copy>(
     alloc: A,
@@ -38,7 +26,7 @@ pub fn parse<A: Allocator + Copy>(
 ) -> Result<(SyntaxTree<DocumentRoot, A>, Outcome), AllocError>
     ensures { IfOk result (λ it. IsFound limits source.now it.0.errors it.1) }
 {
-    let tree = parser(source, limits).parse(alloc)?;
+    let tree = Parser::within(source, limits).parse(alloc)?;
     let outcome = outcome_of(tree.errors().len());
     Ok((tree, outcome))
 }

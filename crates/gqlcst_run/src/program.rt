@@ -4,12 +4,13 @@ ghost use Rattle.gqlcst_run.specs.Paging.{PutsSome};
 ghost use Rattle.byte_devices.specs.Runs.{Reads, Writes};
 ghost use Rattle.gqlcst_run.specs.Program.{IsOutput};
 
-use crate::command::{Limits, Mode};
 use crate::outcome::Outcome;
 use crate::page::Page;
 use crate::parsing::{lexer, parse};
 use crate::rendering::{put_errors, put_tokens, put_tree};
+use apollo_parser::Limits;
 use byte_devices::{Fault, Sink, Source, read_to_end};
+use program_words::gqlcst::Mode;
 use std::alloc::{AllocError, Allocator};
 
 // Puts what a mode shows of a text, and answers what was found. Mode tokens needs no parse. All memory that it takes is asked for before the

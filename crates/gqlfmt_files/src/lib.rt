@@ -1,6 +1,7 @@
 //! When the program `gqlfmt` replaces a file.
 //!
-//! Nothing here knows what is formatted: errors are a type parameter, and so are the files.
+//! `gqlfmt_run` calls `settle` with what the formatter made of a file's text. It is a crate of its own since it is the one call that destroys something:
+//! its contract can be read and proved alone. Nothing here knows what is formatted: errors are a type parameter, and so are the files.
 #![tactic(auto)]
 
 mod files;

@@ -49,10 +49,10 @@ pub fn settle<F: Files, A: Allocator, E>(
         Revised::Same => Ok(Outcome::Done),
         Revised::Refused(_) => Ok(Outcome::Found),
         Revised::Changed(text) => match mode {
-            Mode::Write => match files.replace(path, text.as_str()) {
-                Ok(()) => Ok(Outcome::Done),
-                Err(error) => Err(error),
-            },
+            Mode::Write => {
+                files.replace(path, text.as_str())?;
+                Ok(Outcome::Done)
+            }
             Mode::Check | Mode::Diff => Ok(Outcome::Found),
         },
     }

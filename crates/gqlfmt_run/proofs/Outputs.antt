@@ -1,6 +1,6 @@
 -- What is written of a text, by what formatting makes of it.
 use Rattle.std.proofs.Common.{◌≡◌, ◌≢◌, ℕ, List, [], inl, inr, sym, subst}
-use Rattle.gqlfmt_run.specs.declared.limits.Limits.{Limits}
+use Rattle.apollo_parser.specs.declared.Limits.{Limits}
 use Rattle.gqlfmt_files.specs.declared.settling.Mode.{Mode}
 use Rattle.gqlfmt_files.specs.declared.settling.Mode.TheVariants.{Write, Check, Diff}
 use Rattle.gqlfmt_files.specs.declared.settling.Outcome.TheVariants.{Done, Found}

@@ -7,22 +7,21 @@ use Rattle.std.specs.Ordering.{ord_max, nat_cmp}
 use Rattle.std.proofs.lemmas.Bool.Decides.{nat_tests}
 use Rattle.std.proofs.lemmas.List.{take_more, map-append}
 use Rattle.byte_devices.specs.Devices.{Account}
-use Rattle.gqlfmt_run.specs.declared.limits.Limits.{Limits}
+use Rattle.apollo_parser.specs.declared.Limits.{Limits}
 use Rattle.gqlfmt_files.specs.declared.settling.Mode.{Mode}
 use Rattle.gqlfmt_files.specs.declared.settling.Revised.{Revised}
 use Rattle.gqlfmt_files.specs.declared.settling.Revised.TheVariants.{Same, Changed, Refused}
 use Rattle.gqlfmt_files.specs.declared.settling.Outcome.{Outcome}
 use Rattle.gqlfmt_files.specs.declared.settling.Outcome.TheVariants.{Found}
 use Rattle.gqlfmt_files.specs.Settling.{Settles}
-use Rattle.gqlfmt_words.specs.Words.{texts}
-use Rattle.gqlfmt_words.specs.declared.words.Settings.{Settings}
+use Rattle.program_words.specs.Gqlfmt.{texts}
 use Rattle.gqlfmt_run.specs.declared.fault.FileFault.{FileFault}
 use Rattle.gqlfmt_run.specs.declared.formatting.Refusal.{Refusal}
 use Rattle.gqlfmt_run.specs.Complaints.{IsSilent, SaysOfFile}
 use Rattle.gqlfmt_run.specs.Formatting.{IsRevised}
 use Rattle.gqlfmt_run.specs.Outcome.{status_of}
 use Rattle.gqlfmt_run.specs.Paths.{Desk, FollowsText, Handles, HandlesAll}
-use Rattle.gqlfmt_run.specs.Program.{State, desk, mode_of, limits_of, Formats}
+use Rattle.gqlfmt_run.specs.Program.{State, desk, Formats}
 use Rattle.gqlfmt_run.specs.Showing.{Shows}
 use Rattle.gqlfmt_run.proofs.Outputs.{is_refused}
 
@@ -56,18 +55,11 @@ module _ {S : Type 0} (reads : S → List ℕ → Option (List ℕ) → S → Ty
   }
 
   -- a run over some files
-  pub formats-files : (settings : Settings) (mode : Mode) (limits : Limits) (paths files : List (Bor (List ℕ))) (status : ℕ) (old new : State S)
-      → paths ≡ files → 0 < length paths
-      → mode ≡ mode_of settings → limits ≡ limits_of settings → HandlesAll reads replaces mode limits (texts paths) status (desk old) (desk new)
-      → new.input ≡ old.input
-      → Formats reads replaces settings (texts files) status old new
-  formats-files settings mode limits [] files status old new same some m l all input = absurd (omega (arith, some))
-  formats-files settings mode limits (p ∷ paths) files status old new same some m l all input =
-      subst (λ (fs : List (Bor (List ℕ))). Formats reads replaces settings (texts fs) status old new) same (
-        subst (λ (k : Limits). HandlesAll reads replaces (mode_of settings) k (texts (p ∷ paths)) status (desk old) (desk new)) l
-            (subst (λ (k : Mode). HandlesAll reads replaces k limits (texts (p ∷ paths)) status (desk old) (desk new)) m all),
-        input,
-      )
+  pub formats-files : (mode : Mode) (limits : Limits) (paths : List (Bor (List ℕ))) (status : ℕ) (old new : State S) → 0 < length paths
+      → HandlesAll reads replaces mode limits (texts paths) status (desk old) (desk new) → new.input ≡ old.input
+      → Formats reads replaces mode limits (texts paths) status old new
+  formats-files mode limits [] status old new some all input = absurd (omega (arith, some))
+  formats-files mode limits (p ∷ paths) status old new some all input = (all, input)
 
   module _ (mode : Mode) (limits : Limits) where
     abbrev Ends : List ℕ → Result Outcome FileFault → Desk S → Desk S → Type 0

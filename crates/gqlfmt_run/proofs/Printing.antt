@@ -35,13 +35,15 @@ broken-second front more old new b = record {
 }
 
 -- the same of what writing answers, by the bytes that it was given
-pub first-broken : {T : Type 0} (r : Result T Fault) (fault : Fault) (text front more bytes : List ℕ) (old new : Account) → text ≡ front ++ more → bytes ≡ front → EndsWriting fault bytes old new
+pub first-broken : {T : Type 0} (r : Result T Fault) (fault : Fault) (text front more bytes : List ℕ) (old new : Account) → text ≡ front ++ more → bytes ≡ front
+    → EndsWriting fault bytes old new
     → OnErr r (IsBroken text old new)
 first-broken (Ok x) fault text front more bytes old new joined same ends = tt
 first-broken (Err e) fault text front more bytes old new joined same ends =
     rw joined (broken-first front more old new (broken-off fault front old new (subst (λ (b : List ℕ). EndsWriting fault b old new) same ends)))
 
-pub second-broken : {T : Type 0} (r : Result T Fault) (text front more bytes bytes' : List ℕ) (old middle new : Account) → text ≡ front ++ more → bytes ≡ front → middle ≡ moved old bytes → bytes' ≡ more
+pub second-broken : {T : Type 0} (r : Result T Fault) (text front more bytes bytes' : List ℕ) (old middle new : Account) → text ≡ front ++ more → bytes ≡ front
+    → middle ≡ moved old bytes → bytes' ≡ more
     → IfErr r (λ fault. EndsWriting fault bytes' middle new) → OnErr r (IsBroken text old new)
 second-broken (Ok x) text front more bytes bytes' old middle new joined same taken same' ends = tt
 second-broken (Err fault) text front more bytes bytes' old middle new joined same taken same' ends =

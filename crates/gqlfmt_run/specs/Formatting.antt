@@ -3,7 +3,7 @@ use Rattle.std.specs.Prelude.{◌≡◌, ◌≢◌, ◌<◌, ◌⊎◌, ℕ, Lis
 use Rattle.apollo_parser.specs.Reads.{items_of}
 use Rattle.formatter.specs.Outcome as format
 use Rattle.apollo_parser.specs.Diagnostics.{Diagnostic}
-use Rattle.gqlfmt_run.specs.declared.limits.Limits.{Limits}
+use Rattle.apollo_parser.specs.declared.Limits.{Limits}
 use Rattle.gqlfmt_run.specs.declared.formatting.Refusal.{Refusal}
 use Rattle.gqlfmt_run.specs.declared.formatting.Refusal.TheVariants.{Errors, Outgrown}
 use Rattle.gqlfmt_files.specs.declared.settling.Mode.{Mode}

@@ -1,6 +1,6 @@
 -- What is written of standard input.
 use Rattle.std.specs.Prelude.{◌≡◌, ◌⊎◌, ℕ, List, [], codes}
-use Rattle.gqlfmt_run.specs.declared.limits.Limits.{Limits}
+use Rattle.apollo_parser.specs.declared.Limits.{Limits}
 use Rattle.gqlfmt_files.specs.declared.settling.Mode.{Mode}
 use Rattle.gqlfmt_files.specs.declared.settling.Mode.TheVariants.{Write, Check, Diff}
 use Rattle.gqlfmt_files.specs.declared.settling.Outcome.{Outcome}

@@ -1,36 +1,22 @@
 -- What a run of the program does, by what its words ask for.
-use Rattle.std.specs.Prelude.{◌≡◌, ◌⊎◌, ℕ, Bool, List, [], ◌∷◌, ◌++◌, Option, Some, None, Result, unwrap_or}
-use Rattle.apollo_parser.specs.Answers.{usize_max}
+use Rattle.std.specs.Prelude.{◌≡◌, ◌⊎◌, ℕ, Bool, List, [], ◌∷◌, ◌++◌, Option, Some, None, Result}
 use Rattle.byte_devices.specs.Devices.{Account, moved}
 use Rattle.byte_devices.specs.Writing.{IsBroken}
 use Rattle.byte_devices.specs.Runs.{Reads, Writes}
-use Rattle.gqlfmt_run.specs.declared.limits.Limits.{Limits}
+use Rattle.apollo_parser.specs.declared.Limits.{Limits}
 use Rattle.byte_devices.specs.declared.fault.Fault.{Fault}
-use Rattle.gqlfmt_words.specs.Words.{Run}
+use Rattle.program_words.specs.Gqlfmt.{Run}
 use Rattle.gqlfmt_files.specs.declared.settling.Mode.{Mode}
-use Rattle.gqlfmt_files.specs.declared.settling.Mode.TheVariants.{Write}
 use Rattle.gqlfmt_files.specs.declared.settling.Outcome.{Outcome}
-use Rattle.gqlfmt_words.specs.declared.words.Settings.{Settings}
-use Rattle.gqlfmt_words.specs.declared.words.Page.{Page}
-use Rattle.gqlfmt_words.specs.declared.words.Page.TheVariants.{Help, Version}
-use Rattle.gqlfmt_words.specs.declared.words.Request.{Request}
-use Rattle.gqlfmt_words.specs.declared.words.Request.TheVariants.{Print, Format}
+use Rattle.program_words.specs.declared.gqlfmt.Page.{Page}
+use Rattle.program_words.specs.declared.gqlfmt.Page.TheVariants.{Help, Version}
+use Rattle.program_words.specs.declared.gqlfmt.Request.{Request}
+use Rattle.program_words.specs.declared.gqlfmt.Request.TheVariants.{Print, Format}
 use Rattle.gqlfmt_run.specs.declared.command.TheConstants.{USAGE, HELP, VERSION, NO_MEMORY}
 use Rattle.gqlfmt_run.specs.Outcome.{status_of}
 use Rattle.gqlfmt_run.specs.Complaints.{IsWritten, Says}
 use Rattle.gqlfmt_run.specs.Input.{input_name, IsOutput}
 use Rattle.gqlfmt_run.specs.Paths.{Desk, HandlesAll}
-
--- the limits where no option sets them
-abbrev pub none_set : Limits
-none_set = record { recursion = 500; tokens = usize_max }
-
--- the mode where no option sets it, and the limits
-abbrev pub mode_of : Settings → Mode
-mode_of settings = unwrap_or settings.mode Write
-
-abbrev pub limits_of : Settings → Limits
-limits_of settings = record { recursion = unwrap_or settings.recursion none_set.recursion; tokens = unwrap_or settings.tokens none_set.tokens }
 
 abbrev pub page_text : Page → List ℕ
 page_text Help = USAGE.now ++ HELP.now
@@ -76,16 +62,16 @@ OnlySays text status old new =
 -- the files, as a trait tells what its two calls do
 module _ {S : Type 0} (reads : S → List ℕ → Option (List ℕ) → S → Type 0) (replaces : S → List ℕ → List ℕ → Bool → S → Type 0) where
   -- the files at these paths are handled, or standard input where there are none
-  abbrev pub Formats : Settings → List (List ℕ) → ℕ → State S → State S → Type 0
-  Formats settings [] status old new = FormatsInput (mode_of settings) (limits_of settings) status (streams old) (streams new) × (new.files ≡ old.files)
-  Formats settings (path ∷ paths) status old new =
-      HandlesAll reads replaces (mode_of settings) (limits_of settings) (path ∷ paths) status (desk old) (desk new) × (new.input ≡ old.input)
+  abbrev pub Formats : Mode → Limits → List (List ℕ) → ℕ → State S → State S → Type 0
+  Formats mode limits [] status old new = FormatsInput mode limits status (streams old) (streams new) × (new.files ≡ old.files)
+  Formats mode limits (path ∷ paths) status old new = HandlesAll reads replaces mode limits (path ∷ paths) status (desk old) (desk new)
+      × (new.input ≡ old.input)
 
   -- What a run does for a request. Where there is none, it says on standard error how the program is called, and nothing else.
   abbrev pub Does : Option (Request Run) → ℕ → State S → State S → Type 0
   Does (Some (Print page)) status old new =
       IsPrinted (page_text page) status old.output new.output × (new.complaints ≡ old.complaints) × (new.input ≡ old.input) × (new.files ≡ old.files)
-  Does (Some (Format run)) status old new = Formats run.settings run.files status old new
+  Does (Some (Format run)) status old new = Formats run.mode run.limits run.files status old new
   Does None status old new = OnlySays USAGE.now status old new
 
   -- What a run does: that, or it says that memory was refused before the last of its words was read, and nothing else.

@@ -3,8 +3,8 @@ ghost use Rattle.std.specs.Prelude.{IfOk, string_bytes};
 ghost use Rattle.formatter.specs.Outcome as format;
 ghost use Rattle.gqlfmt_run.specs.Formatting.{IsRevised};
 
-use crate::limits::Limits;
-use apollo_parser::Error;
+use crate::job::Job;
+use apollo_parser::{Error, Limits};
 use formatter::{DocumentFormatter, stays_within};
 use gqlfmt_files::Revised;
 use std::alloc::{AllocError, Allocator};
@@ -32,18 +32,14 @@ fn compared<A: Allocator>(source: &str, text: String<A>, limits: Limits) -> Revi
     }
 }
 
-/// Formats a text, and says whether that changes it. What it gives is not refused when it is formatted again.
-pub fn revise<A: Allocator + Copy, L: DocumentFormatter>(
-    alloc: A,
-    formatter: &L,
-    source: &str,
-    limits: Limits,
-) -> Result<Revised<A, Refusal<A>>, AllocError>
-    ensures { IfOk result (IsRevised limits source.now) }
-{
-    match formatter.format(alloc, source, limits.recursion, limits.tokens) {
-        Ok(Ok(text)) => Ok(compared(source, text, limits)),
-        Ok(Err(errors)) => Ok(Revised::Refused(Refusal::Errors(errors))),
-        Err(error) => Err(error),
+impl<A: Allocator + Copy, L: DocumentFormatter> Job<'_, A, L> {
+    /// Formats a text, and says whether that changes it. What it gives is not refused when it is formatted again.
+    pub fn revise(&self, source: &str) -> Result<Revised<A, Refusal<A>>, AllocError>
+        ensures { IfOk result (IsRevised self.now.limits source.now) }
+    {
+        match self.formatter.format(self.alloc, source, self.limits)? {
+            Ok(text) => Ok(compared(source, text, self.limits)),
+            Err(errors) => Ok(Revised::Refused(Refusal::Errors(errors))),
+        }
     }
 }

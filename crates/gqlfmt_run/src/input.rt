@@ -5,8 +5,7 @@ ghost use Rattle.gqlfmt_files.specs.declared.settling.Outcome.TheVariants.{Found
 ghost use Rattle.gqlfmt_run.specs.Complaints.{IsSilent};
 ghost use Rattle.gqlfmt_run.specs.Input.{IsOutput, kept, outcome_of};
 
-use crate::formatting::revise;
-use crate::limits::Limits;
+use crate::job::Job;
 use crate::report::complain;
 use crate::showing::shown;
 use byte_devices::{Fault, Sink, Source, read_to_end, write_all};
@@ -37,55 +36,50 @@ fn outcome_of(mode: Mode) -> Outcome
     }
 }
 
-// What is written of a text, and what came of it: nothing where it is refused, and `complaints` have why.
-#[tactic(auto, using(crate::proofs::Outputs::of_same, crate::proofs::Outputs::of_changed, crate::proofs::Outputs::of_refused))]
-fn output_of<A: Allocator + Copy, L: DocumentFormatter, E: Sink>(
-    alloc: A,
-    formatter: &L,
-    complaints: &mut E,
-    source: &str,
-    mode: Mode,
-    limits: Limits,
-) -> Result<(Outcome, String<A>), AllocError>
-    ensures output { IfOk result (λ it. IsOutput mode limits source.now it.0 (string_bytes it.1)) }
-    ensures silent { MatchResult result
-        (λ it. (E.account complaints.new ≡ E.account complaints.old) ⊎ ((it.0 ≡ Found) × (string_bytes it.1 ≡ [])))
-        (λ error. E.account complaints.new ≡ E.account complaints.old) }
-{
-    match revise(alloc, formatter, source, limits) {
-        Ok(Revised::Same) => Ok((Outcome::Done, kept(alloc, mode, source)?)),
-        Ok(Revised::Changed(text)) => {
-            let output = shown(alloc, mode, INPUT, source, text)?;
-            Ok((outcome_of(mode), output))
+impl<A: Allocator + Copy, L: DocumentFormatter> Job<'_, A, L> {
+    // What is written of a text, and what came of it: nothing where it is refused, and `complaints` have why.
+    #[tactic(auto, using(crate::proofs::Outputs::of_same, crate::proofs::Outputs::of_changed, crate::proofs::Outputs::of_refused))]
+    fn output_of<E: Sink>(
+        &self,
+        complaints: &mut E,
+        source: &str,
+    ) -> Result<(Outcome, String<A>), AllocError>
+        ensures output { IfOk result (λ it. IsOutput self.now.mode self.now.limits source.now it.0 (string_bytes it.1)) }
+        ensures silent { MatchResult result
+            (λ it. (E.account complaints.new ≡ E.account complaints.old) ⊎ ((it.0 ≡ Found) × (string_bytes it.1 ≡ [])))
+            (λ error. E.account complaints.new ≡ E.account complaints.old) }
+    {
+        match self.revise(source)? {
+            Revised::Same => Ok((Outcome::Done, kept(self.alloc, self.mode, source)?)),
+            Revised::Changed(text) => {
+                let output = shown(self.alloc, self.mode, INPUT, source, text)?;
+                Ok((outcome_of(self.mode), output))
+            }
+            Revised::Refused(refusal) => {
+                complain(self.alloc, complaints, INPUT, source, refusal)?;
+                Ok((Outcome::Found, String::new(self.alloc)))
+            }
         }
-        Ok(Revised::Refused(refusal)) => {
-            complain(alloc, complaints, INPUT, source, refusal)?;
-            Ok((Outcome::Found, String::new(alloc)))
-        }
-        Err(error) => Err(error),
     }
-}
 
-/// Reads to the end, formats the whole text in memory, and then writes what the mode shows of it. `complaints` have why a text is
-/// refused, and nothing else.
-pub fn format_input<A: Allocator + Copy, L: DocumentFormatter, R: Source, W: Sink, E: Sink>(
-    alloc: A,
-    formatter: &L,
-    reader: &mut R,
-    writer: &mut W,
-    complaints: &mut E,
-    mode: Mode,
-    limits: Limits,
-) -> Result<Outcome, Fault>
-    ensures output { (input : List ℕ) × Reads result input (R.account reader.old) (R.account reader.new)
-        × Writes (IsOutput mode limits) result input (W.account writer.old) (W.account writer.new) }
-    ensures silent { IsSilent result (E.account complaints.old) (E.account complaints.new) }
-{
-    let bytes = read_to_end(alloc, reader)?;
-    let Ok(source) = str::from_utf8(bytes.as_slice()) else {
-        return Err(Fault::Utf8);
-    };
-    let (outcome, output) = output_of(alloc, formatter, complaints, source, mode, limits)?;
-    write_all(writer, output.as_bytes())?;
-    Ok(outcome)
+    /// Reads to the end, formats the whole text in memory, and then writes what the mode shows of it. `complaints` have why a text is
+    /// refused, and nothing else.
+    pub fn format_input<R: Source, W: Sink, E: Sink>(
+        &self,
+        reader: &mut R,
+        writer: &mut W,
+        complaints: &mut E,
+    ) -> Result<Outcome, Fault>
+        ensures output { (input : List ℕ) × Reads result input (R.account reader.old) (R.account reader.new)
+            × Writes (IsOutput self.now.mode self.now.limits) result input (W.account writer.old) (W.account writer.new) }
+        ensures silent { IsSilent result (E.account complaints.old) (E.account complaints.new) }
+    {
+        let bytes = read_to_end(self.alloc, reader)?;
+        let Ok(source) = str::from_utf8(bytes.as_slice()) else {
+            return Err(Fault::Utf8);
+        };
+        let (outcome, output) = self.output_of(complaints, source)?;
+        write_all(writer, output.as_bytes())?;
+        Ok(outcome)
+    }
 }

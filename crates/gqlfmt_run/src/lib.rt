@@ -1,8 +1,8 @@
 //! What the program `gqlfmt` does between its words, its devices and the files that it formats.
 //!
-//! `run` formats the standard input or files, and can instead list what would change or show the changes. Errors have their line and column.
-//! Devices and files are type parameters, so that contracts can name what is read and written; and so is what formats a text, since a caller of the
-//! parser is proved over all of its code.
+//! `gqlfmt` calls `run`, which formats the standard input or files, and can instead list what would change or show the changes. Errors have their line
+//! and column. Devices and files are type parameters, so that contracts can name what is read and written; and so is the formatter, since a caller of
+//! the parser is proved over all of its code.
 #![tactic(auto)]
 
 mod command;
@@ -12,7 +12,7 @@ mod excerpt;
 mod fault;
 mod formatting;
 mod input;
-mod limits;
+mod job;
 mod outcome;
 mod paths;
 mod program;
@@ -20,13 +20,13 @@ mod report;
 mod showing;
 mod std_files;
 
+pub use apollo_parser::Limits;
 pub use command::{HELP, USAGE, VERSION};
 pub use diff::unified_diff;
 pub use fault::FileFault;
 pub use formatter::{DocumentFormatter, Formatter};
-pub use input::{INPUT, format_input};
-pub use limits::Limits;
-pub use paths::{format_file, format_files};
+pub use input::INPUT;
+pub use job::Job;
 pub use program::run;
 pub use report::render_report;
 pub use std_files::StdFiles;

@@ -1,103 +1,96 @@
 // Formatting files.
 ghost use Rattle.std.specs.Prelude.{◌≡◌, OnErr};
-ghost use Rattle.gqlfmt_words.specs.Words.{texts};
+ghost use Rattle.program_words.specs.Gqlfmt.{texts};
 ghost use Rattle.gqlfmt_run.specs.Complaints.{IsSilent};
 ghost use Rattle.gqlfmt_run.specs.Paths.{Handles, HandlesAll};
 ghost use Rattle.gqlfmt_run.specs.Showing.{Shows};
 
 use crate::fault::FileFault;
-use crate::formatting::{Refusal, revise};
-use crate::limits::Limits;
+use crate::formatting::Refusal;
+use crate::job::Job;
 use crate::outcome::status_of;
 use crate::report::{complain, tell_of_file};
 use crate::showing::shown;
 use byte_devices::{Fault, Sink, write_all};
 use formatter::DocumentFormatter;
-use gqlfmt_files::{Files, Mode, Outcome, Revised, settle};
+use gqlfmt_files::{Files, Outcome, Revised, settle};
 use std::alloc::Allocator;
 
-// Tells why a text is refused, or writes what a mode that changes nothing shows of another one.
-fn show<A: Allocator + Copy, W: Sink, E: Sink>(
-    alloc: A,
-    writer: &mut W,
-    complaints: &mut E,
-    path: &str,
-    source: &str,
-    mode: Mode,
-    revised: Revised<A, Refusal<A>>,
-) -> Result<(), Fault>
-    ensures output { Shows mode path.now source.now revised result (W.account writer.old) (W.account writer.new) }
-    ensures silent { OnErr result (E.account complaints.new ≡ E.account complaints.old) }
-{
-    match revised {
-        Revised::Same => Ok(()),
-        Revised::Refused(refusal) => {
-            complain(alloc, complaints, path, source, refusal)?;
-            Ok(())
-        }
-        Revised::Changed(text) => {
-            let output = shown(alloc, mode, path, source, text)?;
-            write_all(writer, output.as_bytes())
+impl<A: Allocator + Copy, L: DocumentFormatter> Job<'_, A, L> {
+    // Tells why a text is refused, or writes what a mode that changes nothing shows of another one.
+    fn show<W: Sink, E: Sink>(
+        &self,
+        writer: &mut W,
+        complaints: &mut E,
+        path: &str,
+        source: &str,
+        revised: Revised<A, Refusal<A>>,
+    ) -> Result<(), Fault>
+        ensures output { Shows self.now.mode path.now source.now revised result (W.account writer.old) (W.account writer.new) }
+        ensures silent { OnErr result (E.account complaints.new ≡ E.account complaints.old) }
+    {
+        match revised {
+            Revised::Same => Ok(()),
+            Revised::Refused(refusal) => {
+                complain(self.alloc, complaints, path, source, refusal)?;
+                Ok(())
+            }
+            Revised::Changed(text) => {
+                let output = shown(self.alloc, self.mode, path, source, text)?;
+                write_all(writer, output.as_bytes())
+            }
         }
     }
-}
 
-/// Formats the file at a path: replaces it, or writes what the mode shows of the change. `complaints` have why its text is refused,
-/// and nothing else.
-pub fn format_file<A: Allocator + Copy, L: DocumentFormatter, F: Files, W: Sink, E: Sink>(
-    alloc: A,
-    formatter: &L,
-    files: &mut F,
-    writer: &mut W,
-    complaints: &mut E,
-    path: &str,
-    mode: Mode,
-    limits: Limits,
-) -> Result<Outcome, FileFault>
-    ensures handles { Handles F.reads F.replaces mode limits path.now result files.old (W.account writer.old) files.new (W.account writer.new) }
-    ensures silent { IsSilent result (E.account complaints.old) (E.account complaints.new) }
-{
-    let bytes = match files.read(alloc, path) {
-        Ok(bytes) => bytes,
-        Err(error) => return Err(FileFault::NotRead(error)),
-    };
-    let Ok(source) = str::from_utf8(bytes.as_slice()) else {
-        return Err(FileFault::Device(Fault::Utf8));
-    };
-    let revised = revise(alloc, formatter, source, limits)?;
-    match settle(files, path, mode, &revised) {
-        Ok(Outcome::Done) => Ok(Outcome::Done),
-        Ok(Outcome::Found) => {
-            show(alloc, writer, complaints, path, source, mode, revised)?;
-            Ok(Outcome::Found)
+    /// Formats the file at a path: replaces it, or writes what the mode shows of the change. `complaints` have why its text is refused,
+    /// and nothing else.
+    pub fn format_file<F: Files, W: Sink, E: Sink>(
+        &self,
+        files: &mut F,
+        writer: &mut W,
+        complaints: &mut E,
+        path: &str,
+    ) -> Result<Outcome, FileFault>
+        ensures handles { Handles F.reads F.replaces self.now.mode self.now.limits path.now result files.old (W.account writer.old) files.new (W.account writer.new) }
+        ensures silent { IsSilent result (E.account complaints.old) (E.account complaints.new) }
+    {
+        let bytes = match files.read(self.alloc, path) {
+            Ok(bytes) => bytes,
+            Err(error) => return Err(FileFault::NotRead(error)),
+        };
+        let Ok(source) = str::from_utf8(bytes.as_slice()) else {
+            return Err(FileFault::Device(Fault::Utf8));
+        };
+        let revised = self.revise(source)?;
+        match settle(files, path, self.mode, &revised) {
+            Ok(Outcome::Done) => Ok(Outcome::Done),
+            Ok(Outcome::Found) => {
+                self.show(writer, complaints, path, source, revised)?;
+                Ok(Outcome::Found)
+            }
+            Err(error) => Err(FileFault::NotReplaced(error)),
         }
-        Err(error) => Err(FileFault::NotReplaced(error)),
     }
-}
 
-/// Formats the files at these paths in order, also after one that fails, and gives the greatest of their statuses. `complaints` have why a text
-/// is refused or was not formatted.
-pub fn format_files<A: Allocator + Copy, L: DocumentFormatter, F: Files, W: Sink, E: Sink>(
-    alloc: A,
-    formatter: &L,
-    files: &mut F,
-    writer: &mut W,
-    complaints: &mut E,
-    paths: &[&str],
-    mode: Mode,
-    limits: Limits,
-) -> u8
-    ensures { HandlesAll F.reads F.replaces mode limits (texts paths.now) result
-        (record { files = files.old; output = W.account writer.old; complaints = E.account complaints.old })
-        (record { files = files.new; output = W.account writer.new; complaints = E.account complaints.new }) }
-{
-    let mut status = 0;
-    for path in paths {
-        let ended = format_file(
-            alloc, formatter, files, writer, complaints, path, mode, limits,
-        );
-        tell_of_file(alloc, files, complaints, path, &ended);
-        status = status.max(status_of(&ended));
+    /// Formats the files at these paths in order, also after one that fails, and gives the greatest of their statuses. `complaints` have why a
+    /// text is refused or was not formatted.
+    pub fn format_files<F: Files, W: Sink, E: Sink>(
+        &self,
+        files: &mut F,
+        writer: &mut W,
+        complaints: &mut E,
+        paths: &[&str],
+    ) -> u8
+        ensures { HandlesAll F.reads F.replaces self.now.mode self.now.limits (texts paths.now) result
+            (record { files = files.old; output = W.account writer.old; complaints = E.account complaints.old })
+            (record { files = files.new; output = W.account writer.new; complaints = E.account complaints.new }) }
+    {
+        let mut status = 0;
+        for path in paths {
+            let ended = self.format_file(files, writer, complaints, path);
+            tell_of_file(self.alloc, files, complaints, path, &ended);
+            status = status.max(status_of(&ended));
+        }
+        status
     }
-    status
 }

@@ -2,29 +2,19 @@
 ghost use Rattle.std.specs.Prelude.{◌≡◌, OnOk, OnErr};
 ghost use Rattle.byte_devices.specs.Devices.{moved};
 ghost use Rattle.byte_devices.specs.Writing.{IsBroken};
-ghost use Rattle.gqlfmt_words.specs.Words.{texts, request_of};
-ghost use Rattle.gqlfmt_run.specs.Program.{limits_of, page_text, IsPrinted, FormatsInput, Formats, Runs};
+ghost use Rattle.program_words.specs.Gqlfmt.{texts, request_of};
+ghost use Rattle.gqlfmt_run.specs.Program.{page_text, IsPrinted, FormatsInput, Formats, Runs};
 
 use crate::command::{HELP, NO_MEMORY, USAGE, VERSION};
-use crate::input::{INPUT, format_input};
-use crate::limits::Limits;
+use crate::input::INPUT;
+use crate::job::Job;
 use crate::outcome::status_of;
-use crate::paths::format_files;
 use crate::report::{say, tell};
 use byte_devices::{Fault, Sink, Source, write_all};
 use formatter::DocumentFormatter;
-use gqlfmt_files::{Files, Mode};
-use gqlfmt_words::{Page, Plan, Request, Settings, WordsError, options};
+use gqlfmt_files::Files;
+use program_words::gqlfmt::{Page, Request, WordsError, options};
 use std::alloc::Allocator;
-
-fn limits_of(settings: Settings) -> Limits
-    ensures { result ≡ limits_of settings }
-{
-    Limits {
-        recursion: settings.recursion.unwrap_or(Limits::NONE_SET.recursion),
-        tokens: settings.tokens.unwrap_or(Limits::NONE_SET.tokens),
-    }
-}
 
 fn write_page<W: Sink>(writer: &mut W, page: Page) -> Result<(), Fault>
     ensures ok { OnOk result (W.account writer.new ≡ moved (W.account writer.old) (page_text page)) }
@@ -49,48 +39,42 @@ fn print<W: Sink>(writer: &mut W, page: Page) -> u8
     }
 }
 
-// Formats standard input, and gives the status.
-fn format_standard_input<A: Allocator + Copy, L: DocumentFormatter, R: Source, W: Sink, E: Sink>(
-    alloc: A,
-    formatter: &L,
-    reader: &mut R,
-    writer: &mut W,
-    complaints: &mut E,
-    mode: Mode,
-    limits: Limits,
-) -> u8
-    ensures { FormatsInput mode limits result
-        (record { input = R.account reader.old; output = W.account writer.old; complaints = E.account complaints.old })
-        (record { input = R.account reader.new; output = W.account writer.new; complaints = E.account complaints.new }) }
-{
-    let ended = format_input(alloc, formatter, reader, writer, complaints, mode, limits);
-    if let Err(fault) = ended {
-        tell(alloc, complaints, INPUT, fault);
+impl<A: Allocator + Copy, L: DocumentFormatter> Job<'_, A, L> {
+    // Formats standard input, and gives the status.
+    fn format_standard_input<R: Source, W: Sink, E: Sink>(
+        &self,
+        reader: &mut R,
+        writer: &mut W,
+        complaints: &mut E,
+    ) -> u8
+        ensures { FormatsInput self.now.mode self.now.limits result
+            (record { input = R.account reader.old; output = W.account writer.old; complaints = E.account complaints.old })
+            (record { input = R.account reader.new; output = W.account writer.new; complaints = E.account complaints.new }) }
+    {
+        let ended = self.format_input(reader, writer, complaints);
+        if let Err(fault) = ended {
+            tell(self.alloc, complaints, INPUT, fault);
+        }
+        status_of(&ended)
     }
-    status_of(&ended)
-}
 
-// Formats the files of a plan, or standard input where it has none, and gives the status.
-fn format<A: Allocator + Copy, L: DocumentFormatter, R: Source, W: Sink, E: Sink, F: Files>(
-    alloc: A,
-    formatter: &L,
-    reader: &mut R,
-    writer: &mut W,
-    complaints: &mut E,
-    files: &mut F,
-    plan: &Plan<'_, A>,
-) -> u8
-    ensures { Formats F.reads F.replaces plan.now.settings (texts plan.now.files.items) result
-        (record { input = R.account reader.old; output = W.account writer.old; complaints = E.account complaints.old; files = files.old })
-        (record { input = R.account reader.new; output = W.account writer.new; complaints = E.account complaints.new; files = files.new }) }
-{
-    let mode = plan.settings.mode.unwrap_or(Mode::Write);
-    let limits = limits_of(plan.settings);
-    match plan.files.as_slice() {
-        [] => format_standard_input(alloc, formatter, reader, writer, complaints, mode, limits),
-        paths => format_files(
-            alloc, formatter, files, writer, complaints, paths, mode, limits,
-        ),
+    // Formats the files at these paths, or standard input where there are none, and gives the status.
+    fn format<R: Source, W: Sink, E: Sink, F: Files>(
+        &self,
+        reader: &mut R,
+        writer: &mut W,
+        complaints: &mut E,
+        files: &mut F,
+        paths: &[&str],
+    ) -> u8
+        ensures { Formats F.reads F.replaces self.now.mode self.now.limits (texts paths.now) result
+            (record { input = R.account reader.old; output = W.account writer.old; complaints = E.account complaints.old; files = files.old })
+            (record { input = R.account reader.new; output = W.account writer.new; complaints = E.account complaints.new; files = files.new }) }
+    {
+        match paths {
+            [] => self.format_standard_input(reader, writer, complaints),
+            _ => self.format_files(files, writer, complaints, paths),
+        }
     }
 }
 
@@ -111,9 +95,15 @@ pub fn run<A: Allocator + Copy, L: DocumentFormatter, R: Source, W: Sink, E: Sin
 {
     match options(alloc, words) {
         Ok(Request::Print(page)) => print(writer, page),
-        Ok(Request::Format(plan)) => format(
-            alloc, formatter, reader, writer, complaints, files, &plan,
-        ),
+        Ok(Request::Format(plan)) => {
+            let job = Job {
+                alloc,
+                formatter,
+                mode: plan.mode,
+                limits: plan.limits,
+            };
+            job.format(reader, writer, complaints, files, plan.files.as_slice())
+        }
         Err(WordsError::Usage) => {
             say(complaints, USAGE);
             2

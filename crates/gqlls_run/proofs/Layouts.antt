@@ -1,5 +1,6 @@
 -- A layout of a whole text, as the client makes it.
-use Rattle.std.proofs.Common.{◌≡◌, ◌==◌, ◌-◌, ℕ, zero, suc, Bool, false, List, [], ◌++◌, Option, Some, None, MatchOption, ap, arith, inl, inr, length, max, refl, subst}
+use Rattle.std.proofs.Common.{◌≡◌, ◌==◌, ◌-◌, ℕ, zero, suc, Bool, false, List, [], ◌++◌, Option, Some, None, MatchOption, ap, arith, inl, inr, length, max}
+use Rattle.std.proofs.Common.{refl, subst}
 use Rattle.std.proofs.Common.{sym, take, ◌∙◌}
 use Rattle.std.specs.Prelude.{if◌then◌else◌, slice_index, slice_range, string_bytes}
 use Rattle.std.specs.List.{flat_map, replace_range}
@@ -11,6 +12,7 @@ use Rattle.std.proofs.lemmas.List.{append-nil}
 use Rattle.std.proofs.lemmas.Str.{chars-nil, IsCharBoundary-end, IsCharBoundary-from_drop}
 use Rattle.json.specs.Json.{Json}
 use Rattle.apollo_parser.specs.Answers.{usize_max}
+use Rattle.apollo_parser.specs.Limits.{default_recursion}
 use Rattle.editor_diagnostics.specs.Places.{cursor_at, position_of}
 use Rattle.editor_diagnostics.proofs.Cursors.{read_at}
 use Rattle.editor_diagnostics.proofs.Told.{added_thrice}
@@ -74,12 +76,12 @@ whole_range text start end first last =
     ap (λ (k : ℕ). slice_range text k end) first ∙ ap (λ (k : ℕ). take k text) all ∙ take-length text
 
 formatting_of : (encoding : PositionEncoding) (text : List ℕ) (change : Option Change) (value : Json)
-    → MatchOption change (¬ IsDocument text 500 usize_max) (IsWhole text) → IsResultOf encoding text change value
+    → MatchOption change (¬ IsDocument text default_recursion usize_max) (IsWhole text) → IsResultOf encoding text change value
     → IsFormatting (record { encoding = encoding; text = text }) value
 formatting_of encoding text None value none is = inl (none, is)
 formatting_of encoding text (Some change) value whole (inl same) =
     let is : string_bytes change.text ≡ text = sym same.1 ∙ whole_range text change.span.start change.span.end whole.start whole.end in
-    inr (inl (subst (IsFormatted text 500 usize_max) is whole.formatted, same.0))
+    inr (inl (subst (IsFormatted text default_recursion usize_max) is whole.formatted, same.0))
 formatting_of encoding text (Some change) value whole (inr edit) =
     inr (inr (record {
       extent = extent_of encoding text change;
@@ -90,7 +92,7 @@ formatting_of encoding text (Some change) value whole (inr edit) =
     }))
 
 pub formatting : (content : Opened) (encoding : PositionEncoding) (text : List ℕ) (change : Option Change) (value : Json)
-    → encoding ≡ content.encoding → text ≡ content.text → MatchOption change (¬ IsDocument text 500 usize_max) (IsWhole text)
+    → encoding ≡ content.encoding → text ≡ content.text → MatchOption change (¬ IsDocument text default_recursion usize_max) (IsWhole text)
     → IsResultOf encoding text change value → IsFormatting content value
 formatting content encoding text change value same_encoding same_text made is =
     subst (λ (e : PositionEncoding). IsFormatting (record { encoding = e; text = content.text }) value) same_encoding

@@ -3,6 +3,7 @@ use Rattle.std.specs.Prelude.{◌≡◌, ◌⊎◌, ℕ, List, ◌++◌, length,
 use Rattle.std.specs.Str.{IsUtf8}
 use Rattle.json.specs.Json.{Json, array, item, member, no_items, no_members, null, object, string}
 use Rattle.apollo_parser.specs.Answers.{usize_max}
+use Rattle.apollo_parser.specs.Limits.{default_recursion}
 use Rattle.editor_diagnostics.specs.Places.{position_of, range_value}
 use Rattle.formatter.specs.Outcome.{IsDocument, IsFormatted}
 use Rattle.line_index.specs.Positions.{units}
@@ -16,13 +17,13 @@ use Rattle.gqlls_run.specs.declared.layout.Change.{Change}
 
 -- The part of a text that the change replaces is a document, and its new text, with this end, is that document with another layout.
 abbrev pub IsLayout : List ℕ → List ℕ → Change → Type 0
-IsLayout source end change = IsFormatted (slice_range source change.span.start change.span.end) 500 usize_max (string_bytes change.text ++ end)
+IsLayout source end change = IsFormatted (slice_range source change.span.start change.span.end) default_recursion usize_max (string_bytes change.text ++ end)
 
 -- The change replaces the whole text.
 pub record IsWhole (source : List ℕ) (change : Change) : Type 0 where
   pub start : change.span.start ≡ 0
   pub end : change.span.end ≡ length source
-  pub formatted : IsFormatted source 500 usize_max (string_bytes change.text)
+  pub formatted : IsFormatted source default_recursion usize_max (string_bytes change.text)
 
 -- ---- its JSON
 
@@ -52,15 +53,15 @@ pub record IsEdited (content : Opened) (result : Json) : Type 0 where
   pub extent : PositionRange
   pub text : List ℕ
   pub is : result ≡ array (item (text_edit extent text) no_items)
-  pub formatted : IsFormatted content.text 500 usize_max text
+  pub formatted : IsFormatted content.text default_recursion usize_max text
   pub after : IsUtf8 content.text
       → replaced content.encoding (units content.encoding content.text) (Some extent) (units content.encoding text) ≡ units content.encoding text
 
 -- Null for a text that is no document, no edit for one that has the layout, and else one edit.
 abbrev pub IsFormatting : Opened → Json → Type 0
 IsFormatting content result =
-    (¬ IsDocument content.text 500 usize_max × (result ≡ null))
-    ⊎ ((IsFormatted content.text 500 usize_max content.text × (result ≡ array no_items)) ⊎ IsEdited content result)
+    (¬ IsDocument content.text default_recursion usize_max × (result ≡ null))
+    ⊎ ((IsFormatted content.text default_recursion usize_max content.text × (result ≡ array no_items)) ⊎ IsEdited content result)
 
 -- the body answers the request with this id by such a result
 abbrev pub IsFormattingOf : Json → Opened → List ℕ → Type 0

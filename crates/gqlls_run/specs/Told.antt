@@ -1,6 +1,7 @@
 -- What is published of the documents that a client has open.
 use Rattle.std.specs.Prelude.{ℕ, ℤ, List, Option}
 use Rattle.apollo_parser.specs.Answers.{usize_max}
+use Rattle.apollo_parser.specs.Limits.{default_recursion}
 use Rattle.apollo_parser.specs.Parsed.{Parsed}
 use Rattle.apollo_parser.specs.Promise.{Promise}
 use Rattle.editor_diagnostics.specs.Publication.{IsPublication}
@@ -11,7 +12,7 @@ use Rattle.rpc_messages.specs.declared.reply.Reply.TheVariants.{Nothing, Answer,
 -- the body publishes the errors of a parse of this text, at their places as the client counts them
 pub record IsTold (uri : List ℕ) (version : Option ℤ) (content : Opened) (body : List ℕ) : Type 0 where
   pub parsed : Parsed
-  pub promise : Promise content.text 500 usize_max parsed
+  pub promise : Promise content.text default_recursion usize_max parsed
   pub published : IsPublication uri version content.encoding content.text parsed.errors body
 
 -- the reply is a notice whose body is such

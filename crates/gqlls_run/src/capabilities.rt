@@ -119,6 +119,7 @@ pub(crate) fn answer_initialize(
         Piece::Text(encoding_name(encoding)),
     ])?;
     push_served(&mut pieces)?;
+    // bound to a name, so that its clauses on `Ok` are found
     let body = answer(alloc, id, pieces.as_slice())?;
     Ok(body)
 }

@@ -1,6 +1,5 @@
 // What may come next.
-use crate::parsing::parse;
-use apollo_parser::{DocumentRoot, SyntaxKind, SyntaxNode, SyntaxToken, SyntaxTree};
+use apollo_parser::{DocumentRoot, Parser, SyntaxKind, SyntaxNode, SyntaxToken, SyntaxTree};
 use editor_answers::{NameKind, meaning_of, span_of};
 use editor_diagnostics::Places;
 use rpc_messages::Piece;
@@ -110,7 +109,7 @@ fn taken_at(tree: &SyntaxTree<DocumentRoot>, offset: usize) -> Option<Taken> {
 // What the grammar takes the first of some words for, after a text; `None` where it fits nowhere.
 fn taken_after(alloc: Global, front: &str, words: &str) -> Result<Option<Taken>, AllocError> {
     let text = format!(in alloc; "{front}{words}")?;
-    let tree = parse(alloc, text.as_str())?;
+    let tree = Parser::new(text.as_str()).parse(alloc)?;
     Ok(taken_at(&tree, front.len()))
 }
 
@@ -217,7 +216,7 @@ fn push_built_in<'t>(kind: NameKind, found: &mut Vec<Candidate<'t>>) -> Result<(
 
 // The end of a text from where its last definition begins, as its parse has it.
 fn last_front(alloc: Global, before: &str) -> Result<Option<&str>, AllocError> {
-    let tree = parse(alloc, before)?;
+    let tree = Parser::new(before).parse(alloc)?;
     Ok(last_definition(before, tree.root()))
 }
 

@@ -1,6 +1,7 @@
 // The open documents.
 ghost use Rattle.std.specs.Prelude.{◌≡◌, IfOk, MatchBool, None, OnOk, Some, map};
 ghost use Rattle.apollo_parser.specs.Answers.{usize_max};
+ghost use Rattle.apollo_parser.specs.Limits.{default_recursion};
 ghost use Rattle.apollo_parser.specs.Promise.{Promise};
 ghost use Rattle.rpc_messages.specs.Messages.{IsNotice};
 ghost use Rattle.gqlls_run.specs.Parameters.{told};
@@ -8,8 +9,7 @@ ghost use Rattle.gqlls_run.specs.Dialogue.{IsChanged, Updates};
 ghost use Rattle.gqlls_run.specs.State.{contents};
 ghost use Rattle.gqlls_run.specs.Told.{IsTold};
 
-use crate::parsing::parse;
-use apollo_parser::{DocumentRoot, SyntaxTree};
+use apollo_parser::{DocumentRoot, Parser, SyntaxTree};
 use editor_diagnostics::{Places, publication};
 use editor_text::{Change, OpenDocument};
 use line_index::PositionEncoding;
@@ -18,9 +18,10 @@ use std::collections::BTreeMap;
 
 // The tree of a document's text.
 fn parsed(alloc: Global, content: &OpenDocument) -> Result<SyntaxTree<DocumentRoot>, AllocError>
-    ensures { IfOk result (Promise content.now.text 500 usize_max) }
+    ensures { IfOk result (Promise content.now.text default_recursion usize_max) }
 {
-    let tree = parse(alloc, content.text())?;
+    // bound to a name, so that its clauses on `Ok` are found
+    let tree = Parser::new(content.text()).parse(alloc)?;
     Ok(tree)
 }
 
@@ -39,7 +40,7 @@ impl Document {
         text: &str,
     ) -> Result<Document, AllocError>
         ensures content { IfOk result (λ document. document.content ≡ record { encoding = encoding; text = text.now }) }
-        ensures parsed { IfOk result (λ document. Promise document.content.text 500 usize_max document.tree) }
+        ensures parsed { IfOk result (λ document. Promise document.content.text default_recursion usize_max document.tree) }
     {
         let content = OpenDocument::new(alloc, encoding, text)?;
         let tree = parsed(alloc, &content)?;
@@ -49,7 +50,7 @@ impl Document {
     /// Changes the text, and parses it.
     pub(crate) fn change(&mut self, alloc: Global, changes: &[Change<'_>]) -> Result<(), AllocError>
         ensures changed { OnOk result (IsChanged (map told changes.now) self.old.content self.new.content) }
-        ensures parsed { OnOk result (Promise self.new.content.text 500 usize_max self.new.tree) }
+        ensures parsed { OnOk result (Promise self.new.content.text default_recursion usize_max self.new.tree) }
     {
         self.content.change_all(alloc, changes)?;
         self.tree = parsed(alloc, &self.content)?;
@@ -63,12 +64,13 @@ impl Document {
         uri: &str,
         version: Option<i64>,
     ) -> Result<Vec<u8>, AllocError>
-        requires { Promise self.now.content.text 500 usize_max self.now.tree }
+        requires { Promise self.now.content.text default_recursion usize_max self.now.tree }
         ensures notifies { IfOk result (λ body. IsNotice body.items) }
         ensures told { IfOk result (λ body. IsTold uri.now version self.now.content body.items) }
     {
         let places = self.places(alloc)?;
         let errors = self.tree.errors().as_slice();
+        // bound to a name, so that its clauses on `Ok` are found
         let body = publication(alloc, uri, version, &places, errors)?;
         Ok(body)
     }
@@ -78,8 +80,7 @@ impl Document {
         ensures text { IfOk result (λ places. places.text.now ≡ self.now.content.text) }
         ensures encoding { IfOk result (λ places. places.encoding ≡ self.now.content.encoding) }
     {
-        let places = Places::new(alloc, self.content.text(), self.content.encoding())?;
-        Ok(places)
+        Places::new(alloc, self.content.text(), self.content.encoding())
     }
 }
 

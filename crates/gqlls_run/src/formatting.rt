@@ -52,12 +52,12 @@ pub(crate) fn answer_layout(
         × IsResult (value_view id.now) value body.items) }
 {
     let Some(change) = change else {
+        // bound to a name, so that its clauses on `Ok` are found
         let body = answer(alloc, id, &[Piece::Null])?;
         return Ok(body);
     };
     let pieces = pieces_of(alloc, places, change)?;
-    let body = answer(alloc, id, pieces.as_slice())?;
-    Ok(body)
+    answer(alloc, id, pieces.as_slice())
 }
 
 /// The answer to `textDocument/formatting` about a document.
@@ -72,6 +72,7 @@ pub(crate) fn answer_formatting(
 {
     let places = document.places(alloc)?;
     let change = format_whole(alloc, places.text)?;
+    // bound to a name, so that its clauses on `Ok` are found
     let body = answer_layout(alloc, id, &places, &change)?;
     Ok(body)
 }

@@ -1,11 +1,11 @@
 // The layout of a document, or of some of its definitions.
 ghost use Rattle.std.specs.Prelude.{◌≡◌, [], ◌∷◌, IfOk, IfSome, MatchOption, slice_range, string_bytes, true};
 ghost use Rattle.apollo_parser.specs.Answers.{usize_max};
+ghost use Rattle.apollo_parser.specs.Limits.{default_recursion};
 ghost use Rattle.formatter.specs.Outcome.{IsDocument, IsFormatted};
 ghost use Rattle.gqlls_run.specs.Layout.{IsLayout, IsWhole};
 
-use crate::parsing::RECURSION_LIMIT;
-use apollo_parser::SyntaxNode;
+use apollo_parser::{Limits, SyntaxNode};
 use editor_answers::{Span, span_of};
 use formatter::format;
 use std::alloc::{AllocError, Global};
@@ -28,9 +28,9 @@ impl Change {
 
 // A document with the layout of `formatter`; `None` where it has errors.
 fn formatted(alloc: Global, source: &str) -> Result<Option<String>, AllocError>
-    ensures { IfOk result (λ r. MatchOption r (¬ IsDocument source.now 500 usize_max) (λ text. IsFormatted source.now 500 usize_max (string_bytes text))) }
+    ensures { IfOk result (λ r. MatchOption r (¬ IsDocument source.now default_recursion usize_max) (λ text. IsFormatted source.now default_recursion usize_max (string_bytes text))) }
 {
-    match format(alloc, source, RECURSION_LIMIT, usize::MAX)? {
+    match format(alloc, source, Limits::DEFAULT)? {
         Ok(text) => Ok(Some(text)),
         Err(_) => Ok(None),
     }
@@ -65,7 +65,7 @@ fn definitions_within(root: SyntaxNode<'_>, within: Span) -> Option<Span> {
 
 /// The whole document with the layout of `formatter`; `None` where it has errors. It fails only where memory is refused.
 pub(crate) fn format_whole(alloc: Global, source: &str) -> Result<Option<Change>, AllocError>
-    ensures { IfOk result (λ r. MatchOption r (¬ IsDocument source.now 500 usize_max) (IsWhole source.now)) }
+    ensures { IfOk result (λ r. MatchOption r (¬ IsDocument source.now default_recursion usize_max) (IsWhole source.now)) }
 {
     let Some(text) = formatted(alloc, source)? else {
         return Ok(None);

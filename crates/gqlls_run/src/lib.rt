@@ -1,7 +1,8 @@
 //! What the program `gqlls` replies to each message: a language server for GraphQL documents.
 //!
-//! `run` is a whole run, and a `Server` the service of its conversation. It keeps the open documents with their trees. What needs only a tree is made by
-//! `editor_answers`; here are the states of a conversation, and what needs the parser: errors, layout and completion.
+//! `gqlls` calls `run`, which is a whole run. A `Server` is the service of its conversation, and keeps the open documents with their trees. What needs
+//! only a tree is made by `editor_answers`; here are the states of a conversation, and what needs the parser or the formatter: errors, layout and
+//! completion.
 #![tactic(auto)]
 
 mod capabilities;
@@ -10,7 +11,6 @@ mod documents;
 mod formatting;
 mod layout;
 mod parameters;
-mod parsing;
 mod questions;
 mod running;
 mod server;

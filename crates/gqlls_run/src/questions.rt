@@ -56,148 +56,142 @@ pub(crate) fn question_of(method: &str) -> Option<Question> {
     None
 }
 
-// The answer to a question that lacks a parameter.
-fn refused(alloc: Global, id: &Value<'_>) -> Result<Vec<u8>, AllocError>
-    requires { HasNumbers (value_view id.now) }
-    ensures { IfOk result (λ body. IsAnswer (value_view id.now) body.items) }
-{
-    refusal(alloc, id, code::INVALID_PARAMS, "no such place")
+// What a question is about: a document, and parameters.
+#[derive(Clone, Copy)]
+struct Asked<'a, 'd, 'v> {
+    alloc: Global,
+    root: SyntaxNode<'a>,
+    places: &'a Places<'d>,
+    uri: &'a str,
+    params: &'a Value<'v>,
 }
 
-// Adds the result of a question about a place.
-fn push_result_at<'p>(
-    alloc: Global,
-    pieces: &mut Vec<Piece<'p>>,
-    question: Question,
-    root: SyntaxNode<'p>,
-    places: &Places<'_>,
-    uri: &'p str,
-    params: &Value<'_>,
-    offset: usize,
-) -> Result<(), AllocError> {
-    match question {
-        Question::Definition => push_definition(pieces, root, places, uri, offset),
-        Question::References => {
-            let with_definition = asks_for_definition(params);
-            push_references(alloc, pieces, root, places, uri, offset, with_definition)
-        }
-        _ => push_completions(alloc, pieces, root, places, offset),
+impl Asked<'_, '_, '_> {
+    // The answer that lacks a parameter.
+    fn refused(self, id: &Value<'_>) -> Result<Vec<u8>, AllocError>
+        requires { HasNumbers (value_view id.now) }
+        ensures { IfOk result (λ body. IsAnswer (value_view id.now) body.items) }
+    {
+        refusal(self.alloc, id, code::INVALID_PARAMS, "no such place")
     }
-}
 
-// The answer to a question about a place.
-fn answer_at<'p>(
-    alloc: Global,
-    id: &Value<'_>,
-    question: Question,
-    root: SyntaxNode<'p>,
-    places: &Places<'_>,
-    uri: &'p str,
-    params: &Value<'_>,
-) -> Result<Vec<u8>, AllocError>
-    requires { HasNumbers (value_view id.now) }
-    ensures { IfOk result (λ body. IsAnswer (value_view id.now) body.items) }
-{
-    let Some(offset) = offset_of(places, params) else {
-        return refused(alloc, id);
-    };
-    if let Question::Hover = question {
-        return answer_hover(alloc, id, root, places, offset);
+    fn folds(self, id: &Value<'_>) -> Result<Vec<u8>, AllocError>
+        requires { HasNumbers (value_view id.now) }
+        ensures { IfOk result (λ body. IsAnswer (value_view id.now) body.items) }
+    {
+        let mut pieces = Vec::new(self.alloc);
+        push_folds(&mut pieces, self.root, self.places)?;
+        answer(self.alloc, id, pieces.as_slice())
     }
-    let mut pieces = Vec::new(alloc);
-    push_result_at(
-        alloc,
-        &mut pieces,
-        question,
-        root,
-        places,
-        uri,
-        params,
-        offset,
-    )?;
-    answer(alloc, id, pieces.as_slice())
-}
 
-// The answer to a question about several places.
-fn answer_selections(
-    alloc: Global,
-    id: &Value<'_>,
-    root: SyntaxNode<'_>,
-    places: &Places<'_>,
-    params: &Value<'_>,
-) -> Result<Vec<u8>, AllocError>
-    requires { HasNumbers (value_view id.now) }
-    ensures { IfOk result (λ body. IsAnswer (value_view id.now) body.items) }
-{
-    let Some(offsets) = offsets_of(alloc, places, params)? else {
-        return refused(alloc, id);
-    };
-    let mut pieces = Vec::new(alloc);
-    push_selections(alloc, &mut pieces, root, places, offsets.as_slice())?;
-    answer(alloc, id, pieces.as_slice())
-}
+    fn selections(self, id: &Value<'_>) -> Result<Vec<u8>, AllocError>
+        requires { HasNumbers (value_view id.now) }
+        ensures { IfOk result (λ body. IsAnswer (value_view id.now) body.items) }
+    {
+        let Some(offsets) = offsets_of(self.alloc, self.places, self.params)? else {
+            return self.refused(id);
+        };
+        let mut pieces = Vec::new(self.alloc);
+        push_selections(
+            self.alloc,
+            &mut pieces,
+            self.root,
+            self.places,
+            offsets.as_slice(),
+        )?;
+        answer(self.alloc, id, pieces.as_slice())
+    }
 
-// The answer that has the folds of a document.
-fn answer_folds(
-    alloc: Global,
-    id: &Value<'_>,
-    root: SyntaxNode<'_>,
-    places: &Places<'_>,
-) -> Result<Vec<u8>, AllocError>
-    requires { HasNumbers (value_view id.now) }
-    ensures { IfOk result (λ body. IsAnswer (value_view id.now) body.items) }
-{
-    let mut pieces = Vec::new(alloc);
-    push_folds(&mut pieces, root, places)?;
-    answer(alloc, id, pieces.as_slice())
-}
-
-// The answer to a question about a part of a text.
-fn answer_within(
-    alloc: Global,
-    id: &Value<'_>,
-    question: Question,
-    root: SyntaxNode<'_>,
-    places: &Places<'_>,
-    params: &Value<'_>,
-) -> Result<Vec<u8>, AllocError>
-    requires { HasNumbers (value_view id.now) }
-    ensures { IfOk result (λ body. IsAnswer (value_view id.now) body.items) }
-{
-    let Some(within) = span_of(places, params) else {
-        return refused(alloc, id);
-    };
-    match question {
-        Question::Tokens => answer_tokens(alloc, id, root, places, within),
-        _ => {
-            let change = format_part(alloc, places.text, root, within)?;
-            answer_layout(alloc, id, places, &change)
+    fn tokens(self, id: &Value<'_>) -> Result<Vec<u8>, AllocError>
+        requires { HasNumbers (value_view id.now) }
+        ensures { IfOk result (λ body. IsAnswer (value_view id.now) body.items) }
+    {
+        match span_of(self.places, self.params) {
+            Some(within) => answer_tokens(self.alloc, id, self.root, self.places, within),
+            None => self.refused(id),
         }
     }
-}
 
-// The answer to a question about a tree and its text.
-fn answer_about(
-    alloc: Global,
-    id: &Value<'_>,
-    question: Question,
-    root: SyntaxNode<'_>,
-    places: &Places<'_>,
-    uri: &str,
-    params: &Value<'_>,
-) -> Result<Vec<u8>, AllocError>
-    requires { HasNumbers (value_view id.now) }
-    ensures { IfOk result (λ body. IsAnswer (value_view id.now) body.items) }
-{
-    match question {
-        Question::Symbols => answer_symbols(alloc, id, root, places),
-        Question::Folds => answer_folds(alloc, id, root, places),
-        Question::Selections => answer_selections(alloc, id, root, places, params),
-        Question::Tokens | Question::RangeFormatting => {
-            answer_within(alloc, id, question, root, places, params)
+    fn range_formatting(self, id: &Value<'_>) -> Result<Vec<u8>, AllocError>
+        requires { HasNumbers (value_view id.now) }
+        ensures { IfOk result (λ body. IsAnswer (value_view id.now) body.items) }
+    {
+        let Some(within) = span_of(self.places, self.params) else {
+            return self.refused(id);
+        };
+        let change = format_part(self.alloc, self.places.text, self.root, within)?;
+        answer_layout(self.alloc, id, self.places, &change)
+    }
+
+    fn definition(self, id: &Value<'_>) -> Result<Vec<u8>, AllocError>
+        requires { HasNumbers (value_view id.now) }
+        ensures { IfOk result (λ body. IsAnswer (value_view id.now) body.items) }
+    {
+        let Some(offset) = offset_of(self.places, self.params) else {
+            return self.refused(id);
+        };
+        let mut pieces = Vec::new(self.alloc);
+        push_definition(&mut pieces, self.root, self.places, self.uri, offset)?;
+        answer(self.alloc, id, pieces.as_slice())
+    }
+
+    fn references(self, id: &Value<'_>) -> Result<Vec<u8>, AllocError>
+        requires { HasNumbers (value_view id.now) }
+        ensures { IfOk result (λ body. IsAnswer (value_view id.now) body.items) }
+    {
+        let Some(offset) = offset_of(self.places, self.params) else {
+            return self.refused(id);
+        };
+        let mut pieces = Vec::new(self.alloc);
+        push_references(
+            self.alloc,
+            &mut pieces,
+            self.root,
+            self.places,
+            self.uri,
+            offset,
+            asks_for_definition(self.params),
+        )?;
+        answer(self.alloc, id, pieces.as_slice())
+    }
+
+    fn hover(self, id: &Value<'_>) -> Result<Vec<u8>, AllocError>
+        requires { HasNumbers (value_view id.now) }
+        ensures { IfOk result (λ body. IsAnswer (value_view id.now) body.items) }
+    {
+        match offset_of(self.places, self.params) {
+            Some(offset) => answer_hover(self.alloc, id, self.root, self.places, offset),
+            None => self.refused(id),
         }
-        Question::Definition | Question::References | Question::Hover | Question::Completion => {
-            answer_at(alloc, id, question, root, places, uri, params)
+    }
+
+    fn completion(self, id: &Value<'_>) -> Result<Vec<u8>, AllocError>
+        requires { HasNumbers (value_view id.now) }
+        ensures { IfOk result (λ body. IsAnswer (value_view id.now) body.items) }
+    {
+        let Some(offset) = offset_of(self.places, self.params) else {
+            return self.refused(id);
+        };
+        let mut pieces = Vec::new(self.alloc);
+        push_completions(self.alloc, &mut pieces, self.root, self.places, offset)?;
+        answer(self.alloc, id, pieces.as_slice())
+    }
+
+    // The answer to a question, whichever it is.
+    fn answered(self, id: &Value<'_>, question: Question) -> Result<Vec<u8>, AllocError>
+        requires { HasNumbers (value_view id.now) }
+        ensures { IfOk result (λ body. IsAnswer (value_view id.now) body.items) }
+    {
+        match question {
+            Question::Symbols => answer_symbols(self.alloc, id, self.root, self.places),
+            Question::Folds => self.folds(id),
+            Question::Selections => self.selections(id),
+            Question::Tokens => self.tokens(id),
+            Question::RangeFormatting => self.range_formatting(id),
+            Question::Definition => self.definition(id),
+            Question::References => self.references(id),
+            Question::Hover => self.hover(id),
+            Question::Completion => self.completion(id),
         }
     }
 }
@@ -215,6 +209,12 @@ pub(crate) fn answer_question(
     ensures { IfOk result (λ body. IsAnswer (value_view id.now) body.items) }
 {
     let places = document.places(alloc)?;
-    let root = document.tree.root();
-    answer_about(alloc, id, question, root, &places, uri, params)
+    let asked = Asked {
+        alloc,
+        root: document.tree.root(),
+        places: &places,
+        uri,
+        params,
+    };
+    asked.answered(id, question)
 }

@@ -163,8 +163,7 @@ fn refused(alloc: Global, id: &Value<'_>, code: i64, text: &str) -> Result<Vec<u
     ensures answers { IfOk result (λ body. IsAnswer (value_view id.now) body.items) }
     ensures refuses { IfOk result (λ body. IsRefusalOf (value_view id.now) code body.items) }
 {
-    let body = refusal(alloc, id, code, text)?;
-    Ok(body)
+    refusal(alloc, id, code, text)
 }
 
 // The answer to `shutdown`, whose result is null.
@@ -173,6 +172,7 @@ fn answer_shutdown(alloc: Global, id: &Value<'_>) -> Result<Vec<u8>, AllocError>
     ensures answers { IfOk result (λ body. IsAnswer (value_view id.now) body.items) }
     ensures null { IfOk result (λ body. IsResult (value_view id.now) null body.items) }
 {
+    // bound to a name, so that its clauses on `Ok` are found
     let body = answer(alloc, id, &[Piece::Null])?;
     Ok(body)
 }

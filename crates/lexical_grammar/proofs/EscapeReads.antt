@@ -145,7 +145,7 @@ braced-by text n v front e some close value =
     ap (λ m. begins (125 ∷ []) (drop (3 + m) text)) (sym same) ∙ ap (begins (125 ∷ [])) (sym (take_rest text (3 + n))) ∙ close in
     let is : v ≡ min (hex_value (take (braced_digits_len text) (drop 3 text))) 1114112 = value all ∙ ap (λ l. min (hex_value l) 1114112) ds in
     let names : scalar (hex_value (take (braced_digits_len text) (drop 3 text)))
-        ≡ scalar v = sym (scalar-least (hex_value (take (braced_digits_len text) (drop 3 text)))) ∙ ap scalar (sym is) in
+    ≡ scalar v = sym (scalar-least (hex_value (take (braced_digits_len text) (drop 3 text)))) ∙ ap scalar (sym is) in
     let digits : nat_lt 0 (braced_digits_len text) ≡ true = ap (nat_lt 0) (sym same) ∙ lt-ltb 0 n some in
     record { len = same; names = rw (front, digits, closes) names; value = λ s. omega (arith, is, scalar-small v s) }
 
@@ -169,7 +169,7 @@ pub no-braced-escape : (text : List ℕ) → slice_index text 0 ≡ 92 → begin
     → string_character_len text ≡ 0
 no-braced-escape text e front h b =
     slashed (λ t. begins (92 ∷ 117 ∷ []) t ≡ true → begins_fixed_escape t ≡ false → begins_braced_escape t ≡ false
-        → string_character_len t ≡ 0) text e unbraced-at front h b
+    → string_character_len t ≡ 0) text e unbraced-at front h b
 
 pub no-number : (text : List ℕ) (n v : ℕ) → IsBraced text n v → (IsScalar v → ⊥) → begins_braced_escape text ≡ false
 no-number text n v b none = b.names ∙ false_from_ne_true _ none

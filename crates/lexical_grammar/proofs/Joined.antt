@@ -46,7 +46,7 @@ by-front : (word : Word) (kind : TokenKind) (text rest : List ℕ) → Tok word.
 by-front word kind [] rest tok s h = absurd (omega (arith, tok-some kind [] s.token))
 by-front word kind (b ∷ text) rest tok s h = stands word.kind word.text ((b ∷ text) ++ rest) tok (follows-byte word.kind kind word.text b (text ++ rest) h)
     (stops-byte word.kind kind word.text b (text ++ rest) h (λ other. not-blank kind (length (b ∷ text)) ((b ∷ text) ++ rest)
-        (read kind (b ∷ text) rest s) other))
+    (read kind (b ∷ text) rest s) other))
 
 -- a token before another one that may follow it directly
 before-token : (word next : Word) (rest : List ℕ) → Tok word.kind word.text → touches (edge_of word.kind word.text) next ≡ true

@@ -75,12 +75,17 @@ answers-from : (allowed place : ℕ) (items : List Item) → CutFrom place items
 answers-from allowed place [] cut = absurd cut
 answers-from zero place (item ∷ []) cut = refl
 answers-from (suc allowed) place (item ∷ []) cut =
-    subst (λ (i : Item). AreAnswers (gives i ∷ limited allowed [])) (sym cut) (refl, (λ e. limited-end allowed),
-        subst AreAnswers (sym (limited-end allowed)) tt)
+    subst (λ (i : Item). AreAnswers (gives i ∷ limited allowed [])) (sym cut) (
+      refl,
+      (λ e. limited-end allowed),
+      subst AreAnswers (sym (limited-end allowed)) tt,
+    )
 answers-from zero place (item ∷ next ∷ items) cut = refl
-answers-from (suc allowed) place (item ∷ next ∷ items) cut =
-    (item-text item.kind item.text _ cut.1, item-not-last item.kind item.text _ (limited allowed (next ∷ items)) cut.1,
-        answers-from allowed _ (next ∷ items) cut.2)
+answers-from (suc allowed) place (item ∷ next ∷ items) cut = (
+  item-text item.kind item.text _ cut.1,
+  item-not-last item.kind item.text _ (limited allowed (next ∷ items)) cut.1,
+  answers-from allowed _ (next ∷ items) cut.2,
+)
 
 -- token texts are of their kind, and nothing comes after the end or the limit error
 pub limited-answers : (allowed : ℕ) (source : List ℕ) (items : List Item) → Cut source items → AreAnswers (limited allowed items)

@@ -28,8 +28,13 @@ quiet-utf8 c h = elim (cases_Bool (ltb c 128)) [
     | inl b ↦ rw (a, b) (high (192 + c / 64) (omega arith), (high (128 + c % 64) (omega arith), tt))
     | inr b ↦ elim (cases_Bool (ltb c 65536)) [
       | inl d ↦ rw (a, b, d) (high (224 + c / 4096) (omega arith), (high (128 + (c / 64) % 64) (omega arith), (high (128 + c % 64) (omega arith), tt)))
-      | inr d ↦ rw (a, b, d) (high (240 + c / 262144) (omega arith), (high (128 + (c / 4096) % 64) (omega arith),
-          (high (128 + (c / 64) % 64) (omega arith), (high (128 + c % 64) (omega arith), tt))))
+      | inr d ↦ rw (a, b, d) (
+        high (240 + c / 262144) (omega arith),
+        (
+          high (128 + (c / 4096) % 64) (omega arith),
+          (high (128 + (c / 64) % 64) (omega arith), (high (128 + c % 64) (omega arith), tt)),
+        ),
+      )
     ]
   ]
 ]
@@ -179,7 +184,7 @@ fresh e [] s = nothing e
 fresh e (c ∷ cs) s =
     let b = begins-of e c (and_parts (scalar c) (scalars cs) s).0 in
     let at : slice_index (all_units e (c ∷ cs)) 0 ≡ b.head = ap (λ (u : List ℕ). slice_index u 0)
-        (flat_map-cons (units_of e) c cs ∙ ap (λ (u : List ℕ). u ++ all_units e cs) b.are) in
+    (flat_map-cons (units_of e) c cs ∙ ap (λ (u : List ℕ). u ++ all_units e cs) b.are) in
     ap (continues e) at ∙ b.first
 
 pub first-feed : (e : PositionEncoding) (cs : List ℕ) → scalars cs ≡ true → eqb (slice_index (all_units e cs) 0) 10 ≡ eqb (slice_index cs 0) 10
@@ -187,7 +192,7 @@ first-feed e [] s = refl
 first-feed e (c ∷ cs) s =
     let b = begins-of e c (and_parts (scalar c) (scalars cs) s).0 in
     let at : slice_index (all_units e (c ∷ cs)) 0 ≡ b.head = ap (λ (u : List ℕ). slice_index u 0)
-        (flat_map-cons (units_of e) c cs ∙ ap (λ (u : List ℕ). u ++ all_units e cs) b.are) in
+    (flat_map-cons (units_of e) c cs ∙ ap (λ (u : List ℕ). u ++ all_units e cs) b.are) in
     ap (λ (x : ℕ). eqb x 10) at ∙ b.feed
 
 -- how wide a character is in UTF-16
@@ -245,7 +250,7 @@ pub utf16-length : (cs : List ℕ) → length (all_units Utf16 cs) ≡ utf16_len
 utf16-length [] = refl
 utf16-length (c ∷ cs) =
     let l : length (all_units Utf16 (c ∷ cs)) ≡ length (encode_utf16 c) + length (all_units Utf16 cs) = ap length (flat_map-cons (units_of Utf16) c cs)
-        ∙ length-append (encode_utf16 c) (all_units Utf16 cs) in
+    ∙ length-append (encode_utf16 c) (all_units Utf16 cs) in
     let w = wide c in
     omega (arith, l, w.len, utf16-length cs, sum_by-append utf16_units (encode c) (encodes cs))
 

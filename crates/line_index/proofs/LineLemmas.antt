@@ -110,9 +110,9 @@ pub after-one : (text : List ℕ) (place e : ℕ) → place ≤ e → e < length
 after-one text place e low within same t cr =
     let more : e + 1 ≡ suc e = omega arith in
     let cr' : (eqb (slice_index text e) 13 && eqb (slice_index text (suc e)) 10)
-        ≡ false = sym (ap (λ (k : ℕ). eqb (slice_index text e) 13 && eqb (slice_index text k) 10) more) ∙ cr in
+    ≡ false = sym (ap (λ (k : ℕ). eqb (slice_index text e) 13 && eqb (slice_index text k) 10) more) ∙ cr in
     subst (λ (k : ℕ). IsNextStart text place k) (sym more) (next-start text place e low within same
-        (ends-line (slice_index text e) (slice_index text (suc e)) t cr'))
+    (ends-line (slice_index text e) (slice_index text (suc e)) t cr'))
 
 inside : (a b : ℕ) → (eqb a 13 && eqb b 10) ≡ true → (eqb a 10 || (eqb a 13 && not (eqb b 10))) ≡ false
 inside a b h = grind (arith, nat_tests)
@@ -123,7 +123,7 @@ after-two text place e low within same crlf =
     let more : e + 1 ≡ suc e = omega arith in
     let two : e + 2 ≡ suc (suc e) = omega arith in
     let h : (eqb (slice_index text e) 13 && eqb (slice_index text (suc e)) 10)
-        ≡ true = sym (ap (λ (k : ℕ). eqb (slice_index text e) 13 && eqb (slice_index text k) 10) more) ∙ crlf in
+    ≡ true = sym (ap (λ (k : ℕ). eqb (slice_index text e) 13 && eqb (slice_index text k) 10) more) ∙ crlf in
     let lf : eqb (slice_index text (suc e)) 10 ≡ true = (and_parts (eqb (slice_index text e) 13) (eqb (slice_index text (suc e)) 10) h).1 in
     let stays : line_at text (suc e) ≡ line_at text e = (not-begun text e (inside (slice_index text e) (slice_index text (suc e)) h)).0 in
     let some : suc e < length text = elim (cases_lt (suc e) (length text)) [
@@ -189,7 +189,7 @@ pub found : (inner text starts slice : List ℕ) (offset i s : ℕ) → inner �
     → (i ≡ line_at text offset) × (line_start text offset + (offset - s) ≡ offset)
 found inner text starts slice offset i s view items h within some low high read =
     let h' : AreStarts text (length text) slice = subst (λ (t : List ℕ). AreStarts t (length t) slice) view
-        (subst (λ (l : List ℕ). AreStarts inner (length inner) l) (sym items) h) in
+    (subst (λ (l : List ℕ). AreStarts inner (length inner) l) (sym items) h) in
     let read' : s ≡ get_or slice i s = read ∙ ap (λ (l : List ℕ). get_or l i s) (sym items) in
     let at = starts-at text (length text) slice offset i h' within some low high in
     let is = get_or_read slice i s some read' 0 in
@@ -202,13 +202,13 @@ first-some text bytes i e f =
     let g : IsFirstByte (is_byte2 10 13) text (Some i) = subst (λ b. IsFirstByte (is_byte2 10 13) b (Some i)) e f in
     ap (λ (n : ℕ). take n text) (prefix_len_is (λ c. not (is_line_terminator c)) text i 0 (omega (arith, g.0.high))
     (λ k lt. not_from_false (is_line_terminator (slice_index text k)) (false_from_ne_true _ (g.0.before k (omega arith) lt)))
-        (λ lt. not_from_true (is_line_terminator (slice_index text i)) g.1))
+    (λ lt. not_from_true (is_line_terminator (slice_index text i)) g.1))
 
 pub first-none : (text bytes : List ℕ) → bytes ≡ text → IsFirstByte (is_byte2 10 13) bytes None → take_while (λ c. not (is_line_terminator c)) text ≡ text
 first-none text bytes e f =
     let g : IsFirstByte (is_byte2 10 13) text None = subst (λ b. IsFirstByte (is_byte2 10 13) b None) e f in
     let whole : prefix_len (λ c. not (is_line_terminator c)) text ≡ length text = prefix_len_is (λ c. not (is_line_terminator c)) text (length text) 0
-        (omega arith)
+    (omega arith)
     (λ k lt. not_from_false (is_line_terminator (slice_index text k)) (false_from_ne_true _ (g k (omega arith) lt))) (λ lt. absurd (omega arith)) in
     take_all (prefix_len (λ c. not (is_line_terminator c)) text) text (omega arith)
 
@@ -222,7 +222,7 @@ start-boundary text (suc k) u within = elim (cases_Bool (begins_line text (suc k
   | inl b ↦
       let more : k + 1 ≡ suc k = omega arith in
       subst (IsCharBoundary text) (more ∙ sym (begun text k b).1) (IsCharBoundary-after_ascii text k u (omega arith)
-          (small-end (slice_index text k) (slice_index text (suc k)) b))
+      (small-end (slice_index text k) (slice_index text (suc k)) b))
   | inr b ↦ subst (IsCharBoundary text) (sym (not-begun text k b).1) (start-boundary text k u (omega arith))
 ]
 

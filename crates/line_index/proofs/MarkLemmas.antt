@@ -58,9 +58,9 @@ before inner text bytes marks offset m u view same a within read is =
     let m' = get_or_read marks (offset / 64) m some read 0 in
     let at : 64 * (offset / 64) ≡ offset / 64 * 64 = omega arith in
     let mark : slice_index marks (offset / 64) ≡ utf16_len (take (offset / 64 * 64) text) = a'.units (offset / 64) some
-        ∙ ap (λ (i : ℕ). utf16_len (take i text)) at in
+    ∙ ap (λ (i : ℕ). utf16_len (take i text)) at in
     let is' : u ≡ utf16_len (take (offset - offset / 64 * 64) (drop (offset / 64 * 64) text)) = is
-        ∙ ap (λ (t : List ℕ). utf16_len (take (offset - offset / 64 * 64) (drop (offset / 64 * 64) t))) (same ∙ view) in
+    ∙ ap (λ (t : List ℕ). utf16_len (take (offset - offset / 64 * 64) (drop (offset / 64 * 64) t))) (same ∙ view) in
     omega (arith, m', mark, is', units-add text (offset / 64 * 64) (offset - offset / 64 * 64) offset (omega arith))
 
 -- in a part of the text
@@ -121,21 +121,42 @@ pub room-fits : (text bytes : List ℕ) (start end from column s b room r : ℕ)
 room-fits text bytes start end from column s b room r h =
     let within : r ≤ length (take (end - from) (drop from text)) = subst (λ (t : List ℕ). r ≤ length (take (end - from) (drop from t))) h.same h.within in
     let fits : utf16_len (take r (take (end - from) (drop from text))) ≤ room = subst
-        (λ (t : List ℕ). utf16_len (take r (take (end - from) (drop from t))) ≤ room) h.same h.fits in
-    omega (arith, part-units text from end r within, units-slice text start (from + r) (omega (arith, h.after)), h.start_units, h.from_units, h.is, h.enough,
-        fits)
+    (λ (t : List ℕ). utf16_len (take r (take (end - from) (drop from t))) ≤ room) h.same h.fits in
+    omega (
+      arith,
+      part-units text from end r within,
+      units-slice text start (from + r) (omega (arith, h.after)),
+      h.start_units,
+      h.from_units,
+      h.is,
+      h.enough,
+      fits,
+    )
 
 pub room-full : (text bytes : List ℕ) (start end from column s b room r : ℕ) → Room text bytes start end from column s b room r
     → from + r < end → column < utf16_len (slice_range text start (from + r)) + utf16_units (slice_index text (from + r))
 room-full text bytes start end from column s b room r h less =
     let within : r ≤ length (take (end - from) (drop from text)) = subst (λ (t : List ℕ). r ≤ length (take (end - from) (drop from t))) h.same h.within in
-    let len : length (take (end - from) (drop from text)) ≡ end - from = omega (arith, length-take (end - from) (drop from text), length-drop from text,
-        h.inside) in
+    let len : length (take (end - from) (drop from text)) ≡ end - from = omega (
+      arith,
+      length-take (end - from) (drop from text),
+      length-drop from text,
+      h.inside,
+    ) in
     let lt : r < length (take (end - from) (drop from text)) = omega (arith, len) in
     let full : room < utf16_len (take r (take (end - from) (drop from text))) + utf16_units (slice_index (take (end - from) (drop from text)) r)
     = subst (λ (t : List ℕ). r < length (take (end - from) (drop from t)) → room < utf16_len (take r (take (end - from) (drop from t))) + utf16_units
-        (slice_index (take (end - from) (drop from t)) r)) h.same h.full lt in
+    (slice_index (take (end - from) (drop from t)) r)) h.same h.full lt in
     let at : utf16_units (slice_index (take (end - from) (drop from text)) r)
-        ≡ utf16_units (slice_index text (from + r)) = ap utf16_units (part-index text from end r lt) in
-    omega (arith, part-units text from end r within, units-slice text start (from + r) (omega (arith, h.after)), h.start_units, h.from_units, h.is, h.enough,
-        full, at)
+    ≡ utf16_units (slice_index text (from + r)) = ap utf16_units (part-index text from end r lt) in
+    omega (
+      arith,
+      part-units text from end r within,
+      units-slice text start (from + r) (omega (arith, h.after)),
+      h.start_units,
+      h.from_units,
+      h.is,
+      h.enough,
+      full,
+      at,
+    )

@@ -83,12 +83,12 @@ line-of text line number s within begin at u is =
       quiet = λ k low high. (
           let there : s + (k - s) ≡ k = omega arith in
           not-true (is_line_terminator (slice_index text k)) (ap (λ (j : ℕ). plain (slice_index text j)) (sym there)
-              ∙ ap plain (sym (get_or-drop s text (k - s) 0)) ∙ passes plain (drop s text) (k - s) (omega arith))
+          ∙ ap plain (sym (get_or-drop s text (k - s) 0)) ∙ passes plain (drop s text) (k - s) (omega arith))
           );
       ends = λ less. (
           let there : s + n ≡ s + length line = omega arith in
           not-false (is_line_terminator (slice_index text (s + length line))) (ap (λ (j : ℕ). plain (slice_index text j)) (sym there)
-              ∙ ap plain (sym (get_or-drop s text n 0)) ∙ fails plain (drop s text) n refl (omega (arith, length-drop s text)))
+          ∙ ap plain (sym (get_or-drop s text n 0)) ∙ fails plain (drop s text) n refl (omega (arith, length-drop s text)))
           );
     }
 
@@ -118,8 +118,12 @@ width-le : (e : PositionEncoding) (text : List ℕ) (start place : ℕ) → IsUt
     → width e (slice_range text start place) ≤ place - start
 width-le Utf8 text start place u le within b d = omega (arith, length-take (place - start) (drop start text), length-drop start text)
 width-le Utf16 text start place u le within b d =
-    omega (arith, utf16_len-le (slice_range text start place) (IsUtf8-between text start place u le b d), length-take (place - start) (drop start text),
-        length-drop start text)
+    omega (
+      arith,
+      utf16_len-le (slice_range text start place) (IsUtf8-between text start place u le b d),
+      length-take (place - start) (drop start text),
+      length-drop start text,
+    )
 
 -- the character behind a place
 behind : (text : List ℕ) (place c : ℕ) (v : List ℕ) → scalar c ≡ true → drop place text ≡ encode c ++ v
@@ -140,7 +144,7 @@ none-behind text start end line c v l s eq plain =
     let own : is_line_terminator (slice_index (encode c ++ v) 0) ≡ is_line_terminator c = quiet-front c v s in
     let some : 0 < length (encode c) = omega (arith, some-unit Utf8 c s) in
     let first : is_line_terminator (slice_index text end) ≡ is_line_terminator c = ap is_line_terminator (b.1 ∙ sym (get_or_append_left (encode c) v 0 0 some))
-        ∙ own in
+    ∙ own in
     let both : true ≡ false = sym (l.ends b.0) ∙ first ∙ plain in
     cc
 
@@ -173,7 +177,7 @@ boundary-behind text place c zs within s eq =
     = sym (get_or-drop place text (length (encode c)) 0) ∙ ap (λ (u : List ℕ). slice_index u (length (encode c))) eq
     ∙ ap (slice_index (encode c ++ encodes zs)) (sym zero-more) ∙ get_or-append-add (encode c) (encodes zs) 0 0 in
     let new : continues Utf8 (slice_index text (place + length (encode c))) ≡ false = ap (continues Utf8) at
-        ∙ ap (λ (u : List ℕ). continues Utf8 (slice_index u 0)) (sym (utf8-units zs)) ∙ fresh Utf8 zs s in
+    ∙ ap (λ (u : List ℕ). continues Utf8 (slice_index u 0)) (sym (utf8-units zs)) ∙ fresh Utf8 zs s in
     (omega (arith, length-drop place text), λ less low. not-range (slice_index text (place + length (encode c))) new low)
 
 floor-after : (text : List ℕ) (start to place : ℕ) → IsCharBoundary text start → start ≤ to → ((i : ℕ) → place < i → i ≤ to → IsCharBoundary text i → ⊥)

@@ -48,10 +48,10 @@ content : (e : PositionEncoding) (a ys : List ℕ) (column : ℕ) → Quiet a �
     → whole e (a ++ all_units e ys) (walk (a ++ all_units e ys) zero column) ≡ length a
 content e a ys column q s fits h =
     let place : walk (a ++ all_units e ys) zero column ≡ length a + walk (all_units e ys) zero (column - length a) = walk-past a
-        (all_units e ys) column q fits in
+    (all_units e ys) column q fits in
     let none = stop e ys (column - length a) s h in
     ap (whole e (a ++ all_units e ys)) place ∙ whole-past e a (all_units e ys) (walk (all_units e ys) zero (column - length a))
-        (length a + walk (all_units e ys) zero (column - length a)) refl (fresh e ys s)
+    (length a + walk (all_units e ys) zero (column - length a)) refl (fresh e ys s)
     ∙ (let sum : length a + whole e (all_units e ys) (walk (all_units e ys) zero (column - length a)) ≡ length a = omega (arith, none) in sum)
 
 -- up to the start of a line
@@ -88,11 +88,11 @@ skip-one e c u t k column rest s feed b ih = elim (cases_Bool (is_line_terminato
       let own : units_of e c ≡ c ∷ [] = one-of e c h in
       let one : 1 + k ≡ suc k = omega arith in
       let b' : begins_line (c ∷ t) (suc k) ≡ true = subst (λ (n : ℕ). begins_line (c ∷ t) n ≡ true) one
-          (subst (λ (l : List ℕ). begins_line (l ++ t) (length l + k) ≡ true) bytes b) in
+      (subst (λ (l : List ℕ). begins_line (l ++ t) (length l + k) ≡ true) bytes b) in
       let there : walk (c ∷ u) (line_at (c ∷ t) (suc k)) column ≡ suc (0 + rest) = skip-end e c u t k column 0 rest feed b'
-          (ih ∙ (let z : rest ≡ 0 + rest = omega arith in z)) in
+      (ih ∙ (let z : rest ≡ 0 + rest = omega arith in z)) in
       let there' : walk (c ∷ u) (line_at (c ∷ t) (1 + k)) column ≡ 1 + rest = ap (λ (n : ℕ). walk (c ∷ u) (line_at (c ∷ t) n) column) one ∙ there
-          ∙ (let z : suc (0 + rest) ≡ 1 + rest = omega arith in z) in
+      ∙ (let z : suc (0 + rest) ≡ 1 + rest = omega arith in z) in
       subst (λ (l : List ℕ). walk (units_of e c ++ u) (line_at (l ++ t) (length l + k)) column ≡ length (units_of e c) + rest) (sym bytes)
       (subst (λ (l : List ℕ). walk (l ++ u) (line_at (c ∷ t) (1 + k)) column ≡ length l + rest) (sym own) there')
   | inr h ↦
@@ -125,18 +125,18 @@ skip e (c ∷ ws) bs column sa sb b =
     let s = and_parts (scalar c) (scalars ws) sa in
     let far : length (encode c ++ encodes ws) ≡ length (encode c) + length (encodes ws) = length-append (encode c) (encodes ws) in
     let b' : begins_line (encode c ++ encodes (ws ++ bs)) (length (encode c) + length (encodes ws))
-        ≡ true = subst (λ (n : ℕ). begins_line (encode c ++ encodes (ws ++ bs)) n ≡ true) far b in
+    ≡ true = subst (λ (n : ℕ). begins_line (encode c ++ encodes (ws ++ bs)) n ≡ true) far b in
     let more = skip e ws bs column s.1 sb (begins-back (encode c) (encodes (ws ++ bs)) c (length (encodes ws)) refl s.0 b') in
     let both : scalars (ws ++ bs) ≡ true = scalars-both ws bs s.1 sb in
     let one = skip-one e c (all_units e (ws ++ bs)) (encodes (ws ++ bs)) (length (encodes ws)) column
-        (length (all_units e ws) + walk (all_units e bs) zero column) s.0 (feed-same e (ws ++ bs) both) b' more in
+    (length (all_units e ws) + walk (all_units e bs) zero column) s.0 (feed-same e (ws ++ bs) both) b' more in
     let out : all_units e (c ∷ (ws ++ bs)) ≡ units_of e c ++ all_units e (ws ++ bs) = flat_map-cons (units_of e) c (ws ++ bs) in
     let len : length (all_units e (c ∷ ws)) ≡ length (units_of e c) + length (all_units e ws) = ap length (flat_map-cons (units_of e) c ws)
-        ∙ length-append (units_of e c) (all_units e ws) in
+    ∙ length-append (units_of e c) (all_units e ws) in
     ap (λ (u : List ℕ). walk u (line_at (encode c ++ encodes (ws ++ bs)) (length (encode c ++ encodes ws))) column) out
     ∙ ap (λ (n : ℕ). walk (units_of e c ++ all_units e (ws ++ bs)) (line_at (encode c ++ encodes (ws ++ bs)) n) column) far
     ∙ one ∙ (let z : length (units_of e c) + (length (all_units e ws) + walk (all_units e bs) zero column)
-        ≡ length (all_units e (c ∷ ws)) + walk (all_units e bs) zero column = omega arith in z)
+    ≡ length (all_units e (c ∷ ws)) + walk (all_units e bs) zero column = omega arith in z)
 
 -- the place of a position in the line that begins after some characters
 pub lands : (e : PositionEncoding) (ws xs ys : List ℕ) (column : ℕ) → scalars ws ≡ true → scalars xs ≡ true → scalars ys ≡ true
@@ -150,11 +150,11 @@ lands e ws xs ys column sa sx sy b q fits h =
     let own : all_units e (xs ++ ys) ≡ all_units e xs ++ all_units e ys = flat_map-append (units_of e) xs ys in
     let line : whole e (all_units e (xs ++ ys)) (walk (all_units e (xs ++ ys)) zero column) ≡ length (all_units e xs)
     = subst (λ (u : List ℕ). whole e u (walk u zero column) ≡ length (all_units e xs)) (sym own)
-        (content e (all_units e xs) ys column (QuietAll e xs q) sy fits h) in
+    (content e (all_units e xs) ys column (QuietAll e xs q) sy fits h) in
     let len : length (all_units e (ws ++ xs)) ≡ length (all_units e ws) + length (all_units e xs) = ap length (flat_map-append (units_of e) ws xs)
-        ∙ length-append (all_units e ws) (all_units e xs) in
+    ∙ length-append (all_units e ws) (all_units e xs) in
     ap (whole e (all_units e (ws ++ (xs ++ ys)))) place
     ∙ ap (λ (u : List ℕ). whole e u (length (all_units e ws) + walk (all_units e (xs ++ ys)) zero column)) parts
     ∙ whole-past e (all_units e ws) (all_units e (xs ++ ys)) (walk (all_units e (xs ++ ys)) zero column)
-        (length (all_units e ws) + walk (all_units e (xs ++ ys)) zero column) refl (fresh e (xs ++ ys) (scalars-both xs ys sx sy))
+    (length (all_units e ws) + walk (all_units e (xs ++ ys)) zero column) refl (fresh e (xs ++ ys) (scalars-both xs ys sx sy))
     ∙ ap (λ (n : ℕ). length (all_units e ws) + n) line ∙ sym len

@@ -37,7 +37,7 @@ place-spelled : (e : PositionEncoding) (ws xs ys : List ℕ) (line column : ℕ)
     (units_before (lines_of (units e (encodes (ws ++ (xs ++ ys))))) line column)
 place-spelled e ws xs ys line column sa sx sy b at q fits h =
     let whole-text : units e (encodes (ws ++ (xs ++ ys))) ≡ all_units e (ws ++ (xs ++ ys)) = spelled-units e (ws ++ (xs ++ ys))
-        (scalars-both ws (xs ++ ys) sa (scalars-both xs ys sx sy)) in
+    (scalars-both ws (xs ++ ys) sa (scalars-both xs ys sx sy)) in
     let front : units e (encodes (ws ++ xs)) ≡ all_units e (ws ++ xs) = spelled-units e (ws ++ xs) (scalars-both ws xs sa sx) in
     let u = all_units e (ws ++ (xs ++ ys)) in
     ap length front ∙ sym (lands e ws xs ys column sa sx sy b q fits h)
@@ -107,28 +107,28 @@ found-place e text start place line column h =
     let eq-x : encodes x.0 ≡ take (place - start) (drop start text) = x.1.1 in
     let eq-y : encodes y.0 ≡ drop place text = y.1.1 in
     let eq-xy : encodes (x.0 ++ y.0) ≡ take (place - start) (drop start text) ++ drop place text = encodes-append x.0 y.0
-        ∙ ap (λ (v : List ℕ). v ++ encodes y.0) eq-x ∙ ap (λ (v : List ℕ). take (place - start) (drop start text) ++ v) eq-y in
+    ∙ ap (λ (v : List ℕ). v ++ encodes y.0) eq-x ∙ ap (λ (v : List ℕ). take (place - start) (drop start text) ++ v) eq-y in
     let eq-all : encodes (a.0 ++ (x.0 ++ y.0)) ≡ text
     = encodes-append a.0 (x.0 ++ y.0) ∙ ap (λ (v : List ℕ). v ++ encodes (x.0 ++ y.0)) eq-a ∙ ap (λ (v : List ℕ). take start text ++ v) eq-xy
-        ∙ three text start place h.ordered in
+    ∙ three text start place h.ordered in
     let eq-front : encodes (a.0 ++ x.0) ≡ take place text
     = encodes-append a.0 x.0 ∙ ap (λ (v : List ℕ). v ++ encodes x.0) eq-a ∙ ap (λ (v : List ℕ). take start text ++ v) eq-x ∙ two text start place h.ordered in
     let at : length (encodes a.0) ≡ start = ap length eq-a ∙ (let l : length (take start text)
-        ≡ start = omega (arith, length-take start text, h.ordered, h.within) in l) in
+    ≡ start = omega (arith, length-take start text, h.ordered, h.within) in l) in
     let b : begins_line (encodes (a.0 ++ (x.0 ++ y.0))) (length (encodes a.0)) ≡ true
     = ap (λ (t : List ℕ). begins_line t (length (encodes a.0))) eq-all ∙ ap (begins_line text) at ∙ h.begins in
     let n : line ≡ line_at (encodes (a.0 ++ (x.0 ++ y.0))) (length (encodes a.0))
     = h.number ∙ ap (line_at text) (sym at) ∙ ap (λ (t : List ℕ). line_at t (length (encodes a.0))) (sym eq-all) in
     let len-x : length (encodes x.0) ≡ place - start = ap length eq-x ∙ (let l : length (take (place - start) (drop start text))
-        ≡ place - start = omega (arith, length-take (place - start) (drop start text), length-drop start text, h.ordered, h.within) in l) in
+    ≡ place - start = omega (arith, length-take (place - start) (drop start text), length-drop start text, h.ordered, h.within) in l) in
     let q : Quiet x.0 = quiet-chars x.0 x.1.0 (λ k lt. ap (λ (v : List ℕ). is_line_terminator (slice_index v k)) eq-x
     ∙ ap is_line_terminator (part-byte text start place k h.within (omega arith)) ∙ h.quiet (start + k) (omega arith) (omega arith)) in
     let w : width e (slice_range text start place) ≡ length (all_units e x.0) = ap (width e) (sym eq-x) ∙ spelled-width e x.0 in
     let st : Stops e (column - length (all_units e x.0)) y.0 = stops e (column - length (all_units e x.0)) y.0 y.1.0
-        (λ c zs sc sz eq plain. omega (arith, w, h.stops c zs sc sz (sym eq-y ∙ eq) plain)) in
+    (λ c zs sc sz eq plain. omega (arith, w, h.stops c zs sc sz (sym eq-y ∙ eq) plain)) in
     let result = place-spelled e a.0 x.0 y.0 line column a.1.0 x.1.0 y.1.0 b n q (omega (arith, w, h.fits)) st in
     ap (λ (t : List ℕ). length (units e t)) (sym eq-front) ∙ result ∙ ap (λ (t : List ℕ). whole e (units e t) (units_before (lines_of (units e t)) line column))
-        eq-all
+    eq-all
 
 -- behind the last line
 beyond-end : (c : ℕ) (u t : List ℕ) (k line column : ℕ) → eqb (slice_index u 0) 10 ≡ eqb (slice_index t 0) 10 → line_at (c ∷ t) (suc k) < line
@@ -159,7 +159,7 @@ beyond-one e c u t k line column s feed h ih = elim (cases_Bool (is_line_termina
   | inl b ↦
       let one : 1 + k ≡ suc k = omega arith in
       let h' : line_at (c ∷ t) (suc k) < line = subst (λ (n : ℕ). line_at (c ∷ t) n < line) one
-          (subst (λ (v : List ℕ). line_at (v ++ t) (length v + k) < line) (one-of Utf8 c b) h) in
+      (subst (λ (v : List ℕ). line_at (v ++ t) (length v + k) < line) (one-of Utf8 c b) h) in
       subst (λ (v : List ℕ). walk (v ++ u) line column ≡ length (v ++ u)) (sym (one-of e c b)) (beyond-end c u t k line column feed h' ih)
   | inr b ↦ beyond-quiet (units_of e c) (encode c) u t k (length (encode c) + k) line column (quiet-of e c b) (quiet-of Utf8 c b) refl h ih
 ]
@@ -171,10 +171,10 @@ beyond-lines e (c ∷ cs) line column s h =
     let sc = and_parts (scalar c) (scalars cs) s in
     let far : length (encode c ++ encodes cs) ≡ length (encode c) + length (encodes cs) = length-append (encode c) (encodes cs) in
     let h' : line_at (encode c ++ encodes cs) (length (encode c) + length (encodes cs)) < line = subst
-        (λ (n : ℕ). line_at (encode c ++ encodes cs) n < line) far h in
+    (λ (n : ℕ). line_at (encode c ++ encodes cs) n < line) far h in
     subst (λ (v : List ℕ). walk v line column ≡ length v) (sym (flat_map-cons (units_of e) c cs))
     (beyond-one e c (all_units e cs) (encodes cs) (length (encodes cs)) line column sc.0 (feed-same e cs sc.1) h'
-        (λ l less. beyond-lines e cs l column sc.1 less))
+    (λ l less. beyond-lines e cs l column sc.1 less))
 
 past-end : (e : PositionEncoding) (u : List ℕ) → whole e u (length u) ≡ length u
 past-end e u = whole-here e u (length u) (ap (continues e) (get_or_past u (length u) 0 (omega arith)) ∙ nothing e) where
@@ -192,7 +192,7 @@ beyond e text line column u h =
     let all : units e text ≡ all_units e u.0 = ap (units e) (sym eq) ∙ spelled-units e u.0 u.1.0 in
     let h' : line_at (encodes u.0) (length (encodes u.0)) < line = subst (λ (t : List ℕ). line_at t (length t) < line) (sym eq) h in
     let there : walk (units e text) line column ≡ length (units e text) = subst (λ (v : List ℕ). walk v line column ≡ length v) (sym all)
-        (beyond-lines e u.0 line column u.1.0 h') in
+    (beyond-lines e u.0 line column u.1.0 h') in
     ap (λ (t : List ℕ). length (units e t)) (take-all text)
     ∙ sym (past-end e (units e text)) ∙ ap (whole e (units e text)) (sym there) ∙ ap (whole e (units e text)) (sym (walk-is (units e text) line column))
 
@@ -219,7 +219,7 @@ pub cursor-quiet : (text : List ℕ) (place : ℕ) → IsCursor text place → (
     → is_line_terminator (slice_index text k) ≡ false
 cursor-quiet text place c k low high = false_from_ne_true _ (λ t. (
     let pair : (eqb (slice_index text k) 13 && eqb (slice_index text (suc k)) 10)
-        ≡ true = cr-lf (slice_index text k) (slice_index text (suc k)) t (none-begin text k place low high) in
+    ≡ true = cr-lf (slice_index text k) (slice_index text (suc k)) t (none-begin text k place low high) in
     elim (cases_lt (suc k) place) [
       | inl lt ↦ lf (slice_index text k) (slice_index text (suc k)) pair (slice_index text (suc (suc k))) (none-begin text (suc k) place (omega arith) lt)
       | inr ge ↦ (let e : place ≡ suc k = omega arith in c.apart k e (subst (λ (n : ℕ). (eqb (slice_index text k) 13 && eqb (slice_index text n) 10) ≡ true)

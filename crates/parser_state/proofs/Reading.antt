@@ -34,14 +34,14 @@ pub read-ignored : (s t u : State) (k : TokenKind) (text : Text) (index : ℕ) (
 read-ignored s t u k text index kind h i e =
     let item : Item = record { kind = Some k; text = text; index = index } in
     ap (λ xs. read_on xs s) h.0 ∙ on-is t.items s text index k ∙ sym (ap (on_kind t.items s item k) i) ∙ ap (λ w. read_on t.items (wait kind text w)) (sym h.1)
-        ∙ sym (ap (λ w. read_on w.items w) e)
+    ∙ sym (ap (λ w. read_on w.items w) e)
 
 pub read-token : (s t : State) (k : TokenKind) (text : Text) (index : ℕ) → Taken (Some (gives (record { kind = Some k; text = text; index = index }))) s t
     → None ≡ ignored k → read_on s.items s ≡ record t { current = Some (record { kind = k; text = text; index = index }) }
 read-token s t k text index h i =
     let item : Item = record { kind = Some k; text = text; index = index } in
     ap (λ xs. read_on xs s) h.0 ∙ on-is t.items s text index k ∙ sym (ap (on_kind t.items s item k) i)
-        ∙ sym (ap {A = State} (λ w. record w { current = Some (record { kind = k; text = text; index = index }) }) h.1)
+    ∙ sym (ap {A = State} (λ w. record w { current = Some (record { kind = k; text = text; index = index }) }) h.1)
 
 pub read_end : (s t : State) → Taken None s t → read_on s.items s ≡ record t { current = None }
 unfolding read_on
@@ -82,7 +82,7 @@ pub one_more : (leaves : List PendingToken) (i : ℕ) (d : PendingToken) (b c : 
     → add_all (map pending_of (drop i leaves)) b ≡ add_all (map pending_of (drop (i + 1) leaves)) c
 one_more leaves i d b c h e =
     rw add-one (ap {A = List PendingToken} (λ ys. add_all (map pending_of ys) b) (drop-cons leaves i d h)
-        ∙ ap (λ x. add_all (map pending_of (drop (suc i) leaves)) x) (sym e))
+    ∙ ap (λ x. add_all (map pending_of (drop (suc i) leaves)) x) (sym e))
 
 -- ---- looking at what follows the current token
 
@@ -119,7 +119,7 @@ pub second-ignored : (xs rest : List Answer) (k : TokenKind) (text : Text) (inde
     → found ≡ ignored k → is_some found ≡ true → second xs ≡ second rest
 second-ignored xs rest k text index found e f i =
     ap second e ∙ second-is rest text index k ∙ ap (on_second rest k (record { kind = Some k; text = text; index = index })) (sym f)
-        ∙ some-leaf rest k (record { kind = Some k; text = text; index = index }) found i
+    ∙ some-leaf rest k (record { kind = Some k; text = text; index = index }) found i
 
 pub second-bad : (xs rest : List Answer) (limit : Bool) (text : Text) (index : ℕ) → xs ≡ error_answer limit text index ∷ rest → second xs ≡ second rest
 unfolding second

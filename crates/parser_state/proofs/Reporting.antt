@@ -67,4 +67,4 @@ pub one-more-error : (rs ts : List Report) (ds es : List Diagnostic) (r : Report
     → AllZip IsErrorOf ts es
 one-more-error rs ts ds es r d z i t e =
     subst (λ (xs : List Report). AllZip IsErrorOf xs es) (sym t) (subst (λ (ys : List Diagnostic). AllZip IsErrorOf (rs ++ r ∷ []) ys) (sym e)
-        (all_zipped_more IsErrorOf rs ds r d z i))
+    (all_zipped_more IsErrorOf rs ds r d z i))

@@ -42,8 +42,19 @@ is_leaf_of _ _ now = false
 
 -- nothing is read or built, and so many items may be cut
 abbrev pub unread : List Answer → ℕ → ℕ → State
-unread items limit budget = record { items = items; current = None; pending = []; tree = nothing; errors = []; limit = limit; depth = 0; high = 0;
-    accepts = true; asked = length items; budget = budget }
+unread items limit budget = record {
+  items = items;
+  current = None;
+  pending = [];
+  tree = nothing;
+  errors = [];
+  limit = limit;
+  depth = 0;
+  high = 0;
+  accepts = true;
+  asked = length items;
+  budget = budget;
+}
 
 -- the root is open, and the first token is read
 abbrev pub rooted : SyntaxKind → State → State

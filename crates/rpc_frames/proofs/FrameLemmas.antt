@@ -28,7 +28,7 @@ from-front : (bytes : List ℕ) (m : ℕ) (fields : List Field) (last : LineEnd)
     → ReadsSection bytes fields last (rest ++ drop m bytes)
 from-front bytes m fields last rest reads =
     subst (λ (b : List ℕ). ReadsSection b fields last (rest ++ drop m bytes)) (take-append-drop m bytes)
-        (ReadsSection-append (take m bytes) fields last rest (drop m bytes) reads)
+    (ReadsSection-append (take m bytes) fields last rest (drop m bytes) reads)
 
 none-told : (told : Option ℕ) (n : ℕ) → Agrees told None → told ≡ Some n → 2 ^ 64 ≤ n
 none-told told n h e = subst (λ (o : Option ℕ). IfSome o (λ k. 2 ^ 64 ≤ k)) e h
@@ -52,7 +52,7 @@ pub head-at : (bytes : List ℕ) (m : ℕ) (headers : List HeaderSpan) (start co
     → IsSectionOf (take m bytes) 0 headers (start, count) → length_in (map (header_bytes (take m bytes)) (take k headers)) ≡ Some n → IsHeadAt bytes start n
 head-at bytes m headers start count k n e most room within s given =
     let told : length_in (map (header_bytes (take m bytes)) (take count headers))
-        ≡ Some n = subst (λ (j : ℕ). length_in (map (header_bytes (take m bytes)) (take j headers)) ≡ Some n) e given in
+    ≡ Some n = subst (λ (j : ℕ). length_in (map (header_bytes (take m bytes)) (take j headers)) ≡ Some n) e given in
     let at = section-at bytes m headers start count s.0 s.1 s.2 in
     record {
       fields = s.0;
@@ -60,8 +60,12 @@ head-at bytes m headers start count k n e most room within s given =
       reads = at.1;
       ends = at.0;
       says = ap length_in (sym s.2.fields_are) ∙ told;
-      few = omega (arith, room, sym (length-map (take count headers) (header_bytes (take m bytes))) ∙ ap length s.2.fields_are ∙ length-map s.0 name_and_value,
-          length-take count headers);
+      few = omega (
+        arith,
+        room,
+        sym (length-map (take count headers) (header_bytes (take m bytes))) ∙ ap length s.2.fields_are ∙ length-map s.0 name_and_value,
+        length-take count headers,
+      );
       short = omega (arith, within.len_fits, length-take m bytes);
     }
 
@@ -70,7 +74,7 @@ pub never-told : (bytes : List ℕ) (m : ℕ) (headers : List HeaderSpan) (start
     → Agrees (length_in (map (header_bytes (take m bytes)) (take k headers))) None → NeverHasFrame bytes
 never-told bytes m headers start count k e s given more body rest b =
     let told : Agrees (length_in (map (header_bytes (take m bytes)) (take count headers))) None = subst
-        (λ (j : ℕ). Agrees (length_in (map (header_bytes (take m bytes)) (take j headers))) None) e given in
+    (λ (j : ℕ). Agrees (length_in (map (header_bytes (take m bytes)) (take j headers))) None) e given in
     let at = section-at bytes m headers start count s.0 s.1 s.2 in
     let reads = ReadsSection-append bytes s.0 s.1 (drop start bytes) more at.1 in
     let same = same-head (bytes ++ more) s.0 s.1 (drop start bytes ++ more) b.0 body rest reads b.1 b.2 in
@@ -102,7 +106,7 @@ body-at bytes start n h small within =
     let to : (start + n) - start ≡ n = omega arith in
     let body : slice_range bytes start (start + n) ≡ take n (drop start bytes) = ap (λ (k : ℕ). take k (drop start bytes)) to in
     let len : length (slice_range bytes start (start + n)) ≡ n = ap length body
-        ∙ (let l : length (take n (drop start bytes)) ≡ n = omega (arith, length-take n (drop start bytes), length-drop start bytes) in l) in
+    ∙ (let l : length (take n (drop start bytes)) ≡ n = omega (arith, length-take n (drop start bytes), length-drop start bytes) in l) in
     record {
       ordered = omega arith;
       within = omega arith;
@@ -127,14 +131,17 @@ in-front bytes m frame body rest f eq le =
       own.0,
       ap (λ (k : ℕ). take k bytes) (sym to) ∙ take-add (length print) (m - length print) bytes
           ∙ ap (λ (b : List ℕ). b ++ take (m - length print) (drop (length print) bytes))
-              (ap (λ (b : List ℕ). take (length print) b) own.1 ∙ take_at print (body ++ rest) (length print) refl)
+          (ap (λ (b : List ℕ). take (length print) b) own.1 ∙ take_at print (body ++ rest) (length print) refl)
           ∙ ap (λ (b : List ℕ). print ++ take (m - length print) b) (ap (λ (b : List ℕ). drop (length print) b) own.1
-              ∙ drop_at print (body ++ rest) (length print) refl),
+          ∙ drop_at print (body ++ rest) (length print) refl),
     )
 
 print-fits : (bytes frame body rest : List ℕ) (f : IsFrame frame body) → bytes ≡ frame ++ rest → length (print_section f.fields f.last) ≤ length bytes
-print-fits bytes frame body rest f eq = omega (arith, ap length (section bytes frame body rest f eq).1,
-    length-append (print_section f.fields f.last) (body ++ rest))
+print-fits bytes frame body rest f eq = omega (
+  arith,
+  ap length (section bytes frame body rest f eq).1,
+  length-append (print_section f.fields f.last) (body ++ rest),
+)
 
 -- where the head isn't complete
 pub no-head-yet : (bytes : List ℕ) (m : ℕ) → m ≡ min (length bytes) 4096 → HasNoSection (take m bytes) → HasNoFrame bytes
@@ -153,9 +160,13 @@ pub no-few : (bytes : List ℕ) (m room : ℕ) → room ≡ 16 → SectionOverfl
 no-few bytes m room e over more body rest b =
     let own = section (bytes ++ more) b.0 body rest b.1 b.2 in
     let split : take m bytes ++ (drop m bytes ++ more) ≡ bytes ++ more = sym (append_assoc (take m bytes) (drop m bytes) more)
-        ∙ ap (λ (v : List ℕ). v ++ more) (take-append-drop m bytes) in
-    absurd (omega (arith, b.1.few, over (drop m bytes ++ more) b.1.fields b.1.last (body ++ rest)
-        (subst (λ (v : List ℕ). ReadsSection v b.1.fields b.1.last (body ++ rest)) (sym split) own)))
+    ∙ ap (λ (v : List ℕ). v ++ more) (take-append-drop m bytes) in
+    absurd (omega (
+      arith,
+      b.1.few,
+      over (drop m bytes ++ more) b.1.fields b.1.last (body ++ rest)
+          (subst (λ (v : List ℕ). ReadsSection v b.1.fields b.1.last (body ++ rest)) (sym split) own),
+    ))
 
 -- the error that is passed on
 pub if-err : {A : Type 0} (r : Result A FrameError) (bytes : List ℕ) → NeverHasFrame bytes → IfErr r (λ error. error ≢ Memory → NeverHasFrame bytes)
@@ -169,5 +180,12 @@ end-length lf = omega arith
 -- what follows a frame is shorter than what begins with it
 pub shorter : (now body more : List ℕ) → BeginsWithFrame now body more → length more < length now
 shorter now body more b =
-    omega (arith, ap length b.2, length-append b.0 more, ap length b.1.head.1, length-append (print_section b.1.fields b.1.last) body,
-        length-append (flat_map print_field b.1.fields) (print_end b.1.last), end-length b.1.last)
+    omega (
+      arith,
+      ap length b.2,
+      length-append b.0 more,
+      ap length b.1.head.1,
+      length-append (print_section b.1.fields b.1.last) body,
+      length-append (flat_map print_field b.1.fields) (print_end b.1.last),
+      end-length b.1.last,
+    )

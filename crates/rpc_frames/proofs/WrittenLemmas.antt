@@ -43,7 +43,7 @@ written frame body small is =
     let listed : list_all is_ascii_digit (decimal n) ≡ true = digits-listed (decimal n) numeral-n.0.1 in
     let pass : AllPass is_ascii_digit (decimal n) = AllPass-from_list_all is_ascii_digit (decimal n) listed in
     let trimmed : trim_ows (32 ∷ decimal n) ≡ decimal n = trim_ows_space (decimal n) (skip-digits (decimal n) pass)
-        (skip-digits (reverse (decimal n)) (AllPass-reverse is_ascii_digit (decimal n) pass)) in
+    (skip-digits (reverse (decimal n)) (AllPass-reverse is_ascii_digit (decimal n) pass)) in
     let told : numeral (trim_ows (32 ∷ decimal n)) ≡ Some n = ap numeral trimmed ∙ numeral-digits (decimal n) numeral-n.0.0 listed ∙ ap Some numeral-n.1 in
     let short : length (decimal n) ≤ 10 = length-decimal-le 10 n (omega arith) (omega arith) (omega arith) in
     let value : AllPass is_value_byte (decimal n) = λ k d lt. digit-value (get_or (decimal n) k d) (pass k d lt) in
@@ -51,8 +51,10 @@ written frame body small is =
       fields = line n ∷ [];
       last = crlf;
       head = (
-        All-cons IsField (line n) [] (record { name = (omega arith, AllPass-from_list_all is_token_byte (codes "Content-Length") name-token);
-            raw = All-cons (λ b. is_value_byte b ≡ true) 32 (decimal n) refl value }) (All-nil IsField),
+        All-cons IsField (line n) [] (record {
+          name = (omega arith, AllPass-from_list_all is_token_byte (codes "Content-Length") name-token);
+          raw = All-cons (λ b. is_value_byte b ≡ true) 32 (decimal n) refl value;
+        }) (All-nil IsField),
         is ∙ ap (λ (v : List ℕ). codes "Content-Length: " ++ v) (tail (decimal n) body),
       );
       says = told;

@@ -38,7 +38,7 @@ module _ {S : Type 0} (takes : List ℕ → S → Reply → S → Type 0) where
   abbrev pub LeadsTo : S → List ℕ → List ℕ → S → List ℕ → Type 0
   LeadsTo first start said service now =
       (later rest : List ℕ) (status : Option ℕ) (last : S) → Exchange takes service now later rest status last
-          → Exchange takes first start (said ++ later) rest status last
+      → Exchange takes first start (said ++ later) rest status last
 
   pub begun : (first : S) (start : List ℕ) → LeadsTo first start [] first start
   begun first start later rest status last e = e
@@ -48,9 +48,9 @@ module _ {S : Type 0} (takes : List ℕ → S → Reply → S → Type 0) where
       → status_of reply ≡ None → takes body old reply next → new ≡ said ++ said_for reply → LeadsTo first start new next more
   goes_on first start said old next now body more new reply leads begins r none takes_it is later rest status last e =
       let joined : said ++ (said_for reply ++ later) ≡ new ++ later = sym (append_assoc said (said_for reply) later)
-          ∙ ap (λ (v : List ℕ). v ++ later) (sym is) in
+      ∙ ap (λ (v : List ℕ). v ++ later) (sym is) in
       subst (λ (v : List ℕ). Exchange takes first start v rest status last) joined
-          (leads (said_for reply ++ later) rest status last (replied r.0 reply begins r.1 r.2 none takes_it e))
+      (leads (said_for reply ++ later) rest status last (replied r.0 reply begins r.1 r.2 none takes_it e))
 
   pub finished : (first : S) (start said : List ℕ) (old last : S) (now body more new : List ℕ) (reply : Reply) (status : ℕ) → LeadsTo first start said old now
       → BeginsWithFrame now body more

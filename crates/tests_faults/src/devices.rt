@@ -172,26 +172,35 @@ fn plain_row(mode: Mode, text: &'static [u8], found: Outcome, written: &'static 
     Row {
         mode,
         text,
-        limits: Limits::NONE_SET,
+        limits: Limits::DEFAULT,
         found,
         written,
     }
 }
 
-fn within(row: Row, recursion: usize, tokens: usize) -> Row {
-    Row {
-        limits: Limits { recursion, tokens },
-        ..row
+fn within(row: Row, limits: Limits) -> Row {
+    Row { limits, ..row }
+}
+
+fn levels(recursion: usize) -> Limits {
+    Limits {
+        recursion,
+        ..Limits::DEFAULT
     }
 }
 
-const ALL: usize = usize::MAX;
+fn items(tokens: usize) -> Limits {
+    Limits {
+        tokens,
+        ..Limits::DEFAULT
+    }
+}
 
 fn expect_checks(rt: &(impl Abort + AllocGlobal)) -> Result<(), AllocError> {
     let clean = Outcome::Clean;
     let one = Outcome::Errors(1);
     let depth = "ERROR@3:3 \"parser recursion limit reached\" \nerrors: 1\n";
-    let items = "ERROR@2:2 \"token limit reached, aborting lexing\" \nerrors: 1\n";
+    let many = "ERROR@2:2 \"token limit reached, aborting lexing\" \nerrors: 1\n";
     for row in [
         plain_row(Mode::Check, b"{a}", clean, "clean\n"),
         plain_row(Mode::Check, b"\"q\" query Q { a }", clean, "clean\n"),
@@ -207,8 +216,8 @@ fn expect_checks(rt: &(impl Abort + AllocGlobal)) -> Result<(), AllocError> {
             one,
             "ERROR@0:0 \"Unexpected <EOF>.\" EOF\nerrors: 1\n",
         ),
-        within(plain_row(Mode::Check, b"{a{b}}", one, depth), 1, ALL),
-        within(plain_row(Mode::Check, b"{a}", one, items), 500, 3),
+        within(plain_row(Mode::Check, b"{a{b}}", one, depth), levels(1)),
+        within(plain_row(Mode::Check, b"{a}", one, many), items(3)),
     ] {
         expect_devices(rt, row)?;
     }
@@ -238,8 +247,7 @@ fn expect_items_and_trees(rt: &(impl Abort + AllocGlobal)) -> Result<(), AllocEr
                 one,
                 "L_CURLY@0:1 \"{\"\nNAME@1:2 \"a\"\nERROR@2:2 \"token limit reached, aborting lexing\" \n",
             ),
-            500,
-            2,
+            items(2),
         ),
         plain_row(
             Mode::Tree,

@@ -16,7 +16,7 @@ returns-in_ok-replace_range-in-Some-clause-ok c =
     let start : ℕ = c.in_ok-start-in-Some.start in
     let end : ℕ = c.in_ok-start-in-Some.end in
     let at : AreOffsets e old c.in-Some.range start end = subst (λ (t : List ℕ). AreOffsets e t c.in-Some.range start end) c.as_str.ensures.value
-        c.in_ok-start-in-Some.ensures in
+    c.in_ok-start-in-Some.ensures in
     let bytes : string_bytes c.replace_range.new.self ≡ replace_range old start end new = c.in_ok-replace_range-in-Some.ensures.bytes in
     ap (units e) bytes ∙ replaced-units e old new c.in-Some.range start end (IsUtf8-string_bytes c.args.text.now) c.utf8.new at
     ∙ ap (λ (r : Option PositionRange). replaced e (units e old) r (units e new)) (sym c.in-Some.is)

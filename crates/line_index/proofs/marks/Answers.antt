@@ -13,17 +13,20 @@ pub overflow_add-units : goal.overflow_add-units
 overflow_add-units g c =
     let bytes = c.as_bytes-bytes.result.now in
     let m = c.loop-mark.mark in
-    omega (arith, next-mark bytes m c.loop-mark.units c.utf16_len-units.result c.loop-mark.invariant.total c.utf16_len-units.ensures,
-        units-small bytes (64 * (m + 1)) c.as_bytes-bytes.ensures.utf8 c.as_bytes-bytes.type_inv.0)
+    omega (
+      arith,
+      next-mark bytes m c.loop-mark.units c.utf16_len-units.result c.loop-mark.invariant.total c.utf16_len-units.ensures,
+      units-small bytes (64 * (m + 1)) c.as_bytes-bytes.ensures.utf8 c.as_bytes-bytes.type_inv.0,
+    )
 
 pub loop-mark-preserved : goal.loop-mark-preserved
 loop-mark-preserved g c =
     let bytes = c.as_bytes-bytes.result.now in
     let m = c.loop-mark.mark in
     let total : c.loop-mark.units + c.utf16_len-units.result ≡ utf16_len (take (64 * (m + 1)) bytes) =
-        next-mark bytes m c.loop-mark.units c.utf16_len-units.result c.loop-mark.invariant.total c.utf16_len-units.ensures in
+    next-mark bytes m c.loop-mark.units c.utf16_len-units.result c.loop-mark.invariant.total c.utf16_len-units.ensures in
     let items : c.push-in-loop-mark.new.self.items ≡ c.loop-mark.marks.items ++ (c.loop-mark.units + c.utf16_len-units.result)
-        ∷ [] = c.in_ok-push-2.ensures.items in
+    ∷ [] = c.in_ok-push-2.ensures.items in
     record {
       count = ap length items ∙ (length-append c.loop-mark.marks.items ((c.loop-mark.units + c.utf16_len-units.result) ∷ [])
           ∙ ap (λ (n : ℕ). n + 1) c.loop-mark.invariant.count);

@@ -5,13 +5,13 @@ use Rattle.rpc_frames.proofs.head.Goals as goal
 pub returns-in-Some-clause-found : goal.returns-in-Some-clause-found
 returns-in-Some-clause-found c =
     head-at c.args.bytes.now c.min.result c.parse_headers.new.headers c.in-Ok-Complete.end c.in-Ok-Complete.count c.in-Ok-Complete.count c.in-Some.length
-        (omega arith) (omega (arith, c.min.ensures)) (omega (arith, c.parse_headers.auto.headers))
+    (omega arith) (omega (arith, c.min.ensures)) (omega (arith, c.parse_headers.auto.headers))
     (rw c.in-Ok-Complete.field-0-is at c.in-Ok-Complete.ensures.within) (rw c.in-Ok-Complete.field-0-is at c.in-Ok-Complete.ensures.complete) c.in-Some.ensures
 
 pub returns-in-None-clause-never : goal.returns-in-None-clause-never
 returns-in-None-clause-never c =
     never-told c.args.bytes.now c.min.result c.parse_headers.new.headers c.in-Ok-Complete.end c.in-Ok-Complete.count c.in-Ok-Complete.count (omega arith)
-        (rw c.in-Ok-Complete.field-0-is at c.in-Ok-Complete.ensures.complete) c.in-None.ensures
+    (rw c.in-Ok-Complete.field-0-is at c.in-Ok-Complete.ensures.complete) c.in-None.ensures
 
 pub returns-then-bytes-lt-HEAD_LIMIT-clause-none : goal.returns-then-bytes-lt-HEAD_LIMIT-clause-none
 returns-then-bytes-lt-HEAD_LIMIT-clause-none c = no-head-yet c.args.bytes.now c.min.result (omega (arith, c.min.ensures))

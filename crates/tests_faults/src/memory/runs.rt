@@ -17,7 +17,7 @@ pub fn run_once(
     let mut reader = StdSource::new(source.as_bytes());
     let mut writer = StdSink::new(&mut written);
     heap.refuse(number);
-    let outcome = run(heap, &mut reader, &mut writer, mode, Limits::NONE_SET);
+    let outcome = run(heap, &mut reader, &mut writer, mode, Limits::DEFAULT);
     drop(writer);
     let text = String::from_utf8_lossy(alloc, written.as_slice())?;
     if outcome == Err(Fault::Memory) {

@@ -56,8 +56,16 @@ selection::selection-spread-requires g t c = λ κs w. (omega (arith, c.decrease
 pub selection::spread-spread_before-requires : goal.selection::spread-spread_before-requires
 selection::spread-spread_before-requires g t c =
     let h = ap left c.peek-next.ensures.same in
-    λ κs w. (omega (arith, h, c.decreases), (w, (subst (λ (s : State). true ≡ holds (At token.Spread) s) (sym c.peek-next.ensures.same) c.requires,
-        c.peek-next.ensures.found)))
+    λ κs w. (
+      omega (arith, h, c.decreases),
+      (
+        w,
+        (
+          subst (λ (s : State). true ≡ holds (At token.Spread) s) (sym c.peek-next.ensures.same) c.requires,
+          c.peek-next.ensures.found,
+        ),
+      ),
+    )
 
 pub selection::spread-returns : goal.selection::spread-returns
 selection::spread-returns g t c = subst (λ (s : State). Parses (Call Spread) c.spread_before.result s c.spread_before.new.p) c.peek-next.ensures.same

@@ -9,7 +9,7 @@ use Rattle.apollo_lexer.proofs.faults.bad_text_wording.Goals as goal
 pub range_from-next-requires : goal.range_from-next-requires
 range_from-next-requires c = λ some.
     number-boundary c.args.text.now c.number_len-state.result.1 c.utf8.text
-        (c.number_len-state.ensures.len ∙ ap (live_len Begin) c.as_bytes-bytes.ensures.value)
+    (c.number_len-state.ensures.len ∙ ap (live_len Begin) c.as_bytes-bytes.ensures.value)
 
 -- the message is the fault's, and quotes the character after the beginning of a number
 pub returns : goal.returns

@@ -25,16 +25,16 @@ returns-then-rest-i-eq34 c = (
 pub returns-then-is_good : goal.returns-then-is_good
 returns-then-is_good c =
     part-slash c.args.rest.now c.in-Some.i c.bad_escape_len-n.result c.line_fault-fault.result c.line_fault-fault.result c.in-Some.ensures
-        (ne_eqb _ _ c.if-rest-i-eq34.false)
+    (ne_eqb _ _ c.if-rest-i-eq34.false)
     c.bad_escape_len-n.ensures.value c.bad_escape_len-n.ensures.some c.bad_escape_len-n.ensures.within c.line_fault-fault.ensures
     (λ last. good-escape (or_last c.line_fault-fault.result last) (take (length c.args.rest.now - c.in-Some.i) (drop c.in-Some.i c.args.rest.now))
-        c.escape_len-is_good.result c.escape_len-is_good.ensures.value (omega (arith, c.if-is_good.true)))
+    c.escape_len-is_good.result c.escape_len-is_good.ensures.value (omega (arith, c.if-is_good.true)))
 
 pub returns-else-is_good : goal.returns-else-is_good
 returns-else-is_good c =
     part-slash c.args.rest.now c.in-Some.i c.bad_escape_len-n.result (Some c.escape_fault.result) c.line_fault-fault.result c.in-Some.ensures
-        (ne_eqb _ _ c.if-rest-i-eq34.false)
+    (ne_eqb _ _ c.if-rest-i-eq34.false)
     c.bad_escape_len-n.ensures.value c.bad_escape_len-n.ensures.some c.bad_escape_len-n.ensures.within c.line_fault-fault.ensures
     (λ last. bad-escape (or_last c.line_fault-fault.result last) c.escape_fault.result
-        (take (length c.args.rest.now - c.in-Some.i) (drop c.in-Some.i c.args.rest.now)) c.escape_len-is_good.result c.escape_len-is_good.ensures.value
-        (omega (arith, c.if-is_good.false)) c.escape_fault.ensures)
+    (take (length c.args.rest.now - c.in-Some.i) (drop c.in-Some.i c.args.rest.now)) c.escape_len-is_good.result c.escape_len-is_good.ensures.value
+    (omega (arith, c.if-is_good.false)) c.escape_fault.ensures)

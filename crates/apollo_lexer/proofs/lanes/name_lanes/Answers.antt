@@ -14,7 +14,7 @@ returns c =
     (zip2_of_maps bit_and _ _ v
     (zip2_of_maps bit_and _ _ v
     (zip2_of_maps (λ a b. cond (leb a b) 255 0) _ _ v (splat_is_map v 16 26 long)
-        (zip2_of_maps _ _ _ v (zip2_splat {Y = ℕ} _ v 16 32 long) (splat_is_map v 16 97 long)))
+    (zip2_of_maps _ _ _ v (zip2_splat {Y = ℕ} _ v 16 32 long) (splat_is_map v 16 97 long)))
     (zip2_of_maps (λ a b. cond (leb a b) 255 0) _ _ v (splat_is_map v 16 10 long) (zip2_splat {Y = ℕ} _ v 16 48 long)))
     (zip2_splat {Y = ℕ} _ v 16 95 long))
     c.first_set.ensures refl

@@ -13,4 +13,4 @@ range_from-requires c = λ some.
 pub range_from-requires-then-first-eq46 : goal.range_from-requires-then-first-eq46
 range_from-requires-then-first-eq46 c = λ some.
     point-boundary c.args.source.now c.as_bytes-bytes.result.now c.in-Some.others.now c.in-Some.first.now c.as_bytes-bytes.ensures.value
-        c.in-Some.ensures.cases.0 c.if-first-eq46.true c.utf8.source
+    c.in-Some.ensures.cases.0 c.if-first-eq46.true c.utf8.source

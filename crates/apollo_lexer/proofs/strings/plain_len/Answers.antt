@@ -14,4 +14,4 @@ loop-n-preserved c =
 pub returns-then-k-lt-LANES-clause-value : goal.returns-then-k-lt-LANES-clause-value
 returns-then-k-lt-LANES-clause-value c =
     sixteen-end is_plain_string_character c.args.bytes.now c.loop-n.n c.plain_lanes-k.result (omega arith) c.loop-n.invariant.so_far c.plain_lanes-k.ensures
-        (omega arith)
+    (omega arith)

@@ -13,15 +13,15 @@ returns-then-rest-i-eq34 c = quoted-last c.args.rest.now c.plain_len-i.result c.
 pub returns-then-rest-i-ne92 : goal.returns-then-rest-i-ne92
 returns-then-rest-i-ne92 c =
     quoted-broken c.args.rest.now c.plain_len-i.result c.plain_len-i.ensures.value (omega arith) (ne_eqb _ _ c.if-rest-i-eq34.false)
-        (ne_eqb _ _ c.if-rest-i-ne92.true)
+    (ne_eqb _ _ c.if-rest-i-ne92.true)
 
 pub returns-then-n-eq0 : goal.returns-then-n-eq0
 returns-then-n-eq0 c =
     quoted-bad c.args.rest.now c.plain_len-i.result c.escape_len-n.result c.plain_len-i.ensures.value
-        (ne_eqb _ _ c.if-rest-i-eq34.false) c.escape_len-n.ensures.value c.if-n-eq0.true
+    (ne_eqb _ _ c.if-rest-i-eq34.false) c.escape_len-n.ensures.value c.if-n-eq0.true
 
 pub returns-else-n-eq0 : goal.returns-else-n-eq0
 returns-else-n-eq0 c =
     quoted-inner c.args.rest.now c.plain_len-i.result c.escape_len-n.result c.plain_len-i.ensures.value (omega arith)
-        (ne_eqb _ _ c.if-rest-i-eq34.false) c.escape_len-n.ensures.value
+    (ne_eqb _ _ c.if-rest-i-eq34.false) c.escape_len-n.ensures.value
     (omega (arith, c.if-n-eq0.false)) c.escape_len-n.ensures.within

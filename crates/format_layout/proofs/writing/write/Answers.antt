@@ -15,9 +15,11 @@ loop-item-init g c =
 pub write-requires : goal.write-requires
 write-requires g c =
     let given : answers_left c.loop-item.item-iterator ≡ answer_of c.in-Some.item ∷ answers_left c.next.new.self = c.in-Some.ensures.steps.answers in
-    token-text _ _ _ _ _ (subst (λ item. answers_left c.loop-item.item-iterator ≡ answer_of item ∷ answers_left c.next.new.self) c.in-Ok.is given) (answers-are c.loop-item.item-iterator)
+    token-text _ _ _ _ _ (subst (λ item. answers_left c.loop-item.item-iterator ≡ answer_of item ∷ answers_left c.next.new.self) c.in-Ok.is given)
+    (answers-are c.loop-item.item-iterator)
 
 pub loop-item-preserved-in_ok-write : goal.loop-item-preserved-in_ok-write
 loop-item-preserved-in_ok-write g c =
     let given : answers_left c.loop-item.item-iterator ≡ answer_of c.in-Some.item ∷ answers_left c.next.new.self = c.in-Some.ensures.steps.answers in
-    writes-token _ _ _ _ _ _ _ _ _ _ (subst (λ item. answers_left c.loop-item.item-iterator ≡ answer_of item ∷ answers_left c.next.new.self) c.in-Ok.is given) c.in_ok-write.ensures c.loop-item.invariant
+    writes-token _ _ _ _ _ _ _ _ _ _ (subst (λ item. answers_left c.loop-item.item-iterator ≡ answer_of item ∷ answers_left c.next.new.self) c.in-Ok.is given)
+    c.in_ok-write.ensures c.loop-item.invariant

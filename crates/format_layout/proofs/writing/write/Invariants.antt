@@ -7,4 +7,5 @@ use Rattle.format_layout.proofs.writing.write.Given as goal
 
 -- the tokens so far are written, and those that are left are to be
 abbrev pub invariant-loop-item : goal.invariant-loop-item
-invariant-loop-item g l = Writes (string_bytes l.writer.layout.text) l.writer.layout.edge (kept_answers (answers_left l.item-iterator)) (Kept (items_of l.fn.source))
+invariant-loop-item g l = Writes (string_bytes l.writer.layout.text) l.writer.layout.edge (kept_answers (answers_left l.item-iterator))
+    (Kept (items_of l.fn.source))

@@ -4,13 +4,13 @@ use Rattle.gqlcst_run.proofs.parsing.parse.Goals as goal
 
 pub returns : goal.returns
 returns g c =
-    let source = c.parser.ensures.source in
+    let source = c.within.ensures.source in
     let parsed = c.in_ok-tree.ensures.promise in
-    let sound = rw (source, c.parser.ensures.recursion, c.parser.ensures.tokens) at parsed.sound in
-    let accepts = rw (source, c.parser.ensures.recursion, c.parser.ensures.tokens) at parsed.accepts in
+    let sound = rw (source, c.within.ensures.recursion_limit, c.within.ensures.token_limit) at parsed.sound in
+    let accepts = rw (source, c.within.ensures.recursion_limit, c.within.ensures.token_limit) at parsed.accepts in
     record {
       cut = rw source at parsed.cut;
-      reported = rw (source, c.parser.ensures.tokens) at parsed.errors;
+      reported = rw (source, c.within.ensures.token_limit) at parsed.errors;
       ascii = rw source at parsed.ascii;
       accepted = λ none. record { tree = _; sentence = (sound none).0; within = (sound none).1 };
       accepts = λ a. accepts a.tree a.sentence a.within;

@@ -6,10 +6,12 @@ use Rattle.gqlfmt_run.proofs.program.write_page.Goals as goal
 
 pub returns-in_err-write_all-in-Help-clause-err : goal.returns-in_err-write_all-in-Help-clause-err
 returns-in_err-write_all-in-Help-clause-err g c =
-    first-broken c.from_residual.result c.in_err-write_all-in-Help.field-0.0 (page_text c.args.page) USAGE.now HELP.now c.as_bytes.result.now _ _ (ap page_text c.in-Help.is)
+    first-broken c.from_residual.result c.in_err-write_all-in-Help.field-0.0 (page_text c.args.page) USAGE.now HELP.now c.as_bytes.result.now _ _
+    (ap page_text c.in-Help.is)
     c.as_bytes.ensures.value c.in_err-write_all-in-Help.ensures.err
 
 pub returns-in_ok-write_all-in-Help-clause-err : goal.returns-in_ok-write_all-in-Help-clause-err
 returns-in_ok-write_all-in-Help-clause-err g c =
-    second-broken c.write_all-in-Help.result (page_text c.args.page) USAGE.now HELP.now c.as_bytes.result.now c.as_bytes-in-Help.result.now _ _ _ (ap page_text c.in-Help.is)
+    second-broken c.write_all-in-Help.result (page_text c.args.page) USAGE.now HELP.now c.as_bytes.result.now c.as_bytes-in-Help.result.now _ _ _
+    (ap page_text c.in-Help.is)
     c.as_bytes.ensures.value c.in_ok-write_all-in-Help.ensures.ok c.as_bytes-in-Help.ensures.value c.write_all-in-Help.ensures.err

@@ -10,7 +10,7 @@ returns-in_err-low c =
 pub returns-then-is_pair : goal.returns-then-is_pair
 returns-then-is_pair c =
     pair-escape c.args.bytes.now c.args.value c.in_ok-low.low c.pair.result c.requires.backslash c.requires.fixed c.in_default.ensures.value
-        c.in_ok-low.ensures.value
+    c.in_ok-low.ensures.value
     (sym c.is_pair.ensures ∙ c.if-is_pair.true) c.pair.ensures
 
 pub returns-else-is_pair : goal.returns-else-is_pair

@@ -15,21 +15,26 @@ last_up_to-mark-requires-clause-ordered g c = rw c.as_slice.ensures.value (marks
 pub overflow_mul-mark : goal.overflow_mul-mark
 overflow_mul-mark g c =
     let same : c.as_bytes-bytes.result.now ≡ c.args.self.now = c.as_bytes-bytes.ensures.value ∙ c.self.view_is in
-    omega (arith, (mark-units _ _ _ _ c.last_up_to-mark.result c.self.view_is c.as_slice.ensures.value c.self.invariant.marks
-        c.last_up_to-mark.ensures.within).1, ap length same, c.as_bytes-bytes.type_inv.0)
+    omega (
+      arith,
+      (mark-units _ _ _ _ c.last_up_to-mark.result c.self.view_is c.as_slice.ensures.value c.self.invariant.marks
+          c.last_up_to-mark.ensures.within).1,
+      ap length same,
+      c.as_bytes-bytes.type_inv.0,
+    )
 
 pub returns-then-mark-end-clause-fits : goal.returns-then-mark-end-clause-fits
 returns-then-mark-end-clause-fits g c =
     let mark = mark-units _ _ _ _ c.last_up_to-mark.result c.self.view_is c.as_slice.ensures.value c.self.invariant.marks c.last_up_to-mark.ensures.within in
     whole-part-fits c.args.self.now c.args.start c.args.end (c.last_up_to-mark.result * 64)
-        (c.units_before.result + c.args.column) c.args.column c.units_before.result
+    (c.units_before.result + c.args.column) c.args.column c.units_before.result
     (omega arith) (omega arith) (omega (arith, mark.0, c.last_up_to-mark.ensures.up_to)) c.units_before.ensures refl
 
 pub returns-clause-fits : goal.returns-clause-fits
 returns-clause-fits g c =
     let mark = mark-units _ _ _ _ c.last_up_to-mark.result c.self.view_is c.as_slice.ensures.value c.self.invariant.marks c.last_up_to-mark.ensures.within in
     let from = from-units c.args.self.now (c.last_up_to-mark.result * 64) c.args.start c.max-from.result
-        (c.units_before.result + c.args.column) c.max-from.ensures
+    (c.units_before.result + c.args.column) c.max-from.ensures
     (omega (arith, mark.0, c.last_up_to-mark.ensures.up_to)) (omega (arith, c.units_before.ensures)) in
     room-fits c.args.self.now c.as_bytes-bytes.result.now c.args.start c.args.end c.max-from.result c.args.column c.units_before.result c.units_before-2.result
     (c.units_before.result + c.args.column - c.units_before-2.result) c.fitting.result (record {
@@ -50,7 +55,7 @@ pub returns-clause-full : goal.returns-clause-full
 returns-clause-full g c =
     let mark = mark-units _ _ _ _ c.last_up_to-mark.result c.self.view_is c.as_slice.ensures.value c.self.invariant.marks c.last_up_to-mark.ensures.within in
     let from = from-units c.args.self.now (c.last_up_to-mark.result * 64) c.args.start c.max-from.result
-        (c.units_before.result + c.args.column) c.max-from.ensures
+    (c.units_before.result + c.args.column) c.max-from.ensures
     (omega (arith, mark.0, c.last_up_to-mark.ensures.up_to)) (omega (arith, c.units_before.ensures)) in
     room-full c.args.self.now c.as_bytes-bytes.result.now c.args.start c.args.end c.max-from.result c.args.column c.units_before.result c.units_before-2.result
     (c.units_before.result + c.args.column - c.units_before-2.result) c.fitting.result (record {

@@ -14,20 +14,28 @@ returns-in-Utf8-clause-names g c = λ cursor. (
     let start : ℕ = c.args.offset - c.place-place.result.column in
     let begin : line_start c.args.self.now c.args.offset ≡ c.args.offset - c.place-place.result.column = omega (arith, c.place-place.ensures.column) in
     let own : length (slice_range c.args.self.now (line_start c.args.self.now c.args.offset) c.args.offset)
-        ≡ c.place-place.result.column = omega (arith, c.place-place.ensures.column,
-        length-take (c.args.offset - line_start c.args.self.now c.args.offset) (drop (line_start c.args.self.now c.args.offset) c.args.self.now),
-        length-drop (line_start c.args.self.now c.args.offset) c.args.self.now) in
+    ≡ c.place-place.result.column = omega (
+      arith,
+      c.place-place.ensures.column,
+      length-take (c.args.offset - line_start c.args.self.now c.args.offset) (drop (line_start c.args.self.now c.args.offset) c.args.self.now),
+      length-drop (line_start c.args.self.now c.args.offset) c.args.self.now,
+    ) in
     let w : width c.args.encoding (slice_range c.args.self.now (line_start c.args.self.now c.args.offset) c.args.offset)
-        ≡ c.place-place.result.column =
-        ap (λ (e : PositionEncoding). width e (slice_range c.args.self.now (line_start c.args.self.now c.args.offset) c.args.offset)) c.in-Utf8.is ∙ own in
+    ≡ c.place-place.result.column =
+    ap (λ (e : PositionEncoding). width e (slice_range c.args.self.now (line_start c.args.self.now c.args.offset) c.args.offset)) c.in-Utf8.is ∙ own in
     named c.args.encoding c.args.self.now c.args.offset _ _ (subst IsUtf8 same c.as_bytes.ensures.utf8) c.requires cursor c.place-place.ensures.line
-    (omega (arith, w, length-take (c.args.offset - (c.args.offset - c.place-place.result.column))
-        (drop (c.args.offset - c.place-place.result.column) c.as_bytes.result.now),
-        length-drop (c.args.offset - c.place-place.result.column) c.as_bytes.result.now, ap length same)))
+    (omega (
+      arith,
+      w,
+      length-take (c.args.offset - (c.args.offset - c.place-place.result.column))
+          (drop (c.args.offset - c.place-place.result.column) c.as_bytes.result.now),
+      length-drop (c.args.offset - c.place-place.result.column) c.as_bytes.result.now,
+      ap length same,
+    )))
 
 pub returns-in-Utf16-clause-names : goal.returns-in-Utf16-clause-names
 returns-in-Utf16-clause-names g c = λ cursor. (
     let same : c.as_bytes.result.now ≡ c.args.self.now = c.as_bytes.ensures.value ∙ c.self.view_is in
     named c.args.encoding c.args.self.now c.args.offset _ _ (subst IsUtf8 same c.as_bytes.ensures.utf8) c.requires cursor c.place-place.ensures.line
     (c.column_in_utf16-column.ensures ∙ ap (λ (e : PositionEncoding). width e
-        (slice_range c.args.self.now (line_start c.args.self.now c.args.offset) c.args.offset)) (sym c.in-Utf16.is)))
+    (slice_range c.args.self.now (line_start c.args.self.now c.args.offset) c.args.offset)) (sym c.in-Utf16.is)))

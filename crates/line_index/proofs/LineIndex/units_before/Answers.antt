@@ -13,8 +13,12 @@ pub overflow_add-result : goal.overflow_add-result
 overflow_add-result g c =
     let same : c.as_bytes.result.now ≡ c.args.self.now = c.as_bytes.ensures.value ∙ c.self.view_is in
     let sum = before _ _ _ _ _ _ _ c.self.view_is c.as_bytes.ensures.value c.self.invariant.marks c.requires c.index.ensures c.utf16_len.ensures in
-    omega (arith, sum, units-small c.as_bytes.result.now c.args.offset c.as_bytes.ensures.utf8 c.as_bytes.type_inv.0,
-        ap (λ (t : List ℕ). utf16_len (take c.args.offset t)) same)
+    omega (
+      arith,
+      sum,
+      units-small c.as_bytes.result.now c.args.offset c.as_bytes.ensures.utf8 c.as_bytes.type_inv.0,
+      ap (λ (t : List ℕ). utf16_len (take c.args.offset t)) same,
+    )
 
 pub returns : goal.returns
 returns g c = before _ _ _ _ _ _ _ c.self.view_is c.as_bytes.ensures.value c.self.invariant.marks c.requires c.index.ensures c.utf16_len.ensures

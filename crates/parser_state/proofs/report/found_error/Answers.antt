@@ -16,5 +16,5 @@ returns g c =
     let text = c.«data».result.now in
     let words = ap (λ (w : Text). w ++ codes ", got " ++ text ++ []) c.description-words.ensures ∙ quoting-message c.args.message text c.requires in
     text-error c.args.message (lexeme_of c.args.found) c.in_ok-error.error _ text c.index-2.result
-        (ap is_end (sym c.kind.ensures) ∙ sym c.is_eof.ensures ∙ c.if-is_eof.false)
+    (ap is_end (sym c.kind.ensures) ∙ sym c.is_eof.ensures ∙ c.if-is_eof.false)
     c.«data».ensures words c.index-2.ensures c.in_ok-error.ensures.value

@@ -11,4 +11,4 @@ returns-in_err-range-clause-never c =
 pub returns-in-None-clause-none : goal.returns-in-None-clause-none
 returns-in-None-clause-none c =
     subst HasNoFrame (c.as_slice.ensures.value ∙ c.self.view_is) (subst (λ (o : Option (ℕ × ℕ)). IfNone o (HasNoFrame c.as_slice.result.now)) c.in-None.is
-        c.in_ok-range.ensures.none)
+    c.in_ok-range.ensures.none)

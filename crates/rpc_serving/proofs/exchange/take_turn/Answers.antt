@@ -21,9 +21,9 @@ returns-in-Some g c =
     subst (λ (body : List ℕ). EndsOnlyIf (AsksForEnd body) c.in_ok-reply-in-Ok-Some.reply) c.as_slice.ensures.value c.in_ok-reply-in-Ok-Some.ensures.ends in
     let taken : Takes g.S.Service.steps c.in-Ok-Some.body.items c.loop-body.service c.in_ok-reply-in-Ok-Some.reply c.handle.new.service =
     subst (λ (body : List ℕ). Takes g.S.Service.steps body c.loop-body.service c.in_ok-reply-in-Ok-Some.reply c.handle.new.service) c.as_slice.ensures.value
-        c.in_ok-reply-in-Ok-Some.ensures.takes in
+    c.in_ok-reply-in-Ok-Some.ensures.takes in
     finished (Takes g.S.Service.steps) _ _ _ _ _ _ _ _ _ _ _ c.loop-body.invariant begins replies ends
-        (sym c.in_ok-status-in-Ok-Some.ensures.status ∙ c.in-Some.is) taken c.in_ok-status-in-Ok-Some.ensures.said
+    (sym c.in_ok-status-in-Ok-Some.ensures.status ∙ c.in-Some.is) taken c.in_ok-status-in-Ok-Some.ensures.said
 
 pub loop-body-smaller-in-Ok-Some : goal.loop-body-smaller-in-Ok-Some
 loop-body-smaller-in-Ok-Some g c =
@@ -37,22 +37,22 @@ loop-body-preserved-in-Ok-Some g c =
     subst (λ (body : List ℕ). IsReplyTo body c.in_ok-reply-in-Ok-Some.reply) c.as_slice.ensures.value c.in_ok-reply-in-Ok-Some.ensures.replies in
     let taken : Takes g.S.Service.steps c.in-Ok-Some.body.items c.loop-body.service c.in_ok-reply-in-Ok-Some.reply c.handle.new.service =
     subst (λ (body : List ℕ). Takes g.S.Service.steps body c.loop-body.service c.in_ok-reply-in-Ok-Some.reply c.handle.new.service) c.as_slice.ensures.value
-        c.in_ok-reply-in-Ok-Some.ensures.takes in
+    c.in_ok-reply-in-Ok-Some.ensures.takes in
     goes_on (Takes g.S.Service.steps) _ _ _ _ _ _ _ _ _ _ c.loop-body.invariant begins replies
-        (sym c.in_ok-status-in-Ok-Some.ensures.status ∙ c.in_default.is) taken c.in_ok-status-in-Ok-Some.ensures.said
+    (sym c.in_ok-status-in-Ok-Some.ensures.status ∙ c.in_default.is) taken c.in_ok-status-in-Ok-Some.ensures.said
 
 pub returns-in-Ok-None : goal.returns-in-Ok-None
 returns-in-Ok-None g c =
     let none : HasNoFrame c.loop-body.frames = rw c.in-Ok-None.field-0-is at c.in-Ok-None.ensures.none in
     let kept : c.next_body.new.self ≡ c.loop-body.frames = rw c.in-Ok-None.field-0-is at c.in-Ok-None.ensures.kept in
     subst (λ (left : List ℕ). Exchange (Takes g.S.Service.steps) c.args.service.now c.args.frames.now c.loop-body.said.items left None c.loop-body.service)
-        (sym kept) (waiting (Takes g.S.Service.steps) _ _ _ _ _ c.loop-body.invariant none)
+    (sym kept) (waiting (Takes g.S.Service.steps) _ _ _ _ _ c.loop-body.invariant none)
 
 pub returns-then-is_empty : goal.returns-then-is_empty
 returns-then-is_empty g c =
     let never : NeverHasFrame c.loop-body.frames = c.in-Err.ensures.never (c.was_refused.ensures c.if-was_refused.false) in
     subst (λ (left : List ℕ). Exchange (Takes g.S.Service.steps) c.args.service.now c.args.frames.now c.loop-body.said.items left None c.loop-body.service)
-        (sym c.in-Err.ensures.err) (waiting (Takes g.S.Service.steps) _ _ _ _ _ c.loop-body.invariant (never_now _ never))
+    (sym c.in-Err.ensures.err) (waiting (Takes g.S.Service.steps) _ _ _ _ _ c.loop-body.invariant (never_now _ never))
 
 pub loop-body-smaller : goal.loop-body-smaller
 loop-body-smaller g c =
@@ -65,4 +65,4 @@ loop-body-preserved g c =
     let some : 0 < length c.next_body.new.self = some_left _ _ c.is_empty.ensures c.if-is_empty.false in
     let more : 0 < length c.loop-body.frames = omega (arith, some, ap length c.in-Err.ensures.err) in
     subst (LeadsTo (Takes g.S.Service.steps) c.args.service.now c.args.frames.now c.loop-body.said.items c.loop-body.service)
-        (ap (drop 1) (sym c.in-Err.ensures.err) ∙ sym c.skip_byte.ensures) (passes (Takes g.S.Service.steps) _ _ _ _ _ c.loop-body.invariant never more)
+    (ap (drop 1) (sym c.in-Err.ensures.err) ∙ sym c.skip_byte.ensures) (passes (Takes g.S.Service.steps) _ _ _ _ _ c.loop-body.invariant never more)

@@ -51,8 +51,10 @@ object_field-nested_value-requires g t c =
 pub nested_value-returns : goal.nested_value-returns
 unfolding body
 nested_value-returns g t c =
-    record { runs = call {p = NestedValue _} (deeper c.if-is_too_deep.ensures c.enter.ensures.step c.leave.ensures.step c.in_ok-value.ensures.runs skip);
-    budget = cc }
+    record {
+      runs = call {p = NestedValue _} (deeper c.if-is_too_deep.ensures c.enter.ensures.step c.leave.ensures.step c.in_ok-value.ensures.runs skip);
+      budget = cc;
+    }
 
 pub list_items-returns-then-is_ready : goal.list_items-returns-then-is_ready
 unfolding body

@@ -10,7 +10,7 @@ use Rattle.apollo_parser.proofs.parser.Parser.parse_selection_set.Goals as goal
 pub returns-clause-promise : goal.returns-clause-promise
 returns-clause-promise g c = IfOk-weaker c.run_selection_set.result _ _
     (λ t p. promise p selections_pass (root-sized _ _ _ kind.SELECTION_SET selections_paid p.run) selections (selections-sound _ _ _ _ p.last p.cut p.run)
-        (selections-accepted _ _ _ _ p.last p.cut p.run) (selections-report _ _ _ _ p.last p.cut p.run))
+    (selections-accepted _ _ _ _ p.last p.cut p.run) (selections-report _ _ _ _ p.last p.cut p.run))
     c.run_selection_set.ensures
 
 pub returns-clause-one_selection_set : goal.returns-clause-one_selection_set

@@ -37,7 +37,7 @@ of-requires g c =
     let made = subst (λ (s : State). RunsTypeRoot (flush s) c.type_root.new.p) c.in_ok-first.ensures.step c.in_ok-type_root.ensures.runs in
     let m = type-run (answers k source) r refl (from-unopened (answers k source) r _ c.start-p.ensures.unread made) in
     ap (λ j. one_of Types j || is_kind kind.ERROR j) (kind-is m.kind k r source m.run c.drop_pending.ensures.step c.in_ok-finished.ensures.tree)
-        ∙ type-rooted m.is
+    ∙ type-rooted m.is
 
 pub returns : goal.returns
 returns g c =

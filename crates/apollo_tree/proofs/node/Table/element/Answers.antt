@@ -11,7 +11,7 @@ use Rattle.apollo_tree.proofs.node.Table.element.Goals.{in-0, in_default}
 pub overflow_add-after_subtree : goal.overflow_add-after_subtree
 overflow_add-after_subtree c =
     let span = children-span _ _ c.args.self.is_table c.args.index c.requires c.record-record.result.size
-        (ap (λ (r : Record). r.size) c.record-record.ensures.value) in
+    (ap (λ (r : Record). r.size) c.record-record.ensures.value) in
     omega (arith, span.inside, c.record-record.ensures.len)
 
 pub overflow_sub-parent : goal.overflow_sub-parent
@@ -24,7 +24,7 @@ pub returns : goal.returns
 returns c =
     let table = c.args.self.is_table in
     let end = c.start_from-end.ensures ∙ end-is _ _ table c.args.index c.requires _ c.record-record.result.size
-        (ap (λ (r : Record). r.size) c.record-record.ensures.value) in
+    (ap (λ (r : Record). r.size) c.record-record.ensures.value) in
     let up = ap (λ (r : Record). r.to_parent) c.record-record.ensures.value in
     let parent : c.match-record.parent ≡ (element (table_place c.args.self c.args.index)).parent = elim c.match-record.branch [
       | in-0 w ↦ w.parent-is ∙ sym (no-index _ _ table _ c.requires c.record-record.result.to_parent up (omega arith))

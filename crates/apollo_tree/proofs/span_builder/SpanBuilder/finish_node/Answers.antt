@@ -11,8 +11,13 @@ use Rattle.apollo_tree.proofs.span_builder.SpanBuilder.finish_node.Goals as goal
 pub unwrap-place-requires : goal.unwrap-place-requires
 unwrap-place-requires g c =
     let h = (holds c.self.view_is c.self.invariant.0).parts in
-    c.pop.ensures.variant.1 (omega (arith, ap length h.places, can-finish-open c.args.self.now c.requires, length-open_places c.args.self.now.above,
-        c.self.inside.unfinished.ok.0))
+    c.pop.ensures.variant.1 (omega (
+      arith,
+      ap length h.places,
+      can-finish-open c.args.self.now c.requires,
+      length-open_places c.args.self.now.above,
+      c.self.inside.unfinished.ok.0,
+    ))
 
 pub overflow_sub-size : goal.overflow_sub-size
 overflow_sub-size g c =
@@ -32,9 +37,11 @@ set_size-requires-clause-fits g c =
 pub invariant_of-self : goal.invariant_of-self
 invariant_of-self g c =
     let held = holds c.self.view_is c.self.invariant.0 in
-    let i = innermost held c.pop.ensures.items c.unwrap-place.ensures in
-    (kept (moved (i.done (c.len.result - c.unwrap-place.result) (omega (arith, i.inside))) c.set_size.ensures refl refl)
-        (finish-here _ held.here held.above c.requires) (finish-above _ held.above), c.self.invariant.1)
+    let i = innermost held c.pop.ensures.items c.unwrap-place.ensures in (
+      kept (moved (i.done (c.len.result - c.unwrap-place.result) (omega (arith, i.inside))) c.set_size.ensures refl refl)
+          (finish-here _ held.here held.above c.requires) (finish-above _ held.above),
+      c.self.invariant.1,
+    )
 
 pub returns-clause-after : goal.returns-clause-after
 returns-clause-after g c =

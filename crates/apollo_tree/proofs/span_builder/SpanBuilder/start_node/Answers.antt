@@ -13,15 +13,19 @@ pub invariant_of-self : goal.invariant_of-self
 invariant_of-self g c =
     let h = holds c.self.view_is c.self.invariant.0 in
     let t = start-table c.args.kind c.self.inside.len c.to_parent.result c.checkpoint-place.result.place h.parts c.self.invariant.1
-        c.checkpoint-place.ensures.place c.to_parent.ensures.up in
-    (kept (moved t (c.if-push_in_place.ensures ∙ ap (λ r. c.self.inside.records ++ r ∷ []) c.node-node.ensures) c.push_reserved.ensures.items refl) tt (h.here,
-        h.above), c.self.invariant.1)
+    c.checkpoint-place.ensures.place c.to_parent.ensures.up in (
+      kept (moved t (c.if-push_in_place.ensures ∙ ap (λ r. c.self.inside.records ++ r ∷ []) c.node-node.ensures) c.push_reserved.ensures.items refl) tt (
+        h.here,
+        h.above,
+      ),
+      c.self.invariant.1,
+    )
 
 pub returns-then-push_in_place-clause-ok : goal.returns-then-push_in_place-clause-ok
 returns-then-push_in_place-clause-ok g c =
     let h = holds c.self.view_is c.self.invariant.0 in
     let t = start-table c.args.kind c.self.inside.len c.to_parent.result c.checkpoint-place.result.place h.parts c.self.invariant.1
-        c.checkpoint-place.ensures.place c.to_parent.ensures.up in
+    c.checkpoint-place.ensures.place c.to_parent.ensures.up in
     built-is (moved t (c.if-push_in_place.ensures ∙ ap (λ r. c.self.inside.records ++ r ∷ []) c.node-node.ensures) c.push_reserved.ensures.items refl)
 
 pub returns-then-push_in_place-clause-calls : goal.returns-then-push_in_place-clause-calls

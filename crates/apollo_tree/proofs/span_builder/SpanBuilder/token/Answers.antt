@@ -14,7 +14,7 @@ pub invariant_of-self : goal.invariant_of-self
 invariant_of-self g c =
     let h = holds c.self.view_is c.self.invariant.0 in
     let l : length c.joined-self-inside.result.bytes ≡ length c.self.inside.words.bytes + length c.args.text.now = ap length c.joined-self-inside.ensures
-        ∙ length-append c.self.inside.words.bytes c.args.text.now in (
+    ∙ length-append c.self.inside.words.bytes c.args.text.now in (
       kept (moved (leaf-table c.args.kind c.args.text.now c.self.inside.len c.to_parent-to_parent.result c.checkpoint.result.place h.parts c.self.invariant.1
           c.checkpoint.ensures.place c.to_parent-to_parent.ensures.up) (c.if-push_in_place.ensures
           ∙ ap (λ r. c.self.inside.records ++ r ∷ []) c.leaf-leaf.ensures) refl c.joined-self-inside.ensures) (sound-join _ _ h.here (c.utf8.text, tt)) h.above,
@@ -25,8 +25,8 @@ pub returns-then-push_in_place-clause-ok : goal.returns-then-push_in_place-claus
 returns-then-push_in_place-clause-ok g c =
     let h = holds c.self.view_is c.self.invariant.0 in
     built-is (moved (leaf-table c.args.kind c.args.text.now c.self.inside.len c.to_parent-to_parent.result c.checkpoint.result.place h.parts c.self.invariant.1
-        c.checkpoint.ensures.place c.to_parent-to_parent.ensures.up) (c.if-push_in_place.ensures
-        ∙ ap (λ r. c.self.inside.records ++ r ∷ []) c.leaf-leaf.ensures) refl c.joined-self-inside.ensures)
+    c.checkpoint.ensures.place c.to_parent-to_parent.ensures.up) (c.if-push_in_place.ensures
+    ∙ ap (λ r. c.self.inside.records ++ r ∷ []) c.leaf-leaf.ensures) refl c.joined-self-inside.ensures)
 
 pub returns-then-push_in_place-clause-calls : goal.returns-then-push_in_place-clause-calls
 returns-then-push_in_place-clause-calls g c = ap written (returns-then-push_in_place-clause-ok g c) ∙ written-leaf c.args.kind c.args.text.now c.args.self.now

@@ -9,5 +9,12 @@ pub element-requires : goal.element-requires
 element-requires g c =
     let t = c.root.result.table in
     let same : length (order (table_tree t)) ≡ length (order c.args.self.now) = ap (λ (p : Place). length (order p.whole)) c.root.ensures.place in
-    omega (arith, c.if-index-element_count.true, c.element_count.ensures, same, ap length t.is_table.table, length-records 0 0 (table_tree t),
-        length-order 0 0 None (table_tree t))
+    omega (
+      arith,
+      c.if-index-element_count.true,
+      c.element_count.ensures,
+      same,
+      ap length t.is_table.table,
+      length-records 0 0 (table_tree t),
+      length-order 0 0 None (table_tree t),
+    )

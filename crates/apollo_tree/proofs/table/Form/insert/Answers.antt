@@ -8,10 +8,10 @@ pub returns-in_ok-insert-in-Small-clause-rows : goal.returns-in_ok-insert-in-Sma
 returns-in_ok-insert-in-Small-clause-rows g c =
     ap (map of_small) c.in_ok-insert-in-Small.ensures.items
     ∙ packed-insert of_small (form_records c.args.self.now) c.in-Small.records.items c.args.index
-        (ap form_records c.in-Small.is) c.new.result c.args.row c.new.ensures
+    (ap form_records c.in-Small.is) c.new.result c.args.row c.new.ensures
 
 pub returns-in_ok-insert-in-Narrow-clause-rows : goal.returns-in_ok-insert-in-Narrow-clause-rows
 returns-in_ok-insert-in-Narrow-clause-rows g c =
     ap (map widened) c.in_ok-insert-in-Narrow.ensures.items
     ∙ packed-insert widened (form_records c.args.self.now) c.in-Narrow.records.items c.args.index
-        (ap form_records c.in-Narrow.is) c.new-in-Narrow.result c.args.row c.new-in-Narrow.ensures
+    (ap form_records c.in-Narrow.is) c.new-in-Narrow.result c.args.row c.new-in-Narrow.ensures

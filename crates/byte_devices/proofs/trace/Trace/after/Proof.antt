@@ -45,8 +45,13 @@ abbrev answer_row : RattleType
 answer_row = Result.the_row usize DeviceError.the_row
 
 abbrev stayed : Stays (f.ended).signature.params (f.ended).kept
-stayed = (stay_none_ref (0 ∷ []) tt (plain (λ _. trace.the_row)) yes, (stay_none_ref (1 ∷ []) tt (plain (λ _. answer_row)) yes,
-    (stay_none_slice (2 ∷ []) tt (plain (λ _. u8)) yes, tt)))
+stayed = (
+  stay_none_ref (0 ∷ []) tt (plain (λ _. trace.the_row)) yes,
+  (
+    stay_none_ref (1 ∷ []) tt (plain (λ _. answer_row)) yes,
+    (stay_none_slice (2 ∷ []) tt (plain (λ _. u8)) yes, tt),
+  ),
+)
 
 -- a trace of an account
 abbrev traced : Account → Trace
@@ -93,8 +98,10 @@ module _ {M : Type 1} {𝓤 : Ura M} (𝓛 : Logic 𝓤) (mem : Memory → SProp
 meets : {M : Type 1} {𝓤 : Ura M} (𝓛 : Logic 𝓤) (mem : Memory → SProp 𝓤) (run : Routine → Fun 𝓤) (𝓣 : Tables 𝓤 𝓛.H)
     → Meets 𝓛 f.signature (WpFn 𝓤 𝓛.H 𝓣.C 𝓣.Λ code.function) (f.spec 𝓛 mem run)
 meets {𝓤 = 𝓤} 𝓛 mem run 𝓣 =
-    walk_Meets 𝓛 f.ended stayed (Goes-none_ref 𝓛 3 (0 ∷ []) tt (plain (λ _. trace.the_row)) yes,
-        (Goes-none_ref 𝓛 3 (1 ∷ []) tt (plain (λ _. answer_row)) yes, (Goes-none_slice 𝓛 3 (2 ∷ []) tt (plain (λ _. u8)) yes, tt)))
+    walk_Meets 𝓛 f.ended stayed (
+      Goes-none_ref 𝓛 3 (0 ∷ []) tt (plain (λ _. trace.the_row)) yes,
+      (Goes-none_ref 𝓛 3 (1 ∷ []) tt (plain (λ _. answer_row)) yes, (Goes-none_slice 𝓛 3 (2 ∷ []) tt (plain (λ _. u8)) yes, tt)),
+    )
     (f.clauses 𝓛 mem run) (WpFn 𝓤 𝓛.H 𝓣.C 𝓣.Λ code.function) (WpFn-mono 𝓤 𝓛.H 𝓛.laws 𝓣 code.function) (walks 𝓛 mem run 𝓣.C 𝓣.Λ)
 
 pub after_spec : {M : Type 1} → stated.statement M

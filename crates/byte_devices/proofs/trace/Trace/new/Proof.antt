@@ -43,7 +43,7 @@ module _ {M : Type 1} {𝓤 : Ura M} (𝓛 : Logic 𝓤) (mem : Memory → SProp
       returns ! (look_at ! 0 refl) $ free_all ! refl $
       suffices ! _ (ends_at 𝓛 f.ended stayed (f.clauses 𝓛 mem run) bound (vstruct vnil) (record { bytes = []; stops = 0; failures = 0 }) tt tt) $
       says ! refl $ pure_i ! (made.the_row.own_val (record { bytes = []; stops = 0; failures = 0 }) (vstruct vnil ∷ [])) ((λ vss. (tt, tt)), tt)
-          ((tt, (refl, tt)), tt) $
+      ((tt, (refl, tt)), tt) $
       move ! (1 ∷ 2 ∷ 0 ∷ []) $ done !)
 
   walks : Walks 𝓛 f.ended stayed (WpFn 𝓤 H C Λ code.function) (f.clauses 𝓛 mem run)

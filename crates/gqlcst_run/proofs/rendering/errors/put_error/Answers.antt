@@ -9,7 +9,8 @@ returns g c =
     record {
       output = error_pieces c.index-start.result (length c.data-data.result.now) quoted.output c.shown.result.now;
       made =
-          error-form c.args.error.now c.message.result.now quoted.output c.shown.result.now c.index-start.result (length c.data-data.result.now) c.message.ensures quoted.made c.index-start.ensures
+          error-form c.args.error.now c.message.result.now quoted.output c.shown.result.now c.index-start.result
+          (length c.data-data.result.now) c.message.ensures quoted.made c.index-start.ensures
           (ap length c.data-data.ensures) c.shown.ensures;
       puts =
           puts_then _ _ _ _ _ c.put_str.ensures (puts_then _ _ _ _ _ c.put_place.ensures (puts_then _ _ _ _ _ c.put_str-2.ensures

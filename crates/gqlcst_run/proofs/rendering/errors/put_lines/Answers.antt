@@ -10,6 +10,7 @@ loop-error-preserved g c =
     let one = c.put_error.ensures in
     record {
       output = _;
-      made = lines-next IsErrorForm c.args.errors.now c.loop-error.error-index c.error-item.result _ one.output _ before.made c.error-item.is c.loop-error-test.true one.made refl;
+      made = lines-next IsErrorForm c.args.errors.now c.loop-error.error-index c.error-item.result _ one.output _ before.made c.error-item.is
+          c.loop-error-test.true one.made refl;
       puts = puts_then _ _ _ _ _ before.puts (puts_then _ _ _ _ _ one.puts c.put_str.ensures);
     }

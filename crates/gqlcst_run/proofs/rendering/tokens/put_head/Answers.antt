@@ -4,4 +4,5 @@ use Rattle.gqlcst_run.proofs.Forms.{head_put}
 use Rattle.gqlcst_run.proofs.rendering.tokens.put_head.Goals as goal
 
 pub returns : goal.returns
-returns g c = head_put _ _ _ _ _ _ _ _ _ c.as_bytes.ensures.value (c.digits.ensures ∙ ap decimal c.move_to.ensures) (c.digits-2.ensures ∙ ap decimal c.move_to-2.ensures) c.put_four.ensures c.put.ensures
+returns g c = head_put _ _ _ _ _ _ _ _ _ c.as_bytes.ensures.value (c.digits.ensures ∙ ap decimal c.move_to.ensures)
+    (c.digits-2.ensures ∙ ap decimal c.move_to-2.ensures) c.put_four.ensures c.put.ensures

@@ -18,7 +18,9 @@ returns g c =
       output = error_pieces c.index.result (length text) quoted.output text;
       made =
           answer-form e.is_limit e.text.now _ e.index error refl refl c.message_parts.ensures
-          (error-form error error.message quoted.output text c.index.result (length text) refl quoted.made c.index.ensures (ap length c.data-text.ensures.text ∙ ap length shown.0) (c.data-text.ensures.text ∙ shown.1));
+          (error-form error error.message quoted.output text c.index.result (length text) refl quoted.made c.index.ensures
+          (ap length c.data-text.ensures.text ∙ ap length shown.0) (c.data-text.ensures.text ∙ shown.1));
       puts =
-          puts_then _ _ _ _ _ c.put_head.ensures (puts_then _ _ _ _ _ c.put_str.ensures (puts_then _ _ _ _ _ quoted.puts (puts_then _ _ _ _ _ c.put_str-2.ensures c.put_str-3.ensures)));
+          puts_then _ _ _ _ _ c.put_head.ensures (puts_then _ _ _ _ _ c.put_str.ensures
+          (puts_then _ _ _ _ _ quoted.puts (puts_then _ _ _ _ _ c.put_str-2.ensures c.put_str-3.ensures)));
     }

@@ -14,6 +14,7 @@ returns g c =
     let other : token.kind ≡ Eof → ⊥ = λ e. let is : false ≡ true = rw (c.kind.ensures ∙ e) at c.if-eq.ensures in (cc) in
     record {
       output = place_text c.name.result.now start (start + length text) ++ (codes " " ++ quoted.made.form);
-      made = token-form token.kind token.text.now text c.name.result.now quoted.made.form token.index start other c.name.ensures c.data-text.ensures c.index.ensures quoted.made.stated_form;
+      made = token-form token.kind token.text.now text c.name.result.now quoted.made.form token.index start other c.name.ensures c.data-text.ensures
+          c.index.ensures quoted.made.stated_form;
       puts = puts_then _ _ _ _ _ c.put_head.ensures (rw quoted.made.joined at quoted.puts);
     }

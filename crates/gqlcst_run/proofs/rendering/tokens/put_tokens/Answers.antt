@@ -14,16 +14,19 @@ overflow_add-errors g c =
 
 pub loop-item-preserved : goal.loop-item-preserved
 loop-item-preserved g c =
-    item_put _ _ _ _ _ c.put_item-errors.result _ _ _ _ _ c.loop-item.invariant c.in-Some.ensures.steps.answers c.put_item-errors.ensures.puts c.put_str.ensures c.put_item-errors.ensures.count refl
+    item_put _ _ _ _ _ c.put_item-errors.result _ _ _ _ _ c.loop-item.invariant c.in-Some.ensures.steps.answers c.put_item-errors.ensures.puts c.put_str.ensures
+    c.put_item-errors.ensures.count refl
 
 pub returns-clause-lines : goal.returns-clause-lines
 returns-clause-lines g c =
     let before = c.loop-item.invariant in
-    let all = all-printed _ _ _ _ before.output (ap answers_left c.into_iter-item-iterator.ensures.into_iter_gives) c.in-None.ensures.steps.answers.0 before.made in
+    let all = all-printed _ _ _ _ before.output (ap answers_left c.into_iter-item-iterator.ensures.into_iter_gives) c.in-None.ensures.steps.answers.0
+    before.made in
     record { output = before.output; made = all.0; puts = before.puts }
 
 pub returns-clause-outcome : goal.returns-clause-outcome
 returns-clause-outcome g c =
     let before = c.loop-item.invariant in
-    let all = all-printed _ _ _ _ before.output (ap answers_left c.into_iter-item-iterator.ensures.into_iter_gives) c.in-None.ensures.steps.answers.0 before.made in
+    let all = all-printed _ _ _ _ before.output (ap answers_left c.into_iter-item-iterator.ensures.into_iter_gives) c.in-None.ensures.steps.answers.0
+    before.made in
     c.outcome_of.ensures ∙ ap outcome_of all.1

@@ -22,7 +22,7 @@ returns g c =
     record {
       runs = on_ok_weaker _
           (λ e. does (bumped c.args.kind c.args.self.now c.push_pending.new.self c.push_token.new.self c.read_on.new.self
-              (lexeme_of c.in-Some.current) c.«data».result.now is c.«data».ensures c.in_ok-push_pending.ensures.step c.in_ok-push_token.ensures.step e))
+          (lexeme_of c.in-Some.current) c.«data».result.now is c.«data».ensures c.in_ok-push_pending.ensures.step c.in_ok-push_token.ensures.step e))
           c.read_on.ensures.step;
       budget = c.read_on.ensures.budget ∙ c.push_token.ensures.budget ∙ c.push_pending.ensures.budget;
     }

@@ -14,7 +14,7 @@ use Rattle.parser_state.proofs.state.ParserState.leaf_node.Goals as goal
 pub push_leaf_node-requires-clause-leaf : goal.push_leaf_node-requires-clause-leaf
 push_leaf_node-requires-clause-leaf g c =
     fits-text c.args.node c.args.leaf (current_of c.self.inside.current_token) (lexeme_of c.in-Some.token) c.«data».result.now
-        (ap current_of c.in-Some.is) c.«data».ensures c.self.invariant.0
+    (ap current_of c.in-Some.is) c.«data».ensures c.self.invariant.0
     (subst (λ (s : State). true ≡ is_leaf_of c.args.node c.args.leaf s.current) (sym c.self.view_is) c.requires)
 
 pub push_leaf_node-requires-clause-len : goal.push_leaf_node-requires-clause-len
@@ -31,5 +31,5 @@ returns-clause-step g c =
     let anew = ap (λ (m : State). read_on m.items m) c.in_ok-push_leaf_node.ensures.step ∙ read-anew n.items n None in
     on_ok_weaker _
     (λ e. one-leaf c.args.node c.args.leaf c.args.self.now f n c.read_on.new.self
-        (lexeme_of c.in-Some.token) c.«data».result.now is c.«data».ensures c.in_ok-push_pending.ensures.step refl (e ∙ anew))
+    (lexeme_of c.in-Some.token) c.«data».result.now is c.«data».ensures c.in_ok-push_pending.ensures.step refl (e ∙ anew))
     c.read_on.ensures.step

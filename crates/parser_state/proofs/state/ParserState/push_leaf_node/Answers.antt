@@ -7,7 +7,7 @@ use Rattle.parser_state.proofs.state.ParserState.push_leaf_node.Goals as goal
 pub leaf_node-requires-clause-len : goal.leaf_node-requires-clause-len
 leaf_node-requires-clause-len g c =
     room-built _ _ _ _ _ (subst (λ (s : State). length c.args.text.now + text_length s.tree s.pending None s.items < 2 ^ 64)
-        (sym c.self.view_is) c.requires.len)
+    (sym c.self.view_is) c.requires.len)
 
 pub invariant_of-self : goal.invariant_of-self
 invariant_of-self g c = (c.self.invariant.0, after-failed_node c.args.node _ _ _ _ _ c.in_err-leaf_node.ensures.err c.self.invariant.1, c.self.invariant.2)

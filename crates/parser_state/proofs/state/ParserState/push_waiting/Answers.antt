@@ -20,5 +20,5 @@ invariant_of-self-in-len1 g c =
 pub invariant_of-self : goal.invariant_of-self
 invariant_of-self g c =
     let m = subst (λ (b : Building). text_length b (map pending_of c.self.inside.pending.items) (current_of c.self.inside.current_token)
-        (answers_left c.self.inside.reader.lexer) < 2 ^ 64) (sym c.in_err-token.ensures.err) c.self.invariant.1 in
+    (answers_left c.self.inside.reader.lexer) < 2 ^ 64) (sym c.in_err-token.ensures.err) c.self.invariant.1 in
     (c.self.invariant.0, after-drop _ _ _ _ _ c.clear.ensures.items m, c.self.invariant.2)

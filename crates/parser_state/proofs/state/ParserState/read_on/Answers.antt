@@ -37,8 +37,8 @@ loop-answer-preserved g c = (
 pub returns-in-None-clause-step : goal.returns-in-None-clause-step
 returns-in-None-clause-step g c =
     c.set_current.ensures.step ∙ sym (c.loop-answer.invariant.0 ∙ read-token _ c.next_answer.new.self c.in-Ok.token.kind c.in-Ok.token.text.now
-        c.in-Ok.token.index (rw c.in-Ok.is at (rw c.in-Some.is at c.next_answer.ensures.taken))
-        (sym c.in-None.is ∙ c.ignored.ensures ∙ ap ignored c.kind.ensures))
+    c.in-Ok.token.index (rw c.in-Ok.is at (rw c.in-Some.is at c.next_answer.ensures.taken))
+    (sym c.in-None.is ∙ c.ignored.ensures ∙ ap ignored c.kind.ensures))
 
 pub returns-clause-step : goal.returns-clause-step
 returns-clause-step g c = c.set_current-2.ensures.step ∙ sym (c.loop-answer.invariant.0 ∙ read_end _ c.next_answer.new.self c.in_default.ensures.taken)

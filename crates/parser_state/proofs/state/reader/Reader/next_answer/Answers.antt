@@ -25,8 +25,10 @@ invariant_of-self-else-is_none c =
     let is = c.ignored.ensures ∙ ap ignored c.kind.ensures in
     let m : ℕ = s.start.count + 2 * all_given s.lexer in
     let k = after-ignored s.ahead.is_known _ _ _ _ _ c.ignored.result _ _ m taken is c.if-is_none.ensures n s.within in
-    record { known = still-shown s.ahead.is_known _ _ _ (second-ignored _ _ _ _ _ c.ignored.result taken is c.if-is_none.ensures) s.known;
-        within = omega (arith, k, all) }
+    record {
+      known = still-shown s.ahead.is_known _ _ _ (second-ignored _ _ _ _ _ c.ignored.result taken is c.if-is_none.ensures) s.known;
+      within = omega (arith, k, all);
+    }
 
 pub invariant_of-self-in_default : goal.invariant_of-self-in_default
 invariant_of-self-in_default c =
