@@ -23,7 +23,7 @@ abbrev name_in : Option Place → Option Place
 name_in None = None
 name_in (Some p) = name_at p
 
--- a schema has no name; that of a fragment is in its FRAGMENT_NAME
+-- a schema has no name; a fragment's name is in its FRAGMENT_NAME
 abbrev pub definition_name : Definition → Option Place
 definition_name (SchemaDefinition n) = None
 definition_name (SchemaExtension n) = None

@@ -1,4 +1,4 @@
--- What the keyword of a definition says of the rules: their tests, one after the other, come to what it begins.
+-- What the keyword of a definition says of the rules: their tests, one after the other, choose the definition that it begins.
 use Rattle.std.proofs.Common.{◌≡◌, ◌∙◌, ℕ, Bool, true, false, ◌&&◌, ◌||◌, eqb, cond, List, [], ◌∷◌, Option, Some, None, refl, sym, ap, subst, inl, inr}
 use Rattle.std.specs.Prelude.{MatchOption, codes}
 use Rattle.std.specs.Str.{bytes_eq}
@@ -108,7 +108,7 @@ abbrev ladder : (TokenTest → Test) → List (SyntaxKind × Rule) → Rule → 
 ladder at [] none = none
 ladder at (w ∷ more) none = When (at (Keyword w.0)) w.1 (ladder at more none)
 
--- what they come to where the token is the keyword with the number
+-- their choice where the token is the keyword with the number
 abbrev choice : ℕ → List (SyntaxKind × Rule) → Rule → Rule
 choice n [] none = none
 choice n (w ∷ more) none = cond (eqb n (number w.0)) w.1 (choice n more none)

@@ -1,4 +1,4 @@
--- The search for a token among the words of directive locations: what it finds is what the rules ask for, and what they run.
+-- The search for a token among the words of directive locations: it finds the word that the rules test, and that they run.
 use Rattle.std.proofs.Common.{◌≡◌, ℕ, ◌+◌, ◌<◌, ◌≤◌, Bool, true, false, cond, ◌||◌, List, [], ◌∷◌, Option, Some, None, is_some, length, get_or, drop, refl, sym}
 use Rattle.std.proofs.Common.{◌∙◌, ap, subst, inl, inr, arith}
 use Rattle.std.specs.List.{find, list_all}
@@ -123,7 +123,7 @@ in_location {k = k} {s = s} {t = t} {u = u} e o h c =
     child {n = DirectiveLocation} o c (word-runs locations (Do (Note message.ExpectedLocation))
     (subst (λ x. Runs (chosen x (Do (Note message.ExpectedLocation))) t u) found h))
 
--- what the function of a location is proved by, and that of its node
+-- the rules that prove the function of a location, and the function of its node
 pub ruleset choosing = (sequence, found_location)
 
 pub ruleset opening = (sequence, is-open, still-open, in_location)

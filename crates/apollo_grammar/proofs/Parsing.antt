@@ -1,4 +1,4 @@
--- A function that does what another one does, where the rule of the one comes to that of the other.
+-- A function that does what another one does, where running the other's rule is a run of its own.
 use Rattle.std.specs.Prelude.{Result}
 use Rattle.std.proofs.lemmas.Result.{on_ok_weaker}
 use Rattle.parser_rules.specs.State.{State}

@@ -1,6 +1,7 @@
 // The limits of a reader and of a parser, as values.
 
-/// How much of a text is read.
+/// How much of a text is read. It has C's layout, since C passes it by value.
+#[repr(C)]
 #[derive(Clone, Copy, Debug, PartialEq, Eq)]
 pub struct Limits {
     /// How deep selection sets, list types and values may nest.

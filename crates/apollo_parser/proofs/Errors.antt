@@ -146,7 +146,7 @@ message-begins : (m : Message) (found : Found) → begins_limit (message_text m 
 message-begins message.UnexpectedEof found = refl
 message-begins _ found = refl
 
--- what an error is about, by what its report found
+-- the subject of an error, by the finding of its report
 abbrev subject_of : Found → Subject
 subject_of (at_text text) = of_text text
 subject_of at_end = of_end
@@ -165,7 +165,7 @@ pub token-limit-error : (n : ℕ) (r : Report) (d : Diagnostic) → r ≡ token_
 token-limit-error n r d e h = let i : IsErrorOf (token_limit_report n) d = subst (λ (x : Report). IsErrorOf x d) e h in
     record { subject = subject-limit d i.subject; message = i.message }
 
--- which is not that of the recursion limit
+-- which is not the recursion limit's
 pub no-recursion : (n : ℕ) (r : Report) (d : Diagnostic) → r ≡ token_limit_report n → IsErrorOf r d → IsRecursionLimit d → ⊥
 no-recursion n r d e h i = true≢false (sym (recursion-said r d h i) ∙ ap is_recursion_limit e)
 
@@ -214,7 +214,7 @@ any-said P rs ds r h f z = on h.before ds (subst (λ (all : List Report). AllZip
     on (x ∷ before) [] z = absurd z
     on (x ∷ before) (d ∷ ds) z = let (i, e, l, s, p) = on before ds z.1 in (suc i, e, omega (arith, l), s, p)
 
--- one of a limit has that of a limit
+-- a limit's error has a limit for its subject
 pub any-limit : (rs : List Report) (ds : List Diagnostic) → AllZip IsErrorOf rs ds → Limited rs → Any IsLimit ds
 any-limit rs ds z (r, e, h) = any-said IsLimit rs ds r h (λ d i. subject-limit d (i.subject ∙ e)) z
 
@@ -222,7 +222,7 @@ subject-here : (b : Bool) (s : Subject) (text : Text) → found_of s ≡ (if b t
 subject-here true s text e = subject-is s at_end e
 subject-here false s text e = subject-is s (at_text text) e
 
--- and one of a token that of its text
+-- and a token's error has its text
 pub fault-text : (m : Message) (x : Lexeme) (d : Diagnostic) → is_end x.kind ≡ false → IsErrorOf (fault_report m x) d → d.subject ≡ of_text x.text
 fault-text m x d i h = subject-is d.subject (at_text x.text) (h.subject ∙ ap (λ (b : Bool). if b then at_end else at_text x.text) i)
 

@@ -1,4 +1,4 @@
--- What a run of the document's rule over the items of a text comes to, and so what a parse promises.
+-- What follows from a run of the document's rule over the items of a text, and so what a parse promises.
 use Rattle.std.specs.Str.{IsAscii}
 use Rattle.std.specs.List.{Any, All, list_all}
 use Rattle.document_grammar.specs.Tree.{Tree}
@@ -125,7 +125,7 @@ module _ {source : List ℕ} {max_depth max_items : ℕ} {t : Parsed} (p : ByRul
   abbrev xs : List Answer
   xs = answers max_items source
 
-  -- its run: all is read, the answers come to an end, and the root is open
+  -- its run: all is read, the answers end, and the root is open
   read : s.items ≡ []
   read = run-read max_items max_depth source s p.cut p.run
 

@@ -1,4 +1,4 @@
--- What a run of a root's rule over the items of a text comes to, and so what the parse of a part of a document promises.
+-- What follows from a run of a root's rule over the items of a text, and so what the parse of a part of a document promises.
 use Rattle.std.proofs.Common.{◌≡◌, ◌≢◌, ℕ, ◌+◌, ◌*◌, ◌^◌, ◌<◌, ◌≤◌, arith, min, None, List, [], ◌∷◌, ◌++◌, length, map, take, drop, refl, sym, ap, ◌∙◌, subst}
 use Rattle.std.proofs.Common.{append_assoc, append-nil}
 use Rattle.std.specs.Str.{IsAscii, IsUtf8}

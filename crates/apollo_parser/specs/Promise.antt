@@ -35,7 +35,7 @@ pub record Promise (source : Text) (max_depth max_items : ℕ) (t : Parsed) : Ty
   pub sound : t.errors ≡ [] → Sentence source (bare (tree_of t.tree)) document × Within source (bare (tree_of t.tree)) max_depth max_items
   -- a sentence within both limits has no errors
   pub accepts : (u : Tree) → Sentence source u document → Within source u max_depth max_items → t.errors ≡ []
-  -- without errors, there is no other derivation, and it nests as deep as was asked for
+  -- without errors, there is no other derivation, and it nests as deep as `high` says
   pub only_derivation : t.errors ≡ [] → OnlyDerivation (items_of source) (bare (tree_of t.tree)) × (t.recursion_limit.high ≡ nest (bare (tree_of t.tree)))
   -- a sentence of the first profile has no errors either, and the tree is its derivation
   pub still_a_sentence : (u : Tree) → FirstSentence source u document → Within source u max_depth max_items → (t.errors ≡ []) × (bare (tree_of t.tree) ≡ u)
@@ -53,15 +53,15 @@ pub record Promise (source : Text) (max_depth max_items : ℕ) (t : Parsed) : Ty
   pub placed : t.errors ≡ [] → Placed (tree_of t.tree)
   -- ---- the limits
 
-  -- the recursion limit is what was set, and no more than one level above it was asked for; each level that was entered was left
+  -- the recursion limit is what was set, and no more than one level above it was tried; each level that was entered was left
   pub recursion : (t.recursion_limit.current ≡ 0) × (t.recursion_limit.limit ≡ max_depth) × (t.recursion_limit.high ≤ max_depth + 1)
-  -- with the recursion limit's error, one level more than the limit was asked for
+  -- with the recursion limit's error, one level more than the limit was tried
   pub limit_met : Any IsRecursionLimit t.errors → max_depth + 1 ≤ t.recursion_limit.high
-  -- where more than the limit was asked for, there is a limit's error: the recursion limit's, or the token limit's before it
+  -- where more than the limit was tried, there is a limit's error: the recursion limit's, or the token limit's before it
   pub past_limit : max_depth < t.recursion_limit.high → Any IsLimit t.errors
-  -- the greatest depth that was asked for covers what the tree nests, also where there are errors
+  -- the greatest depth that was tried covers what the tree nests, also where there are errors
   pub nesting : nest (tree_of t.tree) ≤ t.recursion_limit.high
-  -- the token limit is what was set; all items were asked for, or one more than is allowed
+  -- the token limit is what was set; all items were tried, or one more than is allowed
   pub tokens : (t.token_limit.limit ≡ max_items) × (t.token_limit.high ≡ min (length (items_of source)) (max_items + 1))
   -- ---- the errors
 
@@ -105,7 +105,7 @@ pub record PartPromise (sort : Sort) (source : Text) (max_depth max_items : ℕ)
   -- the items of which the other fields speak are a cut of the source
   pub cut : Cut source (items_of source)
   -- without errors, the tree's text is a sentence of the sort, and the tree without its ignored leaves is its derivation; it nests within the
-  -- limit, and as deep as was asked for
+  -- limit, and as deep as `high` says
   pub sound : t.errors ≡ [] → Sentence (text t.tree) (bare (tree_of t.tree)) sort × (nest (bare (tree_of t.tree)) ≤ max_depth)
       × (t.recursion_limit.high ≡ nest (bare (tree_of t.tree)))
   -- a sentence within both limits has no errors, and the tree is its derivation, so it holds every significant token

@@ -105,14 +105,14 @@ impl<R: Root, A: Allocator> SyntaxTree<R, A> {
         self.errors.iter()
     }
 
-    /// The recursion limit, and the greatest nesting that was asked for.
+    /// The recursion limit, and the greatest nesting that was tried.
     pub fn recursion_limit(&self) -> LimitTracker
         ensures { result ≡ self.now.recursion_limit }
     {
         self.recursion_limit
     }
 
-    /// The token limit, and the number of items that were asked for.
+    /// The token limit, and the number of items that were tried.
     pub fn token_limit(&self) -> LimitTracker
         ensures { result ≡ self.now.token_limit }
     {

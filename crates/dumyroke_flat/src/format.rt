@@ -2,7 +2,8 @@
 ghost use Rattle.dumyroke_flat.specs.Outcomes.{FormatOutcome};
 
 use crate::filling::{refused, written};
-use crate::rows::{ByteCount, Limits, status};
+use crate::rows::{ByteCount, status};
+use apollo_parser::Limits;
 use formatter::format;
 use std::alloc::Allocator;
 
@@ -21,7 +22,7 @@ pub fn format_into<A: Allocator + Copy>(
     let Ok(text) = std::str::from_utf8(source) else {
         return refused(status::NOT_UTF8);
     };
-    match format(alloc, text, limits.of_parser()) {
+    match format(alloc, text, limits) {
         Ok(Ok(document)) => written(formatted, document.as_str()),
         Ok(Err(_)) => refused(status::NOT_A_DOCUMENT),
         Err(_) => refused(status::NO_MEMORY),

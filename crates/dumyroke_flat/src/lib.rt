@@ -13,7 +13,8 @@ mod parse;
 mod rows;
 mod strings;
 
+pub use apollo_parser::Limits;
 pub use format::format_into;
 pub use parse::parse_into;
-pub use rows::{ByteCount, Counts, ElementRow, ErrorRow, Limits, status};
+pub use rows::{ByteCount, Counts, ElementRow, ErrorRow, status};
 pub use strings::string_value_into;

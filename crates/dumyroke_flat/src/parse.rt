@@ -4,8 +4,8 @@ ghost use Rattle.dumyroke_flat.specs.Outcomes.{Outcome, no_counts};
 
 use crate::elements::write_elements;
 use crate::errors::{ends_fit, message_bytes, write_errors, write_messages};
-use crate::rows::{Counts, ElementRow, ErrorRow, Limits, status};
-use apollo_parser::Parser;
+use crate::rows::{Counts, ElementRow, ErrorRow, status};
+use apollo_parser::{Limits, Parser};
 use std::alloc::Allocator;
 
 // Nothing was written.
@@ -35,7 +35,7 @@ fn parse_text<A: Allocator + Copy>(
     ensures { Outcome source.now limits.recursion limits.tokens (record { elements = elements.old; errors = errors.old; messages = messages.old })
         (record { elements = elements.new; errors = errors.new; messages = messages.new }) result }
 {
-    let Ok(tree) = Parser::within(source, limits.of_parser()).parse(alloc) else {
+    let Ok(tree) = Parser::within(source, limits).parse(alloc) else {
         return refused(status::NO_MEMORY);
     };
     let element_count = tree.element_count();

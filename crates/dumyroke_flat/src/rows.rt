@@ -1,6 +1,4 @@
 // The structs that C reads and writes.
-ghost use Rattle.std.specs.Prelude.{◌≡◌};
-
 use std::mem::size_of;
 
 /// How a call ended.
@@ -22,29 +20,6 @@ pub mod status {
 
     /// The text is no document within both limits.
     pub const NOT_A_DOCUMENT: u32 = 5;
-}
-
-/// Both limits of a parse, as C passes them.
-#[repr(C)]
-#[derive(Clone, Copy)]
-pub struct Limits {
-    /// How deep selection sets, list types and values may nest.
-    pub recursion: usize,
-    /// How many items of the text are read, ignored ones and the end among them.
-    pub tokens: usize,
-}
-
-impl Limits {
-    /// The same for the parser, whose struct has no layout that C knows.
-    pub(crate) fn of_parser(self) -> apollo_parser::Limits
-        ensures recursion { result.recursion ≡ self.recursion }
-        ensures tokens { result.tokens ≡ self.tokens }
-    {
-        apollo_parser::Limits {
-            recursion: self.recursion,
-            tokens: self.tokens,
-        }
-    }
 }
 
 /// A node or a leaf of a tree. Rows are in document order: the first child of a node is the row after it, and the next child after a child is at

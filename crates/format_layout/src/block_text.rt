@@ -82,7 +82,7 @@ fn push_value<A: Allocator>(
     text.push_str("\"\"\"")
 }
 
-/// How block strings are spelled in a line that is indented by so many spaces: in one line with the quotes if the value is short and has one line,
+/// How block strings are spelled in a line that is indented by a number of spaces: in one line with the quotes if the value is short and has one line,
 /// else with each line below the quotes.
 #[derive(Clone, Copy)]
 pub struct Indented {

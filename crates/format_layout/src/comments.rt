@@ -7,7 +7,7 @@ use document_grammar::SyntaxKind;
 /// What was met since the last token: white space, and comments.
 #[derive(Clone, Copy)]
 pub struct CommentState {
-    // where the last white space since the last token or comment begins, and how many line ends were in what white space was before it, two at most
+    // where the last white space since the last token or comment begins, and how many line ends were in the white space before it, two at most
     blank: Option<usize>,
     seen_line_ends: u8,
     // whether the last token or comment was a comment
@@ -117,7 +117,7 @@ impl CommentState {
         slot
     }
 
-    // What separates a comment in a line of its own from what is before it.
+    // What separates a comment in a line of its own from the text before it.
     fn separator_of_line(&self, parent: &Frame, line_ends: u8) -> Separator {
         let in_document = matches!(parent.inside, Inside::Document);
         let keeps_blank = match parent.previous {

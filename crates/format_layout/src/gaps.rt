@@ -19,7 +19,7 @@ pub struct Gaps<A: Allocator> {
     broken_count: u16,
 }
 
-// The end of so many lines, and the indent of a level.
+// The end of a number of lines, and the indent of a level.
 #[inline(always)]
 fn line(lines: u8, level: u16) -> Gap {
     Gap {

@@ -55,7 +55,7 @@ struct Walk<'t, E, A: Allocator> {
     elements: &'t E,
     source: &'t str,
     slots: Vec<Slot, A>,
-    // whether the last slot is that of a token still to come, fixed by a node that begins with it
+    // whether the last slot belongs to a token still to come, fixed by a node that begins with it
     is_pending: bool,
     // where the element begins that is met
     here: usize,
@@ -65,7 +65,7 @@ struct Walk<'t, E, A: Allocator> {
     // the number of the last slot in which a line ends, and of the last token of a list that has more than one line
     last_line: usize,
     last_long_token: usize,
-    // the width of the tokens of fields, without their selections, and of what is before each of them while no line ends
+    // the width of the tokens of fields, without their selections, and of the tokens before each of them while no line ends
     width: usize,
 }
 
@@ -93,7 +93,7 @@ impl<'t, E: Elements, A: Allocator + Copy> Walk<'t, E, A> {
         self.comments.line_ends(self.source, self.here)
     }
 
-    // What separates a child, which is no comment, from what is before it.
+    // What separates a child, which is no comment, from the text before it.
     #[inline(always)]
     fn separator(&self, parent: &Frame, child: SyntaxKind) -> Separator {
         match parent.previous {
@@ -149,7 +149,7 @@ impl<'t, E: Elements, A: Allocator + Copy> Walk<'t, E, A> {
         Ok(())
     }
 
-    // A token of so many characters, which is a leaf, or a node of this kind that holds nothing else.
+    // A token of a number of characters, which is a leaf, or a node of this kind that holds nothing else.
     #[inline(always)]
     fn token(
         &mut self,

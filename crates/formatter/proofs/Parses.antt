@@ -1,4 +1,4 @@
--- What a parse with errors comes to, and one without.
+-- What follows from a parse with errors, and from one without.
 use Rattle.std.proofs.Common.{◌≡◌, ℕ, ◌≤◌, true, false, List, [], ◌∷◌, length, refl, sym, ap, ◌∙◌, eqb, arith}
 use Rattle.std.proofs.lemmas.Bool.Decides.{nat_tests}
 use Rattle.lexical_grammar.specs.Answers.{usize_max}

@@ -1,4 +1,4 @@
--- What formatting a text comes to: another layout of the same document, or the errors of a text that is none.
+-- The outcome of formatting: another layout of the same document, or the errors of a text that is no document.
 use Rattle.std.specs.Prelude.{◌≡◌, ◌≢◌, ℕ, List, []}
 use Rattle.apollo_lexer.specs.Diagnostics.{Diagnostic}
 use Rattle.document_grammar.specs.Tree.{Tree}

@@ -1,4 +1,4 @@
-//! Formats a GraphQL document: the same document with another layout, or the errors of a text that is none.
+//! Formats a GraphQL document: the same document with another layout, or the errors of a text that is no document.
 //!
 //! `format` parses the text and writes it anew. It keeps significant tokens and comments, in their order; only block strings may be spelled
 //! anew, with the same value. `gqlls_run` and `dumyroke_flat` call it. `gqlfmt_run` calls it through the trait `DocumentFormatter`, so that it is proved
@@ -79,7 +79,7 @@ pub fn stays_within(text: &str, token_limit: usize) -> bool
 
 /// What formats documents.
 pub trait DocumentFormatter {
-    /// The document with another layout, or the errors of a text that is none within both limits, as the function `format` has it.
+    /// The document with another layout, or the errors of a text that is no document within both limits, as the function `format` has it.
     fn format<A: Allocator + Copy>(
         &self,
         alloc: A,

@@ -13,7 +13,7 @@ use gqlcst_run::{Limits, Mode, options, run};
 use std::env;
 use std::process::ExitCode;
 
-// What the words after the program's name ask for: nothing where they can't be had as texts.
+// The command in the words after the program's name: nothing where they can't be had as texts.
 fn request(rt: &HostRuntime) -> Option<(Mode, Limits)> {
     let words = env::args(rt).ok()?;
     let mut texts = Vec::new(rt.alloc());

@@ -12,7 +12,7 @@ use Rattle.gqlcst_run.specs.Paging.{Paged, Puts, PutsSome}
 use Rattle.gqlcst_run.proofs.Lines.{lines_none, lines-more}
 use Rattle.gqlcst_run.proofs.Pages.{puts_nothing, puts_then}
 
--- The first of all answers are printed, with so many errors among them, and these are left.
+-- The first of all answers are printed, with this number of errors among them, and these are left.
 pub record ArePrinted (all left : List Answer) (errors : ℕ) (output : List ℕ) : Type 0 where
   pub printed : List Answer
   pub joined : all ≡ printed ++ left
@@ -57,7 +57,7 @@ item_put all old left answer errors more after s t u v before comes one feed cou
   puts = puts_then s t v before.output (line one.output) before.puts (puts_then t u v one.output (10 ∷ []) one.puts feed);
 }
 
--- the printed form of a lexer's error is that of its answer
+-- the printed form of a lexer's error is its answer's
 pub error-form : (limit : Bool) (text form : List ℕ) (index : ℕ) (error : Diagnostic) → error.subject ≡ lex_subject limit text → error.index ≡ index
     → IsLexMessage limit text error.message
     → IsErrorForm error form → IsAnswerForm (error_answer limit text index) form

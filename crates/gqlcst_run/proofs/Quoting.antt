@@ -30,7 +30,7 @@ escape-other : (b : ℕ) (control : Bool) → debug_escape_letter b 34 ≡ 0 →
 unfolding debug_escape
 escape-other b control none test = rw (eq-eqb (debug_escape_letter b 34) 0 none, test)
 
--- the same of what is put
+-- the same of the bytes that are put
 pub letter_put : (b letter : ℕ) (s t : Paged) → letter ≡ debug_escape_letter b 34 → letter ≢ 0 → Puts s (92 ∷ letter ∷ []) t → Puts s (debug_escape 34 b) t
 letter_put b letter s t is some p =
     subst (λ (form : List ℕ). Puts s form t) (ap (λ (l : ℕ). 92 ∷ l ∷ []) is ∙ sym (escape-letter b (λ none. some (is ∙ none)))) p
@@ -196,7 +196,7 @@ quoted_put front text s t u p q = record {
 pub nothing_before : (stated : Option (List ℕ)) (s t : Paged) → PutsSome (IsFormAfter [] stated) s t → PutsSome (IsForm stated) s t
 nothing_before stated s t p = record { output = p.output; made = subst (IsForm stated) (sym p.made.joined) p.made.stated_form; puts = p.puts }
 
--- the form of a text in three parts is that of the parts, one after the other
+-- the form of a text in three parts is made of the forms of the parts, one after the other
 pub escaped-parts : (a b c f g h : List ℕ) → IsEscaped a f → IsEscaped b g → IsEscaped c h → IsEscaped (a ++ b ++ c) (f ++ g ++ h)
 escaped-parts a b c f g h x y z = λ ascii.
     let both = and_parts (list_all is_ascii (a ++ b)) (list_all is_ascii c) (sym (list_all-append is_ascii (a ++ b) c) ∙ ascii) in

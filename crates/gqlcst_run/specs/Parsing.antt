@@ -12,7 +12,7 @@ use Rattle.apollo_parser.specs.declared.Limits.{Limits}
 use Rattle.gqlcst_run.specs.declared.outcome.Outcome.{Outcome}
 use Rattle.gqlcst_run.specs.declared.outcome.Outcome.TheVariants.{Clean, Errors}
 
--- what a number of errors comes to
+-- the outcome for a number of errors
 abbrev pub outcome_of : ℕ → Outcome
 outcome_of zero = Clean
 outcome_of (suc n) = Errors (suc n)

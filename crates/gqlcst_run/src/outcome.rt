@@ -10,7 +10,7 @@ pub enum Outcome {
     Errors(usize),
 }
 
-/// What this many errors come to.
+/// The outcome for this many errors.
 pub fn outcome_of(errors: usize) -> Outcome
     ensures { result ≡ outcome_of errors }
 {

@@ -1,4 +1,4 @@
-// A page: what is written is collected in it, so that the writer is called seldom, and writing asks for no memory.
+// A page: what is written is collected in it, so that the writer is called seldom, and writing needs no memory.
 ghost use Rattle.std.specs.Prelude.{◌≡◌, ◌+◌, ◌≤◌, [], ◌++◌, length, take};
 ghost use Rattle.gqlcst_run.specs.Passing.{IsPassed};
 

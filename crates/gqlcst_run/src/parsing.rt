@@ -18,7 +18,7 @@ pub fn lexer(source: &str, limits: Limits) -> Lexer<'_>
     Lexer::new(source).with_limit(limits.tokens)
 }
 
-/// The tree of a text with its errors, and what their number comes to.
+/// The tree of a text with its errors, and the outcome for their number.
 pub fn parse<A: Allocator + Copy>(
     alloc: A,
     source: &str,

@@ -13,7 +13,7 @@ use byte_devices::{Fault, Sink, Source, read_to_end};
 use program_words::gqlcst::Mode;
 use std::alloc::{AllocError, Allocator};
 
-// Puts what a mode shows of a text, and answers what was found. Mode tokens needs no parse. All memory that it takes is asked for before the
+// Puts what a mode shows of a text, and answers what was found. Mode tokens needs no parse. All memory that it takes is reserved before the
 // first byte is put.
 #[tactic(auto, using(crate::proofs::Outputs::check_put, crate::proofs::Outputs::tokens_put, crate::proofs::Outputs::tree_put))]
 fn put_output<A: Allocator + Copy, W: Sink>(

@@ -1,4 +1,4 @@
--- What becomes of a file, by what the formatter makes of its text.
+-- What becomes of a file, by the formatter's result for its text.
 use Rattle.std.specs.Prelude.{◌≡◌, ◌≢◌, ℕ, Bool, true, false, List, Result, Ok, Err, string_bytes}
 use Rattle.gqlfmt_files.specs.declared.settling.Mode.{Mode}
 use Rattle.gqlfmt_files.specs.declared.settling.Mode.TheVariants.{Write}

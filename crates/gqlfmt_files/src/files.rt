@@ -7,10 +7,10 @@ use std::io;
 
 /// Files by their paths, to read and to replace.
 pub trait Files {
-    // what a call of `read` at a path comes to: the bytes that it gives, if it gives any, and what is left
+    // the outcome of a call of `read` at a path: the bytes that it gives, if it gives any, and what is left
     ghost reads: { Self → List ℕ → Option (List ℕ) → Self → Type 0 };
 
-    // what a call of `replace` at a path with a text comes to: whether it was done, and what is left
+    // the outcome of a call of `replace` at a path with a text: whether it was done, and what is left
     ghost replaces: { Self → List ℕ → List ℕ → Bool → Self → Type 0 };
 
     /// All bytes of the file at a path.

@@ -1,6 +1,6 @@
 //! When the program `gqlfmt` replaces a file.
 //!
-//! `gqlfmt_run` calls `settle` with what the formatter made of a file's text. It is a crate of its own since it is the one call that destroys something:
+//! `gqlfmt_run` calls `settle` with the formatter's result for a file's text. It is a crate of its own since it is the one call that destroys something:
 //! its contract can be read and proved alone. Nothing here knows what is formatted: errors are a type parameter, and so are the files.
 #![tactic(auto)]
 

@@ -1,4 +1,4 @@
--- What is written of a text, by what formatting makes of it.
+-- What is written of a text, by the formatter's result for it.
 use Rattle.std.proofs.Common.{◌≡◌, ◌≢◌, ℕ, List, [], inl, inr, sym, subst}
 use Rattle.apollo_parser.specs.declared.Limits.{Limits}
 use Rattle.gqlfmt_files.specs.declared.settling.Mode.{Mode}

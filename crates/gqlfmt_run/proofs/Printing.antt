@@ -34,7 +34,7 @@ broken-second front more old new b = record {
   ends = elim b.ends [ inl e ↦ inl (e ∙ ap failed (moved_moved old front b.written)) | inr e ↦ inr (e ∙ ap stopped (moved_moved old front b.written)) ];
 }
 
--- the same of what writing answers, by the bytes that it was given
+-- the same of the answer of writing, by the bytes that it was given
 pub first-broken : {T : Type 0} (r : Result T Fault) (fault : Fault) (text front more bytes : List ℕ) (old new : Account) → text ≡ front ++ more → bytes ≡ front
     → EndsWriting fault bytes old new
     → OnErr r (IsBroken text old new)

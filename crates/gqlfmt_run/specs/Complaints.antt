@@ -24,7 +24,7 @@ reason_of Write = codes "cannot write"
 abbrev pub Tells : List ℕ → Fault → Account → Account → Type 0
 Tells name fault old new = IsWritten (codes "gqlfmt: " ++ name ++ codes ": " ++ reason_of fault ++ codes "\n") old new ⊎ IsWritten NO_MEMORY.now old new
 
--- What is said by what came of the text: nothing where all is done, and why where it was not formatted. How errors are shown is not stated.
+-- What is said, by the outcome for the text: nothing where all is done, and why where it was not formatted. How errors are shown is not stated.
 abbrev pub Says : List ℕ → Result Outcome Fault → Account → Account → Type 0
 Says name (Ok Done) old new = new ≡ old
 Says name (Ok Found) old new = Unit {0}

@@ -10,7 +10,7 @@ use Rattle.gqlfmt_run.specs.Formatting.{IsFormatted, IsRefused, IsListed}
 abbrev pub input_name : List ℕ
 input_name = codes "<stdin>"
 
--- What is written of a text, by what came of it. In mode write that is the formatted text, and nothing of a text that is refused.
+-- What is written of a text, by the outcome for it. In mode write that is the formatted text, and nothing of a text that is refused.
 abbrev pub IsOutput : Mode → Limits → List ℕ → Outcome → List ℕ → Type 0
 IsOutput Write limits source Done output = IsFormatted limits source output
 IsOutput Check limits source Done output = IsFormatted limits source source × (output ≡ [])

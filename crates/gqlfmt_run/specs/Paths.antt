@@ -24,14 +24,14 @@ pub record Desk (S : Type 0) : Type 0 where
 
 -- the files, as a trait tells what its two calls do
 module _ {S : Type 0} (reads : S → List ℕ → Option (List ℕ) → S → Type 0) (replaces : S → List ℕ → List ℕ → Bool → S → Type 0) where
-  -- The file was asked to be replaced, in mode write, by the formatted text of what it holds, which is another text.
+  -- The file was asked to be replaced, in mode write, by the formatted text of its own, which is another one.
   pub record IsRewritten (mode : Mode) (limits : Limits) (path source : List ℕ) (done : Bool) (old new : S) : Type 0 where
     pub writes : mode ≡ Write
     pub text : List ℕ
     pub changed : IsChanged limits source text
     pub call : replaces old path text done new
 
-  -- What follows a read that gave this text, by what comes of the file. It is replaced only where it is rewritten, and it is shown on standard
+  -- What follows a read that gave this text, by the outcome for the file. It is replaced only where it is rewritten, and it is shown on standard
   -- output only where it has another layout in a mode that changes nothing.
   abbrev pub FollowsText : Mode → Limits → List ℕ → List ℕ → Result Outcome FileFault → S → Account → S → Account → Type 0
   FollowsText mode limits path source (Ok Done) old output new output' =

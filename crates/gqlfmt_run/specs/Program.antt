@@ -1,4 +1,4 @@
--- What a run of the program does, by what its words ask for.
+-- What a run of the program does, by the request in its words.
 use Rattle.std.specs.Prelude.{◌≡◌, ◌⊎◌, ℕ, Bool, List, [], ◌∷◌, ◌++◌, Option, Some, None, Result}
 use Rattle.byte_devices.specs.Devices.{Account, moved}
 use Rattle.byte_devices.specs.Writing.{IsBroken}

@@ -34,7 +34,7 @@ fn is_anchor(line: &str) -> bool {
     line.trim().len() > 2
 }
 
-// The index of a line of the old text that is the one of the new text so many lines further in all.
+// The index of a line of the old text that is the one of the new text this many lines further in all.
 fn match_at(old: &[&str], new: &[&str], distance: usize) -> Option<usize>
     ensures { IfSome result (λ removed. (removed < length old.now) × (distance - removed < length new.now) × (removed ≤ distance)) }
 {

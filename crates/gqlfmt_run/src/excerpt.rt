@@ -6,7 +6,7 @@ const BEFORE: usize = 60;
 
 const AFTER: usize = 100;
 
-// What stands for a character: U+FFFD for each control character but a tab.
+// The character that is shown for one: U+FFFD for each control character but a tab.
 fn shown(c: char) -> char {
     if c.is_control() && c != '\t' {
         '\u{FFFD}'
@@ -55,7 +55,7 @@ fn push_line<A: Allocator>(
     report.push_str(end)
 }
 
-// Below it so many marks, after what is before them.
+// Below it this number of marks, after the blanks before them.
 fn push_marks<A: Allocator>(
     report: &mut String<A>,
     margin: &str,

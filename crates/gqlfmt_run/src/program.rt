@@ -78,7 +78,7 @@ impl<A: Allocator + Copy, L: DocumentFormatter> Job<'_, A, L> {
     }
 }
 
-/// Does what the words after the program's name ask for, and gives the status: 0 when all is done, 1 when a text has errors or a mode that
+/// Carries out the request in the words after the program's name, and gives the status: 0 when all is done, 1 when a text has errors or a mode that
 /// changes nothing found a change, 2 when something could not be done or the program is not called so.
 pub fn run<A: Allocator + Copy, L: DocumentFormatter, R: Source, W: Sink, E: Sink, F: Files>(
     alloc: A,

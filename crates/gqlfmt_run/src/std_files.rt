@@ -81,7 +81,7 @@ fn store<R: rt::Files>(
 impl<'a, R: rt::Files + Alloc> Files for StdFiles<'a, R> {
     ghost use Rattle.std.specs.Prelude.{⊤};
 
-    // nothing is stated of what a file system does
+    // nothing is stated about the file system
     ghost reads = { λ old path given new. ⊤ };
 
     ghost replaces = { λ old path text done new. ⊤ };

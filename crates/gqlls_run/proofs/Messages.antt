@@ -1,4 +1,4 @@
--- What messages come to.
+-- The outcomes of messages.
 use Rattle.std.proofs.Common.{◌≡◌, ℕ, List, Option, Some, None, true, false, sym, ap, ◌∙◌, subst}
 use Rattle.std.specs.Prelude.{MatchOption, is_none, option_map}
 use Rattle.json.specs.Json.{Json}

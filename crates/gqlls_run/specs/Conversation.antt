@@ -1,4 +1,4 @@
--- What each message of a conversation comes to, by the Language Server Protocol 3.17.
+-- The outcome of each message of a conversation, by the Language Server Protocol 3.17.
 use Rattle.std.specs.Prelude.{◌≡◌, ◌≢◌, ℕ, ℤ, List, [], Option, Some, None, MatchOption, codes}
 use lib.IntN.{pos, neg_ℤ}
 use Rattle.byte_devices.specs.Devices.{Account}
@@ -73,7 +73,7 @@ Formats id params dialogue body =
     MatchOption (uri_in params) (LacksDocument id body)
     (λ uri. MatchOption (dialogue.documents uri) (LacksDocument id body) (λ content. IsFormattingOf id content body))
 
--- What a request comes to, by the stage and the method: the conversation begins, or the request is refused as `ServerNotInitialized`; it is shut
+-- The outcome of a request, by the stage and the method: the conversation begins, or the request is refused as `ServerNotInitialized`; it is shut
 -- down; or nothing changes, and a layout is the document's. After that each request is refused as `InvalidRequest`.
 pub record IsAsked (id : Json) (method : List ℕ) (params : Json) (reply : Reply) (old new : Dialogue) : Type 0 where
   pub initialize : old.stage ≡ New → method ≡ codes "initialize" → Initializes id params reply old new
@@ -149,7 +149,7 @@ pub record IsOther (method : List ℕ) : Type 0 where
   pub no_change : method ≢ codes "textDocument/didChange"
   pub no_close : method ≢ codes "textDocument/didClose"
 
--- What a notification comes to. Unless the conversation is running, only `exit` is heard.
+-- The outcome of a notification. Unless the conversation is running, only `exit` is heard.
 pub record IsHeard (method : List ℕ) (params : Json) (reply : Reply) (old new : Dialogue) : Type 0 where
   pub exits : method ≡ codes "exit" → Exits reply old new
   pub opens : old.stage ≡ Running → method ≡ codes "textDocument/didOpen" → Opens params reply old new
@@ -160,7 +160,7 @@ pub record IsHeard (method : List ℕ) (params : Json) (reply : Reply) (old new 
 
 -- ---- conversations
 
--- what a request, which has an id, or a notification comes to
+-- the outcome of a request, which has an id, or of a notification
 abbrev pub Steps : Dialogue → Option Json → List ℕ → Json → Reply → Dialogue → Type 0
 Steps old (Some id) method params reply new = IsAsked id method params reply old new
 Steps old None method params reply new = IsHeard method params reply old new

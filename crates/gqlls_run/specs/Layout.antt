@@ -48,7 +48,7 @@ IsResultOf encoding source (Some change) result = IsListOf encoding source chang
 
 -- ---- the result of `textDocument/formatting`
 
--- One edit, after which the client's text is a formatted text of what it was, as the client makes a change of that range.
+-- One edit, after which the client's text is a formatted text of the one before, as the client makes a change of that range.
 pub record IsEdited (content : Opened) (result : Json) : Type 0 where
   pub extent : PositionRange
   pub text : List ℕ

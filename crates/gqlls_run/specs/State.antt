@@ -20,6 +20,6 @@ contents documents name = option_map content_of (get_by_text documents name)
 abbrev pub dialogue_of : Server → Dialogue
 dialogue_of server = record { stage = server.stage; encoding = server.encoding; documents = contents server.documents }
 
--- the message takes the dialogue from that of the old server to that of the new
+-- the message takes the old server's dialogue to the new one's
 abbrev pub StepsOf : Server → Option Json → List ℕ → Json → Reply → Server → Type 0
 StepsOf old id method params reply new = Steps (dialogue_of old) id method params reply (dialogue_of new)

@@ -5,7 +5,7 @@ use editor_diagnostics::Places;
 use rpc_messages::Piece;
 use std::alloc::{AllocError, Global};
 
-// A word that may come next, and the protocol's number of what it is.
+// A word that may come next, and the protocol's number of its sort.
 #[derive(Clone, Copy)]
 struct Candidate<'t> {
     label: &'t str,
@@ -141,7 +141,7 @@ fn push_keywords(
     Ok(())
 }
 
-// What a name after a text would stand for.
+// What a name after a text would mean.
 fn name_after(alloc: Global, front: &str) -> Result<Option<NameKind>, AllocError> {
     match taken_after(alloc, front, "x")? {
         Some(taken) => Ok(taken.names),
@@ -149,7 +149,7 @@ fn name_after(alloc: Global, front: &str) -> Result<Option<NameKind>, AllocError
     }
 }
 
-// The protocol's number of what a name stands for.
+// The protocol's number of the sort of thing that a name means.
 fn name_number(kind: NameKind) -> usize {
     match kind {
         NameKind::Fragment => 3,

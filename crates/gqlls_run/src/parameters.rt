@@ -189,7 +189,7 @@ fn include_declaration(params: &Value<'_>) -> Option<bool> {
     params.get("context")?.get("includeDeclaration")?.as_bool()
 }
 
-/// Whether a search for references asks for the definition too.
+/// Whether a search for references wants the definition too.
 pub(crate) fn asks_for_definition(params: &Value<'_>) -> bool {
     include_declaration(params) == Some(true)
 }

@@ -46,7 +46,7 @@ const QUESTIONS: [(&str, Question); 10] = [
     ("textDocument/completion", Question::Completion),
 ];
 
-/// What a method asks for.
+/// The question of a method.
 pub(crate) fn question_of(method: &str) -> Option<Question> {
     for row in &QUESTIONS {
         if row.0 == method {

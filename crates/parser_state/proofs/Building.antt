@@ -35,7 +35,7 @@ pub root-is-open : (b : Building) → IsRoot b → IsOpen b
 unfolding IsOpen
 root-is-open b h = subst (λ above. is_free_in above ≡ true) (sym h.2) h.1
 
--- the text of what was built is that of the finished tree
+-- the text that was built is the finished tree's
 pub begins-with : (b : Building) (f : Forest) (source : List ℕ) → IsComplete b → b.here ≡ f → take (length (text f)) source ≡ text f
     → take (length (built_text b)) source ≡ built_text b
 begins-with b f source complete here h =

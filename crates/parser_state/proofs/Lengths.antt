@@ -129,7 +129,7 @@ unfolding text_length
 length-answer b ps o xs rest answer e = let n = ap (λ ys. length (answers_text ys)) e in
     omega (arith, n, length-append (answer_text answer) (answers_text rest))
 
--- what is built, with what waits, is a part of it
+-- the tree so far, with the waiting text, is a part of it
 length-built : (b : Building) (ps : List PendingToken) (o : Option Lexeme) (xs : List Answer)
     → length (built_text b) + pending_length ps ≤ text_length b ps o xs
 unfolding text_length

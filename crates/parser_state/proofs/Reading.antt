@@ -84,7 +84,7 @@ one_more leaves i d b c h e =
     rw add-one (ap {A = List PendingToken} (λ ys. add_all (map pending_of ys) b) (drop-cons leaves i d h)
     ∙ ap (λ x. add_all (map pending_of (drop (suc i) leaves)) x) (sym e))
 
--- ---- looking at what follows the current token
+-- ---- looking past the current token
 
 pub one-less : (answer : Answer) (xs ys : List Answer) → xs ≡ answer ∷ ys → length ys < length xs
 one-less answer xs ys e = let n = ap length e in omega (arith, n)

@@ -15,7 +15,7 @@ use Rattle.parser_rules.specs.State.{Report}
 use Rattle.parser_state.specs.Errors.{IsWorded, IsErrorOf}
 use Rattle.parser_state.specs.Found.{found_of}
 
--- an equation of texts, and of what a report is about
+-- an equation of texts, and of the subjects of reports
 text-had : (a b : Text) → ∥ a ≡ b ∥₁ → a ≡ b
 text-had a b h = elim (cases_Bool (pointwise nat_eq a b)) [
   | inl p ↦ (bytes_decides a b).0 p

@@ -1,4 +1,4 @@
--- The parser's word for what an error of the lexer is about.
+-- The parser's word for the subject of a lexer's error.
 use Rattle.apollo_lexer.specs.Diagnostics.{Subject, of_text, of_end, of_limit}
 use Rattle.parser_rules.specs.Messages.{Found, at_text, at_end, at_limit}
 

@@ -16,7 +16,7 @@ abbrev pub answer_length : Option Answer → ℕ
 answer_length None = 0
 answer_length (Some answer) = length (answer_text answer)
 
--- of what is built, what waits, the current token, and what is left
+-- of the tree so far, the waiting text, the current token, and the rest
 unfoldable pub text_length : Building → List PendingToken → Option Lexeme → List Answer → ℕ
 text_length tree pending current items = length (built_text tree) + pending_length pending + current_length current + length (answers_text items)
 

@@ -40,7 +40,7 @@ is_leaf_of kind.BOOLEAN_VALUE kind.true_KW now = is_word kind.true_KW now
 is_leaf_of kind.BOOLEAN_VALUE kind.false_KW now = is_word kind.false_KW now
 is_leaf_of _ _ now = false
 
--- nothing is read or built, and so many items may be cut
+-- nothing is read or built, and this number of items may be cut
 abbrev pub unread : List Answer → ℕ → ℕ → State
 unread items limit budget = record {
   items = items;

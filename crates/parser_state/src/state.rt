@@ -132,7 +132,7 @@ impl<'i, A: Allocator + Copy> ParserState<'i, A> {
         self.read_on()
     }
 
-    /// Reads the first token, where no root is open, and takes in what comes before it. The checkpoint is the place before all that is built.
+    /// Reads the first token, where no root is open, and takes in the items before it. The checkpoint is the place before all that is built.
     pub fn read_first(&mut self) -> Result<Checkpoint, AllocError>
         requires { self.old.tree ≡ nothing }
         ensures step { OnOk result (self.new ≡ state.flush (state.read_on self.old.items self.old)) }
@@ -152,7 +152,7 @@ impl<'i, A: Allocator + Copy> ParserState<'i, A> {
         self.reader.into_steps()
     }
 
-    /// Takes in what waits, and closes the root. The token limit is the lexer's, and the source is what it reads. The steps become those of the
+    /// Takes in the waiting items, and closes the root. The token limit is the lexer's, and the source is what it reads. The steps become those of the
     /// parse, whatever it answers.
     pub fn finish(
         self,

@@ -27,7 +27,7 @@ pub record Given : Type 0 where
 abbrev pub files_alone : List (List ℕ) → Given
 files_alone files = record { modes = []; limits = no_limits; files = files }
 
--- One option or one file, before what the other words give.
+-- One option or one file, before all that the other words give.
 abbrev pub with_mode : Mode → Given → Option Given
 with_mode mode given = Some (record given { modes = mode ∷ given.modes })
 
@@ -85,11 +85,11 @@ run_given given =
     option_and_then (λ mode. option_map (λ limits. record { mode = mode; limits = limits; files = given.files }) (limits_given given.limits))
     (at_most_once Write given.modes)
 
--- The run that the words ask for.
+-- The run of the words.
 abbrev pub run_of : List (List ℕ) → Option Run
 run_of words = option_and_then run_given (given_by words)
 
--- The page that the words ask for, whatever else they say.
+-- The page of the words, whatever else they say.
 abbrev pub page_of : List (List ℕ) → Option Page
 page_of [] = None
 page_of (word ∷ more) =
@@ -102,7 +102,7 @@ abbrev pub page_or_run : Option Page → Option Run → Option (Request Run)
 page_or_run (Some page) run = Some (Print page)
 page_or_run None run = option_map Format run
 
--- What the words ask for: nothing where the program is not called so.
+-- The request of the words: nothing where the program is not called so.
 abbrev pub request_of : List (List ℕ) → Option (Request Run)
 request_of words = page_or_run (page_of words) (run_of words)
 

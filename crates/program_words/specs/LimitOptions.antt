@@ -12,7 +12,7 @@ pub record GivenLimits : Type 0 where
 abbrev pub no_limits : GivenLimits
 no_limits = record { recursions = []; tokens = [] }
 
--- an option's name and number, before what other words give
+-- an option's name and number, before all that other words give
 abbrev pub with_number : List ℕ → GivenLimits → ℕ → Option GivenLimits
 with_number name given n =
     if bytes_eq name (codes "--recursion") then Some (record { recursions = n ∷ given.recursions; tokens = given.tokens })

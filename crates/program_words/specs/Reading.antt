@@ -27,7 +27,7 @@ abbrev pub IsSetLimit : SetLimits → (GivenLimits → Option GivenLimits) → O
 IsSetLimit old with_option (Some new) = (given : GivenLimits) → option_and_then (limits_after old) (with_option given) ≡ limits_after new given
 IsSetLimit old with_option None = (given : GivenLimits) → option_and_then (limits_after old) (with_option given) ≡ None
 
--- what the words of `gqlfmt` ask for that gave these settings and files, and then more
+-- the run of words of `gqlfmt` that gave these settings and files, and then more
 abbrev pub run_after : Settings → List (List ℕ) → Given → Option Run
 run_after settings files given = run_given (record {
   modes = option_to_list settings.mode ++ given.modes;

@@ -40,7 +40,7 @@ fn limits_after(set: SetLimits, words: &[&str]) -> Option<Limits>
     }
 }
 
-/// What the words after the program's name ask for: a mode, and then options in any order, each at most once.
+/// The command in the words after the program's name: a mode, and then options in any order, each at most once.
 pub fn options(words: &[&str]) -> Option<(Mode, Limits)>
     ensures { result ≡ command_of (map (λ word. word.now) words.now) }
 {

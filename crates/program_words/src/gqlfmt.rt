@@ -28,7 +28,7 @@ pub enum Page {
     Version,
 }
 
-/// What the words ask for: a page, or a run of this plan.
+/// The request in the words: a page, or a run of this plan.
 #[derive(Drop)]
 pub enum Request<P> {
     Print(Page),
@@ -157,7 +157,7 @@ fn take_first<'a, A: Allocator>(
     Ok(0)
 }
 
-// The run that the words ask for.
+// The run of the words.
 fn plan_of<'a, A: Allocator>(alloc: A, words: &[&'a str]) -> Result<Plan<'a, A>, WordsError>
     ensures { IsRead (λ plan. record { mode = plan.mode; limits = plan.limits; files = texts plan.files.items }) (run_of (texts words.now)) result }
 {
@@ -177,7 +177,7 @@ fn plan_of<'a, A: Allocator>(alloc: A, words: &[&'a str]) -> Result<Plan<'a, A>,
     })
 }
 
-// The page that the words ask for.
+// The page of the words.
 fn page_of(words: &[&str]) -> Option<Page>
     ensures { result ≡ page_of (texts words.now) }
 {
@@ -195,7 +195,7 @@ fn page_of(words: &[&str]) -> Option<Page>
     None
 }
 
-/// What the words after the program's name ask for. `--help` and `--version` come before all else, wherever they are. Options and files
+/// The request in the words after the program's name. `--help` and `--version` come before all else, wherever they are. Options and files
 /// come in any order, and each option at most once; after `--` all words are files.
 pub fn options<'a, A: Allocator>(
     alloc: A,

@@ -104,7 +104,7 @@ fn null_value<A: Allocator + Copy>(p: &mut ParserState<'_, A>) -> Result<(), All
     Ok(())
 }
 
-/// An enum value (GraphQL October 2021, section 2.9.6, "Enum Value"), or a report of what is there in its place.
+/// An enum value (GraphQL October 2021, section 2.9.6, "Enum Value"), or a report of the token in its place.
 ///     EnumValue (2.9.6) : Name but not `true`, `false` or `null`
 pub fn enum_value<A: Allocator + Copy>(p: &mut ParserState<'_, A>) -> Result<(), AllocError>
     ensures { Parses (Child rule.EnumValue) result p.old p.new }

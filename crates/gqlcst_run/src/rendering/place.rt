@@ -28,7 +28,7 @@ impl Place {
         }
     }
 
-    /// Moves to the place after so many bytes.
+    /// Moves on by this many bytes.
     #[inline(always)]
     pub fn move_to(&mut self, number: u128)
         ensures { self.new.number ≡ number }

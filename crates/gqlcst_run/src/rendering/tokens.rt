@@ -78,7 +78,7 @@ fn put_item<W: Sink>(
     }
 }
 
-/// Puts a line for each item that is left, an error in place of the first that the limit leaves out. Answers what the errors come to.
+/// Puts a line for each item that is left, an error in place of the first that the limit leaves out. Answers the outcome for the errors.
 pub fn put_tokens<W: Sink>(page: &mut Page, writer: &mut W, items: Lexer<'_>) -> Outcome
     ensures lines { PutsSome (AreLines IsAnswerForm (answers_left items.entry)) (page.old, W.account writer.old) (page.new, W.account writer.new) }
     ensures outcome { result ≡ outcome_of (error_count (answers_left items.entry)) }

@@ -1,4 +1,4 @@
-// What a parser reads from: its lexer, what a copy of that found ahead, and the count of what both cut.
+// What a parser reads from: its lexer, what a copy of that found ahead, and the count of the items that both cut.
 #![tactic(auto)]
 
 ghost use Rattle.std.specs.Prelude.{◌≡◌, ◌≤◌, ◌+◌, ◌*◌, true};
