@@ -1,6 +1,6 @@
 -- What the keyword of a definition says of the rules: their tests, one after the other, come to what it begins.
 use Rattle.std.proofs.Common.{◌≡◌, ◌∙◌, ℕ, Bool, true, false, ◌&&◌, ◌||◌, eqb, cond, List, [], ◌∷◌, Option, Some, None, refl, sym, ap, subst, inl, inr}
-use Rattle.std.specs.Prelude.{MatchOption, codes}
+use Rattle.std.specs.Prelude.{codes}
 use Rattle.std.specs.Str.{bytes_eq}
 use Rattle.std.proofs.lemmas.Bool.{eqb-true, and_parts, and_right, or_left, or_right}
 use Rattle.std.proofs.lemmas.Slice.Eq.{bytes_eq-Decides}
@@ -23,7 +23,7 @@ use Rattle.parser_rules.specs.Runs.{Runs, yes, no, call}
 use Rattle.parser_rules.proofs.runs.Running.{sequence}
 use Rattle.parser_state.specs.View.{current_of, lexeme_of}
 use Rattle.parser_state.proofs.Keywords.{name-is-word}
-use Rattle.apollo_document.specs.Keywords.{kind_of, definition_of, extension_of}
+use Rattle.apollo_document.specs.Keywords.{kind_of, IsKeyword, definition_of, extension_of}
 use Rattle.apollo_document.specs.declared.grammar.keyword.DefinitionKeyword.{DefinitionKeyword}
 use Rattle.apollo_document.specs.declared.grammar.keyword.DefinitionKeyword.TheVariants.{Query, Mutation, Subscription, Fragment, Schema, Directive, Scalar, Object, Interface, Union, Enum, InputObject}
 
@@ -57,7 +57,8 @@ module _ {o : Option Token} {t : Token} {text : Text} (is : o ≡ Some t) (name 
   same-text : (k : DefinitionKeyword) → bytes_eq text (word_of k) ≡ is_word (kind_of k) (current_of o)
   same-text k =
       let named : true ≡ is_at token.Name (current_of (Some t)) = subst (λ p. true ≡ is_at token.Name (current_of p)) is name in
-      name-is-word (kind_of k) (lexeme_of t) text (word_of k) (are-keywords k) (words-are k) named text-is ∙ sym (ap (λ p. is_word (kind_of k) (current_of p)) is)
+      name-is-word (kind_of k) (lexeme_of t) text (word_of k) (are-keywords k) (words-are k) named text-is
+      ∙ sym (ap (λ p. is_word (kind_of k) (current_of p)) is)
 
   pub spelled : (k : DefinitionKeyword) → text ≡ word_of k → is_word (kind_of k) (current_of o) ≡ true
   spelled k e = sym (same-text k) ∙ (bytes_eq-Decides text (word_of k)).1 e
@@ -97,7 +98,8 @@ none-of-three a b c e f g = rw (e, f, g) refl
 no-operation : (k : SyntaxKind) (o : Option Lexeme) → is_word k o ≡ true
     → eqb (number k) (number kind.query_KW) ≡ false → eqb (number k) (number kind.mutation_KW) ≡ false → eqb (number k) (number kind.subscription_KW) ≡ false
     → fits operation_type o ≡ false
-no-operation k o h l m n = none-of-three _ _ _ (other-word k kind.query_KW o h l) (other-word k kind.mutation_KW o h m) (other-word k kind.subscription_KW o h n)
+no-operation k o h l m n =
+    none-of-three _ _ _ (other-word k kind.query_KW o h l) (other-word k kind.mutation_KW o h m) (other-word k kind.subscription_KW o h n)
 
 -- ---- tests of keywords, one after the other
 
@@ -117,7 +119,8 @@ module _ (at : TokenTest → Test) (o : Option Lexeme) {s : State} (is : (q : To
   missing : {q : TokenTest} {a b : Rule} {t : State} → fits q o ≡ false → Runs b s t → Runs (When (at q) a b) s t
   missing {q = q} e r = no (sym (is q ∙ e)) r
 
-  chosen : (k : SyntaxKind) (ws : List (SyntaxKind × Rule)) (none : Rule) {t : State} → is_word k o ≡ true → Runs (choice (number k) ws none) s t → Runs (ladder at ws none) s t
+  chosen : (k : SyntaxKind) (ws : List (SyntaxKind × Rule)) (none : Rule) {t : State}
+      → is_word k o ≡ true → Runs (choice (number k) ws none) s t → Runs (ladder at ws none) s t
   chosen k [] none h r = r
   chosen k (w ∷ more) none h r = elim (either (eqb (number k) (number w.0))) [
     | inl e ↦ there {q = Keyword w.0} (same-word k w.0 o h e) (rw e at r)
@@ -145,7 +148,8 @@ definition_at at brace extension none =
     (When (at (Kind token.LCurly)) brace
     (ladder at ((kind.extend_KW, extension) ∷ type_system) none)))
 
-module _ (at : TokenTest → Test) (o : Option Lexeme) {s : State} (is : (q : TokenTest) → holds (at q) s ≡ fits q o) {brace extension none : Rule} {t : State} where
+module _ (at : TokenTest → Test) (o : Option Lexeme) {s : State} (is : (q : TokenTest) → holds (at q) s ≡ fits q o)
+    {brace extension none : Rule} {t : State} where
   found : (k : DefinitionKeyword) → is_word (kind_of k) o ≡ true → Runs (Child (definition_of k)) s t → Runs (definition_at at brace extension none) s t
   found Query h r = there at o is (or_left _ _ h) r
   found Mutation h r = there at o is (or_right (is_word kind.query_KW o) _ (or_left _ _ h)) r
@@ -172,7 +176,8 @@ module _ (at : TokenTest → Test) (o : Option Lexeme) {s : State} (is : (q : To
       after (no e (yes f r)) = no e (yes f r)
       after (no e (no f r)) = no e (no f (rest r))
 
-pub by_keyword : (k : DefinitionKeyword) {o : Option Lexeme} {s t : State} → is_word (kind_of k) o ≡ true → o ≡ s.current → Runs (Child (definition_of k)) s t → Runs (Call Definition) s t
+pub by_keyword : (k : DefinitionKeyword) {o : Option Lexeme} {s t : State} → is_word (kind_of k) o ≡ true → o ≡ s.current
+    → Runs (Child (definition_of k)) s t → Runs (Call Definition) s t
 unfolding holds body
 by_keyword k {o = o} h e r = call {p = Definition} (found Here o (λ q. sym (ap (fits q) e)) k h r)
 
@@ -187,7 +192,8 @@ unfolding holds body
 described_by_keyword k {o = o} h e r = call {p = DescribedDefinition} (found Next o (λ q. sym (ap (fits q) e)) k h r)
 
 pub described_without_keyword : {o : Option Lexeme} {s t : State} → ((k : DefinitionKeyword) → is_word (kind_of k) o ≡ false) → o ≡ second s.items
-    → Runs (When (Next (Kind token.LCurly)) (refuse message.ExpectedOperation) (When (Next (Keyword kind.extend_KW)) (refuse message.InvalidExtension) no_described)) s t
+    → Runs (When (Next (Kind token.LCurly)) (refuse message.ExpectedOperation)
+    (When (Next (Keyword kind.extend_KW)) (refuse message.InvalidExtension) no_described)) s t
     → Runs (Call DescribedDefinition) s t
 unfolding holds body
 described_without_keyword {o = o} h e r = call {p = DescribedDefinition} (not-found Next o (λ q. sym (ap (fits q) e)) h r)
@@ -206,7 +212,7 @@ extensions =
     ∷ []
 
 module _ (o : Option Lexeme) {s t : State} (is : (q : TokenTest) → holds (Next q) s ≡ fits q o) where
-  extended : (k : Option DefinitionKeyword) → MatchOption k ((j : DefinitionKeyword) → is_word (kind_of j) o ≡ false) (λ j. is_word (kind_of j) o ≡ true)
+  extended : (k : Option DefinitionKeyword) → IsKeyword o k
       → Runs (extension_of k) s t → Runs (ladder Next extensions (refuse message.InvalidExtension)) s t
   extended (Some Query) h r = chosen Next o is kind.query_KW extensions _ h r
   extended (Some k) h r = chosen Next o is (kind_of k) extensions _ h r
@@ -215,7 +221,7 @@ module _ (o : Option Lexeme) {s t : State} (is : (q : TokenTest) → holds (Next
       (missing Next o is (h Union) (missing Next o is (h Enum) (missing Next o is (h InputObject) r))))))
 
 pub extended_by_keyword : (k : Option DefinitionKeyword) {o : Option Lexeme} {s t : State}
-    → MatchOption k ((j : DefinitionKeyword) → is_word (kind_of j) o ≡ false) (λ j. is_word (kind_of j) o ≡ true)
+    → IsKeyword o k
     → o ≡ second s.items → Runs (extension_of k) s t → Runs (Call Extensions) s t
 unfolding holds body
 extended_by_keyword k {o = o} h e r = call {p = Extensions} (extended o (λ q. sym (ap (fits q) e)) k h r)

@@ -22,7 +22,7 @@ use Rattle.apollo_parser.proofs.Parses.{answers}
 use Rattle.apollo_parser.proofs.Allowances.{none}
 
 module _ (j : SyntaxKind) {q : Rule} (k r : ℕ) (source : List ℕ) {last end : State}
-         (run : Runs q (started (answers k source) r j) (none last)) (left : end ≡ left_out last) where
+    (run : Runs q (started (answers k source) r j) (none last)) (left : end ≡ left_out last) where
   pub source-begins : RootRule j q → Cut source (items_of source) → take (length (text (finished end))) source ≡ text (finished end)
   source-begins passes cut =
       subst (λ (s : State). take (length (text (finished s))) source ≡ text (finished s)) (sym left) (root-begins j k r source (none last) run passes cut)

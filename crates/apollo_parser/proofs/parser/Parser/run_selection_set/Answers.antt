@@ -17,7 +17,8 @@ finish-requires g c =
     let r = c.args.self.recursion_limit in
     let source = c.args.self.source.now in
     let first = c.in_ok-push_pending.ensures.step ∙ ap flush c.in_ok-open.ensures.step in
-    let run = from-started (answers k source) r _ kind.SELECTION_SET c.start-p.ensures.unread (subst (λ s. Runs field_set s c.field_set.new.p) first c.in_ok-field_set.ensures.runs) in
+    let run = from-started (answers k source) r _ kind.SELECTION_SET c.start-p.ensures.unread
+    (subst (λ s. Runs field_set s c.field_set.new.p) first c.in_ok-field_set.ensures.runs) in
     record {
       source = source-begins kind.SELECTION_SET k r source run c.drop_pending.ensures.step selections_pass c.start-p.ensures.cut;
       open_root = open-root kind.SELECTION_SET k r source run c.drop_pending.ensures.step refl;
@@ -29,7 +30,8 @@ of-requires g c =
     let r = c.args.self.recursion_limit in
     let source = c.args.self.source.now in
     let first = c.in_ok-push_pending.ensures.step ∙ ap flush c.in_ok-open.ensures.step in
-    let run = from-started (answers k source) r _ kind.SELECTION_SET c.start-p.ensures.unread (subst (λ s. Runs field_set s c.field_set.new.p) first c.in_ok-field_set.ensures.runs) in
+    let run = from-started (answers k source) r _ kind.SELECTION_SET c.start-p.ensures.unread
+    (subst (λ s. Runs field_set s c.field_set.new.p) first c.in_ok-field_set.ensures.runs) in
     ap (is_kind kind.SELECTION_SET) (kind-is kind.SELECTION_SET k r source run c.drop_pending.ensures.step c.in_ok-finished.ensures.tree)
 
 pub returns : goal.returns
@@ -38,8 +40,10 @@ returns g c =
     let r = c.args.self.recursion_limit in
     let source = c.args.self.source.now in
     let first = c.in_ok-push_pending.ensures.step ∙ ap flush c.in_ok-open.ensures.step in
-    let run = from-started (answers k source) r _ kind.SELECTION_SET c.start-p.ensures.unread (subst (λ s. Runs field_set s c.field_set.new.p) first c.in_ok-field_set.ensures.runs) in
+    let run = from-started (answers k source) r _ kind.SELECTION_SET c.start-p.ensures.unread
+    (subst (λ s. Runs field_set s c.field_set.new.p) first c.in_ok-field_set.ensures.runs) in
     let start = c.start-p.ensures in
     let e = c.in_ok-finished.ensures in
     subst (ByRootRule kind.SELECTION_SET field_set source r k) (sym c.of.ensures)
-    (by-root-rule kind.SELECTION_SET k r source run c.drop_pending.ensures.step start.cut start.characters start.short e.tree e.counted e.errors e.recursion_limit e.allowed)
+    (by-root-rule kind.SELECTION_SET k r source run c.drop_pending.ensures.step start.cut start.characters start.short
+    e.tree e.counted e.errors e.recursion_limit e.allowed)
