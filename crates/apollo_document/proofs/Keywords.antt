@@ -1,6 +1,6 @@
 -- What the keyword of a definition says of the rules: their tests, one after the other, choose the definition that it begins.
 use Rattle.std.proofs.Common.{◌≡◌, ◌∙◌, ℕ, Bool, true, false, ◌&&◌, ◌||◌, eqb, cond, List, [], ◌∷◌, Option, Some, None, refl, sym, ap, subst, inl, inr}
-use Rattle.std.specs.Prelude.{MatchOption, codes}
+use Rattle.std.specs.Prelude.{codes}
 use Rattle.std.specs.Str.{bytes_eq}
 use Rattle.std.proofs.lemmas.Bool.{eqb-true, and_parts, and_right, or_left, or_right}
 use Rattle.std.proofs.lemmas.Slice.Eq.{bytes_eq-Decides}
@@ -23,7 +23,7 @@ use Rattle.parser_rules.specs.Runs.{Runs, yes, no, call}
 use Rattle.parser_rules.proofs.runs.Running.{sequence}
 use Rattle.parser_state.specs.View.{current_of, lexeme_of}
 use Rattle.parser_state.proofs.Keywords.{name-is-word}
-use Rattle.apollo_document.specs.Keywords.{kind_of, definition_of, extension_of}
+use Rattle.apollo_document.specs.Keywords.{kind_of, IsKeyword, definition_of, extension_of}
 use Rattle.apollo_document.specs.declared.grammar.keyword.DefinitionKeyword.{DefinitionKeyword}
 use Rattle.apollo_document.specs.declared.grammar.keyword.DefinitionKeyword.TheVariants.{Query, Mutation, Subscription, Fragment, Schema, Directive, Scalar}
 use Rattle.apollo_document.specs.declared.grammar.keyword.DefinitionKeyword.TheVariants.{Object, Interface, Union, Enum, InputObject}
@@ -99,8 +99,8 @@ none-of-three a b c e f g = rw (e, f, g) refl
 no-operation : (k : SyntaxKind) (o : Option Lexeme) → is_word k o ≡ true
     → eqb (number k) (number kind.query_KW) ≡ false → eqb (number k) (number kind.mutation_KW) ≡ false → eqb (number k) (number kind.subscription_KW) ≡ false
     → fits operation_type o ≡ false
-no-operation k o h l m n = none-of-three _ _ _ (other-word k kind.query_KW o h l) (other-word k kind.mutation_KW o h m)
-    (other-word k kind.subscription_KW o h n)
+no-operation k o h l m n =
+    none-of-three _ _ _ (other-word k kind.query_KW o h l) (other-word k kind.mutation_KW o h m) (other-word k kind.subscription_KW o h n)
 
 -- ---- tests of keywords, one after the other
 
@@ -120,8 +120,8 @@ module _ (at : TokenTest → Test) (o : Option Lexeme) {s : State} (is : (q : To
   missing : {q : TokenTest} {a b : Rule} {t : State} → fits q o ≡ false → Runs b s t → Runs (When (at q) a b) s t
   missing {q = q} e r = no (sym (is q ∙ e)) r
 
-  chosen : (k : SyntaxKind) (ws : List (SyntaxKind × Rule)) (none : Rule) {t : State} → is_word k o ≡ true → Runs (choice (number k) ws none) s t
-      → Runs (ladder at ws none) s t
+  chosen : (k : SyntaxKind) (ws : List (SyntaxKind × Rule)) (none : Rule) {t : State}
+      → is_word k o ≡ true → Runs (choice (number k) ws none) s t → Runs (ladder at ws none) s t
   chosen k [] none h r = r
   chosen k (w ∷ more) none h r = elim (either (eqb (number k) (number w.0))) [
     | inl e ↦ there {q = Keyword w.0} (same-word k w.0 o h e) (rw e at r)
@@ -149,8 +149,8 @@ definition_at at brace extension none =
     (When (at (Kind token.LCurly)) brace
     (ladder at ((kind.extend_KW, extension) ∷ type_system) none)))
 
-module _ (at : TokenTest → Test) (o : Option Lexeme) {s : State} (is : (q : TokenTest)
-    → holds (at q) s ≡ fits q o) {brace extension none : Rule} {t : State} where
+module _ (at : TokenTest → Test) (o : Option Lexeme) {s : State} (is : (q : TokenTest) → holds (at q) s ≡ fits q o)
+    {brace extension none : Rule} {t : State} where
   found : (k : DefinitionKeyword) → is_word (kind_of k) o ≡ true → Runs (Child (definition_of k)) s t → Runs (definition_at at brace extension none) s t
   found Query h r = there at o is (or_left _ _ h) r
   found Mutation h r = there at o is (or_right (is_word kind.query_KW o) _ (or_left _ _ h)) r
@@ -177,8 +177,8 @@ module _ (at : TokenTest → Test) (o : Option Lexeme) {s : State} (is : (q : To
       after (no e (yes f r)) = no e (yes f r)
       after (no e (no f r)) = no e (no f (rest r))
 
-pub by_keyword : (k : DefinitionKeyword) {o : Option Lexeme} {s t : State} → is_word (kind_of k) o ≡ true → o ≡ s.current → Runs (Child (definition_of k)) s t
-    → Runs (Call Definition) s t
+pub by_keyword : (k : DefinitionKeyword) {o : Option Lexeme} {s t : State} → is_word (kind_of k) o ≡ true → o ≡ s.current
+    → Runs (Child (definition_of k)) s t → Runs (Call Definition) s t
 unfolding holds body
 by_keyword k {o = o} h e r = call {p = Definition} (found Here o (λ q. sym (ap (fits q) e)) k h r)
 
@@ -213,7 +213,7 @@ extensions =
     ∷ []
 
 module _ (o : Option Lexeme) {s t : State} (is : (q : TokenTest) → holds (Next q) s ≡ fits q o) where
-  extended : (k : Option DefinitionKeyword) → MatchOption k ((j : DefinitionKeyword) → is_word (kind_of j) o ≡ false) (λ j. is_word (kind_of j) o ≡ true)
+  extended : (k : Option DefinitionKeyword) → IsKeyword o k
       → Runs (extension_of k) s t → Runs (ladder Next extensions (refuse message.InvalidExtension)) s t
   extended (Some Query) h r = chosen Next o is kind.query_KW extensions _ h r
   extended (Some k) h r = chosen Next o is (kind_of k) extensions _ h r
@@ -222,7 +222,7 @@ module _ (o : Option Lexeme) {s t : State} (is : (q : TokenTest) → holds (Next
       (missing Next o is (h Union) (missing Next o is (h Enum) (missing Next o is (h InputObject) r))))))
 
 pub extended_by_keyword : (k : Option DefinitionKeyword) {o : Option Lexeme} {s t : State}
-    → MatchOption k ((j : DefinitionKeyword) → is_word (kind_of j) o ≡ false) (λ j. is_word (kind_of j) o ≡ true)
+    → IsKeyword o k
     → o ≡ second s.items → Runs (extension_of k) s t → Runs (Call Extensions) s t
 unfolding holds body
 extended_by_keyword k {o = o} h e r = call {p = Extensions} (extended o (λ q. sym (ap (fits q) e)) k h r)

@@ -1,8 +1,9 @@
 -- The keywords of definitions: which word each is, and what it begins.
-use Rattle.std.specs.Prelude.{Option, Some}
+use Rattle.std.specs.Prelude.{◌≡◌, true, false, Option, Some, None}
 use Rattle.document_grammar.specs.declared.kind.SyntaxKind.{SyntaxKind}
 use Rattle.document_grammar.specs.declared.kind.SyntaxKind.TheVariants as kind
 use Rattle.parser_rules.specs.declared.message.Message.TheVariants as message
+use Rattle.parser_rules.specs.State.{Lexeme, is_word}
 use Rattle.parser_rules.specs.Nodes as rule
 use Rattle.parser_rules.specs.Nodes.{Node}
 use Rattle.parser_rules.specs.RuleLanguage.{Rule, Child, refuse}
@@ -24,6 +25,11 @@ kind_of Interface = kind.interface_KW
 kind_of Union = kind.union_KW
 kind_of Enum = kind.enum_KW
 kind_of InputObject = kind.input_KW
+
+-- the token is the keyword; or with None it is not one of them
+abbrev pub IsKeyword : Option Lexeme → Option DefinitionKeyword → Type 0
+IsKeyword o None = (k : DefinitionKeyword) → is_word (kind_of k) o ≡ false
+IsKeyword o (Some k) = is_word (kind_of k) o ≡ true
 
 -- the definition
 abbrev pub definition_of : DefinitionKeyword → Node

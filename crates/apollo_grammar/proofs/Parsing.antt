@@ -6,6 +6,6 @@ use Rattle.parser_rules.specs.RuleLanguage.{Rule}
 use Rattle.parser_rules.specs.Runs.{Runs}
 use Rattle.parser_state.specs.Parses.{Parses}
 
-pub parsed_by : {T E : Type 0} {a b : Rule} {result : Result T E} {old new : State} → (Runs a old new → Runs b old new) → Parses a result old new
-    → Parses b result old new
+pub parsed_by : {T E : Type 0} {a b : Rule} {result : Result T E} {old new : State}
+    → (Runs a old new → Runs b old new) → Parses a result old new → Parses b result old new
 parsed_by {result = result} f p = record { runs = on_ok_weaker result f p.runs; budget = p.budget }

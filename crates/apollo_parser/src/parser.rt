@@ -88,7 +88,8 @@ impl<'i> Parser<'i> {
 
     // The state before anything is read. It also says what the text is made of.
     fn start<A: Allocator + Copy>(self, alloc: A, steps: Steps) -> ParserState<'i, A>
-        ensures unread { let answers = limited self.entry.token_limit (items_of self.entry.source.now) in result ≡ unread answers self.entry.recursion_limit (steps.count + 2 * min (length answers) self.entry.token_limit) }
+        ensures unread { let answers = limited self.entry.token_limit (items_of self.entry.source.now) in
+            result ≡ unread answers self.entry.recursion_limit (steps.count + 2 * min (length answers) self.entry.token_limit) }
         ensures cut { Cut self.entry.source.now (items_of self.entry.source.now) }
         ensures characters { IsUtf8 self.entry.source.now }
         ensures short { length self.entry.source.now < 2 ^ 63 }

@@ -79,7 +79,12 @@ impl<R: Root, A: Allocator> SyntaxTree<R, A> {
     // What a finished parse has.
     pub(crate) fn of(finished: Finished<A>) -> Self
         requires { R.roots (root_kind finished.tree) ≡ true }
-        ensures { result ≡ record { tree = finished.tree; errors = finished.errors.items; recursion_limit = finished.recursion_limit; token_limit = finished.token_limit } }
+        ensures { result ≡ record {
+          tree = finished.tree;
+          errors = finished.errors.items;
+          recursion_limit = finished.recursion_limit;
+          token_limit = finished.token_limit;
+        } }
     {
         SyntaxTree {
             tree: finished.tree,

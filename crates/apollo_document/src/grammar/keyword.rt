@@ -1,10 +1,7 @@
 // The keyword that says which definition or extension it is.
 
-ghost use Rattle.std.specs.Prelude.{◌≡◌, true, false, MatchOption};
-ghost use Rattle.parser_rules.specs.State.{is_word};
 ghost use Rattle.parser_state.specs.View.{current_of};
-ghost use Rattle.apollo_document.specs.Keywords.{kind_of};
-ghost use Rattle.apollo_document.specs.declared.grammar.keyword.DefinitionKeyword.{DefinitionKeyword};
+ghost use Rattle.apollo_document.specs.Keywords.{IsKeyword};
 
 use apollo_lexer::Token;
 use lexical_grammar::TokenKind;
@@ -29,7 +26,7 @@ pub enum DefinitionKeyword {
 
 /// The keyword that the token is, or None where it is no such keyword.
 pub fn definition_keyword(token: Option<Token<'_>>) -> Option<DefinitionKeyword>
-    ensures { let word = current_of token.entry in MatchOption result ((keyword : DefinitionKeyword) → is_word (kind_of keyword) word ≡ false) (λ keyword. is_word (kind_of keyword) word ≡ true) }
+    ensures { IsKeyword (current_of token.entry) result }
 {
     let Some(name) = token else {
         return None;

@@ -45,5 +45,5 @@ returns g c =
     let start = c.start-p.ensures in
     let e = c.in_ok-finished.ensures in
     subst (ByRootRule kind.SELECTION_SET field_set source r k) (sym c.of.ensures)
-    (by-root-rule kind.SELECTION_SET k r source run c.drop_pending.ensures.step start.cut start.characters start.short e.tree e.counted e.errors
-    e.recursion_limit e.allowed)
+    (by-root-rule kind.SELECTION_SET k r source run c.drop_pending.ensures.step start.cut start.characters start.short
+    e.tree e.counted e.errors e.recursion_limit e.allowed)

@@ -36,8 +36,8 @@ of-requires g c =
     let source = c.args.self.source.now in
     let made = subst (λ (s : State). RunsTypeRoot (flush s) c.type_root.new.p) c.in_ok-first.ensures.step c.in_ok-type_root.ensures.runs in
     let m = type-run (answers k source) r refl (from-unopened (answers k source) r _ c.start-p.ensures.unread made) in
-    ap (λ j. one_of Types j || is_kind kind.ERROR j) (kind-is m.kind k r source m.run c.drop_pending.ensures.step c.in_ok-finished.ensures.tree)
-    ∙ type-rooted m.is
+    ap (λ j. one_of Types j || is_kind kind.ERROR j)
+    (kind-is m.kind k r source m.run c.drop_pending.ensures.step c.in_ok-finished.ensures.tree) ∙ type-rooted m.is
 
 pub returns : goal.returns
 returns g c =
@@ -53,7 +53,7 @@ returns g c =
       kind = m.kind;
       rule = m.rule;
       is = m.is;
-      root = by-root-rule m.kind k r source m.run c.drop_pending.ensures.step start.cut start.characters start.short e.tree e.counted e.errors e.recursion_limit
-          e.allowed;
+      root = by-root-rule m.kind k r source m.run c.drop_pending.ensures.step start.cut start.characters start.short
+          e.tree e.counted e.errors e.recursion_limit e.allowed;
       made = makes-unopened (answers k source) r refl all;
     })
