@@ -4,7 +4,7 @@ import re
 from collections import Counter
 from functools import cache
 
-from .definitions import CRATES, NAME, Source
+from .definitions import CRATES, Source
 
 
 @cache
