@@ -180,24 +180,24 @@ module _ (at : TokenTest → Test) (o : Option Lexeme) {s : State} (is : (q : To
 pub by_keyword : (k : DefinitionKeyword) {o : Option Lexeme} {s t : State} → is_word (kind_of k) o ≡ true → o ≡ s.current
     → Runs (Child (definition_of k)) s t → Runs (Call Definition) s t
 unfolding holds body
-by_keyword k {o = o} h e r = call {p = Definition} (found Here o (λ q. sym (ap (fits q) e)) k h r)
+by_keyword k {o = o} h e r = call {part = Definition} (found Here o (λ q. sym (ap (fits q) e)) k h r)
 
 pub without_keyword : {o : Option Lexeme} {s t : State} → ((k : DefinitionKeyword) → is_word (kind_of k) o ≡ false) → o ≡ s.current
     → Runs (When (At token.LCurly) (Child rule.QueryShorthand) (When (Word kind.extend_KW) (Call Extensions) no_definition)) s t → Runs (Call Definition) s t
 unfolding holds body
-without_keyword {o = o} h e r = call {p = Definition} (not-found Here o (λ q. sym (ap (fits q) e)) h r)
+without_keyword {o = o} h e r = call {part = Definition} (not-found Here o (λ q. sym (ap (fits q) e)) h r)
 
 pub described_by_keyword : (k : DefinitionKeyword) {o : Option Lexeme} {s t : State} → is_word (kind_of k) o ≡ true → o ≡ second s.items
     → Runs (Child (definition_of k)) s t → Runs (Call DescribedDefinition) s t
 unfolding holds body
-described_by_keyword k {o = o} h e r = call {p = DescribedDefinition} (found Next o (λ q. sym (ap (fits q) e)) k h r)
+described_by_keyword k {o = o} h e r = call {part = DescribedDefinition} (found Next o (λ q. sym (ap (fits q) e)) k h r)
 
 pub described_without_keyword : {o : Option Lexeme} {s t : State} → ((k : DefinitionKeyword) → is_word (kind_of k) o ≡ false) → o ≡ second s.items
     → Runs (When (Next (Kind token.LCurly)) (refuse message.ExpectedOperation)
     (When (Next (Keyword kind.extend_KW)) (refuse message.InvalidExtension) no_described)) s t
     → Runs (Call DescribedDefinition) s t
 unfolding holds body
-described_without_keyword {o = o} h e r = call {p = DescribedDefinition} (not-found Next o (λ q. sym (ap (fits q) e)) h r)
+described_without_keyword {o = o} h e r = call {part = DescribedDefinition} (not-found Next o (λ q. sym (ap (fits q) e)) h r)
 
 -- ---- an extension
 
@@ -225,7 +225,7 @@ pub extended_by_keyword : (k : Option DefinitionKeyword) {o : Option Lexeme} {s 
     → IsKeyword o k
     → o ≡ second s.items → Runs (extension_of k) s t → Runs (Call Extensions) s t
 unfolding holds body
-extended_by_keyword k {o = o} h e r = call {p = Extensions} (extended o (λ q. sym (ap (fits q) e)) k h r)
+extended_by_keyword k {o = o} h e r = call {part = Extensions} (extended o (λ q. sym (ap (fits q) e)) k h r)
 
 -- what the functions are proved by that choose by a keyword
 pub ruleset defining = (sequence, by_keyword)

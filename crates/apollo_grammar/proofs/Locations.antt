@@ -107,12 +107,12 @@ word-runs (k ∷ ks) none {s = s} h = elim (either (is_word k s.current)) [
 pub found_location : {k : SyntaxKind} {o : Option Lexeme} {s t : State} → Some k ≡ location_word o → o ≡ s.current
     → Runs (Child DirectiveLocation) s t → Runs (Call Location) s t
 unfolding body
-found_location {s = s} e f h = call {p = Location} (yes (sym (is-location s ∙ ap is_some (sym (e ∙ ap location_word f)))) h)
+found_location {s = s} e f h = call {part = Location} (yes (sym (is-location s ∙ ap is_some (sym (e ∙ ap location_word f)))) h)
 
 pub no_location : {o : Option Lexeme} {s t : State} → None ≡ location_word o → o ≡ s.current
     → Runs (When (At token.Name) (Do (Note message.ExpectedValidLocation)) (Do (Note message.ExpectedLocation))) s t → Runs (Call Location) s t
 unfolding body
-no_location {s = s} e f h = call {p = Location} (no (sym (is-location s ∙ ap is_some (sym (e ∙ ap location_word f)))) h)
+no_location {s = s} e f h = call {part = Location} (no (sym (is-location s ∙ ap is_some (sym (e ∙ ap location_word f)))) h)
 
 -- the node of a location, where one was found
 pub in_location : {k : SyntaxKind} {s t u v : State} → Some k ≡ location_word s.current → t ≡ opened kind.DIRECTIVE_LOCATION s
@@ -120,8 +120,8 @@ pub in_location : {k : SyntaxKind} {s t u v : State} → Some k ≡ location_wor
 unfolding inside location_word opened flush
 in_location {k = k} {s = s} {t = t} {u = u} e o h c =
     let found : Some k ≡ find (λ j. is_word j t.current) locations = e ∙ sym (ap (λ (z : State). find (λ j. is_word j z.current) locations) o) in
-    child {n = DirectiveLocation} o c
-    (word-runs locations (Do (Note message.ExpectedLocation)) (subst (λ x. Runs (chosen x (Do (Note message.ExpectedLocation))) t u) found h))
+    child {node = DirectiveLocation} o c (word-runs locations (Do (Note message.ExpectedLocation))
+    (subst (λ x. Runs (chosen x (Do (Note message.ExpectedLocation))) t u) found h))
 
 -- the rules that prove the function of a location, and the function of its node
 pub ruleset choosing = (sequence, found_location)

@@ -109,8 +109,8 @@ module _ (Text_is : Text → Type 0) (P : Diagnostic → Type 0)
   each-error (d ∷ ds) no_more a z = absurd z
   each-error (d ∷ ds) (bad_text {item = item} e h) a z = All-cons P d ds (of_bad item.text item.index d a.0 z.0) (each-error ds h a.1 z.1)
   each-error (d ∷ ds) (token_limit {index = index} h) a z = All-cons P d ds (of_tokens index d z.0) (each-error ds h a z.1)
-  each-error (d ∷ ds) (fault m {k = k} {item = item} e i h) a z = All-cons P d ds (of_fault m (lexeme k item) d a.0 z.0) (each-error ds h a z.1)
-  each-error (d ∷ ds) (recursion_limit {k = k} {item = item} e i h) a z = All-cons P d ds (of_depth (lexeme k item) d z.0) (each-error ds h a z.1)
+  each-error (d ∷ ds) (fault m {token_kind = k} {item = item} e i h) a z = All-cons P d ds (of_fault m (lexeme k item) d a.0 z.0) (each-error ds h a z.1)
+  each-error (d ∷ ds) (recursion_limit {token_kind = k} {item = item} e i h) a z = All-cons P d ds (of_depth (lexeme k item) d z.0) (each-error ds h a z.1)
   each-error (d ∷ ds) (passed e h) a z = each-error (d ∷ ds) h a.1 z
 
 pub ascii-messages : {answers : List Answer} {rs : List Report} (ds : List Diagnostic) → Reported true answers rs → AllTexts IsAscii answers
@@ -239,7 +239,7 @@ errors-along (bad_text {item = item} e h) (d ∷ ds) z =
 errors-along (token_limit h) (d ∷ ds) z =
     let about = subject-limit d z.0.subject in
     parsed.token_limit (record { subject = about; index = z.0.index }) (record { subject = about; message = z.0.message }) (errors-along h ds z.1)
-errors-along (fault m {k = k} {item = item} e i h) (d ∷ ds) z =
+errors-along (fault m {token_kind = k} {item = item} e i h) (d ∷ ds) z =
     parsed.fault m e i (record { subject = subject-here (is_end k) d.subject item.text z.0.subject; index = z.0.index })
     (z.0.message ∙ ap (message_text m) (sym z.0.subject)) (errors-along h ds z.1)
 errors-along (recursion_limit e i h) (d ∷ ds) z =

@@ -1,6 +1,7 @@
 -- Texts that begin a sentence. Where tokens at the front of a text, and further tokens with the texts that are listed for the leaves, are
 -- those of a derivation, the text of the first goes on to a sentence: by a line feed, and then by the further tokens.
-use Rattle.std.proofs.Common.{◌≡◌, ◌≢◌, ℕ, zero, suc, ◌<◌, Bool, true, false, cond, eqb, List, [], ◌∷◌, ◌++◌, length, map, Option, Some, None, IsUtf8, refl, sym, ap, ap₂, ◌∙◌, subst, inl, inr, eqb-true, ltb-true, append_assoc, arith}
+use Rattle.std.proofs.Common.{◌≡◌, ◌≢◌, ℕ, zero, suc, ◌<◌, Bool, true, false, cond, eqb, List, [], ◌∷◌, ◌++◌, length, map, Option, Some, None, IsUtf8, refl}
+use Rattle.std.proofs.Common.{sym, ap, ap₂, ◌∙◌, subst, inl, inr, eqb-true, ltb-true, append_assoc, arith}
 use Rattle.std.proofs.lemmas.Bool.{eqb-false}
 use Rattle.std.proofs.lemmas.Str.{IsUtf8-from_ascii}
 use Rattle.std.proofs.Math.Seq.{take-length}
@@ -31,7 +32,7 @@ use Rattle.document_grammar.specs.Kinds.{WHITESPACE, ERROR, DOCUMENT}
 
 -- The kind of the token that is listed for a leaf.
 kind_of : ℕ → TokenKind
-kind_of l = kind_or (token_at (spell l))
+kind_of leaf_symbol = kind_or (token_at (spell leaf_symbol))
   where
     kind_or : Option (TokenKind × ℕ) → TokenKind
     kind_or None = kind.Eof
@@ -39,7 +40,7 @@ kind_of l = kind_or (token_at (spell l))
 
 -- Two leaves have no tokens: WHITESPACE, and ERROR. (COMMENT and COMMA have the numbers of two sorts of names here.)
 wordless : ℕ → Bool
-wordless l = eqb l WHITESPACE or eqb l ERROR
+wordless leaf_symbol = eqb leaf_symbol WHITESPACE or eqb leaf_symbol ERROR
 
 -- For each leaf a test by computing.
 abbrev down : ℕ → List ℕ
@@ -58,67 +59,82 @@ abbrev Facts : Type 0
 Facts = Option (TokenKind × ℕ) × ℕ × Bool × Bool
 
 abbrev facts : ℕ → Facts
-facts l = (token_at (spell l), leaf_number (kind_of l), is_significant_kind (kind_of l), all_ascii (spell l))
+facts leaf_symbol = (token_at (spell leaf_symbol), leaf_number (kind_of leaf_symbol), is_significant_kind (kind_of leaf_symbol), all_ascii (spell leaf_symbol))
 
 abbrev wanted : ℕ → Facts
-wanted l = cond (wordless l) (None, ERROR, false, true) (Some (kind_of l, length (spell l)), (token l []).0, true, true)
+wanted leaf_symbol = cond (wordless leaf_symbol) (None, ERROR, false, true) (
+  Some (kind_of leaf_symbol, length (spell leaf_symbol)),
+  (token leaf_symbol []).0,
+  true,
+  true,
+)
 
 leaves-checked : map facts (down DOCUMENT) ≡ map wanted (down DOCUMENT)
 unfolding spellings holds token kind_of wordless ◌or◌ ◌and◌
 leaves-checked = refl
 
-no-word : (l a : ℕ) → wordless l ≡ true → fires l a 0 ≡ false
+no-word : (leaf_symbol a : ℕ) → wordless leaf_symbol ≡ true → fires leaf_symbol a 0 ≡ false
 unfolding fires entries firsts wordless
-no-word l a h = elim (or-c _ _ h) [
-  | inl p ↦ subst (λ (k : ℕ). fires k a 0 ≡ false) (sym (eqb-true l WHITESPACE p)) refl
-  | inr p ↦ subst (λ (k : ℕ). fires k a 0 ≡ false) (sym (eqb-true l ERROR p)) refl
+no-word leaf_symbol a h = elim (or-c _ _ h) [
+  | inl p ↦ subst (λ (k : ℕ). fires k a 0 ≡ false) (sym (eqb-true leaf_symbol WHITESPACE p)) refl
+  | inr p ↦ subst (λ (k : ℕ). fires k a 0 ≡ false) (sym (eqb-true leaf_symbol ERROR p)) refl
 ]
 
 -- The word of a leaf.
-leaf-word : (l : ℕ) → Ok (leaf l (spell l)) → (w : Word) × IsWord w × (token_of w ≡ token l (spell l))
+leaf-word : (leaf_symbol : ℕ) → Ok (leaf leaf_symbol (spell leaf_symbol))
+    → (word : Word) × IsWord word × (token_of word ≡ token leaf_symbol (spell leaf_symbol))
 unfolding is_leaf token
-leaf-word l ok =
-    let b : l < DOCUMENT = ltb-true l DOCUMENT ok.0 in
-    let some : wordless l ≡ false = elim (either (wordless l)) [ inl p ↦ false-true (no-word l (class (token l (spell l))) p) ok.1 | inr p ↦ p ] in
-    let all : facts l ≡ (Some (kind_of l, length (spell l)), (token l []).0, true, true) = rw some at (at-each facts wanted DOCUMENT l b leaves-checked) in
-    let plain : all_ascii (spell l) ≡ true = ap (λ (p : Facts). p.3) all in
-    let number : leaf_number (kind_of l) ≡ (token l []).0 = ap (λ (p : Facts). p.1) all in (
-      record { kind = kind_of l; text = spell l },
+leaf-word leaf_symbol ok =
+    let b : leaf_symbol < DOCUMENT = ltb-true leaf_symbol DOCUMENT ok.0 in
+    let some : wordless leaf_symbol ≡ false = elim (either (wordless leaf_symbol)) [
+      | inl p ↦ false-true
+          (no-word leaf_symbol (class (token leaf_symbol (spell leaf_symbol))) p) ok.1
+      | inr p ↦ p
+    ] in
+    let all : facts leaf_symbol ≡ (Some (kind_of leaf_symbol, length (spell leaf_symbol)), (token leaf_symbol []).0, true, true) = rw some at
+    (at-each facts wanted DOCUMENT leaf_symbol b leaves-checked) in
+    let plain : all_ascii (spell leaf_symbol) ≡ true = ap (λ (p : Facts). p.3) all in
+    let number : leaf_number (kind_of leaf_symbol) ≡ (token leaf_symbol []).0 = ap (λ (p : Facts). p.1) all in (
+      record { kind = kind_of leaf_symbol; text = spell leaf_symbol },
       record {
-        characters = IsUtf8-from_ascii (spell l) (is-ascii (spell l) plain);
-        token = subst (λ (x : List ℕ). Tok (kind_of l) x) (take-length (spell l)) (sound (spell l) (kind_of l) (length (spell l)) (ap (λ (p : Facts). p.0) all)).stands.token;
+        characters = IsUtf8-from_ascii (spell leaf_symbol) (is-ascii (spell leaf_symbol) plain);
+        token = subst (λ (x : List ℕ). Tok (kind_of leaf_symbol) x) (take-length (spell leaf_symbol))
+            (sound (spell leaf_symbol) (kind_of leaf_symbol) (length (spell leaf_symbol)) (ap (λ (p : Facts). p.0) all)).stands.token;
         significant = ap (λ (p : Facts). p.2) all;
       },
-      ap (λ (n : ℕ). (n, spell l)) number,
+      ap (λ (n : ℕ). (n, spell leaf_symbol)) number,
     )
 
-listed-words : (v : List Token) → AllSpelt v → (words : List Word) × AreWords words × (map token_of words ≡ v)
-listed-words [] h = ([], tt, refl)
-listed-words (a ∷ v) h =
-    let one = leaf-word h.0.0 h.0.1 in
-    let more = listed-words v h.1 in
-    (one.0 ∷ more.0, (one.1, more.1), ap₂ (λ (x : Token) (y : List Token). x ∷ y) (one.2 ∙ sym h.0.2) more.2)
+listed-words : (tokens : List Token) → AllSpelt tokens → (words : List Word) × AreWords words × (map token_of words ≡ tokens)
+listed-words [] all_spelt = ([], tt, refl)
+listed-words (this_token ∷ tokens) all_spelt =
+    let one = leaf-word all_spelt.0.0 all_spelt.0.1 in
+    let more = listed-words tokens all_spelt.1 in
+    (one.0 ∷ more.0, (one.1, more.1), ap₂ (λ (x : Token) (others : List Token). x ∷ others) (one.2 ∙ sym all_spelt.0.2) more.2)
 
-pub begins-text : (sort : Sort) (source : List ℕ) (before : List Item) (item : Item) (more : List Item) (t : Tree) (v : List Token) → IsUtf8 source
+pub begins-text : (sort : Sort) (source : List ℕ) (before : List Item) (item : Item) (more : List Item) (this_tree : Tree) (these_tokens : List Token)
+    → IsUtf8 source
     → Cut source (before ++ item ∷ more) → are_tokens before ≡ true
-    → Spells (map token_of (Significant before) ++ v) t sort → AllSpelt v → Begins sort (texts before)
-begins-text sort source before item more t v u cut h s spelt =
-    let w = listed-words v spelt in
+    → Spells (map token_of (Significant before) ++ these_tokens) this_tree sort → AllSpelt these_tokens → Begins sort (texts before)
+begins-text sort source before item more this_tree these_tokens u cut h spells spelt =
+    let w = listed-words these_tokens spelt in
     let may = goes_on-by-words source before item more w.0 cut h w.1 in
     let utf : IsUtf8 (texts before ++ feed (ends_in_whitespace before) ++ spaced w.0) = words-follow-text source before item more w.0 cut w.1 u in
-    let e : texts before ++ feed (ends_in_whitespace before) ++ spaced w.0 ≡ texts before ++ (feed (ends_in_whitespace before) ++ spaced w.0) = append_assoc (texts before) (feed (ends_in_whitespace before)) (spaced w.0) in
-    let y : map token_of (Significant (before ++ may.rest)) ≡ map token_of (Significant before) ++ v =
-    ap (λ (l : List Word). map token_of l) may.significant ∙ map-append token_of (Significant before) w.0 ∙ ap (λ (l : List Token). map token_of (Significant before) ++ l) w.2 in
+    let e : texts before ++ feed (ends_in_whitespace before) ++ spaced w.0 ≡ texts before
+    ++ (feed (ends_in_whitespace before) ++ spaced w.0) = append_assoc (texts before) (feed (ends_in_whitespace before)) (spaced w.0) in
+    let y : map token_of (Significant (before ++ may.rest)) ≡ map token_of (Significant before) ++ these_tokens =
+    ap (λ (l : List Word). map token_of l) may.significant ∙ map-append token_of (Significant before) w.0
+    ∙ ap (λ (l : List Token). map token_of (Significant before) ++ l) w.2 in
     record {
       rest = feed (ends_in_whitespace before) ++ spaced w.0;
-      tree = t;
+      tree = this_tree;
       characters = subst IsUtf8 e utf;
       sentence = record {
         items = before ++ may.rest;
         cut = subst (λ (x : List ℕ). Cut x (before ++ may.rest)) e may.cut;
         tokens = may.tokens;
-        derivation = s.0;
-        yield = s.1 ∙ sym y;
+        derivation = spells.0;
+        yield = spells.1 ∙ sym y;
       };
     }
 
@@ -126,6 +142,6 @@ begins-text sort source before item more t v u cut h s spelt =
 pub reached-begins-text : (sort : Sort) (source : List ℕ) (before : List Item) (item : Item) (more : List Item) (rest : List Token) (fs : List Frame)
     → IsUtf8 source → Cut source (before ++ item ∷ more) → are_tokens before ≡ true
     → Reached sort (map token_of (Significant before)) rest fs → Begins sort (texts before)
-reached-begins-text sort source before item more rest fs u cut h c =
-    let k = reached-begins sort (map token_of (Significant before)) rest fs c in
+reached-begins-text sort source before item more rest fs u cut h reached =
+    let k = reached-begins sort (map token_of (Significant before)) rest fs reached in
     begins-text sort source before item more k.0 k.1 u cut h k.2 k.3

@@ -22,10 +22,10 @@ arcs_mask [] = 0
 arcs_mask (a ∷ more) = bit_or (entries_mask (entries a.0)) (arcs_mask more)
 
 unfoldable pub follow : ℕ → ℕ → ℕ
-follow k x = let p = get_or follows k (0, 0) in cond (eqb x 0) p.0 p.1
+follow child x = let p = get_or follows child (0, 0) in cond (eqb x 0) p.0 p.1
 
 unfoldable pub row_of : ℕ → List State
-row_of k = get_or rows (k - DOCUMENT) []
+row_of child = get_or rows (child - DOCUMENT) []
 
 abbrev pub all_ends : List State → (ℕ → Bool) → Bool
 all_ends [] t = true
@@ -34,7 +34,7 @@ all_ends (state e x a ∷ more) t = (not e or t x) and all_ends more t
 -- A test for each exit that a symbol can have.
 unfoldable pub exits : ℕ → (ℕ → Bool) → Bool
 unfolding row_of
-exits k t = cond (is_leaf k) (t 0) (all_ends (row_of k) t)
+exits child t = cond (is_leaf child) (t 0) (all_ends (row_of child) t)
 
 abbrev pub all_arcs : List (ℕ × ℕ) → (ℕ → ℕ → Bool) → Bool
 all_arcs [] t = true
@@ -70,40 +70,44 @@ every_arc t = every_state (λ s q v. all_arcs (state_arcs v) (t s))
 abbrev pub state_begins : State → ℕ
 state_begins v = arcs_mask (state_arcs v)
 
--- A node that may follow `k` after which the row of `s` is in the state `v`.
+-- A node that may follow `child` after which the row of `symbol` is in the state `v`.
 abbrev pub follow_test : ℕ → ℕ → ℕ → Bool
-follow_test s k q = exits k (λ x. subset (state_begins (at s (q + x))) (follow k x) and (not (ends s (q + x)) or subset (follow s (exit s (q + x))) (follow k x)))
+follow_test symbol child row_state = exits child (λ x. subset (state_begins (at symbol (row_state + x))) (follow child x)
+    and (not (ends symbol (row_state + x)) or subset (follow symbol (exit symbol (row_state + x))) (follow child x)))
 
 abbrev pub close_test : ℕ → State → Bool
-close_test s v = not (state_ends v) or disjoint (state_begins v) (follow s (state_exit v))
+close_test symbol v = not (state_ends v) or disjoint (state_begins v) (follow symbol (state_exit v))
 
 abbrev pub clear : ℕ → ℕ → ℕ → ℕ → Bool
-clear s q x y = disjoint y (state_begins (at s (q + x))) and (not (ends s (q + x)) or disjoint y (follow s (exit s (q + x))))
+clear symbol row_state x y = disjoint y (state_begins (at symbol (row_state + x)))
+    and (not (ends symbol (row_state + x)) or disjoint y (follow symbol (exit symbol (row_state + x))))
 
--- Where the symbol `k` leads to the state `q`, the symbol `j` does not begin.
+-- Where the symbol `child` leads to the state `row_state`, the symbol `j` does not begin.
 abbrev pub differ : ℕ → ℕ → ℕ → ℕ → Bool
-differ s k q j = all_entries (entries j) (λ x2 y2 a2. all_entries (entries k) (λ x1 y1 a1. disjoint x1 x2 or (not a2 and disjoint y1 y2 and (not a1 or exits k (λ x. clear s q x y2)))))
+differ symbol child row_state j = all_entries (entries j) (λ x2 y2 a2. all_entries (entries child)
+    (λ x1 y1 a1. disjoint x1 x2 or (not a2 and disjoint y1 y2 and (not a1 or exits child (λ x. clear symbol row_state x y2)))))
 
 abbrev pub choice_arcs : ℕ → List (ℕ × ℕ) → Bool
-choice_arcs s [] = true
-choice_arcs s (a ∷ more) = all_arcs more (λ k q. differ s k q a.0) and choice_arcs s more
+choice_arcs symbol [] = true
+choice_arcs symbol (a ∷ more) = all_arcs more (λ k q. differ symbol k q a.0) and choice_arcs symbol more
 
 abbrev pub choice_test : ℕ → State → Bool
-choice_test s v = choice_arcs s (state_arcs v)
+choice_test symbol v = choice_arcs symbol (state_arcs v)
 
--- An entry of the first child, before the state `q` of its parent, is in an entry of the parent.
+-- An entry of the first child, before the state `row_state` of its parent, is in an entry of the parent.
 abbrev pub covered : ℕ → ℕ → ℕ → ℕ → ℕ → Bool → Bool
-covered s q x x1 y1 a1 = any_entries (entries s) (λ x2 y2 a2. subset x1 x2 and subset y1 y2 and (not a1 or (subset (state_begins (at s (q + x))) y2 and (not (ends s (q + x)) or a2))))
+covered symbol row_state x x1 y1 a1 = any_entries (entries symbol) (λ x2 y2 a2. subset x1 x2 and subset y1 y2
+    and (not a1 or (subset (state_begins (at symbol (row_state + x))) y2 and (not (ends symbol (row_state + x)) or a2))))
 
 -- The test of the first state of a row, which does not end there.
 abbrev pub first_arc : ℕ → ℕ → ℕ → Bool
-first_arc s k q = exits k (λ x. all_entries (entries k) (covered s q x))
+first_arc symbol child row_state = exits child (λ x. all_entries (entries child) (covered symbol row_state x))
 
 abbrev pub first_test : ℕ → ℕ → State → Bool
-first_test s q v = not (eqb q 0) or (all_arcs (state_arcs v) (first_arc s) and not (state_ends v))
+first_test symbol row_state v = not (eqb row_state 0) or (all_arcs (state_arcs v) (first_arc symbol) and not (state_ends v))
 
 abbrev pub leaf_entry : ℕ → Bool
-leaf_entry l = all_entries (entries l) (λ x y a. a and eqb y 0)
+leaf_entry leaf_symbol = all_entries (entries leaf_symbol) (λ x y a. a and eqb y 0)
 
 pub follow-checked : every_arc follow_test ≡ true
 unfolding ◌and◌ ◌or◌ holds is_leaf at ends exit arcs entries rows firsts follows follow exits arcs_mask

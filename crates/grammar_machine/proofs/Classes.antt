@@ -20,10 +20,10 @@ pub holds-and : (a x y : ℕ) → holds a x ≡ true → holds a y ≡ true → 
 unfolding holds
 holds-and a x y h k = let e : bit_at (bit_and x y) a ≡ 1 = omega (arith, bit_at_and x y a, eqb-true _ _ h, eqb-true _ _ k) in rw e refl
 
--- Without the class `c`, the set `s` is in `y`.
-pub holds-but : (a c s y : ℕ) → holds a s ≡ true → a ≢ c → subset s (bit_or (2 ^ c) y) ≡ true → holds a y ≡ true
+-- Without the class `c`, the set `set` is in `y`.
+pub holds-but : (a c set y : ℕ) → holds a set ≡ true → a ≢ c → subset set (bit_or (2 ^ c) y) ≡ true → holds a y ≡ true
 unfolding holds
-holds-but a c s y h n t =
-    let k = eqb-true _ _ (holds-subset a s (bit_or (2 ^ c) y) t h) in
+holds-but a c set y h n t =
+    let k = eqb-true _ _ (holds-subset a set (bit_or (2 ^ c) y) t h) in
     let e : bit_at y a ≡ 1 = omega (arith, k, bit_at_or (2 ^ c) y a, bit_at-lt y a, bit_at-pow_other c a n) in
     rw e refl

@@ -20,138 +20,144 @@ use Rattle.grammar_machine.proofs.Checks.{all_below}
 -- A tree of the tables in the kinds as which its symbols are shown: the node of a type stays.
 abbrev mutual
   pub relabel : Tree → Tree
-  relabel (leaf l x) = leaf (label l) x
-  relabel (node s f) = node (label s) (relabels f)
+  relabel (leaf leaf_symbol text) = leaf (label leaf_symbol) text
+  relabel (node symbol forest) = node (label symbol) (relabels forest)
 
   pub relabels : Forest → Forest
   relabels none = none
-  relabels (t ▸ f) = relabel t ▸ relabels f
+  relabels (tree ▸ forest) = relabel tree ▸ relabels forest
 
-root-relabel : (t : Tree) → root (relabel t) ≡ label (root t)
-root-relabel (leaf l x) = refl
-root-relabel (node s f) = refl
+root-relabel : (tree : Tree) → root (relabel tree) ≡ label (root tree)
+root-relabel (leaf leaf_symbol text) = refl
+root-relabel (node symbol forest) = refl
 
-relabels-append : (f g : Forest) → relabels (f +++ g) ≡ relabels f +++ relabels g
-relabels-append none g = refl
-relabels-append (t ▸ f) g = ap (λ (h : Forest). relabel t ▸ h) (relabels-append f g)
+relabels-append : (forest more_trees : Forest) → relabels (forest +++ more_trees) ≡ relabels forest +++ relabels more_trees
+relabels-append none more_trees = refl
+relabels-append (tree ▸ forest) more_trees = ap (λ (h : Forest). relabel tree ▸ h) (relabels-append forest more_trees)
 
--- Whether a child of the symbol `k` in a node of the symbol `s` is counted; how deep the children of such a node nest; and a tree, which
+-- Whether a child of the symbol `child` in a node of the symbol `symbol` is counted; how deep the children of such a node nest; and a tree, which
 -- counts as a child of a DOCUMENT does.
 abbrev pub count_in : ℕ → ℕ → ℕ
-count_in s k = counts (label s) (label k)
+count_in symbol child = counts (label symbol) (label child)
 
 abbrev pub nestings : ℕ → Forest → ℕ
-nestings s f = belows (label s) (relabels f)
+nestings symbol forest = belows (label symbol) (relabels forest)
 
 abbrev pub nesting_all : Tree → ℕ
-nesting_all t = count_in DOCUMENT (root t) + below (relabel t)
+nesting_all tree = count_in DOCUMENT (root tree) + below (relabel tree)
 
 -- Children and one more tree.
-nestings-then : (s : ℕ) (f : Forest) (t : Tree) (g : Forest)
-    → nestings s (f +++ (t ▸ g)) ≡ max (nestings s f) (max (count_in s (root t) + below (relabel t)) (nestings s g))
-nestings-then s f t g =
-    ap (belows (label s)) (relabels-append f (t ▸ g)) ∙ belows-append (label s) (relabels f) (relabels (t ▸ g))
-    ∙ ap (λ (k : ℕ). max (nestings s f) (max (counts (label s) k + below (relabel t)) (nestings s g))) (root-relabel t)
+nestings-then : (symbol : ℕ) (forest : Forest) (tree : Tree) (more_trees : Forest)
+    → nestings symbol (forest +++ (tree ▸ more_trees)) ≡ max (nestings symbol forest)
+    (max (count_in symbol (root tree) + below (relabel tree)) (nestings symbol more_trees))
+nestings-then symbol forest tree more_trees =
+    ap (belows (label symbol)) (relabels-append forest (tree ▸ more_trees)) ∙ belows-append (label symbol) (relabels forest) (relabels (tree ▸ more_trees))
+    ∙ ap (λ (k : ℕ). max (nestings symbol forest) (max (counts (label symbol) k + below (relabel tree)) (nestings symbol more_trees))) (root-relabel tree)
 
--- The counted nodes among the open ones and a child of the symbol `k`, and among the open ones alone.
+-- The counted nodes among the open ones and a child of the symbol `child`, and among the open ones alone.
 abbrev pub depth_above : List Frame → ℕ → ℕ
-depth_above [] k = count_in DOCUMENT k
-depth_above (frame s q f ∷ fs) k = depth_above fs s + count_in s k
+depth_above [] child = count_in DOCUMENT child
+depth_above (frame symbol state forest ∷ fs) child = depth_above fs symbol + count_in symbol child
 
 abbrev pub depth : List Frame → ℕ
 depth [] = 0
-depth (frame s q f ∷ fs) = depth_above fs s
+depth (frame symbol state forest ∷ fs) = depth_above fs symbol
 
 -- They are at most those of each tree of which the open nodes are the left part.
-upper-depth : (fs : List Frame) (x : Tree) (r : List Token) (t : Tree) → Upper fs x r t → depth_above fs (root x) + below (relabel x) ≤ nesting_all t
-upper-depth [] x r t h = let e : nesting_all x ≡ nesting_all t = ap nesting_all h.0 in omega arith
-upper-depth (frame s q f ∷ fs) x r t h =
-    let b : depth_above fs s + nestings s (f +++ (x ▸ h.0)) ≤ nesting_all t = upper-depth fs (node s (f +++ (x ▸ h.0))) h.1 t h.4 in
-    omega (arith, nestings-then s f x h.0)
+upper-depth : (fs : List Frame) (tree : Tree) (rest : List Token) (other_tree : Tree) → Upper fs tree rest other_tree
+    → depth_above fs (root tree) + below (relabel tree) ≤ nesting_all other_tree
+upper-depth [] tree rest other_tree upper = let e : nesting_all tree ≡ nesting_all other_tree = ap nesting_all upper.0 in omega arith
+upper-depth (frame symbol state forest ∷ fs) tree rest other_tree upper =
+    let b : depth_above fs symbol + nestings symbol (forest +++ (tree ▸ upper.0)) ≤ nesting_all other_tree = upper-depth fs
+    (node symbol (forest +++ (tree ▸ upper.0))) upper.1 other_tree upper.4 in
+    omega (arith, nestings-then symbol forest tree upper.0)
 
-pub left-depth : (fs : List Frame) (r : List Token) (t : Tree) → Left fs r t → depth fs ≤ nesting_all t
-left-depth [] r t h = absurd h
-left-depth (frame s q f ∷ fs) r t h =
-    let b : depth_above fs s + nestings s (f +++ h.0) ≤ nesting_all t = upper-depth fs (node s (f +++ h.0)) h.1 t h.4 in
+pub left-depth : (fs : List Frame) (rest : List Token) (tree : Tree) → Left fs rest tree → depth fs ≤ nesting_all tree
+left-depth [] rest tree left = absurd left
+left-depth (frame symbol state forest ∷ fs) rest tree left =
+    let b : depth_above fs symbol + nestings symbol (forest +++ left.0) ≤ nesting_all tree = upper-depth fs
+    (node symbol (forest +++ left.0)) left.1 tree left.4 in
     omega arith
 
 -- A derivation nests as deep as its tree of the tables. A child's part, under a parent of the kind `j`:
 abbrev part_of : ℕ → Tree → ℕ
-part_of j t = weight j (root t) + below t
+part_of j tree = weight j (root tree) + below tree
 
 type-weights : (j : ℕ) → (weight j NAMED_TYPE ≡ 0) × (weight j NON_NULL_TYPE ≡ 0)
 unfolding member ◌and◌
 type-weights j = (weight-none j NAMED_TYPE refl, weight-none j NON_NULL_TYPE refl)
 
-type-weight : (j k : ℕ) → (k ≡ NAMED_TYPE) ⊎ (k ≡ LIST_TYPE) → weight j k ≡ weight NAMED_TYPE k
+type-weight : (j child : ℕ) → (child ≡ NAMED_TYPE) ⊎ (child ≡ LIST_TYPE) → weight j child ≡ weight NAMED_TYPE child
 unfolding member
-type-weight j k h = elim h [ inl p ↦ weight-no_value j NAMED_TYPE k (rw p refl) | inr p ↦ weight-no_value j NAMED_TYPE k (rw p refl) ]
+type-weight j child h = elim h [ inl p ↦ weight-no_value j NAMED_TYPE child (rw p refl) | inr p ↦ weight-no_value j NAMED_TYPE child (rw p refl) ]
 
-type-belows : (f : Forest) → belows NON_NULL_TYPE f ≡ belows NAMED_TYPE f
+type-belows : (forest : Forest) → belows NON_NULL_TYPE forest ≡ belows NAMED_TYPE forest
 unfolding member
-type-belows f = belows-same NON_NULL_TYPE NAMED_TYPE f refl refl
+type-belows forest = belows-same NON_NULL_TYPE NAMED_TYPE forest refl refl
 
-type-part : (j : ℕ) (f : Forest) → OkFrom TYPE 0 f → belows NAMED_TYPE (shows f) ≡ belows NAMED_TYPE (relabels f)
-    → part_of j (type_of (shows f)) ≡ weight j NAMED_TYPE + belows NAMED_TYPE (relabels f)
+type-part : (j : ℕ) (forest : Forest) → OkFrom TYPE 0 forest → belows NAMED_TYPE (shows forest) ≡ belows NAMED_TYPE (relabels forest)
+    → part_of j (type_of (shows forest)) ≡ weight j NAMED_TYPE + belows NAMED_TYPE (relabels forest)
 unfolding weight
-type-part j none o h = false-true type-end o
-type-part j (t ▸ none) o h =
-    let w = type-weight j (root (show t)) (type-child t o.1 (type-arc (root t) o.0)) in
+type-part j none ok_from h = false-true type-end ok_from
+type-part j (tree ▸ none) ok_from h =
+    let w = type-weight j (root (show tree)) (type-child tree ok_from.1 (type-arc (root tree) ok_from.0)) in
     let z = type-weights j in
     omega (arith, w, z, h)
-type-part j (t ▸ (u ▸ f)) o h =
+type-part j (tree ▸ (other_tree ▸ forest)) ok_from h =
     let z = type-weights j in
-    let e = type-belows (shows (t ▸ (u ▸ f))) in
+    let e = type-belows (shows (tree ▸ (other_tree ▸ forest))) in
     omega (arith, z, e, h)
 
 mutual
   unfolding weight
 
-  part : (t : Tree) (j : ℕ) → Ok t → part_of j (show t) ≡ part_of j (relabel t)
-  part (leaf l x) j o = refl
-  part (node s f) j o = elim (either (eqb s TYPE)) [
-    | inl e ↦ (let x : s ≡ TYPE = eqb-true s TYPE e in let h = parts f s 0 o.1 in
-        rw (e, x, labels-checked.2) (type-part j f (rw x at o.1) (rw (x, labels-checked.2) at h)))
-    | inr e ↦ rw e (ap (λ (n : ℕ). weight j (label s) + n) (parts f s 0 o.1))
+  part : (tree : Tree) (j : ℕ) → Ok tree → part_of j (show tree) ≡ part_of j (relabel tree)
+  part (leaf leaf_symbol text) j ok = refl
+  part (node symbol forest) j ok = elim (either (eqb symbol TYPE)) [
+    | inl e ↦ (let x : symbol ≡ TYPE = eqb-true symbol TYPE e in let h = parts forest symbol 0 ok.1 in
+        rw (e, x, labels-checked.2) (type-part j forest (rw x at ok.1) (rw (x, labels-checked.2) at h)))
+    | inr e ↦ rw e (ap (λ (n : ℕ). weight j (label symbol) + n) (parts forest symbol 0 ok.1))
   ]
 
-  parts : (f : Forest) (s q : ℕ) → OkFrom s q f → belows (label s) (shows f) ≡ nestings s f
-  parts none s q o = refl
-  parts (t ▸ f) s q o = ap₂ (λ (x y : ℕ). max x y) (part t (label s) o.1) (parts f s (target s q (root t) + finish t) o.2)
+  parts : (forest : Forest) (symbol state : ℕ) → OkFrom symbol state forest → belows (label symbol) (shows forest) ≡ nestings symbol forest
+  parts none symbol state ok_from = refl
+  parts (tree ▸ forest) symbol state ok_from = ap₂ (λ (x y : ℕ). max x y) (part tree (label symbol) ok_from.1)
+      (parts forest symbol (target symbol state (root tree) + finish tree) ok_from.2)
 
-pub nest-show : (t : Tree) → Ok t → nest (show t) ≡ nesting_all t
+pub nest-show : (tree : Tree) → Ok tree → nest (show tree) ≡ nesting_all tree
 unfolding weight label labels
-nest-show t o = part t DOCUMENT o ∙ ap (λ (k : ℕ). counts DOCUMENT k + below (relabel t)) (root-relabel t)
+nest-show tree ok = part tree DOCUMENT ok ∙ ap (λ (k : ℕ). counts DOCUMENT k + below (relabel tree)) (root-relabel tree)
 
 -- The greatest number of counted nodes that were open at once is the nesting of the tree in the end: a counter that a parser raises
 -- to the depth at each node that it opens holds it. Below each open node are the counted nodes of the children that it has so far.
 abbrev pub peak : List Frame → ℕ
 peak [] = 0
-peak (frame s q f ∷ fs) = max (depth_above fs s + nestings s f) (peak fs)
+peak (frame symbol state forest ∷ fs) = max (depth_above fs symbol + nestings symbol forest) (peak fs)
 
 -- It starts with the root's own. A node opens; it ends; a leaf, which counts nothing, is read.
-pub peak-start : (s : ℕ) → peak (frame s 0 none ∷ []) ≡ depth_above [] s
-peak-start s = omega arith
+pub peak-start : (symbol : ℕ) → peak (frame symbol 0 none ∷ []) ≡ depth_above [] symbol
+peak-start symbol = omega arith
 
-pub peak-open : (s q k : ℕ) (f : Forest) (fs : List Frame)
-    → peak (frame k 0 none ∷ frame s q f ∷ fs) ≡ max (peak (frame s q f ∷ fs)) (depth_above (frame s q f ∷ fs) k)
-peak-open s q k f fs = omega arith
+pub peak-open : (symbol state child : ℕ) (forest : Forest) (fs : List Frame)
+    → peak (frame child 0 none ∷ frame symbol state forest ∷ fs) ≡ max (peak (frame symbol state forest ∷ fs))
+    (depth_above (frame symbol state forest ∷ fs) child)
+peak-open symbol state child forest fs = omega arith
 
-pub peak-close : (s q p k o : ℕ) (f g : Forest) (fs : List Frame)
-    → peak (frame s p (f +++ (node k g ▸ none)) ∷ fs) ≡ peak (frame k o g ∷ frame s q f ∷ fs)
-peak-close s q p k o f g fs = omega (arith, nestings-then s f (node k g) none)
+pub peak-close : (symbol state p child o : ℕ) (forest more_trees : Forest) (fs : List Frame)
+    → peak (frame symbol p (forest +++ (node child more_trees ▸ none)) ∷ fs) ≡ peak (frame child o more_trees ∷ frame symbol state forest ∷ fs)
+peak-close symbol state p child o forest more_trees fs = omega (arith, nestings-then symbol forest (node child more_trees) none)
 
 leaves-checked : all_below DOCUMENT (λ l. uncounted (label l)) ≡ true
 unfolding ◌and◌ label labels member
 leaves-checked = refl
 
-pub peak-shift : (s q p l : ℕ) (x : Text) (f : Forest) (fs : List Frame) → is_leaf l ≡ true
-    → peak (frame s p (f +++ (leaf l x ▸ none)) ∷ fs) ≡ peak (frame s q f ∷ fs)
+pub peak-shift : (symbol state p leaf_symbol : ℕ) (text : Text) (forest : Forest) (fs : List Frame) → is_leaf leaf_symbol ≡ true
+    → peak (frame symbol p (forest +++ (leaf leaf_symbol text ▸ none)) ∷ fs) ≡ peak (frame symbol state forest ∷ fs)
 unfolding weight
-peak-shift s q p l x f fs i =
-    let z = weight-none (label s) (label l) (below-at (λ l. uncounted (label l)) DOCUMENT l (leaf-lt l i) leaves-checked) in
-    omega (arith, z, nestings-then s f (leaf l x) none)
+peak-shift symbol state p l text forest fs i =
+    let z = weight-none (label symbol) (label l) (below-at (λ l. uncounted (label l)) DOCUMENT l (leaf-lt l i) leaves-checked) in
+    omega (arith, z, nestings-then symbol forest (leaf l text) none)
 
 -- At the end it is the nesting of the tree.
-pub peak-end : (s q : ℕ) (f : Forest) → peak (frame s q f ∷ []) ≡ nesting_all (node s f)
-peak-end s q f = omega arith
+pub peak-end : (symbol state : ℕ) (forest : Forest) → peak (frame symbol state forest ∷ []) ≡ nesting_all (node symbol forest)
+peak-end symbol state forest = omega arith

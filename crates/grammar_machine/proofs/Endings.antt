@@ -11,33 +11,34 @@ use Rattle.document_grammar.specs.Kinds.{words, DOCUMENT, ERROR}
 
 abbrev plant : (ℕ → Tree) → List ℕ → Forest
 plant f [] = none
-plant f (k ∷ ks) = f k ▸ plant f ks
+plant f (child ∷ ks) = f child ▸ plant f ks
 
 abbrev pub spell : ℕ → Text
-spell l = get_or spellings l []
+spell leaf_symbol = get_or spellings leaf_symbol []
 
 abbrev sample : ℕ → ℕ → Tree
-sample zero k = leaf k []
-sample (suc n) k = cond (is_leaf k) (leaf k (spell k)) (node k (plant (λ j. sample n j) (get_or (get_or endings (k - DOCUMENT) []) 0 [])))
+sample zero child = leaf child []
+sample (suc n) child = cond (is_leaf child) (leaf child (spell child))
+    (node child (plant (λ j. sample n j) (get_or (get_or endings (child - DOCUMENT) []) 0 [])))
 
 unfoldable pub ending : ℕ → ℕ → Forest
-ending s q = plant (λ j. sample 7 j) (get_or (get_or endings (s - DOCUMENT) []) q [])
+ending symbol state = plant (λ j. sample 7 j) (get_or (get_or endings (symbol - DOCUMENT) []) state [])
 
 -- Trees that fit the rows, and whose leaves have the texts that are listed for them.
 abbrev mutual
   pub okb : Tree → Bool
-  okb (leaf l x) = is_leaf l and fires l (class (token l x)) 0 and text_eq (spell l) x
-  okb (node s f) = not (is_leaf s) and okb_from s 0 f
+  okb (leaf leaf_symbol text) = is_leaf leaf_symbol and fires leaf_symbol (class (token leaf_symbol text)) 0 and text_eq (spell leaf_symbol) text
+  okb (node symbol forest) = not (is_leaf symbol) and okb_from symbol 0 forest
 
   pub okb_from : ℕ → ℕ → Forest → Bool
-  okb_from s q none = ends s q
-  okb_from s q (t ▸ f) = has s q (root t) and okb t and okb_from s (target s q (root t) + finish t) f
+  okb_from symbol state none = ends symbol state
+  okb_from symbol state (tree ▸ forest) = has symbol state (root tree) and okb tree and okb_from symbol (target symbol state (root tree) + finish tree) forest
 
 unfoldable pub fillable : ℕ → ℕ → Bool
-fillable s q = okb_from s q (ending s q)
+fillable symbol state = okb_from symbol state (ending symbol state)
 
 abbrev pub fill_test : ℕ → ℕ → ℕ → Bool
-fill_test s k q = (is_leaf k or fillable k 0) and exits k (λ x. fillable s (q + x))
+fill_test symbol child state = (is_leaf child or fillable child 0) and exits child (λ x. fillable symbol (state + x))
 
 pub fill-checked : every_arc fill_test ≡ true
 unfolding ◌and◌ ◌or◌ holds is_leaf at ends exit arcs has target entries fires class token words rows firsts exits endings spellings ending fillable
@@ -45,7 +46,8 @@ fill-checked = refl
 
 -- The leaves' classes: those of names, or the leaf's own number.
 abbrev pub leaf_test : ℕ → Bool
-leaf_test l = all_entries (entries l) (λ x y a. cond (holds l name_leaves) (subset x name_classes) (eqb x (2 ^ l) and not (holds l name_classes) and not (eqb l ERROR)))
+leaf_test leaf_symbol = all_entries (entries leaf_symbol) (λ x y a. cond (holds leaf_symbol name_leaves) (subset x name_classes)
+    (eqb x (2 ^ leaf_symbol) and not (holds leaf_symbol name_classes) and not (eqb leaf_symbol ERROR)))
 
 abbrev pub word_tests : List (ℕ × Text) → Bool
 word_tests [] = true

@@ -8,68 +8,81 @@ use Rattle.grammar_machine.proofs.Run.{next, go-close, go-stuck, close-stuck, go
 use Rattle.grammar_machine.proofs.Depth.{depth, nesting_all, peak, peak-open, peak-close, peak-shift, peak-end}
 
 pub data Makes : List Frame → List Token → Tree → Type 0 where
-  made : {s q : ℕ} {f : Forest} {r : List Token} → next s q r ≡ close → Makes (frame s q f ∷ []) r (node s f)
-  shifts : {s q l : ℕ} {f : Forest} {fs : List Frame} {a : Token} {r : List Token} {t : Tree}
-      → next s q (a ∷ r) ≡ go l → IsTrue (is_leaf l) → Makes (frame s (target s q l) (f +++ (leaf l a.1 ▸ none)) ∷ fs) r t
-      → Makes (frame s q f ∷ fs) (a ∷ r) t
-  opens : {s q k : ℕ} {f : Forest} {fs : List Frame} {r : List Token} {t : Tree}
-      → next s q r ≡ go k → IsFalse (is_leaf k) → Makes (frame k 0 none ∷ frame s q f ∷ fs) r t
-      → Makes (frame s q f ∷ fs) r t
-  closes : {s q k p : ℕ} {f g : Forest} {fs : List Frame} {r : List Token} {t : Tree}
-      → next k p r ≡ close → Makes (frame s (target s q k + exit k p) (f +++ (node k g ▸ none)) ∷ fs) r t
-      → Makes (frame k p g ∷ frame s q f ∷ fs) r t
+  made : {symbol state : ℕ} {forest : Forest} {rest : List Token} → next symbol state rest ≡ close
+      → Makes (frame symbol state forest ∷ []) rest (node symbol forest)
+  shifts : {symbol state leaf_symbol : ℕ} {forest : Forest} {fs : List Frame} {token : Token} {rest : List Token} {tree : Tree}
+      → next symbol state (token ∷ rest) ≡ go leaf_symbol → IsTrue (is_leaf leaf_symbol)
+      → Makes (frame symbol (target symbol state leaf_symbol) (forest +++ (leaf leaf_symbol token.1 ▸ none)) ∷ fs) rest tree
+      → Makes (frame symbol state forest ∷ fs) (token ∷ rest) tree
+  opens : {symbol state child : ℕ} {forest : Forest} {fs : List Frame} {rest : List Token} {tree : Tree}
+      → next symbol state rest ≡ go child → IsFalse (is_leaf child) → Makes (frame child 0 none ∷ frame symbol state forest ∷ fs) rest tree
+      → Makes (frame symbol state forest ∷ fs) rest tree
+  closes : {symbol state child p : ℕ} {forest more_trees : Forest} {fs : List Frame} {rest : List Token} {tree : Tree}
+      → next child p rest ≡ close → Makes (frame symbol (target symbol state child + exit child p) (forest +++ (node child more_trees ▸ none)) ∷ fs) rest tree
+      → Makes (frame child p more_trees ∷ frame symbol state forest ∷ fs) rest tree
 
 -- What is made from a configuration on is made from the start on.
-pub makes-from : {s0 : ℕ} {w : List Token} {fs : List Frame} {r : List Token} {t : Tree} → Reach s0 w fs r → Makes fs r t → Makes (frame s0 0 none ∷ []) w t
-makes-from start m = m
-makes-from (shift c e i) m = makes-from c (shifts e i m)
-makes-from (open' c e i) m = makes-from c (opens e i m)
-makes-from (closed c e) m = makes-from c (closes e m)
+pub makes-from : {start_symbol : ℕ} {tokens : List Token} {fs : List Frame} {rest : List Token} {tree : Tree} → Reach start_symbol tokens fs rest
+    → Makes fs rest tree → Makes (frame start_symbol 0 none ∷ []) tokens tree
+makes-from start makes = makes
+makes-from (shift reach e i) makes = makes-from reach (shifts e i makes)
+makes-from (open' reach e i) makes = makes-from reach (opens e i makes)
+makes-from (closed reach e) makes = makes-from reach (closes e makes)
 
 -- One move on.
-after-shift : {s q l : ℕ} {f : Forest} {fs : List Frame} {a : Token} {r : List Token} {t : Tree} → Makes (frame s q f ∷ fs) (a ∷ r) t → next s q (a ∷ r) ≡ go l → IsTrue (is_leaf l)
-    → Makes (frame s (target s q l) (f +++ (leaf l a.1 ▸ none)) ∷ fs) r t
+after-shift : {symbol state leaf_symbol : ℕ} {forest : Forest} {fs : List Frame} {token : Token} {rest : List Token} {tree : Tree}
+    → Makes (frame symbol state forest ∷ fs) (token ∷ rest) tree → next symbol state (token ∷ rest) ≡ go leaf_symbol → IsTrue (is_leaf leaf_symbol)
+    → Makes (frame symbol (target symbol state leaf_symbol) (forest +++ (leaf leaf_symbol token.1 ▸ none)) ∷ fs) rest tree
 after-shift (made e) m i = go-close (sym m ∙ e)
-after-shift {s = s} {q = q} {f = f} {fs = fs} {a = a} {r = r} {t = t} (shifts e j h) m i = subst (λ (n : ℕ). Makes (frame s (target s q n) (f +++ (leaf n a.1 ▸ none)) ∷ fs) r t) (go-inj (sym e ∙ m)) h
-after-shift (opens e j h) m i = false-true (subst (λ (n : ℕ). IsFalse (is_leaf n)) (go-inj (sym e ∙ m)) j) i
-after-shift (closes e h) m i = go-close (sym m ∙ e)
+after-shift {symbol = symbol} {state = state} {forest = forest} {fs = fs} {token = token} {rest = rest} {tree = tree} (shifts e j makes) m i =
+    subst (λ (n : ℕ). Makes (frame symbol (target symbol state n) (forest +++ (leaf n token.1 ▸ none)) ∷ fs) rest tree) (go-inj (sym e ∙ m)) makes
+after-shift (opens e j makes) m i = false-true (subst (λ (n : ℕ). IsFalse (is_leaf n)) (go-inj (sym e ∙ m)) j) i
+after-shift (closes e makes) m i = go-close (sym m ∙ e)
 
-after-open : {s q k : ℕ} {f : Forest} {fs : List Frame} {r : List Token} {t : Tree} → Makes (frame s q f ∷ fs) r t → next s q r ≡ go k → IsFalse (is_leaf k)
-    → Makes (frame k 0 none ∷ frame s q f ∷ fs) r t
+after-open : {symbol state child : ℕ} {forest : Forest} {fs : List Frame} {rest : List Token} {tree : Tree} → Makes (frame symbol state forest ∷ fs) rest tree
+    → next symbol state rest ≡ go child → IsFalse (is_leaf child)
+    → Makes (frame child 0 none ∷ frame symbol state forest ∷ fs) rest tree
 after-open (made e) m i = go-close (sym m ∙ e)
-after-open (shifts e j h) m i = false-true i (subst (λ (n : ℕ). IsTrue (is_leaf n)) (go-inj (sym e ∙ m)) j)
-after-open {s = s} {q = q} {f = f} {fs = fs} {r = r} {t = t} (opens e j h) m i = subst (λ (n : ℕ). Makes (frame n 0 none ∷ frame s q f ∷ fs) r t) (go-inj (sym e ∙ m)) h
-after-open (closes e h) m i = go-close (sym m ∙ e)
+after-open (shifts e j makes) m i = false-true i (subst (λ (n : ℕ). IsTrue (is_leaf n)) (go-inj (sym e ∙ m)) j)
+after-open {symbol = symbol} {state = state} {forest = forest} {fs = fs} {rest = rest} {tree = tree} (opens e j makes) m i =
+    subst (λ (n : ℕ). Makes (frame n 0 none ∷ frame symbol state forest ∷ fs) rest tree) (go-inj (sym e ∙ m)) makes
+after-open (closes e makes) m i = go-close (sym m ∙ e)
 
-after-close : {s q k p : ℕ} {f g : Forest} {fs : List Frame} {r : List Token} {t : Tree} → Makes (frame k p g ∷ frame s q f ∷ fs) r t → next k p r ≡ close
-    → Makes (frame s (target s q k + exit k p) (f +++ (node k g ▸ none)) ∷ fs) r t
-after-close (shifts e j h) m = go-close (sym e ∙ m)
-after-close (opens e j h) m = go-close (sym e ∙ m)
-after-close (closes e h) m = h
+after-close : {symbol state child p : ℕ} {forest more_trees : Forest} {fs : List Frame} {rest : List Token} {tree : Tree}
+    → Makes (frame child p more_trees ∷ frame symbol state forest ∷ fs) rest tree → next child p rest ≡ close
+    → Makes (frame symbol (target symbol state child + exit child p) (forest +++ (node child more_trees ▸ none)) ∷ fs) rest tree
+after-close (shifts e j makes) m = go-close (sym e ∙ m)
+after-close (opens e j makes) m = go-close (sym e ∙ m)
+after-close (closes e makes) m = makes
 
 -- What is made from the start on is made from each configuration on.
-pub makes-on : {s0 : ℕ} {w : List Token} {fs : List Frame} {r : List Token} {t : Tree} → Reach s0 w fs r → Makes (frame s0 0 none ∷ []) w t → Makes fs r t
-makes-on start m = m
-makes-on (shift c e i) m = after-shift (makes-on c m) e i
-makes-on (open' c e i) m = after-open (makes-on c m) e i
-makes-on (closed c e) m = after-close (makes-on c m) e
+pub makes-on : {start_symbol : ℕ} {tokens : List Token} {fs : List Frame} {rest : List Token} {tree : Tree} → Reach start_symbol tokens fs rest
+    → Makes (frame start_symbol 0 none ∷ []) tokens tree → Makes fs rest tree
+makes-on start makes = makes
+makes-on (shift reach e i) makes = after-shift (makes-on reach makes) e i
+makes-on (open' reach e i) makes = after-open (makes-on reach makes) e i
+makes-on (closed reach e) makes = after-close (makes-on reach makes) e
 
 -- The machine is not stuck on the way.
-pub makes-stuck : {s q : ℕ} {f : Forest} {fs : List Frame} {r : List Token} {t : Tree} → Makes (frame s q f ∷ fs) r t → next s q r ≡ stuck → ⊥
+pub makes-stuck : {symbol state : ℕ} {forest : Forest} {fs : List Frame} {rest : List Token} {tree : Tree} → Makes (frame symbol state forest ∷ fs) rest tree
+    → next symbol state rest ≡ stuck → ⊥
 makes-stuck (made e) m = close-stuck (sym e ∙ m)
-makes-stuck (shifts e j h) m = go-stuck (sym e ∙ m)
-makes-stuck (opens e j h) m = go-stuck (sym e ∙ m)
-makes-stuck (closes e h) m = close-stuck (sym e ∙ m)
+makes-stuck (shifts e j makes) m = go-stuck (sym e ∙ m)
+makes-stuck (opens e j makes) m = go-stuck (sym e ∙ m)
+makes-stuck (closes e makes) m = close-stuck (sym e ∙ m)
 
-pub makes-peak : {fs : List Frame} {r : List Token} {t : Tree} → Makes fs r t → peak fs ≤ nesting_all t
-makes-peak (made {s = s} {q = q} {f = f} e) = omega (arith, peak-end s q f)
-makes-peak (shifts {s = s} {q = q} {l = l} {f = f} {fs = fs} {a = a} e i h) = omega (arith, peak-shift s q (target s q l) l a.1 f fs i, makes-peak h)
-makes-peak (opens {s = s} {q = q} {k = k} {f = f} {fs = fs} e i h) = omega (arith, peak-open s q k f fs, makes-peak h)
-makes-peak (closes {s = s} {q = q} {k = k} {p = p} {f = f} {g = g} {fs = fs} e h) = omega (arith, peak-close s q (target s q k + exit k p) k p f g fs, makes-peak h)
+pub makes-peak : {fs : List Frame} {rest : List Token} {tree : Tree} → Makes fs rest tree → peak fs ≤ nesting_all tree
+makes-peak (made {symbol = symbol} {state = state} {forest = forest} e) = omega (arith, peak-end symbol state forest)
+makes-peak (shifts {symbol = symbol} {state = state} {leaf_symbol = leaf_symbol} {forest = forest} {fs = fs} {token = token} e i makes) =
+    omega (arith, peak-shift symbol state (target symbol state leaf_symbol) leaf_symbol token.1 forest fs i, makes-peak makes)
+makes-peak (opens {symbol = symbol} {state = state} {child = child} {forest = forest} {fs = fs} e i makes) =
+    omega (arith, peak-open symbol state child forest fs, makes-peak makes)
+makes-peak (closes {symbol = symbol} {state = state} {child = child} {p = p} {forest = forest} {more_trees = more_trees} {fs = fs} e makes) =
+    omega (arith, peak-close symbol state (target symbol state child + exit child p) child p forest more_trees fs, makes-peak makes)
 
 depth-peak : (fs : List Frame) → depth fs ≤ peak fs
 depth-peak [] = omega arith
-depth-peak (frame s q f ∷ fs) = omega arith
+depth-peak (frame symbol state forest ∷ fs) = omega arith
 
-pub makes-depth : {fs : List Frame} {r : List Token} {t : Tree} → Makes fs r t → depth fs ≤ nesting_all t
-makes-depth {fs = fs} h = omega (arith, depth-peak fs, makes-peak h)
+pub makes-depth : {fs : List Frame} {rest : List Token} {tree : Tree} → Makes fs rest tree → depth fs ≤ nesting_all tree
+makes-depth {fs = fs} makes = omega (arith, depth-peak fs, makes-peak makes)

@@ -7,28 +7,30 @@ use Rattle.grammar_machine.proofs.Run.{reach-other}
 use Rattle.grammar_machine.proofs.Sound.{any, second-any}
 use Rattle.grammar_machine.proofs.Steps.{closes, closes-move}
 
-pub record Firm (s0 : ℕ) (w : List Token) (fs : List Frame) (r : List Token) : Type 0 where
+pub record Firm (start_symbol : ℕ) (tokens : List Token) (fs : List Frame) (rest : List Token) : Type 0 where
   pub before : List Token
-  pub split : w ≡ before ++ r
-  pub firm : (v : List Token) → first r ≡ first v → Reach s0 (before ++ v) fs v
+  pub split : tokens ≡ before ++ rest
+  pub firm : (these_tokens : List Token) → first rest ≡ first these_tokens → Reach start_symbol (before ++ these_tokens) fs these_tokens
 
-pub firm-shift : {s0 : ℕ} {w : List Token} {s q l : ℕ} {f : Forest} {fs : List Frame} {a : Token} {r : List Token}
-    → Reach s0 w (frame s q f ∷ fs) (a ∷ r) → move s q (first (a ∷ r)) (second (a ∷ r)) ≡ go l → IsTrue (is_leaf l)
-    → Firm s0 w (frame s (target s q l) (f +++ (leaf l a.1 ▸ none)) ∷ fs) r
+pub firm-shift : {start_symbol : ℕ} {tokens : List Token} {symbol state leaf_symbol : ℕ} {forest : Forest} {fs : List Frame} {token : Token} {rest : List Token}
+    → Reach start_symbol tokens (frame symbol state forest ∷ fs) (token ∷ rest)
+    → move symbol state (first (token ∷ rest)) (second (token ∷ rest)) ≡ go leaf_symbol → IsTrue (is_leaf leaf_symbol)
+    → Firm start_symbol tokens (frame symbol (target symbol state leaf_symbol) (forest +++ (leaf leaf_symbol token.1 ▸ none)) ∷ fs) rest
 unfolding first second
-firm-shift {s0} {s = s} {q = q} {l = l} {f = f} {fs = fs} {a = a} {r = r} c m i =
-    let p = reach-other c in
+firm-shift {start_symbol} {symbol = symbol} {state = state} {leaf_symbol = leaf_symbol} {forest = forest} {fs = fs} {token = token} {rest = rest} reach m i =
+    let p = reach-other reach in
     record {
-      before = p.0 ++ (a ∷ []);
-      split = p.1 ∙ sym (append_assoc p.0 (a ∷ []) r);
-      firm = λ v e. subst (λ (z : List Token). Reach s0 z (frame s (target s q l) (f +++ (leaf l a.1 ▸ none)) ∷ fs) v) (sym (append_assoc p.0 (a ∷ []) v)) (shift (p.2 (a ∷ v) refl e) (rw e at m) i);
+      before = p.0 ++ (token ∷ []);
+      split = p.1 ∙ sym (append_assoc p.0 (token ∷ []) rest);
+      firm = λ v e. subst (λ (z : List Token). Reach start_symbol z (frame symbol (target symbol state leaf_symbol)
+          (forest +++ (leaf leaf_symbol token.1 ▸ none)) ∷ fs) v) (sym (append_assoc p.0 (token ∷ []) v)) (shift (p.2 (token ∷ v) refl e) (rw e at m) i);
     }
 
-pub firm-close : {s0 : ℕ} {w : List Token} {s q k p : ℕ} {f g : Forest} {fs : List Frame} {r : List Token} (x : ℕ)
-    → Firm s0 w (frame k p g ∷ frame s q f ∷ fs) r → closes k p x any ≡ true → holds (first r) x ≡ true
-    → Firm s0 w (frame s (target s q k + exit k p) (f +++ (node k g ▸ none)) ∷ fs) r
-firm-close {k = k} {p = p} {r = r} x c t h = record {
+pub firm-close : {start_symbol : ℕ} {tokens : List Token} {symbol state child p : ℕ} {forest more_trees : Forest} {fs : List Frame} {rest : List Token} (x : ℕ)
+    → Firm start_symbol tokens (frame child p more_trees ∷ frame symbol state forest ∷ fs) rest → closes child p x any ≡ true → holds (first rest) x ≡ true
+    → Firm start_symbol tokens (frame symbol (target symbol state child + exit child p) (forest +++ (node child more_trees ▸ none)) ∷ fs) rest
+firm-close {child = child} {p = p} {rest = rest} x c t h = record {
   before = c.before;
   split = c.split;
-  firm = λ v e. closed (c.firm v e) (closes-move k p x any (first v) (second v) t (rw e at h) (second-any v));
+  firm = λ v e. closed (c.firm v e) (closes-move child p x any (first v) (second v) t (rw e at h) (second-any v));
 }

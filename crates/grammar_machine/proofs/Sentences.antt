@@ -5,7 +5,9 @@ use Rattle.std.specs.Prelude.{codes}
 use Rattle.std.specs.Str.{chars}
 use Rattle.lexical_grammar.specs.Reads.{items_from}
 use Rattle.document_grammar.specs.Tree.{Token, leaf, node, none, ◌▸◌}
-use Rattle.document_grammar.specs.Kinds.{L_PAREN, R_PAREN, L_CURLY, R_CURLY, IDENT, STRING, query_KW, fragment_KW, on_KW, extend_KW, type_KW, words, DOCUMENT, OPERATION_DEFINITION, SELECTION_SET, FIELD, NAME, UNION_TYPE_DEFINITION, union_KW, NON_NULL_TYPE, LIST_TYPE, NAMED_TYPE, L_BRACK, R_BRACK, BANG}
+use Rattle.document_grammar.specs.Kinds.{L_PAREN, R_PAREN, L_CURLY, R_CURLY, IDENT, STRING, query_KW, fragment_KW, on_KW, extend_KW, type_KW, words, DOCUMENT}
+use Rattle.document_grammar.specs.Kinds.{OPERATION_DEFINITION, SELECTION_SET, FIELD, NAME, UNION_TYPE_DEFINITION, union_KW, NON_NULL_TYPE, LIST_TYPE}
+use Rattle.document_grammar.specs.Kinds.{NAMED_TYPE, L_BRACK, R_BRACK, BANG}
 use Rattle.document_grammar.specs.Pattern.{member}
 use Rattle.grammar_machine.specs.Table.{rows, firsts}
 use Rattle.grammar_machine.proofs.generated.Samples.{spellings}
@@ -17,16 +19,19 @@ use Rattle.grammar_machine.specs.Machine.{holds, is_leaf, at, ends, exit, arcs, 
 use Rattle.document_grammar.specs.Sentence.{Sentence}
 use Rattle.grammar_machine.proofs.Endings.{spell}
 use Rattle.grammar_machine.proofs.Patterns.{label}
-use Rattle.grammar_machine.proofs.Worked.{walked, tree_read, is_read, is_refused, refused, AllWorked, NoSentences, works, fails, all_work, all_fail, is-sentence, all-worked, no-sentences}
+use Rattle.grammar_machine.proofs.Worked.{walked, tree_read, is_read, is_refused, refused, AllWorked, NoSentences, works, fails, all_work, all_fail}
+use Rattle.grammar_machine.proofs.Worked.{is-sentence, all-worked, no-sentences}
 
 -- All that reading computes with, under one name.
 unfoldable running : Unit {0}
-unfolding ◌and◌ ◌or◌ holds is_leaf at ends exit arcs has target entries fires move class first second rows firsts spellings words member label labels walked tree_read is_read is_refused works fails all_work all_fail items_from chars
+unfolding ◌and◌ ◌or◌ holds is_leaf at ends exit arcs has target entries fires move class first second rows firsts spellings words member label labels walked
+    tree_read is_read is_refused works fails all_work all_fail items_from chars
 running = tt
 
 -- A selection set with its tree.
 braces : Sentence (codes "{a}")
-    (node DOCUMENT (node OPERATION_DEFINITION (node SELECTION_SET (leaf L_CURLY (codes "{") ▸ node FIELD (node NAME (leaf IDENT (codes "a") ▸ none) ▸ none) ▸ leaf R_CURLY (codes "}") ▸ none) ▸ none) ▸ none)) document
+    (node DOCUMENT (node OPERATION_DEFINITION (node SELECTION_SET (leaf L_CURLY (codes "{") ▸ node FIELD
+    (node NAME (leaf IDENT (codes "a") ▸ none) ▸ none) ▸ leaf R_CURLY (codes "}") ▸ none) ▸ none) ▸ none)) document
 unfolding running
 braces = is-sentence document 30 (codes "{a}") refl
 
@@ -36,7 +41,8 @@ unfolding running
 union-tree = is-sentence document 30 (codes "union A") refl
 
 type-tree : Sentence (codes "[A]!")
-    (node NON_NULL_TYPE (node LIST_TYPE (leaf L_BRACK (codes "[") ▸ node NAMED_TYPE (node NAME (leaf IDENT (codes "A") ▸ none) ▸ none) ▸ leaf R_BRACK (codes "]") ▸ none) ▸ leaf BANG (codes "!") ▸ none)) type
+    (node NON_NULL_TYPE (node LIST_TYPE (leaf L_BRACK (codes "[") ▸ node NAMED_TYPE (node NAME (leaf IDENT (codes "A") ▸ none) ▸ none) ▸ leaf R_BRACK
+    (codes "]") ▸ none) ▸ leaf BANG (codes "!") ▸ none)) type
 unfolding running
 type-tree = is-sentence type 30 (codes "[A]!") refl
 
@@ -158,10 +164,10 @@ no_types-refused = no-sentences type no_types refl
 
 -- A token of the kind; a Name that is a keyword; other Names.
 abbrev t : ℕ → Token
-t k = (k, spell k)
+t child = (child, spell child)
 
 abbrev kw : ℕ → Token
-kw k = (IDENT, spell k)
+kw child = (IDENT, spell child)
 
 abbrev a : Token
 a = (IDENT, codes "a")

@@ -1,5 +1,6 @@
 -- What the machine has read fits the rows, and can be completed.
-use Rattle.std.proofs.Common.{◌≡◌, ℕ, ◌+◌, ◌^◌, ◌<◌, Bool, true, false, cond, not, eqb, List, [], ◌∷◌, ◌++◌, refl, sym, ap, ◌∙◌, subst, ◌⊎◌, inl, inr, append_assoc, append-nil, arith, add-zero, eqb-true, ltb-true, ◌≢◌}
+use Rattle.std.proofs.Common.{◌≡◌, ℕ, ◌+◌, ◌^◌, ◌<◌, Bool, true, false, cond, not, eqb, List, [], ◌∷◌, ◌++◌, refl, sym, ap, ◌∙◌, subst, ◌⊎◌, inl, inr}
+use Rattle.std.proofs.Common.{append_assoc, append-nil, arith, add-zero, eqb-true, ltb-true, ◌≢◌}
 use Rattle.std.proofs.lemmas.Bool.{eqb-false}
 use Rattle.std.specs.Int.{bit_at}
 use Rattle.std.proofs.lemmas.Nat.Bits.{bit_at-pow_other}
@@ -7,55 +8,59 @@ use Rattle.document_grammar.specs.Tree.{Text, Token, Tree, leaf, node, Forest, n
 use Rattle.grammar_machine.specs.Table.{Entry, name_leaves, token_kinds}
 use Rattle.grammar_machine.proofs.generated.Follows.{name_classes}
 use Rattle.document_grammar.specs.Booleans.{◌and◌, ◌or◌}
-use Rattle.grammar_machine.specs.Machine.{holds, is_leaf, ends, exit, arcs, has, target, entries, fires, fires_in, has_in, choose, go, close, move, class, word_class, text_eq, first, second, token, yield, yields, finish, walk, Ok, OkFrom, Path, Frame, frame, Reach, start, shift, open', closed}
+use Rattle.grammar_machine.specs.Machine.{holds, is_leaf, ends, exit, arcs, has, target, entries, fires, fires_in, has_in, choose, go, close, move, class}
+use Rattle.grammar_machine.specs.Machine.{word_class, text_eq, first, second, token, yield, yields, finish, walk, Ok, OkFrom, Path, Frame, frame, Reach, start}
+use Rattle.grammar_machine.specs.Machine.{shift, open', closed}
 use Rattle.grammar_machine.proofs.Checks.{subset, exits, all_entries, leaf-checked, leaf_entry}
 use Rattle.document_grammar.proofs.Booleans.{false-true, and-l, and-r, and-i, or-c, or-l, or-r, not-c, either, eqb-refl}
-use Rattle.grammar_machine.proofs.TableLemmas.{any-with, any-entry, any-more, begun_by, fires-any, text-same, holds-subset, holds-disjoint, arc-test, exits-at, below-at}
+use Rattle.grammar_machine.proofs.TableLemmas.{any-with, any-entry, any-more, begun_by, fires-any, text-same, holds-subset, holds-disjoint, arc-test, exits-at}
+use Rattle.grammar_machine.proofs.TableLemmas.{below-at}
 use Rattle.grammar_machine.proofs.Run.{go-close, go-stuck, close-stuck, go-inj}
 use Rattle.document_grammar.proofs.Built.{forest-none}
-use Rattle.grammar_machine.proofs.Endings.{ending, okb, okb_from, fillable, fill_test, fill-checked, leaf_test, leaf-classes-checked, word_tests, words-checked, spell}
+use Rattle.grammar_machine.proofs.Endings.{ending, okb, okb_from, fillable, fill_test, fill-checked, leaf_test, leaf-classes-checked, word_tests, words-checked}
+use Rattle.grammar_machine.proofs.Endings.{spell}
 use Rattle.document_grammar.specs.Kinds.{words, DOCUMENT, IDENT, ERROR}
 
 -- What a move says of the row.
-pub choose-has : (l : List (ℕ × ℕ)) (e : Bool) (a b k : ℕ) → choose l e a b ≡ go k → (has_in l k ≡ true) × (fires k a b ≡ true)
-choose-has [] true a b k h = go-close (sym h)
-choose-has [] false a b k h = go-stuck (sym h)
-choose-has (c ∷ more) e a b k h = elim (either (fires c.0 a b)) [
-  | inl p ↦ (let n : c.0 ≡ k = go-inj (rw p at h) in (or-l _ _ (rw n (eqb-refl k)), rw (← n) p))
-  | inr p ↦ (let r = choose-has more e a b k (rw p at h) in (or-r _ _ r.0, r.1))
+pub choose-has : (l : List (ℕ × ℕ)) (e : Bool) (near far child : ℕ) → choose l e near far ≡ go child → (has_in l child ≡ true) × (fires child near far ≡ true)
+choose-has [] true near far child h = go-close (sym h)
+choose-has [] false near far child h = go-stuck (sym h)
+choose-has (c ∷ more) e near far child h = elim (either (fires c.0 near far)) [
+  | inl p ↦ (let n : c.0 ≡ child = go-inj (rw p at h) in (or-l _ _ (rw n (eqb-refl child)), rw (← n) p))
+  | inr p ↦ (let r = choose-has more e near far child (rw p at h) in (or-r _ _ r.0, r.1))
 ]
 
-pub choose-ends : (l : List (ℕ × ℕ)) (e : Bool) (a b : ℕ) → choose l e a b ≡ close → e ≡ true
-choose-ends [] true a b h = refl
-choose-ends [] false a b h = close-stuck (sym h)
-choose-ends (c ∷ more) e a b h = elim (either (fires c.0 a b)) [
+pub choose-ends : (l : List (ℕ × ℕ)) (e : Bool) (near far : ℕ) → choose l e near far ≡ close → e ≡ true
+choose-ends [] true near far h = refl
+choose-ends [] false near far h = close-stuck (sym h)
+choose-ends (c ∷ more) e near far h = elim (either (fires c.0 near far)) [
   | inl p ↦ go-close (rw p at h)
-  | inr p ↦ choose-ends more e a b (rw p at h)
+  | inr p ↦ choose-ends more e near far (rw p at h)
 ]
 
-pub move-has : (s q a b k : ℕ) → move s q a b ≡ go k → has s q k ≡ true
+pub move-has : (symbol state near far child : ℕ) → move symbol state near far ≡ go child → has symbol state child ≡ true
 unfolding move has
-move-has s q a b k h = (choose-has (arcs s q) (ends s q) a b k h).0
+move-has symbol state near far child h = (choose-has (arcs symbol state) (ends symbol state) near far child h).0
 
-pub move-fires : (s q a b k : ℕ) → move s q a b ≡ go k → fires k a b ≡ true
+pub move-fires : (symbol state near far child : ℕ) → move symbol state near far ≡ go child → fires child near far ≡ true
 unfolding move
-move-fires s q a b k h = (choose-has (arcs s q) (ends s q) a b k h).1
+move-fires symbol state near far child h = (choose-has (arcs symbol state) (ends symbol state) near far child h).1
 
-pub move-ends : (s q a b : ℕ) → move s q a b ≡ close → ends s q ≡ true
+pub move-ends : (symbol state near far : ℕ) → move symbol state near far ≡ close → ends symbol state ≡ true
 unfolding move
-move-ends s q a b h = choose-ends (arcs s q) (ends s q) a b h
+move-ends symbol state near far h = choose-ends (arcs symbol state) (ends symbol state) near far h
 
 -- The token of a leaf.
-pub leaf-lt : (l : ℕ) → is_leaf l ≡ true → l < DOCUMENT
+pub leaf-lt : (leaf_symbol : ℕ) → is_leaf leaf_symbol ≡ true → leaf_symbol < DOCUMENT
 unfolding is_leaf
-leaf-lt l h = ltb-true _ _ h
+leaf-lt leaf_symbol h = ltb-true _ _ h
 
-pub word-name : (ws : List (ℕ × Text)) (x : Text) → word_tests ws ≡ true → holds (word_class ws x) name_classes ≡ true
+pub word-name : (ws : List (ℕ × Text)) (text : Text) → word_tests ws ≡ true → holds (word_class ws text) name_classes ≡ true
 unfolding holds
-word-name [] x h = refl
-word-name (w ∷ more) x h = elim (either (text_eq w.1 x)) [
+word-name [] text h = refl
+word-name (w ∷ more) text h = elim (either (text_eq w.1 text)) [
   | inl p ↦ rw p (and-l _ _ h)
-  | inr p ↦ rw p (word-name more x (and-r _ _ h))
+  | inr p ↦ rw p (word-name more text (and-r _ _ h))
 ]
 
 error-no-name : holds ERROR name_classes ≡ false
@@ -63,209 +68,274 @@ unfolding holds
 error-no-name = refl
 
 -- The class of a token is a name's exactly where the token is a name; else it is the token's kind, or ERROR.
-pub class-cases : (a : Token)
-    → ((a.0 ≡ IDENT) × (holds (class a) name_classes ≡ true)) ⊎ ((holds (class a) name_classes ≡ false) × ((class a ≡ a.0) ⊎ (class a ≡ ERROR)))
+pub class-cases : (this_token : Token)
+    → ((this_token.0 ≡ IDENT) × (holds (class this_token) name_classes ≡ true))
+    ⊎ ((holds (class this_token) name_classes ≡ false) × ((class this_token ≡ this_token.0) ⊎ (class this_token ≡ ERROR)))
 unfolding class
-class-cases a = elim (either (eqb a.0 IDENT)) [
-  | inl p ↦ inl (eqb-true _ _ p, rw p (word-name words a.1 words-checked))
-  | inr p ↦ elim (either (holds a.0 token_kinds)) [
-    | inl q ↦ inr (rw (p, q) (holds-disjoint a.0 token_kinds name_classes refl q), inl (rw (p, q) refl))
+class-cases this_token = elim (either (eqb this_token.0 IDENT)) [
+  | inl p ↦ inl (eqb-true _ _ p, rw p (word-name words this_token.1 words-checked))
+  | inr p ↦ elim (either (holds this_token.0 token_kinds)) [
+    | inl q ↦ inr (rw (p, q) (holds-disjoint this_token.0 token_kinds name_classes refl q), inl (rw (p, q) refl))
     | inr q ↦ inr (rw (p, q) error-no-name, inr (rw (p, q) refl))
   ]
 ]
 
 -- A leaf's entry that holds the class.
-pub fired : (es : List Entry) (t : ℕ → Bool) (a b : ℕ) → all_entries es (λ x y alone. t x) ≡ true → fires_in es a b ≡ true
-    → (x : ℕ) × (t x ≡ true) × (holds a x ≡ true)
-fired es t a b h f = any-entry es _ (any-with es (λ x y alone. t x) (begun_by a b) h (rw fires-any at f)) (λ x y alone p. (x, and-l _ _ p, and-l _ _ (and-r _ _ p)))
+pub fired : (es : List Entry) (t : ℕ → Bool) (near far : ℕ) → all_entries es (λ x y alone. t x) ≡ true → fires_in es near far ≡ true
+    → (x : ℕ) × (t x ≡ true) × (holds near x ≡ true)
+fired es t near far h f = any-entry es _ (any-with es (λ x y alone. t x) (begun_by near far) h (rw fires-any at f))
+    (λ x y alone p. (x, and-l _ _ p, and-l _ _ (and-r _ _ p)))
 
-pub holds-one : (a l : ℕ) → holds a (2 ^ l) ≡ true → a ≡ l
+pub holds-one : (a leaf_symbol : ℕ) → holds a (2 ^ leaf_symbol) ≡ true → a ≡ leaf_symbol
 unfolding holds
-holds-one a l h = elim (either (eqb a l)) [
-  | inl p ↦ eqb-true a l p
-  | inr p ↦ (let ne : a ≢ l = eqb-false a l p in let z : bit_at (2 ^ l) a ≡ 0 = bit_at-pow_other l a ne in let o : bit_at (2 ^ l) a ≡ 1 = eqb-true _ _ h in absurd (omega arith))
+holds-one a leaf_symbol h = elim (either (eqb a leaf_symbol)) [
+  | inl p ↦ eqb-true a leaf_symbol p
+  | inr p ↦ (let ne : a ≢ leaf_symbol = eqb-false a leaf_symbol p in let z : bit_at (2 ^ leaf_symbol) a ≡ 0 = bit_at-pow_other leaf_symbol a ne in
+      let o : bit_at (2 ^ leaf_symbol) a ≡ 1 = eqb-true _ _ h in absurd (omega arith))
 ]
 
-leaf-kind : (l : ℕ) (a : Token) (b : Bool) (x : ℕ) → holds l name_leaves ≡ b
-    → cond b (subset x name_classes) (eqb x (2 ^ l) and not (holds l name_classes) and not (eqb l ERROR)) ≡ true → holds (class a) x ≡ true
-    → cond b IDENT l ≡ a.0
-leaf-kind l a true x n t h = elim (class-cases a) [
+leaf-kind : (leaf_symbol : ℕ) (this_token : Token) (b : Bool) (x : ℕ) → holds leaf_symbol name_leaves ≡ b
+    → cond b (subset x name_classes) (eqb x (2 ^ leaf_symbol) and not (holds leaf_symbol name_classes) and not (eqb leaf_symbol ERROR)) ≡ true
+    → holds (class this_token) x ≡ true
+    → cond b IDENT leaf_symbol ≡ this_token.0
+leaf-kind leaf_symbol this_token true x n t h = elim (class-cases this_token) [
   | inl p ↦ sym p.0
-  | inr p ↦ false-true p.0 (holds-subset (class a) x name_classes t h)
+  | inr p ↦ false-true p.0 (holds-subset (class this_token) x name_classes t h)
 ]
-leaf-kind l a false x n t h =
-    let e : class a ≡ l = holds-one (class a) l (rw (eqb-true _ _ (and-l _ _ (and-l _ _ t))) at h) in
-    let nn : holds l name_classes ≡ false = not-c _ (and-r _ _ (and-l _ _ t)) in
-    elim (class-cases a) [
+leaf-kind leaf_symbol this_token false x n t h =
+    let e : class this_token ≡ leaf_symbol = holds-one (class this_token) leaf_symbol (rw (eqb-true _ _ (and-l _ _ (and-l _ _ t))) at h) in
+    let nn : holds leaf_symbol name_classes ≡ false = not-c _ (and-r _ _ (and-l _ _ t)) in
+    elim (class-cases this_token) [
       | inl p ↦ false-true nn (rw e at p.1)
-      | inr p ↦ elim p.1 [ inl q ↦ sym e ∙ q | inr q ↦ absurd (eqb-false l ERROR (not-c _ (and-r _ _ t)) (sym e ∙ q)) ]
+      | inr p ↦ elim p.1 [ inl q ↦ sym e ∙ q | inr q ↦ absurd (eqb-false leaf_symbol ERROR (not-c _ (and-r _ _ t)) (sym e ∙ q)) ]
     ]
 
-pub leaf-token : (l b : ℕ) (a : Token) → is_leaf l ≡ true → fires l (class a) b ≡ true → token l a.1 ≡ a
+pub leaf-token : (leaf_symbol far : ℕ) (this_token : Token) → is_leaf leaf_symbol ≡ true → fires leaf_symbol (class this_token) far ≡ true
+    → token leaf_symbol this_token.1 ≡ this_token
 unfolding token fires
-leaf-token l b a i f =
-    let c = fired (entries l) (λ x. cond (holds l name_leaves) (subset x name_classes) (eqb x (2 ^ l) and not (holds l name_classes) and not (eqb l ERROR))) (class a) b (below-at leaf_test DOCUMENT l (leaf-lt l i) leaf-classes-checked) f in
-    ap (λ (n : ℕ). (n, a.1)) (leaf-kind l a (holds l name_leaves) c.0 refl c.1 c.2)
+leaf-token leaf_symbol far this_token i f =
+    let c = fired (entries leaf_symbol) (λ x. cond (holds leaf_symbol name_leaves) (subset x name_classes)
+    (eqb x (2 ^ leaf_symbol) and not (holds leaf_symbol name_classes) and not (eqb leaf_symbol ERROR))) (class this_token) far
+    (below-at leaf_test DOCUMENT leaf_symbol (leaf-lt leaf_symbol i) leaf-classes-checked) f in
+    ap (λ (n : ℕ). (n, this_token.1)) (leaf-kind leaf_symbol this_token (holds leaf_symbol name_leaves) c.0 refl c.1 c.2)
 
 -- A leaf's entries don't look at a second token.
 fires-alone : (es : List Entry) (a b b' : ℕ) → all_entries es (λ x y a. a and eqb y 0) ≡ true → fires_in es a b ≡ true → fires_in es a b' ≡ true
 fires-alone es a b b' t h = rw fires-any (any-more es _ (begun_by a b') (any-with es (λ x y a. a and eqb y 0) (begun_by a b) t (rw fires-any at h))
     (λ x y alone p. and-i (and-l _ _ (and-r _ _ p)) (or-l _ _ (and-l _ _ (and-l _ _ p)))))
 
-pub leaf-ok : (l b : ℕ) (a : Token) → is_leaf l ≡ true → fires l (class a) b ≡ true → Ok (leaf l a.1)
+pub leaf-ok : (leaf_symbol far : ℕ) (this_token : Token) → is_leaf leaf_symbol ≡ true → fires leaf_symbol (class this_token) far ≡ true
+    → Ok (leaf leaf_symbol this_token.1)
 unfolding fires
-leaf-ok l b a i f = (i, rw (leaf-token l b a i f) (fires-alone (entries l) (class a) b 0 (below-at leaf_entry DOCUMENT l (leaf-lt l i) leaf-checked) f))
+leaf-ok leaf_symbol far this_token i f = (
+  i,
+  rw (leaf-token leaf_symbol far this_token i f)
+      (fires-alone (entries leaf_symbol) (class this_token) far 0 (below-at leaf_entry DOCUMENT leaf_symbol (leaf-lt leaf_symbol i) leaf-checked) f),
+)
 
 -- Paths.
-pub path-snoc : (s p q : ℕ) (f : Forest) (t : Tree) → Path s p f q → has s q (root t) ≡ true → Ok t
-    → Path s p (f +++ (t ▸ none)) (target s q (root t) + finish t)
-path-snoc s p q none t e h o = (rw e h, o, ap (λ (n : ℕ). target s n (root t) + finish t) e)
-path-snoc s p q (u ▸ f) t e h o = (e.0, e.1, path-snoc s (target s p (root u) + finish u) q f t e.2 h o)
+pub path-snoc : (symbol p state : ℕ) (forest : Forest) (tree : Tree) → Path symbol p forest state → has symbol state (root tree) ≡ true → Ok tree
+    → Path symbol p (forest +++ (tree ▸ none)) (target symbol state (root tree) + finish tree)
+path-snoc symbol p state none tree path h ok = (rw path h, ok, ap (λ (n : ℕ). target symbol n (root tree) + finish tree) path)
+path-snoc symbol p state (other_tree ▸ forest) tree path h ok = (
+  path.0,
+  path.1,
+  path-snoc symbol (target symbol p (root other_tree) + finish other_tree) state forest tree path.2 h ok,
+)
 
-pub path-join : (s p q : ℕ) (f g : Forest) → Path s p f q → OkFrom s q g → OkFrom s p (f +++ g)
-path-join s p q none g e o = rw e o
-path-join s p q (u ▸ f) g e o = (e.0, e.1, path-join s (target s p (root u) + finish u) q f g e.2 o)
+pub path-join : (symbol p state : ℕ) (forest more_trees : Forest) → Path symbol p forest state → OkFrom symbol state more_trees
+    → OkFrom symbol p (forest +++ more_trees)
+path-join symbol p state none more_trees path ok_from = rw path ok_from
+path-join symbol p state (tree ▸ forest) more_trees path ok_from = (
+  path.0,
+  path.1,
+  path-join symbol (target symbol p (root tree) + finish tree) state forest more_trees path.2 ok_from,
+)
 
-pub path-ok : (s p q : ℕ) (f : Forest) → Path s p f q → ends s q ≡ true → OkFrom s p f
-path-ok s p q f e h = rw (forest-none f) at (path-join s p q f none e h)
+pub path-ok : (symbol p state : ℕ) (forest : Forest) → Path symbol p forest state → ends symbol state ≡ true → OkFrom symbol p forest
+path-ok symbol p state forest path h = rw (forest-none forest) at (path-join symbol p state forest none path h)
 
-pub path-walk : (s p q : ℕ) (f : Forest) → Path s p f q → walk s p f ≡ q
-path-walk s p q none e = e
-path-walk s p q (u ▸ f) e = path-walk s (target s p (root u) + finish u) q f e.2
+pub path-walk : (symbol p state : ℕ) (forest : Forest) → Path symbol p forest state → walk symbol p forest ≡ state
+path-walk symbol p state none path = path
+path-walk symbol p state (tree ▸ forest) path = path-walk symbol (target symbol p (root tree) + finish tree) state forest path.2
 
-pub yields-append : (f g : Forest) → yields (f +++ g) ≡ yields f ++ yields g
-yields-append none g = refl
-yields-append (t ▸ f) g = ap (λ (v : List Token). yield t ++ v) (yields-append f g) ∙ sym (append_assoc (yield t) (yields f) (yields g))
+pub yields-append : (forest more_trees : Forest) → yields (forest +++ more_trees) ≡ yields forest ++ yields more_trees
+yields-append none more_trees = refl
+yields-append (tree ▸ forest) more_trees = ap (λ (v : List Token). yield tree ++ v) (yields-append forest more_trees)
+    ∙ sym (append_assoc (yield tree) (yields forest) (yields more_trees))
 
--- The open nodes' children fit their rows, each open node is a symbol of the row below it, and the lowest is `s0`.
+-- The open nodes' children fit their rows, each open node is a symbol of the row below it, and the lowest is `start_symbol`.
 abbrev pub Held : ℕ → ℕ → List Frame → Type 0
-Held s0 s [] = s ≡ s0
-Held s0 s (frame s1 q1 f1 ∷ fs) = has s1 q1 s ≡ true
+Held start_symbol symbol [] = symbol ≡ start_symbol
+Held start_symbol symbol (frame s1 q1 forest ∷ fs) = has s1 q1 symbol ≡ true
 
 abbrev pub Sound : ℕ → List Frame → Type 0
-Sound s0 [] = Unit {0}
-Sound s0 (frame s q f ∷ fs) = (is_leaf s ≡ false) × Path s 0 f q × Held s0 s fs × Sound s0 fs
+Sound start_symbol [] = Unit {0}
+Sound start_symbol (frame symbol state forest ∷ fs) = (is_leaf symbol ≡ false) × Path symbol 0 forest state × Held start_symbol symbol fs
+    × Sound start_symbol fs
 
-pub reach-sound : {s0 : ℕ} {w : List Token} {fs : List Frame} {r : List Token} → is_leaf s0 ≡ false → Reach s0 w fs r → Sound s0 fs
+pub reach-sound : {start_symbol : ℕ} {tokens : List Token} {fs : List Frame} {rest : List Token} → is_leaf start_symbol ≡ false
+    → Reach start_symbol tokens fs rest → Sound start_symbol fs
 unfolding first
 reach-sound i start = (i, refl, refl, tt)
-reach-sound {s0} i (shift {s = s} {q = q} {l = l} {f = f} {fs = fs} {a = a} {r = r} c m j) =
-    let h = reach-sound i c in
-    let o : Ok (leaf l a.1) = leaf-ok l (second (a ∷ r)) a j (move-fires s q (first (a ∷ r)) (second (a ∷ r)) l m) in
-    (h.0, subst (λ (n : ℕ). Path s 0 (f +++ (leaf l a.1 ▸ none)) n) (add-zero (target s q l)) (path-snoc s 0 q f (leaf l a.1) h.1 (move-has s q _ _ l m) o), h.2, h.3)
-reach-sound {s0} i (open' {s = s} {q = q} {k = k} {f = f} {fs = fs} {r = r} c m j) = (j, refl, move-has s q _ _ k m, reach-sound i c)
-reach-sound {s0} i (closed {s = s} {q = q} {k = k} {p = p} {f = f} {g = g} {fs = fs} {r = r} c m) =
-    let h = reach-sound i c in
-    let o : Ok (node k g) = (h.0, path-ok k 0 p g h.1 (move-ends k p _ _ m)) in
-    (h.3.0, subst (λ (n : ℕ). Path s 0 (f +++ (node k g ▸ none)) (target s q k + exit k n)) (path-walk k 0 p g h.1) (path-snoc s 0 q f (node k g) h.3.1 h.2 o), h.3.2, h.3.3)
+reach-sound {start_symbol} i (shift {symbol = symbol} {row_state = row_state} {leaf_symbol = leaf_symbol} {forest = forest} {fs = fs} {this_token = this_token}
+    {rest = rest} reach m j) =
+    let h = reach-sound i reach in
+    let ok : Ok (leaf leaf_symbol this_token.1) = leaf-ok leaf_symbol (second (this_token ∷ rest)) this_token j
+    (move-fires symbol row_state (first (this_token ∷ rest)) (second (this_token ∷ rest)) leaf_symbol m) in (
+      h.0,
+      subst (λ (n : ℕ). Path symbol 0 (forest +++ (leaf leaf_symbol this_token.1 ▸ none)) n) (add-zero (target symbol row_state leaf_symbol))
+          (path-snoc symbol 0 row_state forest (leaf leaf_symbol this_token.1) h.1 (move-has symbol row_state _ _ leaf_symbol m) ok),
+      h.2,
+      h.3,
+    )
+reach-sound {start_symbol} i (open' {symbol = symbol} {row_state = row_state} {child = child} {forest = forest} {fs = fs} {rest = rest} reach m j) =
+    (j, refl, move-has symbol row_state _ _ child m, reach-sound i reach)
+reach-sound {start_symbol} i (closed {symbol = symbol} {row_state = row_state} {child = child} {child_state = child_state} {forest = forest}
+    {more_trees = more_trees} {fs = fs} {rest = rest} reach m) =
+    let h = reach-sound i reach in
+    let ok : Ok (node child more_trees) = (h.0, path-ok child 0 child_state more_trees h.1 (move-ends child child_state _ _ m)) in (
+      h.3.0,
+      subst (λ (n : ℕ). Path symbol 0 (forest +++ (node child more_trees ▸ none)) (target symbol row_state child + exit child n))
+          (path-walk child 0 child_state more_trees h.1) (path-snoc symbol 0 row_state forest (node child more_trees) h.3.1 h.2 ok),
+      h.3.2,
+      h.3.3,
+    )
 
 -- The tokens that the open nodes hold.
 abbrev pub spent : List Frame → List Token
 spent [] = []
-spent (frame s q f ∷ fs) = spent fs ++ yields f
+spent (frame symbol state forest ∷ fs) = spent fs ++ yields forest
 
-pub snoc-spent : (fs : List Frame) (f : Forest) (t : Tree) (r : List Token)
-    → (spent fs ++ yields (f +++ (t ▸ none))) ++ r ≡ (spent fs ++ yields f) ++ (yield t ++ r)
-snoc-spent fs f t r = rw (yields-append f (t ▸ none)) (simp (append_assoc, append-nil))
+pub snoc-spent : (fs : List Frame) (forest : Forest) (tree : Tree) (rest : List Token)
+    → (spent fs ++ yields (forest +++ (tree ▸ none))) ++ rest ≡ (spent fs ++ yields forest) ++ (yield tree ++ rest)
+snoc-spent fs forest tree rest = rw (yields-append forest (tree ▸ none)) (simp (append_assoc, append-nil))
 
-pub reach-spent : {s0 : ℕ} {w : List Token} {fs : List Frame} {r : List Token} → Reach s0 w fs r → w ≡ spent fs ++ r
+pub reach-spent : {start_symbol : ℕ} {tokens : List Token} {fs : List Frame} {rest : List Token} → Reach start_symbol tokens fs rest → tokens ≡ spent fs ++ rest
 unfolding first
 reach-spent start = refl
-reach-spent (shift {s = s} {q = q} {l = l} {f = f} {fs = fs} {a = a} {r = r} c m j) =
-    let e : token l a.1 ≡ a = leaf-token l (second (a ∷ r)) a j (move-fires s q (first (a ∷ r)) (second (a ∷ r)) l m) in
-    reach-spent c ∙ (ap (λ (b : Token). (spent fs ++ yields f) ++ (b ∷ r)) (sym e) ∙ sym (snoc-spent fs f (leaf l a.1) r))
-reach-spent (open' {s = s} {q = q} {k = k} {f = f} {fs = fs} {r = r} c m j) = reach-spent c ∙ ap (λ (v : List Token). v ++ r) (sym (append-nil (spent fs ++ yields f)))
-reach-spent (closed {s = s} {q = q} {k = k} {p = p} {f = f} {g = g} {fs = fs} {r = r} c m) =
-    reach-spent c ∙ (append_assoc (spent fs ++ yields f) (yields g) r ∙ sym (snoc-spent fs f (node k g) r))
+reach-spent (shift {symbol = symbol} {row_state = row_state} {leaf_symbol = leaf_symbol} {forest = forest} {fs = fs} {this_token = this_token}
+    {rest = rest} reach m j) =
+    let e : token leaf_symbol this_token.1 ≡ this_token = leaf-token leaf_symbol (second (this_token ∷ rest)) this_token j
+    (move-fires symbol row_state (first (this_token ∷ rest)) (second (this_token ∷ rest)) leaf_symbol m) in
+    reach-spent reach ∙ (ap (λ (b : Token). (spent fs ++ yields forest) ++ (b ∷ rest)) (sym e)
+    ∙ sym (snoc-spent fs forest (leaf leaf_symbol this_token.1) rest))
+reach-spent (open' {symbol = symbol} {row_state = row_state} {child = child} {forest = forest} {fs = fs} {rest = rest} reach m j) =
+    reach-spent reach ∙ ap (λ (v : List Token). v ++ rest) (sym (append-nil (spent fs ++ yields forest)))
+reach-spent (closed {symbol = symbol} {row_state = row_state} {child = child} {child_state = child_state} {forest = forest} {more_trees = more_trees} {fs = fs}
+    {rest = rest} reach m) =
+    reach-spent reach ∙ (append_assoc (spent fs ++ yields forest) (yields more_trees) rest ∙ sym (snoc-spent fs forest (node child more_trees) rest))
 
 -- Completion.
-fill-arc : (s q k : ℕ) → is_leaf s ≡ false → has s q k ≡ true → (is_leaf k or fillable k 0) and exits k (λ x. fillable s (target s q k + x)) ≡ true
+fill-arc : (symbol state child : ℕ) → is_leaf symbol ≡ false → has symbol state child ≡ true
+    → (is_leaf child or fillable child 0) and exits child (λ x. fillable symbol (target symbol state child + x)) ≡ true
 fill-arc = arc-test fill_test fill-checked
 
-pub fill-after : (s q : ℕ) (t : Tree) → is_leaf s ≡ false → has s q (root t) ≡ true → Ok t → fillable s (target s q (root t) + finish t) ≡ true
-fill-after s q t l h o = exits-at t (λ x. fillable s (target s q (root t) + x)) (and-r _ _ (fill-arc s q (root t) l h)) o
+pub fill-after : (symbol state : ℕ) (tree : Tree) → is_leaf symbol ≡ false → has symbol state (root tree) ≡ true → Ok tree
+    → fillable symbol (target symbol state (root tree) + finish tree) ≡ true
+fill-after symbol state tree l h ok = exits-at tree (λ x. fillable symbol (target symbol state (root tree) + x))
+    (and-r _ _ (fill-arc symbol state (root tree) l h)) ok
 
-pub fill-start : (s q k : ℕ) → is_leaf s ≡ false → has s q k ≡ true → is_leaf k ≡ false → fillable k 0 ≡ true
-fill-start s q k l h i = elim (or-c _ _ (and-l _ _ (fill-arc s q k l h))) [ inl p ↦ false-true i p | inr p ↦ p ]
+pub fill-start : (symbol state child : ℕ) → is_leaf symbol ≡ false → has symbol state child ≡ true → is_leaf child ≡ false → fillable child 0 ≡ true
+fill-start symbol state child l h i = elim (or-c _ _ (and-l _ _ (fill-arc symbol state child l h))) [ inl p ↦ false-true i p | inr p ↦ p ]
 
 -- The tokens that are added to complete a sentence: each is a leaf's, with the text listed for it.
 abbrev pub Spelt : Token → Type 0
-Spelt a = (l : ℕ) × Ok (leaf l (spell l)) × (a ≡ token l (spell l))
+Spelt this_token = (leaf_symbol : ℕ) × Ok (leaf leaf_symbol (spell leaf_symbol)) × (this_token ≡ token leaf_symbol (spell leaf_symbol))
 
 abbrev pub AllSpelt : List Token → Type 0
 AllSpelt [] = Unit {0}
-AllSpelt (a ∷ w) = Spelt a × AllSpelt w
+AllSpelt (this_token ∷ tokens) = Spelt this_token × AllSpelt tokens
 
-all-append : (u v : List Token) → AllSpelt u → AllSpelt v → AllSpelt (u ++ v)
-all-append [] v h k = k
-all-append (a ∷ u) v h k = (h.0, all-append u v h.1 k)
+all-append : (tokens more : List Token) → AllSpelt tokens → AllSpelt more → AllSpelt (tokens ++ more)
+all-append [] more all_spelt second_all_spelt = second_all_spelt
+all-append (this_token ∷ tokens) more all_spelt second_all_spelt = (all_spelt.0, all-append tokens more all_spelt.1 second_all_spelt)
 
 mutual
-  okb-good : (t : Tree) → okb t ≡ true → Ok t × AllSpelt (yield t)
-  okb-good (leaf l x) h =
+  okb-good : (tree : Tree) → okb tree ≡ true → Ok tree × AllSpelt (yield tree)
+  okb-good (leaf leaf_symbol text) h =
       let c = and-l _ _ h in
-      let o : Ok (leaf l x) = (and-l _ _ c, and-r _ _ c) in
-      let e : spell l ≡ x = text-same (spell l) x (and-r _ _ h) in
-      (o, ((l, subst (λ (y : Text). Ok (leaf l y)) (sym e) o, ap (λ (y : Text). token l y) (sym e)), tt))
-  okb-good (node s f) h = let r = okb_from-good s 0 f (and-r _ _ h) in ((not-c _ (and-l _ _ h), r.0), r.1)
+      let ok : Ok (leaf leaf_symbol text) = (and-l _ _ c, and-r _ _ c) in
+      let e : spell leaf_symbol ≡ text = text-same (spell leaf_symbol) text (and-r _ _ h) in
+      (ok, ((leaf_symbol, subst (λ (y : Text). Ok (leaf leaf_symbol y)) (sym e) ok, ap (λ (y : Text). token leaf_symbol y) (sym e)), tt))
+  okb-good (node symbol forest) h = let r = okb_from-good symbol 0 forest (and-r _ _ h) in ((not-c _ (and-l _ _ h), r.0), r.1)
 
-  okb_from-good : (s q : ℕ) (f : Forest) → okb_from s q f ≡ true → OkFrom s q f × AllSpelt (yields f)
-  okb_from-good s q none h = (h, tt)
-  okb_from-good s q (t ▸ f) h =
+  okb_from-good : (symbol state : ℕ) (forest : Forest) → okb_from symbol state forest ≡ true → OkFrom symbol state forest × AllSpelt (yields forest)
+  okb_from-good symbol state none h = (h, tt)
+  okb_from-good symbol state (tree ▸ forest) h =
       let c = and-l _ _ h in
-      let a = okb-good t (and-r _ _ c) in
-      let b = okb_from-good s (target s q (root t) + finish t) f (and-r _ _ h) in
-      ((and-l _ _ c, a.0, b.0), all-append (yield t) (yields f) a.1 b.1)
+      let a = okb-good tree (and-r _ _ c) in
+      let b = okb_from-good symbol (target symbol state (root tree) + finish tree) forest (and-r _ _ h) in
+      ((and-l _ _ c, a.0, b.0), all-append (yield tree) (yields forest) a.1 b.1)
 
-pub fillable-ok : (s q : ℕ) → fillable s q ≡ true → OkFrom s q (ending s q)
+pub fillable-ok : (symbol state : ℕ) → fillable symbol state ≡ true → OkFrom symbol state (ending symbol state)
 unfolding fillable
-fillable-ok s q h = (okb_from-good s q (ending s q) h).0
+fillable-ok symbol state h = (okb_from-good symbol state (ending symbol state) h).0
 
-fillable-spelt : (s q : ℕ) → fillable s q ≡ true → AllSpelt (yields (ending s q))
+fillable-spelt : (symbol state : ℕ) → fillable symbol state ≡ true → AllSpelt (yields (ending symbol state))
 unfolding fillable
-fillable-spelt s q h = (okb_from-good s q (ending s q) h).1
+fillable-spelt symbol state h = (okb_from-good symbol state (ending symbol state) h).1
 
 -- A state on the way is the first, or one after an arc.
-path-fillable : (s p q : ℕ) (f : Forest) → is_leaf s ≡ false → Path s p f q → fillable s p ≡ true → fillable s q ≡ true
-path-fillable s p q none l e h = rw e at h
-path-fillable s p q (t ▸ f) l e h = path-fillable s (target s p (root t) + finish t) q f l e.2 (fill-after s p t l e.0 e.1)
+path-fillable : (symbol p state : ℕ) (forest : Forest) → is_leaf symbol ≡ false → Path symbol p forest state → fillable symbol p ≡ true
+    → fillable symbol state ≡ true
+path-fillable symbol p state none l path h = rw path at h
+path-fillable symbol p state (tree ▸ forest) l path h = path-fillable symbol (target symbol p (root tree) + finish tree) state forest l path.2
+    (fill-after symbol p tree l path.0 path.1)
 
-held-fillable : (s0 s : ℕ) (fs : List Frame) → is_leaf s ≡ false → Held s0 s fs → Sound s0 fs → fillable s0 0 ≡ true → fillable s 0 ≡ true
-held-fillable s0 s [] l h c b = rw h b
-held-fillable s0 s (frame s1 q1 f1 ∷ fs) l h c b = fill-start s1 q1 s c.0 h l
+held-fillable : (start_symbol symbol : ℕ) (fs : List Frame) → is_leaf symbol ≡ false → Held start_symbol symbol fs → Sound start_symbol fs
+    → fillable start_symbol 0 ≡ true → fillable symbol 0 ≡ true
+held-fillable start_symbol symbol [] l held sound b = rw held b
+held-fillable start_symbol symbol (frame s1 q1 forest ∷ fs) l held sound b = fill-start s1 q1 symbol sound.0 held l
 
 abbrev pub Whole : ℕ → List Token → Type 0
-Whole s0 u = (t : Tree) × (v : List Token) × Ok t × (root t ≡ s0) × (yield t ≡ u ++ v) × AllSpelt v
+Whole start_symbol tokens = (tree : Tree) × (more : List Token) × Ok tree × (root tree ≡ start_symbol) × (yield tree ≡ tokens ++ more) × AllSpelt more
 
 -- The open nodes end, each with children that complete the row's state.
-complete : (s0 s q : ℕ) (f : Forest) (fs : List Frame) → Sound s0 (frame s q f ∷ fs) → fillable s q ≡ true → Whole s0 (spent fs ++ yields f)
-complete s0 s q f [] c b =
-    let g = ending s q in
-    (node s (f +++ g), yields g, (c.0, path-join s 0 q f g c.1 (fillable-ok s q b)), c.2, yields-append f g, fillable-spelt s q b)
-complete s0 s q f (frame s1 q1 f1 ∷ fs) c b =
-    let g = ending s q in
-    let x = node s (f +++ g) in
-    let o : Ok x = (c.0, path-join s 0 q f g c.1 (fillable-ok s q b)) in
-    let w = complete s0 s1 (target s1 q1 s + finish x) (f1 +++ (x ▸ none)) fs (c.3.0, path-snoc s1 0 q1 f1 x c.3.1 c.2 o, c.3.2, c.3.3) (fill-after s1 q1 x c.3.0 c.2 o) in
-    (w.0, yields g ++ w.1, w.2, w.3, w.4 ∙ shuffle w.1, all-append (yields g) w.1 (fillable-spelt s q b) w.5)
+complete : (start_symbol symbol state : ℕ) (forest : Forest) (fs : List Frame) → Sound start_symbol (frame symbol state forest ∷ fs)
+    → fillable symbol state ≡ true → Whole start_symbol (spent fs ++ yields forest)
+complete start_symbol symbol state forest [] sound b =
+    let g = ending symbol state in (
+      node symbol (forest +++ g),
+      yields g,
+      (sound.0, path-join symbol 0 state forest g sound.1 (fillable-ok symbol state b)),
+      sound.2,
+      yields-append forest g,
+      fillable-spelt symbol state b,
+    )
+complete start_symbol symbol state forest (frame s1 q1 more_trees ∷ fs) sound b =
+    let g = ending symbol state in
+    let x = node symbol (forest +++ g) in
+    let ok : Ok x = (sound.0, path-join symbol 0 state forest g sound.1 (fillable-ok symbol state b)) in
+    let w = complete start_symbol s1 (target s1 q1 symbol + finish x) (more_trees +++ (x ▸ none)) fs (
+      sound.3.0,
+      path-snoc s1 0 q1 more_trees x sound.3.1 sound.2 ok,
+      sound.3.2,
+      sound.3.3,
+    ) (fill-after s1 q1 x sound.3.0 sound.2 ok) in
+    (w.0, yields g ++ w.1, w.2, w.3, w.4 ∙ shuffle w.1, all-append (yields g) w.1 (fillable-spelt symbol state b) w.5)
   where
-    shuffle : (v : List Token) → (spent fs ++ yields (f1 +++ (node s (f +++ ending s q) ▸ none))) ++ v ≡ ((spent fs ++ yields f1) ++ yields f) ++ (yields (ending s q) ++ v)
-    shuffle v = rw (yields-append f1 (node s (f +++ ending s q) ▸ none), yields-append f (ending s q)) (simp (append_assoc, append-nil))
+    shuffle : (tokens : List Token) → (spent fs ++ yields (more_trees +++ (node symbol (forest +++ ending symbol state) ▸ none))) ++ tokens
+        ≡ ((spent fs ++ yields more_trees) ++ yields forest) ++ (yields (ending symbol state) ++ tokens)
+    shuffle tokens = rw (yields-append more_trees (node symbol (forest +++ ending symbol state) ▸ none), yields-append forest (ending symbol state))
+        (simp (append_assoc, append-nil))
 
-reach-nonempty : {s0 : ℕ} {w : List Token} {fs : List Frame} {r : List Token} → Reach s0 w fs r → (fs ≡ []) → ⊥
+reach-nonempty : {start_symbol : ℕ} {tokens : List Token} {fs : List Frame} {rest : List Token} → Reach start_symbol tokens fs rest → (fs ≡ []) → ⊥
 reach-nonempty start e = cc
-reach-nonempty (shift c m i) e = cc
-reach-nonempty (open' c m i) e = cc
-reach-nonempty (closed c m) e = cc
+reach-nonempty (shift reach m i) e = cc
+reach-nonempty (open' reach m i) e = cc
+reach-nonempty (closed reach m) e = cc
 
 -- No late fault: what the machine has read begins a sentence.
-pub viable : {s0 : ℕ} {w : List Token} {fs : List Frame} {r : List Token} → is_leaf s0 ≡ false → fillable s0 0 ≡ true → Reach s0 w fs r
-    → Whole s0 (spent fs)
-viable {s0} {w} {fs} {r} i b c = on fs (reach-sound i c) (reach-nonempty c)
+pub viable : {start_symbol : ℕ} {tokens : List Token} {fs : List Frame} {rest : List Token} → is_leaf start_symbol ≡ false → fillable start_symbol 0 ≡ true
+    → Reach start_symbol tokens fs rest
+    → Whole start_symbol (spent fs)
+viable {start_symbol} {tokens} {fs} {rest} i b c = on fs (reach-sound i c) (reach-nonempty c)
   where
-    on : (fs : List Frame) → Sound s0 fs → (fs ≡ [] → ⊥) → Whole s0 (spent fs)
+    on : (fs : List Frame) → Sound start_symbol fs → (fs ≡ [] → ⊥) → Whole start_symbol (spent fs)
     on [] c n = absurd (n refl)
-    on (frame s q f ∷ fs) c n = complete s0 s q f fs c (path-fillable s 0 q f c.0 c.1 (held-fillable s0 s fs c.0 c.2 c.3 b))
+    on (frame symbol state forest ∷ fs) c n = complete start_symbol symbol state forest fs c
+        (path-fillable symbol 0 state forest c.0 c.1 (held-fillable start_symbol symbol fs c.0 c.2 c.3 b))
 
 -- The set of all classes, which are the numbers before DOCUMENT.
 abbrev pub any : ℕ
@@ -275,22 +345,22 @@ error-any : holds ERROR any ≡ true
 unfolding holds
 error-any = refl
 
-pub class-any : (a : Token) → holds (class a) any ≡ true
+pub class-any : (this_token : Token) → holds (class this_token) any ≡ true
 unfolding class
-class-any a = elim (either (eqb a.0 IDENT)) [
-  | inl p ↦ rw p (holds-subset (word_class words a.1) name_classes any refl (word-name words a.1 words-checked))
-  | inr p ↦ elim (either (holds a.0 token_kinds)) [
-    | inl q ↦ rw (p, q) (holds-subset a.0 token_kinds any refl q)
+class-any this_token = elim (either (eqb this_token.0 IDENT)) [
+  | inl p ↦ rw p (holds-subset (word_class words this_token.1) name_classes any refl (word-name words this_token.1 words-checked))
+  | inr p ↦ elim (either (holds this_token.0 token_kinds)) [
+    | inl q ↦ rw (p, q) (holds-subset this_token.0 token_kinds any refl q)
     | inr q ↦ rw (p, q) error-any
   ]
 ]
 
-pub first-any : (r : List Token) → holds (first r) any ≡ true
+pub first-any : (rest : List Token) → holds (first rest) any ≡ true
 unfolding first holds
 first-any [] = refl
-first-any (a ∷ r) = class-any a
+first-any (this_token ∷ rest) = class-any this_token
 
-pub second-any : (r : List Token) → holds (second r) any ≡ true
+pub second-any : (rest : List Token) → holds (second rest) any ≡ true
 unfolding second holds
 second-any [] = refl
-second-any (a ∷ r) = first-any r
+second-any (this_token ∷ rest) = first-any rest

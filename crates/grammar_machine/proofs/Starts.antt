@@ -23,70 +23,81 @@ opens selections a = elim (either (eqb a L_CURLY)) [ inl p ↦ rw p fragments-be
 opens type a = fragments-begin.2
 
 -- A selection set's first token is `{`; without braces it is not.
-tests : (sticks SELECTION_SET 0 (but (L_CURLY ∷ [])) any ≡ true) × (sticks BARE_SELECTIONS 0 (only (L_CURLY ∷ [])) any ≡ true) × (holds L_CURLY (only (L_CURLY ∷ [])) ≡ true)
+tests : (sticks SELECTION_SET 0 (but (L_CURLY ∷ [])) any ≡ true) × (sticks BARE_SELECTIONS 0 (only (L_CURLY ∷ [])) any ≡ true)
+    × (holds L_CURLY (only (L_CURLY ∷ [])) ≡ true)
 unfolding ◌and◌ ◌or◌ holds is_leaf at ends arcs entries rows firsts sticks
 tests = (refl, refl, refl)
 
-begins-selection_set : (u : Tree) (w : List Token) → Parse SELECTION_SET u w → eqb (first w) L_CURLY ≡ true
-begins-selection_set u w p = true_from_ne_false _ (λ e.
-    let h : holds (first w) (but (L_CURLY ∷ [])) ≡ true = holds-but (first w) L_CURLY any (but (L_CURLY ∷ [])) (first-any w) (eqb-false _ _ e) refl in
-    never-stuck SELECTION_SET fragments-begin.0 u w SELECTION_SET 0 none [] w p start (sticks-move SELECTION_SET 0 (but (L_CURLY ∷ [])) any (first w) (second w) tests.0 h (second-any w)))
+begins-selection_set : (tree : Tree) (tokens : List Token) → Parse SELECTION_SET tree tokens → eqb (first tokens) L_CURLY ≡ true
+begins-selection_set tree tokens parse = true_from_ne_false _ (λ e.
+    let h : holds (first tokens) (but (L_CURLY ∷ [])) ≡ true = holds-but (first tokens) L_CURLY any (but (L_CURLY ∷ [])) (first-any tokens)
+    (eqb-false _ _ e) refl in
+    never-stuck SELECTION_SET fragments-begin.0 tree tokens SELECTION_SET 0 none [] tokens parse start
+    (sticks-move SELECTION_SET 0 (but (L_CURLY ∷ [])) any (first tokens) (second tokens) tests.0 h (second-any tokens)))
 
-begins-bare_selections : (u : Tree) (w : List Token) → Parse BARE_SELECTIONS u w → eqb (first w) L_CURLY ≡ false
-begins-bare_selections u w p = false_from_ne_true _ (λ e.
-    let h : holds (first w) (only (L_CURLY ∷ [])) ≡ true = rw (eqb-true (first w) L_CURLY e) tests.2 in
-    never-stuck BARE_SELECTIONS fragments-begin.1 u w BARE_SELECTIONS 0 none [] w p start (sticks-move BARE_SELECTIONS 0 (only (L_CURLY ∷ [])) any (first w) (second w) tests.1 h (second-any w)))
+begins-bare_selections : (tree : Tree) (tokens : List Token) → Parse BARE_SELECTIONS tree tokens → eqb (first tokens) L_CURLY ≡ false
+begins-bare_selections tree tokens parse = false_from_ne_true _ (λ e.
+    let h : holds (first tokens) (only (L_CURLY ∷ [])) ≡ true = rw (eqb-true (first tokens) L_CURLY e) tests.2 in
+    never-stuck BARE_SELECTIONS fragments-begin.1 tree tokens BARE_SELECTIONS 0 none [] tokens parse start
+    (sticks-move BARE_SELECTIONS 0 (only (L_CURLY ∷ [])) any (first tokens) (second tokens) tests.1 h (second-any tokens)))
 
-pub opens-by : (sort : Sort) (k : ℕ) (u : Tree) (w : List Token) → Opens sort k → Parse k u w → k ≡ opening sort (first w)
-opens-by document k u w e p = e
-opens-by selections k u w e p = elim e [
-  | inl c ↦ rw (begins-selection_set u w (subst (λ (n : ℕ). Parse n u w) c p)) c
-  | inr c ↦ rw (begins-bare_selections u w (subst (λ (n : ℕ). Parse n u w) c p)) c
+pub opens-by : (sort : Sort) (child : ℕ) (tree : Tree) (tokens : List Token) → Opens sort child → Parse child tree tokens → child ≡ opening sort (first tokens)
+opens-by document child tree tokens e parse = e
+opens-by selections child tree tokens e parse = elim e [
+  | inl c ↦ rw (begins-selection_set tree tokens (subst (λ (n : ℕ). Parse n tree tokens) c parse)) c
+  | inr c ↦ rw (begins-bare_selections tree tokens (subst (λ (n : ℕ). Parse n tree tokens) c parse)) c
 ]
-opens-by type k u w e p = e
+opens-by type child tree tokens e parse = e
 
-pub first-same : (b r v : List Token) → first r ≡ first v → first (b ++ r) ≡ first (b ++ v)
+pub first-same : (tokens rest more : List Token) → first rest ≡ first more → first (tokens ++ rest) ≡ first (tokens ++ more)
 unfolding first
-first-same [] r v e = e
-first-same (a ∷ b) r v e = refl
+first-same [] rest more e = e
+first-same (token ∷ tokens) rest more e = refl
 
 -- The tokens read as terminals; the next two terminals; the next one.
 abbrev pub read : List Token → List Terminal
 read [] = []
-read (a ∷ w) = word a ∷ read w
+read (token ∷ tokens) = word token ∷ read tokens
 
 abbrev pub next_two : List Token → List Terminal
 next_two [] = end ∷ []
-next_two (a ∷ []) = word a ∷ end ∷ []
-next_two (a ∷ (b ∷ r)) = word a ∷ word b ∷ []
+next_two (token ∷ []) = word token ∷ end ∷ []
+next_two (token ∷ (next_token ∷ rest)) = word token ∷ word next_token ∷ []
 
 abbrev pub next_one : List Token → List Terminal
 next_one [] = end ∷ []
-next_one (a ∷ r) = word a ∷ []
+next_one (token ∷ rest) = word token ∷ []
 
-two-from : (r w : List Token) (v : List Terminal) → terminals w ≡ next_two r ++ v → (first r ≡ first w) × (second r ≡ second w)
+two-from : (rest tokens : List Token) (these_terminals : List Terminal) → terminals tokens ≡ next_two rest ++ these_terminals
+    → (first rest ≡ first tokens) × (second rest ≡ second tokens)
 unfolding first second
-two-from [] [] v e = (refl, refl)
-two-from (a ∷ []) (c ∷ []) v e = (cc, refl)
-two-from (a ∷ (b ∷ r)) (c ∷ (d ∷ w)) v e = (cc, cc)
-two-from _ _ v e = absurd (cc)
+two-from [] [] these_terminals e = (refl, refl)
+two-from (token ∷ []) (next_token ∷ []) these_terminals e = (cc, refl)
+two-from (token ∷ (next_token ∷ rest)) (second_token ∷ (d ∷ tokens)) these_terminals e = (cc, cc)
+two-from _ _ these_terminals e = absurd (cc)
 
-one-from : (r w : List Token) (v : List Terminal) → terminals w ≡ next_one r ++ v → first r ≡ first w
+one-from : (rest tokens : List Token) (these_terminals : List Terminal) → terminals tokens ≡ next_one rest ++ these_terminals → first rest ≡ first tokens
 unfolding first
-one-from [] [] v e = refl
-one-from (a ∷ r) (c ∷ w) v e = cc
-one-from _ _ v e = absurd (cc)
+one-from [] [] these_terminals e = refl
+one-from (token ∷ rest) (next_token ∷ tokens) these_terminals e = cc
+one-from _ _ these_terminals e = absurd (cc)
 
 -- What begins with the tokens read goes on with the rest.
-pub after-read : (b : List Token) (l : List Terminal) (w : List Token) (v : List Terminal) → terminals w ≡ (read b ++ l) ++ v
-    → (u : List Token) × (w ≡ b ++ u) × (terminals u ≡ l ++ v)
-after-read [] l w v e = (w, refl, e)
-after-read (a ∷ b) l [] v e = absurd (cc)
-after-read (a ∷ b) l (c ∷ w) v e = let r = after-read b l w v (tail-same e) in let h : c ≡ a = cc in (r.0, ap₂ (λ (x : Token) (y : List Token). x ∷ y) h r.1, r.2)
+pub after-read : (tokens : List Token) (these_terminals : List Terminal) (more : List Token) (more_terminals : List Terminal)
+    → terminals more ≡ (read tokens ++ these_terminals) ++ more_terminals
+    → (others : List Token) × (more ≡ tokens ++ others) × (terminals others ≡ these_terminals ++ more_terminals)
+after-read [] these_terminals more more_terminals e = (more, refl, e)
+after-read (token ∷ tokens) these_terminals [] more_terminals e = absurd (cc)
+after-read (token ∷ tokens) these_terminals (next_token ∷ more) more_terminals e =
+    let r = after-read tokens these_terminals more more_terminals (tail-same e) in let h : next_token ≡ token = cc in
+    (r.0, ap₂ (λ (x : Token) (others : List Token). x ∷ others) h r.1, r.2)
 
-pub after-two : (b r w : List Token) (v : List Terminal) → terminals w ≡ (read b ++ next_two r) ++ v
-    → (u : List Token) × (w ≡ b ++ u) × (first r ≡ first u) × (second r ≡ second u)
-after-two b r w v e = let h = after-read b (next_two r) w v e in let t = two-from r h.0 v h.2 in (h.0, h.1, t.0, t.1)
+pub after-two : (tokens rest more : List Token) (these_terminals : List Terminal) → terminals more ≡ (read tokens ++ next_two rest) ++ these_terminals
+    → (others : List Token) × (more ≡ tokens ++ others) × (first rest ≡ first others) × (second rest ≡ second others)
+after-two tokens rest more these_terminals e = let h = after-read tokens (next_two rest) more these_terminals e in
+    let t = two-from rest h.0 these_terminals h.2 in (h.0, h.1, t.0, t.1)
 
-pub after-one : (b r w : List Token) (v : List Terminal) → terminals w ≡ (read b ++ next_one r) ++ v → (u : List Token) × (w ≡ b ++ u) × (first r ≡ first u)
-after-one b r w v e = let h = after-read b (next_one r) w v e in (h.0, h.1, one-from r h.0 v h.2)
+pub after-one : (tokens rest more : List Token) (these_terminals : List Terminal) → terminals more ≡ (read tokens ++ next_one rest) ++ these_terminals
+    → (others : List Token) × (more ≡ tokens ++ others) × (first rest ≡ first others)
+after-one tokens rest more these_terminals e = let h = after-read tokens (next_one rest) more these_terminals e in
+    (h.0, h.1, one-from rest h.0 these_terminals h.2)

@@ -1,5 +1,6 @@
 -- What the tests say, for each state and symbol.
-use Rattle.std.proofs.Common.{◌≡◌, ◌≢◌, ℕ, zero, suc, ◌+◌, ◌-◌, ◌≤◌, ◌<◌, min, Bool, true, false, cond, not, eqb, List, [], ◌∷◌, get_or, bit_or, refl, sym, ap, ap₂, subst, ◌⊎◌, inl, inr, true≢false, eqb-true, ltb-false, arith}
+use Rattle.std.proofs.Common.{◌≡◌, ◌≢◌, ℕ, zero, suc, ◌+◌, ◌-◌, ◌≤◌, ◌<◌, min, Bool, true, false, cond, not, eqb, List, [], ◌∷◌, get_or, bit_or, refl, sym, ap}
+use Rattle.std.proofs.Common.{ap₂, subst, ◌⊎◌, inl, inr, true≢false, eqb-true, ltb-false, arith}
 use Rattle.std.proofs.lemmas.Bool.{eqb-false}
 use Rattle.std.specs.Int.{bit_at}
 use Rattle.std.proofs.lemmas.Nat.Bits.{bit_at_and, bit_at_or, bit_at-lt, bit_at-zero}
@@ -7,16 +8,18 @@ use Rattle.document_grammar.specs.Booleans.{◌and◌, ◌or◌}
 use Rattle.document_grammar.proofs.Booleans.{and-l, and-r, and-i, or-c, or-l, or-r, or-false, implies, either}
 use Rattle.document_grammar.specs.Tree.{Text, Tree, leaf, node, Forest, none, ◌▸◌, root}
 use Rattle.grammar_machine.specs.Table.{State, state, Entry, entry, rows}
-use Rattle.grammar_machine.specs.Machine.{holds, fires_in, text_eq, is_leaf, at, ends, exit, arcs, has, target, dead, state_arcs, state_ends, state_exit, has_in, target_in, finish, walk, Ok, OkFrom}
-use Rattle.grammar_machine.proofs.Checks.{subset, disjoint, entries_mask, all_entries, any_entries, row_of, all_ends, exits, all_arcs, all_from, all_rows, every_state, every_arc, all_below}
+use Rattle.grammar_machine.specs.Machine.{holds, fires_in, text_eq, is_leaf, at, ends, exit, arcs, has, target, dead, state_arcs, state_ends, state_exit}
+use Rattle.grammar_machine.specs.Machine.{has_in, target_in, finish, walk, Ok, OkFrom}
+use Rattle.grammar_machine.proofs.Checks.{subset, disjoint, entries_mask, all_entries, any_entries, row_of, all_ends, exits, all_arcs, all_from, all_rows}
+use Rattle.grammar_machine.proofs.Checks.{every_state, every_arc, all_below}
 use Rattle.document_grammar.specs.Kinds.{DOCUMENT}
 
 -- A test that holds of each number below n.
-pub below-at : (t : ℕ → Bool) (n l : ℕ) → l < n → all_below n t ≡ true → t l ≡ true
-below-at t zero l h e = absurd (omega arith)
-below-at t (suc n) l h e = elim (either (eqb l n)) [
-  | inl p ↦ subst (λ (k : ℕ). t k ≡ true) (sym (eqb-true l n p)) (and-l _ _ e)
-  | inr p ↦ (let i : l ≢ n = eqb-false l n p in below-at t n l (omega arith) (and-r _ _ e))
+pub below-at : (t : ℕ → Bool) (n leaf_symbol : ℕ) → leaf_symbol < n → all_below n t ≡ true → t leaf_symbol ≡ true
+below-at t zero leaf_symbol h e = absurd (omega arith)
+below-at t (suc n) leaf_symbol h e = elim (either (eqb leaf_symbol n)) [
+  | inl p ↦ subst (λ (k : ℕ). t k ≡ true) (sym (eqb-true leaf_symbol n p)) (and-l _ _ e)
+  | inr p ↦ (let i : leaf_symbol ≢ n = eqb-false leaf_symbol n p in below-at t n leaf_symbol (omega arith) (and-r _ _ e))
 ]
 
 -- Equal lists.
@@ -29,9 +32,9 @@ tail-same e = cc
 pub no-cons : {A B : Type 0} {a : B} {w : List B} → [] ≡ a ∷ w → A
 no-cons e = absurd (cc)
 
-pub text-same : (a b : Text) → text_eq a b ≡ true → a ≡ b
+pub text-same : (text other_text : Text) → text_eq text other_text ≡ true → text ≡ other_text
 text-same [] [] h = refl
-text-same (a ∷ x) (b ∷ y) h = ap₂ (λ u v. u ∷ v) (eqb-true a b (and-l _ _ h)) (text-same x y (and-r _ _ h))
+text-same (a ∷ text) (b ∷ other_text) h = ap₂ (λ u v. u ∷ v) (eqb-true a b (and-l _ _ h)) (text-same text other_text (and-r _ _ h))
 text-same _ _ h = absurd (true≢false (sym h))
 
 pub holds-subset : (a x y : ℕ) → subset x y ≡ true → holds a x ≡ true → holds a y ≡ true
@@ -59,7 +62,11 @@ holds-or a x y h =
 pub any-with : (es : List Entry) (t u : ℕ → ℕ → Bool → Bool) → all_entries es t ≡ true → any_entries es u ≡ true
     → any_entries es (λ x y alone. t x y alone and u x y alone) ≡ true
 any-with [] t u h i = i
-any-with (entry x y alone ∷ more) t u h i = elim (or-c _ _ i) [ inl p ↦ or-l _ _ (and-i (and-l _ _ h) p) | inr p ↦ or-r _ _ (any-with more t u (and-r _ _ h) p) ]
+any-with (entry x y alone ∷ more) t u h i = elim (or-c _ _ i) [
+  | inl p ↦ or-l _ _ (and-i (and-l _ _ h) p)
+  | inr p ↦ or-r _ _
+      (any-with more t u (and-r _ _ h) p)
+]
 
 pub any-entry : {C : Type 0} (es : List Entry) (t : ℕ → ℕ → Bool → Bool) → any_entries es t ≡ true
     → ((x y : ℕ) (alone : Bool) → t x y alone ≡ true → C) → C
@@ -89,19 +96,19 @@ holds-mask [] a h = absurd (true≢false (sym h))
 holds-mask (entry x y alone ∷ more) a h = holds-or a x (entries_mask more) (elim (or-c _ _ h) [ inl p ↦ inl p | inr p ↦ inr (holds-mask more a p) ])
 
 -- Arcs.
-arc-step : (a : ℕ × ℕ) (more : List (ℕ × ℕ)) (t : ℕ → ℕ → Bool) (k : ℕ) (b : Bool) → eqb a.0 k ≡ b → t a.0 a.1 ≡ true
-    → (has_in more k ≡ true → t k (target_in more k) ≡ true) → b or has_in more k ≡ true → t k (cond b a.1 (target_in more k)) ≡ true
+arc-step : (a : ℕ × ℕ) (more : List (ℕ × ℕ)) (t : ℕ → ℕ → Bool) (child : ℕ) (b : Bool) → eqb a.0 child ≡ b → t a.0 a.1 ≡ true
+    → (has_in more child ≡ true → t child (target_in more child) ≡ true) → b or has_in more child ≡ true → t child (cond b a.1 (target_in more child)) ≡ true
 unfolding ◌or◌
-arc-step a more t k true e h r i = subst (λ (n : ℕ). t n a.1 ≡ true) (eqb-true _ _ e) h
-arc-step a more t k false e h r i = r i
+arc-step a more t child true e h r i = subst (λ (n : ℕ). t n a.1 ≡ true) (eqb-true _ _ e) h
+arc-step a more t child false e h r i = r i
 
-pub arcs-at : (l : List (ℕ × ℕ)) (t : ℕ → ℕ → Bool) (k : ℕ) → all_arcs l t ≡ true → has_in l k ≡ true → t k (target_in l k) ≡ true
-arcs-at [] t k h i = absurd (true≢false (sym i))
-arcs-at (a ∷ more) t k h i = arc-step a more t k (eqb a.0 k) refl (and-l _ _ h) (arcs-at more t k (and-r (t a.0 a.1) _ h)) i
+pub arcs-at : (l : List (ℕ × ℕ)) (t : ℕ → ℕ → Bool) (child : ℕ) → all_arcs l t ≡ true → has_in l child ≡ true → t child (target_in l child) ≡ true
+arcs-at [] t child h i = absurd (true≢false (sym i))
+arcs-at (a ∷ more) t child h i = arc-step a more t child (eqb a.0 child) refl (and-l _ _ h) (arcs-at more t child (and-r (t a.0 a.1) _ h)) i
 
 -- Rows.
-pub zero-plus : (q : ℕ) → 0 + q ≡ q
-zero-plus q = omega arith
+pub zero-plus : (row_state : ℕ) → 0 + row_state ≡ row_state
+zero-plus row_state = omega arith
 
 pub all-from-at : {A : Type 0} (l : List A) (n i : ℕ) (t : ℕ → A → Bool) (d : A) → all_from n l t ≡ true → t (n + i) d ≡ true
     → t (n + i) (get_or l i d) ≡ true
@@ -109,40 +116,45 @@ all-from-at [] n i t d h e = e
 all-from-at (x ∷ more) n zero t d h e = let z : n + 0 ≡ n = omega arith in rw z (and-l _ _ h)
 all-from-at (x ∷ more) n (suc i) t d h e = let z : n + suc i ≡ suc n + i = omega arith in rw z (all-from-at more (suc n) i t d (and-r _ _ h) (rw z at e))
 
-node-sum : (s : ℕ) → is_leaf s ≡ false → DOCUMENT + (s - DOCUMENT) ≡ s
+node-sum : (symbol : ℕ) → is_leaf symbol ≡ false → DOCUMENT + (symbol - DOCUMENT) ≡ symbol
 unfolding is_leaf
-node-sum s h = let l : DOCUMENT ≤ s = ltb-false _ _ h in omega arith
+node-sum symbol h = let document : DOCUMENT ≤ symbol = ltb-false _ _ h in omega arith
 
-pub state-test : (t : ℕ → ℕ → State → Bool) → every_state t ≡ true → ((s q : ℕ) → t s q dead ≡ true) → (s q : ℕ) → is_leaf s ≡ false → t s q (at s q) ≡ true
+pub state-test : (t : ℕ → ℕ → State → Bool) → every_state t ≡ true → ((symbol row_state : ℕ) → t symbol row_state dead ≡ true) → (symbol row_state : ℕ)
+    → is_leaf symbol ≡ false → t symbol row_state (at symbol row_state) ≡ true
 unfolding at
-state-test t h d s q l =
+state-test t h d s row_state l =
     let row : List State = get_or rows (s - DOCUMENT) [] in
-    let r : all_from 0 row (t s) ≡ true = subst (λ (n : ℕ). all_from 0 row (t n) ≡ true) (node-sum s l) (all-from-at rows DOCUMENT (s - DOCUMENT) (λ s r. all_from 0 r (t s)) [] h refl) in
-    subst (λ (n : ℕ). t s n (get_or row q dead) ≡ true) (zero-plus q) (all-from-at row 0 q (t s) dead r (d s (0 + q)))
+    let r : all_from 0 row (t s) ≡ true = subst (λ (n : ℕ). all_from 0 row (t n) ≡ true) (node-sum s l)
+    (all-from-at rows DOCUMENT (s - DOCUMENT) (λ s r. all_from 0 r (t s)) [] h refl) in
+    subst (λ (n : ℕ). t s n (get_or row row_state dead) ≡ true) (zero-plus row_state) (all-from-at row 0 row_state (t s) dead r (d s (0 + row_state)))
 
-pub row-test : (t : ℕ → State → Bool) → all_rows DOCUMENT rows t ≡ true → ((k : ℕ) → t k dead ≡ true) → (s q : ℕ) → is_leaf s ≡ false → t s (at s q) ≡ true
+pub row-test : (t : ℕ → State → Bool) → all_rows DOCUMENT rows t ≡ true → ((child : ℕ) → t child dead ≡ true) → (symbol row_state : ℕ) → is_leaf symbol ≡ false
+    → t symbol (at symbol row_state) ≡ true
 row-test t h d s q l = state-test (λ s q v. t s v) h (λ s q. d s) s q l
 
-pub arc-test : (t : ℕ → ℕ → ℕ → Bool) → every_arc t ≡ true → (s q k : ℕ) → is_leaf s ≡ false → has s q k ≡ true → t s k (target s q k) ≡ true
+pub arc-test : (t : ℕ → ℕ → ℕ → Bool) → every_arc t ≡ true → (symbol row_state child : ℕ) → is_leaf symbol ≡ false → has symbol row_state child ≡ true
+    → t symbol child (target symbol row_state child) ≡ true
 unfolding has target arcs
-arc-test t h s q k l i = arcs-at (arcs s q) (t s) k (state-test (λ s q v. all_arcs (state_arcs v) (t s)) h (λ s q. refl) s q l) i
+arc-test t h s q child l i = arcs-at (arcs s q) (t s) child (state-test (λ s q v. all_arcs (state_arcs v) (t s)) h (λ s q. refl) s q l) i
 
 -- The exit with which a tree ends.
-ends-at : (l : List State) (t : ℕ → Bool) (q : ℕ) → all_ends l t ≡ true → state_ends (get_or l q dead) ≡ true
-    → t (state_exit (get_or l q dead)) ≡ true
-ends-at [] t q h e = absurd (true≢false (sym e))
+ends-at : (l : List State) (t : ℕ → Bool) (row_state : ℕ) → all_ends l t ≡ true → state_ends (get_or l row_state dead) ≡ true
+    → t (state_exit (get_or l row_state dead)) ≡ true
+ends-at [] t row_state h e = absurd (true≢false (sym e))
 ends-at (state b x a ∷ more) t zero h e = implies b (t x) (and-l _ _ h) e
 ends-at (state b x a ∷ more) t (suc q) h e = ends-at more t q (and-r (not b or t x) _ h) e
 
-pub walk-ends : (s q : ℕ) (f : Forest) → OkFrom s q f → ends s (walk s q f) ≡ true
-walk-ends s q none h = h
-walk-ends s q (t ▸ f) h = walk-ends s (target s q (root t) + finish t) f h.2
+pub walk-ends : (symbol row_state : ℕ) (forest : Forest) → OkFrom symbol row_state forest → ends symbol (walk symbol row_state forest) ≡ true
+walk-ends symbol row_state none ok_from = ok_from
+walk-ends symbol row_state (tree ▸ forest) ok_from = walk-ends symbol (target symbol row_state (root tree) + finish tree) forest ok_from.2
 
-ends-exit : (s q : ℕ) (t : ℕ → Bool) → all_ends (row_of s) t ≡ true → ends s q ≡ true → t (exit s q) ≡ true
+ends-exit : (symbol row_state : ℕ) (t : ℕ → Bool) → all_ends (row_of symbol) t ≡ true → ends symbol row_state ≡ true → t (exit symbol row_state) ≡ true
 unfolding ends exit at row_of
-ends-exit s q t h e = ends-at (get_or rows (s - DOCUMENT) []) t q h e
+ends-exit symbol row_state t h e = ends-at (get_or rows (symbol - DOCUMENT) []) t row_state h e
 
-pub exits-at : (u : Tree) (t : ℕ → Bool) → exits (root u) t ≡ true → Ok u → t (finish u) ≡ true
+pub exits-at : (tree : Tree) (t : ℕ → Bool) → exits (root tree) t ≡ true → Ok tree → t (finish tree) ≡ true
 unfolding exits
-exits-at (leaf l x) t h o = subst (λ (b : Bool). cond b (t 0) (all_ends (row_of l) t) ≡ true) o.0 h
-exits-at (node s f) t h o = ends-exit s (walk s 0 f) t (subst (λ (b : Bool). cond b (t 0) (all_ends (row_of s) t) ≡ true) o.0 h) (walk-ends s 0 f o.1)
+exits-at (leaf leaf_symbol text) t h ok = subst (λ (b : Bool). cond b (t 0) (all_ends (row_of leaf_symbol) t) ≡ true) ok.0 h
+exits-at (node symbol forest) t h ok = ends-exit symbol (walk symbol 0 forest) t (subst (λ (b : Bool). cond b (t 0) (all_ends (row_of symbol) t) ≡ true) ok.0 h)
+    (walk-ends symbol 0 forest ok.1)

@@ -20,10 +20,11 @@ type-arcs : all_arcs (arcs TYPE 0) (λ k q. exits k (λ x. eqb (q + x) 1)) ≡ t
 unfolding arcs at rows exits is_leaf ◌and◌ ◌or◌
 type-arcs = refl
 
-pub type-first : (t : Tree) → has TYPE 0 (root t) ≡ true → Ok t → target TYPE 0 (root t) + finish t ≡ 1
+pub type-first : (tree : Tree) → has TYPE 0 (root tree) ≡ true → Ok tree → target TYPE 0 (root tree) + finish tree ≡ 1
 unfolding has target
-type-first t h o =
-    eqb-true _ _ (exits-at t (λ x. eqb (target TYPE 0 (root t) + x) 1) (arcs-at (arcs TYPE 0) (λ k q. exits k (λ x. eqb (q + x) 1)) (root t) type-arcs h) o)
+type-first tree h ok =
+    eqb-true _ _ (exits-at tree (λ x. eqb (target TYPE 0 (root tree) + x) 1)
+    (arcs-at (arcs TYPE 0) (λ k q. exits k (λ x. eqb (q + x) 1)) (root tree) type-arcs h) ok)
 
 pub type-pattern : pattern_of TYPE 0 ≡ type_row
 unfolding pattern_of symbol_row label labels Row paths
@@ -32,20 +33,28 @@ type-pattern = refl
 -- A type of two children and more has the row of NON_NULL_TYPE.
 two-children : (a b : ℕ) (w v : List ℕ) → w ≡ a ∷ b ∷ v → Matches type_row w → Matches (Row NON_NULL_TYPE) w
 unfolding Row
-two-children a b w v e m = elim m.4 [
-  | inl x ↦ (m.0, m.1, m.2, m.3, x)
-  | inr x ↦ no-cons (sym (tail-same (sym e ∙ (m.2 ∙ ap₂ (λ (x y : List ℕ). x ++ y) m.3.2 x))))
+two-children a b w v e matches = elim matches.4 [
+  | inl x ↦ (matches.0, matches.1, matches.2, matches.3, x)
+  | inr x ↦ no-cons (sym (tail-same (sym e ∙ (matches.2 ∙ ap₂ (λ (x y : List ℕ). x ++ y) matches.3.2 x))))
 ]
 
-rules-non_null_type : (f : Forest) → NameRule NON_NULL_TYPE f × ConstantRule NON_NULL_TYPE f × (◌≡◌ {A = ℕ} NON_NULL_TYPE DOCUMENT → BraceRule f)
+rules-non_null_type : (forest : Forest) → NameRule NON_NULL_TYPE forest × ConstantRule NON_NULL_TYPE forest × (◌≡◌ {A = ℕ} NON_NULL_TYPE DOCUMENT
+    → BraceRule forest)
 unfolding member
-rules-non_null_type f = (((λ e. absurd (omega arith)), (λ e. absurd (omega arith))), ((λ e. absurd (omega arith)), (λ e. false-true refl e)), (λ e. absurd (omega arith)))
+rules-non_null_type forest = (
+  ((λ e. absurd (omega arith)), (λ e. absurd (omega arith))),
+  ((λ e. absurd (omega arith)), (λ e. false-true refl e)),
+  (λ e. absurd (omega arith)),
+)
 
-pub type-fits : (f : Forest) → OkFrom TYPE 0 f → AllFit (shows f) → Fits (type_of (shows f))
-type-fits none o h = false-true type-end o
-type-fits (t ▸ none) o h = h.0
-type-fits (t ▸ (u ▸ f)) o h =
-    let s : Matches type_row (kinds (shows (t ▸ (u ▸ f)))) = subst (λ (p : Pattern). Matches p (kinds (shows (t ▸ (u ▸ f))))) type-pattern (row-shown TYPE 0 (t ▸ (u ▸ f)) node-symbols.3 o) in
-    let m : Matches (Row NON_NULL_TYPE) (kinds (shows (t ▸ (u ▸ f)))) = two-children (root (show t)) (root (show u)) _ _ refl s in
-    let r = rules-non_null_type (show t ▸ (show u ▸ shows f)) in
-    (m, r.0, r.1, r.2, h)
+pub type-fits : (forest : Forest) → OkFrom TYPE 0 forest → AllFit (shows forest) → Fits (type_of (shows forest))
+type-fits none ok_from all_fit = false-true type-end ok_from
+type-fits (tree ▸ none) ok_from all_fit = all_fit.0
+type-fits (tree ▸ (other_tree ▸ forest)) ok_from all_fit =
+    let matches : Matches type_row (kinds (shows (tree ▸ (other_tree ▸ forest)))) = subst
+    (λ (p : Pattern). Matches p (kinds (shows (tree ▸ (other_tree ▸ forest))))) type-pattern
+    (row-shown TYPE 0 (tree ▸ (other_tree ▸ forest)) node-symbols.3 ok_from) in
+    let second_matches : Matches (Row NON_NULL_TYPE) (kinds (shows (tree ▸ (other_tree ▸ forest)))) = two-children (root (show tree))
+    (root (show other_tree)) _ _ refl matches in
+    let r = rules-non_null_type (show tree ▸ (show other_tree ▸ shows forest)) in
+    (second_matches, r.0, r.1, r.2, all_fit)

@@ -1,5 +1,6 @@
 -- The machine run by computing, for examples: a number of steps from the start, and the tokens that they take.
-use Rattle.std.proofs.Common.{◌≡◌, ℕ, zero, suc, ◌+◌, Bool, true, false, cond, List, [], ◌∷◌, ◌++◌, refl, sym, ◌∙◌, subst, inl, inr, true≢false, append-nil, eqb, ltb, not, map, ap, eqb-true, ltb-true}
+use Rattle.std.proofs.Common.{◌≡◌, ℕ, zero, suc, ◌+◌, Bool, true, false, cond, List, [], ◌∷◌, ◌++◌, refl, sym, ◌∙◌, subst, inl, inr, true≢false, append-nil}
+use Rattle.std.proofs.Common.{eqb, ltb, not, map, ap, eqb-true, ltb-true}
 use Rattle.std.proofs.lemmas.List.{append_cancel_right}
 use Rattle.document_grammar.specs.Tree.{Token, Tree, leaf, node, Forest, none, ◌▸◌, ◌+++◌}
 use Rattle.document_grammar.specs.Derivation.{Sort, Spells, nest}
@@ -28,129 +29,158 @@ abbrev Config : Type 0
 Config = List Frame × List Token
 
 abbrev act : Move → ℕ → ℕ → Forest → List Frame → List Token → Config
-act (go k) s q f fs [] = cond (is_leaf k) (frame s q f ∷ fs, []) (frame k 0 none ∷ frame s q f ∷ fs, [])
-act (go k) s q f fs (a ∷ r) = cond (is_leaf k) (frame s (target s q k) (f +++ (leaf k a.1 ▸ none)) ∷ fs, r) (frame k 0 none ∷ frame s q f ∷ fs, a ∷ r)
-act close s q f [] r = (frame s q f ∷ [], r)
-act close s q f (frame p o g ∷ fs) r = (frame p (target p o s + exit s q) (g +++ (node s f ▸ none)) ∷ fs, r)
-act stuck s q f fs r = (frame s q f ∷ fs, r)
+act (go child) symbol state forest fs [] = cond (is_leaf child) (frame symbol state forest ∷ fs, []) (frame child 0 none ∷ frame symbol state forest ∷ fs, [])
+act (go child) symbol state forest fs (token ∷ rest) = cond (is_leaf child)
+    (frame symbol (target symbol state child) (forest +++ (leaf child token.1 ▸ none)) ∷ fs, rest) (
+      frame child 0 none ∷ frame symbol state forest ∷ fs,
+      token ∷ rest,
+    )
+act close symbol state forest [] rest = (frame symbol state forest ∷ [], rest)
+act close symbol state forest (frame p o more_trees ∷ fs) rest = (
+  frame p (target p o symbol + exit symbol state) (more_trees +++ (node symbol forest ▸ none))
+      ∷ fs,
+  rest,
+)
+act stuck symbol state forest fs rest = (frame symbol state forest ∷ fs, rest)
 
 abbrev step : List Frame → List Token → Config
-step [] r = ([], r)
-step (frame s q f ∷ fs) r = act (next s q r) s q f fs r
+step [] rest = ([], rest)
+step (frame symbol state forest ∷ fs) rest = act (next symbol state rest) symbol state forest fs rest
 
 abbrev steps : ℕ → List Frame → List Token → Config
-steps zero fs r = (fs, r)
-steps (suc n) fs r = let c = step fs r in steps n c.0 c.1
+steps zero fs rest = (fs, rest)
+steps (suc n) fs rest = let c = step fs rest in steps n c.0 c.1
 
 abbrev At : ℕ → List Token → Config → Type 0
-At s0 w c = Reach s0 w c.0 c.1
+At first_symbol tokens config = Reach first_symbol tokens config.0 config.1
 
-act-reach : (m : Move) (s0 : ℕ) (w : List Token) (s q : ℕ) (f : Forest) (fs : List Frame) (r : List Token) → Reach s0 w (frame s q f ∷ fs) r
-    → next s q r ≡ m → At s0 w (act m s q f fs r)
-act-reach (go k) s0 w s q f fs [] c m = elim (either (is_leaf k)) [ inl p ↦ rw p c | inr p ↦ rw p (open' c m p) ]
-act-reach (go k) s0 w s q f fs (a ∷ r) c m = elim (either (is_leaf k)) [ inl p ↦ rw p (shift c m p) | inr p ↦ rw p (open' c m p) ]
-act-reach close s0 w s q f [] r c m = c
-act-reach close s0 w s q f (frame p o g ∷ fs) r c m = closed c m
-act-reach stuck s0 w s q f fs r c m = c
+act-reach : (move : Move) (first_symbol : ℕ) (tokens : List Token) (symbol state : ℕ) (forest : Forest) (fs : List Frame) (rest : List Token)
+    → Reach first_symbol tokens (frame symbol state forest ∷ fs) rest
+    → next symbol state rest ≡ move → At first_symbol tokens (act move symbol state forest fs rest)
+act-reach (go child) first_symbol tokens symbol state forest fs [] reach m =
+    elim (either (is_leaf child)) [ inl p ↦ rw p reach | inr p ↦ rw p (open' reach m p) ]
+act-reach (go child) first_symbol tokens symbol state forest fs (token ∷ rest) reach m =
+    elim (either (is_leaf child)) [ inl p ↦ rw p (shift reach m p) | inr p ↦ rw p (open' reach m p) ]
+act-reach close first_symbol tokens symbol state forest [] rest reach m = reach
+act-reach close first_symbol tokens symbol state forest (frame p o more_trees ∷ fs) rest reach m = closed reach m
+act-reach stuck first_symbol tokens symbol state forest fs rest reach m = reach
 
-step-reach : (s0 : ℕ) (w : List Token) (fs : List Frame) (r : List Token) → Reach s0 w fs r → At s0 w (step fs r)
-step-reach s0 w [] r c = c
-step-reach s0 w (frame s q f ∷ fs) r c = act-reach (next s q r) s0 w s q f fs r c refl
+step-reach : (first_symbol : ℕ) (tokens : List Token) (fs : List Frame) (rest : List Token) → Reach first_symbol tokens fs rest
+    → At first_symbol tokens (step fs rest)
+step-reach first_symbol tokens [] rest reach = reach
+step-reach first_symbol tokens (frame symbol state forest ∷ fs) rest reach =
+    act-reach (next symbol state rest) first_symbol tokens symbol state forest fs rest reach refl
 
-steps-reach : (n s0 : ℕ) (w : List Token) (fs : List Frame) (r : List Token) → Reach s0 w fs r → At s0 w (steps n fs r)
-steps-reach zero s0 w fs r c = c
-steps-reach (suc n) s0 w fs r c = steps-reach n s0 w (step fs r).0 (step fs r).1 (step-reach s0 w fs r c)
+steps-reach : (n first_symbol : ℕ) (tokens : List Token) (fs : List Frame) (rest : List Token) → Reach first_symbol tokens fs rest
+    → At first_symbol tokens (steps n fs rest)
+steps-reach zero first_symbol tokens fs rest reach = reach
+steps-reach (suc n) first_symbol tokens fs rest reach = steps-reach n first_symbol tokens (step fs rest).0 (step fs rest).1
+    (step-reach first_symbol tokens fs rest reach)
 
 -- After `n` steps over the tokens.
 unfoldable pub walked : Sort → ℕ → List Token → Config
-walked sort n w = steps n (frame (start_symbol sort w) 0 none ∷ []) w
+walked sort n tokens = steps n (frame (start_symbol sort tokens) 0 none ∷ []) tokens
 
-walked-reach : (sort : Sort) (n : ℕ) (w : List Token) → At (start_symbol sort w) w (walked sort n w)
+walked-reach : (sort : Sort) (n : ℕ) (tokens : List Token) → At (start_symbol sort tokens) tokens (walked sort n tokens)
 unfolding walked
-walked-reach sort n w = steps-reach n (start_symbol sort w) w (frame (start_symbol sort w) 0 none ∷ []) w start
+walked-reach sort n tokens = steps-reach n (start_symbol sort tokens) tokens (frame (start_symbol sort tokens) 0 none ∷ []) tokens start
 
 abbrev is_close : Move → Bool
 is_close close = true
 is_close _ = false
 
-is-close : (m : Move) → is_close m ≡ true → m ≡ close
+is-close : (move : Move) → is_close move ≡ true → move ≡ close
 is-close close h = refl
 is-close _ h = absurd (true≢false (sym h))
 
-is-stuck : (m : Move) → is_stuck m ≡ true → m ≡ stuck
+is-stuck : (move : Move) → is_stuck move ≡ true → move ≡ stuck
 is-stuck stuck h = refl
 is-stuck _ h = absurd (true≢false (sym h))
 
 -- All is read and the root ends; or nothing goes on.
 abbrev ends_clean : Config → Bool
-ends_clean (frame s q f ∷ [], []) = is_close (next s q [])
+ends_clean (frame symbol state forest ∷ [], []) = is_close (next symbol state [])
 ends_clean _ = false
 
 abbrev ends_stuck : Config → Bool
 ends_stuck ([], r) = false
-ends_stuck (frame s q f ∷ fs, r) = is_stuck (next s q r)
+ends_stuck (frame symbol state forest ∷ fs, r) = is_stuck (next symbol state r)
 
 -- The root is all that is open and ends, before more tokens.
 abbrev ends_early : Config → Bool
-ends_early (frame s q f ∷ [], a ∷ r) = is_close (next s q (a ∷ r))
+ends_early (frame symbol state forest ∷ [], a ∷ r) = is_close (next symbol state (a ∷ r))
 ends_early _ = false
 
 -- The tree of the innermost open node.
 abbrev tree_in : Config → Tree
 tree_in ([], r) = leaf 0 []
-tree_in (frame s q f ∷ fs, r) = show (node s f)
+tree_in (frame symbol state forest ∷ fs, r) = show (node symbol forest)
 
-ended : (sort : Sort) (w : List Token) (s q : ℕ) (f : Forest) (r : List Token) → Reach (start_symbol sort w) w (frame s q f ∷ []) r
-    → is_close (next s q r) ≡ true → (s ≡ start_symbol sort w) × Ended sort w f r
-ended sort w s q f r h e =
-    let i : s ≡ start_symbol sort w = (reach-sound (no-leaf (start_symbol sort w) (opens sort (first w))) h).2 in
-    let m : next s q r ≡ close = is-close (next s q r) e in
-    (i, (q, subst (λ (n : ℕ). Reach (start_symbol sort w) w (frame n q f ∷ []) r) i h, subst (λ (n : ℕ). next n q r ≡ close) i m))
+ended : (sort : Sort) (tokens : List Token) (symbol state : ℕ) (forest : Forest) (rest : List Token)
+    → Reach (start_symbol sort tokens) tokens (frame symbol state forest ∷ []) rest
+    → is_close (next symbol state rest) ≡ true → (symbol ≡ start_symbol sort tokens) × Ended sort tokens forest rest
+ended sort tokens symbol state forest rest reach e =
+    let i : symbol ≡ start_symbol sort tokens = (reach-sound (no-leaf (start_symbol sort tokens) (opens sort (first tokens))) reach).2 in
+    let m : next symbol state rest ≡ close = is-close (next symbol state rest) e in (
+      i,
+      (
+        state,
+        subst (λ (n : ℕ). Reach (start_symbol sort tokens) tokens (frame n state forest ∷ []) rest) i reach,
+        subst (λ (n : ℕ). next n state rest ≡ close) i m,
+      ),
+    )
 
-clean-from : (sort : Sort) (w : List Token) (c : Config) → At (start_symbol sort w) w c → ends_clean c ≡ true → Spells w (tree_in c) sort
-clean-from sort w (frame s q f ∷ [], []) h e =
-    let x = ended sort w s q f [] h e in
-    let d = sound sort w f [] x.1 in
-    let y : Spells w (show (node (start_symbol sort w) f)) sort = subst (λ (v : List Token). Spells v (show (node (start_symbol sort w) f)) sort) (sym (d.0 ∙ append-nil (yields f))) d.1 in
-    subst (λ (n : ℕ). Spells w (show (node n f)) sort) (sym x.0) y
-clean-from sort w _ h e = absurd (true≢false (sym e))
+clean-from : (sort : Sort) (tokens : List Token) (config : Config) → At (start_symbol sort tokens) tokens config → ends_clean config ≡ true
+    → Spells tokens (tree_in config) sort
+clean-from sort tokens (frame symbol state forest ∷ [], []) h e =
+    let x = ended sort tokens symbol state forest [] h e in
+    let d = sound sort tokens forest [] x.1 in
+    let spells : Spells tokens (show (node (start_symbol sort tokens) forest)) sort = subst
+    (λ (v : List Token). Spells v (show (node (start_symbol sort tokens) forest)) sort) (sym (d.0 ∙ append-nil (yields forest))) d.1 in
+    subst (λ (n : ℕ). Spells tokens (show (node n forest)) sort) (sym x.0) spells
+clean-from sort tokens _ h e = absurd (true≢false (sym e))
 
 -- The tree that is read, and the test that it is a derivation of all tokens.
 unfoldable pub tree_read : Sort → ℕ → List Token → Tree
-tree_read sort n w = tree_in (walked sort n w)
+tree_read sort n tokens = tree_in (walked sort n tokens)
 
 unfoldable pub is_read : Sort → ℕ → List Token → Bool
-is_read sort n w = ends_clean (walked sort n w)
+is_read sort n tokens = ends_clean (walked sort n tokens)
 
-pub clean : (sort : Sort) (n : ℕ) (w : List Token) → is_read sort n w ≡ true → Spells w (tree_read sort n w) sort
+pub clean : (sort : Sort) (n : ℕ) (tokens : List Token) → is_read sort n tokens ≡ true → Spells tokens (tree_read sort n tokens) sort
 unfolding tree_read is_read
-clean sort n w e = clean-from sort w (walked sort n w) (walked-reach sort n w) e
+clean sort n tokens e = clean-from sort tokens (walked sort n tokens) (walked-reach sort n tokens) e
 
-stuck-from : (sort : Sort) (w : List Token) (c : Config) → At (start_symbol sort w) w c → ends_stuck c ≡ true → FaultIn sort w c.1
-stuck-from sort w ([], r) h e = absurd (true≢false (sym e))
-stuck-from sort w (frame s q f ∷ fs, r) h e = fault (start_symbol sort w) (opens sort (first w)) w s q f fs r h (is-stuck (next s q r) e)
+stuck-from : (sort : Sort) (tokens : List Token) (config : Config) → At (start_symbol sort tokens) tokens config → ends_stuck config ≡ true
+    → FaultIn sort tokens config.1
+stuck-from sort tokens ([], r) h e = absurd (true≢false (sym e))
+stuck-from sort tokens (frame symbol state forest ∷ fs, r) h e = fault (start_symbol sort tokens) (opens sort (first tokens)) tokens symbol state forest fs r h
+    (is-stuck (next symbol state r) e)
 
--- The tokens `b`, the next and the one after it begin no sentence.
-pub refused : (sort : Sort) (n : ℕ) (b r : List Token) → ends_stuck (walked sort n (b ++ r)) ≡ true → (walked sort n (b ++ r)).1 ≡ r
-    → Starts sort (read b ++ next_two r) → ⊥
-refused sort n b r e i h =
-    let k : FaultIn sort (b ++ r) r = subst (λ (v : List Token). FaultIn sort (b ++ r) v) i (stuck-from sort (b ++ r) (walked sort n (b ++ r)) (walked-reach sort n (b ++ r)) e) in
-    let j : k.before ≡ b = append_cancel_right k.before b r (sym k.split) in
-    not-starts sort (b ++ r) r k (subst (λ (z : List Token). Starts sort (read z ++ next_two r)) (sym j) h)
+-- The tokens `tokens`, the next and the one after it begin no sentence.
+pub refused : (sort : Sort) (n : ℕ) (tokens rest : List Token) → ends_stuck (walked sort n (tokens ++ rest)) ≡ true → (walked sort n (tokens ++ rest)).1 ≡ rest
+    → Starts sort (read tokens ++ next_two rest) → ⊥
+refused sort n tokens rest e i starts =
+    let fault_in : FaultIn sort (tokens ++ rest) rest = subst (λ (v : List Token). FaultIn sort (tokens ++ rest) v) i
+    (stuck-from sort (tokens ++ rest) (walked sort n (tokens ++ rest)) (walked-reach sort n (tokens ++ rest)) e) in
+    let j : fault_in.before ≡ tokens = append_cancel_right fault_in.before tokens rest (sym fault_in.split) in
+    not-starts sort (tokens ++ rest) rest fault_in (subst (λ (z : List Token). Starts sort (read z ++ next_two rest)) (sym j) starts)
 
 -- The test that the tokens are refused: nothing goes on, or the root ends before more of them.
 unfoldable pub is_refused : Sort → ℕ → List Token → Bool
-is_refused sort n w = ends_stuck (walked sort n w) or ends_early (walked sort n w)
+is_refused sort n tokens = ends_stuck (walked sort n tokens) or ends_early (walked sort n tokens)
 
-early-from : (sort : Sort) (w : List Token) (c : Config) → At (start_symbol sort w) w c → ends_early c ≡ true → (t : Tree) → Spells w t sort → ⊥
-early-from sort w (frame s q f ∷ [], a ∷ r) h e t k = let x : a ∷ r ≡ [] = (sound-all sort w t f (a ∷ r) k (ended sort w s q f (a ∷ r) h e).1).0 in absurd (cc)
-early-from sort w _ h e t k = absurd (true≢false (sym e))
+early-from : (sort : Sort) (tokens : List Token) (config : Config) → At (start_symbol sort tokens) tokens config → ends_early config ≡ true → (tree : Tree)
+    → Spells tokens tree sort → ⊥
+early-from sort tokens (frame symbol state forest ∷ [], a ∷ r) h e tree spells =
+    let x : a ∷ r ≡ [] = (sound-all sort tokens tree forest (a ∷ r) spells (ended sort tokens symbol state forest (a ∷ r) h e).1).0 in absurd (cc)
+early-from sort tokens _ h e tree spells = absurd (true≢false (sym e))
 
-pub none-spelled : (sort : Sort) (n : ℕ) (w : List Token) → is_refused sort n w ≡ true → (t : Tree) → Spells w t sort → ⊥
+pub none-spelled : (sort : Sort) (n : ℕ) (tokens : List Token) → is_refused sort n tokens ≡ true → (tree : Tree) → Spells tokens tree sort → ⊥
 unfolding is_refused
-none-spelled sort n w e t k = elim (or-c _ _ e) [
-  | inl p ↦ accepts sort w (walked sort n w).1 t k (stuck-from sort w (walked sort n w) (walked-reach sort n w) p)
-  | inr p ↦ early-from sort w (walked sort n w) (walked-reach sort n w) p t k
+none-spelled sort n tokens e tree spells = elim (or-c _ _ e) [
+  | inl p ↦ accepts sort tokens (walked sort n tokens).1 tree spells (stuck-from sort tokens (walked sort n tokens) (walked-reach sort n tokens) p)
+  | inr p ↦ early-from sort tokens (walked sort n tokens) (walked-reach sort n tokens) p tree spells
 ]
 
 -- Texts read by computing: the items, then the machine over the significant tokens.
@@ -171,7 +201,7 @@ ascii-cut source h = is-cut source (IsUtf8-from_ascii source (is-ascii source h)
 
 -- The text is a sentence, and its derivation nests this deep.
 abbrev Worked : Sort → String → ℕ → Type 0
-Worked sort text high = (t : Tree) × Sentence (codes text) t sort × (nest t ≡ high)
+Worked sort text high = (tree : Tree) × Sentence (codes text) tree sort × (nest tree ≡ high)
 
 unfoldable pub works : Sort → ℕ → List ℕ → Bool
 works sort n source = all_ascii source and are_tokens (items_of source) and is_read sort n (tokens_in source)
@@ -202,12 +232,14 @@ pub all-worked : (sort : Sort) (l : List (String × ℕ)) → all_work sort l �
 unfolding all_work
 all-worked sort [] h = tt
 all-worked sort (e ∷ more) h =
-    let w = and-l _ _ h in
-    ((tree_read sort 150 (tokens_in (codes e.0)), is-sentence sort 150 (codes e.0) (and-l _ _ w), eqb-true _ _ (and-r _ _ w)), all-worked sort more (and-r _ _ h))
+    let w = and-l _ _ h in (
+      (tree_read sort 150 (tokens_in (codes e.0)), is-sentence sort 150 (codes e.0) (and-l _ _ w), eqb-true _ _ (and-r _ _ w)),
+      all-worked sort more (and-r _ _ h),
+    )
 
 -- The text is no sentence: it has bad text, or its tokens are refused.
 abbrev NoSentence : Sort → String → Type 0
-NoSentence sort text = (t : Tree) → Sentence (codes text) t sort → ⊥
+NoSentence sort text = (tree : Tree) → Sentence (codes text) tree sort → ⊥
 
 unfoldable pub fails : Sort → ℕ → List ℕ → Bool
 fails sort n source = all_ascii source and (not (are_tokens (items_of source)) or is_refused sort n (tokens_in source))

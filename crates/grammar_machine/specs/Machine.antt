@@ -14,14 +14,14 @@ holds a set = eqb (bit_at set a) 1
 
 -- Leaves have the numbers before DOCUMENT.
 unfoldable pub is_leaf : ℕ → Bool
-is_leaf k = ltb k DOCUMENT
+is_leaf symbol = ltb symbol DOCUMENT
 
 -- The rows.
 abbrev pub dead : State
 dead = state false 0 []
 
 unfoldable pub at : ℕ → ℕ → State
-at s q = get_or (get_or rows (s - DOCUMENT) []) q dead
+at symbol row_state = get_or (get_or rows (symbol - DOCUMENT) []) row_state dead
 
 abbrev pub state_ends : State → Bool
 state_ends (state e x a) = e
@@ -34,42 +34,42 @@ state_arcs (state e x a) = a
 
 unfoldable pub ends : ℕ → ℕ → Bool
 unfolding at
-ends s q = state_ends (at s q)
+ends symbol row_state = state_ends (at symbol row_state)
 
 unfoldable pub exit : ℕ → ℕ → ℕ
 unfolding at
-exit s q = state_exit (at s q)
+exit symbol row_state = state_exit (at symbol row_state)
 
 unfoldable pub arcs : ℕ → ℕ → List (ℕ × ℕ)
 unfolding at
-arcs s q = state_arcs (at s q)
+arcs symbol row_state = state_arcs (at symbol row_state)
 
 abbrev pub has_in : List (ℕ × ℕ) → ℕ → Bool
-has_in [] k = false
-has_in (a ∷ more) k = eqb a.0 k or has_in more k
+has_in [] child = false
+has_in (a ∷ more) child = eqb a.0 child or has_in more child
 
 abbrev pub target_in : List (ℕ × ℕ) → ℕ → ℕ
-target_in [] k = 0
-target_in (a ∷ more) k = cond (eqb a.0 k) a.1 (target_in more k)
+target_in [] child = 0
+target_in (a ∷ more) child = cond (eqb a.0 child) a.1 (target_in more child)
 
 unfoldable pub has : ℕ → ℕ → ℕ → Bool
 unfolding arcs
-has s q k = has_in (arcs s q) k
+has symbol row_state child = has_in (arcs symbol row_state) child
 
 unfoldable pub target : ℕ → ℕ → ℕ → ℕ
 unfolding arcs
-target s q k = target_in (arcs s q) k
+target symbol row_state child = target_in (arcs symbol row_state) child
 
 unfoldable pub entries : ℕ → List Entry
-entries k = get_or firsts k []
+entries symbol = get_or firsts symbol []
 
 abbrev pub fires_in : List Entry → ℕ → ℕ → Bool
-fires_in [] a b = false
-fires_in (entry x y alone ∷ more) a b = (holds a x and (alone or holds b y)) or fires_in more a b
+fires_in [] near far = false
+fires_in (entry x y alone ∷ more) near far = (holds near x and (alone or holds far y)) or fires_in more near far
 
 unfoldable pub fires : ℕ → ℕ → ℕ → Bool
 unfolding entries
-fires k a b = fires_in (entries k) a b
+fires symbol near far = fires_in (entries symbol) near far
 
 pub data Move : Type 0 where
   go : ℕ → Move
@@ -77,13 +77,13 @@ pub data Move : Type 0 where
   stuck : Move
 
 abbrev pub choose : List (ℕ × ℕ) → Bool → ℕ → ℕ → Move
-choose [] e a b = cond e close stuck
-choose (arc ∷ more) e a b = cond (fires arc.0 a b) (go arc.0) (choose more e a b)
+choose [] e near far = cond e close stuck
+choose (arc ∷ more) e near far = cond (fires arc.0 near far) (go arc.0) (choose more e near far)
 
--- What to do in state `q` of the row of `s`, before tokens of the classes `a` and `b`.
+-- What to do in state `row_state` of the row of `symbol`, before tokens of the classes `near` and `far`.
 unfoldable pub move : ℕ → ℕ → ℕ → ℕ → Move
 unfolding arcs ends
-move s q a b = choose (arcs s q) (ends s q) a b
+move symbol row_state near far = choose (arcs symbol row_state) (ends symbol row_state) near far
 
 -- Classes of tokens: a Name that is a word has the word's class, another Name the class of IDENT, any other token its kind's. The end
 -- has class 0.
@@ -94,97 +94,102 @@ text_eq (a ∷ as') [] = false
 text_eq (a ∷ as') (b ∷ bs) = eqb a b and text_eq as' bs
 
 abbrev pub word_class : List (ℕ × Text) → Text → ℕ
-word_class [] x = IDENT
-word_class (w ∷ more) x = cond (text_eq w.1 x) w.0 (word_class more x)
+word_class [] text = IDENT
+word_class (w ∷ more) text = cond (text_eq w.1 text) w.0 (word_class more text)
 
 unfoldable pub class : Token → ℕ
-class t = cond (eqb t.0 IDENT) (word_class words t.1) (cond (holds t.0 token_kinds) t.0 ERROR)
+class this_token = cond (eqb this_token.0 IDENT) (word_class words this_token.1) (cond (holds this_token.0 token_kinds) this_token.0 ERROR)
 
 -- The classes of the next token and of the one after it, 0 at the end.
 unfoldable pub first : List Token → ℕ
 first [] = 0
-first (t ∷ r) = class t
+first (this_token ∷ rest) = class this_token
 
 unfoldable pub second : List Token → ℕ
 second [] = 0
-second (t ∷ r) = first r
+second (this_token ∷ rest) = first rest
 
 -- The token that a leaf spells.
 unfoldable pub token : ℕ → Text → Token
-token l x = (cond (holds l name_leaves) IDENT l, x)
+token leaf_symbol text = (cond (holds leaf_symbol name_leaves) IDENT leaf_symbol, text)
 
 abbrev mutual
   pub yield : Tree → List Token
-  yield (leaf l x) = token l x ∷ []
-  yield (node s f) = yields f
+  yield (leaf leaf_symbol text) = token leaf_symbol text ∷ []
+  yield (node symbol forest) = yields forest
 
   pub yields : Forest → List Token
   yields none = []
-  yields (t ▸ f) = yield t ++ yields f
+  yields (tree ▸ forest) = yield tree ++ yields forest
 
 -- What a tree adds to its parent's state: 1 when it lacks its brace block, else 0.
 abbrev mutual
   pub finish : Tree → ℕ
-  finish (leaf l x) = 0
-  finish (node s f) = exit s (walk s 0 f)
+  finish (leaf leaf_symbol text) = 0
+  finish (node symbol forest) = exit symbol (walk symbol 0 forest)
 
   pub walk : ℕ → ℕ → Forest → ℕ
-  walk s q none = q
-  walk s q (t ▸ f) = walk s (target s q (root t) + finish t) f
+  walk symbol row_state none = row_state
+  walk symbol row_state (tree ▸ forest) = walk symbol (target symbol row_state (root tree) + finish tree) forest
 
 abbrev pub after : ℕ → ℕ → Tree → ℕ
-after s q t = target s q (root t) + finish t
+after symbol row_state tree = target symbol row_state (root tree) + finish tree
 
--- The symbol with which a parse of the sort begins, before a token of the class `a`: a selection set without braces is one of its own.
+-- The symbol with which a parse of the sort begins, before a token of the class `near`: a selection set without braces is one of its own.
 abbrev pub opening : Sort → ℕ → ℕ
-opening document a = DOCUMENT
-opening selections a = cond (eqb a L_CURLY) SELECTION_SET BARE_SELECTIONS
-opening type a = TYPE
+opening document near = DOCUMENT
+opening selections near = cond (eqb near L_CURLY) SELECTION_SET BARE_SELECTIONS
+opening type near = TYPE
 
 -- Trees that fit the rows.
 abbrev mutual
   pub Ok : Tree → Type 0
-  Ok (leaf l x) = IsTrue (is_leaf l) × IsTrue (fires l (class (token l x)) 0)
-  Ok (node s f) = IsFalse (is_leaf s) × OkFrom s 0 f
+  Ok (leaf leaf_symbol text) = IsTrue (is_leaf leaf_symbol) × IsTrue (fires leaf_symbol (class (token leaf_symbol text)) 0)
+  Ok (node symbol forest) = IsFalse (is_leaf symbol) × OkFrom symbol 0 forest
 
-  -- The list of trees leads from state `q` of the row of `s` to a state where the row may end.
+  -- The list of trees leads from state `row_state` of the row of `symbol` to a state where the row may end.
   pub OkFrom : ℕ → ℕ → Forest → Type 0
-  OkFrom s q none = IsTrue (ends s q)
-  OkFrom s q (t ▸ f) = IsTrue (has s q (root t)) × Ok t × OkFrom s (target s q (root t) + finish t) f
+  OkFrom symbol row_state none = IsTrue (ends symbol row_state)
+  OkFrom symbol row_state (tree ▸ forest) = IsTrue (has symbol row_state (root tree)) × Ok tree
+      × OkFrom symbol (target symbol row_state (root tree) + finish tree) forest
 
 abbrev pub Path : ℕ → ℕ → Forest → ℕ → Type 0
-Path s q none p = q ≡ p
-Path s q (t ▸ f) p = IsTrue (has s q (root t)) × Ok t × Path s (target s q (root t) + finish t) f p
+Path symbol row_state none end_state = row_state ≡ end_state
+Path symbol row_state (tree ▸ forest) end_state = IsTrue (has symbol row_state (root tree)) × Ok tree
+    × Path symbol (target symbol row_state (root tree) + finish tree) forest end_state
 
--- Trees that the machine makes: `Run t r` where the tokens after the tree are `r`.
+-- Trees that the machine makes: `Run tree rest` where the tokens after the tree are `rest`.
 abbrev mutual
   pub Run : Tree → List Token → Type 0
-  Run (leaf l x) r = IsTrue (is_leaf l)
-  Run (node s f) r = IsFalse (is_leaf s) × RunFrom s 0 f r
+  Run (leaf leaf_symbol text) rest = IsTrue (is_leaf leaf_symbol)
+  Run (node symbol forest) rest = IsFalse (is_leaf symbol) × RunFrom symbol 0 forest rest
 
   pub RunFrom : ℕ → ℕ → Forest → List Token → Type 0
-  RunFrom s q none r = move s q (first r) (second r) ≡ close
-  RunFrom s q (t ▸ f) r =
-      (move s q (first (yields (t ▸ f) ++ r)) (second (yields (t ▸ f) ++ r)) ≡ go (root t))
-      × Run t (yields f ++ r)
-      × RunFrom s (target s q (root t) + finish t) f r
+  RunFrom symbol row_state none rest = move symbol row_state (first rest) (second rest) ≡ close
+  RunFrom symbol row_state (tree ▸ forest) rest =
+      (move symbol row_state (first (yields (tree ▸ forest) ++ rest)) (second (yields (tree ▸ forest) ++ rest)) ≡ go (root tree))
+      × Run tree (yields forest ++ rest)
+      × RunFrom symbol (target symbol row_state (root tree) + finish tree) forest rest
 
 -- The machine's configurations: the open nodes, innermost first, each with its symbol, its state and its closed children.
 pub data Frame : Type 0 where
   frame : ℕ → ℕ → Forest → Frame
 
--- `Reach s w fs r`: from the symbol `s` before the tokens `w`, the machine reaches the open nodes `fs` before the tokens `r`.
-pub data Reach (s0 : ℕ) (w : List Token) : List Frame → List Token → Type 0 where
-  start : Reach s0 w (frame s0 0 none ∷ []) w
-  shift : {s q l : ℕ} {f : Forest} {fs : List Frame} {a : Token} {r : List Token}
-      → Reach s0 w (frame s q f ∷ fs) (a ∷ r) → move s q (first (a ∷ r)) (second (a ∷ r)) ≡ go l → IsTrue (is_leaf l)
-      → Reach s0 w (frame s (target s q l) (f +++ (leaf l a.1 ▸ none)) ∷ fs) r
-  open' : {s q k : ℕ} {f : Forest} {fs : List Frame} {r : List Token}
-      → Reach s0 w (frame s q f ∷ fs) r → move s q (first r) (second r) ≡ go k → IsFalse (is_leaf k)
-      → Reach s0 w (frame k 0 none ∷ frame s q f ∷ fs) r
-  closed : {s q k p : ℕ} {f g : Forest} {fs : List Frame} {r : List Token}
-      → Reach s0 w (frame k p g ∷ frame s q f ∷ fs) r → move k p (first r) (second r) ≡ close
-      → Reach s0 w (frame s (target s q k + exit k p) (f +++ (node k g ▸ none)) ∷ fs) r
+-- `Reach symbol tokens fs rest`: from the symbol `symbol` before the tokens `tokens`, the machine reaches the open nodes `fs` before the tokens `rest`.
+pub data Reach (start_symbol : ℕ) (tokens : List Token) : List Frame → List Token → Type 0 where
+  start : Reach start_symbol tokens (frame start_symbol 0 none ∷ []) tokens
+  shift : {symbol row_state leaf_symbol : ℕ} {forest : Forest} {fs : List Frame} {this_token : Token} {rest : List Token}
+      → Reach start_symbol tokens (frame symbol row_state forest ∷ fs) (this_token ∷ rest)
+      → move symbol row_state (first (this_token ∷ rest)) (second (this_token ∷ rest)) ≡ go leaf_symbol → IsTrue (is_leaf leaf_symbol)
+      → Reach start_symbol tokens (frame symbol (target symbol row_state leaf_symbol) (forest +++ (leaf leaf_symbol this_token.1 ▸ none)) ∷ fs) rest
+  open' : {symbol row_state child : ℕ} {forest : Forest} {fs : List Frame} {rest : List Token}
+      → Reach start_symbol tokens (frame symbol row_state forest ∷ fs) rest → move symbol row_state (first rest) (second rest) ≡ go child
+      → IsFalse (is_leaf child)
+      → Reach start_symbol tokens (frame child 0 none ∷ frame symbol row_state forest ∷ fs) rest
+  closed : {symbol row_state child child_state : ℕ} {forest more_trees : Forest} {fs : List Frame} {rest : List Token}
+      → Reach start_symbol tokens (frame child child_state more_trees ∷ frame symbol row_state forest ∷ fs) rest
+      → move child child_state (first rest) (second rest) ≡ close
+      → Reach start_symbol tokens (frame symbol (target symbol row_state child + exit child child_state) (forest +++ (node child more_trees ▸ none)) ∷ fs) rest
 
 -- The machine has read the tokens `before`, from the start symbol of the sort, and is in these open nodes before the tokens `rest`.
 abbrev pub Reached : Sort → List Token → List Token → List Frame → Type 0

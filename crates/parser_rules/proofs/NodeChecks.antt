@@ -20,7 +20,10 @@ use Rattle.parser_rules.proofs.runs.Fuel.{rules_deep, rules_deep_for_sizes}
 use Rattle.parser_rules.proofs.runs.Progress.{consuming}
 use Rattle.parser_rules.proofs.lookahead.Split.{split, divide}
 use Rattle.parser_rules.proofs.lookahead.FirstSets.{first_of, first_in, second_of, looks, inlined}
-use Rattle.parser_rules.proofs.soundness.TableCheck.{counts_itself, covered, turns, levels_agree, leaf_of, may_be_cut_off, may_lack_block, exit_is_right, takes_token, ends_at, after_inlined, child_begins, child_while_stuck, child_at, may_report_limit, enters_level, after_type, type_at, may_report, is_node, keeps_to_table, node_may_end, follows_table, document_may_end, part_may_end, document_follows, turns_follow}
+use Rattle.parser_rules.proofs.soundness.TableCheck.{counts_itself, covered, turns, levels_agree, leaf_of, may_be_cut_off, may_lack_block, exit_is_right}
+use Rattle.parser_rules.proofs.soundness.TableCheck.{takes_token, ends_at, after_inlined, child_begins, child_while_stuck, child_at, may_report_limit}
+use Rattle.parser_rules.proofs.soundness.TableCheck.{enters_level, after_type, type_at, may_report, is_node, keeps_to_table, node_may_end, follows_table}
+use Rattle.parser_rules.proofs.soundness.TableCheck.{document_may_end, part_may_end, document_follows, turns_follow}
 use Rattle.parser_rules.proofs.leaves.LeafCheck.{belongs, anything, leaf_check}
 use Rattle.parser_rules.proofs.nesting.LevelCheck.{at_first, level_check}
 use Rattle.parser_rules.proofs.nesting.TokenCheck.{untaken, token_check}
@@ -60,27 +63,27 @@ unless b fault more = cond b more (fault ∷ more)
 
 -- the faults that the checks find, with so much fuel, and so much for the check of sizes
 unfoldable faults_with : ℕ → ℕ → Node → List Fault
-faults_with fuel size_fuel c =
-    unless (follows_table fuel c) AgainstTheTable
-    (unless (checks_with fuel leaf_check c) WrongLeaf
-    (unless (checks_with fuel level_check c) WrongLevel
-    (unless (checks_with fuel limit_check c) UncertainToken
-    (unless (checks_with fuel token_check c) LevelWithoutToken
-    (unless (checks_with fuel pop_check c) WrongErrorLeaf
-    (unless (checks_with fuel row_check c) ForeignSymbol
-    (unless (checks_with fuel tidy_check c) IgnoredToken
-    (unless (pays_for_itself size_fuel element_rates c) TooManyElements
-    (unless (pays_for_itself size_fuel report_rates c) TooManyReports [])))))))))
+faults_with fuel size_fuel node =
+    unless (follows_table fuel node) AgainstTheTable
+    (unless (checks_with fuel leaf_check node) WrongLeaf
+    (unless (checks_with fuel level_check node) WrongLevel
+    (unless (checks_with fuel limit_check node) UncertainToken
+    (unless (checks_with fuel token_check node) LevelWithoutToken
+    (unless (checks_with fuel pop_check node) WrongErrorLeaf
+    (unless (checks_with fuel row_check node) ForeignSymbol
+    (unless (checks_with fuel tidy_check node) IgnoredToken
+    (unless (pays_for_itself size_fuel element_rates node) TooManyElements
+    (unless (pays_for_itself size_fuel report_rates node) TooManyReports [])))))))))
 
 -- The rules that this one calls, and that these call, are no deeper than this number. Children are not looked into.
 unfoldable calls_end : ℕ → Rule → Bool
-calls_end n (Seq a b) = calls_end n a and calls_end n b
-calls_end n (When t a b) = calls_end n a and calls_end n b
-calls_end n (While t a) = calls_end n a
-calls_end n (Nested a b) = calls_end n a and calls_end n b
-calls_end n (Typed a) = calls_end n a
-calls_end zero (Call p) = false
-calls_end (suc n) (Call p) = calls_end n (body p)
+calls_end n (Seq rule other_rule) = calls_end n rule and calls_end n other_rule
+calls_end n (When test rule other_rule) = calls_end n rule and calls_end n other_rule
+calls_end n (While test rule) = calls_end n rule
+calls_end n (Nested rule other_rule) = calls_end n rule and calls_end n other_rule
+calls_end n (Typed rule) = calls_end n rule
+calls_end zero (Call part) = false
+calls_end (suc n) (Call part) = calls_end n (body part)
 calls_end n _ = true
 
 -- what is at fault, where some faults were found with the fuel that there is, and these with more
@@ -90,18 +93,22 @@ blamed found _ _ = TooManyRulesDeep ∷ []
 
 -- The faults of a node's rule. A check fails too where its fuel runs out. So where faults are found, they are looked for with twice as much.
 unfoldable faults : Node → List Fault
-faults c = elim (faults_with rules_deep rules_deep_for_sizes c) [
+faults node = elim (faults_with rules_deep rules_deep_for_sizes node) [
   | [] ↦ []
-  | fault ∷ more ↦ blamed (fault ∷ more) (calls_end (2 * rules_deep) (inside c)) (faults_with (2 * rules_deep) (2 * rules_deep_for_sizes) c)
+  | fault ∷ more ↦ blamed (fault ∷ more) (calls_end (2 * rules_deep) (inside node)) (faults_with (2 * rules_deep) (2 * rules_deep_for_sizes) node)
 ]
 
 -- all that the checks compute with
 unfoldable pub computing : Unit {0}
-unfolding ◌and◌ ◌or◌ is_leaf at ends exit arcs target entries rows firsts goes closes sticks label labels member Row symbol consuming split divide first_of first_in second_of looks inlined counts_itself covered turns levels_agree leaf_of may_be_cut_off may_lack_block exit_is_right exits row_of takes_token ends_at after_inlined child_begins child_while_stuck child_at may_report_limit enters_level after_type type_at may_report is_node keeps_to_table node_may_end document_may_end part_may_end belongs leaf_check weight walk pop_check row_check tidy_check of_row leaf_of_row follows_table level_check limit_check token_check document_follows turns_follow size_walk saved pays_for_itself root_pays
+unfolding ◌and◌ ◌or◌ is_leaf at ends exit arcs target entries rows firsts goes closes sticks label labels member Row symbol consuming split divide first_of
+    first_in second_of looks inlined counts_itself covered turns levels_agree leaf_of may_be_cut_off may_lack_block exit_is_right exits row_of takes_token
+    ends_at after_inlined child_begins child_while_stuck child_at may_report_limit enters_level after_type type_at may_report is_node keeps_to_table
+    node_may_end document_may_end part_may_end belongs leaf_check weight walk pop_check row_check tidy_check of_row leaf_of_row follows_table level_check
+    limit_check token_check document_follows turns_follow size_walk saved pays_for_itself root_pays
 computing = tt
 
 -- No node's rule is at fault. A node with a place is looked at in both.
-no-faults : (c : Node) → faults c ≡ []
+no-faults : (node : Node) → faults node ≡ []
 unfolding computing faults faults_with calls_end
 no-faults (Arguments Const) = refl
 no-faults (Arguments NotConst) = refl
@@ -125,32 +132,34 @@ no-fault : (b : Bool) (fault : Fault) (more : List Fault) → unless b fault mor
 no-fault true fault more h = (refl, h)
 no-fault false fault more h = absurd (cc)
 
-pub record SoundRule (c : Node) : Type 0 where
-  pub table : follows_table rules_deep c ≡ true
-  pub leaves : checks leaf_check c ≡ true
-  pub levels : checks level_check c ≡ true
-  pub limits : checks limit_check c ≡ true
-  pub tokens : checks token_check c ≡ true
-  pub errors : checks pop_check c ≡ true
-  pub row : checks row_check c ≡ true
-  pub ignored : checks tidy_check c ≡ true
-  pub elements : pays_for_itself rules_deep_for_sizes element_rates c ≡ true
-  pub reports : pays_for_itself rules_deep_for_sizes report_rates c ≡ true
+pub record SoundRule (node : Node) : Type 0 where
+  pub table : follows_table rules_deep node ≡ true
+  pub leaves : checks leaf_check node ≡ true
+  pub levels : checks level_check node ≡ true
+  pub limits : checks limit_check node ≡ true
+  pub tokens : checks token_check node ≡ true
+  pub errors : checks pop_check node ≡ true
+  pub row : checks row_check node ≡ true
+  pub ignored : checks tidy_check node ≡ true
+  pub elements : pays_for_itself rules_deep_for_sizes element_rates node ≡ true
+  pub reports : pays_for_itself rules_deep_for_sizes report_rates node ≡ true
 
-none-found : (found other : List Fault) (end : Bool) → ◌≡◌ {A = List Fault} (elim found [ [] ↦ [] | fault ∷ more ↦ blamed (fault ∷ more) end other ]) [] → found ≡ []
+none-found : (found other : List Fault) (end : Bool) → ◌≡◌ {A = List Fault} (elim found [ [] ↦ [] | fault ∷ more ↦ blamed (fault ∷ more) end other ]) []
+    → found ≡ []
 none-found [] other end h = refl
 none-found (fault ∷ more) [] true h = absurd cc
 none-found (fault ∷ more) (x ∷ xs) true h = h
 none-found (fault ∷ more) other false h = absurd cc
 
-found-none : (c : Node) → faults_with rules_deep rules_deep_for_sizes c ≡ []
+found-none : (node : Node) → faults_with rules_deep rules_deep_for_sizes node ≡ []
 unfolding faults
-found-none c = none-found (faults_with rules_deep rules_deep_for_sizes c) (faults_with (2 * rules_deep) (2 * rules_deep_for_sizes) c) (calls_end (2 * rules_deep) (inside c)) (no-faults c)
+found-none node = none-found (faults_with rules_deep rules_deep_for_sizes node) (faults_with (2 * rules_deep) (2 * rules_deep_for_sizes) node)
+    (calls_end (2 * rules_deep) (inside node)) (no-faults node)
 
-pub node-passes : (c : Node) → SoundRule c
+pub node-passes : (node : Node) → SoundRule node
 unfolding faults_with
-node-passes c =
-    let a = no-fault _ _ _ (found-none c) in
+node-passes node =
+    let a = no-fault _ _ _ (found-none node) in
     let b = no-fault _ _ _ a.1 in
     let d = no-fault _ _ _ b.1 in
     let e = no-fault _ _ _ d.1 in
@@ -185,4 +194,15 @@ pub record DocumentRule : Type 0 where
 
 pub document_passes : DocumentRule
 unfolding computing
-document_passes = record { table = refl; turns = refl; leaves = refl; levels = refl; limits = refl; tokens = refl; errors = refl; row = refl; ignored = refl; sizes = record { elements = document-elements; reports = document-reports } }
+document_passes = record {
+  table = refl;
+  turns = refl;
+  leaves = refl;
+  levels = refl;
+  limits = refl;
+  tokens = refl;
+  errors = refl;
+  row = refl;
+  ignored = refl;
+  sizes = record { elements = document-elements; reports = document-reports };
+}

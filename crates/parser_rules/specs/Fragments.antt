@@ -22,7 +22,7 @@ unopened items limit = flush (read_on items (record (fresh items limit kind.ERRO
 
 -- what waits after the root is left out
 abbrev pub left_out : State → State
-left_out s = record s { pending = [] }
+left_out state = record state { pending = [] }
 
 -- what is between the braces of a SelectionSet (2.4)
 abbrev pub unbraced_selections : Rule
@@ -46,20 +46,24 @@ abbrev pub no_type_root : Rule
 no_type_root = refuse message.ExpectedFieldType
 
 -- the kinds and the rules of such roots, by the first token
-pub data IsTypeRoot (s : State) : SyntaxKind → Rule → Type 0 where
-  a_list : true ≡ holds (At token.LBracket) s → IsTypeRoot s kind.LIST_TYPE list_root
-  a_name : true ≡ holds (At token.Name) s → IsTypeRoot s kind.NAMED_TYPE named_root
-  not_null : true ≡ holds (Here type_start) s → IsTypeRoot s kind.NON_NULL_TYPE non_null_root
-  no_type : false ≡ holds (Here type_start) s → IsTypeRoot s kind.ERROR no_type_root
+pub data IsTypeRoot (state : State) : SyntaxKind → Rule → Type 0 where
+  a_list : true ≡ holds (At token.LBracket) state → IsTypeRoot state kind.LIST_TYPE list_root
+  a_name : true ≡ holds (At token.Name) state → IsTypeRoot state kind.NAMED_TYPE named_root
+  not_null : true ≡ holds (Here type_start) state → IsTypeRoot state kind.NON_NULL_TYPE non_null_root
+  no_type : false ≡ holds (Here type_start) state → IsTypeRoot state kind.ERROR no_type_root
 
 -- the root opened around all that was built: one of the kind, or where `!` came next a NON_NULL_TYPE around a type of the kind, from the place
 -- on, and the `!`
-pub data ClosesType (place : ℕ) (k : SyntaxKind) (s t : State) : Type 0 where
-  nullable : false ≡ holds (At token.Bang) s → t ≡ wrapped_from 0 k s → ClosesType place k s t
-  non_null : {u : State} → true ≡ holds (At token.Bang) s → Runs (Do (Bump kind.BANG)) (closed (wrapped_from place k s)) u → t ≡ wrapped_from 0 kind.NON_NULL_TYPE u → ClosesType place k s t
+pub data ClosesType (place : ℕ) (this_kind : SyntaxKind) (state after : State) : Type 0 where
+  nullable : false ≡ holds (At token.Bang) state → after ≡ wrapped_from 0 this_kind state → ClosesType place this_kind state after
+  non_null : {later : State} → true ≡ holds (At token.Bang) state → Runs (Do (Bump kind.BANG)) (closed (wrapped_from place this_kind state)) later
+      → after ≡ wrapped_from 0 kind.NON_NULL_TYPE later → ClosesType place this_kind state after
 
 -- a type's rule ran where no root is open, and the root opened around the trees that were built; or there is no type
-pub data RunsTypeRoot (s t : State) : Type 0 where
-  makes_list : {u : State} → true ≡ holds (At token.LBracket) s → Runs (inside ListType) s u → ClosesType (built_count s.tree) kind.LIST_TYPE u t → RunsTypeRoot s t
-  makes_name : {u : State} → false ≡ holds (At token.LBracket) s → true ≡ holds (At token.Name) s → Runs (inside NamedType) s u → ClosesType (built_count s.tree) kind.NAMED_TYPE u t → RunsTypeRoot s t
-  makes_none : {u : State} → false ≡ holds (Here type_start) s → Runs no_type_root s u → t ≡ wrapped_from 0 kind.ERROR u → RunsTypeRoot s t
+pub data RunsTypeRoot (state after : State) : Type 0 where
+  makes_list : {later : State} → true ≡ holds (At token.LBracket) state → Runs (inside ListType) state later
+      → ClosesType (built_count state.tree) kind.LIST_TYPE later after → RunsTypeRoot state after
+  makes_name : {later : State} → false ≡ holds (At token.LBracket) state → true ≡ holds (At token.Name) state → Runs (inside NamedType) state later
+      → ClosesType (built_count state.tree) kind.NAMED_TYPE later after → RunsTypeRoot state after
+  makes_none : {later : State} → false ≡ holds (Here type_start) state → Runs no_type_root state later → after ≡ wrapped_from 0 kind.ERROR later
+      → RunsTypeRoot state after

@@ -86,7 +86,7 @@ found_text at_limit = []
 
 -- the whole message
 abbrev pub message_text : Message → Found → Text
-message_text m found = if names_found m then description m ++ codes ", got " ++ found_text found else description m
+message_text this_message found = if names_found this_message then description this_message ++ codes ", got " ++ found_text found else description this_message
 
 abbrev pub recursion_limit_message : Text
 recursion_limit_message = codes "parser recursion limit reached"

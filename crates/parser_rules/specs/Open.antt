@@ -20,16 +20,16 @@ is_free_in (o ∷ above) = is_free o.kind
 
 -- a node is open that may have any children
 unfoldable pub IsOpen : Building → Type 0
-IsOpen b = is_free_in b.above ≡ true
+IsOpen building = is_free_in building.above ≡ true
 
 -- a place where a node may open around what was added since
 unfoldable pub IsCheckpoint : ℕ → Building → Type 0
-IsCheckpoint place b = IsPlace place b
+IsCheckpoint place building = IsPlace place building
 
 -- a level was entered
 unfoldable pub IsInside : State → Type 0
-IsInside s = 0 < s.depth
+IsInside state = 0 < state.depth
 
 -- the root alone is open, and nothing comes before it
 abbrev pub IsRoot : Building → Type 0
-IsRoot b = (k : SyntaxKind) × (is_free k ≡ true) × (b.above ≡ record { before = none; kind = k } ∷ [])
+IsRoot building = (this_kind : SyntaxKind) × (is_free this_kind ≡ true) × (building.above ≡ record { before = none; kind = this_kind } ∷ [])

@@ -17,15 +17,18 @@ pub data Reported : Bool → List Answer → List Report → Type 0 where
   token_limit : {taken : Bool} {index : ℕ} {answers : List Answer} {reports : List Report} → Reported false answers reports
       → Reported taken (limit_at index ∷ answers) (token_limit_report index ∷ reports)
   -- the grammar's: at a significant token, with its text, or at the end
-  fault : (m : Message) {k : TokenKind} {item : Item} {answers : List Answer} {reports : List Report} → item.kind ≡ Some k → ignored k ≡ None → Reported true (gives item ∷ answers) reports
-      → Reported true (gives item ∷ answers) (fault_report m (lexeme k item) ∷ reports)
+  fault : (message : Message) {token_kind : TokenKind} {item : Item} {answers : List Answer} {reports : List Report} → item.kind ≡ Some token_kind
+      → ignored token_kind ≡ None → Reported true (gives item ∷ answers) reports
+      → Reported true (gives item ∷ answers) (fault_report message (lexeme token_kind item) ∷ reports)
   -- the recursion limit, at a significant token or the end; none of the grammar's follows
-  recursion_limit : {k : TokenKind} {item : Item} {answers : List Answer} {reports : List Report} → item.kind ≡ Some k → ignored k ≡ None → Reported false (gives item ∷ answers) reports
-      → Reported true (gives item ∷ answers) (recursion_limit_report (lexeme k item) ∷ reports)
+  recursion_limit : {token_kind : TokenKind} {item : Item} {answers : List Answer} {reports : List Report} → item.kind ≡ Some token_kind
+      → ignored token_kind ≡ None → Reported false (gives item ∷ answers) reports
+      → Reported true (gives item ∷ answers) (recursion_limit_report (lexeme token_kind item) ∷ reports)
   -- a token, ignored or not, has no more
-  passed : {taken : Bool} {k : TokenKind} {item : Item} {answers : List Answer} {reports : List Report} → item.kind ≡ Some k → Reported taken answers reports
+  passed : {taken : Bool} {token_kind : TokenKind} {item : Item} {answers : List Answer} {reports : List Report} → item.kind ≡ Some token_kind
+      → Reported taken answers reports
       → Reported taken (gives item ∷ answers) reports
 
 -- a report of the recursion limit; the token limit's has the lexer's words
 abbrev pub is_recursion_limit : Report → Bool
-is_recursion_limit r = is_limit r.found && is_some r.message
+is_recursion_limit report = is_limit report.found && is_some report.message

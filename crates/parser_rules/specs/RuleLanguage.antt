@@ -14,9 +14,9 @@ pub data TokenTest : Type 0 where
   Or : TokenTest → TokenTest → TokenTest
 
 abbrev pub fits : TokenTest → Option Lexeme → Bool
-fits (Kind k) o = is_at k o
-fits (Keyword k) o = is_word k o
-fits (Or p q) o = fits p o || fits q o
+fits (Kind token_kind) found = is_at token_kind found
+fits (Keyword this_kind) found = is_word this_kind found
+fits (Or token_test other_test) found = fits token_test found || fits other_test found
 
 pub data Test : Type 0 where
   -- the current token fits
@@ -33,19 +33,19 @@ pub data Test : Type 0 where
   Both : Test → Test → Test
 
 unfoldable pub holds : Test → State → Bool
-holds (Here q) s = fits q s.current
-holds (Next q) s = fits q (second s.items)
-holds Ready s = not (is_over s.current)
-holds HasNext s = is_some (second s.items)
-holds Deep s = is_deep s
-holds (Not q) s = not (holds q s)
-holds (Both p q) s = holds p s && holds q s
+holds (Here token_test) state = fits token_test state.current
+holds (Next token_test) state = fits token_test (second state.items)
+holds Ready state = not (is_over state.current)
+holds HasNext state = is_some (second state.items)
+holds Deep state = is_deep state
+holds (Not test) state = not (holds test state)
+holds (Both test other_test) state = holds test state && holds other_test state
 
 abbrev pub At : TokenKind → Test
-At k = Here (Kind k)
+At token_kind = Here (Kind token_kind)
 
 abbrev pub Word : SyntaxKind → Test
-Word k = Here (Keyword k)
+Word this_kind = Here (Keyword this_kind)
 
 pub data Prim : Type 0 where
   -- the current token becomes a leaf of the kind
@@ -54,8 +54,8 @@ pub data Prim : Type 0 where
   Note : Message → Prim
 
 unfoldable pub step : Prim → State → State
-step (Bump leaf) s = bump leaf s
-step (Note message) s = note message s
+step (Bump leaf) state = bump leaf state
+step (Note message) state = note message state
 
 pub data Rule : Type 0 where
   Skip : Rule
@@ -76,33 +76,33 @@ pub data Rule : Type 0 where
 -- the one and then the other, which goes on at each end of the first
 infixr 12 ◌>◌
 abbrev pub ◌>◌ : Rule → Rule → Rule
-Skip > c = c
-Do a > c = Seq (Do a) c
-Seq a b > c = Seq a (b > c)
-When q a b > c = When q (a > c) (b > c)
-While q a > c = Seq (While q a) c
-Child n > c = Seq (Child n) c
-TooDeep > c = Seq TooDeep c
-Nested a b > c = Nested a (b > c)
-Call p > c = Seq (Call p) c
-Typed a > c = Seq (Typed a) c
+Skip > next_rule = next_rule
+Do primitive > next_rule = Seq (Do primitive) next_rule
+Seq rule other_rule > next_rule = Seq rule (other_rule > next_rule)
+When test rule other_rule > next_rule = When test (rule > next_rule) (other_rule > next_rule)
+While test rule > next_rule = Seq (While test rule) next_rule
+Child node > next_rule = Seq (Child node) next_rule
+TooDeep > next_rule = Seq TooDeep next_rule
+Nested rule other_rule > next_rule = Nested rule (other_rule > next_rule)
+Call part > next_rule = Seq (Call part) next_rule
+Typed rule > next_rule = Seq (Typed rule) next_rule
 
 -- the punctuator, or a report that it is missing
 abbrev pub expect : TokenKind → SyntaxKind → Message → Rule
-expect k leaf m = When (At k) (Do (Bump leaf)) (Do (Note m))
+expect token_kind leaf message = When (At token_kind) (Do (Bump leaf)) (Do (Note message))
 
 -- a report where the test fails
 abbrev pub want : Test → Message → Rule
-want q m = When q Skip (Do (Note m))
+want test message = When test Skip (Do (Note message))
 
 -- a report, and the token becomes an ERROR leaf
 abbrev pub refuse : Message → Rule
-refuse m = Do (Note m) > Do (Bump kind.ERROR)
+refuse message = Do (Note message) > Do (Bump kind.ERROR)
 
 -- the keyword, or a report that it is missing
 abbrev pub expect_word : SyntaxKind → Message → Rule
-expect_word k m = When (Word k) (Do (Bump k)) (Do (Note m))
+expect_word this_kind message = When (Word this_kind) (Do (Bump this_kind)) (Do (Note message))
 
 -- what is there only where the current token is of the kind
 abbrev pub maybe : TokenKind → Node → Rule
-maybe k n = When (At k) (Child n) Skip
+maybe token_kind node = When (At token_kind) (Child node) Skip

@@ -10,7 +10,8 @@ use Rattle.document_grammar.specs.declared.kind.SyntaxKind.TheVariants as kind
 use Rattle.parser_rules.specs.declared.constness.Constness.{Constness}
 use Rattle.parser_rules.specs.declared.constness.Constness.TheVariants.{Const, NotConst}
 use Rattle.parser_rules.specs.declared.message.Message.TheVariants as message
-use Rattle.parser_rules.specs.RuleLanguage.{TokenTest, Kind, Keyword, Or, Test, Here, At, Word, Next, Ready, HasNext, Deep, Not, Both, Bump, Note, TooDeep, Rule, Skip, Do, Seq, When, While, Child, Nested, Call, Typed, ◌>◌, expect, want, refuse, expect_word, maybe}
+use Rattle.parser_rules.specs.RuleLanguage.{TokenTest, Kind, Keyword, Or, Test, Here, At, Word, Next, Ready, HasNext, Deep, Not, Both, Bump, Note, TooDeep}
+use Rattle.parser_rules.specs.RuleLanguage.{Rule, Skip, Do, Seq, When, While, Child, Nested, Call, Typed, ◌>◌, expect, want, refuse, expect_word, maybe}
 use Rattle.parser_rules.specs.Nodes.{Node, OperationDefinition, QueryShorthand, OperationType, SelectionSet, Field, Alias, Name, FragmentSpread}
 use Rattle.parser_rules.specs.Nodes.{InlineFragment, FragmentDefinition, FragmentName, NameForFragment, TypeCondition, Arguments, Argument, Directives}
 use Rattle.parser_rules.specs.Nodes.{Directive, VariableDefinitions, VariableDefinition, Variable, DefaultValue, IntValue, FloatValue, StringValue}
@@ -93,12 +94,12 @@ type_system_locations =
 
 -- one of the keywords
 abbrev pub any_word : SyntaxKind → List SyntaxKind → TokenTest
-any_word k [] = Keyword k
-any_word k (l ∷ ks) = Or (Keyword k) (any_word l ks)
+any_word this_kind [] = Keyword this_kind
+any_word this_kind (other_kind ∷ ks) = Or (Keyword this_kind) (any_word other_kind ks)
 
 abbrev pub one_of : List SyntaxKind → TokenTest
 one_of [] = Keyword kind.ERROR
-one_of (k ∷ ks) = any_word k ks
+one_of (this_kind ∷ ks) = any_word this_kind ks
 
 -- a directive location
 abbrev pub location : TokenTest
@@ -135,37 +136,38 @@ nullable_type = When (At token.LBracket) (Child ListType) (Child NamedType)
 -- the first keyword of the list that is next; the other rule where none is
 abbrev pub word_of : List SyntaxKind → Rule → Rule
 word_of [] none = none
-word_of (k ∷ ks) none = When (Word k) (Do (Bump k)) (word_of ks none)
+word_of (this_kind ∷ ks) none = When (Word this_kind) (Do (Bump this_kind)) (word_of ks none)
 
 -- TypeSystemDirectiveLocation (3.13)
 abbrev pub type_system_location : Rule
 type_system_location = word_of type_system_locations (Do (Note message.ExpectedLocation))
 
 -- ExecutableDirectiveLocation, or TypeSystemDirectiveLocation (3.13)
-abbrev pub executable_location : Rule
-executable_location = word_of executable_locations type_system_location
+abbrev pub any_location : Rule
+any_location = word_of executable_locations type_system_location
 
 -- Directives[Const]? and the block or list that begins with the punctuator, of which an extension has one at least
 abbrev pub extended : TokenKind → Node → Message → Rule
-extended k block m = When (At token.At) (Call (OptionalDirectives Const) > maybe k block) (When (At k) (Child block) (Do (Note m)))
+extended token_kind block this_message = When (At token.At) (Call (OptionalDirectives Const) > maybe token_kind block)
+    (When (At token_kind) (Child block) (Do (Note this_message)))
 
 -- the same, after ImplementsInterfaces?
 abbrev pub implementing : Message → Rule
-implementing m =
+implementing this_message =
     When (Word kind.implements_KW) (Child ImplementsInterfaces > Call (OptionalDirectives Const) > maybe token.LCurly FieldsDefinition)
-    (extended token.LCurly FieldsDefinition m)
+    (extended token.LCurly FieldsDefinition this_message)
 
 -- { RootOperationTypeDefinition+ }, with the report where there is none
 abbrev pub root_operations : Message → Rule
-root_operations m =
+root_operations this_message =
     Do (Bump kind.L_CURLY)
-    > want (At token.Name) m
+    > want (At token.Name) this_message
     > While (At token.Name) (Child RootOperationTypeDefinition)
     > expect token.RCurly kind.R_CURLY message.ExpectedRCurly
 
 -- a definition's description, where it has one, and the keyword after it
 abbrev pub described_keyword : SyntaxKind → Rule
-described_keyword k = Call OptionalDescription > When (Word k) (Do (Bump k)) (refuse message.ExpectedDefinition)
+described_keyword this_kind = Call OptionalDescription > When (Word this_kind) (Do (Bump this_kind)) (refuse message.ExpectedDefinition)
 
 -- ImplementsInterfaces? Directives[Const]? FieldsDefinition?
 abbrev pub type_parts : Rule
@@ -173,7 +175,7 @@ type_parts = Call OptionalImplements > Call (OptionalDirectives Const) > maybe t
 
 -- a report where nothing with a description and a name starts
 abbrev pub want_named : Message → Rule
-want_named m = want (Here named_start) m
+want_named this_message = want (Here named_start) this_message
 
 -- a report where no selection starts
 abbrev pub want_selection : Rule
@@ -185,15 +187,15 @@ want_variable = want (Here variable_start) message.ExpectedVariableDefinition
 
 -- items between the braces or parentheses, one at least
 abbrev pub definitions : SyntaxKind → Node → Message → TokenKind → SyntaxKind → Message → Rule
-definitions first item none close leaf m =
+definitions first item none close leaf this_message =
     Do (Bump first)
     > want_named none
     > While (Here named_start) (Child item)
-    > expect close leaf m
+    > expect close leaf this_message
 
 -- the separator, if it is there, and names between separators
 abbrev pub separated : TokenKind → SyntaxKind → Part → Rule
-separated k leaf name = When (At k) (Do (Bump leaf)) Skip > Call name > While (At k) (Do (Bump leaf) > Call name)
+separated token_kind leaf name = When (At token_kind) (Do (Bump leaf)) Skip > Call name > While (At token_kind) (Do (Bump leaf) > Call name)
 
 -- TypeDefinition (3.4), by the keyword where the test looks; the other rule where there is none
 abbrev pub type_definition_at : (TokenTest → Test) → Rule → Rule
@@ -299,7 +301,8 @@ inside VariableDefinitions =
     > While (Here variable_start) (Child VariableDefinition)
     > expect token.RParen kind.R_PAREN message.ExpectedRParen
 -- VariableDefinition (2.10) : Description? Variable : Type DefaultValue? Directives[Const]?
-inside VariableDefinition = When (At token.StringValue) (Child Description > When (At token.Dollar) (Call TypedVariable) (Do (Note message.ExpectedVariable))) (Call TypedVariable)
+inside VariableDefinition = When (At token.StringValue) (Child Description > When (At token.Dollar) (Call TypedVariable) (Do (Note message.ExpectedVariable)))
+    (Call TypedVariable)
 -- Variable (2.10) : $ Name
 inside Variable = Do (Bump kind.DOLLAR) > Call RequiredName
 -- DefaultValue (2.10) : = Value[Const]
@@ -345,8 +348,8 @@ inside ScalarTypeDefinition =
     Seq (described_keyword kind.scalar_KW)
     (Call RequiredName
     > Call (OptionalDirectives Const))
--- ObjectTypeDefinition (3.6) : Description? `type` Name ImplementsInterfaces? Directives[Const]? FieldsDefinition?, where the block may be left
--- out only before another token than {
+-- ObjectTypeDefinition (3.6) : Description? `type` Name ImplementsInterfaces? Directives[Const]? FieldsDefinition?
+-- The block may be left out only before another token than {.
 inside ObjectTypeDefinition =
     Seq (described_keyword kind.type_KW)
     (Call TypeName
@@ -369,7 +372,8 @@ inside InputValueDefinition =
     Call OptionalDescription
     > Call RequiredName
     > When (At token.Colon) (Do (Bump kind.COLON) > Call VariableType) (Do (Note message.ExpectedName))
--- InterfaceTypeDefinition (3.7) : Description? `interface` Name ImplementsInterfaces? Directives[Const]? FieldsDefinition?, as above
+-- InterfaceTypeDefinition (3.7) : Description? `interface` Name ImplementsInterfaces? Directives[Const]? FieldsDefinition?
+-- The block may be left out as above.
 inside InterfaceTypeDefinition =
     Seq (described_keyword kind.interface_KW)
     (Call RequiredName
@@ -382,7 +386,8 @@ inside UnionTypeDefinition =
     > maybe token.Eq UnionMemberTypes)
 -- UnionMemberTypes (3.8) : = |? NamedType, or UnionMemberTypes | NamedType
 inside UnionMemberTypes = Do (Bump kind.EQ) > separated token.Pipe kind.PIPE UnionMember
--- EnumTypeDefinition (3.9) : Description? `enum` Name Directives[Const]? EnumValuesDefinition?, as above
+-- EnumTypeDefinition (3.9) : Description? `enum` Name Directives[Const]? EnumValuesDefinition?
+-- The block may be left out as above.
 inside EnumTypeDefinition =
     Seq (described_keyword kind.enum_KW)
     (Call RequiredName
@@ -393,7 +398,8 @@ inside EnumValuesDefinition =
     definitions kind.L_CURLY EnumValueDefinition message.ExpectedEnumValueDefinition token.RCurly kind.R_CURLY message.ExpectedRCurly
 -- EnumValueDefinition (3.9) : Description? EnumValue Directives[Const]?
 inside EnumValueDefinition = Call OptionalDescription > Child EnumValue > Call (OptionalDirectives Const)
--- InputObjectTypeDefinition (3.10) : Description? `input` Name Directives[Const]? InputFieldsDefinition?, as above
+-- InputObjectTypeDefinition (3.10) : Description? `input` Name Directives[Const]? InputFieldsDefinition?
+-- The block may be left out as above.
 inside InputObjectTypeDefinition =
     Seq (described_keyword kind.input_KW)
     (Call RequiredName
@@ -412,7 +418,7 @@ inside DirectiveDefinition =
 -- DirectiveLocations (3.13) : |? DirectiveLocation, or DirectiveLocations | DirectiveLocation
 inside DirectiveLocations = separated token.Pipe kind.PIPE Location
 -- DirectiveLocation (3.13) : ExecutableDirectiveLocation, or TypeSystemDirectiveLocation
-inside DirectiveLocation = executable_location
+inside DirectiveLocation = any_location
 -- SchemaExtension (3.3.2) : `extend` `schema` Directives[Const]? { RootOperationTypeDefinition+ }, or `extend` `schema` Directives[Const]
 inside SchemaExtension =
     Do (Bump kind.extend_KW)
@@ -432,7 +438,7 @@ inside ObjectTypeExtension =
     > Do (Bump kind.type_KW)
     > Call RequiredName
     > implementing message.ExpectedObjectExtension
--- InterfaceTypeExtension (3.7.1) : `extend` `interface` Name, and the same
+-- InterfaceTypeExtension (3.7.1) : `extend` `interface` Name, and one of ImplementsInterfaces, Directives[Const], FieldsDefinition at least, in this order
 inside InterfaceTypeExtension =
     Do (Bump kind.extend_KW)
     > Do (Bump kind.interface_KW)
@@ -528,8 +534,8 @@ body Location =
 body VariableType = When (Here type_start) (Call Ty > Call OptionalDefaultValue > Call (OptionalDirectives Const)) (Do (Note message.ExpectedType))
 body OptionalDefaultValue = maybe token.Eq DefaultValue
 body OptionalTypeCondition = maybe token.Name TypeCondition
--- Value[Const] (2.9) : [if not Const] Variable, IntValue, FloatValue, StringValue, BooleanValue, NullValue, EnumValue, ListValue[?Const], or
--- ObjectValue[?Const]. Where none starts, `pops` says that the token becomes an ERROR leaf.
+-- Value[Const] (2.9) : [if not Const] Variable, IntValue, FloatValue, StringValue, BooleanValue, NullValue, EnumValue, ListValue[?Const], ObjectValue[?Const]
+-- Where none starts, `pops` says that the token becomes an ERROR leaf.
 body (Value c pops) =
     When (At token.Dollar) (variable_value c)
     (When (At token.Int) (Child IntValue)

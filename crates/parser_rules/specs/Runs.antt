@@ -10,24 +10,31 @@ use Rattle.parser_rules.specs.Rules.{inside, body}
 
 -- a run of a rule, from one state to another
 pub data Runs : Rule → State → State → Type 0 where
-  skip : {s : State} → Runs Skip s s
-  does : {a : Prim} {s t : State} → t ≡ step a s → Runs (Do a) s t
-  seq : {a b : Rule} {s t u : State} → Runs a s t → Runs b t u → Runs (Seq a b) s u
-  yes : {q : Test} {a b : Rule} {s t : State} → true ≡ holds q s → Runs a s t → Runs (When q a b) s t
-  no : {q : Test} {a b : Rule} {s t : State} → false ≡ holds q s → Runs b s t → Runs (When q a b) s t
-  done : {q : Test} {a : Rule} {s : State} → false ≡ holds q s → Runs (While q a) s s
-  again : {q : Test} {a : Rule} {s t u : State} → true ≡ holds q s → Runs a s t → Runs (While q a) t u → Runs (While q a) s u
-  child : {n : Node} {s t u v : State} → t ≡ opened (kind_of n) s → v ≡ closed u → Runs (inside n) t u → Runs (Child n) s v
-  deeper : {a b : Rule} {s t u v w : State} → false ≡ is_deep s → t ≡ enter s → v ≡ leave u → Runs a t u → Runs b v w → Runs (Nested a b) s w
-  limited : {s t : State} → true ≡ is_deep s → t ≡ too_deep s → Runs TooDeep s t
-  refused : {a b : Rule} {s t : State} → true ≡ is_deep s → t ≡ too_deep s → Runs (Nested a b) s t
-  call : {p : Part} {s t : State} → Runs (body p) s t → Runs (Call p) s t
-  plain : {a : Rule} {s t u : State} → t ≡ flush s → Runs a t u → false ≡ holds (At token.Bang) u → Runs (Typed a) s u
-  wrapped : {a : Rule} {place : ℕ} {s t u v w x : State}
-      → t ≡ flush s → place ≡ built_count t.tree → v ≡ wrapped_from place kind.NON_NULL_TYPE u → x ≡ closed w
-      → Runs a t u → true ≡ holds (At token.Bang) u → Runs (Do (Bump kind.BANG)) v w → Runs (Typed a) s x
+  skip : {state : State} → Runs Skip state state
+  does : {primitive : Prim} {state after : State} → after ≡ step primitive state → Runs (Do primitive) state after
+  seq : {rule other_rule : Rule} {state after later : State} → Runs rule state after → Runs other_rule after later → Runs (Seq rule other_rule) state later
+  yes : {test : Test} {rule other_rule : Rule} {state after : State} → true ≡ holds test state → Runs rule state after
+      → Runs (When test rule other_rule) state after
+  no : {test : Test} {rule other_rule : Rule} {state after : State} → false ≡ holds test state → Runs other_rule state after
+      → Runs (When test rule other_rule) state after
+  done : {test : Test} {rule : Rule} {state : State} → false ≡ holds test state → Runs (While test rule) state state
+  again : {test : Test} {rule : Rule} {state after later : State} → true ≡ holds test state → Runs rule state after → Runs (While test rule) after later
+      → Runs (While test rule) state later
+  child : {node : Node} {state after later last : State} → after ≡ opened (kind_of node) state → last ≡ closed later → Runs (inside node) after later
+      → Runs (Child node) state last
+  deeper : {rule other_rule : Rule} {state after later last end_state : State} → false ≡ is_deep state → after ≡ enter state → last ≡ leave later
+      → Runs rule after later → Runs other_rule last end_state → Runs (Nested rule other_rule) state end_state
+  limited : {state after : State} → true ≡ is_deep state → after ≡ too_deep state → Runs TooDeep state after
+  refused : {rule other_rule : Rule} {state after : State} → true ≡ is_deep state → after ≡ too_deep state → Runs (Nested rule other_rule) state after
+  call : {part : Part} {state after : State} → Runs (body part) state after → Runs (Call part) state after
+  plain : {rule : Rule} {state after later : State} → after ≡ flush state → Runs rule after later → false ≡ holds (At token.Bang) later
+      → Runs (Typed rule) state later
+  wrapped : {rule : Rule} {place : ℕ} {state after later last end_state x : State}
+      → after ≡ flush state → place ≡ built_count after.tree → last ≡ wrapped_from place kind.NON_NULL_TYPE later → x ≡ closed end_state
+      → Runs rule after later → true ≡ holds (At token.Bang) later → Runs (Do (Bump kind.BANG)) last end_state → Runs (Typed rule) state x
 
 -- turns of a loop
 pub data Turns : Test → Rule → State → State → Type 0 where
-  begin : {q : Test} {a : Rule} {s : State} → Turns q a s s
-  turn : {q : Test} {a : Rule} {s t u : State} → Turns q a s t → true ≡ holds q t → Runs a t u → Turns q a s u
+  begin : {test : Test} {rule : Rule} {state : State} → Turns test rule state state
+  turn : {test : Test} {rule : Rule} {state after later : State} → Turns test rule state after → true ≡ holds test after → Runs rule after later
+      → Turns test rule state later

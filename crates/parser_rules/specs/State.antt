@@ -43,14 +43,18 @@ token_limit_report index = record { found = at_limit; index = index; message = N
 
 -- of the recursion limit, at this token
 abbrev pub recursion_limit_report : Lexeme → Report
-recursion_limit_report t = record { found = at_limit; index = t.index; message = Some recursion_limit_message }
+recursion_limit_report this_lexeme = record { found = at_limit; index = this_lexeme.index; message = Some recursion_limit_message }
 
 abbrev pub found_at : Lexeme → Found
-found_at t = if is_end t.kind then at_end else at_text t.text
+found_at this_lexeme = if is_end this_lexeme.kind then at_end else at_text this_lexeme.text
 
 -- of the grammar, at this token
 abbrev pub fault_report : Message → Lexeme → Report
-fault_report m t = record { found = found_at t; index = t.index; message = Some (message_text m (found_at t)) }
+fault_report this_message this_lexeme = record {
+  found = found_at this_lexeme;
+  index = this_lexeme.index;
+  message = Some (message_text this_message (found_at this_lexeme));
+}
 
 -- the answers that are left, the current token, what waits, what is built, the reports, the recursion limit with its count and the
 -- greatest count that was tried, whether the grammar's reports are still taken, how many answers there are in all, and how many items
@@ -80,28 +84,28 @@ IsNow (Some t) = IsTokenText t.kind t.text
 -- ---- reading
 
 abbrev pub wait : SyntaxKind → Text → State → State
-wait k text s = record s { pending = s.pending ++ record { kind = k; text = text } ∷ [] }
+wait this_kind text state = record state { pending = state.pending ++ record { kind = this_kind; text = text } ∷ [] }
 
 -- bad text, which waits for the next leaf
 abbrev pub bad : Text → ℕ → State → State
-bad text index s = wait kind.ERROR text (record s { errors = s.errors ++ bad_report text index ∷ [] })
+bad text index state = wait kind.ERROR text (record state { errors = state.errors ++ bad_report text index ∷ [] })
 
 -- the token limit
 abbrev pub met : ℕ → State → State
-met index s = record s { errors = s.errors ++ token_limit_report index ∷ []; accepts = false }
+met index state = record state { errors = state.errors ++ token_limit_report index ∷ []; accepts = false }
 
 abbrev pub lexeme : TokenKind → Item → Lexeme
-lexeme k item = record { kind = k; text = item.text; index = item.index }
+lexeme token_kind item = record { kind = token_kind; text = item.text; index = item.index }
 
 -- reads up to the next token that is not ignored
 unfoldable pub read_on : List Answer → State → State
-read_on [] s = record s { current = None }
-read_on (limit_at index ∷ rest) s = read_on rest (met index (record s { items = rest }))
-read_on (gives item ∷ rest) s = elim item.kind [
-  | None ↦ read_on rest (bad item.text item.index (record s { items = rest }))
+read_on [] state = record state { current = None }
+read_on (limit_at index ∷ rest) state = read_on rest (met index (record state { items = rest }))
+read_on (gives item ∷ rest) state = elim item.kind [
+  | None ↦ read_on rest (bad item.text item.index (record state { items = rest }))
   | Some k ↦ elim (ignored k) [
-    | Some leaf ↦ read_on rest (wait leaf item.text (record s { items = rest }))
-    | None ↦ record s { items = rest; current = Some (lexeme k item) }
+    | Some leaf ↦ read_on rest (wait leaf item.text (record state { items = rest }))
+    | None ↦ record state { items = rest; current = Some (lexeme k item) }
   ]
 ]
 
@@ -120,79 +124,79 @@ second (gives item ∷ rest) = elim item.kind [
 -- ---- building
 
 abbrev pub add_all : List PendingToken → Building → Building
-add_all [] b = b
-add_all (part ∷ parts) b = add_all parts (add_leaf part.kind part.text b)
+add_all [] building = building
+add_all (part ∷ parts) building = add_all parts (add_leaf part.kind part.text building)
 
 -- what waits goes into the tree
 unfoldable pub flush : State → State
-flush s = record s { tree = add_all s.pending s.tree; pending = [] }
+flush state = record state { tree = add_all state.pending state.tree; pending = [] }
 
 unfoldable pub opened : SyntaxKind → State → State
-opened k s = let f = flush s in record f { tree = start k f.tree }
+opened this_kind state = let f = flush state in record f { tree = start this_kind f.tree }
 
 unfoldable pub closed : State → State
-closed s = record s { tree = finish s.tree }
+closed state = record state { tree = finish state.tree }
 
 -- what was added to the open node since the place is moved into a new node, which is open
 unfoldable pub wrapped_from : ℕ → SyntaxKind → State → State
-wrapped_from place k s = record s { tree = wrap place k s.tree }
+wrapped_from place this_kind state = record state { tree = wrap place this_kind state.tree }
 
 -- moves the current token into the tree after the waiting leaves, and reads on; where there is none, nothing happens
 abbrev pub moved : SyntaxKind → State → Option Lexeme → State
-moved leaf s None = s
-moved leaf s (Some t) = let f = flush s in read_on f.items (record f { tree = add_leaf leaf t.text f.tree })
+moved leaf state None = state
+moved leaf state (Some t) = let f = flush state in read_on f.items (record f { tree = add_leaf leaf t.text f.tree })
 
 unfoldable pub bump : SyntaxKind → State → State
-bump leaf s = moved leaf s s.current
+bump leaf state = moved leaf state state.current
 
 -- ---- reporting
 
 -- a report is added, but none after a limit error
 abbrev pub reported : Report → State → State
-reported r s = if s.accepts then record s { errors = s.errors ++ r ∷ [] } else s
+reported report state = if state.accepts then record state { errors = state.errors ++ report ∷ [] } else state
 
 abbrev pub noted : Message → State → Option Lexeme → State
-noted m s None = s
-noted m s (Some t) = reported (fault_report m t) s
+noted message state None = state
+noted message state (Some t) = reported (fault_report message t) state
 
 -- a report at the current token
 unfoldable pub note : Message → State → State
-note m s = noted m s s.current
+note message state = noted message state state.current
 
 -- ---- nesting
 
 -- the recursion limit is reached
 unfoldable pub is_deep : State → Bool
-is_deep s = nat_le s.limit s.depth
+is_deep state = nat_le state.limit state.depth
 
 unfoldable pub enter : State → State
-enter s = record s { depth = s.depth + 1; high = max s.high (s.depth + 1) }
+enter state = record state { depth = state.depth + 1; high = max state.high (state.depth + 1) }
 
 unfoldable pub leave : State → State
-leave s = record s { depth = s.depth - 1 }
+leave state = record state { depth = state.depth - 1 }
 
 -- one level more was tried
 abbrev pub deepened : State → State
-deepened s = record s { high = max s.high (min (s.depth + 1) usize_max) }
+deepened state = record state { high = max state.high (min (state.depth + 1) usize_max) }
 
 abbrev pub limited_at : State → Option Lexeme → State
-limited_at s None = s
-limited_at s (Some t) = record (reported (recursion_limit_report t) s) { accepts = false }
+limited_at state None = state
+limited_at state (Some t) = record (reported (recursion_limit_report t) state) { accepts = false }
 
 -- the report of the recursion limit at the current token; the grammar's later reports are dropped
 unfoldable pub too_deep : State → State
-too_deep s = limited_at (deepened s) s.current
+too_deep state = limited_at (deepened state) state.current
 
 -- ---- tests
 
 abbrev pub is_at : TokenKind → Option Lexeme → Bool
-is_at k None = false
-is_at k (Some t) = same_kind t.kind k
+is_at token_kind None = false
+is_at token_kind (Some t) = same_kind t.kind token_kind
 
 -- the current token is a Name with the keyword's word as text
 abbrev pub is_word : SyntaxKind → Option Lexeme → Bool
-is_word k None = false
-is_word k (Some t) = same_kind t.kind token.Name && eqb (word_class words t.text) (number k)
+is_word this_kind None = false
+is_word this_kind (Some t) = same_kind t.kind token.Name && eqb (word_class words t.text) (number this_kind)
 
 -- no token is left but the end
 abbrev pub is_over : Option Lexeme → Bool
@@ -203,7 +207,19 @@ is_over (Some t) = is_end t.kind
 
 -- the root is open, and nothing is read
 abbrev pub fresh : List Answer → ℕ → SyntaxKind → State
-fresh items limit root = record { items = items; current = None; pending = []; tree = start root nothing; errors = []; limit = limit; depth = 0; high = 0; accepts = true; asked = length items; budget = 0 }
+fresh items limit root = record {
+  items = items;
+  current = None;
+  pending = [];
+  tree = start root nothing;
+  errors = [];
+  limit = limit;
+  depth = 0;
+  high = 0;
+  accepts = true;
+  asked = length items;
+  budget = 0;
+}
 
 -- the root is open, and the first token is read
 abbrev pub begun : List Answer → ℕ → SyntaxKind → State
@@ -211,4 +227,4 @@ begun items limit root = read_on items (fresh items limit root)
 
 -- the tree, where all that waits is taken in and the root is closed
 abbrev pub finished : State → Forest
-finished s = (finish (add_all s.pending s.tree)).here
+finished state = (finish (add_all state.pending state.tree)).here

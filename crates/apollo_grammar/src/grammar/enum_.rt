@@ -17,7 +17,7 @@ use parser_state::ParserState;
 use std::alloc::{AllocError, Allocator};
 
 /// An enum (GraphQL October 2021, section 3.9, "Enums").
-///     EnumTypeDefinition (3.9) : Description? `enum` Name Directives[Const]? EnumValuesDefinition?, as above
+///     EnumTypeDefinition (3.9) : Description? `enum` Name Directives[Const]? EnumValuesDefinition?
 pub fn enum_type_definition<A: Allocator + Copy>(
     p: &mut ParserState<'_, A>,
 ) -> Result<(), AllocError>

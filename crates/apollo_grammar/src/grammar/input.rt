@@ -18,7 +18,7 @@ use parser_state::ParserState;
 use std::alloc::{AllocError, Allocator};
 
 /// An input object (GraphQL October 2021, section 3.10, "Input Objects").
-///     InputObjectTypeDefinition (3.10) : Description? `input` Name Directives[Const]? InputFieldsDefinition?, as above
+///     InputObjectTypeDefinition (3.10) : Description? `input` Name Directives[Const]? InputFieldsDefinition?
 pub fn input_object_type_definition<A: Allocator + Copy>(
     p: &mut ParserState<'_, A>,
 ) -> Result<(), AllocError>

@@ -12,7 +12,7 @@ use parser_state::ParserState;
 use std::alloc::{AllocError, Allocator};
 
 /// An interface (GraphQL October 2021, section 3.7, "Interfaces").
-///     InterfaceTypeDefinition (3.7) : Description? `interface` Name ImplementsInterfaces? Directives[Const]? FieldsDefinition?, as above
+///     InterfaceTypeDefinition (3.7) : Description? `interface` Name ImplementsInterfaces? Directives[Const]? FieldsDefinition?
 pub fn interface_type_definition<A: Allocator + Copy>(
     p: &mut ParserState<'_, A>,
 ) -> Result<(), AllocError>
@@ -27,7 +27,7 @@ pub fn interface_type_definition<A: Allocator + Copy>(
 }
 
 /// An extension of an interface (GraphQL October 2021, section 3.7.1, "Interface Extensions").
-///     InterfaceTypeExtension (3.7.1) : `extend` `interface` Name, and the same
+///     InterfaceTypeExtension (3.7.1) : `extend` `interface` Name, and one of ImplementsInterfaces, Directives[Const], FieldsDefinition at least, in this order
 pub fn interface_type_extension<A: Allocator + Copy>(
     p: &mut ParserState<'_, A>,
 ) -> Result<(), AllocError>

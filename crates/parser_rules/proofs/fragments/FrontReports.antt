@@ -12,12 +12,14 @@ by-lexer taken [] = ([], no_more)
 by-lexer taken (limit_at index ∷ xs) = let l = by-lexer false xs in (token_limit_report index ∷ l.0, token_limit l.1)
 by-lexer taken (gives item ∷ xs) = at (by-lexer taken xs) item.kind refl
   where
-    at : (reports : List Report) × Reported taken xs reports → (found : Option TokenKind) → item.kind ≡ found → (reports : List Report) × Reported taken (gives item ∷ xs) reports
+    at : (reports : List Report) × Reported taken xs reports → (found : Option TokenKind) → item.kind ≡ found
+        → (reports : List Report) × Reported taken (gives item ∷ xs) reports
     at l None e = (bad_report item.text item.index ∷ l.0, bad_text e l.1)
     at l (Some k) e = (l.0, passed e l.1)
 
 -- the reports so far begin reports of all answers
-pub begins-reports : (items : List Answer) (s : State) → Onward true None items [] s → (later : List Report) × Reported true items (s.errors ++ later)
-begins-reports items s h =
-    let l = by-lexer s.accepts (ahead s) in
-    (l.0, subst (λ (rs : List Report). Reported true items (rs ++ l.0)) (sym h.are) (onward-all None [] s h l.0 l.1))
+pub begins-reports : (items : List Answer) (state : State) → Onward true None items [] state
+    → (later : List Report) × Reported true items (state.errors ++ later)
+begins-reports items state onward =
+    let l = by-lexer state.accepts (ahead state) in
+    (l.0, subst (λ (rs : List Report). Reported true items (rs ++ l.0)) (sym onward.are) (onward-all None [] state onward l.0 l.1))

@@ -35,8 +35,9 @@ pub record OneFront (xs : List Answer) (ls : List Leaf) (rs : List Report) : Typ
 -- ---- what was read after the tree
 
 -- what waits is no token that shows
-aside-hidden : (item : Item) (p : PendingToken) → source_at item item.kind ≡ aside p → shows (gives item) ≡ false
-aside-hidden item p = by-kind (λ found o. o ≡ aside p → shown found ≡ false) item (λ e. refl) (λ k i e. absurd cc) (λ k own i e. ap is_none i)
+aside-hidden : (item : Item) (pending_token : PendingToken) → source_at item item.kind ≡ aside pending_token → shows (gives item) ≡ false
+aside-hidden item pending_token = by-kind (λ found o. o ≡ aside pending_token
+    → shown found ≡ false) item (λ e. refl) (λ k i e. absurd cc) (λ k own i e. ap is_none i)
   where
     shown : Option TokenKind → Bool
     shown None = false
@@ -47,37 +48,46 @@ none-left [] e = omega arith
 none-left (limit_at index ∷ xs) e = none-left xs e
 none-left (gives item ∷ xs) e = absurd cc
 
-at-most-one : (xs : List Answer) (x : Answer) → length (filter shows xs) ≤ 0 → length (filter shows (x ∷ xs)) ≤ 1
-at-most-one xs x h = elim (shows x) as (λ b. length (if b then x ∷ filter shows xs else filter shows xs) ≤ 1) [ true ↦ omega (arith, h) | false ↦ omega (arith, h) ]
+at-most-one : (xs : List Answer) (answer : Answer) → length (filter shows xs) ≤ 0 → length (filter shows (answer ∷ xs)) ≤ 1
+at-most-one xs answer h = elim (shows answer) as (λ b. length (if b then answer ∷ filter shows xs else filter shows xs) ≤ 1) [
+  | true ↦ omega (
+    arith,
+    h,
+  )
+  | false ↦ omega (arith, h)
+]
 
-few-shown : (xs : List Answer) (parts : List PendingToken) (o : Option Lexeme) → sources xs ≡ flat (set_aside parts) ++ now_of o → length (filter shows xs) ≤ 1
-few-shown [] parts o e = omega arith
-few-shown (limit_at index ∷ xs) parts o e = few-shown xs parts o e
-few-shown (gives item ∷ xs) (p ∷ parts) o e =
-    let hidden = aside-hidden item p (head-same e) in
-    subst (λ (b : Bool). length (if b then gives item ∷ filter shows xs else filter shows xs) ≤ 1) (sym hidden) (few-shown xs parts o (tail-same e))
+few-shown : (xs : List Answer) (parts : List PendingToken) (found : Option Lexeme) → sources xs ≡ flat (set_aside parts) ++ now_of found
+    → length (filter shows xs) ≤ 1
+few-shown [] parts found e = omega arith
+few-shown (limit_at index ∷ xs) parts found e = few-shown xs parts found e
+few-shown (gives item ∷ xs) (pending_token ∷ parts) found e =
+    let hidden = aside-hidden item pending_token (head-same e) in
+    subst (λ (b : Bool). length (if b then gives item ∷ filter shows xs else filter shows xs) ≤ 1) (sym hidden) (few-shown xs parts found (tail-same e))
 few-shown (gives item ∷ xs) [] None e = absurd cc
 few-shown (gives item ∷ xs) [] (Some x) e = at-most-one xs (gives item) (none-left xs (tail-same e))
 
 -- ---- a run
 
-pub one-front : {q : Rule} {s : State} (xs : List Answer) (limit : ℕ) (k : SyntaxKind) → walk leaf_check rules_deep q anything always ≡ true → Runs q (started xs limit k) s
-    → OneFront xs (leaves s.tree.here) s.errors
-one-front {s = s} xs limit k check run =
-    let h = so-far xs limit k run in
-    let p = root-part xs limit k check run in
-    let after : List Source = flat (set_aside s.pending) ++ now_of s.current in
-    let order : (flat p.0 ++ after) ++ sources s.items ≡ sources h.gone ++ sources s.items =
-    append_assoc (flat p.0) after (sources s.items) ∙ ap (λ (v : List Source). flat p.0 ++ v) (append_assoc (flat (set_aside s.pending)) (now_of s.current) (sources s.items))
-    ∙ p.1.order ∙ ap sources h.left ∙ sources-append h.gone s.items in
-    let gone = append_cancel_right (flat p.0 ++ after) (sources h.gone) (sources s.items) order in
+pub one-front : {rule : Rule} {state : State} (xs : List Answer) (limit : ℕ) (kind : SyntaxKind) → walk leaf_check rules_deep rule anything always ≡ true
+    → Runs rule (started xs limit kind) state
+    → OneFront xs (leaves state.tree.here) state.errors
+one-front {state = state} xs limit kind check run =
+    let h = so-far xs limit kind run in
+    let p = root-part xs limit kind check run in
+    let after : List Source = flat (set_aside state.pending) ++ now_of state.current in
+    let order : (flat p.0 ++ after) ++ sources state.items ≡ sources h.gone ++ sources state.items =
+    append_assoc (flat p.0) after (sources state.items) ∙ ap (λ (v : List Source). flat p.0 ++ v)
+    (append_assoc (flat (set_aside state.pending)) (now_of state.current) (sources state.items))
+    ∙ p.1.order ∙ ap sources h.left ∙ sources-append h.gone state.items in
+    let gone = append_cancel_right (flat p.0 ++ after) (sources h.gone) (sources state.items) order in
     let l = first-leaves h.gone after p.2 gone in
     record {
       front = l.front;
       ahead = l.back;
-      back = s.items;
-      split = h.left ∙ ap (λ (ys : List Answer). ys ++ s.items) l.split ∙ append_assoc l.front l.back s.items;
+      back = state.items;
+      split = h.left ∙ ap (λ (ys : List Answer). ys ++ state.items) l.split ∙ append_assoc l.front l.back state.items;
       leaves = subst (λ (f : Forest). OneLeafAnItem l.front (leaves f)) p.1.tree l.leaves;
-      reported = subst (λ (ys : List Answer). Reported true ys s.errors) l.split (reported-gone s h);
-      few = few-shown l.back s.pending s.current (first-leaves-left h.gone after p.2 gone);
+      reported = subst (λ (ys : List Answer). Reported true ys state.errors) l.split (reported-gone state h);
+      few = few-shown l.back state.pending state.current (first-leaves-left h.gone after p.2 gone);
     }

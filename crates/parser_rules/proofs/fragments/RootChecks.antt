@@ -30,14 +30,14 @@ use Rattle.parser_rules.proofs.sizes.SizeCheck.{PaysForAll}
 use Rattle.parser_rules.proofs.NodeChecks.{computing}
 
 -- a rule of an open root of the kind passes each check
-pub record RootRule (k : SyntaxKind) (q : Rule) : Type 0 where
-  pub leaves : walk leaf_check rules_deep q anything always ≡ true
-  pub levels : walk level_check rules_deep q (at_first (number k)) (level_check.ends k) ≡ true
+pub record RootRule (this_kind : SyntaxKind) (rule : Rule) : Type 0 where
+  pub leaves : walk leaf_check rules_deep rule anything always ≡ true
+  pub levels : walk level_check rules_deep rule (at_first (number this_kind)) (level_check.ends this_kind) ≡ true
   -- the kind's own level is all that the root counts
-  pub heavy : eqb (weight DOCUMENT (number k)) (counts_itself (number k)) and leb (counts_itself (number k)) 1 ≡ true
-  pub limits : walk limit_check rules_deep q present always ≡ true
-  pub tokens : walk token_check rules_deep q (record (untaken false) { spare = 1 }) always ≡ true
-  pub row : walk row_check rules_deep q (row_of k) (row_check.ends k) ≡ true
+  pub heavy : eqb (weight DOCUMENT (number this_kind)) (counts_itself (number this_kind)) and leb (counts_itself (number this_kind)) 1 ≡ true
+  pub limits : walk limit_check rules_deep rule present always ≡ true
+  pub tokens : walk token_check rules_deep rule (record (untaken false) { spare = 1 }) always ≡ true
+  pub row : walk row_check rules_deep rule (row_of this_kind) (row_check.ends this_kind) ≡ true
 
 pub selections_pass : RootRule kind.SELECTION_SET field_set
 unfolding computing
@@ -59,13 +59,13 @@ pub no_type_passes : RootRule kind.ERROR no_type_root
 unfolding computing
 no_type_passes = record { leaves = refl; levels = refl; heavy = refl; limits = refl; tokens = refl; row = refl }
 
-pub type_passes : {s : State} {k : SyntaxKind} {q : Rule} → IsTypeRoot s k q → RootRule k q
+pub type_passes : {state : State} {this_kind : SyntaxKind} {rule : Rule} → IsTypeRoot state this_kind rule → RootRule this_kind rule
 type_passes (a_list e) = list_passes
 type_passes (a_name e) = named_passes
 type_passes (not_null e) = non_null_passes
 type_passes (no_type e) = no_type_passes
 
-pub type-free : {s : State} {k : SyntaxKind} {q : Rule} → IsTypeRoot s k q → is_free k ≡ true
+pub type-free : {state : State} {this_kind : SyntaxKind} {rule : Rule} → IsTypeRoot state this_kind rule → is_free this_kind ≡ true
 type-free (a_list e) = refl
 type-free (a_name e) = refl
 type-free (not_null e) = refl
@@ -73,7 +73,7 @@ type-free (no_type e) = refl
 
 -- a rule of a root of the symbol keeps to the machine, where the class of the first token is in the set
 abbrev pub follows_part : ℕ → ℕ → Rule → Type 0
-follows_part s x q = keeps_to_table rules_deep s at_root_start x any q (part_may_end s) ≡ true
+follows_part s x rule = keeps_to_table rules_deep s at_root_start x any rule (part_may_end s) ≡ true
 
 -- a type where no root is open
 abbrev pub type_rule : Rule
@@ -96,9 +96,9 @@ unfolding computing
 selections_follow = (refl, refl)
 
 -- a root's rule pays for its elements and its reports, where no token is at first and where one is
-pub record PaidRoot (q : Rule) : Type 0 where
-  pub none : PaysForAll (2 ^ absent) q
-  pub some : PaysForAll a_token q
+pub record PaidRoot (rule : Rule) : Type 0 where
+  pub none : PaysForAll (2 ^ absent) rule
+  pub some : PaysForAll a_token rule
 
 pub selections_paid : PaidRoot field_set
 unfolding computing

@@ -20,34 +20,37 @@ use Rattle.parser_rules.proofs.reports.AtTheLimit.{limits-along, asked-since}
 use Rattle.parser_rules.proofs.reports.InOrder.{in-order-front}
 use Rattle.parser_rules.proofs.fragments.FrontReports.{begins-reports}
 
-module _ {q : Rule} {s : State} (items : List Answer) (limit : ℕ) (k : SyntaxKind) (run : Runs q (started items limit k) s) where
+module _ {rule : Rule} {state : State} (items : List Answer) (limit : ℕ) (this_kind : SyntaxKind) (run : Runs rule (started items limit this_kind) state) where
   -- what holds along each step holds from the first token on
-  pub since : {R : State → State → Type 0} → Holds_along R → R (begun items limit k) s
-  since r = let b : State = begun items limit k in r.next b (flush b) s (r.flushes b) (along r run)
+  pub since : {R : State → State → Type 0} → Holds_along R → R (begun items limit this_kind) state
+  since holds_along = let before : State = begun items limit this_kind in
+      holds_along.next before (flush before) state (holds_along.flushes before) (along holds_along run)
 
-  pub root-above : s.tree.above ≡ record { before = no_trees; kind = k } ∷ []
-  root-above = (since adds_along).trees.above ∙ ap (λ (b : Building). b.above) (root-open items limit k)
+  pub root-above : state.tree.above ≡ record { before = no_trees; kind = this_kind } ∷ []
+  root-above = (since adds_along).trees.above ∙ ap (λ (b : Building). b.above) (root-open items limit this_kind)
 
-  pub is-root : is_free k ≡ true → IsRoot s.tree
-  is-root free = (k, free, root-above)
+  pub is-root : is_free this_kind ≡ true → IsRoot state.tree
+  is-root free = (this_kind, free, root-above)
 
-  pub levels-left : (s.depth ≡ 0) × (s.limit ≡ limit) × (s.high ≤ limit + 1)
-  levels-left = kept-nesting items limit k s (since keeps_along)
+  pub levels-left : (state.depth ≡ 0) × (state.limit ≡ limit) × (state.high ≤ limit + 1)
+  levels-left = kept-nesting items limit this_kind state (since keeps_along)
 
-  pub all-asked : s.asked ≡ length items
-  all-asked = (since keeps_along).asked ∙ (read-untouched items (fresh items limit k)).asked
+  pub all-asked : state.asked ≡ length items
+  all-asked = (since keeps_along).asked ∙ (read-untouched items (fresh items limit this_kind)).asked
 
-  pub limit-passed : list_any is_recursion_limit s.errors ≡ true → min (limit + 1) usize_max ≤ s.high
-  limit-passed = asked-since items limit k s levels-left.1 (since limits-along)
+  pub limit-passed : list_any is_recursion_limit state.errors ≡ true → min (limit + 1) usize_max ≤ state.high
+  limit-passed = asked-since items limit this_kind state levels-left.1 (since limits-along)
 
   -- reports of all answers begin with those that were made
-  pub all-reported : (later : List Report) × Reported true items (s.errors ++ later)
-  all-reported = begins-reports items s (so_far items limit k s (since tells-along))
+  pub all-reported : (later : List Report) × Reported true items (state.errors ++ later)
+  all-reported = begins-reports items state (so_far items limit this_kind state (since tells-along))
 
   -- the answers that are gone, and the reports of them
-  pub so-far : Onward true None items [] s
-  so-far = so_far items limit k s (since tells-along)
+  pub so-far : Onward true None items [] state
+  so-far = so_far items limit this_kind state (since tells-along)
 
-pub ordered-front : {q : Rule} {s : State} (n : ℕ) (source : List ℕ) (items : List Item) (limit : ℕ) (k : SyntaxKind) → Runs q (started (limited n items) limit k) s → Cut source items
-    → IsNonDecreasing (map (λ (r : Report). r.index) s.errors)
-ordered-front {s = s} n source items limit k run cut = let a = all-reported (limited n items) limit k run in in-order-front n source items s.errors a.0 cut a.1
+pub ordered-front : {rule : Rule} {state : State} (n : ℕ) (source : List ℕ) (items : List Item) (limit : ℕ) (kind : SyntaxKind)
+    → Runs rule (started (limited n items) limit kind) state → Cut source items
+    → IsNonDecreasing (map (λ (report : Report). report.index) state.errors)
+ordered-front {state = state} n source items limit kind run cut = let a = all-reported (limited n items) limit kind run in
+    in-order-front n source items state.errors a.0 cut a.1

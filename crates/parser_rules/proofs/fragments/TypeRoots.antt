@@ -13,115 +13,156 @@ use Rattle.parser_rules.specs.Nodes.{ListType, NamedType, RequiredName}
 use Rattle.parser_rules.specs.RuleLanguage.{Here, At, holds, Do, Bump, Rule, Call, ◌>◌, refuse}
 use Rattle.parser_rules.specs.Rules.{type_start, inside, nullable_type}
 use Rattle.parser_rules.specs.Runs.{Runs, seq, yes, no, child}
-use Rattle.parser_rules.specs.Fragments.{unopened, started, list_root, named_root, ClosesType, nullable, non_null, RunsTypeRoot, makes_list, makes_name, makes_none, IsTypeRoot, a_list, a_name, not_null, no_type}
+use Rattle.parser_rules.specs.Fragments.{unopened, started, list_root, named_root, ClosesType, nullable, non_null, RunsTypeRoot, makes_list, makes_name}
+use Rattle.parser_rules.specs.Fragments.{makes_none, IsTypeRoot, a_list, a_name, not_null, no_type}
 use Rattle.parser_rules.proofs.runs.Frame.{read-untouched, add_all-above, adds}
 use Rattle.parser_rules.proofs.fragments.WrappedRuns.{wrapped-run, wrapped-root}
 
 -- ---- where no node is open
 
 -- the place before all that is built
-pub root-checkpoint : (place : ℕ) (s : State) → place ≡ 0 → s.tree.above ≡ [] → IsCheckpoint place s.tree
+pub root-checkpoint : (place : ℕ) (state : State) → place ≡ 0 → state.tree.above ≡ [] → IsCheckpoint place state.tree
 unfolding IsCheckpoint
-root-checkpoint place s first none =
-    let least : IsPlace 0 (record { here = s.tree.here; above = [] }) = record { inside = omega arith; seam = refl } in
-    subst (λ (n : ℕ). IsPlace n s.tree) (sym first) (subst (λ (above : List Open). IsPlace 0 (record { here = s.tree.here; above = above })) (sym none) least)
+root-checkpoint place state first none =
+    let least : IsPlace 0 (record { here = state.tree.here; above = [] }) = record { inside = omega arith; seam = refl } in
+    subst (λ (n : ℕ). IsPlace n state.tree) (sym first) (subst (λ (above : List Open). IsPlace 0 (record { here = state.tree.here; above = above }))
+    (sym none) least)
 
-pub still-none : {q : Rule} {s t : State} → Runs q s t → s.tree.above ≡ [] → t.tree.above ≡ []
+pub still-none : {rule : Rule} {state after : State} → Runs rule state after → state.tree.above ≡ [] → after.tree.above ≡ []
 still-none run none = (adds run).trees.above ∙ none
 
-pub flushed-none : (s : State) {t : State} → t ≡ flush s → s.tree.above ≡ [] → t.tree.above ≡ []
+pub flushed-none : (state : State) {after : State} → after ≡ flush state → state.tree.above ≡ [] → after.tree.above ≡ []
 unfolding flush
-flushed-none s e none = ap (λ (z : State). z.tree.above) e ∙ (add_all-above s.pending s.tree ∙ none)
+flushed-none state e none = ap (λ (z : State). z.tree.above) e ∙ (add_all-above state.pending state.tree ∙ none)
 
 -- a node that was opened at a place, and closed
-pub closed-none : (place : ℕ) (k : SyntaxKind) (s : State) {t u : State} → t ≡ wrapped_from place k s → u ≡ closed t → s.tree.above ≡ [] → u.tree.above ≡ []
+pub closed-none : (place : ℕ) (this_kind : SyntaxKind) (state : State) {after later : State} → after ≡ wrapped_from place this_kind state → later ≡ closed after
+    → state.tree.above ≡ [] → later.tree.above ≡ []
 unfolding wrapped_from closed
-closed-none place k s e f none = ap (λ (z : State). z.tree.above) (f ∙ ap closed e) ∙ none
+closed-none place this_kind state e f none = ap (λ (z : State). z.tree.above) (f ∙ ap closed e) ∙ none
 
 -- ---- the first token
 
-starts-list : (s : State) → true ≡ holds (At token.LBracket) s → true ≡ holds (Here type_start) s
+starts-list : (state : State) → true ≡ holds (At token.LBracket) state → true ≡ holds (Here type_start) state
 unfolding holds
-starts-list s e = sym (or-true (is_at token.Name s.current)) ∙ ap (λ (b : Bool). is_at token.Name s.current || b) e
+starts-list state e = sym (or-true (is_at token.Name state.current)) ∙ ap (λ (b : Bool). is_at token.Name state.current || b) e
 
-starts-name : (s : State) → true ≡ holds (At token.Name) s → true ≡ holds (Here type_start) s
+starts-name : (state : State) → true ≡ holds (At token.Name) state → true ≡ holds (Here type_start) state
 unfolding holds
-starts-name s e = ap (λ (b : Bool). b || is_at token.LBracket s.current) e
+starts-name state e = ap (λ (b : Bool). b || is_at token.LBracket state.current) e
 
-starts-none : (s : State) → false ≡ holds (At token.LBracket) s → false ≡ holds (At token.Name) s → false ≡ holds (Here type_start) s
+starts-none : (state : State) → false ≡ holds (At token.LBracket) state → false ≡ holds (At token.Name) state → false ≡ holds (Here type_start) state
 unfolding holds
-starts-none s e f = ap₂ (λ (a b : Bool). a || b) f e
+starts-none state e f = ap₂ (λ (a b : Bool). a || b) f e
 
 -- ---- where the root opens
 
-pub from-place : (first place : ℕ) (k : SyntaxKind) (s : State) {t u v w : State} → first ≡ 0 → true ≡ holds (At token.Bang) s → t ≡ wrapped_from place k s → u ≡ closed t → Runs (Do (Bump kind.BANG)) u v → w ≡ wrapped_from first kind.NON_NULL_TYPE v
-    → ClosesType place k s w
-from-place first place k s {v = v} zero b e f run a = non_null b (subst (λ (z : State). Runs (Do (Bump kind.BANG)) z v) (f ∙ ap closed e) run) (a ∙ ap (λ (n : ℕ). wrapped_from n kind.NON_NULL_TYPE v) zero)
+pub from-place : (first place : ℕ) (this_kind : SyntaxKind) (state : State) {after later last end_state : State} → first ≡ 0
+    → true ≡ holds (At token.Bang) state → after ≡ wrapped_from place this_kind state → later ≡ closed after → Runs (Do (Bump kind.BANG)) later last
+    → end_state ≡ wrapped_from first kind.NON_NULL_TYPE last
+    → ClosesType place this_kind state end_state
+from-place first place this_kind state {last = last} zero b e f run a =
+    non_null b (subst (λ (z : State). Runs (Do (Bump kind.BANG)) z last) (f ∙ ap closed e) run)
+    (a ∙ ap (λ (n : ℕ). wrapped_from n kind.NON_NULL_TYPE last) zero)
 
 -- ---- the root
 
-pub list-made : (s : State) {t u v : State} (place : ℕ) → t ≡ flush s → place ≡ built_count t.tree → true ≡ holds (At token.LBracket) t → Runs (inside ListType) t u → ClosesType place kind.LIST_TYPE u v → RunsTypeRoot (flush s) v
-list-made s {u = u} {v = v} place f is e run close = subst (λ (z : State). RunsTypeRoot z v) f (makes_list e run (subst (λ (n : ℕ). ClosesType n kind.LIST_TYPE u v) is close))
+pub list-made : (state : State) {after later last : State} (place : ℕ) → after ≡ flush state → place ≡ built_count after.tree
+    → true ≡ holds (At token.LBracket) after → Runs (inside ListType) after later → ClosesType place kind.LIST_TYPE later last → RunsTypeRoot (flush state) last
+list-made state {later = later} {last = last} place f is e run close =
+    subst (λ (z : State). RunsTypeRoot z last) f (makes_list e run (subst (λ (n : ℕ). ClosesType n kind.LIST_TYPE later last) is close))
 
-pub name-made : (s : State) {t u v : State} (place : ℕ) → t ≡ flush s → place ≡ built_count t.tree → false ≡ holds (At token.LBracket) t → true ≡ holds (At token.Name) t → Runs (Call RequiredName) t u → ClosesType place kind.NAMED_TYPE u v → RunsTypeRoot (flush s) v
+pub name-made : (state : State) {after later last : State} (place : ℕ) → after ≡ flush state → place ≡ built_count after.tree
+    → false ≡ holds (At token.LBracket) after → true ≡ holds (At token.Name) after → Runs (Call RequiredName) after later
+    → ClosesType place kind.NAMED_TYPE later last → RunsTypeRoot (flush state) last
 unfolding inside
-name-made s {u = u} {v = v} place f is e n run close = subst (λ (z : State). RunsTypeRoot z v) f (makes_name e n run (subst (λ (n : ℕ). ClosesType n kind.NAMED_TYPE u v) is close))
+name-made state {later = later} {last = last} place f is e n run close =
+    subst (λ (z : State). RunsTypeRoot z last) f (makes_name e n run (subst (λ (n : ℕ). ClosesType n kind.NAMED_TYPE later last) is close))
 
-pub none-made : (s : State) {t u v : State} (place : ℕ) → place ≡ 0 → t ≡ flush s → false ≡ holds (At token.LBracket) t → false ≡ holds (At token.Name) t → Runs (refuse message.ExpectedFieldType) t u → v ≡ wrapped_from place kind.ERROR u → RunsTypeRoot (flush s) v
-none-made s {t = t} {u = u} {v = v} place first f e n run a = subst (λ (z : State). RunsTypeRoot z v) f (makes_none (starts-none t e n) run (a ∙ ap (λ (p : ℕ). wrapped_from p kind.ERROR u) first))
+pub none-made : (state : State) {after later last : State} (place : ℕ) → place ≡ 0 → after ≡ flush state → false ≡ holds (At token.LBracket) after
+    → false ≡ holds (At token.Name) after → Runs (refuse message.ExpectedFieldType) after later → last ≡ wrapped_from place kind.ERROR later
+    → RunsTypeRoot (flush state) last
+none-made state {after = after} {later = later} {last = last} place first f e n run a =
+    subst (λ (z : State). RunsTypeRoot z last) f (makes_none (starts-none after e n) run (a ∙ ap (λ (p : ℕ). wrapped_from p kind.ERROR later) first))
 
 -- ---- a type and what follows it
 
 -- What comes before the `!`, or is all of the type: as the root's rule ran, and as a node with the trees after it.
-pub record Nullable (s : State) (k : SyntaxKind) (u : State) : Type 0 where
-  pub starts : true ≡ holds (Here type_start) s
+pub record Nullable (state : State) (this_kind : SyntaxKind) (later : State) : Type 0 where
+  pub starts : true ≡ holds (Here type_start) state
   pub rule : Rule
-  pub is : IsTypeRoot s k rule
-  pub run : Runs rule s u
-  pub before : {q : Rule} {w : State} → Runs q (closed (wrapped_from (built_count s.tree) k u)) w → Runs (nullable_type > q) s w
+  pub is : IsTypeRoot state this_kind rule
+  pub run : Runs rule state later
+  pub before : {this_rule : Rule} {end_state : State} → Runs this_rule (closed (wrapped_from (built_count state.tree) this_kind later)) end_state
+      → Runs (nullable_type > this_rule) state end_state
 
-pub list-first : {s u : State} → s.pending ≡ [] → true ≡ holds (At token.LBracket) s → Runs (inside ListType) s u → Nullable s kind.LIST_TYPE u
-list-first {s = s} none e run = record { starts = starts-list s e; rule = list_root; is = a_list e; run = yes e run; before = λ h. yes e (seq (child refl refl (wrapped-run kind.LIST_TYPE none run)) h) }
+pub list-first : {state later : State} → state.pending ≡ [] → true ≡ holds (At token.LBracket) state → Runs (inside ListType) state later
+    → Nullable state kind.LIST_TYPE later
+list-first {state = state} none e run = record {
+  starts = starts-list state e;
+  rule = list_root;
+  is = a_list e;
+  run = yes e run;
+  before = λ h. yes e (seq (child refl refl (wrapped-run kind.LIST_TYPE none run)) h);
+}
 
-pub name-first : {s u : State} → s.pending ≡ [] → false ≡ holds (At token.LBracket) s → true ≡ holds (At token.Name) s → Runs (inside NamedType) s u → Nullable s kind.NAMED_TYPE u
-name-first {s = s} none e n run = record { starts = starts-name s n; rule = named_root; is = a_name n; run = run; before = λ h. no e (seq (child refl refl (wrapped-run kind.NAMED_TYPE none run)) h) }
+pub name-first : {state later : State} → state.pending ≡ [] → false ≡ holds (At token.LBracket) state → true ≡ holds (At token.Name) state
+    → Runs (inside NamedType) state later → Nullable state kind.NAMED_TYPE later
+name-first {state = state} none e n run = record {
+  starts = starts-name state n;
+  rule = named_root;
+  is = a_name n;
+  run = run;
+  before = λ h. no e (seq (child refl refl (wrapped-run kind.NAMED_TYPE none run)) h);
+}
 
 -- ---- from the first state
 
-pub unopened-none : (xs : List Answer) (r : ℕ) → (unopened xs r).tree.above ≡ []
+pub unopened-none : (xs : List Answer) (max_depth : ℕ) → (unopened xs max_depth).tree.above ≡ []
 unfolding flush
-unopened-none xs r =
-    let s : State = record (fresh xs r kind.ERROR) { tree = nothing } in
-    add_all-above (read_on xs s).pending (read_on xs s).tree ∙ ap (λ (b : Building). b.above) (read-untouched xs s).tree
+unopened-none xs max_depth =
+    let state : State = record (fresh xs max_depth kind.ERROR) { tree = nothing } in
+    add_all-above (read_on xs state).pending (read_on xs state).tree ∙ ap (λ (b : Building). b.above) (read-untouched xs state).tree
 
-pub unopened-waits : (xs : List Answer) (r : ℕ) → (unopened xs r).pending ≡ []
+pub unopened-waits : (xs : List Answer) (max_depth : ℕ) → (unopened xs max_depth).pending ≡ []
 unfolding flush
-unopened-waits xs r = refl
+unopened-waits xs max_depth = refl
 
 -- the rule of a type's root ran, and what it is says the first token
-pub record TypeRun (xs : List Answer) (r : ℕ) (t : State) : Type 0 where
+pub record TypeRun (xs : List Answer) (max_depth : ℕ) (state : State) : Type 0 where
   pub kind : SyntaxKind
   pub rule : Rule
-  pub is : IsTypeRoot (unopened xs r) kind rule
-  pub run : Runs rule (started xs r kind) t
+  pub is : IsTypeRoot (unopened xs max_depth) kind rule
+  pub run : Runs rule (started xs max_depth kind) state
 
-root-run : (xs : List Answer) (r : ℕ) {k : SyntaxKind} {q : Rule} {t u : State} → IsTypeRoot (unopened xs r) k q → Runs q (unopened xs r) u → t ≡ wrapped_from 0 k u → TypeRun xs r t
-root-run xs r {k = k} {q = q} i run a =
-    record { kind = k; rule = q; is = i; run = subst (λ (z : State). Runs q (started xs r k) z) (sym a) (wrapped-root xs r k run (still-none run (unopened-none xs r))) }
+root-run : (xs : List Answer) (max_depth : ℕ) {this_kind : SyntaxKind} {this_rule : Rule} {after later : State}
+    → IsTypeRoot (unopened xs max_depth) this_kind this_rule → Runs this_rule (unopened xs max_depth) later → after ≡ wrapped_from 0 this_kind later
+    → TypeRun xs max_depth after
+root-run xs max_depth {this_kind = this_kind} {this_rule = this_rule} is_type_root run a =
+    record {
+      kind = this_kind;
+      rule = this_rule;
+      is = is_type_root;
+      run = subst (λ (z : State). Runs this_rule (started xs max_depth this_kind) z) (sym a)
+          (wrapped-root xs max_depth this_kind run (still-none run (unopened-none xs max_depth)));
+    }
 
-nullable-run : (xs : List Answer) (r : ℕ) {k : SyntaxKind} {t u : State} → Nullable (unopened xs r) k u → ClosesType (built_count (unopened xs r).tree) k u t → TypeRun xs r t
+nullable-run : (xs : List Answer) (max_depth : ℕ) {this_kind : SyntaxKind} {after later : State} → Nullable (unopened xs max_depth) this_kind later
+    → ClosesType (built_count (unopened xs max_depth).tree) this_kind later after → TypeRun xs max_depth after
 unfolding holds closed wrapped_from
-nullable-run xs r n (nullable b a) = root-run xs r n.is n.run a
-nullable-run xs r n (non_null b c a) = root-run xs r (not_null n.starts) (n.before (yes b c)) a
+nullable-run xs max_depth n (nullable b a) = root-run xs max_depth n.is n.run a
+nullable-run xs max_depth n (non_null b run a) = root-run xs max_depth (not_null n.starts) (n.before (yes b run)) a
 
-pub made-run : (xs : List Answer) (r : ℕ) {t : State} → RunsTypeRoot (unopened xs r) t → TypeRun xs r t
-made-run xs r (makes_list e run close) = nullable-run xs r (list-first (unopened-waits xs r) e run) close
-made-run xs r (makes_name e n run close) = nullable-run xs r (name-first (unopened-waits xs r) e n run) close
-made-run xs r (makes_none e run a) = root-run xs r (no_type e) run a
+pub made-run : (xs : List Answer) (max_depth : ℕ) {state : State} → RunsTypeRoot (unopened xs max_depth) state → TypeRun xs max_depth state
+made-run xs max_depth (makes_list e run close) = nullable-run xs max_depth (list-first (unopened-waits xs max_depth) e run) close
+made-run xs max_depth (makes_name e n run close) = nullable-run xs max_depth (name-first (unopened-waits xs max_depth) e n run) close
+made-run xs max_depth (makes_none e run a) = root-run xs max_depth (no_type e) run a
 
-pub makes-unopened : (xs : List Answer) (r : ℕ) {s t : State} → s ≡ unopened xs r → RunsTypeRoot (flush s) t → RunsTypeRoot (unopened xs r) t
+pub makes-unopened : (xs : List Answer) (max_depth : ℕ) {state after : State} → state ≡ unopened xs max_depth → RunsTypeRoot (flush state) after
+    → RunsTypeRoot (unopened xs max_depth) after
 unfolding flush
-makes-unopened xs r {t = t} first made = subst (λ (z : State). RunsTypeRoot (flush z) t) first made
+makes-unopened xs max_depth {after = after} first made = subst (λ (z : State). RunsTypeRoot (flush z) after) first made
 
-pub type-run : (xs : List Answer) (r : ℕ) {s t : State} → s ≡ unopened xs r → RunsTypeRoot (flush s) t → TypeRun xs r t
-type-run xs r first made = made-run xs r (makes-unopened xs r first made)
+pub type-run : (xs : List Answer) (max_depth : ℕ) {state after : State} → state ≡ unopened xs max_depth → RunsTypeRoot (flush state) after
+    → TypeRun xs max_depth after
+type-run xs max_depth first made = made-run xs max_depth (makes-unopened xs max_depth first made)

@@ -13,69 +13,84 @@ use Rattle.parser_rules.proofs.runs.Reading.{Reading, stops, cuts, bad_text, wai
 use Rattle.parser_rules.proofs.runs.Frame.{added-all, read-untouched}
 use Rattle.parser_rules.proofs.runs.Anew.{anew}
 
-added-same : {f : Forest} {b t u : Building} → Added f b t → Added f b u → t ≡ u
-added-same h k = ap₂ (λ (here : Forest) (above : List Open). record { here = here; above = above }) (h.here ∙ sym k.here) (h.above ∙ sym k.above)
+added-same : {forest : Forest} {building later_building last_building : Building} → Added forest building later_building → Added forest building last_building
+    → later_building ≡ last_building
+added-same added second_added = ap₂ (λ (here : Forest) (above : List Open). record { here = here; above = above }) (added.here ∙ sym second_added.here)
+    (added.above ∙ sym second_added.above)
 
 -- the same run, where something else is built, as long as what is added fits
-pub elsewhere : {q : Rule} {s t : State} → Runs q s t → (b c : Building) → ((f : Forest) → Added f s.tree t.tree → Added f b c) → Runs q (record s { tree = b }) (record t { tree = c })
-elsewhere {q = q} {s = s} {t = t} run b c fit =
-    let (e, h, k) = anew run (record { tree = b; errors = s.errors; high = s.high }) in
-    let trees : e.tree ≡ c = added-same k.other.trees (fit k.more k.one.trees) in
-    let errors : e.errors ≡ t.errors = k.other.errors ∙ sym k.one.errors in
-    let high : e.high ≡ t.high = k.other.high ∙ sym k.one.high in
-    subst (λ (z : Building). Runs q (record s { tree = b }) (record t { tree = z })) trees
-    (subst (λ (es : List Report). Runs q (record s { tree = b }) (record t { tree = e.tree; errors = es })) errors
-    (subst (λ (n : ℕ). Runs q (record s { tree = b }) (record t { tree = e.tree; errors = e.errors; high = n })) high h))
+pub elsewhere : {rule : Rule} {state after : State} → Runs rule state after → (building later_building : Building)
+    → ((forest : Forest) → Added forest state.tree after.tree → Added forest building later_building)
+    → Runs rule (record state { tree = building }) (record after { tree = later_building })
+elsewhere {rule = rule} {state = state} {after = after} run building later_building fit =
+    let (e, h, k) = anew run (record { tree = building; errors = state.errors; high = state.high }) in
+    let trees : e.tree ≡ later_building = added-same k.other.trees (fit k.more k.one.trees) in
+    let errors : e.errors ≡ after.errors = k.other.errors ∙ sym k.one.errors in
+    let high : e.high ≡ after.high = k.other.high ∙ sym k.one.high in
+    subst (λ (z : Building). Runs rule (record state { tree = building }) (record after { tree = z })) trees
+    (subst (λ (es : List Report). Runs rule (record state { tree = building }) (record after { tree = e.tree; errors = es })) errors
+    (subst (λ (n : ℕ). Runs rule (record state { tree = building }) (record after { tree = e.tree; errors = e.errors; high = n })) high h))
 
 -- a node that opens around what a run added
-pub wrapped-run : {q : Rule} {s t : State} (k : SyntaxKind) → s.pending ≡ [] → Runs q s t → Runs q (opened k s) (wrapped_from (built_count s.tree) k t)
+pub wrapped-run : {rule : Rule} {state after : State} (kind : SyntaxKind) → state.pending ≡ [] → Runs rule state after
+    → Runs rule (opened kind state) (wrapped_from (built_count state.tree) kind after)
 unfolding opened flush wrapped_from
-wrapped-run {q = q} {s = s} {t = t} k none run =
-    subst (λ (p : List PendingToken). Runs q (record s { tree = start k (add_all p s.tree); pending = [] }) (record t { tree = wrap (built_count s.tree) k t.tree })) (sym none)
-    (subst (λ (p : List PendingToken). Runs q (record s { tree = start k s.tree; pending = p }) (record t { tree = wrap (built_count s.tree) k t.tree })) none
-    (elsewhere run (start k s.tree) (wrap (built_count s.tree) k t.tree) (λ f. added-wrap k)))
+wrapped-run {rule = rule} {state = state} {after = after} kind none run =
+    subst (λ (p : List PendingToken). Runs rule (record state { tree = start kind (add_all p state.tree); pending = [] })
+    (record after { tree = wrap (built_count state.tree) kind after.tree })) (sym none)
+    (subst (λ (p : List PendingToken). Runs rule (record state { tree = start kind state.tree; pending = p })
+    (record after { tree = wrap (built_count state.tree) kind after.tree })) none
+    (elsewhere run (start kind state.tree) (wrap (built_count state.tree) kind after.tree) (λ f. added-wrap kind)))
 
 -- ---- the root
 
-builds : {xs : List Answer} {s t : State} (b : Building) → Reading xs s t → Reading xs (record s { tree = b }) (record t { tree = b })
-builds b stops = stops
-builds b (cuts h) = cuts (builds b h)
-builds b (bad_text e h) = bad_text e (builds b h)
-builds b (waits e i h) = waits e i (builds b h)
-builds b (shows e i) = shows e i
+builds : {xs : List Answer} {state after : State} (building : Building) → Reading xs state after
+    → Reading xs (record state { tree = building }) (record after { tree = building })
+builds building stops = stops
+builds building (cuts this_reading) = cuts (builds building this_reading)
+builds building (bad_text e this_reading) = bad_text e (builds building this_reading)
+builds building (waits e i this_reading) = waits e i (builds building this_reading)
+builds building (shows e i) = shows e i
 
-read-built : (xs : List Answer) (s : State) (b : Building) → read_on xs (record s { tree = b }) ≡ record (read_on xs s) { tree = b }
-read-built xs s b = (found (builds b (reading xs s))).is
+read-built : (xs : List Answer) (state : State) (building : Building) → read_on xs (record state { tree = building })
+    ≡ record (read_on xs state) { tree = building }
+read-built xs state building = (found (builds building (reading xs state))).is
 
 -- the root around all that there is
 abbrev pub around_all : SyntaxKind → Building → Building
-around_all k b = record { here = b.here; above = record { before = no_trees; kind = k } ∷ [] }
+around_all this_kind building = record { here = building.here; above = record { before = no_trees; kind = this_kind } ∷ [] }
 
-flushed-around : (k : SyntaxKind) (parts : List PendingToken) → add_all parts (start k nothing) ≡ around_all k (add_all parts nothing)
-flushed-around k parts =
-    let a = added-all parts (start k nothing) in
+flushed-around : (kind : SyntaxKind) (parts : List PendingToken) → add_all parts (start kind nothing) ≡ around_all kind (add_all parts nothing)
+flushed-around kind parts =
+    let a = added-all parts (start kind nothing) in
     let b = added-all parts nothing in
     ap₂ (λ (here : Forest) (above : List Open). record { here = here; above = above }) (a.here ∙ sym b.here) a.above
 
-pub started-around : (xs : List Answer) (r : ℕ) (k : SyntaxKind) → started xs r k ≡ record (unopened xs r) { tree = around_all k (unopened xs r).tree }
+pub started-around : (xs : List Answer) (max_depth : ℕ) (kind : SyntaxKind)
+    → started xs max_depth kind ≡ record (unopened xs max_depth) { tree = around_all kind (unopened xs max_depth).tree }
 unfolding flush
-started-around xs r k =
-    let one : State = record (fresh xs r k) { tree = nothing } in
+started-around xs max_depth kind =
+    let one : State = record (fresh xs max_depth kind) { tree = nothing } in
     let read : State = read_on xs one in
     let tree : read.tree ≡ nothing = (read-untouched xs one).tree in
-    ap flush (read-built xs one (start k nothing))
-    ∙ ap (λ (b : Building). record read { tree = b; pending = [] }) (flushed-around k read.pending ∙ ap (λ (b : Building). around_all k (add_all read.pending b)) (sym tree))
+    ap flush (read-built xs one (start kind nothing))
+    ∙ ap (λ (b : Building). record read { tree = b; pending = [] }) (flushed-around kind read.pending
+    ∙ ap (λ (b : Building). around_all kind (add_all read.pending b)) (sym tree))
 
-pub wrapped-all : (k : SyntaxKind) (b : Building) → b.above ≡ [] → wrap 0 k b ≡ around_all k b
-wrapped-all k b none =
-    let zero_is : 0 - open_count b.above ≡ 0 = omega arith in
-    ap (λ (n : ℕ). wrap_at n k b) zero_is ∙ ap (λ (above : List Open). record { here = b.here; above = record { before = no_trees; kind = k } ∷ above }) none
+pub wrapped-all : (this_kind : SyntaxKind) (building : Building) → building.above ≡ [] → wrap 0 this_kind building ≡ around_all this_kind building
+wrapped-all this_kind building none =
+    let zero_is : 0 - open_count building.above ≡ 0 = omega arith in
+    ap (λ (n : ℕ). wrap_at n this_kind building) zero_is ∙ ap (λ (above : List Open). record {
+      here = building.here;
+      above = record { before = no_trees; kind = this_kind } ∷ above;
+    }) none
 
 -- a root that opens around all that a run built
-pub wrapped-root : {q : Rule} {t : State} (xs : List Answer) (r : ℕ) (k : SyntaxKind) → Runs q (unopened xs r) t → t.tree.above ≡ [] → Runs q (started xs r k) (wrapped_from 0 k t)
+pub wrapped-root : {rule : Rule} {state : State} (xs : List Answer) (max_depth : ℕ) (kind : SyntaxKind) → Runs rule (unopened xs max_depth) state
+    → state.tree.above ≡ [] → Runs rule (started xs max_depth kind) (wrapped_from 0 kind state)
 unfolding wrapped_from
-wrapped-root {q = q} {t = t} xs r k run none =
-    let s : State = unopened xs r in
-    subst (λ (z : State). Runs q z (wrapped_from 0 k t)) (sym (started-around xs r k))
-    (subst (λ (b : Building). Runs q (record s { tree = around_all k s.tree }) (record t { tree = b })) (sym (wrapped-all k t.tree none))
-    (elsewhere run (around_all k s.tree) (around_all k t.tree) (λ f h. record { above = refl; here = h.here })))
+wrapped-root {rule = rule} {state = state} xs max_depth kind run none =
+    let s : State = unopened xs max_depth in
+    subst (λ (z : State). Runs rule z (wrapped_from 0 kind state)) (sym (started-around xs max_depth kind))
+    (subst (λ (b : Building). Runs rule (record s { tree = around_all kind s.tree }) (record state { tree = b })) (sym (wrapped-all kind state.tree none))
+    (elsewhere run (around_all kind s.tree) (around_all kind state.tree) (λ f h. record { above = refl; here = h.here })))

@@ -15,7 +15,7 @@ use Rattle.parser_rules.proofs.lookahead.Split.{split}
 use Rattle.parser_rules.proofs.lookahead.FirstSets.{first_in, second_of, inlined}
 
 abbrev pub is_error : SyntaxKind → Bool
-is_error k = eqb (number k) ERROR
+is_error kind = eqb (number kind) ERROR
 
 -- a token of these classes may become a leaf of the kind
 unfoldable pub belongs : ℕ → SyntaxKind → Bool

@@ -16,7 +16,7 @@ without x m = bit_xor x (bit_and x m)
 
 -- the classes of the token with which a node begins
 unfoldable pub first_of : Node → ℕ
-first_of c = entries_mask (entries (symbol c))
+first_of node = entries_mask (entries (symbol node))
 
 abbrev seconds : List Entry → ℕ
 seconds [] = 0
@@ -24,24 +24,24 @@ seconds (entry x y alone ∷ more) = bit_or (cond alone any y) (seconds more)
 
 -- the classes of the token after it
 unfoldable pub second_of : Node → ℕ
-second_of c = seconds (entries (symbol c))
+second_of node = seconds (entries (symbol node))
 
 -- whether a rule may begin at any token: it takes none that it has not looked at, but for an ERROR leaf
 unfoldable pub looks : ℕ → Rule → Bool
 looks n (Do (Bump kind.ERROR)) = true
 looks n (Do (Bump leaf)) = false
-looks n (Seq (Do (Note m)) b) = looks n b
-looks n (Seq a b) = looks n a
-looks n (When q a b) = looks n b
-looks (suc n) (Child c) = looks n (inside c)
-looks (suc n) (Call p) = looks n (body p)
-looks n (Nested a b) = looks n a
-looks n (Typed a) = looks n a
+looks n (Seq (Do (Note message)) rule) = looks n rule
+looks n (Seq rule other_rule) = looks n rule
+looks n (When test rule other_rule) = looks n other_rule
+looks (suc n) (Child node) = looks n (inside node)
+looks (suc n) (Call part) = looks n (body part)
+looks n (Nested rule other_rule) = looks n rule
+looks n (Typed rule) = looks n rule
 looks n _ = true
 
 -- the first, but any where the rule of the node looks itself
 unfoldable pub first_in : Node → ℕ
-first_in c = cond (looks rules_deep (inside c)) any (first_of c)
+first_in node = cond (looks rules_deep (inside node)) any (first_of node)
 
 -- the nodes whose rules are walked at each of their places, so that what is known of the second token is kept
 unfoldable pub inlined : Node → Bool

@@ -1,5 +1,6 @@
 -- What a test says of the classes of the current token and of the next significant one: it passes exactly for the classes of its set.
-use Rattle.std.proofs.Common.{◌≡◌, ℕ, zero, suc, ◌+◌, ◌-◌, ◌^◌, ◌%◌, ◌<◌, ◌||◌, ap₂, max, min, Bool, true, false, not, cond, ◌&&◌, eqb, bit_and, Option, Some, None, refl, sym, ap, ◌∙◌, subst, inl, inr, eqb-true, is_some, arith}
+use Rattle.std.proofs.Common.{◌≡◌, ℕ, zero, suc, ◌+◌, ◌-◌, ◌^◌, ◌%◌, ◌<◌, ◌||◌, ap₂, max, min, Bool, true, false, not, cond, ◌&&◌, eqb, bit_and, Option, Some}
+use Rattle.std.proofs.Common.{None, refl, sym, ap, ◌∙◌, subst, inl, inr, eqb-true, is_some, arith}
 use Rattle.std.proofs.lemmas.Bool.{eqb-false}
 use Rattle.std.specs.Int.{bit_at}
 use Rattle.std.specs.Int.Bits.{bit_xor, bit_or}
@@ -34,7 +35,7 @@ absent = COMMENT
 
 -- the end has class 0
 abbrev pub lexeme_class : TokenKind → Text → ℕ
-lexeme_class k text = cond (is_end k) 0 (class (leaf_number k, text))
+lexeme_class token_kind text = cond (is_end token_kind) 0 (class (leaf_number token_kind, text))
 
 abbrev pub class_of : Option Lexeme → ℕ
 class_of None = absent
@@ -49,15 +50,15 @@ kind_set token.Comment = 0
 kind_set token.Comma = 0
 kind_set token.Eof = 1
 kind_set token.Name = name_classes
-kind_set k = 2 ^ leaf_number k
+kind_set token_kind = 2 ^ leaf_number token_kind
 
 abbrev pub word_set : SyntaxKind → ℕ
-word_set k = bit_and (2 ^ number k) name_classes
+word_set kind = bit_and (2 ^ number kind) name_classes
 
 abbrev pub set_of : TokenTest → ℕ
-set_of (Kind k) = kind_set k
-set_of (Keyword k) = word_set k
-set_of (Or p q) = bit_or (set_of p) (set_of q)
+set_of (Kind token_kind) = kind_set token_kind
+set_of (Keyword kind) = word_set kind
+set_of (Or token_test other_test) = bit_or (set_of token_test) (set_of other_test)
 
 -- all classes but those of no token and of the end
 abbrev pub present : ℕ
@@ -70,7 +71,7 @@ ready = present - 1
 abbrev pub over : ℕ
 over = 2 ^ absent + 1
 
-at-end : (k : TokenKind) → same_kind token.Eof k ≡ within 0 (kind_set k)
+at-end : (token_kind : TokenKind) → same_kind token.Eof token_kind ≡ within 0 (kind_set token_kind)
 unfolding same_kind within
 at-end token.Eof = refl
 at-end _ = refl
@@ -79,12 +80,13 @@ name-class : (text : Text) → within (class (IDENT, text)) name_classes ≡ tru
 unfolding class
 name-class text = word-name words text words-checked
 
-at-name : (k : TokenKind) (text : Text) → same_kind token.Name k ≡ within (class (leaf_number token.Name, text)) (kind_set k)
+at-name : (token_kind : TokenKind) (text : Text) → same_kind token.Name token_kind ≡ within (class (leaf_number token.Name, text)) (kind_set token_kind)
 unfolding same_kind within
 at-name token.Name text = sym (name-class text)
-at-name k text = sym (holds-disjoint (class (IDENT, text)) name_classes (kind_set k) refl (name-class text))
+at-name token_kind text = sym (holds-disjoint (class (IDENT, text)) name_classes (kind_set token_kind) refl (name-class text))
 
-at-kind : (j k : TokenKind) (text : Text) → is_end j ≡ false → ignored j ≡ None → same_kind j k ≡ within (class (leaf_number j, text)) (kind_set k)
+at-kind : (token_kind other_kind : TokenKind) (text : Text) → is_end token_kind ≡ false → ignored token_kind ≡ None
+    → same_kind token_kind other_kind ≡ within (class (leaf_number token_kind, text)) (kind_set other_kind)
 unfolding same_kind within class
 at-kind token.Name k text e i = at-name k text
 at-kind token.Whitespace k text e i = absurd cc
@@ -123,26 +125,29 @@ word-set a n h = elim (either (eqb a n)) [
   ]
 ]
 
-at-word : (j : TokenKind) (k : SyntaxKind) (text : Text) → is_end j ≡ false → ignored j ≡ None → same_kind j token.Name && eqb (word_class words text) (number k) ≡ within (class (leaf_number j, text)) (bit_and (2 ^ number k) name_classes)
+at-word : (token_kind : TokenKind) (kind : SyntaxKind) (text : Text) → is_end token_kind ≡ false → ignored token_kind ≡ None
+    → same_kind token_kind token.Name && eqb (word_class words text) (number kind)
+    ≡ within (class (leaf_number token_kind, text)) (bit_and (2 ^ number kind) name_classes)
 unfolding same_kind within class
 at-word token.Name k text e i = word-set (word_class words text) (number k) (word-name words text words-checked)
 at-word token.Whitespace k text e i = absurd cc
 at-word token.Comment k text e i = absurd cc
 at-word token.Comma k text e i = absurd cc
 at-word token.Eof k text e i = absurd cc
-at-word j k text e i = sym (no-name (leaf_number j) (2 ^ number k) refl)
+at-word token_kind kind text e i = sym (no-name (leaf_number token_kind) (2 ^ number kind) refl)
 
-end-word : (k : SyntaxKind) (text : Text) → same_kind token.Eof token.Name && eqb (word_class words text) (number k) ≡ within 0 (bit_and (2 ^ number k) name_classes)
+end-word : (kind : SyntaxKind) (text : Text) → same_kind token.Eof token.Name && eqb (word_class words text) (number kind)
+    ≡ within 0 (bit_and (2 ^ number kind) name_classes)
 unfolding same_kind within
-end-word k text = sym (no-name 0 (2 ^ number k) refl)
+end-word kind text = sym (no-name 0 (2 ^ number kind) refl)
 
 -- the class of any token
-pub not-zero : (a : Token) → within (class a) ready ≡ true
+pub not-zero : (this_token : Token) → within (class this_token) ready ≡ true
 unfolding class within
-not-zero a = elim (either (eqb a.0 IDENT)) [
-  | inl p ↦ rw p (holds-subset (word_class words a.1) name_classes ready refl (word-name words a.1 words-checked))
-  | inr p ↦ elim (either (within a.0 token_kinds)) [
-    | inl q ↦ rw (p, q) (holds-subset a.0 token_kinds ready refl q)
+not-zero this_token = elim (either (eqb this_token.0 IDENT)) [
+  | inl p ↦ rw p (holds-subset (word_class words this_token.1) name_classes ready refl (word-name words this_token.1 words-checked))
+  | inr p ↦ elim (either (within this_token.0 token_kinds)) [
+    | inl q ↦ rw (p, q) (holds-subset this_token.0 token_kinds ready refl q)
     | inr q ↦ rw (p, q) three
   ]
 ]
@@ -150,7 +155,7 @@ not-zero a = elim (either (eqb a.0 IDENT)) [
     three : within 3 ready ≡ true
     three = refl
 
-at-none : (k : TokenKind) → false ≡ within absent (kind_set k)
+at-none : (token_kind : TokenKind) → false ≡ within absent (kind_set token_kind)
 unfolding within
 at-none token.Eof = refl
 at-none _ = refl
@@ -171,24 +176,39 @@ pub record Edges : Type 0 where
 
 pub edges : Edges
 unfolding within
-edges = record { end_ready = refl; none_ready = refl; end_present = refl; none_present = refl; end_any = refl; none_any = refl; end_over = refl; none_over = refl; end_one = refl; none_one = refl; end_none = refl }
+edges = record {
+  end_ready = refl;
+  none_ready = refl;
+  end_present = refl;
+  none_present = refl;
+  end_any = refl;
+  none_any = refl;
+  end_over = refl;
+  none_over = refl;
+  end_one = refl;
+  none_one = refl;
+  end_none = refl;
+}
 
 -- the end, or any other token
-at-token : (A : TokenKind → ℕ → Type 0) (k : TokenKind) (text : Text) → ignored k ≡ None → A token.Eof 0 → (is_end k ≡ false → A k (class (leaf_number k, text))) → A k (lexeme_class k text)
+at-token : (A : TokenKind → ℕ → Type 0) (token_kind : TokenKind) (text : Text) → ignored token_kind ≡ None → A token.Eof 0
+    → (is_end token_kind ≡ false → A token_kind (class (leaf_number token_kind, text))) → A token_kind (lexeme_class token_kind text)
 at-token A token.Eof text i e h = e
-at-token A k text i e h = h refl
+at-token A token_kind text i e h = h refl
 
-pub at-set : (k : TokenKind) (o : Option Lexeme) → Shown o → is_at k o ≡ within (class_of o) (kind_set k)
-at-set k None w = at-none k
-at-set k (Some t) w = at-token (λ j c. same_kind j k ≡ within c (kind_set k)) t.kind t.text w (at-end k) (λ e. at-kind t.kind k t.text e w)
+pub at-set : (token_kind : TokenKind) (found : Option Lexeme) → Shown found → is_at token_kind found ≡ within (class_of found) (kind_set token_kind)
+at-set token_kind None shown = at-none token_kind
+at-set token_kind (Some t) shown = at-token (λ j c. same_kind j token_kind ≡ within c (kind_set token_kind)) t.kind t.text shown (at-end token_kind)
+    (λ e. at-kind t.kind token_kind t.text e shown)
 
 name-none : within absent name_classes ≡ false
 unfolding within
 name-none = refl
 
-pub word-is : (k : SyntaxKind) (o : Option Lexeme) → Shown o → is_word k o ≡ within (class_of o) (word_set k)
-word-is k None w = sym (no-name absent (2 ^ number k) name-none)
-word-is k (Some t) w = at-token (λ j c. same_kind j token.Name && eqb (word_class words t.text) (number k) ≡ within c (word_set k)) t.kind t.text w (end-word k t.text) (λ e. at-word t.kind k t.text e w)
+pub word-is : (kind : SyntaxKind) (found : Option Lexeme) → Shown found → is_word kind found ≡ within (class_of found) (word_set kind)
+word-is kind None shown = sym (no-name absent (2 ^ number kind) name-none)
+word-is kind (Some t) shown = at-token (λ j c. same_kind j token.Name && eqb (word_class words t.text) (number kind)
+    ≡ within c (word_set kind)) t.kind t.text shown (end-word kind t.text) (λ e. at-word t.kind kind t.text e shown)
 
 in-either : (a x y : ℕ) → within a x || within a y ≡ within a (bit_or x y)
 unfolding within
@@ -203,47 +223,56 @@ in-either a x y = rw (bit_at_or x y a) (one-of (bit_at x a) (bit_at y a) (bit_at
     one-of (suc zero) (suc (suc n)) l h = absurd (omega (arith, h))
     one-of (suc (suc m)) n l h = absurd (omega (arith, l))
 
-pub fits-set : (q : TokenTest) (o : Option Lexeme) → Shown o → fits q o ≡ within (class_of o) (set_of q)
-fits-set (Kind k) o w = at-set k o w
-fits-set (Keyword k) o w = word-is k o w
-fits-set (Or p q) o w = ap₂ (λ (a b : Bool). a || b) (fits-set p o w) (fits-set q o w) ∙ in-either (class_of o) (set_of p) (set_of q)
+pub fits-set : (token_test : TokenTest) (found : Option Lexeme) → Shown found → fits token_test found ≡ within (class_of found) (set_of token_test)
+fits-set (Kind token_kind) found shown = at-set token_kind found shown
+fits-set (Keyword kind) found shown = word-is kind found shown
+fits-set (Or token_test other_test) found shown = ap₂ (λ (a b : Bool). a || b) (fits-set token_test found shown) (fits-set other_test found shown)
+    ∙ in-either (class_of found) (set_of token_test) (set_of other_test)
 
-pub ready-is : (o : Option Lexeme) → Shown o → not (is_over o) ≡ within (class_of o) ready
-ready-is None w = sym edges.none_ready
-ready-is (Some t) w = at-token (λ j c. not (is_end j) ≡ within c ready) t.kind t.text w (sym edges.end_ready) (λ e. ap not e ∙ sym (not-zero (leaf_number t.kind, t.text)))
+pub ready-is : (found : Option Lexeme) → Shown found → not (is_over found) ≡ within (class_of found) ready
+ready-is None shown = sym edges.none_ready
+ready-is (Some t) shown = at-token (λ j c. not (is_end j) ≡ within c ready) t.kind t.text shown (sym edges.end_ready)
+    (λ e. ap not e ∙ sym (not-zero (leaf_number t.kind, t.text)))
 
-pub present-is : (o : Option Lexeme) → Shown o → is_some o ≡ within (class_of o) present
-present-is None w = sym edges.none_present
-present-is (Some t) w = at-token (λ j c. true ≡ within c present) t.kind t.text w (sym edges.end_present) (λ e. sym (holds-subset (class (leaf_number t.kind, t.text)) ready present refl (not-zero (leaf_number t.kind, t.text))))
+pub present-is : (found : Option Lexeme) → Shown found → is_some found ≡ within (class_of found) present
+present-is None shown = sym edges.none_present
+present-is (Some t) shown = at-token (λ j c. true ≡ within c present) t.kind t.text shown (sym edges.end_present)
+    (λ e. sym (holds-subset (class (leaf_number t.kind, t.text)) ready present refl (not-zero (leaf_number t.kind, t.text))))
 
-pub of-any : (o : Option Lexeme) → Shown o → within (class_of o) any ≡ true
-of-any None w = edges.none_any
-of-any (Some t) w = at-token (λ j c. within c any ≡ true) t.kind t.text w edges.end_any (λ e. class-any (leaf_number t.kind, t.text))
+pub of-any : (found : Option Lexeme) → Shown found → within (class_of found) any ≡ true
+of-any None shown = edges.none_any
+of-any (Some t) shown = at-token (λ j c. within c any ≡ true) t.kind t.text shown edges.end_any (λ e. class-any (leaf_number t.kind, t.text))
 
 -- ---- sets of the next two tokens
 
 -- sets that hold the classes of the current token and of the one after it
 abbrev pub Seen : ℕ → ℕ → State → Type 0
-Seen x y s = record { near : within (class_of s.current) x ≡ true; far : within (class_of (second s.items)) y ≡ true }
+Seen x y state = record { near : within (class_of state.current) x ≡ true; far : within (class_of (second state.items)) y ≡ true }
 
-pub seen-any : (s : State) → Shown s.current → Seen any any s
-seen-any s w = record { near = of-any s.current w; far = of-any (second s.items) (second-shown s.items) }
+pub seen-any : (state : State) → Shown state.current → Seen any any state
+seen-any state shown = record { near = of-any state.current shown; far = of-any (second state.items) (second-shown state.items) }
 
-pub seen-more : (x y u v : ℕ) (s : State) → subset x u and subset y v ≡ true → Seen x y s → Seen u v s
-seen-more x y u v s e h = record { near = holds-subset (class_of s.current) x u (and-l _ _ e) h.near; far = holds-subset (class_of (second s.items)) y v (and-r _ _ e) h.far }
+pub seen-more : (x y u v : ℕ) (state : State) → subset x u and subset y v ≡ true → Seen x y state → Seen u v state
+seen-more x y u v state empty seen = record {
+  near = holds-subset (class_of state.current) x u (and-l _ _ empty) seen.near;
+  far = holds-subset (class_of (second state.items)) y v (and-r _ _ empty) seen.far;
+}
 
-pub seen-same : (x y : ℕ) (s t : State) → t.current ≡ s.current → t.items ≡ s.items → Seen x y s → Seen x y t
-seen-same x y s t c i h = record { near = subst (λ o. within (class_of o) x ≡ true) (sym c) h.near; far = subst (λ xs. within (class_of (second xs)) y ≡ true) (sym i) h.far }
+pub seen-same : (x y : ℕ) (state after : State) → after.current ≡ state.current → after.items ≡ state.items → Seen x y state → Seen x y after
+seen-same x y state after c i seen = record {
+  near = subst (λ o. within (class_of o) x ≡ true) (sym c) seen.near;
+  far = subst (λ xs. within (class_of (second xs)) y ≡ true) (sym i) seen.far;
+}
 
 -- a set without a part; a branch that cannot be taken is left out
 abbrev pub part : {R : Type 0} → R → ℕ → (ℕ → R) → R
-part e z f = cond (eqb z 0) e (f z)
+part empty z f = cond (eqb z 0) empty (f z)
 
 abbrev pub by_near : {R : Type 0} → (R → R → R) → R → ℕ → ℕ → ℕ → (ℕ → ℕ → R) → (ℕ → ℕ → R) → R
-by_near c e m x y f g = c (part e (bit_and x m) (λ z. f z y)) (part e (bit_xor x (bit_and x m)) (λ z. g z y))
+by_near combine empty set near far f g = combine (part empty (bit_and near set) (λ z. f z far)) (part empty (bit_xor near (bit_and near set)) (λ z. g z far))
 
 abbrev pub by_far : {R : Type 0} → (R → R → R) → R → ℕ → ℕ → ℕ → (ℕ → ℕ → R) → (ℕ → ℕ → R) → R
-by_far c e m x y f g = c (part e (bit_and y m) (λ z. f x z)) (part e (bit_xor y (bit_and y m)) (λ z. g x z))
+by_far combine empty set near far f g = combine (part empty (bit_and far set) (λ z. f near z)) (part empty (bit_xor far (bit_and far set)) (λ z. g near z))
 
 -- a class in a set and not in a second is in the first without what they share
 pub holds-minus : (a x m : ℕ) → within a x ≡ true → within a m ≡ false → within a (bit_xor x (bit_and x m)) ≡ true
@@ -267,15 +296,25 @@ pub part-live : (a z : ℕ) (f : ℕ → Bool) → part true z f ≡ true → wi
 part-live a z f h i = elim (either (eqb z 0)) [ inl p ↦ holds-none a (subst (λ n. within a n ≡ true) (eqb-true _ _ p) i) | inr p ↦ (rw p at h) ]
 
 abbrev pub Branch : (ℕ → ℕ → Bool) → State → Type 0
-Branch f s = (u : ℕ) × (v : ℕ) × (f u v ≡ true) × Seen u v s
+Branch f state = (u : ℕ) × (v : ℕ) × (f u v ≡ true) × Seen u v state
 
-pub near-at : (b : Bool) (m x y : ℕ) (f g : ℕ → ℕ → Bool) (s : State) → b ≡ within (class_of s.current) m → by_near (λ a b. a and b) true m x y f g ≡ true → Seen x y s → Branch (cond b f g) s
-near-at true m x y f g s e h i = let z = holds-and (class_of s.current) x m i.near (sym e) in (bit_and x m, y, part-live (class_of s.current) (bit_and x m) (λ z. f z y) (and-l _ _ h) z, record { near = z; far = i.far })
-near-at false m x y f g s e h i = let z = holds-minus (class_of s.current) x m i.near (sym e) in (bit_xor x (bit_and x m), y, part-live (class_of s.current) (bit_xor x (bit_and x m)) (λ z. g z y) (and-r _ _ h) z, record { near = z; far = i.far })
+pub near-at : (b : Bool) (set x y : ℕ) (f g : ℕ → ℕ → Bool) (state : State) → b ≡ within (class_of state.current) set
+    → by_near (λ a b. a and b) true set x y f g ≡ true → Seen x y state → Branch (cond b f g) state
+near-at true set x y f g state empty h seen = let z = holds-and (class_of state.current) x set seen.near (sym empty) in
+    (bit_and x set, y, part-live (class_of state.current) (bit_and x set) (λ z. f z y) (and-l _ _ h) z, record { near = z; far = seen.far })
+near-at false set x y f g state empty h seen = let z = holds-minus (class_of state.current) x set seen.near (sym empty) in (
+  bit_xor x (bit_and x set),
+  y,
+  part-live (class_of state.current) (bit_xor x (bit_and x set)) (λ z. g z y) (and-r _ _ h) z,
+  record { near = z; far = seen.far },
+)
 
-pub far-at : (b : Bool) (m x y : ℕ) (f g : ℕ → ℕ → Bool) (s : State) → b ≡ within (class_of (second s.items)) m → by_far (λ a b. a and b) true m x y f g ≡ true → Seen x y s → Branch (cond b f g) s
-far-at true m x y f g s e h i = let c = class_of (second s.items) in let z = holds-and c y m i.far (sym e) in (x, bit_and y m, part-live c (bit_and y m) (λ z. f x z) (and-l _ _ h) z, record { near = i.near; far = z })
-far-at false m x y f g s e h i = let c = class_of (second s.items) in let z = holds-minus c y m i.far (sym e) in (x, bit_xor y (bit_and y m), part-live c (bit_xor y (bit_and y m)) (λ z. g x z) (and-r _ _ h) z, record { near = i.near; far = z })
+pub far-at : (b : Bool) (set x y : ℕ) (f g : ℕ → ℕ → Bool) (state : State) → b ≡ within (class_of (second state.items)) set
+    → by_far (λ a b. a and b) true set x y f g ≡ true → Seen x y state → Branch (cond b f g) state
+far-at true set x y f g state empty h seen = let c = class_of (second state.items) in let z = holds-and c y set seen.far (sym empty) in
+    (x, bit_and y set, part-live c (bit_and y set) (λ z. f x z) (and-l _ _ h) z, record { near = seen.near; far = z })
+far-at false set x y f g state empty h seen = let c = class_of (second state.items) in let z = holds-minus c y set seen.far (sym empty) in
+    (x, bit_xor y (bit_and y set), part-live c (bit_xor y (bit_and y set)) (λ z. g x z) (and-r _ _ h) z, record { near = seen.near; far = z })
 
 pub flip : (b v : Bool) → b ≡ not v → not b ≡ v
 flip true true e = sym e

@@ -23,23 +23,24 @@ use Rattle.parser_rules.proofs.NodeChecks.{node-passes, document_passes}
 
 module _ (n : ℕ) where
   -- The levels that are entered, the tokens left to read, and one to spare are no more than n, nor is the highest nesting.
-  record Held (a : Taken) (b s : State) (f : TreesWithSources) : Type 0 where
-    depth : s.depth ≡ b.depth + a.entered
-    fewer : left s ≤ left b
-    room : s.depth + left s + a.spare ≤ n
-    high : s.high ≤ n
-    token : a.there ≡ true → is_some s.current ≡ true
+  record Held (second_taken : Taken) (before state : State) (trees : TreesWithSources) : Type 0 where
+    depth : state.depth ≡ before.depth + second_taken.entered
+    fewer : left state ≤ left before
+    room : state.depth + left state + second_taken.spare ≤ n
+    high : state.high ≤ n
+    token : second_taken.there ≡ true → is_some state.current ≡ true
 
   -- a token is taken
-  taken : (own : SyntaxKind) (a : Taken) (b s : State) (f g : TreesWithSources) (x : Lexeme) → s.current ≡ Some x → Held a b s f → Held (take a) b (moved own s (Some x)) g
+  taken : (own : SyntaxKind) (a : Taken) (before state : State) (trees more_trees : TreesWithSources) (lexeme : Lexeme) → state.current ≡ Some lexeme
+      → Held a before state trees → Held (take a) before (moved own state (Some lexeme)) more_trees
   unfolding flush left
-  taken own a b s f g x e h =
-      let u = read-untouched s.items (moved_on own x (flush s)) in
-      let l : left (moved own s (Some x)) < left s = moved-left own x (flush s) e in
-      let d = h.depth in
-      let v = h.fewer in
-      let p = h.room in
-      let i = h.high in
+  taken own a b state trees more_trees lexeme e held =
+      let u = read-untouched state.items (moved_on own lexeme (flush state)) in
+      let l : left (moved own state (Some lexeme)) < left state = moved-left own lexeme (flush state) e in
+      let d = held.depth in
+      let v = held.fewer in
+      let p = held.room in
+      let i = held.high in
       let d' = u.depth in
       let i' = u.high in
       let one = at-most a.there a.spare in
@@ -56,10 +57,12 @@ module _ (n : ℕ) where
       at-most false n = omega arith
 
   -- where there is none, none was known
-  not-taken : (a : Taken) (b s : State) (f : TreesWithSources) → s.current ≡ None → Held a b s f → Held (take a) b s f
-  not-taken a b s f e h = elim (either a.there) [
-    | inl y ↦ false-true (ap is_some e) (h.token y)
-    | inr y ↦ (let p = h.room in let c = ap (λ (b : Bool). cond b 1 a.spare) y in record { depth = h.depth; fewer = h.fewer; room = omega (arith, p, c); high = h.high; token = λ z. false-true refl z })
+  not-taken : (a : Taken) (before state : State) (trees : TreesWithSources) → state.current ≡ None → Held a before state trees
+      → Held (take a) before state trees
+  not-taken a b state trees e held = elim (either a.there) [
+    | inl y ↦ false-true (ap is_some e) (held.token y)
+    | inr y ↦ (let p = held.room in let c = ap (λ (b : Bool). cond b 1 a.spare) y in
+        record { depth = held.depth; fewer = held.fewer; room = omega (arith, p, c); high = held.high; token = λ z. false-true refl z })
   ]
 
   sound : Sound token_check Held
@@ -67,7 +70,13 @@ module _ (n : ℕ) where
   sound = record {
     leaf = λ own a k b s f x e c h g. (take a, c, taken own a b s f _ x e h);
     no_leaf = λ own a k b s f e c h. (take a, c, not-taken a b s f e h);
-    report = λ m a b s f h. after-note (λ t. Held a b t f) m s (λ errors. record { depth = h.depth; fewer = h.fewer; room = h.room; high = h.high; token = h.token });
+    report = λ m a b s f h. after-note (λ t. Held a b t f) m s (λ errors. record {
+      depth = h.depth;
+      fewer = h.fewer;
+      room = h.room;
+      high = h.high;
+      token = h.token;
+    });
     limit = λ a k b s f d c h. (
       a,
       and-r _ _ c,
@@ -77,7 +86,13 @@ module _ (n : ℕ) where
     passes = λ q a x y b s f e c h. (
       record a { there = a.there or tells_inner q },
       and-l _ _ c,
-      record { depth = h.depth; fewer = h.fewer; room = h.room; high = h.high; token = λ z. elim (or-c _ _ z) [ inl i ↦ h.token i | inr i ↦ inner-present s.current (test-inner q s i e) ] },
+      record {
+        depth = h.depth;
+        fewer = h.fewer;
+        room = h.room;
+        high = h.high;
+        token = λ z. elim (or-c _ _ z) [ inl i ↦ h.token i | inr i ↦ inner-present s.current (test-inner q s i e) ];
+      },
     );
     fails = λ q a x y b s f e c h. (a, and-r _ _ c, h);
     turn = λ a b s f h. record { depth = h.depth; fewer = h.fewer; room = h.room; high = h.high; token = λ y. false-true refl y };
@@ -88,11 +103,26 @@ module _ (n : ℕ) where
         let d = h.depth in
         let p = h.room in
         record { depth = omega (arith, o, d); fewer = h.fewer; room = omega (arith, l, p); high = h.high; token = λ y. false-true refl y };
-    opens = λ m a b s f c h. let p = h.room in record { depth = omega arith; fewer = omega arith; room = omega (arith, p); high = h.high; token = λ y. h.token (implies _ _ c y) };
+    opens = λ m a b s f c h. let p = h.room in record {
+      depth = omega arith;
+      fewer = omega arith;
+      room = omega (arith, p);
+      high = h.high;
+      token = λ y. h.token (implies _ _ c y);
+    };
     closes = λ j a e k b s u f g c d h i l.
         let n = eqb-true _ _ c in
-        let v = i.depth in let w = i.fewer in let x = h.depth in let y = h.fewer in let p = h.room in
-        (forget a, d, record { depth = omega (arith, n, v, x); fewer = omega (arith, w, y); room = omega (arith, n, v, w, p); high = i.high; token = λ z. false-true refl z });
+        let v = i.depth in let w = i.fewer in let x = h.depth in let y = h.fewer in let p = h.room in (
+          forget a,
+          d,
+          record {
+            depth = omega (arith, n, v, x);
+            fewer = omega (arith, w, y);
+            room = omega (arith, n, v, w, p);
+            high = i.high;
+            token = λ z. false-true refl z;
+          },
+        );
     inlines = λ m a b s f c h. false-true refl c;
     inlined = λ m a e b s u f g c h i. false-true refl c;
     enters = λ a k b s f w c h.
@@ -107,33 +137,46 @@ module _ (n : ℕ) where
     types = λ a b s f h. let p = h.room in record { depth = omega arith; fewer = omega arith; room = p; high = h.high; token = h.token };
     plain = λ a e k b s u f g c h i l.
         let n = eqb-true _ _ (and-l _ _ c) in
-        let v = i.depth in let w = i.fewer in let x = h.depth in let y = h.fewer in let p = h.room in
-        (forget a, and-r _ _ c, record { depth = omega (arith, n, v, x); fewer = omega (arith, w, y); room = omega (arith, n, v, w, p); high = i.high; token = λ z. false-true refl z });
+        let v = i.depth in let w = i.fewer in let x = h.depth in let y = h.fewer in let p = h.room in (
+          forget a,
+          and-r _ _ c,
+          record {
+            depth = omega (arith, n, v, x);
+            fewer = omega (arith, w, y);
+            room = omega (arith, n, v, w, p);
+            high = i.high;
+            token = λ z. false-true refl z;
+          },
+        );
     wraps = λ c k s u g p i l. (c, p, record { depth = i.depth; fewer = i.fewer; room = i.room; high = i.high; token = i.token });
     nodes = λ m. (node-passes m).tokens;
   }
 
 -- no deeper than there are answers
-pub levels-within : (items : List Answer) (limit : ℕ) (s : State) → Runs (Call Document) (begun items limit kind.DOCUMENT) s → s.high ≤ length items
-levels-within items limit s run =
-    let o : State = fresh items limit kind.DOCUMENT in
-    let u = read-untouched items o in
-    let l = read-left (reading items o) refl in
+pub levels-within : (items : List Answer) (limit : ℕ) (state : State) → Runs (Call Document) (begun items limit kind.DOCUMENT) state → state.high ≤ length items
+levels-within items limit state run =
+    let after : State = fresh items limit kind.DOCUMENT in
+    let u = read-untouched items after in
+    let l = read-left (reading items after) refl in
     let d = u.depth in
     let h = u.high in
-    let (f, a, e, i, g, w) = walked_whole token_check (Held (length items)) (sound (length items)) items limit kind.DOCUMENT (untaken false) always run document_passes.tokens
+    let (f, a, e, i, g, w) = walked_whole token_check (Held (length items)) (sound (length items)) items limit kind.DOCUMENT
+    (untaken false) always run document_passes.tokens
     (record { depth = omega arith; fewer = omega arith; room = omega (arith, l, d); high = omega (arith, h); token = λ y. false-true refl y }) in
     i.high
 
 -- a root of another kind may have one level that no token begins
-pub root-levels-within : {q : Rule} (items : List Answer) (limit : ℕ) (k : SyntaxKind) (s : State) → walk token_check rules_deep q (record (untaken false) { spare = 1 }) always ≡ true → Runs q (flush (begun items limit k)) s → s.high ≤ length items + 1
+pub root-levels-within : {rule : Rule} (items : List Answer) (limit : ℕ) (this_kind : SyntaxKind) (state : State)
+    → walk token_check rules_deep rule (record (untaken false) { spare = 1 }) always ≡ true → Runs rule (flush (begun items limit this_kind)) state
+    → state.high ≤ length items + 1
 unfolding flush left
-root-levels-within items limit k s check run =
-    let o : State = fresh items limit k in
-    let u = read-untouched items o in
-    let l = read-left (reading items o) refl in
+root-levels-within items limit this_kind state check run =
+    let after : State = fresh items limit this_kind in
+    let u = read-untouched items after in
+    let l = read-left (reading items after) refl in
     let d = u.depth in
     let h = u.high in
-    let (f, a, e, i, g) = walked_root token_check (Held (length items + 1)) (sound (length items + 1)) items limit k (record (untaken false) { spare = 1 }) always run check
+    let (f, a, e, i, g) = walked_root token_check (Held (length items + 1)) (sound (length items + 1)) items limit this_kind
+    (record (untaken false) { spare = 1 }) always run check
     (record { depth = omega arith; fewer = omega arith; room = omega (arith, l, d); high = omega (arith, h); token = λ y. false-true refl y }) in
     i.high

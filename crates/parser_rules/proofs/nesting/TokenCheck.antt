@@ -18,10 +18,10 @@ untaken there = record { entered = 0; spare = 0; there = there }
 
 -- a token is taken, if there is one; what the next one is, is not known
 abbrev pub take : Taken → Taken
-take a = record a { spare = cond a.there 1 a.spare; there = false }
+take taken = record taken { spare = cond taken.there 1 taken.spare; there = false }
 
 abbrev pub forget : Taken → Taken
-forget a = record a { there = false }
+forget taken = record taken { there = false }
 
 unfoldable pub token_check : Domain Taken
 token_check = record (steady (untaken false)) {

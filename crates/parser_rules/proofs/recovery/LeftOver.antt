@@ -1,5 +1,6 @@
 -- What holds of a tree with reports, in the words of the definitions: which children a node has, and where tokens are that were left over.
-use Rattle.std.proofs.Common.{◌≡◌, ℕ, zero, suc, ◌+◌, ◌<◌, Bool, true, false, true≢false, ◌&&◌, ◌||◌, cond, eqb, eq-eqb, ne_eqb, List, [], ◌∷◌, ◌++◌, length, None, refl, sym, ap, ap₂, ◌∙◌, subst, arith, length-append}
+use Rattle.std.proofs.Common.{◌≡◌, ℕ, zero, suc, ◌+◌, ◌<◌, Bool, true, false, true≢false, ◌&&◌, ◌||◌, cond, eqb, eq-eqb, ne_eqb, List, [], ◌∷◌, ◌++◌, length}
+use Rattle.std.proofs.Common.{None, refl, sym, ap, ap₂, ◌∙◌, subst, arith, length-append}
 use Rattle.std.specs.Prelude.{⊤}
 use Rattle.std.proofs.lemmas.Bool.{and_right}
 use Rattle.lexical_grammar.specs.declared.TokenKind.{TokenKind}
@@ -27,12 +28,13 @@ use Rattle.parser_rules.proofs.recovery.RecoveryCheck.{of_row, leaf_of_row}
 use Rattle.parser_rules.proofs.recovery.RowSymbols.{rows}
 use Rattle.parser_rules.proofs.recovery.Popped as popped_of
 use Rattle.parser_rules.proofs.recovery.Popped.{lexeme_of, popped, pops_of, Reported_at, Allowed, PoppedReported, Recovery}
-use Rattle.parser_rules.proofs.runs.TreesWithSources.{by-kind, Has, Source, token, aside, text_of, TreesWithSources, none, leaf, node, erase, flat, now_of, sources, source_at}
+use Rattle.parser_rules.proofs.runs.TreesWithSources.{by-kind, Has, Source, token, aside, text_of, TreesWithSources, none, leaf, node, erase, flat, now_of}
+use Rattle.parser_rules.proofs.runs.TreesWithSources.{sources, source_at}
 use Rattle.parser_rules.proofs.runs.Reading.{ignored-kinds}
 
 -- ---- the symbols of rows
 
-pub all-rowed : (k : ℕ) (f : built.Forest) → rows k f ≡ true → AllRowed k (numbered f)
+pub all-rowed : (k : ℕ) (forest : built.Forest) → rows k forest ≡ true → AllRowed k (numbered forest)
 unfolding of_row leaf_of_row
 all-rowed k built.none h = tt
 all-rowed k (built.leaf j x rest) h = (or-c _ _ (and-l _ _ h), tt, all-rowed k rest (and-r _ _ h))
@@ -44,7 +46,8 @@ module _ (kinds : TokenKind → Bool) where
   -- none begins before the first item
   none-at : (place p : ℕ) (item : Item) (more : List Item) → CutFrom place (item ∷ more) → p < place → token_at kinds (item ∷ more) p ≡ false
   none-at place p item [] cut h = rw (ne_eqb item.index p (λ z. omega (arith, z, index-at place [] item [] cut, h))) refl
-  none-at place p item (next ∷ more) cut h = rw (ne_eqb item.index p (λ z. omega (arith, z, cut.0, h))) (none-at (place + length item.text) p next more cut.2 (omega (arith, h)))
+  none-at place p item (next ∷ more) cut h = rw (ne_eqb item.index p (λ z. omega (arith, z, cut.0, h)))
+      (none-at (place + length item.text) p next more cut.2 (omega (arith, h)))
 
   -- at the first item's place none begins after it
   none-behind : (place : ℕ) (item : Item) (more : List Item) → CutFrom place (item ∷ more) → token_at kinds more place ≡ false
@@ -54,7 +57,8 @@ module _ (kinds : TokenKind → Bool) where
   token-there : (place : ℕ) (item : Item) (more : List Item) → CutFrom place (item ∷ more) → token_at kinds (item ∷ more) place ≡ is_such kinds item.kind
   token-there place item more cut =
       let i = index-at place [] item more cut in
-      rw (eq-eqb item.index place (omega (arith, i)), none-behind place item more cut) (elim (is_such kinds item.kind) as (λ b. true && b || false ≡ b) [ true ↦ refl | false ↦ refl ])
+      rw (eq-eqb item.index place (omega (arith, i)), none-behind place item more cut)
+      (elim (is_such kinds item.kind) as (λ b. true && b || false ≡ b) [ true ↦ refl | false ↦ refl ])
 
 -- ---- the sources of leaves
 
@@ -63,109 +67,151 @@ source-text item = by-kind (λ found o. text_of o ≡ item.text) item refl (λ k
 
 abbrev pub bytes : List Source → ℕ
 bytes [] = 0
-bytes (o ∷ v) = length (text_of o) + bytes v
+bytes (source ∷ these_sources) = length (text_of source) + bytes these_sources
 
-pub bytes-append : (v w : List Source) → bytes (v ++ w) ≡ bytes v + bytes w
-bytes-append [] w = omega arith
-bytes-append (o ∷ v) w = omega (arith, bytes-append v w)
+pub bytes-append : (these_sources more_sources : List Source) → bytes (these_sources ++ more_sources) ≡ bytes these_sources + bytes more_sources
+bytes-append [] more_sources = omega arith
+bytes-append (source ∷ these_sources) more_sources = omega (arith, bytes-append these_sources more_sources)
 
-pub text-bytes : (f : TreesWithSources) → length (built.text (erase f)) ≡ bytes (flat f)
+pub text-bytes : (trees : TreesWithSources) → length (built.text (erase trees)) ≡ bytes (flat trees)
 text-bytes none = refl
-text-bytes (leaf o k rest) = omega (arith, text-bytes rest, length-append (text_of o) (built.text (erase rest)))
-text-bytes (node k kids rest) = omega (arith, text-bytes kids, text-bytes rest, bytes-append (flat kids) (flat rest), length-append (built.text (erase kids)) (built.text (erase rest)))
+text-bytes (leaf source this_kind rest) = omega (arith, text-bytes rest, length-append (text_of source) (built.text (erase rest)))
+text-bytes (node this_kind kids rest) = omega (
+  arith,
+  text-bytes kids,
+  text-bytes rest,
+  bytes-append (flat kids) (flat rest),
+  length-append (built.text (erase kids)) (built.text (erase rest)),
+)
 
-numbered-text : (f : built.Forest) → tree_texts (numbered f) ≡ built.text f
+numbered-text : (forest : built.Forest) → tree_texts (numbered forest) ≡ built.text forest
 numbered-text built.none = refl
 numbered-text (built.leaf k x rest) = ap (λ (s : Text). x ++ s) (numbered-text rest)
 numbered-text (built.node k kids rest) = ap₂ (λ (a b : Text). a ++ b) (numbered-text kids) (numbered-text rest)
 
-bracket-kind : (k : TokenKind) → is_right_bracket k ≡ same_kind k token_kind.RBracket
+bracket-kind : (this_token_kind : TokenKind) → is_right_bracket this_token_kind ≡ same_kind this_token_kind token_kind.RBracket
 unfolding same_kind
 bracket-kind token_kind.RBracket = refl
 bracket-kind _ = refl
 
 -- what is at the place of a source, and of each of some in a row
 abbrev Known : List Item → ℕ → Source → Type 0
-Known items b (token x) = (x.index ≡ b) × (ignored x.kind ≡ None) × ((kinds : TokenKind → Bool) → token_at kinds items b ≡ kinds x.kind)
-Known items b (aside p) = token_at is_significant_kind items b ≡ false
+Known items b (token lexeme) = (lexeme.index ≡ b) × (ignored lexeme.kind ≡ None) × ((kinds : TokenKind → Bool) → token_at kinds items b ≡ kinds lexeme.kind)
+Known items b (aside pending_token) = token_at is_significant_kind items b ≡ false
 
 abbrev Known_all : List Item → ℕ → List Source → Type 0
 Known_all items b [] = ⊤
-Known_all items b (o ∷ v) = Known items b o × Known_all items (b + length (text_of o)) v
+Known_all items b (source ∷ these_sources) = Known items b source × Known_all items (b + length (text_of source)) these_sources
 
 known-first : (place : ℕ) (item : Item) (more : List Item) → CutFrom place (item ∷ more) → Known (item ∷ more) place (source_at item item.kind)
 known-first place item more cut =
     let i = index-at place [] item more cut in
-    by-kind (λ found o. ((kinds : TokenKind → Bool) → token_at kinds (item ∷ more) place ≡ is_such kinds found) → Known (item ∷ more) place o) item (λ t. t is_significant_kind) (λ k j t. (omega (arith, i), j, t))
-    (λ k own j t. t is_significant_kind ∙ ignored-kinds (λ k own. is_significant_kind k ≡ false) refl refl refl k own j) (λ kinds. token-there kinds place item more cut)
+    by-kind (λ found o. ((kinds : TokenKind → Bool) → token_at kinds (item ∷ more) place ≡ is_such kinds found)
+    → Known (item ∷ more) place o) item (λ t. t is_significant_kind) (λ k j t. (omega (arith, i), j, t))
+    (λ k own j t. t is_significant_kind ∙ ignored-kinds (λ k own. is_significant_kind k ≡ false) refl refl refl k own j)
+    (λ kinds. token-there kinds place item more cut)
 
 -- an item in front changes nothing
-known-behind : (item : Item) (items : List Item) (b : ℕ) (v : List Source) → item.index < b → Known_all items b v → Known_all (item ∷ items) b v
-known-behind item items b [] l h = tt
-known-behind item items b (token x ∷ v) l h =
-    ((h.0.0, h.0.1, λ kinds. rw (ne_eqb item.index b (λ z. omega (arith, z, l))) (h.0.2 kinds)), known-behind item items (b + length x.text) v (omega (arith, l)) h.1)
-known-behind item items b (aside p ∷ v) l h = (rw (ne_eqb item.index b (λ z. omega (arith, z, l))) h.0, known-behind item items (b + length p.text) v (omega (arith, l)) h.1)
+known-behind : (item : Item) (items : List Item) (b : ℕ) (these_sources : List Source) → item.index < b → Known_all items b these_sources
+    → Known_all (item ∷ items) b these_sources
+known-behind item items b [] l known_all = tt
+known-behind item items b (token lexeme ∷ these_sources) l known_all = (
+  (known_all.0.0, known_all.0.1, λ kinds. rw (ne_eqb item.index b (λ z. omega (arith, z, l))) (known_all.0.2 kinds)),
+  known-behind item items (b + length lexeme.text) these_sources (omega (arith, l)) known_all.1,
+)
+known-behind item items b (aside pending_token ∷ these_sources) l known_all = (
+  rw (ne_eqb item.index b (λ z. omega (arith, z, l))) known_all.0,
+  known-behind item items (b + length pending_token.text) these_sources
+      (omega (arith, l)) known_all.1,
+)
 
-known : (place k : ℕ) (items : List Item) → CutFrom place items → Known_all items place (sources (limited k items))
-known place k [] cut = absurd cut
+known : (place max_items : ℕ) (items : List Item) → CutFrom place items → Known_all items place (sources (limited max_items items))
+known place max_items [] cut = absurd cut
 known place zero (item ∷ items) cut = tt
-known place (suc k) (item ∷ []) cut = (known-first place item [] cut, subst (λ xs. Known_all (item ∷ []) (place + length (text_of (source_at item item.kind))) (sources xs)) (sym (limited-end k)) tt)
+known place (suc k) (item ∷ []) cut = (
+  known-first place item [] cut,
+  subst
+      (λ xs. Known_all (item ∷ []) (place + length (text_of (source_at item item.kind))) (sources xs)) (sym (limited-end k)) tt,
+)
 known place (suc k) (item ∷ next ∷ items) cut =
     let t = source-text item in
     let rest : Known_all (next ∷ items) (place + length (text_of (source_at item item.kind))) (sources (limited k (next ∷ items))) =
-    subst (λ x. Known_all (next ∷ items) (place + length x) (sources (limited k (next ∷ items)))) (sym t) (known (place + length item.text) k (next ∷ items) cut.2) in
-    (known-first place item (next ∷ items) cut, known-behind item (next ∷ items) _ _ (omega (arith, cut.0, ap length t, item-some item.kind item.text _ cut.1)) rest)
+    subst (λ x. Known_all (next ∷ items) (place + length x) (sources (limited k (next ∷ items)))) (sym t)
+    (known (place + length item.text) k (next ∷ items) cut.2) in (
+      known-first place item (next ∷ items) cut,
+      known-behind item (next ∷ items) _ _
+          (omega (arith, cut.0, ap length t, item-some item.kind item.text _ cut.1)) rest,
+    )
 
-known-parts : (items : List Item) (b : ℕ) (v w : List Source) → Known_all items b (v ++ w) → Known_all items b v × Known_all items (b + bytes v) w
-known-parts items b [] w h = (tt, subst (λ n. Known_all items n w) (omega arith) h)
-known-parts items b (o ∷ v) w h = let r = known-parts items (b + length (text_of o)) v w h.1 in ((h.0, r.0), subst (λ n. Known_all items n w) (omega arith) r.1)
+known-parts : (items : List Item) (b : ℕ) (these_sources more_sources : List Source) → Known_all items b (these_sources ++ more_sources)
+    → Known_all items b these_sources × Known_all items (b + bytes these_sources) more_sources
+known-parts items b [] more_sources known_all = (tt, subst (λ n. Known_all items n more_sources) (omega arith) known_all)
+known-parts items b (source ∷ these_sources) more_sources known_all = let r = known-parts items
+    (b + length (text_of source)) these_sources more_sources known_all.1 in ((known_all.0, r.0), subst (λ n. Known_all items n more_sources) (omega arith) r.1)
 
 -- what is said of the place and the text of each token that has a report
 abbrev Said : List Report → (ℕ → Text → Type 0) → Type 0
-Said errors P = (m : Message) (x : Lexeme) → is_end x.kind ≡ false → Has errors (fault_report m x) → P x.index x.text
+Said errors P = (message : Message) (lexeme : Lexeme) → is_end lexeme.kind ≡ false → Has errors (fault_report message lexeme) → P lexeme.index lexeme.text
 
 module _ (items : List Item) where
   -- trees that know their tokens
-  left-is : (o : Source) (own : SyntaxKind) (b : ℕ) → Known items b o → left_over items b (number own) ≡ popped o own
+  left-is : (source : Source) (own : SyntaxKind) (b : ℕ) → Known items b source → left_over items b (number own) ≡ popped source own
   unfolding ◌and◌
-  left-is (token x) own b h = ap (λ (z : Bool). eqb (number own) ERROR && z) (h.2 is_significant_kind ∙ shown-kind x.kind h.1)
-  left-is (aside p) own b h = and_right (eqb (number own) ERROR) _ h
+  left-is (token lexeme) own b h = ap (λ (z : Bool). eqb (number own) ERROR && z) (h.2 is_significant_kind ∙ shown-kind lexeme.kind h.1)
+  left-is (aside pending_token) own b h = and_right (eqb (number own) ERROR) _ h
 
   -- the places in a node, and after it
-  known-node : (b : ℕ) (kids : TreesWithSources) (w : List Source) → Known_all items b (flat kids ++ w) → Known_all items b (flat kids) × Known_all items (b + length (tree_texts (numbered (erase kids)))) w
-  known-node b kids w h = rw (ap length (numbered-text (erase kids)) ∙ text-bytes kids) (known-parts items b (flat kids) w h)
+  known-node : (b : ℕ) (kids : TreesWithSources) (these_sources : List Source) → Known_all items b (flat kids ++ these_sources)
+      → Known_all items b (flat kids) × Known_all items (b + length (tree_texts (numbered (erase kids)))) these_sources
+  known-node b kids these_sources known_all = rw (ap length (numbered-text (erase kids)) ∙ text-bytes kids)
+      (known-parts items b (flat kids) these_sources known_all)
 
-  counted : (f : TreesWithSources) (b : ℕ) → Known_all items b (flat f) → count_left_over items b (numbered (erase f)) ≡ pops_of f
-  counted none b h = refl
-  counted (leaf o own rest) b h = ap₂ (λ (x : Bool) (n : ℕ). cond x 1 0 + n) (left-is o own b h.0) (counted rest (b + length (text_of o)) h.1)
-  counted (node j kids rest) b h = counted rest _ (known-node b kids (flat rest) h).1
+  counted : (trees : TreesWithSources) (b : ℕ) → Known_all items b (flat trees) → count_left_over items b (numbered (erase trees)) ≡ pops_of trees
+  counted none b known_all = refl
+  counted (leaf source own rest) b known_all = ap₂ (λ (x : Bool) (n : ℕ). cond x 1 0 + n) (left-is source own b known_all.0)
+      (counted rest (b + length (text_of source)) known_all.1)
+  counted (node this_kind kids rest) b known_all = counted rest _ (known-node b kids (flat rest) known_all).1
 
-  spared : (f : TreesWithSources) (b : ℕ) → Known_all items b (flat f) → popped_of.NoBracket f → NoBracket items b (numbered (erase f))
-  spared none b h n = tt
-  spared (leaf o own rest) b h n = ((λ z. on o h.0 (sym (left-is o own b h.0) ∙ z) n.0), spared rest (b + length (text_of o)) h.1 n.1)
+  spared : (trees : TreesWithSources) (b : ℕ) → Known_all items b (flat trees) → popped_of.NoBracket trees → NoBracket items b (numbered (erase trees))
+  spared none b known_all no_bracket = tt
+  spared (leaf source own rest) b h n = ((λ z. on source h.0 (sym (left-is source own b h.0) ∙ z) n.0), spared rest (b + length (text_of source)) h.1 n.1)
     where
-      on : (o : Source) → Known items b o → popped o own ≡ true → (popped o own ≡ true → is_at token_kind.RBracket (lexeme_of o) ≡ false) → token_at is_right_bracket items b ≡ false
-      on (token x) h z n = h.2 is_right_bracket ∙ bracket-kind x.kind ∙ n z
-      on (aside p) h z n = absurd (true≢false (sym z))
-  spared (node j kids rest) b h n = spared rest _ (known-node b kids (flat rest) h).1 n
+      on : (source : Source) → Known items b source → popped source own ≡ true
+          → (popped source own ≡ true → is_at token_kind.RBracket (lexeme_of source) ≡ false) → token_at is_right_bracket items b ≡ false
+      on (token lexeme) h z n = h.2 is_right_bracket ∙ bracket-kind lexeme.kind ∙ n z
+      on (aside pending_token) h z n = absurd (true≢false (sym z))
+  spared (node this_kind kids rest) b known_all no_bracket = spared rest _ (known-node b kids (flat rest) known_all).1 no_bracket
 
-  allowed : (j : SyntaxKind) (kids : TreesWithSources) (b : ℕ) → Known_all items b (flat kids) → Allowed j kids → Spares items b (number j) (numbered (erase kids))
+  allowed : (this_kind : SyntaxKind) (kids : TreesWithSources) (b : ℕ) → Known_all items b (flat kids) → Allowed this_kind kids
+      → Spares items b (number this_kind) (numbered (erase kids))
   allowed kind.LIST_VALUE kids b h a = ((λ z. spared kids b h a), λ z. absurd (z refl))
-  allowed _ kids b h a = ((λ z. absurd (true≢false (sym (eq-eqb _ LIST_VALUE z)))), λ z. omega (arith, counted kids b h, a))
+  allowed _ kids b known_all a = ((λ z. absurd (true≢false (sym (eq-eqb _ LIST_VALUE z)))), λ z. omega (arith, counted kids b known_all, a))
 
   -- each token that was left over has a report, and so what is said of those that have one
-  left-said : (errors : List Report) (P : ℕ → Text → Type 0) → Said errors P → (f : TreesWithSources) (b : ℕ) → Known_all items b (flat f) → PoppedReported errors f → LeftOver P items b (numbered (erase f))
-  left-said errors P said none b h r = tt
-  left-said errors P said (leaf o own rest) b h r = ((λ z. on o h.0 (sym (left-is o own b h.0) ∙ z) r.0), left-said errors P said rest (b + length (text_of o)) h.1 r.1)
+  left-said : (errors : List Report) (P : ℕ → Text → Type 0) → Said errors P → (trees : TreesWithSources) (b : ℕ) → Known_all items b (flat trees)
+      → PoppedReported errors trees → LeftOver P items b (numbered (erase trees))
+  left-said errors P said none b known_all popped_reported = tt
+  left-said errors P said (leaf source own rest) b h r = (
+    (λ z. on source h.0 (sym (left-is source own b h.0) ∙ z) r.0),
+    left-said errors P said rest (b + length (text_of source)) h.1 r.1,
+  )
     where
-      on : (o : Source) → Known items b o → popped o own ≡ true → (popped o own ≡ true → Reported_at errors (lexeme_of o)) → P b (text_of o)
-      on (token x) h z r = subst (λ (n : ℕ). P n x.text) h.0 (said (r z).0 x (not-c _ (and-r _ _ z)) (r z).1)
-      on (aside p) h z r = absurd (true≢false (sym z))
-  left-said errors P said (node j kids rest) b h r =
-      let k = known-node b kids (flat rest) h in (allowed j kids b k.0 r.0, left-said errors P said kids b k.0 r.1, left-said errors P said rest _ k.1 r.2)
+      on : (source : Source) → Known items b source → popped source own ≡ true → (popped source own ≡ true → Reported_at errors (lexeme_of source))
+          → P b (text_of source)
+      on (token lexeme) h z r = subst (λ (n : ℕ). P n lexeme.text) h.0 (said (r z).0 lexeme (not-c _ (and-r _ _ z)) (r z).1)
+      on (aside pending_token) h z r = absurd (true≢false (sym z))
+  left-said errors P said (node this_kind kids rest) b known_all popped_reported =
+      let k = known-node b kids (flat rest) known_all in (
+        allowed this_kind kids b k.0 popped_reported.0,
+        left-said errors P said kids b k.0 popped_reported.1,
+        left-said errors P said rest _ k.1 popped_reported.2,
+      )
 
 -- Each token that was left over is where one may be, and what is said of reported tokens holds of it.
-pub left-over : (source : List ℕ) (k : ℕ) (items : List Item) (s : State) → Cut source items → (P : ℕ → Text → Type 0) → Said s.errors P → Recovery (limited k items) s → LeftOver P items 0 (numbered (add_all s.pending s.tree).here)
-left-over source k items s cut P said r =
-    let each : Known_all items 0 (flat r.trees ++ (now_of s.current ++ sources s.items)) = subst (Known_all items 0) (sym r.order) (known 0 k items cut.each) in
-    subst (λ (f : built.Forest). LeftOver P items 0 (numbered f)) r.tree (left-said items s.errors P said r.trees 0 (known-parts items 0 (flat r.trees) _ each).0 r.recovers)
+pub left-over : (source : List ℕ) (max_items : ℕ) (items : List Item) (state : State) → Cut source items → (P : ℕ → Text → Type 0) → Said state.errors P
+    → Recovery (limited max_items items) state → LeftOver P items 0 (numbered (add_all state.pending state.tree).here)
+left-over source max_items items state cut P said recovery =
+    let each : Known_all items 0 (flat recovery.trees ++ (now_of state.current ++ sources state.items)) = subst (Known_all items 0) (sym recovery.order)
+    (known 0 max_items items cut.each) in
+    subst (λ (f : built.Forest). LeftOver P items 0 (numbered f)) recovery.tree
+    (left-said items state.errors P said recovery.trees 0 (known-parts items 0 (flat recovery.trees) _ each).0 recovery.recovers)

@@ -17,7 +17,8 @@ use Rattle.parser_rules.proofs.recovery.RecoveryCheck.{row_check}
 use Rattle.parser_rules.proofs.recovery.RowSymbols.{Fit, sound}
 use Rattle.parser_rules.proofs.runs.Fuel.{rules_deep}
 use Rattle.parser_rules.proofs.runs.Frame.{parts_forest, added-all}
-use Rattle.parser_rules.proofs.runs.TreesWithSources.{Source, token, TreesWithSources, none, leaf, node, append, erase, erase-append, Grown, grown-none, grown-then, grown-leaf, grown-note, grown-node}
+use Rattle.parser_rules.proofs.runs.TreesWithSources.{Source, token, TreesWithSources, none, leaf, node, append, erase, erase-append, Grown, grown-none}
+use Rattle.parser_rules.proofs.runs.TreesWithSources.{grown-then, grown-leaf, grown-note, grown-node}
 use Rattle.parser_rules.proofs.runs.Walk.{walked}
 use Rattle.parser_rules.proofs.runs.Anew.{built_of, test-same}
 use Rattle.parser_rules.proofs.runs.Progress.{ready-there}
@@ -26,15 +27,17 @@ use Rattle.parser_rules.proofs.soundness.Soundness.{loops}
 
 -- ---- what waits goes into the tree
 
-pub same-test : (q : Test) (s z : State) → flush z ≡ flush s → holds q s ≡ holds q z
+pub same-test : (test : Test) (state after : State) → flush after ≡ flush state → holds test state ≡ holds test after
 unfolding flush
-same-test q s z f = sym (test-same q s (built_of (flush s)) []) ∙ ap (holds q) (sym f) ∙ test-same q z (built_of (flush z)) []
+same-test test state after f = sym (test-same test state (built_of (flush state)) []) ∙ ap (holds test) (sym f)
+    ∙ test-same test after (built_of (flush after)) []
 
-note-flush : (m : Message) (s : State) → note m (flush s) ≡ flush (note m s)
+note-flush : (message : Message) (state : State) → note message (flush state) ≡ flush (note message state)
 unfolding note flush
-note-flush m s = elim s.current as (λ o. noted m (flush s) o ≡ flush (noted m s o)) [
+note-flush message state = elim state.current as (λ o. noted message (flush state) o ≡ flush (noted message state o)) [
   | None ↦ refl
-  | Some x ↦ elim s.accepts as (λ b. (if b then record (flush s) { errors = s.errors ++ fault_report m x ∷ [] } else flush s) ≡ flush (if b then record s { errors = s.errors ++ fault_report m x ∷ [] } else s)) [ true ↦ refl | false ↦ refl ]
+  | Some x ↦ elim state.accepts as (λ b. (if b then record (flush state) { errors = state.errors ++ fault_report message x ∷ [] } else flush state)
+      ≡ flush (if b then record state { errors = state.errors ++ fault_report message x ∷ [] } else state)) [ true ↦ refl | false ↦ refl ]
 ]
 
 -- ---- one child
@@ -44,88 +47,105 @@ pub data Kid : Type 0 where
   node_of : SyntaxKind → TreesWithSources → Kid
 
 abbrev pub alone : Kid → TreesWithSources
-alone (leaf_of o k) = leaf o k none
-alone (node_of k g) = node k g none
+alone (leaf_of source kind) = leaf source kind none
+alone (node_of kind trees) = node kind trees none
 
 -- a run that adds one tree to the waiting leaves, and ends alike where some of that is in the tree already
 abbrev pub One_more : Rule → State → State → Type 0
-One_more r s t = (a : Kid) × Grown (flush s) t (alone a) × ((z : State) → flush z ≡ flush s → Runs r z t)
+One_more rule state after = (kid : Kid) × Grown (flush state) after (alone kid) × ((later : State) → flush later ≡ flush state → Runs rule later after)
 
 -- a rule that adds one tree where a token is
 unfoldable one_child : ℕ → Rule → Bool
-one_child n (When q a b) = one_child n a and one_child n b
-one_child n (Child c) = true
-one_child n (Seq (Do (Note m)) (Do (Bump own))) = true
-one_child (suc n) (Call p) = one_child n (body p)
+one_child n (When test rule other_rule) = one_child n rule and one_child n other_rule
+one_child n (Child this_node) = true
+one_child n (Seq (Do (Note message)) (Do (Bump own))) = true
+one_child (suc n) (Call part) = one_child n (body part)
 one_child n _ = false
 
-module _ (m : Message) (own : SyntaxKind) (x : Lexeme) (s : State) (e : s.current ≡ Some x) where
-  noted-current : (note m s).current ≡ Some x
-  noted-current = after-note (λ t. t.current ≡ Some x) m s (λ errors. e)
+module _ (message : Message) (own : SyntaxKind) (lexeme : Lexeme) (state : State) (e : state.current ≡ Some lexeme) where
+  noted-current : (note message state).current ≡ Some lexeme
+  noted-current = after-note (λ t. t.current ≡ Some lexeme) message state (λ errors. e)
 
-  refused : bump own (note m s) ≡ moved own (note m (flush s)) (Some x)
+  refused : bump own (note message state) ≡ moved own (note message (flush state)) (Some lexeme)
   unfolding bump flush
-  refused = ap (moved own (note m s)) noted-current ∙ ap (λ u. moved own u (Some x)) (sym (note-flush m s))
+  refused = ap (moved own (note message state)) noted-current ∙ ap (λ u. moved own u (Some lexeme)) (sym (note-flush message state))
 
-  refused-grown : Grown (flush s) (bump own (note m s)) (leaf (token x) own none)
+  refused-grown : Grown (flush state) (bump own (note message state)) (leaf (token lexeme) own none)
   unfolding bump flush
   refused-grown =
-      let u : State = note m s in
-      let still : Grown (flush s) (flush u) none = subst (λ z. Grown (flush s) z none) (note-flush m s) (grown-note m (flush s)) in
-      subst (λ o. Grown (flush s) (moved own u o) (leaf (token x) own none)) (sym noted-current)
-      (grown-then (flush s) (flush u) (moved own u (Some x)) none (leaf (token x) own none) still (grown-leaf own x (flush u) noted-current refl))
+      let later : State = note message state in
+      let still : Grown (flush state) (flush later) none = subst (λ z. Grown (flush state) z none) (note-flush message state)
+      (grown-note message (flush state)) in
+      subst (λ o. Grown (flush state) (moved own later o) (leaf (token lexeme) own none)) (sym noted-current)
+      (grown-then (flush state) (flush later) (moved own later (Some lexeme)) none (leaf (token lexeme) own none) still
+      (grown-leaf own lexeme (flush later) noted-current refl))
 
-one-more : {r : Rule} {s t : State} → Runs r s t → (n : ℕ) (x : Lexeme) → one_child n r ≡ true → s.current ≡ Some x → One_more r s t
+one-more : {rule : Rule} {state after : State} → Runs rule state after → (n : ℕ) (lexeme : Lexeme) → one_child n rule ≡ true → state.current ≡ Some lexeme
+    → One_more rule state after
 unfolding one_child step opened flush
-one-more {s = s} (yes {q = q} e h) n x c i = let o = one-more h n x (and-l _ _ c) i in (o.0, o.1, λ z f. yes (e ∙ same-test q s z f) (o.2 z f))
-one-more {s = s} (no {q = q} e h) n x c i = let o = one-more h n x (and-r _ _ c) i in (o.0, o.1, λ z f. no (e ∙ same-test q s z f) (o.2 z f))
-one-more {s = s} (child {n = c} {t = t} {u = u} a b h) n x d i =
-    let fit : Fit (row_check.begins c) t t none = subst (λ (z : State). Fit (row_check.begins c) z z none) (sym a) (record { own = refl; later = refl; waits = λ k. refl }) in
-    let l = walked row_check Fit sound h rules_deep (row_check.begins c) (row_check.ends (kind_of c)) t none (node-passes c).row (grown-none t) fit in
-    let g : Grown (opened (kind_of c) s) u l.0 = subst (λ (z : State). Grown z u l.0) a l.1 in (
-      node_of (kind_of c) l.0,
-      subst (λ z. Grown (flush s) z (node (kind_of c) l.0 none)) (sym b) (grown-node (kind_of c) s u l.0 g),
-      λ z f. child (a ∙ ap (λ w. opened (kind_of c) w) (sym f)) b h,
+one-more {state = state} (yes {test = test} e run) n lexeme c i = let o = one-more run n lexeme (and-l _ _ c) i in
+    (o.0, o.1, λ z f. yes (e ∙ same-test test state z f) (o.2 z f))
+one-more {state = state} (no {test = test} e run) n lexeme c i = let o = one-more run n lexeme (and-r _ _ c) i in
+    (o.0, o.1, λ z f. no (e ∙ same-test test state z f) (o.2 z f))
+one-more {state = state} (child {node = this_node} {after = after} {later = later_state} a b run) n lexeme d i =
+    let fit : Fit (row_check.begins this_node) after after none = subst (λ (z : State). Fit (row_check.begins this_node) z z none) (sym a)
+    (record { own = refl; later = refl; waits = λ k. refl }) in
+    let l = walked row_check Fit sound run rules_deep (row_check.begins this_node) (row_check.ends (kind_of this_node)) after none (node-passes this_node).row
+    (grown-none after) fit in
+    let grown : Grown (opened (kind_of this_node) state) later_state l.0 = subst (λ (z : State). Grown z later_state l.0) a l.1 in (
+      node_of (kind_of this_node) l.0,
+      subst (λ z. Grown (flush state) z (node (kind_of this_node) l.0 none)) (sym b) (grown-node (kind_of this_node) state later_state l.0 grown),
+      λ z f. child (a ∙ ap (λ w. opened (kind_of this_node) w) (sym f)) b run,
     )
-one-more {s = s} (seq {a = Do (Note m)} {b = Do (Bump own)} (does e) (does f)) n x c i =
+one-more {state = state} (seq {rule = Do (Note message)} {other_rule = Do (Bump own)} (does e) (does f)) n lexeme c i =
     let same = f ∙ ap (bump own) e in (
-      leaf_of (token x) own,
-      subst (λ z. Grown (flush s) z (leaf (token x) own none)) (sym same) (refused-grown m own x s i),
-      λ z g. seq (does refl) (does (same ∙ refused m own x s i ∙ ap (λ u. moved own (note m u) (Some x)) (sym g) ∙ sym (refused m own x z (ap (λ (w : State). w.current) g ∙ i)))),
+      leaf_of (token lexeme) own,
+      subst (λ z. Grown (flush state) z (leaf (token lexeme) own none)) (sym same) (refused-grown message own lexeme state i),
+      λ z g. seq (does refl) (does (same ∙ refused message own lexeme state i ∙ ap (λ u. moved own (note message u) (Some lexeme)) (sym g)
+          ∙ sym (refused message own lexeme z (ap (λ (w : State). w.current) g ∙ i)))),
     )
-one-more (call {p = p} h) (suc n) x c i = let o = one-more h n x c i in (o.0, o.1, λ z f. call (o.2 z f))
-one-more _ n x c i = false-true refl c
+one-more (call {part = part} run) (suc n) lexeme c i = let o = one-more run n lexeme c i in (o.0, o.1, λ z f. call (o.2 z f))
+one-more _ n lexeme c i = false-true refl c
 
 -- a turn
-pub turn-one : {s t : State} → true ≡ holds Ready s → Runs (Call Definition) s t → One_more (Call Definition) s t
+pub turn-one : {state after : State} → true ≡ holds Ready state → Runs (Call Definition) state after → One_more (Call Definition) state after
 unfolding one_child body ◌and◌
-turn-one {s = s} r h = let i = ready-there s r in one-more h 4 i.token refl i.is
+turn-one {state = state} r run = let i = ready-there state r in one-more run 4 i.token refl i.is
 
 -- ---- the loop
 
 -- the trees that the turns from a state on add after the waiting leaves
-abbrev pub behind : {s u : State} → Runs loops s u → built.Forest
+abbrev pub behind : {state later : State} → Runs loops state later → built.Forest
 behind (done e) = built.none
-behind (again {t = t} e h k) = built.join (erase (alone (turn-one e h).0)) (built.join (parts_forest t.pending) (behind k))
+behind (again {after = after} e run second_run) = built.join (erase (alone (turn-one e run).0)) (built.join (parts_forest after.pending) (behind second_run))
 
-pub added-behind : {s u : State} (run : Runs loops s u) → Added (built.join (parts_forest s.pending) (behind run)) s.tree (add_all u.pending u.tree)
+pub added-behind : {state later : State} (run : Runs loops state later)
+    → Added (built.join (parts_forest state.pending) (behind run)) state.tree (add_all later.pending later.tree)
 unfolding flush
-added-behind {s = s} (done e) = subst (λ x. Added x s.tree (add_all s.pending s.tree)) (sym (join-none (parts_forest s.pending))) (added-all s.pending s.tree)
-added-behind {s = s} (again e h k) = added-then (added-all s.pending s.tree) (added-then (turn-one e h).1.trees (added-behind k))
+added-behind {state = state} (done e) = subst (λ x. Added x state.tree (add_all state.pending state.tree)) (sym (join-none (parts_forest state.pending)))
+    (added-all state.pending state.tree)
+added-behind {state = state} (again e this_run second_run) = added-then (added-all state.pending state.tree)
+    (added-then (turn-one e this_run).1.trees (added-behind second_run))
 
 -- a loop that is not over runs alike where some of the waiting leaves are in the tree already
-pub loop-alike : {s u : State} → Runs loops s u → (z : State) → flush z ≡ flush s → (s ≡ u) ⊎ ((true ≡ holds Ready s) × Runs loops z u)
-loop-alike (done e) z f = inl refl
-loop-alike {s = s} (again e h k) z f = inr (e, again (e ∙ same-test Ready s z f) ((turn-one e h).2 z f) k)
+pub loop-alike : {state later : State} → Runs loops state later → (after : State) → flush after ≡ flush state
+    → (state ≡ later) ⊎ ((true ≡ holds Ready state) × Runs loops after later)
+loop-alike (done e) after f = inl refl
+loop-alike {state = state} (again e run second_run) after f = inr (e, again (e ∙ same-test Ready state after f) ((turn-one e run).2 after f) second_run)
 
 -- the next child, where one tree follows
-pub next-child : (a : Kid) (t : built.Tree) (f : TreesWithSources) (g later x : built.Forest) → built.join (built.first t g) later ≡ built.join (erase (alone a)) x
-    → (built.join (erase f) (built.first t g) ≡ built.join (erase (append f (alone a))) g) × (built.join g later ≡ x)
-next-child a t f g later x e =
-    let c = cases a t e in
-    (ap (built.join (erase f)) c.0 ∙ sym (ap (λ y. built.join y g) (erase-append f (alone a)) ∙ join-assoc (erase f) (erase (alone a)) g), c.1)
+pub next-child : (kid : Kid) (tree : built.Tree) (trees : TreesWithSources) (forest later more_trees : built.Forest)
+    → built.join (built.first tree forest) later ≡ built.join (erase (alone kid)) more_trees
+    → (built.join (erase trees) (built.first tree forest) ≡ built.join (erase (append trees (alone kid))) forest) × (built.join forest later ≡ more_trees)
+next-child kid tree trees forest later more_trees e =
+    let c = cases kid tree e in (
+      ap (built.join (erase trees)) c.0 ∙ sym (ap (λ y. built.join y forest) (erase-append trees (alone kid))
+          ∙ join-assoc (erase trees) (erase (alone kid)) forest),
+      c.1,
+    )
   where
-    cases : (a : Kid) (t : built.Tree) → built.join (built.first t g) later ≡ built.join (erase (alone a)) x → (built.first t g ≡ built.join (erase (alone a)) g) × (built.join g later ≡ x)
-    cases (leaf_of o k) (built.Leaf j y) e = (cc, cc)
-    cases (node_of k l) (built.Node j kids) e = (cc, cc)
+    cases : (kid : Kid) (tree : built.Tree) → built.join (built.first tree forest) later ≡ built.join (erase (alone kid)) more_trees
+        → (built.first tree forest ≡ built.join (erase (alone kid)) forest) × (built.join forest later ≡ more_trees)
+    cases (leaf_of source kind) (built.Leaf j y) e = (cc, cc)
+    cases (node_of kind last_trees) (built.Node j kids) e = (cc, cc)
     cases _ _ e = absurd cc

@@ -21,7 +21,7 @@ use Rattle.parser_rules.proofs.leaves.LeafCheck.{is_error}
 -- where the test passes, the current token is no `]`
 abbrev pub excludes : Test → Bool
 excludes (Not (Here (Kind token.RBracket))) = true
-excludes (Both p q) = excludes p or excludes q
+excludes (Both test other_test) = excludes test or excludes other_test
 excludes _ = false
 
 -- where the test fails, no significant token follows the current one
@@ -49,10 +49,10 @@ same_room _ _ = false
 
 -- the room at the end of a node of the kind
 abbrev pub room_of : SyntaxKind → Room → Bool
-room_of j any_token = false
-room_of j no_bracket = is_list j
-room_of j one_token = not (is_list j)
-room_of j no_token = not (is_list j)
+room_of this_kind any_token = false
+room_of this_kind no_bracket = is_list this_kind
+room_of this_kind one_token = not (is_list this_kind)
+room_of this_kind no_token = not (is_list this_kind)
 
 -- Of the current token: a report was made at it, the token limit cuts the text off after it, it is no `]`. And the room that is left.
 pub record Popping : Type 0 where
@@ -62,14 +62,14 @@ pub record Popping : Type 0 where
   pub room : Room
 
 abbrev pub unknown : Room → Popping
-unknown r = record { told = false; cut = false; spared = false; room = r }
+unknown this_room = record { told = false; cut = false; spared = false; room = this_room }
 
 -- one token more is popped
 abbrev pub pop : Popping → Room → (Popping → Bool) → Bool
-pop a any_token k = k (unknown any_token)
-pop a no_bracket k = a.spared and k (unknown no_bracket)
-pop a one_token k = cond a.cut (k (unknown one_token)) (k (unknown no_token))
-pop a no_token k = a.cut and k (unknown no_token)
+pop popping any_token rest = rest (unknown any_token)
+pop popping no_bracket rest = popping.spared and rest (unknown no_bracket)
+pop popping one_token rest = cond popping.cut (rest (unknown one_token)) (rest (unknown no_token))
+pop popping no_token rest = popping.cut and rest (unknown no_token)
 
 -- A token that becomes an ERROR leaf has a report, and it is the only one of its node, but for those of the root, and of a LIST_VALUE, which
 -- are no `]`.
@@ -92,11 +92,11 @@ pop_check = record (steady (unknown any_token)) {
 
 -- a symbol of the row of the kind with the number
 unfoldable pub of_row : ℕ → SyntaxKind → Bool
-of_row k j = member (number j) (symbols (Row k))
+of_row k this_kind = member (number this_kind) (symbols (Row k))
 
 -- an ignored leaf, an ERROR or a SPREAD, or a symbol of the row
 unfoldable pub leaf_of_row : ℕ → SyntaxKind → Bool
-leaf_of_row k j = is_ignored (number j) or member (number j) (ERROR ∷ SPREAD ∷ symbols (Row k))
+leaf_of_row k this_kind = is_ignored (number this_kind) or member (number this_kind) (ERROR ∷ SPREAD ∷ symbols (Row k))
 
 -- the row of the open node, and a second one that a type's children fit too: it may be wrapped later
 pub record Two_rows : Type 0 where
@@ -105,7 +105,7 @@ pub record Two_rows : Type 0 where
 
 -- where a node of the kind is open
 abbrev pub row_of : SyntaxKind → Two_rows
-row_of j = record { own = number j; later = number j }
+row_of this_kind = record { own = number this_kind; later = number this_kind }
 
 -- only what is of the row is added
 unfoldable pub row_check : Domain Two_rows

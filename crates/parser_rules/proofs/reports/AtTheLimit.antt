@@ -6,7 +6,8 @@ use Rattle.lexical_grammar.specs.Answers.{Answer, is_end, usize_max}
 use Rattle.document_grammar.specs.declared.kind.SyntaxKind.{SyntaxKind}
 use Rattle.document_grammar.specs.Builds.{add_leaf}
 use Rattle.parser_rules.specs.Messages.{is_limit}
-use Rattle.parser_rules.specs.State.{State, Lexeme, Report, at_end, at_text, found_at, bad_report, token_limit_report, flush, closed, wrapped_from, fault_report, enter, leave, begun, fresh}
+use Rattle.parser_rules.specs.State.{State, Lexeme, Report, at_end, at_text, found_at, bad_report, token_limit_report, flush, closed, wrapped_from}
+use Rattle.parser_rules.specs.State.{fault_report, enter, leave, begun, fresh}
 use Rattle.parser_rules.specs.Reports.{is_recursion_limit}
 use Rattle.parser_rules.specs.RuleLanguage.{Rule}
 use Rattle.parser_rules.specs.Runs.{Runs}
@@ -16,30 +17,34 @@ use Rattle.parser_rules.proofs.runs.Frame.{read-untouched, begun-nesting}
 
 -- the recursion limit is reported
 abbrev pub IsLimited : State → Type 0
-IsLimited s = list_any is_recursion_limit s.errors ≡ true
+IsLimited state = list_any is_recursion_limit state.errors ≡ true
 
 -- another report does not change that
-other-report : (s : State) (r : Report) → is_recursion_limit r ≡ false → list_any is_recursion_limit (s.errors ++ r ∷ []) ≡ true → IsLimited s
-other-report s r e h = omit (list_any is_recursion_limit s.errors) (sym (list_any-append is_recursion_limit s.errors (r ∷ []) ∙ ap (λ b. list_any is_recursion_limit s.errors || (b || false)) e) ∙ h)
+other-report : (state : State) (report : Report) → is_recursion_limit report ≡ false → list_any is_recursion_limit (state.errors ++ report ∷ []) ≡ true
+    → IsLimited state
+other-report state report e h = omit (list_any is_recursion_limit state.errors)
+    (sym (list_any-append is_recursion_limit state.errors (report ∷ []) ∙ ap (λ b. list_any is_recursion_limit state.errors || (b || false)) e) ∙ h)
   where
     omit : (b : Bool) → b || false ≡ true → b ≡ true
     omit true e = refl
     omit false e = e
 
 -- what is found at a token is no limit
-pub found-other : (x : Lexeme) → is_limit (found_at x) ≡ false
-found-other x = elim (is_end x.kind) as (λ b. is_limit (if b then at_end else at_text x.text) ≡ false) [ true ↦ refl | false ↦ refl ]
+pub found-other : (lexeme : Lexeme) → is_limit (found_at lexeme) ≡ false
+found-other lexeme = elim (is_end lexeme.kind) as (λ b. is_limit (if b then at_end else at_text lexeme.text) ≡ false) [ true ↦ refl | false ↦ refl ]
 
-read-limited : {xs : List Answer} {s t : State} → Reading xs s t → IsLimited t → IsLimited s
-read-limited stops h = h
-read-limited {s = s} (cuts {index = index} r) h = other-report s (token_limit_report index) refl (read-limited r h)
-read-limited {s = s} (bad_text {item = item} e r) h = other-report s (bad_report item.text item.index) refl (read-limited r h)
-read-limited (waits e i r) h = read-limited r h
-read-limited (shows e i) h = h
+read-limited : {xs : List Answer} {state after : State} → Reading xs state after → IsLimited after → IsLimited state
+read-limited stops is_limited = is_limited
+read-limited {state = state} (cuts {index = index} this_reading) is_limited =
+    other-report state (token_limit_report index) refl (read-limited this_reading is_limited)
+read-limited {state = state} (bad_text {item = item} e this_reading) is_limited =
+    other-report state (bad_report item.text item.index) refl (read-limited this_reading is_limited)
+read-limited (waits e i this_reading) is_limited = read-limited this_reading is_limited
+read-limited (shows e i) is_limited = is_limited
 
 -- where it is reported, the highest nesting is more than the limit
 abbrev pub LimitIsPast : State → Type 0
-LimitIsPast s = IsLimited s → PastLimit s
+LimitIsPast state = IsLimited state → PastLimit state
 
 pub limits-along : Holds_along (λ s t. LimitIsPast s → LimitIsPast t)
 unfolding flush closed enter leave wrapped_from
@@ -48,7 +53,8 @@ limits-along = record {
   next = λ s t u h k e. k (h e);
   flushes = λ s h. h;
   moves = λ leaf x s e w h i.
-      let t : State = record s { tree = add_leaf leaf x.text s.tree } in let u = read-untouched s.items t in let l = u.limit in let g = u.high in let p = h (read-limited (reading s.items t) i) in omega (arith, l, g, p);
+      let t : State = record s { tree = add_leaf leaf x.text s.tree } in let u = read-untouched s.items t in let l = u.limit in let g = u.high in
+      let p = h (read-limited (reading s.items t) i) in omega (arith, l, g, p);
   reports = λ m x s e a h i. h (other-report s (fault_report m x) (ap (λ (b : Bool). b && true) (found-other x)) i);
   limits = λ x s e a d h i. d;
   asks = λ s h i. let p = h i in omega (arith, p);
@@ -58,10 +64,12 @@ limits-along = record {
 }
 
 -- the limit is one below the highest nesting, where it is reported
-pub asked-since : (items : List Answer) (limit : ℕ) (k : SyntaxKind) (t : State) → t.limit ≡ limit → (LimitIsPast (begun items limit k) → LimitIsPast t) → list_any is_recursion_limit t.errors ≡ true → min (limit + 1) usize_max ≤ t.high
-asked-since items limit k t l told h =
-    let p = told (λ i. absurd (true≢false (sym (read-limited (reading items (fresh items limit k)) i)))) h in
+pub asked-since : (items : List Answer) (limit : ℕ) (kind : SyntaxKind) (state : State) → state.limit ≡ limit
+    → (LimitIsPast (begun items limit kind) → LimitIsPast state) → list_any is_recursion_limit state.errors ≡ true → min (limit + 1) usize_max ≤ state.high
+asked-since items limit kind state l told h =
+    let p = told (λ i. absurd (true≢false (sym (read-limited (reading items (fresh items limit kind)) i)))) h in
     omega (arith, l, p)
 
-pub asked-past : {r : Rule} {t : State} (items : List Answer) (limit : ℕ) (k : SyntaxKind) → Runs r (begun items limit k) t → list_any is_recursion_limit t.errors ≡ true → min (limit + 1) usize_max ≤ t.high
-asked-past {t = t} items limit k run = asked-since items limit k t (begun-nesting items limit k run).1 (along limits-along run)
+pub asked-past : {rule : Rule} {state : State} (items : List Answer) (limit : ℕ) (kind : SyntaxKind) → Runs rule (begun items limit kind) state
+    → list_any is_recursion_limit state.errors ≡ true → min (limit + 1) usize_max ≤ state.high
+asked-past {state = state} items limit kind run = asked-since items limit kind state (begun-nesting items limit kind run).1 (along limits-along run)

@@ -8,14 +8,15 @@ use Rattle.lexical_grammar.proofs.Limited.{limited-end}
 use Rattle.parser_rules.proofs.reports.NoReport.{EndsWell, choose, ends}
 
 no-end : (found : Option TokenKind) (text after : List ℕ) → IsItem found text after → ends found ≡ false
-no-end None text after i = refl
-no-end (Some token.Eof) text after i = absurd i.token
-no-end (Some _) text after i = refl
+no-end None text after is_item = refl
+no-end (Some token.Eof) text after is_item = absurd is_item.token
+no-end (Some _) text after is_item = refl
 
-pub ends-well : (k place : ℕ) (items : List Item) → CutFrom place items → EndsWell (limited k items)
-ends-well k place [] c = absurd c
-ends-well zero place (item ∷ []) c = refl
-ends-well (suc k) place (item ∷ []) c = subst (λ (i : Item). EndsWell (gives i ∷ limited k [])) (sym c) (limited-end k)
-ends-well zero place (item ∷ next ∷ items) c = refl
-ends-well (suc k) place (item ∷ next ∷ items) c =
-    subst (λ (b : Bool). choose b (limited k (next ∷ items) ≡ []) (EndsWell (limited k (next ∷ items)))) (sym (no-end item.kind item.text (texts (next ∷ items)) c.1)) (ends-well k (place + length item.text) (next ∷ items) c.2)
+pub ends-well : (max_items place : ℕ) (items : List Item) → CutFrom place items → EndsWell (limited max_items items)
+ends-well max_items place [] cut_from = absurd cut_from
+ends-well zero place (item ∷ []) cut_from = refl
+ends-well (suc k) place (item ∷ []) cut_from = subst (λ (i : Item). EndsWell (gives i ∷ limited k [])) (sym cut_from) (limited-end k)
+ends-well zero place (item ∷ next ∷ items) cut_from = refl
+ends-well (suc k) place (item ∷ next ∷ items) cut_from =
+    subst (λ (b : Bool). choose b (limited k (next ∷ items) ≡ []) (EndsWell (limited k (next ∷ items))))
+    (sym (no-end item.kind item.text (texts (next ∷ items)) cut_from.1)) (ends-well k (place + length item.text) (next ∷ items) cut_from.2)

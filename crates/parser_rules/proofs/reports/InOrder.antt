@@ -1,5 +1,6 @@
 -- Reports come in the order of the text.
-use Rattle.std.proofs.Common.{◌≡◌, ℕ, zero, suc, Bool, ◌+◌, ◌-◌, ◌≤◌, List, [], ◌∷◌, ◌++◌, length, map, Option, Some, None, get_or, sym, ap, subst, append-nil, arith}
+use Rattle.std.proofs.Common.{◌≡◌, ℕ, zero, suc, Bool, ◌+◌, ◌-◌, ◌≤◌, List, [], ◌∷◌, ◌++◌, length, map, Option, Some, None, get_or, sym, ap, subst, append-nil}
+use Rattle.std.proofs.Common.{arith}
 use Rattle.std.specs.Prelude.{⊤}
 use Rattle.std.specs.List.{All, AllAdjacentBelow}
 use Rattle.std.specs.List.Sorted.{IsNonDecreasing}
@@ -33,13 +34,15 @@ from-lower : (low high : ℕ) (ns : List ℕ) → low ≤ high → Rises high ns
 from-lower low high [] h rise = tt
 from-lower low high (n ∷ ns) h rise = let above = rise.0 in (omega (arith, above), rise.1)
 
-reports-rise : {taken : Bool} {answers : List Answer} {reports : List Report} (low : ℕ) → Reported taken answers reports → Rises low (places answers) → Rises low (indices reports)
+reports-rise : {taken : Bool} {answers : List Answer} {reports : List Report} (low : ℕ) → Reported taken answers reports → Rises low (places answers)
+    → Rises low (indices reports)
 reports-rise low no_more rise = tt
-reports-rise low (bad_text {item = item} e h) rise = (rise.0, reports-rise item.index h rise.1)
-reports-rise low (token_limit {index = index} h) rise = (rise.0, reports-rise index h rise.1)
-reports-rise low (fault m {item = item} e i h) rise = (rise.0, reports-rise item.index h (omega arith, rise.1))
-reports-rise low (recursion_limit {item = item} e i h) rise = (rise.0, reports-rise item.index h (omega arith, rise.1))
-reports-rise low (passed {item = item} {answers = answers} e h) rise = reports-rise low h (from-lower low item.index (places answers) rise.0 rise.1)
+reports-rise low (bad_text {item = item} e reported) rise = (rise.0, reports-rise item.index reported rise.1)
+reports-rise low (token_limit {index = index} reported) rise = (rise.0, reports-rise index reported rise.1)
+reports-rise low (fault message {item = item} e i reported) rise = (rise.0, reports-rise item.index reported (omega arith, rise.1))
+reports-rise low (recursion_limit {item = item} e i reported) rise = (rise.0, reports-rise item.index reported (omega arith, rise.1))
+reports-rise low (passed {item = item} {answers = answers} e reported) rise =
+    reports-rise low reported (from-lower low item.index (places answers) rise.0 rise.1)
 
 -- ---- the answers of a cut
 
@@ -49,8 +52,8 @@ limit-near None place = (omega arith, omega arith)
 limit-near (Some token.Eof) place = (omega arith, omega arith)
 limit-near (Some _) place = (omega arith, omega arith)
 
-cut-rises : (k place low : ℕ) (items : List Item) → low ≤ place - 1 → CutFrom place items → Rises low (places (limited k items))
-cut-rises k place low [] h cut = absurd cut
+cut-rises : (max_items place low : ℕ) (items : List Item) → low ≤ place - 1 → CutFrom place items → Rises low (places (limited max_items items))
+cut-rises max_items place low [] h cut = absurd cut
 cut-rises zero place low (item ∷ []) h cut = subst (λ (i : Item). Rises low (places (limited zero (i ∷ [])))) (sym cut) (h, tt)
 cut-rises (suc k) place low (item ∷ []) h cut =
     let at : item.index ≡ place = ap (λ (i : Item). i.index) cut in
@@ -75,24 +78,31 @@ adjacent low (m ∷ n ∷ ns) rise (suc k) d h =
     subst (λ j. get_or (n ∷ ns) k d ≤ get_or (m ∷ n ∷ ns) j d) next (adjacent m (n ∷ ns) rise.1 k d (omega arith))
 
 front-rises : (low : ℕ) (es later : List Report) → Rises low (indices (es ++ later)) → Rises low (indices es)
-front-rises low [] later h = tt
-front-rises low (e ∷ es) later h = (h.0, front-rises e.index es later h.1)
+front-rises low [] later rises = tt
+front-rises low (report ∷ es) later rises = (rises.0, front-rises report.index es later rises.1)
 
 -- also the first of them
-pub in-order-front : {taken : Bool} (k : ℕ) (source : List ℕ) (items : List Item) (es later : List Report) → Cut source items → Reported taken (limited k items) (es ++ later) → IsNonDecreasing (map (λ (r : Report). r.index) es)
-in-order-front k source items es later cut h =
-    IsNonDecreasingBy-from_all_adjacent (λ (n : ℕ). n) (indices es) (adjacent 0 (indices es) (front-rises 0 es later (reports-rise 0 h (cut-rises k 0 0 items (omega arith) cut.each))))
+pub in-order-front : {taken : Bool} (max_items : ℕ) (source : List ℕ) (items : List Item) (es later : List Report) → Cut source items
+    → Reported taken (limited max_items items) (es ++ later) → IsNonDecreasing (map (λ (report : Report). report.index) es)
+in-order-front max_items source items es later cut reported =
+    IsNonDecreasingBy-from_all_adjacent (λ (n : ℕ). n) (indices es) (adjacent 0 (indices es)
+    (front-rises 0 es later (reports-rise 0 reported (cut-rises max_items 0 0 items (omega arith) cut.each))))
 
-pub in-order : {taken : Bool} {reports : List Report} (k : ℕ) (source : List ℕ) (items : List Item) → Cut source items → Reported taken (limited k items) reports → IsNonDecreasing (map (λ (r : Report). r.index) reports)
-in-order {taken = taken} {reports = reports} k source items cut h = in-order-front k source items reports [] cut (subst (Reported taken (limited k items)) (sym (append-nil reports)) h)
+pub in-order : {taken : Bool} {reports : List Report} (max_items : ℕ) (source : List ℕ) (items : List Item) → Cut source items
+    → Reported taken (limited max_items items) reports → IsNonDecreasing (map (λ (report : Report). report.index) reports)
+in-order {taken = taken} {reports = reports} max_items source items cut reported =
+    in-order-front max_items source items reports [] cut (subst (Reported taken (limited max_items items)) (sym (append-nil reports)) reported)
 
 -- reports up to a place
 abbrev pub AllUpTo : ℕ → List Report → Type 0
 AllUpTo n = All (λ (e : Report). e.index ≤ n)
 
-up-to-last : (low : ℕ) (es : List Report) (r : Report) → Rises low (indices (es ++ r ∷ [])) → (low ≤ r.index) × AllUpTo r.index es
-up-to-last low [] r h = (h.0, All-nil (λ (x : Report). x.index ≤ r.index))
-up-to-last low (e ∷ es) r h = let l = h.0 in let (b, a) = up-to-last e.index es r h.1 in (omega (arith, l, b), All-cons (λ (x : Report). x.index ≤ r.index) e es b a)
+up-to-last : (low : ℕ) (es : List Report) (report : Report) → Rises low (indices (es ++ report ∷ [])) → (low ≤ report.index) × AllUpTo report.index es
+up-to-last low [] report rises = (rises.0, All-nil (λ (x : Report). x.index ≤ report.index))
+up-to-last low (other_report ∷ es) report rises = let l = rises.0 in let (b, a) = up-to-last other_report.index es report rises.1 in
+    (omega (arith, l, b), All-cons (λ (x : Report). x.index ≤ report.index) other_report es b a)
 
-pub before-last : {taken : Bool} (k : ℕ) (source : List ℕ) (items : List Item) (es : List Report) (r : Report) → Cut source items → Reported taken (limited k items) (es ++ r ∷ []) → AllUpTo r.index es
-before-last k source items es r cut h = (up-to-last 0 es r (reports-rise 0 h (cut-rises k 0 0 items (omega arith) cut.each))).1
+pub before-last : {taken : Bool} (max_items : ℕ) (source : List ℕ) (items : List Item) (es : List Report) (report : Report) → Cut source items
+    → Reported taken (limited max_items items) (es ++ report ∷ []) → AllUpTo report.index es
+before-last max_items source items es report cut reported = (up-to-last 0 es report
+    (reports-rise 0 reported (cut-rises max_items 0 0 items (omega arith) cut.each))).1

@@ -20,20 +20,20 @@ is_inner None = false
 is_inner (Some x) = not (is_end x.kind)
 
 abbrev pub known : Current → Option Lexeme → Bool
-known unknown o = true
-known present o = is_some o
-known inner o = is_inner o
+known unknown found = true
+known present found = is_some found
+known inner found = is_inner found
 
 -- what a test that passes says
 abbrev pub fits_inner : TokenTest → Bool
-fits_inner (Kind k) = not (is_end k)
-fits_inner (Keyword k) = true
-fits_inner (Or p q) = fits_inner p and fits_inner q
+fits_inner (Kind token_kind) = not (is_end token_kind)
+fits_inner (Keyword kind) = true
+fits_inner (Or token_test other_test) = fits_inner token_test and fits_inner other_test
 
 abbrev pub tells_inner : Test → Bool
-tells_inner (Here q) = fits_inner q
+tells_inner (Here token_test) = fits_inner token_test
 tells_inner Ready = true
-tells_inner (Both p q) = tells_inner p or tells_inner q
+tells_inner (Both test other_test) = tells_inner test or tells_inner other_test
 tells_inner _ = false
 
 -- after a token that was not the end there is another one
@@ -54,7 +54,7 @@ abbrev pub begins_level : Node → Bool
 begins_level QueryShorthand = true
 begins_level SelectionSet = true
 begins_level ListType = true
-begins_level (ListValue c) = true
+begins_level (ListValue constness) = true
 begins_level _ = false
 
 unfoldable pub limit_check : Domain Current

@@ -1,5 +1,6 @@
 -- A state without a new report: what is left to read, and that reading on keeps it so or reports.
-use Rattle.std.proofs.Common.{◌≡◌, ℕ, Bool, true, false, not, if◌then◌else◌, List, [], ◌∷◌, ◌++◌, Option, Some, None, refl, sym, ap, ap₂, ◌∙◌, subst, ◌⊎◌, inl, inr, append_assoc}
+use Rattle.std.proofs.Common.{◌≡◌, ℕ, Bool, true, false, not, if◌then◌else◌, List, [], ◌∷◌, ◌++◌, Option, Some, None, refl, sym, ap, ap₂, ◌∙◌, subst, ◌⊎◌, inl}
+use Rattle.std.proofs.Common.{inr, append_assoc}
 use Rattle.std.specs.Prelude.{⊤}
 use Rattle.lexical_grammar.specs.declared.TokenKind.{TokenKind}
 use Rattle.lexical_grammar.specs.declared.TokenKind.TheVariants as token
@@ -11,7 +12,8 @@ use Rattle.document_grammar.specs.Sentence.{token_of, leaf_number}
 use Rattle.document_grammar.proofs.Booleans.{either, false-true, and-i}
 use Rattle.document_grammar.specs.Booleans.{◌and◌}
 use Rattle.parser_rules.specs.State.{State, Text, Lexeme, Report, bad_report, token_limit_report, ignored, wait, bad, met}
-use Rattle.parser_rules.proofs.runs.Reading.{Reading, stops, cuts, bad_text, waits, shows, reading, reading-none, item-is, kinds-more, ignored-kinds, ignored-leaf}
+use Rattle.parser_rules.proofs.runs.Reading.{Reading, stops, cuts, bad_text, waits, shows, reading, reading-none, item-is, kinds-more, ignored-kinds}
+use Rattle.parser_rules.proofs.runs.Reading.{ignored-leaf}
 use Rattle.document_grammar.specs.Builds.{add_leaf}
 use Rattle.parser_rules.proofs.runs.Steps.{Holds_along, Keeps_reading, along-reading}
 use Rattle.parser_rules.proofs.runs.Frame.{untouched}
@@ -21,7 +23,7 @@ use Rattle.parser_rules.proofs.soundness.Settled.{Settled}
 
 -- the significant tokens of a kind and a text, of an answer, of the current token: one or none
 abbrev pub kind_tokens : TokenKind → Text → List Token
-kind_tokens k text = if is_significant_kind k then token_of (record { kind = k; text = text }) ∷ [] else []
+kind_tokens token_kind text = if is_significant_kind token_kind then token_of (record { kind = token_kind; text = text }) ∷ [] else []
 
 abbrev pub item_tokens : Option TokenKind → Text → List Token
 item_tokens None text = []
@@ -38,7 +40,7 @@ current_tokens (Some t) = kind_tokens t.kind t.text
 
 -- the significant tokens that are left
 abbrev pub rest : State → List Token
-rest s = current_tokens s.current ++ answers_tokens s.items
+rest state = current_tokens state.current ++ answers_tokens state.items
 
 abbrev pub choose : Bool → Type 0 → Type 0 → Type 0
 choose true A B = A
@@ -66,67 +68,72 @@ all_tokens (answer ∷ answers) = is_token answer and all_tokens answers
 pub all_tokens-append : (xs ys : List Answer) → all_tokens xs ≡ true → all_tokens ys ≡ true → all_tokens (xs ++ ys) ≡ true
 unfolding ◌and◌
 all_tokens-append [] ys h g = g
-all_tokens-append (x ∷ xs) ys h g = elim (either (is_token x)) [
+all_tokens-append (answer ∷ xs) ys h g = elim (either (is_token answer)) [
   | inl p ↦ rw p (all_tokens-append xs ys (rw p at h) g)
   | inr p ↦ false-true refl (rw p at h)
 ]
 
 -- reports stay, and so does what is settled of the tree
 abbrev pub Stays : State → State → Type 0
-Stays s t = (m : ℕ) → Settled m s.tree → Settled m t.tree
+Stays state after = (m : ℕ) → Settled m state.tree → Settled m after.tree
 
-pub record Grows (s t : State) : Type 0 where
-  pub reports : Reports s t
-  pub stays : Stays s t
+pub record Grows (state after : State) : Type 0 where
+  pub reports : Reports state after
+  pub stays : Stays state after
 
-pub grows-on : (s t u : State) → Grows s t → Grows t u → Grows s u
-grows-on s t u h k = record { reports = reports-then s t u h.reports k.reports; stays = λ m z. k.stays m (h.stays m z) }
+pub grows-on : (state after later : State) → Grows state after → Grows after later → Grows state later
+grows-on state after later grows second_grows = record {
+  reports = reports-then state after later grows.reports second_grows.reports;
+  stays = λ m z. second_grows.stays m (grows.stays m z);
+}
 
-reading-grows : {xs : List Answer} {s t : State} → Reading xs s t → Grows s t
-reading-grows {t = t} r = record { reports = read-reports r; stays = λ m. subst (Settled m) (sym (untouched r).tree) }
+reading-grows : {xs : List Answer} {state after : State} → Reading xs state after → Grows state after
+reading-grows {after = after} this_reading = record { reports = read-reports this_reading; stays = λ m. subst (Settled m) (sym (untouched this_reading).tree) }
 
 -- ignored tokens are no tokens of the grammar
-pub ignored-tokens : (k : TokenKind) (leaf : SyntaxKind) (text : Text) → ignored k ≡ Some leaf → kind_tokens k text ≡ []
+pub ignored-tokens : (token_kind : TokenKind) (leaf : SyntaxKind) (text : Text) → ignored token_kind ≡ Some leaf → kind_tokens token_kind text ≡ []
 ignored-tokens k leaf text = ignored-kinds (λ k own. kind_tokens k text ≡ []) refl refl refl k leaf
 
-pub ignored-end : (k : TokenKind) (leaf : SyntaxKind) → ignored k ≡ Some leaf → is_end k ≡ false
+pub ignored-end : (token_kind : TokenKind) (leaf : SyntaxKind) → ignored token_kind ≡ Some leaf → is_end token_kind ≡ false
 ignored-end = ignored-kinds (λ k own. is_end k ≡ false) refl refl refl
 
 -- ---- the current token
 
 -- the tokens that the end and any other current token give
-pub end-kind : (k : TokenKind) → is_end k ≡ true → k ≡ token.Eof
+pub end-kind : (token_kind : TokenKind) → is_end token_kind ≡ true → token_kind ≡ token.Eof
 end-kind token.Eof e = refl
 end-kind _ e = absurd cc
 
-pub shown-kind : (k : TokenKind) → ignored k ≡ None → is_significant_kind k ≡ not (is_end k)
+pub shown-kind : (token_kind : TokenKind) → ignored token_kind ≡ None → is_significant_kind token_kind ≡ not (is_end token_kind)
 shown-kind token.Whitespace i = absurd cc
 shown-kind token.Comment i = absurd cc
 shown-kind token.Comma i = absurd cc
 shown-kind token.Eof i = refl
 shown-kind _ i = refl
 
-pub significant : (k : TokenKind) (text : Text) → is_end k ≡ false → ignored k ≡ None → kind_tokens k text ≡ (leaf_number k, text) ∷ []
-significant k text e i = ap (λ (b : Bool). if b then token_of (record { kind = k; text = text }) ∷ [] else []) (shown-kind k i ∙ ap not e)
+pub significant : (token_kind : TokenKind) (text : Text) → is_end token_kind ≡ false → ignored token_kind ≡ None
+    → kind_tokens token_kind text ≡ (leaf_number token_kind, text) ∷ []
+significant token_kind text e i = ap (λ (b : Bool). if b then token_of (record { kind = token_kind; text = text }) ∷ [] else [])
+    (shown-kind token_kind i ∙ ap not e)
 
 -- the current token is the end, and nothing is left; or it is the first that is left
-pub record AtEnd (t : Lexeme) (items : List Answer) : Type 0 where
-  pub kind : t.kind ≡ token.Eof
+pub record AtEnd (lexeme : Lexeme) (items : List Answer) : Type 0 where
+  pub kind : lexeme.kind ≡ token.Eof
   pub none : items ≡ []
-  pub nothing : current_tokens (Some t) ++ answers_tokens items ≡ []
+  pub nothing : current_tokens (Some lexeme) ++ answers_tokens items ≡ []
 
-pub record AtToken (t : Lexeme) (items : List Answer) : Type 0 where
-  pub is_end : is_end t.kind ≡ false
-  pub shown : ignored t.kind ≡ None
-  pub first : current_tokens (Some t) ++ answers_tokens items ≡ (leaf_number t.kind, t.text) ∷ answers_tokens items
+pub record AtToken (lexeme : Lexeme) (items : List Answer) : Type 0 where
+  pub is_end : is_end lexeme.kind ≡ false
+  pub shown : ignored lexeme.kind ≡ None
+  pub first : current_tokens (Some lexeme) ++ answers_tokens items ≡ (leaf_number lexeme.kind, lexeme.text) ∷ answers_tokens items
 
-pub end-or-token : (t : Lexeme) (items : List Answer) → Now (Some t) items → AtEnd t items ⊎ AtToken t items
-end-or-token t items n = elim (either (is_end t.kind)) [
+pub end-or-token : (lexeme : Lexeme) (items : List Answer) → Now (Some lexeme) items → AtEnd lexeme items ⊎ AtToken lexeme items
+end-or-token lexeme items now = elim (either (is_end lexeme.kind)) [
   | inl e ↦ (
-      let k = end-kind t.kind e in
-      let none : items ≡ [] = subst (λ (b : Bool). choose b (items ≡ []) (EndsWell items)) e n.1 in
-      inl (record { kind = k; none = none; nothing = ap₂ (λ (j : TokenKind) (xs : List Answer). kind_tokens j t.text ++ answers_tokens xs) k none }))
-  | inr e ↦ inr (record { is_end = e; shown = n.0; first = ap (λ (v : List Token). v ++ answers_tokens items) (significant t.kind t.text e n.0) })
+      let k = end-kind lexeme.kind e in
+      let none : items ≡ [] = subst (λ (b : Bool). choose b (items ≡ []) (EndsWell items)) e now.1 in
+      inl (record { kind = k; none = none; nothing = ap₂ (λ (j : TokenKind) (xs : List Answer). kind_tokens j lexeme.text ++ answers_tokens xs) k none }))
+  | inr e ↦ inr (record { is_end = e; shown = now.0; first = ap (λ (v : List Token). v ++ answers_tokens items) (significant lexeme.kind lexeme.text e now.0) })
 ]
 
 -- What holds at each state of a run: the current token is shown, and the answers after it end.
@@ -134,25 +141,28 @@ abbrev pub NowOrNone : Option Lexeme → List Answer → Type 0
 NowOrNone None items = ⊤
 NowOrNone (Some t) items = Now (Some t) items
 
-pub reading-now : {xs : List Answer} {s t : State} → Reading xs s t → EndsWell xs → NowOrNone t.current t.items
-reading-now stops e = absurd e
-reading-now {t = t} (cuts h) e = subst (λ (o : Option Lexeme). NowOrNone o t.items) (sym (reading-none h e)) tt
-reading-now (bad_text i h) e = reading-now h (rw i at e)
-reading-now (waits {k = k} {own = own} i j h) e = reading-now h (rw (i, ignored-end k own j) at e)
-reading-now (shows i j) e = (j, rw i at e)
+pub reading-now : {xs : List Answer} {state after : State} → Reading xs state after → EndsWell xs → NowOrNone after.current after.items
+reading-now stops ends_well = absurd ends_well
+reading-now {after = after} (cuts this_reading) ends_well = subst (λ (o : Option Lexeme). NowOrNone o after.items)
+    (sym (reading-none this_reading ends_well)) tt
+reading-now (bad_text i this_reading) ends_well = reading-now this_reading (rw i at ends_well)
+reading-now (waits {this_token_kind = this_token_kind} {own = own} i j this_reading) ends_well =
+    reading-now this_reading (rw (i, ignored-end this_token_kind own j) at ends_well)
+reading-now (shows i j) ends_well = (j, rw i at ends_well)
 
-now-after : {xs : List Answer} {s t : State} (x : Lexeme) → Reading xs s t → Now (Some x) xs → NowOrNone t.current t.items
-now-after {t = t} x h n = elim (either (is_end x.kind)) [
-  | inl e ↦ subst (λ (o : Option Lexeme). NowOrNone o t.items) (sym (reading-none h (rw e at n.1))) tt
-  | inr e ↦ reading-now h (rw e at n.1)
+now-after : {xs : List Answer} {state after : State} (lexeme : Lexeme) → Reading xs state after → Now (Some lexeme) xs → NowOrNone after.current after.items
+now-after {after = after} lexeme this_reading now = elim (either (is_end lexeme.kind)) [
+  | inl e ↦ subst (λ (o : Option Lexeme). NowOrNone o after.items) (sym (reading-none this_reading (rw e at now.1))) tt
+  | inr e ↦ reading-now this_reading (rw e at now.1)
 ]
 
 pub now-along : Holds_along (Keeps_reading NowOrNone)
-now-along = along-reading NowOrNone (λ leaf x s e h. now-after x (reading s.items (record s { tree = add_leaf leaf x.text s.tree })) (subst (λ (o : Option Lexeme). NowOrNone o s.items) e h))
+now-along = along-reading NowOrNone (λ leaf x s e h. now-after x (reading s.items (record s { tree = add_leaf leaf x.text s.tree }))
+    (subst (λ (o : Option Lexeme). NowOrNone o s.items) e h))
 
 -- the answer that gave the current token
 abbrev pub given : Lexeme → Answer
-given t = gives (record { kind = Some t.kind; text = t.text; index = t.index })
+given lexeme = gives (record { kind = Some lexeme.kind; text = lexeme.text; index = lexeme.index })
 
 -- what is reported of an answer that is no token
 abbrev pub report_of : Answer → Report
@@ -166,11 +176,11 @@ module _ (answers : List Answer) where
     pub split : answers ≡ front ++ items
     pub tokens : all_tokens front ≡ true
 
-  pub passed-one : (x : Answer) (xs : List Answer) → is_token x ≡ true → Passed (x ∷ xs) → Passed xs
-  passed-one x xs h p = record {
-    front = p.front ++ x ∷ [];
-    split = p.split ∙ sym (append_assoc p.front (x ∷ []) xs);
-    tokens = all_tokens-append p.front (x ∷ []) p.tokens (and-i h refl);
+  pub passed-one : (answer : Answer) (xs : List Answer) → is_token answer ≡ true → Passed (answer ∷ xs) → Passed xs
+  passed-one answer xs h passed = record {
+    front = passed.front ++ answer ∷ [];
+    split = passed.split ∙ sym (append_assoc passed.front (answer ∷ []) xs);
+    tokens = all_tokens-append passed.front (answer ∷ []) passed.tokens (and-i h refl);
   }
 
   -- the same of the current token and what follows it
@@ -189,8 +199,16 @@ module _ (answers : List Answer) (Right : Report → ℕ → Type 0) where
     pub right : Right report taken
     pub settled : Settled taken st.tree
 
-  pub first-right-on : (s t : State) → Grows s t → FirstReportIsRight s → FirstReportIsRight t
-  first-right-on s t g h = record { report = h.report; more = h.more ++ g.reports.more; reported = g.reports.errors ∙ ap (λ (z : List Report). z ++ g.reports.more) h.reported; taken = h.taken; right = h.right; settled = g.stays h.taken h.settled }
+  pub first-right-on : (state after : State) → Grows state after → FirstReportIsRight state → FirstReportIsRight after
+  first-right-on state after grows h = record {
+    report = h.report;
+    more = h.more ++ grows.reports.more;
+    reported = grows.reports.errors ∙ ap (λ (z : List Report). z ++ grows.reports.more) h.reported;
+    taken = h.taken;
+    right = h.right;
+    settled =
+        grows.stays h.taken h.settled;
+  }
 
   -- nothing is reported, and what waits is ignored
   pub record Quiet (st : State) : Type 0 where
@@ -205,28 +223,50 @@ module _ (answers : List Answer) (Right : Report → ℕ → Type 0) where
 
   -- a report of an answer that is no token would be right
   abbrev pub WouldBeRight : ℕ → List Token → Type 0
-  WouldBeRight m v = (x : Answer) (ys : List Answer) → Passed answers (x ∷ ys) → is_token x ≡ false → answers_tokens ys ≡ v → Right (report_of x) m
+  WouldBeRight m tokens = (answer : Answer) (ys : List Answer) → Passed answers (answer ∷ ys) → is_token answer ≡ false → answers_tokens ys ≡ tokens
+      → Right (report_of answer) m
 
   -- the first report
-  pub first-right : (m : ℕ) (r : Report) (s t : State) → Quiet s → t.errors ≡ s.errors ++ r ∷ [] → Right r m → Settled m t.tree → FirstReportIsRight t
-  first-right m r s t q e i f = record { report = r; more = []; reported = e ∙ ap (λ (z : List Report). z ++ r ∷ []) q.clean; taken = m; right = i; settled = f }
+  pub first-right : (m : ℕ) (this_report : Report) (state after : State) → Quiet state → after.errors ≡ state.errors ++ this_report ∷ [] → Right this_report m
+      → Settled m after.tree → FirstReportIsRight after
+  first-right m this_report state after quiet e i f = record {
+    report = this_report;
+    more = [];
+    reported = e ∙ ap (λ (z : List Report). z ++ this_report ∷ []) quiet.clean;
+    taken = m;
+    right = i;
+    settled = f;
+  }
 
-  pub read-on : {xs : List Answer} {s t : State} → Reading xs s t → (m : ℕ) → Quiet s → EndsWell xs → Passed answers xs → WouldBeRight m (answers_tokens xs) → Settled m s.tree → FirstReportIsRight t ⊎ (NothingReported t × (rest t ≡ answers_tokens xs))
-  read-on stops m q e p b f = absurd e
-  read-on {s = s} {t = t} (cuts {index = index} {xs = xs} h) m q e p b f =
-      let u : State = met index (record s { items = xs }) in
-      inl (first-right-on u t (reading-grows h) (first-right m (token_limit_report index) s u q refl (b (limit_at index) xs p refl refl) f))
-  read-on {s = s} {t = t} (bad_text {item = item} {xs = xs} i h) m q e p b f =
-      let u : State = bad item.text item.index (record s { items = xs }) in
-      inl (first-right-on u t (reading-grows h) (first-right m (bad_report item.text item.index) s u q refl (b (gives item) xs p (rw i refl) (rw i refl)) f))
-  read-on {s = s} (waits {item = item} {k = k} {own = own} {xs = xs} i j h) m q e p b f =
-      let same : answers_tokens (gives item ∷ xs) ≡ answers_tokens xs = rw (i, ignored-tokens k own item.text j) refl in
-      let quiet : Quiet (wait own item.text (record s { items = xs })) = record { clean = q.clean; accepts = q.accepts; waits = kinds-more _ _ (record { kind = own; text = item.text }) q.waits (ignored-leaf k own j) } in
-      elim (read-on h m quiet (rw (i, ignored-end k own j) at e) (passed-one answers (gives item) xs (rw i refl) p) (subst (WouldBeRight m) same b) f) [
+  pub read-on : {xs : List Answer} {state after : State} → Reading xs state after → (m : ℕ) → Quiet state → EndsWell xs → Passed answers xs
+      → WouldBeRight m (answers_tokens xs) → Settled m state.tree → FirstReportIsRight after ⊎ (NothingReported after × (rest after ≡ answers_tokens xs))
+  read-on stops m q ends_well passed would_be_right settled = absurd ends_well
+  read-on {state = state} {after = after} (cuts {index = index} {xs = xs} this_reading) m q ends_well passed would_be_right settled =
+      let later : State = met index (record state { items = xs }) in
+      inl (first-right-on later after (reading-grows this_reading) (first-right m (token_limit_report index) state later q refl
+      (would_be_right (limit_at index) xs passed refl refl) settled))
+  read-on {state = state} {after = after} (bad_text {item = item} {xs = xs} i this_reading) m q ends_well passed would_be_right settled =
+      let later : State = bad item.text item.index (record state { items = xs }) in
+      inl (first-right-on later after (reading-grows this_reading) (first-right m (bad_report item.text item.index) state later q refl
+      (would_be_right (gives item) xs passed (rw i refl) (rw i refl)) settled))
+  read-on {state = state} (waits {item = item} {this_token_kind = this_token_kind} {own = own} {xs = xs} i j this_reading) m q ends_well passed would_be_right
+      settled =
+      let same : answers_tokens (gives item ∷ xs) ≡ answers_tokens xs = rw (i, ignored-tokens this_token_kind own item.text j) refl in
+      let quiet : Quiet (wait own item.text (record state { items = xs })) = record {
+        clean = q.clean;
+        accepts = q.accepts;
+        waits = kinds-more _ _ (record { kind = own; text = item.text }) q.waits (ignored-leaf this_token_kind own j);
+      } in
+      elim (read-on this_reading m quiet (rw (i, ignored-end this_token_kind own j) at ends_well) (passed-one answers (gives item) xs (rw i refl) passed)
+      (subst (WouldBeRight m) same would_be_right) settled) [
         | inl o ↦ inl o
         | inr o ↦ inr (o.0, o.1 ∙ sym same)
       ]
-  read-on (shows {item = item} {k = k} {xs = xs} i j) m q e p b f = inr (
-    record { quiet = record { clean = q.clean; accepts = q.accepts; waits = q.waits }; now = (j, rw i at e); held = subst (λ (x : Item). Passed answers (gives x ∷ xs)) (sym (item-is item k i)) p },
+  read-on (shows {item = item} {this_token_kind = this_token_kind} {xs = xs} i j) m q ends_well passed would_be_right settled = inr (
+    record {
+      quiet = record { clean = q.clean; accepts = q.accepts; waits = q.waits };
+      now = (j, rw i at ends_well);
+      held = subst (λ (x : Item). Passed answers (gives x ∷ xs)) (sym (item-is item this_token_kind i)) passed;
+    },
     rw i refl,
   )

@@ -13,21 +13,21 @@ EndNow None items = items ≡ []
 EndNow (Some x) items = is_end x.kind ≡ true → items ≡ []
 
 abbrev pub EndsAt : Option Lexeme → List Answer → Type 0
-EndsAt o items = record { answers : AreAnswers items; now : EndNow o items }
+EndsAt found items = record { answers : AreAnswers items; now : EndNow found items }
 
 abbrev pub Ends : State → Type 0
-Ends s = EndsAt s.current s.items
+Ends state = EndsAt state.current state.items
 
-reading-ends : {xs : List Answer} {s t : State} → Reading xs s t → s.items ≡ xs → AreAnswers xs → Ends t
+reading-ends : {xs : List Answer} {state after : State} → Reading xs state after → state.items ≡ xs → AreAnswers xs → Ends after
 unfolding EndNow
-reading-ends stops e h = record { answers = subst AreAnswers (sym e) tt; now = e }
-reading-ends (cuts r) e h = reading-ends r refl (subst AreAnswers (sym h) tt)
-reading-ends (bad_text i r) e h = reading-ends r refl h.2
-reading-ends (waits i j r) e h = reading-ends r refl h.2
-reading-ends {xs = gives item ∷ xs} (shows i j) e h = record { answers = h.2; now = subst (λ found. IsLast found xs) i h.1 }
+reading-ends stops e are_answers = record { answers = subst AreAnswers (sym e) tt; now = e }
+reading-ends (cuts this_reading) e are_answers = reading-ends this_reading refl (subst AreAnswers (sym are_answers) tt)
+reading-ends (bad_text i this_reading) e are_answers = reading-ends this_reading refl are_answers.2
+reading-ends (waits i j this_reading) e are_answers = reading-ends this_reading refl are_answers.2
+reading-ends {xs = gives item ∷ xs} (shows i j) e are_answers = record { answers = are_answers.2; now = subst (λ found. IsLast found xs) i are_answers.1 }
 
-pub read-ends : (xs : List Answer) (s : State) → s.items ≡ xs → AreAnswers xs → Ends (read_on xs s)
-read-ends xs s = reading-ends (reading xs s)
+pub read-ends : (xs : List Answer) (state : State) → state.items ≡ xs → AreAnswers xs → Ends (read_on xs state)
+read-ends xs state = reading-ends (reading xs state)
 
-pub ends : {r : Rule} {s t : State} → Runs r s t → Ends s → Ends t
+pub ends : {rule : Rule} {state after : State} → Runs rule state after → Ends state → Ends after
 ends h = along (along-reading EndsAt (λ leaf x s e h. read-ends s.items (record s { tree = add_leaf leaf x.text s.tree }) refl h.answers)) h

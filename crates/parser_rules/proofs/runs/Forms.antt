@@ -11,45 +11,54 @@ use Rattle.parser_rules.specs.Runs.{Runs, skip, does, seq, yes, no, child}
 use Rattle.parser_rules.proofs.runs.Frame.{read-closed}
 
 -- a report where the test fails, and what follows
-pub wanted : {q : Test} {m : Message} {c : Rule} {s t u : State} → Runs (want q m) s t → Runs c t u → Runs (When q c (Seq (Do (Note m)) c)) s u
-wanted (yes e skip) k = yes e k
-wanted (no e h) k = no e (seq h k)
+pub wanted : {test : Test} {message : Message} {rule : Rule} {state after later : State} → Runs (want test message) state after → Runs rule after later
+    → Runs (When test rule (Seq (Do (Note message)) rule)) state later
+wanted (yes e skip) run = yes e run
+wanted (no e run) second_run = no e (seq run second_run)
 
 -- one leaf in any case, and what follows
-pub chosen : {q : Test} {a b : Prim} {c : Rule} {s t u : State} → Runs (When q (Do a) (Do b)) s t → Runs c t u → Runs (When q (Seq (Do a) c) (Seq (Do b) c)) s u
-chosen (yes e h) k = yes e (seq h k)
-chosen (no e h) k = no e (seq h k)
+pub chosen : {test : Test} {primitive b : Prim} {rule : Rule} {state after later : State} → Runs (When test (Do primitive) (Do b)) state after
+    → Runs rule after later → Runs (When test (Seq (Do primitive) rule) (Seq (Do b) rule)) state later
+chosen (yes e run) second_run = yes e (seq run second_run)
+chosen (no e run) second_run = no e (seq run second_run)
 
 -- one leaf, if it is there, and what follows
-pub optional : {q : Test} {a : Prim} {c : Rule} {s t u : State} → Runs (When q (Do a) Skip) s t → Runs c t u → Runs (When q (Seq (Do a) c) c) s u
-optional (yes e h) k = yes e (seq h k)
-optional (no e skip) k = no e k
+pub optional : {test : Test} {primitive : Prim} {rule : Rule} {state after later : State} → Runs (When test (Do primitive) Skip) state after
+    → Runs rule after later → Runs (When test (Seq (Do primitive) rule) rule) state later
+optional (yes e run) second_run = yes e (seq run second_run)
+optional (no e skip) second_run = no e second_run
 
 -- a node of one leaf may be closed before the next token is read
-pub one-leaf : (node leaf : SyntaxKind) (s f n t : State) (x : Lexeme) (text : Text)
-    → s.current ≡ Some x → text ≡ x.text → f ≡ flush s → n ≡ record f { tree = finish (add_leaf leaf text (start node f.tree)) } → t ≡ read_on n.items n → t ≡ closed (bump leaf (opened node s))
+pub one-leaf : (node leaf : SyntaxKind) (state after later next_state : State) (lexeme : Lexeme) (text : Text)
+    → state.current ≡ Some lexeme → text ≡ lexeme.text → after ≡ flush state
+    → later ≡ record after { tree = finish (add_leaf leaf text (start node after.tree)) } → next_state ≡ read_on later.items later
+    → next_state ≡ closed (bump leaf (opened node state))
 unfolding flush opened closed bump
-one-leaf node leaf s f n t x text c w a b e =
-    e ∙ ap (λ (n : State). read_on n.items n) (b ∙ ap (λ (f : State). record f { tree = finish (add_leaf leaf text (start node f.tree)) }) a)
-    ∙ ap (λ (y : Text). read_on s.items (record (flush s) { tree = finish (add_leaf leaf y (start node (flush s).tree)) })) w
-    ∙ sym (read-closed s.items (record (flush s) { tree = add_leaf leaf x.text (start node (flush s).tree) }))
-    ∙ ap (λ o. closed (moved leaf (opened node s) o)) (sym c)
+one-leaf node leaf state after later next_state lexeme text c w a b e =
+    e ∙ ap (λ (later : State). read_on later.items later) (b ∙ ap (λ (after : State). record after
+    { tree = finish (add_leaf leaf text (start node after.tree)) }) a)
+    ∙ ap (λ (y : Text). read_on state.items (record (flush state) { tree = finish (add_leaf leaf y (start node (flush state).tree)) })) w
+    ∙ sym (read-closed state.items (record (flush state) { tree = add_leaf leaf lexeme.text (start node (flush state).tree) }))
+    ∙ ap (λ o. closed (moved leaf (opened node state) o)) (sym c)
 
 -- what a step does to a node of one leaf is a run of the node's rule
-pub leaf_run : (n : Node) (k leaf : SyntaxKind) {s t : State} → t ≡ closed (bump leaf (opened k s)) → kind_of n ≡ k → inside n ≡ Do (Bump leaf) → Runs (Child n) s t
+pub leaf_run : (node : Node) (kind leaf : SyntaxKind) {state after : State} → after ≡ closed (bump leaf (opened kind state)) → kind_of node ≡ kind
+    → inside node ≡ Do (Bump leaf) → Runs (Child node) state after
 unfolding step
-leaf_run n k leaf {s = s} e m i =
-    child refl (e ∙ ap (λ j. closed (bump leaf (opened j s))) (sym m)) (subst (λ (a : Rule). Runs a (opened (kind_of n) s) (bump leaf (opened (kind_of n) s))) (sym i) (does refl))
+leaf_run node kind leaf {state = state} e m i =
+    child refl (e ∙ ap (λ j. closed (bump leaf (opened j state))) (sym m))
+    (subst (λ (a : Rule). Runs a (opened (kind_of node) state) (bump leaf (opened (kind_of node) state))) (sym i) (does refl))
 
 -- a node whose rule ran from where it was opened
-pub in-node : {n : Node} {s u v : State} → v ≡ closed u → Runs (inside n) (opened (kind_of n) s) u → Runs (Child n) s v
-in-node e h = child refl e h
+pub in-node : {node : Node} {state later last : State} → last ≡ closed later → Runs (inside node) (opened (kind_of node) state) later
+    → Runs (Child node) state last
+in-node e run = child refl e run
 
 -- a name is also one for a fragment, and one for an enum's value
-pub for-fragment : {s t : State} → Runs (Child Name) s t → Runs (Child NameForFragment) s t
+pub for-fragment : {state after : State} → Runs (Child Name) state after → Runs (Child NameForFragment) state after
 unfolding inside
-for-fragment (child e f h) = child e f h
+for-fragment (child e f run) = child e f run
 
-pub for-enum : {s t : State} → Runs (Child Name) s t → Runs (Child NameForEnum) s t
+pub for-enum : {state after : State} → Runs (Child Name) state after → Runs (Child NameForEnum) state after
 unfolding inside
-for-enum (child e f h) = child e f h
+for-enum (child e f run) = child e f run

@@ -8,7 +8,8 @@ use Rattle.document_grammar.specs.Builds.{Building, nothing, start, add_leaf, bu
 use Rattle.document_grammar.specs.Forests.{none as no_trees, Forest, join}
 use Rattle.document_grammar.specs.Forests as built
 use Rattle.document_grammar.proofs.Added.{Added, added-none, added-leaf, added-then, added-node, added-wrap, place-last, place-added}
-use Rattle.parser_rules.specs.State.{State, Text, Lexeme, PendingToken, read_on, add_all, flush, opened, closed, wrapped_from, is_at, is_deep, enter, leave, too_deep, fresh, begun}
+use Rattle.parser_rules.specs.State.{State, Text, Lexeme, PendingToken, read_on, add_all, flush, opened, closed, wrapped_from, is_at, is_deep, enter, leave}
+use Rattle.parser_rules.specs.State.{too_deep, fresh, begun}
 use Rattle.parser_rules.specs.Open.{is_free, is_free_in, IsOpen, IsCheckpoint, IsInside, IsRoot}
 use Rattle.parser_rules.specs.RuleLanguage.{Test, At, holds, Rule, Skip, While}
 use Rattle.parser_rules.specs.Runs.{Runs, done, again, refused, Turns, begin, turn}
@@ -19,29 +20,36 @@ use Rattle.parser_rules.proofs.runs.Steps.{Holds_along, along, turns-along}
 
 -- what reading on leaves as it is
 abbrev pub Untouched : State → State → Type 0
-Untouched s t = record { tree : t.tree ≡ s.tree; depth : t.depth ≡ s.depth; limit : t.limit ≡ s.limit; high : t.high ≡ s.high; asked : t.asked ≡ s.asked; budget : t.budget ≡ s.budget }
+Untouched state after = record {
+  tree : after.tree ≡ state.tree;
+  depth : after.depth ≡ state.depth;
+  limit : after.limit ≡ state.limit;
+  high : after.high ≡ state.high;
+  asked : after.asked ≡ state.asked;
+  budget : after.budget ≡ state.budget;
+}
 
-pub untouched : {xs : List Answer} {s t : State} → Reading xs s t → Untouched s t
+pub untouched : {xs : List Answer} {state after : State} → Reading xs state after → Untouched state after
 untouched stops = record { tree = refl; depth = refl; limit = refl; high = refl; asked = refl; budget = refl }
-untouched (cuts h) = untouched h
-untouched (bad_text e h) = untouched h
-untouched (waits e i h) = untouched h
+untouched (cuts this_reading) = untouched this_reading
+untouched (bad_text e this_reading) = untouched this_reading
+untouched (waits e i this_reading) = untouched this_reading
 untouched (shows e i) = record { tree = refl; depth = refl; limit = refl; high = refl; asked = refl; budget = refl }
 
-pub read-untouched : (xs : List Answer) (s : State) → Untouched s (read_on xs s)
-read-untouched xs s = untouched (reading xs s)
+pub read-untouched : (xs : List Answer) (state : State) → Untouched state (read_on xs state)
+read-untouched xs state = untouched (reading xs state)
 
-closes : {xs : List Answer} {s t : State} → Reading xs s t → Reading xs (closed s) (closed t)
+closes : {xs : List Answer} {state after : State} → Reading xs state after → Reading xs (closed state) (closed after)
 unfolding closed
 closes stops = stops
-closes (cuts h) = cuts (closes h)
-closes (bad_text e h) = bad_text e (closes h)
-closes (waits e i h) = waits e i (closes h)
+closes (cuts this_reading) = cuts (closes this_reading)
+closes (bad_text e this_reading) = bad_text e (closes this_reading)
+closes (waits e i this_reading) = waits e i (closes this_reading)
 closes (shows e i) = shows e i
 
 -- reading on and closing a node commute
-pub read-closed : (xs : List Answer) (s : State) → closed (read_on xs s) ≡ read_on xs (closed s)
-read-closed xs s = sym (found (closes (reading xs s))).is
+pub read-closed : (xs : List Answer) (state : State) → closed (read_on xs state) ≡ read_on xs (closed state)
+read-closed xs state = sym (found (closes (reading xs state))).is
 
 -- how much is left to read
 abbrev pub one_if : Option Lexeme → ℕ
@@ -49,74 +57,77 @@ one_if None = 0
 one_if (Some _) = 1
 
 unfoldable pub left : State → ℕ
-left s = one_if s.current + length s.items
+left state = one_if state.current + length state.items
 
-pub read-left : {xs : List Answer} {s t : State} → Reading xs s t → s.items ≡ xs → left t ≤ length xs
+pub read-left : {xs : List Answer} {state after : State} → Reading xs state after → state.items ≡ xs → left after ≤ length xs
 unfolding left
-read-left {s = s} stops e = let n : length s.items ≡ 0 = ap length e in omega arith
-read-left (cuts h) e = let f = read-left h refl in omega (arith, f)
-read-left (bad_text i h) e = let f = read-left h refl in omega (arith, f)
-read-left (waits i j h) e = let f = read-left h refl in omega (arith, f)
+read-left {state = state} stops e = let n : length state.items ≡ 0 = ap length e in omega arith
+read-left (cuts this_reading) e = let f = read-left this_reading refl in omega (arith, f)
+read-left (bad_text i this_reading) e = let f = read-left this_reading refl in omega (arith, f)
+read-left (waits i j this_reading) e = let f = read-left this_reading refl in omega (arith, f)
 read-left (shows i j) e = omega arith
 
-pub moved-left : (leaf : SyntaxKind) (x : Lexeme) (s : State) → s.current ≡ Some x → left (read_on s.items (record s { tree = add_leaf leaf x.text s.tree })) < left s
+pub moved-left : (leaf : SyntaxKind) (lexeme : Lexeme) (state : State) → state.current ≡ Some lexeme
+    → left (read_on state.items (record state { tree = add_leaf leaf lexeme.text state.tree })) < left state
 unfolding left
-moved-left leaf x s e =
-    let h = read-left (reading s.items (record s { tree = add_leaf leaf x.text s.tree })) refl in
-    let c : one_if s.current ≡ 1 = ap one_if e in
+moved-left leaf lexeme state e =
+    let h = read-left (reading state.items (record state { tree = add_leaf leaf lexeme.text state.tree })) refl in
+    let c : one_if state.current ≡ 1 = ap one_if e in
     omega (arith, h)
 
 -- ---- the levels, and what is left to read
 
 abbrev pub Keeps : State → State → Type 0
-Keeps s t = record {
-  fewer : left t ≤ left s;
-  depth : t.depth ≡ s.depth;
-  limit : t.limit ≡ s.limit;
-  asked : t.asked ≡ s.asked;
-  budget : t.budget ≡ s.budget;
-  higher : s.high ≤ t.high;
-  bound : s.depth ≤ s.limit → s.high ≤ s.limit + 1 → t.high ≤ s.limit + 1;
+Keeps state after = record {
+  fewer : left after ≤ left state;
+  depth : after.depth ≡ state.depth;
+  limit : after.limit ≡ state.limit;
+  asked : after.asked ≡ state.asked;
+  budget : after.budget ≡ state.budget;
+  higher : state.high ≤ after.high;
+  bound : state.depth ≤ state.limit → state.high ≤ state.limit + 1 → after.high ≤ state.limit + 1;
 }
 
-same-levels : (s t : State) → left t ≤ left s → t.depth ≡ s.depth → t.limit ≡ s.limit → t.high ≡ s.high → t.asked ≡ s.asked → t.budget ≡ s.budget → Keeps s t
-same-levels s t f d l h n b = record { fewer = f; depth = d; limit = l; asked = n; budget = b; higher = omega arith; bound = λ y c. omega arith }
+same-levels : (state after : State) → left after ≤ left state → after.depth ≡ state.depth → after.limit ≡ state.limit → after.high ≡ state.high
+    → after.asked ≡ state.asked → after.budget ≡ state.budget → Keeps state after
+same-levels state after f d l h n b = record { fewer = f; depth = d; limit = l; asked = n; budget = b; higher = omega arith; bound = λ y c. omega arith }
 
-same : (s : State) → Keeps s s
-same s = same-levels s s (omega arith) refl refl refl refl refl
+same : (state : State) → Keeps state state
+same state = same-levels state state (omega arith) refl refl refl refl refl
 
-next : (s t u : State) → Keeps s t → Keeps t u → Keeps s u
-next s t u h k = record {
-  fewer = let a = h.fewer in let b = k.fewer in omega (arith, a, b);
-  depth = k.depth ∙ h.depth;
-  limit = k.limit ∙ h.limit;
-  asked = k.asked ∙ h.asked;
-  budget = k.budget ∙ h.budget;
-  higher = let a = h.higher in let b = k.higher in omega (arith, a, b);
-  bound = λ d c. let e = h.depth in let l = h.limit in let b = h.bound d c in let g = k.bound (omega arith) (omega arith) in omega arith;
+next : (state after later : State) → Keeps state after → Keeps after later → Keeps state later
+next state after later kept second_kept = record {
+  fewer = let a = kept.fewer in let b = second_kept.fewer in omega (arith, a, b);
+  depth = second_kept.depth ∙ kept.depth;
+  limit = second_kept.limit ∙ kept.limit;
+  asked = second_kept.asked ∙ kept.asked;
+  budget = second_kept.budget ∙ kept.budget;
+  higher = let a = kept.higher in let b = second_kept.higher in omega (arith, a, b);
+  bound = λ d c. let e = kept.depth in let l = kept.limit in let b = kept.bound d c in let g = second_kept.bound (omega arith) (omega arith) in omega arith;
 }
 
-moves : (leaf : SyntaxKind) (x : Lexeme) (s : State) → s.current ≡ Some x → Keeps s (read_on s.items (record s { tree = add_leaf leaf x.text s.tree }))
-moves leaf x s e =
-    let t : State = record s { tree = add_leaf leaf x.text s.tree } in
-    let u = read-untouched s.items t in
-    let f = moved-left leaf x s e in
-    same-levels s (read_on s.items t) (omega (arith, f)) u.depth u.limit u.high u.asked u.budget
+moves : (leaf : SyntaxKind) (lexeme : Lexeme) (state : State) → state.current ≡ Some lexeme
+    → Keeps state (read_on state.items (record state { tree = add_leaf leaf lexeme.text state.tree }))
+moves leaf lexeme state e =
+    let after : State = record state { tree = add_leaf leaf lexeme.text state.tree } in
+    let u = read-untouched state.items after in
+    let f = moved-left leaf lexeme state e in
+    same-levels state (read_on state.items after) (omega (arith, f)) u.depth u.limit u.high u.asked u.budget
 
-pub not-deep : (s : State) → false ≡ is_deep s → s.depth < s.limit
+pub not-deep : (state : State) → false ≡ is_deep state → state.depth < state.limit
 unfolding is_deep
-not-deep s e = leb-false s.limit s.depth (sym e)
+not-deep state e = leb-false state.limit state.depth (sym e)
 
-levels : (s u : State) → false ≡ is_deep s → Keeps (enter s) u → Keeps s (leave u)
+levels : (state later : State) → false ≡ is_deep state → Keeps (enter state) later → Keeps state (leave later)
 unfolding enter leave left
-levels s u q h = record {
-  fewer = h.fewer;
-  depth = let d = h.depth in omega (arith, d);
-  limit = h.limit;
-  asked = h.asked;
-  budget = h.budget;
-  higher = let a = h.higher in omega (arith, a);
-  bound = λ d c. let n = not-deep s q in h.bound (omega arith) (omega arith);
+levels state later q kept = record {
+  fewer = kept.fewer;
+  depth = let d = kept.depth in omega (arith, d);
+  limit = kept.limit;
+  asked = kept.asked;
+  budget = kept.budget;
+  higher = let a = kept.higher in omega (arith, a);
+  bound = λ d c. let n = not-deep state q in kept.bound (omega arith) (omega arith);
 }
 
 pub keeps_along : Holds_along Keeps
@@ -135,40 +146,43 @@ keeps_along = record {
 }
 
 -- no run leaves a level open, or leaves one that it did not enter
-pub keeps : {r : Rule} {s t : State} → Runs r s t → Keeps s t
-keeps h = along keeps_along h
+pub keeps : {rule : Rule} {state after : State} → Runs rule state after → Keeps state after
+keeps run = along keeps_along run
 
-pub turned : {q : Test} {a : Rule} {s t : State} → Turns q a s t → Keeps s t
-turned h = turns-along keeps_along h
+pub turned : {test : Test} {rule : Rule} {state after : State} → Turns test rule state after → Keeps state after
+turned turns = turns-along keeps_along turns
 
 -- also where a loop ends early
-pub budget-in-loop : {q : Test} {a : Rule} {s t : State} → Turns q a s t → t.budget ≡ s.budget
-budget-in-loop h = (turned h).budget
+pub budget-in-loop : {test : Test} {rule : Rule} {state after : State} → Turns test rule state after → after.budget ≡ state.budget
+budget-in-loop turns = (turned turns).budget
 
-pub fewer : {r : Rule} {s t : State} → Runs r s t → left t ≤ left s
-fewer h = (keeps h).fewer
+pub fewer : {rule : Rule} {state after : State} → Runs rule state after → left after ≤ left state
+fewer run = (keeps run).fewer
 
 -- ---- what is added
 
 -- each run only adds trees to the open node
-pub record Adds (s t : State) : Type 0 where
+pub record Adds (state after : State) : Type 0 where
   pub more : Forest
-  pub trees : Added more s.tree t.tree
+  pub trees : Added more state.tree after.tree
 
 abbrev pub parts_forest : List PendingToken → Forest
 parts_forest [] = built.none
-parts_forest (p ∷ parts) = built.leaf p.kind p.text (parts_forest parts)
+parts_forest (pending_token ∷ parts) = built.leaf pending_token.kind pending_token.text (parts_forest parts)
 
-pub added-all : (parts : List PendingToken) (b : Building) → Added (parts_forest parts) b (add_all parts b)
-added-all [] b = added-none b
-added-all (p ∷ parts) b = added-then (added-leaf p.kind p.text b) (added-all parts (add_leaf p.kind p.text b))
+pub added-all : (parts : List PendingToken) (building : Building) → Added (parts_forest parts) building (add_all parts building)
+added-all [] building = added-none building
+added-all (pending_token ∷ parts) building = added-then (added-leaf pending_token.kind pending_token.text building)
+    (added-all parts (add_leaf pending_token.kind pending_token.text building))
 
-pub add_all-above : (parts : List PendingToken) (b : Building) → (add_all parts b).above ≡ b.above
-add_all-above parts b = (added-all parts b).above
+pub add_all-above : (parts : List PendingToken) (building : Building) → (add_all parts building).above ≡ building.above
+add_all-above parts building = (added-all parts building).above
 
 -- a leaf that is taken, after reading on
-pub added-read : (k : SyntaxKind) (x : Text) (s : State) → Added (built.leaf k x built.none) s.tree (read_on s.items (record s { tree = add_leaf k x s.tree })).tree
-added-read k x s = subst (Added (built.leaf k x built.none) s.tree) (sym (read-untouched s.items (record s { tree = add_leaf k x s.tree })).tree) (added-leaf k x s.tree)
+pub added-read : (kind : SyntaxKind) (text : Text) (state : State) → Added (built.leaf kind text built.none) state.tree
+    (read_on state.items (record state { tree = add_leaf kind text state.tree })).tree
+added-read kind text state = subst (Added (built.leaf kind text built.none) state.tree)
+    (sym (read-untouched state.items (record state { tree = add_leaf kind text state.tree })).tree) (added-leaf kind text state.tree)
 
 abbrev pub adds_along : Holds_along Adds
 unfolding flush enter leave closed wrapped_from
@@ -185,97 +199,106 @@ adds_along = record {
   wraps = λ k t u w h l. record { more = built.node k (join h.more l.more) built.none; trees = added-node k (added-then (added-wrap k h.trees) l.trees) };
 }
 
-pub adds : {r : Rule} {s t : State} → Runs r s t → Adds s t
-adds h = along adds_along h
+pub adds : {rule : Rule} {state after : State} → Runs rule state after → Adds state after
+adds run = along adds_along run
 
 -- ---- what closing a node and leaving a level require: steps that `search` chains
 
-pub is-open : (k : SyntaxKind) (s : State) {t : State} → is_free k ≡ true → t ≡ opened k s → IsOpen t.tree
+pub is-open : (kind : SyntaxKind) (state : State) {after : State} → is_free kind ≡ true → after ≡ opened kind state → IsOpen after.tree
 unfolding opened IsOpen
-is-open k s free e = subst (λ w. is_free_in w.tree.above ≡ true) (sym e) free
+is-open kind state free e = subst (λ w. is_free_in w.tree.above ≡ true) (sym e) free
 
-pub still-open : {r : Rule} {s t : State} → Runs r s t → IsOpen s.tree → IsOpen t.tree
+pub still-open : {rule : Rule} {state after : State} → Runs rule state after → IsOpen state.tree → IsOpen after.tree
 unfolding IsOpen
-still-open h o = subst (λ above. is_free_in above ≡ true) (sym (adds h).trees.above) o
+still-open run is_open = subst (λ above. is_free_in above ≡ true) (sym (adds run).trees.above) is_open
 
-pub open-in-node : (k : SyntaxKind) (s : State) {r : Rule} {t : State} → is_free k ≡ true → Runs r (opened k s) t → IsOpen t.tree
-open-in-node k s free h = still-open h (is-open k s free refl)
+pub open-in-node : (kind : SyntaxKind) (state : State) {rule : Rule} {after : State} → is_free kind ≡ true → Runs rule (opened kind state) after
+    → IsOpen after.tree
+open-in-node kind state free run = still-open run (is-open kind state free refl)
 
-pub open-in-loop : {q : Test} {a : Rule} {s t : State} → Turns q a s t → IsOpen s.tree → IsOpen t.tree
+pub open-in-loop : {test : Test} {rule : Rule} {state after : State} → Turns test rule state after → IsOpen state.tree → IsOpen after.tree
 unfolding IsOpen
-open-in-loop h o = subst (λ above. is_free_in above ≡ true) (sym (turns-along adds_along h).trees.above) o
+open-in-loop turns is_open = subst (λ above. is_free_in above ≡ true) (sym (turns-along adds_along turns).trees.above) is_open
 
-pub open-inside : (s : State) {t : State} → t ≡ enter s → IsOpen s.tree → IsOpen t.tree
+pub open-inside : (state : State) {after : State} → after ≡ enter state → IsOpen state.tree → IsOpen after.tree
 unfolding IsOpen enter
-open-inside s e o = subst (λ w. is_free_in w.tree.above ≡ true) (sym e) o
+open-inside state e is_open = subst (λ w. is_free_in w.tree.above ≡ true) (sym e) is_open
 
-pub open-outside : (s : State) {t : State} → t ≡ leave s → IsOpen s.tree → IsOpen t.tree
+pub open-outside : (state : State) {after : State} → after ≡ leave state → IsOpen state.tree → IsOpen after.tree
 unfolding IsOpen leave
-open-outside s e o = subst (λ w. is_free_in w.tree.above ≡ true) (sym e) o
+open-outside state e is_open = subst (λ w. is_free_in w.tree.above ≡ true) (sym e) is_open
 
-pub open-too-deep : (s : State) {t : State} → true ≡ is_deep s → t ≡ too_deep s → IsOpen s.tree → IsOpen t.tree
-open-too-deep s q e o = still-open (refused {a = Skip} {b = Skip} q e) o
+pub open-too-deep : (state : State) {after : State} → true ≡ is_deep state → after ≡ too_deep state → IsOpen state.tree → IsOpen after.tree
+open-too-deep state q e is_open = still-open (refused {rule = Skip} {other_rule = Skip} q e) is_open
 
-pub is-inside : (s : State) {t : State} → t ≡ enter s → IsInside t
+pub is-inside : (state : State) {after : State} → after ≡ enter state → IsInside after
 unfolding enter IsInside
-is-inside s e = subst (λ w. 0 < w.depth) (sym e) (omega arith)
+is-inside state e = subst (λ w. 0 < w.depth) (sym e) (omega arith)
 
-pub still-inside : {r : Rule} {s t : State} → Runs r s t → IsInside s → IsInside t
+pub still-inside : {rule : Rule} {state after : State} → Runs rule state after → IsInside state → IsInside after
 unfolding IsInside
-still-inside h i = let k = (keeps h).depth in omega (arith, i, k)
+still-inside run is_inside = let k = (keeps run).depth in omega (arith, is_inside, k)
 
-pub open-wrapped : (k : SyntaxKind) (place : ℕ) (s : State) {t : State} → is_free k ≡ true → t ≡ wrapped_from place k s → IsOpen t.tree
+pub open-wrapped : (kind : SyntaxKind) (place : ℕ) (state : State) {after : State} → is_free kind ≡ true → after ≡ wrapped_from place kind state
+    → IsOpen after.tree
 unfolding wrapped_from IsOpen
-open-wrapped k place s free e = subst (λ w. is_free_in w.tree.above ≡ true) (sym e) free
+open-wrapped kind place state free e = subst (λ w. is_free_in w.tree.above ≡ true) (sym e) free
 
 -- the place after all that is built
-pub is-checkpoint : (s : State) (place : ℕ) → place ≡ built_count s.tree → IsCheckpoint place s.tree
+pub is-checkpoint : (state : State) (place : ℕ) → place ≡ built_count state.tree → IsCheckpoint place state.tree
 unfolding IsCheckpoint
-is-checkpoint s place e = subst (λ n. IsPlace n s.tree) (sym e) (place-last s.tree)
+is-checkpoint state place e = subst (λ n. IsPlace n state.tree) (sym e) (place-last state.tree)
 
-pub still-checkpoint : (place : ℕ) {r : Rule} {s t : State} → Runs r s t → IsCheckpoint place s.tree → IsCheckpoint place t.tree
+pub still-checkpoint : (place : ℕ) {rule : Rule} {state after : State} → Runs rule state after → IsCheckpoint place state.tree → IsCheckpoint place after.tree
 unfolding IsCheckpoint
-still-checkpoint place h m = place-added place (adds h).trees m
+still-checkpoint place run is_checkpoint = place-added place (adds run).trees is_checkpoint
 
 -- a token that is there is still there in a node that was opened
-pub still-at : (k : SyntaxKind) (kind : TokenKind) (s : State) {t : State} → true ≡ holds (At kind) s → t ≡ opened k s → true ≡ holds (At kind) t
+pub still-at : (this_kind : SyntaxKind) (kind : TokenKind) (state : State) {after : State} → true ≡ holds (At kind) state → after ≡ opened this_kind state
+    → true ≡ holds (At kind) after
 unfolding opened flush holds
-still-at k kind s e o = e ∙ sym (ap (λ w. is_at kind w.current) o)
+still-at this_kind kind state e o = e ∙ sym (ap (λ w. is_at kind w.current) o)
 
 -- ---- loops
 
-pub onto : {q : Test} {a : Rule} {s t u : State} → Turns q a s t → Runs (While q a) t u → Runs (While q a) s u
-onto begin k = k
-onto (turn h q r) k = onto h (again q r k)
+pub onto : {test : Test} {rule : Rule} {state after later : State} → Turns test rule state after → Runs (While test rule) after later
+    → Runs (While test rule) state later
+onto begin run = run
+onto (turn turns q run) second_run = onto turns (again q run second_run)
 
 -- a loop that ends ran
-pub ended : {q : Test} {a : Rule} {s t : State} → Turns q a s t → false ≡ holds q t → Runs (While q a) s t
-ended h q = onto h (done q)
+pub ended : {test : Test} {rule : Rule} {state after : State} → Turns test rule state after → false ≡ holds test after → Runs (While test rule) state after
+ended turns q = onto turns (done q)
 
 -- ---- the root
 
-pub root-open : (items : List Answer) (limit : ℕ) (k : SyntaxKind) → (begun items limit k).tree ≡ start k nothing
-root-open items limit k = (read-untouched items (fresh items limit k)).tree
+pub root-open : (items : List Answer) (limit : ℕ) (kind : SyntaxKind) → (begun items limit kind).tree ≡ start kind nothing
+root-open items limit kind = (read-untouched items (fresh items limit kind)).tree
 
 -- the root is open to the end, and no other node
-pub root-stays : {r : Rule} {t : State} (items : List Answer) (limit : ℕ) (k : SyntaxKind) → Runs r (begun items limit k) t → t.tree.above ≡ record { before = no_trees; kind = k } ∷ []
-root-stays items limit k h = (adds h).trees.above ∙ ap (λ b. b.above) (root-open items limit k)
+pub root-stays : {rule : Rule} {state : State} (items : List Answer) (limit : ℕ) (this_kind : SyntaxKind) → Runs rule (begun items limit this_kind) state
+    → state.tree.above ≡ record { before = no_trees; kind = this_kind } ∷ []
+root-stays items limit this_kind run = (adds run).trees.above ∙ ap (λ b. b.above) (root-open items limit this_kind)
 
-pub root-kept : {r : Rule} {t : State} (items : List Answer) (limit : ℕ) (k : SyntaxKind) → is_free k ≡ true → Runs r (begun items limit k) t → IsRoot t.tree
-root-kept items limit k free h = (k, free, root-stays items limit k h)
+pub root-kept : {rule : Rule} {state : State} (items : List Answer) (limit : ℕ) (kind : SyntaxKind) → is_free kind ≡ true
+    → Runs rule (begun items limit kind) state → IsRoot state.tree
+root-kept items limit kind free run = (kind, free, root-stays items limit kind run)
 
 -- the nesting is taken back, the limit is the one that was set, and the highest nesting is at most one level more
-pub kept-nesting : (items : List Answer) (limit : ℕ) (k : SyntaxKind) (t : State) → Keeps (begun items limit k) t → (t.depth ≡ 0) × (t.limit ≡ limit) × (t.high ≤ limit + 1)
-kept-nesting items limit k t n =
-    let b = read-untouched items (fresh items limit k) in
+pub kept-nesting : (items : List Answer) (limit : ℕ) (kind : SyntaxKind) (state : State) → Keeps (begun items limit kind) state
+    → (state.depth ≡ 0) × (state.limit ≡ limit) × (state.high ≤ limit + 1)
+kept-nesting items limit kind state kept =
+    let b = read-untouched items (fresh items limit kind) in
     let d = b.depth in
     let l = b.limit in
     let g = b.high in
-    let bound = n.bound (omega (arith, d, l)) (omega (arith, g, l)) in
-    (n.depth ∙ d, n.limit ∙ l, omega (arith, bound, l))
+    let bound = kept.bound (omega (arith, d, l)) (omega (arith, g, l)) in
+    (kept.depth ∙ d, kept.limit ∙ l, omega (arith, bound, l))
 
-pub begun-nesting : {r : Rule} {t : State} (items : List Answer) (limit : ℕ) (k : SyntaxKind) → Runs r (begun items limit k) t → (t.depth ≡ 0) × (t.limit ≡ limit) × (t.high ≤ limit + 1)
-begun-nesting {t = t} items limit k h = kept-nesting items limit k t (keeps h)
+pub begun-nesting : {rule : Rule} {state : State} (items : List Answer) (limit : ℕ) (kind : SyntaxKind) → Runs rule (begun items limit kind) state
+    → (state.depth ≡ 0) × (state.limit ≡ limit) × (state.high ≤ limit + 1)
+begun-nesting {state = state} items limit kind run = kept-nesting items limit kind state (keeps run)
 
-pub begun-asked : {r : Rule} {t : State} (items : List Answer) (limit : ℕ) (k : SyntaxKind) → Runs r (begun items limit k) t → t.asked ≡ length items
-begun-asked items limit k h = (keeps h).asked ∙ (read-untouched items (fresh items limit k)).asked
+pub begun-asked : {rule : Rule} {state : State} (items : List Answer) (limit : ℕ) (kind : SyntaxKind) → Runs rule (begun items limit kind) state
+    → state.asked ≡ length items
+begun-asked items limit kind run = (keeps run).asked ∙ (read-untouched items (fresh items limit kind)).asked

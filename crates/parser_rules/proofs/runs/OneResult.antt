@@ -8,38 +8,40 @@ use Rattle.parser_rules.specs.RuleLanguage.{Test, holds, Prim, step, Rule}
 use Rattle.parser_rules.specs.Runs.{Runs, skip, does, seq, yes, no, done, again, child, deeper, limited, refused, call, plain, wrapped}
 
 -- a test has one answer
-answered-once : {s s' : State} (q : Test) → s ≡ s' → true ≡ holds q s → false ≡ holds q s' → ⊥
-answered-once q same y n = true≢false (y ∙ ap (holds q) same ∙ sym n)
+answered-once : {state after : State} (test : Test) → state ≡ after → true ≡ holds test state → false ≡ holds test after → ⊥
+answered-once test same y n = true≢false (y ∙ ap (holds test) same ∙ sym n)
 
-deep-once : {s s' : State} → s ≡ s' → true ≡ is_deep s → false ≡ is_deep s' → ⊥
+deep-once : {state after : State} → state ≡ after → true ≡ is_deep state → false ≡ is_deep after → ⊥
 deep-once same y n = true≢false (y ∙ ap is_deep same ∙ sym n)
 
-pub one-result : {q : Rule} {s s' t t' : State} → s ≡ s' → Runs q s t → Runs q s' t' → t ≡ t'
+pub one-result : {rule : Rule} {state after next_state later : State} → state ≡ after → Runs rule state next_state → Runs rule after later → next_state ≡ later
 one-result same skip skip = same
-one-result same (does {a = a} e) (does e') = e ∙ ap (step a) same ∙ sym e'
-one-result same (seq h i) (seq h' i') = one-result (one-result same h h') i i'
-one-result same (yes e h) (yes e' h') = one-result same h h'
-one-result same (yes {q = q} e h) (no e' h') = absurd (answered-once q same e e')
-one-result same (no {q = q} e h) (yes e' h') = absurd (answered-once q (sym same) e' e)
-one-result same (no e h) (no e' h') = one-result same h h'
+one-result same (does {primitive = primitive} e) (does e') = e ∙ ap (step primitive) same ∙ sym e'
+one-result same (seq run second_run) (seq third_run i') = one-result (one-result same run third_run) second_run i'
+one-result same (yes e run) (yes e' third_run) = one-result same run third_run
+one-result same (yes {test = test} e run) (no e' third_run) = absurd (answered-once test same e e')
+one-result same (no {test = test} e run) (yes e' third_run) = absurd (answered-once test (sym same) e' e)
+one-result same (no e run) (no e' third_run) = one-result same run third_run
 one-result same (done e) (done e') = same
-one-result same (done {q = q} e) (again e' h' i') = absurd (answered-once q (sym same) e' e)
-one-result same (again {q = q} e h i) (done e') = absurd (answered-once q same e e')
-one-result same (again e h i) (again e' h' i') = one-result (one-result same h h') i i'
-one-result same (child {n = n} e f h) (child e' f' h') =
-    f ∙ ap closed (one-result (e ∙ ap (opened (kind_of n)) same ∙ sym e') h h') ∙ sym f'
-one-result same (deeper d e f h i) (deeper d' e' f' h' i') =
-    one-result (f ∙ ap leave (one-result (e ∙ ap enter same ∙ sym e') h h') ∙ sym f') i i'
-one-result same (deeper d e f h i) (refused d' e') = absurd (deep-once (sym same) d' d)
-one-result same (refused d e) (deeper d' e' f' h' i') = absurd (deep-once same d d')
+one-result same (done {test = test} e) (again e' third_run run) = absurd (answered-once test (sym same) e' e)
+one-result same (again {test = test} e run second_run) (done e') = absurd (answered-once test same e e')
+one-result same (again e run second_run) (again e' third_run i') = one-result (one-result same run third_run) second_run i'
+one-result same (child {node = node} e f run) (child e' f' third_run) =
+    f ∙ ap closed (one-result (e ∙ ap (opened (kind_of node)) same ∙ sym e') run third_run) ∙ sym f'
+one-result same (deeper d e f run second_run) (deeper d' e' f' third_run i') =
+    one-result (f ∙ ap leave (one-result (e ∙ ap enter same ∙ sym e') run third_run) ∙ sym f') second_run i'
+one-result same (deeper d e f run second_run) (refused d' e') = absurd (deep-once (sym same) d' d)
+one-result same (refused d e) (deeper d' e' f' third_run run) = absurd (deep-once same d d')
 one-result same (refused d e) (refused d' e') = e ∙ ap too_deep same ∙ sym e'
 one-result same (limited d e) (limited d' e') = e ∙ ap too_deep same ∙ sym e'
-one-result same (call h) (call h') = one-result same h h'
-one-result same (plain e h n) (plain e' h' n') = one-result (e ∙ ap flush same ∙ sym e') h h'
-one-result same (plain e h n) (wrapped f place g k h' y i') = absurd (answered-once _ (sym (one-result (e ∙ ap flush same ∙ sym f) h h')) y n)
-one-result same (wrapped f place g k h y i) (plain e' h' n') = absurd (answered-once _ (one-result (f ∙ ap flush same ∙ sym e') h h') y n')
-one-result same (wrapped {u = u} f p g k h y i) (wrapped {place = place'} f' p' g' k' h' y' i') =
+one-result same (call run) (call third_run) = one-result same run third_run
+one-result same (plain e run n) (plain e' third_run n') = one-result (e ∙ ap flush same ∙ sym e') run third_run
+one-result same (plain e run n) (wrapped f place g k third_run y second_run) =
+    absurd (answered-once _ (sym (one-result (e ∙ ap flush same ∙ sym f) run third_run)) y n)
+one-result same (wrapped f place g k run y second_run) (plain e' third_run n') =
+    absurd (answered-once _ (one-result (f ∙ ap flush same ∙ sym e') run third_run) y n')
+one-result same (wrapped {later = later} f p g k run y second_run) (wrapped {place = place'} f' p' g' k' third_run y' i') =
     let begun = f ∙ ap flush same ∙ sym f' in
     let from = p ∙ ap (λ (t : State). built_count t.tree) begun ∙ sym p' in
-    let around = ap (λ at. wrapped_from at kind.NON_NULL_TYPE u) from ∙ ap (wrapped_from place' kind.NON_NULL_TYPE) (one-result begun h h') in
-    k ∙ ap closed (one-result (g ∙ around ∙ sym g') i i') ∙ sym k'
+    let around = ap (λ at. wrapped_from at kind.NON_NULL_TYPE later) from ∙ ap (wrapped_from place' kind.NON_NULL_TYPE) (one-result begun run third_run) in
+    k ∙ ap closed (one-result (g ∙ around ∙ sym g') second_run i') ∙ sym k'

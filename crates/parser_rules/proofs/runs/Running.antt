@@ -4,7 +4,8 @@ use Rattle.parser_rules.specs.RuleLanguage.{holds, step}
 use Rattle.parser_rules.specs.Open.{IsInside, IsCheckpoint}
 use Rattle.parser_rules.specs.Runs.{skip, does, seq, yes, no, child, deeper, refused, call, plain, wrapped, begin, turn}
 use Rattle.parser_rules.proofs.runs.Forms.{wanted, chosen, optional, in-node, for-fragment, for-enum}
-use Rattle.parser_rules.proofs.runs.Frame.{ended, is-open, still-open, open-in-node, open-in-loop, budget-in-loop, open-too-deep, open-inside, open-outside, is-inside, still-inside, still-at}
+use Rattle.parser_rules.proofs.runs.Frame.{ended, is-open, still-open, open-in-node, open-in-loop, budget-in-loop, open-too-deep, open-inside, open-outside}
+use Rattle.parser_rules.proofs.runs.Frame.{is-inside, still-inside, still-at}
 
 -- a step, and one rule after the other
 pub ruleset sequence = (skip, seq, yes, no)

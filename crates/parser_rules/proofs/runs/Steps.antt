@@ -5,7 +5,8 @@ use Rattle.lexical_grammar.specs.Answers.{Answer, usize_max}
 use Rattle.document_grammar.specs.declared.kind.SyntaxKind.{SyntaxKind}
 use Rattle.document_grammar.specs.declared.kind.SyntaxKind.TheVariants as kind
 use Rattle.document_grammar.specs.Builds.{start, add_leaf, built_count}
-use Rattle.parser_rules.specs.State.{State, Lexeme, read_on, flush, opened, closed, wrapped_from, moved, bump, noted, note, fault_report, recursion_limit_report, is_deep, enter, leave, deepened, limited_at, too_deep}
+use Rattle.parser_rules.specs.State.{State, Lexeme, read_on, flush, opened, closed, wrapped_from, moved, bump, noted, note, fault_report}
+use Rattle.parser_rules.specs.State.{recursion_limit_report, is_deep, enter, leave, deepened, limited_at, too_deep}
 use Rattle.parser_rules.specs.declared.message.Message.{Message}
 use Rattle.parser_rules.specs.Nodes.{kind_of}
 use Rattle.parser_rules.specs.RuleLanguage.{Test, Prim, Bump, Note, step, Rule}
@@ -13,87 +14,103 @@ use Rattle.parser_rules.specs.Runs.{Runs, skip, does, seq, yes, no, done, again,
 
 -- the highest nesting is one level more than the limit
 abbrev pub PastLimit : State → Type 0
-PastLimit s = min (s.limit + 1) usize_max ≤ s.high
+PastLimit state = min (state.limit + 1) usize_max ≤ state.high
 
-pub past-limit : (s : State) → true ≡ is_deep s → PastLimit (deepened s)
+pub past-limit : (state : State) → true ≡ is_deep state → PastLimit (deepened state)
 unfolding is_deep
-past-limit s q = let d = leb-true s.limit s.depth (sym q) in omega (arith, d)
+past-limit state q = let d = leb-true state.limit state.depth (sym q) in omega (arith, d)
 
 pub record Holds_along (R : State → State → Type 0) : Type 0 where
-  pub same : (s : State) → R s s
-  pub next : (s t u : State) → R s t → R t u → R s u
+  pub same : (state : State) → R state state
+  pub next : (state after later : State) → R state after → R after later → R state later
   -- what waits goes into the tree
-  pub flushes : (s : State) → R s (flush s)
+  pub flushes : (state : State) → R state (flush state)
   -- the current token goes into the tree after the waiting leaves, and the next one is read
-  pub moves : (leaf : SyntaxKind) (x : Lexeme) (s : State) → s.current ≡ Some x → s.pending ≡ [] → R s (read_on s.items (record s { tree = add_leaf leaf x.text s.tree }))
+  pub moves : (leaf : SyntaxKind) (lexeme : Lexeme) (state : State) → state.current ≡ Some lexeme → state.pending ≡ []
+      → R state (read_on state.items (record state { tree = add_leaf leaf lexeme.text state.tree }))
   -- a report of the grammar at the current token, and the recursion limit's, after which none is taken; the highest nesting is more than the limit
-  pub reports : (m : Message) (x : Lexeme) (s : State) → s.current ≡ Some x → s.accepts ≡ true → R s (record s { errors = s.errors ++ fault_report m x ∷ [] })
-  pub limits : (x : Lexeme) (s : State) → s.current ≡ Some x → s.accepts ≡ true → PastLimit s → R s (record s { errors = s.errors ++ recursion_limit_report x ∷ []; accepts = false })
-  pub asks : (s : State) → R s (deepened s)
-  pub nodes : (k : SyntaxKind) (s u : State) → R (record s { tree = start k s.tree }) u → R s (closed u)
-  pub levels : (s u : State) → false ≡ is_deep s → R (enter s) u → R s (leave u)
-  pub wraps : (k : SyntaxKind) (t u w : State) → R t u → R (wrapped_from (built_count t.tree) k u) w → R t (closed w)
+  pub reports : (message : Message) (lexeme : Lexeme) (state : State) → state.current ≡ Some lexeme → state.accepts ≡ true
+      → R state (record state { errors = state.errors ++ fault_report message lexeme ∷ [] })
+  pub limits : (lexeme : Lexeme) (state : State) → state.current ≡ Some lexeme → state.accepts ≡ true → PastLimit state
+      → R state (record state { errors = state.errors ++ recursion_limit_report lexeme ∷ []; accepts = false })
+  pub asks : (state : State) → R state (deepened state)
+  pub nodes : (this_kind : SyntaxKind) (state later : State) → R (record state { tree = start this_kind state.tree }) later → R state (closed later)
+  pub levels : (state later : State) → false ≡ is_deep state → R (enter state) later → R state (leave later)
+  pub wraps : (this_kind : SyntaxKind) (after later end_state : State) → R after later → R (wrapped_from (built_count after.tree) this_kind later) end_state
+      → R after (closed end_state)
 
-module _ {R : State → State → Type 0} (r : Holds_along R) where
-  moved-along : (leaf : SyntaxKind) (s : State) (o : Option Lexeme) → s.current ≡ o → R s (moved leaf s o)
+module _ {R : State → State → Type 0} (holds_along : Holds_along R) where
+  moved-along : (leaf : SyntaxKind) (state : State) (found : Option Lexeme) → state.current ≡ found → R state (moved leaf state found)
   unfolding flush
-  moved-along leaf s None e = r.same s
-  moved-along leaf s (Some x) e = r.next s (flush s) (moved leaf s (Some x)) (r.flushes s) (r.moves leaf x (flush s) e refl)
+  moved-along leaf state None e = holds_along.same state
+  moved-along leaf state (Some x) e = holds_along.next state (flush state) (moved leaf state (Some x)) (holds_along.flushes state)
+      (holds_along.moves leaf x (flush state) e refl)
 
-  noted-along : (m : Message) (s : State) (o : Option Lexeme) → s.current ≡ o → R s (noted m s o)
-  noted-along m s None e = r.same s
-  noted-along m s (Some x) e = (elim s.accepts as (λ b. s.accepts ≡ b → R s (if b then record s { errors = s.errors ++ fault_report m x ∷ [] } else s)) [
-    | true ↦ λ a. r.reports m x s e a
-    | false ↦ λ a. r.same s
-  ]) refl
+  noted-along : (message : Message) (state : State) (found : Option Lexeme) → state.current ≡ found → R state (noted message state found)
+  noted-along message state None e = holds_along.same state
+  noted-along message state (Some x) e = (elim state.accepts as (λ b. state.accepts ≡ b
+      → R state (if b then record state { errors = state.errors ++ fault_report message x ∷ [] } else state)) [
+        | true ↦ λ a. holds_along.reports message x state e a
+        | false ↦ λ a. holds_along.same state
+      ]) refl
 
-  limited-along : (s : State) (o : Option Lexeme) → s.current ≡ o → PastLimit s → R s (limited_at s o)
-  limited-along s None e h = r.same s
-  limited-along s (Some x) e h = (elim s.accepts as (λ b. s.accepts ≡ b → R s (record (if b then record s { errors = s.errors ++ recursion_limit_report x ∷ [] } else s) { accepts = false })) [
-    | true ↦ λ a. r.limits x s e a h
-    | false ↦ λ a. subst (λ b. R s (record s { accepts = b })) a (r.same s)
-  ]) refl
+  limited-along : (state : State) (found : Option Lexeme) → state.current ≡ found → PastLimit state → R state (limited_at state found)
+  limited-along state None e past_limit = holds_along.same state
+  limited-along state (Some x) e past_limit = (elim state.accepts as (λ b. state.accepts ≡ b
+      → R state (record (if b then record state { errors = state.errors ++ recursion_limit_report x ∷ [] } else state) { accepts = false })) [
+        | true ↦ λ a. holds_along.limits x state e a past_limit
+        | false ↦ λ a. subst (λ b. R state (record state { accepts = b })) a (holds_along.same state)
+      ]) refl
 
-  pub too_deep-along : (s : State) → true ≡ is_deep s → R s (too_deep s)
+  pub too_deep-along : (state : State) → true ≡ is_deep state → R state (too_deep state)
   unfolding too_deep
-  too_deep-along s q = r.next s (deepened s) (too_deep s) (r.asks s) (limited-along (deepened s) s.current refl (past-limit s q))
+  too_deep-along state q = holds_along.next state (deepened state) (too_deep state) (holds_along.asks state)
+      (limited-along (deepened state) state.current refl (past-limit state q))
 
-  pub step-along : (a : Prim) (s : State) → R s (step a s)
+  pub step-along : (primitive : Prim) (state : State) → R state (step primitive state)
   unfolding step bump note
-  step-along (Bump leaf) s = moved-along leaf s s.current refl
-  step-along (Note m) s = noted-along m s s.current refl
+  step-along (Bump leaf) state = moved-along leaf state state.current refl
+  step-along (Note message) state = noted-along message state state.current refl
 
-  node-along : (k : SyntaxKind) (s u : State) → R (opened k s) u → R s (closed u)
+  node-along : (this_kind : SyntaxKind) (state later : State) → R (opened this_kind state) later → R state (closed later)
   unfolding opened
-  node-along k s u h = r.next s (flush s) (closed u) (r.flushes s) (r.nodes k (flush s) u h)
+  node-along this_kind state later h = holds_along.next state (flush state) (closed later) (holds_along.flushes state)
+      (holds_along.nodes this_kind (flush state) later h)
 
-  pub along : {a : Rule} {s t : State} → Runs a s t → R s t
-  along {s = s} skip = r.same s
-  along {s = s} (does {a = a} e) = subst (R s) (sym e) (step-along a s)
-  along {s = s} (seq {t = t} {u = u} h k) = r.next s t u (along h) (along k)
-  along (yes q h) = along h
-  along (no q h) = along h
-  along {s = s} (done q) = r.same s
-  along {s = s} (again {t = t} {u = u} q h k) = r.next s t u (along h) (along k)
-  along {s = s} (child {n = n} {t = t} {u = u} e k h) = subst (R s) (sym k) (node-along (kind_of n) s u (subst (λ w. R w u) e (along h)))
-  along {s = s} (deeper {t = t} {u = u} {v = v} {w = w} q e k h i) = r.next s v w (subst (R s) (sym k) (r.levels s u q (subst (λ x. R x u) e (along h)))) (along i)
-  along {s = s} (limited q e) = subst (R s) (sym e) (too_deep-along s q)
-  along {s = s} (refused q e) = subst (R s) (sym e) (too_deep-along s q)
-  along (call h) = along h
-  along {s = s} {t = u} (plain {t = t} e h n) = r.next s t u (subst (R s) (sym e) (r.flushes s)) (along h)
-  along {s = s} (wrapped {t = t} {u = u} {v = v} {w = w} {x = x} e p i c h y l) =
-      let wrapping : R (wrapped_from (built_count t.tree) kind.NON_NULL_TYPE u) w = subst (λ n. R (wrapped_from n kind.NON_NULL_TYPE u) w) p (subst (λ v. R v w) i (along l)) in
-      r.next s t x (subst (R s) (sym e) (r.flushes s)) (subst (R t) (sym c) (r.wraps kind.NON_NULL_TYPE t u w (along h) wrapping))
+  pub along : {rule : Rule} {state after : State} → Runs rule state after → R state after
+  along {state = state} skip = holds_along.same state
+  along {state = state} (does {primitive = primitive} e) = subst (R state) (sym e) (step-along primitive state)
+  along {state = state} (seq {after = after} {later = later} run second_run) = holds_along.next state after later (along run) (along second_run)
+  along (yes q run) = along run
+  along (no q run) = along run
+  along {state = state} (done q) = holds_along.same state
+  along {state = state} (again {after = after} {later = later} q run second_run) = holds_along.next state after later (along run) (along second_run)
+  along {state = state} (child {node = node} {after = after} {later = later} e k run) =
+      subst (R state) (sym k) (node-along (kind_of node) state later (subst (λ w. R w later) e (along run)))
+  along {state = state} (deeper {after = after} {later = later} {last = last} {end_state = end_state} q e k run second_run) =
+      holds_along.next state last end_state (subst (R state) (sym k) (holds_along.levels state later q (subst (λ x. R x later) e (along run))))
+      (along second_run)
+  along {state = state} (limited q e) = subst (R state) (sym e) (too_deep-along state q)
+  along {state = state} (refused q e) = subst (R state) (sym e) (too_deep-along state q)
+  along (call run) = along run
+  along {state = state} {after = after} (plain {after = next_state} e run n) =
+      holds_along.next state next_state after (subst (R state) (sym e) (holds_along.flushes state)) (along run)
+  along {state = state} (wrapped {after = after} {later = later} {last = v} {end_state = end_state} {x = last} e p i c run y second_run) =
+      let wrapping : R (wrapped_from (built_count after.tree) kind.NON_NULL_TYPE later) end_state = subst
+      (λ n. R (wrapped_from n kind.NON_NULL_TYPE later) end_state) p (subst (λ v. R v end_state) i (along second_run)) in
+      holds_along.next state after last (subst (R state) (sym e) (holds_along.flushes state))
+      (subst (R after) (sym c) (holds_along.wraps kind.NON_NULL_TYPE after later end_state (along run) wrapping))
 
-  pub turns-along : {q : Test} {a : Rule} {s t : State} → Turns q a s t → R s t
-  turns-along {s = s} begin = r.same s
-  turns-along {s = s} {t = u} (turn {t = t} h q k) = r.next s t u (turns-along h) (along k)
+  pub turns-along : {test : Test} {rule : Rule} {state after : State} → Turns test rule state after → R state after
+  turns-along {state = state} begin = holds_along.same state
+  turns-along {state = state} {after = after} (turn {after = next_state} turns q run) = holds_along.next state next_state after (turns-along turns) (along run)
 
 -- what is said of the current token and of the answers that are left holds along each run, when it does while a token is taken
 abbrev pub Keeps_reading : (Option Lexeme → List Answer → Type 0) → State → State → Type 0
-Keeps_reading P s t = P s.current s.items → P t.current t.items
+Keeps_reading P state after = P state.current state.items → P after.current after.items
 
-pub along-reading : (P : Option Lexeme → List Answer → Type 0) → ((leaf : SyntaxKind) (x : Lexeme) (s : State) → s.current ≡ Some x → Keeps_reading P s (read_on s.items (record s { tree = add_leaf leaf x.text s.tree }))) → Holds_along (Keeps_reading P)
+pub along-reading : (P : Option Lexeme → List Answer → Type 0) → ((leaf : SyntaxKind) (lexeme : Lexeme) (state : State) → state.current ≡ Some lexeme
+    → Keeps_reading P state (read_on state.items (record state { tree = add_leaf leaf lexeme.text state.tree }))) → Holds_along (Keeps_reading P)
 unfolding flush closed enter leave wrapped_from
 along-reading P moves = record {
   same = λ s h. h;

@@ -48,44 +48,46 @@ abbrev pub opening : ℕ → ℕ → Account
 opening x c = record { near = x; far = any; below_limit = false; turns = None; credit = c }
 
 abbrev pub spend : ℕ → Account → (Account → Bool) → Bool
-spend x a k = leb x a.credit and k (record a { credit = a.credit - x })
+spend x account rest = leb x account.credit and rest (record account { credit = account.credit - x })
 
 -- where no token is left, and where one is, or the end
 abbrev pub by_token : Account → (Account → Bool) → (Account → Bool) → Bool
-by_token a f g = part true (bit_and a.near (2 ^ absent)) (λ z. f (record a { near = z })) and part true (bit_and a.near present) (λ z. g (record a { near = z }))
+by_token account f g = part true (bit_and account.near (2 ^ absent)) (λ z. f (record account { near = z }))
+    and part true (bit_and account.near present) (λ z. g (record account { near = z }))
 
 -- a report is made only where a token or the end is
 abbrev pub report : Rates → Account → (Account → Bool) → Bool
-report d a k = by_token a k (λ b. spend d.report b k)
+report rates account rest = by_token account rest (λ b. spend rates.report b rest)
 
 -- the report of the recursion limit; it goes on once, since the walk would be too long otherwise
 abbrev pub report_limit : Rates → Account → (Account → Bool) → Bool
-report_limit d a k = elim (eqb (bit_and a.near present) 0) [ true ↦ k a | false ↦ spend d.report a k ]
+report_limit rates account rest = elim (eqb (bit_and account.near present) 0) [ true ↦ rest account | false ↦ spend rates.report account rest ]
 
 -- a token pays, and costs its leaf; where there is none, nothing is taken
 abbrev pub take : Rates → Account → (Account → Bool) → Bool
-take d a k = by_token a k (λ b. k (opening b.far (b.credit + (d.item - d.element))))
+take rates account rest = by_token account rest (λ b. rest (opening b.far (b.credit + (rates.item - rates.element))))
 
 -- where the test passes, the recursion limit is not reached
 abbrev pub asks_limit : Test → Bool
 asks_limit (Not Deep) = true
-asks_limit (Both p q) = asks_limit p or asks_limit q
+asks_limit (Both test other_test) = asks_limit test or asks_limit other_test
 asks_limit _ = false
 
 -- the records are written out here: as calls they would be computed anew for each of their fields
 abbrev pub ask : Test → Account → (Account → Bool) → (Account → Bool) → Bool
-ask t a f g = split (λ x y. x and y) true t a.near a.far (λ x y. f (record { near = x; far = y; below_limit = a.below_limit or asks_limit t; turns = None; credit = a.credit }))
-    (λ x y. g (record { near = x; far = y; below_limit = a.below_limit; turns = None; credit = a.credit }))
+ask test account f g = split (λ x y. x and y) true test account.near account.far
+    (λ x y. f (record { near = x; far = y; below_limit = account.below_limit or asks_limit test; turns = None; credit = account.credit }))
+    (λ x y. g (record { near = x; far = y; below_limit = account.below_limit; turns = None; credit = account.credit }))
 
 -- within a level, and after it, as little is known of the limit as at first
 abbrev pub level : Account → Account
-level a = record a { below_limit = false; turns = None }
+level account = record account { below_limit = false; turns = None }
 
 -- ---- nodes
 
 -- a rule that takes a token first
 abbrev pub takes_first : Rule → Bool
-takes_first (Seq (Do (Bump leaf)) b) = true
+takes_first (Seq (Do (Bump leaf)) rule) = true
 takes_first _ = false
 
 -- the least that such a node leaves of its tokens' payment
@@ -99,7 +101,7 @@ enough = 20
 -- ---- loops
 
 unfoldable pub saved : Rule → ℕ
-saved (Child c) = cond (takes_first (inside c)) saving 0
+saved (Child node) = cond (takes_first (inside node)) saving 0
 saved _ = 0
 
 -- the tokens that are no names, and the end
@@ -107,54 +109,63 @@ abbrev pub others : ℕ
 others = without present name_classes
 
 abbrev pub debt : Rates → Test → ℕ
-debt d Ready = d.debt
-debt d _ = 0
+debt rates Ready = rates.debt
+debt rates _ = 0
 
 -- a turn leaves no less credit than there was, but for the debt
 abbrev pub keeps : Rates → Test → ℕ → Account → Bool
-keeps d t c a = leb c a.credit or (subset a.near others and leb c (a.credit + debt d t))
+keeps rates test c account = leb c account.credit or (subset account.near others and leb c (account.credit + debt rates test))
 
 -- the turns that follow a turn, from this credit on, and from the debt
 abbrev pub later : Rates → Test → (Account → (Account → Bool) → Bool) → ℕ → (Account → Bool) → Bool
-later d t turn c k = ask t (opening any c) (λ b. turn b (keeps d t c)) k and (eqb (debt d t) 0 or ask t (opening others (c - debt d t)) (λ b. turn b (keeps d t c)) k)
+later rates test turn c rest = ask test (opening any c) (λ b. turn b (keeps rates test c)) rest
+    and (eqb (debt rates test) 0 or ask test (opening others (c - debt rates test)) (λ b. turn b (keeps rates test c)) rest)
 
 -- the first turn knows what is known in front of the loop; a node that pays for itself leaves more for the turns after it
 abbrev pub loop : Rates → Test → ℕ → (Account → (Account → Bool) → Bool) → Option ℕ → Account → (Account → Bool) → Bool
-loop d t more turn None a k = ask t a (λ b. turn b (keeps d t (a.credit + more)) and later d t turn (a.credit + more) k) k
-loop d t more turn (Some c) a k = keeps d t c a and later d t turn c k
+loop rates test more turn None account rest = ask test account (λ b. turn b (keeps rates test (account.credit + more))
+    and later rates test turn (account.credit + more) rest) rest
+loop rates test more turn (Some c) account rest = keeps rates test c account and later rates test turn c rest
 
 -- ---- the walk
 
 -- A node that takes a token first, where there is one, is paid for as a whole: its own check ends the recursion of the grammar. Each other node is
 -- walked at its place. The number bounds how deep nodes and parts are walked.
 unfoldable pub walk : Rates → ℕ → Rule → Account → (Account → Bool) → Bool
-walk d n Skip a k = k a
-walk d n (Do (Bump leaf)) a k = take d a k
-walk d n (Do (Note m)) a k = report d a k
-walk d n (Seq r q) a k = walk d n r a (λ b. walk d n q b k)
-walk d n (When t r q) a k = ask t a (λ b. walk d n r b k) (λ b. walk d n q b k)
-walk d n (While t r) a k = loop d t (saved r) (λ b c. walk d n r b c) a.turns a k
-walk d zero (Child c) a k = false
-walk d (suc n) (Child c) a k = elim (takes_first (inside c) and subset a.near present) [ true ↦ k (opening any (a.credit + saving)) | false ↦ spend d.element a (λ b. walk d n (inside c) b k) ]
-walk d n TooDeep a k = report_limit d a k
-walk d n (Nested r q) a k = (a.below_limit or report_limit d a k) and walk d n r (level a) (λ b. walk d n q (level b) k)
-walk d zero (Call p) a k = false
-walk d (suc n) (Call p) a k = walk d n (body p) a k
-walk d n (Typed r) a k = walk d n r a (λ b. ask (At token.Bang) b (λ c. spend d.element c (λ e. take d e k)) k)
+walk rates n Skip account rest = rest account
+walk rates n (Do (Bump leaf)) account rest = take rates account rest
+walk rates n (Do (Note message)) account rest = report rates account rest
+walk rates n (Seq rule other_rule) account rest = walk rates n rule account (λ b. walk rates n other_rule b rest)
+walk rates n (When test rule other_rule) account rest = ask test account (λ b. walk rates n rule b rest) (λ b. walk rates n other_rule b rest)
+walk rates n (While test rule) account rest = loop rates test (saved rule) (λ b c. walk rates n rule b c) account.turns account rest
+walk rates zero (Child node) account rest = false
+walk rates (suc n) (Child node) account rest = elim (takes_first (inside node)
+    and subset account.near present) [
+      | true ↦ rest (opening any (account.credit + saving))
+      | false ↦
+          spend rates.element account (λ b. walk rates n (inside node) b rest)
+    ]
+walk rates n TooDeep account rest = report_limit rates account rest
+walk rates n (Nested rule other_rule) account rest = (account.below_limit or report_limit rates account rest)
+    and walk rates n rule (level account) (λ b. walk rates n other_rule (level b) rest)
+walk rates zero (Call this_part) account rest = false
+walk rates (suc n) (Call this_part) account rest = walk rates n (body this_part) account rest
+walk rates n (Typed rule) account rest = walk rates n rule account (λ b. ask (At token.Bang) b (λ c. spend rates.element c (λ e. take rates e rest)) rest)
 
 -- the check of a node that takes a token first, with so much fuel: its tokens pay for it too, and leave the saving
 unfoldable pub pays_for_itself : ℕ → Rates → Node → Bool
-pays_for_itself fuel d c = not (takes_first (inside c)) or walk d fuel (inside c) (opening present (enough - d.element)) (λ a. leb (enough + saving) a.credit)
+pays_for_itself fuel rates node = not (takes_first (inside node)) or walk rates fuel (inside node) (opening present (enough - rates.element))
+    (λ a. leb (enough + saving) a.credit)
 
 -- nothing more is owed at the end than what a token that is still there could pay
 abbrev pub settles : Rates → Account → Bool
-settles d a = leb enough a.credit or (subset a.near present and leb enough (a.credit + d.item))
+settles rates account = leb enough account.credit or (subset account.near present and leb enough (account.credit + rates.item))
 
 -- the check of a root's rule, where the current token is in the set
 unfoldable pub root_pays : Rates → ℕ → Rule → Bool
-root_pays d x q = walk d root_rules_deep_for_sizes q (opening x enough) (settles d)
+root_pays rates x rule = walk rates root_rules_deep_for_sizes rule (opening x enough) (settles rates)
 
 -- the rule pays for its elements and its reports
-pub record PaysForAll (x : ℕ) (q : Rule) : Type 0 where
-  pub elements : root_pays element_rates x q ≡ true
-  pub reports : root_pays report_rates x q ≡ true
+pub record PaysForAll (x : ℕ) (rule : Rule) : Type 0 where
+  pub elements : root_pays element_rates x rule ≡ true
+  pub reports : root_pays report_rates x rule ≡ true

@@ -19,49 +19,50 @@ use Rattle.parser_rules.proofs.soundness.WithoutIgnored.{IsLayered, Stack, stack
 
 -- ---- lists of trees
 
-pub assoc : (f g h : Forest) → (f +++ g) +++ h ≡ f +++ (g +++ h)
-assoc none g h = refl
-assoc (t ▸ f) g h = ap (λ (z : Forest). t ▸ z) (assoc f g h)
+pub assoc : (forest more_trees last_trees : Forest) → (forest +++ more_trees) +++ last_trees ≡ forest +++ (more_trees +++ last_trees)
+assoc none more_trees last_trees = refl
+assoc (tree ▸ forest) more_trees last_trees = ap (λ (z : Forest). tree ▸ z) (assoc forest more_trees last_trees)
 
-cancel : (f g h : Forest) → f +++ g ≡ f +++ h → g ≡ h
-cancel none g h e = e
-cancel (t ▸ f) g h e = let i : f +++ g ≡ f +++ h = cc in cancel f g h i
+cancel : (forest more_trees last_trees : Forest) → forest +++ more_trees ≡ forest +++ last_trees → more_trees ≡ last_trees
+cancel none more_trees last_trees e = e
+cancel (tree ▸ forest) more_trees last_trees e = let i : forest +++ more_trees ≡ forest +++ last_trees = cc in cancel forest more_trees last_trees i
 
-pub shows-snoc : (f : Forest) (t : Tree) → shows (f +++ (t ▸ none)) ≡ shows f +++ (show t ▸ none)
-shows-snoc none t = refl
-shows-snoc (u ▸ f) t = ap (λ (z : Forest). show u ▸ z) (shows-snoc f t)
+pub shows-snoc : (forest : Forest) (tree : Tree) → shows (forest +++ (tree ▸ none)) ≡ shows forest +++ (show tree ▸ none)
+shows-snoc none tree = refl
+shows-snoc (other_tree ▸ forest) tree = ap (λ (z : Forest). show other_tree ▸ z) (shows-snoc forest tree)
 
 -- ---- the image
 
 abbrev pub lay : ℕ → Forest → Stack → Stack
-lay s f b = cond (eqb s TYPE) (put f b) ((label s, f) ∷ b)
+lay s forest this_stack = cond (eqb s TYPE) (put forest this_stack) ((label s, forest) ∷ this_stack)
 
 abbrev pub image : List Frame → Stack
 image [] = (0, none) ∷ []
-image (frame s q f ∷ fs) = lay s (shows f) (image fs)
+image (frame s q forest ∷ fs) = lay s (shows forest) (image fs)
 
-put-put : (f g : Forest) (b : Stack) → put (f +++ g) b ≡ put g (put f b)
-put-put f g [] = refl
-put-put f g (a ∷ b) = ap (λ (z : Forest). (a.0, z) ∷ b) (sym (assoc a.1 f g))
+put-put : (forest more_trees : Forest) (this_stack : Stack) → put (forest +++ more_trees) this_stack ≡ put more_trees (put forest this_stack)
+put-put forest more_trees [] = refl
+put-put forest more_trees (a ∷ this_stack) = ap (λ (z : Forest). (a.0, z) ∷ this_stack) (sym (assoc a.1 forest more_trees))
 
-pub lay-put : (s : ℕ) (f g : Forest) (b : Stack) → lay s (f +++ g) b ≡ put g (lay s f b)
-lay-put s f g b = elim (either (eqb s TYPE)) [ inl p ↦ rw p (put-put f g b) | inr p ↦ rw p refl ]
+pub lay-put : (s : ℕ) (forest more_trees : Forest) (this_stack : Stack) → lay s (forest +++ more_trees) this_stack ≡ put more_trees (lay s forest this_stack)
+lay-put s forest more_trees this_stack = elim (either (eqb s TYPE)) [ inl p ↦ rw p (put-put forest more_trees this_stack) | inr p ↦ rw p refl ]
 
-put-some : (f : Forest) (b : Stack) → IsLayered b → IsLayered (put f b)
-put-some f [] h = h
-put-some f (a ∷ b) h = h
+put-some : (forest : Forest) (this_stack : Stack) → IsLayered this_stack → IsLayered (put forest this_stack)
+put-some forest [] is_layered = is_layered
+put-some forest (a ∷ this_stack) is_layered = is_layered
 
 pub image-some : (fs : List Frame) → IsLayered (image fs)
 image-some [] = tt
-image-some (frame s q f ∷ fs) = elim (either (eqb s TYPE)) [ inl p ↦ rw p (put-some (shows f) (image fs) (image-some fs)) | inr p ↦ rw p tt ]
+image-some (frame s q forest ∷ fs) = elim (either (eqb s TYPE)) [ inl p ↦ rw p (put-some (shows forest) (image fs) (image-some fs)) | inr p ↦ rw p tt ]
 
 -- a tree more
-pub put-image : (s q p : ℕ) (f : Forest) (t : Tree) (fs : List Frame) → put (show t ▸ none) (image (frame s q f ∷ fs)) ≡ image (frame s p (f +++ (t ▸ none)) ∷ fs)
-put-image s q p f t fs = sym (ap (λ (z : Forest). lay s z (image fs)) (shows-snoc f t) ∙ lay-put s (shows f) (show t ▸ none) (image fs))
+pub put-image : (s q p : ℕ) (forest : Forest) (tree : Tree) (fs : List Frame)
+    → put (show tree ▸ none) (image (frame s q forest ∷ fs)) ≡ image (frame s p (forest +++ (tree ▸ none)) ∷ fs)
+put-image s q p forest tree fs = sym (ap (λ (z : Forest). lay s z (image fs)) (shows-snoc forest tree) ∙ lay-put s (shows forest) (show tree ▸ none) (image fs))
 
 -- a node that is no type
-pub image-node : (j q : ℕ) (g : Forest) (fs : List Frame) → eqb j TYPE ≡ false → image (frame j q g ∷ fs) ≡ (label j, shows g) ∷ image fs
-image-node j q g fs e = rw e refl
+pub image-node : (j q : ℕ) (forest : Forest) (fs : List Frame) → eqb j TYPE ≡ false → image (frame j q forest ∷ fs) ≡ (label j, shows forest) ∷ image fs
+image-node j q forest fs e = rw e refl
 
 -- ---- a type
 
@@ -69,58 +70,72 @@ type-exits : (exits BANG (λ e. eqb e 0) ≡ true) × (exits NAMED_TYPE (λ e. e
 unfolding exits ◌and◌ ◌or◌ is_leaf row_of rows
 type-exits = (refl, refl, refl)
 
-no-more : (f : Forest) → Path TYPE 2 f 1 → ⊥
+no-more : (forest : Forest) → Path TYPE 2 forest 1 → ⊥
 unfolding has target arcs at rows
-no-more none h = let e : ◌≡◌ {A = ℕ} 2 1 = h in absurd (omega arith)
-no-more (t ▸ f) h = false-true refl h.0
+no-more none path = let e : ◌≡◌ {A = ℕ} 2 1 = path in absurd (omega arith)
+no-more (tree ▸ forest) path = false-true refl path.0
 
 -- the first child of a type has no exit of its own
-first-child : (k p : ℕ) (t : Tree) (f : Forest) → eqb k (root t) ≡ true → exits k (λ e. eqb e 0) ≡ true → Path TYPE p (t ▸ f) 1 → Path TYPE (target TYPE p k) f 1
-first-child k p t f e x h =
-    let i : k ≡ root t = eqb-true k (root t) e in
-    let z : leaves_behind t ≡ 0 = eqb-true _ _ (exits-at t (λ n. eqb n 0) (subst (λ (n : ℕ). exits n (λ e. eqb e 0) ≡ true) i x) h.1) in
-    subst (λ (n : ℕ). Path TYPE n f 1) (ap₂ (λ (a b : ℕ). target TYPE p a + b) (sym i) z ∙ add-zero (target TYPE p k)) h.2
+first-child : (k p : ℕ) (tree : Tree) (forest : Forest) → eqb k (root tree) ≡ true → exits k (λ e. eqb e 0) ≡ true → Path TYPE p (tree ▸ forest) 1
+    → Path TYPE (target TYPE p k) forest 1
+first-child k p tree forest e x path =
+    let i : k ≡ root tree = eqb-true k (root tree) e in
+    let z : leaves_behind tree ≡ 0 = eqb-true _ _ (exits-at tree (λ n. eqb n 0) (subst (λ (n : ℕ). exits n (λ e. eqb e 0) ≡ true) i x) path.1) in
+    subst (λ (n : ℕ). Path TYPE n forest 1) (ap₂ (λ (a b : ℕ). target TYPE p a + b) (sym i) z ∙ add-zero (target TYPE p k)) path.2
 
-type-over : (f : Forest) → Path TYPE 1 f 1 → f ≡ none
+type-over : (forest : Forest) → Path TYPE 1 forest 1 → forest ≡ none
 unfolding has target arcs at rows ◌or◌
-type-over none h = refl
-type-over (t ▸ f) h = elim (or-c (eqb BANG (root t)) false h.0) [ inl e ↦ absurd (no-more f (first-child BANG 1 t f e type-exits.0 h)) | inr e ↦ false-true refl e ]
+type-over none path = refl
+type-over (tree ▸ forest) path = elim (or-c (eqb BANG (root tree)) false path.0) [
+  | inl e ↦ absurd
+      (no-more forest (first-child BANG 1 tree forest e type-exits.0 path))
+  | inr e ↦ false-true refl e
+]
 
 -- one tree without `!`
-pub one-type : (f : Forest) → Path TYPE 0 f 1 → (t : Tree) × (f ≡ t ▸ none)
+pub one-type : (forest : Forest) → Path TYPE 0 forest 1 → (tree : Tree) × (forest ≡ tree ▸ none)
 unfolding has target arcs at rows ◌or◌
-one-type none h = let e : ◌≡◌ {A = ℕ} 0 1 = h in absurd (omega arith)
-one-type (t ▸ f) h = elim (or-c (eqb NAMED_TYPE (root t)) (eqb LIST_TYPE (root t) or false) h.0) [
-  | inl e ↦ (t, ap (λ (g : Forest). t ▸ g) (type-over f (first-child NAMED_TYPE 0 t f e type-exits.1 h)))
-  | inr i ↦ elim (or-c (eqb LIST_TYPE (root t)) false i) [
-    | inl e ↦ (t, ap (λ (g : Forest). t ▸ g) (type-over f (first-child LIST_TYPE 0 t f e type-exits.2 h)))
+one-type none path = let e : ◌≡◌ {A = ℕ} 0 1 = path in absurd (omega arith)
+one-type (tree ▸ forest) path = elim (or-c (eqb NAMED_TYPE (root tree)) (eqb LIST_TYPE (root tree) or false) path.0) [
+  | inl e ↦ (tree, ap (λ (g : Forest). tree ▸ g) (type-over forest (first-child NAMED_TYPE 0 tree forest e type-exits.1 path)))
+  | inr i ↦ elim (or-c (eqb LIST_TYPE (root tree)) false i) [
+    | inl e ↦ (tree, ap (λ (g : Forest). tree ▸ g) (type-over forest (first-child LIST_TYPE 0 tree forest e type-exits.2 path)))
     | inr e ↦ false-true refl e
   ]
 ]
 
 -- its tree is the type's
-pub image-plain : (s q p : ℕ) (f g : Forest) (fs : List Frame) → Path TYPE 0 g 1 → image (frame TYPE 1 g ∷ frame s q f ∷ fs) ≡ put (show (node TYPE g) ▸ none) (image (frame s q f ∷ fs))
-image-plain s q p f g fs h =
-    let o = one-type g h in
-    ap (λ (z : Forest). put z (image (frame s q f ∷ fs))) (ap shows o.1 ∙ sym (ap (λ (z : Forest). show (node TYPE z) ▸ none) o.1))
+pub image-plain : (s q p : ℕ) (forest more_trees : Forest) (fs : List Frame) → Path TYPE 0 more_trees 1
+    → image (frame TYPE 1 more_trees ∷ frame s q forest ∷ fs) ≡ put (show (node TYPE more_trees) ▸ none) (image (frame s q forest ∷ fs))
+image-plain s q p forest more_trees fs path =
+    let o = one-type more_trees path in
+    ap (λ (z : Forest). put z (image (frame s q forest ∷ fs))) (ap shows o.1 ∙ sym (ap (λ (z : Forest). show (node TYPE z) ▸ none) o.1))
 
-pub show-bang : (g : Forest) (x : Text) → Path TYPE 0 g 1 → show (node TYPE (g +++ (leaf BANG x ▸ none))) ≡ node NON_NULL_TYPE (shows (g +++ (leaf BANG x ▸ none)))
-show-bang g x h =
-    let o = one-type g h in
-    subst (λ (z : Forest). type_of (shows (z +++ (leaf BANG x ▸ none))) ≡ node NON_NULL_TYPE (shows (z +++ (leaf BANG x ▸ none)))) (sym o.1) refl
+pub show-bang : (forest : Forest) (text : Text) → Path TYPE 0 forest 1
+    → show (node TYPE (forest +++ (leaf BANG text ▸ none))) ≡ node NON_NULL_TYPE (shows (forest +++ (leaf BANG text ▸ none)))
+show-bang forest text path =
+    let o = one-type forest path in
+    subst (λ (z : Forest). type_of (shows (z +++ (leaf BANG text ▸ none))) ≡ node NON_NULL_TYPE (shows (z +++ (leaf BANG text ▸ none)))) (sym o.1) refl
 
 -- ---- what was added since a place
 
 -- it is what the type's node holds
-added-type : (s q q' : ℕ) (f g : Forest) (fs : List Frame) (t u : Building) (more : built.Forest) → eqb s TYPE ≡ false → u.above ≡ t.above → u.here ≡ built.join t.here more
-    → stack t ≡ image (frame s q f ∷ fs) → stack u ≡ image (frame TYPE q' g ∷ frame s q f ∷ fs) → strip more ≡ shows g
-added-type s q q' f g fs t u more ty a h st su =
-    let n = image-node s q f fs ty in
-    let e : put (strip more) ((label s, shows f) ∷ image fs) ≡ put (shows g) ((label s, shows f) ∷ image fs) =
-    ap (put (strip more)) (sym n) ∙ (ap (put (strip more)) (sym st) ∙ (sym (layers-join t.here more t.above) ∙ (sym (ap₂ layers h a) ∙ (su ∙ ap (put (shows g)) n)))) in
-    cancel (shows f) (strip more) (shows g) (ap (λ (l : ℕ × Forest). l.1) (head-same e))
+added-type : (s q q' : ℕ) (forest more_trees : Forest) (fs : List Frame) (building later_building : Building) (more : built.Forest) → eqb s TYPE ≡ false
+    → later_building.above ≡ building.above → later_building.here ≡ built.join building.here more
+    → stack building ≡ image (frame s q forest ∷ fs) → stack later_building ≡ image (frame TYPE q' more_trees ∷ frame s q forest ∷ fs)
+    → strip more ≡ shows more_trees
+added-type s q q' forest more_trees fs building later_building more ty a h st su =
+    let n = image-node s q forest fs ty in
+    let e : put (strip more) ((label s, shows forest) ∷ image fs) ≡ put (shows more_trees) ((label s, shows forest) ∷ image fs) =
+    ap (put (strip more)) (sym n) ∙ (ap (put (strip more)) (sym st) ∙ (sym (layers-join building.here more building.above)
+    ∙ (sym (ap₂ layers h a) ∙ (su ∙ ap (put (shows more_trees)) n)))) in
+    cancel (shows forest) (strip more) (shows more_trees) (ap (λ (l : ℕ × Forest). l.1) (head-same e))
 
-pub stack-wrap : (s q q' : ℕ) (f g : Forest) (fs : List Frame) (t u : Building) (more : built.Forest) → eqb s TYPE ≡ false → u.above ≡ t.above → u.here ≡ built.join t.here more
-    → stack t ≡ image (frame s q f ∷ fs) → stack u ≡ image (frame TYPE q' g ∷ frame s q f ∷ fs) → stack (wrap (built_count t) kind.NON_NULL_TYPE u) ≡ (NON_NULL_TYPE, shows g) ∷ image (frame s q f ∷ fs)
-stack-wrap s q q' f g fs t u more ty a h st su =
-    ap stack (wrap-added kind.NON_NULL_TYPE t u more a h) ∙ ap₂ (λ (x : Forest) (b : Stack). (NON_NULL_TYPE, x) ∷ b) (added-type s q q' f g fs t u more ty a h st su) st
+pub stack-wrap : (s q q' : ℕ) (forest more_trees : Forest) (fs : List Frame) (building later_building : Building) (more : built.Forest) → eqb s TYPE ≡ false
+    → later_building.above ≡ building.above → later_building.here ≡ built.join building.here more
+    → stack building ≡ image (frame s q forest ∷ fs) → stack later_building ≡ image (frame TYPE q' more_trees ∷ frame s q forest ∷ fs)
+    → stack (wrap (built_count building) kind.NON_NULL_TYPE later_building) ≡ (NON_NULL_TYPE, shows more_trees) ∷ image (frame s q forest ∷ fs)
+stack-wrap s q q' forest more_trees fs building later_building more ty a h st su =
+    ap stack (wrap-added kind.NON_NULL_TYPE building later_building more a h)
+    ∙ ap₂ (λ (x : Forest) (this_stack : Stack). (NON_NULL_TYPE, x) ∷ this_stack)
+    (added-type s q q' forest more_trees fs building later_building more ty a h st su) st

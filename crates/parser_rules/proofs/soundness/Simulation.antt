@@ -4,9 +4,11 @@
 -- (`StateFits`), and that the check of the rest holds there; a run ends with the same for the rest after it, or with a right first report
 -- (`RunOutcome`). The other lemmas are the cases of that induction that are not one line.
 --
--- The letters are those of `TableCheck`; besides: `n` is the fuel, `fs` the machine's open nodes above the one of the symbol `s`, `st`, `t`, `u`
--- and `v` are states of the parser in the order of the run, `g` is that the first of them fits, and `h` the check.
-use Rattle.std.proofs.Common.{◌≡◌, ℕ, zero, suc, ◌+◌, ◌<◌, max, Bool, true, false, cond, eqb, List, [], ◌∷◌, refl, sym, ap, ◌∙◌, subst, inl, inr, eqb-true, leb-false}
+-- The names are those of `TableCheck`; besides: `R` is the parser's input, `n` the fuel, `fs` the machine's open nodes above the innermost one,
+-- `st`, `next_state`, `later` and `last` are states of the parser in the order of the run, `state_fits` says that the first of them fits, and `h` is
+-- the check.
+use Rattle.std.proofs.Common.{◌≡◌, ℕ, zero, suc, ◌+◌, ◌<◌, max, Bool, true, false, cond, eqb, List, [], ◌∷◌, refl, sym, ap, ◌∙◌, subst, inl, inr, eqb-true}
+use Rattle.std.proofs.Common.{leb-false}
 use Rattle.lexical_grammar.specs.declared.TokenKind.TheVariants as token
 use Rattle.document_grammar.specs.declared.kind.SyntaxKind.TheVariants as kind
 use Rattle.document_grammar.specs.Kinds.{BANG, NON_NULL_TYPE}
@@ -23,7 +25,7 @@ use Rattle.grammar_machine.proofs.Sound.{any, reach-sound}
 use Rattle.grammar_machine.proofs.MachineTheorems.{no-leaf as start-no-leaf}
 use Rattle.std.specs.Prelude.{⊤}
 use Rattle.parser_rules.specs.State.{State, flush, opened, closed, wrapped_from, bump, is_deep, enter, leave}
-use Rattle.parser_rules.specs.Nodes.{Node, symbol, kind_of}
+use Rattle.parser_rules.specs.Nodes.{Node, symbol as symbol_of, kind_of}
 use Rattle.parser_rules.specs.RuleLanguage.{Test, At, holds, Prim, Bump, Note, step, Rule, While, Nested}
 use Rattle.parser_rules.specs.Rules.{inside, body}
 use Rattle.parser_rules.specs.Runs.{Runs, skip, does, seq, yes, no, done, again, child, limited, deeper, refused, call, plain, wrapped}
@@ -32,35 +34,47 @@ use Rattle.parser_rules.proofs.runs.Frame.{Adds, adds}
 use Rattle.parser_rules.proofs.soundness.WithoutIgnored.{put-none, Stack, stack, put, stack-finish}
 use Rattle.parser_rules.proofs.reports.NoReport.{rest, Grows, grows-on}
 use Rattle.parser_rules.proofs.lookahead.MachineClasses.{sees-next}
-use Rattle.parser_rules.proofs.lookahead.Split.{Level, NotEntered, Entered, Left, Certainty, Nothing, OpenWhateverFollows, AtLimit, Position, in_row, machine_is_stuck, with_limit_known, divide, divide-at, at_start}
+use Rattle.parser_rules.proofs.lookahead.Split.{Level, NotEntered, Entered, Left, Certainty, Nothing, OpenWhateverFollows, AtLimit, Position, in_row}
+use Rattle.parser_rules.proofs.lookahead.Split.{machine_is_stuck, with_limit_known, divide, divide-at, at_start}
 use Rattle.parser_rules.proofs.lookahead.TokenSets.{class_of, seen-more, near-at}
 use Rattle.parser_rules.proofs.lookahead.FirstSets.{first_of, second_of, inlined}
 use Rattle.parser_rules.proofs.soundness.MachineStack.{image, image-some, image-plain, show-bang, stack-wrap}
 use Rattle.parser_rules.proofs.soundness.Settled.{fitting-image, fitting-path}
-use Rattle.parser_rules.proofs.soundness.TableCheck.{LoopState, most_turns, Then, same_level, same_certainty, limit_forgotten, same_position, covered, turns, levels_agree, level_is_entered, level_left, takes_token, after_node, after_inlined, after_stuck_node, child_begins, child_while_stuck, child_at, may_report_limit, enters_level, after_type, type_at, keeps_to_table, node_may_end, follows_table, bang_follows, no_bang_follows}
+use Rattle.parser_rules.proofs.soundness.TableCheck.{LoopState, most_turns, Then, same_level, same_certainty, limit_forgotten, same_position, covered, turns}
+use Rattle.parser_rules.proofs.soundness.TableCheck.{levels_agree, level_is_entered, level_left, takes_token, after_node, after_inlined, after_stuck_node}
+use Rattle.parser_rules.proofs.soundness.TableCheck.{child_begins, child_while_stuck, child_at, may_report_limit, enters_level, after_type, type_at}
+use Rattle.parser_rules.proofs.soundness.TableCheck.{keeps_to_table, node_may_end, follows_table, bang_follows, no_bang_follows}
 use Rattle.parser_rules.proofs.NodeChecks.{node-passes}
-use Rattle.parser_rules.proofs.soundness.Positions.{ParserInput, unread-rest, OnlyBuilds, same-builds, flush-builds, opened-builds, closed-builds, wrapped-builds, renested, leave-unread, unread-seen, unread-grows, run-grows, top, Made, OpenNodesAgree, PositionHolds, StateFits, Continues, RunOutcome, rightly-on, limit-known-holds, certainty-forgotten, start_begins, unread-no-report, shown, note-rightly, limit-rightly, taken-at, unread-stuck, leveled-enter, leveled-leave, still-leveled, moved-on}
-use Rattle.parser_rules.proofs.soundness.Moves.{next-classes, stuck-at, report-right, made-passes, goes-deeper, too-many, flushed, Shaped, token-taken, bump-outcome, begun, node-begun, ended, inlined-ended, rightly-closed, with-sets, node-outcome, inlined-outcome, stuck-outcome}
+use Rattle.parser_rules.proofs.soundness.Positions.{ParserInput, unread-rest, OnlyBuilds, same-builds, flush-builds, opened-builds, closed-builds}
+use Rattle.parser_rules.proofs.soundness.Positions.{wrapped-builds, renested, leave-unread, unread-seen, unread-grows, run-grows, top, Made, OpenNodesAgree}
+use Rattle.parser_rules.proofs.soundness.Positions.{PositionHolds, StateFits, Continues, RunOutcome, rightly-on, limit-known-holds, certainty-forgotten}
+use Rattle.parser_rules.proofs.soundness.Positions.{start_begins, unread-no-report, shown, note-rightly, limit-rightly, taken-at, unread-stuck, leveled-enter}
+use Rattle.parser_rules.proofs.soundness.Positions.{leveled-leave, still-leveled, moved-on}
+use Rattle.parser_rules.proofs.soundness.Moves.{next-classes, stuck-at, report-right, made-passes, goes-deeper, too-many, flushed, Shaped, token-taken}
+use Rattle.parser_rules.proofs.soundness.Moves.{bump-outcome, begun, node-begun, ended, inlined-ended, rightly-closed, with-sets, node-outcome, inlined-outcome}
+use Rattle.parser_rules.proofs.soundness.Moves.{stuck-outcome}
 
 module _ (R : ParserInput) where
   open R use {words as w}
 
   -- ---- loops
 
-  level-same : (l m : Level) → same_level l m ≡ true → l ≡ m
+  level-same : (level other_level : Level) → same_level level other_level ≡ true → level ≡ other_level
   level-same NotEntered NotEntered h = refl
   level-same Entered Entered h = refl
   level-same Left Left h = refl
   level-same _ _ h = false-true refl h
 
-  certainty-same : (d e : Certainty) → same_certainty d e ≡ true → d ≡ e
+  certainty-same : (certainty other_certainty : Certainty) → same_certainty certainty other_certainty ≡ true → certainty ≡ other_certainty
   certainty-same Nothing Nothing h = refl
   certainty-same OpenWhateverFollows OpenWhateverFollows h = refl
   certainty-same AtLimit AtLimit h = refl
   certainty-same _ _ h = false-true refl h
 
-  position-same : (p q : Position) → same_position p q ≡ true → p ≡ q
-  position-same (in_row p l d) (in_row q m e) h = let i = eqb-true p q (and-l _ _ h) in let j = level-same l m (and-l _ _ (and-r _ _ h)) in let k = certainty-same d e (and-r _ _ (and-r _ _ h)) in cc (i, j, k)
+  position-same : (position other_position : Position) → same_position position other_position ≡ true → position ≡ other_position
+  position-same (in_row p level certainty) (in_row state other_level other_certainty) h = let i = eqb-true p state (and-l _ _ h) in
+      let j = level-same level other_level (and-l _ _ (and-r _ _ h)) in let k = certainty-same certainty other_certainty (and-r _ _ (and-r _ _ h)) in
+      cc (i, j, k)
   position-same machine_is_stuck machine_is_stuck h = refl
   position-same _ _ h = false-true refl h
 
@@ -68,109 +82,163 @@ module _ (R : ParserInput) where
   -- for its number of turns.
   Met : (Position → ℕ → ℕ → Then → Bool) → List LoopState → Type 0
   Met turn [] = ⊤
-  Met turn (m ∷ h) = ((n : ℕ) × (turn m.position m.now m.after (turns n turn (m ∷ h)) ≡ true)) × Met turn h
+  Met turn (loop_state ∷ h) = ((n : ℕ) × (turn loop_state.position loop_state.now loop_state.after (turns n turn (loop_state ∷ h)) ≡ true)) × Met turn h
 
   -- a state of the loop at which a turn begins, with its check
-  record LoopHead (turn : Position → ℕ → ℕ → Then → Bool) (s : ℕ) (fs : List Frame) (st : State) : Type 0 where
+  record LoopHead (turn : Position → ℕ → ℕ → Then → Bool) (symbol : ℕ) (fs : List Frame) (st : State) : Type 0 where
     count : ℕ
     states : List LoopState
     met : Met turn states
-    goes_on : Continues R s fs (λ p x y. turn p x y (turns count turn states)) st
+    goes_on : Continues R symbol fs (λ p x y. turn p x y (turns count turn states)) st
 
   -- where a state was met that covers this one, the turn goes on from there: its sets are larger, and the parser's state fits them too
-  met-at : (turn : Position → ℕ → ℕ → Then → Bool) (s : ℕ) (p : Position) (x y : ℕ) (fs : List Frame) (st : State) (h : List LoopState) → covered p x y h ≡ true → Met turn h → StateFits R s p x y fs st → LoopHead turn s fs st
+  met-at : (turn : Position → ℕ → ℕ → Then → Bool) (symbol : ℕ) (position : Position) (now after : ℕ) (fs : List Frame) (st : State) (h : List LoopState)
+      → covered position now after h ≡ true → Met turn h → StateFits R symbol position now after fs st → LoopHead turn symbol fs st
   unfolding covered Met
-  met-at turn s p x y fs st [] c m g = false-true refl c
-  met-at turn s p x y fs st (m ∷ h) c e g = elim (or-c _ _ c) [
+  met-at turn symbol position now after fs st [] c m state_fits = false-true refl c
+  met-at turn symbol position now after fs st (loop_state ∷ h) c e state_fits = elim (or-c _ _ c) [
     | inl i ↦ (
-        let f = subst (λ (z : Position). StateFits R s z x y fs st) (position-same p m.position (and-l _ _ i)) g in
-        record { count = e.0.0; states = m ∷ h; met = e; goes_on = (m.position, m.now, m.after, e.0.1, with-sets R f (seen-more x y m.now m.after st (and-r _ _ i) g.seen)) })
-    | inr i ↦ met-at turn s p x y fs st h i e.1 g
+        let f = subst (λ (z : Position). StateFits R symbol z now after fs st) (position-same position loop_state.position (and-l _ _ i)) state_fits in
+        record {
+          count = e.0.0;
+          states = loop_state ∷ h;
+          met = e;
+          goes_on = (
+            loop_state.position,
+            loop_state.now,
+            loop_state.after,
+            e.0.1,
+            with-sets R f (seen-more now after loop_state.now loop_state.after st (and-r _ _ i) state_fits.seen),
+          );
+        })
+    | inr i ↦ met-at turn symbol position now after fs st h i e.1 state_fits
   ]
 
   -- each turn begins at a state of the loop: one that was met, or a new one, which is met from now on
-  head-at : (turn : Position → ℕ → ℕ → Then → Bool) (n s : ℕ) (p : Position) (x y : ℕ) (fs : List Frame) (st : State) (h : List LoopState) → turns n turn h p x y ≡ true → Met turn h → StateFits R s p x y fs st → LoopHead turn s fs st
+  head-at : (turn : Position → ℕ → ℕ → Then → Bool) (n symbol : ℕ) (this_position : Position) (x y : ℕ) (fs : List Frame) (st : State) (h : List LoopState)
+      → turns n turn h this_position x y ≡ true → Met turn h → StateFits R symbol this_position x y fs st → LoopHead turn symbol fs st
   unfolding turns Met
-  head-at turn zero s p x y fs st h c m g = met-at turn s p x y fs st h c m g
-  head-at turn (suc n) s p x y fs st h c m g = elim (either (covered p x y h)) [
-    | inl i ↦ met-at turn s p x y fs st h i m g
-    | inr i ↦ let d = rw (turns, i) at c in record { count = n; states = record { position = p; now = x; after = y } ∷ h; met = ((n, d), m); goes_on = (p, x, y, d, g) }
+  head-at turn zero symbol this_position x y fs st h c m state_fits = met-at turn symbol this_position x y fs st h c m state_fits
+  head-at turn (suc n) symbol this_position x y fs st h c m state_fits = elim (either (covered this_position x y h)) [
+    | inl i ↦ met-at turn symbol this_position x y fs st h i m state_fits
+    | inr i ↦ let d = rw (turns, i) at c in record {
+      count = n;
+      states = record { position = this_position; now = x; after = y } ∷ h;
+      met = ((n, d), m);
+      goes_on = (this_position, x, y, d, state_fits);
+    }
   ]
 
   -- A test: the check has split the sets, so it holds for the branch that is taken, with the part of the sets that the tokens are in.
-  branch : (t : Test) (b : Bool) (s : ℕ) (fs : List Frame) (st : State) (f g : Then) → b ≡ holds t st → Continues R s fs (λ p x y. divide (λ a b. a and b) true t p x y f g) st → Continues R s fs (cond b f g) st
-  branch t b s fs st f g e (p, x, y, h, c) =
-      let r = divide-at st (λ (p : Position). PositionHolds R s p fs st) (limit-known-holds R s fs st) t b p x y f g (shown R st c.no_report) e h c.seen c.position in
+  branch : (test : Test) (b : Bool) (symbol : ℕ) (fs : List Frame) (st : State) (then next_then : Then) → b ≡ holds test st
+      → Continues R symbol fs (λ p x y. divide (λ a b. a and b) true test p x y then next_then) st → Continues R symbol fs (cond b then next_then) st
+  branch test b symbol fs st then next_then e (p, x, y, h, c) =
+      let r = divide-at st (λ (p : Position). PositionHolds R symbol p fs st) (limit-known-holds R symbol fs st) test b p x y then next_then
+      (shown R st c.no_report) e h c.seen c.position in
       (r.0, r.1, r.2, r.3, record { no_report = c.no_report; seen = r.4; position = r.5 })
 
   -- ---- runs
 
   -- the check of one turn of a loop, where `next` is what follows the turn
   abbrev loop_turn : ℕ → ℕ → Test → Rule → Then → Position → ℕ → ℕ → Then → Bool
-  loop_turn n s t a k p u v next = divide (λ a' b'. a' and b') true t p u v (λ q' u' v'. keeps_to_table n s q' u' v' a next) k
+  loop_turn n symbol test rule then position u v next = divide (λ a' b'. a' and b') true test position u v
+      (λ q' u' v'. keeps_to_table n symbol q' u' v' rule next) then
 
   -- What is asked of a rule. A loop's run is another run of the loop after a turn, so for a loop it is not the check from the loop's beginning,
   -- but the check of the turns that are left, with the states that were met.
   pub Checked : ℕ → ℕ → Position → ℕ → ℕ → Rule → Then → Type 0
-  Checked n s p x y (While t a) k = (j : ℕ) × (h : List LoopState) × (turns j (loop_turn n s t a k) h p x y ≡ true) × Met (loop_turn n s t a k) h
-  Checked n s p x y r k = keeps_to_table n s p x y r k ≡ true
+  Checked n symbol position now after (While test rule) then = (j : ℕ) × (h : List LoopState)
+      × (turns j (loop_turn n symbol test rule then) h position now after ≡ true) × Met (loop_turn n symbol test rule then) h
+  Checked n symbol position now after rule then = keeps_to_table n symbol position now after rule then ≡ true
 
-  pub checked : (n s : ℕ) (p : Position) (x y : ℕ) (r : Rule) (k : Then) → keeps_to_table n s p x y r k ≡ true → Checked n s p x y r k
+  pub checked : (n symbol : ℕ) (position : Position) (now after : ℕ) (rule : Rule) (then : Then) → keeps_to_table n symbol position now after rule then ≡ true
+      → Checked n symbol position now after rule then
   unfolding Checked keeps_to_table Met
-  checked n s p x y (While t a) k h = (most_turns, [], h, tt)
-  checked n s p x y _ k h = h
+  checked n symbol position now after (While test rule) then h = (most_turns, [], h, tt)
+  checked n symbol position now after _ then h = h
 
   -- what the induction says of a run: from any position and sets for which the check holds and that the first state fits
   abbrev Simulates : Rule → State → State → Type 0
-  Simulates r t u = (n s : ℕ) (p : Position) (x y : ℕ) (fs : List Frame) (k : Then) → Checked n s p x y r k → StateFits R s p x y fs t → RunOutcome R s fs k u
+  Simulates rule next_state later = (n symbol : ℕ) (position : Position) (now after : ℕ) (fs : List Frame) (then : Then)
+      → Checked n symbol position now after rule then → StateFits R symbol position now after fs next_state → RunOutcome R symbol fs then later
 
-  simulated : (r : Rule) {t u : State} → Simulates r t u → (n s : ℕ) (fs : List Frame) (k : Then) → Continues R s fs (λ p x y. keeps_to_table n s p x y r k) t → RunOutcome R s fs k u
-  simulated r walk n s fs k (p, x, y, h, g) = walk n s p x y fs k (checked n s p x y r k h) g
+  simulated : (rule : Rule) {next_state later : State} → Simulates rule next_state later → (n symbol : ℕ) (fs : List Frame) (then : Then)
+      → Continues R symbol fs (λ p x y. keeps_to_table n symbol p x y rule then) next_state → RunOutcome R symbol fs then later
+  simulated rule walk n symbol fs then (p, x, y, h, g) = walk n symbol p x y fs then (checked n symbol p x y rule then h) g
 
   -- One run after another: where the first one has reported, what is built later leaves that report right (`Grows`).
-  then-on : (s : ℕ) (fs : List Frame) (f k : Then) (t u : State) → Grows t u → (Continues R s fs f t → RunOutcome R s fs k u) → RunOutcome R s fs f t → RunOutcome R s fs k u
-  then-on s fs f k t u g on (inl o) = inl (rightly-on R t u g o)
-  then-on s fs f k t u g on (inr o) = on o
+  then-on : (symbol : ℕ) (fs : List Frame) (then next_then : Then) (next_state later : State) → Grows next_state later
+      → (Continues R symbol fs then next_state → RunOutcome R symbol fs next_then later) → RunOutcome R symbol fs then next_state
+      → RunOutcome R symbol fs next_then later
+  then-on symbol fs then next_then next_state later grows on (inl o) = inl (rightly-on R next_state later grows o)
+  then-on symbol fs then next_then next_state later grows on (inr o) = on o
 
   -- The machine begins the node. An inlined one is walked in its parent's check, with the knowledge of the next two tokens; of any other the check
   -- of its kind is taken, which holds for all tokens that may begin it, with fuel of its own: so the nesting of a text needs no fuel.
-  node-begins : (n s q x y : ℕ) (l : Level) (d : Certainty) (c : Node) (fs : List Frame) (k : Then) (st t u : State) → t ≡ opened (kind_of c) st → Simulates (inside c) t u
-      → child_begins s q l x y c k (λ u v k'. keeps_to_table n (symbol c) at_start u v (inside c) k') ≡ true → StateFits R s (in_row q l d) x y fs st → RunOutcome R s fs k (closed u)
+  node-begins : (n symbol state now after : ℕ) (level : Level) (certainty : Certainty) (this_node : Node) (fs : List Frame) (then : Then)
+      (st next_state u : State) → next_state ≡ opened (kind_of this_node) st → Simulates (inside this_node) next_state u
+      → child_begins symbol state level now after this_node then (λ u v k'. keeps_to_table n (symbol_of this_node) at_start u v (inside this_node) k') ≡ true
+      → StateFits R symbol (in_row state level certainty) now after fs st → RunOutcome R symbol fs then (closed u)
   unfolding child_begins follows_table
-  node-begins n s q x y l d c fs k st t u e walk h g =
-      let j : ℕ = symbol c in
-      let p : Position = in_row (target s q j) l OpenWhateverFollows in
-      let gs : List Frame = frame s q g.position.0.children ∷ fs in
-      let agree : levels_agree s l j ≡ true = and-r _ _ (and-l _ _ h) in
-      let b : StateFits R j at_start x y gs t = rw e (node-begun R c g (and-l _ _ (and-l _ _ h)) agree) in
-      (elim (inlined c) as (λ i. cond i (keeps_to_table n j at_start x y (inside c) (after_inlined j p k)) ((subset x (first_of c) and subset y (second_of c)) and after_node p c k) ≡ true → RunOutcome R s fs k (closed u)) [
-        | true ↦ λ m. inlined-outcome R c k u g.position.0 agree (simulated (inside c) walk n j gs (after_inlined j p k) (at_start, x, y, m, b))
-        | false ↦ λ m. node-outcome R c k u g.position.0 agree (and-r _ _ m)
-            (simulated (inside c) walk rules_deep j gs (node_may_end c) (at_start, first_of c, second_of c, and-r _ _ (node-passes c).table, with-sets R b (seen-more x y _ _ t (and-l _ _ m) b.seen)))
+  node-begins n symbol state now after level certainty this_node fs then st next_state later e walk h state_fits =
+      let j : ℕ = symbol_of this_node in
+      let position : Position = in_row (target symbol state j) level OpenWhateverFollows in
+      let gs : List Frame = frame symbol state state_fits.position.0.children ∷ fs in
+      let agree : levels_agree symbol level j ≡ true = and-r _ _ (and-l _ _ h) in
+      let second_state_fits : StateFits R j at_start now after gs next_state = rw e (node-begun R this_node state_fits (and-l _ _ (and-l _ _ h)) agree) in
+      (elim (inlined this_node) as (λ i. cond i (keeps_to_table n j at_start now after (inside this_node) (after_inlined j position then))
+      ((subset now (first_of this_node) and subset after (second_of this_node)) and after_node position this_node then) ≡ true
+      → RunOutcome R symbol fs then (closed later)) [
+        | true ↦ λ m. inlined-outcome R this_node then later state_fits.position.0 agree
+            (simulated (inside this_node) walk n j gs (after_inlined j position then) (at_start, now, after, m, second_state_fits))
+        | false ↦ λ m. node-outcome R this_node then later state_fits.position.0 agree (and-r _ _ m)
+            (simulated (inside this_node) walk rules_deep j gs (node_may_end this_node) (
+              at_start,
+              first_of this_node,
+              second_of this_node,
+              and-r _ _ (node-passes this_node).table,
+              with-sets R second_state_fits
+                  (seen-more now after _ _ next_state (and-l _ _ m) second_state_fits.seen),
+            ))
       ]) (and-r _ _ h)
 
   -- The machine is stuck before the node. The rule goes on until its first report, which is then right, whatever nodes are opened before that; the
   -- machine's open nodes stay those of the parent.
-  begins-while-stuck : (n s x y : ℕ) (c : Node) (fs : List Frame) (k : Then) (st t u : State) → t ≡ opened (kind_of c) st → Simulates (inside c) t u
-      → keeps_to_table n s machine_is_stuck x y (inside c) (after_stuck_node k) ≡ true → StateFits R s machine_is_stuck x y fs st → RunOutcome R s fs k (closed u)
-  begins-while-stuck n s x y c fs k st t u e walk h g =
-      let a = (opened-builds (kind_of c) st).reads_nothing in
-      stuck-outcome R k u (simulated (inside c) walk n s fs (after_stuck_node k) (machine_is_stuck, x, y, h, rw e (moved-on R g a (unread-stuck R a g.position))))
+  begins-while-stuck : (n symbol now after : ℕ) (this_node : Node) (fs : List Frame) (then : Then) (st next_state later : State)
+      → next_state ≡ opened (kind_of this_node) st → Simulates (inside this_node) next_state later
+      → keeps_to_table n symbol machine_is_stuck now after (inside this_node) (after_stuck_node then) ≡ true
+      → StateFits R symbol machine_is_stuck now after fs st → RunOutcome R symbol fs then (closed later)
+  begins-while-stuck n symbol now after this_node fs then st next_state later e walk h state_fits =
+      let a = (opened-builds (kind_of this_node) st).reads_nothing in
+      stuck-outcome R then later (simulated (inside this_node) walk n symbol fs (after_stuck_node then) (
+        machine_is_stuck,
+        now,
+        after,
+        h,
+        rw e (moved-on R state_fits a (unread-stuck R a state_fits.position)),
+      ))
 
   -- A node is the machine's exactly where the current token may begin it, so both cases are checked, and the token decides.
-  child-simulated : (n s : ℕ) (p : Position) (x y : ℕ) (c : Node) (fs : List Frame) (k : Then) (st t u : State) → t ≡ opened (kind_of c) st → Simulates (inside c) t u
-      → child_at s p x y c k (λ u v k'. keeps_to_table n (symbol c) at_start u v (inside c) k') (λ u v. keeps_to_table n s machine_is_stuck u v (inside c) (after_stuck_node k)) ≡ true
-      → StateFits R s p x y fs st → RunOutcome R s fs k (closed u)
+  child-simulated : (n symbol : ℕ) (this_position : Position) (now after : ℕ) (this_node : Node) (fs : List Frame) (then : Then) (st next_state u : State)
+      → next_state ≡ opened (kind_of this_node) st → Simulates (inside this_node) next_state u
+      → child_at symbol this_position now after this_node then (λ u v k'. keeps_to_table n (symbol_of this_node) at_start u v (inside this_node) k')
+      (λ u v. keeps_to_table n symbol machine_is_stuck u v (inside this_node) (after_stuck_node then)) ≡ true
+      → StateFits R symbol this_position now after fs st → RunOutcome R symbol fs then (closed u)
   unfolding child_at child_while_stuck
-  child-simulated n s machine_is_stuck x y c fs k st t u e walk h g = begins-while-stuck n s x y c fs k st t u e walk h g
-  child-simulated n s (in_row q l d) x y c fs k st t u e walk h g =
-      let f : ℕ → ℕ → Bool = λ u v. child_begins s q l u v c k (λ u v k'. keeps_to_table n (symbol c) at_start u v (inside c) k') in
-      let f' : ℕ → ℕ → Bool = λ u v. child_while_stuck s q u v (λ u v. keeps_to_table n s machine_is_stuck u v (inside c) (after_stuck_node k)) in
-      elim (either (within (class_of st.current) (first_of c))) [
-        | inl i ↦ (let r = near-at true (first_of c) x y f f' st (sym i) h g.seen in node-begins n s q r.0 r.1 l d c fs k st t u e walk r.2 (with-sets R g r.3))
+  child-simulated n symbol machine_is_stuck now after this_node fs then st next_state later e walk h state_fits =
+      begins-while-stuck n symbol now after this_node fs then st next_state later e walk h state_fits
+  child-simulated n symbol (in_row state level certainty) now after this_node fs then st next_state u e walk h state_fits =
+      let f : ℕ → ℕ → Bool = λ u v. child_begins symbol state level u v this_node then
+      (λ u v k'. keeps_to_table n (symbol_of this_node) at_start u v (inside this_node) k') in
+      let f' : ℕ → ℕ → Bool = λ u v. child_while_stuck symbol state u v (λ u v. keeps_to_table n symbol machine_is_stuck u v (inside this_node)
+      (after_stuck_node then)) in
+      elim (either (within (class_of st.current) (first_of this_node))) [
+        | inl i ↦ (let r = near-at true (first_of this_node) now after f f' st (sym i) h state_fits.seen in
+            node-begins n symbol state r.0 r.1 level certainty this_node fs then st next_state u e walk r.2 (with-sets R state_fits r.3))
         | inr i ↦ (
-            let r = near-at false (first_of c) x y f f' st (sym i) h g.seen in
-            begins-while-stuck n s r.0 r.1 c fs k st t u e walk (and-r _ _ r.2) (record { no_report = g.no_report; seen = r.3; position = stuck-at R (with-sets R g r.3) (and-l _ _ r.2) }))
+            let r = near-at false (first_of this_node) now after f f' st (sym i) h state_fits.seen in
+            begins-while-stuck n symbol r.0 r.1 this_node fs then st next_state u e walk (and-r _ _ r.2)
+            (record { no_report = state_fits.no_report; seen = r.3; position = stuck-at R (with-sets R state_fits r.3) (and-l _ _ r.2) }))
       ]
 
   -- ---- types
@@ -178,103 +246,138 @@ module _ (R : ParserInput) where
   -- The machine opens its node of a type before it is known whether a `!` follows. The builder opens a node only when one does, around what was
   -- added since: so in between the machine has one open node more than the builder.
 
-  type-begins : (n s q x y : ℕ) (l : Level) (d : Certainty) (a : Rule) (fs : List Frame) (k : Then) (st t u : State) → t ≡ flush st → Simulates a t u
-      → type_at s (in_row q l d) x y k (λ k'. keeps_to_table n TYPE at_start x y a k') ≡ true → (g : StateFits R s (in_row q l d) x y fs st)
-      → RunOutcome R TYPE (frame s q g.position.0.children ∷ fs) (after_type (in_row (target s q TYPE) l OpenWhateverFollows) k) u
+  type-begins : (n symbol state now after : ℕ) (level : Level) (certainty : Certainty) (rule : Rule) (fs : List Frame) (then : Then)
+      (st next_state later : State) → next_state ≡ flush st → Simulates rule next_state later
+      → type_at symbol (in_row state level certainty) now after then (λ k'. keeps_to_table n TYPE at_start now after rule k') ≡ true
+      → (state_fits : StateFits R symbol (in_row state level certainty) now after fs st)
+      → RunOutcome R TYPE (frame symbol state state_fits.position.0.children ∷ fs)
+      (after_type (in_row (target symbol state TYPE) level OpenWhateverFollows) then) later
   unfolding type_at flush is_leaf
-  type-begins n s q x y l d a fs k st t u e walk h g =
-      let gs : List Frame = frame s q g.position.0.children ∷ fs in
+  type-begins n symbol state now after level certainty rule fs then st next_state later e walk h state_fits =
+      let gs : List Frame = frame symbol state state_fits.position.0.children ∷ fs in
       let m = and-l _ _ h in
-      let b : StateFits R TYPE at_start x y gs (flush st) = begun R TYPE g refl refl (and-l _ _ m) (and-l _ _ (and-r _ _ m)) (flush-builds st) (λ i. flushed R st g.no_report ∙ (i ∙ sym (put-none (image gs)))) in
-      simulated a walk n TYPE gs (after_type (in_row (target s q TYPE) l OpenWhateverFollows) k) (at_start, x, y, and-r _ _ h, rw e b)
+      let second_state_fits : StateFits R TYPE at_start now after gs (flush st) = begun R TYPE state_fits refl refl (and-l _ _ m) (and-l _ _ (and-r _ _ m))
+      (flush-builds st) (λ i. flushed R st state_fits.no_report ∙ (i ∙ sym (put-none (image gs)))) in
+      simulated rule walk n TYPE gs (after_type (in_row (target symbol state TYPE) level OpenWhateverFollows) then) (
+        at_start,
+        now,
+        after,
+        and-r _ _ h,
+        rw e second_state_fits,
+      )
 
   -- one child of the type is there
-  one-path : {q : ℕ} {l : Level} {fs : List Frame} {u : State} (c : OpenNodesAgree R TYPE q l fs u) → eqb q 1 ≡ true → Path TYPE 0 c.children 1
-  one-path c e = subst (λ (n : ℕ). Path TYPE 0 c.children n) (eqb-true _ _ e) (reach-sound (start-no-leaf (top R) (start_begins R)) c.place.reach).1
+  one-path : {state : ℕ} {level : Level} {fs : List Frame} {later : State} (open_nodes_agree : OpenNodesAgree R TYPE state level fs later) → eqb state 1 ≡ true
+      → Path TYPE 0 open_nodes_agree.children 1
+  one-path open_nodes_agree e = subst (λ (n : ℕ). Path TYPE 0 open_nodes_agree.children n) (eqb-true _ _ e)
+      (reach-sound (start-no-leaf (top R) (start_begins R)) open_nodes_agree.place.reach).1
 
   -- no `!` follows: the machine ends its node, of which the builder has the child alone
-  plain-type : (n s : ℕ) (p : Position) (x y : ℕ) (a : Rule) (fs : List Frame) (k : Then) (st t u : State) → t ≡ flush st → Simulates a t u → false ≡ holds (At token.Bang) u
-      → type_at s p x y k (λ k'. keeps_to_table n TYPE at_start x y a k') ≡ true → StateFits R s p x y fs st → RunOutcome R s fs k u
+  plain-type : (n symbol : ℕ) (position : Position) (now after : ℕ) (rule : Rule) (fs : List Frame) (then : Then) (st next_state later : State)
+      → next_state ≡ flush st → Simulates rule next_state later → false ≡ holds (At token.Bang) later
+      → type_at symbol position now after then (λ k'. keeps_to_table n TYPE at_start now after rule k') ≡ true → StateFits R symbol position now after fs st
+      → RunOutcome R symbol fs then later
   unfolding type_at after_type
-  plain-type n s machine_is_stuck x y a fs k st t u e walk b h g = false-true refl h
-  plain-type n s (in_row q l d) x y a fs k st t u e walk b h g = elim (type-begins n s q x y l d a fs k st t u e walk h g) [
-    | inl o ↦ inl o
-    | inr o ↦ inr (on (branch (At token.Bang) false TYPE gs u (bang_follows p k) (no_bang_follows p k) b o))
-  ]
+  plain-type n symbol machine_is_stuck now after rule fs then st next_state later e walk b h state_fits = false-true refl h
+  plain-type n symbol (in_row state level certainty) x y rule fs then st t later e walk b h state_fits =
+      elim (type-begins n symbol state x y level certainty rule fs then st t later e walk h state_fits) [
+        | inl o ↦ inl o
+        | inr o ↦ inr (on (branch (At token.Bang) false TYPE gs later (bang_follows p then) (no_bang_follows p then) b o))
+      ]
     where
       p : Position
-      p = in_row (target s q TYPE) l OpenWhateverFollows
+      p = in_row (target symbol state TYPE) level OpenWhateverFollows
 
       gs : List Frame
-      gs = frame s q g.position.0.children ∷ fs
+      gs = frame symbol state state_fits.position.0.children ∷ fs
 
-      on : Continues R TYPE gs (no_bang_follows p k) u → Continues R s fs k u
+      on : Continues R TYPE gs (no_bang_follows p then) later → Continues R symbol fs then later
       on (machine_is_stuck, x, y, t, i) = false-true refl (and-l _ _ t)
-      on (in_row q' m d, x, y, t, i) = inlined-ended R g.position.0 k (and-l _ _ (and-r _ _ (and-l _ _ h))) (and-r _ _ t) i (same-builds u)
-          (i.position.0.built ∙ image-plain s q q g.position.0.children i.position.0.children fs (one-path i.position.0 (and-l _ _ t)))
+      on (in_row q' other_level certainty, x, y, t, i) = inlined-ended R state_fits.position.0 then (and-l _ _ (and-r _ _ (and-l _ _ h))) (and-r _ _ t) i
+          (same-builds later)
+          (i.position.0.built ∙ image-plain symbol state state state_fits.position.0.children i.position.0.children fs (one-path i.position.0 (and-l _ _ t)))
 
   -- the builder's NON_NULL_TYPE is closed, which is what the machine's node is shown as
-  bang-built : (f : Forest) (fs : List Frame) (v : State) (x : Text) → Path TYPE 0 f 1 → stack v.tree ≡ (NON_NULL_TYPE, shows (f +++ (leaf BANG x ▸ none))) ∷ image fs
-      → stack (closed v).tree ≡ put (show (node TYPE (f +++ (leaf BANG x ▸ none))) ▸ none) (image fs)
+  bang-built : (forest : Forest) (fs : List Frame) (last : State) (text : Text) → Path TYPE 0 forest 1
+      → stack last.tree ≡ (NON_NULL_TYPE, shows (forest +++ (leaf BANG text ▸ none))) ∷ image fs
+      → stack (closed last).tree ≡ put (show (node TYPE (forest +++ (leaf BANG text ▸ none))) ▸ none) (image fs)
   unfolding closed
-  bang-built f fs v x p e = stack-finish v.tree (NON_NULL_TYPE, shows (f +++ (leaf BANG x ▸ none))) (image fs) (image-some fs) e ∙ ap (λ (t : Tree). put (t ▸ none) (image fs)) (sym (show-bang f x p))
+  bang-built forest fs last text path e = stack-finish last.tree (NON_NULL_TYPE, shows (forest +++ (leaf BANG text ▸ none))) (image fs) (image-some fs) e
+      ∙ ap (λ (t : Tree). put (t ▸ none) (image fs)) (sym (show-bang forest text path))
 
   -- A `!` follows: from the wrap on the builder has the machine's node, so the `!` is taken as any token is, but with this node innermost (`shape`).
-  wrapped-type : (n s : ℕ) (p : Position) (x y : ℕ) (a : Rule) (fs : List Frame) (k : Then) (st t u v w' : State) → t ≡ flush st → Simulates a t u → Adds t u
-      → v ≡ wrapped_from (built_count t.tree) kind.NON_NULL_TYPE u → Grows v w' → w' ≡ bump kind.BANG v → true ≡ holds (At token.Bang) u
-      → type_at s p x y k (λ k'. keeps_to_table n TYPE at_start x y a k') ≡ true → StateFits R s p x y fs st → RunOutcome R s fs k (closed w')
+  wrapped-type : (n symbol : ℕ) (this_position : Position) (now after : ℕ) (rule : Rule) (fs : List Frame) (then : Then)
+      (st next_state later last state : State) → next_state ≡ flush st → Simulates rule next_state later → Adds next_state later
+      → last ≡ wrapped_from (built_count next_state.tree) kind.NON_NULL_TYPE later → Grows last state → state ≡ bump kind.BANG last
+      → true ≡ holds (At token.Bang) later
+      → type_at symbol this_position now after then (λ k'. keeps_to_table n TYPE at_start now after rule k') ≡ true
+      → StateFits R symbol this_position now after fs st → RunOutcome R symbol fs then (closed state)
   unfolding type_at after_type takes_token after_inlined flush wrapped_from
-  wrapped-type n s machine_is_stuck x y a fs k st t u v w' e walk added i gr j b h g = false-true refl h
-  wrapped-type n s (in_row q l d) x y a fs k st t u v w' e walk added i gr j b h g = elim (type-begins n s q x y l d a fs k st t u e walk h g) [
-    | inl o ↦ inl (rightly-closed R w' (rightly-on R u w' (grows-on u v w' (unread-grows al.reads_nothing) gr) o))
-    | inr o ↦ on (branch (At token.Bang) true TYPE gs u (bang_follows p k) (no_bang_follows p k) b o)
-  ]
+  wrapped-type n symbol machine_is_stuck now after rule fs then st next_state later last state e walk added i gr j b h state_fits = false-true refl h
+  wrapped-type n symbol (in_row q level certainty) x y rule fs then st t later last state e walk added i gr j b h g =
+      elim (type-begins n symbol q x y level certainty rule fs then st t later e walk h g) [
+        | inl o ↦ inl (rightly-closed R state (rightly-on R later state (grows-on later last state (unread-grows al.reads_nothing) gr) o))
+        | inr o ↦ on (branch (At token.Bang) true TYPE gs later (bang_follows p then) (no_bang_follows p then) b o)
+      ]
     where
       p : Position
-      p = in_row (target s q TYPE) l OpenWhateverFollows
+      p = in_row (target symbol q TYPE) level OpenWhateverFollows
 
       gs : List Frame
-      gs = frame s q g.position.0.children ∷ fs
+      gs = frame symbol q g.position.0.children ∷ fs
 
-      none_equal : eqb s TYPE ≡ false
+      none_equal : eqb symbol TYPE ≡ false
       none_equal = not-c _ (and-r _ _ (and-r _ _ (and-l _ _ h)))
 
-      al : OnlyBuilds u v
-      al = rw i (wrapped-builds (built_count t.tree) kind.NON_NULL_TYPE u)
+      al : OnlyBuilds later last
+      al = rw i (wrapped-builds (built_count t.tree) kind.NON_NULL_TYPE later)
 
       -- the builder's open nodes: the node of the `!` and of the type before it is new
       shape : Forest → Stack
       shape f = (NON_NULL_TYPE, f) ∷ image gs
 
       shaped : Shaped R TYPE gs shape
-      shaped = record { joins = λ f g. refl; fits = λ q f r o. let h = reach-sound (start-no-leaf (top R) (start_begins R)) o in fitting-path TYPE 0 q NON_NULL_TYPE f gs (image gs) h.0 h.1 (fitting-image (top R) gs h.3) }
+      shaped = record {
+        joins = λ f g. refl;
+        fits = λ q f r o. let h = reach-sound (start-no-leaf (top R) (start_begins R)) o in
+            fitting-path TYPE 0 q NON_NULL_TYPE f gs (image gs) h.0 h.1 (fitting-image (top R) gs h.3);
+      }
 
       before : stack t.tree ≡ image gs
       before = ap (λ (z : State). stack z.tree) e ∙ (flushed R st g.no_report ∙ g.position.0.built)
 
-      on : Continues R TYPE gs (bang_follows p k) u → RunOutcome R s fs k (closed w')
+      on : Continues R TYPE gs (bang_follows p then) later → RunOutcome R symbol fs then (closed state)
       on (machine_is_stuck, x, y, t, c) = false-true refl (and-l _ _ t)
-      on (in_row q' m d, x, y, t', c) =
+      on (in_row q' other_level certainty, x, y, t', c) =
           let f : Forest = c.position.0.children in
-          let built : stack v.tree ≡ shape (shows f) = ap (λ (z : State). stack z.tree) i ∙ stack-wrap s q q' g.position.0.children f fs t.tree u.tree added.more none_equal added.trees.above added.trees.here before c.position.0.built in
-          subst (λ (z : State). RunOutcome R s fs k (closed z)) (sym j) (elim (token-taken R kind.BANG TYPE q' BANG x y m d f gs v shape (λ P. after_inlined TYPE p k P y any) (and-r _ _ t') shaped
-          (record { reach = rw (unread-rest al.reads_nothing) c.position.0.place.reach; leveled = still-leveled R al c.position.0.place.leveled; alone = c.position.0.place.alone })
+          let built : stack last.tree ≡ shape (shows f) = ap (λ (z : State). stack z.tree) i
+          ∙ stack-wrap symbol q q' g.position.0.children f fs t.tree later.tree added.more none_equal added.trees.above added.trees.here before
+          c.position.0.built in
+          subst (λ (z : State). RunOutcome R symbol fs then (closed z)) (sym j) (elim
+          (token-taken R kind.BANG TYPE q' BANG x y other_level certainty f gs last shape (λ P. after_inlined TYPE p then P y any) (and-r _ _ t') shaped
+          (record {
+            reach = rw (unread-rest al.reads_nothing) c.position.0.place.reach;
+            leveled = still-leveled R al c.position.0.place.leveled;
+            alone = c.position.0.place.alone;
+          })
           built (unread-no-report R al.reads_nothing c.no_report) (unread-seen x y al.reads_nothing c.seen)) [
-            | inl o ↦ inl (rightly-closed R (bump kind.BANG v) o)
+            | inl o ↦ inl (rightly-closed R (bump kind.BANG last) o)
             | inr o ↦ (
-                let w'' : State = bump kind.BANG v in
-                let g' : Forest = f +++ (leaf BANG o.first.1 ▸ none) in
+                let w'' : State = bump kind.BANG last in
+                let forest : Forest = f +++ (leaf BANG o.first.1 ▸ none) in
                 let c' = and-r _ _ (and-r _ _ (and-r _ _ t')) in
-                let done : stack (closed w'').tree ≡ put (show (node TYPE g') ▸ none) (image gs) = bang-built f gs w'' o.first.1 (one-path c.position.0 (and-l _ _ t')) o.built in
+                let done : stack (closed w'').tree ≡ put (show (node TYPE forest) ▸ none) (image gs) = bang-built f gs w'' o.first.1
+                (one-path c.position.0 (and-l _ _ t')) o.built in
                 inr (
-                  in_row (target s q TYPE + exit TYPE (target TYPE q' BANG)) l OpenWhateverFollows,
+                  in_row (target symbol q TYPE + exit TYPE (target TYPE q' BANG)) level OpenWhateverFollows,
                   y,
                   any,
                   and-r _ _ c',
                   record {
                     no_report = unread-no-report R (closed-builds w'').reads_nothing o.no_report;
                     seen = unread-seen y any (closed-builds w'').reads_nothing o.seen;
-                    position = ended R g.position.0 OpenWhateverFollows y (and-l _ _ (and-r _ _ (and-l _ _ h))) (and-l _ _ c') (sees-next y any w'' o.no_report.now o.seen).near o.certain o.place (closed-builds w'') done;
+                    position = ended R g.position.0 OpenWhateverFollows y (and-l _ _ (and-r _ _ (and-l _ _ h))) (and-l _ _ c')
+                        (sees-next y any w'' o.no_report.now o.seen).near o.certain o.place (closed-builds w'') done;
                   },
                 ))
           ])
@@ -284,71 +387,139 @@ module _ (R : ParserInput) where
   -- A level is entered only where each tree that goes on nests deeper (`goes-deeper`). So at every state the tree that the machine goes on to make
   -- nests at least as deep as the greatest depth; when the root ends, it nests no deeper.
 
-  level-simulated : (n s : ℕ) (p : Position) (x y : ℕ) (a b : Rule) (fs : List Frame) (k : Then) (st t u v z : State) → false ≡ is_deep st → t ≡ enter st → v ≡ leave u → Simulates a t u
-      → Simulates b v z → Grows v z → keeps_to_table n s p x y (Nested a b) k ≡ true → StateFits R s p x y fs st → RunOutcome R s fs k z
+  level-simulated : (n symbol : ℕ) (position : Position) (now after : ℕ) (rule other_rule : Rule) (fs : List Frame) (then : Then)
+      (st next_state later last state : State) → false ≡ is_deep st → next_state ≡ enter st → last ≡ leave later → Simulates rule next_state later
+      → Simulates other_rule last state → Grows last state → keeps_to_table n symbol position now after (Nested rule other_rule) then ≡ true
+      → StateFits R symbol position now after fs st → RunOutcome R symbol fs then state
   unfolding keeps_to_table enters_level may_report_limit is_deep enter leave
-  level-simulated n s machine_is_stuck x y a b fs k st t u v z e i j walk walk' gr h g = false-true refl (and-l _ _ h)
-  level-simulated n s (in_row q l d) x y a b fs k st t u v z e i j walk walk' gr h g =
-      then-on s fs inner k u z (grows-on u v z (unread-grows (leave-unread j)) gr) after_it
-      (simulated a walk n s fs inner (in_row q Entered (limit_forgotten d), x, y, and-r _ _ (and-r _ _ h), rw i (moved-on R g (renested st (st.depth + 1) (max st.high (st.depth + 1))) within_it)))
+  level-simulated n symbol machine_is_stuck now after rule other_rule fs then st next_state later last state e i j walk walk' gr h state_fits =
+      false-true refl (and-l _ _ h)
+  level-simulated n symbol (in_row q level certainty) x y rule other_rule fs then st t later last state e i j walk walk' gr h g =
+      then-on symbol fs inner then later state (grows-on later last state (unread-grows (leave-unread j)) gr) after_it
+      (simulated rule walk n symbol fs inner (
+        in_row q Entered (limit_forgotten certainty),
+        x,
+        y,
+        and-r _ _ (and-r _ _ h),
+        rw i (moved-on R g (renested st (st.depth + 1) (max st.high (st.depth + 1))) within_it),
+      ))
     where
-      c : OpenNodesAgree R s q l fs st
-      c = g.position.0
+      position_holds : OpenNodesAgree R symbol q level fs st
+      position_holds = g.position.0
 
       inner : Then
-      inner p x y = level_is_entered p and keeps_to_table n s (level_left p) x y b k
+      inner p x y = level_is_entered p and keeps_to_table n symbol (level_left p) x y other_rule then
 
       deeper_tree : (t : Tree) → Made R t → st.depth < nesting_all t
-      deeper_tree t p = goes-deeper R x t (rest st) w (and-r _ _ (and-l _ _ h)) c.place (made-passes R (rest st) t p) (next-classes R g).near c.place.reach
+      deeper_tree t p = goes-deeper R x t (rest st) w (and-r _ _ (and-l _ _ h)) position_holds.place (made-passes R (rest st) t p)
+          (next-classes R g).near position_holds.place.reach
 
-      within_it : PositionHolds R s (in_row q Entered (limit_forgotten d)) fs (enter st)
+      within_it : PositionHolds R symbol (in_row q Entered (limit_forgotten certainty)) fs (enter st)
       within_it = (
         record {
-          children = c.children;
-          place = record { reach = c.place.reach; leveled = leveled-enter R (eqb-true _ _ (and-l _ _ (and-r _ _ h))) (leb-false st.limit st.depth (sym e)) deeper_tree c.place.leveled; alone = c.place.alone };
-          built = c.built;
+          children = position_holds.children;
+          place = record {
+            reach = position_holds.place.reach;
+            leveled = leveled-enter R (eqb-true _ _ (and-l _ _ (and-r _ _ h)))
+                (leb-false st.limit st.depth (sym e)) deeper_tree position_holds.place.leveled;
+            alone = position_holds.place.alone;
+          };
+          built = position_holds.built;
         },
-        certainty-forgotten R d (frame s q c.children ∷ fs) st (enter st) refl g.position.1,
+        certainty-forgotten R certainty (frame symbol q position_holds.children ∷ fs) st (enter st) refl g.position.1,
       )
 
-      left_it : (q : ℕ) (d : Certainty) → PositionHolds R s (in_row q Entered d) fs u → PositionHolds R s (in_row q Left (limit_forgotten d)) fs (leave u)
-      left_it q d c = (
-        record { children = c.0.children; place = record { reach = c.0.place.reach; leveled = leveled-leave R c.0.place.leveled; alone = c.0.place.alone }; built = c.0.built },
-        certainty-forgotten R d (frame s q c.0.children ∷ fs) u (leave u) refl c.1,
+      left_it : (q : ℕ) (certainty : Certainty) → PositionHolds R symbol (in_row q Entered certainty) fs later
+          → PositionHolds R symbol (in_row q Left (limit_forgotten certainty)) fs (leave later)
+      left_it q certainty position_holds = (
+        record {
+          children = position_holds.0.children;
+          place = record {
+            reach = position_holds.0.place.reach;
+            leveled = leveled-leave R position_holds.0.place.leveled;
+            alone = position_holds.0.place.alone;
+          };
+          built = position_holds.0.built;
+        },
+        certainty-forgotten R certainty (frame symbol q position_holds.0.children ∷ fs) later (leave later) refl position_holds.1,
       )
 
-      after_it : Continues R s fs inner u → RunOutcome R s fs k z
-      after_it (in_row q Entered d, x, y, h, g) = simulated b walk' n s fs k (in_row q Left (limit_forgotten d), x, y, and-r _ _ h, moved-on R g (leave-unread j) (rw j (left_it q d g.position)))
-      after_it (machine_is_stuck, x, y, h, g) = simulated b walk' n s fs k (machine_is_stuck, x, y, and-r _ _ h, moved-on R g (leave-unread j) (unread-stuck R (leave-unread j) g.position))
-      after_it (in_row q NotEntered d, x, y, h, g) = false-true refl (and-l _ _ h)
-      after_it (in_row q Left d, x, y, h, g) = false-true refl (and-l _ _ h)
+      after_it : Continues R symbol fs inner later → RunOutcome R symbol fs then state
+      after_it (in_row q Entered certainty, x, y, h, g) = simulated other_rule walk' n symbol fs then (
+        in_row q Left (limit_forgotten certainty),
+        x,
+        y,
+        and-r _ _ h,
+        moved-on R g (leave-unread j) (rw j (left_it q certainty g.position)),
+      )
+      after_it (machine_is_stuck, x, y, h, g) = simulated other_rule walk' n symbol fs then (
+        machine_is_stuck,
+        x,
+        y,
+        and-r _ _ h,
+        moved-on R g (leave-unread j) (unread-stuck R (leave-unread j) g.position),
+      )
+      after_it (in_row q NotEntered certainty, x, y, h, g) = false-true refl (and-l _ _ h)
+      after_it (in_row q Left certainty, x, y, h, g) = false-true refl (and-l _ _ h)
 
   -- The induction. A report ends the walk: it is right, and stays so. Fuel is spent where the check goes into a child or a call, so the cases of
   -- no fuel can't be.
-  pub simulation : {r : Rule} {st t : State} → Runs r st t → (n s : ℕ) (p : Position) (x y : ℕ) (fs : List Frame) (k : Then) → Checked n s p x y r k → StateFits R s p x y fs st → RunOutcome R s fs k t
+  pub simulation : {rule : Rule} {st next_state : State} → Runs rule st next_state
+      → (n symbol : ℕ) (this_position : Position) (now after : ℕ) (fs : List Frame) (then : Then) → Checked n symbol this_position now after rule then
+      → StateFits R symbol this_position now after fs st → RunOutcome R symbol fs then next_state
   unfolding Checked keeps_to_table step
-  simulation skip n s p x y fs k h g = inr (p, x, y, h, g)
-  simulation {st = st} (does {a = Bump kind} e) n s p x y fs k h g = rw e (bump-outcome R s p x y kind fs k st h g)
-  simulation {st = st} (does {a = Note m} e) n s p x y fs k h g = rw e (inl (note-rightly R m st g.no_report (report-right R s p x y fs st h g) (taken-at R s p fs st g.position)))
-  simulation {t = u} (seq {a = a} {b = b} {t = t} h1 h2) n s p x y fs k h g =
-      let f : Then = λ p' u v. keeps_to_table n s p' u v b k in
-      then-on s fs f k t u (run-grows h2) (simulated b (simulation h2) n s fs k) (simulated a (simulation h1) n s fs f (p, x, y, h, g))
-  simulation {st = st} (yes {q = q} {a = a} {b = b} e h1) n s p x y fs k h g = simulated a (simulation h1) n s fs k (branch q true s fs st (λ p' u v. keeps_to_table n s p' u v a k) (λ p' u v. keeps_to_table n s p' u v b k) e (p, x, y, h, g))
-  simulation {st = st} (no {q = q} {a = a} {b = b} e h1) n s p x y fs k h g = simulated b (simulation h1) n s fs k (branch q false s fs st (λ p' u v. keeps_to_table n s p' u v a k) (λ p' u v. keeps_to_table n s p' u v b k) e (p, x, y, h, g))
-  simulation {st = st} (done {q = q} {a = a} e) n s p x y fs k h g =
-      let d = head-at (loop_turn n s q a k) h.0 s p x y fs st h.1 h.2 h.3 g in inr (branch q false s fs st (λ q' u' v'. keeps_to_table n s q' u' v' a (turns d.count (loop_turn n s q a k) d.states)) k e d.goes_on)
-  simulation {st = st} {t = u} (again {q = q} {a = a} {t = t} e h1 h2) n s p x y fs k h g =
-      let d = head-at (loop_turn n s q a k) h.0 s p x y fs st h.1 h.2 h.3 g in
-      let f : Then = turns d.count (loop_turn n s q a k) d.states in
-      then-on s fs f k t u (run-grows h2) (λ o. simulation h2 n s o.0 o.1 o.2 fs k (d.count, d.states, o.3, d.met) o.4) (simulated a (simulation h1) n s fs f (branch q true s fs st (λ q' u' v'. keeps_to_table n s q' u' v' a f) k e d.goes_on))
-  simulation (child i j h1) zero s p x y fs k h g = false-true refl h
-  simulation {st = st} (child {n = c} {t = t} {u = u} i j h1) (suc n) s p x y fs k h g = rw j (child-simulated n s p x y c fs k st t u i (simulation h1) h g)
-  simulation {st = st} {t = z} (deeper {a = a} {b = b} {t = t} {u = u} {v = v} d i j h1 h2) n s p x y fs k h g = level-simulated n s p x y a b fs k st t u v z d i j (simulation h1) (simulation h2) (run-grows h2) h g
-  simulation {st = st} (limited d e) n s p x y fs k h g = rw e (inl (limit-rightly R st g.no_report (too-many R s p x y fs st h g) (taken-at R s p fs st g.position)))
-  simulation {st = st} (refused d e) n s p x y fs k h g = rw e (inl (limit-rightly R st g.no_report (too-many R s (with_limit_known p) x y fs st (and-l _ _ h)
-      (record { no_report = g.no_report; seen = g.seen; position = limit-known-holds R s fs st p (sym d) g.position })) (taken-at R s p fs st g.position)))
-  simulation (call h1) zero s p x y fs k h g = false-true refl h
-  simulation (call {p = q} h1) (suc n) s p x y fs k h g = simulation h1 n s p x y fs k (checked n s p x y (body q) k h) g
-  simulation {st = st} {t = u} (plain {a = a} {t = t} i h1 e) n s p x y fs k h g = plain-type n s p x y a fs k st t u i (simulation h1) e h g
-  simulation {st = st} (wrapped {a = a} {t = t} {u = u} {v = v} {w = w'} i o m j h1 e (does f)) n s p x y fs k h g =
-      rw j (wrapped-type n s p x y a fs k st t u v w' i (simulation h1) (adds h1) (m ∙ ap (λ (n : ℕ). wrapped_from n kind.NON_NULL_TYPE u) o) (run-grows (does {a = Bump kind.BANG} f)) f e h g)
+  simulation skip n symbol this_position now after fs then h state_fits = inr (this_position, now, after, h, state_fits)
+  simulation {st = st} (does {primitive = Bump kind} e) n symbol this_position now after fs then h state_fits =
+      rw e (bump-outcome R symbol this_position now after kind fs then st h state_fits)
+  simulation {st = st} (does {primitive = Note message} e) n symbol this_position now after fs then h state_fits =
+      rw e (inl (note-rightly R message st state_fits.no_report (report-right R symbol this_position now after fs st h state_fits)
+      (taken-at R symbol this_position fs st state_fits.position)))
+  simulation {next_state = u} (seq {rule = rule} {other_rule = other_rule} {after = after} run second_run) n symbol this_position now y fs then h state_fits =
+      let next_then : Then = λ p' u v. keeps_to_table n symbol p' u v other_rule then in
+      then-on symbol fs next_then then after u (run-grows second_run) (simulated other_rule (simulation second_run) n symbol fs then)
+      (simulated rule (simulation run) n symbol fs next_then (this_position, now, y, h, state_fits))
+  simulation {st = st} (yes {test = test} {rule = rule} {other_rule = other_rule} e run) n symbol this_position now after fs then h state_fits =
+      simulated rule (simulation run) n symbol fs then (branch test true symbol fs st (λ p' u v. keeps_to_table n symbol p' u v rule then)
+      (λ p' u v. keeps_to_table n symbol p' u v other_rule then) e (this_position, now, after, h, state_fits))
+  simulation {st = st} (no {test = test} {rule = rule} {other_rule = other_rule} e run) n symbol this_position now after fs then h state_fits =
+      simulated other_rule (simulation run) n symbol fs then (branch test false symbol fs st (λ p' u v. keeps_to_table n symbol p' u v rule then)
+      (λ p' u v. keeps_to_table n symbol p' u v other_rule then) e (this_position, now, after, h, state_fits))
+  simulation {st = st} (done {test = test} {rule = rule} e) n symbol this_position now after fs then h state_fits =
+      let d = head-at (loop_turn n symbol test rule then) h.0 symbol this_position now after fs st h.1 h.2 h.3 state_fits in
+      inr (branch test false symbol fs st (λ q' u' v'. keeps_to_table n symbol q' u' v' rule (turns d.count (loop_turn n symbol test rule then) d.states))
+      then e d.goes_on)
+  simulation {st = st} {next_state = next_state} (again {test = test} {rule = rule} {after = after} e run second_run) n symbol this_position now y fs then h
+      state_fits =
+      let d = head-at (loop_turn n symbol test rule then) h.0 symbol this_position now y fs st h.1 h.2 h.3 state_fits in
+      let next_then : Then = turns d.count (loop_turn n symbol test rule then) d.states in
+      then-on symbol fs next_then then after next_state (run-grows second_run)
+      (λ o. simulation second_run n symbol o.0 o.1 o.2 fs then (d.count, d.states, o.3, d.met) o.4)
+      (simulated rule (simulation run) n symbol fs next_then (branch test true symbol fs st
+      (λ q' u' v'. keeps_to_table n symbol q' u' v' rule next_then) then e d.goes_on))
+  simulation (child i j run) zero symbol this_position now after fs then h state_fits = false-true refl h
+  simulation {st = st} (child {node = this_node} {after = after} {later = later} i j run) (suc n) symbol this_position now y fs then h state_fits =
+      rw j (child-simulated n symbol this_position now y this_node fs then st after later i (simulation run) h state_fits)
+  simulation {st = st} {next_state = next_state} (deeper {rule = rule} {other_rule = other_rule} {after = after} {later = later}
+      {last = last} d i j run second_run) n symbol this_position now y fs then h state_fits =
+      level-simulated n symbol this_position now y rule other_rule fs then st after later last next_state d i j (simulation run) (simulation second_run)
+      (run-grows second_run) h state_fits
+  simulation {st = st} (limited d e) n symbol this_position now after fs then h state_fits =
+      rw e (inl (limit-rightly R st state_fits.no_report (too-many R symbol this_position now after fs st h state_fits)
+      (taken-at R symbol this_position fs st state_fits.position)))
+  simulation {st = st} (refused d e) n symbol this_position now after fs then h state_fits =
+      rw e (inl (limit-rightly R st state_fits.no_report (too-many R symbol (with_limit_known this_position) now after fs st (and-l _ _ h)
+      (record {
+        no_report = state_fits.no_report;
+        seen = state_fits.seen;
+        position = limit-known-holds R symbol fs st this_position
+            (sym d) state_fits.position;
+      })) (taken-at R symbol this_position fs st state_fits.position)))
+  simulation (call run) zero symbol this_position now after fs then h state_fits = false-true refl h
+  simulation (call {part = part} run) (suc n) symbol this_position now after fs then h state_fits =
+      simulation run n symbol this_position now after fs then (checked n symbol this_position now after (body part) then h) state_fits
+  simulation {st = st} {next_state = next_state} (plain {rule = rule} {after = after} i run e) n symbol this_position now y fs then h state_fits =
+      plain-type n symbol this_position now y rule fs then st after next_state i (simulation run) e h state_fits
+  simulation {st = st} (wrapped {rule = rule} {after = after} {later = later} {last = last} {end_state = end_state} i o m j run e (does f)) n symbol
+      this_position now y fs then h state_fits =
+      rw j (wrapped-type n symbol this_position now y rule fs then st after later last end_state i (simulation run) (adds run)
+      (m ∙ ap (λ (n : ℕ). wrapped_from n kind.NON_NULL_TYPE later) o) (run-grows (does {primitive = Bump kind.BANG} f)) f e h state_fits)

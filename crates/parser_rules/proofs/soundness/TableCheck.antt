@@ -2,15 +2,15 @@
 -- A token that is taken and a node that begins must be the machine's move for all of them; a report must be where the machine is
 -- stuck, or where the root ends and tokens are left.
 --
--- The parameters have the same names throughout, and the letters in brackets in the proofs of `Moves` and `Simulation`:
---   symbol     (s) the symbol of the open node, which is a row of the machine's table
---   state      (q) a state of that row
---   level      (l) whether a level of nesting was entered in the node, or left
---   certainty  (d) what is known of the open nodes beside the state
---   position   (p) where the walk is: `in_row state level certainty`, or `machine_is_stuck`
---   now        (x) a set of classes that has the class of the current token
---   after      (y) a set of classes that has the class of the significant token after it
---   then       (k) the check of the rest, from the position and the sets with which this ends
+-- The parameters have the same names throughout, also in the proofs of `Positions`, `Moves` and `Simulation`:
+--   symbol       the symbol of the open node, which is a row of the machine's table
+--   state        a state of that row
+--   level        whether a level of nesting was entered in the node, or left
+--   certainty    what is known of the open nodes beside the state
+--   position     where the walk is: `in_row state level certainty`, or `machine_is_stuck`
+--   now          a set of classes that has the class of the current token
+--   after        a set of classes that has the class of the significant token after it
+--   then         the check of the rest, from the position and the sets with which this ends
 use Rattle.std.proofs.Common.{ℕ, zero, suc, ◌+◌, ◌^◌, Bool, true, false, not, eqb, ltb, List, [], ◌∷◌, cond, bit_and, bit_or}
 use Rattle.std.specs.Int.Bits.{bit_xor}
 use Rattle.lexical_grammar.specs.declared.TokenKind.TheVariants as token
@@ -25,11 +25,13 @@ use Rattle.grammar_machine.proofs.Steps.{goes, closes, sticks, misses}
 use Rattle.grammar_machine.proofs.Patterns.{label}
 use Rattle.grammar_machine.proofs.Sound.{any}
 use Rattle.grammar_machine.proofs.Depth.{count_in}
-use Rattle.parser_rules.specs.Nodes.{Node, Argument, VariableDefinition, DefaultValue, ListValue, ObjectField, InputValueDefinition, symbol as symbol_of, kind_of}
+use Rattle.parser_rules.specs.Nodes.{Node, Argument, VariableDefinition, DefaultValue, ListValue, ObjectField, InputValueDefinition, symbol as symbol_of}
+use Rattle.parser_rules.specs.Nodes.{kind_of}
 use Rattle.parser_rules.specs.RuleLanguage.{Prim, Bump, Note, At, Rule, Skip, Do, Seq, When, While, Child, TooDeep, Nested, Call, Typed}
 use Rattle.parser_rules.specs.Rules.{inside, body}
 use Rattle.parser_rules.proofs.lookahead.TokenSets.{absent, over, ready, by_near, kind_set}
-use Rattle.parser_rules.proofs.lookahead.Split.{Level, NotEntered, Entered, Left, Certainty, Nothing, OpenWhateverFollows, AtLimit, Position, in_row, machine_is_stuck, at_start, with_limit_known, divide}
+use Rattle.parser_rules.proofs.lookahead.Split.{Level, NotEntered, Entered, Left, Certainty, Nothing, OpenWhateverFollows, AtLimit, Position, in_row}
+use Rattle.parser_rules.proofs.lookahead.Split.{machine_is_stuck, at_start, with_limit_known, divide}
 use Rattle.parser_rules.proofs.runs.Fuel.{rules_deep}
 use Rattle.parser_rules.proofs.lookahead.FirstSets.{without, first_of, second_of, inlined}
 
@@ -60,7 +62,8 @@ level_due symbol Left = 0
 
 -- the levels agree where a node of the symbol `child` begins
 unfoldable pub levels_agree : ℕ → Level → ℕ → Bool
-levels_agree symbol level child = eqb (level_entered level + counts_itself child) (counts_itself symbol + count_in symbol child) and eqb (level_due symbol level) 0
+levels_agree symbol level child = eqb (level_entered level + counts_itself child) (counts_itself symbol + count_in symbol child)
+    and eqb (level_due symbol level) 0
 
 -- ---- positions
 
@@ -77,7 +80,8 @@ same_certainty AtLimit AtLimit = true
 same_certainty _ _ = false
 
 abbrev pub same_position : Position → Position → Bool
-same_position (in_row state level certainty) (in_row state' level' certainty') = eqb state state' and (same_level level level' and same_certainty certainty certainty')
+same_position (in_row state level certainty) (in_row state' level' certainty') =
+    eqb state state' and (same_level level level' and same_certainty certainty certainty')
 same_position machine_is_stuck machine_is_stuck = true
 same_position _ _ = false
 
@@ -114,7 +118,8 @@ pub record LoopState : Type 0 where
 
 unfoldable pub covered : Position → ℕ → ℕ → List LoopState → Bool
 covered position now after [] = false
-covered position now after (one ∷ more) = (same_position position one.position and (subset now one.now and subset after one.after)) or covered position now after more
+covered position now after (one ∷ more) = (same_position position one.position and (subset now one.now and subset after one.after))
+    or covered position now after more
 
 -- How many turns of a loop a check walks before it gives up. Each begins in a state that no earlier one covers.
 abbrev pub most_turns : ℕ
@@ -141,11 +146,11 @@ leaf_of symbol leaf = cond (eqb symbol NAME_FOR_FRAGMENT) IDENT_FOR_FRAGMENT (co
 
 -- The end of the text may cut off a node of these without a report: its parent reports it instead.
 unfoldable pub may_be_cut_off : Node → Bool
-may_be_cut_off (Argument c) = true
+may_be_cut_off (Argument constness) = true
 may_be_cut_off VariableDefinition = true
 may_be_cut_off DefaultValue = true
-may_be_cut_off (ListValue c) = true
-may_be_cut_off (ObjectField c) = true
+may_be_cut_off (ListValue constness) = true
+may_be_cut_off (ObjectField constness) = true
 may_be_cut_off InputValueDefinition = true
 may_be_cut_off _ = false
 
@@ -174,7 +179,8 @@ may_report symbol machine_is_stuck now after = true
 
 -- The machine ends the node, at the level where it began, whatever follows the current token.
 unfoldable pub ends_at : ℕ → ℕ → Level → Certainty → ℕ → Bool
-ends_at symbol state level certainty now = ((eqb (level_entered level) 0 and eqb (level_due symbol level) 0) and open_whatever_follows certainty) and closes symbol state now any
+ends_at symbol state level certainty now = ((eqb (level_entered level) 0 and eqb (level_due symbol level) 0) and open_whatever_follows certainty)
+    and closes symbol state now any
 
 -- The node leaves nothing for its parent, or that it lacks its block, where no `{` is next.
 unfoldable pub exit_is_right : ℕ → ℕ → ℕ → Bool
@@ -190,7 +196,8 @@ after_node position node then =
 
 -- what follows a node that is walked at its place
 unfoldable pub after_inlined : ℕ → Position → Then → Position → ℕ → ℕ → Bool
-after_inlined child position then (in_row state level certainty) now after = ends_at child state level certainty now and then (moved_by position (exit child state)) now after
+after_inlined child position then (in_row state level certainty) now after =
+    ends_at child state level certainty now and then (moved_by position (exit child state)) now after
 after_inlined child position then machine_is_stuck now after = false
 
 -- what follows a node that begins where the machine is stuck
@@ -202,7 +209,8 @@ unfoldable pub child_begins : ℕ → ℕ → Level → ℕ → ℕ → Node →
 child_begins symbol state level now after node then walk =
     let parent : Position = in_row (target symbol state (symbol_of node)) level OpenWhateverFollows in
     (goes symbol state now (absent_as_end after) (symbol_of node) and levels_agree symbol level (symbol_of node))
-    and cond (inlined node) (walk now after (after_inlined (symbol_of node) parent then)) ((subset now (first_of node) and subset after (second_of node)) and after_node parent node then)
+    and cond (inlined node) (walk now after (after_inlined (symbol_of node) parent then))
+    ((subset now (first_of node) and subset after (second_of node)) and after_node parent node then)
 
 -- The machine is stuck before the node.
 unfoldable pub child_while_stuck : ℕ → ℕ → ℕ → ℕ → (ℕ → ℕ → Bool) → Bool
@@ -211,7 +219,8 @@ child_while_stuck symbol state now after walk_stuck = sticks symbol state now (a
 -- A node begins: the tokens that may begin it, and the others.
 unfoldable pub child_at : ℕ → Position → ℕ → ℕ → Node → Then → (ℕ → ℕ → Then → Bool) → (ℕ → ℕ → Bool) → Bool
 child_at symbol (in_row state level certainty) now after node then walk walk_stuck =
-    by_near (λ a b. a and b) true (first_of node) now after (λ u v. child_begins symbol state level u v node then walk) (λ u v. child_while_stuck symbol state u v walk_stuck)
+    by_near (λ a b. a and b) true (first_of node) now after (λ u v. child_begins symbol state level u v node then walk)
+    (λ u v. child_while_stuck symbol state u v walk_stuck)
 child_at symbol machine_is_stuck now after node then walk walk_stuck = walk_stuck now after
 
 -- ---- the recursion limit
@@ -223,7 +232,8 @@ all_counted symbol row now after = all_arcs row (λ child state'. misses child n
 -- What comes next is one level deeper.
 abbrev pub goes_deeper : ℕ → ℕ → Level → ℕ → Bool
 goes_deeper symbol state level now =
-    eqb (level_entered level) 0 and (eqb (counts_itself symbol) 1 or (eqb (counts_itself symbol) 0 and (all_counted symbol (arcs symbol state) now any and not (ends symbol state))))
+    eqb (level_entered level) 0 and (eqb (counts_itself symbol) 1 or (eqb (counts_itself symbol) 0
+    and (all_counted symbol (arcs symbol state) now any and not (ends symbol state))))
 
 -- The limit is reached there, and what comes next is deeper.
 unfoldable pub may_report_limit : ℕ → Position → ℕ → Bool
@@ -250,7 +260,8 @@ abbrev pub no_bang_follows : Position → Then → Then
 no_bang_follows parent then position now after = after_one_child position and after_inlined TYPE parent then position now after
 
 unfoldable pub after_type : Position → Then → Then
-after_type parent then position now after = divide (λ a b. a and b) true (At token.Bang) position now after (bang_follows parent then) (no_bang_follows parent then)
+after_type parent then position now after = divide (λ a b. a and b) true (At token.Bang) position now after (bang_follows parent then)
+    (no_bang_follows parent then)
 
 unfoldable pub type_at : ℕ → Position → ℕ → ℕ → Then → (Then → Bool) → Bool
 type_at symbol (in_row state level certainty) now after then walk =
@@ -266,34 +277,42 @@ type_at symbol machine_is_stuck now after then walk = false
 unfoldable pub keeps_to_table : ℕ → ℕ → Position → ℕ → ℕ → Rule → Then → Bool
 keeps_to_table fuel symbol position now after Skip then = then position now after
 -- a token is taken: its successor becomes the current one, and nothing is known of the tokens after that
-keeps_to_table fuel symbol position now after (Do (Bump leaf)) then = takes_token symbol position now after (number leaf) (leaf_of symbol (number leaf)) (λ position'. then position' after any)
+keeps_to_table fuel symbol position now after (Do (Bump leaf)) then = takes_token symbol position now after (number leaf) (leaf_of symbol (number leaf))
+    (λ position'. then position' after any)
 -- what follows a first report is not looked at
 keeps_to_table fuel symbol position now after (Do (Note message)) then = may_report symbol position now after
 keeps_to_table fuel symbol position now after TooDeep then = may_report_limit symbol position now
-keeps_to_table fuel symbol position now after (Seq first second) then = keeps_to_table fuel symbol position now after first (λ p x y. keeps_to_table fuel symbol p x y second then)
+keeps_to_table fuel symbol position now after (Seq first second) then =
+    keeps_to_table fuel symbol position now after first (λ p x y. keeps_to_table fuel symbol p x y second then)
 -- a test splits the sets: those for which it passes go on with one rule, those for which it fails with the other
 keeps_to_table fuel symbol position now after (When test passed failed) then =
-    divide (λ a b. a and b) true test position now after (λ p x y. keeps_to_table fuel symbol p x y passed then) (λ p x y. keeps_to_table fuel symbol p x y failed then)
+    divide (λ a b. a and b) true test position now after (λ p x y. keeps_to_table fuel symbol p x y passed then)
+    (λ p x y. keeps_to_table fuel symbol p x y failed then)
 keeps_to_table fuel symbol position now after (While test rule) then =
-    turns most_turns (λ p x y next. divide (λ a b. a and b) true test p x y (λ p' x' y'. keeps_to_table fuel symbol p' x' y' rule next) then) [] position now after
+    turns most_turns (λ p x y next. divide (λ a b. a and b) true test p x y (λ p' x' y'. keeps_to_table fuel symbol p' x' y' rule next) then) [] position now
+    after
 -- the child's own rule is walked here only where the child is inlined, or where the machine is stuck before it
 keeps_to_table zero symbol position now after (Child node) then = false
 keeps_to_table (suc fuel) symbol position now after (Child node) then =
-    child_at symbol position now after node then (λ x y then'. keeps_to_table fuel (symbol_of node) at_start x y (inside node) then') (λ x y. keeps_to_table fuel symbol machine_is_stuck x y (inside node) (after_stuck_node then))
+    child_at symbol position now after node then (λ x y then'. keeps_to_table fuel (symbol_of node) at_start x y (inside node) then')
+    (λ x y. keeps_to_table fuel symbol machine_is_stuck x y (inside node) (after_stuck_node then))
 -- where the limit is reached, it is reported; elsewhere a level is entered for the first rule, and left before the second one
 keeps_to_table fuel symbol position now after (Nested within later) then =
     may_report_limit symbol (with_limit_known position) now
-    and enters_level position (λ p. keeps_to_table fuel symbol p now after within (λ p' x y. level_is_entered p' and keeps_to_table fuel symbol (level_left p') x y later then))
+    and enters_level position (λ p. keeps_to_table fuel symbol p now after within
+    (λ p' x y. level_is_entered p' and keeps_to_table fuel symbol (level_left p') x y later then))
 keeps_to_table zero symbol position now after (Call part) then = false
 keeps_to_table (suc fuel) symbol position now after (Call part) then = keeps_to_table fuel symbol position now after (body part) then
 -- a type is a node of the machine alone, until a `!` is seen
-keeps_to_table fuel symbol position now after (Typed rule) then = type_at symbol position now after then (λ then'. keeps_to_table fuel TYPE at_start now after rule then')
+keeps_to_table fuel symbol position now after (Typed rule) then = type_at symbol position now after then
+    (λ then'. keeps_to_table fuel TYPE at_start now after rule then')
 
 -- ---- nodes, and the document
 
 -- The node is not a leaf, a type or a kind of roots alone, and its symbol's kind is its own.
 unfoldable pub is_node : Node → Bool
-is_node node = not (is_leaf (symbol_of node)) and (not (eqb (symbol_of node) TYPE) and (not (only_root (symbol_of node)) and (eqb (label (symbol_of node)) (number (kind_of node)))))
+is_node node = not (is_leaf (symbol_of node)) and (not (eqb (symbol_of node) TYPE)
+    and (not (only_root (symbol_of node)) and (eqb (label (symbol_of node)) (number (kind_of node)))))
 
 -- a node's rule ends
 unfoldable pub node_may_end : Node → Position → ℕ → ℕ → Bool
@@ -307,12 +326,14 @@ unfoldable pub follows_table : ℕ → Node → Bool
 follows_table fuel node = is_node node and keeps_to_table fuel (symbol_of node) at_start (first_of node) (second_of node) (inside node) (node_may_end node)
 
 unfoldable pub document_may_end : Position → ℕ → ℕ → Bool
-document_may_end (in_row state level certainty) now after = (closes DOCUMENT state now (absent_as_end after) and subset now over) and eqb (level_entered level) 0
+document_may_end (in_row state level certainty) now after = (closes DOCUMENT state now (absent_as_end after) and subset now over)
+    and eqb (level_entered level) 0
 document_may_end machine_is_stuck now after = false
 
 -- a part of a document ends, whatever follows it
 unfoldable pub part_may_end : ℕ → Then
-part_may_end symbol (in_row state level certainty) now after = closes symbol state now (absent_as_end after) and (eqb (level_entered level) 0 and eqb (level_due symbol level) 0)
+part_may_end symbol (in_row state level certainty) now after = closes symbol state now (absent_as_end after)
+    and (eqb (level_entered level) 0 and eqb (level_due symbol level) 0)
 part_may_end symbol machine_is_stuck now after = false
 
 -- the check of the whole

@@ -52,14 +52,14 @@ pub nested_value-returns : goal.nested_value-returns
 unfolding body
 nested_value-returns g t c =
     record {
-      runs = call {p = NestedValue _} (deeper c.if-is_too_deep.ensures c.enter.ensures.step c.leave.ensures.step c.in_ok-value.ensures.runs skip);
+      runs = call {part = NestedValue _} (deeper c.if-is_too_deep.ensures c.enter.ensures.step c.leave.ensures.step c.in_ok-value.ensures.runs skip);
       budget = cc;
     }
 
 pub list_items-returns-then-is_ready : goal.list_items-returns-then-is_ready
 unfolding body
 list_items-returns-then-is_ready g t c = record {
-  runs = on_ok_weaker c.too_deep.result (λ e. call {p = ListItems _} (seq (ended c.loop-constness.invariant c.loop-constness-test.ensures)
+  runs = on_ok_weaker c.too_deep.result (λ e. call {part = ListItems _} (seq (ended c.loop-constness.invariant c.loop-constness-test.ensures)
       (no c.if-at.ensures (yes c.if-is_ready.ensures (limited (deep-there _ c.loop-constness-test.ensures c.if-at.ensures c.if-is_ready.ensures) e)))))
       c.too_deep.ensures.step;
   budget = c.too_deep.ensures.budget ∙ (turned c.loop-constness.invariant).budget;
