@@ -13,8 +13,6 @@ returns-then-element_count g c =
       c.within.ensures.source,
       c.within.ensures.recursion_limit,
       c.within.ensures.token_limit,
-      c.of_parser.ensures.recursion,
-      c.of_parser.ensures.tokens,
     ) at c.in-Ok.ensures.promise in
     let is : IsParse c.args.source.now c.args.limits.recursion c.args.limits.tokens c.in-Ok.tree = record { utf8 = c.utf8.source; promise = promise } in
     let many : 2 ^ 32 ≤ length (order c.in-Ok.tree.tree) = omega (arith, c.if-element_count.true, c.element_count-element_count.ensures) in
@@ -39,8 +37,6 @@ write_elements-requires-clause-short g c =
       c.within.ensures.source,
       c.within.ensures.recursion_limit,
       c.within.ensures.token_limit,
-      c.of_parser.ensures.recursion,
-      c.of_parser.ensures.tokens,
     ) at c.in-Ok.ensures.promise in
     omega (arith, c.requires, text-within c.in-Ok.tree promise)
 
@@ -51,8 +47,6 @@ returns g c =
       c.within.ensures.source,
       c.within.ensures.recursion_limit,
       c.within.ensures.token_limit,
-      c.of_parser.ensures.recursion,
-      c.of_parser.ensures.tokens,
     ) at c.in-Ok.ensures.promise in
     let is : IsParse c.args.source.now c.args.limits.recursion c.args.limits.tokens c.in-Ok.tree = record { utf8 = c.utf8.source; promise = promise } in
     let found : c.as_slice-found.result.now ≡ c.in-Ok.tree.errors = cc (c.as_slice-found.ensures.value, c.errors.ensures) in
