@@ -53,7 +53,7 @@ def build(given=None):
     # copies, since `rt ci` takes no link within the repository
     for name in (soname, "libdumyroke.so"):
         shutil.copy(shared, BUILD / name)
-    (BUILD / "dumyroke.pc").write_text(pc_text("${pcfiledir}/..", "${prefix}/include", "${pcfiledir}"))
+    (BUILD / "dumyroke.pc").write_text(pc_text("${pcfiledir}/..", "${prefix}/bindings/c/include", "${pcfiledir}"))
     shutil.copyfile(shared, PACKAGE / "libdumyroke.so")
 
 
