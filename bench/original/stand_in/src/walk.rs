@@ -11,18 +11,18 @@ struct Walk {
     string_bytes: usize,
 }
 
-fn kind(tree: &GreenNode, node: usize) -> SyntaxKind {
+fn kind(tree: &GreenNode, node: u32) -> SyntaxKind {
     SyntaxKind::from(tree.node(node).kind.0)
 }
 
-fn nodes(tree: &GreenNode, node: usize) -> impl Iterator<Item = usize> + '_ {
+fn nodes(tree: &GreenNode, node: u32) -> impl Iterator<Item = u32> + '_ {
     tree.children(node).iter().filter_map(|child| match child {
         Element::Node(node) => Some(*node),
         Element::Token(..) => None,
     })
 }
 
-fn children(tree: &GreenNode, node: usize, wanted: SyntaxKind) -> impl Iterator<Item = usize> + '_ {
+fn children(tree: &GreenNode, node: u32, wanted: SyntaxKind) -> impl Iterator<Item = u32> + '_ {
     nodes(tree, node).filter(move |child| kind(tree, *child) == wanted)
 }
 
@@ -43,7 +43,7 @@ fn string_length(text: &str) -> usize {
 }
 
 impl Walk {
-    fn selections(&mut self, tree: &GreenNode, node: usize) {
+    fn selections(&mut self, tree: &GreenNode, node: u32) {
         for set in children(tree, node, SyntaxKind::SELECTION_SET).take(1) {
             for selection in nodes(tree, set) {
                 match kind(tree, selection) {
@@ -55,7 +55,7 @@ impl Walk {
         }
     }
 
-    fn field(&mut self, tree: &GreenNode, field: usize) {
+    fn field(&mut self, tree: &GreenNode, field: u32) {
         self.fields += 1;
         for list in children(tree, field, SyntaxKind::ARGUMENTS).take(1) {
             for argument in children(tree, list, SyntaxKind::ARGUMENT) {
@@ -66,7 +66,7 @@ impl Walk {
         self.selections(tree, field);
     }
 
-    fn values(&mut self, tree: &GreenNode, node: usize, most: usize) {
+    fn values(&mut self, tree: &GreenNode, node: u32, most: usize) {
         for value in nodes(tree, node).filter(|child| is_value(kind(tree, *child))).take(most) {
             match kind(tree, value) {
                 SyntaxKind::STRING_VALUE => self.string_bytes += string_length(tree.text(tree.node(value).range)),

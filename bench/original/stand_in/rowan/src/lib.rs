@@ -13,7 +13,7 @@ pub struct TextRange {
 
 #[derive(Debug, Clone, Copy, PartialEq, Eq)]
 pub enum Element {
-    Node(usize),
+    Node(u32),
     Token(SyntaxKind, TextRange),
 }
 
@@ -21,8 +21,8 @@ pub enum Element {
 pub struct Node {
     pub kind: SyntaxKind,
     pub range: TextRange,
-    first_child: usize,
-    children: usize,
+    first_child: u32,
+    children: u32,
 }
 
 #[derive(Debug, Clone, Copy)]
@@ -79,12 +79,12 @@ impl GreenNodeBuilder {
         let end = self.end();
         let start = match self.children.get(first) {
             None => end,
-            Some(Element::Node(node)) => self.tree.nodes[*node].range.start,
+            Some(Element::Node(node)) => self.tree.nodes[*node as usize].range.start,
             Some(Element::Token(_, range)) => range.start,
         };
-        let (first_child, children) = (self.tree.elements.len(), self.children.len() - first);
+        let (first_child, children) = (self.tree.elements.len() as u32, (self.children.len() - first) as u32);
         self.tree.elements.extend(self.children.drain(first..));
-        self.children.push(Element::Node(self.tree.nodes.len()));
+        self.children.push(Element::Node(self.tree.nodes.len() as u32));
         self.tree.nodes.push(Node { kind, range: TextRange { start, end }, first_child, children });
     }
 
@@ -96,17 +96,17 @@ impl GreenNodeBuilder {
 
 impl GreenNode {
     /// The root, which was finished last.
-    pub fn root(&self) -> usize {
-        self.nodes.len() - 1
+    pub fn root(&self) -> u32 {
+        self.nodes.len() as u32 - 1
     }
 
-    pub fn node(&self, node: usize) -> &Node {
-        &self.nodes[node]
+    pub fn node(&self, node: u32) -> &Node {
+        &self.nodes[node as usize]
     }
 
-    pub fn children(&self, node: usize) -> &[Element] {
-        let Node { first_child, children, .. } = self.nodes[node];
-        &self.elements[first_child..first_child + children]
+    pub fn children(&self, node: u32) -> &[Element] {
+        let Node { first_child, children, .. } = self.nodes[node as usize];
+        &self.elements[first_child as usize..(first_child + children) as usize]
     }
 
     pub fn text(&self, range: TextRange) -> &str {
