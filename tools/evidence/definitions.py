@@ -128,11 +128,3 @@ def in_order(files):
 def name_of(path):
     """The file as the page names it: from its crate on."""
     return "/".join(path.parts[path.parts.index("specs") - 1 :])
-
-
-def head(path):
-    """The first sentence of the comment at the head of a file, without the sections of the standard."""
-    lines = re.match(r"(?:-- .*\n)*", path.read_text())[0]
-    text = re.sub(r"\s*\([^()]*\)", "", " ".join(line[3:] for line in lines.splitlines()))
-    first, *more = re.split(r"(?<=[.:;])(?:\s|$)", text)
-    return (first + " " + more[0] if first.endswith(":") and len(first.split()) < 4 and more else first).rstrip(".:; ")

@@ -4,7 +4,7 @@ import re
 import textwrap
 
 from . import contracts, lemmas
-from .definitions import CRATES, KIT, Source, definition_lines, head, in_order, is_generated, name_of, spec, used_files
+from .definitions import CRATES, KIT, Source, definition_lines, in_order, is_generated, name_of, spec, used_files
 
 # The calls that a user reads, by their part: a title, files and folders, and how much of the list of definitions is counted for it.
 PARTS = {
@@ -242,9 +242,7 @@ def reading():
     for title, files in lists():
         by_hand = sum(definition_lines(path) for path in files if not is_generated(path))
         made.append(f"\n### For {title}: {by_hand:,} lines\n")
-        for path in files:
-            text = "generated" if is_generated(path) else head(path)
-            made.append(wrapped(0, f"`{name_of(path)}` {definition_lines(path)}: {text}"))
+        made.append(textwrap.fill(", ".join(f"`{name_of(path)}`\u00a0{definition_lines(path)}" for path in files), 158, break_on_hyphens=False))
     return "\n".join(made) + "\n"
 
 
