@@ -38,18 +38,3 @@ pub fn starts()
     ensures any { (sort : Sort) (front : List Terminal) → StartSentence sort front → Starts sort front }
     ensures within { (sort : Sort) (r : ℕ) (front : List Terminal) → StartSentenceWithin sort r front → StartsWithin sort r front }
 {}
-
-#[cfg(test)]
-mod tests {
-    use super::*;
-
-    // A law does nothing, so this asserts nothing: it calls each once.
-    #[test]
-    fn each_law_returns() {
-        one_kind();
-        one_cut();
-        first_profile();
-        ignored_leaves();
-        starts();
-    }
-}

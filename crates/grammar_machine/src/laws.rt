@@ -29,16 +29,3 @@ pub fn no_late_fault()
 pub fn no_early_fault()
     ensures { (sort : Sort) (before rest : List Token) → IsStuck sort before rest → ¬ Starts sort (map word before ++ take 2 (terminals rest)) }
 {}
-
-#[cfg(test)]
-mod tests {
-    use super::*;
-
-    // A law does nothing, so this asserts nothing: it calls each once.
-    #[test]
-    fn each_law_returns() {
-        one_derivation();
-        no_late_fault();
-        no_early_fault();
-    }
-}
