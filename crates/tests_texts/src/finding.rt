@@ -1,46 +1,65 @@
-// What each mode finds in a text.
-use crate::record::{Mode, Record};
-use apollo_parser::cst::{CstNode, Definition, Document, IntValue, StringValue};
+// What is found in a text.
+use crate::parts::put_parts;
+use crate::printing::put;
+use crate::record::{Mode, Record, View};
+use crate::typed::{put_definitions, put_values};
+use apollo_parser::cst::{CstNode, SyntaxNodePtr};
 use apollo_parser::{
-    DocumentRoot, Error, LexError, Lexer, Limits, Parser, Root, SelectionSetRoot, SyntaxNode,
-    SyntaxTree, Token, TypeRoot,
+    DocumentRoot, Error, LexError, Lexer, Limits, Parser, Root, SelectionSetRoot, Steps,
+    SyntaxKind, SyntaxNode, SyntaxTree, Token, TypeRoot,
 };
 use std::alloc::{AllocError, Global};
 
-// The parses have no contracts: the promises of the parser would burden the proofs here.
-fn document(
-    alloc: Global,
-    source: &str,
-    limits: Limits,
-) -> Result<SyntaxTree<DocumentRoot, Global>, AllocError> {
-    Parser::within(source, limits).parse(alloc)
+// A root that a text is parsed below. The calls have no contracts: the promises of the parser would burden the proofs here.
+trait Parsed: Root {
+    fn parse(alloc: Global, parser: Parser<'_>) -> Result<SyntaxTree<Self, Global>, AllocError>;
+
+    // The root with its type, where it has one.
+    fn typed(tree: &SyntaxTree<Self, Global>) -> Option<SyntaxNode<'_>>;
 }
 
-fn selection_set(
-    alloc: Global,
-    source: &str,
-    limits: Limits,
-) -> Result<SyntaxTree<SelectionSetRoot, Global>, AllocError> {
-    Parser::within(source, limits).parse_selection_set(alloc)
+impl Parsed for DocumentRoot {
+    fn parse(alloc: Global, parser: Parser<'_>) -> Result<SyntaxTree<Self, Global>, AllocError> {
+        parser.parse(alloc)
+    }
+
+    fn typed(tree: &SyntaxTree<Self, Global>) -> Option<SyntaxNode<'_>> {
+        Some(*tree.document().syntax())
+    }
 }
 
-fn type_reference(
-    alloc: Global,
-    source: &str,
-    limits: Limits,
-) -> Result<SyntaxTree<TypeRoot, Global>, AllocError> {
-    Parser::within(source, limits).parse_type(alloc)
+impl Parsed for SelectionSetRoot {
+    fn parse(alloc: Global, parser: Parser<'_>) -> Result<SyntaxTree<Self, Global>, AllocError> {
+        parser.parse_selection_set(alloc)
+    }
+
+    fn typed(tree: &SyntaxTree<Self, Global>) -> Option<SyntaxNode<'_>> {
+        Some(*tree.field_set().syntax())
+    }
+}
+
+impl Parsed for TypeRoot {
+    fn parse(alloc: Global, parser: Parser<'_>) -> Result<SyntaxTree<Self, Global>, AllocError> {
+        parser.parse_type(alloc)
+    }
+
+    fn typed(tree: &SyntaxTree<Self, Global>) -> Option<SyntaxNode<'_>> {
+        Some(*tree.ty()?.syntax())
+    }
 }
 
 fn put_error(found: &mut String, error: &Error) -> Result<(), AllocError> {
-    let (index, message) = (error.index(), error.message());
+    put(found, &error.index(), " ")?;
     if error.is_limit() {
-        writeln!(found, "{index} limit: {message}")
+        found.push_str("limit")?;
     } else if error.is_eof() {
-        writeln!(found, "{index} end: {message}")
+        found.push_str("end")?;
     } else {
-        writeln!(found, "{index} {:?}: {message}", error.data())
+        put(found, &error.data(), "")?;
     }
+    found.push_str(": ")?;
+    found.push_str(error.message())?;
+    found.push('\n')
 }
 
 // A line for each of the first ten errors, with the byte offset, the text that it is about, and the message.
@@ -60,20 +79,19 @@ fn node_count(root: SyntaxNode<'_>) -> usize {
 }
 
 fn put_root(found: &mut String, root: SyntaxNode<'_>) -> Result<(), AllocError> {
-    let (kind, end, nodes) = (root.kind(), root.text().len(), node_count(root));
-    write!(found, "{kind:?} of {end} bytes, {nodes} nodes below it; ")
+    put(found, &root.kind(), " of ")?;
+    put(found, &root.text().len(), " bytes, ")?;
+    put(found, &node_count(root), " nodes below it; ")
 }
 
 // The errors, and a line with the root and the counts.
 fn put_tree<R: Root>(found: &mut String, tree: &SyntaxTree<R, Global>) -> Result<(), AllocError> {
     put_errors(found, tree)?;
     put_root(found, tree.root())?;
-    let (nesting, items) = (tree.recursion_limit().high, tree.token_limit().high);
-    let (elements, errors) = (tree.element_count(), tree.errors().len());
-    writeln!(
-        found,
-        "{elements} elements, {items} items, nesting {nesting}, {errors} errors"
-    )
+    put(found, &tree.element_count(), " elements, ")?;
+    put(found, &tree.token_limit().high, " items, nesting ")?;
+    put(found, &tree.recursion_limit().high, ", ")?;
+    put(found, &tree.errors().len(), " errors\n")
 }
 
 fn put_item(
@@ -100,139 +118,140 @@ fn put_items(
     Ok(())
 }
 
-// The description of a definition that may have one.
-fn description_of(definition: Definition<'_>) -> Option<StringValue<'_>> {
-    let description = match definition {
-        Definition::OperationDefinition(node) => node.description(),
-        Definition::FragmentDefinition(node) => node.description(),
-        Definition::DirectiveDefinition(node) => node.description(),
-        Definition::SchemaDefinition(node) => node.description(),
-        Definition::ScalarTypeDefinition(node) => node.description(),
-        Definition::ObjectTypeDefinition(node) => node.description(),
-        Definition::InterfaceTypeDefinition(node) => node.description(),
-        Definition::UnionTypeDefinition(node) => node.description(),
-        Definition::EnumTypeDefinition(node) => node.description(),
-        Definition::InputObjectTypeDefinition(node) => node.description(),
-        _ => None,
-    };
-    description?.string_value()
+fn put_range(found: &mut String, node: SyntaxNode<'_>) -> Result<(), AllocError> {
+    put(found, &node.kind(), " ")?;
+    put(found, &node.text_range(), " ")?;
+    put(found, &node.text(), " ")
 }
 
-fn put_definition(
-    alloc: Global,
-    found: &mut String,
-    definition: Definition<'_>,
-) -> Result<(), AllocError> {
-    write!(found, "{}", definition.kind())?;
-    if let Some(name) = definition.name() {
-        write!(found, " {}", name.text())?;
-    }
-    if definition.is_executable_definition() {
-        write!(found, ", executable")?;
-    }
-    if definition.is_extension_definition() {
-        write!(found, ", an extension")?;
-    }
-    if let Some(description) = description_of(definition) {
-        let value = description.to_string_in(alloc)?;
-        write!(found, ", described as {:?}", value.as_str())?;
-    }
-    writeln!(found)
+// Where a node is, its text, and the same of a copy of it.
+fn put_place(alloc: Global, found: &mut String, node: SyntaxNode<'_>) -> Result<(), AllocError> {
+    let copy = node.clone_subtree(alloc)?;
+    put_range(found, node)?;
+    put_range(found, copy.root())?;
+    put(found, &node.source_string(alloc)?.as_str(), "\n")
 }
 
-// A line for each definition, with its kind, its name and its description.
-fn put_definitions(
-    alloc: Global,
-    found: &mut String,
-    document: Document<'_>,
-) -> Result<(), AllocError> {
-    for definition in document.definitions() {
-        put_definition(alloc, found, definition)?;
-    }
-    Ok(())
-}
-
-fn put_value(alloc: Global, found: &mut String, node: SyntaxNode<'_>) -> Result<(), AllocError> {
-    if let Some(string) = StringValue::cast(node) {
-        let value = string.to_string_in(alloc)?;
-        return writeln!(found, "{:?}", value.as_str());
-    }
-    if let Some(integer) = IntValue::cast(node) {
-        return match i32::try_from(&integer) {
-            Ok(number) => writeln!(found, "{number}"),
-            Err(_) => writeln!(found, "out of range"),
-        };
-    }
-    Ok(())
-}
-
-// A line for each string and each integer, with its value.
-fn put_values(alloc: Global, found: &mut String, root: SyntaxNode<'_>) -> Result<(), AllocError> {
+fn put_places(alloc: Global, found: &mut String, root: SyntaxNode<'_>) -> Result<(), AllocError> {
     for node in root.descendants() {
-        put_value(alloc, found, node)?;
+        put_place(alloc, found, node)?;
     }
     Ok(())
 }
 
-// Each mode has a function of its own, since the proof of a function pays for each tree in it.
-fn put_document(
+// What is looked at in the nodes of a tree, from its root on.
+fn put_nodes(
     alloc: Global,
     found: &mut String,
-    source: &str,
-    limits: Limits,
+    root: SyntaxNode<'_>,
+    view: View,
 ) -> Result<(), AllocError> {
-    let tree = document(alloc, source, limits)?;
-    put_tree(found, &tree)
+    match view {
+        View::Definitions => put_definitions(alloc, found, root),
+        View::Values => put_values(alloc, found, root),
+        View::Parts => put_parts(alloc, found, root),
+        _ => put_places(alloc, found, root),
+    }
 }
 
-fn put_selection_set(
+fn put_view<R: Parsed>(
     alloc: Global,
     found: &mut String,
-    source: &str,
-    limits: Limits,
+    tree: &SyntaxTree<R, Global>,
+    view: View,
 ) -> Result<(), AllocError> {
-    let tree = selection_set(alloc, source, limits)?;
-    put_tree(found, &tree)
+    match view {
+        View::Counts => put_tree(found, tree),
+        View::Printed => writeln!(found, "{tree:?}"),
+        _ => {
+            put_errors(found, tree)?;
+            match R::typed(tree) {
+                Some(root) => put_nodes(alloc, found, root, view),
+                None => found.push_str("no type\n"),
+            }
+        }
+    }
 }
 
-fn put_type(
+fn put_text<R: Parsed>(
     alloc: Global,
     found: &mut String,
     source: &str,
     limits: Limits,
+    view: View,
 ) -> Result<(), AllocError> {
-    let tree = type_reference(alloc, source, limits)?;
-    put_tree(found, &tree)
+    let tree = R::parse(alloc, Parser::within(source, limits))?;
+    put_view(alloc, found, &tree, view)
 }
 
-fn put_printed(
+// A copy of a tree whose parse was counted: it is the tree of a plain parse.
+fn counted_copy(
     alloc: Global,
-    found: &mut String,
     source: &str,
     limits: Limits,
-) -> Result<(), AllocError> {
-    let tree = document(alloc, source, limits)?;
-    writeln!(found, "{tree:?}")
+) -> Result<SyntaxTree<DocumentRoot, Global>, AllocError> {
+    let parser = Parser::within(source, limits);
+    parser
+        .parse_counted(alloc, &mut Steps::new())?
+        .try_clone(alloc)
 }
 
-fn put_all_definitions(
+fn put_copy(
     alloc: Global,
     found: &mut String,
     source: &str,
     limits: Limits,
 ) -> Result<(), AllocError> {
-    let tree = document(alloc, source, limits)?;
-    put_definitions(alloc, found, tree.document())
+    let copy = counted_copy(alloc, source, limits)?;
+    writeln!(found, "{copy:?}")?;
+    put(found, &copy.token_limit().limit, " ")?;
+    put(found, &copy.element(0), "\n")?;
+    put_tree(found, &copy)
 }
 
-fn put_all_values(
+fn document(alloc: Global, source: &str) -> Result<SyntaxTree<DocumentRoot, Global>, AllocError> {
+    DocumentRoot::parse(alloc, Parser::new(source))
+}
+
+fn first_field(root: SyntaxNode<'_>) -> Option<SyntaxNode<'_>> {
+    for node in root.descendants() {
+        if node.kind().is(SyntaxKind::FIELD) {
+            return Some(node);
+        }
+    }
+    None
+}
+
+fn pointer_to_field(alloc: Global, source: &str) -> Result<Option<SyntaxNodePtr>, AllocError> {
+    let tree = document(alloc, source)?;
+    match first_field(tree.root()) {
+        Some(field) => Ok(Some(SyntaxNodePtr::new(&field))),
+        None => Ok(None),
+    }
+}
+
+fn put_pointed(
     alloc: Global,
     found: &mut String,
+    pointer: SyntaxNodePtr,
     source: &str,
-    limits: Limits,
 ) -> Result<(), AllocError> {
-    let tree = document(alloc, source, limits)?;
-    put_values(alloc, found, tree.root())
+    let tree = document(alloc, source)?;
+    match pointer.to_node(&tree.root()) {
+        Some(node) => put(found, &(node.kind(), node.text()), "\n"),
+        None => found.push_str("no node\n"),
+    }
+}
+
+// What a pointer to the first field of the first line finds in the other lines.
+fn put_pointers(alloc: Global, found: &mut String, source: &str) -> Result<(), AllocError> {
+    let (first, others) = source.split_once("\n").unwrap_or((source, ""));
+    if let Some(pointer) = pointer_to_field(alloc, first)? {
+        for line in others.split("\n") {
+            put_pointed(alloc, found, pointer, line)?;
+        }
+    }
+    Ok(())
 }
 
 // What a mode finds in a text.
@@ -244,13 +263,14 @@ fn put_findings(
     limits: Limits,
 ) -> Result<(), AllocError> {
     match mode {
-        Mode::Document => put_document(alloc, found, source, limits),
-        Mode::SelectionSet => put_selection_set(alloc, found, source, limits),
-        Mode::Type => put_type(alloc, found, source, limits),
-        Mode::Tree => put_printed(alloc, found, source, limits),
         Mode::Tokens => put_items(alloc, found, source, limits),
-        Mode::Definitions => put_all_definitions(alloc, found, source, limits),
-        Mode::Values => put_all_values(alloc, found, source, limits),
+        Mode::Copy => put_copy(alloc, found, source, limits),
+        Mode::Pointers => put_pointers(alloc, found, source),
+        Mode::Document(view) => put_text::<DocumentRoot>(alloc, found, source, limits, view),
+        Mode::SelectionSet(view) => {
+            put_text::<SelectionSetRoot>(alloc, found, source, limits, view)
+        }
+        Mode::Type(view) => put_text::<TypeRoot>(alloc, found, source, limits, view),
     }
 }
 

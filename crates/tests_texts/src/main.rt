@@ -6,8 +6,13 @@
 #![tactic(auto)]
 
 mod finding;
+mod parts;
+mod printing;
+pub mod promises;
 mod record;
+mod typed;
 
+use apollo_parser::laws::one_parse;
 use record::Record;
 use std::alloc::{AllocError, Global};
 use std::io;
@@ -22,6 +27,8 @@ fn other_findings(alloc: Global, record: &Record<'_>) -> Result<Option<String>, 
 }
 
 fn main(rt: HostRuntime) -> io::Result<()> {
+    // a law does nothing: this shows that a caller can call it
+    one_parse();
     let input = io::read_to_string(rt.alloc(), rt.stdin())?;
     let mut tried = 0usize;
     for text in input.as_str().trim_end().split("\n== ").skip(1) {

@@ -2,16 +2,35 @@
 use apollo_parser::Limits;
 use std::alloc::{AllocError, Global};
 
+/// What is looked at in a tree.
+#[derive(Clone, Copy)]
+pub enum View {
+    /// The errors, the root and the counts.
+    Counts,
+    /// The printed tree.
+    Printed,
+    /// Each definition.
+    Definitions,
+    /// The value of each string and each integer.
+    Values,
+    /// What accessors find.
+    Parts,
+    /// The place and the text of each node and of a copy of it.
+    Places,
+}
+
 /// How a text is read, and what is looked at.
 #[derive(Clone, Copy)]
 pub enum Mode {
-    Document,
-    SelectionSet,
-    Type,
-    Tree,
+    /// The lexer's items.
     Tokens,
-    Definitions,
-    Values,
+    /// A copy of the tree of a document whose parse is counted.
+    Copy,
+    /// A pointer to a field in the first line, looked up in the other lines.
+    Pointers,
+    Document(View),
+    SelectionSet(View),
+    Type(View),
 }
 
 /// A text, and what is to be found in it.
@@ -27,13 +46,19 @@ pub struct Record<'r> {
 
 fn mode_of(word: &str) -> Option<Mode> {
     match word {
-        "document" => Some(Mode::Document),
-        "selection-set" => Some(Mode::SelectionSet),
-        "type" => Some(Mode::Type),
-        "tree" => Some(Mode::Tree),
+        "document" => Some(Mode::Document(View::Counts)),
+        "selection-set" => Some(Mode::SelectionSet(View::Counts)),
+        "type" => Some(Mode::Type(View::Counts)),
+        "tree" => Some(Mode::Document(View::Printed)),
+        "definitions" => Some(Mode::Document(View::Definitions)),
+        "values" => Some(Mode::Document(View::Values)),
+        "parts" => Some(Mode::Document(View::Parts)),
+        "selection-set-parts" => Some(Mode::SelectionSet(View::Parts)),
+        "type-parts" => Some(Mode::Type(View::Parts)),
+        "places" => Some(Mode::Document(View::Places)),
         "tokens" => Some(Mode::Tokens),
-        "definitions" => Some(Mode::Definitions),
-        "values" => Some(Mode::Values),
+        "copy" => Some(Mode::Copy),
+        "pointers" => Some(Mode::Pointers),
         _ => None,
     }
 }
