@@ -74,24 +74,29 @@ static void not_utf8(void)
     CHECK(dumyroke_format(bytes_of("{\xff}"), 3, dumyroke_default_limits(), NULL, 0, &bytes) == DUMYROKE_NOT_UTF8 && bytes == 0);
 }
 
-/* `{ hero(id) { name }` has 23 elements and 2 errors with messages of 46 bytes. */
+/* `{ hero(id) { name }` has 23 elements and 2 errors with messages of 46 bytes. What is after the room stays. */
 static void too_little_room(void)
 {
     const char *text = "{ hero(id) { name }";
-    dumyroke_element elements[4];
-    dumyroke_error errors[2];
-    uint8_t messages[6];
+    dumyroke_element elements[4], untouched_element;
+    dumyroke_error errors[2], untouched_error;
+    uint8_t messages[7];
     dumyroke_counts counts;
     memset(elements, UNTOUCHED, sizeof elements);
     memset(errors, UNTOUCHED, sizeof errors);
     memset(messages, UNTOUCHED, sizeof messages);
-    CHECK(dumyroke_parse(bytes_of(text), strlen(text), dumyroke_default_limits(), elements, 3, errors, 1, messages, 5, &counts) == DUMYROKE_OK);
-    CHECK(counts.elements == 23 && counts.errors == 2 && counts.message_bytes == 46);
+    memset(&untouched_element, UNTOUCHED, sizeof untouched_element);
+    memset(&untouched_error, UNTOUCHED, sizeof untouched_error);
+    CHECK(dumyroke_parse(bytes_of(text), strlen(text), dumyroke_default_limits(), elements, 3, errors, 1, messages, 6, &counts) == DUMYROKE_OK);
+    CHECK(counts.status == DUMYROKE_OK && counts.elements == 23 && counts.errors == 2 && counts.message_bytes == 46);
+    CHECK(counts.recursion_high == 2 && counts.token_high == 13);
     CHECK(elements[0].kind == DUMYROKE_DOCUMENT && elements[0].next == 23 && elements[0].parent == 0 && elements[0].end == 19);
     CHECK(elements[2].kind == DUMYROKE_SELECTION_SET && elements[2].parent == 1 && !elements[2].is_token);
+    CHECK(elements[2].start == 0 && elements[2].end == 19 && elements[2].next == 23);
     CHECK(errors[0].start == 9 && errors[0].end == 10 && errors[0].message == 0 && errors[0].message_length == 21);
-    CHECK(!errors[0].is_limit && !errors[0].is_eof && !memcmp(messages, "expec", 5));
-    CHECK(elements[3].kind == 0xeeee && errors[1].is_eof == 0xeeeeeeee && messages[5] == UNTOUCHED);
+    CHECK(!errors[0].is_limit && !errors[0].is_eof && !memcmp(messages, "expect", 6) && messages[6] == UNTOUCHED);
+    CHECK(!memcmp(&elements[3], &untouched_element, sizeof untouched_element));
+    CHECK(!memcmp(&errors[1], &untouched_error, sizeof untouched_error));
 }
 
 static void errors_of_a_text(void)
@@ -183,6 +188,7 @@ static void strings(void)
     CHECK(value_of("\"\"", value, 16, &bytes) == DUMYROKE_OK && bytes == 0 && value[0] == UNTOUCHED);
     CHECK(value_of("\"a\\u00e9\\n\"", value, 16, &bytes) == DUMYROKE_OK && bytes == 4 && !memcmp(value, "a\xc3\xa9\n\xee", 5));
     CHECK(value_of("\"\"\"\n  b\n    c\n\"\"\"", value, 16, &bytes) == DUMYROKE_OK && bytes == 5 && !memcmp(value, "b\n  c\xee", 6));
+    CHECK(value_of("\"\"\"\n  b\n    c\n\"\"\"", value, 2, &bytes) == DUMYROKE_OK && bytes == 5 && !memcmp(value, "b\n\xee\xee", 4));
     CHECK(value_of("\"abc\"", value, 2, &bytes) == DUMYROKE_OK && bytes == 3 && !memcmp(value, "ab\xee", 3));
     for (i = 0; i < sizeof none / sizeof *none; i++)
         CHECK(value_of(none[i], value, 16, &bytes) == DUMYROKE_NOT_A_STRING && bytes == 0 && value[0] == UNTOUCHED);
@@ -192,7 +198,7 @@ static void strings(void)
 static void formatted(void)
 {
     const char *text = "{a,b}";
-    uint8_t buffer[16];
+    uint8_t buffer[16], small[5];
     size_t bytes;
     dumyroke_limits shallow = {0, SIZE_MAX};
     memset(buffer, UNTOUCHED, sizeof buffer);
@@ -201,6 +207,8 @@ static void formatted(void)
     CHECK(!memcmp(buffer, "{\n \xee", 4));
     CHECK(dumyroke_format(bytes_of(text), 5, dumyroke_default_limits(), buffer, 16, &bytes) == DUMYROKE_OK && bytes == 12);
     CHECK(!memcmp(buffer, "{\n  a\n  b\n}\n\xee", 13));
+    CHECK(dumyroke_format(bytes_of("{a}"), 3, dumyroke_default_limits(), small, 5, &bytes) == DUMYROKE_OK && bytes == 8 && !memcmp(small, "{\n  a", 5));
+    CHECK(dumyroke_format(bytes_of("{a"), 2, dumyroke_default_limits(), NULL, 0, &bytes) == DUMYROKE_NOT_A_DOCUMENT && bytes == 0);
     CHECK(dumyroke_format(bytes_of("{"), 1, dumyroke_default_limits(), NULL, 0, &bytes) == DUMYROKE_NOT_A_DOCUMENT && bytes == 0);
     CHECK(dumyroke_format(bytes_of(text), 5, shallow, NULL, 0, &bytes) == DUMYROKE_NOT_A_DOCUMENT && bytes == 0);
     CHECK(dumyroke_format(NULL, 0, dumyroke_default_limits(), NULL, 0, &bytes) == DUMYROKE_NOT_A_DOCUMENT && bytes == 0);

@@ -1,13 +1,11 @@
 //! The calls of `dumyroke_flat` for C, each with its contract: a static library, which Python loads too.
 //!
 //! `bindings/c/include/dumyroke.h` declares `dumyroke_parse`, `dumyroke_string_value` and `dumyroke_format`, and says what each number is.
+//! `bindings/c/tests/edges.c` calls each of them.
 #![tactic(auto)]
 
 ghost use Rattle.std.specs.Prelude.{◌≡◌};
 ghost use Rattle.dumyroke_flat.specs.Outcomes.{FormatOutcome, Outcome, StringOutcome};
-
-#[cfg(test)]
-mod tests;
 
 use dumyroke_flat::{
     Counts, ElementRow, ErrorRow, Limits, format_into, parse_into, string_value_into,
