@@ -5,13 +5,11 @@
 // quote again, and that end is no nearer than the last byte looked at. So no byte is looked at more than a fixed number of times, also in a
 // text of nothing but quotes, of bad strings or of backslashes.
 ghost use Rattle.std.specs.Prelude.{◌≡◌, ◌<◌, ◌≤◌, IfSome, Some, length};
-ghost use Rattle.std.specs.List.{prefix_len};
-ghost use Rattle.lexical_grammar.specs.Characters.{is_plain_string_character};
 ghost use Rattle.lexical_grammar.specs.Reads.{block_len, quoted_len, string_at};
 ghost use Rattle.apollo_lexer.specs.Pieces.{IsPiece, read_bad};
 
+use crate::classes::{PlainCharacter, class_len};
 use crate::escapes::{bad_escape_len, escape_len};
-use crate::lanes::{LANES, plain_lanes};
 use lexical_grammar::TokenKind;
 use memchr::memchr2;
 
@@ -57,44 +55,12 @@ fn block_len(bytes: &[u8]) -> Option<usize>
     }
 }
 
-fn is_plain(b: u8) -> bool
-    ensures { result ≡ is_plain_string_character b }
-{
-    !((b == b'"' || b == b'\\') || (b == b'\n' || b == b'\r'))
-}
-
-// How many bytes at the front are plain characters of a quoted string, byte by byte.
-#[inline(never)]
-fn plain_len_by_bytes(bytes: &[u8]) -> usize
-    ensures value { result ≡ prefix_len is_plain_string_character bytes.now }
-    ensures within { result ≤ length bytes.now }
-{
-    bytes.iter().take_while(|b| is_plain(**b)).count()
-}
-
-// The same, sixteen bytes at a time.
-#[inline(always)]
-fn plain_len(bytes: &[u8]) -> usize
-    ensures value { result ≡ prefix_len is_plain_string_character bytes.now }
-    ensures within { result ≤ length bytes.now }
-{
-    let mut n = 0;
-    while LANES <= bytes.len() - n {
-        let k = plain_lanes(&bytes[n..]);
-        if k < LANES {
-            return n + k;
-        }
-        n += LANES;
-    }
-    n + plain_len_by_bytes(&bytes[n..])
-}
-
 // In a quoted string: the plain characters at the front, and the quote or the escape after them.
 #[inline(always)]
 fn quoted_piece(rest: &[u8]) -> Piece
     ensures { IsPiece (quoted_len 0) rest.now result }
 {
-    let i = plain_len(rest);
+    let i = class_len::<PlainCharacter>(rest);
     if i == rest.len() {
         return Piece::Open;
     }
