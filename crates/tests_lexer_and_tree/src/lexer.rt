@@ -57,7 +57,7 @@ fn gives(
 // A lexer that has given its only item.
 fn lexer_behind_an_item(source: &str) -> Lexer<'_> {
     let mut lexer = lexer_of(source, 1);
-    let _item = lexer.next_counted(&mut Steps::new());
+    let _item = lexer.next_counted(&mut Steps::zero());
     lexer
 }
 
@@ -209,7 +209,7 @@ fn copies_go_on_alike(rt: HostRuntime) -> Result<(), Fail> {
     assert!(rt; first.data() == "a" && first.index() == 0);
     assert_eq!(rt; first.name(), "NAME");
     let mut copy = lexer;
-    assert!(rt; lexer.next() == copy.next_counted(&mut Steps::new()));
+    assert!(rt; lexer.next() == copy.next_counted(&mut Steps::zero()));
     let last = lexer.next().ok_or("an item")?.err().ok_or("an error")?;
     assert!(rt; last.is_limit() && last.data() == "" && last.index() == 2);
     let parts = ("token limit reached, aborting lexing", "", "");

@@ -31,5 +31,5 @@ pub fn parse_counted(
     alloc: Global,
     source: &str,
 ) -> Result<SyntaxTree<DocumentRoot, Global>, AllocError> {
-    Parser::new(source).parse_counted(alloc, &mut Steps::new())
+    Parser::new(source).parse_counted(alloc, &mut Steps::zero())
 }
