@@ -11,7 +11,7 @@ use Rattle.lexical_grammar.specs.Cut.{Cut}
 use Rattle.lexical_grammar.specs.Reads.{items_of}
 use Rattle.format_layout.specs.Formatted.{IsSentence, Formatted}
 use Rattle.format_layout.proofs.Nests.{alike-nest}
-use Rattle.formatter.specs.Outcome.{IsDocument, IsFormatted, IsRefused}
+use Rattle.formatter.specs.Formatted.{IsDocument, IsFormatted, IsRefused}
 
 pub empty-list : {X : Type 0} (xs : List X) → eqb (length xs) 0 ≡ true → xs ≡ []
 empty-list [] e = refl

@@ -1,6 +1,6 @@
 use Rattle.std.proofs.Common.{◌≡◌, drop}
-use Rattle.program_words.specs.Gqlfmt.{texts, page_of}
-use Rattle.program_words.proofs.gqlfmt.page_of.Given as goal
+use Rattle.program_words.specs.Gqlfmt.{texts, information_of}
+use Rattle.program_words.proofs.gqlfmt.information_of.Given as goal
 
 abbrev pub invariant-loop-word : goal.invariant-loop-word
-invariant-loop-word l = page_of (texts l.words) ≡ page_of (texts (drop l.word-index l.words))
+invariant-loop-word l = information_of (texts l.words) ≡ information_of (texts (drop l.word-index l.words))

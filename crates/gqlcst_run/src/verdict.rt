@@ -1,22 +1,22 @@
 // What a run of the program finds.
 ghost use Rattle.std.specs.Prelude.{◌≡◌};
-ghost use Rattle.gqlcst_run.specs.Parsing.{outcome_of};
+ghost use Rattle.gqlcst_run.specs.Parsing.{verdict_of};
 
 /// What was found.
 #[derive(Clone, Copy, Debug, PartialEq, Eq)]
-pub enum Outcome {
+pub enum Verdict {
     Clean,
     /// How many errors there are.
     Errors(usize),
 }
 
-/// The outcome for this many errors.
-pub fn outcome_of(errors: usize) -> Outcome
-    ensures { result ≡ outcome_of errors }
+/// The verdict for this many errors.
+pub fn verdict_of(errors: usize) -> Verdict
+    ensures { result ≡ verdict_of errors }
 {
     if errors == 0 {
-        Outcome::Clean
+        Verdict::Clean
     } else {
-        Outcome::Errors(errors)
+        Verdict::Errors(errors)
     }
 }

@@ -6,7 +6,7 @@ use itoa::Integer;
 /// A number of bytes and its digits. An item begins where the one before it ends, so its first digits are at hand. The number has 128 bits, since no
 /// contract of an item says that its end fits in fewer.
 #[derive(Drop)]
-pub struct Place {
+pub struct Digits {
     number: u128,
     bytes: [u8; 40],
     first: usize,
@@ -14,14 +14,14 @@ pub struct Place {
     ghost written: { drop first bytes ≡ decimal number },
 }
 
-impl Place {
+impl Digits {
     /// The beginning of a text.
-    pub fn new() -> Place
+    pub fn new() -> Digits
         ensures { result.number ≡ 0 }
     {
         let mut bytes = [0; 40];
         let first = 0u128.write(&mut bytes);
-        Place {
+        Digits {
             number: 0,
             bytes,
             first,
