@@ -4,7 +4,7 @@ use Rattle.std.proofs.lemmas.Bool.Decides.{nat_tests}
 use Rattle.lexical_grammar.specs.Answers.{usize_max}
 use Rattle.apollo_lexer.specs.Diagnostics.{Diagnostic}
 use Rattle.document_grammar.specs.Numbered.{tree_of}
-use Rattle.document_grammar.specs.Places.{bare}
+use Rattle.document_grammar.specs.Placed.{bare}
 use Rattle.apollo_parser.specs.Promise.{Promise}
 use Rattle.apollo_parser.specs.Parsed.{Parsed}
 use Rattle.lexical_grammar.specs.Cut.{Cut}

@@ -42,7 +42,7 @@ impl Ghost<Natural> {
 
 // A text that is joined to another.
 #[derive(Clone, Copy)]
-struct Piece<'p> {
+struct Joined<'p> {
     text: &'p str,
 }
 
@@ -59,7 +59,7 @@ impl Ghost<Bytes> {
     pub fn joined(&self, text: &str) -> Ghost<Bytes>
         ensures { result.value ≡ self.now.value ++ text.now }
     {
-        let piece = Piece { text };
-        Ghost::picked(self, &piece)
+        let joined = Joined { text };
+        Ghost::picked(self, &joined)
     }
 }

@@ -1,7 +1,7 @@
 -- The list of all line starts.
 use Rattle.std.specs.Prelude.{◌≡◌, ℕ, ◌+◌, ◌<◌, ◌≤◌, List, length, slice_index}
 use Rattle.std.specs.Str.{IsUtf8}
-use Rattle.line_index.specs.Places.{line_at, line_start}
+use Rattle.line_index.specs.Lines.{line_at, line_start}
 use Rattle.line_index.specs.Marks.{AreMarks}
 
 -- These are the places up to `end` at which a line begins, in order.
