@@ -6,13 +6,13 @@
 #![tactic(auto)]
 
 pub mod ending;
+mod finding;
 mod page;
 mod parsing;
 mod program;
 mod rendering;
-mod verdict;
 
 pub use apollo_parser::Limits;
+pub use finding::Finding;
 pub use program::run;
 pub use program_words::gqlcst::{Mode, options};
-pub use verdict::Verdict;

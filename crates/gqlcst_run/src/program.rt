@@ -4,10 +4,10 @@ ghost use Rattle.gqlcst_run.specs.Paging.{PutsSome};
 ghost use Rattle.byte_devices.specs.Runs.{Reads, Writes};
 ghost use Rattle.gqlcst_run.specs.Program.{IsOutput};
 
+use crate::finding::Finding;
 use crate::page::Page;
 use crate::parsing::{lexer, parse};
 use crate::rendering::{put_errors, put_tokens, put_tree};
-use crate::verdict::Verdict;
 use apollo_parser::Limits;
 use byte_devices::{Fault, Sink, Source, read_to_end};
 use program_words::gqlcst::Mode;
@@ -23,24 +23,24 @@ fn put_output<A: Allocator + Copy, W: Sink>(
     source: &str,
     mode: Mode,
     limits: Limits,
-) -> Result<Verdict, AllocError>
-    ensures ok { IfOk result (λ verdict. PutsSome (IsOutput mode limits source.now verdict) (page.old, W.account writer.old) (page.new, W.account writer.new)) }
+) -> Result<Finding, AllocError>
+    ensures ok { IfOk result (λ finding. PutsSome (IsOutput mode limits source.now finding) (page.old, W.account writer.old) (page.new, W.account writer.new)) }
     ensures err { OnErr result (W.account writer.new ≡ W.account writer.old) }
 {
     match mode {
         Mode::Check => {
-            let (tree, verdict) = parse(alloc, source, limits)?;
+            let (tree, finding) = parse(alloc, source, limits)?;
             put_errors(page, writer, tree.errors().as_slice());
-            Ok(verdict)
+            Ok(finding)
         }
         Mode::Tokens => {
-            let verdict = put_tokens(page, writer, lexer(source, limits));
-            Ok(verdict)
+            let finding = put_tokens(page, writer, lexer(source, limits));
+            Ok(finding)
         }
         Mode::Tree => {
-            let (tree, verdict) = parse(alloc, source, limits)?;
+            let (tree, finding) = parse(alloc, source, limits)?;
             put_tree(page, writer, &tree, source);
-            Ok(verdict)
+            Ok(finding)
         }
     }
 }
@@ -52,7 +52,7 @@ pub fn run<A: Allocator + Copy, R: Source, W: Sink>(
     writer: &mut W,
     mode: Mode,
     limits: Limits,
-) -> Result<Verdict, Fault>
+) -> Result<Finding, Fault>
     ensures { (input : List ℕ) × Reads result input (R.account reader.old) (R.account reader.new)
         × Writes (IsOutput mode limits) result input (W.account writer.old) (W.account writer.new) }
 {
@@ -61,7 +61,7 @@ pub fn run<A: Allocator + Copy, R: Source, W: Sink>(
         return Err(Fault::Utf8);
     };
     let mut page = Page::new();
-    let verdict = put_output(alloc, &mut page, writer, source, mode, limits)?;
+    let finding = put_output(alloc, &mut page, writer, source, mode, limits)?;
     page.finish(writer)?;
-    Ok(verdict)
+    Ok(finding)
 }

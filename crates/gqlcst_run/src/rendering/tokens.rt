@@ -3,12 +3,12 @@ ghost use Rattle.std.specs.Prelude.{◌≡◌, ◌+◌, [], ◌∷◌};
 ghost use Rattle.apollo_parser.specs.LexerAnswers.{answer_of, answers_left, error_answer};
 ghost use Rattle.apollo_parser.specs.Printed.{place_text, token_text};
 ghost use Rattle.gqlcst_run.specs.Paging.{Puts, PutsSome};
-ghost use Rattle.gqlcst_run.specs.Parsing.{verdict_of};
+ghost use Rattle.gqlcst_run.specs.Parsing.{finding_of};
 ghost use Rattle.gqlcst_run.specs.Rendering.{AreLines, IsAnswerForm, IsForm, error_count};
 
+use crate::finding::{Finding, finding_of};
 use crate::page::Page;
 use crate::rendering::digits::Digits;
-use crate::verdict::{Verdict, verdict_of};
 use apollo_parser::laws::answers_fit;
 use apollo_parser::{LexError, Lexer, Token, TokenKind};
 use byte_devices::Sink;
@@ -78,10 +78,10 @@ fn put_item<W: Sink>(
     }
 }
 
-/// Puts a line for each item that is left, an error in place of the first that the limit leaves out. Answers the verdict for the errors.
-pub fn put_tokens<W: Sink>(page: &mut Page, writer: &mut W, items: Lexer<'_>) -> Verdict
+/// Puts a line for each item that is left, an error in place of the first that the limit leaves out. Answers the finding for the errors.
+pub fn put_tokens<W: Sink>(page: &mut Page, writer: &mut W, items: Lexer<'_>) -> Finding
     ensures lines { PutsSome (AreLines IsAnswerForm (answers_left items.entry)) (page.old, W.account writer.old) (page.new, W.account writer.new) }
-    ensures verdict { result ≡ verdict_of (error_count (answers_left items.entry)) }
+    ensures finding { result ≡ finding_of (error_count (answers_left items.entry)) }
 {
     answers_fit(&items);
     let mut place = Digits::new();
@@ -90,5 +90,5 @@ pub fn put_tokens<W: Sink>(page: &mut Page, writer: &mut W, items: Lexer<'_>) ->
         errors += put_item(page, writer, &mut place, item);
         page.put_str(writer, "\n");
     }
-    verdict_of(errors)
+    finding_of(errors)
 }

@@ -1,22 +1,22 @@
 // What a run of the program finds.
 ghost use Rattle.std.specs.Prelude.{◌≡◌};
-ghost use Rattle.gqlcst_run.specs.Parsing.{verdict_of};
+ghost use Rattle.gqlcst_run.specs.Parsing.{finding_of};
 
 /// What was found.
 #[derive(Clone, Copy, Debug, PartialEq, Eq)]
-pub enum Verdict {
+pub enum Finding {
     Clean,
     /// How many errors there are.
     Errors(usize),
 }
 
-/// The verdict for this many errors.
-pub fn verdict_of(errors: usize) -> Verdict
-    ensures { result ≡ verdict_of errors }
+/// The finding for this many errors.
+pub fn finding_of(errors: usize) -> Finding
+    ensures { result ≡ finding_of errors }
 {
     if errors == 0 {
-        Verdict::Clean
+        Finding::Clean
     } else {
-        Verdict::Errors(errors)
+        Finding::Errors(errors)
     }
 }
