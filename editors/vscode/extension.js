@@ -1,13 +1,38 @@
-// Starts gqlls for GraphQL documents. Not tried in VS Code yet: only with stand-ins for its modules.
-const { workspace } = require("vscode");
+// Starts gqlls for GraphQL documents, and starts it anew on the command `gqlls.restart` or when the path of the program changes.
+// Tried only with stand-ins for VS Code's modules (test.js).
+const { commands, window, workspace } = require("vscode");
 const { LanguageClient } = require("vscode-languageclient/node");
 
 let client;
 
-exports.activate = async () => {
+async function stop() {
+  const running = client;
+  client = undefined;
+  await running?.stop();
+}
+
+async function start() {
   const command = workspace.getConfiguration("gqlls").get("path");
   client = new LanguageClient("gqlls", "gqlls", { command }, { documentSelector: [{ language: "graphql" }] });
-  await client.start();
+  try {
+    await client.start();
+  } catch (error) {
+    client = undefined;
+    window.showErrorMessage(`gqlls cannot be started as ${command}: ${error.message}`);
+  }
+}
+
+async function restart() {
+  await stop();
+  await start();
+}
+
+exports.activate = async (context) => {
+  context.subscriptions.push(
+    commands.registerCommand("gqlls.restart", restart),
+    workspace.onDidChangeConfiguration((event) => event.affectsConfiguration("gqlls.path") && restart()),
+  );
+  await start();
 };
 
-exports.deactivate = () => client?.stop();
+exports.deactivate = stop;

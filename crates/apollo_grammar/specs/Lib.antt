@@ -1,3 +1,3 @@
 pub mod Blocks
 pub mod Locations
-pub mod Words
+pub mod Clauses

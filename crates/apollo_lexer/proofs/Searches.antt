@@ -11,7 +11,7 @@ use Rattle.std.proofs.lemmas.List.Sums.{prefix_len_stops}
 use Rattle.memchr.specs.Find.{is_byte2, Nowhere, NoneBefore, Passes}
 use Rattle.lexical_grammar.specs.Strings.{begins, triple_quote, escaped_triple_quote}
 use Rattle.lexical_grammar.specs.Reads.{block_len, quoted_len, string_character_len, bad_escape_len, bad_string_len}
-use Rattle.apollo_lexer.specs.Pieces.{read_bad}
+use Rattle.apollo_lexer.specs.StringParts.{read_bad}
 use Rattle.lexical_grammar.proofs.StringSound.{begins-is}
 
 -- a length, longer by a number of bytes

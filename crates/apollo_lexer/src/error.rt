@@ -6,7 +6,7 @@ ghost use Rattle.apollo_lexer.specs.Equal.{same_diagnostic, subject_number, hash
 ghost use Rattle.apollo_lexer.specs.Printed.{error_text, subject_shown};
 ghost use Rattle.apollo_lexer.specs.Diagnostics.{of_text, of_end, of_limit, subject_text, is_end_subject, is_limit_subject};
 
-use crate::error_data::{ErrorData, Words};
+use crate::error_data::{ErrorData, MessageText};
 use arrayvec::ArrayString;
 use std::alloc::{AllocError, Allocator, Global};
 use std::fmt;
@@ -55,7 +55,7 @@ impl<A: Allocator> Error<A> {
         ensures { result ≡ record { message = string_bytes message; subject = of_limit; index = index } }
     {
         Error {
-            data: ErrorData::LimitExceeded(Words::Owned(message)),
+            data: ErrorData::LimitExceeded(MessageText::Owned(message)),
             index,
         }
     }
@@ -65,7 +65,7 @@ impl<A: Allocator> Error<A> {
         ensures { result ≡ record { message = string_bytes message; subject = of_end; index = index } }
     {
         Error {
-            data: ErrorData::Eof(Words::Owned(message)),
+            data: ErrorData::Eof(MessageText::Owned(message)),
             index,
         }
     }
@@ -75,7 +75,7 @@ impl<A: Allocator> Error<A> {
         ensures { result ≡ record { message = message.now; subject = of_limit; index = index } }
     {
         Error {
-            data: ErrorData::LimitExceeded(Words::Static(message)),
+            data: ErrorData::LimitExceeded(MessageText::Static(message)),
             index,
         }
     }
@@ -85,7 +85,7 @@ impl<A: Allocator> Error<A> {
         ensures { result ≡ record { message = message.now; subject = of_end; index = index } }
     {
         Error {
-            data: ErrorData::Eof(Words::Static(message)),
+            data: ErrorData::Eof(MessageText::Static(message)),
             index,
         }
     }

@@ -8,7 +8,7 @@ use std::alloc::{AllocError, Allocator};
 
 // The message of an error that is about no text.
 #[derive(Drop)]
-pub enum Words<A: Allocator> {
+pub enum MessageText<A: Allocator> {
     Static(&'static str),
     Owned(String<A>),
 }
@@ -28,28 +28,28 @@ pub enum ErrorData<A: Allocator> {
     Pair(ArrayString<24>, ArrayString<8>),
     // a message and a text that were given
     Text(String<A>, String<A>),
-    Eof(Words<A>),
-    LimitExceeded(Words<A>),
+    Eof(MessageText<A>),
+    LimitExceeded(MessageText<A>),
 }
 
-impl<A: Allocator> Words<A> {
+impl<A: Allocator> MessageText<A> {
     fn as_str(&self) -> &str
         ensures { result.now ≡ words_text self.now }
     {
         match self {
-            Words::Static(text) => text,
-            Words::Owned(text) => text.as_str(),
+            MessageText::Static(text) => text,
+            MessageText::Owned(text) => text.as_str(),
         }
     }
 
-    fn try_clone<B: Allocator>(&self, alloc: B) -> Result<Words<B>, AllocError>
+    fn try_clone<B: Allocator>(&self, alloc: B) -> Result<MessageText<B>, AllocError>
         ensures { IfOk result (λ w. words_text w ≡ words_text self.now) }
     {
         match self {
-            Words::Static(text) => Ok(Words::Static(text)),
-            Words::Owned(text) => {
+            MessageText::Static(text) => Ok(MessageText::Static(text)),
+            MessageText::Owned(text) => {
                 let text = String::from_str(alloc, text.as_str())?;
-                Ok(Words::Owned(text))
+                Ok(MessageText::Owned(text))
             }
         }
     }

@@ -129,7 +129,7 @@ impl<'a> Lexer<'a> {
     pub fn next_counted(&mut self, steps: &mut Steps) -> Option<Result<Token<'a>, LexError<'a>>>
         ensures answers { YieldsFirstBy answer_of answers_left self.old result self.new }
         ensures items { items_left self.new ≡ items_after result (items_left self.old) }
-        ensures count { steps.new.count ≡ steps.old.count + cut_count result }
+        ensures count { steps.new.value ≡ steps.old.value + cut_count result }
         ensures high { final_high self.new ≡ final_high self.old }
         ensures limit { self.new.limit_tracker.limit ≡ self.old.limit_tracker.limit }
     {
@@ -176,6 +176,6 @@ impl<'a> Iterator for Lexer<'a> {
 
     #[inline(always)]
     fn next(&mut self) -> Option<Result<Token<'a>, LexError<'a>>> {
-        self.next_counted(&mut Steps::new())
+        self.next_counted(&mut Steps::zero())
     }
 }

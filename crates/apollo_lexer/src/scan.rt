@@ -1,14 +1,13 @@
 // Which item is at the front of a text, and how far it goes.
 ghost use Rattle.std.specs.Prelude.{◌≡◌, ◌+◌, ◌≤◌, ◌<◌, ◌==◌, ◌||◌, [], ◌∷◌, if◌then◌else◌, length, take, drop, Some, None};
 ghost use Rattle.std.specs.List.{prefix_len};
-ghost use Rattle.lexical_grammar.specs.Characters.{is_name_start, is_name_continue, is_comment_character, is_digit};
+ghost use Rattle.lexical_grammar.specs.Characters.{is_comment_character, is_digit};
 ghost use Rattle.lexical_grammar.specs.declared.TokenKind.TheVariants as token;
 ghost use Rattle.lexical_grammar.specs.Strings.{begins};
 ghost use Rattle.lexical_grammar.specs.Reads.{blank_len, blanks_len, character_len, token_at, bad_len, first_item};
-ghost use Rattle.apollo_lexer.specs.Starts.{is_blank_byte};
 
-use crate::bytes::{Start, is_blank_byte, is_name_continue, start_of};
-use crate::lanes::{LANES, blank_lanes, name_lanes};
+use crate::bytes::{Start, is_blank_byte, start_of};
+use crate::classes::{BlankByte, NameContinue, class_len};
 use crate::numbers::{number_at, number_len};
 use crate::strings::{bad_string_len, string_at};
 use lexical_grammar::TokenKind;
@@ -18,31 +17,6 @@ fn is_number_start(b: u8) -> bool
     ensures { result ≡ (is_digit b || b == 45) }
 {
     b.is_ascii_digit() || b == b'-'
-}
-
-// How many bytes at the front go on with a name.
-#[inline(always)]
-fn name_len(bytes: &[u8]) -> usize
-    ensures value { result ≡ prefix_len is_name_continue bytes.now }
-    ensures within { result ≤ length bytes.now }
-{
-    if bytes.len() < LANES {
-        return name_len_by_bytes(bytes);
-    }
-    let n = name_lanes(bytes);
-    if n < LANES {
-        return n;
-    }
-    LANES + name_len_by_bytes(&bytes[LANES..])
-}
-
-// The same, byte by byte.
-#[inline(never)]
-fn name_len_by_bytes(bytes: &[u8]) -> usize
-    ensures value { result ≡ prefix_len is_name_continue bytes.now }
-    ensures within { result ≤ length bytes.now }
-{
-    bytes.iter().take_while(|b| is_name_continue(**b)).count()
 }
 
 // A comment ends before a line terminator, or with the text.
@@ -94,37 +68,12 @@ fn blanks_len(bytes: &[u8]) -> usize
     if blank_len(bytes) == 0 {
         return 0;
     }
-    let n = blank_bytes_len(bytes);
+    let n = class_len::<BlankByte>(bytes);
     let after = &bytes[n..];
     if blank_len(after) == 0 {
         return n;
     }
     n + marked_len(after)
-}
-
-// How many bytes at the front are a blank character each.
-#[inline(always)]
-fn blank_bytes_len(bytes: &[u8]) -> usize
-    ensures value { result ≡ prefix_len is_blank_byte bytes.now }
-    ensures within { result ≤ length bytes.now }
-{
-    if bytes.len() < LANES {
-        return blank_len_by_bytes(bytes);
-    }
-    let n = blank_lanes(bytes);
-    if n < LANES {
-        return n;
-    }
-    LANES + blank_len_by_bytes(&bytes[LANES..])
-}
-
-// The same, byte by byte.
-#[inline(never)]
-fn blank_len_by_bytes(bytes: &[u8]) -> usize
-    ensures value { result ≡ prefix_len is_blank_byte bytes.now }
-    ensures within { result ≤ length bytes.now }
-{
-    bytes.iter().take_while(|b| is_blank_byte(**b)).count()
 }
 
 // The bytes of the blank characters at the front, where a byte order mark begins them.
@@ -175,7 +124,7 @@ fn token_at(bytes: &[u8]) -> Option<(TokenKind, usize)>
 {
     let (first, others) = bytes.split_first()?;
     match start_of(*first) {
-        Start::Name => Some((TokenKind::Name, name_len(bytes))),
+        Start::Name => Some((TokenKind::Name, class_len::<NameContinue>(bytes))),
         Start::Number => number_at(bytes),
         Start::Quote => string_at(bytes),
         Start::NumberSign => Some((TokenKind::Comment, 1 + comment_len(others))),

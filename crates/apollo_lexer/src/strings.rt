@@ -5,37 +5,35 @@
 // quote again, and that end is no nearer than the last byte looked at. So no byte is looked at more than a fixed number of times, also in a
 // text of nothing but quotes, of bad strings or of backslashes.
 ghost use Rattle.std.specs.Prelude.{◌≡◌, ◌<◌, ◌≤◌, IfSome, Some, length};
-ghost use Rattle.std.specs.List.{prefix_len};
-ghost use Rattle.lexical_grammar.specs.Characters.{is_plain_string_character};
 ghost use Rattle.lexical_grammar.specs.Reads.{block_len, quoted_len, string_at};
-ghost use Rattle.apollo_lexer.specs.Pieces.{IsPiece, read_bad};
+ghost use Rattle.apollo_lexer.specs.StringParts.{IsStringPart, read_bad};
 
+use crate::classes::{PlainCharacter, class_len};
 use crate::escapes::{bad_escape_len, escape_len};
-use crate::lanes::{LANES, plain_lanes};
 use lexical_grammar::TokenKind;
 use memchr::memchr2;
 
 // What is at the front: nothing that ends the string, its end, or some bytes of it.
-enum Piece {
+enum StringPart {
     Open,
     Last(usize),
     Inner(usize),
 }
 
 // In a block string: the characters up to a quote or a backslash, and that one or what it begins.
-fn block_piece(rest: &[u8]) -> Piece
-    ensures { IsPiece (block_len 0) rest.now result }
+fn block_piece(rest: &[u8]) -> StringPart
+    ensures { IsStringPart (block_len 0) rest.now result }
 {
     match memchr2(b'"', b'\\', rest) {
-        None => Piece::Open,
+        None => StringPart::Open,
         Some(i) => {
             let tail = &rest[i..];
             if tail.starts_with(b"\"\"\"") {
-                Piece::Last(i + 3)
+                StringPart::Last(i + 3)
             } else if tail.starts_with(b"\\\"\"\"") {
-                Piece::Inner(i + 4)
+                StringPart::Inner(i + 4)
             } else {
-                Piece::Inner(i + 1)
+                StringPart::Inner(i + 1)
             }
         }
     }
@@ -50,65 +48,33 @@ fn block_len(bytes: &[u8]) -> Option<usize>
     let mut n = 0;
     loop {
         match block_piece(&bytes[n..]) {
-            Piece::Open => return None,
-            Piece::Last(k) => return Some(n + k),
-            Piece::Inner(k) => n += k,
+            StringPart::Open => return None,
+            StringPart::Last(k) => return Some(n + k),
+            StringPart::Inner(k) => n += k,
         }
     }
-}
-
-fn is_plain(b: u8) -> bool
-    ensures { result ≡ is_plain_string_character b }
-{
-    !((b == b'"' || b == b'\\') || (b == b'\n' || b == b'\r'))
-}
-
-// How many bytes at the front are plain characters of a quoted string, byte by byte.
-#[inline(never)]
-fn plain_len_by_bytes(bytes: &[u8]) -> usize
-    ensures value { result ≡ prefix_len is_plain_string_character bytes.now }
-    ensures within { result ≤ length bytes.now }
-{
-    bytes.iter().take_while(|b| is_plain(**b)).count()
-}
-
-// The same, sixteen bytes at a time.
-#[inline(always)]
-fn plain_len(bytes: &[u8]) -> usize
-    ensures value { result ≡ prefix_len is_plain_string_character bytes.now }
-    ensures within { result ≤ length bytes.now }
-{
-    let mut n = 0;
-    while LANES <= bytes.len() - n {
-        let k = plain_lanes(&bytes[n..]);
-        if k < LANES {
-            return n + k;
-        }
-        n += LANES;
-    }
-    n + plain_len_by_bytes(&bytes[n..])
 }
 
 // In a quoted string: the plain characters at the front, and the quote or the escape after them.
 #[inline(always)]
-fn quoted_piece(rest: &[u8]) -> Piece
-    ensures { IsPiece (quoted_len 0) rest.now result }
+fn quoted_piece(rest: &[u8]) -> StringPart
+    ensures { IsStringPart (quoted_len 0) rest.now result }
 {
-    let i = plain_len(rest);
+    let i = class_len::<PlainCharacter>(rest);
     if i == rest.len() {
-        return Piece::Open;
+        return StringPart::Open;
     }
     if rest[i] == b'"' {
-        return Piece::Last(i + 1);
+        return StringPart::Last(i + 1);
     }
     if rest[i] != b'\\' {
-        return Piece::Open;
+        return StringPart::Open;
     }
     let n = escape_len(&rest[i..]);
     if n == 0 {
-        Piece::Open
+        StringPart::Open
     } else {
-        Piece::Inner(i + n)
+        StringPart::Inner(i + n)
     }
 }
 
@@ -121,25 +87,25 @@ fn quoted_len(bytes: &[u8]) -> Option<usize>
     let mut n = 0;
     loop {
         match quoted_piece(&bytes[n..]) {
-            Piece::Open => return None,
-            Piece::Last(k) => return Some(n + k),
-            Piece::Inner(k) => n += k,
+            StringPart::Open => return None,
+            StringPart::Last(k) => return Some(n + k),
+            StringPart::Inner(k) => n += k,
         }
     }
 }
 
 // In a bad string: the bytes up to a quote or a backslash, and that one and what it takes along.
-fn bad_piece(rest: &[u8]) -> Piece
-    ensures { IsPiece read_bad rest.now result }
+fn bad_piece(rest: &[u8]) -> StringPart
+    ensures { IsStringPart read_bad rest.now result }
 {
     match memchr2(b'"', b'\\', rest) {
-        None => Piece::Last(rest.len()),
+        None => StringPart::Last(rest.len()),
         Some(i) => {
             if rest[i] == b'"' {
-                Piece::Last(i + 1)
+                StringPart::Last(i + 1)
             } else {
                 let n = bad_escape_len(&rest[i..]);
-                Piece::Inner(i + n)
+                StringPart::Inner(i + n)
             }
         }
     }
@@ -153,9 +119,9 @@ pub fn bad_string_len(bytes: &[u8]) -> usize
     let mut n = 0;
     loop {
         match bad_piece(&bytes[n..]) {
-            Piece::Open => return n,
-            Piece::Last(k) => return n + k,
-            Piece::Inner(k) => n += k,
+            StringPart::Open => return n,
+            StringPart::Last(k) => return n + k,
+            StringPart::Inner(k) => n += k,
         }
     }
 }

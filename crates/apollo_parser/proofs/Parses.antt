@@ -2,7 +2,7 @@
 use Rattle.std.specs.Str.{IsAscii}
 use Rattle.std.specs.List.{Any, All, list_all}
 use Rattle.document_grammar.specs.Tree.{Tree}
-use Rattle.document_grammar.specs.Places.{Placed, bare}
+use Rattle.document_grammar.specs.Placed.{Placed, bare}
 use Rattle.parser_rules.specs.Open.{IsRoot}
 use Rattle.parser_rules.proofs.reports.NoReport.{EndsWell, current_tokens, kind_tokens, end-kind}
 use Rattle.parser_rules.proofs.soundness.OverTexts.{RightFirst, accepts-text, accepts-tree, first-report-right}

@@ -16,7 +16,7 @@ use Rattle.document_grammar.specs.Derivation.{Sort, nest}
 use Rattle.document_grammar.specs.FirstError.{NotLate, NotEarly, NotEarlyLimit, EndedNodesFit}
 use Rattle.document_grammar.specs.Numbers.{number}
 use Rattle.document_grammar.specs.Recovery.{Rowed}
-use Rattle.document_grammar.specs.Places.{bare}
+use Rattle.document_grammar.specs.Placed.{bare}
 use Rattle.document_grammar.specs.Sentence.{Sentence, Within}
 use Rattle.document_grammar.specs.Tree.{Tree}
 use Rattle.document_grammar.specs.Forests.{Forest, none, node, text, count}

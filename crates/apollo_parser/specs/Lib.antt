@@ -31,7 +31,7 @@ pub use Rattle.document_grammar.specs.Recovery
 -- what is built
 pub use Rattle.document_grammar.specs.Forests
 pub use Rattle.document_grammar.specs.Numbered
-pub use Rattle.document_grammar.specs.Places
+pub use Rattle.document_grammar.specs.Placed
 pub use Rattle.document_grammar.specs.Leaves
 pub use Rattle.apollo_tree.specs.Order
 pub use Rattle.apollo_tree.specs.Indexed

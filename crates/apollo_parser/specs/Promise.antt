@@ -15,7 +15,7 @@ use Rattle.document_grammar.specs.FirstError.{NotLate, NotEarly, NotEarlyLimit, 
 use Rattle.document_grammar.specs.Forests.{Forest, none, node, text}
 use Rattle.document_grammar.specs.Leaves.{leaves, OneLeafAnItem}
 use Rattle.document_grammar.specs.Numbered.{tree_of}
-use Rattle.document_grammar.specs.Places.{bare, Placed}
+use Rattle.document_grammar.specs.Placed.{bare, Placed}
 use Rattle.document_grammar.specs.Recovery.{Rowed}
 use Rattle.document_grammar.specs.Sentence.{Sentence, FirstSentence, Within, OnlyDerivation}
 use Rattle.document_grammar.specs.Tree.{Tree}

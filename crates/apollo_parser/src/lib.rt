@@ -14,7 +14,7 @@ pub use apollo_lexer::{Error, LexError, Lexer, LimitTracker, Limits, Steps, Toke
 pub use apollo_tree::{
     IndexedElement, Subtree, SyntaxElement, SyntaxElementChildren, SyntaxElementDescendants,
     SyntaxNode, SyntaxNodeAncestors, SyntaxNodeChildren, SyntaxNodeDescendants, SyntaxToken,
-    TextRange, TokenText,
+    TextRange, TokenAtOffset, TokenText,
 };
 pub use document_grammar::SyntaxKind;
 pub use lexical_grammar::TokenKind;

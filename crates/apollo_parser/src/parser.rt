@@ -89,7 +89,7 @@ impl<'i> Parser<'i> {
     // The state before anything is read. It also says what the text is made of.
     fn start<A: Allocator + Copy>(self, alloc: A, steps: Steps) -> ParserState<'i, A>
         ensures unread { let answers = limited self.entry.token_limit (items_of self.entry.source.now) in
-            result ≡ unread answers self.entry.recursion_limit (steps.count + 2 * min (length answers) self.entry.token_limit) }
+            result ≡ unread answers self.entry.recursion_limit (steps.value + 2 * min (length answers) self.entry.token_limit) }
         ensures cut { Cut self.entry.source.now (items_of self.entry.source.now) }
         ensures characters { IsUtf8 self.entry.source.now }
         ensures short { length self.entry.source.now < 2 ^ 63 }
@@ -114,9 +114,9 @@ impl<'i> Parser<'i> {
         steps: &mut Steps,
     ) -> Result<SyntaxTree<DocumentRoot, A>, AllocError>
         ensures run { IfOk result (ByRules self.entry.source.now self.entry.recursion_limit self.entry.token_limit) }
-        ensures lookahead { steps.new.count ≤ steps.old.count + 2 * min (length (items_of self.entry.source.now)) self.entry.token_limit }
+        ensures lookahead { steps.new.value ≤ steps.old.value + 2 * min (length (items_of self.entry.source.now)) self.entry.token_limit }
     {
-        let before = mem::replace(steps, Steps::new());
+        let before = mem::replace(steps, Steps::zero());
         let mut p = self.start(alloc, before);
         if let Err(error) = Self::read_document(&mut p) {
             *steps = p.into_steps();
@@ -136,7 +136,7 @@ impl<'i> Parser<'i> {
     ) -> Result<SyntaxTree<DocumentRoot, A>, AllocError>
         ensures promise { IfOk result (Promise self.entry.source.now self.entry.recursion_limit self.entry.token_limit) }
     {
-        self.parse_counted(alloc, &mut Steps::new())
+        self.parse_counted(alloc, &mut Steps::zero())
     }
 
     /// Answers as `parse`, and counts each item that is cut, by the parser's lexer or by a copy of it that looks ahead.
@@ -147,7 +147,7 @@ impl<'i> Parser<'i> {
     ) -> Result<SyntaxTree<DocumentRoot, A>, AllocError>
         ensures promise { IfOk result (Promise self.entry.source.now self.entry.recursion_limit self.entry.token_limit) }
         // whatever it answers, each item of the text is cut at most twice, and no more items are cut than twice the token limit
-        ensures lookahead { steps.new.count ≤ steps.old.count + 2 * min (length (items_of self.entry.source.now)) self.entry.token_limit }
+        ensures lookahead { steps.new.value ≤ steps.old.value + 2 * min (length (items_of self.entry.source.now)) self.entry.token_limit }
     {
         self.run_document(alloc, steps)
     }
@@ -159,12 +159,12 @@ impl<'i> Parser<'i> {
     ) -> Result<SyntaxTree<SelectionSetRoot, A>, AllocError>
         ensures { IfOk result (ByRootRule kind.SELECTION_SET field_set self.entry.source.now self.entry.recursion_limit self.entry.token_limit) }
     {
-        let mut p = self.start(alloc, Steps::new());
+        let mut p = self.start(alloc, Steps::zero());
         p.open(SyntaxKind::SELECTION_SET)?;
         p.push_pending()?;
         field_set(&mut p)?;
         p.drop_pending();
-        let finished = p.finish(self.token_limit, self.source, &mut Steps::new())?;
+        let finished = p.finish(self.token_limit, self.source, &mut Steps::zero())?;
         Ok(SyntaxTree::of(finished))
     }
 
@@ -187,11 +187,11 @@ impl<'i> Parser<'i> {
     fn run_type<A: Allocator + Copy>(self, alloc: A) -> Result<SyntaxTree<TypeRoot, A>, AllocError>
         ensures { IfOk result (ByTypeRule self.entry.source.now self.entry.recursion_limit self.entry.token_limit) }
     {
-        let mut p = self.start(alloc, Steps::new());
+        let mut p = self.start(alloc, Steps::zero());
         let first = p.read_first()?;
         type_root(&mut p, first)?;
         p.drop_pending();
-        let finished = p.finish(self.token_limit, self.source, &mut Steps::new())?;
+        let finished = p.finish(self.token_limit, self.source, &mut Steps::zero())?;
         Ok(SyntaxTree::of(finished))
     }
 

@@ -26,6 +26,7 @@ impl Model for TextRange {
 
 impl TextRange {
     ghost use Rattle.std.specs.Prelude.{◌≤◌};
+    ghost use Rattle.apollo_tree.specs.AtOffset.{meets};
 
     /// The range from one byte offset up to another.
     pub(crate) fn new(start: usize, end: usize) -> TextRange
@@ -47,6 +48,13 @@ impl TextRange {
         ensures { result ≡ self.1 }
     {
         self.end
+    }
+
+    // Whether it has the byte at an offset, or the byte before it.
+    pub(crate) fn meets(self, offset: usize) -> bool
+        ensures { result ≡ meets offset self }
+    {
+        self.start < self.end && self.start <= offset && offset <= self.end
     }
 
     /// How many bytes there are in the range.

@@ -10,8 +10,8 @@ ghost use Rattle.document_grammar.specs.Builds.{nothing, start, add_leaf, finish
 use crate::record::Record;
 use crate::subtree::Subtree;
 use crate::table::RecordTable;
-use crate::words::{Piece, Words};
 use document_grammar::SyntaxKind;
+use ghost_value::{Bytes, Ghost};
 use std::alloc::{AllocError, Allocator, Global};
 use std::marker::Model;
 
@@ -33,7 +33,8 @@ pub struct SpanBuilder<A: Allocator = Global> {
     records: RecordTable<A>,
     unfinished: Vec<usize, A>,
     len: usize,
-    words: Words,
+    // the text of the leaves, which contracts alone see
+    leaf_text: Ghost<Bytes>,
 }
 
 impl<A: Allocator> Model for SpanBuilder<A> {
@@ -48,9 +49,9 @@ impl<A: Allocator> Model for SpanBuilder<A> {
     ghost use Rattle.apollo_tree.specs.Records.{built};
     ghost use Rattle.apollo_tree.specs.Open.{Holds};
 
-    ghost view = { λ a. built a.words.bytes a.records };
+    ghost view = { λ a. built a.leaf_text.value a.records };
 
-    ghost invariant = { λ a. Holds (built a.words.bytes a.records) a.records a.unfinished.items a.words.bytes × (a.len ≡ length a.words.bytes) };
+    ghost invariant = { λ a. Holds (built a.leaf_text.value a.records) a.records a.unfinished.items a.leaf_text.value × (a.len ≡ length a.leaf_text.value) };
 }
 
 impl<A: Allocator + Copy> SpanBuilder<A> {
@@ -62,11 +63,11 @@ impl<A: Allocator + Copy> SpanBuilder<A> {
             records: RecordTable::new(alloc),
             unfinished: Vec::new(alloc),
             len: 0,
-            words: Words::new(),
+            leaf_text: Ghost::empty(),
         }
     }
 
-    // Opens a node as `start_node` does, where memory may have to grow.
+    // Opens a node as `start_node` does, where memory may have to grow. In one function the compiler would save registers for this on every call.
     #[cold]
     #[inline(never)]
     fn start_node_growing(&mut self, kind: SyntaxKind) -> Result<(), AllocError>
@@ -162,7 +163,7 @@ impl<A: Allocator + Copy> SpanBuilder<A> {
     {
         let to_parent = self.to_parent(self.checkpoint().place);
         self.records.push(Record::leaf(kind, self.len, to_parent))?;
-        self.words = self.words.joined(&Piece { text });
+        self.leaf_text = self.leaf_text.joined(text);
         self.len += text.len();
         Ok(())
     }
@@ -177,7 +178,7 @@ impl<A: Allocator + Copy> SpanBuilder<A> {
         let to_parent = self.to_parent(self.checkpoint().place);
         let leaf = Record::leaf(kind, self.len, to_parent);
         if self.records.push_in_place(leaf) {
-            self.words = self.words.joined(&Piece { text });
+            self.leaf_text = self.leaf_text.joined(text);
             self.len += text.len();
             return Ok(());
         }
@@ -223,7 +224,7 @@ impl<A: Allocator + Copy> SpanBuilder<A> {
         let first = Record::node(node, self.len, 2, to_parent);
         let second = Record::leaf(leaf, self.len, 1);
         if self.records.push_both_in_place(first, second) {
-            self.words = self.words.joined(&Piece { text });
+            self.leaf_text = self.leaf_text.joined(text);
             self.len += text.len();
             return Ok(());
         }

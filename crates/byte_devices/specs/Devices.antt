@@ -1,6 +1,5 @@
 -- What is known of a reader or a writer: the calls on it so far.
 use Rattle.std.specs.Prelude.{ℕ, zero, suc, ◌+◌, List, [], ◌++◌, take, Result, Ok, Err}
-use Rattle.byte_devices.specs.declared.trace.Trace.{Trace}
 
 -- The bytes that went through a device, how often it stopped (a reader at its end, a writer that took no byte), and how often it failed.
 pub record Account : Type 0 where
@@ -27,7 +26,3 @@ abbrev pub after : {E : Type 0} → Account → Result ℕ E → List ℕ → Ac
 after a (Ok zero) buffer = stopped a
 after a (Ok (suc n)) buffer = moved a (take (suc n) buffer)
 after a (Err e) buffer = failed a
-
--- the account that a trace is
-abbrev pub account_of : Trace → Account
-account_of t = record { bytes = t.bytes; stops = t.stops; failures = t.failures }

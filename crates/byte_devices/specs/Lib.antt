@@ -1,4 +1,4 @@
 pub mod Devices
-pub mod Reading
+pub mod EndsReading
 pub mod Writing
 pub mod Runs

@@ -1,7 +1,7 @@
 // Reading to the end.
 ghost use Rattle.std.specs.Prelude.{◌≡◌, List, ℕ, IfOk, IfErr};
 ghost use Rattle.byte_devices.specs.Devices.{moved, stopped};
-ghost use Rattle.byte_devices.specs.Reading.{EndsReading};
+ghost use Rattle.byte_devices.specs.EndsReading.{EndsReading};
 
 use crate::devices::Source;
 use crate::fault::Fault;

@@ -1,7 +1,7 @@
 // Standard readers and writers as devices of the program.
 ghost use Rattle.std.specs.Prelude.{◌≡◌, ◌<◌, ◌≤◌, length, IfOk};
 ghost use Rattle.std.specs.Io.KnownBytes.{ReadConsumes, WriteAppends};
-ghost use Rattle.byte_devices.specs.Devices.{nothing_moved, after, account_of};
+ghost use Rattle.byte_devices.specs.Devices.{nothing_moved, after};
 
 use crate::devices::{DeviceError, Sink, Source};
 use crate::trace::Trace;
@@ -18,7 +18,7 @@ impl<R: Read> StdSource<R> {
     /// The reader, before its first call.
     pub fn new(reader: R) -> Self
         ensures reader { result.reader ≡ reader }
-        ensures account { account_of result.trace ≡ nothing_moved }
+        ensures account { result.trace.account.value ≡ nothing_moved }
     {
         StdSource {
             reader,
@@ -28,12 +28,12 @@ impl<R: Read> StdSource<R> {
 }
 
 impl<R: Read> Source for StdSource<R> {
-    ghost account = { λ source. account_of source.trace };
+    ghost account = { λ source. source.trace.account.value };
 
     fn read(&mut self, buffer: &mut [u8]) -> Result<usize, DeviceError>
         requires { 0 < length buffer.old }
         ensures within { IfOk result (λ n. n ≤ length buffer.new) }
-        ensures account { account_of self.new.trace ≡ after (account_of self.old.trace) result buffer.new }
+        ensures account { self.new.trace.account.value ≡ after self.old.trace.account.value result buffer.new }
         ensures bytes { ReadConsumes (R.remaining self.old.reader) (R.remaining self.new.reader) result buffer.new }
     {
         let answer = match self.reader.read(buffer) {
@@ -56,7 +56,7 @@ impl<W: Write> StdSink<W> {
     /// The writer, before its first call.
     pub fn new(writer: W) -> Self
         ensures writer { result.writer ≡ writer }
-        ensures account { account_of result.trace ≡ nothing_moved }
+        ensures account { result.trace.account.value ≡ nothing_moved }
     {
         StdSink {
             writer,
@@ -66,12 +66,12 @@ impl<W: Write> StdSink<W> {
 }
 
 impl<W: Write> Sink for StdSink<W> {
-    ghost account = { λ sink. account_of sink.trace };
+    ghost account = { λ sink. sink.trace.account.value };
 
     fn write(&mut self, bytes: &[u8]) -> Result<usize, DeviceError>
         requires { 0 < length bytes.now }
         ensures within { IfOk result (λ n. n ≤ length bytes.now) }
-        ensures account { account_of self.new.trace ≡ after (account_of self.old.trace) result bytes.now }
+        ensures account { self.new.trace.account.value ≡ after self.old.trace.account.value result bytes.now }
         ensures bytes { WriteAppends (W.contents self.old.writer) (W.contents self.new.writer) result bytes.now }
     {
         let answer = match self.writer.write(bytes) {

@@ -7,7 +7,7 @@ use Rattle.document_grammar.proofs.Joins.{count-join}
 use Rattle.document_grammar.specs.Numbered.{numbered}
 use Rattle.document_grammar.specs.Tree.{Token, Tree, leaf, node, Forest, none, ◌▸◌, ◌+++◌}
 use Rattle.document_grammar.specs.Derivation.{Yield, Yields}
-use Rattle.document_grammar.specs.Places.{ignored, bare, bares}
+use Rattle.document_grammar.specs.Placed.{ignored, bare, bares}
 use Rattle.document_grammar.proofs.Booleans.{either}
 
 -- One list of trees after the other.

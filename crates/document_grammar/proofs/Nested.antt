@@ -10,7 +10,7 @@ use Rattle.document_grammar.specs.Numbered.{numbered}
 use Rattle.document_grammar.specs.Pattern.{member}
 use Rattle.document_grammar.specs.Tree.{Tree, leaf, node, Forest, none, ◌▸◌, ◌+++◌, root}
 use Rattle.document_grammar.specs.Derivation.{counts, below, belows, nest}
-use Rattle.document_grammar.specs.Places.{ignored, bare, bares}
+use Rattle.document_grammar.specs.Placed.{ignored, bare, bares}
 use Rattle.document_grammar.specs.Booleans.{◌and◌}
 use Rattle.document_grammar.proofs.Booleans.{either, and-l, and-r, not-c, cond-zero}
 use Rattle.document_grammar.proofs.Built.{numbered-join}

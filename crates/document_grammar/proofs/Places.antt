@@ -4,7 +4,7 @@ use Rattle.std.proofs.Common.{◌≢◌, true≢false, sym, IsTrue, false, List,
 use Rattle.document_grammar.specs.Tree.{Token, Tree, leaf, node, Forest, none, ◌▸◌, ◌+++◌}
 use Rattle.std.specs.Prelude.{codes}
 use Rattle.document_grammar.specs.Kinds.{WHITESPACE, L_CURLY, R_CURLY, IDENT, DOCUMENT, OPERATION_DEFINITION, SELECTION_SET, FIELD, NAME}
-use Rattle.document_grammar.specs.Places.{PlacedIn, Placed}
+use Rattle.document_grammar.specs.Placed.{PlacedIn, Placed}
 
 abbrev space : Tree
 space = leaf WHITESPACE (codes " ")

@@ -10,7 +10,7 @@ use Rattle.document_grammar.specs.Tree.{Token, Tree, leaf, node, Forest, none, �
 use Rattle.document_grammar.specs.Pattern.{Pattern, Matches}
 use Rattle.document_grammar.specs.Rows.{Row, row_in, children}
 use Rattle.document_grammar.specs.Derivation.{kinds, Yield, Yields, Fits, AllFit}
-use Rattle.document_grammar.specs.Places.{ignored, bare, bares, Between, AllPlaced, Placed}
+use Rattle.document_grammar.specs.Placed.{ignored, bare, bares, Between, AllPlaced, Placed}
 use Rattle.document_grammar.specs.Booleans.{◌and◌, ◌or◌}
 use Rattle.document_grammar.proofs.Booleans.{and-i, and-l, and-r, not-c, either, false-true}
 use Rattle.document_grammar.proofs.Nullable.{nullable, nullable-to, nil-parts}

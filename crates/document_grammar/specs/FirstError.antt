@@ -6,7 +6,7 @@ use Rattle.lexical_grammar.specs.declared.TokenKind.TheVariants.{Eof}
 use Rattle.lexical_grammar.specs.Cut.{Item, Significant, is_significant_kind}
 use Rattle.document_grammar.specs.Tree.{Text, Tree, leaf, node, Forest, none, ◌▸◌}
 use Rattle.document_grammar.specs.Derivation.{Sort, Fits, text, texts, Terminal, word, end}
-use Rattle.document_grammar.specs.Places.{bare}
+use Rattle.document_grammar.specs.Placed.{bare}
 use Rattle.document_grammar.specs.Sentence.{leaf_number, Begins, StartSentence, StartSentenceWithin}
 
 -- ---- a place in a text

@@ -4,7 +4,7 @@ pub mod Choices
 pub mod Pattern
 pub mod Rows
 pub mod Derivation
-pub mod Places
+pub mod Placed
 pub mod Sentence
 pub mod Beginnings
 pub mod Numbering

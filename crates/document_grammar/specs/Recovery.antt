@@ -11,7 +11,7 @@ use Rattle.document_grammar.specs.Rows.{Row}
 use Rattle.document_grammar.specs.Kinds.{ERROR, SPREAD, LIST_VALUE, DOCUMENT}
 use Rattle.document_grammar.specs.Forests as built
 use Rattle.document_grammar.specs.Numbered.{numbered}
-use Rattle.document_grammar.specs.Places.{bares}
+use Rattle.document_grammar.specs.Placed.{bares}
 use Rattle.document_grammar.specs.FirstError.{At}
 use Rattle.document_grammar.specs.Sentence.{tokens_of}
 use Rattle.document_grammar.specs.Choices.{is_ignored}

@@ -7,7 +7,7 @@ ghost use Rattle.document_grammar.specs.Numbers.{number};
 ghost use Rattle.document_grammar.specs.Tree.{Token, Tree};
 ghost use Rattle.document_grammar.specs.Derivation.{Sort, Yield, nest, Spells, Terminal};
 ghost use Rattle.document_grammar.specs.Beginnings.{FirstSpells, Starts, StartsWithin};
-ghost use Rattle.document_grammar.specs.Places.{bare};
+ghost use Rattle.document_grammar.specs.Placed.{bare};
 ghost use Rattle.document_grammar.specs.Sentence.{Sentence, FirstSentence, StartSentence, StartSentenceWithin};
 
 /// No two kinds have one number.

@@ -7,7 +7,7 @@ use Rattle.apollo_parser.specs.Order.{order}
 use Rattle.apollo_parser.specs.Parsed.{Parsed}
 use Rattle.apollo_parser.specs.StringValues.{IsStringValue}
 use Rattle.apollo_parser.specs.Tokens.{IsString}
-use Rattle.formatter.specs.Outcome.{IsRefused}
+use Rattle.formatter.specs.Formatted.{IsRefused}
 use Rattle.dumyroke_flat.specs.declared.rows.ByteCount.{ByteCount}
 use Rattle.dumyroke_flat.specs.declared.rows.ElementRow.{ElementRow}
 use Rattle.dumyroke_flat.specs.declared.rows.ErrorRow.{ErrorRow}

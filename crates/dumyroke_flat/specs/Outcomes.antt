@@ -13,7 +13,7 @@ use Rattle.dumyroke_flat.specs.declared.rows.ByteCount.{ByteCount}
 use Rattle.dumyroke_flat.specs.declared.rows.Counts.{Counts}
 use Rattle.dumyroke_flat.specs.declared.rows.ElementRow.{ElementRow}
 use Rattle.dumyroke_flat.specs.declared.rows.ErrorRow.{ErrorRow}
-use Rattle.formatter.specs.Outcome.{IsFormatted, IsRefused}
+use Rattle.formatter.specs.Formatted.{IsFormatted, IsRefused}
 use Rattle.dumyroke_flat.specs.Rows.{element_rows, error_rows, filled, messages}
 
 -- ---- statuses

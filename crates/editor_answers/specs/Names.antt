@@ -1,5 +1,5 @@
 -- The names in a document, their meanings (GraphQL, October 2021), and where these are defined and used.
-use Rattle.std.specs.Prelude.{ℕ, List, [], ◌∷◌, Bool, false, not, ◌&&◌, ◌||◌, nat_le, Option, Some, None, option_and_then, option_map, unwrap_or}
+use Rattle.std.specs.Prelude.{ℕ, List, [], ◌∷◌, Bool, false, not, ◌&&◌, ◌||◌, Option, Some, None, option_and_then, option_map, unwrap_or}
 use Rattle.std.specs.List.{filter, find, list_any}
 use Rattle.std.specs.Str.{bytes_eq}
 use Rattle.document_grammar.specs.declared.kind.SyntaxKind.{SyntaxKind}
@@ -7,8 +7,9 @@ use Rattle.document_grammar.specs.declared.kind.SyntaxKind.TheVariants.{DIRECTIV
 use Rattle.document_grammar.specs.declared.kind.SyntaxKind.TheVariants.{IDENT, NAMED_TYPE, OPERATION_DEFINITION, VARIABLE, VARIABLE_DEFINITION}
 use Rattle.document_grammar.specs.Numbers.{is_kind}
 use Rattle.apollo_tree.specs.Above.{at_or_above}
+use Rattle.apollo_tree.specs.AtOffset.{leaves_at}
 use Rattle.apollo_tree.specs.Below.{at_or_below, is_leaf_place}
-use Rattle.apollo_tree.specs.Order.{Place, kind_at, parent_place, range_at, text_at}
+use Rattle.apollo_tree.specs.Order.{Place, kind_at, parent_place, text_at}
 use Rattle.editor_answers.specs.declared.names.Meaning.{Meaning}
 use Rattle.editor_answers.specs.declared.names.NameKind.{NameKind}
 use Rattle.editor_answers.specs.declared.names.NameKind.TheVariants.{Fragment, Variable, «Type» as of_type, Directive}
@@ -61,9 +62,9 @@ is_definition kind text leaf = is_name kind text leaf && holds (defines kind) (n
 
 -- ---- definitions and uses
 
--- a leaf that is an identifier, with an offset in it or at its end
-abbrev pub is_touched : ℕ → Place → Bool
-is_touched offset leaf = is_leaf_place leaf && (is_of IDENT leaf && (nat_le (range_at leaf).0 offset && nat_le offset (range_at leaf).1))
+-- the identifier that has the byte at an offset, or the byte before it: the first where there are two
+abbrev pub identifier_at : Place → ℕ → Option Place
+identifier_at root offset = find (is_of IDENT) (leaves_at offset root)
 
 -- the nodes that an element is in
 abbrev pub above : Option Place → List Place
@@ -92,7 +93,7 @@ wanted_by root leaf = option_map (λ kind. wanted kind (text_at leaf) (scope_of 
 
 -- the search for the name at an offset
 abbrev pub wanted_at : Place → ℕ → Option Wanted
-wanted_at root offset = option_and_then (wanted_by root) (find (is_touched offset) (at_or_below root))
+wanted_at root offset = option_and_then (wanted_by root) (identifier_at root offset)
 
 -- the definition of the name at an offset: the first one in its scope
 abbrev pub definition_in : Place → ℕ → Option Place

@@ -1,13 +1,12 @@
 // What a node is called.
-ghost use Rattle.std.specs.Prelude.{◌≡◌, MatchOption, false, option_map, true};
+ghost use Rattle.std.specs.Prelude.{◌≡◌, ◌∷◌, [], option_map};
 ghost use Rattle.std.specs.List.{find, list_any};
 ghost use Rattle.document_grammar.specs.Numbers.{is_kind};
-ghost use Rattle.apollo_tree.specs.Below.{at_or_below};
+ghost use Rattle.document_grammar.specs.declared.kind.SyntaxKind.TheVariants.{IDENT};
 ghost use Rattle.apollo_tree.specs.References.{node_place, token_place};
-ghost use Rattle.apollo_tree.specs.Yields.{element_place};
-ghost use Rattle.editor_answers.specs.Names.{is_touched};
+ghost use Rattle.editor_answers.specs.Names.{identifier_at, is_of};
 
-use apollo_tree::{SyntaxElement, SyntaxKind, SyntaxNode, SyntaxToken};
+use apollo_tree::{SyntaxKind, SyntaxNode, SyntaxToken, TokenAtOffset};
 
 /// Whether a kind is one of these.
 pub(crate) fn is_one_of(kind: SyntaxKind, kinds: &[SyntaxKind]) -> bool
@@ -63,14 +62,11 @@ pub(crate) fn type_of<'t>(node: SyntaxNode<'t>) -> Option<SyntaxNode<'t>> {
     )
 }
 
-// The leaf of an element that is an identifier with a place in it or at its end.
-fn touched<'t>(element: SyntaxElement<'t>, offset: usize) -> Option<SyntaxToken<'t>>
-    ensures { MatchOption result (is_touched offset (element_place element.entry) ≡ false)
-        (λ leaf. (is_touched offset (element_place element.entry) ≡ true) × (token_place leaf ≡ element_place element.entry)) }
+// A leaf where it is an identifier.
+fn identifier<'t>(leaf: SyntaxToken<'t>) -> Option<SyntaxToken<'t>>
+    ensures { option_map token_place result ≡ find (is_of IDENT) (token_place leaf.entry ∷ []) }
 {
-    let leaf = element.into_token()?;
-    let range = leaf.text_range();
-    if leaf.kind().is(SyntaxKind::IDENT) && range.start() <= offset && offset <= range.end() {
+    if leaf.kind().is(SyntaxKind::IDENT) {
         Some(leaf)
     } else {
         None
@@ -79,12 +75,11 @@ fn touched<'t>(element: SyntaxElement<'t>, offset: usize) -> Option<SyntaxToken<
 
 /// The identifier at a place, or that ends there.
 pub(crate) fn identifier_at<'t>(root: SyntaxNode<'t>, offset: usize) -> Option<SyntaxToken<'t>>
-    ensures { option_map token_place result ≡ find (is_touched offset) (at_or_below (node_place root.entry)) }
+    ensures { option_map token_place result ≡ identifier_at (node_place root.entry) offset }
 {
-    for element in root.descendants_with_tokens() {
-        if let Some(leaf) = touched(element, offset) {
-            return Some(leaf);
-        }
+    match root.token_at_offset(offset) {
+        TokenAtOffset::None => None,
+        TokenAtOffset::Single(leaf) => identifier(leaf),
+        TokenAtOffset::Between(left, right) => identifier(left).or(identifier(right)),
     }
-    None
 }

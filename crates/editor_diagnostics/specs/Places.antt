@@ -4,7 +4,7 @@ use Rattle.std.specs.Str.{IsCharBoundary, IsUtf8}
 use Rattle.json.specs.Json.{Json, member, no_members, number, object}
 use Rattle.line_index.specs.declared.Position.{Position}
 use Rattle.line_index.specs.declared.PositionEncoding.{PositionEncoding}
-use Rattle.line_index.specs.Places.{line_at, line_start}
+use Rattle.line_index.specs.Lines.{line_at, line_start}
 use Rattle.line_index.specs.Positions.{place_of, units, width}
 
 -- where a cursor may be: no client can name the place between the CR and the LF of a CR LF, and the line ends in front of them

@@ -4,14 +4,14 @@ use Rattle.std.proofs.lemmas.Bool.Decides.{nat_tests}
 use Rattle.lexical_grammar.specs.Answers.{usize_max}
 use Rattle.apollo_lexer.specs.Diagnostics.{Diagnostic}
 use Rattle.document_grammar.specs.Numbered.{tree_of}
-use Rattle.document_grammar.specs.Places.{bare}
+use Rattle.document_grammar.specs.Placed.{bare}
 use Rattle.apollo_parser.specs.Promise.{Promise}
 use Rattle.apollo_parser.specs.Parsed.{Parsed}
 use Rattle.lexical_grammar.specs.Cut.{Cut}
 use Rattle.lexical_grammar.specs.Reads.{items_of}
 use Rattle.format_layout.specs.Formatted.{IsSentence, Formatted}
 use Rattle.format_layout.proofs.Nests.{alike-nest}
-use Rattle.formatter.specs.Outcome.{IsDocument, IsFormatted, IsRefused}
+use Rattle.formatter.specs.Formatted.{IsDocument, IsFormatted, IsRefused}
 
 pub empty-list : {X : Type 0} (xs : List X) → eqb (length xs) 0 ≡ true → xs ≡ []
 empty-list [] e = refl

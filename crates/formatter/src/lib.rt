@@ -7,7 +7,7 @@
 
 ghost use Rattle.std.specs.Prelude.{◌≡◌, ◌<◌, ℕ, true, false, List, length, IfErr, IfOk, string_bytes};
 ghost use Rattle.lexical_grammar.specs.Reads.{items_of};
-ghost use Rattle.formatter.specs.Outcome.{IsDocument, IsFormatted, IsRefused};
+ghost use Rattle.formatter.specs.Formatted.{IsDocument, IsFormatted, IsRefused};
 
 use apollo_parser::{DocumentRoot, Error, IndexedElement, Lexer, Limits, Parser, SyntaxTree};
 use format_layout::{Elements, format_document};

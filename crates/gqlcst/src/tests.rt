@@ -3,7 +3,7 @@ ghost use Rattle.std.specs.Prelude.{◌≡◌, IfOk};
 
 use byte_devices::{DeviceError, Fault, Sink, Source, Trace};
 use gqlcst_run::ending::ending;
-use gqlcst_run::{Limits, Mode, Outcome, options, run};
+use gqlcst_run::{Limits, Mode, Finding, options, run};
 use std::alloc::{AllocError, Global};
 use std::process::Abort;
 use std::test::Fail;
@@ -36,9 +36,7 @@ struct Pieces<'a> {
 }
 
 impl<'a> Source for Pieces<'a> {
-    ghost use Rattle.byte_devices.specs.Devices.{account_of};
-
-    ghost account = { λ pieces. account_of pieces.trace };
+    ghost account = { λ pieces. pieces.trace.account.value };
 
     fn read(&mut self, buffer: &mut [u8]) -> Result<usize, DeviceError> {
         let count = self.rest.len().min(self.piece).min(buffer.len());
@@ -66,9 +64,7 @@ struct Page {
 }
 
 impl Sink for Page {
-    ghost use Rattle.byte_devices.specs.Devices.{account_of};
-
-    ghost account = { λ page. account_of page.trace };
+    ghost account = { λ page. page.trace.account.value };
 
     fn write(&mut self, bytes: &[u8]) -> Result<usize, DeviceError> {
         let count = bytes.len().min(self.piece).min(self.room);
@@ -109,7 +105,7 @@ fn writer_of(alloc: Global, piece: usize, room: usize, then: Then) -> Page {
 struct Row {
     text: &'static [u8],
     limits: Limits,
-    found: Result<Outcome, Fault>,
+    found: Result<Finding, Fault>,
     lines: &'static [&'static str],
 }
 
@@ -131,13 +127,13 @@ const THREE_ITEMS: Limits = Limits {
     ..Limits::DEFAULT
 };
 
-const CLEAN: Result<Outcome, Fault> = Ok(Outcome::Clean);
+const CLEAN: Result<Finding, Fault> = Ok(Finding::Clean);
 
-const ONE_ERROR: Result<Outcome, Fault> = Ok(Outcome::Errors(1));
+const ONE_ERROR: Result<Finding, Fault> = Ok(Finding::Errors(1));
 
-const TWO_ERRORS: Result<Outcome, Fault> = Ok(Outcome::Errors(2));
+const TWO_ERRORS: Result<Finding, Fault> = Ok(Finding::Errors(2));
 
-const NOT_UTF8: Result<Outcome, Fault> = Err(Fault::Utf8);
+const NOT_UTF8: Result<Finding, Fault> = Err(Fault::Utf8);
 
 #[rattlefmt::skip]
 const CHECKED: [Row; 8] = [
@@ -263,8 +259,8 @@ fn expect(rt: &(impl Abort + AllocGlobal), mode: Mode, rows: &[Row]) -> Result<(
         for piece in [1, 1000] {
             let mut reader = reader_of(row.text, piece, Then::Stops);
             let mut writer = writer_of(rt.alloc(), piece, 1000, Then::Stops);
-            let outcome = run(rt.alloc(), &mut reader, &mut writer, mode, row.limits);
-            assert_eq!(rt; outcome, row.found);
+            let finding = run(rt.alloc(), &mut reader, &mut writer, mode, row.limits);
+            assert_eq!(rt; finding, row.found);
             assert!(rt; writer.taken.as_slice() == written.as_bytes());
         }
     }
@@ -301,8 +297,8 @@ fn a_reader_that_fails_is_reported(rt: HostRuntime) {
         for text in [b"{a", b"\x7b\xff"] {
             let mut reader = reader_of(text, 100, Then::Fails);
             let mut writer = writer_of(rt.alloc(), 100, 100, Then::Stops);
-            let outcome = run(rt.alloc(), &mut reader, &mut writer, mode, limits);
-            assert_eq!(rt; outcome, Err(Fault::Read));
+            let finding = run(rt.alloc(), &mut reader, &mut writer, mode, limits);
+            assert_eq!(rt; finding, Err(Fault::Read));
             assert!(rt; writer.taken.is_empty());
         }
     }
@@ -319,8 +315,8 @@ fn a_writer_that_fails_is_reported(rt: HostRuntime) {
         for then in [Then::Fails, Then::Stops] {
             let mut reader = reader_of(b"{a}", 100, Then::Stops);
             let mut writer = writer_of(rt.alloc(), 100, 3, then);
-            let outcome = run(rt.alloc(), &mut reader, &mut writer, mode, limits);
-            assert_eq!(rt; outcome, Err(Fault::Write));
+            let finding = run(rt.alloc(), &mut reader, &mut writer, mode, limits);
+            assert_eq!(rt; finding, Err(Fault::Write));
             assert!(rt; writer.taken.as_slice() == front.as_slice());
         }
     }
@@ -369,8 +365,8 @@ fn refuses_other_words(rt: HostRuntime) {
 
 #[test]
 fn each_ending_has_its_status_and_text(rt: HostRuntime) {
-    assert_eq!(rt; ending(&Ok(Outcome::Clean)), (0, ""));
-    assert_eq!(rt; ending(&Ok(Outcome::Errors(2))), (1, ""));
+    assert_eq!(rt; ending(&Ok(Finding::Clean)), (0, ""));
+    assert_eq!(rt; ending(&Ok(Finding::Errors(2))), (1, ""));
     assert_eq!(rt; ending(&Err(Fault::Read)), (2, "gqlcst: cannot read"));
     assert_eq!(rt;
         ending(&Err(Fault::Utf8)),

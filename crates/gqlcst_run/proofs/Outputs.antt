@@ -7,38 +7,38 @@ use Rattle.apollo_parser.specs.Diagnostics.{Diagnostic}
 use Rattle.program_words.specs.declared.gqlcst.Mode.{Mode}
 use Rattle.program_words.specs.declared.gqlcst.Mode.TheVariants.{Check, Tokens, Tree}
 use Rattle.apollo_parser.specs.declared.Limits.{Limits}
-use Rattle.gqlcst_run.specs.declared.outcome.Outcome.{Outcome}
-use Rattle.gqlcst_run.specs.Parsing.{outcome_of, IsFound}
+use Rattle.gqlcst_run.specs.declared.finding.Finding.{Finding}
+use Rattle.gqlcst_run.specs.Parsing.{finding_of, IsFound}
 use Rattle.gqlcst_run.specs.Rendering.{AreLines, IsAnswerForm, IsVerdict, error_count}
 use Rattle.gqlcst_run.specs.Program.{IsOutput}
 use Rattle.gqlcst_run.specs.Paging.{Paged, PutsSome, PutsAny}
 
-pub check_put : (mode : Mode) (limits : Limits) (text : List ℕ) (outcome : Outcome) (errors shown : List Diagnostic) (s t : Paged) → mode ≡ Check
-    → IsFound limits text errors outcome
-    → shown ≡ errors → PutsSome (IsVerdict shown) s t → PutsSome (IsOutput mode limits text outcome) s t
-check_put mode limits text outcome errors shown s t is found all p =
-    subst (λ (m : Mode). PutsSome (IsOutput m limits text outcome) s t) (sym is)
+pub check_put : (mode : Mode) (limits : Limits) (text : List ℕ) (finding : Finding) (errors shown : List Diagnostic) (s t : Paged) → mode ≡ Check
+    → IsFound limits text errors finding
+    → shown ≡ errors → PutsSome (IsVerdict shown) s t → PutsSome (IsOutput mode limits text finding) s t
+check_put mode limits text finding errors shown s t is found all p =
+    subst (λ (m : Mode). PutsSome (IsOutput m limits text finding) s t) (sym is)
     (record {
       output = p.output;
       made = record {
         errors = shown;
-        found = subst (λ (es : List Diagnostic). IsFound limits text es outcome) (sym all) found;
+        found = subst (λ (es : List Diagnostic). IsFound limits text es finding) (sym all) found;
         verdict = p.made;
       };
       puts = p.puts;
     })
 
-pub tree_put : (mode : Mode) (limits : Limits) (text : List ℕ) (outcome : Outcome) (errors : List Diagnostic) (s t : Paged) → mode ≡ Tree
-    → IsFound limits text errors outcome
-    → PutsAny s t → PutsSome (IsOutput mode limits text outcome) s t
-tree_put mode limits text outcome errors s t is found p =
-    subst (λ (m : Mode). PutsSome (IsOutput m limits text outcome) s t) (sym is)
+pub tree_put : (mode : Mode) (limits : Limits) (text : List ℕ) (finding : Finding) (errors : List Diagnostic) (s t : Paged) → mode ≡ Tree
+    → IsFound limits text errors finding
+    → PutsAny s t → PutsSome (IsOutput mode limits text finding) s t
+tree_put mode limits text finding errors s t is found p =
+    subst (λ (m : Mode). PutsSome (IsOutput m limits text finding) s t) (sym is)
     (record { output = p.output; made = record { errors = errors; found = found }; puts = p.puts })
 
-pub tokens_put : (mode : Mode) (limits : Limits) (text : List ℕ) (outcome : Outcome) (answers : List Answer) (s t : Paged) → mode ≡ Tokens
+pub tokens_put : (mode : Mode) (limits : Limits) (text : List ℕ) (finding : Finding) (answers : List Answer) (s t : Paged) → mode ≡ Tokens
     → Cut text (items_of text)
-    → answers ≡ limited limits.tokens (items_of text) → outcome ≡ outcome_of (error_count answers) → PutsSome (AreLines IsAnswerForm answers) s t
-    → PutsSome (IsOutput mode limits text outcome) s t
-tokens_put mode limits text outcome answers s t is cut limit counted p =
-    subst (λ (m : Mode). PutsSome (IsOutput m limits text outcome) s t) (sym is)
+    → answers ≡ limited limits.tokens (items_of text) → finding ≡ finding_of (error_count answers) → PutsSome (AreLines IsAnswerForm answers) s t
+    → PutsSome (IsOutput mode limits text finding) s t
+tokens_put mode limits text finding answers s t is cut limit counted p =
+    subst (λ (m : Mode). PutsSome (IsOutput m limits text finding) s t) (sym is)
     (record { output = p.output; made = record { cut = cut; lines = rw limit at p.made; counted = rw limit at counted }; puts = p.puts })

@@ -6,13 +6,13 @@
 #![tactic(auto)]
 
 pub mod ending;
-mod outcome;
+mod finding;
 mod page;
 mod parsing;
 mod program;
 mod rendering;
 
 pub use apollo_parser::Limits;
-pub use outcome::Outcome;
+pub use finding::Finding;
 pub use program::run;
 pub use program_words::gqlcst::{Mode, options};

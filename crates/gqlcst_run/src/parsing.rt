@@ -6,7 +6,7 @@ ghost use Rattle.apollo_parser.specs.Reads.{items_of};
 ghost use Rattle.apollo_parser.specs.LexerAnswers.{answers_left};
 ghost use Rattle.gqlcst_run.specs.Parsing.{IsFound};
 
-use crate::outcome::{Outcome, outcome_of};
+use crate::finding::{Finding, finding_of};
 use apollo_parser::{DocumentRoot, Lexer, Limits, Parser, SyntaxTree};
 use std::alloc::{AllocError, Allocator};
 
@@ -18,15 +18,15 @@ pub fn lexer(source: &str, limits: Limits) -> Lexer<'_>
     Lexer::new(source).with_limit(limits.tokens)
 }
 
-/// The tree of a text with its errors, and the outcome for their number.
+/// The tree of a text with its errors, and the finding for their number.
 pub fn parse<A: Allocator + Copy>(
     alloc: A,
     source: &str,
     limits: Limits,
-) -> Result<(SyntaxTree<DocumentRoot, A>, Outcome), AllocError>
+) -> Result<(SyntaxTree<DocumentRoot, A>, Finding), AllocError>
     ensures { IfOk result (λ it. IsFound limits source.now it.0.errors it.1) }
 {
     let tree = Parser::within(source, limits).parse(alloc)?;
-    let outcome = outcome_of(tree.errors().len());
-    Ok((tree, outcome))
+    let finding = finding_of(tree.errors().len());
+    Ok((tree, finding))
 }

@@ -4,7 +4,7 @@ ghost use Rattle.gqlcst_run.specs.Paging.{PutsSome};
 ghost use Rattle.byte_devices.specs.Runs.{Reads, Writes};
 ghost use Rattle.gqlcst_run.specs.Program.{IsOutput};
 
-use crate::outcome::Outcome;
+use crate::finding::Finding;
 use crate::page::Page;
 use crate::parsing::{lexer, parse};
 use crate::rendering::{put_errors, put_tokens, put_tree};
@@ -23,24 +23,24 @@ fn put_output<A: Allocator + Copy, W: Sink>(
     source: &str,
     mode: Mode,
     limits: Limits,
-) -> Result<Outcome, AllocError>
-    ensures ok { IfOk result (λ outcome. PutsSome (IsOutput mode limits source.now outcome) (page.old, W.account writer.old) (page.new, W.account writer.new)) }
+) -> Result<Finding, AllocError>
+    ensures ok { IfOk result (λ finding. PutsSome (IsOutput mode limits source.now finding) (page.old, W.account writer.old) (page.new, W.account writer.new)) }
     ensures err { OnErr result (W.account writer.new ≡ W.account writer.old) }
 {
     match mode {
         Mode::Check => {
-            let (tree, outcome) = parse(alloc, source, limits)?;
+            let (tree, finding) = parse(alloc, source, limits)?;
             put_errors(page, writer, tree.errors().as_slice());
-            Ok(outcome)
+            Ok(finding)
         }
         Mode::Tokens => {
-            let outcome = put_tokens(page, writer, lexer(source, limits));
-            Ok(outcome)
+            let finding = put_tokens(page, writer, lexer(source, limits));
+            Ok(finding)
         }
         Mode::Tree => {
-            let (tree, outcome) = parse(alloc, source, limits)?;
+            let (tree, finding) = parse(alloc, source, limits)?;
             put_tree(page, writer, &tree, source);
-            Ok(outcome)
+            Ok(finding)
         }
     }
 }
@@ -52,7 +52,7 @@ pub fn run<A: Allocator + Copy, R: Source, W: Sink>(
     writer: &mut W,
     mode: Mode,
     limits: Limits,
-) -> Result<Outcome, Fault>
+) -> Result<Finding, Fault>
     ensures { (input : List ℕ) × Reads result input (R.account reader.old) (R.account reader.new)
         × Writes (IsOutput mode limits) result input (W.account writer.old) (W.account writer.new) }
 {
@@ -61,7 +61,7 @@ pub fn run<A: Allocator + Copy, R: Source, W: Sink>(
         return Err(Fault::Utf8);
     };
     let mut page = Page::new();
-    let outcome = put_output(alloc, &mut page, writer, source, mode, limits)?;
+    let finding = put_output(alloc, &mut page, writer, source, mode, limits)?;
     page.finish(writer)?;
-    Ok(outcome)
+    Ok(finding)
 }

@@ -1,7 +1,7 @@
 // What is written, put on a page.
+mod digits;
 mod errors;
 mod kind_name;
-mod place;
 mod quoted;
 mod text;
 mod tokens;

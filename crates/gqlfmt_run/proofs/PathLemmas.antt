@@ -19,7 +19,7 @@ use Rattle.gqlfmt_run.specs.declared.fault.FileFault.{FileFault}
 use Rattle.gqlfmt_run.specs.declared.formatting.Refusal.{Refusal}
 use Rattle.gqlfmt_run.specs.Complaints.{IsSilent, SaysOfFile}
 use Rattle.gqlfmt_run.specs.Formatting.{IsRevised}
-use Rattle.gqlfmt_run.specs.Outcome.{status_of}
+use Rattle.gqlfmt_run.specs.Status.{status_of}
 use Rattle.gqlfmt_run.specs.Paths.{Desk, FollowsText, Handles, HandlesAll}
 use Rattle.gqlfmt_run.specs.Program.{State, desk, Formats}
 use Rattle.gqlfmt_run.specs.Showing.{Shows}

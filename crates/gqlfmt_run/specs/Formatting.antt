@@ -1,7 +1,7 @@
 -- What formatting makes of a text, and what is shown of that.
 use Rattle.std.specs.Prelude.{◌≡◌, ◌≢◌, ◌<◌, ◌⊎◌, ℕ, List, [], ◌∷◌, ◌++◌, codes, length, string_bytes}
 use Rattle.apollo_parser.specs.Reads.{items_of}
-use Rattle.formatter.specs.Outcome as format
+use Rattle.formatter.specs.Formatted as format
 use Rattle.apollo_parser.specs.Diagnostics.{Diagnostic}
 use Rattle.apollo_parser.specs.declared.Limits.{Limits}
 use Rattle.gqlfmt_run.specs.declared.formatting.Refusal.{Refusal}

@@ -1,4 +1,4 @@
-pub mod Outcome
+pub mod Status
 pub mod Formatting
 pub mod Complaints
 pub mod Input

@@ -14,7 +14,7 @@ use Rattle.gqlfmt_files.specs.declared.settling.Outcome.{Outcome}
 use Rattle.gqlfmt_files.specs.declared.settling.Outcome.TheVariants.{Done, Found}
 use Rattle.gqlfmt_run.specs.Complaints.{SaysOfFile}
 use Rattle.gqlfmt_run.specs.Formatting.{IsFormatted, IsRefused, IsChanged, IsListed}
-use Rattle.gqlfmt_run.specs.Outcome.{status_of}
+use Rattle.gqlfmt_run.specs.Status.{status_of}
 
 -- The files, and what went through standard output and standard error.
 pub record Desk (S : Type 0) : Type 0 where

@@ -8,19 +8,19 @@ use Rattle.byte_devices.specs.declared.fault.Fault.{Fault}
 use Rattle.program_words.specs.Gqlfmt.{Run}
 use Rattle.gqlfmt_files.specs.declared.settling.Mode.{Mode}
 use Rattle.gqlfmt_files.specs.declared.settling.Outcome.{Outcome}
-use Rattle.program_words.specs.declared.gqlfmt.Page.{Page}
-use Rattle.program_words.specs.declared.gqlfmt.Page.TheVariants.{Help, Version}
+use Rattle.program_words.specs.declared.gqlfmt.Information.{Information}
+use Rattle.program_words.specs.declared.gqlfmt.Information.TheVariants.{Help, Version}
 use Rattle.program_words.specs.declared.gqlfmt.Request.{Request}
 use Rattle.program_words.specs.declared.gqlfmt.Request.TheVariants.{Print, Format}
 use Rattle.gqlfmt_run.specs.declared.command.TheConstants.{USAGE, HELP, VERSION, NO_MEMORY}
-use Rattle.gqlfmt_run.specs.Outcome.{status_of}
+use Rattle.gqlfmt_run.specs.Status.{status_of}
 use Rattle.gqlfmt_run.specs.Complaints.{IsWritten, Says}
 use Rattle.gqlfmt_run.specs.Input.{input_name, IsOutput}
 use Rattle.gqlfmt_run.specs.Paths.{Desk, HandlesAll}
 
-abbrev pub page_text : Page → List ℕ
-page_text Help = USAGE.now ++ HELP.now
-page_text Version = VERSION.now
+abbrev pub information_text : Information → List ℕ
+information_text Help = USAGE.now ++ HELP.now
+information_text Version = VERSION.now
 
 -- What went through standard input, standard output and standard error.
 pub record Streams : Type 0 where
@@ -70,7 +70,7 @@ module _ {S : Type 0} (reads : S → List ℕ → Option (List ℕ) → S → Ty
   -- What a run does for a request. Where there is none, it says on standard error how the program is called, and nothing else.
   abbrev pub Does : Option (Request Run) → ℕ → State S → State S → Type 0
   Does (Some (Print page)) status old new =
-      IsPrinted (page_text page) status old.output new.output × (new.complaints ≡ old.complaints) × (new.input ≡ old.input) × (new.files ≡ old.files)
+      IsPrinted (information_text page) status old.output new.output × (new.complaints ≡ old.complaints) × (new.input ≡ old.input) × (new.files ≡ old.files)
   Does (Some (Format run)) status old new = Formats run.mode run.limits run.files status old new
   Does None status old new = OnlySays USAGE.now status old new
 

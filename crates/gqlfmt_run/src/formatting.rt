@@ -1,6 +1,6 @@
 // What becomes of a text.
 ghost use Rattle.std.specs.Prelude.{IfOk, string_bytes};
-ghost use Rattle.formatter.specs.Outcome as format;
+ghost use Rattle.formatter.specs.Formatted as format;
 ghost use Rattle.gqlfmt_run.specs.Formatting.{IsRevised};
 
 use crate::job::Job;

@@ -1,6 +1,6 @@
 // How formatting a text ends.
 ghost use Rattle.std.specs.Prelude.{◌≡◌};
-ghost use Rattle.gqlfmt_run.specs.Outcome.{status_of};
+ghost use Rattle.gqlfmt_run.specs.Status.{status_of};
 
 use gqlfmt_files::Outcome;
 

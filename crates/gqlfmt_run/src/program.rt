@@ -3,7 +3,7 @@ ghost use Rattle.std.specs.Prelude.{◌≡◌, OnOk, OnErr};
 ghost use Rattle.byte_devices.specs.Devices.{moved};
 ghost use Rattle.byte_devices.specs.Writing.{IsBroken};
 ghost use Rattle.program_words.specs.Gqlfmt.{texts, request_of};
-ghost use Rattle.gqlfmt_run.specs.Program.{page_text, IsPrinted, FormatsInput, Formats, Runs};
+ghost use Rattle.gqlfmt_run.specs.Program.{information_text, IsPrinted, FormatsInput, Formats, Runs};
 
 use crate::command::{HELP, NO_MEMORY, USAGE, VERSION};
 use crate::input::INPUT;
@@ -13,27 +13,27 @@ use crate::report::{say, tell};
 use byte_devices::{Fault, Sink, Source, write_all};
 use formatter::DocumentFormatter;
 use gqlfmt_files::Files;
-use program_words::gqlfmt::{Page, Request, WordsError, options};
+use program_words::gqlfmt::{Information, Request, WordsError, options};
 use std::alloc::Allocator;
 
-fn write_page<W: Sink>(writer: &mut W, page: Page) -> Result<(), Fault>
-    ensures ok { OnOk result (W.account writer.new ≡ moved (W.account writer.old) (page_text page)) }
-    ensures err { OnErr result (IsBroken (page_text page) (W.account writer.old) (W.account writer.new)) }
+fn write_information<W: Sink>(writer: &mut W, page: Information) -> Result<(), Fault>
+    ensures ok { OnOk result (W.account writer.new ≡ moved (W.account writer.old) (information_text page)) }
+    ensures err { OnErr result (IsBroken (information_text page) (W.account writer.old) (W.account writer.new)) }
 {
     match page {
-        Page::Help => {
+        Information::Help => {
             write_all(writer, USAGE.as_bytes())?;
             write_all(writer, HELP.as_bytes())
         }
-        Page::Version => write_all(writer, VERSION.as_bytes()),
+        Information::Version => write_all(writer, VERSION.as_bytes()),
     }
 }
 
 // Prints a page, and gives the status.
-fn print<W: Sink>(writer: &mut W, page: Page) -> u8
-    ensures { IsPrinted (page_text page) result (W.account writer.old) (W.account writer.new) }
+fn print<W: Sink>(writer: &mut W, page: Information) -> u8
+    ensures { IsPrinted (information_text page) result (W.account writer.old) (W.account writer.new) }
 {
-    match write_page(writer, page) {
+    match write_information(writer, page) {
         Ok(()) => 0,
         Err(_) => 2,
     }

@@ -36,7 +36,7 @@ fn push_error<A: Allocator>(
 ) -> Result<(), AllocError>
     requires { offset ≤ length index.now }
 {
-    let place = index.place(offset);
+    let place = index.line_column(offset);
     let line = place.line.saturating_add(1);
     let column = index.column_in_chars(offset).saturating_add(1);
     let message = error.message();

@@ -16,12 +16,12 @@ use Rattle.apollo_parser.specs.Limits.{default_recursion}
 use Rattle.editor_diagnostics.specs.Places.{cursor_at, position_of}
 use Rattle.editor_diagnostics.proofs.Cursors.{read_at}
 use Rattle.editor_diagnostics.proofs.Told.{added_thrice}
-use Rattle.formatter.specs.Outcome.{IsDocument, IsFormatted}
+use Rattle.formatter.specs.Formatted.{IsDocument, IsFormatted}
 use Rattle.line_index.specs.Positions.{place_of, units, units_of}
 use Rattle.line_index.specs.declared.PositionEncoding.{PositionEncoding}
 use Rattle.editor_text.specs.Client.{Opened, replaced}
 use Rattle.gqlls_run.specs.Layout.{IsFormatting, IsResultOf, IsWhole, extent_of}
-use Rattle.gqlls_run.specs.declared.layout.Change.{Change}
+use Rattle.gqlls_run.specs.declared.layout.Replacement.{Replacement}
 
 -- ---- its JSON
 
@@ -65,7 +65,7 @@ all_replaced old new start end first last =
     ∙ ap (λ (k : ℕ). replace_range old 0 k new) whole
     ∙ ap (λ (x : List ℕ). new ++ x) (drop-length old) ∙ append-nil new
 
-makes : (encoding : PositionEncoding) (text new : List ℕ) (change : Change) → IsWhole text change → IsUtf8 text
+makes : (encoding : PositionEncoding) (text new : List ℕ) (change : Replacement) → IsWhole text change → IsUtf8 text
     → replaced encoding (units encoding text) (Some (extent_of encoding text change)) new ≡ new
 makes encoding text new change whole utf8 =
     all_replaced (units encoding text) new _ _ (begins encoding text change.span.start utf8 whole.start) (ends encoding text change.span.end utf8 whole.end)
@@ -75,7 +75,7 @@ whole_range text start end first last =
     let all : end - 0 ≡ length text = omega (arith, last) in
     ap (λ (k : ℕ). slice_range text k end) first ∙ ap (λ (k : ℕ). take k text) all ∙ take-length text
 
-formatting_of : (encoding : PositionEncoding) (text : List ℕ) (change : Option Change) (value : Json)
+formatting_of : (encoding : PositionEncoding) (text : List ℕ) (change : Option Replacement) (value : Json)
     → MatchOption change (¬ IsDocument text default_recursion usize_max) (IsWhole text) → IsResultOf encoding text change value
     → IsFormatting (record { encoding = encoding; text = text }) value
 formatting_of encoding text None value none is = inl (none, is)
@@ -91,7 +91,7 @@ formatting_of encoding text (Some change) value whole (inr edit) =
       after = λ utf8. makes encoding text (units encoding (string_bytes change.text)) change whole utf8;
     }))
 
-pub formatting : (content : Opened) (encoding : PositionEncoding) (text : List ℕ) (change : Option Change) (value : Json)
+pub formatting : (content : Opened) (encoding : PositionEncoding) (text : List ℕ) (change : Option Replacement) (value : Json)
     → encoding ≡ content.encoding → text ≡ content.text → MatchOption change (¬ IsDocument text default_recursion usize_max) (IsWhole text)
     → IsResultOf encoding text change value → IsFormatting content value
 formatting content encoding text change value same_encoding same_text made is =

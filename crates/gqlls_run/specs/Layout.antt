@@ -5,22 +5,22 @@ use Rattle.json.specs.Json.{Json, array, item, member, no_items, no_members, nul
 use Rattle.apollo_parser.specs.Answers.{usize_max}
 use Rattle.apollo_parser.specs.Limits.{default_recursion}
 use Rattle.editor_diagnostics.specs.Places.{position_of, range_value}
-use Rattle.formatter.specs.Outcome.{IsDocument, IsFormatted}
+use Rattle.formatter.specs.Formatted.{IsDocument, IsFormatted}
 use Rattle.line_index.specs.Positions.{units}
 use Rattle.line_index.specs.declared.PositionEncoding.{PositionEncoding}
 use Rattle.editor_text.specs.Client.{Opened, replaced}
 use Rattle.editor_text.specs.declared.PositionRange.{PositionRange}
 use Rattle.rpc_messages.specs.Messages.{IsResult}
-use Rattle.gqlls_run.specs.declared.layout.Change.{Change}
+use Rattle.gqlls_run.specs.declared.layout.Replacement.{Replacement}
 
 -- ---- a change
 
 -- The part of a text that the change replaces is a document, and its new text, with this end, is that document with another layout.
-abbrev pub IsLayout : List ℕ → List ℕ → Change → Type 0
+abbrev pub IsLayout : List ℕ → List ℕ → Replacement → Type 0
 IsLayout source end change = IsFormatted (slice_range source change.span.start change.span.end) default_recursion usize_max (string_bytes change.text ++ end)
 
 -- The change replaces the whole text.
-pub record IsWhole (source : List ℕ) (change : Change) : Type 0 where
+pub record IsWhole (source : List ℕ) (change : Replacement) : Type 0 where
   pub start : change.span.start ≡ 0
   pub end : change.span.end ≡ length source
   pub formatted : IsFormatted source default_recursion usize_max (string_bytes change.text)
@@ -31,18 +31,18 @@ pub record IsWhole (source : List ℕ) (change : Change) : Type 0 where
 abbrev pub text_edit : PositionRange → List ℕ → Json
 text_edit extent text = object (member (codes "range") (range_value extent.start extent.end) (member (codes "newText") (string text) no_members))
 
-abbrev pub extent_of : PositionEncoding → List ℕ → Change → PositionRange
+abbrev pub extent_of : PositionEncoding → List ℕ → Replacement → PositionRange
 extent_of encoding source change =
     record { start = position_of encoding source change.span.start; end = position_of encoding source change.span.end }
 
 -- a list of the change, which is empty where it changes nothing
-abbrev pub IsListOf : PositionEncoding → List ℕ → Change → Json → Type 0
+abbrev pub IsListOf : PositionEncoding → List ℕ → Replacement → Json → Type 0
 IsListOf encoding source change result =
     ((result ≡ array no_items) × (slice_range source change.span.start change.span.end ≡ string_bytes change.text))
     ⊎ (result ≡ array (item (text_edit (extent_of encoding source change) (string_bytes change.text)) no_items))
 
 -- the same, and null where there is no change
-abbrev pub IsResultOf : PositionEncoding → List ℕ → Option Change → Json → Type 0
+abbrev pub IsResultOf : PositionEncoding → List ℕ → Option Replacement → Json → Type 0
 IsResultOf encoding source None result = result ≡ null
 IsResultOf encoding source (Some change) result = IsListOf encoding source change result
 

@@ -57,21 +57,19 @@ fn last_definition<'t>(source: &'t str, root: SyntaxNode<'_>) -> Option<&'t str>
     Some(last)
 }
 
-// The leaf at a place of a tree whose first error, if there is one, is that the text ends.
-fn leaf_at<'t>(tree: &'t SyntaxTree<DocumentRoot>, offset: usize) -> Option<SyntaxToken<'t>> {
+// The leaf that begins at a place of a tree whose first error, if there is one, is that the text ends.
+fn leaf_from<'t>(tree: &'t SyntaxTree<DocumentRoot>, offset: usize) -> Option<SyntaxToken<'t>> {
     if let Some(error) = tree.errors().as_slice().first()
         && !error.is_eof()
     {
         return None;
     }
-    for element in tree.root().descendants_with_tokens() {
-        if let Some(leaf) = element.into_token()
-            && leaf.text_range().start() == offset
-        {
-            return Some(leaf);
-        }
+    let leaf = tree.root().token_at_offset(offset).right_biased()?;
+    if leaf.text_range().start() == offset {
+        Some(leaf)
+    } else {
+        None
     }
-    None
 }
 
 // A text that begins with a keyword, and shows how it goes on where the parser looks further.
@@ -93,9 +91,9 @@ struct Taken {
     names: Option<NameKind>,
 }
 
-// What the leaf at a place of a tree is taken for.
+// What the leaf that begins at a place of a tree is taken for.
 fn taken_at(tree: &SyntaxTree<DocumentRoot>, offset: usize) -> Option<Taken> {
-    let leaf = leaf_at(tree, offset)?;
+    let leaf = leaf_from(tree, offset)?;
     let names = match meaning_of(leaf) {
         Some(meaning) if !meaning.defines => Some(meaning.kind),
         _ => None,

@@ -8,7 +8,7 @@ ghost use Rattle.rpc_messages.specs.Pieces.{tokens_of};
 ghost use Rattle.gqlls_run.specs.Layout.{IsFormattingOf, IsListOf, IsResultOf};
 
 use crate::documents::Document;
-use crate::layout::{Change, format_whole};
+use crate::layout::{Replacement, format_whole};
 use editor_diagnostics::Places;
 use json::Value;
 use rpc_messages::{Piece, answer};
@@ -18,7 +18,7 @@ use std::alloc::{AllocError, Global};
 fn pieces_of<'p>(
     alloc: Global,
     places: &Places<'_>,
-    change: &'p Change,
+    change: &'p Replacement,
 ) -> Result<Vec<Piece<'p>>, AllocError>
     ensures { IfOk result (λ pieces. (value : Json) × IsListOf places.now.encoding places.now.text.now change.now value
         × (flat_map tokens_of pieces.items ≡ json_tokens value)) }
@@ -44,7 +44,7 @@ pub(crate) fn answer_layout(
     alloc: Global,
     id: &Value<'_>,
     places: &Places<'_>,
-    change: &Option<Change>,
+    change: &Option<Replacement>,
 ) -> Result<Vec<u8>, AllocError>
     requires { HasNumbers (value_view id.now) }
     ensures answers { IfOk result (λ body. IsAnswer (value_view id.now) body.items) }

@@ -2,7 +2,7 @@
 ghost use Rattle.std.specs.Prelude.{◌≡◌, [], ◌∷◌, IfOk, IfSome, MatchOption, slice_range, string_bytes, true};
 ghost use Rattle.apollo_parser.specs.Answers.{usize_max};
 ghost use Rattle.apollo_parser.specs.Limits.{default_recursion};
-ghost use Rattle.formatter.specs.Outcome.{IsDocument, IsFormatted};
+ghost use Rattle.formatter.specs.Formatted.{IsDocument, IsFormatted};
 ghost use Rattle.gqlls_run.specs.Layout.{IsLayout, IsWhole};
 
 use apollo_parser::{Limits, SyntaxNode};
@@ -12,12 +12,12 @@ use std::alloc::{AllocError, Global};
 
 /// A text for a part of another.
 #[derive(Drop)]
-pub(crate) struct Change {
+pub(crate) struct Replacement {
     pub span: Span,
     pub text: String,
 }
 
-impl Change {
+impl Replacement {
     /// Whether a text is the same after it.
     pub(crate) fn leaves(&self, source: &str) -> bool
         ensures { result ≡ true → slice_range source.now self.now.span.start self.now.span.end ≡ string_bytes self.now.text }
@@ -64,7 +64,7 @@ fn definitions_within(root: SyntaxNode<'_>, within: Span) -> Option<Span> {
 }
 
 /// The whole document with the layout of `formatter`; `None` where it has errors. It fails only where memory is refused.
-pub(crate) fn format_whole(alloc: Global, source: &str) -> Result<Option<Change>, AllocError>
+pub(crate) fn format_whole(alloc: Global, source: &str) -> Result<Option<Replacement>, AllocError>
     ensures { IfOk result (λ r. MatchOption r (¬ IsDocument source.now default_recursion usize_max) (IsWhole source.now)) }
 {
     let Some(text) = formatted(alloc, source)? else {
@@ -74,7 +74,7 @@ pub(crate) fn format_whole(alloc: Global, source: &str) -> Result<Option<Change>
         start: 0,
         end: source.len(),
     };
-    Ok(Some(Change { span, text }))
+    Ok(Some(Replacement { span, text }))
 }
 
 // A part of a text without the space at its end.
@@ -87,7 +87,7 @@ fn trimmed(source: &str, span: Span) -> Span {
 }
 
 // A part of a text with the layout of `formatter`, without the line end after it; `None` where it has errors.
-fn format_at(alloc: Global, source: &str, span: Span) -> Result<Option<Change>, AllocError>
+fn format_at(alloc: Global, source: &str, span: Span) -> Result<Option<Replacement>, AllocError>
     ensures { IfOk result (λ r. IfSome r (IsLayout source.now (10 ∷ []))) }
 {
     let Some(part) = source.get(span.start..span.end) else {
@@ -100,7 +100,7 @@ fn format_at(alloc: Global, source: &str, span: Span) -> Result<Option<Change>, 
         return Ok(None);
     };
     let text = String::from_str(alloc, text)?;
-    Ok(Some(Change { span, text }))
+    Ok(Some(Replacement { span, text }))
 }
 
 /// The definitions that are at least partly in a part of the text, with the layout of `formatter`; `None` where there are none, or where they
@@ -110,7 +110,7 @@ pub(crate) fn format_part(
     source: &str,
     root: SyntaxNode<'_>,
     within: Span,
-) -> Result<Option<Change>, AllocError>
+) -> Result<Option<Replacement>, AllocError>
     ensures { IfOk result (λ r. IfSome r (IsLayout source.now (10 ∷ []))) }
 {
     match definitions_within(root, within) {

@@ -1,5 +1,5 @@
 -- What the machine has read fits the rows, and can be completed.
-use Rattle.std.proofs.Common.{◌≡◌, ℕ, ◌+◌, ◌^◌, ◌<◌, Bool, true, false, cond, not, eqb, List, [], ◌∷◌, ◌++◌, refl, sym, ap, ◌∙◌, subst, ◌⊎◌, inl, inr}
+use Rattle.std.proofs.Common.{◌≡◌, ℕ, ◌+◌, ◌-◌, ◌^◌, ◌<◌, Bool, true, false, cond, not, eqb, List, [], ◌∷◌, ◌++◌, refl, sym, ap, ◌∙◌, subst, ◌⊎◌, inl, inr}
 use Rattle.std.proofs.Common.{append_assoc, append-nil, arith, add-zero, eqb-true, ltb-true, ◌≢◌}
 use Rattle.std.proofs.lemmas.Bool.{eqb-false}
 use Rattle.std.specs.Int.{bit_at}
@@ -339,7 +339,7 @@ viable {start_symbol} {tokens} {fs} {rest} i b c = on fs (reach-sound i c) (reac
 
 -- The set of all classes, which are the numbers before DOCUMENT.
 abbrev pub any : ℕ
-any = 1152921504606846975
+any = 2 ^ DOCUMENT - 1
 
 error-any : holds ERROR any ≡ true
 unfolding holds

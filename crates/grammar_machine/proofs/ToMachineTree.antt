@@ -2,7 +2,7 @@
 use Rattle.std.proofs.Common.{◌≡◌, ◌≢◌, ℕ, ◌+◌, ◌<◌, Bool, true, false, cond, not, eqb, ltb, List, [], ◌∷◌, ◌++◌, refl, sym, ap, ap₂, ◌∙◌, subst, ◌⊎◌, inl, inr}
 use Rattle.std.proofs.Common.{true≢false, arith, eqb-true, append-nil, ltb-true, ltb-false, ◌≤◌}
 use Rattle.std.proofs.lemmas.Bool.{eqb-false, false_from_ne_true}
-use Rattle.document_grammar.proofs.Words.{all_words, listed-at}
+use Rattle.document_grammar.proofs.Keywords.{all_words, listed-at}
 use Rattle.document_grammar.specs.Tree.{Text, Tree, leaf, node, Forest, none, ◌▸◌, root}
 use Rattle.document_grammar.specs.Pattern.{Pattern, any_of, one, member, Matches}
 use Rattle.document_grammar.specs.Rows.{Row, keyword_operation}
@@ -371,16 +371,16 @@ abbrev FirstNoQuery : Forest → Type 0
 FirstNoQuery none = Unit {0}
 FirstNoQuery (tree ▸ forest) = IsQuery tree → ⊥
 
-abbrev Place : ℕ → ℕ → Forest → Type 0
-Place symbol state forest = eqb symbol DOCUMENT ≡ true → (state < 3) × (state ≡ 2 → FirstNoQuery forest) × BraceRule forest
+abbrev InDocument : ℕ → ℕ → Forest → Type 0
+InDocument symbol state forest = eqb symbol DOCUMENT ≡ true → (state < 3) × (state ≡ 2 → FirstNoQuery forest) × BraceRule forest
 
 not-before : (tree : Tree) (forest : Forest) → NotBefore tree forest → LacksBlock tree → FirstNoQuery forest
 not-before tree none not_before lacks_block = tt
 not-before tree (other_tree ▸ forest) not_before lacks_block = not_before lacks_block
 
-place-after : (symbol state child : ℕ) (tree : Tree) (forest : Forest) → has symbol state child ≡ true → (read : Read child tree)
-    → Place symbol state (tree ▸ forest) → Place symbol (target symbol state (root read.0) + finish read.0) forest
-place-after symbol state child tree forest h (u, o, e, w) place d =
+in-document-after : (symbol state child : ℕ) (tree : Tree) (forest : Forest) → has symbol state child ≡ true → (read : Read child tree)
+    → InDocument symbol state (tree ▸ forest) → InDocument symbol (target symbol state (root read.0) + finish read.0) forest
+in-document-after symbol state child tree forest h (u, o, e, w) place d =
     let x : symbol ≡ DOCUMENT = eqb-true symbol DOCUMENT d in
     let h' : has DOCUMENT state (root u) ≡ true = rw (x, ← e) at h in
     let a = document-arc state u h' o in
@@ -440,7 +440,7 @@ choose-operation state tree i n fits e =
       )
     ]
 
-chosen : (symbol state child : ℕ) (tree : Tree) (forest : Forest) → is_leaf symbol ≡ false → Fits tree → Place symbol state (tree ▸ forest)
+chosen : (symbol state child : ℕ) (tree : Tree) (forest : Forest) → is_leaf symbol ≡ false → Fits tree → InDocument symbol state (tree ▸ forest)
     → has symbol state child ≡ true → member (root tree) (shown child) ≡ true
     → Chosen symbol state tree
 chosen symbol state child tree forest l fits place a m = elim (either (eqb symbol DOCUMENT)) [
@@ -454,8 +454,8 @@ chosen symbol state child tree forest l fits place a m = elim (either (eqb symbo
 -- One child and those after it.
 read-step : (symbol state : ℕ) (tree : Tree) (forest : Forest) → is_leaf symbol ≡ false → Matches (pattern_of symbol state) (root tree ∷ kinds forest)
     → agree_at symbol state ≡ true
-    → Kids symbol (tree ▸ forest) → Place symbol state (tree ▸ forest) → Fits tree → ((child : ℕ) → Cond child tree → Read child tree)
-    → ((p : ℕ) → Matches (pattern_of symbol p) (kinds forest) → agree_at symbol p ≡ true → Place symbol p forest → ReadFrom symbol p forest)
+    → Kids symbol (tree ▸ forest) → InDocument symbol state (tree ▸ forest) → Fits tree → ((child : ℕ) → Cond child tree → Read child tree)
+    → ((p : ℕ) → Matches (pattern_of symbol p) (kinds forest) → agree_at symbol p ≡ true → InDocument symbol p forest → ReadFrom symbol p forest)
     → ReadFrom symbol state (tree ▸ forest)
 unfolding has
 read-step symbol state tree forest l matches a kids place fits rt rf =
@@ -470,7 +470,7 @@ read-step symbol state tree forest l matches a kids place fits rt rf =
           let e : deriv (pattern_of symbol state) (root tree) ≡ pattern_of symbol q' = agree-arc symbol state (root tree) r.0 a hu r.1 mu in
           let live : Live (at symbol q') = fill-live symbol q' (fill-after symbol state r.0 l hu r.1) in
           let g = rf q' (subst (λ (z : Pattern). Matches z (kinds forest)) e dm) (agree symbol q' l live)
-          (place-after symbol state k.0 tree forest k.1 r place) in
+          (in-document-after symbol state k.0 tree forest k.1 r place) in
           (r.0 ▸ g.0, (hu, r.1, g.1), rw (r.3, g.2) refl))
     ]
 
@@ -495,7 +495,7 @@ wrap j tree h (u, o, e, w) =
 -- The children of a node are read so, in its row.
 abbrev Reader : Forest → Type 0
 Reader forest = (symbol : ℕ) → is_leaf symbol ≡ false → Matches (pattern_of symbol 0) (kinds forest) → agree_at symbol 0 ≡ true → Kids symbol forest
-    → Place symbol 0 forest → ReadFrom symbol 0 forest
+    → InDocument symbol 0 forest → ReadFrom symbol 0 forest
 
 node-read : (child j : ℕ) (forest : Forest) → is_leaf child ≡ false → eqb child TYPE ≡ false → Fits (node j forest) → Cond child (node j forest) → Reader forest
     → Read child (node j forest)
@@ -503,7 +503,7 @@ node-read child j forest l n fits c rf =
     let e : label child ≡ j = shown-label j child n c.0 in
     let matches : Matches (symbol_row child) (kinds forest) = symbol-row-from child j forest e (below-bare_selections child c.5) c.4 fits.0 in
     let second_matches : Matches (pattern_of child 0) (kinds forest) = rw (start-pattern child n) matches in
-    let place : Place child 0 forest = λ d. (
+    let place : InDocument child 0 forest = λ d. (
       omega arith,
       (λ z. absurd (omega arith)),
       fits.3 (sym e ∙ (ap label (eqb-true child DOCUMENT d) ∙ labels-checked.3)),
@@ -555,7 +555,7 @@ mutual
   read-tree (node j forest) child fits c = pick-node child j forest fits c (λ s l m a d p. read-forest forest s 0 l m a d p fits.4)
 
   pub read-forest : (forest : Forest) (symbol state : ℕ) → is_leaf symbol ≡ false → Matches (pattern_of symbol state) (kinds forest)
-      → agree_at symbol state ≡ true → Kids symbol forest → Place symbol state forest
+      → agree_at symbol state ≡ true → Kids symbol forest → InDocument symbol state forest
       → AllFit forest → ReadFrom symbol state forest
   read-forest none symbol state l matches a kids place all_fit = read-end symbol state a matches
   read-forest (tree ▸ forest) symbol state l matches a kids place all_fit =

@@ -13,8 +13,8 @@ use Rattle.std.proofs.lemmas.Str.{IsCharBoundary-after_ascii, IsCharBoundary-sta
 use Rattle.std.proofs.lemmas.List.Sums.{prefix_len_is}
 use Rattle.memchr.specs.Find.{IsFirstByte, is_byte2}
 use Rattle.lexical_grammar.specs.Characters.{is_line_terminator}
-use Rattle.line_index.specs.Places.{begins_line, line_at, line_start}
-use Rattle.line_index.specs.Starts.{AreStarts, IsNextStart}
+use Rattle.line_index.specs.Lines.{begins_line, line_at, line_start}
+use Rattle.line_index.specs.LineStarts.{AreStarts, IsNextStart}
 
 -- one place further
 begun : (text : List ℕ) (k : ℕ) → begins_line text (suc k) ≡ true → (line_at text (suc k) ≡ line_at text k + 1) × (line_start text (suc k) ≡ suc k)

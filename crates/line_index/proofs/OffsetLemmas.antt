@@ -11,9 +11,9 @@ use Rattle.std.proofs.lemmas.List.{get_or-drop, get_or-append-add, get_or_append
 use Rattle.std.proofs.lemmas.List.Sums.{prefix_len-le-length}
 use Rattle.std.proofs.lemmas.Str.{IsUtf8-between, IsCharBoundary-end, IsCharBoundary-before_ascii}
 use Rattle.lexical_grammar.specs.Characters.{is_line_terminator}
-use Rattle.line_index.specs.Places.{begins_line, line_at, line_start, line_text}
+use Rattle.line_index.specs.Lines.{begins_line, line_at, line_start, line_text}
 use Rattle.line_index.specs.Columns.{utf16_len, utf16_units}
-use Rattle.line_index.specs.Starts.{AreStarts}
+use Rattle.line_index.specs.LineStarts.{AreStarts}
 use Rattle.line_index.specs.Positions.{units, continues, lines_of, units_before, whole, width, IsCursor}
 use Rattle.line_index.specs.declared.PositionEncoding.{PositionEncoding}
 use Rattle.line_index.specs.declared.PositionEncoding.TheVariants.{Utf8, Utf16}

@@ -7,7 +7,7 @@ use Rattle.std.proofs.lemmas.Bool.{cases_Bool, and_parts}
 use Rattle.std.proofs.lemmas.List.Concat.{flat_map-cons}
 use Rattle.std.proofs.lemmas.Grind.{flat_map-append}
 use Rattle.lexical_grammar.specs.Characters.{is_line_terminator}
-use Rattle.line_index.specs.Places.{begins_line, line_at}
+use Rattle.line_index.specs.Lines.{begins_line, line_at}
 use Rattle.line_index.specs.Positions.{units_of, ends_line, whole}
 use Rattle.line_index.specs.declared.PositionEncoding.{PositionEncoding}
 use Rattle.line_index.specs.declared.PositionEncoding.TheVariants.{Utf8}

@@ -13,7 +13,7 @@ use Rattle.std.proofs.lemmas.Grind.{flat_map-append}
 use Rattle.std.proofs.Math.Seq.{take-add}
 use Rattle.std.proofs.lemmas.Str.{encodes-append, chars-encodes, IsUtf8-take, IsUtf8-drop, IsUtf8-between}
 use Rattle.lexical_grammar.specs.Characters.{is_line_terminator}
-use Rattle.line_index.specs.Places.{begins_line, line_at, line_start}
+use Rattle.line_index.specs.Lines.{begins_line, line_at, line_start}
 use Rattle.line_index.specs.Positions.{units, units_of, continues, ends_line, lines_of, units_before, whole, width, IsCursor}
 use Rattle.line_index.specs.declared.PositionEncoding.{PositionEncoding}
 use Rattle.line_index.specs.declared.PositionEncoding.TheVariants.{Utf8, Utf16}

@@ -6,7 +6,7 @@ use Rattle.std.specs.List.{position_or_len}
 use Rattle.std.proofs.lemmas.Bool.{cases_Bool}
 use Rattle.std.proofs.lemmas.Bool.Decides.{nat_tests}
 use Rattle.lexical_grammar.specs.Characters.{is_line_terminator}
-use Rattle.line_index.specs.Places.{begins_line, line_at}
+use Rattle.line_index.specs.Lines.{begins_line, line_at}
 use Rattle.line_index.specs.Positions.{ends_line, in_front, lines_of, units_before, whole, continues}
 use Rattle.line_index.specs.declared.PositionEncoding.{PositionEncoding}
 

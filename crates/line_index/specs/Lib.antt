@@ -1,5 +1,5 @@
-pub mod Places
+pub mod Lines
 pub mod Columns
 pub mod Positions
-pub mod Starts
+pub mod LineStarts
 pub mod Marks

@@ -10,10 +10,10 @@ ghost use Rattle.std.specs.Prelude.{◌≡◌, ℕ, ◌+◌, ◌^◌, ◌<◌, �
 ghost use Rattle.std.specs.Str.{IsCharBoundary};
 ghost use Rattle.lexical_grammar.specs.Characters.{is_line_terminator};
 ghost use Rattle.std.specs.List.Sorted.{IsNonDecreasing};
-ghost use Rattle.line_index.specs.Places.{line_at, line_start, line_text};
+ghost use Rattle.line_index.specs.Lines.{line_at, line_start, line_text};
 ghost use Rattle.line_index.specs.Columns.{char_count, utf16_len, begins_character, utf16_units};
 ghost use Rattle.line_index.specs.Positions.{units, width, place_of, IsCursor};
-ghost use Rattle.line_index.specs.Starts.{AreStarts, IsNextStart};
+ghost use Rattle.line_index.specs.LineStarts.{AreStarts, IsNextStart};
 ghost use Rattle.line_index.specs.Marks.{AreMarks};
 
 use memchr::memchr2;
@@ -22,7 +22,7 @@ use std::marker::Model;
 
 /// A place in a text: the number of its line, and its column there in bytes, both from 0.
 #[derive(Clone, Copy, Debug, PartialEq, Eq)]
-pub struct Place {
+pub struct LineColumn {
     pub line: usize,
     pub column: usize,
 }
@@ -183,7 +183,7 @@ pub struct LineIndex<'a, A: Allocator = Global> {
 
 impl<'a, A: Allocator> Model for LineIndex<'a, A> {
     ghost use Rattle.std.specs.Prelude.{ℕ, List};
-    ghost use Rattle.line_index.specs.Starts.{IsIndexed};
+    ghost use Rattle.line_index.specs.LineStarts.{IsIndexed};
 
     ghost Value = { List ℕ };
 
@@ -226,13 +226,13 @@ impl<'a, A: Allocator> LineIndex<'a, A> {
     }
 
     /// The line and the column of a byte offset.
-    pub fn place(&self, offset: usize) -> Place
+    pub fn line_column(&self, offset: usize) -> LineColumn
         requires { offset ≤ length self.now }
         ensures line { result.line ≡ line_at self.now offset }
         ensures column { line_start self.now offset + result.column ≡ offset }
     {
         let line = last_up_to(self.starts.as_slice(), offset);
-        Place {
+        LineColumn {
             line,
             column: offset - self.starts[line],
         }
@@ -243,7 +243,7 @@ impl<'a, A: Allocator> LineIndex<'a, A> {
         requires { offset ≤ length self.now }
         ensures { result ≡ char_count (slice_range self.now (line_start self.now offset) offset) }
     {
-        let start = offset - self.place(offset).column;
+        let start = offset - self.line_column(offset).column;
         char_count(&self.text.as_bytes()[start..offset])
     }
 
@@ -252,7 +252,7 @@ impl<'a, A: Allocator> LineIndex<'a, A> {
         requires { offset ≤ length self.now }
         ensures { result ≡ utf16_len (slice_range self.now (line_start self.now offset) offset) }
     {
-        let start = offset - self.place(offset).column;
+        let start = offset - self.line_column(offset).column;
         self.units_before(offset) - self.units_before(start)
     }
 
@@ -273,7 +273,7 @@ impl<'a, A: Allocator> LineIndex<'a, A> {
         ensures column { result.column ≡ width encoding (slice_range self.now (line_start self.now offset) offset) }
         ensures names { IsCursor self.now offset → place_of encoding (units encoding self.now) result ≡ length (units encoding (take offset self.now)) }
     {
-        let place = self.place(offset);
+        let place = self.line_column(offset);
         let part = &self.text.as_bytes()[offset - place.column..offset];
         let column = match encoding {
             PositionEncoding::Utf8 => part.len(),
@@ -333,7 +333,7 @@ impl<'a, A: Allocator> LineIndex<'a, A> {
         requires { offset ≤ length self.now }
         ensures { result.now ≡ line_text self.now offset }
     {
-        let start = offset - self.place(offset).column;
+        let start = offset - self.line_column(offset).column;
         first_line(&self.text[start..])
     }
 }

@@ -226,17 +226,11 @@ no_definition =
 abbrev pub no_described : Rule
 no_described = When HasNext (refuse message.ExpectedDefinition) (refuse message.ExpectedDefinitionAfterString)
 
--- TypeDefinition (3.4), by the keyword that comes next, and TypeSystemDefinition (3.2)
-abbrev pub type_definition : Rule
-type_definition = type_definition_at Here no_definition
-
+-- TypeSystemDefinition (3.2), by the keyword that comes next
 abbrev pub type_system_definition : Rule
 type_system_definition = type_system_at Here no_definition
 
 -- the same after a description, by the keyword after the string
-abbrev pub described_type : Rule
-described_type = type_definition_at Next no_described
-
 abbrev pub described_type_system : Rule
 described_type_system = type_system_at Next no_described
 

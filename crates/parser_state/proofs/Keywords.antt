@@ -15,7 +15,7 @@ use Rattle.grammar_machine.specs.Machine.{word_class, text_eq}
 use Rattle.document_grammar.proofs.Booleans.{either, implies, eqb-refl, and-l, and-r}
 use Rattle.grammar_machine.proofs.Rules.{listed}
 use Rattle.grammar_machine.proofs.TableLemmas.{text-same}
-use Rattle.document_grammar.proofs.Words.{all_words, listed-at}
+use Rattle.document_grammar.proofs.Keywords.{all_words, listed-at}
 use Rattle.parser_rules.specs.State.{Text, Lexeme, same_kind, is_word}
 
 -- the words of this kind are this text

@@ -9,7 +9,6 @@ mod reader;
 mod reading;
 mod reporting;
 mod reports;
-mod start;
 mod tokens;
 
 ghost use Rattle.std.specs.Prelude.{◌≡◌, ◌≤◌, ◌<◌, ◌^◌, ◌+◌, ◌*◌, true, [], length, take, map, min, OnOk, IfOk};
@@ -28,8 +27,9 @@ use apollo_lexer::{Error, Lexer, LimitTracker, Steps, Token};
 use apollo_tree::{Checkpoint, SpanBuilder, Subtree};
 use building::push_all;
 use document_grammar::SyntaxKind;
+use ghost_value::Ghost;
 use reader::Reader;
-use reports::Reports;
+use reports::{Reports, no_reports};
 use std::alloc::{AllocError, Allocator};
 use std::marker::Model;
 pub use tokens::{is_eof, is_kind, is_word};
@@ -59,7 +59,7 @@ pub struct ParserState<'i, A: Allocator> {
     builder: SpanBuilder<A>,
     pending: Vec<PendingToken<'i>, A>,
     errors: Vec<Error<A>, A>,
-    reports: Reports,
+    reports: Ghost<Reports>,
     recursion_limit: LimitTracker,
     accept_errors: bool,
 }
@@ -87,16 +87,16 @@ impl<'i, A: Allocator> Model for ParserState<'i, A> {
       current = current_of p.current_token;
       pending = map pending_of p.pending.items;
       tree = p.builder;
-      errors = p.reports.list;
+      errors = p.reports.value;
       limit = p.recursion_limit.limit;
       depth = p.recursion_limit.current;
       high = p.recursion_limit.high;
       accepts = p.accept_errors;
       asked = final_high p.reader.lexer;
-      budget = p.reader.start.count + 2 * all_given p.reader.lexer;
+      budget = p.reader.start.value + 2 * all_given p.reader.lexer;
     } };
 
-    ghost invariant = { λ p. IsNow (current_of p.current_token) × (text_length p.builder (map pending_of p.pending.items) (current_of p.current_token) (answers_left p.reader.lexer) < 2 ^ 64) × ∥ AllZip IsErrorOf p.reports.list p.errors.items ∥₁ };
+    ghost invariant = { λ p. IsNow (current_of p.current_token) × (text_length p.builder (map pending_of p.pending.items) (current_of p.current_token) (answers_left p.reader.lexer) < 2 ^ 64) × ∥ AllZip IsErrorOf p.reports.value p.errors.items ∥₁ };
 }
 
 impl<'i, A: Allocator + Copy> ParserState<'i, A> {
@@ -108,7 +108,7 @@ impl<'i, A: Allocator + Copy> ParserState<'i, A> {
         steps: Steps,
     ) -> ParserState<'i, A>
         requires { lexer.limit_tracker.high ≡ 0 }
-        ensures { result ≡ reading.unread (answers_left lexer.entry) recursion_limit (steps.count + 2 * min (length (answers_left lexer.entry)) lexer.entry.limit_tracker.limit) }
+        ensures { result ≡ reading.unread (answers_left lexer.entry) recursion_limit (steps.value + 2 * min (length (answers_left lexer.entry)) lexer.entry.limit_tracker.limit) }
     {
         ParserState {
             alloc,
@@ -117,7 +117,7 @@ impl<'i, A: Allocator + Copy> ParserState<'i, A> {
             builder: SpanBuilder::new(alloc),
             pending: Vec::new(alloc),
             errors: Vec::new(alloc),
-            reports: Reports::new(),
+            reports: no_reports(),
             recursion_limit: LimitTracker::new(recursion_limit),
             accept_errors: true,
         }
@@ -147,7 +147,7 @@ impl<'i, A: Allocator + Copy> ParserState<'i, A> {
 
     /// What was cut.
     pub fn into_steps(self) -> Steps
-        ensures { result.count ≤ self.entry.budget }
+        ensures { result.value ≤ self.entry.budget }
     {
         self.reader.into_steps()
     }
@@ -167,7 +167,7 @@ impl<'i, A: Allocator + Copy> ParserState<'i, A> {
         ensures errors { IfOk result (λ t. AllZip IsErrorOf self.entry.errors t.errors.items) }
         ensures recursion_limit { IfOk result (λ t. t.recursion_limit ≡ record { current = self.entry.depth; high = self.entry.high; limit = self.entry.limit }) }
         ensures allowed { IfOk result (λ t. (t.token_limit.current ≡ 0) × (t.token_limit.limit ≡ token_limit) × (t.token_limit.high ≤ self.entry.asked)) }
-        ensures steps { steps.new.count ≤ self.entry.budget }
+        ensures steps { steps.new.value ≤ self.entry.budget }
         ensures token_limit { self.entry.items ≡ [] → IfOk result (λ t. t.token_limit ≡ record { current = 0; high = self.entry.asked; limit = token_limit }) }
     {
         let ParserState {

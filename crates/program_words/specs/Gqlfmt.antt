@@ -6,8 +6,8 @@ use Rattle.apollo_lexer.specs.declared.limits.Limits.{Limits}
 use Rattle.gqlfmt_files.specs.declared.settling.Mode.{Mode}
 use Rattle.gqlfmt_files.specs.declared.settling.Mode.TheVariants.{Write, Check, Diff}
 use Rattle.program_words.specs.LimitOptions.{GivenLimits, no_limits, with_option, at_most_once, limits_given}
-use Rattle.program_words.specs.declared.gqlfmt.Page.{Page}
-use Rattle.program_words.specs.declared.gqlfmt.Page.TheVariants.{Help, Version}
+use Rattle.program_words.specs.declared.gqlfmt.Information.{Information}
+use Rattle.program_words.specs.declared.gqlfmt.Information.TheVariants.{Help, Version}
 use Rattle.program_words.specs.declared.gqlfmt.Request.{Request}
 use Rattle.program_words.specs.declared.gqlfmt.Request.TheVariants.{Print, Format}
 use Rattle.program_words.specs.declared.gqlfmt.WordsError.{WordsError}
@@ -90,21 +90,21 @@ abbrev pub run_of : List (List ℕ) → Option Run
 run_of words = option_and_then run_given (given_by words)
 
 -- The page of the words, whatever else they say.
-abbrev pub page_of : List (List ℕ) → Option Page
-page_of [] = None
-page_of (word ∷ more) =
+abbrev pub information_of : List (List ℕ) → Option Information
+information_of [] = None
+information_of (word ∷ more) =
     if bytes_eq word (codes "--") then None
     else (if bytes_eq word (codes "--help") then Some Help
     else (if bytes_eq word (codes "--version") then Some Version
-    else page_of more))
+    else information_of more))
 
-abbrev pub page_or_run : Option Page → Option Run → Option (Request Run)
-page_or_run (Some page) run = Some (Print page)
-page_or_run None run = option_map Format run
+abbrev pub information_or_run : Option Information → Option Run → Option (Request Run)
+information_or_run (Some page) run = Some (Print page)
+information_or_run None run = option_map Format run
 
 -- The request of the words: nothing where the program is not called so.
 abbrev pub request_of : List (List ℕ) → Option (Request Run)
-request_of words = page_or_run (page_of words) (run_of words)
+request_of words = information_or_run (information_of words) (run_of words)
 
 -- the same with runs for plans of another type
 abbrev pub request_map : {P : Type 0} → (P → Run) → Request P → Request Run

@@ -2,7 +2,7 @@
 ghost use Rattle.std.specs.Prelude.{◌≡◌, ◌≤◌, length, IfOk};
 ghost use Rattle.program_words.specs.declared.gqlfmt.WordsError.TheVariants.{Memory};
 ghost use Rattle.program_words.specs.Gqlfmt.{texts, is_option, takes_number, mode_of, with_mode, with_limit, with_word};
-ghost use Rattle.program_words.specs.Gqlfmt.{page_of, run_of, request_of, request_map, IsRead};
+ghost use Rattle.program_words.specs.Gqlfmt.{information_of, run_of, request_of, request_map, IsRead};
 ghost use Rattle.program_words.specs.Reading.{IsSet, IsTaken, IsTakenFrom};
 
 use crate::limits::SetLimits;
@@ -21,7 +21,7 @@ pub struct Plan<'a, A: Allocator> {
 
 /// What the program prints of itself.
 #[derive(Clone, Copy)]
-pub enum Page {
+pub enum Information {
     /// How it is called, and what it does.
     Help,
     /// Its version.
@@ -31,7 +31,7 @@ pub enum Page {
 /// The request in the words: a page, or a run of this plan.
 #[derive(Drop)]
 pub enum Request<P> {
-    Print(Page),
+    Print(Information),
     Format(P),
 }
 
@@ -178,18 +178,18 @@ fn plan_of<'a, A: Allocator>(alloc: A, words: &[&'a str]) -> Result<Plan<'a, A>,
 }
 
 // The page of the words.
-fn page_of(words: &[&str]) -> Option<Page>
-    ensures { result ≡ page_of (texts words.now) }
+fn information_of(words: &[&str]) -> Option<Information>
+    ensures { result ≡ information_of (texts words.now) }
 {
     for word in words {
         if *word == "--" {
             return None;
         }
         if *word == "--help" {
-            return Some(Page::Help);
+            return Some(Information::Help);
         }
         if *word == "--version" {
-            return Some(Page::Version);
+            return Some(Information::Version);
         }
     }
     None
@@ -204,7 +204,7 @@ pub fn options<'a, A: Allocator>(
     ensures { IsRead (request_map (λ plan. record { mode = plan.mode; limits = plan.limits; files = texts plan.files.items }))
         (request_of (texts words.now)) result }
 {
-    if let Some(page) = page_of(words) {
+    if let Some(page) = information_of(words) {
         return Ok(Request::Print(page));
     }
     let plan = plan_of(alloc, words)?;

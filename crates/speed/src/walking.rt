@@ -9,7 +9,7 @@ use std::time::Instant;
 
 /// What is counted, and what is still to be visited.
 #[derive(Drop)]
-struct Walk<'t> {
+struct Visit<'t> {
     // As many steps as any loop takes: the number of elements.
     steps: usize,
     fields: u64,
@@ -21,9 +21,9 @@ struct Walk<'t> {
     values: Vec<Value<'t>>,
 }
 
-impl<'t> Walk<'t> {
-    fn new(alloc: Global, steps: usize) -> Walk<'t> {
-        Walk {
+impl<'t> Visit<'t> {
+    fn new(alloc: Global, steps: usize) -> Visit<'t> {
+        Visit {
             steps,
             fields: 0,
             arguments: 0,
@@ -133,8 +133,8 @@ fn walk_document<'t>(
     alloc: Global,
     document: Document<'t>,
     elements: usize,
-) -> Result<Walk<'t>, AllocError> {
-    let mut walk = Walk::new(alloc, elements);
+) -> Result<Visit<'t>, AllocError> {
+    let mut walk = Visit::new(alloc, elements);
     for definition in document.definitions() {
         walk.enter(match definition {
             Definition::OperationDefinition(operation) => operation.selection_set(),

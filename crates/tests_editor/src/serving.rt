@@ -15,9 +15,7 @@ struct Pieces<'a> {
 }
 
 impl<'a> Source for Pieces<'a> {
-    ghost use Rattle.byte_devices.specs.Devices.{account_of};
-
-    ghost account = { λ pieces. account_of pieces.trace };
+    ghost account = { λ pieces. pieces.trace.account.value };
 
     fn read(&mut self, buffer: &mut [u8]) -> Result<usize, DeviceError> {
         let count = self.rest.len().min(self.piece).min(buffer.len());
@@ -43,9 +41,7 @@ struct Page {
 }
 
 impl Sink for Page {
-    ghost use Rattle.byte_devices.specs.Devices.{account_of};
-
-    ghost account = { λ page. account_of page.trace };
+    ghost account = { λ page. page.trace.account.value };
 
     fn write(&mut self, bytes: &[u8]) -> Result<usize, DeviceError> {
         let count = bytes.len().min(self.room);

@@ -2,7 +2,7 @@
 ghost use Rattle.std.specs.Prelude.{◌≡◌, IfOk};
 
 use byte_devices::{Fault, StdSink, StdSource};
-use gqlcst_run::{Limits, Mode, Outcome, run};
+use gqlcst_run::{Limits, Mode, Finding, run};
 use std::alloc::{AllocError, Global};
 use std::io::{self, ErrorKind, Read, Write};
 use std::process::Abort;
@@ -82,13 +82,13 @@ fn writer_of(alloc: Global, piece: usize, room: usize, then: Then) -> Result<Pag
     })
 }
 
-// A mode, a text and limits, with the outcome and the output.
+// A mode, a text and limits, with the finding and the output.
 #[derive(Clone, Copy)]
 struct Row {
     mode: Mode,
     text: &'static [u8],
     limits: Limits,
-    found: Outcome,
+    found: Finding,
     written: &'static str,
 }
 
@@ -99,12 +99,12 @@ fn run_on(
     front: &[u8],
     then: Then,
     page: &mut Page,
-) -> Result<Result<Outcome, Fault>, AllocError> {
+) -> Result<Result<Finding, Fault>, AllocError> {
     let mut reader = StdSource::new(Drip { rest: front, then });
     let mut writer = StdSink::new(page);
     match run(alloc, &mut reader, &mut writer, row.mode, row.limits) {
         Err(Fault::Memory) => Err(AllocError),
-        outcome => Ok(outcome),
+        finding => Ok(finding),
     }
 }
 
@@ -112,8 +112,8 @@ fn run_on(
 fn expect_whole(rt: &(impl Abort + AllocGlobal), row: Row) -> Result<(), AllocError> {
     for piece in [1, row.written.len()] {
         let mut page = writer_of(rt.alloc(), piece, row.written.len(), Then::Stops)?;
-        let outcome = run_on(rt.alloc(), row, row.text, Then::Stops, &mut page)?;
-        assert_eq!(rt; outcome, Ok(row.found), "{}", row.written);
+        let finding = run_on(rt.alloc(), row, row.text, Then::Stops, &mut page)?;
+        assert_eq!(rt; finding, Ok(row.found), "{}", row.written);
         assert!(rt; page.taken.as_slice() == row.written.as_bytes());
     }
     Ok(())
@@ -128,8 +128,8 @@ fn expect_read_faults(
     for end in 0..=row.text.len() {
         let mut page = writer_of(rt.alloc(), 1000, 1000, Then::Stops)?;
         let front = &row.text[..end];
-        let outcome = run_on(rt.alloc(), row, front, Then::Fails(kind), &mut page)?;
-        assert_eq!(rt; outcome, Err(Fault::Read), "{} at {end}", row.written);
+        let finding = run_on(rt.alloc(), row, front, Then::Fails(kind), &mut page)?;
+        assert_eq!(rt; finding, Err(Fault::Read), "{} at {end}", row.written);
         assert!(rt; page.taken.is_empty());
     }
     Ok(())
@@ -144,8 +144,8 @@ fn expect_write_faults(
 ) -> Result<(), AllocError> {
     for room in 0..row.written.len() {
         let mut page = writer_of(rt.alloc(), piece, room, then)?;
-        let outcome = run_on(rt.alloc(), row, row.text, Then::Stops, &mut page)?;
-        assert_eq!(rt; outcome, Err(Fault::Write), "{} at {room}", row.written);
+        let finding = run_on(rt.alloc(), row, row.text, Then::Stops, &mut page)?;
+        assert_eq!(rt; finding, Err(Fault::Write), "{} at {room}", row.written);
         assert!(rt; page.taken.as_slice() == &row.written.as_bytes()[..room]);
     }
     Ok(())
@@ -168,7 +168,7 @@ fn expect_devices(rt: &(impl Abort + AllocGlobal), row: Row) -> Result<(), Alloc
 }
 
 // A row with the limits of a program without options.
-fn plain_row(mode: Mode, text: &'static [u8], found: Outcome, written: &'static str) -> Row {
+fn plain_row(mode: Mode, text: &'static [u8], found: Finding, written: &'static str) -> Row {
     Row {
         mode,
         text,
@@ -197,8 +197,8 @@ fn items(tokens: usize) -> Limits {
 }
 
 fn expect_checks(rt: &(impl Abort + AllocGlobal)) -> Result<(), AllocError> {
-    let clean = Outcome::Clean;
-    let one = Outcome::Errors(1);
+    let clean = Finding::Clean;
+    let one = Finding::Errors(1);
     let depth = "ERROR@3:3 \"parser recursion limit reached\" \nerrors: 1\n";
     let many = "ERROR@2:2 \"token limit reached, aborting lexing\" \nerrors: 1\n";
     for row in [
@@ -225,8 +225,8 @@ fn expect_checks(rt: &(impl Abort + AllocGlobal)) -> Result<(), AllocError> {
 }
 
 fn expect_items_and_trees(rt: &(impl Abort + AllocGlobal)) -> Result<(), AllocError> {
-    let clean = Outcome::Clean;
-    let one = Outcome::Errors(1);
+    let clean = Finding::Clean;
+    let one = Finding::Errors(1);
     for row in [
         plain_row(
             Mode::Tokens,
@@ -292,10 +292,10 @@ recursion limit: 500, high: 1
 fn expect_no_text(rt: &(impl Abort + AllocGlobal)) -> Result<(), AllocError> {
     for mode in [Mode::Check, Mode::Tokens, Mode::Tree] {
         for text in [b"\xff".as_slice(), b"\x7b\xff".as_slice()] {
-            let row = plain_row(mode, text, Outcome::Clean, "");
+            let row = plain_row(mode, text, Finding::Clean, "");
             let mut page = writer_of(rt.alloc(), 1, 1000, Then::Stops)?;
-            let outcome = run_on(rt.alloc(), row, row.text, Then::Stops, &mut page)?;
-            assert_eq!(rt; outcome, Err(Fault::Utf8));
+            let finding = run_on(rt.alloc(), row, row.text, Then::Stops, &mut page)?;
+            assert_eq!(rt; finding, Err(Fault::Utf8));
             assert!(rt; page.taken.is_empty());
             expect_read_faults(rt, row, ErrorKind::Other)?;
         }

@@ -29,7 +29,7 @@ fn put_items(alloc: Global, found: &mut String, lexer: Lexer<'_>) -> Result<(), 
 // A lexer of `a b c` that has given its only item.
 fn lexer_behind_an_item() -> Lexer<'static> {
     let mut lexer = lexer_of("a b c", 1);
-    let _item = lexer.next_counted(&mut Steps::new());
+    let _item = lexer.next_counted(&mut Steps::zero());
     lexer
 }
 
@@ -116,7 +116,7 @@ fn put_copies(found: &mut String) -> Result<(), AllocError> {
     found.push_str("copy:")?;
     put(
         found,
-        &(lexer.next() == copy.next_counted(&mut Steps::new())),
+        &(lexer.next() == copy.next_counted(&mut Steps::zero())),
     )?;
     found.push('\n')?;
     put_next(found, &mut lexer)?;

@@ -192,7 +192,7 @@ fn counted_copy(
 ) -> Result<SyntaxTree<DocumentRoot, Global>, AllocError> {
     let parser = Parser::within(source, limits);
     parser
-        .parse_counted(alloc, &mut Steps::new())?
+        .parse_counted(alloc, &mut Steps::zero())?
         .try_clone(alloc)
 }
 

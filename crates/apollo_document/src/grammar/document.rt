@@ -1,9 +1,9 @@
 // Documents.
 
 ghost use Rattle.std.specs.Prelude.{◌≡◌};
-ghost use Rattle.apollo_grammar.specs.Words.{Child, Call, second, current_of, Parses};
-ghost use Rattle.apollo_grammar.specs.Words.rule;
-ghost use Rattle.apollo_grammar.specs.Words.rules;
+ghost use Rattle.apollo_grammar.specs.Clauses.{Child, Call, second, current_of, Parses};
+ghost use Rattle.apollo_grammar.specs.Clauses.rule;
+ghost use Rattle.apollo_grammar.specs.Clauses.rules;
 ghost use Rattle.apollo_document.specs.Keywords as keywords;
 
 use super::extensions::extensions;

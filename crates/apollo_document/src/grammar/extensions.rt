@@ -2,8 +2,8 @@
 #![tactic(auto, using(crate::proofs::Keywords::extending), unfolding(parser_rules::specs::Rules::body, parser_rules::specs::RuleLanguage::holds))]
 
 ghost use Rattle.std.specs.Prelude.{◌≡◌};
-ghost use Rattle.apollo_grammar.specs.Words.{Call, second, current_of, Parses};
-ghost use Rattle.apollo_grammar.specs.Words.rule;
+ghost use Rattle.apollo_grammar.specs.Clauses.{Call, second, current_of, Parses};
+ghost use Rattle.apollo_grammar.specs.Clauses.rule;
 ghost use Rattle.apollo_document.specs.Keywords as keywords;
 
 use super::keyword::{DefinitionKeyword, definition_keyword};

@@ -1,10 +1,10 @@
 // Descriptions.
 
 ghost use Rattle.std.specs.Prelude.{◌≡◌, true};
-ghost use Rattle.apollo_grammar.specs.Words.{is_keyword, number, holds, At, Child, Call, Parses, Here};
-ghost use Rattle.apollo_grammar.specs.Words.rule;
-ghost use Rattle.apollo_grammar.specs.Words.rules;
-ghost use Rattle.apollo_grammar.specs.Words.token;
+ghost use Rattle.apollo_grammar.specs.Clauses.{is_keyword, number, holds, At, Child, Call, Parses, Here};
+ghost use Rattle.apollo_grammar.specs.Clauses.rule;
+ghost use Rattle.apollo_grammar.specs.Clauses.rules;
+ghost use Rattle.apollo_grammar.specs.Clauses.token;
 
 use document_grammar::SyntaxKind;
 use lexical_grammar::TokenKind;

@@ -1,9 +1,9 @@
 // Directives.
 
 ghost use Rattle.std.specs.Prelude.{◌≡◌};
-ghost use Rattle.apollo_grammar.specs.Words.{Child, Call, Parses, holds, Here, current_of};
-ghost use Rattle.apollo_grammar.specs.Words.rule;
-ghost use Rattle.apollo_grammar.specs.Words.rules;
+ghost use Rattle.apollo_grammar.specs.Clauses.{Child, Call, Parses, holds, Here, current_of};
+ghost use Rattle.apollo_grammar.specs.Clauses.rule;
+ghost use Rattle.apollo_grammar.specs.Clauses.rules;
 ghost use Rattle.apollo_grammar.specs.Locations.{location_word};
 
 use super::argument::{optional_arguments, optional_arguments_definition};

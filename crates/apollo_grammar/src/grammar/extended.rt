@@ -1,8 +1,8 @@
 // What an extension of a type adds.
 
 ghost use Rattle.std.specs.Prelude.{◌≡◌, true};
-ghost use Rattle.apollo_grammar.specs.Words.{holds, At, Child, Parses};
-ghost use Rattle.apollo_grammar.specs.Words.rules;
+ghost use Rattle.apollo_grammar.specs.Clauses.{holds, At, Child, Parses};
+ghost use Rattle.apollo_grammar.specs.Clauses.rules;
 ghost use Rattle.apollo_grammar.specs.Blocks as blocks;
 
 use super::directive::optional_directives;

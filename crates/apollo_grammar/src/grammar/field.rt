@@ -1,10 +1,10 @@
 // Fields.
 
 ghost use Rattle.std.specs.Prelude.{◌≡◌, true};
-ghost use Rattle.apollo_grammar.specs.Words.{holds, At, Child, Parses, Here, Call};
-ghost use Rattle.apollo_grammar.specs.Words.rule;
-ghost use Rattle.apollo_grammar.specs.Words.rules;
-ghost use Rattle.apollo_grammar.specs.Words.token;
+ghost use Rattle.apollo_grammar.specs.Clauses.{holds, At, Child, Parses, Here, Call};
+ghost use Rattle.apollo_grammar.specs.Clauses.rule;
+ghost use Rattle.apollo_grammar.specs.Clauses.rules;
+ghost use Rattle.apollo_grammar.specs.Clauses.token;
 
 use super::argument::{optional_arguments, optional_arguments_definition};
 use super::description::{optional_description, starts_named, want_named};

@@ -1,9 +1,9 @@
 // Fragments.
 
 ghost use Rattle.std.specs.Prelude.{◌≡◌, true};
-ghost use Rattle.apollo_grammar.specs.Words.{holds, At, Child, Call, Parses};
-ghost use Rattle.apollo_grammar.specs.Words.rule;
-ghost use Rattle.apollo_grammar.specs.Words.token;
+ghost use Rattle.apollo_grammar.specs.Clauses.{holds, At, Child, Call, Parses};
+ghost use Rattle.apollo_grammar.specs.Clauses.rule;
+ghost use Rattle.apollo_grammar.specs.Clauses.token;
 
 use super::description::described_keyword;
 use super::directive::optional_directives;

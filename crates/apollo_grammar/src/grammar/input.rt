@@ -1,10 +1,10 @@
 // Input objects.
 
 ghost use Rattle.std.specs.Prelude.{◌≡◌, true};
-ghost use Rattle.apollo_grammar.specs.Words.{holds, Here, At, Child, Parses};
-ghost use Rattle.apollo_grammar.specs.Words.rule;
-ghost use Rattle.apollo_grammar.specs.Words.rules;
-ghost use Rattle.apollo_grammar.specs.Words.token;
+ghost use Rattle.apollo_grammar.specs.Clauses.{holds, Here, At, Child, Parses};
+ghost use Rattle.apollo_grammar.specs.Clauses.rule;
+ghost use Rattle.apollo_grammar.specs.Clauses.rules;
+ghost use Rattle.apollo_grammar.specs.Clauses.token;
 
 use super::description::{described_keyword, optional_description, starts_named, want_named};
 use super::directive::optional_directives;

@@ -1,7 +1,7 @@
 // Interfaces.
 
-ghost use Rattle.apollo_grammar.specs.Words.{Child, Parses};
-ghost use Rattle.apollo_grammar.specs.Words.rule;
+ghost use Rattle.apollo_grammar.specs.Clauses.{Child, Parses};
+ghost use Rattle.apollo_grammar.specs.Clauses.rule;
 
 use super::description::described_keyword;
 use super::name::name;

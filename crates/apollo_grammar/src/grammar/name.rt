@@ -1,9 +1,9 @@
 // Names.
 
 ghost use Rattle.std.specs.Prelude.{◌≡◌, true};
-ghost use Rattle.apollo_grammar.specs.Words.{holds, At, Next, Kind, Child, Call, Parses};
-ghost use Rattle.apollo_grammar.specs.Words.rule;
-ghost use Rattle.apollo_grammar.specs.Words.token;
+ghost use Rattle.apollo_grammar.specs.Clauses.{holds, At, Next, Kind, Child, Call, Parses};
+ghost use Rattle.apollo_grammar.specs.Clauses.rule;
+ghost use Rattle.apollo_grammar.specs.Clauses.token;
 
 use document_grammar::SyntaxKind;
 use lexical_grammar::TokenKind;

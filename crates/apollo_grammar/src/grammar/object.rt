@@ -1,8 +1,8 @@
 // Object types.
 
-ghost use Rattle.apollo_grammar.specs.Words.{Child, Call, Parses};
-ghost use Rattle.apollo_grammar.specs.Words.rule;
-ghost use Rattle.apollo_grammar.specs.Words.rules;
+ghost use Rattle.apollo_grammar.specs.Clauses.{Child, Call, Parses};
+ghost use Rattle.apollo_grammar.specs.Clauses.rule;
+ghost use Rattle.apollo_grammar.specs.Clauses.rules;
 
 use super::description::described_keyword;
 use super::directive::optional_directives;

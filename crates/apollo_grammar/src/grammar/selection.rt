@@ -1,11 +1,11 @@
 // Selection sets.
 
 ghost use Rattle.std.specs.Prelude.{◌≡◌, true};
-ghost use Rattle.apollo_grammar.specs.Words.{fits, holds, Here, At, Child, Call, second, current_of, Parses};
-ghost use Rattle.apollo_grammar.specs.Words.fragments;
-ghost use Rattle.apollo_grammar.specs.Words.rule;
-ghost use Rattle.apollo_grammar.specs.Words.rules;
-ghost use Rattle.apollo_grammar.specs.Words.token;
+ghost use Rattle.apollo_grammar.specs.Clauses.{fits, holds, Here, At, Child, Call, second, current_of, Parses};
+ghost use Rattle.apollo_grammar.specs.Clauses.fragments;
+ghost use Rattle.apollo_grammar.specs.Clauses.rule;
+ghost use Rattle.apollo_grammar.specs.Clauses.rules;
+ghost use Rattle.apollo_grammar.specs.Clauses.token;
 
 use super::field::field;
 use super::fragment;

@@ -1,11 +1,11 @@
 // Types.
 
 ghost use Rattle.std.specs.Prelude.{◌≡◌, true, [], OnOk};
-ghost use Rattle.apollo_grammar.specs.Words.{holds, Here, At, Child, Call, flush, Parses};
-ghost use Rattle.apollo_grammar.specs.Words.fragments;
-ghost use Rattle.apollo_grammar.specs.Words.rule;
-ghost use Rattle.apollo_grammar.specs.Words.rules;
-ghost use Rattle.apollo_grammar.specs.Words.token;
+ghost use Rattle.apollo_grammar.specs.Clauses.{holds, Here, At, Child, Call, flush, Parses};
+ghost use Rattle.apollo_grammar.specs.Clauses.fragments;
+ghost use Rattle.apollo_grammar.specs.Clauses.rule;
+ghost use Rattle.apollo_grammar.specs.Clauses.rules;
+ghost use Rattle.apollo_grammar.specs.Clauses.token;
 
 use super::name::name;
 use apollo_tree::Checkpoint;

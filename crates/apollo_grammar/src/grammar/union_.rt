@@ -1,7 +1,7 @@
 // Unions.
 
-ghost use Rattle.apollo_grammar.specs.Words.{Child, Call, Parses};
-ghost use Rattle.apollo_grammar.specs.Words.rule;
+ghost use Rattle.apollo_grammar.specs.Clauses.{Child, Call, Parses};
+ghost use Rattle.apollo_grammar.specs.Clauses.rule;
 
 use super::description::described_keyword;
 use super::directive::optional_directives;

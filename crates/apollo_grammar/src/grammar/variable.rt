@@ -1,9 +1,9 @@
 // Variables.
 
 ghost use Rattle.std.specs.Prelude.{◌≡◌};
-ghost use Rattle.apollo_grammar.specs.Words.{holds, Here, Child, Call, Parses};
-ghost use Rattle.apollo_grammar.specs.Words.rule;
-ghost use Rattle.apollo_grammar.specs.Words.rules;
+ghost use Rattle.apollo_grammar.specs.Clauses.{holds, Here, Child, Call, Parses};
+ghost use Rattle.apollo_grammar.specs.Clauses.rule;
+ghost use Rattle.apollo_grammar.specs.Clauses.rules;
 
 use super::description::description;
 use super::directive::optional_directives;

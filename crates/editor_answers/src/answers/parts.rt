@@ -71,14 +71,14 @@ pub fn push_folds(
     pieces.extend_from_slice(&[Piece::EndArray])
 }
 
-// Adds parts, the last first, each with the one before it as its parent.
+// Adds parts, each with the next one as its parent.
 fn push_parts(
     pieces: &mut Vec<Piece<'_>>,
     places: &Places<'_>,
     parts: &[Span],
 ) -> Result<(), AllocError> {
     let mut front: &'static [Piece<'static>] = &[Piece::Object];
-    for part in parts.iter().rev() {
+    for part in parts {
         pieces.extend_from_slice(front)?;
         push_range(pieces, places, "range", *part)?;
         front = &[Piece::Key("parent"), Piece::Object];

@@ -3,12 +3,12 @@ ghost use Rattle.std.specs.Prelude.{◌≡◌, ◌+◌, [], ◌∷◌};
 ghost use Rattle.apollo_parser.specs.LexerAnswers.{answer_of, answers_left, error_answer};
 ghost use Rattle.apollo_parser.specs.Printed.{place_text, token_text};
 ghost use Rattle.gqlcst_run.specs.Paging.{Puts, PutsSome};
-ghost use Rattle.gqlcst_run.specs.Parsing.{outcome_of};
+ghost use Rattle.gqlcst_run.specs.Parsing.{finding_of};
 ghost use Rattle.gqlcst_run.specs.Rendering.{AreLines, IsAnswerForm, IsForm, error_count};
 
-use crate::outcome::{Outcome, outcome_of};
+use crate::finding::{Finding, finding_of};
 use crate::page::Page;
-use crate::rendering::place::Place;
+use crate::rendering::digits::Digits;
 use apollo_parser::laws::answers_fit;
 use apollo_parser::{LexError, Lexer, Token, TokenKind};
 use byte_devices::Sink;
@@ -18,7 +18,7 @@ use byte_devices::Sink;
 fn put_head<W: Sink>(
     page: &mut Page,
     writer: &mut W,
-    place: &mut Place,
+    place: &mut Digits,
     name: &str,
     start: usize,
     len: usize,
@@ -32,7 +32,7 @@ fn put_head<W: Sink>(
 }
 
 // Puts the printed form of a token.
-fn put_token<W: Sink>(page: &mut Page, writer: &mut W, place: &mut Place, token: Token<'_>)
+fn put_token<W: Sink>(page: &mut Page, writer: &mut W, place: &mut Digits, token: Token<'_>)
     ensures { PutsSome (IsForm (token_text token.entry.kind token.entry.text.now token.entry.index)) (page.old, W.account writer.old) (page.new, W.account writer.new) }
 {
     let text = token.data();
@@ -44,7 +44,7 @@ fn put_token<W: Sink>(page: &mut Page, writer: &mut W, place: &mut Place, token:
 }
 
 // Puts the printed form of the error for bad text, or for the limit.
-fn put_lex_error<W: Sink>(page: &mut Page, writer: &mut W, place: &mut Place, error: LexError<'_>)
+fn put_lex_error<W: Sink>(page: &mut Page, writer: &mut W, place: &mut Digits, error: LexError<'_>)
     ensures { PutsSome (IsAnswerForm (error_answer error.entry.is_limit error.entry.text.now error.entry.index)) (page.old, W.account writer.old) (page.new, W.account writer.new) }
 {
     let text = error.data();
@@ -60,7 +60,7 @@ fn put_lex_error<W: Sink>(page: &mut Page, writer: &mut W, place: &mut Place, er
 fn put_item<W: Sink>(
     page: &mut Page,
     writer: &mut W,
-    place: &mut Place,
+    place: &mut Digits,
     item: Result<Token<'_>, LexError<'_>>,
 ) -> usize
     ensures puts { PutsSome (IsAnswerForm (answer_of item.entry)) (page.old, W.account writer.old) (page.new, W.account writer.new) }
@@ -78,17 +78,17 @@ fn put_item<W: Sink>(
     }
 }
 
-/// Puts a line for each item that is left, an error in place of the first that the limit leaves out. Answers the outcome for the errors.
-pub fn put_tokens<W: Sink>(page: &mut Page, writer: &mut W, items: Lexer<'_>) -> Outcome
+/// Puts a line for each item that is left, an error in place of the first that the limit leaves out. Answers the finding for the errors.
+pub fn put_tokens<W: Sink>(page: &mut Page, writer: &mut W, items: Lexer<'_>) -> Finding
     ensures lines { PutsSome (AreLines IsAnswerForm (answers_left items.entry)) (page.old, W.account writer.old) (page.new, W.account writer.new) }
-    ensures outcome { result ≡ outcome_of (error_count (answers_left items.entry)) }
+    ensures finding { result ≡ finding_of (error_count (answers_left items.entry)) }
 {
     answers_fit(&items);
-    let mut place = Place::new();
+    let mut place = Digits::new();
     let mut errors = 0;
     for item in items {
         errors += put_item(page, writer, &mut place, item);
         page.put_str(writer, "\n");
     }
-    outcome_of(errors)
+    finding_of(errors)
 }

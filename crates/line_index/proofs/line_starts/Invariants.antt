@@ -1,5 +1,5 @@
 use Rattle.std.proofs.Common.{◌-◌, ◌≤◌, length}
-use Rattle.line_index.specs.Starts.{AreStarts}
+use Rattle.line_index.specs.LineStarts.{AreStarts}
 use Rattle.line_index.proofs.line_starts.Given as goal
 
 abbrev pub invariant-loop-next : goal.invariant-loop-next

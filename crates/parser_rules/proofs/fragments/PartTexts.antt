@@ -12,7 +12,7 @@ use Rattle.document_grammar.specs.Builds.{Open, close}
 use Rattle.document_grammar.specs.Derivation.{Sort, selections, type, nest}
 use Rattle.document_grammar.specs.Forests.{text}
 use Rattle.document_grammar.specs.Numbered.{tree_of}
-use Rattle.document_grammar.specs.Places.{bare}
+use Rattle.document_grammar.specs.Placed.{bare}
 use Rattle.document_grammar.specs.Sentence.{token_of, Sentence, Within}
 use Rattle.document_grammar.specs.Tree.{Text, Token, Tree}
 use Rattle.document_grammar.specs.declared.kind.SyntaxKind.{SyntaxKind}

@@ -10,7 +10,7 @@ use Rattle.document_grammar.specs.Derivation.{Sort, selections, Spells, nest}
 use Rattle.document_grammar.specs.Kinds.{L_CURLY}
 use Rattle.document_grammar.specs.Builds.{Building, nothing, start}
 use Rattle.document_grammar.specs.Numbered.{tree_of}
-use Rattle.document_grammar.specs.Places.{bare}
+use Rattle.document_grammar.specs.Placed.{bare}
 use Rattle.document_grammar.specs.Tree.{Token, Tree, node, Forest, none}
 use Rattle.document_grammar.specs.declared.kind.SyntaxKind.{SyntaxKind}
 use Rattle.document_grammar.specs.declared.kind.SyntaxKind.TheVariants as kind

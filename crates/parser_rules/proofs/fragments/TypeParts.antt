@@ -11,7 +11,7 @@ use Rattle.document_grammar.specs.Kinds.{NON_NULL_TYPE}
 use Rattle.document_grammar.specs.Numbered.{tree_of}
 use Rattle.document_grammar.specs.Numbers.{number}
 use Rattle.document_grammar.specs.Pattern.{member}
-use Rattle.document_grammar.specs.Places.{bare}
+use Rattle.document_grammar.specs.Placed.{bare}
 use Rattle.document_grammar.specs.Tree.{Text, Tree, leaf, node, Forest, none, ◌▸◌, ◌+++◌}
 use Rattle.document_grammar.specs.declared.kind.SyntaxKind.{SyntaxKind}
 use Rattle.document_grammar.specs.declared.kind.SyntaxKind.TheVariants as kind

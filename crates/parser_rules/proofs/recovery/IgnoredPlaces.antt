@@ -6,7 +6,7 @@ use Rattle.document_grammar.specs.declared.kind.SyntaxKind.TheVariants as kind
 use Rattle.document_grammar.specs.Forests as built
 use Rattle.document_grammar.specs.Numbered.{tree_of}
 use Rattle.document_grammar.proofs.Trimmed.{starts_well, ends_with, trim, starts-join, ends-join, trim-join, root-placed}
-use Rattle.document_grammar.specs.Places.{Placed}
+use Rattle.document_grammar.specs.Placed.{Placed}
 use Rattle.document_grammar.proofs.Booleans.{and-i, and-l, and-r, not-c}
 use Rattle.parser_rules.specs.State.{State, PendingToken, add_all, flush, opened, closed, wrapped_from, moved, enter, leave, begun, finished}
 use Rattle.parser_rules.specs.Nodes.{kind_of, Document}

@@ -138,50 +138,27 @@ module _ (rates : Rates) (fair : rates.element + rates.report ≤ rates.item) (c
 
   -- ---- tests
 
+  -- what is known where a test has one answer, as `ask` hands it on
+  abbrev answered : Account → Bool → (Account → Bool) → ℕ → ℕ → Bool
+  answered account below_limit rest near far =
+      rest (record { near = near; far = far; below_limit = below_limit; turns = None; credit = account.credit })
+
   asks-yes : (test : Test) (account : Account) (f g : Account → Bool) (all : ℕ) (state : State) → true ≡ holds test state → ask test account f g ≡ true
       → Held account all state → Comes f all state
   asks-yes test account f g all state e c held =
-      let r = split-at test true account.near account.far (λ x y. f (record {
-        near = x;
-        far = y;
-        below_limit = account.below_limit or asks_limit test;
-        turns = None;
-        credit = account.credit;
-      })) (λ x y. g (record {
-        near = x;
-        far = y;
-        below_limit = account.below_limit;
-        turns = None;
-        credit =
-            account.credit;
-      })) state held.shown e c held.seen in (
-        _,
-        r.2,
-        record {
-          shown = held.shown;
-          seen = r.3;
-          limit = λ i. elim (or-c _ _ i) [ inl y ↦ held.limit y | inr y ↦ limit-asked test state e y ];
-          paid = held.paid;
-        },
-      )
+      let r = split-at test true account.near account.far (answered account (account.below_limit or asks_limit test) f)
+      (answered account account.below_limit g) state held.shown e c held.seen in
+      let limit : account.below_limit or asks_limit test ≡ true → is_deep state ≡ false = λ i. elim (or-c _ _ i) [
+        | inl y ↦ held.limit y
+        | inr y ↦ limit-asked test state e y
+      ] in
+      (_, r.2, record { shown = held.shown; seen = r.3; limit = limit; paid = held.paid })
 
   asks-no : (test : Test) (account : Account) (f g : Account → Bool) (all : ℕ) (state : State) → false ≡ holds test state → ask test account f g ≡ true
       → Held account all state → Comes g all state
   asks-no test account f g all state e c held =
-      let r = split-at test false account.near account.far (λ x y. f (record {
-        near = x;
-        far = y;
-        below_limit = account.below_limit or asks_limit test;
-        turns = None;
-        credit = account.credit;
-      })) (λ x y. g (record {
-        near = x;
-        far = y;
-        below_limit = account.below_limit;
-        turns = None;
-        credit =
-            account.credit;
-      })) state held.shown e c held.seen in
+      let r = split-at test false account.near account.far (answered account (account.below_limit or asks_limit test) f)
+      (answered account account.below_limit g) state held.shown e c held.seen in
       (_, r.2, record { shown = held.shown; seen = r.3; limit = held.limit; paid = held.paid })
 
   in-part : (m : ℕ) (account : Account) (rest : Account → Bool) (all : ℕ) (state : State) → within (class_of state.current) m ≡ true

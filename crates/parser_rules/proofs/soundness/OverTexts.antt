@@ -2,7 +2,7 @@
 use Rattle.std.proofs.lemmas.Bool.{and_parts, and_from}
 use Rattle.grammar_machine.proofs.TableLemmas.{head-same, tail-same, no-cons}
 use Rattle.document_grammar.specs.Numbered.{tree_of}
-use Rattle.document_grammar.specs.Places.{bare}
+use Rattle.document_grammar.specs.Placed.{bare}
 use Rattle.grammar_machine.proofs.Starts.{read, next_one, next_two}
 use Rattle.std.proofs.Common.{◌≡◌, ℕ, zero, suc, ◌≤◌, ◌+◌, length, Bool, true, false, List, [], ◌∷◌, ◌++◌, Some, None, refl, sym, ap, ap₂, ◌∙◌, subst, inl, inr}
 use Rattle.std.proofs.Common.{true≢false, arith, is_some, ◌-◌, ◌⊎◌}

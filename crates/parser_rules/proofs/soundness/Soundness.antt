@@ -21,7 +21,7 @@ use Rattle.document_grammar.specs.Pattern.{member}
 use Rattle.document_grammar.specs.Tree.{Token, Tree, node, Forest, none}
 use Rattle.document_grammar.specs.Derivation.{Sort, document, Spells, nest}
 use Rattle.document_grammar.specs.Beginnings.{StartsWithin}
-use Rattle.document_grammar.specs.Places.{bare}
+use Rattle.document_grammar.specs.Placed.{bare}
 use Rattle.document_grammar.specs.Sentence.{token_of, leaf_number, Sentence, Within}
 use Rattle.document_grammar.specs.Booleans.{◌and◌, ◌or◌}
 use Rattle.grammar_machine.specs.Machine.{holds as within, is_leaf, class, first, opening, second, yields, close as closes_move}

@@ -11,7 +11,6 @@ ghost use Rattle.std.specs.Coded.{codes};
 ghost use Rattle.parser_state.specs.View.{current_of};
 ghost use Rattle.parser_state.specs.Lookahead.{given, looked, shown, spared, all_given};
 
-use super::start::Start;
 use super::tokens::ignored;
 use apollo_lexer::{LexError, Lexer, Steps, Token};
 
@@ -30,18 +29,19 @@ pub struct Reader<'i> {
     lexer: Lexer<'i>,
     ahead: Ahead<'i>,
     steps: Steps,
-    start: Start,
+    // the count before the first item, which contracts alone see
+    start: Steps,
     // what a copy found is the token there
     ghost known: { shown ahead.is_known (current_of ahead.found) (second (answers_left lexer)) ≡ second (answers_left lexer) } by { Prim.hlevel codes },
     // What was cut, and twice the items that are left, are no more than twice all items; those that a copy has cut already are cut only once
     // more.
-    ghost within: { steps.count + 2 * given (answers_left lexer) ≤ start.count + 2 * all_given lexer + spared ahead.is_known (answers_left lexer) },
+    ghost within: { steps.value + 2 * given (answers_left lexer) ≤ start.value + 2 * all_given lexer + spared ahead.is_known (answers_left lexer) },
 }
 
 // The next significant token that the lexer gives.
 fn next_significant<'i>(lexer: Lexer<'i>, steps: &mut Steps) -> Option<Token<'i>>
     ensures found { current_of result ≡ second (answers_left lexer.entry) }
-    ensures count { steps.new.count ≡ steps.old.count + looked (answers_left lexer.entry) }
+    ensures count { steps.new.value ≡ steps.old.value + looked (answers_left lexer.entry) }
 {
     let mut lexer = lexer;
     while let Some(answer) = lexer.next_counted(steps) {
@@ -58,9 +58,9 @@ impl<'i> Reader<'i> {
     /// Reads what the lexer gives, and goes on with this count.
     pub(super) fn new(lexer: Lexer<'i>, steps: Steps) -> Self
         ensures lexer { result.lexer ≡ lexer.entry }
-        ensures start { result.start.count ≡ steps.count }
+        ensures start { result.start.value ≡ steps.value }
     {
-        let start = Start::of(&steps);
+        let start = steps.copied();
         Reader {
             lexer,
             ahead: Ahead {
@@ -81,7 +81,7 @@ impl<'i> Reader<'i> {
 
     /// What was cut.
     pub(super) fn into_steps(self) -> Steps
-        ensures { result.count ≤ self.entry.start.count + 2 * all_given self.entry.lexer }
+        ensures { result.value ≤ self.entry.start.value + 2 * all_given self.entry.lexer }
     {
         self.steps
     }

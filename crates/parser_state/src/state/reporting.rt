@@ -12,6 +12,7 @@ ghost use Rattle.parser_state.specs.View.{report_of};
 ghost use Rattle.parser_state.specs.Parses.{Parses};
 
 use super::ParserState;
+use super::reports::one_more;
 use crate::report::Report;
 use document_grammar::SyntaxKind;
 use lexical_grammar::TokenKind;
@@ -27,7 +28,7 @@ impl<'i, A: Allocator + Copy> ParserState<'i, A> {
     {
         let error = report.to_error(self.alloc)?;
         self.errors.push(error)?;
-        self.reports = self.reports.one_more(&report);
+        self.reports = one_more(&self.reports, &report);
         Ok(())
     }
 

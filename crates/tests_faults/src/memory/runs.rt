@@ -17,16 +17,16 @@ pub fn run_once(
     let mut reader = StdSource::new(source.as_bytes());
     let mut writer = StdSink::new(&mut written);
     heap.refuse(number);
-    let outcome = run(heap, &mut reader, &mut writer, mode, Limits::DEFAULT);
+    let finding = run(heap, &mut reader, &mut writer, mode, Limits::DEFAULT);
     drop(writer);
     let text = String::from_utf8_lossy(alloc, written.as_slice())?;
-    if outcome == Err(Fault::Memory) {
+    if finding == Err(Fault::Memory) {
         return Ok(Attempt {
             given: None,
             beside: text,
         });
     }
-    let given = format!(in alloc; "{outcome:?}\n{text}")?;
+    let given = format!(in alloc; "{finding:?}\n{text}")?;
     Ok(Attempt {
         given: Some(given),
         beside: String::new(alloc),

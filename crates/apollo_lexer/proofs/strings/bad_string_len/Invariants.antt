@@ -1,5 +1,5 @@
 use Rattle.std.proofs.Common.{◌≡◌, ◌-◌, ◌≤◌, length, drop}
-use Rattle.apollo_lexer.specs.Pieces.{read_bad}
+use Rattle.apollo_lexer.specs.StringParts.{read_bad}
 use Rattle.apollo_lexer.proofs.Searches.{longer}
 use Rattle.apollo_lexer.proofs.strings.bad_string_len.Given as goal
 

@@ -2,9 +2,10 @@ use Rattle.std.specs.List.{All, AllPairs}
 use Rattle.editor_answers.specs.Parts.{Encloses, Holds}
 use Rattle.editor_answers.proofs.selecting.selection.Given as goal
 
-abbrev pub invariant-loop-element : goal.invariant-loop-element
-invariant-loop-element l = record {
+abbrev pub invariant-loop-node : goal.invariant-loop-node
+invariant-loop-node l = record {
   holds : All (Holds l.offset) l.parts.items;
-  nests : AllPairs Encloses l.parts.items;
-  smallest : All (λ part. Encloses part l.smallest) l.parts.items;
+  nests : AllPairs (λ part outer. Encloses outer part) l.parts.items;
+  within : All (λ part. Encloses l.largest part) l.parts.items;
+  here : Holds l.offset l.largest;
 }

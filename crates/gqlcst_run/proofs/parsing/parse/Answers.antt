@@ -1,5 +1,5 @@
 use Rattle.std.proofs.Common.{◌∙◌, length, ap}
-use Rattle.gqlcst_run.specs.Parsing.{outcome_of}
+use Rattle.gqlcst_run.specs.Parsing.{finding_of}
 use Rattle.gqlcst_run.proofs.parsing.parse.Goals as goal
 
 pub returns : goal.returns
@@ -14,5 +14,5 @@ returns g c =
       ascii = rw source at parsed.ascii;
       accepted = λ none. record { tree = _; sentence = (sound none).0; within = (sound none).1 };
       accepts = λ a. accepts a.tree a.sentence a.within;
-      counted = c.outcome_of-outcome.ensures ∙ ap outcome_of (c.len.ensures.value ∙ ap length c.errors.ensures);
+      counted = c.finding_of-finding.ensures ∙ ap finding_of (c.len.ensures.value ∙ ap length c.errors.ensures);
     }

@@ -8,9 +8,9 @@ use Rattle.gqlcst_run.proofs.program.run.Goals as goal
 -- what the writer did where it failed or took no byte
 pub returns-in_err-finish : goal.returns-in_err-finish
 returns-in_err-finish g c =
-    let put = c.in_ok-outcome.ensures.ok in
+    let put = c.in_ok-finding.ensures.ok in
     let all = put-all _ _ _ _ _ c.new-page.ensures put.puts in
-    let k = cut (IsOutput c.args.mode c.args.limits) c.in_err-finish.field-0.0 c.in_ok-outcome.outcome c.in_ok-bytes.bytes.items c.as_slice.result.now
+    let k = cut (IsOutput c.args.mode c.args.limits) c.in_err-finish.field-0.0 c.in_ok-finding.finding c.in_ok-bytes.bytes.items c.as_slice.result.now
     c.in-Ok.source.now
     put.output put.output _ _ _ _ c.in_ok-bytes.ensures.ok c.as_slice.ensures.value c.in-Ok.ensures.cases put.made refl (c.in_err-finish.ensures _ _ all) in
     let p = err_from_is_err_and c.from_residual-in_err-finish.result c.from_residual-in_err-finish.ensures.1 in
@@ -19,11 +19,11 @@ returns-in_err-finish g c =
 -- all is written
 pub returns : goal.returns
 returns g c =
-    let put = c.in_ok-outcome.ensures.ok in
+    let put = c.in_ok-finding.ensures.ok in
     let all = put-all _ _ _ _ _ c.new-page.ensures put.puts in (
       c.in_ok-bytes.bytes.items,
       c.in_ok-bytes.ensures.ok,
-      whole (IsOutput c.args.mode c.args.limits) c.in_ok-outcome.outcome c.in_ok-bytes.bytes.items c.as_slice.result.now c.in-Ok.source.now put.output _ _
+      whole (IsOutput c.args.mode c.args.limits) c.in_ok-finding.finding c.in_ok-bytes.bytes.items c.as_slice.result.now c.in-Ok.source.now put.output _ _
           c.as_slice.ensures.value
           c.in-Ok.ensures.cases put.made (c.in_ok-finish.ensures _ _ all),
     )

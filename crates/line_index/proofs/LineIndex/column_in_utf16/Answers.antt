@@ -1,18 +1,18 @@
 use Rattle.std.proofs.Common.{◌≡◌, ◌-◌, ℕ, ap, arith}
 use Rattle.line_index.specs.Columns.{utf16_len}
-use Rattle.line_index.specs.Places.{line_start}
+use Rattle.line_index.specs.Lines.{line_start}
 use Rattle.std.specs.Prelude.{slice_range}
 use Rattle.line_index.proofs.MarkLemmas.{units-slice}
 use Rattle.line_index.proofs.LineIndex.column_in_utf16.Goals as goal
 
 pub overflow_sub-result : goal.overflow_sub-result
 overflow_sub-result g c =
-    let start = c.args.offset - c.place.result.column in
+    let start = c.args.offset - c.line_column.result.column in
     omega (arith, c.units_before.ensures, c.units_before-2.ensures, units-slice c.args.self.now start c.args.offset (omega arith))
 
 pub returns : goal.returns
 returns g c =
-    let start : ℕ = c.args.offset - c.place.result.column in
-    let begin : line_start c.args.self.now c.args.offset ≡ start = omega (arith, c.place.ensures.column) in
+    let start : ℕ = c.args.offset - c.line_column.result.column in
+    let begin : line_start c.args.self.now c.args.offset ≡ start = omega (arith, c.line_column.ensures.column) in
     let at = ap (λ (s : ℕ). utf16_len (slice_range c.args.self.now s c.args.offset)) begin in
     omega (arith, at, c.units_before.ensures, c.units_before-2.ensures, units-slice c.args.self.now start c.args.offset (omega arith))

@@ -1,7 +1,7 @@
 use Rattle.std.proofs.Common.{◌≡◌, ◌+◌, ◌<◌, ◌≤◌, List, ℕ, length, take, ap, subst, sym, ◌∙◌, arith}
 use Rattle.std.specs.Str.{IsUtf8, IsCharBoundary}
 use Rattle.std.proofs.lemmas.Str.{IsUtf8-had}
-use Rattle.line_index.specs.Places.{line_at}
+use Rattle.line_index.specs.Lines.{line_at}
 use Rattle.line_index.specs.Positions.{units, place_of}
 use Rattle.line_index.specs.declared.PositionEncoding.{PositionEncoding}
 use Rattle.line_index.proofs.TextLemmas.{beyond}

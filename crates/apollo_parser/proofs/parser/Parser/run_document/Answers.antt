@@ -50,12 +50,12 @@ returns-clause-run g c =
 
 pub returns-in-Err-clause-lookahead : goal.returns-in-Err-clause-lookahead
 returns-in-Err-clause-lookahead g c =
-    twice _ _ _ (ap (λ s. s.count) c.replace-before.ensures.value) c.start-p.ensures.unread c.read_document.ensures.budget c.into_steps.ensures
+    twice _ _ _ (ap (λ s. s.value) c.replace-before.ensures.value) c.start-p.ensures.unread c.read_document.ensures.budget c.into_steps.ensures
 
 pub returns-in_err-finished-clause-lookahead : goal.returns-in_err-finished-clause-lookahead
 returns-in_err-finished-clause-lookahead g c =
-    twice _ _ _ (ap (λ s. s.count) c.replace-before.ensures.value) c.start-p.ensures.unread c.read_document.ensures.budget c.finish.ensures.steps
+    twice _ _ _ (ap (λ s. s.value) c.replace-before.ensures.value) c.start-p.ensures.unread c.read_document.ensures.budget c.finish.ensures.steps
 
 pub returns-clause-lookahead : goal.returns-clause-lookahead
 returns-clause-lookahead g c =
-    twice _ _ _ (ap (λ s. s.count) c.replace-before.ensures.value) c.start-p.ensures.unread c.read_document.ensures.budget c.finish.ensures.steps
+    twice _ _ _ (ap (λ s. s.value) c.replace-before.ensures.value) c.start-p.ensures.unread c.read_document.ensures.budget c.finish.ensures.steps

@@ -17,8 +17,8 @@ push_both_in_place-requires-clause-second g c = is-new _ _ _ c.leaf-second.ensur
 pub invariant_of-self : goal.invariant_of-self
 invariant_of-self g c =
     let h = holds c.self.view_is c.self.invariant.0 in
-    let l : length c.joined-self-inside.result.bytes ≡ length c.self.inside.words.bytes + length c.args.text.now = ap length c.joined-self-inside.ensures
-    ∙ length-append c.self.inside.words.bytes c.args.text.now in (
+    let l : length c.joined-self-inside.result.value ≡ length c.self.inside.leaf_text.value + length c.args.text.now = ap length c.joined-self-inside.ensures
+    ∙ length-append c.self.inside.leaf_text.value c.args.text.now in (
       kept (moved (leaf-node-table c.args.node c.args.leaf c.args.text.now c.self.inside.len c.to_parent-to_parent.result c.checkpoint.result.place h.parts
           c.self.invariant.1 c.checkpoint.ensures.place c.to_parent-to_parent.ensures.up)
           (c.if-push_both_in_place.ensures ∙ ap₂ (λ r s. c.self.inside.records ++ r ∷ s ∷ []) c.node-first.ensures c.leaf-second.ensures) refl

@@ -1,6 +1,6 @@
 use Rattle.std.proofs.Common.{◌∙◌, ap, arith, length, refl}
 use Rattle.apollo_parser.specs.LexerAnswers.{answers_left}
-use Rattle.gqlcst_run.specs.Parsing.{outcome_of}
+use Rattle.gqlcst_run.specs.Parsing.{finding_of}
 use Rattle.gqlcst_run.proofs.Items.{none_put, errors-within, item_put, all-printed}
 use Rattle.gqlcst_run.proofs.rendering.tokens.put_tokens.Goals as goal
 
@@ -24,9 +24,9 @@ returns-clause-lines g c =
     before.made in
     record { output = before.output; made = all.0; puts = before.puts }
 
-pub returns-clause-outcome : goal.returns-clause-outcome
-returns-clause-outcome g c =
+pub returns-clause-finding : goal.returns-clause-finding
+returns-clause-finding g c =
     let before = c.loop-item.invariant in
     let all = all-printed _ _ _ _ before.output (ap answers_left c.into_iter-item-iterator.ensures.into_iter_gives) c.in-None.ensures.steps.answers.0
     before.made in
-    c.outcome_of.ensures ∙ ap outcome_of all.1
+    c.finding_of.ensures ∙ ap finding_of all.1

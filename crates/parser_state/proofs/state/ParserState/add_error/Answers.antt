@@ -11,7 +11,7 @@ pub invariant_of-self : goal.invariant_of-self
 invariant_of-self g c = (
   c.self.invariant.0,
   c.self.invariant.1,
-  subst (λ (ds : List Diagnostic). ∥ AllZip IsErrorOf c.self.inside.reports.list ds ∥₁)
+  subst (λ (ds : List Diagnostic). ∥ AllZip IsErrorOf c.self.inside.reports.value ds ∥₁)
       (sym c.in_err-push.ensures.items) c.self.invariant.2,
 )
 

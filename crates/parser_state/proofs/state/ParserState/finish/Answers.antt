@@ -39,4 +39,4 @@ finish-requires g c =
 pub returns-clause-errors : goal.returns-clause-errors
 returns-clause-errors g c =
     subst (λ (rs : List Report). AllZip IsErrorOf rs c.self.inside.errors.items) (ap (λ (s : State). s.errors) c.self.view_is)
-    (errors-had c.self.inside.reports.list c.self.inside.errors.items c.self.invariant.2)
+    (errors-had c.self.inside.reports.value c.self.inside.errors.items c.self.invariant.2)

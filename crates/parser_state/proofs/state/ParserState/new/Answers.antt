@@ -6,5 +6,5 @@ pub invariant_of-result : goal.invariant_of-result
 invariant_of-result g c = (
   tt,
   begun-length c.args.lexer _ _ _ c.new.ensures.lexer c.new-2.ensures c.new-3.ensures.items,
-  no-errors _ _ c.new-5.ensures c.new-4.ensures.items,
+  no-errors _ _ c.no_reports.ensures c.new-4.ensures.items,
 )

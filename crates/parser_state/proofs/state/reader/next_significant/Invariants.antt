@@ -7,7 +7,7 @@ use Rattle.parser_state.proofs.state.reader.next_significant.Given as goal
 abbrev pub invariant-loop-answer : goal.invariant-loop-answer
 invariant-loop-answer l =
     (second (answers_left l.initial.lexer) ≡ second (answers_left l.lexer))
-    × (l.initial.steps.count + looked (answers_left l.initial.lexer) ≡ l.steps.count + looked (answers_left l.lexer))
+    × (l.initial.steps.value + looked (answers_left l.initial.lexer) ≡ l.steps.value + looked (answers_left l.lexer))
 
 abbrev pub decreases-loop-answer : goal.decreases-loop-answer
 decreases-loop-answer l = length (answers_left l.lexer)

@@ -12,7 +12,7 @@ invariant_of-self-then-is_none c =
     let taken = rw c.in-Ok.is at c.in_ok-answer.ensures.answers in
     let n = rw c.in-Ok.is at c.in_ok-answer.ensures.count in
     let is = c.ignored.ensures ∙ ap ignored c.kind.ensures in
-    let m : ℕ = s.start.count + 2 * all_given s.lexer in
+    let m : ℕ = s.start.value + 2 * all_given s.lexer in
     let k = after-token s.ahead.is_known _ _ _ _ _ c.ignored.result _ _ m taken is c.if-is_none.ensures n s.within in
     record { known = refl; within = omega (arith, k, all) }
 
@@ -23,7 +23,7 @@ invariant_of-self-else-is_none c =
     let taken = rw c.in-Ok.is at c.in_ok-answer.ensures.answers in
     let n = rw c.in-Ok.is at c.in_ok-answer.ensures.count in
     let is = c.ignored.ensures ∙ ap ignored c.kind.ensures in
-    let m : ℕ = s.start.count + 2 * all_given s.lexer in
+    let m : ℕ = s.start.value + 2 * all_given s.lexer in
     let k = after-ignored s.ahead.is_known _ _ _ _ _ c.ignored.result _ _ m taken is c.if-is_none.ensures n s.within in
     record {
       known = still-shown s.ahead.is_known _ _ _ (second-ignored _ _ _ _ _ c.ignored.result taken is c.if-is_none.ensures) s.known;
@@ -36,6 +36,6 @@ invariant_of-self-in_default c =
     let all : all_given c.next_counted.new.self ≡ all_given s.lexer = ap₂ min c.next_counted.ensures.high c.next_counted.ensures.limit in
     let taken = rw c.in_default.is at c.in_ok-answer.ensures.answers in
     let n = rw c.in_default.is at c.in_ok-answer.ensures.count in
-    let m : ℕ = s.start.count + 2 * all_given s.lexer in
+    let m : ℕ = s.start.value + 2 * all_given s.lexer in
     let k = after-bad s.ahead.is_known _ _ _ _ _ _ _ m taken n s.within in
     record { known = still-shown s.ahead.is_known _ _ _ (second-bad _ _ _ _ _ taken) s.known; within = omega (arith, k, all) }
