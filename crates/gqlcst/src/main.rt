@@ -4,9 +4,6 @@
 //! limits. Here are only the words, the standard devices and the exit status. What is done between them is `run` of `gqlcst_run`.
 #![tactic(auto)]
 
-#[cfg(test)]
-mod tests;
-
 use byte_devices::{StdSink, StdSource};
 use gqlcst_run::ending::{USAGE, ending};
 use gqlcst_run::{Limits, Mode, options, run};

@@ -1,10 +1,10 @@
 // Notices of errors, as the Language Server Protocol has them.
-use crate::messages::expect;
+use crate::messages::put_body;
+use crate::printing::put;
 use apollo_lexer::{Error, static_error};
 use editor_diagnostics::{Places, publication, withdrawal};
 use line_index::{Position, PositionEncoding};
 use std::alloc::{AllocError, Global};
-use std::process::Abort;
 use std::slice;
 
 // The first character takes 4 bytes, and 2 units of UTF-16.
@@ -32,74 +32,41 @@ fn one_error(alloc: Global) -> Result<Vec<u8>, AllocError> {
     )
 }
 
-const PUBLISHED: &str =
-    r#"{"jsonrpc":"2.0","method":"textDocument/publishDiagnostics","params":{"uri":"a","version":3,"diagnostics":[{"range":{"start":{"line":0,"character":2},"end":{"line":0,"character":3}},"severity":1,"source":"gqlls","message":"no"}]}}"#;
-
-#[test]
-fn publishes_errors(rt: HostRuntime) -> Result<(), AllocError> {
-    expect(&rt, one_error(rt.alloc())?, PUBLISHED);
-    Ok(())
-}
-
-const WITHDRAWN: &str =
-    r#"{"jsonrpc":"2.0","method":"textDocument/publishDiagnostics","params":{"uri":"a","diagnostics":[]}}"#;
-
-#[test]
-fn takes_errors_back(rt: HostRuntime) -> Result<(), AllocError> {
-    expect(&rt, withdrawal(rt.alloc(), "a")?, WITHDRAWN);
-    Ok(())
-}
-
-#[test]
-fn finds_an_offset(rt: HostRuntime) -> Result<(), AllocError> {
-    let places = Places::new(rt.alloc(), TEXT, PositionEncoding::Utf8)?;
-    assert!(rt; places.offset(Position { line: 1, column: 0 }) == 6);
-    Ok(())
-}
-
-// So many errors at the end of the text.
+// That number of errors at the end of the text.
 fn errors_at_the_end(alloc: Global, count: usize) -> Result<Vec<Error>, AllocError> {
     let mut errors = Vec::new(alloc);
     errors.resize_with(count, || Error::eof_from_static("end", 7))?;
     Ok(errors)
 }
 
-fn expect_end(rt: &impl Abort, body: Vec<u8>, wanted: &str) {
-    assert!(rt; body.as_slice().ends_with(wanted.as_bytes()));
-}
-
-// The end of a notice of 103 errors.
-const THREE_MORE: &str =
-    r#""character":0}},"severity":1,"source":"gqlls","message":"3 more errors"}]}}"#;
-
-// The end of a notice of 101 errors.
-const ONE_MORE: &str =
-    r#""character":0}},"severity":1,"source":"gqlls","message":"1 more error"}]}}"#;
-
-fn check_more(
-    rt: &impl Abort,
+// The last bytes of a notice of errors, which say how many more there are.
+fn put_more(
     alloc: Global,
-    count: usize,
-    wanted: &str,
+    found: &mut String,
+    (count, bytes): (usize, usize),
 ) -> Result<(), AllocError> {
     let errors = errors_at_the_end(alloc, count)?;
     let body = notice_of(alloc, PositionEncoding::Utf8, None, errors.as_slice())?;
-    expect_end(rt, body, wanted);
-    Ok(())
-}
-
-#[test]
-fn says_how_many_more(rt: HostRuntime) -> Result<(), AllocError> {
-    check_more(&rt, rt.alloc(), 103, THREE_MORE)?;
-    check_more(&rt, rt.alloc(), 101, ONE_MORE)
+    let start = body.len().saturating_sub(bytes);
+    put_body(alloc, found, Vec::from_slice(alloc, &body[start..])?)
 }
 
 // No column of a client is between a CR and its LF: the line ends in front of them.
-#[test]
-fn ends_a_line_in_front_of_its_end(rt: HostRuntime) -> Result<(), AllocError> {
-    let places = Places::new(rt.alloc(), "a\r\nb", PositionEncoding::Utf16)?;
-    let end = places.position(2);
-    assert!(rt; end.line == 0);
-    assert!(rt; end.column == 1);
-    Ok(())
+fn put_line_end(alloc: Global, found: &mut String) -> Result<(), AllocError> {
+    let places = Places::new(alloc, "a\r\nb", PositionEncoding::Utf16)?;
+    put(found, &places.position(2), "\n")
+}
+
+fn put_offset(alloc: Global, found: &mut String) -> Result<(), AllocError> {
+    let places = Places::new(alloc, TEXT, PositionEncoding::Utf8)?;
+    put(found, &places.offset(Position { line: 1, column: 0 }), "\n")
+}
+
+pub fn put_answers(alloc: Global, found: &mut String) -> Result<(), AllocError> {
+    put_body(alloc, found, one_error(alloc)?)?;
+    put_body(alloc, found, withdrawal(alloc, "a")?)?;
+    put_more(alloc, found, (103, 75))?;
+    put_more(alloc, found, (101, 74))?;
+    put_line_end(alloc, found)?;
+    put_offset(alloc, found)
 }

@@ -1,8 +1,8 @@
 // Messages and their answers, as JSON-RPC 2.0 has them.
+use crate::printing::put;
 use json::Value;
 use rpc_messages::{Piece, Reply, Service, answer, code, handle, notice, refusal};
 use std::alloc::{AllocError, Global};
-use std::process::Abort;
 
 // Knows no method but `exit`.
 #[derive(Drop)]
@@ -45,50 +45,18 @@ fn answer_to(alloc: Global, body: &str) -> Result<Vec<u8>, AllocError> {
     }
 }
 
-pub(crate) fn expect(rt: &impl Abort, body: Vec<u8>, wanted: &str) {
-    assert!(rt; body.as_slice() == wanted.as_bytes());
+/// A body in its printed form.
+pub(crate) fn put_body(alloc: Global, found: &mut String, body: Vec<u8>) -> Result<(), AllocError> {
+    let text = String::from_utf8_lossy(alloc, body.as_slice())?;
+    put(found, &text.as_str(), "\n")
 }
 
-const REQUEST: &str = r#"{"jsonrpc":"2.0","id":7,"method":"x"}"#;
-
-const REFUSED: &str = r#"{"jsonrpc":"2.0","id":7,"error":{"code":-32601,"message":"no"}}"#;
-
-const NOTIFICATION: &str = r#"{"jsonrpc":"2.0","method":"x"}"#;
-
-const NOT_JSON: &str =
-    r#"{"jsonrpc":"2.0","id":null,"error":{"code":-32700,"message":"not JSON"}}"#;
-
-#[test]
-fn messages(rt: HostRuntime) -> Result<(), AllocError> {
-    expect(&rt, answer_to(rt.alloc(), REQUEST)?, REFUSED);
-    expect(&rt, answer_to(rt.alloc(), NOTIFICATION)?, "");
-    expect(&rt, answer_to(rt.alloc(), "{")?, NOT_JSON);
-    Ok(())
-}
-
-const ANSWERED: &str = r#"{"jsonrpc":"2.0","id":"a","result":[1,20]}"#;
-
-// What JSON-RPC says where there is no result.
-const FAILED: &str =
-    r#"{"jsonrpc":"2.0","id":"a","error":{"code":-32603,"message":"internal error"}}"#;
-
-#[test]
-fn answers_by_pieces(rt: HostRuntime) -> Result<(), AllocError> {
-    let id = Value::String("a");
-    expect(
-        &rt,
-        answer(rt.alloc(), &id, &[Piece::Counts(&[1, 20])])?,
-        ANSWERED,
-    );
-    expect(
-        &rt,
-        answer(rt.alloc(), &id, &[Piece::Array, Piece::EndObject])?,
-        FAILED,
-    );
-    Ok(())
-}
-
-const NOTICED: &str = r#"{"jsonrpc":"2.0","method":"x","params":{"a":true}}"#;
+// A request, a notification, and what is not JSON.
+const MESSAGES: [&str; 3] = [
+    r#"{"jsonrpc":"2.0","id":7,"method":"x"}"#,
+    r#"{"jsonrpc":"2.0","method":"x"}"#,
+    "{",
+];
 
 const PARAMS: [Piece<'static>; 4] = [
     Piece::Object,
@@ -97,8 +65,29 @@ const PARAMS: [Piece<'static>; 4] = [
     Piece::EndObject,
 ];
 
-#[test]
-fn notices_by_pieces(rt: HostRuntime) -> Result<(), AllocError> {
-    expect(&rt, notice(rt.alloc(), "x", &PARAMS)?, NOTICED);
-    Ok(())
+// The pieces of the second are no value: then there is the error that JSON-RPC has where there is no result.
+fn put_pieces(alloc: Global, found: &mut String) -> Result<(), AllocError> {
+    let id = Value::String("a");
+    put_body(
+        alloc,
+        found,
+        answer(alloc, &id, &[Piece::Counts(&[1, 20])])?,
+    )?;
+    put_body(
+        alloc,
+        found,
+        answer(alloc, &id, &[Piece::Array, Piece::EndObject])?,
+    )
+}
+
+fn put_notice(alloc: Global, found: &mut String) -> Result<(), AllocError> {
+    put_body(alloc, found, notice(alloc, "x", &PARAMS)?)
+}
+
+pub fn put_answers(alloc: Global, found: &mut String) -> Result<(), AllocError> {
+    for message in MESSAGES {
+        put_body(alloc, found, answer_to(alloc, message)?)?;
+    }
+    put_pieces(alloc, found)?;
+    put_notice(alloc, found)
 }

@@ -1,9 +1,9 @@
 // Conversations through a reader and a writer of these tests, which fail or end at a chosen point.
-use crate::messages::Refuses;
-use byte_devices::{DeviceError, Fault, Sink, Source, Trace};
+use crate::messages::{Refuses, put_body};
+use crate::printing::put;
+use byte_devices::{DeviceError, Sink, Source, Trace};
 use rpc_serving::serve;
-use std::alloc::Global;
-use std::process::Abort;
+use std::alloc::{AllocError, Global};
 
 // Gives bytes, at most `piece` a call, and then it ends, or fails.
 #[derive(Drop)]
@@ -56,14 +56,8 @@ impl Sink for Page {
     }
 }
 
-// What a client sends, whether the reader fails after it, the room of the writer, how the run ends, and the bytes that are written.
-struct Row {
-    input: &'static str,
-    fails: bool,
-    room: usize,
-    end: Result<u8, Fault>,
-    said: &'static str,
-}
+// What a client sends, whether the reader fails after it, and the room of the writer.
+type Row = (&'static str, bool, usize);
 
 // A request.
 const ASKS: &str = "Content-Length: 37\r\n\r\n{\"jsonrpc\":\"2.0\",\"id\":7,\"method\":\"x\"}";
@@ -72,62 +66,41 @@ const ASKS: &str = "Content-Length: 37\r\n\r\n{\"jsonrpc\":\"2.0\",\"id\":7,\"me
 const ASKS_AND_EXITS: &str =
     "Content-Length: 37\r\n\r\n{\"jsonrpc\":\"2.0\",\"id\":7,\"method\":\"x\"}no frame\r\n\r\nContent-Length: 33\r\n\r\n{\"jsonrpc\":\"2.0\",\"method\":\"exit\"}Content-Length: 2\r\n\r\n{}";
 
-const ANSWER: &str =
-    "Content-Length: 63\r\n\r\n{\"jsonrpc\":\"2.0\",\"id\":7,\"error\":{\"code\":-32601,\"message\":\"no\"}}";
-
 const ROWS: [Row; 4] = [
-    Row {
-        input: ASKS_AND_EXITS,
-        fails: false,
-        room: 1000,
-        end: Ok(3),
-        said: ANSWER,
-    },
-    Row {
-        input: ASKS,
-        fails: false,
-        room: 1000,
-        end: Ok(1),
-        said: ANSWER,
-    },
-    Row {
-        input: ASKS,
-        fails: true,
-        room: 1000,
-        end: Err(Fault::Read),
-        said: ANSWER,
-    },
-    Row {
-        input: ASKS,
-        fails: false,
-        room: 9,
-        end: Err(Fault::Write),
-        said: "Content-L",
-    },
+    (ASKS_AND_EXITS, false, 1000),
+    (ASKS, false, 1000),
+    (ASKS, true, 1000),
+    (ASKS, false, 9),
 ];
 
-// Serves a row's input, at most `piece` bytes a read.
-fn check_row(rt: &impl Abort, alloc: Global, row: &Row, piece: usize) {
+// How the run ends at most `piece` bytes a read, and what is written.
+fn put_served(
+    alloc: Global,
+    found: &mut String,
+    (input, fails, room): Row,
+    piece: usize,
+) -> Result<(), AllocError> {
     let mut reader = Pieces {
-        rest: row.input.as_bytes(),
+        rest: input.as_bytes(),
         piece,
-        fails: row.fails,
+        fails,
         trace: Trace::new(),
     };
     let mut writer = Page {
         taken: Vec::new(alloc),
-        room: row.room,
+        room,
         trace: Trace::new(),
     };
     let end = serve(alloc, &mut Refuses, &mut reader, &mut writer);
-    assert!(rt; end == row.end);
-    assert!(rt; writer.taken.as_slice() == row.said.as_bytes());
+    put(found, &end, " ")?;
+    let Page { taken, .. } = writer;
+    put_body(alloc, found, taken)
 }
 
-#[test]
-fn serves(rt: HostRuntime) {
-    for row in &ROWS {
-        check_row(&rt, rt.alloc(), row, 1);
-        check_row(&rt, rt.alloc(), row, 200);
+pub fn put_answers(alloc: Global, found: &mut String) -> Result<(), AllocError> {
+    for row in ROWS {
+        put_served(alloc, found, row, 1)?;
+        put_served(alloc, found, row, 200)?;
     }
+    Ok(())
 }

@@ -1,16 +1,15 @@
 // The formatter's program over words, texts and files of these tests, and the changes that it shows.
+use crate::printing::put;
 use byte_devices::{StdSink, StdSource};
 use gqlfmt_run::{Formatter, StdFiles, run, unified_diff};
-use std::alloc::{Allocator, Global};
+use std::alloc::{AllocError, Allocator, Global};
 use std::cell::Cell;
 use std::fs::{Metadata, OpenFile, OpenOptions, Permissions};
 use std::io::{self, ErrorKind, PipeReader, PipeWriter, Read, Seek, SeekFrom, Write};
 use std::os::fd::BorrowedFd;
 use std::os::unix::net::SocketAddr;
 use std::path::{Path, PathBuf};
-use std::process::Abort;
 use std::rt;
-use std::test::Fail;
 
 // A disk with one file. Its calls are counted down, and one fails when none is left.
 #[derive(Drop)]
@@ -249,100 +248,86 @@ fn run_over(alloc: Global, disk: &Disk, input: &[u8], words: &[&str]) -> Ran {
     }
 }
 
-fn expect_ran(rt: &(impl Abort + AllocGlobal), ran: &Ran, ended: u8, written: &str, told: &str) {
-    assert!(rt; ran.ended == ended);
-    assert!(rt; ran.written.as_slice() == written.as_bytes());
-    assert!(rt; ran.told.as_slice() == told.as_bytes());
-}
-
-#[test]
-fn formats_standard_input(rt: HostRuntime) {
-    let ran = run_over(rt.alloc(), &Disk::new(0), b"{a}", &[]);
-    expect_ran(&rt, &ran, 0, "{\n  a\n}\n", "");
+fn put_ran(alloc: Global, found: &mut String, ran: &Ran) -> Result<(), AllocError> {
+    let written = String::from_utf8_lossy(alloc, ran.written.as_slice())?;
+    let told = String::from_utf8_lossy(alloc, ran.told.as_slice())?;
+    put(found, &ran.ended, " ")?;
+    put(found, &written.as_str(), " ")?;
+    put(found, &told.as_str(), "\n")
 }
 
 // `{a}` has four tokens with its end, and seven when white space parts them.
-#[test]
-fn never_writes_what_it_refuses(rt: HostRuntime) {
-    let ran = run_over(rt.alloc(), &Disk::new(0), b"{a}", &["--tokens", "4"]);
-    let told = "gqlfmt: <stdin>: it would have more tokens than allowed when formatted\n";
-    expect_ran(&rt, &ran, 1, "", told);
-    let disk = Disk::new(u8::MAX);
-    let ran = run_over(rt.alloc(), &disk, b"", &["--tokens", "4", "a"]);
-    assert!(rt; ran.ended == 1);
-    assert!(rt; !disk.is_replaced.get());
-    for text in [b"{a}".as_slice(), b"{\n  a\n}\n".as_slice()] {
-        let ran = run_over(rt.alloc(), &Disk::new(0), text, &["--tokens", "7"]);
-        expect_ran(&rt, &ran, 0, "{\n  a\n}\n", "");
+const INPUTS: [(&str, &[&str]); 4] = [
+    ("{a}", &[]),
+    ("{a}", &["--tokens", "4"]),
+    ("{a}", &["--tokens", "7"]),
+    ("{\n  a\n}\n", &["--tokens", "7"]),
+];
+
+fn put_inputs(alloc: Global, found: &mut String) -> Result<(), AllocError> {
+    for (input, words) in INPUTS {
+        let ran = run_over(alloc, &Disk::new(0), input.as_bytes(), words);
+        put_ran(alloc, found, &ran)?;
     }
+    Ok(())
 }
 
-// Formats a file of a disk that fails after a number of calls, and gives whether it did.
-fn expect_whole(rt: &(impl Abort + AllocGlobal), calls: u8) -> bool {
-    let disk = Disk::new(calls);
-    let ended = run_over(rt.alloc(), &disk, b"", &["a"]).ended;
-    assert!(rt; !disk.is_new_file_there.get());
-    assert!(rt; disk.is_replaced.get() == (ended == 0));
-    assert!(rt; disk.written.get() == 8 || ended != 0);
-    assert!(rt; ended == 0 || ended == 2);
-    ended == 0
+// A run that replaces no file.
+fn put_unreplaced(
+    alloc: Global,
+    found: &mut String,
+    disk: &Disk,
+    words: &[&str],
+) -> Result<(), AllocError> {
+    let ran = run_over(alloc, disk, b"", words);
+    put_ran(alloc, found, &ran)?;
+    put(
+        found,
+        &disk.is_replaced.get(),
+        " is whether it is replaced\n",
+    )
 }
 
-#[test]
-fn leaves_a_file_whole(rt: HostRuntime) {
-    let mut done = 0u8;
-    for calls in 0..20 {
-        if expect_whole(&rt, calls) {
-            done = done.wrapping_add(1);
-        }
-    }
-    assert!(rt; done > 5);
-}
-
-#[test]
-fn names_a_file_that_is_left_over(rt: HostRuntime) {
+// A file whose formatted text would be refused, and one with a new file beside it that an earlier run has left over.
+fn put_refused(alloc: Global, found: &mut String) -> Result<(), AllocError> {
+    put_unreplaced(alloc, found, &Disk::new(u8::MAX), &["--tokens", "4", "a"])?;
     let disk = Disk::new(u8::MAX);
     disk.is_left_over.set(true);
-    let ran = run_over(rt.alloc(), &disk, b"", &["b/a"]);
-    expect_ran(
-        &rt,
-        &ran,
-        2,
-        "",
-        "gqlfmt: b/a: cannot replace: entity already exists\ngqlfmt: b/.a.gqlfmt: left over from an earlier run: remove it\n",
-    );
-    assert!(rt; !disk.is_replaced.get());
+    put_unreplaced(alloc, found, &disk, &["b/a"])
 }
 
-#[test]
-fn shows_changes(rt: HostRuntime) -> Result<(), Fail> {
-    let old = "one\ntwo\nthree\nfour\nfive\nsix\nseven\neight\nnine\nten\neleven\ntwelve\n";
-    let new = "one\nTWO\nthree\n3.5\nfour\nfive\nsix\nseven\neight\nnine\nten\neleven?\ntwelve";
-    let diff = unified_diff(rt.alloc(), "f", old, new)?;
-    // what GNU diff 3.8 writes with the option -u
-    assert_eq!(rt;
-        diff.as_str(),
-        "--- f
-+++ f
-@@ -1,6 +1,7 @@
- one
--two
-+TWO
- three
-+3.5
- four
- five
- six
-@@ -8,5 +9,5 @@
- eight
- nine
- ten
--eleven
--twelve
-+eleven?
-+twelve
-\\ No newline at end of file
-"
-    );
-    Ok(())
+// Whether a run over a disk that fails after a number of calls ends well; nothing where it does not leave the file whole.
+fn ends_well(alloc: Global, calls: u8) -> Option<bool> {
+    let disk = Disk::new(calls);
+    let ended = run_over(alloc, &disk, b"", &["a"]).ended;
+    let is_replaced = disk.is_replaced.get();
+    match ended {
+        _ if disk.is_new_file_there.get() => None,
+        0 if is_replaced && disk.written.get() == 8 => Some(true),
+        2 if !is_replaced => Some(false),
+        _ => None,
+    }
+}
+
+fn put_failing_disks(alloc: Global, found: &mut String) -> Result<(), AllocError> {
+    let mut done = 0u8;
+    for calls in 0..20 {
+        match ends_well(alloc, calls) {
+            Some(well) => done = done.wrapping_add(u8::from(well)),
+            None => put(found, &calls, " calls leave the file neither old nor new\n")?,
+        }
+    }
+    put(found, &(done > 5), " is whether more than five end well\n")
+}
+
+const OLD: &str = "one\ntwo\nthree\nfour\nfive\nsix\nseven\neight\nnine\nten\neleven\ntwelve\n";
+
+const NEW: &str = "one\nTWO\nthree\n3.5\nfour\nfive\nsix\nseven\neight\nnine\nten\neleven?\ntwelve";
+
+/// What the formatter's program does; and the changes that it shows, which are what GNU diff 3.8 writes with the option -u.
+pub fn put_answers(alloc: Global, found: &mut String) -> Result<(), AllocError> {
+    put_inputs(alloc, found)?;
+    put_refused(alloc, found)?;
+    put_failing_disks(alloc, found)?;
+    write!(found, "{}", unified_diff(alloc, "f", OLD, NEW)?)
 }

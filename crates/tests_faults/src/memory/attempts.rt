@@ -2,8 +2,10 @@
 use super::runs::run_once;
 use super::{Attempt, Heap};
 use crate::parsing::{parse, parse_selections, parse_type};
-use apollo_parser::cst::{Definition, Selection, StringValue, Value};
-use apollo_parser::{DocumentRoot, Lexer, Parser, Root, SyntaxNode, SyntaxTree, TokenText};
+use apollo_parser::cst::{Definition, Document, Selection, StringValue, Value};
+use apollo_parser::{
+    DocumentRoot, Error, Lexer, Parser, Root, SyntaxNode, SyntaxTree, Token, TokenText,
+};
 use gqlcst_run::Mode;
 use std::alloc::{AllocError, Global};
 use std::fmt::Write;
@@ -36,37 +38,32 @@ pub enum Call {
     Tree,
 }
 
-fn lex(heap: &Heap, alloc: Global, source: &str, number: u64) -> Result<Attempt, AllocError> {
-    heap.refuse(number);
-    let answer = Lexer::new(source).lex(heap);
-    let beside = String::new(alloc);
-    let Ok((tokens, errors)) = answer else {
-        return Ok(Attempt {
-            given: None,
-            beside,
-        });
-    };
-    let mut printed = String::new(alloc);
-    for token in &tokens {
+// The tokens, and then the errors.
+fn put_lists(
+    printed: &mut String,
+    tokens: &[Token<'_>],
+    errors: &[Error<&Heap>],
+) -> Result<(), AllocError> {
+    for token in tokens {
         writeln!(printed, "{token}")?;
     }
-    for error in &errors {
+    for error in errors {
         writeln!(printed, "{error}")?;
     }
-    Ok(Attempt {
-        given: Some(printed),
-        beside,
-    })
+    Ok(())
+}
+
+fn lex(heap: &Heap, alloc: Global, source: &str) -> Result<Option<String>, AllocError> {
+    let Ok((tokens, errors)) = Lexer::new(source).lex(heap) else {
+        return Ok(None);
+    };
+    let mut printed = String::new(alloc);
+    put_lists(&mut printed, tokens.as_slice(), errors.as_slice())?;
+    Ok(Some(printed))
 }
 
 // What else is left is the tokens: after a refusal the lexer gives its further items as before.
-fn make_errors(
-    heap: &Heap,
-    alloc: Global,
-    source: &str,
-    number: u64,
-) -> Result<Attempt, AllocError> {
-    heap.refuse(number);
+fn make_errors(heap: &Heap, alloc: Global, source: &str) -> Result<Attempt, AllocError> {
     let mut errors = String::new(alloc);
     let mut beside = String::new(alloc);
     let mut is_refused = false;
@@ -104,17 +101,13 @@ fn parse_once(
     alloc: Global,
     call: Call,
     source: &str,
-    number: u64,
-) -> Result<Attempt, AllocError> {
-    heap.refuse(number);
+) -> Result<Option<String>, AllocError> {
     let parser = Parser::new(source);
-    let given = match call {
-        Call::ParseSelections => parsed(alloc, parse_selections(heap, parser))?,
-        Call::ParseType => parsed(alloc, parse_type(heap, parser))?,
-        _ => parsed(alloc, parse(heap, parser))?,
-    };
-    let beside = String::new(alloc);
-    Ok(Attempt { given, beside })
+    match call {
+        Call::ParseSelections => parsed(alloc, parse_selections(heap, parser)),
+        Call::ParseType => parsed(alloc, parse_type(heap, parser)),
+        _ => parsed(alloc, parse(heap, parser)),
+    }
 }
 
 fn clone_tree<'h>(
@@ -145,17 +138,12 @@ fn clone_errors(
 }
 
 // The node that the call takes: the root, or the last node of its first definition.
-fn node_of<'t>(
-    call: Call,
-    tree: &'t SyntaxTree<DocumentRoot, &Heap>,
-) -> Result<SyntaxNode<'t>, AllocError> {
-    let root = tree.root();
+fn node_of(call: Call, root: SyntaxNode<'_>) -> Option<SyntaxNode<'_>> {
     match call {
         Call::CopyInnerText | Call::CloneInnerSubtree => {
-            let definition = root.children().next().ok_or(AllocError)?;
-            definition.children().last().ok_or(AllocError)
+            root.children().next()?.children().last()
         }
-        _ => Ok(root),
+        _ => Some(root),
     }
 }
 
@@ -171,8 +159,8 @@ fn clone_subtree(
 }
 
 // The value of the first argument of the first field of a query, when it is a string.
-fn first_string<'t>(tree: &'t SyntaxTree<DocumentRoot, &Heap>) -> Option<StringValue<'t>> {
-    let Definition::OperationDefinition(operation) = tree.document().definitions().next()? else {
+fn first_string(document: Document<'_>) -> Option<StringValue<'_>> {
+    let Definition::OperationDefinition(operation) = document.definitions().next()? else {
         return None;
     };
     let Selection::Field(field) = operation.selection_set()?.selections().next()? else {
@@ -198,15 +186,33 @@ fn kept(
 fn read_string(
     heap: &Heap,
     alloc: Global,
-    tree: &SyntaxTree<DocumentRoot, &Heap>,
+    document: Document<'_>,
 ) -> Result<Option<String>, AllocError> {
-    match first_string(tree) {
+    match first_string(document) {
         Some(string) => kept(alloc, string.to_string_in(heap)),
         None => Ok(None),
     }
 }
 
-// A call over a tree that was parsed with ample memory. What else is left is the tree.
+// What a call gives over a tree that was parsed with ample memory.
+fn given_by(
+    heap: &Heap,
+    alloc: Global,
+    call: Call,
+    tree: &SyntaxTree<DocumentRoot, &Heap>,
+    node: SyntaxNode<'_>,
+) -> Result<Option<String>, AllocError> {
+    match call {
+        Call::CloneTree => clone_tree(heap, alloc, tree),
+        Call::CloneErrors => clone_errors(heap, alloc, tree),
+        Call::CopyText | Call::CopyInnerText => kept(alloc, node.source_string(heap)),
+        Call::CloneSubtree | Call::CloneInnerSubtree => clone_subtree(heap, alloc, node),
+        Call::CopyToken => kept(alloc, TokenText::new(node.text()).to_string_in(heap)),
+        _ => read_string(heap, alloc, tree.document()),
+    }
+}
+
+// What else is left is the tree.
 fn use_tree(
     heap: &Heap,
     alloc: Global,
@@ -216,21 +222,22 @@ fn use_tree(
 ) -> Result<Attempt, AllocError> {
     heap.refuse(0);
     let tree = parse(heap, Parser::new(source))?;
-    let node = node_of(call, &tree)?;
+    let node = node_of(call, tree.root()).ok_or(AllocError)?;
     heap.refuse(number);
-    let given = match call {
-        Call::CloneTree => clone_tree(heap, alloc, &tree)?,
-        Call::CloneErrors => clone_errors(heap, alloc, &tree)?,
-        Call::CopyText | Call::CopyInnerText => kept(alloc, node.source_string(heap))?,
-        Call::CloneSubtree | Call::CloneInnerSubtree => clone_subtree(heap, alloc, node)?,
-        Call::CopyToken => kept(alloc, TokenText::new(tree.root().text()).to_string_in(heap))?,
-        _ => read_string(heap, alloc, &tree)?,
-    };
+    let given = given_by(heap, alloc, call, &tree, node)?;
     let beside = print(alloc, &tree)?;
     Ok(Attempt { given, beside })
 }
 
-// The call, when the request with this number is refused. At 0 none is.
+// An attempt of a call that leaves nothing else.
+fn alone(given: Option<String>, alloc: Global) -> Attempt {
+    Attempt {
+        given,
+        beside: String::new(alloc),
+    }
+}
+
+/// The call, when the request with this number is refused. At 0 none is.
 pub fn attempt(
     heap: &Heap,
     alloc: Global,
@@ -238,15 +245,16 @@ pub fn attempt(
     source: &str,
     number: u64,
 ) -> Result<Attempt, AllocError> {
+    heap.refuse(number);
     match call {
-        Call::Lex => lex(heap, alloc, source, number),
-        Call::MakeErrors => make_errors(heap, alloc, source, number),
+        Call::Lex => Ok(alone(lex(heap, alloc, source)?, alloc)),
         Call::Parse | Call::ParseSelections | Call::ParseType => {
-            parse_once(heap, alloc, call, source, number)
+            Ok(alone(parse_once(heap, alloc, call, source)?, alloc))
         }
-        Call::Check => run_once(heap, alloc, Mode::Check, source, number),
-        Call::Tokens => run_once(heap, alloc, Mode::Tokens, source, number),
-        Call::Tree => run_once(heap, alloc, Mode::Tree, source, number),
+        Call::MakeErrors => make_errors(heap, alloc, source),
+        Call::Check => run_once(heap, alloc, Mode::Check, source),
+        Call::Tokens => run_once(heap, alloc, Mode::Tokens, source),
+        Call::Tree => run_once(heap, alloc, Mode::Tree, source),
         _ => use_tree(heap, alloc, call, source, number),
     }
 }

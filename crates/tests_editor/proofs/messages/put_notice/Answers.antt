@@ -1,6 +1,6 @@
 use Rattle.std.proofs.Common.{[], ◌∷◌, true, refl}
 use Rattle.json.specs.Json.{boolean, member, no_members}
-use Rattle.tests_editor.proofs.messages.notices_by_pieces.Goals as goal
+use Rattle.tests_editor.proofs.messages.put_notice.Goals as goal
 
 -- the parameters are {"a": true}
 pub notice-requires : goal.notice-requires
