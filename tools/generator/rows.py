@@ -12,7 +12,7 @@ HEADER = TOP / "bindings/c/include/dumyroke.h"
 # The bytes of each type of a field, and its name in C and in Python.
 TYPES = {"usize": (8, "size_t", "c_size_t"), "u32": (4, "uint32_t", "c_uint32"), "u16": (2, "uint16_t", "c_uint16")}
 # The rows that languages read, with their names in C.
-READ = {"ElementRow": "element", "ErrorRow": "error", "Counts": "counts"}
+READ = {"ElementRow": "element", "ItemRow": "item", "ErrorRow": "error", "Counts": "counts"}
 
 
 def statuses(text):
@@ -68,15 +68,18 @@ def for_python(text):
     lines = "".join(f"{name} = {number}\n" for name, number in statuses(text).items())
     classes = "".join(
         f"\n\nclass {name}(Structure):\n    _fields_ = [\n" + "".join(f'        ("{field}", {TYPES[kind][2]}),\n' for field, kind in made[name]) + "    ]\n"
-        for name in ("ErrorRow", "Counts")
+        for name in ("ItemRow", "ErrorRow", "Counts")
     )
     return f'''{mark("#", SOURCE)}"""The statuses and the rows of the C library."""
 
-from ctypes import Structure, c_size_t, c_uint32
+from ctypes import Structure, c_size_t, c_uint16, c_uint32
 
 {lines}
 ELEMENT_SIZE = {offsets(made["ElementRow"])[1]}
 """The bytes of an element's row."""
+
+ITEM_SIZE = {offsets(made["ItemRow"])[1]}
+"""The bytes of an item's row."""
 
 
 class Limits(Structure):
@@ -112,4 +115,7 @@ def outputs(_grammar):
     """The text of each file, by its path."""
     text = ROWS.read_text()
     check_header(text)
-    return {TOP / "bindings/python/dumyroke/rows.py": for_python(text), TOP / "bindings/web/rows.js": for_page(text)}
+    return {
+        TOP / "bindings/python/dumyroke/rows.py": for_python(text),
+        TOP / "bindings/web/rows.js": for_page(text),
+    }

@@ -7,6 +7,15 @@ const LIMITS: Limits = Limits {
     tokens: usize::MAX,
 };
 
+const NO_COUNTS: Counts = Counts {
+    elements: 0,
+    errors: 0,
+    message_bytes: 0,
+    recursion_high: 0,
+    token_high: 0,
+    status: status::NO_MEMORY,
+};
+
 // Without contracts: what the calls promise would only burden the proofs of the tests.
 fn parse(
     alloc: Global,
@@ -15,14 +24,7 @@ fn parse(
     errors: &mut [ErrorRow],
     messages: &mut [u8],
 ) -> Counts {
-    let mut counts = Counts {
-        elements: 0,
-        errors: 0,
-        message_bytes: 0,
-        recursion_high: 0,
-        token_high: 0,
-        status: status::NO_MEMORY,
-    };
+    let mut counts = NO_COUNTS;
     dumyroke_parse(
         alloc,
         source,
@@ -160,4 +162,78 @@ fn texts_are_written(rt: HostRuntime) {
     assert!(rt;
         [quoted, block, document] == [*b"a\xc3\xa9\n\x4d", *b"b\n\x4d\x4d\x4d", *b"{\n  a"]
     );
+}
+
+// A selection set without braces, and a type with a name after it, which is not in the tree.
+#[test]
+fn parts_are_written(rt: HostRuntime) {
+    let (mut set, mut named, mut counts) = ([OLD_ELEMENT; 2], [OLD_ELEMENT; 2], [NO_COUNTS; 2]);
+    let (first, second) = counts.split_at_mut(1);
+    dumyroke_parse_selection_set(
+        rt.alloc(),
+        b"a b",
+        LIMITS,
+        &mut set[..1],
+        &mut [],
+        &mut [],
+        &mut first[0],
+    );
+    dumyroke_parse_type(
+        rt.alloc(),
+        b"[A]! b",
+        LIMITS,
+        &mut named[..1],
+        &mut [],
+        &mut [],
+        &mut second[0],
+    );
+    assert_eq!(rt;
+        [
+            numbers_of_counts(counts[0]),
+            numbers_of_element(set[0]),
+            numbers_of_element(set[1]),
+            numbers_of_counts(counts[1]),
+            numbers_of_element(named[0]),
+        ],
+        [
+            [8, 0, 0, 1, 4, 0],
+            // a SELECTION_SET
+            [0, 3, 0, 8, 63, 0],
+            [77; 6],
+            [8, 0, 0, 1, 6, 0],
+            // a NON_NULL_TYPE
+            [0, 4, 0, 8, 91, 0],
+        ]
+    );
+}
+
+// A name, bad text, and the limit in place of the next name. What is after them stays.
+#[test]
+fn items_are_written(rt: HostRuntime) {
+    let old = ItemRow {
+        start: OLD as u32,
+        end: OLD as u32,
+        kind: OLD as u16,
+        is_error: OLD as u16,
+    };
+    let (mut items, mut counts) = ([old; 4], NO_COUNTS);
+    dumyroke_lex(
+        rt.alloc(),
+        b"a..b",
+        2,
+        &mut items,
+        &mut [],
+        &mut [],
+        &mut counts,
+    );
+    let rows = items.map(|row| {
+        [
+            row.start as usize,
+            row.end as usize,
+            row.kind as usize,
+            row.is_error as usize,
+        ]
+    });
+    assert_eq!(rt; rows, [[0, 1, 18, 0], [1, 3, 3, 1], [3, 3, 3, 1], [77; 4]]);
+    assert_eq!(rt; numbers_of_counts(counts), [3, 2, 64, 0, 3, 0]);
 }
