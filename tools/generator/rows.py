@@ -1,4 +1,4 @@
-"""The statuses and the rows of the library for C, for Python and for the page, from the structs in crates/dumyroke_flat/src/rows.rt. The header, which is
+"""The statuses and the rows of the library for C, for Rust, for Python and for the page, from the structs in crates/dumyroke_flat/src/rows.rt. The header, which is
 written by hand, has to have the same fields."""
 
 import re
@@ -87,6 +87,29 @@ class Limits(Structure):
 {classes}'''
 
 
+def for_rust(text):
+    """The module of the Rust crate."""
+    made = structs(text)
+    lines = "".join(f"pub(crate) const {name}: u32 = {number};\n" for name, number in statuses(text).items())
+    fields = {name: "".join(f"    pub(crate) {field}: {kind},\n" for field, kind in made[name]) for name in READ}
+    rows = "".join(
+        f"\n/// `dumyroke_{short}`\n#[repr(C)]\n#[derive(Debug, Clone, Copy, Default, PartialEq, Eq)]\npub(crate) struct {name} {{\n{fields[name]}}}\n"
+        for name, short in READ.items()
+    )
+    return f"""{mark("//", SOURCE)}//! The statuses and the rows of the library, which bindings/c/include/dumyroke.h describes.
+#![allow(dead_code)]
+
+{lines}
+/// `dumyroke_limits`
+#[repr(C)]
+#[derive(Debug, Clone, Copy)]
+pub(crate) struct Limits {{
+    pub(crate) recursion: usize,
+    pub(crate) tokens: usize,
+}}
+{rows}"""
+
+
 def for_page(text):
     """The module of the page."""
     made = structs(text)
@@ -116,6 +139,7 @@ def outputs(_grammar):
     text = ROWS.read_text()
     check_header(text)
     return {
+        TOP / "bindings/rust/src/rows.rs": for_rust(text),
         TOP / "bindings/python/dumyroke/rows.py": for_python(text),
         TOP / "bindings/web/rows.js": for_page(text),
     }
