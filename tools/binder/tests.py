@@ -73,8 +73,12 @@ def test_rust(_folder):
     for link in ("dylib", "static"):
         there = {**os.environ, "DUMYROKE_LIB_DIR": str(BUILD), "DUMYROKE_LINK": link, "LD_LIBRARY_PATH": str(BUILD)}
         run("cargo", "test", "--offline", "--quiet", cwd=RUST, env=there, stdout=subprocess.DEVNULL)
+
+
+def test_rust_trees(_folder):
     program = RUST / "target/debug/examples/gqlcst"
-    test_printed("gqlcst.rs", ["tree", "tokens"], lambda mode, limits: [program, *words_of(mode, limits)])
+    if shutil.which("cargo"):
+        test_printed("gqlcst.rs", ["tree", "tokens"], lambda mode, limits: [program, *words_of(mode, limits)])
 
 
 def test_python(folder):
@@ -114,13 +118,19 @@ def test_install(folder):
         stop(f"fields.c writes {ended.stdout.decode()}")
 
 
-def test():
-    """All tests, up to the first that fails."""
+PARTS = (test_c, test_trees, test_install, test_rust, test_rust_trees, test_python)
+# The parts that compare with the program gqlcst, which `rt ci` builds.
+COMPARING = (test_trees, test_rust_trees)
+
+
+def test(is_quick=False):
+    """All tests, up to the first that fails; or those that need no program of `rt ci`."""
     need("gcc", "nm", "readelf")
     if not (BUILD / "libdumyroke.so").exists():
         stop("there is nothing to test: `tools/bindings build` comes first")
     test_symbols()
-    for part in (test_c, test_trees, test_install, test_rust, test_python):
-        with tempfile.TemporaryDirectory() as folder:
-            part(Path(folder))
+    for part in PARTS:
+        if not (is_quick and part in COMPARING):
+            with tempfile.TemporaryDirectory() as folder:
+                part(Path(folder))
     print("tools/bindings: all tests passed")
