@@ -10,6 +10,7 @@ usage: ./do COMMAND
   quick              the checks that need no proof, in some eight seconds: generated files, names of rules, texts, promises
   check CRATE [..]   proves one crate over what earlier checks left (rt check); further words go to rt check
   try CRATE [..]     runs a program, or with --test a crate's tests, and proves nothing (rt try)
+  quick-bindings     makes the library for C without a proof, in a minute, and runs its tests and those of Rust and Python
   gate               what a merge has to pass: quick, rt ci, and test
   test               the tests of the output of rt ci: formatted texts, C and Python, the page, editors, README
   bench [NAME [..]]  measures the programs of `rt ci`: parse, hostile, stack, format, server, c or python, or else all of them
@@ -44,6 +45,12 @@ tests() {
     tools/readme --check
 }
 
+# Without a proof, so without what the programs of `rt ci` print.
+quick_bindings() {
+    tools/bindings quick
+    tools/bindings test-quick
+}
+
 # The folder of a crate, which is the first word.
 enter() {
     [ -d "crates/${1:-}/src" ] || { echo "./do: no such crate: ${1:-}" >&2; exit 2; }
@@ -54,6 +61,7 @@ command=${1:-}
 [ $# -eq 0 ] || shift
 case $command in
     quick) quick ;;
+    quick-bindings) quick_bindings ;;
     check) enter "$@"; shift; exec rt check "$@" ;;
     try) enter "$@"; shift; exec rt try "$@" ;;
     test) tests ;;

@@ -90,6 +90,48 @@ class Trees(unittest.TestCase):
             self.assertEqual(list(map(str, dumyroke.check(text))), list(map(str, tree.errors)))
 
 
+class Parts(unittest.TestCase):
+    def test_selection_sets(self):
+        for text, whole in (("{ a b { c } } d", "{ a b { c } }"), ("a b { c } } d", "a b { c }")):
+            tree = dumyroke.parse_selection_set(text)
+            self.assertEqual((tree.errors, tree.text.rstrip(), type(tree.root)), ([], whole, nodes.SelectionSet))
+            self.assertEqual(names(tree.root.selections), ["a", "b"])
+        self.assertTrue(dumyroke.parse_selection_set("{ a { b } }", recursion_limit=1).errors[0].is_limit)
+
+    def test_types(self):
+        tree = dumyroke.parse_type("[Int!]! = 3")
+        self.assertEqual((tree.errors, type(tree.root), tree.root.list_type.text), ([], nodes.NonNullType, "[Int!]"))
+        self.assertEqual([str(error) for error in dumyroke.parse_type("[Int").errors], ["1:5: expected R_BRACK, got EOF"])
+        self.assertTrue(dumyroke.parse_type("[[A]]", token_limit=2).errors[0].is_limit)
+
+    def test_no_type(self):
+        tree = dumyroke.parse_type(") Int")
+        (leaf,) = tree.root.children_with_tokens
+        self.assertEqual((type(tree.root), tree.root.kind, len(tree.errors)), (dumyroke.Node, "ERROR", 1))
+        self.assertEqual((type(leaf), leaf.text, leaf.parent), (dumyroke.Token, ")", tree.root))
+        self.assertEqual((type(leaf.parent), list(tree.root.descendants), tree.find("ERROR")), (dumyroke.Node, [tree.root], [leaf]))
+
+
+class Items(unittest.TestCase):
+    def test_items(self):
+        text = 'query{é ..,"x"1 1.5#c'
+        items = dumyroke.lex(text)
+        self.assertEqual([item.kind for item in items], "IDENT L_CURLY ERROR WHITESPACE ERROR COMMA STRING INT WHITESPACE FLOAT COMMENT".split())
+        self.assertEqual("".join(map(str, items)), text)
+        self.assertEqual([item.text for item in items if item.error], ["é", ".."])
+        self.assertTrue(all((item.text, item.range) == (item.error.data, item.error.range) for item in items if item.error))
+        self.assertEqual((items[3].range, items[3].span, items[3].position), ((8, 9), (7, 8), dumyroke.Position(1, 8, 9)))
+
+    def test_limits(self):
+        self.assertEqual(dumyroke.lex(""), [])
+        self.assertEqual(list(map(repr, dumyroke.lex("{a}", token_limit=4))), ["<L_CURLY 0..1>", "<IDENT 1..2>", "<R_CURLY 2..3>"])
+        *items, limit = dumyroke.lex("{a}", token_limit=2)
+        self.assertEqual((list(map(str, items)), limit.kind, limit.range, limit.error.is_limit), (["{", "a"], "ERROR", (2, 2), True))
+
+    def test_many(self):
+        self.assertEqual(len(dumyroke.lex("é" * 5000)), 5000)
+
+
 class Nodes(unittest.TestCase):
     def test_types(self):
         hero, extension, union, enum, filter, directive = dumyroke.parse(SCHEMA).document.definitions
@@ -156,7 +198,7 @@ class Errors(unittest.TestCase):
         self.assertRaises(ValueError, dumyroke.parse, "{a}", token_limit=-1)
 
     def test_not_unicode(self):
-        for call in (dumyroke.parse, dumyroke.check, dumyroke.format):
+        for call in (dumyroke.parse, dumyroke.check, dumyroke.format, dumyroke.lex, dumyroke.parse_selection_set, dumyroke.parse_type):
             self.assertRaises(UnicodeDecodeError, call, b"{\xff}")
             self.assertRaises(UnicodeEncodeError, call, '{a(b:"\ud800")}')
             self.assertRaises(TypeError, call, 5)

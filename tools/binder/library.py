@@ -8,7 +8,7 @@ from pathlib import Path
 
 from .shared import BUILD, INCLUDE, PACKAGE, TOP, kit, need, rattle, run, static_library, stop, version
 
-CALLS = ["dumyroke_format", "dumyroke_parse", "dumyroke_string_value"]
+CALLS = ["dumyroke_format", "dumyroke_lex", "dumyroke_parse", "dumyroke_parse_selection_set", "dumyroke_parse_type", "dumyroke_string_value"]
 
 
 def make_archive(archive):

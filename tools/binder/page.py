@@ -6,7 +6,7 @@ import subprocess
 import tempfile
 from pathlib import Path
 
-from .shared import LIMITS, SITE, WEB, gqlcst_tree, kit, rattle, run, static_library, stop, texts
+from .shared import LIMITS, SITE, WEB, gqlcst, kit, rattle, run, static_library, stop, texts
 
 
 def unpacked(folder):
@@ -55,7 +55,7 @@ def test_module(node):
     test = [*node, WEB / "tests/parser_test.mjs", SITE / "dumyroke.wasm"]
     printed = run(*test, input=json.dumps(given).encode(), stdout=subprocess.PIPE, timeout=300).stdout.splitlines()
     for (text, limits), line in zip(cases, printed, strict=True):
-        if json.loads(line).encode() != gqlcst_tree(text, limits).stdout:
+        if json.loads(line).encode() != gqlcst(text, "tree", limits).stdout:
             stop(f"the module and gqlcst differ with the limits {limits} for the text\n{text.decode()}")
     print(f"the module and gqlcst print the same {len(cases)} trees")
 

@@ -1,5 +1,6 @@
 """Where the files of the bindings are, how a crate is proved over what `rt ci` left, and what the tests compare with."""
 
+import functools
 import shutil
 import subprocess
 import sys
@@ -9,6 +10,7 @@ TOP = Path(__file__).resolve().parent.parent.parent
 BUILD = TOP / "build"
 C = TOP / "bindings/c"
 PYTHON = TOP / "bindings/python"
+RUST = TOP / "bindings/rust"
 WEB = TOP / "bindings/web"
 SITE = BUILD / "web"
 INCLUDE = C / "include"
@@ -100,10 +102,15 @@ def texts():
     return [record.split(b"\x1f")[1] for record in records if b"\x1f" in record]
 
 
-def gqlcst_tree(text, limits):
+def words_of(mode, limits):
+    """The command line of gqlcst for a mode and limits."""
+    return [mode, *(word for pair in zip(("--recursion", "--tokens"), limits) for word in pair)]
+
+
+@functools.cache
+def gqlcst(text, mode, limits):
     """What gqlcst prints of a text, and its status."""
     program = TOP / "crates/gqlcst/out/gqlcst"
     if not program.exists():
         stop(f"there is no program {program}: `rt ci` builds it")
-    options = [word for pair in zip(("--recursion", "--tokens"), limits) for word in pair]
-    return subprocess.run([program, "tree", *options], input=text, stdout=subprocess.PIPE)
+    return subprocess.run([program, *words_of(mode, limits)], input=text, stdout=subprocess.PIPE)

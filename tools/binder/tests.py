@@ -1,4 +1,4 @@
-"""Tests the libraries for C, the headers and the Python package, as they are and as they are installed."""
+"""Tests the libraries for C, the headers, the Rust crate and the Python package, as they are and as they are installed."""
 
 import os
 import shutil
@@ -9,7 +9,7 @@ import zipfile
 from pathlib import Path
 
 from .library import CALLS, install
-from .shared import BUILD, C, INCLUDE, LIMITS, PYTHON, gqlcst_tree, need, run, stop, texts
+from .shared import BUILD, C, INCLUDE, LIMITS, PYTHON, RUST, gqlcst, need, run, stop, texts, words_of
 
 WARNINGS = ["-Wall", "-Wextra", "-Werror", "-pedantic"]
 
@@ -47,20 +47,38 @@ def test_symbols():
         stop("libdumyroke.so has no SONAME")
 
 
-def test_trees(folder):
-    """What print_tree.c prints is what gqlcst prints, for each text and each pair of limits."""
-    program = compiled("examples/print_tree.c", folder, library=("-l:libdumyroke.a",))
-    tried = 0
-    for text in texts():
-        for limits in LIMITS:
-            ours = subprocess.run([program, *limits], input=text, stdout=subprocess.PIPE)
-            theirs = gqlcst_tree(text, limits)
-            if (ours.returncode, ours.stdout) != (theirs.returncode, theirs.stdout):
-                stop(f"print_tree and gqlcst differ with the limits {limits} for the text\n{text.decode()}")
-            tried += 1
-    if not tried:
+def test_printed(name, modes, command):
+    """What a program prints is what gqlcst prints, in each mode, for each text and each pair of limits. `command` gives the words for a mode and limits."""
+    cases = [(text, mode, limits) for text in texts() for mode in modes for limits in LIMITS]
+    if not cases:
         stop("there are no texts to compare")
-    print(f"print_tree.c and gqlcst print the same {tried} trees")
+    for text, mode, limits in cases:
+        ours = subprocess.run(command(mode, limits), input=text, stdout=subprocess.PIPE)
+        theirs = gqlcst(text, mode, limits)
+        if (ours.returncode, ours.stdout) != (theirs.returncode, theirs.stdout):
+            stop(f"{name} and gqlcst differ in mode {mode} with the limits {limits} for the text\n{text.decode()}")
+    print(f"{name} and gqlcst print the same {len(cases)} times")
+
+
+def test_trees(folder):
+    program = compiled("examples/print_tree.c", folder, library=("-l:libdumyroke.a",))
+    test_printed("print_tree.c", ["tree"], lambda mode, limits: [program, *limits])
+
+
+def test_rust(_folder):
+    """The tests and the examples of the Rust crate, over both libraries."""
+    if not shutil.which("cargo"):
+        print("there is no cargo: the Rust crate was not tried")
+        return
+    for link in ("dylib", "static"):
+        there = {**os.environ, "DUMYROKE_LIB_DIR": str(BUILD), "DUMYROKE_LINK": link, "LD_LIBRARY_PATH": str(BUILD)}
+        run("cargo", "test", "--offline", "--quiet", cwd=RUST, env=there, stdout=subprocess.DEVNULL)
+
+
+def test_rust_trees(_folder):
+    program = RUST / "target/debug/examples/gqlcst"
+    if shutil.which("cargo"):
+        test_printed("gqlcst.rs", ["tree", "tokens"], lambda mode, limits: [program, *words_of(mode, limits)])
 
 
 def test_python(folder):
@@ -100,13 +118,19 @@ def test_install(folder):
         stop(f"fields.c writes {ended.stdout.decode()}")
 
 
-def test():
-    """All tests, up to the first that fails."""
+PARTS = (test_c, test_trees, test_install, test_rust, test_rust_trees, test_python)
+# The parts that compare with the program gqlcst, which `rt ci` builds.
+COMPARING = (test_trees, test_rust_trees)
+
+
+def test(is_quick=False):
+    """All tests, up to the first that fails; or those that need no program of `rt ci`."""
     need("gcc", "nm", "readelf")
     if not (BUILD / "libdumyroke.so").exists():
         stop("there is nothing to test: `tools/bindings build` comes first")
     test_symbols()
-    for part in (test_c, test_trees, test_install, test_python):
-        with tempfile.TemporaryDirectory() as folder:
-            part(Path(folder))
+    for part in PARTS:
+        if not (is_quick and part in COMPARING):
+            with tempfile.TemporaryDirectory() as folder:
+                part(Path(folder))
     print("tools/bindings: all tests passed")

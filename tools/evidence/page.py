@@ -16,8 +16,8 @@ PARTS = {
     "`gqlcst`": "byte_devices/src gqlcst_run/src/program.rt gqlcst_run/src/ending.rt program_words/src/gqlcst.rt",
     "`format`": "formatter/src/lib.rt",
     "`gqlfmt`": """gqlfmt_files/src/settling.rt program_words/src/gqlfmt.rt gqlfmt_run/src/input.rt gqlfmt_run/src/paths.rt gqlfmt_run/src/program.rt""",
-    "C, Python and the page": """dumyroke_flat/src/parse.rt dumyroke_flat/src/strings.rt dumyroke_flat/src/format.rt dumyroke_flat/src/laws.rt
-        dumyroke_c/src/lib.rt""",
+    "C, Python and the page": """dumyroke_flat/src/parse.rt dumyroke_flat/src/items.rt dumyroke_flat/src/strings.rt dumyroke_flat/src/format.rt
+        dumyroke_flat/src/laws.rt dumyroke_c/src/lib.rt""",
     "places, and `gqlls`": """line_index/src/lib.rt editor_text/src/lib.rt rpc_frames/src/lib.rt rpc_messages/src rpc_serving/src editor_diagnostics/src
         editor_answers/src gqlls_run/src/server.rt gqlls_run/src/running.rt""",
 }
@@ -92,12 +92,15 @@ def all_calls():
 
 
 def fields_of(call, text):
-    """The record of this repository that a clause says holds, and its fields, each with its text; nothing for a record of one field."""
+    """The fields, each with its text, of the record of this repository that a clause says holds, by its name or by an `abbrev` of its file;
+    nothing for a record of one field."""
     source = Source.of(call.file)
     said = re.match(r"\s*ensures \w* ?\{ (?:IfOk \w+ |IfErr \w+ |\(|λ \w+\. )*(\w+)", text)
     path = spec(source.uses[said[1]][0]) if said and said[1] in source.uses else None
     if path and CRATES in path.parents:
-        fields = contracts.fields(source.uses[said[1]][1], path.relative_to(CRATES).parts[0])[1]
+        name = source.uses[said[1]][1]
+        short_for = re.search(rf"^{name} [\w ]+ = (\w+)", path.read_text(), re.MULTILINE)
+        fields = contracts.fields(short_for[1] if short_for else name, path.relative_to(CRATES).parts[0])[1]
         return fields if len(fields) > 1 else {}
     return {}
 

@@ -44,8 +44,8 @@ static const char *const dumyroke_kind_names[DUMYROKE_KINDS] = {{
 
 def for_python(grammar):
     """The module of the Python package."""
-    if len(grammar.kinds) > 256:
-        raise SystemExit("foreign_kinds.py: bindings/python/dumyroke/tree.py has one byte for a kind, and there are more than 256")
+    if len(grammar.kinds) > 255:
+        raise SystemExit("foreign_kinds.py: bindings/python/dumyroke/tree.py has one byte for a kind, and one number of its own, and there are more than 255")
     numbers = "".join(f"{kind} = {number}\n" for number, kind in enumerate(grammar.kinds))
     return f'''{mark("#", SOURCE)}"""The kinds of elements: their numbers, as in bindings/c/include/dumyroke_kinds.h, and their names."""
 

@@ -1,4 +1,4 @@
-"""The statuses and the rows of the library for C, for Python and for the page, from the structs in crates/dumyroke_flat/src/rows.rt. The header, which is
+"""The statuses and the rows of the library for C, for Rust, for Python and for the page, from the structs in crates/dumyroke_flat/src/rows.rt. The header, which is
 written by hand, has to have the same fields."""
 
 import re
@@ -12,7 +12,7 @@ HEADER = TOP / "bindings/c/include/dumyroke.h"
 # The bytes of each type of a field, and its name in C and in Python.
 TYPES = {"usize": (8, "size_t", "c_size_t"), "u32": (4, "uint32_t", "c_uint32"), "u16": (2, "uint16_t", "c_uint16")}
 # The rows that languages read, with their names in C.
-READ = {"ElementRow": "element", "ErrorRow": "error", "Counts": "counts"}
+READ = {"ElementRow": "element", "ItemRow": "item", "ErrorRow": "error", "Counts": "counts"}
 
 
 def statuses(text):
@@ -68,20 +68,46 @@ def for_python(text):
     lines = "".join(f"{name} = {number}\n" for name, number in statuses(text).items())
     classes = "".join(
         f"\n\nclass {name}(Structure):\n    _fields_ = [\n" + "".join(f'        ("{field}", {TYPES[kind][2]}),\n' for field, kind in made[name]) + "    ]\n"
-        for name in ("ErrorRow", "Counts")
+        for name in ("ItemRow", "ErrorRow", "Counts")
     )
     return f'''{mark("#", SOURCE)}"""The statuses and the rows of the C library."""
 
-from ctypes import Structure, c_size_t, c_uint32
+from ctypes import Structure, c_size_t, c_uint16, c_uint32
 
 {lines}
 ELEMENT_SIZE = {offsets(made["ElementRow"])[1]}
 """The bytes of an element's row."""
 
+ITEM_SIZE = {offsets(made["ItemRow"])[1]}
+"""The bytes of an item's row."""
+
 
 class Limits(Structure):
     _fields_ = [("recursion", c_size_t), ("tokens", c_size_t)]
 {classes}'''
+
+
+def for_rust(text):
+    """The module of the Rust crate."""
+    made = structs(text)
+    lines = "".join(f"pub(crate) const {name}: u32 = {number};\n" for name, number in statuses(text).items())
+    fields = {name: "".join(f"    pub(crate) {field}: {kind},\n" for field, kind in made[name]) for name in READ}
+    rows = "".join(
+        f"\n/// `dumyroke_{short}`\n#[repr(C)]\n#[derive(Debug, Clone, Copy, Default, PartialEq, Eq)]\npub(crate) struct {name} {{\n{fields[name]}}}\n"
+        for name, short in READ.items()
+    )
+    return f"""{mark("//", SOURCE)}//! The statuses and the rows of the library, which bindings/c/include/dumyroke.h describes.
+#![allow(dead_code)]
+
+{lines}
+/// `dumyroke_limits`
+#[repr(C)]
+#[derive(Debug, Clone, Copy)]
+pub(crate) struct Limits {{
+    pub(crate) recursion: usize,
+    pub(crate) tokens: usize,
+}}
+{rows}"""
 
 
 def for_page(text):
@@ -112,4 +138,8 @@ def outputs(_grammar):
     """The text of each file, by its path."""
     text = ROWS.read_text()
     check_header(text)
-    return {TOP / "bindings/python/dumyroke/rows.py": for_python(text), TOP / "bindings/web/rows.js": for_page(text)}
+    return {
+        TOP / "bindings/rust/src/rows.rs": for_rust(text),
+        TOP / "bindings/python/dumyroke/rows.py": for_python(text),
+        TOP / "bindings/web/rows.js": for_page(text),
+    }

@@ -240,7 +240,7 @@ class Copy:
         for crate in WRITTEN:
             shutil.copytree(CRATES / crate, folder / "crates" / crate, ignore=unneeded)
         shutil.copytree(TOP / "tools", folder / "tools")
-        shutil.copytree(TOP / "bindings", folder / "bindings")
+        shutil.copytree(TOP / "bindings", folder / "bindings", ignore=shutil.ignore_patterns("target"))
         shutil.copytree(TOP / "editors", folder / "editors")
         shutil.copytree(TOP / "bench", folder / "bench", ignore=shutil.ignore_patterns("out", "target"))
         shutil.copy(TOP / "VERSION", folder)

@@ -14,12 +14,12 @@
 extern "C" {
 #endif
 
-/* How a call ended. Errors in the text are no failure of dumyroke_parse: its status is DUMYROKE_OK then, too. */
+/* How a call ended. Errors in the text are no failure of dumyroke_parse and of dumyroke_lex: the status is DUMYROKE_OK then, too. */
 enum dumyroke_status {
     DUMYROKE_OK = 0,
     /* The text is not UTF-8. */
     DUMYROKE_NOT_UTF8 = 1,
-    /* The text has 2^32 bytes or more, or its tree has 2^32 elements or more. Only from dumyroke_parse. */
+    /* The text has 2^32 bytes or more, or its tree has 2^32 elements or more. Only from the calls that parse, and from dumyroke_lex. */
     DUMYROKE_TOO_LONG = 2,
     /* An allocation was refused. */
     DUMYROKE_NO_MEMORY = 3,
@@ -74,13 +74,14 @@ typedef struct dumyroke_error {
     uint32_t is_eof;
 } dumyroke_error;
 
-/* What a parse found, whether or not there was room for it. All numbers are 0 unless the status is DUMYROKE_OK. */
+/* What a call found, whether or not there was room for it. All numbers are 0 unless the status is DUMYROKE_OK. */
 typedef struct dumyroke_counts {
+    /* The elements of the tree. From dumyroke_lex the items of the text. */
     size_t elements;
     size_t errors;
     /* The bytes of all messages together. */
     size_t message_bytes;
-    /* The deepest level that was tried. It is one above the limit where that was met. */
+    /* The deepest level that was tried. It is one above the limit where that was met. From dumyroke_lex 0. */
     size_t recursion_high;
     /* How many tokens were asked for. It is one above the limit where that was met. */
     size_t token_high;
@@ -108,6 +109,41 @@ uint32_t dumyroke_parse(const uint8_t *text, size_t text_length, dumyroke_limits
                         dumyroke_error *errors, size_t error_room,
                         uint8_t *messages, size_t message_room,
                         dumyroke_counts *counts);
+
+/* The same for a selection set (GraphQL, section 2.4, "Selection Sets"), with its outer braces or with both left away. What follows it is not in
+ * the tree, and has no errors. The root is a SELECTION_SET. That a second call needs just the counted room is tested, not proved. */
+uint32_t dumyroke_parse_selection_set(const uint8_t *text, size_t text_length, dumyroke_limits limits,
+                                      dumyroke_element *elements, size_t element_room,
+                                      dumyroke_error *errors, size_t error_room,
+                                      uint8_t *messages, size_t message_room,
+                                      dumyroke_counts *counts);
+
+/* The same for a type (GraphQL, section 2.11, "Type References"). The root is a NAMED_TYPE, a LIST_TYPE or a NON_NULL_TYPE; or an ERROR where the
+ * text begins neither with a name nor with `[`. */
+uint32_t dumyroke_parse_type(const uint8_t *text, size_t text_length, dumyroke_limits limits,
+                             dumyroke_element *elements, size_t element_room,
+                             dumyroke_error *errors, size_t error_room,
+                             uint8_t *messages, size_t message_room,
+                             dumyroke_counts *counts);
+
+/* An item of a text: a token, bad text, the end, or the token limit where it was met. */
+typedef struct dumyroke_item {
+    /* The bytes of the text from `start` up to `end`, `end` not among them. There are none for the end and for the limit. */
+    uint32_t start, end;
+    /* The kind of a token, which its leaf has in a tree: DUMYROKE_IDENT for each name. DUMYROKE_ERROR for all others. */
+    uint16_t kind;
+    /* 1 for bad text and for the limit: these have the errors, in order. 0 for a token and for the end. */
+    uint16_t is_error;
+} dumyroke_item;
+
+/* Cuts a text into its items (GraphQL, section 2.1, "Source Text"). The last one is the end; or the limit, after `token_limit` items, if there are more.
+ *
+ * It writes as dumyroke_parse does, with `items`, room for `item_room`, in place of elements. If memory is refused, some items may have been written. */
+uint32_t dumyroke_lex(const uint8_t *text, size_t text_length, size_t token_limit,
+                      dumyroke_item *items, size_t item_room,
+                      dumyroke_error *errors, size_t error_room,
+                      uint8_t *messages, size_t message_room,
+                      dumyroke_counts *counts);
 
 /* Gives the value of a string literal (GraphQL, section 2.9.4, "String Value"): escapes are replaced, and a block string loses its common indent.
  *

@@ -1,4 +1,4 @@
-/* Calls at the edges: no text, no room, too little room, texts that are not UTF-8, strings that are none, both limits.
+/* Calls at the edges: no text, no room, too little room, texts that are not UTF-8, strings that are none, parts of documents, items, both limits.
  * Ends with status 1 at the first check that fails, and says which. */
 #include <stdio.h>
 
@@ -59,10 +59,24 @@ static void deeper_than_the_limit(void)
     CHECK(check(text, sizeof text, 500, SIZE_MAX, &counts) == DUMYROKE_OK && counts.errors > 0 && counts.recursion_high == 501);
 }
 
+typedef uint32_t part_call(const uint8_t *, size_t, dumyroke_limits, dumyroke_element *, size_t, dumyroke_error *, size_t, uint8_t *, size_t,
+                           dumyroke_counts *);
+
+/* The root of a part, and its counts. */
+static uint32_t part(part_call *call, const char *text, size_t recursion, size_t tokens, dumyroke_element *root, dumyroke_counts *counts)
+{
+    dumyroke_limits limits = {recursion, tokens};
+    memset(root, UNTOUCHED, sizeof *root);
+    memset(counts, UNTOUCHED, sizeof *counts);
+    return call(bytes_of(text), strlen(text), limits, root, 1, NULL, 0, NULL, 0, counts);
+}
+
 static void not_utf8(void)
 {
     static const char *const texts[] = {"{\xff}", "{\xc3}", "{\xed\xa0\x80}", "{\xc0\x80}", "{\xf4\x90\x80\x80}"};
     dumyroke_counts counts, none = {0, 0, 0, 0, 0, DUMYROKE_NOT_UTF8};
+    dumyroke_element root;
+    dumyroke_item item = {0, 0, 0, 0};
     size_t i, bytes;
     for (i = 0; i < sizeof texts / sizeof *texts; i++) {
         CHECK(check(texts[i], strlen(texts[i]), 500, SIZE_MAX, &counts) == DUMYROKE_NOT_UTF8);
@@ -72,6 +86,9 @@ static void not_utf8(void)
     CHECK(dumyroke_string_value(bytes_of("\"\xff\""), 3, NULL, 0, &bytes) == DUMYROKE_NOT_UTF8 && bytes == 0);
     bytes = UNTOUCHED;
     CHECK(dumyroke_format(bytes_of("{\xff}"), 3, dumyroke_default_limits(), NULL, 0, &bytes) == DUMYROKE_NOT_UTF8 && bytes == 0);
+    CHECK(part(dumyroke_parse_selection_set, "{\xff}", 500, SIZE_MAX, &root, &counts) == DUMYROKE_NOT_UTF8 && !counts.elements);
+    CHECK(part(dumyroke_parse_type, "\xff", 500, SIZE_MAX, &root, &counts) == DUMYROKE_NOT_UTF8 && root.kind == 0xeeee);
+    CHECK(dumyroke_lex(bytes_of("a\xff"), 2, SIZE_MAX, &item, 1, NULL, 0, NULL, 0, &counts) == DUMYROKE_NOT_UTF8 && !counts.elements && item.kind == 0);
 }
 
 /* `{ hero(id) { name }` has 23 elements and 2 errors with messages of 46 bytes. What is after the room stays. */
@@ -173,6 +190,64 @@ static void children(void)
     dumyroke_tree_free(&tree);
 }
 
+/* A selection set, with both braces or with none. What follows it is left. */
+static void selection_sets(void)
+{
+    part_call *call = dumyroke_parse_selection_set;
+    dumyroke_element root;
+    dumyroke_counts counts;
+    CHECK(part(call, "{ a b } c", 500, SIZE_MAX, &root, &counts) == DUMYROKE_OK && counts.errors == 0 && counts.recursion_high == 1);
+    CHECK(root.kind == DUMYROKE_SELECTION_SET && root.start == 0 && root.end == 7 && root.next == counts.elements && !root.is_token);
+    CHECK(part(call, "a b{c}} d", 500, SIZE_MAX, &root, &counts) == DUMYROKE_OK && counts.errors == 0);
+    CHECK(root.kind == DUMYROKE_SELECTION_SET && root.end == 6);
+    CHECK(part(call, "", 500, SIZE_MAX, &root, &counts) == DUMYROKE_OK && counts.errors == 1 && root.kind == DUMYROKE_SELECTION_SET);
+    CHECK(part(call, "{a{b}}", 1, SIZE_MAX, &root, &counts) == DUMYROKE_OK && counts.errors == 1 && counts.recursion_high == 2);
+    CHECK(part(call, "{a}", 500, 2, &root, &counts) == DUMYROKE_OK && counts.errors == 1 && root.end == 2);
+}
+
+/* A type. What follows it is left. */
+static void types(void)
+{
+    part_call *call = dumyroke_parse_type;
+    dumyroke_element root;
+    dumyroke_counts counts;
+    CHECK(part(call, "[Int!]! = 3", 500, SIZE_MAX, &root, &counts) == DUMYROKE_OK && counts.errors == 0);
+    CHECK(root.kind == DUMYROKE_NON_NULL_TYPE && root.end == 7 && root.next == counts.elements);
+    CHECK(part(call, "Int", 500, SIZE_MAX, &root, &counts) == DUMYROKE_OK && counts.errors == 0 && root.kind == DUMYROKE_NAMED_TYPE);
+    CHECK(part(call, "[Int", 500, SIZE_MAX, &root, &counts) == DUMYROKE_OK && counts.errors == 1 && root.kind == DUMYROKE_LIST_TYPE);
+    CHECK(part(call, ") Int", 500, SIZE_MAX, &root, &counts) == DUMYROKE_OK && counts.errors == 1);
+    CHECK(root.kind == DUMYROKE_ERROR && root.end == 1 && !root.is_token);
+    CHECK(part(call, "[[A]]", 1, SIZE_MAX, &root, &counts) == DUMYROKE_OK && counts.errors == 1 && counts.recursion_high == 2);
+}
+
+/* `{`, white space, a name, bad text of two bytes, white space, `..`, a comma, a string that does not end, and the end. */
+static void items(void)
+{
+    static const dumyroke_item wanted[] = {
+        {0, 1, DUMYROKE_L_CURLY, 0}, {1, 2, DUMYROKE_WHITESPACE, 0}, {2, 4, DUMYROKE_IDENT, 0}, {4, 6, DUMYROKE_ERROR, 1}, {6, 7, DUMYROKE_WHITESPACE, 0},
+        {7, 9, DUMYROKE_ERROR, 1}, {9, 10, DUMYROKE_COMMA, 0}, {10, 12, DUMYROKE_ERROR, 1}, {12, 12, DUMYROKE_ERROR, 0}};
+    const char *text = "{ on\xc3\xa9 ..,\"a";
+    dumyroke_item found[10];
+    dumyroke_error errors[4];
+    dumyroke_counts counts;
+    memset(found, UNTOUCHED, sizeof found);
+    memset(errors, UNTOUCHED, sizeof errors);
+    CHECK(dumyroke_lex(bytes_of(text), 12, SIZE_MAX, found, 10, errors, 4, NULL, 0, &counts) == DUMYROKE_OK);
+    CHECK(counts.elements == 9 && counts.errors == 3 && counts.recursion_high == 0 && counts.token_high == 9);
+    CHECK(!memcmp(found, wanted, sizeof wanted) && found[9].kind == 0xeeee);
+    CHECK(errors[0].start == 4 && errors[1].end == 9 && errors[2].start == 10 && errors[2].end == 12 && errors[3].is_eof == 0xeeeeeeee);
+    CHECK(errors[2].message + errors[2].message_length == counts.message_bytes && !errors[0].is_limit && !errors[2].is_eof);
+    /* the limit */
+    CHECK(dumyroke_lex(bytes_of(text), 12, 9, NULL, 0, NULL, 0, NULL, 0, &counts) == DUMYROKE_OK && counts.elements == 9 && counts.errors == 3);
+    CHECK(dumyroke_lex(bytes_of(text), 12, 2, found, 10, errors, 4, NULL, 0, &counts) == DUMYROKE_OK && counts.elements == 3 && counts.errors == 1);
+    CHECK(found[2].start == 2 && found[2].end == 2 && found[2].kind == DUMYROKE_ERROR && found[2].is_error && errors[0].is_limit);
+    /* no text, and too little room */
+    CHECK(dumyroke_lex(NULL, 0, SIZE_MAX, NULL, 0, NULL, 0, NULL, 0, &counts) == DUMYROKE_OK && counts.elements == 1 && counts.errors == 0);
+    memset(found, UNTOUCHED, sizeof found);
+    CHECK(dumyroke_lex(bytes_of(text), 12, SIZE_MAX, found, 3, NULL, 0, NULL, 0, &counts) == DUMYROKE_OK && counts.elements == 9);
+    CHECK(!memcmp(found, wanted, 3 * sizeof *wanted) && found[3].kind == 0xeeee);
+}
+
 static uint32_t value_of(const char *literal, uint8_t *value, size_t room, size_t *bytes)
 {
     memset(value, UNTOUCHED, 16);
@@ -216,7 +291,7 @@ static void formatted(void)
 
 int main(void)
 {
-    CHECK(sizeof(dumyroke_element) == 20 && sizeof(dumyroke_error) == 40 && sizeof(dumyroke_counts) == 48);
+    CHECK(sizeof(dumyroke_element) == 20 && sizeof(dumyroke_item) == 12 && sizeof(dumyroke_error) == 40 && sizeof(dumyroke_counts) == 48);
     counts_of_texts();
     counts_at_limits();
     deeper_than_the_limit();
@@ -226,6 +301,9 @@ int main(void)
     positions();
     larger_than_the_first_guess();
     children();
+    selection_sets();
+    types();
+    items();
     strings();
     formatted();
     return 0;

@@ -6,9 +6,9 @@
 
 #include "dumyroke_tree.h"
 
-enum { LENGTH = 1 << 24, LITTLE = 1 << 20 };
+enum { LENGTH = 1 << 24, BAD = 1 << 18, LITTLE = 1 << 20 };
 
-static char text[LENGTH];
+static char text[LENGTH], bad[BAD];
 
 /* Lets the process have so many bytes of memory more than it has now, or any number of them. */
 static int allow(size_t more)
@@ -32,6 +32,10 @@ static int all_give(uint32_t status)
     size_t bytes = 1;
     int is_right = dumyroke_parse(source, LENGTH, dumyroke_default_limits(), NULL, 0, NULL, 0, NULL, 0, &counts) == status
         && (counts.elements == 0) == (status != DUMYROKE_OK) && counts.message_bytes == 0
+        && dumyroke_parse_selection_set(source, LENGTH, dumyroke_default_limits(), NULL, 0, NULL, 0, NULL, 0, &counts) == status
+        && (counts.elements == 0) == (status != DUMYROKE_OK)
+        && dumyroke_lex((const uint8_t *)bad, BAD, SIZE_MAX, NULL, 0, NULL, 0, NULL, 0, &counts) == status
+        && (counts.elements == 0) == (status != DUMYROKE_OK)
         && dumyroke_format(source, LENGTH, dumyroke_default_limits(), NULL, 0, &bytes) == status && (bytes == 0) == (status != DUMYROKE_OK)
         && dumyroke_tree_parse(&tree, text, LENGTH, dumyroke_default_limits()) == status;
     dumyroke_tree_free(&tree);
@@ -43,6 +47,7 @@ int main(void)
     size_t i;
     for (i = 0; i < LENGTH; i++)
         text[i] = i == 0 ? '{' : i == LENGTH - 1 ? '}' : i % 8 ? 'a' : ' ';
+    memset(bad, '%', BAD);
     if (!allow(LITTLE) || !all_give(DUMYROKE_NO_MEMORY) || !allow(0) || !all_give(DUMYROKE_OK)) {
         fputs("no_memory: a wrong answer\n", stderr);
         return 1;

@@ -7,14 +7,16 @@
     >>> [str(error) for error in dumyroke.check("{ hero(id) { name }")]
     ['1:10: expected COLON, got )', '1:20: expected R_CURLY, got EOF']
 
-`parse` gives a tree of any text, `check` its errors alone, and `format` a document in the layout of the program gqlfmt. `nodes` has a class for
-each kind of node. The parser is a library in C that is in the package; what is proved of it is in docs/BINDINGS.md.
+`parse` gives a tree of any text, `check` its errors alone, and `format` a document in the layout of the program gqlfmt. `parse_selection_set` and
+`parse_type` give trees of parts of documents, and `lex` the tokens. `nodes` has a class for each kind of node. The parser is a library in C that is in the package; what is proved of it is in docs/BINDINGS.md.
 """
 
 from . import nodes
-from .calls import NotADocument, check, format, parse
+from .calls import NotADocument, check, format, lex, parse, parse_selection_set, parse_type
 from .errors import Error
+from .items import Item
 from .positions import Position
 from .tree import Element, Node, Token, Tree
 
-__all__ = ["Element", "Error", "Node", "NotADocument", "Position", "Token", "Tree", "check", "format", "nodes", "parse"]
+__all__ = ["Element", "Error", "Item", "Node", "NotADocument", "Position", "Token", "Tree", "check", "format", "lex", "nodes", "parse"]
+__all__ += ["parse_selection_set", "parse_type"]

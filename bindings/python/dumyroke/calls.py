@@ -1,15 +1,18 @@
-"""The calls of the package: `parse`, `check` and `format`."""
+"""The calls of the package."""
 
 from __future__ import annotations
 
 import ctypes
+from typing import Any
 
-from . import library
+from . import library, nodes
 from .errors import Error
+from .items import Item
+from .kinds import NAMES
 from .library import NO_LIMIT
 from .positions import Positions
-from .rows import ELEMENT_SIZE, NOT_A_DOCUMENT, Counts, ErrorRow, Limits
-from .tree import Tree
+from .rows import ELEMENT_SIZE, ITEM_SIZE, NOT_A_DOCUMENT, Counts, ErrorRow, ItemRow, Limits
+from .tree import Node, Tree
 
 
 class NotADocument(ValueError):
@@ -21,23 +24,21 @@ class NotADocument(ValueError):
 
 
 class _Buffers:
-    """Room for so many elements, errors and bytes of messages."""
+    """Room for so many rows of a size, errors and bytes of messages."""
 
-    def __init__(self, elements: int, errors: int, message_bytes: int):
-        self.room = elements, errors, message_bytes
-        self.elements = bytearray(elements * ELEMENT_SIZE)
+    def __init__(self, row_size: int, rows: int, errors: int, message_bytes: int):
+        self.room = rows, errors, message_bytes
+        self.rows = bytearray(rows * row_size)
         self.errors = (ErrorRow * max(errors, 1))()
         self.messages = bytearray(message_bytes + 1)
 
-    def parse(self, source: bytes, limits: Limits) -> Counts:
-        """Fills the buffers, and says what there is."""
+    def fill(self, call: Any, source: bytes, limit: Limits | int) -> Counts:
+        """Has one of the library's calls fill the buffers, and says what there is."""
         counts = Counts()
-        elements = library.place(self.elements) if self.elements else None
-        elements_room, errors_room, messages_room = self.room
+        rows = library.place(self.rows) if self.rows else None
+        rows_room, errors_room, messages_room = self.room
         messages = library.place(self.messages)
-        library.parse(
-            source, len(source), limits, elements, elements_room, self.errors, errors_room, messages, messages_room, ctypes.byref(counts)
-        )
+        call(source, len(source), limit, rows, rows_room, self.errors, errors_room, messages, messages_room, ctypes.byref(counts))
         library.raise_for(counts.status, source)
         return counts
 
@@ -51,16 +52,16 @@ class _Buffers:
         return found
 
 
-def _filled(source: bytes, limits: Limits, elements: int | None) -> tuple[_Buffers, Counts]:
-    """Buffers with all that there is: a second call is made if the first had too little room. With `elements` None the tree is left out."""
-    buffers = _Buffers(elements or 0, 16, 1024)
+def _filled(call: Any, source: bytes, limit: Limits | int, row_size: int, rows: int | None) -> tuple[_Buffers, Counts]:
+    """Buffers with all that there is: a second call is made if the first had too little room. With `rows` None these are left out."""
+    buffers = _Buffers(row_size, rows or 0, 16, 1024)
     while True:
-        counts = buffers.parse(source, limits)
-        there = (0 if elements is None else counts.elements, counts.errors, counts.message_bytes)
+        counts = buffers.fill(call, source, limit)
+        there = (0 if rows is None else counts.elements, counts.errors, counts.message_bytes)
         if all(has <= room for has, room in zip(there, buffers.room)):
             buffers.room = there
             return buffers, counts
-        buffers = _Buffers(*there)
+        buffers = _Buffers(row_size, *there)
 
 
 def _given(text: str | bytes, recursion_limit: int, token_limit: int | None) -> tuple[bytes, Limits]:
@@ -73,7 +74,17 @@ def _given(text: str | bytes, recursion_limit: int, token_limit: int | None) -> 
     return source, Limits(min(recursion_limit, NO_LIMIT), NO_LIMIT if token_limit is None else min(token_limit, NO_LIMIT))
 
 
-def parse(text: str | bytes, recursion_limit: int = 500, token_limit: int | None = None) -> Tree:
+def _parsed(call: Any, text: str | bytes, recursion_limit: int, token_limit: int | None) -> Tree[Any]:
+    """The tree that one of the library's calls gives for a text."""
+    source, limits = _given(text, recursion_limit, token_limit)
+    buffers, counts = _filled(call, source, limits, ELEMENT_SIZE, len(source) // 2 + 64)
+    del buffers.rows[counts.elements * ELEMENT_SIZE :]
+    positions = Positions(source)
+    errors = buffers.errors_of(source, positions)
+    return Tree(source, buffers.rows, errors, counts.recursion_high, counts.token_high, positions)
+
+
+def parse(text: str | bytes, recursion_limit: int = 500, token_limit: int | None = None) -> Tree[nodes.Document]:
     """The tree of a text, which there is for any text, and its errors.
 
     `recursion_limit` is how deep selection sets, types and values may nest; parsing takes 80 to 192 bytes of the thread's stack for each level.
@@ -81,18 +92,40 @@ def parse(text: str | bytes, recursion_limit: int = 500, token_limit: int | None
 
     Raises `UnicodeDecodeError` or `UnicodeEncodeError` for a text that is not Unicode, `MemoryError`, and `ValueError` for one of 2**32 bytes.
     """
-    source, limits = _given(text, recursion_limit, token_limit)
-    buffers, counts = _filled(source, limits, len(source) // 2 + 64)
-    del buffers.elements[counts.elements * ELEMENT_SIZE :]
+    return _parsed(library.parse, text, recursion_limit, token_limit)
+
+
+def parse_selection_set(text: str | bytes, recursion_limit: int = 500, token_limit: int | None = None) -> Tree[nodes.SelectionSet]:
+    """The tree of a selection set, with its outer braces or with both left away. What follows it is not in the tree. Else as `parse`."""
+    return _parsed(library.parse_selection_set, text, recursion_limit, token_limit)
+
+
+def parse_type(text: str | bytes, recursion_limit: int = 500, token_limit: int | None = None) -> Tree[Node]:
+    """The tree of a type: a NAMED_TYPE, a LIST_TYPE or a NON_NULL_TYPE; or a node of kind "ERROR", where the text begins neither with a name nor with
+    `[`. What follows it is not in the tree. Else as `parse`."""
+    return _parsed(library.parse_type, text, recursion_limit, token_limit)
+
+
+def lex(text: str | bytes, token_limit: int | None = None) -> list[Item]:
+    """The items of a text in order, tokens and bad text, which join to it. If there are more than the limit allows, the end of the text counted,
+    the limit is the last item. Exceptions are those of `parse`."""
+    source, limits = _given(text, 0, token_limit)
+    buffers, counts = _filled(library.lex, source, limits.tokens, ITEM_SIZE, len(source) // 2 + 64)
     positions = Positions(source)
-    errors = buffers.errors_of(source, positions)
-    return Tree(source, buffers.elements, errors, counts.recursion_high, counts.token_high, positions)
+    errors = iter(buffers.errors_of(source, positions))
+    found = []
+    for row in (ItemRow * counts.elements).from_buffer(buffers.rows):
+        error = next(errors) if row.is_error else None
+        found.append(Item(NAMES[row.kind], source[row.start : row.end].decode(), (row.start, row.end), error, positions))
+    if not found[-1].error:
+        found.pop()  # the end
+    return found
 
 
 def check(text: str | bytes, recursion_limit: int = 500, token_limit: int | None = None) -> list[Error]:
     """The errors of a text. There are none exactly if it is a document within both limits. Limits and exceptions are those of `parse`."""
     source, limits = _given(text, recursion_limit, token_limit)
-    buffers, _ = _filled(source, limits, None)
+    buffers, _ = _filled(library.parse, source, limits, ELEMENT_SIZE, None)
     return buffers.errors_of(source, Positions(source))
 
 

@@ -2,39 +2,27 @@
 
 from __future__ import annotations
 
-from .positions import Position, Positions
+from .positions import Placed, Positions
 
 
-class Error:
-    """An error in a text. `str(error)` is `LINE:COLUMN: message`."""
+class Error(Placed):
+    """An error in a text. `range` is what it is about. `str(error)` is `LINE:COLUMN: message`."""
 
-    __slots__ = ("message", "data", "range", "is_limit", "is_eof", "_positions")
+    __slots__ = ("message", "data", "is_limit", "is_eof")
 
     message: str
     """What is wrong."""
     data: str
     """The text that the error is about. It is empty for the end of the text and for a limit."""
-    range: tuple[int, int]
-    """The bytes of UTF-8 that the error is about: the first, and the one after the last."""
     is_limit: bool
     """Whether the recursion limit or the token limit was met."""
     is_eof: bool
     """Whether the error is about the end of the text."""
 
     def __init__(self, message: str, data: str, range: tuple[int, int], is_limit: bool, is_eof: bool, positions: Positions):
-        self.message, self.data, self.range = message, data, range
+        super().__init__(range, positions)
+        self.message, self.data = message, data
         self.is_limit, self.is_eof = is_limit, is_eof
-        self._positions = positions
-
-    @property
-    def span(self) -> tuple[int, int]:
-        """The same as `range` in indices of the `str`."""
-        return self._positions.character(self.range[0]), self._positions.character(self.range[1])
-
-    @property
-    def position(self) -> Position:
-        """Where the error begins: its line and its columns."""
-        return self._positions.position(self.range[0])
 
     @property
     def line(self) -> int:

@@ -14,8 +14,15 @@ NO_LIMIT = c_size_t(-1).value
 _library = ctypes.CDLL(os.path.join(os.path.dirname(__file__), "libdumyroke.so"))
 
 parse = _library.dumyroke_parse
-parse.restype = c_uint32
-parse.argtypes = [c_char_p, c_size_t, Limits, c_void_p, c_size_t, c_void_p, c_size_t, c_void_p, c_size_t, POINTER(Counts)]
+parse_selection_set = _library.dumyroke_parse_selection_set
+parse_type = _library.dumyroke_parse_type
+for _call in (parse, parse_selection_set, parse_type):
+    _call.restype = c_uint32
+    _call.argtypes = [c_char_p, c_size_t, Limits, c_void_p, c_size_t, c_void_p, c_size_t, c_void_p, c_size_t, POINTER(Counts)]
+
+lex = _library.dumyroke_lex
+lex.restype = c_uint32
+lex.argtypes = [c_char_p, c_size_t, c_size_t, c_void_p, c_size_t, c_void_p, c_size_t, c_void_p, c_size_t, POINTER(Counts)]
 
 string_value = _library.dumyroke_string_value
 string_value.restype = c_uint32

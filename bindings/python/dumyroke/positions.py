@@ -46,3 +46,26 @@ class Positions:
         line = bisect_right(self._line_starts, offset)
         start = self._line_starts[line - 1]
         return Position(line, self.character(offset) - self.character(start) + 1, offset - start + 1)
+
+
+class Placed:
+    """A part of a text."""
+
+    __slots__ = ("range", "_positions")
+
+    range: tuple[int, int]
+    """Its bytes in UTF-8: the first, and the one after the last."""
+
+    def __init__(self, range: tuple[int, int], positions: Positions):
+        self.range = range
+        self._positions = positions
+
+    @property
+    def span(self) -> tuple[int, int]:
+        """The same as `range` in indices of the `str`."""
+        return self._positions.character(self.range[0]), self._positions.character(self.range[1])
+
+    @property
+    def position(self) -> Position:
+        """Where it begins: its line and its columns."""
+        return self._positions.position(self.range[0])

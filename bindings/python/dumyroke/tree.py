@@ -7,7 +7,7 @@ an index, and two of the same element are equal. The class of a node says its ki
 from __future__ import annotations
 
 from array import array
-from typing import TYPE_CHECKING, Any, Iterator, TypeVar, overload
+from typing import TYPE_CHECKING, Any, Generic, Iterator, TypeVar, overload
 
 from .errors import Error
 from .kinds import FIRST_NODE, NAMES, NUMBERS
@@ -18,6 +18,7 @@ if TYPE_CHECKING:
     from .nodes import Document
 
 N = TypeVar("N", bound="Node")
+R = TypeVar("R", bound="Node")
 
 
 class Element:
@@ -25,18 +26,18 @@ class Element:
 
     __slots__ = ("tree", "index")
 
-    tree: Tree
+    tree: Tree[Any]
     index: int
     """Its number in document order. The root has 0."""
 
-    def __init__(self, tree: Tree, index: int):
+    def __init__(self, tree: Tree[Any], index: int):
         self.tree = tree
         self.index = index
 
     @property
     def kind(self) -> str:
         """Its kind, as "FIELD" or "L_CURLY"."""
-        return NAMES[self.tree._kinds[self.index]]
+        return _NAMES[self.tree._kinds[self.index]]
 
     @property
     def text(self) -> str:
@@ -187,8 +188,11 @@ class Node(Element):
         return node._all(kinds) if node else []
 
 
+# Only the root where no type starts is a node of a kind of tokens, of ERROR. Here it has a number of its own.
+_ERROR_NODE = len(NAMES)
+_NAMES = (*NAMES, "ERROR")
 # The class of each kind. `nodes` puts its own here.
-_CLASSES: list[Any] = [Token] * FIRST_NODE + [Node] * (len(NAMES) - FIRST_NODE)
+_CLASSES: list[Any] = [Token] * FIRST_NODE + [Node] * (len(_NAMES) - FIRST_NODE)
 
 
 def _number_of(kind: type[Node] | str) -> int:
@@ -198,8 +202,8 @@ def _number_of(kind: type[Node] | str) -> int:
     return NUMBERS[name]
 
 
-class Tree:
-    """The tree of a text and its errors. It keeps each byte of the text, also when there are errors."""
+class Tree(Generic[R]):
+    """The tree of a text and its errors. It keeps each byte of the text, also when there are errors. `R` is the class of its root."""
 
     __slots__ = ("errors", "recursion_high", "token_high", "_source", "_string", "_positions", "_starts", "_ends", "_parents", "_nexts", "_kinds")
 
@@ -220,6 +224,8 @@ class Tree:
         self._starts, self._ends, self._parents, nexts, kinds = (words[column :: ELEMENT_SIZE // 4] for column in range(5))
         self._nexts = array("I", nexts.tobytes())
         self._kinds = kinds.tobytes()[::4]  # the least significant byte: kinds are below 256
+        if self._kinds[0] < FIRST_NODE:
+            self._kinds = bytes([_ERROR_NODE]) + self._kinds[1:]
 
     @property
     def text(self) -> str:
@@ -227,14 +233,14 @@ class Tree:
         return self.root.text
 
     @property
-    def root(self) -> Document:
-        """The root, which is a DOCUMENT."""
+    def root(self) -> R:
+        """The root. From `parse` it is a DOCUMENT."""
         return self._node(0)
 
     @property
     def document(self) -> Document:
-        """The same as `root`."""
-        return self.root
+        """The same as `root`, in a tree from `parse`."""
+        return self._node(0)
 
     @overload
     def find(self, kind: type[N]) -> list[N]: ...

@@ -1,14 +1,15 @@
 //! The calls of `dumyroke_flat` for C, each with its contract: a static library, which Python loads too.
 //!
-//! `bindings/c/include/dumyroke.h` declares `dumyroke_parse`, `dumyroke_string_value` and `dumyroke_format`, and says what each number is.
-//! `bindings/c/tests/edges.c` calls each of them.
+//! `bindings/c/include/dumyroke.h` declares them and says what each number is, and `bindings/c/tests/edges.c` calls each of them.
 #![tactic(auto)]
 
 ghost use Rattle.std.specs.Prelude.{◌≡◌};
-ghost use Rattle.dumyroke_flat.specs.Outcomes.{FormatOutcome, Outcome, StringOutcome};
+ghost use Rattle.dumyroke_flat.specs.Items.{ItemsOutcome};
+ghost use Rattle.dumyroke_flat.specs.Outcomes.{FormatOutcome, Outcome, SelectionSetOutcome, StringOutcome, TypeOutcome};
 
 use dumyroke_flat::{
-    Counts, ElementRow, ErrorRow, Limits, format_into, parse_into, string_value_into,
+    Counts, ElementRow, ErrorRow, ItemRow, Limits, format_into, lex_into, parse_into,
+    parse_selection_set_into, parse_type_into, string_value_into,
 };
 use std::alloc::Global;
 
@@ -28,6 +29,63 @@ pub extern "C" fn dumyroke_parse(
         (record { elements = elements.new; errors = errors.new; messages = messages.new }) counts.new }
 {
     *counts = parse_into(alloc, source, limits, elements, errors, messages);
+    counts.status
+}
+
+/// `parse_selection_set_into`. It answers the status of the counts.
+#[unsafe(no_mangle)]
+pub extern "C" fn dumyroke_parse_selection_set(
+    alloc: Global,
+    source: &[u8],
+    limits: Limits,
+    elements: &mut [ElementRow],
+    errors: &mut [ErrorRow],
+    messages: &mut [u8],
+    counts: &mut Counts,
+) -> u32
+    ensures status { result ≡ counts.new.status }
+    ensures outcome { SelectionSetOutcome source.now limits.recursion limits.tokens (record { elements = elements.old; errors = errors.old; messages = messages.old })
+        (record { elements = elements.new; errors = errors.new; messages = messages.new }) counts.new }
+{
+    *counts = parse_selection_set_into(alloc, source, limits, elements, errors, messages);
+    counts.status
+}
+
+/// `parse_type_into`. It answers the status of the counts.
+#[unsafe(no_mangle)]
+pub extern "C" fn dumyroke_parse_type(
+    alloc: Global,
+    source: &[u8],
+    limits: Limits,
+    elements: &mut [ElementRow],
+    errors: &mut [ErrorRow],
+    messages: &mut [u8],
+    counts: &mut Counts,
+) -> u32
+    ensures status { result ≡ counts.new.status }
+    ensures outcome { TypeOutcome source.now limits.recursion limits.tokens (record { elements = elements.old; errors = errors.old; messages = messages.old })
+        (record { elements = elements.new; errors = errors.new; messages = messages.new }) counts.new }
+{
+    *counts = parse_type_into(alloc, source, limits, elements, errors, messages);
+    counts.status
+}
+
+/// `lex_into`. It answers the status of the counts.
+#[unsafe(no_mangle)]
+pub extern "C" fn dumyroke_lex(
+    alloc: Global,
+    source: &[u8],
+    token_limit: usize,
+    items: &mut [ItemRow],
+    errors: &mut [ErrorRow],
+    messages: &mut [u8],
+    counts: &mut Counts,
+) -> u32
+    ensures status { result ≡ counts.new.status }
+    ensures outcome { ItemsOutcome source.now token_limit (record { items = items.old; errors = errors.old; messages = messages.old })
+        (record { items = items.new; errors = errors.new; messages = messages.new }) counts.new }
+{
+    *counts = lex_into(alloc, source, token_limit, items, errors, messages);
     counts.status
 }
 

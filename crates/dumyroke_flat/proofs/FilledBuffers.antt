@@ -9,7 +9,7 @@ length-filled [] (x ∷ xs) = refl
 length-filled (b ∷ bs) [] = refl
 length-filled (b ∷ bs) (x ∷ xs) = ap suc (length-filled bs xs)
 
-filled-by-none : {A : Type 0} (buffer : List A) → filled buffer [] ≡ buffer
+pub filled-by-none : {A : Type 0} (buffer : List A) → filled buffer [] ≡ buffer
 filled-by-none [] = refl
 filled-by-none (b ∷ bs) = refl
 
@@ -55,3 +55,26 @@ pub filled-after : {A : Type 0} (buffer items more old part : List A) (at n : �
 filled-after buffer items more old part at n o p a e l =
     let same : length old ≡ length buffer = ap length o ∙ length-filled buffer items in
     rw (o, p) (written-after buffer items more at n a (omega (arith, e, same)) (omega (arith, l, same)))
+
+-- ---- one more item, wherever those before it ended
+
+one-more : {A : Type 0} (buffer items : List A) (x : A) → length items < length buffer
+    → set (filled buffer items) (length items) x ≡ filled buffer (items ++ x ∷ [])
+one-more [] items x l = absurd (omega arith)
+one-more (b ∷ bs) [] x l = ap (λ r. x ∷ r) (sym (filled-by-none bs))
+one-more (b ∷ bs) (y ∷ ys) x l = ap (λ r. y ∷ r) (one-more bs ys x (omega arith))
+
+full : {A : Type 0} (buffer items : List A) (x : A) → length buffer ≤ length items → filled buffer items ≡ filled buffer (items ++ x ∷ [])
+full [] items x l = no-room items ∙ sym (no-room (items ++ x ∷ []))
+full (b ∷ bs) [] x l = absurd (omega arith)
+full (b ∷ bs) (y ∷ ys) x l = ap (λ r. y ∷ r) (full bs ys x (omega arith))
+
+pub put-one : {A : Type 0} (before written old : List A) (at : ℕ) (x : A) → length written ≡ at → old ≡ filled before written → at < length old
+    → set old at x ≡ filled before (written ++ x ∷ [])
+put-one before written old at x same is l =
+    let here : length written < length before = omega (arith, ap length is, length-filled before written) in
+    rw (is, ← same) (one-more before written x here)
+
+pub put-none : {A : Type 0} (before written old : List A) (at : ℕ) (x : A) → length written ≡ at → old ≡ filled before written → length old ≤ at
+    → old ≡ filled before (written ++ x ∷ [])
+put-none before written old at x same is l = is ∙ full before written x (omega (arith, ap length is, length-filled before written))

@@ -5,3 +5,4 @@ pub mod OneString
 pub mod Outcomes
 pub mod ValueLengths
 pub mod Again
+pub mod ItemRows

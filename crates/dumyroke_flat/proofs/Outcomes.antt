@@ -1,5 +1,5 @@
 -- What a call gives, by its status.
-use Rattle.std.proofs.Common.{◌≡◌, sym, subst, ◌<◌, ℕ, List, [], ◌∷◌, length, refl, arith}
+use Rattle.std.proofs.Common.{◌≡◌, sym, subst, ◌<◌, ℕ, List, [], ◌∷◌, length, refl, arith, inl, inr, ⊎_elim}
 use Rattle.std.specs.List.{Contains}
 use Rattle.std.specs.Str.{IsUtf8}
 use Rattle.apollo_parser.specs.Diagnostics.{Diagnostic}
@@ -12,13 +12,16 @@ use Rattle.dumyroke_flat.specs.declared.rows.ByteCount.{ByteCount}
 use Rattle.dumyroke_flat.specs.declared.rows.ElementRow.{ElementRow}
 use Rattle.dumyroke_flat.specs.declared.rows.ErrorRow.{ErrorRow}
 use Rattle.dumyroke_flat.specs.Rows.{element_rows, error_rows, filled, messages}
-use Rattle.dumyroke_flat.specs.Outcomes.{Buffers, IsParse, IsTooLong, Outcome, counts_of, FormatOutcome, StringOutcome}
+use Rattle.dumyroke_flat.specs.declared.rows.Counts.{Counts}
+use Rattle.dumyroke_flat.specs.Outcomes.{Buffers, IsTooLong, ParseOutcome, counts_of, FormatOutcome, StringOutcome}
 use Rattle.dumyroke_flat.specs.Outcomes.{no_counts, written, OK, NOT_UTF8, TOO_LONG, NO_MEMORY, NOT_A_STRING, NOT_A_DOCUMENT}
 use Rattle.dumyroke_flat.proofs.ValueLengths.{no_longer}
 
-pub of-parse : (source : List ℕ) (r k : ℕ) (before : Buffers) (parsed : Parsed) → IsParse source r k parsed
-    → Outcome source r k before (written before parsed) (counts_of parsed)
-of-parse source r k before parsed p = record {
+-- ---- a parse of which P holds
+
+of-parse : (P : Parsed → Type 0) (source : List ℕ) (before : Buffers) (parsed : Parsed) → P parsed
+    → ParseOutcome P source before (written before parsed) (counts_of parsed)
+of-parse P source before parsed p = record {
   ok = λ _. (parsed, p, refl, refl);
   not_utf8 = λ e. absurd (omega (arith, e));
   too_long = λ e. absurd (omega (arith, e));
@@ -26,10 +29,9 @@ of-parse source r k before parsed p = record {
   known = (0, omega arith, refl);
 }
 
-pub of-refused : (source : List ℕ) (r k : ℕ) (before : Buffers) (status : ℕ) → OK < status → Contains (OK ∷ NOT_UTF8 ∷ TOO_LONG ∷ NO_MEMORY ∷ []) status
-    → (status ≡ NOT_UTF8 → ¬ IsUtf8 source)
-    → (status ≡ TOO_LONG → IsTooLong source r k) → Outcome source r k before before (no_counts status)
-of-refused source r k before status some known utf8 long = record {
+of-refused : (P : Parsed → Type 0) (source : List ℕ) (before : Buffers) (status : ℕ) → OK < status → Contains (OK ∷ NOT_UTF8 ∷ TOO_LONG ∷ NO_MEMORY ∷ []) status
+    → (status ≡ NOT_UTF8 → ¬ IsUtf8 source) → (status ≡ TOO_LONG → IsTooLong P source) → ParseOutcome P source before before (no_counts status)
+of-refused P source before status some known utf8 long = record {
   ok = λ e. absurd (omega (arith, e));
   not_utf8 = utf8;
   too_long = long;
@@ -37,27 +39,41 @@ of-refused source r k before status some known utf8 long = record {
   known = known;
 }
 
-pub of-too-long : (source : List ℕ) (r k : ℕ) (before : Buffers) → IsTooLong source r k → Outcome source r k before before (no_counts TOO_LONG)
-of-too-long source r k before long = of-refused source r k before TOO_LONG (omega arith) (2, omega arith, refl) (λ e. absurd (omega (arith, e))) (λ _. long)
+pub of-too-long : (P : Parsed → Type 0) (source : List ℕ) (before : Buffers) (counts : Counts) → counts ≡ no_counts TOO_LONG → IsTooLong P source
+    → ParseOutcome P source before before counts
+of-too-long P source before counts is long =
+    rw is (of-refused P source before TOO_LONG (omega arith) (2, omega arith, refl) (λ e. absurd (omega (arith, e))) (λ _. long))
 
-pub of-not-utf8 : (source : List ℕ) (r k : ℕ) (before : Buffers) → ¬ IsUtf8 source → Outcome source r k before before (no_counts NOT_UTF8)
-of-not-utf8 source r k before other = of-refused source r k before NOT_UTF8 (omega arith) (1, omega arith, refl) (λ _. other) (λ e. absurd (omega (arith, e)))
+pub of-no-memory : (P : Parsed → Type 0) (source : List ℕ) (before : Buffers) (counts : Counts) → counts ≡ no_counts NO_MEMORY
+    → ParseOutcome P source before before counts
+of-no-memory P source before counts is =
+    rw is (of-refused P source before NO_MEMORY (omega arith) (3, omega arith, refl) (λ e. absurd (omega (arith, e))) (λ e. absurd (omega (arith, e))))
 
-pub of-no-memory : (source : List ℕ) (r k : ℕ) (before : Buffers) → Outcome source r k before before (no_counts NO_MEMORY)
-of-no-memory source r k before =
-    of-refused source r k before NO_MEMORY (omega arith) (3, omega arith, refl) (λ e. absurd (omega (arith, e))) (λ e. absurd (omega (arith, e)))
-
--- the buffers after all was written, where the errors are known as `found`
-pub of-written : (source : List ℕ) (r k : ℕ) (before : Buffers) (parsed : Parsed) (rows : List ElementRow) (errors : List ErrorRow) (words : List ℕ)
-    (found : List Diagnostic)
-    (elements bytes depth items : ℕ) → IsParse source r k parsed → found ≡ parsed.errors → rows ≡ filled before.elements (element_rows parsed.tree)
+-- the buffers after all of a parse was written, where its errors are known as `found`
+pub of-written : (source : List ℕ) (before : Buffers) (parsed : Parsed) (rows : List ElementRow) (errors : List ErrorRow) (words : List ℕ)
+    (found : List Diagnostic) (elements bytes depth items : ℕ) → found ≡ parsed.errors → rows ≡ filled before.elements (element_rows parsed.tree)
     → errors ≡ filled before.errors (error_rows 0 found) → words ≡ filled before.messages (messages found) → elements ≡ length (order parsed.tree)
-    → bytes ≡ length (messages found)
-    → depth ≡ parsed.recursion_limit.high → items ≡ parsed.token_limit.high
-    → Outcome source r k before (record { elements = rows; errors = errors; messages = words })
+    → bytes ≡ length (messages found) → depth ≡ parsed.recursion_limit.high → items ≡ parsed.token_limit.high
+    → ParseOutcome (λ p. p ≡ parsed) source before (record { elements = rows; errors = errors; messages = words })
     (record { elements = elements; errors = length found; message_bytes = bytes; recursion_high = depth; token_high = items; status = OK })
-of-written source r k before parsed rows errors words found elements bytes depth items p f a b c d e g h =
-    rw (a, b, c, d, e, g, h, f) (of-parse source r k before parsed p)
+of-written source before parsed rows errors words found elements bytes depth items f a b c d e g h =
+    rw (a, b, c, d, e, g, h, f) (of-parse (λ p. p ≡ parsed) source before parsed refl)
+
+-- The outcome of writing a parse, of which P holds: it is a parse of a text that is the source, within the same limits.
+pub of-its-parse : (P : List ℕ → ℕ → ℕ → Parsed → Type 0) (source text : List ℕ) (max_depth depth max_items items : ℕ) (parsed : Parsed)
+    (before after : Buffers) (counts : Counts) → text ≡ source → depth ≡ max_depth → items ≡ max_items → P text depth items parsed
+    → ParseOutcome (λ p. p ≡ parsed) source before after counts → ParseOutcome (P source max_depth max_items) source before after counts
+of-its-parse P source text max_depth depth max_items items parsed before after counts same_text same_depth same_items p o =
+    let holds : P source max_depth max_items parsed = rw (← same_text, ← same_depth, ← same_items) p in
+    let of_it : (other : Parsed) → other ≡ parsed → P source max_depth max_items other =
+    λ (other : Parsed) e. subst (P source max_depth max_items) (sym e) holds in
+    record {
+      ok = λ e. let found = o.ok e in (found.0, of_it found.0 found.1, found.2, found.3);
+      not_utf8 = o.not_utf8;
+      too_long = λ e. ⊎_elim (λ long. inl long) (λ many. inr (many.0, of_it many.0 many.1, many.2)) (o.too_long e);
+      refused = o.refused;
+      known = o.known;
+    }
 
 -- ---- one text
 

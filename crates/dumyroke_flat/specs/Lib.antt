@@ -1,4 +1,5 @@
 -- What the calls of this crate give.
 pub mod Rows
 pub mod Outcomes
+pub mod Items
 pub mod Again

@@ -3,10 +3,16 @@
 use Rattle.std.specs.Prelude.{◌≡◌, ◌≢◌, ◌≤◌, ◌^◌, ◌⊎◌, ℕ, List, [], ◌∷◌, length}
 use Rattle.std.specs.List.{Contains}
 use Rattle.std.specs.Str.{IsUtf8}
+use Rattle.document_grammar.specs.declared.kind.SyntaxKind.TheVariants as kind
+use Rattle.apollo_parser.specs.Answers.{limited}
+use Rattle.apollo_parser.specs.Derivation.{selections, type}
 use Rattle.apollo_parser.specs.Diagnostics.{Diagnostic}
+use Rattle.apollo_parser.specs.Forests.{Forest, none, node}
 use Rattle.apollo_parser.specs.Order.{order}
 use Rattle.apollo_parser.specs.Parsed.{Parsed}
-use Rattle.apollo_parser.specs.Promise.{Promise}
+use Rattle.apollo_parser.specs.Parts.{OneType, first_kind}
+use Rattle.apollo_parser.specs.Promise.{Promise, PartPromise}
+use Rattle.apollo_parser.specs.Reads.{items_of}
 use Rattle.apollo_parser.specs.StringValues.{IsStringValue}
 use Rattle.apollo_parser.specs.Tokens.{IsString}
 use Rattle.dumyroke_flat.specs.declared.rows.ByteCount.{ByteCount}
@@ -72,20 +78,40 @@ pub record IsParse (source : List ℕ) (max_depth max_items : ℕ) (parsed : Par
   pub utf8 : IsUtf8 source
   pub promise : Promise source max_depth max_items parsed
 
--- The text has too many bytes, or its tree too many elements, for rows of 32 bits.
-abbrev pub IsTooLong : List ℕ → ℕ → ℕ → Type 0
-IsTooLong source max_depth max_items =
-    (2 ^ 32 ≤ length source) ⊎ ((parsed : Parsed) × IsParse source max_depth max_items parsed × (2 ^ 32 ≤ length (order parsed.tree)))
+-- The same of its parse as a selection set, and `Parser::parse_selection_set`.
+pub record IsSelectionSetParse (source : List ℕ) (max_depth max_items : ℕ) (parsed : Parsed) : Type 0 where
+  pub utf8 : IsUtf8 source
+  pub promise : PartPromise selections source max_depth max_items parsed
+  pub one_selection_set : (kids : Forest) × (parsed.tree ≡ node kind.SELECTION_SET kids none)
 
--- What a parse gives, from the buffers before it, the buffers after it, and the counts that it answers.
-pub record Outcome (source : List ℕ) (max_depth max_items : ℕ) (before after : Buffers) (counts : Counts) : Type 0 where
+-- The same of its parse as a type, and `Parser::parse_type`.
+pub record IsTypeParse (source : List ℕ) (max_depth max_items : ℕ) (parsed : Parsed) : Type 0 where
+  pub utf8 : IsUtf8 source
+  pub promise : PartPromise type source max_depth max_items parsed
+  pub one_type : OneType (first_kind (limited max_items (items_of source))) parsed.tree
+
+-- The text has too many bytes, or its tree too many elements, for rows of 32 bits.
+abbrev pub IsTooLong : (Parsed → Type 0) → List ℕ → Type 0
+IsTooLong P source = (2 ^ 32 ≤ length source) ⊎ ((parsed : Parsed) × P parsed × (2 ^ 32 ≤ length (order parsed.tree)))
+
+-- What a parse gives, from the buffers before it, the buffers after it, and the counts that it answers. It is one of which `P` holds.
+pub record ParseOutcome (P : Parsed → Type 0) (source : List ℕ) (before after : Buffers) (counts : Counts) : Type 0 where
   -- the buffers and the counts are those of a parse of the text
-  pub ok : counts.status ≡ OK → (parsed : Parsed) × IsParse source max_depth max_items parsed × (after ≡ written before parsed) × (counts ≡ counts_of parsed)
+  pub ok : counts.status ≡ OK → (parsed : Parsed) × P parsed × (after ≡ written before parsed) × (counts ≡ counts_of parsed)
   pub not_utf8 : counts.status ≡ NOT_UTF8 → ¬ IsUtf8 source
-  pub too_long : counts.status ≡ TOO_LONG → IsTooLong source max_depth max_items
+  pub too_long : counts.status ≡ TOO_LONG → IsTooLong P source
   -- nothing was written
   pub refused : counts.status ≢ OK → (after ≡ before) × (counts ≡ no_counts counts.status)
   pub known : Contains (OK ∷ NOT_UTF8 ∷ TOO_LONG ∷ NO_MEMORY ∷ []) counts.status
+
+abbrev pub Outcome : List ℕ → ℕ → ℕ → Buffers → Buffers → Counts → Type 0
+Outcome source max_depth max_items = ParseOutcome (IsParse source max_depth max_items) source
+
+abbrev pub SelectionSetOutcome : List ℕ → ℕ → ℕ → Buffers → Buffers → Counts → Type 0
+SelectionSetOutcome source max_depth max_items = ParseOutcome (IsSelectionSetParse source max_depth max_items) source
+
+abbrev pub TypeOutcome : List ℕ → ℕ → ℕ → Buffers → Buffers → Counts → Type 0
+TypeOutcome source max_depth max_items = ParseOutcome (IsTypeParse source max_depth max_items) source
 
 -- ---- one text
 

@@ -6,18 +6,18 @@ ghost use Rattle.apollo_parser.specs.Order.{nowhere, order};
 ghost use Rattle.dumyroke_flat.specs.Rows.{element_row, element_rows, filled};
 
 use crate::rows::ElementRow;
-use apollo_parser::{DocumentRoot, IndexedElement, SyntaxTree};
+use apollo_parser::{IndexedElement, Root, SyntaxTree};
 use std::alloc::Allocator;
 
 // An element that the tree has.
-fn element_at<A: Allocator>(tree: &SyntaxTree<DocumentRoot, A>, index: usize) -> IndexedElement
+fn element_at<R: Root, A: Allocator>(tree: &SyntaxTree<R, A>, index: usize) -> IndexedElement
     requires { index < length (order tree.now.tree) }
     ensures { result ≡ indexed (record { whole = tree.now.tree; index = index }) }
 {
     tree.element(index).unwrap()
 }
 
-fn row_of<A: Allocator>(tree: &SyntaxTree<DocumentRoot, A>, index: usize) -> ElementRow
+fn row_of<R: Root, A: Allocator>(tree: &SyntaxTree<R, A>, index: usize) -> ElementRow
     requires there { index < length (order tree.now.tree) }
     requires few { length (order tree.now.tree) < 2 ^ 32 }
     requires short { length (text tree.now.tree) < 2 ^ 32 }
@@ -35,7 +35,7 @@ fn row_of<A: Allocator>(tree: &SyntaxTree<DocumentRoot, A>, index: usize) -> Ele
 }
 
 /// Writes the rows of a tree's elements, as far as there is room.
-pub fn write_elements<A: Allocator>(tree: &SyntaxTree<DocumentRoot, A>, rows: &mut [ElementRow])
+pub fn write_elements<R: Root, A: Allocator>(tree: &SyntaxTree<R, A>, rows: &mut [ElementRow])
     requires few { length (order tree.now.tree) < 2 ^ 32 }
     requires short { length (text tree.now.tree) < 2 ^ 32 }
     ensures { rows.new ≡ filled rows.old (element_rows tree.now.tree) }

@@ -1,59 +1,37 @@
-// A parse into rows.
-ghost use Rattle.std.specs.Prelude.{◌≡◌, ◌<◌, ◌^◌, length};
-ghost use Rattle.dumyroke_flat.specs.Outcomes.{Outcome, no_counts};
+// Parses into rows: of a document, a selection set or a type.
+ghost use Rattle.std.specs.Prelude.{◌≡◌, ℕ, List, ◌<◌, ◌^◌, length};
+ghost use Rattle.apollo_parser.specs.Forests.{text};
+ghost use Rattle.dumyroke_flat.specs.Outcomes.{Outcome, ParseOutcome, SelectionSetOutcome, TypeOutcome};
 
 use crate::elements::write_elements;
-use crate::errors::{ends_fit, message_bytes, write_errors, write_messages};
+use crate::errors::{counted_bytes, write_found};
 use crate::rows::{Counts, ElementRow, ErrorRow, status};
-use apollo_parser::{Limits, Parser};
+use crate::source::{refused, text_of};
+use apollo_parser::{Limits, Parser, Root, SyntaxTree};
 use std::alloc::Allocator;
 
-// Nothing was written.
-fn refused(status: u32) -> Counts
-    ensures { result ≡ no_counts status }
-{
-    Counts {
-        elements: 0,
-        errors: 0,
-        message_bytes: 0,
-        recursion_high: 0,
-        token_high: 0,
-        status,
-    }
-}
-
-// The parse of a text that is UTF-8 and not too long.
-fn parse_text<A: Allocator + Copy>(
-    alloc: A,
-    source: &str,
-    limits: Limits,
+// Writes the tree and the errors of a parse, each as far as there is room.
+fn write_parse<R: Root, A: Allocator>(
+    tree: &SyntaxTree<R, A>,
     elements: &mut [ElementRow],
     errors: &mut [ErrorRow],
     messages: &mut [u8],
 ) -> Counts
-    requires { length source.now < 2 ^ 32 }
-    ensures { Outcome source.now limits.recursion limits.tokens (record { elements = elements.old; errors = errors.old; messages = messages.old })
+    requires { length (text tree.now.tree) < 2 ^ 32 }
+    ensures { (source : List ℕ) → ParseOutcome (λ parsed. parsed ≡ tree.now) source
+        (record { elements = elements.old; errors = errors.old; messages = messages.old })
         (record { elements = elements.new; errors = errors.new; messages = messages.new }) result }
 {
-    let Ok(tree) = Parser::within(source, limits).parse(alloc) else {
-        return refused(status::NO_MEMORY);
-    };
     let element_count = tree.element_count();
     if element_count > u32::MAX as usize {
         return refused(status::TOO_LONG);
     }
     let found = tree.errors().as_slice();
-    // These two never happen: each error is about a text of the source, and the messages of all, which are in memory, are fewer bytes than
-    // a `usize` counts. No clause of the parser says so, and the proof that follows from its clauses is longer than two tests.
-    let Some(message_bytes) = message_bytes(found) else {
+    let Some(message_bytes) = counted_bytes(found) else {
         return refused(status::NO_MEMORY);
     };
-    if !ends_fit(found) {
-        return refused(status::NO_MEMORY);
-    }
-    write_elements(&tree, elements);
-    write_errors(found, errors);
-    write_messages(found, messages);
+    write_elements(tree, elements);
+    write_found(found, errors, messages);
     Counts {
         elements: element_count,
         errors: found.len(),
@@ -79,11 +57,61 @@ pub fn parse_into<A: Allocator + Copy>(
     ensures { Outcome source.now limits.recursion limits.tokens (record { elements = elements.old; errors = errors.old; messages = messages.old })
         (record { elements = elements.new; errors = errors.new; messages = messages.new }) result }
 {
-    if source.len() > u32::MAX as usize {
-        return refused(status::TOO_LONG);
+    let text = match text_of(source) {
+        Ok(text) => text,
+        Err(status) => return refused(status),
+    };
+    match Parser::within(text, limits).parse(alloc) {
+        Ok(tree) => write_parse(&tree, elements, errors, messages),
+        Err(_) => refused(status::NO_MEMORY),
     }
-    match std::str::from_utf8(source) {
-        Ok(text) => parse_text(alloc, text, limits, elements, errors, messages),
-        Err(_) => refused(status::NOT_UTF8),
+}
+
+/// Parses a selection set (GraphQL October 2021, section 2.4, "Selection Sets"), with its outer braces or with both left away, and writes as
+/// `parse_into` does. What follows the selection set is not in the tree.
+///
+/// What it promises is `SelectionSetOutcome` in `specs/Outcomes.antt`.
+pub fn parse_selection_set_into<A: Allocator + Copy>(
+    alloc: A,
+    source: &[u8],
+    limits: Limits,
+    elements: &mut [ElementRow],
+    errors: &mut [ErrorRow],
+    messages: &mut [u8],
+) -> Counts
+    ensures { SelectionSetOutcome source.now limits.recursion limits.tokens (record { elements = elements.old; errors = errors.old; messages = messages.old })
+        (record { elements = elements.new; errors = errors.new; messages = messages.new }) result }
+{
+    let text = match text_of(source) {
+        Ok(text) => text,
+        Err(status) => return refused(status),
+    };
+    match Parser::within(text, limits).parse_selection_set(alloc) {
+        Ok(tree) => write_parse(&tree, elements, errors, messages),
+        Err(_) => refused(status::NO_MEMORY),
+    }
+}
+
+/// Parses a type (GraphQL October 2021, section 2.11, "Type References"), and writes as `parse_into` does. What follows the type is not in the tree.
+///
+/// What it promises is `TypeOutcome` in `specs/Outcomes.antt`.
+pub fn parse_type_into<A: Allocator + Copy>(
+    alloc: A,
+    source: &[u8],
+    limits: Limits,
+    elements: &mut [ElementRow],
+    errors: &mut [ErrorRow],
+    messages: &mut [u8],
+) -> Counts
+    ensures { TypeOutcome source.now limits.recursion limits.tokens (record { elements = elements.old; errors = errors.old; messages = messages.old })
+        (record { elements = elements.new; errors = errors.new; messages = messages.new }) result }
+{
+    let text = match text_of(source) {
+        Ok(text) => text,
+        Err(status) => return refused(status),
+    };
+    match Parser::within(text, limits).parse_type(alloc) {
+        Ok(tree) => write_parse(&tree, elements, errors, messages),
+        Err(_) => refused(status::NO_MEMORY),
     }
 }

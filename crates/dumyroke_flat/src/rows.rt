@@ -63,17 +63,33 @@ pub struct ErrorRow {
 
 const _: () = prove!(size_of::<ErrorRow>() == 40);
 
+/// An item of a text: a token, bad text, the end, or the token limit where it was met.
+#[repr(C)]
+#[derive(Clone, Copy)]
+pub struct ItemRow {
+    /// The byte offset at which its text begins.
+    pub start: u32,
+    /// The byte offset at which its text has ended.
+    pub end: u32,
+    /// The number of its kind, which is its leaf's in a tree: IDENT for each name; ERROR for bad text, the end and the limit.
+    pub kind: u16,
+    /// 1 for bad text and for the limit, 0 for a token and for the end.
+    pub is_error: u16,
+}
+
+const _: () = prove!(size_of::<ItemRow>() == 12);
+
 /// How a parse ended, and how much there is, whether or not the buffers had room for it. All numbers are 0 when it was refused.
 #[repr(C)]
 #[derive(Clone, Copy)]
 pub struct Counts {
-    /// How many elements the tree has.
+    /// How many elements the tree has; or items the text, and one more where the token limit is met.
     pub elements: usize,
     /// How many errors there are.
     pub errors: usize,
     /// How many bytes all messages have.
     pub message_bytes: usize,
-    /// The highest nesting, entered or refused.
+    /// The highest nesting, entered or refused; 0 where a text is only cut into its items.
     pub recursion_high: usize,
     /// How many items were read, and one more where the token limit is met.
     pub token_high: usize,

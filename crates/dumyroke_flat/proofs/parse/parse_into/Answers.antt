@@ -1,18 +1,18 @@
-use Rattle.std.proofs.Common.{◌≤◌, ◌^◌, length, sym, subst, inl, arith}
-use Rattle.dumyroke_flat.specs.declared.rows.Counts.{Counts}
-use Rattle.dumyroke_flat.specs.Outcomes.{Buffers, Outcome}
-use Rattle.dumyroke_flat.proofs.Outcomes.{of-not-utf8, of-too-long}
+use Rattle.std.proofs.Common.{◌∙◌, arith, ap, length}
+use Rattle.dumyroke_flat.specs.Outcomes.{IsParse}
+use Rattle.dumyroke_flat.proofs.Messages.{text-within}
+use Rattle.dumyroke_flat.proofs.Outcomes.{of-its-parse}
 use Rattle.dumyroke_flat.proofs.parse.parse_into.Goals as goal
 
-pub returns-then-source : goal.returns-then-source
-returns-then-source g c =
-    let room : Buffers = record { elements = c.args.elements.now; errors = c.args.errors.now; messages = c.args.messages.now } in
-    let long : 2 ^ 32 ≤ length c.args.source.now = omega arith in
-    subst (λ (n : Counts). Outcome c.args.source.now c.args.limits.recursion c.args.limits.tokens room room n) (sym c.refused.ensures)
-    (of-too-long c.args.source.now c.args.limits.recursion c.args.limits.tokens room (inl long))
+pub write_parse-requires : goal.write_parse-requires
+write_parse-requires g c =
+    let whole = text-within c.in-Ok-parse.tree c.in-Ok-parse.ensures.promise in
+    omega (arith, whole, c.in-Ok.ensures.short, ap length c.within.ensures.source, ap length c.in-Ok.ensures.text)
 
-pub returns-in-Err : goal.returns-in-Err
-returns-in-Err g c =
-    let room : Buffers = record { elements = c.args.elements.now; errors = c.args.errors.now; messages = c.args.messages.now } in
-    subst (λ (n : Counts). Outcome c.args.source.now c.args.limits.recursion c.args.limits.tokens room room n) (sym c.refused-in-Err.ensures)
-    (of-not-utf8 c.args.source.now c.args.limits.recursion c.args.limits.tokens room c.in-Err.ensures.cases.0)
+pub returns-in-Ok-parse : goal.returns-in-Ok-parse
+returns-in-Ok-parse g c =
+    of-its-parse IsParse _ _ _ _ _ _ c.in-Ok-parse.tree _ _ _ (c.within.ensures.source ∙ c.in-Ok.ensures.text)
+    c.within.ensures.recursion_limit c.within.ensures.token_limit (record {
+      utf8 = rw (c.within.ensures.source, c.in-Ok.ensures.text) c.in-Ok.ensures.utf8;
+      promise = c.in-Ok-parse.ensures.promise;
+    }) (c.write_parse.ensures c.args.source.now)

@@ -1,0 +1,34 @@
+//! Links the library, and says where it is: the folder in `DUMYROKE_LIB_DIR`; else `lib/TARGET` of this crate, where a package has it; else `build` of the
+//! repository that this crate lies in; else where pkg-config says. With `DUMYROKE_LINK=dylib` it is the shared library.
+use std::path::PathBuf;
+use std::process::Command;
+use std::{env, fs};
+
+fn pkg_config() -> Option<PathBuf> {
+    let program = env::var_os("PKG_CONFIG").unwrap_or_else(|| "pkg-config".into());
+    let found = Command::new(program).args(["--variable=libdir", "dumyroke"]).output().ok()?;
+    let folder = String::from_utf8(found.stdout).ok()?;
+    found.status.success().then(|| folder.trim().into())
+}
+
+fn main() {
+    for name in ["DUMYROKE_LIB_DIR", "DUMYROKE_LINK", "PKG_CONFIG", "PKG_CONFIG_PATH"] {
+        println!("cargo:rerun-if-env-changed={name}");
+    }
+    if env::var_os("DOCS_RS").is_some() {
+        return; // documentation needs no library
+    }
+    let (kind, file) = match env::var("DUMYROKE_LINK").as_deref() {
+        Ok("dylib") => ("dylib", "libdumyroke.so"),
+        _ => ("static", "libdumyroke.a"),
+    };
+    let crate_folder = PathBuf::from(env::var_os("CARGO_MANIFEST_DIR").unwrap());
+    let near = [crate_folder.join("lib").join(env::var("TARGET").unwrap()), crate_folder.join("../../build")];
+    let found = env::var_os("DUMYROKE_LIB_DIR").map(PathBuf::from).or_else(|| near.into_iter().find(|folder| folder.join(file).exists())).or_else(pkg_config);
+    let Some(folder) = found.and_then(|folder| fs::canonicalize(folder).ok()) else {
+        panic!("there is no {file}: DUMYROKE_LIB_DIR names its folder, or `tools/bindings install` of the repository puts it where pkg-config finds it");
+    };
+    println!("cargo:rerun-if-changed={}", folder.join(file).display());
+    println!("cargo:rustc-link-search=native={}", folder.display());
+    println!("cargo:rustc-link-lib={kind}=dumyroke");
+}

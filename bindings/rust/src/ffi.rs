@@ -1,0 +1,235 @@
+//! The calls of the library. All of the crate's `unsafe` is in this file.
+//!
+//! Why it is sound:
+//!
+//! - **What the library gets.** Texts are `&str`, so they are UTF-8, and nobody writes to them during a call. Each buffer is a `&mut` slice, which nothing
+//!   else reaches, with its own length. So the rules of docs/BINDINGS.md ("What a caller has to keep") hold. A pointer with the length 0 may dangle: the
+//!   library neither reads nor writes there.
+//! - **What the library writes.** It fills the first `min(count, room)` items of a buffer and nothing else: this is proved of it (`ok` of the outcomes in
+//!   crates/dumyroke_flat/specs), and `filled` takes it from there. Any bits are a value of these items, which are plain numbers.
+//! - **What the numbers say** is never trusted for memory safety. The rest of the crate uses indices, ranges and kinds with checks, and messages are
+//!   checked to be UTF-8. A wrong number would be a panic.
+//! - The library keeps no pointer after a call, has no state, takes its memory from `malloc`, and does not unwind. Any number of threads may call at
+//!   once.
+//! - A text that nests deeper than the stack holds, which takes a recursion limit far above 500, ends the process at the guard page of the thread.
+#![allow(unsafe_code)]
+#![deny(unsafe_op_in_unsafe_fn)]
+
+use crate::rows::{Counts, ElementRow, ErrorRow, ItemRow, Limits, NO_MEMORY, OK, TOO_LONG};
+use crate::{Error, SyntaxKind};
+use std::alloc::{handle_alloc_error, Layout};
+use std::mem::MaybeUninit;
+
+macro_rules! parse_calls {
+    ($($name:ident),*) => {
+        extern "C" {
+            $(fn $name(
+                text: *const u8,
+                text_length: usize,
+                limits: Limits,
+                elements: *mut MaybeUninit<ElementRow>,
+                element_room: usize,
+                errors: *mut MaybeUninit<ErrorRow>,
+                error_room: usize,
+                messages: *mut MaybeUninit<u8>,
+                message_room: usize,
+                counts: *mut Counts,
+            ) -> u32;)*
+        }
+    };
+}
+parse_calls!(dumyroke_parse, dumyroke_parse_selection_set, dumyroke_parse_type);
+
+extern "C" {
+    fn dumyroke_lex(
+        text: *const u8,
+        text_length: usize,
+        token_limit: usize,
+        items: *mut MaybeUninit<ItemRow>,
+        item_room: usize,
+        errors: *mut MaybeUninit<ErrorRow>,
+        error_room: usize,
+        messages: *mut MaybeUninit<u8>,
+        message_room: usize,
+        counts: *mut Counts,
+    ) -> u32;
+
+    fn dumyroke_string_value(literal: *const u8, literal_length: usize, value: *mut MaybeUninit<u8>, room: usize, bytes: *mut usize) -> u32;
+}
+
+/// What a text is parsed as.
+#[derive(Clone, Copy)]
+pub(crate) enum Sort {
+    Document,
+    SelectionSet,
+    Type,
+}
+
+impl Sort {
+    /// The kind of the root of a tree without elements below it.
+    pub(crate) fn root(self) -> SyntaxKind {
+        match self {
+            Sort::Document => SyntaxKind::DOCUMENT,
+            Sort::SelectionSet => SyntaxKind::SELECTION_SET,
+            Sort::Type => SyntaxKind::ERROR,
+        }
+    }
+}
+
+/// The text has 2^32 bytes or more, or its tree 2^32 elements or more.
+pub(crate) struct TooLong;
+
+/// What a call wrote.
+pub(crate) struct Found<T> {
+    pub(crate) rows: Vec<T>,
+    pub(crate) counts: Counts,
+    errors: Vec<ErrorRow>,
+    messages: Vec<u8>,
+}
+
+impl<T> Found<T> {
+    /// The errors of the text that was given.
+    pub(crate) fn errors(&self, text: &str) -> Vec<Error> {
+        self.errors.iter().map(|row| self.error(row, text)).collect()
+    }
+
+    fn error(&self, row: &ErrorRow, text: &str) -> Error {
+        let message = String::from_utf8_lossy(&self.messages[row.message..row.message + row.message_length]);
+        if row.is_limit != 0 {
+            Error::limit(message, row.start)
+        } else if row.is_eof != 0 {
+            Error::eof(message, row.start)
+        } else {
+            Error::with_loc(message, text[row.start..row.end].to_owned(), row.start)
+        }
+    }
+}
+
+/// The statuses of a text. The calls have no others for a `&str`.
+fn check(status: u32, text: &str) -> Result<(), TooLong> {
+    match status {
+        OK => Ok(()),
+        TOO_LONG => Err(TooLong),
+        // as where a Vec is refused memory
+        NO_MEMORY => handle_alloc_error(Layout::for_value(text)),
+        _ => unreachable!("libdumyroke has no status {status}"),
+    }
+}
+
+/// A vector of the items that a call wrote to its spare room.
+///
+/// # Safety
+///
+/// The vector is empty, and the first `count` items of its spare room were written.
+unsafe fn filled<T: Copy>(mut items: Vec<T>, count: usize) -> Vec<T> {
+    // SAFETY: these items were written, so the vector has room for them
+    unsafe { items.set_len(count) };
+    items
+}
+
+/// A copy of the items that a call wrote to a buffer.
+///
+/// # Safety
+///
+/// The first `count` items were written.
+unsafe fn copied<T: Copy>(items: &[MaybeUninit<T>], count: usize) -> Vec<T> {
+    // SAFETY: the caller says so
+    items[..count].iter().map(|item| unsafe { item.assume_init() }).collect()
+}
+
+/// Room for the errors of a first call, on the stack.
+const FEW_ERRORS: usize = 8;
+const FEW_BYTES: usize = 512;
+
+/// Calls with a guess of the room for rows and with room for few errors, and once more with room for all if that was too little.
+fn fill<T: Copy>(
+    text: &str,
+    guess: usize,
+    call: impl Fn(&mut [MaybeUninit<T>], &mut [MaybeUninit<ErrorRow>], &mut [MaybeUninit<u8>], &mut Counts) -> u32,
+) -> Result<Found<T>, TooLong> {
+    let mut counts = Counts::default();
+    let mut rows = Vec::new();
+    // a guess may ask for more memory than there is, where the rows need less: then the first call only counts them
+    let _ = rows.try_reserve_exact(guess);
+    let mut errors = [MaybeUninit::uninit(); FEW_ERRORS];
+    let mut messages = [MaybeUninit::uninit(); FEW_BYTES];
+    check(call(rows.spare_capacity_mut(), &mut errors, &mut messages, &mut counts), text)?;
+    if counts.elements <= rows.capacity() && counts.errors <= FEW_ERRORS && counts.message_bytes <= FEW_BYTES {
+        // SAFETY: the call had the status OK and this room, which is enough for what it counts, so it wrote all of it
+        let (rows, errors, messages) = unsafe { (filled(rows, counts.elements), copied(&errors, counts.errors), copied(&messages, counts.message_bytes)) };
+        return Ok(Found { rows, errors, messages, counts });
+    }
+    rows.reserve_exact(counts.elements);
+    let (mut errors, mut messages) = (Vec::with_capacity(counts.errors), Vec::with_capacity(counts.message_bytes));
+    check(call(rows.spare_capacity_mut(), errors.spare_capacity_mut(), messages.spare_capacity_mut(), &mut counts), text)?;
+    assert!(counts.elements <= rows.capacity() && counts.errors <= errors.capacity() && counts.message_bytes <= messages.capacity());
+    // SAFETY: as above
+    let (rows, errors, messages) = unsafe { (filled(rows, counts.elements), filled(errors, counts.errors), filled(messages, counts.message_bytes)) };
+    Ok(Found { rows, errors, messages, counts })
+}
+
+/// The elements and the errors of a text.
+pub(crate) fn parse(sort: Sort, text: &str, limits: Limits) -> Result<Found<ElementRow>, TooLong> {
+    let call = match sort {
+        Sort::Document => dumyroke_parse,
+        Sort::SelectionSet => dumyroke_parse_selection_set,
+        Sort::Type => dumyroke_parse_type,
+    };
+    // One element a byte, and some: each of 2,900 texts of other projects has no more, also without its white space. A text may have five a byte.
+    fill(text, text.len() + 64, |rows, errors, messages, counts| {
+        // SAFETY: each pointer comes with its length, and no two of the buffers overlap
+        unsafe {
+            call(
+                text.as_ptr(),
+                text.len(),
+                limits,
+                rows.as_mut_ptr(),
+                rows.len(),
+                errors.as_mut_ptr(),
+                errors.len(),
+                messages.as_mut_ptr(),
+                messages.len(),
+                counts,
+            )
+        }
+    })
+}
+
+/// The items of a text, as many as the limit allows, and their errors.
+pub(crate) fn lex(text: &str, token_limit: usize) -> Result<Found<ItemRow>, TooLong> {
+    let most = (text.len() + 1).min(token_limit.saturating_add(1));
+    fill(text, most, |items, errors, messages, counts| {
+        // SAFETY: as in `parse`
+        unsafe {
+            dumyroke_lex(
+                text.as_ptr(),
+                text.len(),
+                token_limit,
+                items.as_mut_ptr(),
+                items.len(),
+                errors.as_mut_ptr(),
+                errors.len(),
+                messages.as_mut_ptr(),
+                messages.len(),
+                counts,
+            )
+        }
+    })
+}
+
+/// The value of a string literal, which is given with its quotes; `None` if it is none.
+pub(crate) fn string_value(literal: &str) -> Option<String> {
+    let (mut value, mut bytes) = (Vec::with_capacity(literal.len()), 0);
+    let room: &mut [MaybeUninit<u8>] = value.spare_capacity_mut();
+    // SAFETY: as in `parse`
+    let status = unsafe { dumyroke_string_value(literal.as_ptr(), literal.len(), room.as_mut_ptr(), room.len(), &mut bytes) };
+    match status {
+        OK => {
+            assert!(bytes <= value.capacity());
+            // SAFETY: the call had the status OK and room for so many bytes, so it wrote all of them
+            String::from_utf8(unsafe { filled(value, bytes) }).ok()
+        }
+        NO_MEMORY => handle_alloc_error(Layout::for_value(literal)),
+        _ => None,
+    }
+}

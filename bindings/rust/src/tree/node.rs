@@ -1,0 +1,381 @@
+//! Nodes and tokens.
+use super::walk::siblings;
+use super::*;
+use crate::range::{TextRange, TextSize};
+use crate::TokenText;
+use std::fmt;
+use std::hash::{Hash, Hasher};
+use std::iter;
+
+/// A node of a tree: its kind, its bytes, and the elements around it.
+///
+/// Two nodes are equal when they are the same element of the same parse. Printed with `{}` a node is its text, with `{:?}` its kind and its range, and with
+/// `{:#?}` a line for each element at or below it.
+#[derive(Clone)]
+pub struct SyntaxNode {
+    share: Share,
+    index: u32,
+}
+
+/// A token of a tree: white space, a comment, a comma, a punctuator, a word, a number, a string, or refused text (`ERROR`).
+///
+/// Two tokens are equal when they are the same element of the same parse. Printed with `{}` a token is its text, with `{:?}` its kind, its range and its
+/// text, which is cut short if it is long.
+#[derive(Clone)]
+pub struct SyntaxToken {
+    share: Share,
+    index: u32,
+}
+
+impl Share {
+    pub(super) fn node(&self, index: u32) -> SyntaxNode {
+        SyntaxNode { share: self.clone(), index }
+    }
+
+    pub(super) fn token(&self, index: u32) -> Option<SyntaxToken> {
+        self.is_token(index).then(|| SyntaxToken { share: self.clone(), index })
+    }
+
+    pub(super) fn element(&self, index: u32) -> SyntaxElement {
+        let share = self.clone();
+        if self.is_token(index) {
+            NodeOrToken::Token(SyntaxToken { share, index })
+        } else {
+            NodeOrToken::Node(SyntaxNode { share, index })
+        }
+    }
+}
+
+/// The calls that nodes and tokens have alike.
+macro_rules! elements {
+    ($($name:ident, $variant:ident;)*) => {
+        $(impl $name {
+            /// Its kind.
+            #[inline]
+            pub fn kind(&self) -> SyntaxKind {
+                self.share.kind(self.index)
+            }
+
+            /// Its bytes.
+            #[inline]
+            pub fn text_range(&self) -> TextRange {
+                self.share.range(self.index)
+            }
+
+            /// How many siblings come before it, tokens among them.
+            pub fn index(&self) -> usize {
+                self.share.place_among_siblings(self.index)
+            }
+
+            /// The node that it is a child of. The root has none.
+            pub fn parent(&self) -> Option<SyntaxNode> {
+                self.share.parent(self.index).map(|parent| self.share.node(parent))
+            }
+
+            /// The next child of its parent.
+            pub fn next_sibling_or_token(&self) -> Option<SyntaxElement> {
+                self.share.next_sibling(self.index).map(|sibling| self.share.element(sibling))
+            }
+
+            /// The child of its parent before it.
+            pub fn prev_sibling_or_token(&self) -> Option<SyntaxElement> {
+                self.share.previous_sibling(self.index).map(|sibling| self.share.element(sibling))
+            }
+
+            /// It and its siblings in a direction.
+            pub fn siblings_with_tokens(&self, direction: Direction) -> impl Iterator<Item = SyntaxElement> {
+                siblings(NodeOrToken::$variant(self.clone()), direction)
+            }
+        }
+
+        impl PartialEq for $name {
+            fn eq(&self, other: &Self) -> bool {
+                self.index == other.index && Arc::ptr_eq(self.share.tree(), other.share.tree())
+            }
+        }
+
+        impl Eq for $name {}
+
+        impl Hash for $name {
+            fn hash<H: Hasher>(&self, state: &mut H) {
+                (Arc::as_ptr(self.share.tree()), self.index).hash(state);
+            }
+        }
+
+        impl From<$name> for SyntaxElement {
+            fn from(element: $name) -> Self {
+                NodeOrToken::$variant(element)
+            }
+        })*
+    };
+}
+elements! {
+    SyntaxNode, Node;
+    SyntaxToken, Token;
+}
+
+impl SyntaxNode {
+    /// The root of a tree.
+    pub(crate) fn root_of(tree: &Arc<Tree>) -> SyntaxNode {
+        Share::new(Arc::clone(tree)).node(0)
+    }
+
+    /// The index after the node and all below it.
+    fn after(&self) -> u32 {
+        self.share.row(self.index).next
+    }
+
+    /// Its text, with white space and comments. `as_str` gives it as a `&str`.
+    pub fn text(&self) -> SyntaxText {
+        SyntaxText::new(self.share.clone(), self.text_range())
+    }
+
+    /// Its text, with white space and comments. (`rowan` has no such call.)
+    #[inline]
+    pub fn as_str(&self) -> &str {
+        self.share.text(self.index)
+    }
+
+    /// The node itself and all above it, up to the root.
+    pub fn ancestors(&self) -> impl Iterator<Item = SyntaxNode> {
+        iter::successors(Some(self.clone()), SyntaxNode::parent)
+    }
+
+    /// Its children that are nodes.
+    pub fn children(&self) -> SyntaxNodeChildren {
+        SyntaxNodeChildren(self.children_with_tokens())
+    }
+
+    /// All of its children.
+    pub fn children_with_tokens(&self) -> SyntaxElementChildren {
+        SyntaxElementChildren { share: self.share.clone(), next: self.index + 1, end: self.after() }
+    }
+
+    /// Its first child that is a node.
+    pub fn first_child(&self) -> Option<SyntaxNode> {
+        self.children().next()
+    }
+
+    /// Its last child that is a node.
+    pub fn last_child(&self) -> Option<SyntaxNode> {
+        let nodes = self.share.children(self.index).filter(|&child| !self.share.is_token(child));
+        nodes.last().map(|child| self.share.node(child))
+    }
+
+    /// Its first child.
+    pub fn first_child_or_token(&self) -> Option<SyntaxElement> {
+        self.share.children(self.index).next().map(|child| self.share.element(child))
+    }
+
+    /// Its last child.
+    pub fn last_child_or_token(&self) -> Option<SyntaxElement> {
+        self.share.children(self.index).last().map(|child| self.share.element(child))
+    }
+
+    /// The first child that is a node of a kind that passes a test.
+    #[inline]
+    pub(crate) fn first_child_of(&self, test: impl Fn(SyntaxKind) -> bool) -> Option<SyntaxNode> {
+        let tree: &Tree = &self.share;
+        let found = tree.children(self.index).find(|&child| !tree.is_token(child) && test(tree.kind(child)));
+        found.map(|child| self.share.node(child))
+    }
+
+    /// The first child that is a token of a kind.
+    #[inline]
+    pub(crate) fn first_token_of(&self, kind: SyntaxKind) -> Option<SyntaxToken> {
+        let tree: &Tree = &self.share;
+        let found = tree.children(self.index).find(|&child| tree.is_token(child) && tree.row(child).kind == kind as u16);
+        found.and_then(|child| self.share.token(child))
+    }
+
+    /// The next sibling that is a node.
+    pub fn next_sibling(&self) -> Option<SyntaxNode> {
+        self.siblings(Direction::Next).nth(1)
+    }
+
+    /// The last sibling before it that is a node.
+    pub fn prev_sibling(&self) -> Option<SyntaxNode> {
+        self.siblings(Direction::Prev).nth(1)
+    }
+
+    /// It and its siblings in a direction that are nodes.
+    pub fn siblings(&self, direction: Direction) -> impl Iterator<Item = SyntaxNode> {
+        self.siblings_with_tokens(direction).filter_map(NodeOrToken::into_node)
+    }
+
+    /// The first token below it.
+    pub fn first_token(&self) -> Option<SyntaxToken> {
+        (self.index..self.after()).find_map(|below| self.share.token(below))
+    }
+
+    /// The last token below it.
+    pub fn last_token(&self) -> Option<SyntaxToken> {
+        (self.index..self.after()).rev().find_map(|below| self.share.token(below))
+    }
+
+    /// The text of its first child, if that is a token; else no text.
+    pub(crate) fn first_token_text(&self) -> TokenText {
+        let first = self.share.children(self.index).next().filter(|&child| self.share.is_token(child));
+        let (start, end) = first.map_or((0, 0), |child| (self.share.row(child).start, self.share.row(child).end));
+        TokenText::new(Arc::clone(self.share.tree()), start, end)
+    }
+
+    /// The same as a `&str`.
+    pub(crate) fn first_token_str(&self) -> &str {
+        let first = self.share.children(self.index).next().filter(|&child| self.share.is_token(child));
+        first.map_or("", |child| self.share.text(child))
+    }
+
+    /// The empty text.
+    pub(crate) fn no_text(&self) -> TokenText {
+        TokenText::new(Arc::clone(self.share.tree()), 0, 0)
+    }
+
+    /// The node itself and all nodes below it, in document order.
+    pub fn descendants(&self) -> impl Iterator<Item = SyntaxNode> {
+        self.descendants_with_tokens().filter_map(NodeOrToken::into_node)
+    }
+
+    /// The node itself and all elements below it, in document order.
+    pub fn descendants_with_tokens(&self) -> impl Iterator<Item = SyntaxElement> {
+        let share = self.share.clone();
+        (self.index..self.after()).map(move |below| share.element(below))
+    }
+
+    /// A walk that enters and leaves the node and each node below it.
+    pub fn preorder(&self) -> Preorder {
+        Preorder(self.preorder_with_tokens())
+    }
+
+    /// A walk that enters and leaves the node and each element below it.
+    pub fn preorder_with_tokens(&self) -> PreorderWithTokens {
+        PreorderWithTokens::new(self.share.clone(), self.index)
+    }
+
+    /// The tokens at a place: two if it is where one ends and the next begins. Panics if the place is outside the node.
+    pub fn token_at_offset(&self, offset: TextSize) -> TokenAtOffset<SyntaxToken> {
+        let range = self.text_range();
+        assert!(range.contains_inclusive(offset), "the offset {offset:?} is outside the node {self:?}");
+        // down to the elements that touch the place, past all others
+        let touches = |index: u32| !self.share.range(index).is_empty() && self.share.range(index).contains_inclusive(offset);
+        let (mut index, mut found) = (self.index, Vec::new());
+        while index < self.after() && found.len() < 2 {
+            let is_inside = touches(index);
+            if is_inside {
+                found.extend(self.share.token(index));
+            }
+            index = if is_inside { index + 1 } else { self.share.row(index).next };
+        }
+        match (found.pop(), found.pop()) {
+            (Some(right), Some(left)) => TokenAtOffset::Between(left, right),
+            (Some(one), None) => TokenAtOffset::Single(one),
+            _ => TokenAtOffset::None,
+        }
+    }
+
+    /// The smallest element whose range has this range in it. Panics if the range is not within the node's.
+    pub fn covering_element(&self, range: TextRange) -> SyntaxElement {
+        assert!(self.text_range().contains_range(range), "the range {range:?} is not within the node {self:?}");
+        let covers = |&child: &u32| self.share.range(child).contains_range(range);
+        let covering = iter::successors(Some(self.index), |&index| self.share.children(index).find(covers));
+        self.share.element(covering.last().unwrap_or(self.index))
+    }
+
+    /// The first child whose range has this range in it.
+    pub fn child_or_token_at_range(&self, range: TextRange) -> Option<SyntaxElement> {
+        let found = self.share.children(self.index).find(|&child| self.share.range(child).contains_range(range));
+        found.map(|child| self.share.element(child))
+    }
+
+    /// The node as the root of a tree of its own, with ranges from 0 on.
+    pub fn clone_subtree(&self) -> SyntaxNode {
+        let start = self.share.row(self.index).start;
+        let moved = |row: &ElementRow| ElementRow {
+            start: row.start - start,
+            end: row.end - start,
+            parent: row.parent.saturating_sub(self.index),
+            next: row.next - self.index,
+            ..*row
+        };
+        let rows = self.share.rows[self.index as usize..self.after() as usize].iter();
+        SyntaxNode::root_of(&Arc::new(Tree { text: self.as_str().into(), rows: rows.map(moved).collect() }))
+    }
+
+    /// The first node at or below it with a kind and a range.
+    pub(super) fn find(&self, kind: SyntaxKind, range: TextRange) -> Option<SyntaxNode> {
+        let tree: &Tree = &self.share;
+        let is_it = |&below: &u32| !tree.is_token(below) && tree.kind(below) == kind && tree.range(below) == range;
+        (self.index..self.after()).find(is_it).map(|below| self.share.node(below))
+    }
+}
+
+impl SyntaxToken {
+    /// Its text.
+    #[inline]
+    pub fn text(&self) -> &str {
+        self.share.text(self.index)
+    }
+
+    /// The nodes above it, up to the root.
+    pub fn parent_ancestors(&self) -> impl Iterator<Item = SyntaxNode> {
+        iter::successors(self.parent(), SyntaxNode::parent)
+    }
+
+    /// The next token of the tree.
+    pub fn next_token(&self) -> Option<SyntaxToken> {
+        (self.index + 1..self.share.row(0).next).find_map(|index| self.share.token(index))
+    }
+
+    /// The token of the tree before it.
+    pub fn prev_token(&self) -> Option<SyntaxToken> {
+        (0..self.index).rev().find_map(|index| self.share.token(index))
+    }
+}
+
+impl fmt::Display for SyntaxNode {
+    fn fmt(&self, f: &mut fmt::Formatter<'_>) -> fmt::Result {
+        f.write_str(self.as_str())
+    }
+}
+
+impl fmt::Display for SyntaxToken {
+    fn fmt(&self, f: &mut fmt::Formatter<'_>) -> fmt::Result {
+        f.write_str(self.text())
+    }
+}
+
+impl fmt::Debug for SyntaxNode {
+    fn fmt(&self, f: &mut fmt::Formatter<'_>) -> fmt::Result {
+        if !f.alternate() {
+            return write!(f, "{:?}@{:?}", self.kind(), self.text_range());
+        }
+        let mut level = 0;
+        for event in self.preorder_with_tokens() {
+            match event {
+                WalkEvent::Enter(NodeOrToken::Node(node)) => writeln!(f, "{:1$}{node:?}", "", 2 * level)?,
+                WalkEvent::Enter(NodeOrToken::Token(token)) => writeln!(f, "{:1$}{token:?}", "", 2 * level)?,
+                WalkEvent::Leave(_) => {
+                    level -= 1;
+                    continue;
+                }
+            }
+            level += 1;
+        }
+        Ok(())
+    }
+}
+
+/// The longest text, in bytes, that a printed token has in full.
+const SHOWN: usize = 24;
+
+impl fmt::Debug for SyntaxToken {
+    fn fmt(&self, f: &mut fmt::Formatter<'_>) -> fmt::Result {
+        let text = self.text();
+        write!(f, "{:?}@{:?} ", self.kind(), self.text_range())?;
+        if text.len() <= SHOWN {
+            return write!(f, "{text:?}");
+        }
+        let cut = text.char_indices().map(|(place, _)| place).find(|&place| place >= SHOWN - 3).unwrap_or(text.len());
+        write!(f, "{:?}", format!("{} ...", &text[..cut]))
+    }
+}
