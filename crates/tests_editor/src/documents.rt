@@ -23,10 +23,11 @@ const OFFSETS: [(PositionEncoding, usize); 7] = [
 ];
 
 fn put_position(
+    alloc: Global,
     found: &mut String,
-    lines: &LineIndex<'_>,
     (encoding, offset): (PositionEncoding, usize),
 ) -> Result<(), AllocError> {
+    let lines = LineIndex::new(alloc, TEXT)?;
     if offset > TEXT.len() {
         return Ok(());
     }
@@ -78,10 +79,10 @@ fn put_offsets(found: &mut String, lines: &LineIndex<'_>, rows: &[Row]) -> Resul
 }
 
 fn put_places(alloc: Global, found: &mut String) -> Result<(), AllocError> {
-    let lines = LineIndex::new(alloc, TEXT)?;
     for row in OFFSETS {
-        put_position(found, &lines, row)?;
+        put_position(alloc, found, row)?;
     }
+    let lines = LineIndex::new(alloc, TEXT)?;
     put_offsets(found, &lines, &POSITIONS)?;
     put_offsets(found, &lines, &OTHER_POSITIONS)
 }

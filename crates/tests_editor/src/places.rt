@@ -9,7 +9,8 @@ const TEXT: &str = "a\n\u{e9}b\r\n\rx\u{1F600}y";
 const OFFSETS: [usize; 7] = [1, 2, 4, 6, 7, 13, 14];
 
 // The line of an offset, its columns in bytes, in characters and in units of UTF-16, and the text of the line.
-fn put_place(found: &mut String, index: &LineIndex<'_>, offset: usize) -> Result<(), AllocError> {
+fn put_place(alloc: Global, found: &mut String, offset: usize) -> Result<(), AllocError> {
+    let index = LineIndex::new(alloc, TEXT)?;
     if offset > TEXT.len() {
         return Ok(());
     }
@@ -20,10 +21,10 @@ fn put_place(found: &mut String, index: &LineIndex<'_>, offset: usize) -> Result
 }
 
 pub fn put_answers(alloc: Global, found: &mut String) -> Result<(), AllocError> {
-    let index = LineIndex::new(alloc, TEXT)?;
     for offset in OFFSETS {
-        put_place(found, &index, offset)?;
+        put_place(alloc, found, offset)?;
     }
+    let index = LineIndex::new(alloc, TEXT)?;
     put(found, &index.line_count(), " ")?;
     put(found, &index.line_start(1), "\n")
 }

@@ -4,4 +4,4 @@ use Rattle.tests_editor.proofs.messages.put_notice.Goals as goal
 
 -- the parameters are {"a": true}
 pub notice-requires : goal.notice-requires
-notice-requires g c = record { members = member (97 ∷ []) (boolean true) no_members; is = refl }
+notice-requires c = record { members = member (97 ∷ []) (boolean true) no_members; is = refl }
