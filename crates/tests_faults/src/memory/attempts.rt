@@ -195,11 +195,11 @@ fn read_string(
 }
 
 // What a call gives over a tree that was parsed with ample memory.
-fn given_by(
-    heap: &Heap,
+fn given_by<'h>(
+    heap: &'h Heap,
     alloc: Global,
     call: Call,
-    tree: &SyntaxTree<DocumentRoot, &Heap>,
+    tree: &SyntaxTree<DocumentRoot, &'h Heap>,
     node: SyntaxNode<'_>,
 ) -> Result<Option<String>, AllocError> {
     match call {
@@ -207,7 +207,7 @@ fn given_by(
         Call::CloneErrors => clone_errors(heap, alloc, tree),
         Call::CopyText | Call::CopyInnerText => kept(alloc, node.source_string(heap)),
         Call::CloneSubtree | Call::CloneInnerSubtree => clone_subtree(heap, alloc, node),
-        Call::CopyToken => kept(alloc, TokenText::new(node.text()).to_string_in(heap)),
+        Call::CopyToken => kept(alloc, TokenText::new(tree.root().text()).to_string_in(heap)),
         _ => read_string(heap, alloc, tree.document()),
     }
 }
