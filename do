@@ -13,7 +13,7 @@ usage: ./do COMMAND
   quick-bindings     makes the library for C without a proof, in a minute, and runs its tests and those of Rust and Python
   gate               what a merge has to pass: quick, rt ci, and test
   test               the tests of the output of rt ci: formatted texts, C and Python, the page, editors, README
-  bench [NAME [..]]  measures the programs of `rt ci`: parse, hostile, stack, format, server, c or python, or else all of them
+  bench [NAME [..]]  measures the programs of `rt ci`: small, parse, hostile, stack, format, server, c or python, or else all of them
 LINES
 }
 
@@ -75,7 +75,7 @@ case $command in
         name=$1
         shift
         if [ "$name" = all ]; then
-            for each in parse hostile stack format server c python; do "bench/$each.py"; done
+            for each in small parse hostile stack format server c python; do "bench/$each.py"; done
         elif [ -x "bench/$name.py" ]; then
             exec "bench/$name.py" "$@"
         else

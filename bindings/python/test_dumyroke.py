@@ -217,6 +217,17 @@ class Calls(unittest.TestCase):
             dumyroke.format(HERO)
         self.assertEqual([error.line for error in caught.exception.errors], [1, 1])
 
+    def test_buffers(self):
+        """Calls share buffers, also after one that raised, and one that had too little room; a tree is its own."""
+        texts = [HERO, "{a b}" * 20000, QUERY, "{" * 3000, "scalar"]
+        trees = [dumyroke.parse(text) for text in texts]
+        with self.assertRaises(UnicodeDecodeError):
+            dumyroke.parse(b"\xff")
+        for text, tree in zip(texts, trees):
+            self.assertEqual("".join(token.text for token in tree.root.descendants_with_tokens if isinstance(token, dumyroke.Token)), text)
+            self.assertEqual("".join(item.text for item in dumyroke.lex(text)), text)
+            self.assertEqual([str(error) for error in tree.errors], [str(error) for error in dumyroke.check(text)])
+
     def test_threads(self):
         wrong = []
 

@@ -100,6 +100,41 @@ def test_python(folder):
     run(sys.executable, folder / tests.name, "-q", env={**os.environ, "PYTHONPATH": str(folder / "installed")})
 
 
+# Prints how many texts on standard input, which a zero ends, are parsed twice, as they are or without what a document may lack.
+COUNTING = r"""
+import re, sys
+from dumyroke import lex, library, parse
+
+def bare(text):
+    joined = ""
+    for item in lex(text):
+        if item.kind not in ("WHITESPACE", "COMMENT", "COMMA"):
+            joined += " " * bool(re.search(r'[\w"]$', joined) and re.match(r'[\w"-]', item.text)) + item.text
+    return joined
+
+def counted(*words):
+    global calls
+    calls += 1
+    return call(*words)
+
+texts = sys.stdin.buffer.read().split(b"\0")[:-1]
+call, library.parse, calls = library.parse, counted, 0
+for text in texts:
+    parse(text)
+    parse(bare(text))
+print(calls - 2 * len(texts), len(texts))
+"""
+
+
+def test_room(_folder):
+    """None of the texts is parsed twice for want of room. Python and dumyroke_tree.h guess the same."""
+    joined = b"".join(text + b"\0" for text in texts() if b"\0" not in text)
+    ended = run(sys.executable, "-c", COUNTING, input=joined, stdout=subprocess.PIPE, env={**os.environ, "PYTHONPATH": str(PYTHON)})
+    twice, count = map(int, ended.stdout.split())
+    if twice or not count:
+        stop(f"of {count} texts, {twice} are parsed twice")
+
+
 def test_install(folder):
     """The C example compiles with the installed files and flags."""
     install([f"PREFIX={folder}/usr", "DESTDIR="])
@@ -118,7 +153,7 @@ def test_install(folder):
         stop(f"fields.c writes {ended.stdout.decode()}")
 
 
-PARTS = (test_c, test_trees, test_install, test_rust, test_rust_trees, test_python)
+PARTS = (test_c, test_trees, test_install, test_rust, test_rust_trees, test_python, test_room)
 # The parts that compare with the program gqlcst, which `rt ci` builds.
 COMPARING = (test_trees, test_rust_trees)
 

@@ -51,24 +51,26 @@ static inline void dumyroke_tree_free(dumyroke_tree *tree)
     memset(tree, 0, sizeof *tree);
 }
 
-/* Takes memory for so many elements, errors and bytes of messages. Gives 0 if it was refused. */
+/* Takes memory for so many elements, errors and bytes of messages. Gives 0 if it was refused. The memory is not cleared: a parse writes all that is read. */
 static inline int dumyroke_tree_allocate(dumyroke_tree *tree, const dumyroke_counts *room)
 {
-    tree->elements = (dumyroke_element *)calloc(room->elements + 1, sizeof(dumyroke_element));
-    tree->errors = (dumyroke_error *)calloc(room->errors + 1, sizeof(dumyroke_error));
-    tree->messages = (uint8_t *)calloc(room->message_bytes + 1, 1);
+    tree->elements = (dumyroke_element *)malloc((room->elements + 1) * sizeof(dumyroke_element));
+    tree->errors = (dumyroke_error *)malloc((room->errors + 1) * sizeof(dumyroke_error));
+    tree->messages = (uint8_t *)malloc(room->message_bytes + 1);
     return tree->elements && tree->errors && tree->messages;
 }
 
 /* Parses a text into `tree`, which need not be initialised. Free the tree, unless the result is not DUMYROKE_OK: then it is empty.
  *
- * The first call has room for one element for each two bytes of text, which is enough for most. If it was not, a second one has room for all. */
+ * The first call has room for one element for each byte of text and 64 more: none of the texts that the project is tried with has more, also without its
+ * white space. A text may have five for each byte, and the guess may take more memory than there is: then a second call has just the room that it needs. */
 static inline uint32_t dumyroke_tree_parse(dumyroke_tree *tree, const char *text, size_t length, dumyroke_limits limits)
 {
     dumyroke_counts room;
     uint32_t status;
+    int is_guess = 1;
     memset(&room, 0, sizeof room);
-    room.elements = length / 2 + 64;
+    room.elements = length <= UINT32_MAX ? length + 64 : 0; /* a longer text has no tree */
     room.errors = 16;
     room.message_bytes = 1024;
     for (;;) {
@@ -82,10 +84,11 @@ static inline uint32_t dumyroke_tree_parse(dumyroke_tree *tree, const char *text
         if (status == DUMYROKE_OK && tree->counts.elements <= room.elements && tree->counts.errors <= room.errors
             && tree->counts.message_bytes <= room.message_bytes)
             return status;
-        room = tree->counts;
+        room = tree->counts; /* zeros unless the status is DUMYROKE_OK, so that the next call only counts */
         dumyroke_tree_free(tree);
-        if (status != DUMYROKE_OK)
+        if (status != DUMYROKE_OK && (status != DUMYROKE_NO_MEMORY || !is_guess))
             return status;
+        is_guess = 0;
     }
 }
 

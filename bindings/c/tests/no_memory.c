@@ -6,7 +6,8 @@
 
 #include "dumyroke_tree.h"
 
-enum { LENGTH = 1 << 24, BAD = 1 << 18, LITTLE = 1 << 20 };
+/* MIDDLE is too little memory for the text's parse with the room that dumyroke_tree_parse guesses, and enough with the room that it needs. */
+enum { LENGTH = 1 << 24, BAD = 1 << 18, LITTLE = 1 << 20, MIDDLE = 450 << 20 };
 
 static char text[LENGTH], bad[BAD];
 
@@ -42,13 +43,22 @@ static int all_give(uint32_t status)
     return is_right;
 }
 
+/* Whether a tree is there where the memory is less than a guess takes. */
+static int has_tree(void)
+{
+    dumyroke_tree tree;
+    int is_right = dumyroke_tree_parse(&tree, text, LENGTH, dumyroke_default_limits()) == DUMYROKE_OK && tree.elements[0].end == LENGTH;
+    dumyroke_tree_free(&tree);
+    return is_right;
+}
+
 int main(void)
 {
     size_t i;
     for (i = 0; i < LENGTH; i++)
         text[i] = i == 0 ? '{' : i == LENGTH - 1 ? '}' : i % 8 ? 'a' : ' ';
     memset(bad, '%', BAD);
-    if (!allow(LITTLE) || !all_give(DUMYROKE_NO_MEMORY) || !allow(0) || !all_give(DUMYROKE_OK)) {
+    if (!allow(LITTLE) || !all_give(DUMYROKE_NO_MEMORY) || !allow(MIDDLE) || !has_tree() || !allow(0) || !all_give(DUMYROKE_OK)) {
         fputs("no_memory: a wrong answer\n", stderr);
         return 1;
     }

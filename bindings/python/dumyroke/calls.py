@@ -3,6 +3,8 @@
 from __future__ import annotations
 
 import ctypes
+import functools
+import mmap
 from typing import Any
 
 from . import library, nodes
@@ -23,65 +25,112 @@ class NotADocument(ValueError):
         self.errors = errors
 
 
+# The bytes of a spare buffer for rows, enough for a text of 50 kB, and room for errors that is enough for most texts.
+_SPARE_BYTES = 1 << 20
+_FEW_ERRORS = 16
+_FEW_MESSAGE_BYTES = 1024
+
+
+def _pages(size: int) -> mmap.mmap:
+    """Memory that the system clears page by page, when it is written to. A process that is forked from this one has a copy."""
+    try:
+        return mmap.mmap(-1, max(size, 1), flags=mmap.MAP_PRIVATE | mmap.MAP_ANONYMOUS)
+    except OSError:
+        raise MemoryError(f"{size} bytes were refused") from None
+
+
 class _Buffers:
-    """Room for so many rows of a size, errors and bytes of messages."""
+    """Room for so many bytes of rows, errors and bytes of messages."""
 
-    def __init__(self, row_size: int, rows: int, errors: int, message_bytes: int):
-        self.room = rows, errors, message_bytes
-        self.rows = bytearray(rows * row_size)
+    def __init__(self, row_bytes: int, errors: int = _FEW_ERRORS, message_bytes: int = _FEW_MESSAGE_BYTES):
+        self.row_bytes, self.error_room, self.message_room = row_bytes, errors, message_bytes
+        self.rows = _pages(row_bytes)
         self.errors = (ErrorRow * max(errors, 1))()
-        self.messages = bytearray(message_bytes + 1)
+        self.messages = bytearray(max(message_bytes, 1))
+        self.counts = Counts()
+        # made once, since that takes as long as a small parse
+        self._places = library.place(self.rows), ctypes.byref(self.errors), library.place(self.messages), ctypes.byref(self.counts)
 
-    def fill(self, call: Any, source: bytes, limit: Limits | int) -> Counts:
-        """Has one of the library's calls fill the buffers, and says what there is."""
-        counts = Counts()
-        rows = library.place(self.rows) if self.rows else None
-        rows_room, errors_room, messages_room = self.room
-        messages = library.place(self.messages)
-        call(source, len(source), limit, rows, rows_room, self.errors, errors_room, messages, messages_room, ctypes.byref(counts))
+    def fill(self, call: Any, source: bytes, limit: Limits | int, row_size: int) -> bool:
+        """Has one of the library's calls fill the buffers, and says whether there was room for all. With a row size of 0 rows are left out."""
+        rows, errors, messages, place_of_counts = self._places
+        row_room = self.row_bytes // row_size if row_size else 0
+        call(source, len(source), limit, rows, row_room, errors, self.error_room, messages, self.message_room, place_of_counts)
+        counts = self.counts
         library.raise_for(counts.status, source)
-        return counts
+        has_rows = not row_size or counts.elements <= row_room
+        return has_rows and counts.errors <= self.error_room and counts.message_bytes <= self.message_room
+
+    def rows_of(self, row_size: int) -> bytes | memoryview:
+        """The rows that were written, as a copy if other calls write to the buffer."""
+        size = self.counts.elements * row_size
+        return self.rows[:size] if self.row_bytes == _SPARE_BYTES else memoryview(self.rows)[:size]
 
     def errors_of(self, source: bytes, positions: Positions) -> list[Error]:
         """The errors that were written."""
         found = []
-        for row in self.errors[: self.room[1]]:
+        for row in self.errors[: self.counts.errors]:
             message = self.messages[row.message : row.message + row.message_length].decode()
             data = source[row.start : row.end].decode()
             found.append(Error(message, data, (row.start, row.end), bool(row.is_limit), bool(row.is_eof), positions))
         return found
 
 
-def _filled(call: Any, source: bytes, limit: Limits | int, row_size: int, rows: int | None) -> tuple[_Buffers, Counts]:
-    """Buffers with all that there is: a second call is made if the first had too little room. With `rows` None these are left out."""
-    buffers = _Buffers(row_size, rows or 0, 16, 1024)
-    while True:
-        counts = buffers.fill(call, source, limit)
-        there = (0 if rows is None else counts.elements, counts.errors, counts.message_bytes)
-        if all(has <= room for has, room in zip(there, buffers.room)):
-            buffers.room = there
-            return buffers, counts
-        buffers = _Buffers(row_size, *there)
+# The buffers that no call is using, each of `_SPARE_BYTES`: as many as threads that called at once.
+_spare: list[_Buffers] = []
+
+
+def _taken(row_bytes: int) -> _Buffers:
+    """Buffers with so many bytes for rows at least, or with none where that was refused. A call that raises never gives them back."""
+    try:
+        return _spare.pop() if row_bytes <= _SPARE_BYTES else _Buffers(row_bytes)
+    except IndexError:
+        return _Buffers(_SPARE_BYTES)
+    except MemoryError:
+        return _Buffers(0)
+
+
+def _give_back(buffers: _Buffers) -> None:
+    if buffers.row_bytes == _SPARE_BYTES:
+        _spare.append(buffers)
+
+
+def _filled(call: Any, source: bytes, limit: Limits | int, row_size: int) -> _Buffers:
+    """Buffers with all that a call gives of a text, to be given back. With a row size of 0 rows are left out.
+
+    The first call has room for a row for each byte and 64 more: none of the texts that the project is tried with has more. A text may have five for each
+    byte: then a second call has room for all."""
+    guess = len(source) + 64 if len(source) < 2**32 else 0  # a longer text has no rows
+    buffers = _taken(guess * row_size)
+    while not buffers.fill(call, source, limit, row_size):
+        small, counts = buffers, buffers.counts
+        buffers = _Buffers(counts.elements * row_size, counts.errors, counts.message_bytes)
+        _give_back(small)
+    return buffers
+
+
+@functools.lru_cache
+def _limits(recursion_limit: int, token_limit: int | None) -> Limits:
+    for limit in (recursion_limit, token_limit):
+        if limit is not None and limit < 0:
+            raise ValueError("a limit is below 0")
+    return Limits(min(recursion_limit, NO_LIMIT), NO_LIMIT if token_limit is None else min(token_limit, NO_LIMIT))
 
 
 def _given(text: str | bytes, recursion_limit: int, token_limit: int | None) -> tuple[bytes, Limits]:
     if not isinstance(text, (str, bytes)):
         raise TypeError(f"a text is a str or bytes, and not {type(text).__name__}")
-    source = text.encode() if isinstance(text, str) else text
-    for limit in (recursion_limit, token_limit):
-        if limit is not None and limit < 0:
-            raise ValueError("a limit is below 0")
-    return source, Limits(min(recursion_limit, NO_LIMIT), NO_LIMIT if token_limit is None else min(token_limit, NO_LIMIT))
+    return text.encode() if isinstance(text, str) else text, _limits(recursion_limit, token_limit)
 
 
 def _parsed(call: Any, text: str | bytes, recursion_limit: int, token_limit: int | None) -> Tree[Any]:
     """The tree that one of the library's calls gives for a text."""
     source, limits = _given(text, recursion_limit, token_limit)
-    buffers, counts = _filled(call, source, limits, ELEMENT_SIZE, len(source) // 2 + 64)
-    del buffers.rows[counts.elements * ELEMENT_SIZE :]
-    positions = Positions(source)
-    errors = buffers.errors_of(source, positions)
-    return Tree(source, buffers.rows, errors, counts.recursion_high, counts.token_high, positions)
+    buffers, positions = _filled(call, source, limits, ELEMENT_SIZE), Positions(source)
+    errors, counts = buffers.errors_of(source, positions), buffers.counts
+    tree: Tree[Any] = Tree(source, buffers.rows_of(ELEMENT_SIZE), errors, counts.recursion_high, counts.token_high, positions)
+    _give_back(buffers)
+    return tree
 
 
 def parse(text: str | bytes, recursion_limit: int = 500, token_limit: int | None = None) -> Tree[nodes.Document]:
@@ -110,11 +159,11 @@ def lex(text: str | bytes, token_limit: int | None = None) -> list[Item]:
     """The items of a text in order, tokens and bad text, which join to it. If there are more than the limit allows, the end of the text counted,
     the limit is the last item. Exceptions are those of `parse`."""
     source, limits = _given(text, 0, token_limit)
-    buffers, counts = _filled(library.lex, source, limits.tokens, ITEM_SIZE, len(source) // 2 + 64)
-    positions = Positions(source)
-    errors = iter(buffers.errors_of(source, positions))
+    buffers, positions = _filled(library.lex, source, limits.tokens, ITEM_SIZE), Positions(source)
+    errors, rows = iter(buffers.errors_of(source, positions)), buffers.rows_of(ITEM_SIZE)
+    _give_back(buffers)
     found = []
-    for row in (ItemRow * counts.elements).from_buffer(buffers.rows):
+    for row in (ItemRow * (len(rows) // ITEM_SIZE)).from_buffer_copy(rows):
         error = next(errors) if row.is_error else None
         found.append(Item(NAMES[row.kind], source[row.start : row.end].decode(), (row.start, row.end), error, positions))
     if not found[-1].error:
@@ -125,8 +174,10 @@ def lex(text: str | bytes, token_limit: int | None = None) -> list[Item]:
 def check(text: str | bytes, recursion_limit: int = 500, token_limit: int | None = None) -> list[Error]:
     """The errors of a text. There are none exactly if it is a document within both limits. Limits and exceptions are those of `parse`."""
     source, limits = _given(text, recursion_limit, token_limit)
-    buffers, _ = _filled(library.parse, source, limits, ELEMENT_SIZE, None)
-    return buffers.errors_of(source, Positions(source))
+    buffers = _filled(library.parse, source, limits, 0)
+    errors = buffers.errors_of(source, Positions(source))
+    _give_back(buffers)
+    return errors
 
 
 def format(text: str | bytes, recursion_limit: int = 500, token_limit: int | None = None) -> str:

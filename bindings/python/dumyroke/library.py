@@ -5,6 +5,7 @@ from __future__ import annotations
 import ctypes
 import os
 from ctypes import POINTER, c_char, c_char_p, c_size_t, c_uint32, c_void_p
+from mmap import mmap
 from typing import Any
 
 from .rows import NO_MEMORY, NOT_A_STRING, NOT_UTF8, TOO_LONG, Counts, Limits
@@ -33,7 +34,7 @@ format_document.restype = c_uint32
 format_document.argtypes = [c_char_p, c_size_t, Limits, c_void_p, c_size_t, POINTER(c_size_t)]
 
 
-def place(buffer: bytearray) -> Any:
+def place(buffer: bytearray | mmap) -> Any:
     """A pointer to a buffer that is not empty. The buffer can't be resized while the pointer is there."""
     return ctypes.byref(c_char.from_buffer(buffer))
 

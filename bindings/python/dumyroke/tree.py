@@ -214,7 +214,7 @@ class Tree(Generic[R]):
     token_high: int
     """How many tokens were asked for, the end of the text among them, which is one above the limit where that was met."""
 
-    def __init__(self, source: bytes, elements: bytearray, errors: list[Error], recursion_high: int, token_high: int, positions: Positions):
+    def __init__(self, source: bytes, elements: bytes | memoryview, errors: list[Error], recursion_high: int, token_high: int, positions: Positions):
         self.errors, self.recursion_high, self.token_high = errors, recursion_high, token_high
         self._source, self._positions = source, positions
         # where offsets of bytes are those of characters

@@ -138,8 +138,8 @@ unsafe fn copied<T: Copy>(items: &[MaybeUninit<T>], count: usize) -> Vec<T> {
 }
 
 /// Room for the errors of a first call, on the stack.
-const FEW_ERRORS: usize = 8;
-const FEW_BYTES: usize = 512;
+const FEW_ERRORS: usize = 16;
+const FEW_BYTES: usize = 1024;
 
 /// Calls with a guess of the room for rows and with room for few errors, and once more with room for all if that was too little.
 fn fill<T: Copy>(
