@@ -8,7 +8,7 @@ use Rattle.apollo_parser.specs.Forests.{Forest}
 use Rattle.apollo_parser.specs.Numbered.{tree_of}
 use Rattle.apollo_parser.specs.Order.{Place}
 use Rattle.apollo_parser.specs.Parsed.{Parsed}
-use Rattle.apollo_parser.specs.Places.{bare}
+use Rattle.apollo_parser.specs.Placed.{bare}
 use Rattle.apollo_parser.specs.Promise.{Promise}
 use Rattle.apollo_parser.specs.ReadingBack.{FitsRow, ReadsAt, place}
 use Rattle.apollo_parser.specs.Roots.{one_node}

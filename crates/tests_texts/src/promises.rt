@@ -7,7 +7,7 @@ ghost use Rattle.apollo_parser.specs.Derivation.{document as document_sort};
 ghost use Rattle.apollo_parser.specs.FirstError.{NotLate};
 ghost use Rattle.apollo_parser.specs.Numbered.{tree_of};
 ghost use Rattle.apollo_parser.specs.Parsed.{IsLimit, IsTokenLimit, OfFirst, Recovers};
-ghost use Rattle.apollo_parser.specs.Places.{bare};
+ghost use Rattle.apollo_parser.specs.Placed.{bare};
 ghost use Rattle.apollo_parser.specs.ReadingBack.{ReadsAt, place};
 ghost use Rattle.apollo_parser.specs.Reads.{items_of};
 ghost use Rattle.apollo_parser.specs.Sentence.{OnlyDerivation, Sentence};
