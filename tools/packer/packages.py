@@ -1,0 +1,147 @@
+"""What a release holds, each package by its file's name."""
+
+import hashlib
+import importlib.util
+import re
+import shutil
+import subprocess
+import tempfile
+from pathlib import Path
+
+from binder.library import install
+from binder.shared import BUILD, PACKAGE, PYTHON, RUST, SITE, TOP, run, stop, version
+
+from .archives import File, ar, packed, tar
+
+PROGRAMS = ["gqlcst", "gqlfmt", "gqlls"]
+DOCUMENTS = ["README.md", "LICENSE", "docs/BINDINGS.md", "docs/DIFFERENCES.md", "docs/EDITORS.md", "docs/FORMAT.md", "docs/GRAMMAR.md", "docs/PROMISES.md"]
+
+
+def read(path, is_program=False):
+    if not path.exists():
+        stop(f"there is no {path}: `./do gate` comes first")
+    return File(path.read_bytes(), is_program)
+
+
+def under(folder, files):
+    return {f"{folder}/{name}": file for name, file in files.items()}
+
+
+def installed():
+    """Programs, libraries, headers, dumyroke.pc and documents, as they lie below /usr/local or /usr."""
+    files = {f"bin/{name}": read(TOP / f"crates/{name}/out/{name}", True) for name in PROGRAMS}
+    with tempfile.TemporaryDirectory() as name:
+        install([f"DESTDIR={name}", "PREFIX=/usr"])
+        for path in sorted(Path(name, "usr").rglob("*")):
+            inside = str(path.relative_to(Path(name, "usr")))
+            if path.is_symlink():
+                files[inside] = File(link=str(path.readlink()))
+            elif path.is_file():
+                files[inside] = read(path)
+    files |= {f"share/doc/dumyroke/{Path(name).name}": read(TOP / name) for name in DOCUMENTS}
+    return files
+
+
+def archive():
+    """For any Linux of this processor: to be unpacked below any folder."""
+    name = f"dumyroke-{version()}-linux-x86_64"
+    return f"{name}.tar.gz", packed(tar(under(name, installed())))
+
+
+def glibc(*paths):
+    """The newest version of glibc whose symbols these files name."""
+    found = [(0, 0)]
+    for path in paths:
+        names = subprocess.run(["objdump", "-T", path], stdout=subprocess.PIPE, text=True, check=True).stdout
+        found += [tuple(map(int, version)) for version in re.findall(r"GLIBC_(\d+)\.(\d+)", names)]
+    return max(found)
+
+
+def control(files, depends):
+    """The description of a Debian package."""
+    size = sum(len(file.content) for file in files.values()) // 1024
+    return f"""Package: dumyroke
+Version: {version()}
+Architecture: amd64
+Maintainer: Dumyroke
+Installed-Size: {size}
+Depends: libc6 (>= {depends[0]}.{depends[1]})
+Section: devel
+Priority: optional
+Description: GraphQL parser with a proof, formatter and language server
+ The programs gqlcst, gqlfmt and gqlls, and the library libdumyroke for C.
+"""
+
+
+def debian():
+    """A package for Debian and what comes from it."""
+    files = under("usr", installed())
+    programs = [TOP / f"crates/{name}/out/{name}" for name in PROGRAMS]
+    text = control(files, glibc(*programs, PACKAGE / "libdumyroke.so"))
+    sums = "".join(f"{hashlib.md5(file.content).hexdigest()}  {name}\n" for name, file in sorted(files.items()) if not file.link)
+    about = {"control": File(text.encode()), "md5sums": File(sums.encode()), "triggers": File(b"activate-noawait ldconfig\n")}
+    parts = [("debian-binary", b"2.0\n"), ("control.tar.gz", packed(tar(about))), ("data.tar.gz", packed(tar(files)))]
+    return f"dumyroke_{version()}_amd64.deb", ar(parts)
+
+
+def wheel():
+    """The Python package, for each Linux whose glibc has the symbols that the library names."""
+    described = importlib.util.spec_from_file_location("backend", PYTHON / "backend.py")
+    backend = importlib.util.module_from_spec(described)
+    described.loader.exec_module(backend)
+    major, minor = glibc(PACKAGE / "libdumyroke.so")
+    backend.tag = lambda: f"py3-none-manylinux_{major}_{minor}_x86_64"
+    with tempfile.TemporaryDirectory() as folder:
+        name = backend.build_wheel(folder)
+        return name, Path(folder, name).read_bytes()
+
+
+def crate():
+    """The Rust crate as cargo packages it, with the static library inside."""
+    with tempfile.TemporaryDirectory() as name:
+        folder = Path(name, "rust")
+        shutil.copytree(RUST, folder, ignore=shutil.ignore_patterns("target", "original", "Cargo.lock"))
+        library = folder / "lib/x86_64-unknown-linux-gnu"
+        library.mkdir(parents=True)
+        shutil.copy(BUILD / "libdumyroke.a", library)
+        run("cargo", "package", "--offline", "--quiet", "--no-verify", "--allow-dirty", cwd=folder)
+        file = folder / f"target/package/dumyroke-{version()}.crate"
+        return file.name, file.read_bytes()
+
+
+def page():
+    """The page, a folder for any static server."""
+    name = f"dumyroke-page-{version()}"
+    files = {str(path.relative_to(SITE)): read(path) for path in sorted(SITE.rglob("*")) if path.is_file()}
+    if not files:
+        stop(f"there is no page in {SITE}: `tools/bindings pages` makes it")
+    return f"{name}.tar.gz", packed(tar(under(name, files)))
+
+
+def proved():
+    """What the release is made of, and where its proof ends."""
+    words = {"stdout": subprocess.PIPE, "text": True, "check": True}
+    commit = subprocess.run(["git", "-C", TOP, "rev-parse", "HEAD"], **words).stdout.strip()
+    changed = subprocess.run(["git", "-C", TOP, "status", "--porcelain", "--untracked-files=no"], **words).stdout
+    kit = subprocess.run(["rt", "version"], **words).stdout.strip()
+    return f"""Dumyroke {version()}, from commit {commit}{" with changes" if changed else ""}, proved by {kit}.
+
+Programs: `run` of gqlcst_run, gqlfmt_run and gqlls_run is proved, with the devices of byte_devices; the system below them is trusted.
+libdumyroke, and so the Rust crate, the Python package and the page: each exported call is proved. Headers, Rust, Python, JavaScript and the page's memory
+are tested only.
+docs/PROMISES.md says what is proved. The provers and compilers of the kit, LLVM and the C library are trusted.
+"""
+
+
+def release():
+    """All files of a release, by their names."""
+    if not BUILD.exists():
+        stop("there is no build/: `./do gate` comes first")
+    makers = [archive, debian, wheel, page]
+    if shutil.which("cargo"):
+        makers.append(crate)
+    else:
+        print("there is no cargo: the Rust crate is left out")
+    files = dict(make() for make in makers) | {"PROVED.txt": proved().encode()}
+    sums = "".join(f"{hashlib.sha256(content).hexdigest()}  {name}\n" for name, content in sorted(files.items()))
+    return files | {"SHA256SUMS": sums.encode()}
