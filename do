@@ -13,7 +13,7 @@ usage: ./do COMMAND
   quick-bindings     makes the library for C without a proof, in a minute, and runs its tests and those of Rust and Python
   gate               what a merge has to pass: quick, rt ci, and test
   test               the tests of the output of rt ci: formatted texts, C and Python, the page, editors, README
-  release            makes build/release/ after the gate: programs, libraries, packages for Debian, Python and Rust, the page, and their sums
+  release [trial]    makes build/release/ after the gate: programs, libraries, packages for Debian, Python and Rust, the page; or tries them
   bench [NAME [..]]  measures the programs of `rt ci`: small, parse, hostile, stack, format, server, c or python, or else all of them
 LINES
 }
