@@ -36,8 +36,8 @@ def inside(root, command, **how):
 def try_package(root):
     """Installs the package, runs README's examples and begins a conversation with the server, and takes the package off again."""
     package = next((BUILD / "release").glob("*.deb"))
-    shutil.copy(package, root / "tmp")
-    run("chroot", root, "dpkg", "-i", f"/tmp/{package.name}", stdout=subprocess.DEVNULL)
+    shutil.copy(package, root)
+    run("chroot", root, "dpkg", "-i", package.name, cwd=root, stdout=subprocess.DEVNULL)
     tried = list(examples())
     for command, shown in tried:
         written = inside(root, command)

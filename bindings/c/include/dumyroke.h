@@ -83,7 +83,7 @@ typedef struct dumyroke_counts {
     size_t message_bytes;
     /* The deepest level that was tried. It is one above the limit where that was met. From dumyroke_lex 0. */
     size_t recursion_high;
-    /* How many tokens were asked for. It is one above the limit where that was met. */
+    /* How many tokens were counted. It is one above the limit where that was met. */
     size_t token_high;
     /* One of enum dumyroke_status, also the result of the call. */
     uint32_t status;

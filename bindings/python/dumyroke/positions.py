@@ -21,7 +21,7 @@ class Position(NamedTuple):
 
 
 class Positions:
-    """The positions of a text, which is read when one is asked for."""
+    """The positions of a text, which is read when one is needed."""
 
     __slots__ = ("_source", "_is_ascii", "_continuations", "_line_starts")
 

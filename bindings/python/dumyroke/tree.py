@@ -212,7 +212,7 @@ class Tree(Generic[R]):
     recursion_high: int
     """The deepest level of nesting that was tried, which is one above the limit where that was met."""
     token_high: int
-    """How many tokens were asked for, the end of the text among them, which is one above the limit where that was met."""
+    """How many tokens were counted, the end of the text among them: one above the limit where that was met."""
 
     def __init__(self, source: bytes, elements: bytes | memoryview, errors: list[Error], recursion_high: int, token_high: int, positions: Positions):
         self.errors, self.recursion_high, self.token_high = errors, recursion_high, token_high

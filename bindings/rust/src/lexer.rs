@@ -7,8 +7,8 @@ use std::sync::Arc;
 
 /// Cuts a text into tokens. It is an iterator of them, of bad text as errors, and at last of the end, [`TokenKind::Eof`].
 ///
-/// If more tokens come than the limit allows, it gives an error in place of the next one, and then nothing more. The whole text is cut when the first
-/// token is asked for.
+/// If more tokens come than the limit allows, it gives an error in place of the next one, and then nothing more. The whole text is cut before the
+/// first token is given.
 ///
 /// ```
 /// use dumyroke::{Lexer, TokenKind};

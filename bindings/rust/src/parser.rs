@@ -118,7 +118,7 @@ impl<T: CstNode> SyntaxTree<T> {
         self.recursion_limit
     }
 
-    /// The token limit, and how many tokens were asked for.
+    /// The token limit, and how many tokens were counted, the end of the text among them.
     pub fn token_limit(&self) -> LimitTracker {
         self.token_limit
     }

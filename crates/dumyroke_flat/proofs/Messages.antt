@@ -1,13 +1,12 @@
 -- The messages of the first errors, and their rows.
 use Rattle.std.proofs.Common.{◌≡◌, ◌∙◌, ◌≤◌, ◌<◌, ◌+◌, ap, sym, refl, ℕ, zero, suc, List, [], ◌∷◌, ◌++◌, length, take, set, get_or, arith}
 use Rattle.std.specs.List.{flat_map}
-use Rattle.std.proofs.lemmas.List.{append-nil, append_assoc, length-append, length-take}
+use Rattle.std.proofs.lemmas.List.{append-nil, append_assoc, length-append}
 use Rattle.apollo_parser.specs.Cut.{Item, texts}
 use Rattle.apollo_parser.specs.Diagnostics.{Diagnostic}
 use Rattle.apollo_parser.specs.Forests.{text}
 use Rattle.apollo_parser.specs.Parsed.{Parsed}
-use Rattle.apollo_parser.specs.Derivation.{Sort}
-use Rattle.apollo_parser.specs.Promise.{Promise, PartPromise}
+use Rattle.apollo_parser.specs.Promise.{Promise}
 use Rattle.apollo_parser.specs.Reads.{items_of}
 use Rattle.dumyroke_flat.specs.declared.rows.ErrorRow.{ErrorRow}
 use Rattle.dumyroke_flat.specs.Rows.{error_row, error_rows, filled, messages}
@@ -27,9 +26,6 @@ pub text-within : {source : List ℕ} {r k : ℕ} (t : Parsed) → Promise sourc
 text-within {source} {r} {k} t p =
     let first : length (texts (take k (items_of source))) ≤ length (texts (items_of source)) = first-of (λ (item : Item). item.text) k (items_of source) in
     omega (arith, ap length p.lossless, ap length p.cut.joined, first)
-
-pub part-within : {sort : Sort} {source : List ℕ} {r k : ℕ} (t : Parsed) → PartPromise sort source r k t → length (text t.tree) ≤ length source
-part-within {sort} {source} {r} {k} t p = omega (arith, ap length p.beginning, length-take (length (text t.tree)) source)
 
 -- the messages with the next error's
 pub messages-more : (es : List Diagnostic) (i j : ℕ) (d : Diagnostic) → j ≡ i + 1 → i < length es
