@@ -80,9 +80,25 @@ fn len_by_bytes<C: ByteClass>(bytes: &[u8]) -> usize
     bytes.iter().take_while(|byte| C::has(**byte)).count()
 }
 
-/// How many bytes at the front are of the class.
+/// How many bytes at the front are of the class, where nearly all runs are shorter than sixteen bytes: it looks at sixteen together once.
 #[inline(always)]
-pub fn class_len<C: ByteClass>(bytes: &[u8]) -> usize
+pub fn short_run_len<C: ByteClass>(bytes: &[u8]) -> usize
+    ensures value { result ≡ prefix_len C.class bytes.now }
+    ensures within { result ≤ length bytes.now }
+{
+    if bytes.len() < LANES {
+        return len_by_bytes::<C>(bytes);
+    }
+    let n = C::lanes(bytes);
+    if n < LANES {
+        return n;
+    }
+    LANES + len_by_bytes::<C>(&bytes[LANES..])
+}
+
+/// The same, where runs are long.
+#[inline(always)]
+pub fn long_run_len<C: ByteClass>(bytes: &[u8]) -> usize
     ensures value { result ≡ prefix_len C.class bytes.now }
     ensures within { result ≤ length bytes.now }
 {

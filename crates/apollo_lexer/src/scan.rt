@@ -7,7 +7,7 @@ ghost use Rattle.lexical_grammar.specs.Strings.{begins};
 ghost use Rattle.lexical_grammar.specs.Reads.{blank_len, blanks_len, character_len, token_at, bad_len, first_item};
 
 use crate::bytes::{Start, is_blank_byte, start_of};
-use crate::classes::{BlankByte, NameContinue, class_len};
+use crate::classes::{BlankByte, NameContinue, short_run_len};
 use crate::numbers::{number_at, number_len};
 use crate::strings::{bad_string_len, string_at};
 use lexical_grammar::TokenKind;
@@ -68,7 +68,7 @@ fn blanks_len(bytes: &[u8]) -> usize
     if blank_len(bytes) == 0 {
         return 0;
     }
-    let n = class_len::<BlankByte>(bytes);
+    let n = short_run_len::<BlankByte>(bytes);
     let after = &bytes[n..];
     if blank_len(after) == 0 {
         return n;
@@ -124,7 +124,7 @@ fn token_at(bytes: &[u8]) -> Option<(TokenKind, usize)>
 {
     let (first, others) = bytes.split_first()?;
     match start_of(*first) {
-        Start::Name => Some((TokenKind::Name, class_len::<NameContinue>(bytes))),
+        Start::Name => Some((TokenKind::Name, short_run_len::<NameContinue>(bytes))),
         Start::Number => number_at(bytes),
         Start::Quote => string_at(bytes),
         Start::NumberSign => Some((TokenKind::Comment, 1 + comment_len(others))),

@@ -8,7 +8,7 @@ ghost use Rattle.std.specs.Prelude.{◌≡◌, ◌<◌, ◌≤◌, IfSome, Some,
 ghost use Rattle.lexical_grammar.specs.Reads.{block_len, quoted_len, string_at};
 ghost use Rattle.apollo_lexer.specs.StringParts.{IsStringPart, read_bad};
 
-use crate::classes::{PlainCharacter, class_len};
+use crate::classes::{PlainCharacter, long_run_len};
 use crate::escapes::{bad_escape_len, escape_len};
 use lexical_grammar::TokenKind;
 use memchr::memchr2;
@@ -60,7 +60,7 @@ fn block_len(bytes: &[u8]) -> Option<usize>
 fn quoted_piece(rest: &[u8]) -> StringPart
     ensures { IsStringPart (quoted_len 0) rest.now result }
 {
-    let i = class_len::<PlainCharacter>(rest);
+    let i = long_run_len::<PlainCharacter>(rest);
     if i == rest.len() {
         return StringPart::Open;
     }

@@ -10,7 +10,7 @@ use Rattle.apollo_lexer.proofs.scan.token_at.Goals as goal
 pub returns-in-Name : goal.returns-in-Name
 returns-in-Name c =
     let is = c.in_ok-first.ensures.cases.0 in
-    ap (λ n. Some (token.Name, n)) (c.class_len.ensures.value ∙ ap (prefix_len is_name_continue) is)
+    ap (λ n. Some (token.Name, n)) (c.short_run_len.ensures.value ∙ ap (prefix_len is_name_continue) is)
     ∙ token-by-start Name c.in_ok-first.first.now c.in_ok-first.others.now c.args.bytes.now is (sym c.in-Name.is ∙ c.start_of.ensures)
 
 pub returns-in-Number : goal.returns-in-Number

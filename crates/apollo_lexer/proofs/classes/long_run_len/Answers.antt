@@ -1,6 +1,6 @@
 use Rattle.std.proofs.Common.{arith}
 use Rattle.apollo_lexer.proofs.LaneRuns.{sixteen-more, sixteen-end}
-use Rattle.apollo_lexer.proofs.classes.class_len.Goals as goal
+use Rattle.apollo_lexer.proofs.classes.long_run_len.Goals as goal
 
 pub loop-n-preserved : goal.loop-n-preserved
 loop-n-preserved g c =
