@@ -67,6 +67,13 @@ impl<'a> Lexer<'a> {
 }
 
 impl<'a> Lexer<'a> {
+    /// How many bytes of the text are left.
+    pub fn bytes_left(&self) -> usize
+        ensures { result ≡ length self.now.rest.now }
+    {
+        self.rest.len()
+    }
+
     /// How the limit was used.
     pub fn limit_tracker(&self) -> LimitTracker
         ensures { result ≡ self.now.limit_tracker }

@@ -76,7 +76,7 @@ impl<'i> Parser<'i> {
     /// So it bounds memory: of n items that are read, a tree has at most 5 n + 1 elements, and there are at most 3 n + 1 errors. An element takes
     /// 12 bytes while the tree has fewer than 2^28 of them and the text is shorter than 2 GiB, then 16, and 32 from 4 GiB of text on; an error takes
     /// 64. So on such a text a limit of k, up to fifty million, takes at most 252 k + 76 bytes, besides the text, what an error says that is too long
-    /// to lie in it, and the room that a list which grows keeps in reserve.
+    /// to lie in it, and the room that lists keep in reserve: by the length of the text up to 48 KiB before anything is read, and later as they grow.
     pub fn token_limit(self, limit: usize) -> Self
         ensures { result ≡ record self.entry { token_limit = limit } }
     {

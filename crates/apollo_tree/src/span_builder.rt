@@ -67,6 +67,14 @@ impl<A: Allocator + Copy> SpanBuilder<A> {
         }
     }
 
+    /// Takes memory for this many elements more, and for this many more open nodes.
+    pub fn reserve(&mut self, elements: usize, open_nodes: usize) -> Result<(), AllocError>
+        ensures { self.new ≡ self.old }
+    {
+        self.unfinished.reserve(open_nodes)?;
+        self.records.reserve(elements)
+    }
+
     // Opens a node as `start_node` does, where memory may have to grow. In one function the compiler would save registers for this on every call.
     #[cold]
     #[inline(never)]

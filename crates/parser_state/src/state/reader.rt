@@ -1,7 +1,7 @@
 // What a parser reads from: its lexer, what a copy of that found ahead, and the count of the items that both cut.
 #![tactic(auto)]
 
-ghost use Rattle.std.specs.Prelude.{◌≡◌, ◌≤◌, ◌+◌, ◌*◌, true};
+ghost use Rattle.std.specs.Prelude.{◌≡◌, ◌≤◌, ◌+◌, ◌*◌, length, true};
 ghost use Rattle.std.specs.Iterator.{YieldsFirstBy};
 ghost use Rattle.lexical_grammar.specs.declared.TokenKind.TheVariants as token;
 ghost use Rattle.apollo_lexer.specs.Answers.{answer_of, answers_left, final_high};
@@ -70,6 +70,13 @@ impl<'i> Reader<'i> {
             steps,
             start,
         }
+    }
+
+    /// How many bytes of the text the lexer has not cut yet.
+    pub(super) fn bytes_left(&self) -> usize
+        ensures { result ≡ length self.now.lexer.rest.now }
+    {
+        self.lexer.bytes_left()
     }
 
     /// How many answers were asked of the lexer.
