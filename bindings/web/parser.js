@@ -1,6 +1,7 @@
 // The calls of the parser, a WebAssembly module with 64-bit memory: its addresses and lengths are BigInts. This runs in workers and in node.
 
 import { COUNTS, COUNTS_BYTES, ERROR, ERROR_BYTES, WORD, WORDS } from "./rows.js";
+import { NODE } from "./tree.js";
 
 const PAGE_BYTES = 65536;
 // Every type of the module may be aligned to this.
@@ -102,7 +103,7 @@ export class Parser {
     }
   }
 
-  // Parses a text: the rows of its elements, its first errors, and how many there are. Offsets are those of the JavaScript string.
+  // Parses a text: the rows of its elements, where the text of the tree ends, its first errors, and how many there are. Offsets are those of the JavaScript string.
   // Throws RangeError or WebAssembly.RuntimeError where the browser's stack or memory is too small.
   parse(text, limits = {}, mostErrors = 1000) {
     const room = { elements: (text.length >> 1) + 64, messages: text.length + 65536 };
@@ -112,13 +113,14 @@ export class Parser {
       const [elements, errors, messages] = [room.elements * WORDS * 4, mostErrors * ERROR_BYTES, room.messages].map((bytes) => this.#place(bytes));
       const status = this.#call("dumyroke_parse", source, length, given, elements, room.elements, errors, mostErrors, messages, room.messages, counts);
       const there = new DataView(this.memory.buffer, counts, COUNTS_BYTES);
-      const [elementCount, errorCount, messageBytes, depth, items] = ["elements", "errors", "message_bytes", "recursion_high", "token_high"].map((field) => Number(there.getBigUint64(COUNTS[field], true)));
+      const fields = ["elements", "text_bytes", "errors", "message_bytes", "recursion_high", "token_high"];
+      const [elementCount, textBytes, errorCount, messageBytes, depth, items] = fields.map((field) => Number(there.getBigUint64(COUNTS[field], true)));
       if (elementCount <= room.elements && messageBytes <= room.messages) {
         const units = length === text.length ? null : unitsBefore(this.#bytes(source, length));
         const rows = new Uint32Array(this.memory.buffer, elements, elementCount * WORDS).slice();
-        if (units !== null) for (let i = 0; i < rows.length; i += WORDS) for (const word of [i + WORD.start, i + WORD.end]) rows[word] = units[rows[word]];
+        if (units !== null) for (let i = WORD.start_and_node; i < rows.length; i += WORDS) rows[i] += units[rows[i] % NODE] - (rows[i] % NODE);
         const found = this.#errors(errors, Math.min(errorCount, mostErrors), this.#bytes(messages, messageBytes), units);
-        return { status, rows, errors: found, errorCount, depth, items };
+        return { status, rows, textEnd: units?.[textBytes] ?? textBytes, errors: found, errorCount, depth, items };
       }
       Object.assign(room, { elements: elementCount, messages: messageBytes });
     }

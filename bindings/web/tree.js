@@ -1,4 +1,4 @@
-// A tree as the parser wrote it: one table of rows in document order. An element is the index of its row.
+// A tree as the parser wrote it: one table of rows in document order, and where its text ends. An element is the index of its row.
 import { FIRST_NODE, KINDS } from "./kinds.js";
 import { WORD, WORDS } from "./rows.js";
 
@@ -13,23 +13,29 @@ export function lastAtMost(count, numberAt, limit) {
   return low;
 }
 
+// What the word of a start has more for a node.
+export const NODE = 2 ** 31;
+
 export class Tree {
-  constructor(text, rows) {
+  constructor(text, rows, textEnd) {
     this.text = text;
     this.rows = rows;
     this.length = rows.length / WORDS;
+    this.textEnd = textEnd;
   }
 
-  start = (element) => this.rows[element * WORDS + WORD.start];
-  end = (element) => this.rows[element * WORDS + WORD.end];
+  #word = (element, word) => this.rows[element * WORDS + word];
+  #number = (element) => this.#word(element, WORD.parent_low) >>> 24;
+  start = (element) => this.#word(element, WORD.start_and_node) % NODE;
+  end = (element) => (this.next(element) < this.length ? this.start(this.next(element)) : this.textEnd);
   // The root's parent is the root.
-  parent = (element) => this.rows[element * WORDS + WORD.parent];
+  parent = (element) => element - (this.#word(element, WORD.parent_low) & 0xffffff) - (this.#word(element, WORD.size_and_parent) & 15) * 2 ** 24;
   // The element after it and all below it.
-  next = (element) => this.rows[element * WORDS + WORD.next];
-  kind = (element) => KINDS[this.rows[element * WORDS + WORD.kind] & 0xffff];
-  isToken = (element) => (this.rows[element * WORDS + WORD.kind] & 0xffff) < FIRST_NODE;
+  next = (element) => element + (this.#word(element, WORD.size_and_parent) >>> 4);
+  kind = (element) => KINDS[this.#number(element)];
+  isToken = (element) => this.#number(element) < FIRST_NODE;
   // One number for where it begins and its kind.
-  key = (element) => this.start(element) * 0x10000 + (this.rows[element * WORDS + WORD.kind] & 0xffff);
+  key = (element) => this.start(element) * 0x10000 + this.#number(element);
   hasChildren = (element) => this.next(element) > element + 1;
   textOf = (element) => this.text.slice(this.start(element), this.end(element));
 

@@ -1,18 +1,18 @@
-"""The statuses and the rows of the library for C, for Rust, for Python and for the page, from the structs in crates/dumyroke_flat/src/rows.rt. The header, which is
-written by hand, has to have the same fields."""
+"""The statuses and the rows of the library for C, for Rust, for Python and for the page, from the structs in crates/apollo_tree/src/compact.rt and in
+crates/dumyroke_flat/src/rows.rt. The header, which is written by hand, has to have the same fields."""
 
 import re
 
 from .layout import CRATES, TOP, mark
 
-SOURCE = "crates/dumyroke_flat/src/rows.rt"
-ROWS = CRATES / "dumyroke_flat/src/rows.rt"
+SOURCE = "crates/apollo_tree/src/compact.rt and crates/dumyroke_flat/src/rows.rt"
+SOURCES = [CRATES / "apollo_tree/src/compact.rt", CRATES / "dumyroke_flat/src/rows.rt"]
 HEADER = TOP / "bindings/c/include/dumyroke.h"
 
 # The bytes of each type of a field, and its name in C and in Python.
-TYPES = {"usize": (8, "size_t", "c_size_t"), "u32": (4, "uint32_t", "c_uint32"), "u16": (2, "uint16_t", "c_uint16")}
+TYPES = {"usize": (8, "size_t", "c_size_t"), "u32": (4, "uint32_t", "c_uint32"), "u16": (2, "uint16_t", "c_uint16"), "u8": (1, "uint8_t", "c_uint8")}
 # The rows that languages read, with their names in C.
-READ = {"ElementRow": "element", "ItemRow": "item", "ErrorRow": "error", "Counts": "counts"}
+READ = {"CompactElement": "element", "ItemRow": "item", "ErrorRow": "error", "Counts": "counts"}
 
 
 def statuses(text):
@@ -26,10 +26,10 @@ def structs(text):
     made = {name: re.findall(r"^    pub (\w+): (\w+),", body, re.MULTILINE) for name, body in found}
     for name in READ:
         if name not in made:
-            raise SystemExit(f"rows.rt: there is no struct {name}")
+            raise SystemExit(f"{SOURCE}: there is no struct {name}")
         for field, kind in made[name]:
             if kind not in TYPES:
-                raise SystemExit(f"rows.rt: {field} of {name} is a {kind}, which rows.py does not know")
+                raise SystemExit(f"{SOURCE}: {field} of {name} is a {kind}, which rows.py does not know")
     return made
 
 
@@ -56,7 +56,7 @@ def check_header(text):
     for name, short in READ.items():
         wanted = [(field, TYPES[kind][1]) for field, kind in made[name]]
         if in_header(header, short) != wanted:
-            raise SystemExit(f"dumyroke.h: the struct dumyroke_{short} has not the fields of {name} in rows.rt")
+            raise SystemExit(f"dumyroke.h: the struct dumyroke_{short} has not the fields of {name}")
     found = {name: int(number) for name, number in re.findall(r"^    DUMYROKE_(\w+) = (\d+)", header, re.MULTILINE)}
     if found != statuses(text):
         raise SystemExit("dumyroke.h: its statuses are not those of rows.rt")
@@ -75,8 +75,11 @@ def for_python(text):
 from ctypes import Structure, c_size_t, c_uint16, c_uint32
 
 {lines}
-ELEMENT_SIZE = {offsets(made["ElementRow"])[1]}
+ELEMENT_SIZE = {offsets(made["CompactElement"])[1]}
 """The bytes of an element's row."""
+
+KIND_AT = {offsets(made["CompactElement"])[0]["kind"]}
+"""The byte of an element's row that is its kind."""
 
 ITEM_SIZE = {offsets(made["ItemRow"])[1]}
 """The bytes of an item's row."""
@@ -114,7 +117,7 @@ def for_page(text):
     """The module of the page."""
     made = structs(text)
     named = ", ".join(f"{name}: {number}" for name, number in statuses(text).items())
-    element, size = offsets(made["ElementRow"])
+    element, size = offsets(made["CompactElement"])
     words = ", ".join(f"{field}: {at // 4}" for field, at in element.items() if at % 4 == 0)
     errors, error_size = offsets(made["ErrorRow"])
     counts, counts_size = offsets(made["Counts"])
@@ -122,7 +125,8 @@ def for_page(text):
     return f"""{mark("//", SOURCE)}// The statuses and the rows of the calls.
 export const STATUS = {{ {named} }};
 
-// An element's row: how many words of 32 bits it has, and the word of each field. The word of the kind has `is_token` in its upper half.
+// An element's row: how many words of 32 bits it has, and the word of each field. The word of `parent_low` has `parent_middle` in the eight bits above its
+// sixteen, and the kind in its highest eight.
 export const WORDS = {size // 4};
 export const WORD = {{ {words} }};
 
@@ -136,7 +140,7 @@ export const COUNTS = {{ {listed(counts)} }};
 
 def outputs(_grammar):
     """The text of each file, by its path."""
-    text = ROWS.read_text()
+    text = "".join(source.read_text() for source in SOURCES)
     check_header(text)
     return {
         TOP / "bindings/rust/src/rows.rs": for_rust(text),

@@ -57,9 +57,9 @@ def kind_doc(kind, grammar):
 
 
 def kinds_text(grammar):
-    """kind.rs: the enum, and all kinds in the order of their numbers."""
+    """kind.rs: the enum, and the kind of each number."""
     variants = "".join(f"{kind_doc(kind, grammar)}    {kind},\n" for kind in grammar.kinds)
-    listed = "".join(f"    SyntaxKind::{kind},\n" for kind in grammar.kinds)
+    numbered = "".join(f"            {number} => SyntaxKind::{kind},\n" for number, kind in enumerate(grammar.kinds))
     return f"""{mark("//", KINDS)}/// The kind of a node or a token, under the number that it has in the library. Kinds of tokens are below `DOCUMENT`.
 ///
 /// The sections are those of GraphQL October 2021.
@@ -69,11 +69,15 @@ def kinds_text(grammar):
 pub enum SyntaxKind {{
 {variants}}}
 
-/// All kinds, each at its number.
-pub(crate) const KINDS: [SyntaxKind; {len(grammar.kinds)}] = [
-{listed}];
-
 impl SyntaxKind {{
+    /// The kind with a number, or `ERROR` if there is none. The compiler makes it one comparison, and a test for one kind of it no more than that test.
+    #[inline]
+    pub(crate) fn of_number(number: u16) -> SyntaxKind {{
+        match number {{
+{numbered}            _ => SyntaxKind::ERROR,
+        }}
+    }}
+
     /// Whether it is white space or a comment. A comma is neither.
     pub fn is_trivia(self) -> bool {{
         matches!(self, SyntaxKind::WHITESPACE | SyntaxKind::COMMENT)
@@ -83,7 +87,9 @@ impl SyntaxKind {{
 /// The kind with a number. Panics if there is none.
 impl From<u16> for SyntaxKind {{
     fn from(number: u16) -> SyntaxKind {{
-        KINDS[usize::from(number)]
+        let kind = SyntaxKind::of_number(number);
+        assert_eq!(kind as u16, number, "there is no kind with this number");
+        kind
     }}
 }}
 
@@ -111,7 +117,7 @@ def accessor_text(kind, accessor):
 
 
 def method(doc, name, answer, body):
-    return f"{doc}    pub fn {name}(&self) -> {answer} {{\n        {body}\n    }}\n"
+    return f"{doc}    #[inline]\n    pub fn {name}(&self) -> {answer} {{\n        {body}\n    }}\n"
 
 
 def struct_text(kind, grammar):

@@ -21,8 +21,8 @@ int main(void)
         printf("%zu:%zu: %.*s\n", at.line, at.column, (int)message.length, message.start);
     }
     for (uint32_t i = 0; i < tree.counts.elements; i++)
-        if (tree.elements[i].kind == DUMYROKE_FIELD_DEFINITION) {
-            uint32_t type = tree.elements[tree.elements[i].parent].parent;
+        if (dumyroke_kind_of(&tree, i) == DUMYROKE_FIELD_DEFINITION) {
+            uint32_t type = dumyroke_parent_of(&tree, dumyroke_parent_of(&tree, i));
             dumyroke_slice owner = name_of(&tree, type), field = name_of(&tree, i);
             printf("%.*s.%.*s\n", (int)owner.length, owner.start, (int)field.length, field.start);
         }

@@ -48,13 +48,12 @@ static void print_quoted(dumyroke_slice text)
 
 static void print_element(const dumyroke_tree *tree, uint32_t index)
 {
-    const dumyroke_element *element = &tree->elements[index];
     int level = 0;
     uint32_t above;
-    for (above = index; above; above = tree->elements[above].parent)
+    for (above = index; above; above = dumyroke_parent_of(tree, above))
         level++;
-    printf("%*s- %s@%u..%u", level * 4, "", dumyroke_kind_names[element->kind], element->start, element->end);
-    if (element->is_token) {
+    printf("%*s- %s@%u..%u", level * 4, "", dumyroke_kind_names[dumyroke_kind_of(tree, index)], dumyroke_start_of(tree, index), dumyroke_end_of(tree, index));
+    if (!dumyroke_is_node(tree, index)) {
         putchar(' ');
         print_quoted(dumyroke_text_of(tree, index));
     }

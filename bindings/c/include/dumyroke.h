@@ -19,7 +19,7 @@ enum dumyroke_status {
     DUMYROKE_OK = 0,
     /* The text is not UTF-8. */
     DUMYROKE_NOT_UTF8 = 1,
-    /* The text has 2^32 bytes or more, or its tree has 2^32 elements or more. Only from the calls that parse, and from dumyroke_lex. */
+    /* The text has 2^31 bytes or more, or its tree has 2^28 elements or more. Only from the calls that parse, and from dumyroke_lex. */
     DUMYROKE_TOO_LONG = 2,
     /* An allocation was refused. */
     DUMYROKE_NO_MEMORY = 3,
@@ -47,19 +47,19 @@ static inline dumyroke_limits dumyroke_default_limits(void)
     return limits;
 }
 
-/* An element of a tree: a node or a token. The elements of a tree are in document order. The root is element 0. The first child of a node
- * is the element after it. */
+/* An element of a tree: a node or a token, in twelve bytes. The elements of a tree are in document order. The root is element 0. The first child of a
+ * node is the element after it, and the next sibling comes after all elements below this one. dumyroke_tree.h has functions that read these numbers. */
 typedef struct dumyroke_element {
-    /* The bytes of the text from `start` up to `end`, `end` not among them. */
-    uint32_t start, end;
-    /* The index of the parent. The root's is 0, its own. */
-    uint32_t parent;
-    /* The index of the element after this one and all below it. That is the next sibling if it has the same parent. */
-    uint32_t next;
+    /* The byte at which its text begins, and 2^31 more for a node. The text ends where that of the element after its subtree begins; or, if there is
+     * none, with the text of the tree. */
+    uint32_t start_and_node;
+    /* 16 times the number of elements of its subtree, which has the element itself, and the highest four bits of the distance to its parent. */
+    uint32_t size_and_parent;
+    /* The distance is how many elements before it its parent is. The root has 0. These are its lowest 16 bits and the eight above them. */
+    uint16_t parent_low;
+    uint8_t parent_middle;
     /* One of enum dumyroke_kind, in dumyroke_kinds.h. */
-    uint16_t kind;
-    /* 1 for a token, 0 for a node. */
-    uint16_t is_token;
+    uint8_t kind;
 } dumyroke_element;
 
 /* An error in a text. */
@@ -78,6 +78,8 @@ typedef struct dumyroke_error {
 typedef struct dumyroke_counts {
     /* The elements of the tree. From dumyroke_lex the items of the text. */
     size_t elements;
+    /* The bytes of the tree's text, which is the first part of the text if a limit was met or a part of a document was parsed. From dumyroke_lex 0. */
+    size_t text_bytes;
     size_t errors;
     /* The bytes of all messages together. */
     size_t message_bytes;

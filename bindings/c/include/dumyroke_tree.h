@@ -60,17 +60,24 @@ static inline int dumyroke_tree_allocate(dumyroke_tree *tree, const dumyroke_cou
     return tree->elements && tree->errors && tree->messages;
 }
 
+/* The room for elements of a first call: one for each byte of text and 64 more, which is enough for all texts that the project is tried with, also without
+ * their white space. Memory that no element needs is not touched. A text may have five for each byte, and no tree has more than 2^28. */
+static inline size_t dumyroke_tree_guess(size_t length)
+{
+    size_t most = (size_t)1 << 28;
+    return length >= (size_t)1 << 31 ? 0 : length + 64 < most ? length + 64 : most;
+}
+
 /* Parses a text into `tree`, which need not be initialised. Free the tree, unless the result is not DUMYROKE_OK: then it is empty.
  *
- * The first call has room for one element for each byte of text and 64 more: none of the texts that the project is tried with has more, also without its
- * white space. A text may have five for each byte, and the guess may take more memory than there is: then a second call has just the room that it needs. */
+ * If the guess is too little room, or more memory than there is, a second call has just the room that it needs. */
 static inline uint32_t dumyroke_tree_parse(dumyroke_tree *tree, const char *text, size_t length, dumyroke_limits limits)
 {
     dumyroke_counts room;
     uint32_t status;
     int is_guess = 1;
     memset(&room, 0, sizeof room);
-    room.elements = length <= UINT32_MAX ? length + 64 : 0; /* a longer text has no tree */
+    room.elements = dumyroke_tree_guess(length);
     room.errors = 16;
     room.message_bytes = 1024;
     for (;;) {
@@ -92,36 +99,79 @@ static inline uint32_t dumyroke_tree_parse(dumyroke_tree *tree, const char *text
     }
 }
 
+/* The kind of an element (dumyroke_kinds.h). */
+static inline unsigned dumyroke_kind_of(const dumyroke_tree *tree, uint32_t index)
+{
+    return tree->elements[index].kind;
+}
+
+/* 1 for a node, 0 for a token. */
+static inline int dumyroke_is_node(const dumyroke_tree *tree, uint32_t index)
+{
+    return (int)(tree->elements[index].start_and_node >> 31);
+}
+
+/* How many elements the subtree of an element has, the element itself among them. */
+static inline uint32_t dumyroke_size_of(const dumyroke_tree *tree, uint32_t index)
+{
+    return tree->elements[index].size_and_parent >> 4;
+}
+
+/* The index of the element after an element and all below it; or, if there is none, the number of elements. */
+static inline uint32_t dumyroke_after(const dumyroke_tree *tree, uint32_t index)
+{
+    return index + dumyroke_size_of(tree, index);
+}
+
+/* The parent of an element. The root's is 0, its own. */
+static inline uint32_t dumyroke_parent_of(const dumyroke_tree *tree, uint32_t index)
+{
+    const dumyroke_element *element = &tree->elements[index];
+    return index - (element->parent_low | (uint32_t)element->parent_middle << 16 | (element->size_and_parent & 15) << 24);
+}
+
+/* The byte of the text at which an element begins. */
+static inline uint32_t dumyroke_start_of(const dumyroke_tree *tree, uint32_t index)
+{
+    return tree->elements[index].start_and_node & 0x7fffffff;
+}
+
+/* The byte after the last byte of an element. */
+static inline uint32_t dumyroke_end_of(const dumyroke_tree *tree, uint32_t index)
+{
+    uint32_t after = dumyroke_after(tree, index);
+    return after < tree->counts.elements ? dumyroke_start_of(tree, after) : (uint32_t)tree->counts.text_bytes;
+}
+
 /* The first child of a node, or 0 if it has none. */
 static inline uint32_t dumyroke_first_child(const dumyroke_tree *tree, uint32_t node)
 {
-    const dumyroke_element *element = &tree->elements[node];
-    return element->is_token || element->next == node + 1 ? 0 : node + 1;
+    return dumyroke_size_of(tree, node) > 1 ? node + 1 : 0;
 }
 
 /* The next sibling of an element, or 0 if it is the last child. */
 static inline uint32_t dumyroke_next_sibling(const dumyroke_tree *tree, uint32_t index)
 {
-    const dumyroke_element *element = &tree->elements[index];
-    int is_child = element->next < tree->counts.elements && tree->elements[element->next].parent == element->parent;
-    return is_child ? element->next : 0;
+    uint32_t after = dumyroke_after(tree, index);
+    return after < dumyroke_after(tree, dumyroke_parent_of(tree, index)) ? after : 0;
 }
 
 /* The first child of a kind (dumyroke_kinds.h), or 0 if there is none. */
 static inline uint32_t dumyroke_child_of_kind(const dumyroke_tree *tree, uint32_t node, unsigned kind)
 {
-    uint32_t child = dumyroke_first_child(tree, node);
-    while (child && tree->elements[child].kind != kind)
-        child = dumyroke_next_sibling(tree, child);
-    return child;
+    uint32_t child = node + 1, after = dumyroke_after(tree, node);
+    while (child < after && dumyroke_kind_of(tree, child) != kind)
+        child = dumyroke_after(tree, child);
+    return child < after ? child : 0;
 }
 
 /* The text of an element. */
 static inline dumyroke_slice dumyroke_text_of(const dumyroke_tree *tree, uint32_t index)
 {
     dumyroke_slice slice;
-    slice.start = tree->text ? tree->text + tree->elements[index].start : "";
-    slice.length = tree->elements[index].end - tree->elements[index].start;
+    uint32_t start = dumyroke_start_of(tree, index);
+    slice.start = tree->text ? tree->text + start : "";
+    slice.length = dumyroke_end_of(tree, index) - start;
     return slice;
 }
 

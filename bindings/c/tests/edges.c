@@ -16,6 +16,9 @@
 /* What a buffer holds before a call. */
 enum { UNTOUCHED = 0xee };
 
+/* What `start_and_node` has more for a node. */
+static const uint32_t NODE = 0x80000000;
+
 static const uint8_t *bytes_of(const char *text)
 {
     return (const uint8_t *)text;
@@ -32,9 +35,9 @@ static void counts_of_texts(void)
 {
     dumyroke_counts counts;
     CHECK(check(NULL, 0, 500, SIZE_MAX, &counts) == DUMYROKE_OK);
-    CHECK(counts.status == DUMYROKE_OK && counts.elements == 1 && counts.errors == 1);
+    CHECK(counts.status == DUMYROKE_OK && counts.elements == 1 && counts.text_bytes == 0 && counts.errors == 1);
     CHECK(check("{a}", 3, 500, SIZE_MAX, &counts) == DUMYROKE_OK);
-    CHECK(counts.elements == 8 && counts.errors == 0 && counts.message_bytes == 0);
+    CHECK(counts.elements == 8 && counts.text_bytes == 3 && counts.errors == 0 && counts.message_bytes == 0);
     CHECK(counts.recursion_high == 1 && counts.token_high == 4);
     CHECK(check("{a}\0", 4, 500, SIZE_MAX, &counts) == DUMYROKE_OK && counts.errors == 1);
 }
@@ -45,7 +48,7 @@ static void counts_at_limits(void)
     CHECK(check("{a{b}}", 6, 2, SIZE_MAX, &counts) == DUMYROKE_OK && counts.errors == 0 && counts.recursion_high == 2);
     CHECK(check("{a{b}}", 6, 1, SIZE_MAX, &counts) == DUMYROKE_OK && counts.errors == 1 && counts.recursion_high == 2);
     CHECK(check("{a{b}}", 6, 500, 7, &counts) == DUMYROKE_OK && counts.errors == 0 && counts.token_high == 7);
-    CHECK(check("{a{b}}", 6, 500, 3, &counts) == DUMYROKE_OK && counts.errors == 1 && counts.token_high == 4);
+    CHECK(check("{a{b}}", 6, 500, 3, &counts) == DUMYROKE_OK && counts.errors == 1 && counts.token_high == 4 && counts.text_bytes == 3);
 }
 
 /* A text that nests far deeper than the limit takes no more stack than the limit allows. */
@@ -74,20 +77,20 @@ static uint32_t part(part_call *call, const char *text, size_t recursion, size_t
 static void not_utf8(void)
 {
     static const char *const texts[] = {"{\xff}", "{\xc3}", "{\xed\xa0\x80}", "{\xc0\x80}", "{\xf4\x90\x80\x80}"};
-    dumyroke_counts counts, none = {0, 0, 0, 0, 0, DUMYROKE_NOT_UTF8};
+    dumyroke_counts counts, none = {0, 0, 0, 0, 0, 0, DUMYROKE_NOT_UTF8};
     dumyroke_element root;
     dumyroke_item item = {0, 0, 0, 0};
     size_t i, bytes;
     for (i = 0; i < sizeof texts / sizeof *texts; i++) {
         CHECK(check(texts[i], strlen(texts[i]), 500, SIZE_MAX, &counts) == DUMYROKE_NOT_UTF8);
-        CHECK(counts.status == none.status && !counts.elements && !counts.errors && !counts.message_bytes && !counts.token_high);
+        CHECK(!memcmp(&counts, &none, offsetof(dumyroke_counts, status)) && counts.status == none.status);
     }
     bytes = UNTOUCHED;
     CHECK(dumyroke_string_value(bytes_of("\"\xff\""), 3, NULL, 0, &bytes) == DUMYROKE_NOT_UTF8 && bytes == 0);
     bytes = UNTOUCHED;
     CHECK(dumyroke_format(bytes_of("{\xff}"), 3, dumyroke_default_limits(), NULL, 0, &bytes) == DUMYROKE_NOT_UTF8 && bytes == 0);
     CHECK(part(dumyroke_parse_selection_set, "{\xff}", 500, SIZE_MAX, &root, &counts) == DUMYROKE_NOT_UTF8 && !counts.elements);
-    CHECK(part(dumyroke_parse_type, "\xff", 500, SIZE_MAX, &root, &counts) == DUMYROKE_NOT_UTF8 && root.kind == 0xeeee);
+    CHECK(part(dumyroke_parse_type, "\xff", 500, SIZE_MAX, &root, &counts) == DUMYROKE_NOT_UTF8 && root.kind == UNTOUCHED);
     CHECK(dumyroke_lex(bytes_of("a\xff"), 2, SIZE_MAX, &item, 1, NULL, 0, NULL, 0, &counts) == DUMYROKE_NOT_UTF8 && !counts.elements && item.kind == 0);
 }
 
@@ -107,9 +110,9 @@ static void too_little_room(void)
     CHECK(dumyroke_parse(bytes_of(text), strlen(text), dumyroke_default_limits(), elements, 3, errors, 1, messages, 6, &counts) == DUMYROKE_OK);
     CHECK(counts.status == DUMYROKE_OK && counts.elements == 23 && counts.errors == 2 && counts.message_bytes == 46);
     CHECK(counts.recursion_high == 2 && counts.token_high == 13);
-    CHECK(elements[0].kind == DUMYROKE_DOCUMENT && elements[0].next == 23 && elements[0].parent == 0 && elements[0].end == 19);
-    CHECK(elements[2].kind == DUMYROKE_SELECTION_SET && elements[2].parent == 1 && !elements[2].is_token);
-    CHECK(elements[2].start == 0 && elements[2].end == 19 && elements[2].next == 23);
+    CHECK(counts.text_bytes == 19 && elements[0].kind == DUMYROKE_DOCUMENT && elements[2].kind == DUMYROKE_SELECTION_SET);
+    CHECK(elements[0].start_and_node == NODE && elements[0].size_and_parent == 16 * 23 && !elements[0].parent_low && !elements[0].parent_middle);
+    CHECK(elements[2].start_and_node == NODE && elements[2].size_and_parent == 16 * 21 && elements[2].parent_low == 1 && !elements[2].parent_middle);
     CHECK(errors[0].start == 9 && errors[0].end == 10 && errors[0].message == 0 && errors[0].message_length == 21);
     CHECK(!errors[0].is_limit && !errors[0].is_eof && !memcmp(messages, "expect", 6) && messages[6] == UNTOUCHED);
     CHECK(!memcmp(&elements[3], &untouched_element, sizeof untouched_element));
@@ -159,7 +162,7 @@ static void larger_than_the_first_guess(void)
     CHECK(dumyroke_tree_parse(&tree, text, sizeof text, dumyroke_default_limits()) == DUMYROKE_OK);
     CHECK(tree.counts.errors == 0 && tree.counts.elements > sizeof text);
     last = (uint32_t)tree.counts.elements - 1;
-    CHECK(tree.elements[last].kind == DUMYROKE_R_CURLY && tree.elements[last].end == sizeof text);
+    CHECK(dumyroke_kind_of(&tree, last) == DUMYROKE_R_CURLY && dumyroke_end_of(&tree, last) == sizeof text);
     dumyroke_tree_free(&tree);
     memset(text, '!', sizeof text);
     CHECK(dumyroke_tree_parse(&tree, text, sizeof text, dumyroke_default_limits()) == DUMYROKE_OK);
@@ -176,18 +179,77 @@ static void children(void)
     uint32_t set, field, count = 0;
     CHECK(dumyroke_tree_parse(&tree, text, strlen(text), dumyroke_default_limits()) == DUMYROKE_OK);
     set = dumyroke_first_child(&tree, dumyroke_first_child(&tree, 0));
-    CHECK(tree.elements[set].kind == DUMYROKE_SELECTION_SET);
+    CHECK(dumyroke_kind_of(&tree, set) == DUMYROKE_SELECTION_SET && dumyroke_is_node(&tree, set) && dumyroke_after(&tree, set) == tree.counts.elements);
     for (field = dumyroke_first_child(&tree, set); field; field = dumyroke_next_sibling(&tree, field))
-        count += tree.elements[field].kind == DUMYROKE_FIELD;
+        count += dumyroke_kind_of(&tree, field) == DUMYROKE_FIELD;
     CHECK(count == 2);
     name = dumyroke_text_of(&tree, dumyroke_child_of_kind(&tree, set, DUMYROKE_FIELD));
     CHECK(name.length == 1 && *name.start == 'a');
     CHECK(!dumyroke_child_of_kind(&tree, set, DUMYROKE_FRAGMENT_SPREAD));
-    CHECK(!dumyroke_first_child(&tree, dumyroke_first_child(&tree, set)) && !dumyroke_next_sibling(&tree, 0));
+    CHECK(!dumyroke_first_child(&tree, dumyroke_first_child(&tree, set)) && !dumyroke_next_sibling(&tree, 0) && !dumyroke_parent_of(&tree, 0));
     dumyroke_tree_free(&tree);
     CHECK(dumyroke_tree_parse(&tree, NULL, 0, dumyroke_default_limits()) == DUMYROKE_OK);
     CHECK(!dumyroke_first_child(&tree, 0) && dumyroke_text_of(&tree, 0).length == 0);
     dumyroke_tree_free(&tree);
+}
+
+/* All elements of `{ a b }`: an operation with its set, and in that two braces, blanks and two fields. */
+static void numbers_of_elements(void)
+{
+    static const struct {
+        unsigned kind;
+        int is_node;
+        uint32_t start, end, size, parent;
+    } wanted[] = {{DUMYROKE_DOCUMENT, 1, 0, 7, 14, 0}, {DUMYROKE_OPERATION_DEFINITION, 1, 0, 7, 13, 0}, {DUMYROKE_SELECTION_SET, 1, 0, 7, 12, 1},
+                  {DUMYROKE_L_CURLY, 0, 0, 1, 1, 2}, {DUMYROKE_WHITESPACE, 0, 1, 2, 1, 2}, {DUMYROKE_FIELD, 1, 2, 3, 3, 2},
+                  {DUMYROKE_NAME, 1, 2, 3, 2, 5}, {DUMYROKE_IDENT, 0, 2, 3, 1, 6}, {DUMYROKE_WHITESPACE, 0, 3, 4, 1, 2},
+                  {DUMYROKE_FIELD, 1, 4, 5, 3, 2}, {DUMYROKE_NAME, 1, 4, 5, 2, 9}, {DUMYROKE_IDENT, 0, 4, 5, 1, 10},
+                  {DUMYROKE_WHITESPACE, 0, 5, 6, 1, 2}, {DUMYROKE_R_CURLY, 0, 6, 7, 1, 2}};
+    dumyroke_tree tree;
+    uint32_t i;
+    CHECK(dumyroke_tree_parse(&tree, "{ a b }", 7, dumyroke_default_limits()) == DUMYROKE_OK && tree.counts.elements == wanted[0].size);
+    for (i = 0; i < sizeof wanted / sizeof *wanted; i++) {
+        CHECK(dumyroke_kind_of(&tree, i) == wanted[i].kind && dumyroke_is_node(&tree, i) == wanted[i].is_node);
+        CHECK(dumyroke_start_of(&tree, i) == wanted[i].start && dumyroke_end_of(&tree, i) == wanted[i].end);
+        CHECK(dumyroke_size_of(&tree, i) == wanted[i].size && dumyroke_parent_of(&tree, i) == wanted[i].parent);
+    }
+    dumyroke_tree_free(&tree);
+}
+
+/* The selection set of `{a,a,..}` is element 2, and the parent of all of its children, of which the last are more than 2^24 elements after it. */
+static void far_parents(void)
+{
+    static char text[(1 << 23) + 101];
+    dumyroke_tree tree;
+    uint32_t child, last = 0, i;
+    for (i = 0; i < sizeof text; i++)
+        text[i] = i == 0 ? '{' : i == sizeof text - 1 ? '}' : i % 2 ? 'a' : ',';
+    CHECK(dumyroke_tree_parse(&tree, text, sizeof text, dumyroke_default_limits()) == DUMYROKE_OK && tree.counts.errors == 0);
+    for (child = dumyroke_first_child(&tree, 2); child; child = dumyroke_next_sibling(&tree, child)) {
+        CHECK(dumyroke_parent_of(&tree, child) == 2);
+        last = child;
+    }
+    CHECK(last == tree.counts.elements - 1 && last > 2 + (1 << 24) && tree.elements[last].size_and_parent == 16 + 1);
+    CHECK(dumyroke_kind_of(&tree, last) == DUMYROKE_R_CURLY && dumyroke_end_of(&tree, last) == sizeof text);
+    dumyroke_tree_free(&tree);
+}
+
+/* A text of 2^31 bytes is refused before it is read. */
+static void too_long(void)
+{
+    size_t length = (size_t)1 << 31;
+    uint8_t *text = calloc(length, 1);
+    dumyroke_limits limits = dumyroke_default_limits();
+    dumyroke_counts counts;
+    dumyroke_tree tree;
+    if (!text)
+        return;
+    CHECK(check((char *)text, length, 500, SIZE_MAX, &counts) == DUMYROKE_TOO_LONG && !counts.elements && !counts.text_bytes);
+    CHECK(dumyroke_parse_selection_set(text, length, limits, NULL, 0, NULL, 0, NULL, 0, &counts) == DUMYROKE_TOO_LONG);
+    CHECK(dumyroke_parse_type(text, length, limits, NULL, 0, NULL, 0, NULL, 0, &counts) == DUMYROKE_TOO_LONG);
+    CHECK(dumyroke_lex(text, length, SIZE_MAX, NULL, 0, NULL, 0, NULL, 0, &counts) == DUMYROKE_TOO_LONG);
+    CHECK(dumyroke_tree_parse(&tree, (char *)text, length, limits) == DUMYROKE_TOO_LONG && !tree.elements);
+    free(text);
 }
 
 /* A selection set, with both braces or with none. What follows it is left. */
@@ -197,12 +259,12 @@ static void selection_sets(void)
     dumyroke_element root;
     dumyroke_counts counts;
     CHECK(part(call, "{ a b } c", 500, SIZE_MAX, &root, &counts) == DUMYROKE_OK && counts.errors == 0 && counts.recursion_high == 1);
-    CHECK(root.kind == DUMYROKE_SELECTION_SET && root.start == 0 && root.end == 7 && root.next == counts.elements && !root.is_token);
+    CHECK(root.kind == DUMYROKE_SELECTION_SET && root.start_and_node == NODE && counts.text_bytes == 7 && root.size_and_parent == 16 * counts.elements);
     CHECK(part(call, "a b{c}} d", 500, SIZE_MAX, &root, &counts) == DUMYROKE_OK && counts.errors == 0);
-    CHECK(root.kind == DUMYROKE_SELECTION_SET && root.end == 6);
+    CHECK(root.kind == DUMYROKE_SELECTION_SET && counts.text_bytes == 6);
     CHECK(part(call, "", 500, SIZE_MAX, &root, &counts) == DUMYROKE_OK && counts.errors == 1 && root.kind == DUMYROKE_SELECTION_SET);
     CHECK(part(call, "{a{b}}", 1, SIZE_MAX, &root, &counts) == DUMYROKE_OK && counts.errors == 1 && counts.recursion_high == 2);
-    CHECK(part(call, "{a}", 500, 2, &root, &counts) == DUMYROKE_OK && counts.errors == 1 && root.end == 2);
+    CHECK(part(call, "{a}", 500, 2, &root, &counts) == DUMYROKE_OK && counts.errors == 1 && counts.text_bytes == 2);
 }
 
 /* A type. What follows it is left. */
@@ -212,11 +274,11 @@ static void types(void)
     dumyroke_element root;
     dumyroke_counts counts;
     CHECK(part(call, "[Int!]! = 3", 500, SIZE_MAX, &root, &counts) == DUMYROKE_OK && counts.errors == 0);
-    CHECK(root.kind == DUMYROKE_NON_NULL_TYPE && root.end == 7 && root.next == counts.elements);
+    CHECK(root.kind == DUMYROKE_NON_NULL_TYPE && counts.text_bytes == 7 && root.size_and_parent == 16 * counts.elements);
     CHECK(part(call, "Int", 500, SIZE_MAX, &root, &counts) == DUMYROKE_OK && counts.errors == 0 && root.kind == DUMYROKE_NAMED_TYPE);
     CHECK(part(call, "[Int", 500, SIZE_MAX, &root, &counts) == DUMYROKE_OK && counts.errors == 1 && root.kind == DUMYROKE_LIST_TYPE);
     CHECK(part(call, ") Int", 500, SIZE_MAX, &root, &counts) == DUMYROKE_OK && counts.errors == 1);
-    CHECK(root.kind == DUMYROKE_ERROR && root.end == 1 && !root.is_token);
+    CHECK(root.kind == DUMYROKE_ERROR && counts.text_bytes == 1 && root.start_and_node == NODE);
     CHECK(part(call, "[[A]]", 1, SIZE_MAX, &root, &counts) == DUMYROKE_OK && counts.errors == 1 && counts.recursion_high == 2);
 }
 
@@ -233,7 +295,7 @@ static void items(void)
     memset(found, UNTOUCHED, sizeof found);
     memset(errors, UNTOUCHED, sizeof errors);
     CHECK(dumyroke_lex(bytes_of(text), 12, SIZE_MAX, found, 10, errors, 4, NULL, 0, &counts) == DUMYROKE_OK);
-    CHECK(counts.elements == 9 && counts.errors == 3 && counts.recursion_high == 0 && counts.token_high == 9);
+    CHECK(counts.elements == 9 && !counts.text_bytes && counts.errors == 3 && counts.recursion_high == 0 && counts.token_high == 9);
     CHECK(!memcmp(found, wanted, sizeof wanted) && found[9].kind == 0xeeee);
     CHECK(errors[0].start == 4 && errors[1].end == 9 && errors[2].start == 10 && errors[2].end == 12 && errors[3].is_eof == 0xeeeeeeee);
     CHECK(errors[2].message + errors[2].message_length == counts.message_bytes && !errors[0].is_limit && !errors[2].is_eof);
@@ -291,7 +353,7 @@ static void formatted(void)
 
 int main(void)
 {
-    CHECK(sizeof(dumyroke_element) == 20 && sizeof(dumyroke_item) == 12 && sizeof(dumyroke_error) == 40 && sizeof(dumyroke_counts) == 48);
+    CHECK(sizeof(dumyroke_element) == 12 && sizeof(dumyroke_item) == 12 && sizeof(dumyroke_error) == 40 && sizeof(dumyroke_counts) == 56);
     counts_of_texts();
     counts_at_limits();
     deeper_than_the_limit();
@@ -301,6 +363,9 @@ int main(void)
     positions();
     larger_than_the_first_guess();
     children();
+    numbers_of_elements();
+    far_parents();
+    too_long();
     selection_sets();
     types();
     items();

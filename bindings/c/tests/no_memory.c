@@ -7,7 +7,7 @@
 #include "dumyroke_tree.h"
 
 /* MIDDLE is too little memory for the text's parse with the room that dumyroke_tree_parse guesses, and enough with the room that it needs. */
-enum { LENGTH = 1 << 24, BAD = 1 << 18, LITTLE = 1 << 20, MIDDLE = 450 << 20 };
+enum { LENGTH = 1 << 24, BAD = 1 << 18, LITTLE = 1 << 20, MIDDLE = 350 << 20 };
 
 static char text[LENGTH], bad[BAD];
 
@@ -28,7 +28,7 @@ static int allow(size_t more)
 static int all_give(uint32_t status)
 {
     const uint8_t *source = (const uint8_t *)text;
-    dumyroke_counts counts = {1, 1, 1, 1, 1, 1};
+    dumyroke_counts counts = {1, 1, 1, 1, 1, 1, 1};
     dumyroke_tree tree;
     size_t bytes = 1;
     int is_right = dumyroke_parse(source, LENGTH, dumyroke_default_limits(), NULL, 0, NULL, 0, NULL, 0, &counts) == status
@@ -47,7 +47,7 @@ static int all_give(uint32_t status)
 static int has_tree(void)
 {
     dumyroke_tree tree;
-    int is_right = dumyroke_tree_parse(&tree, text, LENGTH, dumyroke_default_limits()) == DUMYROKE_OK && tree.elements[0].end == LENGTH;
+    int is_right = dumyroke_tree_parse(&tree, text, LENGTH, dumyroke_default_limits()) == DUMYROKE_OK && tree.counts.text_bytes == LENGTH;
     dumyroke_tree_free(&tree);
     return is_right;
 }

@@ -15,7 +15,7 @@ static int is_right(void)
     uint8_t value[8];
     size_t bytes;
     int is_parsed = dumyroke_tree_parse(&tree, TEXT, sizeof TEXT - 1, dumyroke_default_limits()) == DUMYROKE_OK
-        && tree.counts.errors == 0 && tree.elements[0].next == tree.counts.elements && tree.elements[0].end == sizeof TEXT - 1;
+        && tree.counts.errors == 0 && dumyroke_after(&tree, 0) == tree.counts.elements && dumyroke_end_of(&tree, 0) == sizeof TEXT - 1;
     dumyroke_tree_free(&tree);
     return is_parsed && dumyroke_string_value((const uint8_t *)LITERAL, sizeof LITERAL - 1, value, sizeof value, &bytes) == DUMYROKE_OK
         && bytes == 3 && !memcmp(value, "a\xc3\xa9", 3);

@@ -5,6 +5,7 @@ from __future__ import annotations
 import ctypes
 import functools
 import mmap
+import struct
 from typing import Any
 
 from . import library, nodes
@@ -25,16 +26,21 @@ class NotADocument(ValueError):
         self.errors = errors
 
 
-# The bytes of a spare buffer for rows, enough for a text of 50 kB, and room for errors that is enough for most texts.
+# The bytes of a spare buffer for rows, enough for a text of 87 kB, and room for errors that is enough for most texts.
 _SPARE_BYTES = 1 << 20
 _FEW_ERRORS = 16
 _FEW_MESSAGE_BYTES = 1024
 
 
+# A number of 32 bits; and its highest byte without the highest bit, which a node's start has.
+_WORD = struct.Struct("I")
+_WITHOUT_NODE = bytes(byte & 127 for byte in range(256))
+
+
 def _pages(size: int) -> mmap.mmap:
     """Memory that the system clears page by page, when it is written to. A process that is forked from this one has a copy."""
     try:
-        return mmap.mmap(-1, max(size, 1), flags=mmap.MAP_PRIVATE | mmap.MAP_ANONYMOUS)
+        return mmap.mmap(-1, size, flags=mmap.MAP_PRIVATE | mmap.MAP_ANONYMOUS)
     except OSError:
         raise MemoryError(f"{size} bytes were refused") from None
 
@@ -44,7 +50,7 @@ class _Buffers:
 
     def __init__(self, row_bytes: int, errors: int = _FEW_ERRORS, message_bytes: int = _FEW_MESSAGE_BYTES):
         self.row_bytes, self.error_room, self.message_room = row_bytes, errors, message_bytes
-        self.rows = _pages(row_bytes)
+        self.rows = _pages(row_bytes + _WORD.size)
         self.errors = (ErrorRow * max(errors, 1))()
         self.messages = bytearray(max(message_bytes, 1))
         self.counts = Counts()
@@ -60,6 +66,14 @@ class _Buffers:
         library.raise_for(counts.status, source)
         has_rows = not row_size or counts.elements <= row_room
         return has_rows and counts.errors <= self.error_room and counts.message_bytes <= self.message_room
+
+    def elements_of(self) -> bytes | memoryview:
+        """The rows of elements that were written, with starts that say no more whether it is a node, since kinds do; and after them one more start, the end
+        of the text."""
+        size = self.counts.elements * ELEMENT_SIZE
+        self.rows[3:size:ELEMENT_SIZE] = self.rows[3:size:ELEMENT_SIZE].translate(_WITHOUT_NODE)
+        _WORD.pack_into(self.rows, size, self.counts.text_bytes)
+        return self.rows[: size + _WORD.size] if self.row_bytes == _SPARE_BYTES else memoryview(self.rows)[: size + _WORD.size]
 
     def rows_of(self, row_size: int) -> bytes | memoryview:
         """The rows that were written, as a copy if other calls write to the buffer."""
@@ -100,7 +114,7 @@ def _filled(call: Any, source: bytes, limit: Limits | int, row_size: int) -> _Bu
 
     The first call has room for a row for each byte and 64 more: none of the texts that the project is tried with has more. A text may have five for each
     byte: then a second call has room for all."""
-    guess = len(source) + 64 if len(source) < 2**32 else 0  # a longer text has no rows
+    guess = min(len(source) + 64, 2**28) if len(source) < 2**31 else 0  # a longer text has no rows
     buffers = _taken(guess * row_size)
     while not buffers.fill(call, source, limit, row_size):
         small, counts = buffers, buffers.counts
@@ -128,7 +142,7 @@ def _parsed(call: Any, text: str | bytes, recursion_limit: int, token_limit: int
     source, limits = _given(text, recursion_limit, token_limit)
     buffers, positions = _filled(call, source, limits, ELEMENT_SIZE), Positions(source)
     errors, counts = buffers.errors_of(source, positions), buffers.counts
-    tree: Tree[Any] = Tree(source, buffers.rows_of(ELEMENT_SIZE), errors, counts.recursion_high, counts.token_high, positions)
+    tree: Tree[Any] = Tree(source, buffers.elements_of(), errors, counts.recursion_high, counts.token_high, positions)
     _give_back(buffers)
     return tree
 
@@ -139,7 +153,7 @@ def parse(text: str | bytes, recursion_limit: int = 500, token_limit: int | None
     `recursion_limit` is how deep selection sets, types and values may nest; parsing takes 80 to 192 bytes of the thread's stack for each level.
     `token_limit` is how many tokens are read at most, ignored ones and the end among them.
 
-    Raises `UnicodeDecodeError` or `UnicodeEncodeError` for a text that is not Unicode, `MemoryError`, and `ValueError` for one of 2**32 bytes.
+    Raises `UnicodeDecodeError` or `UnicodeEncodeError` for a text that is not Unicode, `MemoryError`, and `ValueError` for one of 2**31 bytes.
     """
     return _parsed(library.parse, text, recursion_limit, token_limit)
 

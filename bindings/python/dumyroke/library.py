@@ -45,7 +45,7 @@ def raise_for(status: int, source: bytes) -> None:
         source.decode()  # this says where
         raise ValueError("the text is not UTF-8")
     if status == TOO_LONG:
-        raise ValueError("the text is too long: it has 2**32 bytes or more, or that many elements")
+        raise ValueError("the text is too long: it has 2**31 bytes or more, or its tree 2**28 elements")
     if status == NO_MEMORY:
         raise MemoryError("the parser was refused memory")
 

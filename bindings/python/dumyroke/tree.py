@@ -12,7 +12,7 @@ from typing import TYPE_CHECKING, Any, Generic, Iterator, TypeVar, overload
 from .errors import Error
 from .kinds import FIRST_NODE, NAMES, NUMBERS
 from .positions import Position, Positions
-from .rows import ELEMENT_SIZE
+from .rows import ELEMENT_SIZE, KIND_AT
 
 if TYPE_CHECKING:
     from .nodes import Document
@@ -43,12 +43,13 @@ class Element:
     def text(self) -> str:
         """Its text."""
         tree, index = self.tree, self.index
-        return tree._text_of(tree._starts[index], tree._ends[index])
+        return tree._text_of(tree._starts[index], tree._starts[index + (tree._sizes[index] >> 4)])
 
     @property
     def range(self) -> tuple[int, int]:
         """The bytes of its text in UTF-8: the first, and the one after the last."""
-        return self.tree._starts[self.index], self.tree._ends[self.index]
+        starts, index = self.tree._starts, self.index
+        return starts[index], starts[index + (self.tree._sizes[index] >> 4)]
 
     @property
     def span(self) -> tuple[int, int]:
@@ -64,7 +65,7 @@ class Element:
     @property
     def parent(self) -> Node | None:
         """The node that it is a child of. The root has none."""
-        return self.tree._node(self.tree._parents[self.index]) if self.index else None
+        return self.tree._node(self.index - self.tree._parent_distance(self.index)) if self.index else None
 
     def __eq__(self, other: object) -> bool:
         return isinstance(other, Element) and self.tree is other.tree and self.index == other.index
@@ -84,6 +85,12 @@ class Token(Element):
 
     __slots__ = ()
 
+    @property
+    def text(self) -> str:
+        """Its text."""
+        tree, index = self.tree, self.index
+        return tree._text_of(tree._starts[index], tree._starts[index + 1])
+
 
 class Node(Element):
     """A node."""
@@ -102,13 +109,15 @@ class Node(Element):
     def children(self) -> list[Node]:
         """Its children that are nodes, in document order."""
         tree = self.tree
-        nexts, kinds, classes = tree._nexts, tree._kinds, _CLASSES
-        index, end, found = self.index + 1, nexts[self.index], []
+        sizes, kinds, classes = tree._sizes, tree._kinds, _CLASSES
+        index, end, found = self.index + 1, self._end(), []
         while index < end:
             kind = kinds[index]
-            if kind >= FIRST_NODE:
+            if kind < FIRST_NODE:
+                index += 1
+            else:
                 found.append(classes[kind](tree, index))
-            index = nexts[index]
+                index += sizes[index] >> 4
         return found
 
     @property
@@ -155,21 +164,24 @@ class Node(Element):
 
     def _end(self) -> int:
         """The index after the node and all below it."""
-        return self.tree._nexts[self.index]
+        return self.index + (self.tree._sizes[self.index] >> 4)
 
     def _child_indices(self) -> Iterator[int]:
-        nexts = self.tree._nexts
-        index, end = self.index + 1, nexts[self.index]
+        kinds, sizes = self.tree._kinds, self.tree._sizes
+        index, end = self.index + 1, self._end()
         while index < end:
             yield index
-            index = nexts[index]
+            index += 1 if kinds[index] < FIRST_NODE else sizes[index] >> 4
 
     def _first(self, kinds: tuple[int, ...]) -> Any:
         """The first child whose kind is one of these, or None."""
-        tree = self.tree
-        for index in self._child_indices():
-            if tree._kinds[index] in kinds:
-                return tree._node(index)
+        tree, index, end = self.tree, self.index + 1, self._end()
+        all_kinds, sizes = tree._kinds, tree._sizes
+        while index < end:
+            kind = all_kinds[index]
+            if kind in kinds:
+                return _CLASSES[kind](tree, index)
+            index += 1 if kind < FIRST_NODE else sizes[index] >> 4
         return None
 
     def _all(self, kinds: tuple[int, ...]) -> list[Any]:
@@ -205,7 +217,7 @@ def _number_of(kind: type[Node] | str) -> int:
 class Tree(Generic[R]):
     """The tree of a text and its errors. It keeps each byte of the text, also when there are errors. `R` is the class of its root."""
 
-    __slots__ = ("errors", "recursion_high", "token_high", "_source", "_string", "_positions", "_starts", "_ends", "_parents", "_nexts", "_kinds")
+    __slots__ = ("errors", "recursion_high", "token_high", "_source", "_string", "_positions", "_starts", "_sizes", "_parents", "_kinds")
 
     errors: list[Error]
     """The errors of the text. There are none exactly if it is a document within both limits."""
@@ -219,11 +231,11 @@ class Tree(Generic[R]):
         self._source, self._positions = source, positions
         # where offsets of bytes are those of characters
         self._string = source.decode() if source.isascii() else None
-        # the columns of the rows; a walk reads the last two for each element, so these are copied
+        # the columns of the rows (`dumyroke_element` of dumyroke.h), which a start follows; a walk reads sizes and kinds, so these are copied
         words = memoryview(elements).cast("I")
-        self._starts, self._ends, self._parents, nexts, kinds = (words[column :: ELEMENT_SIZE // 4] for column in range(5))
-        self._nexts = array("I", nexts.tobytes())
-        self._kinds = kinds.tobytes()[::4]  # the least significant byte: kinds are below 256
+        self._starts, sizes, self._parents = (words[column :: ELEMENT_SIZE // 4] for column in range(3))
+        self._sizes = array("I", sizes.tobytes())
+        self._kinds = bytes(elements[KIND_AT::ELEMENT_SIZE])
         if self._kinds[0] < FIRST_NODE:
             self._kinds = bytes([_ERROR_NODE]) + self._kinds[1:]
 
@@ -260,6 +272,10 @@ class Tree(Generic[R]):
 
     def __repr__(self) -> str:
         return f"<Tree of {len(self)} elements, {len(self.errors)} errors>"
+
+    def _parent_distance(self, index: int) -> int:
+        """How many elements before an element its parent is."""
+        return self._parents[index] & 0xFFFFFF | (self._sizes[index] & 15) << 24
 
     def _node(self, index: int) -> Any:
         return _CLASSES[self._kinds[index]](self, index)

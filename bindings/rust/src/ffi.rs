@@ -8,14 +8,14 @@
 //! - **What the library writes.** It fills the first `min(count, room)` items of a buffer and nothing else: this is proved of it (`ok` of the outcomes in
 //!   crates/dumyroke_flat/specs), and `filled` takes it from there. Any bits are a value of these items, which are plain numbers.
 //! - **What the numbers say** is never trusted for memory safety. The rest of the crate uses indices, ranges and kinds with checks, and messages are
-//!   checked to be UTF-8. A wrong number would be a panic.
+//!   checked to be UTF-8. A wrong number would be a panic, and a wrong kind `ERROR`.
 //! - The library keeps no pointer after a call, has no state, takes its memory from `malloc`, and does not unwind. Any number of threads may call at
 //!   once.
 //! - A text that nests deeper than the stack holds, which takes a recursion limit far above 500, ends the process at the guard page of the thread.
 #![allow(unsafe_code)]
 #![deny(unsafe_op_in_unsafe_fn)]
 
-use crate::rows::{Counts, ElementRow, ErrorRow, ItemRow, Limits, NO_MEMORY, OK, TOO_LONG};
+use crate::rows::{CompactElement, Counts, ErrorRow, ItemRow, Limits, NO_MEMORY, OK, TOO_LONG};
 use crate::{Error, SyntaxKind};
 use std::alloc::{handle_alloc_error, Layout};
 use std::mem::MaybeUninit;
@@ -27,7 +27,7 @@ macro_rules! parse_calls {
                 text: *const u8,
                 text_length: usize,
                 limits: Limits,
-                elements: *mut MaybeUninit<ElementRow>,
+                elements: *mut MaybeUninit<CompactElement>,
                 element_room: usize,
                 errors: *mut MaybeUninit<ErrorRow>,
                 error_room: usize,
@@ -76,7 +76,7 @@ impl Sort {
     }
 }
 
-/// The text has 2^32 bytes or more, or its tree 2^32 elements or more.
+/// The text has 2^31 bytes or more, or its tree 2^28 elements or more.
 pub(crate) struct TooLong;
 
 /// What a call wrote.
@@ -169,7 +169,7 @@ fn fill<T: Copy>(
 }
 
 /// The elements and the errors of a text.
-pub(crate) fn parse(sort: Sort, text: &str, limits: Limits) -> Result<Found<ElementRow>, TooLong> {
+pub(crate) fn parse(sort: Sort, text: &str, limits: Limits) -> Result<Found<CompactElement>, TooLong> {
     let call = match sort {
         Sort::Document => dumyroke_parse,
         Sort::SelectionSet => dumyroke_parse_selection_set,

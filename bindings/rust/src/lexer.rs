@@ -1,8 +1,7 @@
 //! The tokens of a text, without a tree.
 use crate::ffi;
-use crate::kind::KINDS;
 use crate::rows::ItemRow;
-use crate::{Error, Token, TokenKind};
+use crate::{Error, SyntaxKind, Token, TokenKind};
 use std::sync::Arc;
 
 /// Cuts a text into tokens. It is an iterator of them, of bad text as errors, and at last of the end, [`TokenKind::Eof`].
@@ -67,7 +66,7 @@ impl<'a> Lexer<'a> {
             Ok(found) => Items { errors: found.errors(self.text), rows: found.rows },
             Err(ffi::TooLong) => {
                 let limit = ItemRow { start: 0, end: 0, kind: 0, is_error: 1 };
-                Items { rows: vec![limit], errors: vec![Error::limit("the text has 2^32 bytes or more", 0)] }
+                Items { rows: vec![limit], errors: vec![Error::limit("the text has 2^31 bytes or more", 0)] }
             }
         }
     }
@@ -88,7 +87,7 @@ impl<'a> Iterator for Lexer<'a> {
         self.given += 1;
         let item = if row.is_error == 0 {
             let (start, end) = (row.start as usize, row.end as usize);
-            let kind = TokenKind::of_leaf(KINDS[row.kind as usize]);
+            let kind = TokenKind::of_leaf(SyntaxKind::of_number(row.kind));
             self.is_finished = kind == TokenKind::Eof;
             Ok(Token::new(kind, &self.text[start..end], start))
         } else {

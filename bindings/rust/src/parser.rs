@@ -49,7 +49,7 @@ impl<'input> Parser<'input> {
 
     /// Parses a document. Any text has a tree, faulty ones too; the errors say what is wrong.
     ///
-    /// It never panics. A text of 4 GiB or more, or one whose tree has 2^32 elements, gets an empty document with a limit's error. Refused memory ends
+    /// It never panics. A text of 2 GiB or more, or one whose tree has 2^28 elements, gets an empty document with a limit's error. Refused memory ends
     /// the process, as it does where a `Vec` grows.
     pub fn parse(self) -> SyntaxTree<cst::Document> {
         self.parse_as(Sort::Document)
@@ -71,10 +71,9 @@ impl<'input> Parser<'input> {
             return SyntaxTree::too_long(sort, limits);
         };
         let errors = found.errors(text);
-        // with the token limit the tree has only the first tokens
-        let end = found.rows.first().map_or(0, |root| root.end as usize);
         SyntaxTree {
-            tree: Arc::new(Tree { text: text[..end].into(), rows: found.rows }),
+            // with the token limit the tree has only the first tokens
+            tree: Arc::new(Tree { text: text[..found.counts.text_bytes].into(), rows: found.rows }),
             errors,
             recursion_limit: LimitTracker::used(limits.recursion, found.counts.recursion_high),
             token_limit: LimitTracker::used(limits.tokens, found.counts.token_high),
@@ -101,7 +100,7 @@ impl<T: CstNode> SyntaxTree<T> {
     fn too_long(sort: Sort, limits: Limits) -> Self {
         SyntaxTree {
             tree: Arc::new(Tree::empty(sort.root())),
-            errors: vec![Error::limit("the text has 2^32 bytes or more, or its tree 2^32 elements or more", 0)],
+            errors: vec![Error::limit("the text has 2^31 bytes or more, or its tree 2^28 elements or more", 0)],
             recursion_limit: LimitTracker::new(limits.recursion),
             token_limit: LimitTracker::new(limits.tokens),
             root: PhantomData,

@@ -1,7 +1,8 @@
 //! Trees: nodes and tokens, with the calls that they have in `rowan`.
 //!
-//! A tree is the rows that the library wrote, and one copy of the text. A node is a share of the tree and the index of its row, so making one allocates
-//! nothing. Rows are in document order: the first child of a node is the row after it, and `next` is the row after all below it.
+//! A tree is the rows that the library wrote, of twelve bytes each, and one copy of the text. A node is a share of the tree and the index of its row, so
+//! making one allocates nothing. Rows are in document order: the first child of a node is the row after it, and the next child after a child comes after all
+//! rows of that child's subtree, whose number is the child's size. The text of an element ends where that of the row after its subtree begins.
 mod element;
 mod node;
 mod pointer;
@@ -14,100 +15,167 @@ pub use pointer::SyntaxNodePtr;
 pub use text::SyntaxText;
 pub use walk::{Direction, Preorder, PreorderWithTokens, SyntaxElementChildren, SyntaxNodeChildren, TokenAtOffset, WalkEvent};
 
-use crate::kind::KINDS;
 use crate::range::TextRange;
-use crate::rows::ElementRow;
+use crate::rows::CompactElement;
 use crate::SyntaxKind;
 use std::ops::Deref;
 use std::rc::Rc;
 use std::sync::Arc;
 
+/// What `start_and_node` has more for a node.
+const NODE: u32 = 1 << 31;
+
+impl CompactElement {
+    /// The byte at which its text begins.
+    #[inline]
+    fn start(&self) -> u32 {
+        self.start_and_node & !NODE
+    }
+
+    #[inline]
+    fn is_token(&self) -> bool {
+        self.start_and_node < NODE
+    }
+
+    #[inline]
+    fn kind(&self) -> SyntaxKind {
+        SyntaxKind::of_number(self.kind.into())
+    }
+
+    /// How many elements its subtree has, itself counted.
+    #[inline]
+    fn size(&self) -> u32 {
+        self.size_and_parent >> 4
+    }
+
+    /// How many elements before it its parent is; 0 for the root.
+    #[inline]
+    fn parent_distance(&self) -> u32 {
+        u32::from(self.parent_low) | u32::from(self.parent_middle) << 16 | (self.size_and_parent & 15) << 24
+    }
+
+    /// The same as a root.
+    fn without_parent(self) -> CompactElement {
+        CompactElement { size_and_parent: self.size() << 4, parent_low: 0, parent_middle: 0, ..self }
+    }
+}
+
 /// The rows of a text and the text. They never change, and any number of threads may share them.
 #[derive(Debug, PartialEq, Eq)]
 pub(crate) struct Tree {
     pub(crate) text: Box<str>,
-    pub(crate) rows: Vec<ElementRow>,
+    pub(crate) rows: Vec<CompactElement>,
 }
 
 impl Tree {
     /// A root without children, of no text.
     pub(crate) fn empty(root: SyntaxKind) -> Tree {
-        let row = ElementRow { start: 0, end: 0, parent: 0, next: 1, kind: root as u16, is_token: 0 };
+        let row = CompactElement { start_and_node: NODE, size_and_parent: 1 << 4, parent_low: 0, parent_middle: 0, kind: root as u8 };
         Tree { text: "".into(), rows: vec![row] }
     }
 
     #[inline]
-    fn row(&self, index: u32) -> &ElementRow {
+    fn row(&self, index: u32) -> &CompactElement {
         &self.rows[index as usize]
     }
 
     #[inline]
     fn is_token(&self, index: u32) -> bool {
-        self.row(index).is_token != 0
+        self.row(index).is_token()
     }
 
     #[inline]
     fn kind(&self, index: u32) -> SyntaxKind {
-        KINDS[self.row(index).kind as usize]
+        self.row(index).kind()
+    }
+
+    /// The index after an element and all below it.
+    #[inline]
+    fn after(&self, index: u32) -> u32 {
+        index + self.row(index).size()
+    }
+
+    /// The bytes of an element: the first, and the one after the last.
+    #[inline]
+    fn bounds(&self, index: u32) -> (u32, u32) {
+        let row = self.row(index);
+        let end = self.rows.get((index + row.size()) as usize).map_or(self.text.len() as u32, CompactElement::start);
+        (row.start(), end)
     }
 
     #[inline]
     fn range(&self, index: u32) -> TextRange {
-        let row = self.row(index);
-        TextRange::new(row.start.into(), row.end.into())
+        let (start, end) = self.bounds(index);
+        TextRange::new(start.into(), end.into())
     }
 
     #[inline]
     fn text(&self, index: u32) -> &str {
-        let row = self.row(index);
-        &self.text[row.start as usize..row.end as usize]
+        let (start, end) = self.bounds(index);
+        &self.text[start as usize..end as usize]
     }
 
-    /// The indices of the children of an element. A token has none.
+    /// The children of an element. A token has none.
     #[inline]
     fn children(&self, index: u32) -> Children<'_> {
-        Children { rows: &self.rows, next: index + 1, end: self.row(index).next }
+        self.siblings(index + 1, self.after(index))
     }
 
+    /// The siblings from an index on and before another one.
+    #[inline]
+    fn siblings(&self, next: u32, end: u32) -> Children<'_> {
+        Children { rows: &self.rows[..end as usize], next }
+    }
+
+    #[inline]
+    fn first_child(&self, index: u32) -> Option<u32> {
+        (self.row(index).size() > 1).then_some(index + 1)
+    }
+
+    /// The first child whose range has a range in it.
+    fn child_with(&self, index: u32, range: TextRange) -> Option<u32> {
+        self.children(index).map(|(child, _)| child).find(|&child| self.range(child).contains_range(range))
+    }
+
+    #[inline]
     fn parent(&self, index: u32) -> Option<u32> {
-        (index != 0).then(|| self.row(index).parent)
+        (index != 0).then(|| index - self.row(index).parent_distance())
     }
 
+    #[inline]
     fn next_sibling(&self, index: u32) -> Option<u32> {
-        let (next, parent) = (self.row(index).next, self.parent(index)?);
-        (next < self.row(parent).next).then_some(next)
+        let (next, parent) = (self.after(index), self.parent(index)?);
+        (next < self.after(parent)).then_some(next)
     }
 
     fn previous_sibling(&self, index: u32) -> Option<u32> {
-        self.children(self.parent(index)?).take_while(|&sibling| sibling < index).last()
+        let parent = self.parent(index)?;
+        self.siblings(parent + 1, index).last().map(|(sibling, _)| sibling)
     }
 
     /// How many siblings come before an element.
     fn place_among_siblings(&self, index: u32) -> usize {
-        let siblings = self.parent(index).map(|parent| self.children(parent));
-        siblings.map_or(0, |siblings| siblings.take_while(|&sibling| sibling < index).count())
+        self.parent(index).map_or(0, |parent| self.siblings(parent + 1, index).count())
     }
 }
 
-/// The indices of children.
+/// Siblings: their indices and their rows.
 #[derive(Clone)]
 struct Children<'t> {
-    rows: &'t [ElementRow],
+    /// All rows before the end of the last one's subtree.
+    rows: &'t [CompactElement],
     next: u32,
-    end: u32,
 }
 
-impl Iterator for Children<'_> {
-    type Item = u32;
+impl<'t> Iterator for Children<'t> {
+    type Item = (u32, &'t CompactElement);
 
     #[inline]
-    fn next(&mut self) -> Option<u32> {
+    fn next(&mut self) -> Option<Self::Item> {
         let index = self.next;
-        if index >= self.end {
-            return None;
-        }
-        self.next = self.rows[index as usize].next;
-        Some(index)
+        let row = self.rows.get(index as usize)?;
+        self.next = index + row.size();
+        Some((index, row))
     }
 }
 

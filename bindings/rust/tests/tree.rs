@@ -1,7 +1,7 @@
 //! The calls on trees, against what the children alone say: for the texts below, and for those of the folders in DUMYROKE_TEXTS (files `*.graphql`).
 use dumyroke::cst::{self, CstNode, SyntaxNodePtr};
 use dumyroke::rowan::{Direction, NodeOrToken, TextRange, TextSize, TokenAtOffset, WalkEvent};
-use dumyroke::{Lexer, Parser, SyntaxElement, SyntaxNode, SyntaxToken};
+use dumyroke::{Lexer, Parser, SyntaxElement, SyntaxKind, SyntaxNode, SyntaxToken};
 use std::collections::HashSet;
 
 const TEXTS: &[&str] = &[
@@ -112,6 +112,22 @@ fn check_node(node: &SyntaxNode, text: &str) {
     let shifted: Vec<_> = elements.iter().map(|it| (it.kind(), it.text_range() - node.text_range().start())).collect();
     assert_eq!(copy.descendants_with_tokens().map(|it| (it.kind(), it.text_range())).collect::<Vec<_>>(), shifted);
     assert_eq!(copy.to_string(), node.to_string());
+}
+
+/// The selection set of `{a,a,..}` has more than 2^24 elements, so the distance to it takes more than three bytes.
+#[test]
+fn parents_may_be_far_away() {
+    let text = format!("{{{}}}", "a,".repeat((1 << 22) + 50));
+    let tree = Parser::new(&text).parse();
+    let last = tree.document().syntax().last_token().unwrap();
+    assert_eq!(last.text(), "}");
+    assert_eq!(last.text_range().end(), TextSize::of(&text));
+    let set = last.parent().unwrap();
+    assert_eq!(set.kind(), SyntaxKind::SELECTION_SET);
+    assert_eq!(set.text_range().len(), TextSize::of(&text));
+    assert_eq!(set.children().count(), (1 << 22) + 50);
+    let copy = last.prev_token().unwrap().parent().unwrap().clone_subtree();
+    assert_eq!(copy.parent().map(|it| it.kind()), None);
 }
 
 #[test]

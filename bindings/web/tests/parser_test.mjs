@@ -16,8 +16,8 @@ function quoted(text) {
 
 // The tree of a text with the places of its UTF-8, as gqlcst prints it.
 function printed(text, { recursion, tokens }) {
-  const { rows, errors, depth } = parser.parse(text, { recursion, tokens }, 100000);
-  const tree = new Tree(text, rows);
+  const { rows, textEnd, errors, depth } = parser.parse(text, { recursion, tokens }, 100000);
+  const tree = new Tree(text, rows, textEnd);
   const bytes = (unit) => Buffer.byteLength(text.slice(0, unit));
   const range = (start, end, between) => `@${bytes(start)}${between}${bytes(end)}`;
   const lines = Array.from({ length: tree.length }, (_, element) => {

@@ -12,9 +12,9 @@ mod syntax_tree;
 
 pub use apollo_lexer::{Error, LexError, Lexer, LimitTracker, Limits, Steps, Token};
 pub use apollo_tree::{
-    IndexedElement, Subtree, SyntaxElement, SyntaxElementChildren, SyntaxElementDescendants,
-    SyntaxNode, SyntaxNodeAncestors, SyntaxNodeChildren, SyntaxNodeDescendants, SyntaxToken,
-    TextRange, TokenAtOffset, TokenText,
+    CompactElement, IndexedElement, Subtree, SyntaxElement, SyntaxElementChildren,
+    SyntaxElementDescendants, SyntaxNode, SyntaxNodeAncestors, SyntaxNodeChildren,
+    SyntaxNodeDescendants, SyntaxToken, TextRange, TokenAtOffset, TokenText,
 };
 pub use document_grammar::SyntaxKind;
 pub use lexical_grammar::TokenKind;

@@ -11,7 +11,7 @@ use apollo_cst_core::CstNode;
 use apollo_cst_executable::{SelectionSet, Ty};
 use apollo_cst_type_system::Document;
 use apollo_lexer::{Error, LimitTracker};
-use apollo_tree::{IndexedElement, Subtree, SyntaxNode};
+use apollo_tree::{CompactElement, IndexedElement, Subtree, SyntaxNode};
 use parser_state::Finished;
 use std::alloc::{AllocError, Allocator, Global};
 use std::fmt;
@@ -70,9 +70,10 @@ impl<R: Root, A: Allocator> Model for SyntaxTree<R, A> {
 impl<R: Root, A: Allocator> SyntaxTree<R, A> {
     ghost use Rattle.std.specs.Prelude.{◌≡◌};
     ghost use Rattle.std.specs.Slice.Iter.{iter_rest};
-    ghost use Rattle.std.specs.Prelude.{length};
+    ghost use Rattle.std.specs.Prelude.{◌<◌, ◌^◌, get_or, length};
     ghost use Rattle.document_grammar.specs.Forests.{text};
-    ghost use Rattle.apollo_tree.specs.Order.{order, text_at};
+    ghost use Rattle.apollo_tree.specs.Compact.{compact};
+    ghost use Rattle.apollo_tree.specs.Order.{nowhere, order, text_at};
     ghost use Rattle.apollo_tree.specs.Indexed.{element_at};
     ghost use Rattle.apollo_tree.specs.References.{node_place};
 
@@ -137,6 +138,17 @@ impl<R: Root, A: Allocator> SyntaxTree<R, A> {
         ensures { result ≡ element_at self.now.tree index }
     {
         self.tree.element(index)
+    }
+
+    /// The element with an index in twelve bytes, in constant time.
+    #[inline(always)]
+    pub fn compact(&self, index: usize) -> CompactElement
+        requires inside { index < length (order self.now.tree) }
+        requires few { length (order self.now.tree) < 2 ^ 28 }
+        requires short { length (text self.now.tree) < 2 ^ 31 }
+        ensures { result ≡ compact index (get_or (order self.now.tree) index nowhere) }
+    {
+        self.tree.compact(index)
     }
 }
 

@@ -29,12 +29,12 @@ pub trait Packed: Copy {
 #[derive(Clone, Copy)]
 pub struct SmallRecord {
     // twice the start, and one more for a node
-    start_and_node: u32,
+    pub(crate) start_and_node: u32,
     // sixteen times the size, and the highest four bits of the distance to the parent
-    size_and_parent: u32,
-    parent_low: u16,
-    parent_middle: u8,
-    kind: SyntaxKind,
+    pub(crate) size_and_parent: u32,
+    pub(crate) parent_low: u16,
+    pub(crate) parent_middle: u8,
+    pub(crate) kind: SyntaxKind,
 }
 
 const _: () = prove!(size_of::<SmallRecord>() == 12);

@@ -8,7 +8,7 @@ ghost use Rattle.dumyroke_flat.specs.Items.{ItemsOutcome};
 ghost use Rattle.dumyroke_flat.specs.Outcomes.{FormatOutcome, Outcome, SelectionSetOutcome, StringOutcome, TypeOutcome};
 
 use dumyroke_flat::{
-    Counts, ElementRow, ErrorRow, ItemRow, Limits, format_into, lex_into, parse_into,
+    CompactElement, Counts, ErrorRow, ItemRow, Limits, format_into, lex_into, parse_into,
     parse_selection_set_into, parse_type_into, string_value_into,
 };
 use std::alloc::Global;
@@ -19,7 +19,7 @@ pub extern "C" fn dumyroke_parse(
     alloc: Global,
     source: &[u8],
     limits: Limits,
-    elements: &mut [ElementRow],
+    elements: &mut [CompactElement],
     errors: &mut [ErrorRow],
     messages: &mut [u8],
     counts: &mut Counts,
@@ -38,7 +38,7 @@ pub extern "C" fn dumyroke_parse_selection_set(
     alloc: Global,
     source: &[u8],
     limits: Limits,
-    elements: &mut [ElementRow],
+    elements: &mut [CompactElement],
     errors: &mut [ErrorRow],
     messages: &mut [u8],
     counts: &mut Counts,
@@ -57,7 +57,7 @@ pub extern "C" fn dumyroke_parse_type(
     alloc: Global,
     source: &[u8],
     limits: Limits,
-    elements: &mut [ElementRow],
+    elements: &mut [CompactElement],
     errors: &mut [ErrorRow],
     messages: &mut [u8],
     counts: &mut Counts,

@@ -126,7 +126,7 @@ pub items-written : (source : List ℕ) (allowed : ℕ) (before : ItemBuffers) (
     (errors : List ErrorRow) (words : List ℕ) (count bytes : ℕ) → IsLexed source allowed answers found → rows ≡ filled before.items (map item_row answers)
     → errors ≡ filled before.errors (error_rows 0 found) → words ≡ filled before.messages (messages found) → count ≡ length answers
     → bytes ≡ length (messages found) → ItemsOutcome source allowed before (record { items = rows; errors = errors; messages = words })
-    (record { elements = count; errors = length found; message_bytes = bytes; recursion_high = 0; token_high = count; status = OK })
+    (record { elements = count; text_bytes = 0; errors = length found; message_bytes = bytes; recursion_high = 0; token_high = count; status = OK })
 items-written source allowed before answers found rows errors words count bytes is r e w c b = rw (r, e, w, c, b) (record {
   ok = λ _. (answers, found, is, refl, refl);
   not_utf8 = λ e. absurd (omega (arith, e));

@@ -3,13 +3,14 @@ use Rattle.std.proofs.Common.{◌≡◌, sym, subst, ◌<◌, ℕ, List, [], ◌
 use Rattle.std.specs.List.{Contains}
 use Rattle.std.specs.Str.{IsUtf8}
 use Rattle.apollo_parser.specs.Diagnostics.{Diagnostic}
+use Rattle.apollo_parser.specs.Forests.{text}
 use Rattle.apollo_parser.specs.Order.{order}
 use Rattle.apollo_parser.specs.Parsed.{Parsed}
 use Rattle.apollo_parser.specs.StringValues.{IsStringValue}
 use Rattle.apollo_parser.specs.Tokens.{IsString}
 use Rattle.formatter.specs.Formatted.{IsRefused}
 use Rattle.dumyroke_flat.specs.declared.rows.ByteCount.{ByteCount}
-use Rattle.dumyroke_flat.specs.declared.rows.ElementRow.{ElementRow}
+use Rattle.apollo_tree.specs.declared.compact.CompactElement.{CompactElement}
 use Rattle.dumyroke_flat.specs.declared.rows.ErrorRow.{ErrorRow}
 use Rattle.dumyroke_flat.specs.Rows.{element_rows, error_rows, filled, messages}
 use Rattle.dumyroke_flat.specs.declared.rows.Counts.{Counts}
@@ -50,14 +51,22 @@ of-no-memory P source before counts is =
     rw is (of-refused P source before NO_MEMORY (omega arith) (3, omega arith, refl) (λ e. absurd (omega (arith, e))) (λ e. absurd (omega (arith, e))))
 
 -- the buffers after all of a parse was written, where its errors are known as `found`
-pub of-written : (source : List ℕ) (before : Buffers) (parsed : Parsed) (rows : List ElementRow) (errors : List ErrorRow) (words : List ℕ)
-    (found : List Diagnostic) (elements bytes depth items : ℕ) → found ≡ parsed.errors → rows ≡ filled before.elements (element_rows parsed.tree)
+pub of-written : (source : List ℕ) (before : Buffers) (parsed : Parsed) (rows : List CompactElement) (errors : List ErrorRow) (words : List ℕ)
+    (found : List Diagnostic) (elements length_of_text bytes depth items : ℕ) → found ≡ parsed.errors → rows ≡ filled before.elements (element_rows parsed.tree)
     → errors ≡ filled before.errors (error_rows 0 found) → words ≡ filled before.messages (messages found) → elements ≡ length (order parsed.tree)
-    → bytes ≡ length (messages found) → depth ≡ parsed.recursion_limit.high → items ≡ parsed.token_limit.high
+    → length_of_text ≡ length (text parsed.tree) → bytes ≡ length (messages found) → depth ≡ parsed.recursion_limit.high → items ≡ parsed.token_limit.high
     → ParseOutcome (λ p. p ≡ parsed) source before (record { elements = rows; errors = errors; messages = words })
-    (record { elements = elements; errors = length found; message_bytes = bytes; recursion_high = depth; token_high = items; status = OK })
-of-written source before parsed rows errors words found elements bytes depth items f a b c d e g h =
-    rw (a, b, c, d, e, g, h, f) (of-parse (λ p. p ≡ parsed) source before parsed refl)
+    (record {
+      elements = elements;
+      text_bytes = length_of_text;
+      errors = length found;
+      message_bytes = bytes;
+      recursion_high = depth;
+      token_high = items;
+      status = OK;
+    })
+of-written source before parsed rows errors words found elements length_of_text bytes depth items f a b c d t e g h =
+    rw (a, b, c, d, t, e, g, h, f) (of-parse (λ p. p ≡ parsed) source before parsed refl)
 
 -- The outcome of writing a parse, of which P holds: it is a parse of a text that is the source, within the same limits.
 pub of-its-parse : (P : List ℕ → ℕ → ℕ → Parsed → Type 0) (source text : List ℕ) (max_depth depth max_items items : ℕ) (parsed : Parsed)

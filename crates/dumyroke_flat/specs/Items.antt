@@ -54,6 +54,7 @@ items_written room answers errors = record {
 abbrev pub item_counts : List Answer → List Diagnostic → Counts
 item_counts answers errors = record {
   elements = length answers;
+  text_bytes = 0;
   errors = length errors;
   message_bytes = length (messages errors);
   recursion_high = 0;
@@ -75,7 +76,7 @@ pub record ItemsOutcome (source : List ℕ) (max_items : ℕ) (before after : It
   pub ok : counts.status ≡ OK → (answers : List Answer) × (errors : List Diagnostic) × IsLexed source max_items answers errors
       × (after ≡ items_written before answers errors) × (counts ≡ item_counts answers errors)
   pub not_utf8 : counts.status ≡ NOT_UTF8 → ¬ IsUtf8 source
-  pub too_long : counts.status ≡ TOO_LONG → 2 ^ 32 ≤ length source
+  pub too_long : counts.status ≡ TOO_LONG → 2 ^ 31 ≤ length source
   pub refused : counts.status ≢ OK → (after.errors ≡ before.errors) × (after.messages ≡ before.messages) × (counts ≡ no_counts counts.status)
   -- nothing was written, unless memory was refused, which may be after some items
   pub unchanged : counts.status ≢ OK → counts.status ≢ NO_MEMORY → after ≡ before

@@ -7,7 +7,7 @@ use Rattle.document_grammar.specs.declared.kind.SyntaxKind.TheVariants as kind
 use Rattle.apollo_parser.specs.Answers.{limited}
 use Rattle.apollo_parser.specs.Derivation.{selections, type}
 use Rattle.apollo_parser.specs.Diagnostics.{Diagnostic}
-use Rattle.apollo_parser.specs.Forests.{Forest, none, node}
+use Rattle.apollo_parser.specs.Forests.{Forest, none, node, text}
 use Rattle.apollo_parser.specs.Order.{order}
 use Rattle.apollo_parser.specs.Parsed.{Parsed}
 use Rattle.apollo_parser.specs.Parts.{OneType, first_kind}
@@ -17,7 +17,7 @@ use Rattle.apollo_parser.specs.StringValues.{IsStringValue}
 use Rattle.apollo_parser.specs.Tokens.{IsString}
 use Rattle.dumyroke_flat.specs.declared.rows.ByteCount.{ByteCount}
 use Rattle.dumyroke_flat.specs.declared.rows.Counts.{Counts}
-use Rattle.dumyroke_flat.specs.declared.rows.ElementRow.{ElementRow}
+use Rattle.apollo_tree.specs.declared.compact.CompactElement.{CompactElement}
 use Rattle.dumyroke_flat.specs.declared.rows.ErrorRow.{ErrorRow}
 use Rattle.formatter.specs.Formatted.{IsFormatted, IsRefused}
 use Rattle.dumyroke_flat.specs.Rows.{element_rows, error_rows, filled, messages}
@@ -46,7 +46,7 @@ NOT_A_DOCUMENT = 5
 
 -- The buffers that a parse writes to.
 pub record Buffers : Type 0 where
-  pub elements : List ElementRow
+  pub elements : List CompactElement
   pub errors : List ErrorRow
   pub messages : List ℕ
 
@@ -62,6 +62,7 @@ written room parsed = record {
 abbrev pub counts_of : Parsed → Counts
 counts_of parsed = record {
   elements = length (order parsed.tree);
+  text_bytes = length (text parsed.tree);
   errors = length parsed.errors;
   message_bytes = length (messages parsed.errors);
   recursion_high = parsed.recursion_limit.high;
@@ -71,7 +72,7 @@ counts_of parsed = record {
 
 -- The counts of a call that was refused.
 abbrev pub no_counts : ℕ → Counts
-no_counts status = record { elements = 0; errors = 0; message_bytes = 0; recursion_high = 0; token_high = 0; status = status }
+no_counts status = record { elements = 0; text_bytes = 0; errors = 0; message_bytes = 0; recursion_high = 0; token_high = 0; status = status }
 
 -- The text is UTF-8, and this is its parse, which keeps what `Parser::parse` promises.
 pub record IsParse (source : List ℕ) (max_depth max_items : ℕ) (parsed : Parsed) : Type 0 where
@@ -90,9 +91,9 @@ pub record IsTypeParse (source : List ℕ) (max_depth max_items : ℕ) (parsed :
   pub promise : PartPromise type source max_depth max_items parsed
   pub one_type : OneType (first_kind (limited max_items (items_of source))) parsed.tree
 
--- The text has too many bytes, or its tree too many elements, for rows of 32 bits.
+-- The text has too many bytes, or its tree too many elements, for twelve bytes an element.
 abbrev pub IsTooLong : (Parsed → Type 0) → List ℕ → Type 0
-IsTooLong P source = (2 ^ 32 ≤ length source) ⊎ ((parsed : Parsed) × P parsed × (2 ^ 32 ≤ length (order parsed.tree)))
+IsTooLong P source = (2 ^ 31 ≤ length source) ⊎ ((parsed : Parsed) × P parsed × (2 ^ 28 ≤ length (order parsed.tree)))
 
 -- What a parse gives, from the buffers before it, the buffers after it, and the counts that it answers. It is one of which `P` holds.
 pub record ParseOutcome (P : Parsed → Type 0) (source : List ℕ) (before after : Buffers) (counts : Counts) : Type 0 where

@@ -1,12 +1,12 @@
 -- The rows that say a tree and its errors, and what a buffer holds that they are written to.
-use Rattle.std.specs.Prelude.{ℕ, suc, ◌+◌, ◌<◌, ◌^◌, not, List, [], ◌∷◌, ◌++◌, length, take, drop, unwrap_or}
+use Rattle.std.specs.Prelude.{ℕ, suc, ◌+◌, ◌<◌, ◌^◌, List, [], ◌∷◌, ◌++◌, length, take, drop}
 use Rattle.std.specs.Int.{from_bool}
 use Rattle.std.specs.List.{flat_map}
 use Rattle.apollo_parser.specs.Diagnostics.{Diagnostic, diagnostic_end, is_end_subject, is_limit_subject}
-use Rattle.apollo_parser.specs.Forests.{Forest, count}
-use Rattle.apollo_parser.specs.Numbering.{number}
-use Rattle.apollo_parser.specs.Order.{Element, order, is_node, tree_kids, tree_kind, tree_text}
-use Rattle.dumyroke_flat.specs.declared.rows.ElementRow.{ElementRow}
+use Rattle.apollo_tree.specs.declared.compact.CompactElement.{CompactElement}
+use Rattle.apollo_parser.specs.Compact.{compact}
+use Rattle.apollo_parser.specs.Forests.{Forest}
+use Rattle.apollo_parser.specs.Order.{Element, order}
 use Rattle.dumyroke_flat.specs.declared.rows.ErrorRow.{ErrorRow}
 
 -- The buffer with as many of the items as it has room for, from its beginning on. What is after them stays as it was.
@@ -15,24 +15,13 @@ filled buffer items = take (length buffer) items ++ drop (length items) buffer
 
 -- ---- elements
 
--- The row of the element with an index. The root's parent is itself.
-abbrev pub element_row : ℕ → Element → ElementRow
-element_row index e = record {
-  start = e.start;
-  end = e.start + length (tree_text e.tree);
-  parent = unwrap_or e.parent 0;
-  next = index + suc (count (tree_kids e.tree));
-  kind = number (tree_kind e.tree);
-  is_token = from_bool (not (is_node e.tree));
-}
-
--- The rows of elements, of which the first has the index.
-abbrev pub rows_from : ℕ → List Element → List ElementRow
+-- The elements in twelve bytes, of which the first has the index.
+abbrev pub rows_from : ℕ → List Element → List CompactElement
 rows_from index [] = []
-rows_from index (e ∷ es) = element_row index e ∷ rows_from (suc index) es
+rows_from index (e ∷ es) = compact index e ∷ rows_from (suc index) es
 
--- The rows of a tree, in document order.
-abbrev pub element_rows : Forest → List ElementRow
+-- The elements of a tree, in document order.
+abbrev pub element_rows : Forest → List CompactElement
 element_rows tree = rows_from 0 (order tree)
 
 -- ---- errors

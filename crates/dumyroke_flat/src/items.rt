@@ -128,6 +128,7 @@ pub fn lex_into<A: Allocator + Copy>(
     write_found(found, errors, messages);
     Counts {
         elements: count,
+        text_bytes: 0,
         errors: found.len(),
         message_bytes,
         recursion_high: 0,

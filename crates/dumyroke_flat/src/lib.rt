@@ -16,9 +16,9 @@ mod rows;
 mod source;
 mod strings;
 
-pub use apollo_parser::Limits;
+pub use apollo_parser::{CompactElement, Limits};
 pub use format::format_into;
 pub use items::lex_into;
 pub use parse::{parse_into, parse_selection_set_into, parse_type_into};
-pub use rows::{ByteCount, Counts, ElementRow, ErrorRow, ItemRow, status};
+pub use rows::{ByteCount, Counts, ErrorRow, ItemRow, status};
 pub use strings::string_value_into;

@@ -5,27 +5,28 @@ ghost use Rattle.dumyroke_flat.specs.Outcomes.{Outcome, ParseOutcome, SelectionS
 
 use crate::elements::write_elements;
 use crate::errors::{counted_bytes, write_found};
-use crate::rows::{Counts, ElementRow, ErrorRow, status};
+use crate::rows::{Counts, ErrorRow, status};
 use crate::source::{refused, text_of};
-use apollo_parser::{Limits, Parser, Root, SyntaxTree};
+use apollo_parser::{CompactElement, Limits, Parser, Root, SyntaxTree};
 use std::alloc::Allocator;
 
 // Writes the tree and the errors of a parse, each as far as there is room.
 fn write_parse<R: Root, A: Allocator>(
     tree: &SyntaxTree<R, A>,
-    elements: &mut [ElementRow],
+    elements: &mut [CompactElement],
     errors: &mut [ErrorRow],
     messages: &mut [u8],
 ) -> Counts
-    requires { length (text tree.now.tree) < 2 ^ 32 }
+    requires { length (text tree.now.tree) < 2 ^ 31 }
     ensures { (source : List ℕ) → ParseOutcome (λ parsed. parsed ≡ tree.now) source
         (record { elements = elements.old; errors = errors.old; messages = messages.old })
         (record { elements = elements.new; errors = errors.new; messages = messages.new }) result }
 {
     let element_count = tree.element_count();
-    if element_count > u32::MAX as usize {
+    if element_count >= 1 << 28 {
         return refused(status::TOO_LONG);
     }
+    let text = tree.root().text();
     let found = tree.errors().as_slice();
     let Some(message_bytes) = counted_bytes(found) else {
         return refused(status::NO_MEMORY);
@@ -34,6 +35,7 @@ fn write_parse<R: Root, A: Allocator>(
     write_found(found, errors, messages);
     Counts {
         elements: element_count,
+        text_bytes: text.len(),
         errors: found.len(),
         message_bytes,
         recursion_high: tree.recursion_limit().high,
@@ -50,7 +52,7 @@ pub fn parse_into<A: Allocator + Copy>(
     alloc: A,
     source: &[u8],
     limits: Limits,
-    elements: &mut [ElementRow],
+    elements: &mut [CompactElement],
     errors: &mut [ErrorRow],
     messages: &mut [u8],
 ) -> Counts
@@ -75,7 +77,7 @@ pub fn parse_selection_set_into<A: Allocator + Copy>(
     alloc: A,
     source: &[u8],
     limits: Limits,
-    elements: &mut [ElementRow],
+    elements: &mut [CompactElement],
     errors: &mut [ErrorRow],
     messages: &mut [u8],
 ) -> Counts
@@ -99,7 +101,7 @@ pub fn parse_type_into<A: Allocator + Copy>(
     alloc: A,
     source: &[u8],
     limits: Limits,
-    elements: &mut [ElementRow],
+    elements: &mut [CompactElement],
     errors: &mut [ErrorRow],
     messages: &mut [u8],
 ) -> Counts

@@ -9,7 +9,7 @@ pub mod status {
     /// The bytes are not UTF-8.
     pub const NOT_UTF8: u32 = 1;
 
-    /// The text has 2 ^ 32 bytes or more, or its tree 2 ^ 32 elements or more.
+    /// The text has 2 ^ 31 bytes or more, or its tree 2 ^ 28 elements or more.
     pub const TOO_LONG: u32 = 2;
 
     /// Memory was refused.
@@ -21,27 +21,6 @@ pub mod status {
     /// The text is no document within both limits.
     pub const NOT_A_DOCUMENT: u32 = 5;
 }
-
-/// A node or a leaf of a tree. Rows are in document order: the first child of a node is the row after it, and the next child after a child is at
-/// that child's `next`.
-#[repr(C)]
-#[derive(Clone, Copy)]
-pub struct ElementRow {
-    /// The byte offset at which its text begins.
-    pub start: u32,
-    /// The byte offset at which its text has ended.
-    pub end: u32,
-    /// The index of its parent; the root has 0, its own.
-    pub parent: u32,
-    /// The index of the first element after it and all below it; the number of all elements when there is none.
-    pub next: u32,
-    /// The number of its kind.
-    pub kind: u16,
-    /// 1 for a leaf, 0 for a node.
-    pub is_token: u16,
-}
-
-const _: () = prove!(size_of::<ElementRow>() == 20);
 
 /// An error.
 #[repr(C)]
@@ -85,6 +64,8 @@ const _: () = prove!(size_of::<ItemRow>() == 12);
 pub struct Counts {
     /// How many elements the tree has; or items the text, and one more where the token limit is met.
     pub elements: usize,
+    /// How many bytes the text of the tree has; 0 where a text is only cut into its items.
+    pub text_bytes: usize,
     /// How many errors there are.
     pub errors: usize,
     /// How many bytes all messages have.

@@ -6,16 +6,16 @@ ghost use Rattle.dumyroke_flat.specs.Outcomes.{NOT_UTF8, TOO_LONG, no_counts};
 
 use crate::rows::{Counts, status};
 
-/// The bytes as a text whose places 32 bits can say, or the status of the call that refuses them.
+/// The bytes as a text whose offsets 31 bits can say, or the status of the call that refuses them.
 pub fn text_of(source: &[u8]) -> Result<&str, u32>
     ensures text { IfOk result (λ text. text.now ≡ source.now) }
     ensures utf8 { IfOk result (λ text. IsUtf8 source.now) }
-    ensures short { IfOk result (λ text. length source.now < 2 ^ 32) }
+    ensures short { IfOk result (λ text. length source.now < 2 ^ 31) }
     ensures not_utf8 { IfErr result (λ status. status ≡ NOT_UTF8 → ¬ IsUtf8 source.now) }
-    ensures too_long { IfErr result (λ status. status ≡ TOO_LONG → 2 ^ 32 ≤ length source.now) }
+    ensures too_long { IfErr result (λ status. status ≡ TOO_LONG → 2 ^ 31 ≤ length source.now) }
     ensures known { IfErr result (Contains (NOT_UTF8 ∷ TOO_LONG ∷ [])) }
 {
-    if source.len() > u32::MAX as usize {
+    if source.len() >= 1 << 31 {
         return Err(status::TOO_LONG);
     }
     match std::str::from_utf8(source) {
@@ -30,6 +30,7 @@ pub fn refused(status: u32) -> Counts
 {
     Counts {
         elements: 0,
+        text_bytes: 0,
         errors: 0,
         message_bytes: 0,
         recursion_high: 0,

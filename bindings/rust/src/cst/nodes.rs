@@ -40,6 +40,7 @@ impl fmt::Display for Document {
 
 impl Document {
     /// The definitions, in order. There are none only if the parse reported errors.
+    #[inline]
     pub fn definitions(&self) -> CstChildren<Definition> {
         support::children(&self.syntax)
     }
@@ -86,31 +87,37 @@ impl fmt::Display for OperationDefinition {
 
 impl OperationDefinition {
     /// The selection set. `None` only if the parse reported errors.
+    #[inline]
     pub fn selection_set(&self) -> Option<SelectionSet> {
         support::child(&self.syntax)
     }
 
     /// The description, or `None` when there is none.
+    #[inline]
     pub fn description(&self) -> Option<Description> {
         support::child(&self.syntax)
     }
 
     /// The operation type, or `None` when the query is a selection set alone.
+    #[inline]
     pub fn operation_type(&self) -> Option<OperationType> {
         support::child(&self.syntax)
     }
 
     /// The name, or `None` when there is none.
+    #[inline]
     pub fn name(&self) -> Option<Name> {
         support::child(&self.syntax)
     }
 
     /// The variable definitions, or `None` when there are none.
+    #[inline]
     pub fn variable_definitions(&self) -> Option<VariableDefinitions> {
         support::child(&self.syntax)
     }
 
     /// The directives, or `None` when there are none.
+    #[inline]
     pub fn directives(&self) -> Option<Directives> {
         support::child(&self.syntax)
     }
@@ -153,16 +160,19 @@ impl fmt::Display for OperationType {
 
 impl OperationType {
     /// The keyword `query`, or `None` when it is another one.
+    #[inline]
     pub fn query_token(&self) -> Option<SyntaxToken> {
         support::token(&self.syntax, SyntaxKind::query_KW)
     }
 
     /// The keyword `mutation`, or `None` when it is another one.
+    #[inline]
     pub fn mutation_token(&self) -> Option<SyntaxToken> {
         support::token(&self.syntax, SyntaxKind::mutation_KW)
     }
 
     /// The keyword `subscription`, or `None` when it is another one.
+    #[inline]
     pub fn subscription_token(&self) -> Option<SyntaxToken> {
         support::token(&self.syntax, SyntaxKind::subscription_KW)
     }
@@ -207,16 +217,19 @@ impl fmt::Display for SelectionSet {
 
 impl SelectionSet {
     /// The `{`. `None` only if the parse reported errors, or read a selection set alone that has no braces.
+    #[inline]
     pub fn l_curly_token(&self) -> Option<SyntaxToken> {
         support::token(&self.syntax, SyntaxKind::L_CURLY)
     }
 
     /// The selections, in order. There are none only if the parse reported errors.
+    #[inline]
     pub fn selections(&self) -> CstChildren<Selection> {
         support::children(&self.syntax)
     }
 
     /// The `}`. `None` only if the parse reported errors, or read a selection set alone that has no braces.
+    #[inline]
     pub fn r_curly_token(&self) -> Option<SyntaxToken> {
         support::token(&self.syntax, SyntaxKind::R_CURLY)
     }
@@ -259,26 +272,31 @@ impl fmt::Display for Field {
 
 impl Field {
     /// The alias, or `None` when there is none.
+    #[inline]
     pub fn alias(&self) -> Option<Alias> {
         support::child(&self.syntax)
     }
 
     /// The name. `None` only if the parse reported errors.
+    #[inline]
     pub fn name(&self) -> Option<Name> {
         support::child(&self.syntax)
     }
 
     /// The arguments, or `None` when there are none.
+    #[inline]
     pub fn arguments(&self) -> Option<Arguments> {
         support::child(&self.syntax)
     }
 
     /// The directives, or `None` when there are none.
+    #[inline]
     pub fn directives(&self) -> Option<Directives> {
         support::child(&self.syntax)
     }
 
     /// The selection set, or `None` when there is none.
+    #[inline]
     pub fn selection_set(&self) -> Option<SelectionSet> {
         support::child(&self.syntax)
     }
@@ -321,11 +339,13 @@ impl fmt::Display for Alias {
 
 impl Alias {
     /// The name. `None` only if the parse reported errors.
+    #[inline]
     pub fn name(&self) -> Option<Name> {
         support::child(&self.syntax)
     }
 
     /// The `:`. `None` only if the parse reported errors.
+    #[inline]
     pub fn colon_token(&self) -> Option<SyntaxToken> {
         support::token(&self.syntax, SyntaxKind::COLON)
     }
@@ -368,6 +388,7 @@ impl fmt::Display for Name {
 
 impl Name {
     /// The word of the name. `None` only if the parse reported errors.
+    #[inline]
     pub fn ident_token(&self) -> Option<SyntaxToken> {
         support::token(&self.syntax, SyntaxKind::IDENT)
     }
@@ -410,21 +431,25 @@ impl fmt::Display for FragmentSpread {
 
 impl FragmentSpread {
     /// The `...`. `None` only if the parse reported errors.
+    #[inline]
     pub fn spread_token(&self) -> Option<SyntaxToken> {
         support::token(&self.syntax, SyntaxKind::SPREAD)
     }
 
     /// [`spread_token`](Self::spread_token) under another name.
+    #[inline]
     pub fn dotdotdot_token(&self) -> Option<SyntaxToken> {
         self.spread_token()
     }
 
     /// The name of the fragment. `None` only if the parse reported errors.
+    #[inline]
     pub fn fragment_name(&self) -> Option<FragmentName> {
         support::child(&self.syntax)
     }
 
     /// The directives, or `None` when there are none.
+    #[inline]
     pub fn directives(&self) -> Option<Directives> {
         support::child(&self.syntax)
     }
@@ -467,26 +492,31 @@ impl fmt::Display for InlineFragment {
 
 impl InlineFragment {
     /// The `...`. `None` only if the parse reported errors.
+    #[inline]
     pub fn spread_token(&self) -> Option<SyntaxToken> {
         support::token(&self.syntax, SyntaxKind::SPREAD)
     }
 
     /// [`spread_token`](Self::spread_token) under another name.
+    #[inline]
     pub fn dotdotdot_token(&self) -> Option<SyntaxToken> {
         self.spread_token()
     }
 
     /// The type condition, or `None` when there is none.
+    #[inline]
     pub fn type_condition(&self) -> Option<TypeCondition> {
         support::child(&self.syntax)
     }
 
     /// The directives, or `None` when there are none.
+    #[inline]
     pub fn directives(&self) -> Option<Directives> {
         support::child(&self.syntax)
     }
 
     /// The selection set. `None` only if the parse reported errors.
+    #[inline]
     pub fn selection_set(&self) -> Option<SelectionSet> {
         support::child(&self.syntax)
     }
@@ -531,31 +561,37 @@ impl fmt::Display for FragmentDefinition {
 
 impl FragmentDefinition {
     /// The description, or `None` when there is none.
+    #[inline]
     pub fn description(&self) -> Option<Description> {
         support::child(&self.syntax)
     }
 
     /// The keyword `fragment`. `None` only if the parse reported errors.
+    #[inline]
     pub fn fragment_token(&self) -> Option<SyntaxToken> {
         support::token(&self.syntax, SyntaxKind::fragment_KW)
     }
 
     /// The name of the fragment. `None` only if the parse reported errors.
+    #[inline]
     pub fn fragment_name(&self) -> Option<FragmentName> {
         support::child(&self.syntax)
     }
 
     /// The type condition. `None` only if the parse reported errors.
+    #[inline]
     pub fn type_condition(&self) -> Option<TypeCondition> {
         support::child(&self.syntax)
     }
 
     /// The directives, or `None` when there are none.
+    #[inline]
     pub fn directives(&self) -> Option<Directives> {
         support::child(&self.syntax)
     }
 
     /// The selection set. `None` only if the parse reported errors.
+    #[inline]
     pub fn selection_set(&self) -> Option<SelectionSet> {
         support::child(&self.syntax)
     }
@@ -598,6 +634,7 @@ impl fmt::Display for FragmentName {
 
 impl FragmentName {
     /// The name. `None` only if the parse reported errors.
+    #[inline]
     pub fn name(&self) -> Option<Name> {
         support::child(&self.syntax)
     }
@@ -640,11 +677,13 @@ impl fmt::Display for TypeCondition {
 
 impl TypeCondition {
     /// The keyword `on`. `None` only if the parse reported errors.
+    #[inline]
     pub fn on_token(&self) -> Option<SyntaxToken> {
         support::token(&self.syntax, SyntaxKind::on_KW)
     }
 
     /// The named type. `None` only if the parse reported errors.
+    #[inline]
     pub fn named_type(&self) -> Option<NamedType> {
         support::child(&self.syntax)
     }
@@ -687,16 +726,19 @@ impl fmt::Display for Arguments {
 
 impl Arguments {
     /// The `(`. `None` only if the parse reported errors.
+    #[inline]
     pub fn l_paren_token(&self) -> Option<SyntaxToken> {
         support::token(&self.syntax, SyntaxKind::L_PAREN)
     }
 
     /// The arguments, in order. There are none only if the parse reported errors.
+    #[inline]
     pub fn arguments(&self) -> CstChildren<Argument> {
         support::children(&self.syntax)
     }
 
     /// The `)`. `None` only if the parse reported errors.
+    #[inline]
     pub fn r_paren_token(&self) -> Option<SyntaxToken> {
         support::token(&self.syntax, SyntaxKind::R_PAREN)
     }
@@ -739,16 +781,19 @@ impl fmt::Display for Argument {
 
 impl Argument {
     /// The name. `None` only if the parse reported errors.
+    #[inline]
     pub fn name(&self) -> Option<Name> {
         support::child(&self.syntax)
     }
 
     /// The `:`. `None` only if the parse reported errors.
+    #[inline]
     pub fn colon_token(&self) -> Option<SyntaxToken> {
         support::token(&self.syntax, SyntaxKind::COLON)
     }
 
     /// The value. `None` only if the parse reported errors.
+    #[inline]
     pub fn value(&self) -> Option<Value> {
         support::child(&self.syntax)
     }
@@ -791,6 +836,7 @@ impl fmt::Display for Directives {
 
 impl Directives {
     /// The directives, in order. There are none only if the parse reported errors.
+    #[inline]
     pub fn directives(&self) -> CstChildren<Directive> {
         support::children(&self.syntax)
     }
@@ -833,16 +879,19 @@ impl fmt::Display for Directive {
 
 impl Directive {
     /// The `@`. `None` only if the parse reported errors.
+    #[inline]
     pub fn at_token(&self) -> Option<SyntaxToken> {
         support::token(&self.syntax, SyntaxKind::AT)
     }
 
     /// The name. `None` only if the parse reported errors.
+    #[inline]
     pub fn name(&self) -> Option<Name> {
         support::child(&self.syntax)
     }
 
     /// The arguments, or `None` when there are none.
+    #[inline]
     pub fn arguments(&self) -> Option<Arguments> {
         support::child(&self.syntax)
     }
@@ -885,16 +934,19 @@ impl fmt::Display for VariableDefinitions {
 
 impl VariableDefinitions {
     /// The `(`. `None` only if the parse reported errors.
+    #[inline]
     pub fn l_paren_token(&self) -> Option<SyntaxToken> {
         support::token(&self.syntax, SyntaxKind::L_PAREN)
     }
 
     /// The definitions of the variables, in order. There are none only if the parse reported errors.
+    #[inline]
     pub fn variable_definitions(&self) -> CstChildren<VariableDefinition> {
         support::children(&self.syntax)
     }
 
     /// The `)`. `None` only if the parse reported errors.
+    #[inline]
     pub fn r_paren_token(&self) -> Option<SyntaxToken> {
         support::token(&self.syntax, SyntaxKind::R_PAREN)
     }
@@ -939,31 +991,37 @@ impl fmt::Display for VariableDefinition {
 
 impl VariableDefinition {
     /// The description, or `None` when there is none.
+    #[inline]
     pub fn description(&self) -> Option<Description> {
         support::child(&self.syntax)
     }
 
     /// The variable. `None` only if the parse reported errors.
+    #[inline]
     pub fn variable(&self) -> Option<Variable> {
         support::child(&self.syntax)
     }
 
     /// The `:`. `None` only if the parse reported errors.
+    #[inline]
     pub fn colon_token(&self) -> Option<SyntaxToken> {
         support::token(&self.syntax, SyntaxKind::COLON)
     }
 
     /// The type. `None` only if the parse reported errors.
+    #[inline]
     pub fn ty(&self) -> Option<Type> {
         support::child(&self.syntax)
     }
 
     /// The default value, or `None` when there is none.
+    #[inline]
     pub fn default_value(&self) -> Option<DefaultValue> {
         support::child(&self.syntax)
     }
 
     /// The directives, or `None` when there are none.
+    #[inline]
     pub fn directives(&self) -> Option<Directives> {
         support::child(&self.syntax)
     }
@@ -1006,11 +1064,13 @@ impl fmt::Display for Variable {
 
 impl Variable {
     /// The `$`. `None` only if the parse reported errors.
+    #[inline]
     pub fn dollar_token(&self) -> Option<SyntaxToken> {
         support::token(&self.syntax, SyntaxKind::DOLLAR)
     }
 
     /// The name. `None` only if the parse reported errors.
+    #[inline]
     pub fn name(&self) -> Option<Name> {
         support::child(&self.syntax)
     }
@@ -1053,11 +1113,13 @@ impl fmt::Display for DefaultValue {
 
 impl DefaultValue {
     /// The `=`. `None` only if the parse reported errors.
+    #[inline]
     pub fn eq_token(&self) -> Option<SyntaxToken> {
         support::token(&self.syntax, SyntaxKind::EQ)
     }
 
     /// The value. `None` only if the parse reported errors.
+    #[inline]
     pub fn value(&self) -> Option<Value> {
         support::child(&self.syntax)
     }
@@ -1102,6 +1164,7 @@ impl fmt::Display for IntValue {
 
 impl IntValue {
     /// The number. `None` only if the parse reported errors.
+    #[inline]
     pub fn int_token(&self) -> Option<SyntaxToken> {
         support::token(&self.syntax, SyntaxKind::INT)
     }
@@ -1147,6 +1210,7 @@ impl fmt::Display for FloatValue {
 
 impl FloatValue {
     /// The number. `None` only if the parse reported errors.
+    #[inline]
     pub fn float_token(&self) -> Option<SyntaxToken> {
         support::token(&self.syntax, SyntaxKind::FLOAT)
     }
@@ -1196,6 +1260,7 @@ impl fmt::Display for StringValue {
 
 impl StringValue {
     /// The string, with its quotes. `None` only if the parse reported errors.
+    #[inline]
     pub fn string_token(&self) -> Option<SyntaxToken> {
         support::token(&self.syntax, SyntaxKind::STRING)
     }
@@ -1240,11 +1305,13 @@ impl fmt::Display for BooleanValue {
 
 impl BooleanValue {
     /// The keyword `true`, or `None` when it is another one.
+    #[inline]
     pub fn true_token(&self) -> Option<SyntaxToken> {
         support::token(&self.syntax, SyntaxKind::true_KW)
     }
 
     /// The keyword `false`, or `None` when it is another one.
+    #[inline]
     pub fn false_token(&self) -> Option<SyntaxToken> {
         support::token(&self.syntax, SyntaxKind::false_KW)
     }
@@ -1287,6 +1354,7 @@ impl fmt::Display for NullValue {
 
 impl NullValue {
     /// The keyword `null`. `None` only if the parse reported errors.
+    #[inline]
     pub fn null_token(&self) -> Option<SyntaxToken> {
         support::token(&self.syntax, SyntaxKind::null_KW)
     }
@@ -1329,6 +1397,7 @@ impl fmt::Display for EnumValue {
 
 impl EnumValue {
     /// The name. `None` only if the parse reported errors.
+    #[inline]
     pub fn name(&self) -> Option<Name> {
         support::child(&self.syntax)
     }
@@ -1373,16 +1442,19 @@ impl fmt::Display for ListValue {
 
 impl ListValue {
     /// The `[`. `None` only if the parse reported errors.
+    #[inline]
     pub fn l_brack_token(&self) -> Option<SyntaxToken> {
         support::token(&self.syntax, SyntaxKind::L_BRACK)
     }
 
     /// The values, in order.
+    #[inline]
     pub fn values(&self) -> CstChildren<Value> {
         support::children(&self.syntax)
     }
 
     /// The `]`. `None` only if the parse reported errors.
+    #[inline]
     pub fn r_brack_token(&self) -> Option<SyntaxToken> {
         support::token(&self.syntax, SyntaxKind::R_BRACK)
     }
@@ -1427,16 +1499,19 @@ impl fmt::Display for ObjectValue {
 
 impl ObjectValue {
     /// The `{`. `None` only if the parse reported errors.
+    #[inline]
     pub fn l_curly_token(&self) -> Option<SyntaxToken> {
         support::token(&self.syntax, SyntaxKind::L_CURLY)
     }
 
     /// The fields, in order.
+    #[inline]
     pub fn object_fields(&self) -> CstChildren<ObjectField> {
         support::children(&self.syntax)
     }
 
     /// The `}`. `None` only if the parse reported errors.
+    #[inline]
     pub fn r_curly_token(&self) -> Option<SyntaxToken> {
         support::token(&self.syntax, SyntaxKind::R_CURLY)
     }
@@ -1479,16 +1554,19 @@ impl fmt::Display for ObjectField {
 
 impl ObjectField {
     /// The name. `None` only if the parse reported errors.
+    #[inline]
     pub fn name(&self) -> Option<Name> {
         support::child(&self.syntax)
     }
 
     /// The `:`. `None` only if the parse reported errors.
+    #[inline]
     pub fn colon_token(&self) -> Option<SyntaxToken> {
         support::token(&self.syntax, SyntaxKind::COLON)
     }
 
     /// The value. `None` only if the parse reported errors.
+    #[inline]
     pub fn value(&self) -> Option<Value> {
         support::child(&self.syntax)
     }
@@ -1531,6 +1609,7 @@ impl fmt::Display for NamedType {
 
 impl NamedType {
     /// The name. `None` only if the parse reported errors.
+    #[inline]
     pub fn name(&self) -> Option<Name> {
         support::child(&self.syntax)
     }
@@ -1573,16 +1652,19 @@ impl fmt::Display for ListType {
 
 impl ListType {
     /// The `[`. `None` only if the parse reported errors.
+    #[inline]
     pub fn l_brack_token(&self) -> Option<SyntaxToken> {
         support::token(&self.syntax, SyntaxKind::L_BRACK)
     }
 
     /// The type. `None` only if the parse reported errors.
+    #[inline]
     pub fn ty(&self) -> Option<Type> {
         support::child(&self.syntax)
     }
 
     /// The `]`. `None` only if the parse reported errors.
+    #[inline]
     pub fn r_brack_token(&self) -> Option<SyntaxToken> {
         support::token(&self.syntax, SyntaxKind::R_BRACK)
     }
@@ -1627,21 +1709,25 @@ impl fmt::Display for NonNullType {
 
 impl NonNullType {
     /// The named type, or `None` when it is a list type.
+    #[inline]
     pub fn named_type(&self) -> Option<NamedType> {
         support::child(&self.syntax)
     }
 
     /// The list type, or `None` when it is a named type.
+    #[inline]
     pub fn list_type(&self) -> Option<ListType> {
         support::child(&self.syntax)
     }
 
     /// The `!`. `None` only if the parse reported errors.
+    #[inline]
     pub fn bang_token(&self) -> Option<SyntaxToken> {
         support::token(&self.syntax, SyntaxKind::BANG)
     }
 
     /// [`bang_token`](Self::bang_token) under another name.
+    #[inline]
     pub fn excl_token(&self) -> Option<SyntaxToken> {
         self.bang_token()
     }
@@ -1684,6 +1770,7 @@ impl fmt::Display for Description {
 
 impl Description {
     /// The string. `None` only if the parse reported errors.
+    #[inline]
     pub fn string_value(&self) -> Option<StringValue> {
         support::child(&self.syntax)
     }
@@ -1726,31 +1813,37 @@ impl fmt::Display for SchemaDefinition {
 
 impl SchemaDefinition {
     /// The description, or `None` when there is none.
+    #[inline]
     pub fn description(&self) -> Option<Description> {
         support::child(&self.syntax)
     }
 
     /// The keyword `schema`. `None` only if the parse reported errors.
+    #[inline]
     pub fn schema_token(&self) -> Option<SyntaxToken> {
         support::token(&self.syntax, SyntaxKind::schema_KW)
     }
 
     /// The directives, or `None` when there are none.
+    #[inline]
     pub fn directives(&self) -> Option<Directives> {
         support::child(&self.syntax)
     }
 
     /// The `{`. `None` only if the parse reported errors.
+    #[inline]
     pub fn l_curly_token(&self) -> Option<SyntaxToken> {
         support::token(&self.syntax, SyntaxKind::L_CURLY)
     }
 
     /// The types of the root operations, in order. There are none only if the parse reported errors.
+    #[inline]
     pub fn root_operation_type_definitions(&self) -> CstChildren<RootOperationTypeDefinition> {
         support::children(&self.syntax)
     }
 
     /// The `}`. `None` only if the parse reported errors.
+    #[inline]
     pub fn r_curly_token(&self) -> Option<SyntaxToken> {
         support::token(&self.syntax, SyntaxKind::R_CURLY)
     }
@@ -1793,16 +1886,19 @@ impl fmt::Display for RootOperationTypeDefinition {
 
 impl RootOperationTypeDefinition {
     /// The operation type. `None` only if the parse reported errors.
+    #[inline]
     pub fn operation_type(&self) -> Option<OperationType> {
         support::child(&self.syntax)
     }
 
     /// The `:`. `None` only if the parse reported errors.
+    #[inline]
     pub fn colon_token(&self) -> Option<SyntaxToken> {
         support::token(&self.syntax, SyntaxKind::COLON)
     }
 
     /// The named type. `None` only if the parse reported errors.
+    #[inline]
     pub fn named_type(&self) -> Option<NamedType> {
         support::child(&self.syntax)
     }
@@ -1845,21 +1941,25 @@ impl fmt::Display for ScalarTypeDefinition {
 
 impl ScalarTypeDefinition {
     /// The description, or `None` when there is none.
+    #[inline]
     pub fn description(&self) -> Option<Description> {
         support::child(&self.syntax)
     }
 
     /// The keyword `scalar`. `None` only if the parse reported errors.
+    #[inline]
     pub fn scalar_token(&self) -> Option<SyntaxToken> {
         support::token(&self.syntax, SyntaxKind::scalar_KW)
     }
 
     /// The name. `None` only if the parse reported errors.
+    #[inline]
     pub fn name(&self) -> Option<Name> {
         support::child(&self.syntax)
     }
 
     /// The directives, or `None` when there are none.
+    #[inline]
     pub fn directives(&self) -> Option<Directives> {
         support::child(&self.syntax)
     }
@@ -1904,31 +2004,37 @@ impl fmt::Display for ObjectTypeDefinition {
 
 impl ObjectTypeDefinition {
     /// The description, or `None` when there is none.
+    #[inline]
     pub fn description(&self) -> Option<Description> {
         support::child(&self.syntax)
     }
 
     /// The keyword `type`. `None` only if the parse reported errors.
+    #[inline]
     pub fn type_token(&self) -> Option<SyntaxToken> {
         support::token(&self.syntax, SyntaxKind::type_KW)
     }
 
     /// The name. `None` only if the parse reported errors.
+    #[inline]
     pub fn name(&self) -> Option<Name> {
         support::child(&self.syntax)
     }
 
     /// The interfaces that it implements, or `None` when there are none.
+    #[inline]
     pub fn implements_interfaces(&self) -> Option<ImplementsInterfaces> {
         support::child(&self.syntax)
     }
 
     /// The directives, or `None` when there are none.
+    #[inline]
     pub fn directives(&self) -> Option<Directives> {
         support::child(&self.syntax)
     }
 
     /// The definitions of its fields, or `None` when there are none.
+    #[inline]
     pub fn fields_definition(&self) -> Option<FieldsDefinition> {
         support::child(&self.syntax)
     }
@@ -1973,16 +2079,19 @@ impl fmt::Display for ImplementsInterfaces {
 
 impl ImplementsInterfaces {
     /// The keyword `implements`. `None` only if the parse reported errors.
+    #[inline]
     pub fn implements_token(&self) -> Option<SyntaxToken> {
         support::token(&self.syntax, SyntaxKind::implements_KW)
     }
 
     /// The first `&`, or `None` when there is none.
+    #[inline]
     pub fn amp_token(&self) -> Option<SyntaxToken> {
         support::token(&self.syntax, SyntaxKind::AMP)
     }
 
     /// The interfaces, in order. There are none only if the parse reported errors.
+    #[inline]
     pub fn named_types(&self) -> CstChildren<NamedType> {
         support::children(&self.syntax)
     }
@@ -2025,16 +2134,19 @@ impl fmt::Display for FieldsDefinition {
 
 impl FieldsDefinition {
     /// The `{`. `None` only if the parse reported errors.
+    #[inline]
     pub fn l_curly_token(&self) -> Option<SyntaxToken> {
         support::token(&self.syntax, SyntaxKind::L_CURLY)
     }
 
     /// The definitions of the fields, in order. There are none only if the parse reported errors.
+    #[inline]
     pub fn field_definitions(&self) -> CstChildren<FieldDefinition> {
         support::children(&self.syntax)
     }
 
     /// The `}`. `None` only if the parse reported errors.
+    #[inline]
     pub fn r_curly_token(&self) -> Option<SyntaxToken> {
         support::token(&self.syntax, SyntaxKind::R_CURLY)
     }
@@ -2077,31 +2189,37 @@ impl fmt::Display for FieldDefinition {
 
 impl FieldDefinition {
     /// The description, or `None` when there is none.
+    #[inline]
     pub fn description(&self) -> Option<Description> {
         support::child(&self.syntax)
     }
 
     /// The name. `None` only if the parse reported errors.
+    #[inline]
     pub fn name(&self) -> Option<Name> {
         support::child(&self.syntax)
     }
 
     /// The definitions of its arguments, or `None` when there are none.
+    #[inline]
     pub fn arguments_definition(&self) -> Option<ArgumentsDefinition> {
         support::child(&self.syntax)
     }
 
     /// The `:`. `None` only if the parse reported errors.
+    #[inline]
     pub fn colon_token(&self) -> Option<SyntaxToken> {
         support::token(&self.syntax, SyntaxKind::COLON)
     }
 
     /// The type. `None` only if the parse reported errors.
+    #[inline]
     pub fn ty(&self) -> Option<Type> {
         support::child(&self.syntax)
     }
 
     /// The directives, or `None` when there are none.
+    #[inline]
     pub fn directives(&self) -> Option<Directives> {
         support::child(&self.syntax)
     }
@@ -2144,16 +2262,19 @@ impl fmt::Display for ArgumentsDefinition {
 
 impl ArgumentsDefinition {
     /// The `(`. `None` only if the parse reported errors.
+    #[inline]
     pub fn l_paren_token(&self) -> Option<SyntaxToken> {
         support::token(&self.syntax, SyntaxKind::L_PAREN)
     }
 
     /// The definitions of the arguments, in order. There are none only if the parse reported errors.
+    #[inline]
     pub fn input_value_definitions(&self) -> CstChildren<InputValueDefinition> {
         support::children(&self.syntax)
     }
 
     /// The `)`. `None` only if the parse reported errors.
+    #[inline]
     pub fn r_paren_token(&self) -> Option<SyntaxToken> {
         support::token(&self.syntax, SyntaxKind::R_PAREN)
     }
@@ -2196,31 +2317,37 @@ impl fmt::Display for InputValueDefinition {
 
 impl InputValueDefinition {
     /// The description, or `None` when there is none.
+    #[inline]
     pub fn description(&self) -> Option<Description> {
         support::child(&self.syntax)
     }
 
     /// The name. `None` only if the parse reported errors.
+    #[inline]
     pub fn name(&self) -> Option<Name> {
         support::child(&self.syntax)
     }
 
     /// The `:`. `None` only if the parse reported errors.
+    #[inline]
     pub fn colon_token(&self) -> Option<SyntaxToken> {
         support::token(&self.syntax, SyntaxKind::COLON)
     }
 
     /// The type. `None` only if the parse reported errors.
+    #[inline]
     pub fn ty(&self) -> Option<Type> {
         support::child(&self.syntax)
     }
 
     /// The default value, or `None` when there is none.
+    #[inline]
     pub fn default_value(&self) -> Option<DefaultValue> {
         support::child(&self.syntax)
     }
 
     /// The directives, or `None` when there are none.
+    #[inline]
     pub fn directives(&self) -> Option<Directives> {
         support::child(&self.syntax)
     }
@@ -2265,31 +2392,37 @@ impl fmt::Display for InterfaceTypeDefinition {
 
 impl InterfaceTypeDefinition {
     /// The description, or `None` when there is none.
+    #[inline]
     pub fn description(&self) -> Option<Description> {
         support::child(&self.syntax)
     }
 
     /// The keyword `interface`. `None` only if the parse reported errors.
+    #[inline]
     pub fn interface_token(&self) -> Option<SyntaxToken> {
         support::token(&self.syntax, SyntaxKind::interface_KW)
     }
 
     /// The name. `None` only if the parse reported errors.
+    #[inline]
     pub fn name(&self) -> Option<Name> {
         support::child(&self.syntax)
     }
 
     /// The interfaces that it implements, or `None` when there are none.
+    #[inline]
     pub fn implements_interfaces(&self) -> Option<ImplementsInterfaces> {
         support::child(&self.syntax)
     }
 
     /// The directives, or `None` when there are none.
+    #[inline]
     pub fn directives(&self) -> Option<Directives> {
         support::child(&self.syntax)
     }
 
     /// The definitions of its fields, or `None` when there are none.
+    #[inline]
     pub fn fields_definition(&self) -> Option<FieldsDefinition> {
         support::child(&self.syntax)
     }
@@ -2332,26 +2465,31 @@ impl fmt::Display for UnionTypeDefinition {
 
 impl UnionTypeDefinition {
     /// The description, or `None` when there is none.
+    #[inline]
     pub fn description(&self) -> Option<Description> {
         support::child(&self.syntax)
     }
 
     /// The keyword `union`. `None` only if the parse reported errors.
+    #[inline]
     pub fn union_token(&self) -> Option<SyntaxToken> {
         support::token(&self.syntax, SyntaxKind::union_KW)
     }
 
     /// The name. `None` only if the parse reported errors.
+    #[inline]
     pub fn name(&self) -> Option<Name> {
         support::child(&self.syntax)
     }
 
     /// The directives, or `None` when there are none.
+    #[inline]
     pub fn directives(&self) -> Option<Directives> {
         support::child(&self.syntax)
     }
 
     /// The member types, or `None` when there are none.
+    #[inline]
     pub fn union_member_types(&self) -> Option<UnionMemberTypes> {
         support::child(&self.syntax)
     }
@@ -2396,16 +2534,19 @@ impl fmt::Display for UnionMemberTypes {
 
 impl UnionMemberTypes {
     /// The `=`. `None` only if the parse reported errors.
+    #[inline]
     pub fn eq_token(&self) -> Option<SyntaxToken> {
         support::token(&self.syntax, SyntaxKind::EQ)
     }
 
     /// The first `|`, or `None` when there is none.
+    #[inline]
     pub fn pipe_token(&self) -> Option<SyntaxToken> {
         support::token(&self.syntax, SyntaxKind::PIPE)
     }
 
     /// The member types, in order. There are none only if the parse reported errors.
+    #[inline]
     pub fn named_types(&self) -> CstChildren<NamedType> {
         support::children(&self.syntax)
     }
@@ -2450,26 +2591,31 @@ impl fmt::Display for EnumTypeDefinition {
 
 impl EnumTypeDefinition {
     /// The description, or `None` when there is none.
+    #[inline]
     pub fn description(&self) -> Option<Description> {
         support::child(&self.syntax)
     }
 
     /// The keyword `enum`. `None` only if the parse reported errors.
+    #[inline]
     pub fn enum_token(&self) -> Option<SyntaxToken> {
         support::token(&self.syntax, SyntaxKind::enum_KW)
     }
 
     /// The name. `None` only if the parse reported errors.
+    #[inline]
     pub fn name(&self) -> Option<Name> {
         support::child(&self.syntax)
     }
 
     /// The directives, or `None` when there are none.
+    #[inline]
     pub fn directives(&self) -> Option<Directives> {
         support::child(&self.syntax)
     }
 
     /// The definitions of its values, or `None` when there are none.
+    #[inline]
     pub fn enum_values_definition(&self) -> Option<EnumValuesDefinition> {
         support::child(&self.syntax)
     }
@@ -2512,16 +2658,19 @@ impl fmt::Display for EnumValuesDefinition {
 
 impl EnumValuesDefinition {
     /// The `{`. `None` only if the parse reported errors.
+    #[inline]
     pub fn l_curly_token(&self) -> Option<SyntaxToken> {
         support::token(&self.syntax, SyntaxKind::L_CURLY)
     }
 
     /// The definitions of the values, in order. There are none only if the parse reported errors.
+    #[inline]
     pub fn enum_value_definitions(&self) -> CstChildren<EnumValueDefinition> {
         support::children(&self.syntax)
     }
 
     /// The `}`. `None` only if the parse reported errors.
+    #[inline]
     pub fn r_curly_token(&self) -> Option<SyntaxToken> {
         support::token(&self.syntax, SyntaxKind::R_CURLY)
     }
@@ -2564,16 +2713,19 @@ impl fmt::Display for EnumValueDefinition {
 
 impl EnumValueDefinition {
     /// The description, or `None` when there is none.
+    #[inline]
     pub fn description(&self) -> Option<Description> {
         support::child(&self.syntax)
     }
 
     /// The enum value. `None` only if the parse reported errors.
+    #[inline]
     pub fn enum_value(&self) -> Option<EnumValue> {
         support::child(&self.syntax)
     }
 
     /// The directives, or `None` when there are none.
+    #[inline]
     pub fn directives(&self) -> Option<Directives> {
         support::child(&self.syntax)
     }
@@ -2618,26 +2770,31 @@ impl fmt::Display for InputObjectTypeDefinition {
 
 impl InputObjectTypeDefinition {
     /// The description, or `None` when there is none.
+    #[inline]
     pub fn description(&self) -> Option<Description> {
         support::child(&self.syntax)
     }
 
     /// The keyword `input`. `None` only if the parse reported errors.
+    #[inline]
     pub fn input_token(&self) -> Option<SyntaxToken> {
         support::token(&self.syntax, SyntaxKind::input_KW)
     }
 
     /// The name. `None` only if the parse reported errors.
+    #[inline]
     pub fn name(&self) -> Option<Name> {
         support::child(&self.syntax)
     }
 
     /// The directives, or `None` when there are none.
+    #[inline]
     pub fn directives(&self) -> Option<Directives> {
         support::child(&self.syntax)
     }
 
     /// The definitions of its fields, or `None` when there are none.
+    #[inline]
     pub fn input_fields_definition(&self) -> Option<InputFieldsDefinition> {
         support::child(&self.syntax)
     }
@@ -2680,16 +2837,19 @@ impl fmt::Display for InputFieldsDefinition {
 
 impl InputFieldsDefinition {
     /// The `{`. `None` only if the parse reported errors.
+    #[inline]
     pub fn l_curly_token(&self) -> Option<SyntaxToken> {
         support::token(&self.syntax, SyntaxKind::L_CURLY)
     }
 
     /// The definitions of the fields, in order. There are none only if the parse reported errors.
+    #[inline]
     pub fn input_value_definitions(&self) -> CstChildren<InputValueDefinition> {
         support::children(&self.syntax)
     }
 
     /// The `}`. `None` only if the parse reported errors.
+    #[inline]
     pub fn r_curly_token(&self) -> Option<SyntaxToken> {
         support::token(&self.syntax, SyntaxKind::R_CURLY)
     }
@@ -2732,41 +2892,49 @@ impl fmt::Display for DirectiveDefinition {
 
 impl DirectiveDefinition {
     /// The description, or `None` when there is none.
+    #[inline]
     pub fn description(&self) -> Option<Description> {
         support::child(&self.syntax)
     }
 
     /// The keyword `directive`. `None` only if the parse reported errors.
+    #[inline]
     pub fn directive_token(&self) -> Option<SyntaxToken> {
         support::token(&self.syntax, SyntaxKind::directive_KW)
     }
 
     /// The `@`. `None` only if the parse reported errors.
+    #[inline]
     pub fn at_token(&self) -> Option<SyntaxToken> {
         support::token(&self.syntax, SyntaxKind::AT)
     }
 
     /// The name. `None` only if the parse reported errors.
+    #[inline]
     pub fn name(&self) -> Option<Name> {
         support::child(&self.syntax)
     }
 
     /// The definitions of its arguments, or `None` when there are none.
+    #[inline]
     pub fn arguments_definition(&self) -> Option<ArgumentsDefinition> {
         support::child(&self.syntax)
     }
 
     /// The keyword `repeatable`, or `None` when there is none.
+    #[inline]
     pub fn repeatable_token(&self) -> Option<SyntaxToken> {
         support::token(&self.syntax, SyntaxKind::repeatable_KW)
     }
 
     /// The keyword `on`. `None` only if the parse reported errors.
+    #[inline]
     pub fn on_token(&self) -> Option<SyntaxToken> {
         support::token(&self.syntax, SyntaxKind::on_KW)
     }
 
     /// The locations. `None` only if the parse reported errors.
+    #[inline]
     pub fn directive_locations(&self) -> Option<DirectiveLocations> {
         support::child(&self.syntax)
     }
@@ -2811,11 +2979,13 @@ impl fmt::Display for DirectiveLocations {
 
 impl DirectiveLocations {
     /// The first `|`, or `None` when there is none.
+    #[inline]
     pub fn pipe_token(&self) -> Option<SyntaxToken> {
         support::token(&self.syntax, SyntaxKind::PIPE)
     }
 
     /// The locations, in order. There are none only if the parse reported errors.
+    #[inline]
     pub fn directive_locations(&self) -> CstChildren<DirectiveLocation> {
         support::children(&self.syntax)
     }
@@ -2860,96 +3030,115 @@ impl fmt::Display for DirectiveLocation {
 
 impl DirectiveLocation {
     /// The keyword `QUERY`, or `None` when it is another one.
+    #[inline]
     pub fn query_token(&self) -> Option<SyntaxToken> {
         support::token(&self.syntax, SyntaxKind::QUERY_KW)
     }
 
     /// The keyword `MUTATION`, or `None` when it is another one.
+    #[inline]
     pub fn mutation_token(&self) -> Option<SyntaxToken> {
         support::token(&self.syntax, SyntaxKind::MUTATION_KW)
     }
 
     /// The keyword `SUBSCRIPTION`, or `None` when it is another one.
+    #[inline]
     pub fn subscription_token(&self) -> Option<SyntaxToken> {
         support::token(&self.syntax, SyntaxKind::SUBSCRIPTION_KW)
     }
 
     /// The keyword `FIELD`, or `None` when it is another one.
+    #[inline]
     pub fn field_token(&self) -> Option<SyntaxToken> {
         support::token(&self.syntax, SyntaxKind::FIELD_KW)
     }
 
     /// The keyword `FRAGMENT_DEFINITION`, or `None` when it is another one.
+    #[inline]
     pub fn fragment_definition_token(&self) -> Option<SyntaxToken> {
         support::token(&self.syntax, SyntaxKind::FRAGMENT_DEFINITION_KW)
     }
 
     /// The keyword `FRAGMENT_SPREAD`, or `None` when it is another one.
+    #[inline]
     pub fn fragment_spread_token(&self) -> Option<SyntaxToken> {
         support::token(&self.syntax, SyntaxKind::FRAGMENT_SPREAD_KW)
     }
 
     /// The keyword `INLINE_FRAGMENT`, or `None` when it is another one.
+    #[inline]
     pub fn inline_fragment_token(&self) -> Option<SyntaxToken> {
         support::token(&self.syntax, SyntaxKind::INLINE_FRAGMENT_KW)
     }
 
     /// The keyword `VARIABLE_DEFINITION`, or `None` when it is another one.
+    #[inline]
     pub fn variable_definition_token(&self) -> Option<SyntaxToken> {
         support::token(&self.syntax, SyntaxKind::VARIABLE_DEFINITION_KW)
     }
 
     /// The keyword `SCHEMA`, or `None` when it is another one.
+    #[inline]
     pub fn schema_token(&self) -> Option<SyntaxToken> {
         support::token(&self.syntax, SyntaxKind::SCHEMA_KW)
     }
 
     /// The keyword `SCALAR`, or `None` when it is another one.
+    #[inline]
     pub fn scalar_token(&self) -> Option<SyntaxToken> {
         support::token(&self.syntax, SyntaxKind::SCALAR_KW)
     }
 
     /// The keyword `OBJECT`, or `None` when it is another one.
+    #[inline]
     pub fn object_token(&self) -> Option<SyntaxToken> {
         support::token(&self.syntax, SyntaxKind::OBJECT_KW)
     }
 
     /// The keyword `FIELD_DEFINITION`, or `None` when it is another one.
+    #[inline]
     pub fn field_definition_token(&self) -> Option<SyntaxToken> {
         support::token(&self.syntax, SyntaxKind::FIELD_DEFINITION_KW)
     }
 
     /// The keyword `ARGUMENT_DEFINITION`, or `None` when it is another one.
+    #[inline]
     pub fn argument_definition_token(&self) -> Option<SyntaxToken> {
         support::token(&self.syntax, SyntaxKind::ARGUMENT_DEFINITION_KW)
     }
 
     /// The keyword `INTERFACE`, or `None` when it is another one.
+    #[inline]
     pub fn interface_token(&self) -> Option<SyntaxToken> {
         support::token(&self.syntax, SyntaxKind::INTERFACE_KW)
     }
 
     /// The keyword `UNION`, or `None` when it is another one.
+    #[inline]
     pub fn union_token(&self) -> Option<SyntaxToken> {
         support::token(&self.syntax, SyntaxKind::UNION_KW)
     }
 
     /// The keyword `ENUM`, or `None` when it is another one.
+    #[inline]
     pub fn enum_token(&self) -> Option<SyntaxToken> {
         support::token(&self.syntax, SyntaxKind::ENUM_KW)
     }
 
     /// The keyword `ENUM_VALUE`, or `None` when it is another one.
+    #[inline]
     pub fn enum_value_token(&self) -> Option<SyntaxToken> {
         support::token(&self.syntax, SyntaxKind::ENUM_VALUE_KW)
     }
 
     /// The keyword `INPUT_OBJECT`, or `None` when it is another one.
+    #[inline]
     pub fn input_object_token(&self) -> Option<SyntaxToken> {
         support::token(&self.syntax, SyntaxKind::INPUT_OBJECT_KW)
     }
 
     /// The keyword `INPUT_FIELD_DEFINITION`, or `None` when it is another one.
+    #[inline]
     pub fn input_field_definition_token(&self) -> Option<SyntaxToken> {
         support::token(&self.syntax, SyntaxKind::INPUT_FIELD_DEFINITION_KW)
     }
@@ -2994,31 +3183,37 @@ impl fmt::Display for SchemaExtension {
 
 impl SchemaExtension {
     /// The keyword `extend`. `None` only if the parse reported errors.
+    #[inline]
     pub fn extend_token(&self) -> Option<SyntaxToken> {
         support::token(&self.syntax, SyntaxKind::extend_KW)
     }
 
     /// The keyword `schema`. `None` only if the parse reported errors.
+    #[inline]
     pub fn schema_token(&self) -> Option<SyntaxToken> {
         support::token(&self.syntax, SyntaxKind::schema_KW)
     }
 
     /// The directives, or `None` when there are none.
+    #[inline]
     pub fn directives(&self) -> Option<Directives> {
         support::child(&self.syntax)
     }
 
     /// The `{`, or `None` when there is none.
+    #[inline]
     pub fn l_curly_token(&self) -> Option<SyntaxToken> {
         support::token(&self.syntax, SyntaxKind::L_CURLY)
     }
 
     /// The types of the root operations, in order.
+    #[inline]
     pub fn root_operation_type_definitions(&self) -> CstChildren<RootOperationTypeDefinition> {
         support::children(&self.syntax)
     }
 
     /// The `}`, or `None` when there is none.
+    #[inline]
     pub fn r_curly_token(&self) -> Option<SyntaxToken> {
         support::token(&self.syntax, SyntaxKind::R_CURLY)
     }
@@ -3061,21 +3256,25 @@ impl fmt::Display for ScalarTypeExtension {
 
 impl ScalarTypeExtension {
     /// The keyword `extend`. `None` only if the parse reported errors.
+    #[inline]
     pub fn extend_token(&self) -> Option<SyntaxToken> {
         support::token(&self.syntax, SyntaxKind::extend_KW)
     }
 
     /// The keyword `scalar`. `None` only if the parse reported errors.
+    #[inline]
     pub fn scalar_token(&self) -> Option<SyntaxToken> {
         support::token(&self.syntax, SyntaxKind::scalar_KW)
     }
 
     /// The name. `None` only if the parse reported errors.
+    #[inline]
     pub fn name(&self) -> Option<Name> {
         support::child(&self.syntax)
     }
 
     /// The directives. `None` only if the parse reported errors.
+    #[inline]
     pub fn directives(&self) -> Option<Directives> {
         support::child(&self.syntax)
     }
@@ -3121,31 +3320,37 @@ impl fmt::Display for ObjectTypeExtension {
 
 impl ObjectTypeExtension {
     /// The keyword `extend`. `None` only if the parse reported errors.
+    #[inline]
     pub fn extend_token(&self) -> Option<SyntaxToken> {
         support::token(&self.syntax, SyntaxKind::extend_KW)
     }
 
     /// The keyword `type`. `None` only if the parse reported errors.
+    #[inline]
     pub fn type_token(&self) -> Option<SyntaxToken> {
         support::token(&self.syntax, SyntaxKind::type_KW)
     }
 
     /// The name. `None` only if the parse reported errors.
+    #[inline]
     pub fn name(&self) -> Option<Name> {
         support::child(&self.syntax)
     }
 
     /// The interfaces that it implements, or `None` when there are none.
+    #[inline]
     pub fn implements_interfaces(&self) -> Option<ImplementsInterfaces> {
         support::child(&self.syntax)
     }
 
     /// The directives, or `None` when there are none.
+    #[inline]
     pub fn directives(&self) -> Option<Directives> {
         support::child(&self.syntax)
     }
 
     /// The definitions of its fields, or `None` when there are none.
+    #[inline]
     pub fn fields_definition(&self) -> Option<FieldsDefinition> {
         support::child(&self.syntax)
     }
@@ -3191,31 +3396,37 @@ impl fmt::Display for InterfaceTypeExtension {
 
 impl InterfaceTypeExtension {
     /// The keyword `extend`. `None` only if the parse reported errors.
+    #[inline]
     pub fn extend_token(&self) -> Option<SyntaxToken> {
         support::token(&self.syntax, SyntaxKind::extend_KW)
     }
 
     /// The keyword `interface`. `None` only if the parse reported errors.
+    #[inline]
     pub fn interface_token(&self) -> Option<SyntaxToken> {
         support::token(&self.syntax, SyntaxKind::interface_KW)
     }
 
     /// The name. `None` only if the parse reported errors.
+    #[inline]
     pub fn name(&self) -> Option<Name> {
         support::child(&self.syntax)
     }
 
     /// The interfaces that it implements, or `None` when there are none.
+    #[inline]
     pub fn implements_interfaces(&self) -> Option<ImplementsInterfaces> {
         support::child(&self.syntax)
     }
 
     /// The directives, or `None` when there are none.
+    #[inline]
     pub fn directives(&self) -> Option<Directives> {
         support::child(&self.syntax)
     }
 
     /// The definitions of its fields, or `None` when there are none.
+    #[inline]
     pub fn fields_definition(&self) -> Option<FieldsDefinition> {
         support::child(&self.syntax)
     }
@@ -3260,26 +3471,31 @@ impl fmt::Display for UnionTypeExtension {
 
 impl UnionTypeExtension {
     /// The keyword `extend`. `None` only if the parse reported errors.
+    #[inline]
     pub fn extend_token(&self) -> Option<SyntaxToken> {
         support::token(&self.syntax, SyntaxKind::extend_KW)
     }
 
     /// The keyword `union`. `None` only if the parse reported errors.
+    #[inline]
     pub fn union_token(&self) -> Option<SyntaxToken> {
         support::token(&self.syntax, SyntaxKind::union_KW)
     }
 
     /// The name. `None` only if the parse reported errors.
+    #[inline]
     pub fn name(&self) -> Option<Name> {
         support::child(&self.syntax)
     }
 
     /// The directives, or `None` when there are none.
+    #[inline]
     pub fn directives(&self) -> Option<Directives> {
         support::child(&self.syntax)
     }
 
     /// The member types, or `None` when there are none.
+    #[inline]
     pub fn union_member_types(&self) -> Option<UnionMemberTypes> {
         support::child(&self.syntax)
     }
@@ -3324,26 +3540,31 @@ impl fmt::Display for EnumTypeExtension {
 
 impl EnumTypeExtension {
     /// The keyword `extend`. `None` only if the parse reported errors.
+    #[inline]
     pub fn extend_token(&self) -> Option<SyntaxToken> {
         support::token(&self.syntax, SyntaxKind::extend_KW)
     }
 
     /// The keyword `enum`. `None` only if the parse reported errors.
+    #[inline]
     pub fn enum_token(&self) -> Option<SyntaxToken> {
         support::token(&self.syntax, SyntaxKind::enum_KW)
     }
 
     /// The name. `None` only if the parse reported errors.
+    #[inline]
     pub fn name(&self) -> Option<Name> {
         support::child(&self.syntax)
     }
 
     /// The directives, or `None` when there are none.
+    #[inline]
     pub fn directives(&self) -> Option<Directives> {
         support::child(&self.syntax)
     }
 
     /// The definitions of its values, or `None` when there are none.
+    #[inline]
     pub fn enum_values_definition(&self) -> Option<EnumValuesDefinition> {
         support::child(&self.syntax)
     }
@@ -3388,26 +3609,31 @@ impl fmt::Display for InputObjectTypeExtension {
 
 impl InputObjectTypeExtension {
     /// The keyword `extend`. `None` only if the parse reported errors.
+    #[inline]
     pub fn extend_token(&self) -> Option<SyntaxToken> {
         support::token(&self.syntax, SyntaxKind::extend_KW)
     }
 
     /// The keyword `input`. `None` only if the parse reported errors.
+    #[inline]
     pub fn input_token(&self) -> Option<SyntaxToken> {
         support::token(&self.syntax, SyntaxKind::input_KW)
     }
 
     /// The name. `None` only if the parse reported errors.
+    #[inline]
     pub fn name(&self) -> Option<Name> {
         support::child(&self.syntax)
     }
 
     /// The directives, or `None` when there are none.
+    #[inline]
     pub fn directives(&self) -> Option<Directives> {
         support::child(&self.syntax)
     }
 
     /// The definitions of its fields, or `None` when there are none.
+    #[inline]
     pub fn input_fields_definition(&self) -> Option<InputFieldsDefinition> {
         support::child(&self.syntax)
     }

@@ -16,6 +16,7 @@ pub type SyntaxElement = NodeOrToken<SyntaxNode, SyntaxToken>;
 
 impl<N, T> NodeOrToken<N, T> {
     /// The node, if it is one.
+    #[inline]
     pub fn into_node(self) -> Option<N> {
         match self {
             NodeOrToken::Node(node) => Some(node),
@@ -24,6 +25,7 @@ impl<N, T> NodeOrToken<N, T> {
     }
 
     /// The token, if it is one.
+    #[inline]
     pub fn into_token(self) -> Option<T> {
         match self {
             NodeOrToken::Node(_) => None,
@@ -32,6 +34,7 @@ impl<N, T> NodeOrToken<N, T> {
     }
 
     /// The node, if it is one.
+    #[inline]
     pub fn as_node(&self) -> Option<&N> {
         match self {
             NodeOrToken::Node(node) => Some(node),
@@ -40,6 +43,7 @@ impl<N, T> NodeOrToken<N, T> {
     }
 
     /// The token, if it is one.
+    #[inline]
     pub fn as_token(&self) -> Option<&T> {
         match self {
             NodeOrToken::Node(_) => None,
@@ -53,6 +57,7 @@ macro_rules! of_either {
     ($($(#[$doc:meta])* $name:ident, $answer:ty;)*) => {
         impl SyntaxElement {
             $($(#[$doc])*
+            #[inline]
             pub fn $name(&self) -> $answer {
                 match self {
                     NodeOrToken::Node(node) => node.$name(),

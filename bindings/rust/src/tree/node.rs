@@ -28,14 +28,17 @@ pub struct SyntaxToken {
 }
 
 impl Share {
+    #[inline]
     pub(super) fn node(&self, index: u32) -> SyntaxNode {
         SyntaxNode { share: self.clone(), index }
     }
 
+    #[inline]
     pub(super) fn token(&self, index: u32) -> Option<SyntaxToken> {
         self.is_token(index).then(|| SyntaxToken { share: self.clone(), index })
     }
 
+    #[inline]
     pub(super) fn element(&self, index: u32) -> SyntaxElement {
         let share = self.clone();
         if self.is_token(index) {
@@ -68,11 +71,13 @@ macro_rules! elements {
             }
 
             /// The node that it is a child of. The root has none.
+            #[inline]
             pub fn parent(&self) -> Option<SyntaxNode> {
                 self.share.parent(self.index).map(|parent| self.share.node(parent))
             }
 
             /// The next child of its parent.
+            #[inline]
             pub fn next_sibling_or_token(&self) -> Option<SyntaxElement> {
                 self.share.next_sibling(self.index).map(|sibling| self.share.element(sibling))
             }
@@ -121,11 +126,13 @@ impl SyntaxNode {
     }
 
     /// The index after the node and all below it.
+    #[inline]
     fn after(&self) -> u32 {
-        self.share.row(self.index).next
+        self.share.after(self.index)
     }
 
     /// Its text, with white space and comments. `as_str` gives it as a `&str`.
+    #[inline]
     pub fn text(&self) -> SyntaxText {
         SyntaxText::new(self.share.clone(), self.text_range())
     }
@@ -142,50 +149,52 @@ impl SyntaxNode {
     }
 
     /// Its children that are nodes.
+    #[inline]
     pub fn children(&self) -> SyntaxNodeChildren {
         SyntaxNodeChildren(self.children_with_tokens())
     }
 
     /// All of its children.
+    #[inline]
     pub fn children_with_tokens(&self) -> SyntaxElementChildren {
         SyntaxElementChildren { share: self.share.clone(), next: self.index + 1, end: self.after() }
     }
 
     /// Its first child that is a node.
+    #[inline]
     pub fn first_child(&self) -> Option<SyntaxNode> {
         self.children().next()
     }
 
     /// Its last child that is a node.
     pub fn last_child(&self) -> Option<SyntaxNode> {
-        let nodes = self.share.children(self.index).filter(|&child| !self.share.is_token(child));
-        nodes.last().map(|child| self.share.node(child))
+        let nodes = self.share.children(self.index).filter(|(_, row)| !row.is_token());
+        nodes.last().map(|(child, _)| self.share.node(child))
     }
 
     /// Its first child.
+    #[inline]
     pub fn first_child_or_token(&self) -> Option<SyntaxElement> {
-        self.share.children(self.index).next().map(|child| self.share.element(child))
+        self.share.first_child(self.index).map(|child| self.share.element(child))
     }
 
     /// Its last child.
     pub fn last_child_or_token(&self) -> Option<SyntaxElement> {
-        self.share.children(self.index).last().map(|child| self.share.element(child))
+        self.share.children(self.index).last().map(|(child, _)| self.share.element(child))
     }
 
     /// The first child that is a node of a kind that passes a test.
     #[inline]
     pub(crate) fn first_child_of(&self, test: impl Fn(SyntaxKind) -> bool) -> Option<SyntaxNode> {
-        let tree: &Tree = &self.share;
-        let found = tree.children(self.index).find(|&child| !tree.is_token(child) && test(tree.kind(child)));
-        found.map(|child| self.share.node(child))
+        let found = self.share.children(self.index).find(|(_, row)| test(row.kind()) && !row.is_token());
+        found.map(|(child, _)| self.share.node(child))
     }
 
     /// The first child that is a token of a kind.
     #[inline]
     pub(crate) fn first_token_of(&self, kind: SyntaxKind) -> Option<SyntaxToken> {
-        let tree: &Tree = &self.share;
-        let found = tree.children(self.index).find(|&child| tree.is_token(child) && tree.row(child).kind == kind as u16);
-        found.and_then(|child| self.share.token(child))
+        let found = self.share.children(self.index).find(|(_, row)| row.kind() == kind && row.is_token());
+        found.and_then(|(child, _)| self.share.token(child))
     }
 
     /// The next sibling that is a node.
@@ -204,6 +213,7 @@ impl SyntaxNode {
     }
 
     /// The first token below it.
+    #[inline]
     pub fn first_token(&self) -> Option<SyntaxToken> {
         (self.index..self.after()).find_map(|below| self.share.token(below))
     }
@@ -215,15 +225,16 @@ impl SyntaxNode {
 
     /// The text of its first child, if that is a token; else no text.
     pub(crate) fn first_token_text(&self) -> TokenText {
-        let first = self.share.children(self.index).next().filter(|&child| self.share.is_token(child));
-        let (start, end) = first.map_or((0, 0), |child| (self.share.row(child).start, self.share.row(child).end));
+        let first = self.share.children(self.index).next().filter(|(_, row)| row.is_token());
+        let (start, end) = first.map_or((0, 0), |(child, _)| self.share.bounds(child));
         TokenText::new(Arc::clone(self.share.tree()), start, end)
     }
 
     /// The same as a `&str`.
+    #[inline]
     pub(crate) fn first_token_str(&self) -> &str {
-        let first = self.share.children(self.index).next().filter(|&child| self.share.is_token(child));
-        first.map_or("", |child| self.share.text(child))
+        let first = self.share.children(self.index).next().filter(|(_, row)| row.is_token());
+        first.map_or("", |(child, _)| self.share.text(child))
     }
 
     /// The empty text.
@@ -232,11 +243,13 @@ impl SyntaxNode {
     }
 
     /// The node itself and all nodes below it, in document order.
+    #[inline]
     pub fn descendants(&self) -> impl Iterator<Item = SyntaxNode> {
         self.descendants_with_tokens().filter_map(NodeOrToken::into_node)
     }
 
     /// The node itself and all elements below it, in document order.
+    #[inline]
     pub fn descendants_with_tokens(&self) -> impl Iterator<Item = SyntaxElement> {
         let share = self.share.clone();
         (self.index..self.after()).map(move |below| share.element(below))
@@ -248,6 +261,7 @@ impl SyntaxNode {
     }
 
     /// A walk that enters and leaves the node and each element below it.
+    #[inline]
     pub fn preorder_with_tokens(&self) -> PreorderWithTokens {
         PreorderWithTokens::new(self.share.clone(), self.index)
     }
@@ -264,7 +278,7 @@ impl SyntaxNode {
             if is_inside {
                 found.extend(self.share.token(index));
             }
-            index = if is_inside { index + 1 } else { self.share.row(index).next };
+            index = if is_inside { index + 1 } else { self.share.after(index) };
         }
         match (found.pop(), found.pop()) {
             (Some(right), Some(left)) => TokenAtOffset::Between(left, right),
@@ -276,29 +290,24 @@ impl SyntaxNode {
     /// The smallest element whose range has this range in it. Panics if the range is not within the node's.
     pub fn covering_element(&self, range: TextRange) -> SyntaxElement {
         assert!(self.text_range().contains_range(range), "the range {range:?} is not within the node {self:?}");
-        let covers = |&child: &u32| self.share.range(child).contains_range(range);
-        let covering = iter::successors(Some(self.index), |&index| self.share.children(index).find(covers));
+        let covering = iter::successors(Some(self.index), |&index| self.share.child_with(index, range));
         self.share.element(covering.last().unwrap_or(self.index))
     }
 
     /// The first child whose range has this range in it.
     pub fn child_or_token_at_range(&self, range: TextRange) -> Option<SyntaxElement> {
-        let found = self.share.children(self.index).find(|&child| self.share.range(child).contains_range(range));
-        found.map(|child| self.share.element(child))
+        self.share.child_with(self.index, range).map(|child| self.share.element(child))
     }
 
     /// The node as the root of a tree of its own, with ranges from 0 on.
     pub fn clone_subtree(&self) -> SyntaxNode {
-        let start = self.share.row(self.index).start;
-        let moved = |row: &ElementRow| ElementRow {
-            start: row.start - start,
-            end: row.end - start,
-            parent: row.parent.saturating_sub(self.index),
-            next: row.next - self.index,
-            ..*row
-        };
-        let rows = self.share.rows[self.index as usize..self.after() as usize].iter();
-        SyntaxNode::root_of(&Arc::new(Tree { text: self.as_str().into(), rows: rows.map(moved).collect() }))
+        let mut rows = self.share.rows[self.index as usize..self.after() as usize].to_vec();
+        let start = rows[0].start();
+        for row in &mut rows {
+            row.start_and_node -= start;
+        }
+        rows[0] = rows[0].without_parent();
+        SyntaxNode::root_of(&Arc::new(Tree { text: self.as_str().into(), rows }))
     }
 
     /// The first node at or below it with a kind and a range.
@@ -323,7 +332,7 @@ impl SyntaxToken {
 
     /// The next token of the tree.
     pub fn next_token(&self) -> Option<SyntaxToken> {
-        (self.index + 1..self.share.row(0).next).find_map(|index| self.share.token(index))
+        (self.index + 1..self.share.after(0)).find_map(|index| self.share.token(index))
     }
 
     /// The token of the tree before it.

@@ -99,11 +99,9 @@ impl Iterator for SyntaxElementChildren {
 
     #[inline]
     fn next(&mut self) -> Option<SyntaxElement> {
-        let index = self.next;
-        if index >= self.end {
-            return None;
-        }
-        self.next = self.share.row(index).next;
+        let mut children = self.share.siblings(self.next, self.end);
+        let (index, _) = children.next()?;
+        self.next = children.next;
         Some(self.share.element(index))
     }
 }
@@ -123,14 +121,10 @@ impl SyntaxNodeChildren {
     #[inline]
     pub(crate) fn next_of(&mut self, test: impl Fn(SyntaxKind) -> bool) -> Option<SyntaxNode> {
         let SyntaxElementChildren { share, next, end } = &mut self.0;
-        while *next < *end {
-            let index = *next;
-            *next = share.row(index).next;
-            if !share.is_token(index) && test(share.kind(index)) {
-                return Some(share.node(index));
-            }
-        }
-        None
+        let mut children = share.siblings(*next, *end);
+        let found = children.find(|(_, row)| test(row.kind()) && !row.is_token());
+        *next = children.next;
+        found.map(|(index, _)| share.node(index))
     }
 }
 
@@ -162,13 +156,14 @@ impl PreorderWithTokens {
         self.skips = true;
     }
 
+    #[inline]
     fn after(&self, event: WalkEvent<u32>) -> Option<WalkEvent<u32>> {
         match event {
-            WalkEvent::Enter(index) => Some(self.share.children(index).next().map_or(WalkEvent::Leave(index), WalkEvent::Enter)),
+            WalkEvent::Enter(index) => Some(self.share.first_child(index).map_or(WalkEvent::Leave(index), WalkEvent::Enter)),
             WalkEvent::Leave(index) if index == self.root => None,
             WalkEvent::Leave(index) => {
-                let above = WalkEvent::Leave(self.share.row(index).parent);
-                Some(self.share.next_sibling(index).map_or(above, WalkEvent::Enter))
+                let (next, parent) = (self.share.after(index), self.share.parent(index)?);
+                Some(if next < self.share.after(parent) { WalkEvent::Enter(next) } else { WalkEvent::Leave(parent) })
             }
         }
     }
@@ -177,11 +172,12 @@ impl PreorderWithTokens {
 impl Iterator for PreorderWithTokens {
     type Item = WalkEvent<SyntaxElement>;
 
+    #[inline]
     fn next(&mut self) -> Option<Self::Item> {
         if std::mem::take(&mut self.skips) {
             // a step that enters is one to the first child of what was entered last
             if let Some(WalkEvent::Enter(child)) = self.next {
-                self.next = Some(WalkEvent::Leave(self.share.row(child).parent));
+                self.next = self.share.parent(child).map(WalkEvent::Leave);
             }
         }
         let event = self.next?;
@@ -204,6 +200,7 @@ impl Preorder {
 impl Iterator for Preorder {
     type Item = WalkEvent<SyntaxNode>;
 
+    #[inline]
     fn next(&mut self) -> Option<Self::Item> {
         self.0.find_map(|event| match event {
             WalkEvent::Enter(element) => element.into_node().map(WalkEvent::Enter),

@@ -7,7 +7,7 @@ use Rattle.dumyroke_flat.proofs.elements.write_elements.Goals as goal
 
 pub loop-index-preserved : goal.loop-index-preserved
 loop-index-preserved g c =
-    next-row c.args.rows.now c.loop-index.rows c.args.tree.now.tree c.loop-index.index c.row_of.result c.loop-index.invariant c.row_of.ensures (omega arith)
+    next-row c.args.rows.now c.loop-index.rows c.args.tree.now.tree c.loop-index.index c.compact.result c.loop-index.invariant c.compact.ensures (omega arith)
     (omega arith)
 
 pub returns : goal.returns
