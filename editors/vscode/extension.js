@@ -1,7 +1,7 @@
 // Starts gqlls for GraphQL documents, and starts it anew on the command `gqlls.restart` or when the path of the program changes.
-// Tried only with stand-ins for VS Code's modules (test.js).
+// Tried only with a stand-in for VS Code (test.js).
 const { commands, window, workspace } = require("vscode");
-const { LanguageClient } = require("vscode-languageclient/node");
+const { Client } = require("./client.js");
 
 let client;
 
@@ -13,7 +13,7 @@ async function stop() {
 
 async function start() {
   const command = workspace.getConfiguration("gqlls").get("path");
-  client = new LanguageClient("gqlls", "gqlls", { command }, { documentSelector: [{ language: "graphql" }] });
+  client = new Client(command);
   try {
     await client.start();
   } catch (error) {

@@ -1,12 +1,9 @@
-// Tests the extension without VS Code: `node test.js`. The grammar is read by a small reader of TextMate's rules, and the modules of VS Code are stand-ins.
+// Tests the colours without VS Code, by a small reader of TextMate's rules: `node colours.js`.
 const assert = require("node:assert");
 const { readFileSync } = require("node:fs");
 const { join } = require("node:path");
-const Module = require("node:module");
 
-const grammar = JSON.parse(readFileSync(join(__dirname, "syntaxes/graphql.tmLanguage.json"), "utf8"));
-
-// ---- colours
+const grammar = JSON.parse(readFileSync(join(__dirname, "../syntaxes/graphql.tmLanguage.json"), "utf8"));
 
 // The rules that a list of patterns has, where includes and groups are opened.
 function rulesOf(patterns) {
@@ -122,56 +119,4 @@ const COLOURS = [
 
 for (const [text, piece, scope] of COLOURS) assert.equal(scopeOf(text, piece), scope, piece);
 
-// ---- the server
-
-const said = [];
-let path = "gqlls";
-const on = {};
-class LanguageClient {
-  constructor(id, name, server) {
-    this.command = server.command;
-  }
-  async start() {
-    said.push(`start ${this.command}`);
-    if (this.command === "missing") throw new Error("no such program");
-  }
-  async stop() {
-    said.push(`stop ${this.command}`);
-  }
-}
-const STAND_INS = {
-  vscode: {
-    commands: { registerCommand: (name, call) => (on[name] = call) },
-    window: { showErrorMessage: (message) => said.push(message) },
-    workspace: { getConfiguration: () => ({ get: () => path }), onDidChangeConfiguration: (call) => (on.changed = call) },
-  },
-  "vscode-languageclient/node": { LanguageClient },
-};
-const load = Module._load;
-Module._load = (name, ...rest) => STAND_INS[name] ?? load(name, ...rest);
-
-async function server() {
-  const { activate, deactivate } = require("./extension.js");
-  const context = { subscriptions: [] };
-  await activate(context);
-  assert.equal(context.subscriptions.length, 2);
-  await on["gqlls.restart"]();
-  path = "missing";
-  await on.changed({ affectsConfiguration: (name) => name === "gqlls.path" });
-  await on.changed({ affectsConfiguration: () => false });
-  path = "gqlls";
-  await on["gqlls.restart"]();
-  await deactivate();
-  assert.deepEqual(said, [
-    "start gqlls",
-    "stop gqlls",
-    "start gqlls",
-    "stop gqlls",
-    "start missing",
-    "gqlls cannot be started as missing: no such program",
-    "start gqlls",
-    "stop gqlls",
-  ]);
-}
-
-server().then(() => console.log("extension: colours and server passed"));
+console.log("extension: colours passed");

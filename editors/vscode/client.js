@@ -1,0 +1,165 @@
+// A client of gqlls: it tells the server of the documents that are open, shows the errors, and asks the server what VS Code wants to know.
+const { languages, SemanticTokensLegend, Uri, window, workspace } = require("vscode");
+const answers = require("./answers.js");
+const { Connection } = require("./connection.js");
+
+const LANGUAGE = "graphql";
+const CAPABILITIES = {
+  general: { positionEncodings: ["utf-16"] },
+  textDocument: { documentSymbol: { hierarchicalDocumentSymbolSupport: true }, hover: { contentFormat: ["markdown"] } },
+};
+
+const named = (document) => ({ uri: document.uri.toString() });
+const position = ({ line, character }) => ({ line, character });
+const range = ({ start, end }) => ({ start: position(start), end: position(end) });
+// Lists of the server's values become lists of VS Code's.
+const each = (value) => (list) => list.map(value);
+const atPosition = (at) => ({ position: position(at) });
+const inRange = (at) => ({ range: range(at) });
+const options = ({ tabSize, insertSpaces }) => ({ options: { tabSize, insertSpaces } });
+const legend = ({ legend: { tokenTypes, tokenModifiers } }) => [new SemanticTokensLegend(tokenTypes, tokenModifiers)];
+
+// What the server may serve: its capability; VS Code's provider with its call, and further words of its registration; the request, what it says beside the
+// document, which it makes of the call's arguments, and how its answer is read.
+const SERVED = [
+  { can: "documentSymbolProvider", provider: "DocumentSymbol", call: "provideDocumentSymbols", method: "documentSymbol", value: each(answers.symbol) },
+  { can: "foldingRangeProvider", provider: "FoldingRange", call: "provideFoldingRanges", method: "foldingRange", value: each(answers.fold) },
+  { can: "definitionProvider", provider: "Definition", call: "provideDefinition", method: "definition", more: atPosition, value: answers.location },
+  { can: "hoverProvider", provider: "Hover", call: "provideHover", method: "hover", more: atPosition, value: answers.hover },
+  {
+    can: "selectionRangeProvider",
+    provider: "SelectionRange",
+    call: "provideSelectionRanges",
+    method: "selectionRange",
+    more: (positions) => ({ positions: positions.map(position) }),
+    value: each(answers.selection),
+  },
+  {
+    can: "referencesProvider",
+    provider: "Reference",
+    call: "provideReferences",
+    method: "references",
+    more: (at, { includeDeclaration }) => ({ ...atPosition(at), context: { includeDeclaration } }),
+    value: each(answers.location),
+  },
+  {
+    can: "completionProvider",
+    provider: "CompletionItem",
+    words: ({ triggerCharacters }) => triggerCharacters,
+    call: "provideCompletionItems",
+    method: "completion",
+    more: atPosition,
+    value: each(answers.completion),
+  },
+  {
+    can: "documentFormattingProvider",
+    provider: "DocumentFormattingEdit",
+    call: "provideDocumentFormattingEdits",
+    method: "formatting",
+    more: options,
+    value: each(answers.edit),
+  },
+  {
+    can: "documentRangeFormattingProvider",
+    provider: "DocumentRangeFormattingEdit",
+    call: "provideDocumentRangeFormattingEdits",
+    method: "rangeFormatting",
+    more: (at, given) => ({ ...inRange(at), ...options(given) }),
+    value: each(answers.edit),
+  },
+  {
+    can: "semanticTokensProvider",
+    provider: "DocumentSemanticTokens",
+    words: legend,
+    call: "provideDocumentSemanticTokens",
+    method: "semanticTokens/full",
+    value: answers.tokens,
+  },
+  {
+    can: "semanticTokensProvider",
+    provider: "DocumentRangeSemanticTokens",
+    words: legend,
+    call: "provideDocumentRangeSemanticTokens",
+    method: "semanticTokens/range",
+    more: inRange,
+    value: answers.tokens,
+  },
+];
+
+class Client {
+  constructor(command) {
+    this.command = command;
+    this.disposables = [];
+  }
+
+  // Starts the server and serves what it says that it can. Throws when the program cannot be started.
+  async start() {
+    const notified = (method, params) => method === "textDocument/publishDiagnostics" && this.#show(params);
+    const ended = (how) => {
+      this.#dispose();
+      if (this.isServing) window.showErrorMessage(`gqlls ended with ${how}`);
+    };
+    this.connection = new Connection(this.command, { notified, ended });
+    await this.connection.started;
+    this.errors = languages.createDiagnosticCollection("gqlls");
+    this.disposables.push(this.errors);
+    const { capabilities } = await this.connection.request("initialize", { processId: process.pid, rootUri: null, capabilities: CAPABILITIES });
+    this.connection.notify("initialized", {});
+    this.#follow();
+    this.#serve(capabilities);
+    this.isServing = true;
+  }
+
+  async stop() {
+    this.#dispose();
+    await this.connection.close();
+  }
+
+  #dispose() {
+    for (const it of this.disposables.splice(0)) it.dispose();
+  }
+
+  #show({ uri, diagnostics }) {
+    this.errors.set(Uri.parse(uri), diagnostics.map(answers.diagnostic));
+  }
+
+  // Tells the server of the documents: those that are open, and what becomes of them.
+  #follow() {
+    const tell = (act) => (document) => document.languageId === LANGUAGE && act(document);
+    const opened = tell((document) => {
+      const textDocument = { ...named(document), languageId: LANGUAGE, version: document.version, text: document.getText() };
+      this.connection.notify("textDocument/didOpen", { textDocument });
+    });
+    const closed = tell((document) => {
+      this.connection.notify("textDocument/didClose", { textDocument: named(document) });
+      this.errors.delete(document.uri);
+    });
+    const changed = ({ document, contentChanges }) => {
+      if (document.languageId !== LANGUAGE || contentChanges.length === 0) return;
+      const changes = contentChanges.map(({ range: at, text }) => ({ range: range(at), text }));
+      this.connection.notify("textDocument/didChange", { textDocument: { ...named(document), version: document.version }, contentChanges: changes });
+    };
+    workspace.textDocuments.forEach(opened);
+    this.disposables.push(workspace.onDidOpenTextDocument(opened), workspace.onDidChangeTextDocument(changed), workspace.onDidCloseTextDocument(closed));
+  }
+
+  // The answer about a document as a value of VS Code. It is null where the server has none, or refuses the request.
+  async #ask(method, document, value, more) {
+    try {
+      const result = await this.connection.request(`textDocument/${method}`, { textDocument: named(document), ...more });
+      return result && value(result);
+    } catch {
+      return null;
+    }
+  }
+
+  #serve(capabilities) {
+    for (const { can, provider, words = () => [], call, method, more = () => ({}), value } of SERVED) {
+      if (!capabilities[can]) continue;
+      const asking = { [call]: (document, ...given) => this.#ask(method, document, value, more(...given)) };
+      this.disposables.push(languages[`register${provider}Provider`]({ language: LANGUAGE }, asking, ...words(capabilities[can])));
+    }
+  }
+}
+
+exports.Client = Client;

@@ -1,0 +1,82 @@
+// JSON-RPC with a program over its standard input and output, as the Language Server Protocol has it.
+const { spawn } = require("node:child_process");
+
+const HEAD_END = "\r\n\r\n";
+
+class Connection {
+  #last = 0;
+  #waiting = new Map();
+  #bytes = Buffer.alloc(0);
+
+  // Starts the program. `notified` gets the method and the parameters of each notification, `ended` a text when the program has ended by itself.
+  constructor(command, { notified, ended }) {
+    this.process = spawn(command, [], { stdio: ["pipe", "pipe", "inherit"] });
+    this.started = new Promise((resolve, reject) => this.process.once("spawn", resolve).once("error", reject));
+    this.notified = notified;
+    this.process.stdout.on("data", (bytes) => this.#read(bytes));
+    this.process.stdin.on("error", () => {}); // a program that has ended; `exit` tells of it
+    this.process.once("exit", (status, signal) => {
+      for (const { reject } of this.#waiting.values()) reject(new Error("the server has ended"));
+      this.#waiting.clear();
+      if (!this.isClosing) ended(status === null ? `signal ${signal}` : `status ${status}`);
+    });
+  }
+
+  #read(bytes) {
+    this.#bytes = Buffer.concat([this.#bytes, bytes]);
+    for (;;) {
+      const head = this.#bytes.indexOf(HEAD_END);
+      if (head < 0) return;
+      const start = head + HEAD_END.length;
+      const length = Number(/^Content-Length: *(\d+)/im.exec(this.#bytes.toString("latin1", 0, head))?.[1] ?? -1);
+      if (length < 0) this.process.kill(); // no server speaks like this
+      if (length < 0 || this.#bytes.length < start + length) return;
+      const message = JSON.parse(this.#bytes.toString("utf8", start, start + length));
+      this.#bytes = this.#bytes.subarray(start + length);
+      this.#take(message);
+    }
+  }
+
+  #take({ id, method, params, result, error }) {
+    if (method !== undefined) {
+      this.notified(method, params);
+      return;
+    }
+    const asked = this.#waiting.get(id);
+    this.#waiting.delete(id);
+    if (error) asked?.reject(new Error(error.message));
+    else asked?.resolve(result);
+  }
+
+  #send(message) {
+    const body = Buffer.from(JSON.stringify({ jsonrpc: "2.0", ...message }));
+    this.process.stdin.write(`Content-Length: ${body.length}${HEAD_END}`);
+    this.process.stdin.write(body);
+  }
+
+  notify(method, params) {
+    this.#send({ method, params });
+  }
+
+  // The result of a request. It is rejected with the server's error.
+  request(method, params) {
+    const id = ++this.#last;
+    return new Promise((resolve, reject) => {
+      this.#waiting.set(id, { resolve, reject });
+      this.#send({ id, method, params });
+    });
+  }
+
+  // Ends the conversation, and within two seconds the program.
+  async close() {
+    this.isClosing = true;
+    if (this.process.exitCode !== null || this.process.signalCode !== null) return;
+    const gone = new Promise((resolve) => this.process.once("exit", resolve));
+    const timer = setTimeout(() => this.process.kill(), 2000);
+    this.request("shutdown").then(() => this.notify("exit"), () => {});
+    await gone;
+    clearTimeout(timer);
+  }
+}
+
+exports.Connection = Connection;

@@ -1,0 +1,140 @@
+// Tests the extension over a stand-in for VS Code and the program gqlls: `node server.js PROGRAM [FOLDER]`. FOLDER has the extension, if it is not this one.
+// Places in the texts were counted by hand.
+const assert = require("node:assert");
+const processes = require("node:child_process");
+const { readFileSync } = require("node:fs");
+const Module = require("node:module");
+const { join } = require("node:path");
+const { commands, Document, errors, PROVIDERS, providers, settings, shown, tell, vscode } = require("./vscode.js");
+
+// The program that was started last.
+let server;
+const { spawn } = processes;
+processes.spawn = (...words) => (server = spawn(...words));
+const load = Module._load;
+Module._load = (name, ...rest) => (name === "vscode" ? vscode : load(name, ...rest));
+const { activate, deactivate } = require(process.argv[3] ?? "..");
+
+const data = (name) => readFileSync(join(__dirname, "../../../tools/editor/data", name), "utf8");
+const query = new Document("/a b/query.graphql", data("query.graphql"));
+const schema = new Document("/schema.graphql", data("schema.graphql"));
+const notes = new Document("/notes.txt", "{", "plaintext");
+const errorsOf = (document) => errors.get(document.uri.toString());
+const span = ({ start, end }) => [start.line, start.character, end.line, end.character];
+const ask = (name, call, ...given) => providers[name].provider[call](...given);
+const at = (line, character) => new vscode.Position(line, character);
+const OPTIONS = { tabSize: 2, insertSpaces: true };
+
+// Lets the server go on until something is true, for ten seconds at most.
+async function until(isReady) {
+  for (let left = 1000; !isReady(); left--) {
+    assert.ok(left > 0, String(isReady));
+    await new Promise((resolve) => setTimeout(resolve, 10));
+  }
+}
+
+const tests = {
+  async "documents that are open are followed"() {
+    await until(() => errorsOf(query) && errorsOf(schema));
+    assert.deepEqual([errorsOf(query), errorsOf(schema), errorsOf(notes)], [[], [], undefined]);
+    const opened = new Document("/new.graphql", "{ a ");
+    tell("onDidOpenTextDocument", opened);
+    await until(() => errorsOf(opened));
+    const [{ range, message, severity, source }] = errorsOf(opened);
+    assert.deepEqual([span(range), message, severity, source], [[0, 4, 0, 4], "expected R_CURLY, got EOF", 0, "gqlls"]);
+    tell("onDidChangeTextDocument", { document: opened, contentChanges: [] });
+    opened.replace(new vscode.Range(0, 4, 0, 4), "}");
+    await until(() => errorsOf(opened).length === 0);
+    tell("onDidCloseTextDocument", opened);
+    await until(() => !errorsOf(opened));
+    tell("onDidOpenTextDocument", notes);
+    notes.replace(new vscode.Range(0, 0, 0, 1), "}");
+  },
+
+  async "outline, folds and growing selection"() {
+    const [find, parts] = await ask("DocumentSymbol", "provideDocumentSymbols", query);
+    assert.deepEqual([find.name, span(find.range), span(find.selectionRange)], ["Find", [0, 0, 2, 1], [0, 6, 0, 10]]);
+    assert.deepEqual(find.children.map(({ name, detail }) => [name, detail]), [["$id", "ID!"], ["pet", ""]]);
+    assert.deepEqual([parts.name, parts.detail, span(parts.range)], ["parts", "on Pet", [3, 0, 3, 30]]);
+    const folds = await ask("FoldingRange", "provideFoldingRanges", schema, {});
+    assert.deepEqual(folds.map(({ start, end, kind }) => [start, end, kind]), [[1, 3, undefined], [6, 7, undefined]]);
+    const [name] = await ask("SelectionRange", "provideSelectionRanges", query, [at(3, 26)]);
+    assert.deepEqual([name, name.parent, name.parent.parent].map(({ range }) => span(range)), [[3, 24, 3, 28], [3, 22, 3, 30], [3, 0, 3, 30]]);
+  },
+
+  // the layout is that of docs/FORMAT.md
+  async "layout"() {
+    const [whole] = await ask("DocumentFormattingEdit", "provideDocumentFormattingEdits", query, OPTIONS);
+    assert.equal(whole.newText, data("query.graphql").replace("{ ...parts }", "{\n    ...parts\n  }").replace("\nfragment", "\n\nfragment").replace("{ name }", "{\n  name\n}"));
+    const [part] = await ask("DocumentRangeFormattingEdit", "provideDocumentRangeFormattingEdits", query, new vscode.Range(3, 0, 3, 5), OPTIONS);
+    assert.deepEqual([span(part.range), part.newText], [[3, 0, 3, 30], "fragment parts on Pet {\n  name\n}"]);
+  },
+
+  async "definition, references and hover"() {
+    const found = await ask("Definition", "provideDefinition", query, at(1, 22));
+    assert.deepEqual([found.uri.path, span(found.range)], ["/a%20b/query.graphql", [3, 9, 3, 14]]);
+    for (const [includeDeclaration, count] of [[true, 2], [false, 1]]) {
+      assert.equal((await ask("Reference", "provideReferences", query, at(1, 22), { includeDeclaration })).length, count);
+    }
+    const hover = await ask("Hover", "provideHover", schema, at(3, 17));
+    assert.match(hover.contents.value, /type Pet/);
+    assert.deepEqual(span(hover.range), [3, 16, 3, 19]);
+    assert.equal(await ask("Hover", "provideHover", schema, at(0, 0)), null);
+  },
+
+  async "completion"() {
+    assert.deepEqual(providers.CompletionItem.words, ["$", "@"]);
+    const items = await ask("CompletionItem", "provideCompletionItems", schema, at(3, 17));
+    const pet = items.find(({ label }) => label === "Pet");
+    assert.deepEqual([pet.kind, pet.insertText, span(pet.range)], [6, "Pet", [3, 16, 3, 17]]);
+  },
+
+  async "colours"() {
+    const [{ tokenTypes }] = providers.DocumentSemanticTokens.words;
+    const { data: all } = await ask("DocumentSemanticTokens", "provideDocumentSemanticTokens", query);
+    const { data: some } = await ask("DocumentRangeSemanticTokens", "provideDocumentRangeSemanticTokens", query, new vscode.Range(3, 0, 3, 5));
+    assert.deepEqual([[...all.slice(0, 3)], tokenTypes[all[3]]], [[0, 0, 5], "keyword"]);
+    assert.deepEqual([[...some.slice(0, 3)], tokenTypes[some[3]]], [[3, 0, 8], "keyword"]);
+  },
+
+  async "a program that is no server, or none, is said"() {
+    const missing = { path: "missing", why: /^gqlls cannot be started as missing: .*ENOENT/ };
+    for (const { path, why } of [missing, { path: "true", why: /^gqlls cannot be started as true: / }]) {
+      settings.path = path;
+      tell("onDidChangeConfiguration", { affectsConfiguration: (name) => name === "gqlls.path" });
+      await until(() => shown.length > 0);
+      assert.match(shown.pop(), why);
+      assert.deepEqual([shown, Object.keys(providers), errors.size], [[], [], 0]);
+    }
+  },
+
+  async "a server that ends is said, and started anew"() {
+    settings.path = process.argv[2];
+    await commands["gqlls.restart"]();
+    await until(() => errorsOf(query));
+    assert.deepEqual(Object.keys(providers).sort(), [...PROVIDERS].sort());
+    tell("onDidChangeConfiguration", { affectsConfiguration: () => false });
+    server.kill("SIGKILL");
+    await until(() => shown.length > 0);
+    assert.deepEqual([shown.pop(), Object.keys(providers), errors.size], ["gqlls ended with signal SIGKILL", [], 0]);
+    await commands["gqlls.restart"]();
+    await until(() => errorsOf(query));
+  },
+};
+
+async function main() {
+  settings.path = process.argv[2];
+  vscode.workspace.textDocuments = [query, schema, notes];
+  const context = { subscriptions: [] };
+  await activate(context);
+  assert.equal(context.subscriptions.length, 2);
+  for (const [name, test] of Object.entries(tests)) await test().catch((error) => Promise.reject(new Error(`${name}: ${error.stack}`)));
+  await deactivate();
+  assert.deepEqual([server.exitCode, shown, Object.keys(providers), errors.size], [0, [], [], 0]);
+  console.log(`extension: ${Object.keys(tests).length} tests over gqlls passed`);
+}
+
+main().catch((error) => {
+  console.error(error.message);
+  process.exit(1);
+});
