@@ -5,6 +5,8 @@ import io
 import tarfile
 from dataclasses import dataclass
 
+from binder.shared import stop
+
 # The time of each file, in seconds since 1970: the first of 1980.
 TIME = 315532800
 
@@ -16,6 +18,16 @@ class File:
     content: bytes = b""
     is_program: bool = False
     link: str = ""
+
+
+def read(path, is_program=False, made_by="./do gate"):
+    if not path.exists():
+        stop(f"there is no {path}: `{made_by}` comes first")
+    return File(path.read_bytes(), is_program)
+
+
+def under(folder, files):
+    return {f"{folder}/{name}": file for name, file in files.items()}
 
 
 def folders_above(names):

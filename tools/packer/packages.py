@@ -8,28 +8,19 @@ import subprocess
 import tempfile
 from pathlib import Path
 
-from binder.library import install
-from binder.shared import BUILD, PACKAGE, PYTHON, RUST, SITE, TOP, run, stop, version
+from binder.library import install, pc_text
+from binder.shared import BUILD, PACKAGE, PYTHON, RUST, SITE, TOP, need, run, stop, version
 
-from .archives import File, ar, packed, tar
+from .archives import File, ar, packed, read, tar, under
+from .manuals import manuals
 
 PROGRAMS = ["gqlcst", "gqlfmt", "gqlls"]
-DOCUMENTS = ["README.md", "LICENSE", "docs/BINDINGS.md", "docs/DIFFERENCES.md", "docs/EDITORS.md", "docs/FORMAT.md", "docs/GRAMMAR.md", "docs/PROMISES.md"]
-
-
-def read(path, is_program=False):
-    if not path.exists():
-        stop(f"there is no {path}: `./do gate` comes first")
-    return File(path.read_bytes(), is_program)
-
-
-def under(folder, files):
-    return {f"{folder}/{name}": file for name, file in files.items()}
+DOCUMENTS = ["README.md", "LICENSE", "CHANGELOG.md", "docs/BINDINGS.md", "docs/DIFFERENCES.md", "docs/EDITORS.md", "docs/FORMAT.md", "docs/GRAMMAR.md", "docs/PROMISES.md"]
 
 
 def installed():
-    """Programs, libraries, headers, dumyroke.pc and documents, as they lie below /usr/local or /usr."""
-    files = {f"bin/{name}": read(TOP / f"crates/{name}/out/{name}", True) for name in PROGRAMS}
+    """Programs, manual pages, completions, libraries, headers, dumyroke.pc and documents, as they lie below /usr/local or /usr."""
+    files = manuals(PROGRAMS) | {f"bin/{name}": read(TOP / f"crates/{name}/out/{name}", True) for name in PROGRAMS}
     with tempfile.TemporaryDirectory() as name:
         install([f"DESTDIR={name}", "PREFIX=/usr"])
         for path in sorted(Path(name, "usr").rglob("*")):
@@ -45,7 +36,9 @@ def installed():
 def archive():
     """For any Linux of this processor: to be unpacked below any folder."""
     name = f"dumyroke-{version()}-linux-x86_64"
-    return f"{name}.tar.gz", packed(tar(under(name, installed())))
+    found_by = pc_text("${pcfiledir}/../..", "${prefix}/include", "${prefix}/lib")
+    files = installed() | {"lib/pkgconfig/dumyroke.pc": File(found_by.encode())}
+    return f"{name}.tar.gz", packed(tar(under(name, files)))
 
 
 def glibc(*paths):
@@ -75,7 +68,7 @@ Description: GraphQL parser with a proof, formatter and language server
 
 def debian():
     """A package for Debian and what comes from it."""
-    files = under("usr", installed())
+    files = {name.replace("zsh/site-functions", "zsh/vendor-completions"): file for name, file in under("usr", installed()).items()}
     programs = [TOP / f"crates/{name}/out/{name}" for name in PROGRAMS]
     text = control(files, glibc(*programs, PACKAGE / "libdumyroke.so"))
     sums = "".join(f"{hashlib.md5(file.content).hexdigest()}  {name}\n" for name, file in sorted(files.items()) if not file.link)
@@ -135,8 +128,11 @@ docs/PROMISES.md says what is proved. The provers and compilers of the kit, LLVM
 
 def release():
     """All files of a release, by their names."""
+    need("objdump", "git", "rt")
     if not BUILD.exists():
         stop("there is no build/: `./do gate` comes first")
+    if f"## {version()}" not in read(TOP / "CHANGELOG.md").content.decode().splitlines():
+        stop(f"CHANGELOG.md has no entry `## {version()}`")
     makers = [archive, debian, wheel, page]
     if shutil.which("cargo"):
         makers.append(crate)
