@@ -8,6 +8,7 @@ from .layout import CRATES, TOP
 PLACES = {
     CRATES / "gqlfmt_run/src/command.rt": ('pub const VERSION: &str = "gqlfmt ', '\\n";'),
     TOP / "bindings/python/pyproject.toml": ('version = "', '"'),
+    TOP / "bindings/npm/package.json": ('"version": "', '"'),
     TOP / "bindings/rust/Cargo.toml": ('version = "', '"'),
     TOP / "editors/vscode/package.json": ('"version": "', '"'),
 }

@@ -41,11 +41,11 @@ def entry(name, kind, mode):
     return info
 
 
-def tar(files):
+def tar(files, has_folders=True):
     """A tar archive of files, by their names, and of their folders."""
     written = io.BytesIO()
     with tarfile.open(fileobj=written, mode="w", format=tarfile.GNU_FORMAT) as archive:
-        for folder in folders_above(files):
+        for folder in folders_above(files) if has_folders else []:
             archive.addfile(entry(folder, tarfile.DIRTYPE, 0o755))
         for name, file in sorted(files.items()):
             info = entry(name, tarfile.SYMTYPE if file.link else tarfile.REGTYPE, 0o755 if file.is_program else 0o644)

@@ -13,6 +13,7 @@ from binder.shared import BUILD, PACKAGE, PYTHON, RUST, SITE, TOP, need, run, st
 
 from .archives import File, ar, packed, read, tar, under
 from .manuals import manuals
+from .npm import npm
 
 PROGRAMS = ["gqlcst", "gqlfmt", "gqlls"]
 DOCUMENTS = ["README.md", "LICENSE", "CHANGELOG.md", "docs/BINDINGS.md", "docs/DIFFERENCES.md", "docs/EDITORS.md", "docs/FORMAT.md", "docs/GRAMMAR.md", "docs/PROMISES.md"]
@@ -120,8 +121,8 @@ def proved():
     return f"""Dumyroke {version()}, from commit {commit}{" with changes" if changed else ""}, proved by {kit}.
 
 Programs: `run` of gqlcst_run, gqlfmt_run and gqlls_run is proved, with the devices of byte_devices; the system below them is trusted.
-libdumyroke, and so the Rust crate, the Python package and the page: each exported call is proved. Headers, Rust, Python, JavaScript and the page's memory
-are tested only.
+libdumyroke, and so the Rust crate and the Python package; the page's module, which is the npm package's: each exported call is proved. Headers, Rust,
+Python, JavaScript and the module's memory are tested only.
 docs/PROMISES.md says what is proved. The provers and compilers of the kit, LLVM and the C library are trusted.
 """
 
@@ -133,7 +134,7 @@ def release():
         stop("there is no build/: `./do gate` comes first")
     if f"## {version()}" not in read(TOP / "CHANGELOG.md").content.decode().splitlines():
         stop(f"CHANGELOG.md has no entry `## {version()}`")
-    makers = [archive, debian, wheel, page]
+    makers = [archive, debian, wheel, npm, page]
     if shutil.which("cargo"):
         makers.append(crate)
     else:

@@ -1,0 +1,9 @@
+// The package in browsers: the module is fetched from beside this file.
+import { isSupported, Parser } from "./parser.js";
+
+export * from "./calls.js";
+
+export async function load() {
+  if (!isSupported()) throw new Error("this browser has no 64-bit memory for WebAssembly");
+  return new Parser(await WebAssembly.compileStreaming(fetch(new URL("dumyroke.wasm", import.meta.url))));
+}

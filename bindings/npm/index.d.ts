@@ -1,0 +1,91 @@
+// The types of the package. Offsets are indices of the JavaScript string.
+import type { Kind } from "./kinds.js";
+export type { Kind };
+
+/** Loads the parser. It fails where the engine has no 64-bit memory for WebAssembly. */
+export function load(): Promise<Parser>;
+
+/** Whether the engine has 64-bit memory for WebAssembly. */
+export function isSupported(): boolean;
+
+/** The name of each kind of element, at its number. */
+export const KINDS: readonly Kind[];
+
+/** How a call ended. */
+export const STATUS: {
+  readonly OK: number;
+  readonly NOT_UTF8: number;
+  readonly TOO_LONG: number;
+  readonly NO_MEMORY: number;
+  readonly NOT_A_STRING: number;
+  readonly NOT_A_DOCUMENT: number;
+};
+
+export interface Limits {
+  /** How deep a document may nest: 500 if not given. */
+  recursion?: number;
+  /** How many tokens it may have, ignored ones too: no limit if not given. */
+  tokens?: number | null;
+}
+
+export interface ParseError {
+  start: number;
+  end: number;
+  message: string;
+  /** Whether a limit was met. */
+  isLimit: boolean;
+  /** Whether the error is about the end of the text. */
+  isEnd: boolean;
+}
+
+export interface Parsed {
+  /** One of STATUS. */
+  status: number;
+  /** The elements of the tree, for Tree. */
+  rows: Uint32Array;
+  /** The first errors. */
+  errors: ParseError[];
+  /** How many errors there are. */
+  errorCount: number;
+  /** How deep the text nests. */
+  depth: number;
+  /** How many tokens were counted. */
+  items: number;
+}
+
+export interface Written {
+  /** One of STATUS. */
+  status: number;
+  /** The text, where the status is OK. */
+  text: string;
+}
+
+export class Parser {
+  constructor(module: WebAssembly.Module);
+  /** Parses any text. RangeError or WebAssembly.RuntimeError is thrown where the engine's stack or memory is too small. */
+  parse(text: string, limits?: Limits, mostErrors?: number): Parsed;
+  /** Formats a document. One with errors has the status NOT_A_DOCUMENT. */
+  format(text: string, limits?: Limits): Written;
+  /** The value of a string literal with its quotes. */
+  stringValue(literal: string): Written;
+}
+
+/** A tree. Its elements are the indices from 0, the root, to `length`, in the order of the text. */
+export class Tree {
+  constructor(text: string, rows: Uint32Array);
+  readonly text: string;
+  readonly length: number;
+  start(element: number): number;
+  end(element: number): number;
+  /** The root's parent is the root. */
+  parent(element: number): number;
+  /** The element after it and all below it. The first child of a node is the element after the node. */
+  next(element: number): number;
+  kind(element: number): Kind;
+  isToken(element: number): boolean;
+  hasChildren(element: number): boolean;
+  textOf(element: number): string;
+  depth(element: number): number;
+  /** The lowest element that holds a part of the text. */
+  holding(start: number, end: number): number;
+}
