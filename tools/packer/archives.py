@@ -3,6 +3,7 @@
 import gzip
 import io
 import tarfile
+import zipfile
 from dataclasses import dataclass
 
 from binder.shared import stop
@@ -51,6 +52,15 @@ def tar(files, has_folders=True):
             info = entry(name, tarfile.SYMTYPE if file.link else tarfile.REGTYPE, 0o755 if file.is_program else 0o644)
             info.linkname, info.size = file.link, len(file.content)
             archive.addfile(info, io.BytesIO(file.content))
+    return written.getvalue()
+
+
+def zipped(files):
+    """A zip archive of files, by their names."""
+    written = io.BytesIO()
+    with zipfile.ZipFile(written, "w", zipfile.ZIP_DEFLATED) as archive:
+        for name, file in files.items():
+            archive.writestr(zipfile.ZipInfo(name, (1980, 1, 1, 0, 0, 0)), file.content, zipfile.ZIP_DEFLATED)
     return written.getvalue()
 
 

@@ -14,6 +14,7 @@ from binder.shared import BUILD, PACKAGE, PYTHON, RUST, SITE, TOP, need, run, st
 from .archives import File, ar, packed, read, tar, under
 from .manuals import manuals
 from .npm import npm
+from .vsix import vsix
 
 PROGRAMS = ["gqlcst", "gqlfmt", "gqlls"]
 DOCUMENTS = ["README.md", "LICENSE", "CHANGELOG.md", "docs/BINDINGS.md", "docs/DIFFERENCES.md", "docs/EDITORS.md", "docs/FORMAT.md", "docs/GRAMMAR.md", "docs/PROMISES.md"]
@@ -122,7 +123,7 @@ def proved():
 
 Programs: `run` of gqlcst_run, gqlfmt_run and gqlls_run is proved, with the devices of byte_devices; the system below them is trusted.
 libdumyroke, and so the Rust crate and the Python package; the page's module, which is the npm package's: each exported call is proved. Headers, Rust,
-Python, JavaScript and the module's memory are tested only.
+Python, JavaScript, the module's memory, and the extension for VS Code are tested only.
 docs/PROMISES.md says what is proved. The provers and compilers of the kit, LLVM and the C library are trusted.
 """
 
@@ -134,7 +135,7 @@ def release():
         stop("there is no build/: `./do gate` comes first")
     if f"## {version()}" not in read(TOP / "CHANGELOG.md").content.decode().splitlines():
         stop(f"CHANGELOG.md has no entry `## {version()}`")
-    makers = [archive, debian, wheel, npm, page]
+    makers = [archive, debian, wheel, npm, vsix, page]
     if shutil.which("cargo"):
         makers.append(crate)
     else:

@@ -1,0 +1,61 @@
+"""The extension for VS Code."""
+
+import json
+from xml.sax.saxutils import escape, quoteattr
+
+from binder.shared import TOP, version
+
+from .archives import File, read, under, zipped
+
+VSCODE = TOP / "editors/vscode"
+FILES = ["README.md", "answers.js", "client.js", "connection.js", "extension.js", "language.json", "package.json", "syntaxes/graphql.tmLanguage.json"]
+# What a file is for the editor, beside those that package.json names.
+ASSETS = {
+    "Microsoft.VisualStudio.Code.Manifest": "package.json",
+    "Microsoft.VisualStudio.Services.Content.Details": "README.md",
+    "Microsoft.VisualStudio.Services.Content.Changelog": "CHANGELOG.md",
+    "Microsoft.VisualStudio.Services.Content.License": "LICENSE.txt",
+}
+TYPES = {"js": "application/javascript", "json": "application/json", "md": "text/markdown", "txt": "text/plain", "vsixmanifest": "text/xml"}
+
+
+def content_types():
+    lines = "".join(f'<Default Extension=".{ending}" ContentType="{kind}"/>' for ending, kind in TYPES.items())
+    return f'<?xml version="1.0" encoding="utf-8"?>\n<Types xmlns="http://schemas.openxmlformats.org/package/2006/content-types">{lines}</Types>\n'
+
+
+def manifest():
+    """What the editor reads of the package before it opens the extension."""
+    about = json.loads((VSCODE / "package.json").read_text())
+    identity = f"Id={quoteattr(about['name'])} Version={quoteattr(about['version'])} Publisher={quoteattr(about['publisher'])}"
+    assets = "\n".join(f'    <Asset Type="{kind}" Path="extension/{name}" Addressable="true"/>' for kind, name in ASSETS.items())
+    return f"""<?xml version="1.0" encoding="utf-8"?>
+<PackageManifest Version="2.0.0" xmlns="http://schemas.microsoft.com/developer/vsx-schema/2011">
+  <Metadata>
+    <Identity Language="en-US" {identity}/>
+    <DisplayName>{escape(about["displayName"])}</DisplayName>
+    <Description xml:space="preserve">{escape(about["description"])}</Description>
+    <Categories>{escape(",".join(about["categories"]))}</Categories>
+    <Properties>
+      <Property Id="Microsoft.VisualStudio.Code.Engine" Value={quoteattr(about["engines"]["vscode"])}/>
+      <Property Id="Microsoft.VisualStudio.Code.ExtensionKind" Value="workspace"/>
+    </Properties>
+    <License>extension/LICENSE.txt</License>
+  </Metadata>
+  <Installation>
+    <InstallationTarget Id="Microsoft.VisualStudio.Code"/>
+  </Installation>
+  <Dependencies/>
+  <Assets>
+{assets}
+  </Assets>
+</PackageManifest>
+"""
+
+
+def vsix():
+    """For VS Code and what comes from it."""
+    files = {name: read(VSCODE / name) for name in FILES}
+    files |= {"CHANGELOG.md": read(TOP / "CHANGELOG.md"), "LICENSE.txt": read(TOP / "LICENSE")}
+    about = {"extension.vsixmanifest": File(manifest().encode()), "[Content_Types].xml": File(content_types().encode())}
+    return f"gqlls-{version()}.vsix", zipped(about | under("extension", files))
