@@ -14,6 +14,8 @@ RUST = TOP / "bindings/rust"
 WEB = TOP / "bindings/web"
 SITE = BUILD / "web"
 INCLUDE = C / "include"
+# Is there where the library in build/ was made without a proof.
+UNPROVED = BUILD / "UNPROVED"
 PACKAGE = PYTHON / "dumyroke"
 # The list of the page's crates.
 PAGES = "bindings/web/page_crates.txt"
@@ -22,7 +24,7 @@ LIMITS = [(), ("3",), ("500", "12")]
 
 
 def stop(why):
-    sys.exit(f"tools/bindings: {why}")
+    sys.exit(f"tools/{Path(sys.argv[0]).name}: {why}")
 
 
 def need(*programs):

@@ -9,7 +9,7 @@ import tempfile
 from pathlib import Path
 
 from binder.library import install, pc_text
-from binder.shared import BUILD, PACKAGE, PYTHON, RUST, SITE, TOP, need, run, stop, version
+from binder.shared import BUILD, PACKAGE, PYTHON, RUST, SITE, TOP, UNPROVED, need, run, stop, version
 
 from .archives import File, ar, packed, read, tar, under
 from .manuals import manuals
@@ -119,7 +119,8 @@ def proved():
     commit = subprocess.run(["git", "-C", TOP, "rev-parse", "HEAD"], **words).stdout.strip()
     changed = subprocess.run(["git", "-C", TOP, "status", "--porcelain", "--untracked-files=no"], **words).stdout
     kit = subprocess.run(["rt", "version"], **words).stdout.strip()
-    return f"""Dumyroke {version()}, from commit {commit}{" with changes" if changed else ""}, proved by {kit}.
+    unproved = "NOT PROVED: the library was made without a proof, to try the packages.\n\n" if UNPROVED.exists() else ""
+    return f"""{unproved}Dumyroke {version()}, from commit {commit}{" with changes" if changed else ""}, proved by {kit}.
 
 Programs: `run` of gqlcst_run, gqlfmt_run and gqlls_run is proved, with the devices of byte_devices; the system below them is trusted.
 libdumyroke, and so the Rust crate and the Python package; the page's module, which is the npm package's: each exported call is proved. Headers, Rust,
