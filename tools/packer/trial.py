@@ -1,62 +1,166 @@
-"""Tries the Debian package where the kit is not: in a bare Debian, which debootstrap makes from the network. It needs root."""
+"""Tries the packages where the kit is not: in a bare Debian, which debootstrap makes from the network. It needs root."""
 
 import os
+import re
 import shutil
 import subprocess
 import tempfile
+import urllib.request
 from importlib.machinery import SourceFileLoader
 from pathlib import Path
 
-from binder.shared import BUILD, TOP, need, run, stop
+from binder.shared import RUST, TOP, run, stop
 
+from .here import NPM, npm_example, package
 from .packages import PROGRAMS
 
+SUITE = "trixie"
+REGISTRY = "http://deb.debian.org/debian"
+# What the packages need beside themselves: a C compiler and pkg-config, pip, cargo, node. npm would bring four hundred packages more.
+NEEDED = ["gcc", "libc6-dev", "pkgconf", "python3-pip", "cargo", "nodejs"]
+# The folder of a package's trial in the bare system.
+PLACE = "trial"
 HELLO = '{"jsonrpc":"2.0","id":1,"method":"initialize","params":{"capabilities":{}}}'
+readme = SourceFileLoader("readme", str(TOP / "tools/readme")).load_module()
 
 
-def examples():
-    """README's commands of the installed programs, and what they write. `rt try --` in a program's folder is that program."""
-    readme = SourceFileLoader("readme", str(TOP / "tools/readme")).load_module()
-    for block in readme.blocks((TOP / "README.md").read_text()):
-        program = None
-        for command, shown in readme.commands(block):
+def examples(page, *programs):
+    """The commands that a page shows with these programs: each with its folder, and the text that it writes. `rt try` in a program's folder is that program."""
+    for block in readme.blocks((TOP / page).read_text()):
+        folder = "."
+        for command, written in readme.commands(block):
             if command.startswith("cd "):
-                program = Path(command[3:]).name
-            elif program in PROGRAMS:
-                yield command.replace("rt try --", program), shown
-            elif command.split()[-1] in PROGRAMS:
-                yield command, shown
+                folder = command[3:]
+            command = re.sub(r"\brt try( --)?", Path(folder).name, command)
+            if not command.startswith("cd ") and set(programs) & set(command.split()):
+                yield folder, command, written
 
 
-def inside(root, command, **how):
-    """What a command writes in the folder."""
-    return subprocess.run(["chroot", root, "sh", "-c", command], stdout=subprocess.PIPE, text=True, **how).stdout
+class Bare:
+    """A bare Debian, in a folder."""
+
+    def __init__(self, root):
+        self.root, self.place = root, root / PLACE
+        run("debootstrap", "--variant=minbase", SUITE, root, REGISTRY, stdout=subprocess.DEVNULL)
+        install = ["apt-get", "install", "--quiet", "--yes", "--no-install-recommends", "-o", "Dpkg::Options::=--force-unsafe-io", *NEEDED]
+        run("chroot", root, "env", "DEBIAN_FRONTEND=noninteractive", *install, stdout=subprocess.DEVNULL, stderr=subprocess.DEVNULL)
+
+    def run(self, command, folder=".", **how):
+        """What a command writes, in a folder of the trial's."""
+        within = f"mkdir -p /{PLACE}/{folder} && cd /{PLACE}/{folder} && {command}"
+        return run("chroot", self.root, "sh", "-c", within, stdout=subprocess.PIPE, timeout=300, **how).stdout.decode()
+
+    def show(self, page, *programs, before=""):
+        """Runs a page's commands with these programs. Each must write what the page shows."""
+        tried = list(examples(page, *programs))
+        for folder, command, shown in tried:
+            # an example may end with status 1
+            found = self.run(f"{before}{command} || true", folder)
+            if found != shown:
+                stop(f"in a bare Debian `{command}` of {page} writes\n{found}")
+        if not tried:
+            stop(f"{page} shows no command with {' or '.join(programs)}")
+
+    def left(self):
+        """The files that the packages have left behind."""
+        names = " -o ".join(f"-name '*{name}*'" for name in ("dumyroke", *PROGRAMS))
+        return self.run(f"find / -xdev \\( {names} \\) -not -path '/{PLACE}/*'")
+
+    def try_one(self, trial, ending):
+        """One package's trial, in a folder that has the package and the examples over the libraries. Afterwards nothing is left of it."""
+        file = package(ending)
+        self.place.mkdir()
+        shutil.copy(file, self.place)
+        for source in readme.RUN:
+            (self.place / source).parent.mkdir(parents=True, exist_ok=True)
+            shutil.copy(TOP / source, self.place / source)
+        trial(self, file.name)
+        left = self.left()
+        if left:
+            stop(f"{file.name} leaves files behind:\n{left}")
+        shutil.rmtree(self.place)
+        print(f"a bare Debian: {file.name} passed", flush=True)
 
 
-def try_package(root):
-    """Installs the package, runs README's examples and begins a conversation with the server, and takes the package off again."""
-    package = next((BUILD / "release").glob("*.deb"))
-    shutil.copy(package, root)
-    run("chroot", root, "dpkg", "-i", package.name, cwd=root, stdout=subprocess.DEVNULL)
-    tried = list(examples())
-    for command, shown in tried:
-        written = inside(root, command)
-        if written != shown:
-            stop(f"in a bare Debian `{command}` writes\n{written}")
-    answer = inside(root, "gqlls", input=f"Content-Length: {len(HELLO)}\r\n\r\n{HELLO}")
-    if '"capabilities"' not in answer or not tried:
+def try_installed(bare, before=""):
+    """The programs, the server, and a program in C by pkg-config."""
+    bare.show("README.md", "gqlcst", "gqlfmt", before=before)
+    answer = bare.run(f"{before}gqlls || true", input=f"Content-Length: {len(HELLO)}\r\n\r\n{HELLO}".encode())
+    if '"capabilities"' not in answer:
         stop(f"in a bare Debian gqlls answers {answer!r}")
-    run("chroot", root, "dpkg", "-r", "dumyroke", stdout=subprocess.DEVNULL)
-    if any((root / "usr/bin" / name).exists() for name in PROGRAMS):
-        stop("the package leaves programs behind")
-    print(f"a bare Debian: the package, {len(tried)} of README's examples and the server passed")
+    bare.show("docs/BINDINGS.md", "gcc", "./fields", before=before)
+
+
+def try_debian(bare, name):
+    bare.run(f"dpkg -i {name}")
+    try_installed(bare)
+    bare.run("dpkg -r dumyroke")
+
+
+def try_archive(bare, name):
+    """Unpacked below a folder of its own."""
+    to = "/opt/dumyroke"
+    bare.run(f"mkdir {to} && tar -C {to} --strip-components=1 -xf {name}")
+    try_installed(bare, f"export PATH={to}/bin:$PATH PKG_CONFIG_PATH={to}/lib/pkgconfig LD_LIBRARY_PATH={to}/lib; ")
+    bare.run(f"rm -r {to}")
+
+
+def try_wheel(bare, name):
+    pip = "python3 -m pip --quiet --disable-pip-version-check"
+    bare.run(f"{pip} install --no-index --break-system-packages --root-user-action=ignore {name}")
+    bare.show("README.md", "python3")
+    bare.show("docs/BINDINGS.md", "python3")
+    bare.run(f"{pip} uninstall --yes --break-system-packages --root-user-action=ignore dumyroke")
+
+
+def try_crate(bare, name):
+    """The example gqlcst.rs over the crate, built by cargo without a network, does what README shows of gqlcst."""
+    bare.run(f"tar -xf {name} && mkdir -p src && mv {name.removesuffix('.crate')} dumyroke")
+    shutil.copy(RUST / "examples/gqlcst.rs", bare.place / "src/main.rs")
+    manifest = '[package]\nname = "gqlcst"\nversion = "1.0.0"\nedition = "2021"\n[dependencies]\ndumyroke = { path = "dumyroke" }\n'
+    (bare.place / "Cargo.toml").write_text(manifest)
+    bare.run("cargo build --offline --quiet")
+    bare.show("README.md", "gqlcst", before=f"PATH=/{PLACE}/target/debug:$PATH; ")
+    shutil.rmtree(bare.root / "root/.cargo", ignore_errors=True)
+
+
+def try_npm(bare, name):
+    """The package as npm unpacks it: the example of its README, and its tests."""
+    bare.run(f"mkdir -p node_modules && tar -C node_modules -xf {name} && mv node_modules/package node_modules/dumyroke")
+    program, shown = npm_example()
+    (bare.place / "example.mjs").write_text(program)
+    shutil.copy(NPM / "tests/package_test.mjs", bare.place)
+    node = "node --experimental-wasm-memory64"
+    if bare.run(f"{node} example.mjs") != shown:
+        stop("in a bare Debian the example of bindings/npm/README.md prints something else")
+    bare.run(f"{node} package_test.mjs")
+
+
+TRIALS = [
+    (try_debian, ".deb"),
+    (try_archive, "-linux-x86_64.tar.gz"),
+    (try_wheel, ".whl"),
+    (try_crate, ".crate"),
+    (try_npm, ".tgz"),
+]
+
+
+def why_not():
+    """Why no bare system can be made here, or None."""
+    if os.geteuid() or not shutil.which("debootstrap") or not shutil.which("chroot"):
+        return "there is no debootstrap or no root"
+    try:
+        urllib.request.urlopen(f"{REGISTRY}/dists/{SUITE}/Release", timeout=20).close()
+    except OSError as error:
+        return f"{REGISTRY} is not reached ({error})"
 
 
 def trial():
-    if os.geteuid() or not shutil.which("debootstrap"):
-        print("there is no debootstrap, or no root: the packages were not tried")
+    why = why_not()
+    if why:
+        print(f"{why}: the packages were not tried in a bare Debian")
         return
-    need("chroot")
     with tempfile.TemporaryDirectory() as folder:
-        run("debootstrap", "--variant=minbase", "bookworm", folder, stdout=subprocess.DEVNULL)
-        try_package(Path(folder))
+        bare = Bare(Path(folder))
+        for trial_of, ending in TRIALS:
+            bare.try_one(trial_of, ending)
