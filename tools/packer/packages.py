@@ -134,6 +134,8 @@ def release():
     need("objdump", "git", "rt")
     if not BUILD.exists():
         stop("there is no build/: `./do gate` comes first")
+    for library in (BUILD / "libdumyroke.a", PACKAGE / "libdumyroke.so"):
+        read(library, made_by="tools/bindings build")
     if f"## {version()}" not in read(TOP / "CHANGELOG.md").content.decode().splitlines():
         stop(f"CHANGELOG.md has no entry `## {version()}`")
     makers = [archive, debian, wheel, npm, vsix, page]

@@ -41,8 +41,12 @@ class Bare:
 
     def __init__(self, root):
         self.root, self.place = root, root / PLACE
+        settings = root / "etc/dpkg/dpkg.cfg.d"
+        settings.mkdir(parents=True)
+        # it need not survive a crash, so dpkg does not wait for the disk
+        (settings / "unsafe-io").write_text("force-unsafe-io\n")
         run("debootstrap", "--variant=minbase", SUITE, root, REGISTRY, stdout=subprocess.DEVNULL)
-        install = ["apt-get", "install", "--quiet", "--yes", "--no-install-recommends", "-o", "Dpkg::Options::=--force-unsafe-io", *NEEDED]
+        install = ["apt-get", "install", "--quiet", "--yes", "--no-install-recommends", *NEEDED]
         run("chroot", root, "env", "DEBIAN_FRONTEND=noninteractive", *install, stdout=subprocess.DEVNULL, stderr=subprocess.DEVNULL)
 
     def run(self, command, folder=".", **how):
