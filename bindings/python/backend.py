@@ -51,6 +51,9 @@ def build_wheel(wheel_directory, config_settings=None, metadata_directory=None):
     content = files()
     content[f"{name}.dist-info/METADATA"] = metadata().encode()
     content[f"{name}.dist-info/WHEEL"] = f"Wheel-Version: 1.0\nGenerator: dumyroke\nRoot-Is-Purelib: false\nTag: {tag()}\n".encode()
+    # they lie at the top of the repository, which a copy of this folder does not have
+    about = [path for path in (FOLDER.parent.parent / "LICENSE", FOLDER.parent.parent / "CHANGELOG.md") if path.exists()]
+    content |= {f"{name}.dist-info/{path.name}": path.read_bytes() for path in about}
     record = f"{name}.dist-info/RECORD"
     lines = "".join(recorded(*item) for item in content.items())
     content[record] = f"{lines}{record},,\n".encode()

@@ -96,6 +96,8 @@ def crate():
     with tempfile.TemporaryDirectory() as name:
         folder = Path(name, "rust")
         shutil.copytree(RUST, folder, ignore=shutil.ignore_patterns("target", "original", "Cargo.lock"))
+        for document in ("LICENSE", "CHANGELOG.md"):
+            shutil.copy(TOP / document, folder)
         library = folder / "lib/x86_64-unknown-linux-gnu"
         library.mkdir(parents=True)
         shutil.copy(BUILD / "libdumyroke.a", library)
