@@ -1,5 +1,5 @@
 // Starts gqlls for GraphQL documents, and starts it anew on the command `gqlls.restart` or when the path of the program changes.
-// Tried only with a stand-in for VS Code (test.js).
+// Tried only with a stand-in for VS Code (tests/server.js).
 const { commands, window, workspace } = require("vscode");
 const { Client } = require("./client.js");
 
