@@ -43,6 +43,8 @@ export interface Parsed {
   status: number;
   /** The elements of the tree, for Tree. */
   rows: Uint32Array;
+  /** Where the text of the tree ends: before the text's own end only where the token limit is met. */
+  textEnd: number;
   /** The first errors. */
   errors: ParseError[];
   /** How many errors there are. */
@@ -72,7 +74,7 @@ export class Parser {
 
 /** A tree. Its elements are the indices from 0, the root, to `length`, in the order of the text. */
 export class Tree {
-  constructor(text: string, rows: Uint32Array);
+  constructor(text: string, parsed: Pick<Parsed, "rows" | "textEnd">);
   readonly text: string;
   readonly length: number;
   start(element: number): number;

@@ -16,7 +16,7 @@ const count = (number, noun) => `${number.toLocaleString("en")} ${noun}${number 
 let [worker, running] = [null, null];
 const waiting = new Map();
 // The last parse, the element that is chosen, and where places of the parse are in the text of now.
-let [tree, errors, chosen] = [new Tree("", new Uint32Array(WORDS), 0), [], null];
+let [tree, errors, chosen] = [new Tree("", { rows: new Uint32Array(WORDS), textEnd: 0 }), [], null];
 let moved = (place) => place;
 // The timer of the address, which browsers refuse to set too often.
 let linking;
@@ -59,7 +59,7 @@ function changed() {
 }
 
 function showParsed(text, found) {
-  view.show(new Tree(text, found.rows, found.textEnd), tree.text === "" ? null : movedTo(tree.text, text));
+  view.show(new Tree(text, found), tree.text === "" ? null : movedTo(tree.text, text));
   tree = view.tree;
   errors = found.errors.sort((a, b) => a.start - b.start);
   moved = movedTo(text, editor.text);

@@ -17,7 +17,7 @@ export function lastAtMost(count, numberAt, limit) {
 export const NODE = 2 ** 31;
 
 export class Tree {
-  constructor(text, rows, textEnd) {
+  constructor(text, { rows, textEnd }) {
     this.text = text;
     this.rows = rows;
     this.length = rows.length / WORDS;

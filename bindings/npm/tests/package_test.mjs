@@ -8,7 +8,7 @@ const types = readFileSync("node_modules/dumyroke/index.d.ts", "utf8");
 const parser = await load();
 const text = 'query Q($id:ID!){hero(id:$id,of:"é"){name}}"';
 const parsed = parser.parse(text);
-const tree = new Tree(text, parsed.rows);
+const tree = new Tree(text, parsed);
 const elements = Array.from({ length: tree.length }, (_, element) => element);
 
 // What the types name is there.

@@ -16,8 +16,9 @@ function quoted(text) {
 
 // The tree of a text with the places of its UTF-8, as gqlcst prints it.
 function printed(text, { recursion, tokens }) {
-  const { rows, textEnd, errors, depth } = parser.parse(text, { recursion, tokens }, 100000);
-  const tree = new Tree(text, rows, textEnd);
+  const parsed = parser.parse(text, { recursion, tokens }, 100000);
+  const { errors, depth } = parsed;
+  const tree = new Tree(text, parsed);
   const bytes = (unit) => Buffer.byteLength(text.slice(0, unit));
   const range = (start, end, between) => `@${bytes(start)}${between}${bytes(end)}`;
   const lines = Array.from({ length: tree.length }, (_, element) => {
