@@ -4,14 +4,23 @@
 //! limits. Here are only the words, the standard devices and the exit status. What is done between them is `run` of `gqlcst_run`.
 #![tactic(auto)]
 
+mod command;
+
 use byte_devices::{StdSink, StdSource};
+use command::{HELP, VERSION};
 use gqlcst_run::ending::{USAGE, ending};
 use gqlcst_run::{Limits, Mode, options, run};
+use program_words::information::{Information, information_of};
 use std::env;
 use std::process::ExitCode;
 
-// The command in the words after the program's name: nothing where they can't be had as texts.
-fn request(rt: &HostRuntime) -> Option<(Mode, Limits)> {
+enum Request {
+    Print(Information),
+    Run(Mode, Limits),
+}
+
+// The request in the words after the program's name: nothing where they can't be had as texts, or the program is not called so.
+fn read_request(rt: &HostRuntime) -> Option<Request> {
     let words = env::args(rt).ok()?;
     let mut texts = Vec::new(rt.alloc());
     for word in words {
@@ -21,12 +30,28 @@ fn request(rt: &HostRuntime) -> Option<(Mode, Limits)> {
     for text in texts.iter().skip(1) {
         views.push(text.as_str()).ok()?;
     }
-    options(views.as_slice())
+    if let Some(information) = information_of(views.as_slice()) {
+        return Some(Request::Print(information));
+    }
+    let (mode, limits) = options(views.as_slice())?;
+    Some(Request::Run(mode, limits))
+}
+
+fn print(rt: &HostRuntime, information: Information) -> (u8, &'static str) {
+    let printed = match information {
+        Information::Help => print!(rt; "{USAGE}\n{HELP}"),
+        Information::Version => print!(rt; "{VERSION}"),
+    };
+    match printed {
+        Ok(()) => (0, ""),
+        Err(_) => (2, "gqlcst: cannot write"),
+    }
 }
 
 fn main(rt: HostRuntime) -> ExitCode {
-    let (status, complaint) = match request(&rt) {
-        Some((mode, limits)) => {
+    let (status, complaint) = match read_request(&rt) {
+        Some(Request::Print(information)) => print(&rt, information),
+        Some(Request::Run(mode, limits)) => {
             let mut reader = StdSource::new(rt.stdin());
             let mut writer = StdSink::new(rt.stdout());
             ending(&run(rt.alloc(), &mut reader, &mut writer, mode, limits))

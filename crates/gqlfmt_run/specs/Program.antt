@@ -8,8 +8,8 @@ use Rattle.byte_devices.specs.declared.fault.Fault.{Fault}
 use Rattle.program_words.specs.Gqlfmt.{Run}
 use Rattle.gqlfmt_files.specs.declared.settling.Mode.{Mode}
 use Rattle.gqlfmt_files.specs.declared.settling.Outcome.{Outcome}
-use Rattle.program_words.specs.declared.gqlfmt.Information.{Information}
-use Rattle.program_words.specs.declared.gqlfmt.Information.TheVariants.{Help, Version}
+use Rattle.program_words.specs.declared.information.Information.{Information}
+use Rattle.program_words.specs.declared.information.Information.TheVariants.{Help, Version}
 use Rattle.program_words.specs.declared.gqlfmt.Request.{Request}
 use Rattle.program_words.specs.declared.gqlfmt.Request.TheVariants.{Print, Format}
 use Rattle.gqlfmt_run.specs.declared.command.TheConstants.{USAGE, HELP, VERSION, NO_MEMORY}

@@ -13,7 +13,8 @@ use crate::report::{say, tell};
 use byte_devices::{Fault, Sink, Source, write_all};
 use formatter::DocumentFormatter;
 use gqlfmt_files::Files;
-use program_words::gqlfmt::{Information, Request, WordsError, options};
+use program_words::gqlfmt::{Request, WordsError, options};
+use program_words::information::Information;
 use std::alloc::Allocator;
 
 fn write_information<W: Sink>(writer: &mut W, page: Information) -> Result<(), Fault>

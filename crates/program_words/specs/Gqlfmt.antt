@@ -6,8 +6,8 @@ use Rattle.apollo_lexer.specs.declared.limits.Limits.{Limits}
 use Rattle.gqlfmt_files.specs.declared.settling.Mode.{Mode}
 use Rattle.gqlfmt_files.specs.declared.settling.Mode.TheVariants.{Write, Check, Diff}
 use Rattle.program_words.specs.LimitOptions.{GivenLimits, no_limits, with_option, at_most_once, limits_given}
-use Rattle.program_words.specs.declared.gqlfmt.Information.{Information}
-use Rattle.program_words.specs.declared.gqlfmt.Information.TheVariants.{Help, Version}
+use Rattle.program_words.specs.declared.information.Information.{Information}
+use Rattle.program_words.specs.Information.{information_of}
 use Rattle.program_words.specs.declared.gqlfmt.Request.{Request}
 use Rattle.program_words.specs.declared.gqlfmt.Request.TheVariants.{Print, Format}
 use Rattle.program_words.specs.declared.gqlfmt.WordsError.{WordsError}
@@ -88,15 +88,6 @@ run_given given =
 -- The run of the words.
 abbrev pub run_of : List (List ℕ) → Option Run
 run_of words = option_and_then run_given (given_by words)
-
--- The page of the words, whatever else they say.
-abbrev pub information_of : List (List ℕ) → Option Information
-information_of [] = None
-information_of (word ∷ more) =
-    if bytes_eq word (codes "--") then None
-    else (if bytes_eq word (codes "--help") then Some Help
-    else (if bytes_eq word (codes "--version") then Some Version
-    else information_of more))
 
 abbrev pub information_or_run : Option Information → Option Run → Option (Request Run)
 information_or_run (Some page) run = Some (Print page)

@@ -1,5 +1,6 @@
 pub mod Numbers
 pub mod LimitOptions
+pub mod Information
 pub mod Gqlcst
 pub mod Gqlfmt
 pub mod Reading

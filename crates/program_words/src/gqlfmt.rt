@@ -2,9 +2,10 @@
 ghost use Rattle.std.specs.Prelude.{◌≡◌, ◌≤◌, length, IfOk};
 ghost use Rattle.program_words.specs.declared.gqlfmt.WordsError.TheVariants.{Memory};
 ghost use Rattle.program_words.specs.Gqlfmt.{texts, is_option, takes_number, mode_of, with_mode, with_limit, with_word};
-ghost use Rattle.program_words.specs.Gqlfmt.{information_of, run_of, request_of, request_map, IsRead};
+ghost use Rattle.program_words.specs.Gqlfmt.{run_of, request_of, request_map, IsRead};
 ghost use Rattle.program_words.specs.Reading.{IsSet, IsTaken, IsTakenFrom};
 
+use crate::information::{Information, information_of};
 use crate::limits::SetLimits;
 use apollo_lexer::Limits;
 use gqlfmt_files::Mode;
@@ -17,15 +18,6 @@ pub struct Plan<'a, A: Allocator> {
     pub mode: Mode,
     pub limits: Limits,
     pub files: Vec<&'a str, A>,
-}
-
-/// What the program prints of itself.
-#[derive(Clone, Copy)]
-pub enum Information {
-    /// How it is called, and what it does.
-    Help,
-    /// Its version.
-    Version,
 }
 
 /// The request in the words: a page, or a run of this plan.
@@ -175,24 +167,6 @@ fn plan_of<'a, A: Allocator>(alloc: A, words: &[&'a str]) -> Result<Plan<'a, A>,
         limits: read.settings.limits.limits(),
         files: read.files,
     })
-}
-
-// The page of the words.
-fn information_of(words: &[&str]) -> Option<Information>
-    ensures { result ≡ information_of (texts words.now) }
-{
-    for word in words {
-        if *word == "--" {
-            return None;
-        }
-        if *word == "--help" {
-            return Some(Information::Help);
-        }
-        if *word == "--version" {
-            return Some(Information::Version);
-        }
-    }
-    None
 }
 
 /// The request in the words after the program's name. `--help` and `--version` come before all else, wherever they are. Options and files

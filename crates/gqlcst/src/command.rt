@@ -1,0 +1,22 @@
+// What the program prints of itself.
+
+/// The version of the program.
+pub const VERSION: &str = "gqlcst 0.1.0\n";
+
+/// What it does.
+pub const HELP: &str = "
+Reads a GraphQL document from standard input, and prints what the mode shows.
+
+  check          clean, or its errors
+  tokens         its tokens, with white space, commas and comments
+  tree           its syntax tree, and its errors
+  --recursion N  how deep a document may nest (500 if not given)
+  --tokens N     how many tokens it may have, with white space, commas and
+                 comments (no limit if not given)
+  --help         print this text
+  --version      print the version
+
+Positions are byte offsets. The status is 0 when there are no errors, 1 when
+there are some, and 2 when the program was called otherwise, the input is not
+UTF-8, or something could not be read or written.
+";
