@@ -41,13 +41,20 @@ class Bare:
 
     def __init__(self, root):
         self.root, self.place = root, root / PLACE
-        settings = root / "etc/dpkg/dpkg.cfg.d"
+
+    def make(self):
+        """Makes it from the network, and answers whether that was there to the end."""
+        settings = self.root / "etc/dpkg/dpkg.cfg.d"
         settings.mkdir(parents=True)
         # it need not survive a crash, so dpkg does not wait for the disk
         (settings / "unsafe-io").write_text("force-unsafe-io\n")
-        run("debootstrap", "--variant=minbase", SUITE, root, REGISTRY, stdout=subprocess.DEVNULL)
         install = ["apt-get", "install", "--quiet", "--yes", "--no-install-recommends", *NEEDED]
-        run("chroot", root, "env", "DEBIAN_FRONTEND=noninteractive", *install, stdout=subprocess.DEVNULL, stderr=subprocess.DEVNULL)
+        commands = [
+            ["debootstrap", "--variant=minbase", SUITE, self.root, REGISTRY],
+            ["chroot", self.root, "env", "DEBIAN_FRONTEND=noninteractive", *install],
+        ]
+        silent = {"stdout": subprocess.DEVNULL, "stderr": subprocess.DEVNULL}
+        return all(subprocess.run(command, **silent).returncode == 0 for command in commands)
 
     def run(self, command, folder=".", **how):
         """What a command writes, in a folder of the trial's."""
@@ -166,5 +173,8 @@ def trial():
         return
     with tempfile.TemporaryDirectory() as folder:
         bare = Bare(Path(folder))
+        if not bare.make():
+            print("no bare Debian could be made from the network: the packages were not tried in it")
+            return
         for trial_of, ending in TRIALS:
             bare.try_one(trial_of, ending)
