@@ -70,7 +70,7 @@ def completed(shell, program, typed):
         script = f'_arguments() {{ print -l -- "$@" }}\n{text(program)}'
     else:
         script = f"{text(program)}\n{offer.format(program=program, typed=typed)}"
-    said = run(shell, "-c", script, stdout=subprocess.PIPE, timeout=60).stdout.decode()
+    said = run(shell, "-c", script, stdout=subprocess.PIPE, timeout=300).stdout.decode()
     return {re.split(r"[\t\[]", line)[0] for line in said.splitlines()}
 
 
@@ -124,7 +124,7 @@ def test_vsix(folder):
         if not (folder / name).exists():
             stop(f"the extension's package has no {name}")
     if not without("node", "the extension"):
-        run("node", VSCODE / "tests/server.js", TOP / "crates/gqlls/out/gqlls", folder / "extension", timeout=120)
+        run("node", VSCODE / "tests/server.js", TOP / "crates/gqlls/out/gqlls", folder / "extension", timeout=600)
 
 
 def test_here():

@@ -59,7 +59,7 @@ class Bare:
     def run(self, command, folder=".", **how):
         """What a command writes, in a folder of the trial's."""
         within = f"mkdir -p /{PLACE}/{folder} && cd /{PLACE}/{folder} && {command}"
-        return run("chroot", self.root, "sh", "-c", within, stdout=subprocess.PIPE, timeout=300, **how).stdout.decode()
+        return run("chroot", self.root, "sh", "-c", within, stdout=subprocess.PIPE, timeout=1800, **how).stdout.decode()
 
     def show(self, page, *programs, before=""):
         """Runs a page's commands with these programs. Each must write what the page shows."""
