@@ -25,9 +25,9 @@ const ask = (name, call, ...given) => providers[name].provider[call](...given);
 const at = (line, character) => new vscode.Position(line, character);
 const OPTIONS = { tabSize: 2, insertSpaces: true };
 
-// Lets the server go on until something is true, for ten seconds at most.
+// Lets the server go on until something is true, for a hundred seconds at most.
 async function until(isReady) {
-  for (let left = 1000; !isReady(); left--) {
+  for (let left = 10000; !isReady(); left--) {
     assert.ok(left > 0, String(isReady));
     await new Promise((resolve) => setTimeout(resolve, 10));
   }
