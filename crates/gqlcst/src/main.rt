@@ -14,6 +14,7 @@ use program_words::information::{Information, information_of};
 use std::env;
 use std::process::ExitCode;
 
+#[derive(Clone, Copy)]
 enum Request {
     Print(Information),
     Run(Mode, Limits),
