@@ -1,6 +1,6 @@
 -- The text that a parser has is a part of the source, so its length fits.
 use Rattle.std.proofs.Common.{◌≡◌, ℕ, zero, suc, ◌+◌, ◌-◌, ◌<◌, ◌≤◌, ◌^◌, Bool, true, false, List, [], ◌∷◌, ◌++◌, length, take, drop, get_or, map, Option, Some}
-use Rattle.std.proofs.Common.{None, Result, ◌⊎◌, inl, inr, refl, sym, ap, ◌∙◌, subst, add-one, arith}
+use Rattle.std.proofs.Common.{None, ◌⊎◌, inl, inr, refl, sym, ap, ◌∙◌, subst, add-one, arith}
 use Rattle.std.specs.Prelude.{if◌then◌else◌}
 use Rattle.std.proofs.lemmas.List.{append-nil, length-append, length-take, map-append}
 use Rattle.std.proofs.lemmas.Bool.Decides.{nat_tests}
@@ -11,9 +11,7 @@ use Rattle.lexical_grammar.specs.Reads.{first_item, items_from}
 use Rattle.lexical_grammar.proofs.Limited.{limited-text}
 use Rattle.apollo_lexer.specs.declared.lexer.Lexer.{Lexer}
 use Rattle.std.specs.Iterator.{YieldsFirstBy}
-use Rattle.apollo_lexer.specs.declared.token.Token.{Token}
-use Rattle.apollo_lexer.specs.declared.lex_error.LexError.{LexError}
-use Rattle.apollo_lexer.specs.Answers.{answer_of, answers_left, items_left}
+use Rattle.apollo_lexer.specs.Answers.{answers_left, items_left}
 use Rattle.document_grammar.specs.declared.kind.SyntaxKind.{SyntaxKind}
 use Rattle.document_grammar.specs.Forests.{text, none, leaf}
 use Rattle.document_grammar.specs.Builds.{Building, built_text, open_text, start, add_leaf, finish, wrap, nothing}
@@ -22,6 +20,8 @@ use Rattle.apollo_tree.proofs.Steps.{leaf_text, wrap-text, finish-text}
 use Rattle.parser_rules.specs.State.{State, Text, Lexeme, PendingToken, add_all, flush}
 use Rattle.parser_state.specs.declared.state.PendingToken.{PendingToken as Waiting}
 use Rattle.parser_state.specs.View.{pending_of}
+use Rattle.parser_state.specs.declared.state.reader.Sorted.{Sorted}
+use Rattle.parser_state.specs.Sorted.{sorted_answer}
 use Rattle.parser_state.specs.Reading.{Taken}
 use Rattle.parser_state.specs.Lengths.{pending_length, current_length, answer_length, text_length, length_of}
 
@@ -220,11 +220,11 @@ taken-length (Some answer) s t h =
     let l = length-answer s.tree s.pending s.current s.items t.items answer h.0 in
     omega (arith, m, l)
 
-pub after-taken : (b : Building) (ps : List PendingToken) (o : Option Lexeme) (l m : Lexer) (r : Option (Result Token LexError))
-    → YieldsFirstBy answer_of answers_left l r m
+pub after-taken : (b : Building) (ps : List PendingToken) (o : Option Lexeme) (l m : Lexer) (r : Option Sorted)
+    → YieldsFirstBy sorted_answer answers_left l r m
     → text_length b ps o (answers_left l) < 2 ^ 64 → text_length b ps o (answers_left m) < 2 ^ 64
 after-taken b ps o l m None h n = subst (λ (xs : List Answer). text_length b ps o xs < 2 ^ 64) (h.0 ∙ sym h.1) n
-after-taken b ps o l m (Some x) h n = let e = length-answer b ps o (answers_left l) (answers_left m) (answer_of x) h in omega (arith, e, n)
+after-taken b ps o l m (Some x) h n = let e = length-answer b ps o (answers_left l) (answers_left m) (sorted_answer x) h in omega (arith, e, n)
 
 -- at the beginning, all that the lexer gives is left
 pub begun-length : (l m : Lexer) (b : Building) (ps : List Waiting) → m ≡ l → b ≡ nothing → ps ≡ []

@@ -1,18 +1,31 @@
 // What a parser reads from: its lexer, what a copy of that found ahead, and the count of the items that both cut.
 #![tactic(auto)]
 
-ghost use Rattle.std.specs.Prelude.{◌≡◌, ◌≤◌, ◌+◌, ◌*◌, length, true};
+ghost use Rattle.std.specs.Prelude.{◌≡◌, ◌≤◌, ◌+◌, ◌*◌, length, true, IfSome};
 ghost use Rattle.std.specs.Iterator.{YieldsFirstBy};
 ghost use Rattle.lexical_grammar.specs.declared.TokenKind.TheVariants as token;
-ghost use Rattle.apollo_lexer.specs.Answers.{answer_of, answers_left, final_high};
+ghost use Rattle.apollo_lexer.specs.Answers.{answers_left, final_high};
 ghost use Rattle.document_grammar.specs.declared.kind.SyntaxKind.TheVariants as kind;
 ghost use Rattle.parser_rules.specs.State.{second};
 ghost use Rattle.std.specs.Coded.{codes};
+ghost use Rattle.parser_state.specs.Sorted.{sorted_answer, IsSorted};
 ghost use Rattle.parser_state.specs.View.{current_of};
 ghost use Rattle.parser_state.specs.Lookahead.{given, looked, shown, spared, all_given};
 
 use super::tokens::ignored;
 use apollo_lexer::{LexError, Lexer, Steps, Token};
+use document_grammar::SyntaxKind;
+
+/// An answer of the lexer, by its use to the parser.
+#[derive(Clone, Copy)]
+pub enum Sorted<'i> {
+    /// A token that is not ignored.
+    Significant(Token<'i>),
+    /// An ignored token, and the kind of its leaf.
+    Ignored(SyntaxKind, Token<'i>),
+    /// Bad text, or the token limit.
+    Bad(LexError<'i>),
+}
 
 /// The significant token after the current one, as far as it is known.
 #[derive(Clone, Copy)]
@@ -93,20 +106,26 @@ impl<'i> Reader<'i> {
         self.steps
     }
 
-    /// The lexer's next answer.
-    pub(super) fn next_answer(&mut self) -> Option<Result<Token<'i>, LexError<'i>>>
-        ensures answers { YieldsFirstBy answer_of answers_left self.old.lexer result self.new.lexer }
+    /// The lexer's next answer, sorted. It is matched once, where it is made.
+    #[inline(always)]
+    pub(super) fn next_answer(&mut self) -> Option<Sorted<'i>>
+        ensures answers { YieldsFirstBy sorted_answer answers_left self.old.lexer result self.new.lexer }
+        ensures sorted { IfSome result IsSorted }
         ensures high { final_high self.new.lexer ≡ final_high self.old.lexer }
         ensures limit { self.new.lexer.limit_tracker.limit ≡ self.old.lexer.limit_tracker.limit }
         ensures start { self.new.start ≡ self.old.start }
     {
         let answer = self.lexer.next_counted(&mut self.steps)?;
-        if let Ok(token) = answer {
-            if ignored(token.kind()).is_none() {
-                self.ahead.is_known = false;
-            }
+        match answer {
+            Err(error) => Some(Sorted::Bad(error)),
+            Ok(token) => match ignored(token.kind()) {
+                Some(kind) => Some(Sorted::Ignored(kind, token)),
+                None => {
+                    self.ahead.is_known = false;
+                    Some(Sorted::Significant(token))
+                }
+            },
         }
-        Some(answer)
     }
 
     // Looks for the significant token after the current one, by a copy of the lexer, once.

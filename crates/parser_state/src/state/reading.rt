@@ -1,7 +1,7 @@
 // Reading: the current token, the next one, and what waits.
 #![tactic(auto, using(parser_rules::specs::Runs::does), unfolding(parser_rules::proofs::runs::Running::steps))]
 
-ghost use Rattle.std.specs.Prelude.{◌≡◌, ◌+◌, ◌<◌, ◌^◌, true, false, length, Some, None, Err, OnOk, option_map};
+ghost use Rattle.std.specs.Prelude.{◌≡◌, ◌+◌, ◌<◌, ◌^◌, true, false, length, Some, None, Err, OnOk, IfSome, option_map};
 ghost use Rattle.lexical_grammar.specs.declared.TokenKind.TheVariants as token;
 ghost use Rattle.document_grammar.specs.declared.kind.SyntaxKind.TheVariants as kind;
 ghost use Rattle.document_grammar.specs.Forests.{none};
@@ -13,9 +13,11 @@ ghost use Rattle.document_grammar.specs.Numbers.{number};
 ghost use Rattle.parser_rules.specs.Rules as rules;
 ghost use Rattle.parser_state.specs.Lengths.{current_length, answer_length, text_length, length_of};
 ghost use Rattle.parser_state.specs.Reading as reading;
+ghost use Rattle.parser_state.specs.Sorted.{sorted_answer, IsSorted};
 ghost use Rattle.parser_state.specs.View.{current_of};
 
-use super::tokens::{ignored, is_boolean, is_eof, is_kind, is_word};
+use super::reader::Sorted;
+use super::tokens::{is_boolean, is_eof, is_kind, is_word};
 use super::{ParserState, PendingToken};
 use crate::report::Report;
 use apollo_lexer::{LexError, Token};
@@ -105,10 +107,12 @@ impl<'i, A: Allocator + Copy> ParserState<'i, A> {
     }
 
     // The lexer's next answer.
-    fn next_answer(&mut self) -> Option<Result<Token<'i>, LexError<'i>>>
-        ensures taken { reading.Taken (option_map answer_of result) self.old self.new }
-        ensures text { reading.IsAnswerText (option_map answer_of result) }
-        ensures len { answer_length (option_map answer_of result) + length_of self.new < 2 ^ 64 }
+    #[inline(always)]
+    fn next_answer(&mut self) -> Option<Sorted<'i>>
+        ensures taken { reading.Taken (option_map sorted_answer result) self.old self.new }
+        ensures sorted { IfSome result IsSorted }
+        ensures text { reading.IsAnswerText (option_map sorted_answer result) }
+        ensures len { answer_length (option_map sorted_answer result) + length_of self.new < 2 ^ 64 }
         ensures budget { self.new.budget ≡ self.old.budget }
     {
         self.reader.next_answer()
@@ -130,14 +134,12 @@ impl<'i, A: Allocator + Copy> ParserState<'i, A> {
     {
         while let Some(answer) = self.next_answer() {
             match answer {
-                Err(error) => self.push_lex_error(error)?,
-                Ok(token) => match ignored(token.kind()) {
-                    Some(kind) => self.wait(kind, token.data())?,
-                    None => {
-                        self.set_current(Some(token));
-                        return Ok(());
-                    }
-                },
+                Sorted::Bad(error) => self.push_lex_error(error)?,
+                Sorted::Ignored(kind, token) => self.wait(kind, token.data())?,
+                Sorted::Significant(token) => {
+                    self.set_current(Some(token));
+                    return Ok(());
+                }
             }
         }
         self.set_current(None);
