@@ -36,6 +36,7 @@ pub use Rattle.document_grammar.specs.Leaves
 pub use Rattle.apollo_tree.specs.Order
 pub use Rattle.apollo_tree.specs.Indexed
 pub use Rattle.apollo_tree.specs.Compact
+pub use Rattle.apollo_tree.specs.Filled
 pub use Rattle.apollo_tree.specs.References
 pub use Rattle.apollo_tree.specs.Children
 pub use Rattle.apollo_tree.specs.Tiled

@@ -70,10 +70,11 @@ impl<R: Root, A: Allocator> Model for SyntaxTree<R, A> {
 impl<R: Root, A: Allocator> SyntaxTree<R, A> {
     ghost use Rattle.std.specs.Prelude.{◌≡◌};
     ghost use Rattle.std.specs.Slice.Iter.{iter_rest};
-    ghost use Rattle.std.specs.Prelude.{◌<◌, ◌^◌, get_or, length};
+    ghost use Rattle.std.specs.Prelude.{◌<◌, ◌^◌, length};
     ghost use Rattle.document_grammar.specs.Forests.{text};
-    ghost use Rattle.apollo_tree.specs.Compact.{compact};
-    ghost use Rattle.apollo_tree.specs.Order.{nowhere, order, text_at};
+    ghost use Rattle.apollo_tree.specs.Compact.{compact_elements};
+    ghost use Rattle.apollo_tree.specs.Filled.{filled};
+    ghost use Rattle.apollo_tree.specs.Order.{order, text_at};
     ghost use Rattle.apollo_tree.specs.Indexed.{element_at};
     ghost use Rattle.apollo_tree.specs.References.{node_place};
 
@@ -140,15 +141,13 @@ impl<R: Root, A: Allocator> SyntaxTree<R, A> {
         self.tree.element(index)
     }
 
-    /// The element with an index in twelve bytes, in constant time.
-    #[inline(always)]
-    pub fn compact(&self, index: usize) -> CompactElement
-        requires inside { index < length (order self.now.tree) }
+    /// Writes the elements in document order, in twelve bytes each, as far as there is room.
+    pub fn write_compact(&self, rows: &mut [CompactElement])
         requires few { length (order self.now.tree) < 2 ^ 28 }
         requires short { length (text self.now.tree) < 2 ^ 31 }
-        ensures { result ≡ compact index (get_or (order self.now.tree) index nowhere) }
+        ensures { rows.new ≡ filled rows.old (compact_elements self.now.tree) }
     {
-        self.tree.compact(index)
+        self.tree.write_compact(rows);
     }
 }
 

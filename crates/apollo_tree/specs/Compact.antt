@@ -1,11 +1,11 @@
--- An element in twelve bytes.
-use Rattle.std.specs.Prelude.{ℕ, suc, ◌+◌, ◌-◌, ◌*◌, ◌/◌, ◌%◌, ◌^◌, unwrap_or}
+-- Elements in twelve bytes.
+use Rattle.std.specs.Prelude.{ℕ, suc, ◌+◌, ◌-◌, ◌*◌, ◌/◌, ◌%◌, ◌^◌, List, [], ◌∷◌, unwrap_or}
 use Rattle.std.specs.Int.{from_bool}
-use Rattle.document_grammar.specs.Forests.{count}
+use Rattle.document_grammar.specs.Forests.{Forest, count}
 use Rattle.document_grammar.specs.Numbers.{number}
 use Rattle.apollo_tree.specs.declared.compact.CompactElement.{CompactElement}
 use Rattle.apollo_tree.specs.declared.record.Record.{Record}
-use Rattle.apollo_tree.specs.Order.{Element, is_node, tree_kids, tree_kind}
+use Rattle.apollo_tree.specs.Order.{Element, is_node, order, tree_kids, tree_kind}
 
 -- The four numbers of a record, and its kind.
 abbrev pub compact_record : Record → CompactElement
@@ -30,3 +30,12 @@ compact index e = compact_record (record {
   size = suc (count (tree_kids e.tree));
   to_parent = to_parent index e;
 })
+
+-- The elements of a list, of which the first has the index.
+abbrev pub compact_from : ℕ → List Element → List CompactElement
+compact_from index [] = []
+compact_from index (e ∷ es) = compact index e ∷ compact_from (suc index) es
+
+-- The elements of a tree, in document order.
+abbrev pub compact_elements : Forest → List CompactElement
+compact_elements tree = compact_from 0 (order tree)

@@ -1,15 +1,12 @@
 // Elements in twelve bytes, for programs in other languages.
-ghost use Rattle.std.specs.Prelude.{◌≡◌, ◌<◌, ◌^◌, length, get_or};
-ghost use Rattle.document_grammar.specs.Forests.{text};
-ghost use Rattle.apollo_tree.specs.Blank.{none_there};
-ghost use Rattle.apollo_tree.specs.Compact.{compact, compact_record};
+ghost use Rattle.std.specs.Prelude.{◌≡◌, map};
+ghost use Rattle.std.specs.List.{All};
+ghost use Rattle.apollo_tree.specs.Compact.{compact_record};
+ghost use Rattle.apollo_tree.specs.Filled.{filled};
 ghost use Rattle.apollo_tree.specs.Forms.{readable};
-ghost use Rattle.apollo_tree.specs.Order.{element, order};
-ghost use Rattle.apollo_tree.specs.References.{table_place, table_tree};
-ghost use Rattle.apollo_tree.specs.Widened.{of_small, IsSmall};
+ghost use Rattle.apollo_tree.specs.Widened.{IsSmall};
 
-use crate::node::Table;
-use crate::packed::{Packed, SmallRecord};
+use crate::packed::Packed;
 use crate::table::Records;
 use std::mem::size_of;
 
@@ -34,45 +31,28 @@ pub struct CompactElement {
 
 const _: () = prove!(size_of::<CompactElement>() == 12);
 
-impl SmallRecord {
-    #[inline(always)]
-    fn compact(self) -> CompactElement
-        ensures { result ≡ compact_record (of_small self) }
-    {
-        CompactElement {
-            start_and_node: self.start_and_node,
-            size_and_parent: self.size_and_parent,
-            parent_low: self.parent_low,
-            parent_middle: self.parent_middle,
-            kind: self.kind.to_u16() as u8,
-        }
+// Writes records as far as there is room. It goes over one slice of records, all of one form.
+#[inline(always)]
+fn write_all<R: Packed>(records: &[R], rows: &mut [CompactElement])
+    requires { All IsSmall (map R.plain records.now) }
+    ensures { rows.new ≡ filled rows.old (map compact_record (map R.plain records.now)) }
+{
+    let end = records.len().min(rows.len());
+    for index in 0..end {
+        rows[index] = records[index].compact();
     }
 }
 
 impl<'t> Records<'t> {
-    // The record with an index, whose numbers fit.
-    #[inline(always)]
-    fn compact(self, index: usize) -> CompactElement
-        requires inside { index < length (readable self) }
-        requires fits { IsSmall (get_or (readable self) index none_there) }
-        ensures { result ≡ compact_record (get_or (readable self.entry) index none_there) }
+    // Writes the records as far as there is room.
+    pub(crate) fn write_compact(self, rows: &mut [CompactElement])
+        requires { All IsSmall (readable self) }
+        ensures { rows.new ≡ filled rows.old (map compact_record (readable self.entry)) }
     {
         match self {
-            Records::Small(records) => records[index].compact(),
-            _ => SmallRecord::new(self.get(index)).compact(),
+            Records::Small(records) => write_all(records, rows),
+            Records::Narrow(records) => write_all(records, rows),
+            Records::Wide(records) => write_all(records, rows),
         }
-    }
-}
-
-impl<'t> Table<'t> {
-    // The element with an index, in constant time.
-    #[inline(always)]
-    pub(crate) fn compact(self, index: usize) -> CompactElement
-        requires inside { index < length (readable self.records) }
-        requires few { length (readable self.records) < 2 ^ 28 }
-        requires short { length self.text.now < 2 ^ 31 }
-        ensures { result ≡ compact index (element (table_place self.entry index)) }
-    {
-        self.records.compact(index)
     }
 }

@@ -2,7 +2,9 @@
 ghost use Rattle.std.specs.Prelude.{◌≡◌, ◌+◌, ◌*◌, ◌/◌, ◌%◌, ◌==◌, ◌^◌, ◌<◌, true};
 ghost use Rattle.apollo_tree.specs.declared.record.Record.{Record as Plain};
 ghost use Rattle.apollo_tree.specs.Widened.{joined, of_small, widened, IsSmall, IsNarrow};
+ghost use Rattle.apollo_tree.specs.Compact.{compact_record};
 
+use crate::compact::CompactElement;
 use crate::record::Record;
 use document_grammar::SyntaxKind;
 use std::mem::size_of;
@@ -23,6 +25,11 @@ pub trait Packed: Copy {
 
     fn row(self) -> Record
         ensures { result ≡ plain self };
+
+    // The record in twelve bytes, whatever the form was.
+    fn compact(self) -> CompactElement
+        requires { IsSmall (plain self) }
+        ensures { result ≡ compact_record (plain self) };
 }
 
 // A record of a table with fewer than 2 ^ 28 records, whose text begins before byte 2 ^ 31.
@@ -116,6 +123,17 @@ impl Packed for SmallRecord {
             ),
         }
     }
+
+    #[inline(always)]
+    fn compact(self) -> CompactElement {
+        CompactElement {
+            start_and_node: self.start_and_node,
+            size_and_parent: self.size_and_parent,
+            parent_low: self.parent_low,
+            parent_middle: self.parent_middle,
+            kind: self.kind.to_u16() as u8,
+        }
+    }
 }
 
 impl Packed for NarrowRecord {
@@ -131,6 +149,11 @@ impl Packed for NarrowRecord {
             to_parent: self.to_parent as usize,
         }
     }
+
+    #[inline(always)]
+    fn compact(self) -> CompactElement {
+        self.row().compact()
+    }
 }
 
 impl Packed for Record {
@@ -139,6 +162,11 @@ impl Packed for Record {
     #[inline(always)]
     fn row(self) -> Record {
         self
+    }
+
+    #[inline(always)]
+    fn compact(self) -> CompactElement {
+        SmallRecord::new(self).compact()
     }
 }
 

@@ -11,7 +11,9 @@ use Rattle.dumyroke_flat.specs.declared.rows.Counts.{Counts}
 use Rattle.apollo_parser.specs.Order.{order}
 use Rattle.apollo_parser.specs.Parsed.{Parsed}
 use Rattle.apollo_parser.proofs.OneParse.{one-parse}
-use Rattle.dumyroke_flat.specs.Rows.{element_rows, error_rows, filled, messages}
+use Rattle.apollo_parser.specs.Compact.{compact_elements}
+use Rattle.apollo_parser.specs.Filled.{filled}
+use Rattle.dumyroke_flat.specs.Rows.{error_rows, messages}
 use Rattle.dumyroke_flat.specs.Again.{HasRoom, HoldParse}
 use Rattle.dumyroke_flat.proofs.ElementRows.{length-rows}
 use Rattle.dumyroke_flat.proofs.Messages.{length-error_rows}
@@ -63,7 +65,7 @@ parse-again source r k before after room filled_room first second one ok two ok'
         parsed = s.0;
         parse = s.1;
         elements = ap (λ (b : Buffers). b.elements) s.2
-            ∙ filled-whole room.elements (element_rows s.0.tree)
+            ∙ filled-whole room.elements (compact_elements s.0.tree)
             (asked.elements ∙ ap (λ (c : Counts). c.elements) f.3 ∙ ap (λ (p : Parsed). length (order p.tree)) same ∙ sym (length-rows 0 (order s.0.tree)));
         errors = ap (λ (b : Buffers). b.errors) s.2
             ∙ filled-whole room.errors (error_rows 0 s.0.errors)

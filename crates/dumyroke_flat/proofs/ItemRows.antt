@@ -15,8 +15,9 @@ use Rattle.dumyroke_flat.specs.declared.rows.ErrorRow.{ErrorRow}
 use Rattle.dumyroke_flat.specs.declared.rows.ItemRow.{ItemRow}
 use Rattle.dumyroke_flat.specs.Items.{IsLexed, ItemBuffers, ItemsOutcome, item_row}
 use Rattle.dumyroke_flat.specs.Outcomes.{OK}
-use Rattle.dumyroke_flat.specs.Rows.{error_rows, filled, messages}
-use Rattle.dumyroke_flat.proofs.FilledBuffers.{filled-by-none}
+use Rattle.apollo_parser.specs.Filled.{filled}
+use Rattle.dumyroke_flat.specs.Rows.{error_rows, messages}
+use Rattle.apollo_tree.proofs.Filling.{filled-by-none}
 
 -- ---- where items end
 

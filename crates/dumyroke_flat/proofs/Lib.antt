@@ -1,5 +1,4 @@
 pub mod FilledBuffers
-pub mod ElementRows
 pub mod Messages
 pub mod OneString
 pub mod Outcomes

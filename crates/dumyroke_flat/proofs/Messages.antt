@@ -9,8 +9,9 @@ use Rattle.apollo_parser.specs.Parsed.{Parsed}
 use Rattle.apollo_parser.specs.Promise.{Promise}
 use Rattle.apollo_parser.specs.Reads.{items_of}
 use Rattle.dumyroke_flat.specs.declared.rows.ErrorRow.{ErrorRow}
-use Rattle.dumyroke_flat.specs.Rows.{error_row, error_rows, filled, messages}
-use Rattle.dumyroke_flat.proofs.FilledBuffers.{filled-by-one-more}
+use Rattle.apollo_parser.specs.Filled.{filled}
+use Rattle.dumyroke_flat.specs.Rows.{error_row, error_rows, messages}
+use Rattle.apollo_tree.proofs.Filling.{filled-by-one-more}
 
 first-of : {X : Type 0} (f : X → List ℕ) (n : ℕ) (xs : List X) → length (flat_map f (take n xs)) ≤ length (flat_map f xs)
 first-of f zero xs = omega arith

@@ -12,7 +12,9 @@ use Rattle.formatter.specs.Formatted.{IsRefused}
 use Rattle.dumyroke_flat.specs.declared.rows.ByteCount.{ByteCount}
 use Rattle.apollo_tree.specs.declared.compact.CompactElement.{CompactElement}
 use Rattle.dumyroke_flat.specs.declared.rows.ErrorRow.{ErrorRow}
-use Rattle.dumyroke_flat.specs.Rows.{element_rows, error_rows, filled, messages}
+use Rattle.apollo_parser.specs.Compact.{compact_elements}
+use Rattle.apollo_parser.specs.Filled.{filled}
+use Rattle.dumyroke_flat.specs.Rows.{error_rows, messages}
 use Rattle.dumyroke_flat.specs.declared.rows.Counts.{Counts}
 use Rattle.dumyroke_flat.specs.Outcomes.{Buffers, IsTooLong, ParseOutcome, counts_of, FormatOutcome, StringOutcome}
 use Rattle.dumyroke_flat.specs.Outcomes.{no_counts, written, OK, NOT_UTF8, TOO_LONG, NO_MEMORY, NOT_A_STRING, NOT_A_DOCUMENT}
@@ -52,7 +54,7 @@ of-no-memory P source before counts is =
 
 -- the buffers after all of a parse was written, where its errors are known as `found`
 pub of-written : (source : List ℕ) (before : Buffers) (parsed : Parsed) (rows : List CompactElement) (errors : List ErrorRow) (words : List ℕ)
-    (found : List Diagnostic) (elements length_of_text bytes depth items : ℕ) → found ≡ parsed.errors → rows ≡ filled before.elements (element_rows parsed.tree)
+    (found : List Diagnostic) (elements length_of_text bytes depth items : ℕ) → found ≡ parsed.errors → rows ≡ filled before.elements (compact_elements parsed.tree)
     → errors ≡ filled before.errors (error_rows 0 found) → words ≡ filled before.messages (messages found) → elements ≡ length (order parsed.tree)
     → length_of_text ≡ length (text parsed.tree) → bytes ≡ length (messages found) → depth ≡ parsed.recursion_limit.high → items ≡ parsed.token_limit.high
     → ParseOutcome (λ p. p ≡ parsed) source before (record { elements = rows; errors = errors; messages = words })

@@ -15,7 +15,8 @@ use Rattle.dumyroke_flat.specs.declared.rows.Counts.{Counts}
 use Rattle.dumyroke_flat.specs.declared.rows.ErrorRow.{ErrorRow}
 use Rattle.dumyroke_flat.specs.declared.rows.ItemRow.{ItemRow}
 use Rattle.dumyroke_flat.specs.Outcomes.{no_counts, OK, NOT_UTF8, TOO_LONG, NO_MEMORY}
-use Rattle.dumyroke_flat.specs.Rows.{error_rows, filled, messages}
+use Rattle.apollo_parser.specs.Filled.{filled}
+use Rattle.dumyroke_flat.specs.Rows.{error_rows, messages}
 
 -- ---- rows
 

@@ -20,7 +20,9 @@ use Rattle.dumyroke_flat.specs.declared.rows.Counts.{Counts}
 use Rattle.apollo_tree.specs.declared.compact.CompactElement.{CompactElement}
 use Rattle.dumyroke_flat.specs.declared.rows.ErrorRow.{ErrorRow}
 use Rattle.formatter.specs.Formatted.{IsFormatted, IsRefused}
-use Rattle.dumyroke_flat.specs.Rows.{element_rows, error_rows, filled, messages}
+use Rattle.apollo_parser.specs.Compact.{compact_elements}
+use Rattle.apollo_parser.specs.Filled.{filled}
+use Rattle.dumyroke_flat.specs.Rows.{error_rows, messages}
 
 -- ---- statuses
 
@@ -53,7 +55,7 @@ pub record Buffers : Type 0 where
 -- The buffers after the tree and the errors of a parse were written, each as far as there is room.
 abbrev pub written : Buffers → Parsed → Buffers
 written room parsed = record {
-  elements = filled room.elements (element_rows parsed.tree);
+  elements = filled room.elements (compact_elements parsed.tree);
   errors = filled room.errors (error_rows 0 parsed.errors);
   messages = filled room.messages (messages parsed.errors);
 }

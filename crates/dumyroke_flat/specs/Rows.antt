@@ -1,28 +1,9 @@
--- The rows that say a tree and its errors, and what a buffer holds that they are written to.
-use Rattle.std.specs.Prelude.{ℕ, suc, ◌+◌, ◌<◌, ◌^◌, List, [], ◌∷◌, ◌++◌, length, take, drop}
+-- The rows that say the errors of a parse.
+use Rattle.std.specs.Prelude.{ℕ, ◌+◌, ◌<◌, ◌^◌, List, [], ◌∷◌, length}
 use Rattle.std.specs.Int.{from_bool}
 use Rattle.std.specs.List.{flat_map}
 use Rattle.apollo_parser.specs.Diagnostics.{Diagnostic, diagnostic_end, is_end_subject, is_limit_subject}
-use Rattle.apollo_tree.specs.declared.compact.CompactElement.{CompactElement}
-use Rattle.apollo_parser.specs.Compact.{compact}
-use Rattle.apollo_parser.specs.Forests.{Forest}
-use Rattle.apollo_parser.specs.Order.{Element, order}
 use Rattle.dumyroke_flat.specs.declared.rows.ErrorRow.{ErrorRow}
-
--- The buffer with as many of the items as it has room for, from its beginning on. What is after them stays as it was.
-abbrev pub filled : {A : Type 0} → List A → List A → List A
-filled buffer items = take (length buffer) items ++ drop (length items) buffer
-
--- ---- elements
-
--- The elements in twelve bytes, of which the first has the index.
-abbrev pub rows_from : ℕ → List Element → List CompactElement
-rows_from index [] = []
-rows_from index (e ∷ es) = compact index e ∷ rows_from (suc index) es
-
--- The elements of a tree, in document order.
-abbrev pub element_rows : Forest → List CompactElement
-element_rows tree = rows_from 0 (order tree)
 
 -- ---- errors
 

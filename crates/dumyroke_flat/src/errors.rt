@@ -1,7 +1,8 @@
 // The rows of the errors, and their messages.
 ghost use Rattle.std.specs.Prelude.{◌≡◌, ◌<◌, ◌^◌, length, true, IfSome};
 ghost use Rattle.std.specs.List.{All};
-ghost use Rattle.dumyroke_flat.specs.Rows.{EndFits, error_row, error_rows, filled, messages};
+ghost use Rattle.apollo_parser.specs.Filled.{filled};
+ghost use Rattle.dumyroke_flat.specs.Rows.{EndFits, error_row, error_rows, messages};
 
 use crate::filling::append;
 use crate::rows::ErrorRow;

@@ -1,7 +1,7 @@
 // Buffers that are filled bit by bit.
 ghost use Rattle.std.specs.Prelude.{◌≡◌, ℕ, List, ◌++◌, length};
 ghost use Rattle.dumyroke_flat.specs.Outcomes.{OK};
-ghost use Rattle.dumyroke_flat.specs.Rows.{filled};
+ghost use Rattle.apollo_parser.specs.Filled.{filled};
 
 use crate::rows::{ByteCount, status};
 

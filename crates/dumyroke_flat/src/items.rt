@@ -6,7 +6,7 @@ ghost use Rattle.apollo_parser.specs.LexErrors.{AreLexErrors};
 ghost use Rattle.apollo_parser.specs.LexerAnswers.{answer_of, answers_left};
 ghost use Rattle.dumyroke_flat.specs.declared.rows.ItemRow.{ItemRow as Row};
 ghost use Rattle.dumyroke_flat.specs.Items.{ItemsOutcome, item_kind, item_row};
-ghost use Rattle.dumyroke_flat.specs.Rows.{filled};
+ghost use Rattle.apollo_parser.specs.Filled.{filled};
 
 use crate::errors::{counted_bytes, write_found};
 use crate::rows::{Counts, ErrorRow, ItemRow, status};

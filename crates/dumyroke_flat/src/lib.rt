@@ -5,7 +5,6 @@
 //! before memory was refused.
 #![tactic(auto)]
 
-mod elements;
 mod errors;
 mod filling;
 mod format;

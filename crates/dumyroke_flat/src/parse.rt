@@ -3,7 +3,6 @@ ghost use Rattle.std.specs.Prelude.{◌≡◌, ℕ, List, ◌<◌, ◌^◌, leng
 ghost use Rattle.apollo_parser.specs.Forests.{text};
 ghost use Rattle.dumyroke_flat.specs.Outcomes.{Outcome, ParseOutcome, SelectionSetOutcome, TypeOutcome};
 
-use crate::elements::write_elements;
 use crate::errors::{counted_bytes, write_found};
 use crate::rows::{Counts, ErrorRow, status};
 use crate::source::{refused, text_of};
@@ -31,7 +30,7 @@ fn write_parse<R: Root, A: Allocator>(
     let Some(message_bytes) = counted_bytes(found) else {
         return refused(status::NO_MEMORY);
     };
-    write_elements(tree, elements);
+    tree.write_compact(elements);
     write_found(found, errors, messages);
     Counts {
         elements: element_count,

@@ -1,6 +1,6 @@
 use Rattle.std.proofs.Common.{arith, ◌∙◌, ◌<◌, sym, subst, length}
 use Rattle.dumyroke_flat.specs.Rows.{EndFits, error_rows}
-use Rattle.dumyroke_flat.proofs.FilledBuffers.{filled-as-far}
+use Rattle.apollo_tree.proofs.Filling.{filled-as-far}
 use Rattle.dumyroke_flat.proofs.Messages.{length-error_rows, next-fits, next-place, next-row}
 use Rattle.dumyroke_flat.proofs.errors.write_errors.Goals as goal
 

@@ -1,5 +1,6 @@
 use Rattle.std.proofs.Common.{◌≡◌, length, take}
-use Rattle.dumyroke_flat.specs.Rows.{error_rows, filled, messages}
+use Rattle.apollo_parser.specs.Filled.{filled}
+use Rattle.dumyroke_flat.specs.Rows.{error_rows, messages}
 use Rattle.dumyroke_flat.proofs.errors.write_errors.Given as goal
 
 -- the errors that were passed have their rows

@@ -1,5 +1,6 @@
 use Rattle.std.proofs.Common.{arith, ◌∙◌, ◌<◌, ap, sym, List, ℕ, length, take}
-use Rattle.dumyroke_flat.specs.Rows.{filled, messages}
+use Rattle.apollo_parser.specs.Filled.{filled}
+use Rattle.dumyroke_flat.specs.Rows.{messages}
 use Rattle.dumyroke_flat.proofs.Messages.{next-fits, next-messages, next-place}
 use Rattle.dumyroke_flat.proofs.errors.write_messages.Goals as goal
 

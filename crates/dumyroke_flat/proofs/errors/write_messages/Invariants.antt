@@ -1,5 +1,6 @@
 use Rattle.std.proofs.Common.{◌≡◌, length, take}
-use Rattle.dumyroke_flat.specs.Rows.{filled, messages}
+use Rattle.apollo_parser.specs.Filled.{filled}
+use Rattle.dumyroke_flat.specs.Rows.{messages}
 use Rattle.dumyroke_flat.proofs.errors.write_messages.Given as goal
 
 -- the messages of the errors that were passed are written

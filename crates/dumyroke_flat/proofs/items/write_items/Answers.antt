@@ -8,7 +8,7 @@ use Rattle.apollo_lexer.proofs.Law.{answers-few}
 use Rattle.apollo_lexer.proofs.Lexing.{lex-error-made}
 use Rattle.dumyroke_flat.specs.declared.rows.ItemRow.{ItemRow}
 use Rattle.dumyroke_flat.specs.Items.{item_row}
-use Rattle.dumyroke_flat.specs.Rows.{filled}
+use Rattle.apollo_parser.specs.Filled.{filled}
 use Rattle.dumyroke_flat.proofs.ItemRows.{all-given, begun, errors_of, no-token, passed-error, passed-token}
 use Rattle.dumyroke_flat.proofs.items.write_items.Goals.{in-Err+in_ok-to_error+in_ok-push, in_default}
 use Rattle.dumyroke_flat.proofs.items.write_items.Goals as goal

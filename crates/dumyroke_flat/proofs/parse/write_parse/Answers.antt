@@ -23,7 +23,7 @@ returns g c = λ source.
     let depth : c.recursion_limit.result.high ≡ c.args.tree.now.recursion_limit.high = rw c.recursion_limit.ensures refl in
     let bytes : length c.text-text.result.now ≡ length (text c.args.tree.now.tree) = ap length (c.text-text.ensures.text ∙ c.root.ensures.text) in
     let items : c.token_limit.result.high ≡ c.args.tree.now.token_limit.high = rw c.token_limit.ensures refl in
-    of-written source room c.args.tree.now c.write_elements.new.rows c.write_found.new.rows c.write_found.new.buffer c.as_slice-found.result.now
+    of-written source room c.args.tree.now c.write_compact.new.rows c.write_found.new.rows c.write_found.new.buffer c.as_slice-found.result.now
     c.element_count-element_count.result (length c.text-text.result.now) c.in-Some.message_bytes c.recursion_limit.result.high c.token_limit.result.high found
-    c.write_elements.ensures c.write_found.ensures.rows c.write_found.ensures.messages c.element_count-element_count.ensures bytes c.in-Some.ensures.bytes
+    c.write_compact.ensures c.write_found.ensures.rows c.write_found.ensures.messages c.element_count-element_count.ensures bytes c.in-Some.ensures.bytes
     depth items
