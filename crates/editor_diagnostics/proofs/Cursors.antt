@@ -7,7 +7,7 @@ use Rattle.std.proofs.lemmas.Str.{IsCharBoundary-before_ascii}
 use Rattle.line_index.specs.Positions.{IsCursor, place_of, units}
 use Rattle.line_index.specs.declared.PositionEncoding.{PositionEncoding}
 use Rattle.line_index.proofs.OffsetLemmas.{named}
-use Rattle.editor_diagnostics.specs.Places.{IsReadAt, cursor_at, position_in, position_of}
+use Rattle.editor_diagnostics.specs.Positions.{IsReadAt, cursor_at, position_in, position_of}
 
 abbrev parted : List ℕ → ℕ → Bool
 parted text k = slice_index text k == 13 && slice_index text (suc k) == 10

@@ -13,7 +13,7 @@ use Rattle.json.specs.Tree.{items_tokens, json_tokens}
 use Rattle.json.specs.Value.{items_of}
 use Rattle.apollo_lexer.specs.Diagnostics.{Diagnostic}
 use Rattle.line_index.specs.declared.PositionEncoding.{PositionEncoding}
-use Rattle.editor_diagnostics.specs.Places.{cursor_at, position_in, position_of}
+use Rattle.editor_diagnostics.specs.Positions.{cursor_at, position_in, position_of}
 use Rattle.editor_diagnostics.specs.Publication.{diagnostic_of, diagnostics_of, more_diagnostics, publish_params}
 use Rattle.editor_diagnostics.specs.Tokens.{all_tokens, front_tokens}
 

@@ -7,7 +7,7 @@ use Rattle.apollo_lexer.specs.Diagnostics.{Diagnostic, subject_text}
 use Rattle.line_index.specs.declared.Position.{Position}
 use Rattle.line_index.specs.declared.PositionEncoding.{PositionEncoding}
 use Rattle.rpc_messages.specs.Messages.{IsNoticeOf}
-use Rattle.editor_diagnostics.specs.Places.{IsReadAt, position_of, range_value}
+use Rattle.editor_diagnostics.specs.Positions.{IsReadAt, position_of, range_value}
 
 -- ---- diagnostics
 

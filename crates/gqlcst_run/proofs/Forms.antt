@@ -8,8 +8,8 @@ use Rattle.apollo_parser.specs.declared.TokenKind.TheVariants.{Eof}
 use Rattle.apollo_parser.specs.LexErrors.{lex_subject}
 use Rattle.apollo_parser.specs.Printed.{place_text, subject_shown, token_name, token_text}
 use Rattle.gqlcst_run.specs.Rendering.{IsForm, IsErrorForm}
-use Rattle.gqlcst_run.specs.Paging.{Paged, Puts}
-use Rattle.gqlcst_run.proofs.Pages.{puts_then}
+use Rattle.gqlcst_run.specs.Buffering.{Buffered, Puts}
+use Rattle.gqlcst_run.proofs.Buffers.{puts_then}
 
 pub end_shown : (subject : Subject) → is_end_subject subject ≡ true → codes "EOF" ≡ subject_shown subject
 end_shown (of_text text) e = absurd (true≢false (sym e))
@@ -22,7 +22,7 @@ text_shown of_end e = absurd (true≢false e)
 text_shown of_limit e = refl
 
 -- a name with a place, and the next place
-pub head_put : (name shown first second : List ℕ) (start end : ℕ) (s t u : Paged) → shown ≡ name → first ≡ decimal start → second ≡ decimal end
+pub head_put : (name shown first second : List ℕ) (start end : ℕ) (s t u : Buffered) → shown ≡ name → first ≡ decimal start → second ≡ decimal end
     → Puts s (shown ++ (codes "@" ++ (first ++ codes ":"))) t → Puts t second u → Puts s (place_text name start end) u
 head_put name shown first second start end s t u names starts ends p q =
     let front = shown ++ (codes "@" ++ (first ++ codes ":")) in

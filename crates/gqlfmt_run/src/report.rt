@@ -9,7 +9,7 @@ use crate::fault::{FileFault, reason_of};
 use crate::formatting::Refusal;
 use apollo_parser::Error;
 use byte_devices::{Fault, Sink, write_all};
-use gqlfmt_files::{Files, Outcome};
+use gqlfmt_files::{Files, Settled};
 use line_index::LineIndex;
 use std::alloc::{AllocError, Allocator};
 use std::io::{self, ErrorKind};
@@ -151,7 +151,7 @@ pub fn tell_of_file<A: Allocator + Copy, F: Files, E: Sink>(
     files: &F,
     complaints: &mut E,
     path: &str,
-    ended: &Result<Outcome, FileFault>,
+    ended: &Result<Settled, FileFault>,
 )
     ensures { (before : Account) → IsSilent ended.now before (E.account complaints.old) → SaysOfFile path.now ended.now before (E.account complaints.new) }
 {

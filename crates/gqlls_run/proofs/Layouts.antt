@@ -13,7 +13,7 @@ use Rattle.std.proofs.lemmas.Str.{chars-nil, IsCharBoundary-end, IsCharBoundary-
 use Rattle.json.specs.Json.{Json}
 use Rattle.apollo_parser.specs.Answers.{usize_max}
 use Rattle.apollo_parser.specs.Limits.{default_recursion}
-use Rattle.editor_diagnostics.specs.Places.{cursor_at, position_of}
+use Rattle.editor_diagnostics.specs.Positions.{cursor_at, position_of}
 use Rattle.editor_diagnostics.proofs.Cursors.{read_at}
 use Rattle.editor_diagnostics.proofs.Told.{added_thrice}
 use Rattle.formatter.specs.Formatted.{IsDocument, IsFormatted}

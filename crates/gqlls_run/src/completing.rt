@@ -1,7 +1,7 @@
 // What may come next.
 use apollo_parser::{DocumentRoot, Parser, SyntaxKind, SyntaxNode, SyntaxToken, SyntaxTree};
 use editor_answers::{NameKind, meaning_of, span_of};
-use editor_diagnostics::Places;
+use editor_diagnostics::Positions;
 use rpc_messages::Piece;
 use std::alloc::{AllocError, Global};
 
@@ -274,11 +274,11 @@ pub(crate) fn push_completions<'p>(
     alloc: Global,
     pieces: &mut Vec<Piece<'p>>,
     root: SyntaxNode<'p>,
-    places: &Places<'_>,
+    positions: &Positions<'_>,
     offset: usize,
 ) -> Result<(), AllocError> {
-    let before = front_of(places.text, offset);
+    let before = front_of(positions.text, offset);
     let found = completions(alloc, before, root)?;
-    let range = places.range(before.len(), offset);
+    let range = positions.range(before.len(), offset);
     push_candidates(pieces, &range, found.as_slice())
 }

@@ -1,12 +1,12 @@
-// Texts, numbers and places, put on a page.
+// Texts, numbers and places, put in a buffer.
 ghost use Rattle.std.specs.Prelude.{◌+◌, ◌++◌, codes, decimal};
 
-use crate::page::Page;
+use crate::output_buffer::OutputBuffer;
 use byte_devices::Sink;
 use itoa::Buffer;
 
-impl Page {
-    ghost use Rattle.gqlcst_run.specs.Paging.{Puts};
+impl OutputBuffer {
+    ghost use Rattle.gqlcst_run.specs.Buffering.{Puts};
 
     /// Puts a text.
     #[inline(always)]

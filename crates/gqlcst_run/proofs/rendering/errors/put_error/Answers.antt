@@ -1,5 +1,5 @@
 use Rattle.std.proofs.Common.{ap, length}
-use Rattle.gqlcst_run.proofs.Pages.{puts_then}
+use Rattle.gqlcst_run.proofs.Buffers.{puts_then}
 use Rattle.gqlcst_run.proofs.Forms.{error_pieces, error-form}
 use Rattle.gqlcst_run.proofs.rendering.errors.put_error.Goals as goal
 

@@ -1,7 +1,7 @@
 use Rattle.std.proofs.Common.{◌≡◌, ◌+◌, true, false, ◌++◌, ◌∙◌, codes, length}
 use Rattle.apollo_parser.specs.declared.TokenKind.TheVariants.{Eof}
 use Rattle.apollo_parser.specs.Printed.{place_text}
-use Rattle.gqlcst_run.proofs.Pages.{puts_then}
+use Rattle.gqlcst_run.proofs.Buffers.{puts_then}
 use Rattle.gqlcst_run.proofs.Forms.{token-form}
 use Rattle.gqlcst_run.proofs.rendering.tokens.put_token.Goals as goal
 

@@ -1,10 +1,10 @@
-// Places of a text as the client counts them.
+// Positions in a text as the client counts them.
 ghost use Rattle.std.specs.Prelude.{◌≡◌, ◌+◌, ◌≤◌, IfOk, flat_map, length, min, take};
 ghost use Rattle.std.specs.Str.{IsCharBoundary};
 ghost use Rattle.json.specs.Tree.{json_tokens};
 ghost use Rattle.line_index.specs.Positions.{place_of, units};
 ghost use Rattle.rpc_messages.specs.Pieces.{tokens_of};
-ghost use Rattle.editor_diagnostics.specs.Places.{IsReadAt, cursor_at, position_of, range_value};
+ghost use Rattle.editor_diagnostics.specs.Positions.{IsReadAt, cursor_at, position_of, range_value};
 
 use line_index::{LineIndex, Position, PositionEncoding};
 use rpc_messages::Piece;
@@ -12,25 +12,25 @@ use std::alloc::{AllocError, Global};
 
 /// A text with its lines, and how its columns are counted.
 #[derive(Drop)]
-pub struct Places<'t> {
+pub struct Positions<'t> {
     pub text: &'t str,
     pub encoding: PositionEncoding,
     lines: LineIndex<'t>,
     ghost of_text: { lines ≡ text.now },
 }
 
-impl<'t> Places<'t> {
-    /// The places of a text. It fails only where memory is refused.
+impl<'t> Positions<'t> {
+    /// The positions in a text. It fails only where memory is refused.
     pub fn new(
         alloc: Global,
         text: &'t str,
         encoding: PositionEncoding,
-    ) -> Result<Places<'t>, AllocError>
-        ensures text { IfOk result (λ places. places.text.now ≡ text.now) }
-        ensures encoding { IfOk result (λ places. places.encoding ≡ encoding) }
+    ) -> Result<Positions<'t>, AllocError>
+        ensures text { IfOk result (λ positions. positions.text.now ≡ text.now) }
+        ensures encoding { IfOk result (λ positions. positions.encoding ≡ encoding) }
     {
         let lines = LineIndex::new(alloc, text)?;
-        Ok(Places {
+        Ok(Positions {
             text,
             encoding,
             lines,
