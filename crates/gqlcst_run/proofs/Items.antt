@@ -61,10 +61,10 @@ item_put all old left answer errors more after s t u v before comes one feed cou
 pub error-form : (limit : Bool) (text form : List ℕ) (index : ℕ) (error : Diagnostic) → error.subject ≡ lex_subject limit text → error.index ≡ index
     → IsLexMessage limit text error.message
     → IsErrorForm error form → IsAnswerForm (error_answer limit text index) form
-error-form true text form index error subject place message one =
-    record { error = error; of_answer = (λ j. record { message = message j; subject = subject j; index = place j }); form = one }
-error-form false text form index error subject place message one =
-    record { error = error; of_answer = (subject, place, message); form = one }
+error-form true text form index error subject offset message one =
+    record { error = error; of_answer = (λ j. record { message = message j; subject = subject j; index = offset j }); form = one }
+error-form false text form index error subject offset message one =
+    record { error = error; of_answer = (subject, offset, message); form = one }
 
 -- where none is left, all answers are printed
 pub all-printed : (wanted all left : List Answer) (errors : ℕ) (output : List ℕ) → all ≡ wanted → left ≡ [] → ArePrinted all left errors output

@@ -14,7 +14,7 @@ use json::Value;
 use rpc_messages::{Piece, answer};
 use std::alloc::{AllocError, Global};
 
-// Adds a place in a document.
+// Adds a location in a document.
 fn push_location<'p>(
     pieces: &mut Vec<Piece<'p>>,
     positions: &Positions<'_>,
@@ -26,7 +26,7 @@ fn push_location<'p>(
     pieces.extend_from_slice(&[Piece::EndObject])
 }
 
-/// Adds the result of definition: the place of the definition of the name at a byte offset, or null. It fails only where memory is refused.
+/// Adds the result of definition: the location of the definition of the name at a byte offset, or null. It fails only where memory is refused.
 pub fn push_definition<'p>(
     pieces: &mut Vec<Piece<'p>>,
     root: SyntaxNode<'_>,
@@ -40,7 +40,7 @@ pub fn push_definition<'p>(
     }
 }
 
-// Adds a list of places in a document.
+// Adds a list of locations in a document.
 fn push_locations<'p>(
     pieces: &mut Vec<Piece<'p>>,
     positions: &Positions<'_>,
@@ -54,7 +54,7 @@ fn push_locations<'p>(
     pieces.extend_from_slice(&[Piece::EndArray])
 }
 
-/// Adds the result of references: the places of the name at a byte offset, its definitions too when `with_definition` says so. It fails only where
+/// Adds the result of references: the locations of the name at a byte offset, its definitions too when `with_definition` says so. It fails only where
 /// memory is refused.
 pub fn push_references<'p>(
     alloc: Global,

@@ -87,7 +87,7 @@ fn push_parts(
     pieces.resize(ended, Piece::EndObject)
 }
 
-// Adds the parts around a place, the smallest first. At the end of the text there is none but that end.
+// Adds the parts around an offset, the smallest first. At the end of the text there is none but that end.
 fn push_selection(
     alloc: Global,
     pieces: &mut Vec<Piece<'_>>,

@@ -41,14 +41,14 @@ fn push_symbol<'t>(
     pieces.extend_from_slice(&[Piece::Key("children"), Piece::Array])
 }
 
-// Ends the symbols that are open and end before a place, by where they end. These ends never rise.
+// Ends the symbols that are open and end before an offset, by where they end. These ends never rise.
 fn push_ends(
     pieces: &mut Vec<Piece<'_>>,
     open: &mut Vec<usize>,
-    place: usize,
+    offset: usize,
 ) -> Result<(), AllocError> {
     while let Some(end) = open.last().copied() {
-        if place < end {
+        if offset < end {
             break;
         }
         open.pop();

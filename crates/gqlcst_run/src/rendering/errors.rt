@@ -27,7 +27,7 @@ pub fn put_error<A: Allocator, W: Sink>(buffer: &mut OutputBuffer, writer: &mut 
     let start = error.index();
     let data = error.data();
     buffer.put_str(writer, "ERROR@");
-    buffer.put_place(writer, start, data.len());
+    buffer.put_span(writer, start, data.len());
     buffer.put_str(writer, " ");
     buffer.put_quoted(writer, error.message());
     buffer.put_str(writer, " ");

@@ -1,4 +1,4 @@
-// Texts, numbers and places, put in a buffer.
+// Texts, numbers and offsets, put in a buffer.
 ghost use Rattle.std.specs.Prelude.{◌+◌, ◌++◌, codes, decimal};
 
 use crate::output_buffer::OutputBuffer;
@@ -34,7 +34,7 @@ impl OutputBuffer {
 
     /// Puts the bytes from where to where a text of an error is, as `5:10`. The sum is made in 128 bits, since no contract of an error says that it fits
     /// in fewer.
-    pub fn put_place<W: Sink>(&mut self, writer: &mut W, start: usize, len: usize)
+    pub fn put_span<W: Sink>(&mut self, writer: &mut W, start: usize, len: usize)
         ensures { Puts (self.old, W.account writer.old) (decimal start ++ (codes ":" ++ decimal (start + len))) (self.new, W.account writer.new) }
     {
         self.put_number(writer, start);

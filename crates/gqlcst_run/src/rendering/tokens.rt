@@ -1,7 +1,7 @@
 // The output of mode tokens.
 ghost use Rattle.std.specs.Prelude.{◌≡◌, ◌+◌, [], ◌∷◌};
 ghost use Rattle.apollo_parser.specs.LexerAnswers.{answer_of, answers_left, error_answer};
-ghost use Rattle.apollo_parser.specs.Printed.{place_text, token_text};
+ghost use Rattle.apollo_parser.specs.Printed.{range_text, token_text};
 ghost use Rattle.gqlcst_run.specs.Buffering.{Puts, PutsSome};
 ghost use Rattle.gqlcst_run.specs.Parsing.{finding_of};
 ghost use Rattle.gqlcst_run.specs.Rendering.{AreLines, IsAnswerForm, IsForm, error_count};
@@ -18,24 +18,24 @@ use byte_devices::Sink;
 fn put_head<W: Sink>(
     buffer: &mut OutputBuffer,
     writer: &mut W,
-    place: &mut Digits,
+    offset: &mut Digits,
     name: &str,
     start: usize,
     len: usize,
 )
-    ensures { Puts (buffer.old, W.account writer.old) (place_text name.now start (start + len)) (buffer.new, W.account writer.new) }
+    ensures { Puts (buffer.old, W.account writer.old) (range_text name.now start (start + len)) (buffer.new, W.account writer.new) }
 {
-    place.move_to(start as u128);
-    buffer.put_four(writer, name.as_bytes(), b"@", place.digits(), b":");
-    place.move_to(start as u128 + len as u128);
-    buffer.put(writer, place.digits());
+    offset.move_to(start as u128);
+    buffer.put_four(writer, name.as_bytes(), b"@", offset.digits(), b":");
+    offset.move_to(start as u128 + len as u128);
+    buffer.put(writer, offset.digits());
 }
 
 // Puts the printed form of a token.
 fn put_token<W: Sink>(
     buffer: &mut OutputBuffer,
     writer: &mut W,
-    place: &mut Digits,
+    offset: &mut Digits,
     token: Token<'_>,
 )
     ensures { PutsSome (IsForm (token_text token.entry.kind token.entry.text.now token.entry.index)) (buffer.old, W.account writer.old) (buffer.new, W.account writer.new) }
@@ -44,7 +44,7 @@ fn put_token<W: Sink>(
     put_head(
         buffer,
         writer,
-        place,
+        offset,
         token.name(),
         token.index(),
         text.len(),
@@ -59,14 +59,14 @@ fn put_token<W: Sink>(
 fn put_lex_error<W: Sink>(
     buffer: &mut OutputBuffer,
     writer: &mut W,
-    place: &mut Digits,
+    offset: &mut Digits,
     error: LexError<'_>,
 )
     ensures { PutsSome (IsAnswerForm (error_answer error.entry.is_limit error.entry.text.now error.entry.index)) (buffer.old, W.account writer.old) (buffer.new, W.account writer.new) }
 {
     let text = error.data();
     let (front, quoted, back) = error.message_parts();
-    put_head(buffer, writer, place, "ERROR", error.index(), text.len());
+    put_head(buffer, writer, offset, "ERROR", error.index(), text.len());
     buffer.put_str(writer, " ");
     buffer.put_quoted_parts(writer, front, quoted, back);
     buffer.put_str(writer, " ");
@@ -77,7 +77,7 @@ fn put_lex_error<W: Sink>(
 fn put_item<W: Sink>(
     buffer: &mut OutputBuffer,
     writer: &mut W,
-    place: &mut Digits,
+    offset: &mut Digits,
     item: Result<Token<'_>, LexError<'_>>,
 ) -> usize
     ensures puts { PutsSome (IsAnswerForm (answer_of item.entry)) (buffer.old, W.account writer.old) (buffer.new, W.account writer.new) }
@@ -85,11 +85,11 @@ fn put_item<W: Sink>(
 {
     match item {
         Ok(token) => {
-            put_token(buffer, writer, place, token);
+            put_token(buffer, writer, offset, token);
             0
         }
         Err(error) => {
-            put_lex_error(buffer, writer, place, error);
+            put_lex_error(buffer, writer, offset, error);
             1
         }
     }
@@ -101,10 +101,10 @@ pub fn put_tokens<W: Sink>(buffer: &mut OutputBuffer, writer: &mut W, items: Lex
     ensures finding { result ≡ finding_of (error_count (answers_left items.entry)) }
 {
     answers_fit(&items);
-    let mut place = Digits::new();
+    let mut offset = Digits::new();
     let mut errors = 0;
     for item in items {
-        errors += put_item(buffer, writer, &mut place, item);
+        errors += put_item(buffer, writer, &mut offset, item);
         buffer.put_str(writer, "\n");
     }
     finding_of(errors)

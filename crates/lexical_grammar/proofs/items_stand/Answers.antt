@@ -1,4 +1,4 @@
-use Rattle.lexical_grammar.proofs.Places.{item-stands}
+use Rattle.lexical_grammar.proofs.Offsets.{item-stands}
 use Rattle.lexical_grammar.proofs.items_stand.Goals as goal
 
 pub returns : goal.returns
