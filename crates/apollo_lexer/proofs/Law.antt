@@ -38,9 +38,9 @@ unless-are true allowed offset source = none_are allowed where
   none_are (suc n) = tt
 unless-are false allowed offset source = limited-are allowed offset 0 source
 
-pub answers-are : (l : Lexer) → AreAnswers (answers_left l)
+pub answers-are-items : (l : Lexer) → AreAnswers (answers_left l)
 unfolding answers_left items_left
-answers-are l = unless-are l.is_finished (l.limit_tracker.limit - l.limit_tracker.current) l.index l.rest.now
+answers-are-items l = unless-are l.is_finished (l.limit_tracker.limit - l.limit_tracker.current) l.index l.rest.now
 
 -- ---- how many there are
 
@@ -71,6 +71,6 @@ unless-few : (done : Bool) (allowed offset : ℕ) (source : List ℕ) → length
 unless-few true allowed offset source h = omega (arith, limited-length allowed [])
 unless-few false allowed offset source h = omega (arith, limited-length allowed (items_from offset 0 source), few-from offset 0 source, h)
 
-pub answers-few : (l : Lexer) → length (answers_left l) < 2 ^ 64
+pub answers-fit : (l : Lexer) → length (answers_left l) < 2 ^ 64
 unfolding answers_left items_left
-answers-few l = unless-few l.is_finished (l.limit_tracker.limit - l.limit_tracker.current) l.index l.rest.now (omega (arith, l.in_range))
+answers-fit l = unless-few l.is_finished (l.limit_tracker.limit - l.limit_tracker.current) l.index l.rest.now (omega (arith, l.in_range))

@@ -52,9 +52,9 @@ item-in offset (first ∷ before) item next more cut =
     let there = item-in (offset + length first.text) before item next more rest.2 in
     (omega (arith, there.0, length-append first.text (texts before)), there.1)
 
-pub item-stands : (source : List ℕ) (before : List Item) (item next : Item) (more : List Item) → Cut source (before ++ item ∷ next ∷ more)
+pub items-stand : (source : List ℕ) (before : List Item) (item next : Item) (more : List Item) → Cut source (before ++ item ∷ next ∷ more)
     → StandsIn source (length (texts before)) item
-item-stands source before item next more cut =
+items-stand source before item next more cut =
     let here = item-in 0 before item next more cut.each in
     let after = texts (next ∷ more) in
     let joined : texts before ++ (item.text ++ after) ≡ source = sym (texts-append before (item ∷ next ∷ more)) ∙ cut.joined in
