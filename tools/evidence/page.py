@@ -18,7 +18,7 @@ PARTS = {
     "`gqlfmt`": """gqlfmt_files/src/settling.rt program_words/src/gqlfmt.rt gqlfmt_run/src/input.rt gqlfmt_run/src/paths.rt gqlfmt_run/src/program.rt""",
     "C, Python and the page": """dumyroke_flat/src/parse.rt dumyroke_flat/src/items.rt dumyroke_flat/src/strings.rt dumyroke_flat/src/format.rt
         dumyroke_flat/src/laws.rt dumyroke_c/src/lib.rt""",
-    "places, and `gqlls`": """line_index/src/lib.rt editor_text/src/lib.rt rpc_frames/src/lib.rt rpc_messages/src rpc_serving/src editor_diagnostics/src
+    "positions, and `gqlls`": """line_index/src/lib.rt editor_text/src/lib.rt rpc_frames/src/lib.rt rpc_messages/src rpc_serving/src editor_diagnostics/src
         editor_answers/src gqlls_run/src/server.rt gqlls_run/src/running.rt""",
 }
 # Laws, and calls between crates: the page has their lemmas, and no definitions are listed for them.

@@ -65,7 +65,7 @@ all-passed last (b ∷ bs) none =
 pub part-open : (text : List ℕ) → Nowhere (Passes (is_byte2 34 92) text) 0 (length text) → (last : LexFault) → last_fault last 0 text ≡ UnterminatedString
 part-open text none last = all-passed last text (λ k lt. none k (omega arith) lt)
 
--- the characters before the place, and the fault that they leave
+-- the characters before the offset, and the fault that they leave
 before : (text : List ℕ) (i : ℕ) (fault : Option LexFault) → FirstAt (is_byte2 34 92) text i
     → ((last : LexFault) → or_last fault last ≡ after_characters last (take i text))
     → (last : LexFault) → last_fault last 0 text ≡ last_fault (or_last fault last) 0 (drop i text)

@@ -18,17 +18,17 @@ max-next : (n : ℕ) → max n (n + 1) ≡ n + 1
 max-next n = grind (arith, nat_tests)
 
 -- the first item, and the items of the text after it
-pub first-then : (place : ℕ) (source : List ℕ) → 0 < length source → 0 < (first_item source).1 → (first_item source).1 ≤ length source
-    → items_from place 0 source ≡ record { kind = (first_item source).0; text = take (first_item source).1 source; index = place }
-    ∷ items_from (place + (first_item source).1) 0 (drop (first_item source).1 source)
-first-then place [] some one within = absurd (omega arith)
-first-then place (b ∷ bs) some one within = TheCut.first-then place b bs one within
+pub first-then : (offset : ℕ) (source : List ℕ) → 0 < length source → 0 < (first_item source).1 → (first_item source).1 ≤ length source
+    → items_from offset 0 source ≡ record { kind = (first_item source).0; text = take (first_item source).1 source; index = offset }
+    ∷ items_from (offset + (first_item source).1) 0 (drop (first_item source).1 source)
+first-then offset [] some one within = absurd (omega arith)
+first-then offset (b ∷ bs) some one within = TheCut.first-then offset b bs one within
 
 -- at the end
-pub end-then : (place : ℕ) (source : List ℕ) → length source ≡ 0 → items_from place 0 source ≡ end_at place ∷ []
+pub end-then : (offset : ℕ) (source : List ℕ) → length source ≡ 0 → items_from offset 0 source ≡ end_at offset ∷ []
 unfolding items_from
-end-then place [] e = refl
-end-then place (b ∷ bs) e = absurd (omega arith)
+end-then offset [] e = refl
+end-then offset (b ∷ bs) e = absurd (omega arith)
 
 -- what a lexer answers next, where it has more to give, and where it has not
 pub limited-some : (allowed : ℕ) (item : Item) (items : List Item) → 0 < allowed → limited allowed (item ∷ items) ≡ gives item ∷ limited (allowed - 1) items
@@ -40,58 +40,58 @@ limited_none zero item items e = refl
 limited_none (suc n) item items e = absurd (omega arith)
 
 -- the first item is not the end
-not_end : (kind : TokenKind) (place : ℕ) → (kind ≡ Eof → ⊥) → limit_index_at (Some kind) place ≡ place
-not_end Eof place h = absurd (h refl)
-not_end _ place h = refl
+not_end : (kind : TokenKind) (offset : ℕ) → (kind ≡ Eof → ⊥) → limit_index_at (Some kind) offset ≡ offset
+not_end Eof offset h = absurd (h refl)
+not_end _ offset h = refl
 
 token-not-end : (kind : TokenKind) (text : List ℕ) → Tok kind text → kind ≡ Eof → ⊥
 token-not-end kind text tok e = subst (λ k. Tok k text) e tok
 
-first-not-end : (place : ℕ) (source : List ℕ) (found : Option (TokenKind × ℕ)) → token_at source ≡ found
-    → limit_index_at (item_of_token source found).0 place ≡ place
-first-not-end place source None e = refl
-first-not-end place source (Some token) e = not_end token.0 place (token-not-end token.0 (take token.1 source) (sound source token.0 token.1 e).stands.token)
+first-not-end : (offset : ℕ) (source : List ℕ) (found : Option (TokenKind × ℕ)) → token_at source ≡ found
+    → limit_index_at (item_of_token source found).0 offset ≡ offset
+first-not-end offset source None e = refl
+first-not-end offset source (Some token) e = not_end token.0 offset (token-not-end token.0 (take token.1 source) (sound source token.0 token.1 e).stands.token)
 
 -- the limit is met
-limit-met : (count limit place : ℕ) (source : List ℕ) → limit < count + 1 → 0 < length source
-    → limited (limit - count) (items_from place 0 source) ≡ limit_at place ∷ []
+limit-met : (count limit offset : ℕ) (source : List ℕ) → limit < count + 1 → 0 < length source
+    → limited (limit - count) (items_from offset 0 source) ≡ limit_at offset ∷ []
 unfolding items_from
-limit-met count limit place [] met some = absurd (omega arith)
-limit-met count limit place (b ∷ bs) met some =
-    limited_none (limit - count) (record { kind = (first_item (b ∷ bs)).0; text = take (first_item (b ∷ bs)).1 (b ∷ bs); index = place })
-    (items_from (1 + place) ((first_item (b ∷ bs)).1 - 1) bs) (omega arith)
-    ∙ ap (λ n. limit_at n ∷ []) (first-not-end place (b ∷ bs) (token_at (b ∷ bs)) refl)
+limit-met count limit offset [] met some = absurd (omega arith)
+limit-met count limit offset (b ∷ bs) met some =
+    limited_none (limit - count) (record { kind = (first_item (b ∷ bs)).0; text = take (first_item (b ∷ bs)).1 (b ∷ bs); index = offset })
+    (items_from (1 + offset) ((first_item (b ∷ bs)).1 - 1) bs) (omega arith)
+    ∙ ap (λ n. limit_at n ∷ []) (first-not-end offset (b ∷ bs) (token_at (b ∷ bs)) refl)
 
-limit-met-end : (count limit place : ℕ) (source : List ℕ) → limit < count + 1 → length source ≡ 0
-    → limited (limit - count) (items_from place 0 source) ≡ limit_at (place - 1) ∷ []
-limit-met-end count limit place source met none =
-    ap (limited (limit - count)) (end-then place source none) ∙ limited_none (limit - count) (end_at place) [] (omega arith)
+limit-met-end : (count limit offset : ℕ) (source : List ℕ) → limit < count + 1 → length source ≡ 0
+    → limited (limit - count) (items_from offset 0 source) ≡ limit_at (offset - 1) ∷ []
+limit-met-end count limit offset source met none =
+    ap (limited (limit - count)) (end-then offset source none) ∙ limited_none (limit - count) (end_at offset) [] (omega arith)
 
 some-more : (n : ℕ) → 0 < n → eqb n 0 ≡ false
 some-more n h = grind (arith, nat_tests)
 
-pub limit-met-at : (count limit place : ℕ) (source : List ℕ) → limit < count + 1
-    → limited (limit - count) (items_from place 0 source) ≡ limit_at (cond (eqb (length source) 0) (place - 1) place) ∷ []
-limit-met-at count limit place [] met = limit-met-end count limit place [] met refl
-limit-met-at count limit place (b ∷ bs) met = rw (some-more (length (b ∷ bs)) (omega arith)) (limit-met count limit place (b ∷ bs) met (omega arith))
+pub limit-met-at : (count limit offset : ℕ) (source : List ℕ) → limit < count + 1
+    → limited (limit - count) (items_from offset 0 source) ≡ limit_at (cond (eqb (length source) 0) (offset - 1) offset) ∷ []
+limit-met-at count limit offset [] met = limit-met-end count limit offset [] met refl
+limit-met-at count limit offset (b ∷ bs) met = rw (some-more (length (b ∷ bs)) (omega arith)) (limit-met count limit offset (b ∷ bs) met (omega arith))
 
 -- the end comes
-pub end-comes : (count limit place : ℕ) (source : List ℕ) → count + 1 ≤ limit → length source ≡ 0
-    → limited (limit - count) (items_from place 0 source) ≡ gives (end_at place) ∷ []
-end-comes count limit place source more none =
-    ap (limited (limit - count)) (end-then place source none) ∙ limited-some (limit - count) (end_at place) [] (omega arith)
-    ∙ ap (λ l. gives (end_at place) ∷ l) (limited-end (limit - count - 1))
+pub end-comes : (count limit offset : ℕ) (source : List ℕ) → count + 1 ≤ limit → length source ≡ 0
+    → limited (limit - count) (items_from offset 0 source) ≡ gives (end_at offset) ∷ []
+end-comes count limit offset source more none =
+    ap (limited (limit - count)) (end-then offset source none) ∙ limited-some (limit - count) (end_at offset) [] (omega arith)
+    ∙ ap (λ l. gives (end_at offset) ∷ l) (limited-end (limit - count - 1))
 
 -- an item is given, and those of the text after it are left
-pub items-next : (place : ℕ) (source text after : List ℕ) (kind : Option TokenKind) → 0 < length source
+pub items-next : (offset : ℕ) (source text after : List ℕ) (kind : Option TokenKind) → 0 < length source
     → kind ≡ (first_item source).0 → text ≡ take (first_item source).1 source → after ≡ drop (first_item source).1 source
     → 0 < (first_item source).1 → (first_item source).1 + length after ≡ length source
-    → items_from place 0 source ≡ record { kind = kind; text = text; index = place } ∷ items_from (place + length text) 0 after
-items-next place source text after kind some k t a one within =
+    → items_from offset 0 source ≡ record { kind = kind; text = text; index = offset } ∷ items_from (offset + length text) 0 after
+items-next offset source text after kind some k t a one within =
     let n = (first_item source).1 in
     let len : length text ≡ n = ap (λ (l : List ℕ). length l) t ∙ length-take-le n source (omega arith) in
-    first-then place source some one (omega arith)
-    ∙ (λ i. record { kind = sym k i; text = sym t i; index = place } ∷ items_from (place + sym len i) 0 (sym a i))
+    first-then offset source some one (omega arith)
+    ∙ (λ i. record { kind = sym k i; text = sym t i; index = offset } ∷ items_from (offset + sym len i) 0 (sym a i))
 
 -- an item comes
 pub item-comes : (limit count next_limit next_count : ℕ) (item : Item) (items rest left : List Item) → count + 1 ≤ limit → next_limit ≡ limit

@@ -21,26 +21,26 @@ item-last : (source : List ℕ) (found : Option (TokenKind × ℕ)) (rest : List
 item-last source None rest e = tt
 item-last source (Some token) rest e = not-last token.0 (take token.1 source) rest (sound source token.0 token.1 e).stands.token
 
-limited-are : (allowed place inside : ℕ) (source : List ℕ) → AreAnswers (limited allowed (items_from place inside source))
+limited-are : (allowed offset inside : ℕ) (source : List ℕ) → AreAnswers (limited allowed (items_from offset inside source))
 unfolding items_from
-limited-are zero place inside [] = refl
-limited-are (suc zero) place inside [] = (refl, (λ e. refl), tt)
-limited-are (suc (suc n)) place inside [] = (refl, (λ e. refl), tt)
-limited-are allowed place (suc inside) (b ∷ bs) = limited-are allowed (1 + place) inside bs
-limited-are zero place zero (b ∷ bs) = refl
-limited-are (suc n) place zero (b ∷ bs) =
-    (item-text (b ∷ bs) (token_at (b ∷ bs)) refl, item-last (b ∷ bs) (token_at (b ∷ bs)) _ refl, limited-are n (1 + place) ((first_item (b ∷ bs)).1 - 1) bs)
+limited-are zero offset inside [] = refl
+limited-are (suc zero) offset inside [] = (refl, (λ e. refl), tt)
+limited-are (suc (suc n)) offset inside [] = (refl, (λ e. refl), tt)
+limited-are allowed offset (suc inside) (b ∷ bs) = limited-are allowed (1 + offset) inside bs
+limited-are zero offset zero (b ∷ bs) = refl
+limited-are (suc n) offset zero (b ∷ bs) =
+    (item-text (b ∷ bs) (token_at (b ∷ bs)) refl, item-last (b ∷ bs) (token_at (b ∷ bs)) _ refl, limited-are n (1 + offset) ((first_item (b ∷ bs)).1 - 1) bs)
 
-unless-are : (done : Bool) (allowed place : ℕ) (source : List ℕ) → AreAnswers (limited allowed (if done then [] else items_from place 0 source))
-unless-are true allowed place source = none_are allowed where
+unless-are : (done : Bool) (allowed offset : ℕ) (source : List ℕ) → AreAnswers (limited allowed (if done then [] else items_from offset 0 source))
+unless-are true allowed offset source = none_are allowed where
   none_are : (allowed : ℕ) → AreAnswers (limited allowed [])
   none_are zero = tt
   none_are (suc n) = tt
-unless-are false allowed place source = limited-are allowed place 0 source
+unless-are false allowed offset source = limited-are allowed offset 0 source
 
-pub answers-are : (l : Lexer) → AreAnswers (answers_left l)
+pub answers-are-items : (l : Lexer) → AreAnswers (answers_left l)
 unfolding answers_left items_left
-answers-are l = unless-are l.is_finished (l.limit_tracker.limit - l.limit_tracker.current) l.index l.rest.now
+answers-are-items l = unless-are l.is_finished (l.limit_tracker.limit - l.limit_tracker.current) l.index l.rest.now
 
 -- ---- how many there are
 
@@ -60,17 +60,17 @@ limited-length zero (item ∷ items) = sym (min-one (length items))
 limited-length (suc limit) (item ∷ items) = omega (arith, limited-length limit items, min-next (length items) (limit + 1))
 
 -- an item but the end takes a byte
-pub few-from : (place inside : ℕ) (source : List ℕ) → length (items_from place inside source) ≤ length source + 1
+pub few-from : (offset inside : ℕ) (source : List ℕ) → length (items_from offset inside source) ≤ length source + 1
 unfolding items_from
-few-from place inside [] = omega arith
-few-from place (suc inside) (b ∷ bs) = let h = few-from (1 + place) inside bs in omega (arith, h)
-few-from place zero (b ∷ bs) = let h = few-from (1 + place) ((first_item (b ∷ bs)).1 - 1) bs in omega (arith, h)
+few-from offset inside [] = omega arith
+few-from offset (suc inside) (b ∷ bs) = let h = few-from (1 + offset) inside bs in omega (arith, h)
+few-from offset zero (b ∷ bs) = let h = few-from (1 + offset) ((first_item (b ∷ bs)).1 - 1) bs in omega (arith, h)
 
-unless-few : (done : Bool) (allowed place : ℕ) (source : List ℕ) → length source < 2 ^ 63
-    → length (limited allowed (if done then [] else items_from place 0 source)) < 2 ^ 64
-unless-few true allowed place source h = omega (arith, limited-length allowed [])
-unless-few false allowed place source h = omega (arith, limited-length allowed (items_from place 0 source), few-from place 0 source, h)
+unless-few : (done : Bool) (allowed offset : ℕ) (source : List ℕ) → length source < 2 ^ 63
+    → length (limited allowed (if done then [] else items_from offset 0 source)) < 2 ^ 64
+unless-few true allowed offset source h = omega (arith, limited-length allowed [])
+unless-few false allowed offset source h = omega (arith, limited-length allowed (items_from offset 0 source), few-from offset 0 source, h)
 
-pub answers-few : (l : Lexer) → length (answers_left l) < 2 ^ 64
+pub answers-fit : (l : Lexer) → length (answers_left l) < 2 ^ 64
 unfolding answers_left items_left
-answers-few l = unless-few l.is_finished (l.limit_tracker.limit - l.limit_tracker.current) l.index l.rest.now (omega (arith, l.in_range))
+answers-fit l = unless-few l.is_finished (l.limit_tracker.limit - l.limit_tracker.current) l.index l.rest.now (omega (arith, l.in_range))

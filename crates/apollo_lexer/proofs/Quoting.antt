@@ -4,7 +4,7 @@ use Rattle.std.proofs.Math.Seq.{drop-append_seam, take-append_seam}
 use Rattle.std.proofs.lemmas.Str.{IsCharBoundary-at_seam, IsUtf8-append}
 use Rattle.apollo_lexer.specs.Subjects.{part, IsPart}
 
--- the second of three pieces lies between two places of a text
+-- the second of three pieces lies between two offsets of a text
 middle-is-part : (a t c m : List ℕ) (start end : ℕ) → m ≡ a ++ t ++ c → start ≡ length a → end ≡ length (a ++ t) → IsUtf8 t → IsUtf8 c → IsPart start end m
 middle-is-part a t c m start end e s f u v =
     let first = IsCharBoundary-at_seam m a (t ++ c) (e ∙ append_assoc a t c) (IsUtf8-append t c u v) in

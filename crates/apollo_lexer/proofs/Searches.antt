@@ -88,7 +88,7 @@ at-other : (tail : List ℕ) → 0 < length tail → begins triple_quote tail �
 at-other [] some h g = absurd (omega arith)
 at-other (b ∷ bs) some h g = rw (h, g) (map-one (block_len 0 bs))
 
--- the part of a search that ends at a place
+-- the part of a search that ends at an offset
 abbrev pub FirstAt : (ℕ → Bool) → List ℕ → ℕ → Type 0
 FirstAt p text i = NoneBefore (Passes p text) 0 (length text) i × Passes p text i
 

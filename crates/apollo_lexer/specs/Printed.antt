@@ -35,13 +35,13 @@ token_name Int = codes "INT"
 token_name Float = codes "FLOAT"
 
 -- a name, and from where to where
-abbrev pub place_text : List ℕ → ℕ → ℕ → List ℕ
-place_text name start end = name ++ (codes "@" ++ (decimal start ++ (codes ":" ++ decimal end)))
+abbrev pub range_text : List ℕ → ℕ → ℕ → List ℕ
+range_text name start end = name ++ (codes "@" ++ (decimal start ++ (codes ":" ++ decimal end)))
 
 -- as `NAME@5:10 "Query"`, and `EOF@3:3` for the end
 abbrev pub token_text : TokenKind → List ℕ → ℕ → Option (List ℕ)
-token_text Eof text index = Some (place_text (token_name Eof) index (index + length text))
-token_text kind text index = Some (place_text (token_name kind) index (index + length text)) ++? (Some (codes " ") ++? debug_str text)
+token_text Eof text index = Some (range_text (token_name Eof) index (index + length text))
+token_text kind text index = Some (range_text (token_name kind) index (index + length text)) ++? (Some (codes " ") ++? debug_str text)
 
 abbrev pub subject_shown : Subject → List ℕ
 subject_shown (of_text text) = text
@@ -50,5 +50,5 @@ subject_shown of_limit = codes ""
 
 -- as `ERROR@5:6 "expected COLON, got )" )`
 abbrev pub error_text : Diagnostic → Option (List ℕ)
-error_text d = Some (place_text (codes "ERROR") d.index (diagnostic_end d)) ++?
+error_text d = Some (range_text (codes "ERROR") d.index (diagnostic_end d)) ++?
     (Some (codes " ") ++? (debug_str d.message ++? (Some (codes " ") ++? Some (subject_shown d.subject))))

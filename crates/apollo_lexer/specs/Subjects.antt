@@ -11,7 +11,7 @@ abbrev pub words_text : {A : Type 0} → MessageText A → List ℕ
 words_text (Static text) = text.now
 words_text (Owned text) = string_bytes text
 
--- what lies between two places of a text
+-- what lies between two offsets of a text
 abbrev pub part : ℕ → ℕ → List ℕ → List ℕ
 part start end text = take (end - start) (drop start text)
 
@@ -35,7 +35,7 @@ subject_of (Text message text) = of_text (string_bytes text)
 subject_of (Eof words) = of_end
 subject_of (LimitExceeded words) = of_limit
 
--- both places are between characters
+-- both offsets are between characters
 abbrev pub IsPart : ℕ → ℕ → List ℕ → Type 0
 IsPart start end text = (start ≤ end) × IsCharBoundary text start × IsCharBoundary text end
 

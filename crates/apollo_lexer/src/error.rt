@@ -22,7 +22,7 @@ pub struct Error<A: Allocator = Global> {
     index: usize,
 }
 
-// Two owned texts, a place, and which sort of error it is.
+// Two owned texts, an offset, and which sort of error it is.
 const _: () = prove!(size_of::<Error<Global>>() == 64);
 
 impl<A: Allocator> Model for Error<A> {

@@ -55,7 +55,7 @@ impl<A: Allocator> MessageText<A> {
     }
 }
 
-// What lies between two places of a text.
+// What lies between two offsets of a text.
 fn part(text: &str, start: usize, end: usize) -> &str
     requires { IsPart start end text.now }
     ensures { result.now ≡ part start end text.now }

@@ -14,7 +14,7 @@ pub struct LexError<'a> {
     pub(crate) text: &'a str,
     pub(crate) index: usize,
     pub(crate) is_limit: bool,
-    // where it ends is a place
+    // where it ends is an offset
     ghost in_range: { index + length text.now < 2 ^ 64 },
     ghost no_text: { IsTrue is_limit → text.now ≡ [] },
 }

@@ -1,7 +1,7 @@
 // How far strings go: from one quote or backslash to the next, and in a quoted string no farther than its line.
 //
 // A search ends within the text that it is found to belong to, or at the end of the whole text, which is then bad text to its end. None is
-// repeated from a place that was passed, but for one: where a quoted string turns out to be bad, its end is searched for from its opening
+// repeated from an offset that was passed, but for one: where a quoted string turns out to be bad, its end is searched for from its opening
 // quote again, and that end is no nearer than the last byte looked at. So no byte is looked at more than a fixed number of times, also in a
 // text of nothing but quotes, of bad strings or of backslashes.
 ghost use Rattle.std.specs.Prelude.{◌≡◌, ◌<◌, ◌≤◌, IfSome, Some, length};

@@ -34,10 +34,10 @@ module _ (xs : List Answer) (r n : ℕ) where
       let ran : Runs rule (allowing n (started xs r k)) t = subst (λ (z : State). Runs rule (flush z) t) (reads n xs (fresh xs r k)) run in
       subst (λ (z : State). Runs rule (flush z) (none t)) (sym (reads 0 xs (fresh xs r k))) (allowed 0 ran)
 
-  closes-allowed : (m place : ℕ) (k : SyntaxKind) {s t : State} → ClosesType place k s t → ClosesType place k (allowing m s) (allowing m t)
+  closes-allowed : (m index : ℕ) (k : SyntaxKind) {s t : State} → ClosesType index k s t → ClosesType index k (allowing m s) (allowing m t)
   unfolding holds closed wrapped_from
-  closes-allowed m place k (nullable b a) = nullable b (ap (allowing m) a)
-  closes-allowed m place k (non_null b run a) = non_null b (allowed m run) (ap (allowing m) a)
+  closes-allowed m index k (nullable b a) = nullable b (ap (allowing m) a)
+  closes-allowed m index k (non_null b run a) = non_null b (allowed m run) (ap (allowing m) a)
 
   made-allowed : (m : ℕ) {s t : State} → RunsTypeRoot s t → RunsTypeRoot (allowing m s) (allowing m t)
   unfolding holds wrapped_from

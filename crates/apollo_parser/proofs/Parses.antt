@@ -141,8 +141,8 @@ module _ {source : List ℕ} {max_depth max_items : ℕ} {t : Parsed} (p : ByRul
   silent : t.errors ≡ [] → s.errors ≡ []
   silent = no-reports s.errors t.errors p.errors
 
-  same-places : map (λ (e : Diagnostic). e.index) t.errors ≡ map (λ (e : Report). e.index) s.errors
-  same-places = same-indices s.errors t.errors p.errors
+  same-offsets : map (λ (e : Diagnostic). e.index) t.errors ≡ map (λ (e : Report). e.index) s.errors
+  same-offsets = same-indices s.errors t.errors p.errors
 
   -- ---- its tree
 
@@ -208,7 +208,7 @@ module _ {source : List ℕ} {max_depth max_items : ℕ} {t : Parsed} (p : ByRul
   limit_messages = limit-worded t.errors in-answers p.errors
 
   pub in_order : IsNonDecreasing (map (λ e. e.index) t.errors)
-  in_order = subst IsNonDecreasing (sym same-places) (run-in-order max_items source items p.cut in-answers)
+  in_order = subst IsNonDecreasing (sym same-offsets) (run-in-order max_items source items p.cut in-answers)
 
   -- ---- no errors, and acceptance
 
@@ -285,7 +285,7 @@ module _ {source : List ℕ} {max_depth max_items : ℕ} {t : Parsed} (p : ByRul
         let here : kids ≡ built.join front later = sym (ap root_children one-tree) ∙ same in
         let g = run-goes-on max_depth max_items source items s p.cut p.run count taken read
         (over-tokens s.current (document-over p.run)) front later a u here whole spells nests in
-        (g.0, subst (NoneBeyond (a.item ∷ a.more)) (sym same-places) g.1)
+        (g.0, subst (NoneBeyond (a.item ∷ a.more)) (sym same-offsets) g.1)
 
   pub recovers : (Any IsLimit t.errors → ⊥) → Recovers max_depth items t
   recovers n = record { left_over = left-over n; row_symbols = row_symbols; goes_on = goes-on n }

@@ -55,9 +55,9 @@ pub record IsLimitWorded (error : Diagnostic) : Type 0 where
 -- ---- all errors
 
 -- The error is about this, which begins at this byte.
-pub record IsAbout (what : Subject) (place : ℕ) (error : Diagnostic) : Type 0 where
+pub record IsAbout (what : Subject) (offset : ℕ) (error : Diagnostic) : Type 0 where
   pub subject : error.subject ≡ what
-  pub index : error.index ≡ place
+  pub index : error.index ≡ offset
 
 -- What an error at this token is about: its text, or the end.
 abbrev pub subject_at : TokenKind → Text → Subject
@@ -112,16 +112,16 @@ pub data ErrorsAlong : Bool → List Answer → List Diagnostic → Type 0 where
 abbrev pub ErrorsOf : List Answer → List Diagnostic → Type 0
 ErrorsOf answers errors = ErrorsAlong true answers errors
 
--- ---- the first error, and errors at places
+-- ---- the first error, and errors at offsets
 
 -- What holds of the first error, if there is one.
 abbrev pub OfFirst : (Diagnostic → Type 0) → List Diagnostic → Type 0
 OfFirst P [] = ⊤
 OfFirst P (error ∷ errors) = P error
 
--- One of the errors is at the place, about the text there.
+-- One of the errors is at the offset, about the text there.
 abbrev pub HasError : List Diagnostic → ℕ → Text → Type 0
-HasError errors place text = Any (IsAbout (of_text text) place) errors
+HasError errors offset text = Any (IsAbout (of_text text) offset) errors
 
 -- ---- after errors
 
@@ -133,7 +133,7 @@ root_children (node k kids rest) = kids
 
 -- The parse goes on after its errors; `r` is the recursion limit, and the items are those of the text.
 pub record Recovers (r : ℕ) (items : List Item) (t : Parsed) : Type 0 where
-  -- each token that was left over has its error, with its place and its text, and is a child of the root, or of a list and not `]`, or its
+  -- each token that was left over has its error, with its offset and its text, and is a child of the root, or of a list and not `]`, or its
   -- node's only one
   pub left_over : LeftOver (HasError t.errors) items 0 (children_of (tree_of t.tree))
   -- each other child of a node but ignored, ERROR and SPREAD leaves is a symbol of its row

@@ -1,5 +1,6 @@
 -- The elements of a tree in twelve bytes.
-use Rattle.std.proofs.Common.{◌≡◌, ◌∙◌, ◌+◌, ◌-◌, ◌++◌, ℕ, zero, suc, ◌<◌, ◌≤◌, ◌^◌, List, [], ◌∷◌, length, map, take, set, get_or, ap, subst, refl, sym, None, ⊎_elim, arith}
+use Rattle.std.proofs.Common.{◌≡◌, ◌∙◌, ◌+◌, ◌-◌, ◌++◌, ℕ, zero, suc, ◌<◌, ◌≤◌, ◌^◌, List}
+use Rattle.std.proofs.Common.{[], ◌∷◌, length, map, take, set, get_or, ap, subst, refl, sym, ⊎_elim, arith}
 use Rattle.std.specs.Prelude.{unwrap_or}
 use Rattle.std.proofs.lemmas.Bool.{cases_lt}
 use Rattle.std.proofs.lemmas.List.{get_or-map, length-append, length-map, same_lists}
@@ -11,12 +12,11 @@ use Rattle.apollo_tree.specs.Compact.{compact, compact_elements, compact_from, c
 use Rattle.apollo_tree.specs.declared.compact.CompactElement.{CompactElement}
 use Rattle.apollo_tree.specs.Filled.{filled}
 use Rattle.apollo_tree.specs.Order.{Element, element, nowhere, order, tree_text}
-use Rattle.apollo_tree.specs.ReadBack.{length-records}
 use Rattle.apollo_tree.specs.Records.{forest}
 use Rattle.apollo_tree.specs.Table.{IsTable}
 use Rattle.apollo_tree.specs.Widened.{IsSmall}
 use Rattle.apollo_tree.proofs.Parents.{no-index, some-parent}
-use Rattle.apollo_tree.proofs.Places.{cut-of, kind-is, length-order, node_is, size-is, start-is}
+use Rattle.apollo_tree.proofs.Places.{cut-of, kind-is, length-table, node_is, size-is, start-is}
 use Rattle.apollo_tree.proofs.Spans.{children-span}
 use Rattle.apollo_tree.proofs.Widening.{packed-there}
 use Rattle.apollo_tree.proofs.Filling.{filled-by-one-more}
@@ -83,9 +83,6 @@ module _ (rs : List Record) (s : List ℕ) (t : IsTable rs s) where
   pub all-fit : length rs < 2 ^ 28 → length s < 2 ^ 31 → All IsSmall rs
   all-fit few short = All-from_get_or IsSmall rs none_there (λ i h. fits rs s t i h few short)
 
-  pub length-table : length rs ≡ length (order (forest s rs))
-  length-table = omega (arith, ap length t.table, length-records 0 0 (forest s rs), length-order 0 0 None (forest s rs))
-
   one-compact : (i : ℕ) (d : CompactElement) → i < length (map compact_record rs)
       → get_or (map compact_record rs) i d ≡ get_or (compact_elements (forest s rs)) i d
   one-compact i d h =
@@ -93,12 +90,12 @@ module _ (rs : List Record) (s : List ℕ) (t : IsTable rs s) where
       let here : Element = get_or (order (forest s rs)) i nowhere in
       let same : i ≡ 0 + i = omega arith in
       get_or-map compact_record rs i none_there d inside ∙ compact-is rs s t i inside ∙ ap (λ (n : ℕ). compact n here) same
-      ∙ sym (compact-there 0 i (order (forest s rs)) d (omega (arith, inside, length-table)))
+      ∙ sym (compact-there 0 i (order (forest s rs)) d (omega (arith, inside, length-table rs s t)))
 
   pub compacts-are : map compact_record rs ≡ compact_elements (forest s rs)
   compacts-are =
       same_lists (map compact_record rs) (compact_elements (forest s rs))
-      (omega (arith, length-map rs compact_record, length-table, length-compact 0 (order (forest s rs)))) one-compact
+      (omega (arith, length-map rs compact_record, length-table rs s t, length-compact 0 (order (forest s rs)))) one-compact
 
 -- one more record is written
 module _ {P : Type 0} (f : P → Record) (ps : List P) (i : ℕ) (p : P) (is : p ≡ get_or ps i p) (inside : i < length ps) where

@@ -3,7 +3,7 @@ use Rattle.std.proofs.Common.{◌≡◌, ℕ, zero, suc, ◌+◌, ◌-◌, List,
 use Rattle.std.proofs.lemmas.List.{append-nil, append_assoc}
 use Rattle.document_grammar.specs.declared.kind.SyntaxKind.{SyntaxKind}
 use Rattle.document_grammar.specs.Forests.{Forest, none, leaf, node, count, join}
-use Rattle.document_grammar.specs.Builds.{Open, Building, start, add_leaf, finish, close, wrap, front, back, open_count, IsPlace}
+use Rattle.document_grammar.specs.Builds.{Open, Building, start, add_leaf, finish, close, wrap, front, back, open_count, CanOpenAt}
 use Rattle.apollo_tree.specs.Brackets.{Bracket, Opening, Single, Closing, brackets, open_brackets, written, open_at}
 use Rattle.apollo_tree.specs.Sound.{CanFinish, FitsInnermost}
 use Rattle.document_grammar.proofs.Built.{join-front_back}
@@ -82,8 +82,8 @@ open-first k none = refl
 open-first k (leaf l s rest) = refl
 open-first k (node l kids rest) = refl
 
-pub written-wrap : (p : ℕ) (k : SyntaxKind) (b : Building) → IsPlace p b → written (wrap p k b) ≡ open_at p k (written b)
-written-wrap p k b place =
+pub written-wrap : (p : ℕ) (k : SyntaxKind) (b : Building) → CanOpenAt p b → written (wrap p k b) ≡ open_at p k (written b)
+written-wrap p k b can_open =
     let n = p - open_count b.above in
     let f = front n b.here in
     let g = back n b.here in
@@ -91,7 +91,7 @@ written-wrap p k b place =
     let whole : written b ≡ xs ++ brackets g = ap (λ x. open_brackets b.above ++ brackets x) (sym (join-front_back n b.here))
     ∙ ap (λ x. open_brackets b.above ++ x) (brackets-join f g) ∙ sym (append_assoc (open_brackets b.above) (brackets f) (brackets g)) in
     let l : p ≡ elements xs = sym (elements-append (open_brackets b.above) (brackets f)
-    ∙ omega (arith, elements-open b.above, elements-brackets f, place.inside, place.seam)) in
+    ∙ omega (arith, elements-open b.above, elements-brackets f, can_open.inside, can_open.seam)) in
     sym (ap (open_at p k) whole ∙ open-past p k xs (brackets g) l ∙ ap (λ x. xs ++ x) (open-first k g)
     ∙ sym (ap (λ x. x ++ brackets g) (sym (append_assoc (open_brackets b.above) (brackets f) (Opening k ∷ [])))
     ∙ append_assoc xs (Opening k ∷ []) (brackets g)))

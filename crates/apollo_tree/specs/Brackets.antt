@@ -1,4 +1,4 @@
--- The builder's calls as brackets: start opens, finish closes, and wrap opens at an earlier place.
+-- The builder's calls as brackets: start opens, finish closes, and wrap opens at an earlier index.
 use Rattle.std.specs.Prelude.{ℕ, zero, suc, List, [], ◌∷◌, ◌++◌}
 use Rattle.document_grammar.specs.declared.kind.SyntaxKind.{SyntaxKind}
 use Rattle.document_grammar.specs.Forests.{Forest, none, leaf, node}

@@ -5,7 +5,7 @@ ghost use Rattle.apollo_tree.specs.Brackets.{Opening, Single, Closing, brackets,
 ghost use Rattle.apollo_tree.specs.Children.{tiled};
 ghost use Rattle.apollo_tree.specs.Adopted.{after_adoption};
 ghost use Rattle.document_grammar.specs.Forests.{Forest, none, leaf as leaf_of};
-ghost use Rattle.document_grammar.specs.Builds.{nothing, start, add_leaf, finish, wrap, IsPlace, built_count, built_text};
+ghost use Rattle.document_grammar.specs.Builds.{nothing, start, add_leaf, finish, wrap, CanOpenAt, built_count, built_text};
 
 use crate::record::Record;
 use crate::subtree::Subtree;
@@ -15,17 +15,17 @@ use ghost_value::{Bytes, Ghost};
 use std::alloc::{AllocError, Allocator, Global};
 use std::marker::Model;
 
-/// A place between the elements built so far, where a node can be opened later: the number of elements before it.
+/// An index between the elements built so far, where a node can be opened later: the number of elements before it.
 #[derive(Clone, Copy)]
 pub struct Checkpoint {
-    pub place: usize,
+    pub index: usize,
 }
 
 /// Builds a tree of a text that is at hand elsewhere, from its leaves and the starts and ends of its nodes, called in document order. It keeps how
 /// long the leaves are, and no text: that is copied once, when the tree is finished.
 ///
 /// Contracts see it as the trees in the innermost open node, and the open nodes from there outward. Each call also says which brackets
-/// have been written: a start opens, a finish closes, and a wrap opens at the place of its checkpoint.
+/// have been written: a start opens, a finish closes, and a wrap opens at the index of its checkpoint.
 /// The text of all leaves has to be shorter than 2 ^ 64 bytes, as it is where each leaf is a part of one source and none is added twice.
 /// A call fails only when memory is refused, and then leaves what has been built as it was; `leaf_node` may have opened its node.
 #[derive(Drop)]
@@ -83,11 +83,11 @@ impl<A: Allocator + Copy> SpanBuilder<A> {
         ensures calls { OnOk result (written self.new ≡ written self.old ++ Opening kind ∷ []) }
         ensures err { OnErr result (self.new ≡ self.old) }
     {
-        let place = self.checkpoint().place;
-        let node = Record::node(kind, self.len, 0, self.to_parent(place));
+        let index = self.checkpoint().index;
+        let node = Record::node(kind, self.len, 0, self.to_parent(index));
         self.unfinished.reserve(1)?;
         self.records.push(node)?;
-        self.unfinished.push(place)?;
+        self.unfinished.push(index)?;
         Ok(())
     }
 
@@ -97,65 +97,65 @@ impl<A: Allocator + Copy> SpanBuilder<A> {
         ensures calls { OnOk result (written self.new ≡ written self.old ++ Opening kind ∷ []) }
         ensures err { OnErr result (self.new ≡ self.old) }
     {
-        let place = self.checkpoint().place;
+        let index = self.checkpoint().index;
         if self.unfinished.len() < self.unfinished.capacity() {
-            let node = Record::node(kind, self.len, 0, self.to_parent(place));
+            let node = Record::node(kind, self.len, 0, self.to_parent(index));
             if self.records.push_in_place(node) {
-                self.unfinished.push_reserved(place);
+                self.unfinished.push_reserved(index);
                 return Ok(());
             }
         }
         self.start_node_growing(kind)
     }
 
-    /// The present place, for a later `wrap`.
+    /// A checkpoint behind all that is built, for a later `wrap`.
     pub fn checkpoint(&self) -> Checkpoint
-        ensures place { result.place ≡ built_count self.now }
-        ensures is_place { IsPlace result.place self.now }
+        ensures index { result.index ≡ built_count self.now }
+        ensures can_open { CanOpenAt result.index self.now }
     {
         Checkpoint {
-            place: self.records.len(),
+            index: self.records.len(),
         }
     }
 
-    /// Opens a node at an earlier place of the innermost open node, round all that has been built in it since.
+    /// Opens a node at an earlier index of the innermost open node, round all that has been built in it since.
     pub fn wrap(&mut self, checkpoint: Checkpoint, kind: SyntaxKind) -> Result<(), AllocError>
-        requires { IsPlace checkpoint.place self.old }
-        ensures ok { OnOk result (self.new ≡ wrap checkpoint.place kind self.old) }
-        ensures calls { OnOk result (written self.new ≡ open_at checkpoint.place kind (written self.old)) }
+        requires { CanOpenAt checkpoint.index self.old }
+        ensures ok { OnOk result (self.new ≡ wrap checkpoint.index kind self.old) }
+        ensures calls { OnOk result (written self.new ≡ open_at checkpoint.index kind (written self.old)) }
         ensures err { OnErr result (self.new ≡ self.old) }
     {
-        let place = checkpoint.place;
-        let start = self.start_behind(place);
-        let to_parent = self.to_parent(place);
+        let index = checkpoint.index;
+        let start = self.start_behind(index);
+        let to_parent = self.to_parent(index);
         self.unfinished.reserve(1)?;
         self.records
-            .insert(place, Record::node(kind, start, 0, to_parent))?;
-        adopt(&mut self.records, place);
-        self.unfinished.push(place)?;
+            .insert(index, Record::node(kind, start, 0, to_parent))?;
+        adopt(&mut self.records, index);
+        self.unfinished.push(index)?;
         Ok(())
     }
 
-    // The byte offset in the text at which the element at a place begins, or the text's length when the place is the end.
-    fn start_behind(&self, place: usize) -> usize
-        requires { IsPlace place self.now }
-        ensures { result ≡ start_behind place self.now }
+    // The byte offset in the text at which the element at an index begins, or the text's length when the index is the end.
+    fn start_behind(&self, index: usize) -> usize
+        requires { CanOpenAt index self.now }
+        ensures { result ≡ start_behind index self.now }
     {
-        if place < self.records.len() {
-            self.records.get(place).start
+        if index < self.records.len() {
+            self.records.get(index).start
         } else {
             self.len
         }
     }
 
-    // How many records before a place the innermost open node is; 0 when none is open.
-    fn to_parent(&self, place: usize) -> usize
-        requires { IsPlace place self.now }
-        ensures up { result ≡ up_at place self.now }
-        ensures within { result ≤ place }
+    // How many records before an index the innermost open node is; 0 when none is open.
+    fn to_parent(&self, index: usize) -> usize
+        requires { CanOpenAt index self.now }
+        ensures up { result ≡ up_at index self.now }
+        ensures within { result ≤ index }
     {
         match self.unfinished.last() {
-            Some(parent) => place - *parent,
+            Some(parent) => index - *parent,
             None => 0,
         }
     }
@@ -169,7 +169,7 @@ impl<A: Allocator + Copy> SpanBuilder<A> {
         ensures calls { OnOk result (written self.new ≡ written self.old ++ Single kind text.now ∷ []) }
         ensures err { OnErr result (self.new ≡ self.old) }
     {
-        let to_parent = self.to_parent(self.checkpoint().place);
+        let to_parent = self.to_parent(self.checkpoint().index);
         self.records.push(Record::leaf(kind, self.len, to_parent))?;
         self.leaf_text = self.leaf_text.joined(text);
         self.len += text.len();
@@ -183,7 +183,7 @@ impl<A: Allocator + Copy> SpanBuilder<A> {
         ensures calls { OnOk result (written self.new ≡ written self.old ++ Single kind text.now ∷ []) }
         ensures err { OnErr result (self.new ≡ self.old) }
     {
-        let to_parent = self.to_parent(self.checkpoint().place);
+        let to_parent = self.to_parent(self.checkpoint().index);
         let leaf = Record::leaf(kind, self.len, to_parent);
         if self.records.push_in_place(leaf) {
             self.leaf_text = self.leaf_text.joined(text);
@@ -228,7 +228,7 @@ impl<A: Allocator + Copy> SpanBuilder<A> {
         ensures calls { OnOk result (written self.new ≡ written self.old ++ Opening node ∷ Single leaf text.now ∷ Closing ∷ []) }
         ensures err { OnErr result ((self.new ≡ self.old) ⊎ (self.new ≡ start node self.old)) }
     {
-        let to_parent = self.to_parent(self.checkpoint().place);
+        let to_parent = self.to_parent(self.checkpoint().index);
         let first = Record::node(node, self.len, 2, to_parent);
         let second = Record::leaf(leaf, self.len, 1);
         if self.records.push_both_in_place(first, second) {
@@ -248,9 +248,9 @@ impl<A: Allocator + Copy> SpanBuilder<A> {
         ensures calls { written self.new ≡ written self.old ++ Closing ∷ [] }
         ensures counted { built_count self.new < 2 ^ 64 }
     {
-        let place = self.unfinished.pop().unwrap();
-        let size = self.records.len() - place;
-        self.records.set_size(place, size);
+        let index = self.unfinished.pop().unwrap();
+        let size = self.records.len() - index;
+        self.records.set_size(index, size);
     }
 
     /// The finished tree over its text, once all nodes are closed and there is one root.

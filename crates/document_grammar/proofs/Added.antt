@@ -1,8 +1,8 @@
--- Trees that are added to the open node: one list after another, a node that was opened and closed, and one that opens at an earlier place.
+-- Trees that are added to the open node: one list after another, a node that was opened and closed, and one that opens at an earlier index.
 use Rattle.std.proofs.Common.{◌≡◌, ℕ, zero, suc, ◌+◌, ◌-◌, List, ◌∷◌, refl, sym, ap, ap₂, ◌∙◌, subst, arith}
 use Rattle.document_grammar.specs.declared.kind.SyntaxKind.{SyntaxKind}
 use Rattle.document_grammar.specs.Forests.{Forest, none, leaf, node, count, join}
-use Rattle.document_grammar.specs.Builds.{Building, start, add_leaf, close, finish, open_count, built_count, front, wrap, IsSeam, IsPlace}
+use Rattle.document_grammar.specs.Builds.{Building, start, add_leaf, close, finish, open_count, built_count, front, wrap, IsSeam, CanOpenAt}
 use Rattle.document_grammar.proofs.Joins.{join-none, join-assoc}
 use Rattle.document_grammar.proofs.Built.{front-join, back-join}
 
@@ -38,7 +38,7 @@ pub added-wrap : {f : Forest} {b t : Building} (k : SyntaxKind) → Added f b t 
 added-wrap {f = f} {b = b} {t = t} k h = let e = wrap-added k b t f h.above h.here in
     record { above = ap (λ (z : Building). z.above) e; here = ap (λ (z : Building). z.here) e }
 
--- ---- places
+-- ---- indices
 
 -- a seam stays one when trees are added
 seam-join : (n : ℕ) (f g : Forest) → IsSeam n f → IsSeam n (join f g)
@@ -50,16 +50,16 @@ seam-join (suc n) (node k kids rest) g h =
     let e = seam-join (n - count kids) rest g m in
     omega (arith, h, e)
 
--- the place after all that is built
-pub place-last : (b : Building) → IsPlace (built_count b) b
-place-last b = record {
+-- the index after all that is built
+pub can-open-last : (b : Building) → CanOpenAt (built_count b) b
+can-open-last b = record {
   inside = omega arith;
   seam = let left : built_count b - open_count b.above ≡ count b.here = omega arith in let e = front-join b.here none in
       rw (left, ap count (rw join-none at e)) refl;
 }
 
-pub place-added : {f : Forest} {b t : Building} (place : ℕ) → Added f b t → IsPlace place b → IsPlace place t
-place-added {f = f} {b = b} {t = t} place h m =
-    subst (λ x. IsPlace place (record { here = x; above = t.above })) (sym h.here)
-    (subst (λ above. IsPlace place (record { here = join b.here f; above = above })) (sym h.above)
-    (record { inside = m.inside; seam = seam-join (place - open_count b.above) b.here f m.seam }))
+pub can-open-added : {f : Forest} {b t : Building} (index : ℕ) → Added f b t → CanOpenAt index b → CanOpenAt index t
+can-open-added {f = f} {b = b} {t = t} index h m =
+    subst (λ x. CanOpenAt index (record { here = x; above = t.above })) (sym h.here)
+    (subst (λ above. CanOpenAt index (record { here = join b.here f; above = above })) (sym h.above)
+    (record { inside = m.inside; seam = seam-join (index - open_count b.above) b.here f m.seam }))

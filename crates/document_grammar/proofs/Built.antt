@@ -49,7 +49,7 @@ numbered-join (built.node k kids rest) g = ap (λ (h : Forest). node (number k) 
 pub bares-numbered-join : (f g : built.Forest) → bares (numbered (built.join f g)) ≡ bares (numbered f) +++ bares (numbered g)
 bares-numbered-join f g = rw numbered-join (bares-append (numbered f) (numbered g))
 
--- A node that opens at an earlier place takes the trees from there on.
+-- A node that opens at an earlier index takes the trees from there on.
 pub join-front_back : (n : ℕ) (f : built.Forest) → built.join (front n f) (back n f) ≡ f
 join-front_back zero f = refl
 join-front_back (suc n) built.none = refl

@@ -21,8 +21,8 @@ unfolding kind_of all_kinds
 kind_of-number kind.WHITESPACE = refl
 kind_of-number _ = refl
 
-pub number-same : (k l : SyntaxKind) → number k ≡ number l → k ≡ l
-number-same k l e = sym (kind_of-number k) ∙ ap kind_of e ∙ kind_of-number l
+pub one-kind : (k l : SyntaxKind) → number k ≡ number l → k ≡ l
+one-kind k l e = sym (kind_of-number k) ∙ ap kind_of e ∙ kind_of-number l
 
 -- Checks of the definitions against each other, which no proof uses. `Numbering` and `Kinds` give each kind the same number.
 numbers-named : map number all_kinds ≡ leaf_kinds ++ node_kinds

@@ -8,7 +8,7 @@ use Rattle.lexical_grammar.specs.declared.TokenKind.{TokenKind}
 use Rattle.lexical_grammar.specs.declared.TokenKind.TheVariants as token
 use Rattle.lexical_grammar.specs.Cut.{Item, IsItem, Cut, CutFrom, texts, Significant, significant_word, are_tokens}
 use Rattle.lexical_grammar.proofs.Cuts.{texts-append}
-use Rattle.lexical_grammar.proofs.Places.{item-some}
+use Rattle.lexical_grammar.proofs.Offsets.{item-some}
 use Rattle.document_grammar.specs.Tree.{Text, Token}
 use Rattle.document_grammar.specs.Derivation.{Terminal, word, terminals}
 use Rattle.document_grammar.specs.Sentence.{token_of, tokens_of}
@@ -17,19 +17,19 @@ use Rattle.document_grammar.specs.FirstError.{shown_kind, shown_item, shown}
 -- ---- items of a cut
 
 -- an item that others follow
-pub item-then : (place : ℕ) (before : List Item) (item : Item) (more : List Item) (first : Item) → CutFrom place (first ∷ (before ++ item ∷ more))
-    → (first.index ≡ place) × IsItem first.kind first.text (texts (before ++ item ∷ more)) × CutFrom (place + length first.text) (before ++ item ∷ more)
-item-then place [] item more first cut = cut
-item-then place (b ∷ before) item more first cut = cut
+pub item-then : (offset : ℕ) (before : List Item) (item : Item) (more : List Item) (first : Item) → CutFrom offset (first ∷ (before ++ item ∷ more))
+    → (first.index ≡ offset) × IsItem first.kind first.text (texts (before ++ item ∷ more)) × CutFrom (offset + length first.text) (before ++ item ∷ more)
+item-then offset [] item more first cut = cut
+item-then offset (b ∷ before) item more first cut = cut
 
--- each item is at its place
-pub index-at : (place : ℕ) (before : List Item) (item : Item) (more : List Item) → CutFrom place (before ++ item ∷ more)
-    → item.index ≡ place + length (texts before)
-index-at place [] item [] cut = let e = ap (λ (i : Item). i.index) cut in omega (arith, e)
-index-at place [] item (next ∷ more) cut = let e = cut.0 in omega (arith, e)
-index-at place (first ∷ before) item more cut =
-    let rest = item-then place before item more first cut in
-    let e = index-at (place + length first.text) before item more rest.2 in
+-- each item is at its offset
+pub index-at : (offset : ℕ) (before : List Item) (item : Item) (more : List Item) → CutFrom offset (before ++ item ∷ more)
+    → item.index ≡ offset + length (texts before)
+index-at offset [] item [] cut = let e = ap (λ (i : Item). i.index) cut in omega (arith, e)
+index-at offset [] item (next ∷ more) cut = let e = cut.0 in omega (arith, e)
+index-at offset (first ∷ before) item more cut =
+    let rest = item-then offset before item more first cut in
+    let e = index-at (offset + length first.text) before item more rest.2 in
     omega (arith, e, length-append first.text (texts before))
 
 -- the text before an item
@@ -47,12 +47,12 @@ not-the-end (Some token.Eof) text after i e = absurd i.token
 not-the-end (Some _) text after i e = absurd cc
 
 -- a significant token has some bytes
-pub significant-some : (place : ℕ) (before : List Item) (item : Item) (more : List Item) → CutFrom place (before ++ item ∷ more) → Significant (item ∷ []) ≢ []
-    → 0 < length item.text
-significant-some place [] item [] cut h = absurd (h (ap (λ (i : Item). Significant (i ∷ [])) cut))
-significant-some place [] item (next ∷ more) cut h = item-some item.kind item.text (texts (next ∷ more)) cut.1
-significant-some place (first ∷ before) item more cut h = significant-some (place + length first.text) before item more
-    (item-then place before item more first cut).2 h
+pub significant-some : (offset : ℕ) (before : List Item) (item : Item) (more : List Item) → CutFrom offset (before ++ item ∷ more)
+    → Significant (item ∷ []) ≢ [] → 0 < length item.text
+significant-some offset [] item [] cut h = absurd (h (ap (λ (i : Item). Significant (i ∷ [])) cut))
+significant-some offset [] item (next ∷ more) cut h = item-some item.kind item.text (texts (next ∷ more)) cut.1
+significant-some offset (first ∷ before) item more cut h = significant-some (offset + length first.text) before item more
+    (item-then offset before item more first cut).2 h
 
 -- ---- what they show
 
@@ -86,34 +86,34 @@ terminals-append [] w = refl
 terminals-append (a ∷ v) w = ap (λ (l : List Terminal). word a ∷ l) (terminals-append v w)
 
 -- a cut shows its tokens, and the end
-pub cut-shown : (place : ℕ) (items : List Item) → CutFrom place items → shown items ≡ terminals (tokens_of items)
-cut-shown place [] cut = absurd cut
-cut-shown place (item ∷ []) cut = subst (λ (i : Item). shown (i ∷ []) ≡ terminals (tokens_of (i ∷ []))) (sym cut) refl
-cut-shown place (item ∷ next ∷ items) cut =
+pub cut-shown : (offset : ℕ) (items : List Item) → CutFrom offset items → shown items ≡ terminals (tokens_of items)
+cut-shown offset [] cut = absurd cut
+cut-shown offset (item ∷ []) cut = subst (λ (i : Item). shown (i ∷ []) ≡ terminals (tokens_of (i ∷ []))) (sym cut) refl
+cut-shown offset (item ∷ next ∷ items) cut =
     ap₂ (λ (a b : List Terminal). a ++ b) (item-shown item.kind item.text (texts (next ∷ items)) cut.1)
-    (cut-shown (place + length item.text) (next ∷ items) cut.2)
+    (cut-shown (offset + length item.text) (next ∷ items) cut.2)
     ∙ (sym (terminals-append (map token_of (significant_word item.kind item.text)) (tokens_of (next ∷ items)))
     ∙ ap terminals (sym (tokens-cons item (next ∷ items))))
 
 -- and before an item its tokens
-pub before-shown : (place : ℕ) (before : List Item) (item : Item) (more : List Item) → CutFrom place (before ++ item ∷ more)
+pub before-shown : (offset : ℕ) (before : List Item) (item : Item) (more : List Item) → CutFrom offset (before ++ item ∷ more)
     → shown before ≡ words (tokens_of before)
-before-shown place [] item more cut = refl
-before-shown place (first ∷ before) item more cut =
-    let rest = item-then place before item more first cut in
-    ap₂ (λ (a b : List Terminal). a ++ b) (item-shown first.kind first.text _ rest.1) (before-shown (place + length first.text) before item more rest.2)
+before-shown offset [] item more cut = refl
+before-shown offset (first ∷ before) item more cut =
+    let rest = item-then offset before item more first cut in
+    ap₂ (λ (a b : List Terminal). a ++ b) (item-shown first.kind first.text _ rest.1) (before-shown (offset + length first.text) before item more rest.2)
     ∙ (sym (map-append word (map token_of (significant_word first.kind first.text)) (tokens_of before)) ∙ ap words (sym (tokens-cons first before)))
 
 -- an item and those after it are a cut
-pub cut-from : (place : ℕ) (before : List Item) (item : Item) (more : List Item) → CutFrom place (before ++ item ∷ more)
-    → CutFrom (place + length (texts before)) (item ∷ more)
-cut-from place [] item more cut = let e : place + 0 ≡ place = omega arith in rw e cut
-cut-from place (first ∷ before) item more cut =
-    let e : place + length (first.text ++ texts before) ≡ (place + length first.text) + length (texts before) = omega (
+pub cut-from : (offset : ℕ) (before : List Item) (item : Item) (more : List Item) → CutFrom offset (before ++ item ∷ more)
+    → CutFrom (offset + length (texts before)) (item ∷ more)
+cut-from offset [] item more cut = let e : offset + 0 ≡ offset = omega arith in rw e cut
+cut-from offset (first ∷ before) item more cut =
+    let e : offset + length (first.text ++ texts before) ≡ (offset + length first.text) + length (texts before) = omega (
       arith,
       length-append first.text (texts before),
     ) in
-    subst (λ (n : ℕ). CutFrom n (item ∷ more)) (sym e) (cut-from (place + length first.text) before item more (item-then place before item more first cut).2)
+    subst (λ (n : ℕ). CutFrom n (item ∷ more)) (sym e) (cut-from (offset + length first.text) before item more (item-then offset before item more first cut).2)
 
 -- ---- two items of one list
 

@@ -4,7 +4,7 @@ use Rattle.std.proofs.lemmas.Bool.{and_parts}
 use Rattle.std.specs.Prelude.{is_some}
 use Rattle.lexical_grammar.specs.Cut.{Item, Cut, are_tokens}
 use Rattle.lexical_grammar.specs.Agreement.{Agree}
-use Rattle.lexical_grammar.proofs.Agree.{agree}
+use Rattle.lexical_grammar.proofs.Agree.{cuts-agree}
 use Rattle.document_grammar.specs.Tree.{Tree}
 use Rattle.document_grammar.specs.Derivation.{Sort, Yield, Terminal}
 use Rattle.document_grammar.specs.Beginnings.{Starts, StartsWithin}
@@ -23,7 +23,7 @@ agree-same (item ∷ items) (other ∷ others) a h =
     ]
 
 pub one-cut : (source : List ℕ) (items others : List Item) → Cut source items → Cut source others → are_tokens items ≡ true → items ≡ others
-one-cut source items others c d h = agree-same items others (agree items others 0 c.each d.each (c.joined ∙ sym d.joined)) h
+one-cut source items others c d h = agree-same items others (cuts-agree items others 0 c.each d.each (c.joined ∙ sym d.joined)) h
 
 pub first-sentence : (source : List ℕ) (t : Tree) (sort : Sort) → FirstSentence source t sort → Sentence source t sort
 first-sentence source t sort s =

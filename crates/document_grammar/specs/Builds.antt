@@ -1,4 +1,4 @@
--- What the builder's calls name: start and finish are brackets, and wrap is an opening bracket at an earlier place.
+-- What the builder's calls name: start and finish are brackets, and wrap is an opening bracket at an earlier index.
 use Rattle.std.specs.Prelude.{◌≡◌, ℕ, zero, suc, ◌+◌, ◌-◌, ◌≤◌, List, [], ◌∷◌, ◌++◌}
 use Rattle.document_grammar.specs.declared.kind.SyntaxKind.{SyntaxKind}
 use Rattle.document_grammar.specs.Forests.{Forest, none, leaf, node, text, count, join}
@@ -65,11 +65,11 @@ IsSeam n f = count (front n f) ≡ n
 abbrev pub wrap_at : ℕ → SyntaxKind → Building → Building
 wrap_at n k b = record { here = back n b.here; above = record { before = front n b.here; kind = k } ∷ b.above }
 
--- a node opens at an earlier place of the innermost open node, counted in elements of the whole
+-- a node opens at an earlier index of the innermost open node, counted in elements of the whole
 abbrev pub wrap : ℕ → SyntaxKind → Building → Building
-wrap place k b = wrap_at (place - open_count b.above) k b
+wrap index k b = wrap_at (index - open_count b.above) k b
 
--- the place is one between trees of the innermost open node
-pub record IsPlace (place : ℕ) (b : Building) : Type 0 where
-  pub inside : open_count b.above ≤ place
-  pub seam : IsSeam (place - open_count b.above) b.here
+-- the index is one between trees of the innermost open node
+pub record CanOpenAt (index : ℕ) (b : Building) : Type 0 where
+  pub inside : open_count b.above ≤ index
+  pub seam : IsSeam (index - open_count b.above) b.here

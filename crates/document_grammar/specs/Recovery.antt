@@ -44,60 +44,60 @@ abbrev mutual
 
 -- ---- tokens that were left over
 
--- A token of such a kind begins at the place.
+-- A token of such a kind begins at the offset.
 abbrev pub is_such : (TokenKind → Bool) → Option TokenKind → Bool
 is_such kinds None = false
 is_such kinds (Some kind) = kinds kind
 
 abbrev pub token_at : (TokenKind → Bool) → List Item → ℕ → Bool
-token_at kinds items place = list_any (λ item. eqb item.index place && is_such kinds item.kind) items
+token_at kinds items offset = list_any (λ item. eqb item.index offset && is_such kinds item.kind) items
 
 abbrev pub is_right_bracket : TokenKind → Bool
 is_right_bracket RBracket = true
 is_right_bracket _ = false
 
--- An ERROR leaf at the place is a token that was left over where a significant token begins there; else it is bad text or the end.
+-- An ERROR leaf at the offset is a token that was left over where a significant token begins there; else it is bad text or the end.
 abbrev pub left_over : List Item → ℕ → ℕ → Bool
-left_over items place k = eqb k ERROR && token_at is_significant_kind items place
+left_over items offset k = eqb k ERROR && token_at is_significant_kind items offset
 
 -- The children of the root.
 abbrev pub children_of : Tree → Forest
 children_of (leaf k x) = none
 children_of (node k f) = f
 
--- How many of the trees that begin at the place are such tokens.
+-- How many of the trees that begin at the offset are such tokens.
 abbrev pub count_left_over : List Item → ℕ → Forest → ℕ
-count_left_over items place none = 0
-count_left_over items place (leaf k x ▸ f) = cond (left_over items place k) 1 0 + count_left_over items (place + length x) f
-count_left_over items place (node k g ▸ f) = count_left_over items (place + length (texts g)) f
+count_left_over items offset none = 0
+count_left_over items offset (leaf k x ▸ f) = cond (left_over items offset k) 1 0 + count_left_over items (offset + length x) f
+count_left_over items offset (node k g ▸ f) = count_left_over items (offset + length (texts g)) f
 
 -- None of them is `]`.
 abbrev pub NoBracket : List Item → ℕ → Forest → Type 0
-NoBracket items place none = Unit {0}
-NoBracket items place (leaf k x ▸ f) = (IsTrue (left_over items place k) → IsFalse (token_at is_right_bracket items place))
-    × NoBracket items (place + length x) f
-NoBracket items place (node k g ▸ f) = NoBracket items (place + length (texts g)) f
+NoBracket items offset none = Unit {0}
+NoBracket items offset (leaf k x ▸ f) = (IsTrue (left_over items offset k) → IsFalse (token_at is_right_bracket items offset))
+    × NoBracket items (offset + length x) f
+NoBracket items offset (node k g ▸ f) = NoBracket items (offset + length (texts g)) f
 
 -- The children of a node but the root: in a LIST_VALUE all but `]` may be left over, in another node one.
 abbrev pub Spares : List Item → ℕ → ℕ → Forest → Type 0
-Spares items place k f = (k ≡ LIST_VALUE → NoBracket items place f) × (k ≢ LIST_VALUE → count_left_over items place f ≤ 1)
+Spares items offset k f = (k ≡ LIST_VALUE → NoBracket items offset f) × (k ≢ LIST_VALUE → count_left_over items offset f ≤ 1)
 
--- Each token that was left over has an error with its place and its text; and the nodes below spare the others.
+-- Each token that was left over has an error with its offset and its text; and the nodes below spare the others.
 abbrev pub LeftOver : (ℕ → Text → Type 0) → List Item → ℕ → Forest → Type 0
-LeftOver Told items place none = Unit {0}
-LeftOver Told items place (leaf k x ▸ f) = (IsTrue (left_over items place k) → Told place x) × LeftOver Told items (place + length x) f
-LeftOver Told items place (node k g ▸ f) = Spares items place k g × LeftOver Told items place g × LeftOver Told items (place + length (texts g)) f
+LeftOver Told items offset none = Unit {0}
+LeftOver Told items offset (leaf k x ▸ f) = (IsTrue (left_over items offset k) → Told offset x) × LeftOver Told items (offset + length x) f
+LeftOver Told items offset (node k g ▸ f) = Spares items offset k g × LeftOver Told items offset g × LeftOver Told items (offset + length (texts g)) f
 
 -- ---- going on
 
--- None of the places is beyond a significant token of these items.
+-- None of the offsets is beyond a significant token of these items.
 abbrev pub NoneBeyond : List Item → List ℕ → Type 0
-NoneBeyond items places = (m : ℕ) (b : At items m) → Significant (b.item ∷ []) ≢ [] → All (λ n. n ≤ m) places
+NoneBeyond items offsets = (m : ℕ) (b : At items m) → Significant (b.item ∷ []) ≢ [] → All (λ n. n ≤ m) offsets
 
 -- Where the items after some of the root's children are a document of its own, which nests at most r deep, the later children are its
 -- derivation's, and no error is beyond its first token.
 abbrev pub GoesOn : ℕ → List Item → List ℕ → built.Forest → Type 0
-GoesOn r items places kids =
+GoesOn r items offsets kids =
     (front later : built.Forest) (a : At items (length (built.text front))) (u : Tree) → kids ≡ built.join front later
     → are_tokens (a.item ∷ a.more) ≡ true → Spells (tokens_of (a.item ∷ a.more)) u document → nest u ≤ r
-    → (node DOCUMENT (bares (numbered later)) ≡ u) × NoneBeyond (a.item ∷ a.more) places
+    → (node DOCUMENT (bares (numbered later)) ≡ u) × NoneBeyond (a.item ∷ a.more) offsets

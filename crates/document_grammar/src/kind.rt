@@ -376,7 +376,7 @@ ghost use Rattle.std.specs.Prelude.{◌≡◌};
 ghost use Rattle.document_grammar.specs.Numbers.{number, is_trivia, is_kind};
 
 impl SyntaxKind {
-    /// The number of the kind: its place in the list, from 0.
+    /// The number of the kind: its index in the list, from 0.
     pub fn to_u16(self) -> u16
         ensures { result ≡ number self }
     {

@@ -21,10 +21,10 @@ use Rattle.apollo_tree.proofs.Filling.{filled-by-none}
 
 -- ---- where items end
 
-limit-before : (kind : Option TokenKind) (place : ℕ) → limit_index_at kind place ≤ place
-limit-before None place = omega arith
-limit-before (Some token.Eof) place = omega arith
-limit-before (Some _) place = omega arith
+limit-before : (kind : Option TokenKind) (offset : ℕ) → limit_index_at kind offset ≤ offset
+limit-before None offset = omega arith
+limit-before (Some token.Eof) offset = omega arith
+limit-before (Some _) offset = omega arith
 
 abbrev pub EndsBefore : ℕ → Answer → Type 0
 EndsBefore bound answer = (item_row answer).end < bound
@@ -34,18 +34,18 @@ none-left bound zero = tt
 none-left bound (suc allowed) = tt
 
 -- the items of a text, or the first of them and the limit, end within it
-pub ends-before : (bound allowed place inside : ℕ) (source : List ℕ) → place + length source < bound
-    → AllByRecursion (EndsBefore bound) (limited allowed (items_from place inside source))
+pub ends-before : (bound allowed offset inside : ℕ) (source : List ℕ) → offset + length source < bound
+    → AllByRecursion (EndsBefore bound) (limited allowed (items_from offset inside source))
 unfolding items_from
-ends-before bound zero place inside [] le = (omega arith, tt)
-ends-before bound (suc allowed) place inside [] le = (omega arith, none-left bound allowed)
-ends-before bound allowed place (suc inside) (b ∷ bs) le = ends-before bound allowed (1 + place) inside bs (omega arith)
-ends-before bound zero place zero (b ∷ bs) le =
-    let before : limit_index_at (first_item (b ∷ bs)).0 place ≤ place = limit-before _ place in
+ends-before bound zero offset inside [] le = (omega arith, tt)
+ends-before bound (suc allowed) offset inside [] le = (omega arith, none-left bound allowed)
+ends-before bound allowed offset (suc inside) (b ∷ bs) le = ends-before bound allowed (1 + offset) inside bs (omega arith)
+ends-before bound zero offset zero (b ∷ bs) le =
+    let before : limit_index_at (first_item (b ∷ bs)).0 offset ≤ offset = limit-before _ offset in
     (omega arith, tt)
-ends-before bound (suc allowed) place zero (b ∷ bs) le =
+ends-before bound (suc allowed) offset zero (b ∷ bs) le =
     let n = (first_item (b ∷ bs)).1 in
-    (omega (arith, length-take n (b ∷ bs)), ends-before bound allowed (1 + place) (n - 1) bs (omega arith))
+    (omega (arith, length-take n (b ∷ bs)), ends-before bound allowed (1 + offset) (n - 1) bs (omega arith))
 
 -- ---- a loop over a lexer's answers
 

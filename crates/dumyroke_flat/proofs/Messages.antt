@@ -38,20 +38,20 @@ messages-more (x ∷ es) (suc i) (suc j) d e l =
     ap (λ (r : List ℕ). x.message ++ r) (messages-more es i j d (omega arith) (omega arith))
     ∙ sym (append_assoc x.message (messages (take i es)) (get_or es i d).message)
 
-pub length-error_rows : (place : ℕ) (es : List Diagnostic) → length (error_rows place es) ≡ length es
-length-error_rows place [] = refl
-length-error_rows place (e ∷ es) = ap suc (length-error_rows (place + length e.message) es)
+pub length-error_rows : (offset : ℕ) (es : List Diagnostic) → length (error_rows offset es) ≡ length es
+length-error_rows offset [] = refl
+length-error_rows offset (e ∷ es) = ap suc (length-error_rows (offset + length e.message) es)
 
-pub error-row-there : (place i : ℕ) (es : List Diagnostic) (d : ErrorRow) (e : Diagnostic) → i < length es
-    → get_or (error_rows place es) i d ≡ error_row (place + length (messages (take i es))) (get_or es i e)
-error-row-there place i [] d e l = absurd (omega arith)
-error-row-there place zero (x ∷ es) d e l = let same : place ≡ place + 0 = omega arith in ap (λ (n : ℕ). error_row n x) same
-error-row-there place (suc i) (x ∷ es) d e l =
-    let same : place + length x.message + length (messages (take i es)) ≡ place + length (x.message ++ messages (take i es)) = omega (
+pub error-row-there : (offset i : ℕ) (es : List Diagnostic) (d : ErrorRow) (e : Diagnostic) → i < length es
+    → get_or (error_rows offset es) i d ≡ error_row (offset + length (messages (take i es))) (get_or es i e)
+error-row-there offset i [] d e l = absurd (omega arith)
+error-row-there offset zero (x ∷ es) d e l = let same : offset ≡ offset + 0 = omega arith in ap (λ (n : ℕ). error_row n x) same
+error-row-there offset (suc i) (x ∷ es) d e l =
+    let same : offset + length x.message + length (messages (take i es)) ≡ offset + length (x.message ++ messages (take i es)) = omega (
       arith,
       length-append x.message (messages (take i es)),
     ) in
-    error-row-there (place + length x.message) i es d e (omega arith) ∙ ap (λ (n : ℕ). error_row n (get_or es i e)) same
+    error-row-there (offset + length x.message) i es d e (omega arith) ∙ ap (λ (n : ℕ). error_row n (get_or es i e)) same
 
 -- ---- a loop over the errors, at the error with the index i, whose message is m
 
@@ -60,15 +60,15 @@ pub next-messages : (es : List Diagnostic) (i : ℕ) (e : Diagnostic) (m : List 
 next-messages es i e m is w l = ap (λ (x : List ℕ). messages (take i es) ++ x) (w ∙ ap (λ (x : Diagnostic). x.message) is)
     ∙ sym (messages-more es i (i + 1) e refl l)
 
-pub next-place : (es : List Diagnostic) (i at : ℕ) (e : Diagnostic) (m : List ℕ) → e ≡ get_or es i e → m ≡ e.message → at ≡ length (messages (take i es))
+pub next-offset : (es : List Diagnostic) (i at : ℕ) (e : Diagnostic) (m : List ℕ) → e ≡ get_or es i e → m ≡ e.message → at ≡ length (messages (take i es))
     → i < length es
     → at + length m ≡ length (messages (take (i + 1) es))
-next-place es i at e m is w p l = omega (arith, p, simp length-append at (ap length (next-messages es i e m is w l)))
+next-offset es i at e m is w p l = omega (arith, p, simp length-append at (ap length (next-messages es i e m is w l)))
 
 pub next-fits : (es : List Diagnostic) (i at : ℕ) (e : Diagnostic) (m : List ℕ) → e ≡ get_or es i e → m ≡ e.message → at ≡ length (messages (take i es))
     → i < length es
     → at + length m ≤ length (messages es)
-next-fits es i at e m is w p l = omega (arith, next-place es i at e m is w p l, messages-within (i + 1) es)
+next-fits es i at e m is w p l = omega (arith, next-offset es i at e m is w p l, messages-within (i + 1) es)
 
 pub next-row : (buffer rows : List ErrorRow) (es : List Diagnostic) (i at : ℕ) (e : Diagnostic) (row : ErrorRow)
     → rows ≡ filled buffer (take i (error_rows 0 es))
@@ -76,9 +76,9 @@ pub next-row : (buffer rows : List ErrorRow) (es : List Diagnostic) (i at : ℕ)
     → set rows i row ≡ filled buffer (take (i + 1) (error_rows 0 es))
 next-row buffer rows es i at e row f is r p l k =
     let all : List ErrorRow = error_rows 0 es in
-    let place : at ≡ 0 + length (messages (take i es)) = omega (arith, p) in
+    let offset : at ≡ 0 + length (messages (take i es)) = omega (arith, p) in
     let there : error_row at e ≡ get_or all i row =
-    ap (λ (n : ℕ). error_row n e) place ∙ ap (λ (x : Diagnostic). error_row (0 + length (messages (take i es))) x) is ∙ sym (error-row-there 0 i es row e k) in
+    ap (λ (n : ℕ). error_row n e) offset ∙ ap (λ (x : Diagnostic). error_row (0 + length (messages (take i es))) x) is ∙ sym (error-row-there 0 i es row e k) in
     let more : i < length all = omega (arith, length-error_rows 0 es) in
     ap (λ (xs : List ErrorRow). set xs i row) f ∙ ap (λ (x : ErrorRow). set (filled buffer (take i all)) i x) (r ∙ there)
     ∙ filled-by-one-more buffer all i (i + 1) row refl l more

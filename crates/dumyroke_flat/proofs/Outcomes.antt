@@ -54,7 +54,8 @@ of-no-memory P source before counts is =
 
 -- the buffers after all of a parse was written, where its errors are known as `found`
 pub of-written : (source : List ℕ) (before : Buffers) (parsed : Parsed) (rows : List CompactElement) (errors : List ErrorRow) (words : List ℕ)
-    (found : List Diagnostic) (elements length_of_text bytes depth items : ℕ) → found ≡ parsed.errors → rows ≡ filled before.elements (compact_elements parsed.tree)
+    (found : List Diagnostic) (elements length_of_text bytes depth items : ℕ) → found ≡ parsed.errors
+    → rows ≡ filled before.elements (compact_elements parsed.tree)
     → errors ≡ filled before.errors (error_rows 0 found) → words ≡ filled before.messages (messages found) → elements ≡ length (order parsed.tree)
     → length_of_text ≡ length (text parsed.tree) → bytes ≡ length (messages found) → depth ≡ parsed.recursion_limit.high → items ≡ parsed.token_limit.high
     → ParseOutcome (λ p. p ≡ parsed) source before (record { elements = rows; errors = errors; messages = words })

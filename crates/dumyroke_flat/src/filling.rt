@@ -5,7 +5,7 @@ ghost use Rattle.apollo_parser.specs.Filled.{filled};
 
 use crate::rows::{ByteCount, status};
 
-// Writes bytes at a place, as far as there is room. The buffer was filled up to there.
+// Writes bytes at an offset, as far as there is room. The buffer was filled up to there.
 pub fn append(buffer: &mut [u8], at: usize, bytes: &[u8])
     ensures { (before written : List ℕ) → length written ≡ at → buffer.old ≡ filled before written → buffer.new ≡ filled before (written ++ bytes.now) }
 {

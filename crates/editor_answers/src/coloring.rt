@@ -95,25 +95,25 @@ fn type_of_leaf(leaf: SyntaxToken<'_>) -> Option<TokenType> {
     found_in(&LEAF_TYPES, kind)
 }
 
-// Whether a line ends at a place of a text.
-fn is_line_end(source: &str, place: usize) -> bool
-    ensures { result ≡ false → IsInLine (slice_index_or source.now place 0) }
+// Whether a line ends at an offset of a text.
+fn is_line_end(source: &str, offset: usize) -> bool
+    ensures { result ≡ false → IsInLine (slice_index_or source.now offset 0) }
 {
-    match source.as_bytes().get(place) {
+    match source.as_bytes().get(offset) {
         Some(byte) => *byte == b'\n' || *byte == b'\r',
         None => false,
     }
 }
 
-// Where the line ends that is at a place, or `end` when it goes on up to there.
+// Where the line ends that is at an offset, or `end` when it goes on up to there.
 fn line_end(source: &str, start: usize, end: usize) -> usize
     requires { start ≤ end }
     ensures within { (start ≤ result) × (result ≤ end) }
     ensures line { HasNoLineEnd source.now start result }
 {
-    for place in start..end {
-        if is_line_end(source, place) {
-            return place;
+    for offset in start..end {
+        if is_line_end(source, offset) {
+            return offset;
         }
     }
     end

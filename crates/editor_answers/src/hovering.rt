@@ -84,7 +84,7 @@ pub(crate) fn description_of(alloc: Global, node: SyntaxNode<'_>) -> Result<Stri
     Ok(String::new(alloc))
 }
 
-/// What the document says of the name at a place, or that ends there: of a type or a directive by its definition, and of a field, an argument or
+/// What the document says of the name at an offset, or that ends there: of a type or a directive by its definition, and of a field, an argument or
 /// a value where that is defined. `None` where it says nothing.
 pub fn hover_at<'t>(root: SyntaxNode<'t>, offset: usize) -> Option<Hover<'t>> {
     if let Some(leaf) = identifier_at(root, offset)

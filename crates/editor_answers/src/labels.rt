@@ -73,7 +73,7 @@ fn identifier<'t>(leaf: SyntaxToken<'t>) -> Option<SyntaxToken<'t>>
     }
 }
 
-/// The identifier at a place, or that ends there.
+/// The identifier at an offset, or that ends there.
 pub(crate) fn identifier_at<'t>(root: SyntaxNode<'t>, offset: usize) -> Option<SyntaxToken<'t>>
     ensures { option_map token_place result ≡ identifier_at (node_place root.entry) offset }
 {

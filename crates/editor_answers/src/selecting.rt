@@ -1,4 +1,4 @@
-// What grows around a place.
+// What grows around an offset.
 ghost use Rattle.std.specs.Prelude.{IfOk, IfSome};
 ghost use Rattle.std.specs.List.{All, AllPairs};
 ghost use Rattle.editor_answers.specs.Parts.{Encloses, Holds};
@@ -14,7 +14,7 @@ struct Innermost<'t> {
     parent: SyntaxNode<'t>,
 }
 
-// The leaf that has the byte at a place.
+// The leaf that has the byte at an offset.
 fn leaf_over<'t>(root: SyntaxNode<'t>, offset: usize) -> Option<Innermost<'t>>
     ensures { IfSome result (λ leaf. Holds offset leaf.span) }
 {
@@ -28,7 +28,7 @@ fn leaf_over<'t>(root: SyntaxNode<'t>, offset: usize) -> Option<Innermost<'t>>
     }
 }
 
-/// The parts of the text that hold the byte at a place, from a leaf out to the whole document, each once. It fails only where memory is
+/// The parts of the text that hold the byte at an offset, from a leaf out to the whole document, each once. It fails only where memory is
 /// refused.
 pub fn selection(
     alloc: Global,

@@ -55,7 +55,7 @@ fn scope_of<'t>(root: SyntaxNode<'t>, leaf: SyntaxToken<'t>, kind: NameKind) -> 
     }
 }
 
-// The name at a place.
+// The name at an offset.
 fn sought_at<'t>(root: SyntaxNode<'t>, offset: usize) -> Option<Sought<'t>>
     ensures { option_map (λ sought. wanted sought.kind sought.text.now (node_place sought.scope)) result ≡ wanted_at (node_place root.entry) offset }
 {
@@ -99,7 +99,7 @@ fn is_reference(element: SyntaxElement<'_>, sought: Sought<'_>, with_definition:
     is_name(element, sought) && (with_definition || !is_definition(element, sought))
 }
 
-/// Where the fragment, variable, type or directive is defined whose name is at a place of a text, or ends there, by the root of the text's tree:
+/// Where the fragment, variable, type or directive is defined whose name is at an offset of a text, or ends there, by the root of the text's tree:
 /// the part that the name takes in the definition. `None` where there is no such name or no definition. The first counts where there are
 /// several.
 pub fn definition(root: SyntaxNode<'_>, offset: usize) -> Option<Span>
@@ -114,7 +114,7 @@ pub fn definition(root: SyntaxNode<'_>, offset: usize) -> Option<Span>
     None
 }
 
-/// Where the name is used that is at a place of a text, or ends there, in the order of the text; where it is defined too when `with_definition`
+/// Where the name is used that is at an offset of a text, or ends there, in the order of the text; where it is defined too when `with_definition`
 /// says so. It fails only where memory is refused.
 pub fn references(
     alloc: Global,

@@ -1,13 +1,13 @@
--- Places where a cursor may be.
+-- Offsets where a cursor may be.
 use Rattle.std.proofs.Common.{◌≡◌, ◌==◌, Bool, true, false, ℕ, zero, suc, ◌≤◌, List, length, min, sym, ◌∙◌, refl, subst, inl, inr, arith}
 use Rattle.std.specs.Prelude.{◌&&◌, if◌then◌else◌, slice_index, take}
 use Rattle.std.specs.Str.{IsCharBoundary}
 use Rattle.std.proofs.lemmas.Bool.{and_parts, cases_Bool, eqb-true, false≢true}
 use Rattle.std.proofs.lemmas.Str.{IsCharBoundary-before_ascii}
-use Rattle.line_index.specs.Positions.{IsCursor, place_of, units}
+use Rattle.line_index.specs.Positions.{IsCursor, offset_of, units}
 use Rattle.line_index.specs.declared.PositionEncoding.{PositionEncoding}
 use Rattle.line_index.proofs.OffsetLemmas.{named}
-use Rattle.editor_diagnostics.specs.Places.{IsReadAt, cursor_at, position_in, position_of}
+use Rattle.editor_diagnostics.specs.Positions.{IsReadAt, cursor_at, position_in, position_of}
 
 abbrev parted : List ℕ → ℕ → Bool
 parted text k = slice_index text k == 13 && slice_index text (suc k) == 10
@@ -39,11 +39,11 @@ is_cursor text (suc k) boundary = elim (cases_Bool (parted text k)) [
   | inr apart ↦ subst (λ (b : Bool). IsCursor text (if b then k else suc k)) (sym apart) (elsewhere text k boundary apart)
 ]
 
--- a client finds the place of each byte by its position
+-- a client finds each byte by its position
 pub read_at : (encoding : PositionEncoding) (text : List ℕ) (offset : ℕ) → IsReadAt encoding text offset (position_of encoding text offset)
 read_at encoding text offset = λ utf8 boundary. (
     let within : min offset (length text) ≡ offset = omega (arith, boundary.0) in
     let cursor : IsCursor text (cursor_at text offset) = is_cursor text offset boundary in
-    subst (λ (k : ℕ). place_of encoding (units encoding text) (position_in encoding text (cursor_at text k)) ≡ length (units encoding (take
+    subst (λ (k : ℕ). offset_of encoding (units encoding text) (position_in encoding text (cursor_at text k)) ≡ length (units encoding (take
     (cursor_at text offset) text))) (sym within)
     (named encoding text (cursor_at text offset) _ _ utf8 cursor.boundary.0 cursor refl refl))

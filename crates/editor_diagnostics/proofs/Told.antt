@@ -13,7 +13,7 @@ use Rattle.json.specs.Tree.{items_tokens, json_tokens}
 use Rattle.json.specs.Value.{items_of}
 use Rattle.apollo_lexer.specs.Diagnostics.{Diagnostic}
 use Rattle.line_index.specs.declared.PositionEncoding.{PositionEncoding}
-use Rattle.editor_diagnostics.specs.Places.{cursor_at, position_in, position_of}
+use Rattle.editor_diagnostics.specs.Positions.{cursor_at, position_in, position_of}
 use Rattle.editor_diagnostics.specs.Publication.{diagnostic_of, diagnostics_of, more_diagnostics, publish_params}
 use Rattle.editor_diagnostics.specs.Tokens.{all_tokens, front_tokens}
 
@@ -46,7 +46,7 @@ one_more {E = E} {Y = Y} g things k thing first old new is within so_far added =
 min_again : (x n : ℕ) → min (min x n) n ≡ min x n
 min_again x n = omega arith
 
--- no place is after the end
+-- no offset is after the end
 pub capped : (encoding : PositionEncoding) (text : List ℕ) (x : ℕ) → position_of encoding text (min x (length text)) ≡ position_of encoding text x
 capped encoding text x = ap (λ (k : ℕ). position_in encoding text (cursor_at text k)) (min_again x (length text))
 

@@ -1,3 +1,3 @@
-pub mod Places
+pub mod Positions
 pub mod Publication
 pub mod Tokens

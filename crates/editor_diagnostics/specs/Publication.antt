@@ -7,7 +7,7 @@ use Rattle.apollo_lexer.specs.Diagnostics.{Diagnostic, subject_text}
 use Rattle.line_index.specs.declared.Position.{Position}
 use Rattle.line_index.specs.declared.PositionEncoding.{PositionEncoding}
 use Rattle.rpc_messages.specs.Messages.{IsNoticeOf}
-use Rattle.editor_diagnostics.specs.Places.{IsReadAt, position_of, range_value}
+use Rattle.editor_diagnostics.specs.Positions.{IsReadAt, position_of, range_value}
 
 -- ---- diagnostics
 
@@ -56,7 +56,7 @@ publish_params uri None diagnostics = member (codes "uri") (string uri) (member 
 abbrev pub IsNoticeAbout : List ℕ → Option ℤ → List Json → List ℕ → Type 0
 IsNoticeAbout uri version diagnostics body = IsNoticeOf method (publish_params uri version diagnostics) body
 
--- the body tells the errors of this text, at the places where a client reads them
+-- the body tells the errors of this text, at the positions where a client reads them
 pub record IsPublication
     (uri : List ℕ) (version : Option ℤ) (encoding : PositionEncoding) (text : List ℕ) (errors : List Diagnostic) (body : List ℕ) : Type 0 where
   pub notice : IsNoticeAbout uri version (diagnostics_of encoding text errors) body

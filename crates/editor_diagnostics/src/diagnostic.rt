@@ -2,10 +2,10 @@
 ghost use Rattle.std.specs.Prelude.{◌≡◌, ◌++◌, OnOk, flat_map};
 ghost use Rattle.json.specs.Tree.{json_tokens, members_tokens};
 ghost use Rattle.rpc_messages.specs.Pieces.{tokens_of};
-ghost use Rattle.editor_diagnostics.specs.Places.{position_of};
+ghost use Rattle.editor_diagnostics.specs.Positions.{position_of};
 ghost use Rattle.editor_diagnostics.specs.Publication.{diagnostic, diagnostic_of, words_of};
 
-use crate::places::Places;
+use crate::positions::Positions;
 use apollo_lexer::Error;
 use rpc_messages::Piece;
 use std::alloc::AllocError;
@@ -31,16 +31,16 @@ fn words<'p>(message: &'p str) -> [Piece<'p>; 7]
 /// Adds a diagnostic from one byte offset up to another.
 pub(crate) fn push_diagnostic<'p>(
     pieces: &mut Vec<Piece<'p>>,
-    places: &Places<'_>,
+    positions: &Positions<'_>,
     start: usize,
     end: usize,
     message: &'p str,
 ) -> Result<(), AllocError>
     ensures { OnOk result (flat_map tokens_of pieces.new.items ≡ flat_map tokens_of pieces.old.items
-        ++ json_tokens (diagnostic (position_of places.now.encoding places.now.text.now start) (position_of places.now.encoding places.now.text.now end) message.now)) }
+        ++ json_tokens (diagnostic (position_of positions.now.encoding positions.now.text.now start) (position_of positions.now.encoding positions.now.text.now end) message.now)) }
 {
     pieces.extend_from_slice(&[Piece::Object, Piece::Key("range")])?;
-    pieces.extend_from_slice(&places.range(start, end))?;
+    pieces.extend_from_slice(&positions.range(start, end))?;
     pieces.extend_from_slice(&words(message))?;
     Ok(())
 }
@@ -49,13 +49,13 @@ pub(crate) fn push_diagnostic<'p>(
 #[tactic(auto, using(crate::proofs::Told::capped))]
 pub(crate) fn push_error<'p>(
     pieces: &mut Vec<Piece<'p>>,
-    places: &Places<'_>,
+    positions: &Positions<'_>,
     error: &'p Error,
 ) -> Result<(), AllocError>
     ensures { OnOk result (flat_map tokens_of pieces.new.items ≡ flat_map tokens_of pieces.old.items
-        ++ json_tokens (diagnostic_of places.now.encoding places.now.text.now error.now)) }
+        ++ json_tokens (diagnostic_of positions.now.encoding positions.now.text.now error.now)) }
 {
     let start = error.index();
-    let end = places.end_of(start, error.data().len());
-    push_diagnostic(pieces, places, start, end, error.message())
+    let end = positions.end_of(start, error.data().len());
+    push_diagnostic(pieces, positions, start, end, error.message())
 }

@@ -6,9 +6,9 @@
 #![tactic(auto)]
 
 mod diagnostic;
-mod places;
+mod positions;
 mod publishing;
 
 pub use diagnostic::TOLD;
-pub use places::Places;
+pub use positions::Positions;
 pub use publishing::{publication, withdrawal};

@@ -10,7 +10,7 @@ ghost use Rattle.editor_diagnostics.specs.Publication.{IsNoticeAbout, IsPublicat
 ghost use Rattle.editor_diagnostics.specs.Tokens.{all_tokens, front_tokens};
 
 use crate::diagnostic::{TOLD, push_diagnostic, push_error};
-use crate::places::Places;
+use crate::positions::Positions;
 use apollo_lexer::Error;
 use rpc_messages::{Piece, notice};
 use std::alloc::{AllocError, Global};
@@ -56,14 +56,14 @@ fn first_errors(errors: &[Error]) -> &[Error]
 // Adds the diagnostics of errors.
 fn push_errors<'p>(
     pieces: &mut Vec<Piece<'p>>,
-    places: &Places<'_>,
+    positions: &Positions<'_>,
     errors: &'p [Error],
 ) -> Result<(), AllocError>
     ensures { OnOk result (flat_map tokens_of pieces.new.items ≡ flat_map tokens_of pieces.old.items
-        ++ all_tokens places.now.encoding places.now.text.now errors.now) }
+        ++ all_tokens positions.now.encoding positions.now.text.now errors.now) }
 {
     for error in errors {
-        push_error(pieces, places, error)?;
+        push_error(pieces, positions, error)?;
     }
     Ok(())
 }
@@ -85,18 +85,18 @@ fn words_for(alloc: Global, more: usize) -> Result<String, AllocError>
 // Adds how many more errors there are, unless there are none.
 fn push_more<'p>(
     pieces: &mut Vec<Piece<'p>>,
-    places: &Places<'_>,
+    positions: &Positions<'_>,
     more: usize,
     words: &'p str,
 ) -> Result<(), AllocError>
     requires { words.now ≡ more_words more }
     ensures { OnOk result (flat_map tokens_of pieces.new.items ≡ flat_map tokens_of pieces.old.items
-        ++ flat_map json_tokens (more_diagnostics places.now.encoding places.now.text.now more)) }
+        ++ flat_map json_tokens (more_diagnostics positions.now.encoding positions.now.text.now more)) }
 {
     if more == 0 {
         return Ok(());
     }
-    push_diagnostic(pieces, places, 0, 0, words)
+    push_diagnostic(pieces, positions, 0, 0, words)
 }
 
 // Ends the parameters, and gives the notice.
@@ -116,19 +116,19 @@ pub fn publication(
     alloc: Global,
     uri: &str,
     version: Option<i64>,
-    places: &Places<'_>,
+    positions: &Positions<'_>,
     errors: &[Error],
 ) -> Result<Vec<u8>, AllocError>
     ensures notifies { IfOk result (λ body. IsNotice body.items) }
-    ensures published { IfOk result (λ body. IsPublication uri.now version places.now.encoding places.now.text.now errors.now body.items) }
+    ensures published { IfOk result (λ body. IsPublication uri.now version positions.now.encoding positions.now.text.now errors.now body.items) }
 {
     let told = first_errors(errors);
     let more = errors.len().saturating_sub(TOLD);
     let words = words_for(alloc, more)?;
     let mut pieces = Vec::new(alloc);
     push_front(&mut pieces, uri, version)?;
-    push_errors(&mut pieces, places, told)?;
-    push_more(&mut pieces, places, more, words.as_str())?;
+    push_errors(&mut pieces, positions, told)?;
+    push_more(&mut pieces, positions, more, words.as_str())?;
     let body = end(alloc, &mut pieces)?;
     Ok(body)
 }

@@ -7,13 +7,13 @@ use Rattle.std.proofs.lemmas.Bool.{cases_lt}
 use Rattle.std.proofs.lemmas.List.{take-append-drop, take_at, drop_at}
 use Rattle.std.proofs.lemmas.Str.{IsUtf8-take, IsUtf8-drop, IsUtf8-between, IsUtf8-append}
 use Rattle.std.proofs.Math.Seq.{take-add}
-use Rattle.line_index.specs.Positions.{units, place_of}
+use Rattle.line_index.specs.Positions.{units, offset_of}
 use Rattle.line_index.specs.declared.PositionEncoding.{PositionEncoding}
 use Rattle.line_index.proofs.TextLemmas.{units-append}
 use Rattle.editor_text.specs.declared.PositionRange.{PositionRange}
 use Rattle.editor_text.specs.Client.{AreOffsets, replaced}
 
--- the units on both sides of a place
+-- the units on both sides of an offset
 split : (e : PositionEncoding) (text : List ℕ) (k : ℕ) → IsUtf8 text → IsCharBoundary text k → units e text ≡ units e (take k text) ++ units e (drop k text)
 split e text k u b = ap (units e) (sym (take-append-drop k text)) ∙ units-append e (take k text) (drop k text) (IsUtf8-take text k u b) (IsUtf8-drop text k u b)
 
@@ -31,14 +31,14 @@ pub replaced-units : (e : PositionEncoding) (text new : List ℕ) (range : Posit
 replaced-units e text new range start end u v h =
     let left : IsUtf8 (take start text) = IsUtf8-take text start u h.starts in
     let right : IsUtf8 (drop end text) = IsUtf8-drop text end u h.ends in
-    let i : ℕ = place_of e (units e text) range.start in
-    let j : ℕ = max (place_of e (units e text) range.start) (place_of e (units e text) range.end) in
+    let i : ℕ = offset_of e (units e text) range.start in
+    let j : ℕ = max (offset_of e (units e text) range.start) (offset_of e (units e text) range.end) in
     units-append e (take start text ++ new) (drop end text) (IsUtf8-append (take start text) new left v) right
     ∙ ap (λ (w : List ℕ). w ++ units e (drop end text)) (units-append e (take start text) new left v)
-    ∙ ap (λ (w : List ℕ). (w ++ units e new) ++ units e (drop end text)) (sym (front e text start i u h.starts h.start_place))
-    ∙ ap (λ (w : List ℕ). (take i (units e text) ++ units e new) ++ w) (sym (back e text end j u h.ends h.end_place))
+    ∙ ap (λ (w : List ℕ). (w ++ units e new) ++ units e (drop end text)) (sym (front e text start i u h.starts h.start_offset))
+    ∙ ap (λ (w : List ℕ). (take i (units e text) ++ units e new) ++ w) (sym (back e text end j u h.ends h.end_offset))
 
--- a later place has no fewer units before it
+-- a later offset has no fewer units before it
 mono : (e : PositionEncoding) (text : List ℕ) (a b : ℕ) → IsUtf8 text → a ≤ b → IsCharBoundary text a → IsCharBoundary text b
     → length (units e (take a text)) ≤ length (units e (take b text))
 mono e text a b u le x y =
@@ -49,7 +49,7 @@ mono e text a b u le x y =
 
 pub are-offsets : (e : PositionEncoding) (text : List ℕ) (range : PositionRange) (start end later : ℕ) → IsUtf8 text → IsCharBoundary text start
     → IsCharBoundary text end
-    → length (units e (take start text)) ≡ place_of e (units e text) range.start → length (units e (take end text)) ≡ place_of e (units e text) range.end
+    → length (units e (take start text)) ≡ offset_of e (units e text) range.start → length (units e (take end text)) ≡ offset_of e (units e text) range.end
     → later ≡ max end start
     → AreOffsets e text range start later
 are-offsets e text range start end later u x y at to is =
@@ -61,9 +61,9 @@ are-offsets e text range start end later u x y at to is =
             ordered = omega arith;
             starts = x;
             ends = subst (IsCharBoundary text) same x;
-            start_place = at;
-            end_place = ap (λ (n : ℕ). length (units e (take n text))) (sym same) ∙
-                (let m : length (units e (take start text)) ≡ max (place_of e (units e text) range.start) (place_of e (units e text) range.end) = omega (
+            start_offset = at;
+            end_offset = ap (λ (n : ℕ). length (units e (take n text))) (sym same) ∙
+                (let m : length (units e (take start text)) ≡ max (offset_of e (units e text) range.start) (offset_of e (units e text) range.end) = omega (
                   arith,
                   at,
                   to,
@@ -77,9 +77,9 @@ are-offsets e text range start end later u x y at to is =
             ordered = omega arith;
             starts = x;
             ends = subst (IsCharBoundary text) same y;
-            start_place = at;
-            end_place = ap (λ (n : ℕ). length (units e (take n text))) (sym same) ∙
-                (let m : length (units e (take end text)) ≡ max (place_of e (units e text) range.start) (place_of e (units e text) range.end) = omega (
+            start_offset = at;
+            end_offset = ap (λ (n : ℕ). length (units e (take n text))) (sym same) ∙
+                (let m : length (units e (take end text)) ≡ max (offset_of e (units e text) range.start) (offset_of e (units e text) range.end) = omega (
                   arith,
                   at,
                   to,

@@ -43,15 +43,15 @@ pub(crate) fn report(
     let mut report = String::new(alloc);
     for error in tree.errors() {
         let offset = offset_of(source, error);
-        let place = lines.line_column(offset);
-        let line = place.line.saturating_add(1);
+        let position = lines.line_column(offset);
+        let line = position.line.saturating_add(1);
         let column = lines.column_in_chars(offset).saturating_add(1);
         let message = error.message();
         writeln!(report, "{line}:{column}: {message}")?;
         underline(
             &mut report,
             lines.line_text(offset),
-            place.column,
+            position.column,
             error.data(),
         )?;
     }

@@ -10,7 +10,7 @@ use Rattle.apollo_lexer.specs.declared.token.Token.{Token}
 use Rattle.apollo_lexer.specs.declared.lex_error.LexError.{LexError}
 use Rattle.apollo_lexer.specs.declared.lexer.Lexer.{Lexer}
 use Rattle.apollo_lexer.specs.Answers.{answers_left, answer_of, Advances}
-use Rattle.apollo_lexer.proofs.Law.{answers-few, limited-length}
+use Rattle.apollo_lexer.proofs.Law.{answers-fit, limited-length}
 
 -- a lexer without a limit gives as many answers as the text has items
 pub counted : (lexer : Lexer) (text : List ℕ) (n : ℕ) → answers_left lexer ≡ limited usize_max (items_of text)
@@ -19,7 +19,7 @@ counted lexer text n left ran =
     let all : n ≡ length (answers_left lexer) =
     count_from_yields_List lexer n ran (YieldsList-from_shown Advances answer_of answers_left (λ t u h. ap length h.answers.0) (λ t x u h. h.answers) lexer) in
     fits n (length (items_of text)) (length (limited usize_max (items_of text))) (all ∙ ap length left) (limited-length usize_max (items_of text))
-    (omega (arith, answers-few lexer, all, ap length left))
+    (omega (arith, answers-fit lexer, all, ap length left))
   where
     fits : (n m a : ℕ) → n ≡ a → a ≡ min m (usize_max + 1) → a < 2 ^ 64 → n ≡ m
     fits n m a e f less = grind (arith, nat_tests)

@@ -8,9 +8,9 @@ use Rattle.apollo_parser.specs.LexerAnswers.{error_answer}
 use Rattle.apollo_parser.specs.Diagnostics.{Diagnostic}
 use Rattle.apollo_parser.specs.LexErrors.{lex_subject, IsLexMessage}
 use Rattle.gqlcst_run.specs.Rendering.{line, AreLines, IsErrorForm, IsAnswerForm, error_count}
-use Rattle.gqlcst_run.specs.Paging.{Paged, Puts, PutsSome}
+use Rattle.gqlcst_run.specs.Buffering.{Buffered, Puts, PutsSome}
 use Rattle.gqlcst_run.proofs.Lines.{lines_none, lines-more}
-use Rattle.gqlcst_run.proofs.Pages.{puts_nothing, puts_then}
+use Rattle.gqlcst_run.proofs.Buffers.{puts_nothing, puts_then}
 
 -- The first of all answers are printed, with this number of errors among them, and these are left.
 pub record ArePrinted (all left : List Answer) (errors : ℕ) (output : List ℕ) : Type 0 where
@@ -19,14 +19,14 @@ pub record ArePrinted (all left : List Answer) (errors : ℕ) (output : List ℕ
   pub lines : AreLines IsAnswerForm printed output
   pub counted : errors ≡ error_count printed
 
-pub none_put : (all : List Answer) (s : Paged) → PutsSome (ArePrinted all all 0) s s
+pub none_put : (all : List Answer) (s : Buffered) → PutsSome (ArePrinted all all 0) s s
 none_put all s = record { output = []; made = record { printed = []; joined = refl; lines = lines_none IsAnswerForm; counted = refl }; puts = puts_nothing s }
 
 few-errors : (answers : List Answer) → error_count answers ≤ length answers
 few-errors answers = count_by-le-length (λ (a : Answer). not (is_token a)) answers
 
 -- with the next answer there are no more errors than answers
-pub errors-within : (all old left : List Answer) (answer : Answer) (errors more : ℕ) (s t : Paged) → PutsSome (ArePrinted all old errors) s t
+pub errors-within : (all old left : List Answer) (answer : Answer) (errors more : ℕ) (s t : Buffered) → PutsSome (ArePrinted all old errors) s t
     → old ≡ answer ∷ left
     → more ≡ error_count (answer ∷ []) → errors + more ≤ length all
 errors-within all old left answer errors more s t p comes counts =
@@ -47,7 +47,7 @@ printed-more all old left answer output form errors more after h comes one count
   counted = omega (arith, count-more h.printed answer, h.counted, counts, sum);
 }
 
-pub item_put : (all old left : List Answer) (answer : Answer) (errors more after : ℕ) (s t u v : Paged) → PutsSome (ArePrinted all old errors) s t
+pub item_put : (all old left : List Answer) (answer : Answer) (errors more after : ℕ) (s t u v : Buffered) → PutsSome (ArePrinted all old errors) s t
     → old ≡ answer ∷ left
     → PutsSome (IsAnswerForm answer) t u → Puts u (10 ∷ []) v → more ≡ error_count (answer ∷ []) → after ≡ errors + more
     → PutsSome (ArePrinted all left after) s v
@@ -61,10 +61,10 @@ item_put all old left answer errors more after s t u v before comes one feed cou
 pub error-form : (limit : Bool) (text form : List ℕ) (index : ℕ) (error : Diagnostic) → error.subject ≡ lex_subject limit text → error.index ≡ index
     → IsLexMessage limit text error.message
     → IsErrorForm error form → IsAnswerForm (error_answer limit text index) form
-error-form true text form index error subject place message one =
-    record { error = error; of_answer = (λ j. record { message = message j; subject = subject j; index = place j }); form = one }
-error-form false text form index error subject place message one =
-    record { error = error; of_answer = (subject, place, message); form = one }
+error-form true text form index error subject offset message one =
+    record { error = error; of_answer = (λ j. record { message = message j; subject = subject j; index = offset j }); form = one }
+error-form false text form index error subject offset message one =
+    record { error = error; of_answer = (subject, offset, message); form = one }
 
 -- where none is left, all answers are printed
 pub all-printed : (wanted all left : List Answer) (errors : ℕ) (output : List ℕ) → all ≡ wanted → left ≡ [] → ArePrinted all left errors output

@@ -2,6 +2,6 @@ pub mod Forms
 pub mod Items
 pub mod Lines
 pub mod Outputs
-pub mod Pages
+pub mod Buffers
 pub mod Quoting
 pub mod Verdicts

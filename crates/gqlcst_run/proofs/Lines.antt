@@ -4,13 +4,13 @@ use Rattle.std.specs.List.{flat_map, AllZip}
 use Rattle.std.proofs.lemmas.List.{append-nil, take_more}
 use Rattle.std.proofs.lemmas.Grind.{flat_map-append}
 use Rattle.gqlcst_run.specs.Rendering.{line, AreLines}
-use Rattle.gqlcst_run.specs.Paging.{Paged, PutsSome}
-use Rattle.gqlcst_run.proofs.Pages.{puts_nothing}
+use Rattle.gqlcst_run.specs.Buffering.{Buffered, PutsSome}
+use Rattle.gqlcst_run.proofs.Buffers.{puts_nothing}
 
 pub lines_none : {A : Type 0} (R : A → List ℕ → Type 0) → AreLines R [] []
 lines_none R = record { forms = []; each = tt; joined = refl }
 
-pub lines_put_none : {A : Type 0} (R : A → List ℕ → Type 0) (s : Paged) → PutsSome (AreLines R []) s s
+pub lines_put_none : {A : Type 0} (R : A → List ℕ → Type 0) (s : Buffered) → PutsSome (AreLines R []) s s
 lines_put_none R s = record { output = []; made = lines_none R; puts = puts_nothing s }
 
 zip-more : {A : Type 0} (R : A → List ℕ → Type 0) (values : List A) (forms : List (List ℕ)) (value : A) (form : List ℕ) → AllZip R values forms → R value form

@@ -16,8 +16,8 @@ use Rattle.std.proofs.lemmas.Bool.{and_parts}
 use Rattle.std.proofs.lemmas.Bool.Decides.{nat_tests}
 use Rattle.gqlcst_run.specs.Rendering.{IsForm, IsFormAfter}
 use Rattle.gqlcst_run.specs.Quoted.{is_plain, is_control, IsEscaped}
-use Rattle.gqlcst_run.specs.Paging.{Paged, Puts, PutsSome, PutsAny}
-use Rattle.gqlcst_run.proofs.Pages.{puts_nothing, puts_then}
+use Rattle.gqlcst_run.specs.Buffering.{Buffered, Puts, PutsSome, PutsAny}
+use Rattle.gqlcst_run.proofs.Buffers.{puts_nothing, puts_then}
 
 -- a byte that is written as a letter after a backslash
 escape-letter : (b : ℕ) → debug_escape_letter b 34 ≢ 0 → debug_escape 34 b ≡ 92 ∷ debug_escape_letter b 34 ∷ []
@@ -31,27 +31,27 @@ unfolding debug_escape
 escape-other b control none test = rw (eq-eqb (debug_escape_letter b 34) 0 none, test)
 
 -- the same of the bytes that are put
-pub letter_put : (b letter : ℕ) (s t : Paged) → letter ≡ debug_escape_letter b 34 → letter ≢ 0 → Puts s (92 ∷ letter ∷ []) t → Puts s (debug_escape 34 b) t
+pub letter_put : (b letter : ℕ) (s t : Buffered) → letter ≡ debug_escape_letter b 34 → letter ≢ 0 → Puts s (92 ∷ letter ∷ []) t → Puts s (debug_escape 34 b) t
 letter_put b letter s t is some p =
     subst (λ (form : List ℕ). Puts s form t) (ap (λ (l : ℕ). 92 ∷ l ∷ []) is ∙ sym (escape-letter b (λ none. some (is ∙ none)))) p
 
-pub control_put : (b letter : ℕ) (control : Bool) (s t : Paged) → letter ≡ debug_escape_letter b 34 → letter ≡ 0 → control ≡ is_control b → control ≡ true
+pub control_put : (b letter : ℕ) (control : Bool) (s t : Buffered) → letter ≡ debug_escape_letter b 34 → letter ≡ 0 → control ≡ is_control b → control ≡ true
     → Puts s (codes "\\u{" ++ (digits 16 false b ++ codes "}")) t → Puts s (debug_escape 34 b) t
 control_put b letter control s t is none tests passes p =
     let form : debug_escape 34 b ≡ codes "\\u{" ++ (digits 16 false b ++ codes "}") = escape-other b true (sym is ∙ none) (sym tests ∙ passes) in
     subst (λ (bytes : List ℕ). Puts s bytes t) (sym form) p
 
-pub other_put : (b letter : ℕ) (control : Bool) (s t : Paged) → letter ≡ debug_escape_letter b 34 → letter ≡ 0 → control ≡ is_control b → control ≡ false
+pub other_put : (b letter : ℕ) (control : Bool) (s t : Buffered) → letter ≡ debug_escape_letter b 34 → letter ≡ 0 → control ≡ is_control b → control ≡ false
     → Puts s (b ∷ []) t → Puts s (debug_escape 34 b) t
 other_put b letter control s t is none tests fails p =
     let form : debug_escape 34 b ≡ b ∷ [] = escape-other b false (sym is ∙ none) (sym tests ∙ fails) in
     subst (λ (bytes : List ℕ). Puts s bytes t) (sym form) p
 
 -- one hex digit, or two
-pub hex_put_one : (b digit : ℕ) (s t : Paged) → b < 16 → digit ≡ digit_glyph false b → Puts s (digit ∷ []) t → Puts s (digits 16 false b) t
+pub hex_put_one : (b digit : ℕ) (s t : Buffered) → b < 16 → digit ≡ digit_glyph false b → Puts s (digit ∷ []) t → Puts s (digits 16 false b) t
 hex_put_one b digit s t small is p = subst (λ (form : List ℕ). Puts s form t) (ap (λ (d : ℕ). d ∷ []) is ∙ sym (hex_one_digit false b small)) p
 
-pub hex_put_two : (b high low : ℕ) (s t : Paged) → 16 ≤ b → b < 256 → high ≡ digit_glyph false (b / 16) → low ≡ digit_glyph false (b % 16)
+pub hex_put_two : (b high low : ℕ) (s t : Buffered) → 16 ≤ b → b < 256 → high ≡ digit_glyph false (b / 16) → low ≡ digit_glyph false (b % 16)
     → Puts s (high ∷ low ∷ []) t
     → Puts s (digits 16 false b) t
 hex_put_two b high low s t large small h l p = subst (λ (form : List ℕ). Puts s form t) (rw (h, l) (sym (hex_two_digits false b large small))) p
@@ -104,15 +104,15 @@ plain_front [] = refl
 plain_front (b ∷ text) = plain-next (is_plain b) b text refl (plain_front text)
 
 -- Some of the text is written, and this is left.
-pub record IsPartWritten (text rest : List ℕ) (old new : Paged) : Type 0 where
+pub record IsPartWritten (text rest : List ℕ) (old new : Buffered) : Type 0 where
   pub front : List ℕ
   pub joined : text ≡ front ++ rest
   pub puts : Puts old (flat_map (debug_escape 34) front) new
 
-pub part_none : (text : List ℕ) (s : Paged) → IsPartWritten text text s s
+pub part_none : (text : List ℕ) (s : Buffered) → IsPartWritten text text s s
 part_none text s = record { front = []; joined = refl; puts = puts_nothing s }
 
-part-more : (text rest : List ℕ) (n : ℕ) (s t u : Paged) → IsPartWritten text rest s t → Puts t (flat_map (debug_escape 34) (take n rest)) u
+part-more : (text rest : List ℕ) (n : ℕ) (s t u : Buffered) → IsPartWritten text rest s t → Puts t (flat_map (debug_escape 34) (take n rest)) u
     → IsPartWritten text (drop n rest) s u
 part-more text rest n s t u h p = record {
   front = h.front ++ take n rest;
@@ -121,11 +121,11 @@ part-more text rest n s t u h p = record {
       (puts_then s t u (flat_map (debug_escape 34) h.front) (flat_map (debug_escape 34) (take n rest)) h.puts p);
 }
 
-pub part_more : (text rest : List ℕ) (n : ℕ) (s t u : Paged) → IsPartWritten text rest s t → Puts t (flat_map (debug_escape 34) (take n rest)) u
+pub part_more : (text rest : List ℕ) (n : ℕ) (s t u : Buffered) → IsPartWritten text rest s t → Puts t (flat_map (debug_escape 34) (take n rest)) u
     → IsPartWritten text (take (length rest - n) (drop n rest)) s u
 part_more text rest n s t u h p = subst (λ (more : List ℕ). IsPartWritten text more s u) (sym (take_rest rest n)) (part-more text rest n s t u h p)
 
-pub part_all : (text : List ℕ) (s t : Paged) → IsPartWritten text [] s t → Puts s (flat_map (debug_escape 34) text) t
+pub part_all : (text : List ℕ) (s t : Buffered) → IsPartWritten text [] s t → Puts s (flat_map (debug_escape 34) text) t
 part_all text s t h = subst (λ (bs : List ℕ). Puts s (flat_map (debug_escape 34) bs) t) (sym (append-nil h.front) ∙ sym h.joined) h.puts
 
 one-escape : (bytes : List ℕ) → 0 < length bytes → flat_map (debug_escape 34) (take 1 bytes) ≡ debug_escape 34 (get_or bytes 0 0)
@@ -133,11 +133,11 @@ one-escape [] some = absurd (omega arith)
 one-escape (b ∷ bytes) some = append-nil (debug_escape 34 b)
 
 -- the bytes at the front, and one escape
-pub front_put : (bytes : List ℕ) (n : ℕ) (s t : Paged) → n ≡ prefix_len is_plain bytes → Puts s (take n bytes) t
+pub front_put : (bytes : List ℕ) (n : ℕ) (s t : Buffered) → n ≡ prefix_len is_plain bytes → Puts s (take n bytes) t
     → Puts s (flat_map (debug_escape 34) (take n bytes)) t
 front_put bytes n s t is p = subst (λ (form : List ℕ). Puts s form t) (rw is (sym (plain_front bytes))) p
 
-pub escape_put : (bytes : List ℕ) (s t : Paged) → 0 < length bytes → Puts s (debug_escape 34 (get_or bytes 0 0)) t
+pub escape_put : (bytes : List ℕ) (s t : Buffered) → 0 < length bytes → Puts s (debug_escape 34 (get_or bytes 0 0)) t
     → Puts s (flat_map (debug_escape 34) (take 1 bytes)) t
 escape_put bytes s t some p = subst (λ (form : List ℕ). Puts s form t) (sym (one-escape bytes some)) p
 
@@ -147,10 +147,10 @@ ascii-at [] i all = omega arith
 ascii-at (b ∷ text) zero all = ltb-true b 128 (and_parts (is_ascii b) (list_all is_ascii text) all).0
 ascii-at (b ∷ text) (suc i) all = ascii-at text i (and_parts (is_ascii b) (list_all is_ascii text) all).1
 
-pub ascii_put : (text bytes : List ℕ) (s t : Paged) → bytes ≡ text → Puts s (flat_map (debug_escape 34) bytes) t → PutsSome (IsEscaped text) s t
+pub ascii_put : (text bytes : List ℕ) (s t : Buffered) → bytes ≡ text → Puts s (flat_map (debug_escape 34) bytes) t → PutsSome (IsEscaped text) s t
 ascii_put text bytes s t is p = record { output = flat_map (debug_escape 34) bytes; made = λ ascii. ap (flat_map (debug_escape 34)) is; puts = p }
 
-pub any_put : (text : List ℕ) (test : Bool) (s t : Paged) → MatchBool test (IsAscii text) (IsNotAscii text) → test ≡ false → PutsAny s t
+pub any_put : (text : List ℕ) (test : Bool) (s t : Buffered) → MatchBool test (IsAscii text) (IsNotAscii text) → test ≡ false → PutsAny s t
     → PutsSome (IsEscaped text) s t
 any_put text true s t cases fails p = absurd (true≢false fails)
 any_put text false s t other fails p = record { output = p.output; made = λ ascii. absurd (omega (arith, ascii-at text other.0 ascii, other.1)); puts = p.puts }
@@ -171,7 +171,7 @@ plain-all (b ∷ text) all =
     let each = and_parts (is_plain b) (list_all is_plain text) all in
     rw (plain-one b each.0, plain-all text each.1) refl
 
-pub plain_put : (front text bytes : List ℕ) (plain : Bool) (s t : Paged) → bytes ≡ text → plain ≡ list_all is_plain bytes → plain ≡ true
+pub plain_put : (front text bytes : List ℕ) (plain : Bool) (s t : Buffered) → bytes ≡ text → plain ≡ list_all is_plain bytes → plain ≡ true
     → Puts s (front ++ (34 ∷ (bytes ++ 34 ∷ []))) t → PutsSome (IsFormAfter front (debug_str text)) s t
 plain_put front text bytes plain s t is tests all p = record {
   output = front ++ (34 ∷ (bytes ++ 34 ∷ []));
@@ -184,7 +184,7 @@ plain_put front text bytes plain s t is tests all p = record {
 }
 
 -- any text, in quotes after another text
-pub quoted_put : (front text : List ℕ) (s t u : Paged) → Puts s front t → PutsSome (IsForm (debug_str text)) t u
+pub quoted_put : (front text : List ℕ) (s t u : Buffered) → Puts s front t → PutsSome (IsForm (debug_str text)) t u
     → PutsSome (IsFormAfter front (debug_str text)) s u
 quoted_put front text s t u p q = record {
   output = front ++ q.output;
@@ -193,7 +193,7 @@ quoted_put front text s t u p q = record {
 }
 
 -- a text in quotes after none
-pub nothing_before : (stated : Option (List ℕ)) (s t : Paged) → PutsSome (IsFormAfter [] stated) s t → PutsSome (IsForm stated) s t
+pub nothing_before : (stated : Option (List ℕ)) (s t : Buffered) → PutsSome (IsFormAfter [] stated) s t → PutsSome (IsForm stated) s t
 nothing_before stated s t p = record { output = p.output; made = subst (IsForm stated) (sym p.made.joined) p.made.stated_form; puts = p.puts }
 
 -- the form of a text in three parts is made of the forms of the parts, one after the other

@@ -3,10 +3,10 @@ use Rattle.std.proofs.Common.{◌≡◌, ℕ, ◌<◌, List, [], ◌∷◌, ◌+
 use Rattle.std.specs.Prelude.{decimal}
 use Rattle.apollo_parser.specs.Diagnostics.{Diagnostic}
 use Rattle.gqlcst_run.specs.Rendering.{line, AreLines, IsErrorForm, IsReport, IsVerdict}
-use Rattle.gqlcst_run.specs.Paging.{Paged, Puts, PutsSome}
-use Rattle.gqlcst_run.proofs.Pages.{puts_then}
+use Rattle.gqlcst_run.specs.Buffering.{Buffered, Puts, PutsSome}
+use Rattle.gqlcst_run.proofs.Buffers.{puts_then}
 
-pub clean_put : (errors : List Diagnostic) (s t : Paged) → length errors ≡ 0 → Puts s (codes "clean\n") t → PutsSome (IsVerdict errors) s t
+pub clean_put : (errors : List Diagnostic) (s t : Buffered) → length errors ≡ 0 → Puts s (codes "clean\n") t → PutsSome (IsVerdict errors) s t
 clean_put [] s t none p = record { output = codes "clean\n"; made = refl; puts = p }
 clean_put (error ∷ errors) s t none p = absurd (omega arith)
 
@@ -14,7 +14,7 @@ verdict-report : (errors : List Diagnostic) (output : List ℕ) → 0 < length e
 verdict-report [] output some report = absurd (omega arith)
 verdict-report (error ∷ errors) output some report = report
 
-pub report_put : (errors : List Diagnostic) (count : ℕ) (s t u v w : Paged) → 0 < length errors → PutsSome (AreLines IsErrorForm errors) s t
+pub report_put : (errors : List Diagnostic) (count : ℕ) (s t u v w : Buffered) → 0 < length errors → PutsSome (AreLines IsErrorForm errors) s t
     → Puts t (codes "errors: ") u → count ≡ length errors
     → Puts u (decimal count) v → Puts v (codes "\n") w → PutsSome (IsVerdict errors) s w
 report_put errors count s t u v w some lines p counts q r =

@@ -1,7 +1,7 @@
 pub mod Parsing
 pub mod Rendering
 pub mod Passing
-pub mod Paging
+pub mod Buffering
 pub mod Quoted
 pub mod Program
 pub mod Ending

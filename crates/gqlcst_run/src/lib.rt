@@ -7,7 +7,7 @@
 
 pub mod ending;
 mod finding;
-mod page;
+mod output_buffer;
 mod parsing;
 mod program;
 mod rendering;

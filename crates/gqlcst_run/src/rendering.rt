@@ -1,4 +1,4 @@
-// What is written, put on a page.
+// What is written, put in a buffer.
 mod digits;
 mod errors;
 mod kind_name;

@@ -2,8 +2,8 @@
 use Rattle.std.specs.Prelude.{◌≡◌, ◌≢◌, ℕ, Bool, true, false, List, Result, Ok, Err, string_bytes}
 use Rattle.gqlfmt_files.specs.declared.settling.Mode.{Mode}
 use Rattle.gqlfmt_files.specs.declared.settling.Mode.TheVariants.{Write}
-use Rattle.gqlfmt_files.specs.declared.settling.Outcome.{Outcome}
-use Rattle.gqlfmt_files.specs.declared.settling.Outcome.TheVariants.{Done, Found}
+use Rattle.gqlfmt_files.specs.declared.settling.Settled.{Settled}
+use Rattle.gqlfmt_files.specs.declared.settling.Settled.TheVariants.{Done, Found}
 use Rattle.gqlfmt_files.specs.declared.settling.Revised.{Revised}
 use Rattle.gqlfmt_files.specs.declared.settling.Revised.TheVariants.{Same, Changed, Refused}
 
@@ -15,7 +15,7 @@ module _ {S : Type 0} (replaces : S → List ℕ → List ℕ → Bool → S →
     pub call : replaces old path text done new
 
   -- A file is replaced only in mode write, by the text that the formatter made, which is another one. Else the files stay as they are.
-  abbrev pub Settles : {A E X : Type 0} → Mode → List ℕ → Revised A E → Result Outcome X → S → S → Type 0
+  abbrev pub Settles : {A E X : Type 0} → Mode → List ℕ → Revised A E → Result Settled X → S → S → Type 0
   Settles mode path Same (Ok Done) old new = new ≡ old
   Settles mode path Same (Ok Found) old new = ⊥
   Settles mode path Same (Err error) old new = ⊥

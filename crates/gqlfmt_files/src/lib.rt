@@ -8,4 +8,4 @@ mod files;
 mod settling;
 
 pub use files::Files;
-pub use settling::{Mode, Outcome, Revised, settle};
+pub use settling::{Mode, Revised, Settled, settle};

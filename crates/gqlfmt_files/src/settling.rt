@@ -29,7 +29,7 @@ pub enum Revised<A: Allocator, E> {
 
 /// What came of a text.
 #[derive(Clone, Copy)]
-pub enum Outcome {
+pub enum Settled {
     /// It has the layout now.
     Done,
     /// It has errors, or another layout in a mode that changes nothing.
@@ -42,18 +42,18 @@ pub fn settle<F: Files, A: Allocator, E>(
     path: &str,
     mode: Mode,
     revised: &Revised<A, E>,
-) -> io::Result<Outcome>
+) -> io::Result<Settled>
     ensures { Settles F.replaces mode path.now revised.now result files.old files.new }
 {
     match revised {
-        Revised::Same => Ok(Outcome::Done),
-        Revised::Refused(_) => Ok(Outcome::Found),
+        Revised::Same => Ok(Settled::Done),
+        Revised::Refused(_) => Ok(Settled::Found),
         Revised::Changed(text) => match mode {
             Mode::Write => {
                 files.replace(path, text.as_str())?;
-                Ok(Outcome::Done)
+                Ok(Settled::Done)
             }
-            Mode::Check | Mode::Diff => Ok(Outcome::Found),
+            Mode::Check | Mode::Diff => Ok(Settled::Found),
         },
     }
 }

@@ -3,12 +3,12 @@ use Rattle.std.proofs.Common.{◌≡◌, ◌≢◌, ℕ, List, [], inl, inr, sym
 use Rattle.apollo_parser.specs.declared.Limits.{Limits}
 use Rattle.gqlfmt_files.specs.declared.settling.Mode.{Mode}
 use Rattle.gqlfmt_files.specs.declared.settling.Mode.TheVariants.{Write, Check, Diff}
-use Rattle.gqlfmt_files.specs.declared.settling.Outcome.TheVariants.{Done, Found}
+use Rattle.gqlfmt_files.specs.declared.settling.Settled.TheVariants.{Done, Found}
 use Rattle.gqlfmt_files.specs.declared.settling.Revised.TheVariants.{Refused}
 use Rattle.gqlfmt_run.specs.declared.formatting.Refusal.{Refusal}
 use Rattle.gqlfmt_run.specs.declared.formatting.Refusal.TheVariants.{Errors, Outgrown}
 use Rattle.gqlfmt_run.specs.Formatting.{IsFormatted, IsRefused, IsChanged, IsRevised, IsShown}
-use Rattle.gqlfmt_run.specs.Input.{input_name, IsOutput, kept, outcome_of}
+use Rattle.gqlfmt_run.specs.Input.{input_name, IsOutput, kept, settled_of}
 
 pub of_same : (mode : Mode) (limits : Limits) (source output : List ℕ) → IsFormatted limits source source → output ≡ kept mode source
     → IsOutput mode limits source Done output
@@ -17,7 +17,7 @@ of_same Check limits source output formatted same = (formatted, same)
 of_same Diff limits source output formatted same = (formatted, same)
 
 pub of_changed : (mode : Mode) (limits : Limits) (source text output : List ℕ) → IsChanged limits source text
-    → (text ≢ source → IsShown mode input_name text output) → IsOutput mode limits source (outcome_of mode) output
+    → (text ≢ source → IsShown mode input_name text output) → IsOutput mode limits source (settled_of mode) output
 of_changed Write limits source text output changed shown =
     subst (λ (text : List ℕ). IsFormatted limits source text) (sym (shown changed.other)) changed.formatted
 of_changed Check limits source text output changed shown = inr (record { looks = λ e. (cc); text = text; changed = changed; shown = shown changed.other })

@@ -11,8 +11,8 @@ use Rattle.apollo_parser.specs.declared.Limits.{Limits}
 use Rattle.gqlfmt_files.specs.declared.settling.Mode.{Mode}
 use Rattle.gqlfmt_files.specs.declared.settling.Revised.{Revised}
 use Rattle.gqlfmt_files.specs.declared.settling.Revised.TheVariants.{Same, Changed, Refused}
-use Rattle.gqlfmt_files.specs.declared.settling.Outcome.{Outcome}
-use Rattle.gqlfmt_files.specs.declared.settling.Outcome.TheVariants.{Found}
+use Rattle.gqlfmt_files.specs.declared.settling.Settled.{Settled}
+use Rattle.gqlfmt_files.specs.declared.settling.Settled.TheVariants.{Found}
 use Rattle.gqlfmt_files.specs.Settling.{Settles}
 use Rattle.program_words.specs.Gqlfmt.{texts}
 use Rattle.gqlfmt_run.specs.declared.fault.FileFault.{FileFault}
@@ -62,12 +62,12 @@ module _ {S : Type 0} (reads : S → List ℕ → Option (List ℕ) → S → Ty
   formats-files mode limits (p ∷ paths) status old new some all input = (all, input)
 
   module _ (mode : Mode) (limits : Limits) where
-    abbrev Ends : List ℕ → Result Outcome FileFault → Desk S → Desk S → Type 0
+    abbrev Ends : List ℕ → Result Settled FileFault → Desk S → Desk S → Type 0
     Ends path ended old new = Handles reads replaces mode limits path ended old.files old.output new.files new.output
         × SaysOfFile path ended old.complaints new.complaints
 
     -- one file more
-    handles-more : (paths : List (List ℕ)) (status : ℕ) (path : List ℕ) (ended : Result Outcome FileFault) (old middle new : Desk S)
+    handles-more : (paths : List (List ℕ)) (status : ℕ) (path : List ℕ) (ended : Result Settled FileFault) (old middle new : Desk S)
         → HandlesAll reads replaces mode limits paths status old middle
         → Ends path ended middle new → HandlesAll reads replaces mode limits (paths ++ path ∷ []) (max status (status_of ended)) old new
     handles-more [] status path ended old middle new h one =
@@ -77,7 +77,7 @@ module _ {S : Type 0} (reads : S → List ℕ → Option (List ℕ) → S → Ty
         (h.0, max h.1 (status_of ended), h.2, (omega (arith, h.3)), h.4, h.5, handles-more paths h.1 path ended h.2 middle new h.6 one)
 
     -- the same where the path is the next of a list, as the code has it
-    pub handles-next : (items : List (Bor (List ℕ))) (i status one worst : ℕ) (d : Bor (List ℕ)) (ended : Result Outcome FileFault)
+    pub handles-next : (items : List (Bor (List ℕ))) (i status one worst : ℕ) (d : Bor (List ℕ)) (ended : Result Settled FileFault)
         (old middle new : Desk S) (said : Account) → i < length items
         → HandlesAll reads replaces mode limits (texts (take i items)) status old middle
         → Handles reads replaces mode limits (get_or items i d).now ended middle.files middle.output new.files new.output

@@ -5,12 +5,12 @@ use Rattle.byte_devices.specs.Devices.{Account}
 use Rattle.byte_devices.specs.Writing.{EndsWriting}
 use Rattle.byte_devices.specs.declared.fault.Fault.{Fault}
 use Rattle.byte_devices.specs.declared.fault.Fault.TheVariants.{Read, Utf8, Memory, Write}
-use Rattle.gqlfmt_files.specs.declared.settling.Outcome.{Outcome}
-use Rattle.gqlfmt_files.specs.declared.settling.Outcome.TheVariants.{Done, Found}
+use Rattle.gqlfmt_files.specs.declared.settling.Settled.{Settled}
+use Rattle.gqlfmt_files.specs.declared.settling.Settled.TheVariants.{Done, Found}
 use Rattle.gqlfmt_run.specs.declared.fault.FileFault.{FileFault}
 use Rattle.gqlfmt_run.specs.Complaints.{IsSilent, SaysOfFile}
 
-pub silent_says : (path : List ℕ) (outcome : Outcome) (old new : Account) → IsSilent {E = FileFault} (Ok outcome) old new → SaysOfFile path (Ok outcome) old new
+pub silent_says : (path : List ℕ) (settled : Settled) (old new : Account) → IsSilent {E = FileFault} (Ok settled) old new → SaysOfFile path (Ok settled) old new
 silent_says path Done old new same = same
 silent_says path Found old new any = any
 

@@ -4,8 +4,8 @@ use Rattle.byte_devices.specs.Devices.{Account, moved}
 use Rattle.byte_devices.specs.Writing.{IsBroken}
 use Rattle.byte_devices.specs.declared.fault.Fault.{Fault}
 use Rattle.byte_devices.specs.declared.fault.Fault.TheVariants.{Read, Utf8, Memory, Write}
-use Rattle.gqlfmt_files.specs.declared.settling.Outcome.{Outcome}
-use Rattle.gqlfmt_files.specs.declared.settling.Outcome.TheVariants.{Done, Found}
+use Rattle.gqlfmt_files.specs.declared.settling.Settled.{Settled}
+use Rattle.gqlfmt_files.specs.declared.settling.Settled.TheVariants.{Done, Found}
 use Rattle.gqlfmt_run.specs.declared.command.TheConstants.{NO_MEMORY}
 use Rattle.gqlfmt_run.specs.declared.fault.FileFault.{FileFault}
 use Rattle.gqlfmt_run.specs.declared.fault.FileFault.TheVariants.{NotRead, NotReplaced, Device}
@@ -25,20 +25,20 @@ abbrev pub Tells : List ℕ → Fault → Account → Account → Type 0
 Tells name fault old new = IsWritten (codes "gqlfmt: " ++ name ++ codes ": " ++ reason_of fault ++ codes "\n") old new ⊎ IsWritten NO_MEMORY.now old new
 
 -- What is said, by the outcome for the text: nothing where all is done, and why where it was not formatted. How errors are shown is not stated.
-abbrev pub Says : List ℕ → Result Outcome Fault → Account → Account → Type 0
+abbrev pub Says : List ℕ → Result Settled Fault → Account → Account → Type 0
 Says name (Ok Done) old new = new ≡ old
 Says name (Ok Found) old new = Unit {0}
 Says name (Err fault) old new = Tells name fault old new
 
 -- The same of a file. The words for the errors of a file system are not stated.
-abbrev pub SaysOfFile : List ℕ → Result Outcome FileFault → Account → Account → Type 0
-SaysOfFile path (Ok outcome) old new = Says path (Ok outcome) old new
+abbrev pub SaysOfFile : List ℕ → Result Settled FileFault → Account → Account → Type 0
+SaysOfFile path (Ok settled) old new = Says path (Ok settled) old new
 SaysOfFile path (Err (Device fault)) old new = Tells path fault old new
 SaysOfFile path (Err (NotRead error)) old new = Unit {0}
 SaysOfFile path (Err (NotReplaced error)) old new = Unit {0}
 
 -- Before that, nothing is said but of a text's errors.
-abbrev pub IsSilent : {E : Type 0} → Result Outcome E → Account → Account → Type 0
+abbrev pub IsSilent : {E : Type 0} → Result Settled E → Account → Account → Type 0
 IsSilent (Ok Done) old new = new ≡ old
 IsSilent (Ok Found) old new = Unit {0}
 IsSilent (Err fault) old new = new ≡ old

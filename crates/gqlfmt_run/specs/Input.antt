@@ -3,15 +3,15 @@ use Rattle.std.specs.Prelude.{◌≡◌, ◌⊎◌, ℕ, List, [], codes}
 use Rattle.apollo_parser.specs.declared.Limits.{Limits}
 use Rattle.gqlfmt_files.specs.declared.settling.Mode.{Mode}
 use Rattle.gqlfmt_files.specs.declared.settling.Mode.TheVariants.{Write, Check, Diff}
-use Rattle.gqlfmt_files.specs.declared.settling.Outcome.{Outcome}
-use Rattle.gqlfmt_files.specs.declared.settling.Outcome.TheVariants.{Done, Found}
+use Rattle.gqlfmt_files.specs.declared.settling.Settled.{Settled}
+use Rattle.gqlfmt_files.specs.declared.settling.Settled.TheVariants.{Done, Found}
 use Rattle.gqlfmt_run.specs.Formatting.{IsFormatted, IsRefused, IsListed}
 
 abbrev pub input_name : List ℕ
 input_name = codes "<stdin>"
 
 -- What is written of a text, by the outcome for it. In mode write that is the formatted text, and nothing of a text that is refused.
-abbrev pub IsOutput : Mode → Limits → List ℕ → Outcome → List ℕ → Type 0
+abbrev pub IsOutput : Mode → Limits → List ℕ → Settled → List ℕ → Type 0
 IsOutput Write limits source Done output = IsFormatted limits source output
 IsOutput Check limits source Done output = IsFormatted limits source source × (output ≡ [])
 IsOutput Diff limits source Done output = IsFormatted limits source source × (output ≡ [])
@@ -24,7 +24,7 @@ kept Check source = []
 kept Diff source = []
 
 -- and what comes of one that has another
-abbrev pub outcome_of : Mode → Outcome
-outcome_of Write = Done
-outcome_of Check = Found
-outcome_of Diff = Found
+abbrev pub settled_of : Mode → Settled
+settled_of Write = Done
+settled_of Check = Found
+settled_of Diff = Found

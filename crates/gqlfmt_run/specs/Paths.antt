@@ -10,8 +10,8 @@ use Rattle.gqlfmt_files.specs.declared.settling.Mode.{Mode}
 use Rattle.gqlfmt_files.specs.declared.settling.Mode.TheVariants.{Write}
 use Rattle.gqlfmt_run.specs.declared.fault.FileFault.{FileFault}
 use Rattle.gqlfmt_run.specs.declared.fault.FileFault.TheVariants.{NotRead, NotReplaced, Device}
-use Rattle.gqlfmt_files.specs.declared.settling.Outcome.{Outcome}
-use Rattle.gqlfmt_files.specs.declared.settling.Outcome.TheVariants.{Done, Found}
+use Rattle.gqlfmt_files.specs.declared.settling.Settled.{Settled}
+use Rattle.gqlfmt_files.specs.declared.settling.Settled.TheVariants.{Done, Found}
 use Rattle.gqlfmt_run.specs.Complaints.{SaysOfFile}
 use Rattle.gqlfmt_run.specs.Formatting.{IsFormatted, IsRefused, IsChanged, IsListed}
 use Rattle.gqlfmt_run.specs.Status.{status_of}
@@ -33,7 +33,7 @@ module _ {S : Type 0} (reads : S → List ℕ → Option (List ℕ) → S → Ty
 
   -- What follows a read that gave this text, by the outcome for the file. It is replaced only where it is rewritten, and it is shown on standard
   -- output only where it has another layout in a mode that changes nothing.
-  abbrev pub FollowsText : Mode → Limits → List ℕ → List ℕ → Result Outcome FileFault → S → Account → S → Account → Type 0
+  abbrev pub FollowsText : Mode → Limits → List ℕ → List ℕ → Result Settled FileFault → S → Account → S → Account → Type 0
   FollowsText mode limits path source (Ok Done) old output new output' =
       IsUtf8 source × (output' ≡ output) × ((IsFormatted limits source source × (new ≡ old)) ⊎ IsRewritten mode limits path source true old new)
   FollowsText mode limits path source (Ok Found) old output new output' =
@@ -49,13 +49,13 @@ module _ {S : Type 0} (reads : S → List ℕ → Option (List ℕ) → S → Ty
       IsUtf8 source × (output' ≡ output) × IsRewritten mode limits path source false old new
 
   -- What follows a read. Where it gave nothing, that is all that happens.
-  abbrev pub FollowsRead : Mode → Limits → List ℕ → Option (List ℕ) → Result Outcome FileFault → S → Account → S → Account → Type 0
+  abbrev pub FollowsRead : Mode → Limits → List ℕ → Option (List ℕ) → Result Settled FileFault → S → Account → S → Account → Type 0
   FollowsRead mode limits path (Some source) ended old output new output' = FollowsText mode limits path source ended old output new output'
   FollowsRead mode limits path None (Err (NotRead error)) old output new output' = (new ≡ old) × (output' ≡ output)
   FollowsRead mode limits path None _ old output new output' = ⊥
 
   -- The file was read once, and then left alone or rewritten.
-  pub record Handles (mode : Mode) (limits : Limits) (path : List ℕ) (ended : Result Outcome FileFault)
+  pub record Handles (mode : Mode) (limits : Limits) (path : List ℕ) (ended : Result Settled FileFault)
       (old : S) (output : Account) (new : S) (output' : Account) : Type 0 where
     pub given : Option (List ℕ)
     pub middle : S
@@ -66,6 +66,6 @@ module _ {S : Type 0} (reads : S → List ℕ → Option (List ℕ) → S → Ty
   abbrev pub HandlesAll : Mode → Limits → List (List ℕ) → ℕ → Desk S → Desk S → Type 0
   HandlesAll mode limits [] status old new = (status ≡ 0) × (new ≡ old)
   HandlesAll mode limits (path ∷ paths) status old new =
-      (ended : Result Outcome FileFault) × (rest : ℕ) × (next : Desk S) × (status ≡ max (status_of ended) rest)
+      (ended : Result Settled FileFault) × (rest : ℕ) × (next : Desk S) × (status ≡ max (status_of ended) rest)
       × Handles mode limits path ended old.files old.output next.files next.output × SaysOfFile path ended old.complaints next.complaints
       × HandlesAll mode limits paths rest next new

@@ -7,7 +7,7 @@ use Rattle.apollo_parser.specs.declared.Limits.{Limits}
 use Rattle.byte_devices.specs.declared.fault.Fault.{Fault}
 use Rattle.program_words.specs.Gqlfmt.{Run}
 use Rattle.gqlfmt_files.specs.declared.settling.Mode.{Mode}
-use Rattle.gqlfmt_files.specs.declared.settling.Outcome.{Outcome}
+use Rattle.gqlfmt_files.specs.declared.settling.Settled.{Settled}
 use Rattle.program_words.specs.declared.information.Information.{Information}
 use Rattle.program_words.specs.declared.information.Information.TheVariants.{Help, Version}
 use Rattle.program_words.specs.declared.gqlfmt.Request.{Request}
@@ -47,7 +47,7 @@ IsPrinted text status old new = ((status ≡ 0) × (new ≡ moved old text)) ⊎
 
 -- Standard input is read, what comes of it is written, and why it was not formatted is said.
 pub record FormatsInput (mode : Mode) (limits : Limits) (status : ℕ) (old new : Streams) : Type 0 where
-  pub ended : Result Outcome Fault
+  pub ended : Result Settled Fault
   pub input : List ℕ
   pub reads : Reads ended input old.input new.input
   pub writes : Writes (IsOutput mode limits) ended input old.output new.output

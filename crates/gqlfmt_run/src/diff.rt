@@ -86,12 +86,12 @@ fn push_body<A: Allocator>(
     start: usize,
     end: usize,
 ) -> Result<(), AllocError> {
-    let mut place = start;
+    let mut index = start;
     for edit in hunk {
-        push_edit(diff, old, new, place, edit)?;
-        place = edit.old_end;
+        push_edit(diff, old, new, index, edit)?;
+        index = edit.old_end;
     }
-    push_lines(diff, ' ', old, place, end)
+    push_lines(diff, ' ', old, index, end)
 }
 
 // One hunk: some edits, with the lines around and between them.

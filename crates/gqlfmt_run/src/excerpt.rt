@@ -1,7 +1,7 @@
-// A line of a text with a place in it marked.
+// A line of a text with an offset in it marked.
 use std::alloc::{AllocError, Allocator};
 
-// How many bytes of a line are shown at most in front of the place and from it on.
+// How many bytes of a line are shown at most in front of the offset and from it on.
 const BEFORE: usize = 60;
 
 const AFTER: usize = 100;
@@ -81,9 +81,9 @@ pub fn push_excerpt<A: Allocator>(
     if line.is_empty() {
         return Ok(());
     }
-    let place = line.floor_char_boundary(column);
-    let (cut, rest) = line.split_at(line.floor_char_boundary(place.saturating_sub(BEFORE)));
-    let column = place.saturating_sub(cut.len());
+    let offset = line.floor_char_boundary(column);
+    let (cut, rest) = line.split_at(line.floor_char_boundary(offset.saturating_sub(BEFORE)));
+    let column = offset.saturating_sub(cut.len());
     let (text, left) = rest.split_at(rest.floor_char_boundary(column.saturating_add(AFTER)));
     let (before, after) = text.split_at(text.floor_char_boundary(column));
     let margin = if cut.is_empty() { "    " } else { "    ..." };

@@ -1,16 +1,16 @@
 // Formatting standard input.
 ghost use Rattle.std.specs.Prelude.{◌≡◌, ◌⊎◌, ℕ, List, [], IfOk, MatchResult, string_bytes};
 ghost use Rattle.byte_devices.specs.Runs.{Reads, Writes};
-ghost use Rattle.gqlfmt_files.specs.declared.settling.Outcome.TheVariants.{Found};
+ghost use Rattle.gqlfmt_files.specs.declared.settling.Settled.TheVariants.{Found};
 ghost use Rattle.gqlfmt_run.specs.Complaints.{IsSilent};
-ghost use Rattle.gqlfmt_run.specs.Input.{IsOutput, kept, outcome_of};
+ghost use Rattle.gqlfmt_run.specs.Input.{IsOutput, kept, settled_of};
 
 use crate::job::Job;
 use crate::report::complain;
 use crate::showing::shown;
 use byte_devices::{Fault, Sink, Source, read_to_end, write_all};
 use formatter::DocumentFormatter;
-use gqlfmt_files::{Mode, Outcome, Revised};
+use gqlfmt_files::{Mode, Revised, Settled};
 use std::alloc::{AllocError, Allocator};
 
 /// The name of standard input in messages.
@@ -27,12 +27,12 @@ fn kept<A: Allocator>(alloc: A, mode: Mode, source: &str) -> Result<String<A>, A
 }
 
 // What comes of a text that has another layout.
-fn outcome_of(mode: Mode) -> Outcome
-    ensures { result ≡ outcome_of mode }
+fn settled_of(mode: Mode) -> Settled
+    ensures { result ≡ settled_of mode }
 {
     match mode {
-        Mode::Write => Outcome::Done,
-        Mode::Check | Mode::Diff => Outcome::Found,
+        Mode::Write => Settled::Done,
+        Mode::Check | Mode::Diff => Settled::Found,
     }
 }
 
@@ -43,21 +43,21 @@ impl<A: Allocator + Copy, L: DocumentFormatter> Job<'_, A, L> {
         &self,
         complaints: &mut E,
         source: &str,
-    ) -> Result<(Outcome, String<A>), AllocError>
+    ) -> Result<(Settled, String<A>), AllocError>
         ensures output { IfOk result (λ it. IsOutput self.now.mode self.now.limits source.now it.0 (string_bytes it.1)) }
         ensures silent { MatchResult result
             (λ it. (E.account complaints.new ≡ E.account complaints.old) ⊎ ((it.0 ≡ Found) × (string_bytes it.1 ≡ [])))
             (λ error. E.account complaints.new ≡ E.account complaints.old) }
     {
         match self.revise(source)? {
-            Revised::Same => Ok((Outcome::Done, kept(self.alloc, self.mode, source)?)),
+            Revised::Same => Ok((Settled::Done, kept(self.alloc, self.mode, source)?)),
             Revised::Changed(text) => {
                 let output = shown(self.alloc, self.mode, INPUT, source, text)?;
-                Ok((outcome_of(self.mode), output))
+                Ok((settled_of(self.mode), output))
             }
             Revised::Refused(refusal) => {
                 complain(self.alloc, complaints, INPUT, source, refusal)?;
-                Ok((Outcome::Found, String::new(self.alloc)))
+                Ok((Settled::Found, String::new(self.alloc)))
             }
         }
     }
@@ -69,7 +69,7 @@ impl<A: Allocator + Copy, L: DocumentFormatter> Job<'_, A, L> {
         reader: &mut R,
         writer: &mut W,
         complaints: &mut E,
-    ) -> Result<Outcome, Fault>
+    ) -> Result<Settled, Fault>
         ensures output { (input : List ℕ) × Reads result input (R.account reader.old) (R.account reader.new)
             × Writes (IsOutput self.now.mode self.now.limits) result input (W.account writer.old) (W.account writer.new) }
         ensures silent { IsSilent result (E.account complaints.old) (E.account complaints.new) }
@@ -78,8 +78,8 @@ impl<A: Allocator + Copy, L: DocumentFormatter> Job<'_, A, L> {
         let Ok(source) = str::from_utf8(bytes.as_slice()) else {
             return Err(Fault::Utf8);
         };
-        let (outcome, output) = self.output_of(complaints, source)?;
+        let (settled, output) = self.output_of(complaints, source)?;
         write_all(writer, output.as_bytes())?;
-        Ok(outcome)
+        Ok(settled)
     }
 }

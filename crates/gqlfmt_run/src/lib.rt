@@ -13,11 +13,11 @@ mod fault;
 mod formatting;
 mod input;
 mod job;
-mod outcome;
 mod paths;
 mod program;
 mod report;
 mod showing;
+mod status;
 mod std_files;
 
 pub use apollo_parser::Limits;

@@ -8,12 +8,12 @@ ghost use Rattle.gqlfmt_run.specs.Showing.{Shows};
 use crate::fault::FileFault;
 use crate::formatting::Refusal;
 use crate::job::Job;
-use crate::outcome::status_of;
 use crate::report::{complain, tell_of_file};
 use crate::showing::shown;
+use crate::status::status_of;
 use byte_devices::{Fault, Sink, write_all};
 use formatter::DocumentFormatter;
-use gqlfmt_files::{Files, Outcome, Revised, settle};
+use gqlfmt_files::{Files, Revised, Settled, settle};
 use std::alloc::Allocator;
 
 impl<A: Allocator + Copy, L: DocumentFormatter> Job<'_, A, L> {
@@ -50,7 +50,7 @@ impl<A: Allocator + Copy, L: DocumentFormatter> Job<'_, A, L> {
         writer: &mut W,
         complaints: &mut E,
         path: &str,
-    ) -> Result<Outcome, FileFault>
+    ) -> Result<Settled, FileFault>
         ensures handles { Handles F.reads F.replaces self.now.mode self.now.limits path.now result files.old (W.account writer.old) files.new (W.account writer.new) }
         ensures silent { IsSilent result (E.account complaints.old) (E.account complaints.new) }
     {
@@ -63,10 +63,10 @@ impl<A: Allocator + Copy, L: DocumentFormatter> Job<'_, A, L> {
         };
         let revised = self.revise(source)?;
         match settle(files, path, self.mode, &revised) {
-            Ok(Outcome::Done) => Ok(Outcome::Done),
-            Ok(Outcome::Found) => {
+            Ok(Settled::Done) => Ok(Settled::Done),
+            Ok(Settled::Found) => {
                 self.show(writer, complaints, path, source, revised)?;
-                Ok(Outcome::Found)
+                Ok(Settled::Found)
             }
             Err(error) => Err(FileFault::NotReplaced(error)),
         }

@@ -8,8 +8,8 @@ ghost use Rattle.gqlfmt_run.specs.Program.{information_text, IsPrinted, FormatsI
 use crate::command::{HELP, NO_MEMORY, USAGE, VERSION};
 use crate::input::INPUT;
 use crate::job::Job;
-use crate::outcome::status_of;
 use crate::report::{say, tell};
+use crate::status::status_of;
 use byte_devices::{Fault, Sink, Source, write_all};
 use formatter::DocumentFormatter;
 use gqlfmt_files::Files;

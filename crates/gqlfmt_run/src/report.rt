@@ -1,4 +1,4 @@
-// What is said on standard error: the errors of a text, with their places, and why a text was not formatted.
+// What is said on standard error: the errors of a text, with their positions, and why a text was not formatted.
 ghost use Rattle.std.specs.Prelude.{◌≡◌, ◌≤◌, length, OnErr};
 ghost use Rattle.byte_devices.specs.Devices.{Account};
 ghost use Rattle.gqlfmt_run.specs.Complaints.{IsSilent, IsWritten, Tells, SaysOfFile};
@@ -9,7 +9,7 @@ use crate::fault::{FileFault, reason_of};
 use crate::formatting::Refusal;
 use apollo_parser::Error;
 use byte_devices::{Fault, Sink, write_all};
-use gqlfmt_files::{Files, Outcome};
+use gqlfmt_files::{Files, Settled};
 use line_index::LineIndex;
 use std::alloc::{AllocError, Allocator};
 use std::io::{self, ErrorKind};
@@ -26,7 +26,7 @@ fn offset_of<A: Allocator>(source: &str, error: &Error<A>) -> usize
     offset.min(source.len())
 }
 
-// The line of one error, which is shown at an offset, and the line of the text with the place marked.
+// The line of one error, which is shown at an offset, and the line of the text with the position marked.
 fn push_error<A: Allocator>(
     report: &mut String<A>,
     name: &str,
@@ -36,15 +36,20 @@ fn push_error<A: Allocator>(
 ) -> Result<(), AllocError>
     requires { offset ≤ length index.now }
 {
-    let place = index.line_column(offset);
-    let line = place.line.saturating_add(1);
+    let position = index.line_column(offset);
+    let line = position.line.saturating_add(1);
     let column = index.column_in_chars(offset).saturating_add(1);
     let message = error.message();
     writeln!(report, "{name}:{line}:{column}: {message}")?;
-    push_excerpt(report, index.line_text(offset), place.column, error.data())
+    push_excerpt(
+        report,
+        index.line_text(offset),
+        position.column,
+        error.data(),
+    )
 }
 
-/// A line `NAME:LINE:COLUMN: MESSAGE` for each error, and below it the line of the text with the place marked. Lines and columns count from 1,
+/// A line `NAME:LINE:COLUMN: MESSAGE` for each error, and below it the line of the text with the position marked. Lines and columns count from 1,
 /// columns in characters.
 pub fn render_report<A: Allocator + Copy>(
     alloc: A,
@@ -151,7 +156,7 @@ pub fn tell_of_file<A: Allocator + Copy, F: Files, E: Sink>(
     files: &F,
     complaints: &mut E,
     path: &str,
-    ended: &Result<Outcome, FileFault>,
+    ended: &Result<Settled, FileFault>,
 )
     ensures { (before : Account) → IsSilent ended.now before (E.account complaints.old) → SaysOfFile path.now ended.now before (E.account complaints.new) }
 {

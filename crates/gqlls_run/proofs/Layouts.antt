@@ -13,11 +13,11 @@ use Rattle.std.proofs.lemmas.Str.{chars-nil, IsCharBoundary-end, IsCharBoundary-
 use Rattle.json.specs.Json.{Json}
 use Rattle.apollo_parser.specs.Answers.{usize_max}
 use Rattle.apollo_parser.specs.Limits.{default_recursion}
-use Rattle.editor_diagnostics.specs.Places.{cursor_at, position_of}
+use Rattle.editor_diagnostics.specs.Positions.{cursor_at, position_of}
 use Rattle.editor_diagnostics.proofs.Cursors.{read_at}
 use Rattle.editor_diagnostics.proofs.Told.{added_thrice}
 use Rattle.formatter.specs.Formatted.{IsDocument, IsFormatted}
-use Rattle.line_index.specs.Positions.{place_of, units, units_of}
+use Rattle.line_index.specs.Positions.{offset_of, units, units_of}
 use Rattle.line_index.specs.declared.PositionEncoding.{PositionEncoding}
 use Rattle.editor_text.specs.Client.{Opened, replaced}
 use Rattle.gqlls_run.specs.Layout.{IsFormatting, IsResultOf, IsWhole, extent_of}
@@ -42,16 +42,16 @@ end_is_cursor text (suc k) is =
     ap (λ (b : Bool). if b then k else suc k) (and_right (slice_index text k == 13) (slice_index text (suc k) == 10) (no_line_feed text k is))
 
 begins : (encoding : PositionEncoding) (text : List ℕ) (start : ℕ) → IsUtf8 text → start ≡ 0
-    → place_of encoding (units encoding text) (position_of encoding text start) ≡ 0
+    → offset_of encoding (units encoding text) (position_of encoding text start) ≡ 0
 begins encoding text start utf8 is =
-    ap (λ (k : ℕ). place_of encoding (units encoding text) (position_of encoding text k)) is
+    ap (λ (k : ℕ). offset_of encoding (units encoding text) (position_of encoding text k)) is
     ∙ read_at encoding text 0 utf8 (IsCharBoundary-from_drop text 0 (omega arith) utf8)
     ∙ ap (λ (cs : List ℕ). length (flat_map (units_of encoding) cs)) chars-nil
 
 ends : (encoding : PositionEncoding) (text : List ℕ) (end : ℕ) → IsUtf8 text → end ≡ length text
-    → place_of encoding (units encoding text) (position_of encoding text end) ≡ length (units encoding text)
+    → offset_of encoding (units encoding text) (position_of encoding text end) ≡ length (units encoding text)
 ends encoding text end utf8 is =
-    ap (λ (k : ℕ). place_of encoding (units encoding text) (position_of encoding text k)) is
+    ap (λ (k : ℕ). offset_of encoding (units encoding text) (position_of encoding text k)) is
     ∙ read_at encoding text (length text) utf8 (IsCharBoundary-end text)
     ∙ ap (λ (k : ℕ). length (units encoding (take k text))) (end_is_cursor text (length text) refl)
     ∙ ap (λ (x : List ℕ). length (units encoding x)) (take-length text)

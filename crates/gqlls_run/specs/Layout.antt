@@ -4,7 +4,7 @@ use Rattle.std.specs.Str.{IsUtf8}
 use Rattle.json.specs.Json.{Json, array, item, member, no_items, no_members, null, object, string}
 use Rattle.apollo_parser.specs.Answers.{usize_max}
 use Rattle.apollo_parser.specs.Limits.{default_recursion}
-use Rattle.editor_diagnostics.specs.Places.{position_of, range_value}
+use Rattle.editor_diagnostics.specs.Positions.{position_of, range_value}
 use Rattle.formatter.specs.Formatted.{IsDocument, IsFormatted}
 use Rattle.line_index.specs.Positions.{units}
 use Rattle.line_index.specs.declared.PositionEncoding.{PositionEncoding}

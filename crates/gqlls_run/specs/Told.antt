@@ -9,7 +9,7 @@ use Rattle.editor_text.specs.Client.{Opened}
 use Rattle.rpc_messages.specs.declared.reply.Reply.{Reply}
 use Rattle.rpc_messages.specs.declared.reply.Reply.TheVariants.{Nothing, Answer, Notice, Exit}
 
--- the body publishes the errors of a parse of this text, at their places as the client counts them
+-- the body publishes the errors of a parse of this text, at their positions as the client counts them
 pub record IsTold (uri : List ℕ) (version : Option ℤ) (content : Opened) (body : List ℕ) : Type 0 where
   pub parsed : Parsed
   pub promise : Promise content.text default_recursion usize_max parsed

@@ -1,7 +1,7 @@
 // What may come next.
 use apollo_parser::{DocumentRoot, Parser, SyntaxKind, SyntaxNode, SyntaxToken, SyntaxTree};
 use editor_answers::{NameKind, meaning_of, span_of};
-use editor_diagnostics::Places;
+use editor_diagnostics::Positions;
 use rpc_messages::Piece;
 use std::alloc::{AllocError, Global};
 
@@ -19,18 +19,18 @@ const BUILT_IN_TYPES: [&str; 5] = ["Boolean", "Float", "ID", "Int", "String"];
 
 const BUILT_IN_DIRECTIVES: [&str; 4] = ["deprecated", "include", "skip", "specifiedBy"];
 
-// How long the text of the definition that a place is in may be for words to be tried there.
+// How long the text of the definition that an offset is in may be for words to be tried there.
 const LONGEST_FRONT: usize = 32768;
 
 // Whether a byte of a text is one of a word.
-fn is_in_word(source: &str, place: usize) -> bool {
-    match source.as_bytes().get(place) {
+fn is_in_word(source: &str, offset: usize) -> bool {
+    match source.as_bytes().get(offset) {
         Some(byte) => byte.is_ascii_alphanumeric() || *byte == b'_',
         None => false,
     }
 }
 
-// Where the word begins that ends at a place of a text.
+// Where the word begins that ends at an offset of a text.
 fn word_start(source: &str, offset: usize) -> usize {
     let mut start = offset;
     while start > 0 && is_in_word(source, start - 1) {
@@ -39,7 +39,7 @@ fn word_start(source: &str, offset: usize) -> usize {
     start
 }
 
-// The text in front of a place, without the word that ends there.
+// The text in front of an offset, without the word that ends there.
 fn front_of(source: &str, offset: usize) -> &str {
     source.get(..word_start(source, offset)).unwrap_or("")
 }
@@ -57,7 +57,7 @@ fn last_definition<'t>(source: &'t str, root: SyntaxNode<'_>) -> Option<&'t str>
     Some(last)
 }
 
-// The leaf that begins at a place of a tree whose first error, if there is one, is that the text ends.
+// The leaf that begins at an offset of a tree whose first error, if there is one, is that the text ends.
 fn leaf_from<'t>(tree: &'t SyntaxTree<DocumentRoot>, offset: usize) -> Option<SyntaxToken<'t>> {
     if let Some(error) = tree.errors().as_slice().first()
         && !error.is_eof()
@@ -91,7 +91,7 @@ struct Taken {
     names: Option<NameKind>,
 }
 
-// What the leaf that begins at a place of a tree is taken for.
+// What the leaf that begins at an offset of a tree is taken for.
 fn taken_at(tree: &SyntaxTree<DocumentRoot>, offset: usize) -> Option<Taken> {
     let leaf = leaf_from(tree, offset)?;
     let names = match meaning_of(leaf) {
@@ -274,11 +274,11 @@ pub(crate) fn push_completions<'p>(
     alloc: Global,
     pieces: &mut Vec<Piece<'p>>,
     root: SyntaxNode<'p>,
-    places: &Places<'_>,
+    positions: &Positions<'_>,
     offset: usize,
 ) -> Result<(), AllocError> {
-    let before = front_of(places.text, offset);
+    let before = front_of(positions.text, offset);
     let found = completions(alloc, before, root)?;
-    let range = places.range(before.len(), offset);
+    let range = positions.range(before.len(), offset);
     push_candidates(pieces, &range, found.as_slice())
 }

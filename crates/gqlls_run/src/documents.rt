@@ -10,7 +10,7 @@ ghost use Rattle.gqlls_run.specs.State.{contents};
 ghost use Rattle.gqlls_run.specs.Told.{IsTold};
 
 use apollo_parser::{DocumentRoot, Parser, SyntaxTree};
-use editor_diagnostics::{Places, publication};
+use editor_diagnostics::{Positions, publication};
 use editor_text::{Change, OpenDocument};
 use line_index::PositionEncoding;
 use std::alloc::{AllocError, Global};
@@ -68,19 +68,19 @@ impl Document {
         ensures notifies { IfOk result (λ body. IsNotice body.items) }
         ensures told { IfOk result (λ body. IsTold uri.now version self.now.content body.items) }
     {
-        let places = self.places(alloc)?;
+        let positions = self.positions(alloc)?;
         let errors = self.tree.errors().as_slice();
         // bound to a name, so that its clauses on `Ok` are found
-        let body = publication(alloc, uri, version, &places, errors)?;
+        let body = publication(alloc, uri, version, &positions, errors)?;
         Ok(body)
     }
 
-    /// The places of its text.
-    pub(crate) fn places(&self, alloc: Global) -> Result<Places<'_>, AllocError>
-        ensures text { IfOk result (λ places. places.text.now ≡ self.now.content.text) }
-        ensures encoding { IfOk result (λ places. places.encoding ≡ self.now.content.encoding) }
+    /// The positions in its text.
+    pub(crate) fn positions(&self, alloc: Global) -> Result<Positions<'_>, AllocError>
+        ensures text { IfOk result (λ positions. positions.text.now ≡ self.now.content.text) }
+        ensures encoding { IfOk result (λ positions. positions.encoding ≡ self.now.content.encoding) }
     {
-        Places::new(alloc, self.content.text(), self.content.encoding())
+        Positions::new(alloc, self.content.text(), self.content.encoding())
     }
 }
 

@@ -9,7 +9,7 @@ ghost use Rattle.gqlls_run.specs.Layout.{IsFormattingOf, IsListOf, IsResultOf};
 
 use crate::documents::Document;
 use crate::layout::{Replacement, format_whole};
-use editor_diagnostics::Places;
+use editor_diagnostics::Positions;
 use json::Value;
 use rpc_messages::{Piece, answer};
 use std::alloc::{AllocError, Global};
@@ -17,19 +17,19 @@ use std::alloc::{AllocError, Global};
 // The pieces of a list of the change.
 fn pieces_of<'p>(
     alloc: Global,
-    places: &Places<'_>,
+    positions: &Positions<'_>,
     change: &'p Replacement,
 ) -> Result<Vec<Piece<'p>>, AllocError>
-    ensures { IfOk result (λ pieces. (value : Json) × IsListOf places.now.encoding places.now.text.now change.now value
+    ensures { IfOk result (λ pieces. (value : Json) × IsListOf positions.now.encoding positions.now.text.now change.now value
         × (flat_map tokens_of pieces.items ≡ json_tokens value)) }
 {
     let mut pieces = Vec::new(alloc);
-    if change.leaves(places.text) {
+    if change.leaves(positions.text) {
         pieces.extend_from_slice(&[Piece::Array, Piece::EndArray])?;
         return Ok(pieces);
     }
     pieces.extend_from_slice(&[Piece::Array, Piece::Object, Piece::Key("range")])?;
-    pieces.extend_from_slice(&places.range(change.span.start, change.span.end))?;
+    pieces.extend_from_slice(&positions.range(change.span.start, change.span.end))?;
     pieces.extend_from_slice(&[
         Piece::Key("newText"),
         Piece::Text(change.text.as_str()),
@@ -43,12 +43,12 @@ fn pieces_of<'p>(
 pub(crate) fn answer_layout(
     alloc: Global,
     id: &Value<'_>,
-    places: &Places<'_>,
+    positions: &Positions<'_>,
     change: &Option<Replacement>,
 ) -> Result<Vec<u8>, AllocError>
     requires { HasNumbers (value_view id.now) }
     ensures answers { IfOk result (λ body. IsAnswer (value_view id.now) body.items) }
-    ensures changes { IfOk result (λ body. (value : Json) × IsResultOf places.now.encoding places.now.text.now change.now value
+    ensures changes { IfOk result (λ body. (value : Json) × IsResultOf positions.now.encoding positions.now.text.now change.now value
         × IsResult (value_view id.now) value body.items) }
 {
     let Some(change) = change else {
@@ -56,7 +56,7 @@ pub(crate) fn answer_layout(
         let body = answer(alloc, id, &[Piece::Null])?;
         return Ok(body);
     };
-    let pieces = pieces_of(alloc, places, change)?;
+    let pieces = pieces_of(alloc, positions, change)?;
     answer(alloc, id, pieces.as_slice())
 }
 
@@ -70,9 +70,9 @@ pub(crate) fn answer_formatting(
     ensures answers { IfOk result (λ body. IsAnswer (value_view id.now) body.items) }
     ensures formats { IfOk result (λ body. IsFormattingOf (value_view id.now) document.now.content body.items) }
 {
-    let places = document.places(alloc)?;
-    let change = format_whole(alloc, places.text)?;
+    let positions = document.positions(alloc)?;
+    let change = format_whole(alloc, positions.text)?;
     // bound to a name, so that its clauses on `Ok` are found
-    let body = answer_layout(alloc, id, &places, &change)?;
+    let body = answer_layout(alloc, id, &positions, &change)?;
     Ok(body)
 }

@@ -10,7 +10,7 @@ ghost use Rattle.gqlls_run.specs.Parameters.{IsVersionIn, Offers, OffersAll, num
 ghost use Rattle.gqlls_run.specs.Parameters.{each, edit_in, edits_in, extent_in, items_at, list_of, told};
 
 use editor_answers::Span;
-use editor_diagnostics::Places;
+use editor_diagnostics::Positions;
 use editor_text::{Change, PositionRange};
 use json::Value;
 use line_index::{Position, PositionEncoding};
@@ -68,23 +68,23 @@ fn extent_of(value: Option<&Value<'_>>) -> Option<Option<PositionRange>>
 }
 
 /// The byte offset that a message is about.
-pub(crate) fn offset_of(places: &Places<'_>, params: &Value<'_>) -> Option<usize> {
-    Some(places.offset(position_at(params, "position")?))
+pub(crate) fn offset_of(positions: &Positions<'_>, params: &Value<'_>) -> Option<usize> {
+    Some(positions.offset(position_at(params, "position")?))
 }
 
 /// The byte offsets that a message is about.
 pub(crate) fn offsets_of(
     alloc: Global,
-    places: &Places<'_>,
+    positions: &Positions<'_>,
     params: &Value<'_>,
 ) -> Result<Option<Vec<usize>>, AllocError> {
-    let Some(positions) = items_at(params, "positions") else {
+    let Some(values) = items_at(params, "positions") else {
         return Ok(None);
     };
     let mut offsets = Vec::new(alloc);
-    for value in positions {
+    for value in values {
         match position_of(value) {
-            Some(position) => offsets.push(places.offset(position))?,
+            Some(position) => offsets.push(positions.offset(position))?,
             None => return Ok(None),
         }
     }
@@ -92,15 +92,15 @@ pub(crate) fn offsets_of(
 }
 
 /// The part of a text that a message is about: its range, or the whole text.
-pub(crate) fn span_of(places: &Places<'_>, params: &Value<'_>) -> Option<Span> {
+pub(crate) fn span_of(positions: &Positions<'_>, params: &Value<'_>) -> Option<Span> {
     let span = match extent_of(params.get("range"))? {
         Some(range) => Span {
-            start: places.offset(range.start),
-            end: places.offset(range.end),
+            start: positions.offset(range.start),
+            end: positions.offset(range.end),
         },
         None => Span {
             start: 0,
-            end: places.text.len(),
+            end: positions.text.len(),
         },
     };
     Some(span)

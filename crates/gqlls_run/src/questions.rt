@@ -14,7 +14,7 @@ use editor_answers::{
     answer_hover, answer_symbols, answer_tokens, push_definition, push_folds, push_references,
     push_selections,
 };
-use editor_diagnostics::Places;
+use editor_diagnostics::Positions;
 use json::Value;
 use rpc_messages::{Piece, answer, code, refusal};
 use std::alloc::{AllocError, Global};
@@ -61,7 +61,7 @@ pub(crate) fn question_of(method: &str) -> Option<Question> {
 struct Asked<'a, 'd, 'v> {
     alloc: Global,
     root: SyntaxNode<'a>,
-    places: &'a Places<'d>,
+    positions: &'a Positions<'d>,
     uri: &'a str,
     params: &'a Value<'v>,
 }
@@ -80,7 +80,7 @@ impl Asked<'_, '_, '_> {
         ensures { IfOk result (λ body. IsAnswer (value_view id.now) body.items) }
     {
         let mut pieces = Vec::new(self.alloc);
-        push_folds(&mut pieces, self.root, self.places)?;
+        push_folds(&mut pieces, self.root, self.positions)?;
         answer(self.alloc, id, pieces.as_slice())
     }
 
@@ -88,7 +88,7 @@ impl Asked<'_, '_, '_> {
         requires { HasNumbers (value_view id.now) }
         ensures { IfOk result (λ body. IsAnswer (value_view id.now) body.items) }
     {
-        let Some(offsets) = offsets_of(self.alloc, self.places, self.params)? else {
+        let Some(offsets) = offsets_of(self.alloc, self.positions, self.params)? else {
             return self.refused(id);
         };
         let mut pieces = Vec::new(self.alloc);
@@ -96,7 +96,7 @@ impl Asked<'_, '_, '_> {
             self.alloc,
             &mut pieces,
             self.root,
-            self.places,
+            self.positions,
             offsets.as_slice(),
         )?;
         answer(self.alloc, id, pieces.as_slice())
@@ -106,8 +106,8 @@ impl Asked<'_, '_, '_> {
         requires { HasNumbers (value_view id.now) }
         ensures { IfOk result (λ body. IsAnswer (value_view id.now) body.items) }
     {
-        match span_of(self.places, self.params) {
-            Some(within) => answer_tokens(self.alloc, id, self.root, self.places, within),
+        match span_of(self.positions, self.params) {
+            Some(within) => answer_tokens(self.alloc, id, self.root, self.positions, within),
             None => self.refused(id),
         }
     }
@@ -116,22 +116,22 @@ impl Asked<'_, '_, '_> {
         requires { HasNumbers (value_view id.now) }
         ensures { IfOk result (λ body. IsAnswer (value_view id.now) body.items) }
     {
-        let Some(within) = span_of(self.places, self.params) else {
+        let Some(within) = span_of(self.positions, self.params) else {
             return self.refused(id);
         };
-        let change = format_part(self.alloc, self.places.text, self.root, within)?;
-        answer_layout(self.alloc, id, self.places, &change)
+        let change = format_part(self.alloc, self.positions.text, self.root, within)?;
+        answer_layout(self.alloc, id, self.positions, &change)
     }
 
     fn definition(self, id: &Value<'_>) -> Result<Vec<u8>, AllocError>
         requires { HasNumbers (value_view id.now) }
         ensures { IfOk result (λ body. IsAnswer (value_view id.now) body.items) }
     {
-        let Some(offset) = offset_of(self.places, self.params) else {
+        let Some(offset) = offset_of(self.positions, self.params) else {
             return self.refused(id);
         };
         let mut pieces = Vec::new(self.alloc);
-        push_definition(&mut pieces, self.root, self.places, self.uri, offset)?;
+        push_definition(&mut pieces, self.root, self.positions, self.uri, offset)?;
         answer(self.alloc, id, pieces.as_slice())
     }
 
@@ -139,7 +139,7 @@ impl Asked<'_, '_, '_> {
         requires { HasNumbers (value_view id.now) }
         ensures { IfOk result (λ body. IsAnswer (value_view id.now) body.items) }
     {
-        let Some(offset) = offset_of(self.places, self.params) else {
+        let Some(offset) = offset_of(self.positions, self.params) else {
             return self.refused(id);
         };
         let mut pieces = Vec::new(self.alloc);
@@ -147,7 +147,7 @@ impl Asked<'_, '_, '_> {
             self.alloc,
             &mut pieces,
             self.root,
-            self.places,
+            self.positions,
             self.uri,
             offset,
             asks_for_definition(self.params),
@@ -159,8 +159,8 @@ impl Asked<'_, '_, '_> {
         requires { HasNumbers (value_view id.now) }
         ensures { IfOk result (λ body. IsAnswer (value_view id.now) body.items) }
     {
-        match offset_of(self.places, self.params) {
-            Some(offset) => answer_hover(self.alloc, id, self.root, self.places, offset),
+        match offset_of(self.positions, self.params) {
+            Some(offset) => answer_hover(self.alloc, id, self.root, self.positions, offset),
             None => self.refused(id),
         }
     }
@@ -169,11 +169,11 @@ impl Asked<'_, '_, '_> {
         requires { HasNumbers (value_view id.now) }
         ensures { IfOk result (λ body. IsAnswer (value_view id.now) body.items) }
     {
-        let Some(offset) = offset_of(self.places, self.params) else {
+        let Some(offset) = offset_of(self.positions, self.params) else {
             return self.refused(id);
         };
         let mut pieces = Vec::new(self.alloc);
-        push_completions(self.alloc, &mut pieces, self.root, self.places, offset)?;
+        push_completions(self.alloc, &mut pieces, self.root, self.positions, offset)?;
         answer(self.alloc, id, pieces.as_slice())
     }
 
@@ -183,7 +183,7 @@ impl Asked<'_, '_, '_> {
         ensures { IfOk result (λ body. IsAnswer (value_view id.now) body.items) }
     {
         match question {
-            Question::Symbols => answer_symbols(self.alloc, id, self.root, self.places),
+            Question::Symbols => answer_symbols(self.alloc, id, self.root, self.positions),
             Question::Folds => self.folds(id),
             Question::Selections => self.selections(id),
             Question::Tokens => self.tokens(id),
@@ -208,11 +208,11 @@ pub(crate) fn answer_question(
     requires { HasNumbers (value_view id.now) }
     ensures { IfOk result (λ body. IsAnswer (value_view id.now) body.items) }
 {
-    let places = document.places(alloc)?;
+    let positions = document.positions(alloc)?;
     let asked = Asked {
         alloc,
         root: document.tree.root(),
-        places: &places,
+        positions: &positions,
         uri,
         params,
     };

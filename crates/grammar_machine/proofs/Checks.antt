@@ -52,7 +52,7 @@ abbrev pub all_below : ℕ → (ℕ → Bool) → Bool
 all_below zero t = true
 all_below (suc n) t = t n and all_below n t
 
--- A test of each element of a list and its place; of each state and its symbol; of each symbol, state and arc.
+-- A test of each element of a list and its index; of each state and its symbol; of each symbol, state and arc.
 abbrev pub all_from : {A : Type 0} → ℕ → List A → (ℕ → A → Bool) → Bool
 all_from n [] t = true
 all_from n (x ∷ more) t = t n x and all_from (suc n) more t

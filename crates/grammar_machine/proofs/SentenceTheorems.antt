@@ -123,8 +123,8 @@ pub reached-starts : (sort : Sort) (before rest : List Token) (fs : List Frame) 
     → (tree : Tree) × (tokens : List Token) × Spells (before ++ tokens) tree sort
 reached-starts sort before rest fs reached = let h = reached-begins sort before rest fs reached in (h.0, h.1, h.2)
 
-pub stuck-starts-none : (sort : Sort) (before rest : List Token) → IsStuck sort before rest → Starts sort (map word before ++ take 2 (terminals rest)) → ⊥
-stuck-starts-none sort before rest is_stuck starts =
+pub no-early-fault : (sort : Sort) (before rest : List Token) → IsStuck sort before rest → Starts sort (map word before ++ take 2 (terminals rest)) → ⊥
+no-early-fault sort before rest is_stuck starts =
     let k = fault-of sort before rest is_stuck in
     let e : map word before ++ take 2 (terminals rest) ≡ read k.before ++ next_two rest =
     ap₂ (λ (l m : List Terminal). l ++ m) (read-map before ∙ ap read (append_cancel_right before k.before rest k.split)) (two-terminals rest) in

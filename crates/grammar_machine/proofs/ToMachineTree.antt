@@ -380,11 +380,11 @@ not-before tree (other_tree ▸ forest) not_before lacks_block = not_before lack
 
 in-document-after : (symbol state child : ℕ) (tree : Tree) (forest : Forest) → has symbol state child ≡ true → (read : Read child tree)
     → InDocument symbol state (tree ▸ forest) → InDocument symbol (target symbol state (root read.0) + finish read.0) forest
-in-document-after symbol state child tree forest h (u, o, e, w) place d =
+in-document-after symbol state child tree forest h (u, o, e, w) in_document d =
     let x : symbol ≡ DOCUMENT = eqb-true symbol DOCUMENT d in
     let h' : has DOCUMENT state (root u) ≡ true = rw (x, ← e) at h in
     let a = document-arc state u h' o in
-    let b = place d in
+    let b = in_document d in
     let lacks : finish u ≡ 1 → LacksBlock tree = λ z. subst (λ (y : Tree). LacksBlock y) w (finish-lacks u o a.0 z) in
     rw x (omega (arith, a), (λ z. not-before tree forest b.2.0 (lacks (omega (arith, a, z)))), b.2.1)
 
@@ -443,9 +443,9 @@ choose-operation state tree i n fits e =
 chosen : (symbol state child : ℕ) (tree : Tree) (forest : Forest) → is_leaf symbol ≡ false → Fits tree → InDocument symbol state (tree ▸ forest)
     → has symbol state child ≡ true → member (root tree) (shown child) ≡ true
     → Chosen symbol state tree
-chosen symbol state child tree forest l fits place a m = elim (either (eqb symbol DOCUMENT)) [
+chosen symbol state child tree forest l fits in_document a m = elim (either (eqb symbol DOCUMENT)) [
   | inl d ↦ elim (either (eqb (root tree) OPERATION_DEFINITION)) [
-    | inl o ↦ rw (eqb-true symbol DOCUMENT d) (choose-operation state tree (place d).0 (place d).1 fits (eqb-true _ _ o))
+    | inl o ↦ rw (eqb-true symbol DOCUMENT d) (choose-operation state tree (in_document d).0 (in_document d).1 fits (eqb-true _ _ o))
     | inr o ↦ (child, a, m, as-no_operation child tree (λ z. eqb-false _ _ o (shown-operation (root tree) child z m)))
   ]
   | inr d ↦ (child, a, m, no-operation symbol state child tree l d a)
@@ -458,11 +458,11 @@ read-step : (symbol state : ℕ) (tree : Tree) (forest : Forest) → is_leaf sym
     → ((p : ℕ) → Matches (pattern_of symbol p) (kinds forest) → agree_at symbol p ≡ true → InDocument symbol p forest → ReadFrom symbol p forest)
     → ReadFrom symbol state (tree ▸ forest)
 unfolding has
-read-step symbol state tree forest l matches a kids place fits rt rf =
+read-step symbol state tree forest l matches a kids in_document fits rt rf =
     let dm : Matches (deriv (pattern_of symbol state) (root tree)) (kinds forest) = to-deriv (pattern_of symbol state) (root tree) (kinds forest) matches in
     elim (or-c _ _ (agree-kind symbol state (root tree) a (first-kind (pattern_of symbol state) (root tree) (kinds forest) dm))) [
       | inl v ↦ absurd (no-variable tree fits (kids.0 (and-l _ _ v)).0 (eqb-true _ _ (and-r _ _ v)))
-      | inr v ↦ (let c = any-arc (arcs symbol state) (root tree) v in let k = chosen symbol state c.0 tree forest l fits place c.1 c.2 in
+      | inr v ↦ (let c = any-arc (arcs symbol state) (root tree) v in let k = chosen symbol state c.0 tree forest l fits in_document c.1 c.2 in
           let r = rt k.0 (kid-cond symbol state k.0 tree forest l k.1 k.2 k.3 kids) in
           let q' : ℕ = target symbol state (root r.0) + finish r.0 in
           let hu : has symbol state (root r.0) ≡ true = subst (λ (n : ℕ). has symbol state n ≡ true) (sym r.2) k.1 in
@@ -470,7 +470,7 @@ read-step symbol state tree forest l matches a kids place fits rt rf =
           let e : deriv (pattern_of symbol state) (root tree) ≡ pattern_of symbol q' = agree-arc symbol state (root tree) r.0 a hu r.1 mu in
           let live : Live (at symbol q') = fill-live symbol q' (fill-after symbol state r.0 l hu r.1) in
           let g = rf q' (subst (λ (z : Pattern). Matches z (kinds forest)) e dm) (agree symbol q' l live)
-          (in-document-after symbol state k.0 tree forest k.1 r place) in
+          (in-document-after symbol state k.0 tree forest k.1 r in_document) in
           (r.0 ▸ g.0, (hu, r.1, g.1), rw (r.3, g.2) refl))
     ]
 
@@ -503,12 +503,12 @@ node-read child j forest l n fits c rf =
     let e : label child ≡ j = shown-label j child n c.0 in
     let matches : Matches (symbol_row child) (kinds forest) = symbol-row-from child j forest e (below-bare_selections child c.5) c.4 fits.0 in
     let second_matches : Matches (pattern_of child 0) (kinds forest) = rw (start-pattern child n) matches in
-    let place : InDocument child 0 forest = λ d. (
+    let in_document : InDocument child 0 forest = λ d. (
       omega arith,
       (λ z. absurd (omega arith)),
       fits.3 (sym e ∙ (ap label (eqb-true child DOCUMENT d) ∙ labels-checked.3)),
     ) in
-    let g = rf child l second_matches (agree child 0 l (fill-live child 0 (c.6 l))) (cond-kids child j forest e second_matches fits.1 fits.2 c) place in
+    let g = rf child l second_matches (agree child 0 l (fill-live child 0 (c.6 l))) (cond-kids child j forest e second_matches fits.1 fits.2 c) in_document in
     (node child g.0, (l, g.1), refl, show-root child g.0 n ∙ ap₂ node e g.2)
 
 -- The type with `!` has a row of its own. Others are the one child of the symbol of types.
@@ -557,9 +557,9 @@ mutual
   pub read-forest : (forest : Forest) (symbol state : ℕ) → is_leaf symbol ≡ false → Matches (pattern_of symbol state) (kinds forest)
       → agree_at symbol state ≡ true → Kids symbol forest → InDocument symbol state forest
       → AllFit forest → ReadFrom symbol state forest
-  read-forest none symbol state l matches a kids place all_fit = read-end symbol state a matches
-  read-forest (tree ▸ forest) symbol state l matches a kids place all_fit =
-      read-step symbol state tree forest l matches a kids place all_fit.0 (λ k c. read-tree tree k all_fit.0 c)
+  read-forest none symbol state l matches a kids in_document all_fit = read-end symbol state a matches
+  read-forest (tree ▸ forest) symbol state l matches a kids in_document all_fit =
+      read-step symbol state tree forest l matches a kids in_document all_fit.0 (λ k c. read-tree tree k all_fit.0 c)
       (λ q' m' a' p'. read-forest forest symbol q' l m' a' (kids-tail symbol tree forest kids) p' all_fit.1)
 
 shown-start : (member DOCUMENT (shown DOCUMENT) ≡ true) × (member SELECTION_SET (shown SELECTION_SET) ≡ true)

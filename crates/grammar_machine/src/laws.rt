@@ -16,7 +16,7 @@ pub fn one_derivation()
 {}
 
 /// No late fault: what the machine has read, wherever it comes, begins tokens that a derivation spells; and where these are the tokens of
-/// a text before a place, the text before begins a sentence.
+/// a text before an offset, the text before begins a sentence.
 pub fn no_late_fault()
     ensures tokens { (sort : Sort) (before rest : List Token) (frames : List Frame) → Reached sort before rest frames
         → (t : Tree) × (v : List Token) × Spells (before ++ v) t sort }

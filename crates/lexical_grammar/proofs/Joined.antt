@@ -59,9 +59,9 @@ goes-end Comment = refl
 goes-end Name = refl
 goes-end _ = refl
 
-pub items-text : (words : List Word) (place : ℕ) → texts (items_at place words) ≡ joined words
-items-text [] place = refl
-items-text (word ∷ words) place = ap (λ l. word.text ++ l) (items-text words _)
+pub items-text : (words : List Word) (offset : ℕ) → texts (items_at offset words) ≡ joined words
+items-text [] offset = refl
+items-text (word ∷ words) offset = ap (λ l. word.text ++ l) (items-text words _)
 
 -- the first of the tokens is before the others
 first-stands : (word : Word) (words : List Word) → AreTokens (word ∷ words) → are_apart (word ∷ words) ≡ true → Stands word.kind word.text (joined words)
@@ -74,23 +74,23 @@ rest-apart : (word : Word) (words : List Word) → are_apart (word ∷ words) �
 rest-apart word [] h = refl
 rest-apart word (next ∷ words) h = (and_parts (touches (edge_of word.kind word.text) next) (are_apart (next ∷ words)) h).1
 
-items-cut : (words : List Word) (place : ℕ) → AreTokens words → are_apart words ≡ true → CutFrom place (items_at place words)
-items-cut [] place ts h = refl
-items-cut (word ∷ words) place ts h =
-    before-others place (record { kind = Some word.kind; text = word.text; index = place }) (items_at (place + length word.text) words) refl
+items-cut : (words : List Word) (offset : ℕ) → AreTokens words → are_apart words ≡ true → CutFrom offset (items_at offset words)
+items-cut [] offset ts h = refl
+items-cut (word ∷ words) offset ts h =
+    before-others offset (record { kind = Some word.kind; text = word.text; index = offset }) (items_at (offset + length word.text) words) refl
     (subst (Stands word.kind word.text) (sym (items-text words _)) (first-stands word words ts h))
-    (items-cut words (place + length word.text) ts.1 (rest-apart word words h))
+    (items-cut words (offset + length word.text) ts.1 (rest-apart word words h))
 
 pub joined-cut : (words : List Word) → AreTokens words → are_apart words ≡ true → Cut (joined words) (items_at 0 words)
 joined-cut words ts h = record { joined = items-text words 0; each = items-cut words 0 ts h }
 
-pub items-tokens : (words : List Word) (place : ℕ) → are_tokens (items_at place words) ≡ true
-items-tokens [] place = refl
-items-tokens (word ∷ words) place = items-tokens words _
+pub items-tokens : (words : List Word) (offset : ℕ) → are_tokens (items_at offset words) ≡ true
+items-tokens [] offset = refl
+items-tokens (word ∷ words) offset = items-tokens words _
 
-pub items-kept : (words : List Word) (place : ℕ) → Kept (items_at place words) ≡ kept words
-items-kept [] place = refl
-items-kept (word ∷ words) place = ap (λ l. kept_word word ++ l) (items-kept words _)
+pub items-kept : (words : List Word) (offset : ℕ) → Kept (items_at offset words) ≡ kept words
+items-kept [] offset = refl
+items-kept (word ∷ words) offset = ap (λ l. kept_word word ++ l) (items-kept words _)
 
 pub holds : (words : List Word) → AreTokens words → are_apart words ≡ true → Holds (joined words) (kept words)
 holds words ts h = record { items = items_at 0 words; cut = joined-cut words ts h; tokens = items-tokens words 0; same = items-kept words 0 }

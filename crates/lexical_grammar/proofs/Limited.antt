@@ -71,17 +71,17 @@ item-not-last : (kind : Option TokenKind) (text after : List ℕ) (rest : List A
 item-not-last None text after rest item = tt
 item-not-last (Some kind) text after rest item = λ e. not-last kind text rest item.token e
 
-answers-from : (allowed place : ℕ) (items : List Item) → CutFrom place items → AreAnswers (limited allowed items)
-answers-from allowed place [] cut = absurd cut
-answers-from zero place (item ∷ []) cut = refl
-answers-from (suc allowed) place (item ∷ []) cut =
+answers-from : (allowed offset : ℕ) (items : List Item) → CutFrom offset items → AreAnswers (limited allowed items)
+answers-from allowed offset [] cut = absurd cut
+answers-from zero offset (item ∷ []) cut = refl
+answers-from (suc allowed) offset (item ∷ []) cut =
     subst (λ (i : Item). AreAnswers (gives i ∷ limited allowed [])) (sym cut) (
       refl,
       (λ e. limited-end allowed),
       subst AreAnswers (sym (limited-end allowed)) tt,
     )
-answers-from zero place (item ∷ next ∷ items) cut = refl
-answers-from (suc allowed) place (item ∷ next ∷ items) cut = (
+answers-from zero offset (item ∷ next ∷ items) cut = refl
+answers-from (suc allowed) offset (item ∷ next ∷ items) cut = (
   item-text item.kind item.text _ cut.1,
   item-not-last item.kind item.text _ (limited allowed (next ∷ items)) cut.1,
   answers-from allowed _ (next ∷ items) cut.2,

@@ -16,8 +16,8 @@ usize_max = 2 ^ 64 - 1
 
 -- the limit error's index: where the next item begins, or the last byte where that is the end of a text with some
 abbrev pub limit_index_at : Option TokenKind → ℕ → ℕ
-limit_index_at (Some Eof) place = place - 1
-limit_index_at _ place = place
+limit_index_at (Some Eof) offset = offset - 1
+limit_index_at _ offset = offset
 
 abbrev pub limit_index : Item → ℕ
 limit_index item = limit_index_at item.kind item.index

@@ -55,7 +55,7 @@ last_edge (word ∷ next ∷ words) = last_edge (next ∷ words)
 abbrev pub joined : List Word → List ℕ
 joined words = flat_map (λ word. word.text) words
 
--- the items of these tokens from the place on
+-- the items of these tokens from the offset on
 abbrev pub items_at : ℕ → List Word → List Item
-items_at place [] = end_at place ∷ []
-items_at place (word ∷ words) = record { kind = Some word.kind; text = word.text; index = place } ∷ items_at (place + length word.text) words
+items_at offset [] = end_at offset ∷ []
+items_at offset (word ∷ words) = record { kind = Some word.kind; text = word.text; index = offset } ∷ items_at (offset + length word.text) words

@@ -3,19 +3,19 @@ use Rattle.std.specs.Prelude.{◌≡◌, ℕ, ◌+◌, ◌<◌, ◌≤◌, List,
 use Rattle.lexical_grammar.specs.declared.TokenKind.{TokenKind}
 use Rattle.lexical_grammar.specs.Cut.{Item, Stands}
 
--- the n bytes of the text at the place are a token of the kind
-pub record TokenAt (source : List ℕ) (place : ℕ) (kind : TokenKind) (n : ℕ) : Type 0 where
-  pub within : place + n ≤ length source
-  pub stands : Stands kind (take n (drop place source)) (drop (place + n) source)
+-- the n bytes of the text at the offset are a token of the kind
+pub record TokenAt (source : List ℕ) (offset : ℕ) (kind : TokenKind) (n : ℕ) : Type 0 where
+  pub within : offset + n ≤ length source
+  pub stands : Stands kind (take n (drop offset source)) (drop (offset + n) source)
 
--- The item is at the place: its index is the place, its text is what the source has there, and it is the token that is there, or bad
+-- The item is at the offset: its index is the offset, its text is what the source has there, and it is the token that is there, or bad
 -- text when none is.
 abbrev pub StandsAs : List ℕ → ℕ → Option TokenKind → List ℕ → Type 0
-StandsAs source place (Some kind) text = TokenAt source place kind (length text)
-StandsAs source place None text = (kind : TokenKind) (n : ℕ) → TokenAt source place kind n → ⊥
+StandsAs source offset (Some kind) text = TokenAt source offset kind (length text)
+StandsAs source offset None text = (kind : TokenKind) (n : ℕ) → TokenAt source offset kind n → ⊥
 
-pub record StandsIn (source : List ℕ) (place : ℕ) (item : Item) : Type 0 where
-  pub index : item.index ≡ place
-  pub text : item.text ≡ take (length item.text) (drop place source)
+pub record StandsIn (source : List ℕ) (offset : ℕ) (item : Item) : Type 0 where
+  pub index : item.index ≡ offset
+  pub text : item.text ≡ take (length item.text) (drop offset source)
   pub some : 0 < length item.text
-  pub stands : StandsAs source place item.kind item.text
+  pub stands : StandsAs source offset item.kind item.text

@@ -1,4 +1,4 @@
--- Lines by their places.
+-- Lines by their offsets.
 use Rattle.std.proofs.Common.{◌≡◌, ℕ, zero, suc, ◌+◌, ◌-◌, ◌<◌, ◌≤◌, true, false, not, List, length, take, drop, refl, sym, ap, ◌∙◌, subst, inl, inr, arith}
 use Rattle.std.proofs.Common.{eqb, eqb-true, leb, get_or, Some, None, length-drop}
 use Rattle.std.specs.Prelude.{slice_index, ◌&&◌, ◌||◌}
@@ -16,7 +16,7 @@ use Rattle.lexical_grammar.specs.Characters.{is_line_terminator}
 use Rattle.line_index.specs.Lines.{begins_line, line_at, line_start}
 use Rattle.line_index.specs.LineStarts.{AreStarts, IsNextStart}
 
--- one place further
+-- one offset further
 begun : (text : List ℕ) (k : ℕ) → begins_line text (suc k) ≡ true → (line_at text (suc k) ≡ line_at text k + 1) × (line_start text (suc k) ≡ suc k)
 begun text k h = (rw h refl, rw h refl)
 
@@ -36,7 +36,7 @@ start-le text (suc k) = elim (cases_Bool (begins_line text (suc k))) [
   | inr h ↦ omega (arith, (not-begun text k h).1, start-le text k)
 ]
 
--- a later place is in no earlier line
+-- a later offset is in no earlier line
 mono : (text : List ℕ) (i j : ℕ) → i ≤ j → line_at text i ≤ line_at text j
 mono text i zero h = (let e : i ≡ 0 = omega arith in subst (λ (k : ℕ). line_at text k ≤ line_at text 0) (sym e) (omega arith))
 mono text i (suc j) h = elim (cases_lt j i) [
@@ -44,7 +44,7 @@ mono text i (suc j) h = elim (cases_lt j i) [
   | inr ge ↦ omega (arith, mono text i j ge, at-step text j)
 ]
 
--- two places in one line have its start
+-- two offsets in one line have its start
 same-start : (text : List ℕ) (i j : ℕ) → i ≤ j → line_at text j ≡ line_at text i → line_start text j ≡ line_start text i
 same-start text i zero h e = (let z : i ≡ 0 = omega arith in ap (line_start text) (sym z))
 same-start text i (suc j) h e = elim (cases_lt j i) [
@@ -67,34 +67,35 @@ quiet text i (suc j) h none = elim (cases_lt j i) [
 plain : (text : List ℕ) (k : ℕ) → is_line_terminator (slice_index text k) ≡ false → begins_line text (suc k) ≡ false
 plain text k h = grind (arith, nat_tests)
 
--- up to the first line terminator after a place, and to the end where there is none
-clear-after : (text : List ℕ) (place k : ℕ) → place ≤ k → (is_line_terminator (slice_index (drop place text) (k - place)) ≡ true → ⊥)
+-- up to the first line terminator after an offset, and to the end where there is none
+clear-after : (text : List ℕ) (offset k : ℕ) → offset ≤ k → (is_line_terminator (slice_index (drop offset text) (k - offset)) ≡ true → ⊥)
     → begins_line text (suc k) ≡ false
-clear-after text place k low clear =
-    let at : place + (k - place) ≡ k = omega arith in
-    let here : slice_index (drop place text) (k - place) ≡ slice_index text k = get_or-drop place text (k - place) 0 ∙ ap (slice_index text) at in
+clear-after text offset k low clear =
+    let at : offset + (k - offset) ≡ k = omega arith in
+    let here : slice_index (drop offset text) (k - offset) ≡ slice_index text k = get_or-drop offset text (k - offset) 0 ∙ ap (slice_index text) at in
     plain text k (false_from_ne_true _ (λ h. clear (ap is_line_terminator here ∙ h)))
 
-pub to-terminator : (text : List ℕ) (place i : ℕ) → place ≤ length text → IsFirstByte (is_byte2 10 13) (take (length text - place) (drop place text)) (Some i)
-    → (place + i < length text) × (is_line_terminator (slice_index text (place + i)) ≡ true) × (line_at text (place + i) ≡ line_at text place)
-to-terminator text place i within f =
-    let g : IsFirstByte (is_byte2 10 13) (drop place text) (Some i) = subst (λ b. IsFirstByte (is_byte2 10 13) b (Some i)) (take_rest text place) f in
-    let here : slice_index (drop place text) i ≡ slice_index text (place + i) = get_or-drop place text i 0 in (
-      omega (arith, g.0.high, length-drop place text),
+pub to-terminator : (text : List ℕ) (offset i : ℕ) → offset ≤ length text
+    → IsFirstByte (is_byte2 10 13) (take (length text - offset) (drop offset text)) (Some i)
+    → (offset + i < length text) × (is_line_terminator (slice_index text (offset + i)) ≡ true) × (line_at text (offset + i) ≡ line_at text offset)
+to-terminator text offset i within f =
+    let g : IsFirstByte (is_byte2 10 13) (drop offset text) (Some i) = subst (λ b. IsFirstByte (is_byte2 10 13) b (Some i)) (take_rest text offset) f in
+    let here : slice_index (drop offset text) i ≡ slice_index text (offset + i) = get_or-drop offset text i 0 in (
+      omega (arith, g.0.high, length-drop offset text),
       sym (ap is_line_terminator here) ∙ g.1,
-      quiet text place (place + i) (omega arith) (λ k low high. clear-after text place k low (g.0.before (k - place) (omega arith) (omega arith))),
+      quiet text offset (offset + i) (omega arith) (λ k low high. clear-after text offset k low (g.0.before (k - offset) (omega arith) (omega arith))),
     )
 
-pub to-end : (text : List ℕ) (place : ℕ) → place ≤ length text → IsFirstByte (is_byte2 10 13) (take (length text - place) (drop place text)) None
-    → line_at text (length text) ≡ line_at text place
-to-end text place within f =
-    let g : IsFirstByte (is_byte2 10 13) (drop place text) None = subst (λ b. IsFirstByte (is_byte2 10 13) b None) (take_rest text place) f in
-    quiet text place (length text) within (λ k low high. clear-after text place k low (g (k - place) (omega arith) (omega (arith, length-drop place text))))
+pub to-end : (text : List ℕ) (offset : ℕ) → offset ≤ length text → IsFirstByte (is_byte2 10 13) (take (length text - offset) (drop offset text)) None
+    → line_at text (length text) ≡ line_at text offset
+to-end text offset within f =
+    let g : IsFirstByte (is_byte2 10 13) (drop offset text) None = subst (λ b. IsFirstByte (is_byte2 10 13) b None) (take_rest text offset) f in
+    quiet text offset (length text) within (λ k low high. clear-after text offset k low (g (k - offset) (omega arith) (omega (arith, length-drop offset text))))
 
 -- after a line terminator
-next-start : (text : List ℕ) (place e : ℕ) → place ≤ e → e < length text → line_at text e ≡ line_at text place → begins_line text (suc e) ≡ true
-    → IsNextStart text place (suc e)
-next-start text place e low within same b = record {
+next-start : (text : List ℕ) (offset e : ℕ) → offset ≤ e → e < length text → line_at text e ≡ line_at text offset → begins_line text (suc e) ≡ true
+    → IsNextStart text offset (suc e)
+next-start text offset e low within same b = record {
   after = omega arith;
   within = omega arith;
   begins = (begun text e b).1;
@@ -104,22 +105,22 @@ next-start text place e low within same b = record {
 ends-line : (a b : ℕ) → is_line_terminator a ≡ true → (eqb a 13 && eqb b 10) ≡ false → (eqb a 10 || (eqb a 13 && not (eqb b 10))) ≡ true
 ends-line a b t n = grind (arith, nat_tests)
 
-pub after-one : (text : List ℕ) (place e : ℕ) → place ≤ e → e < length text → line_at text e ≡ line_at text place
+pub after-one : (text : List ℕ) (offset e : ℕ) → offset ≤ e → e < length text → line_at text e ≡ line_at text offset
     → is_line_terminator (slice_index text e) ≡ true
-    → (eqb (slice_index text e) 13 && eqb (slice_index text (e + 1)) 10) ≡ false → IsNextStart text place (e + 1)
-after-one text place e low within same t cr =
+    → (eqb (slice_index text e) 13 && eqb (slice_index text (e + 1)) 10) ≡ false → IsNextStart text offset (e + 1)
+after-one text offset e low within same t cr =
     let more : e + 1 ≡ suc e = omega arith in
     let cr' : (eqb (slice_index text e) 13 && eqb (slice_index text (suc e)) 10)
     ≡ false = sym (ap (λ (k : ℕ). eqb (slice_index text e) 13 && eqb (slice_index text k) 10) more) ∙ cr in
-    subst (λ (k : ℕ). IsNextStart text place k) (sym more) (next-start text place e low within same
+    subst (λ (k : ℕ). IsNextStart text offset k) (sym more) (next-start text offset e low within same
     (ends-line (slice_index text e) (slice_index text (suc e)) t cr'))
 
 inside : (a b : ℕ) → (eqb a 13 && eqb b 10) ≡ true → (eqb a 10 || (eqb a 13 && not (eqb b 10))) ≡ false
 inside a b h = grind (arith, nat_tests)
 
-pub after-two : (text : List ℕ) (place e : ℕ) → place ≤ e → e < length text → line_at text e ≡ line_at text place
-    → (eqb (slice_index text e) 13 && eqb (slice_index text (e + 1)) 10) ≡ true → IsNextStart text place (e + 2)
-after-two text place e low within same crlf =
+pub after-two : (text : List ℕ) (offset e : ℕ) → offset ≤ e → e < length text → line_at text e ≡ line_at text offset
+    → (eqb (slice_index text e) 13 && eqb (slice_index text (e + 1)) 10) ≡ true → IsNextStart text offset (e + 2)
+after-two text offset e low within same crlf =
     let more : e + 1 ≡ suc e = omega arith in
     let two : e + 2 ≡ suc (suc e) = omega arith in
     let h : (eqb (slice_index text e) 13 && eqb (slice_index text (suc e)) 10)
@@ -130,8 +131,8 @@ after-two text place e low within same crlf =
       | inl lt ↦ lt
       | inr ge ↦ absurd (omega (arith, get_or_past text (suc e) 0 ge, eqb-true (slice_index text (suc e)) 10 lf))
     ] in
-    subst (λ (k : ℕ). IsNextStart text place k) (sym two)
-    (next-start text place (suc e) (omega arith) some (stays ∙ same) (or_left (eqb (slice_index text (suc e)) 10) _ lf))
+    subst (λ (k : ℕ). IsNextStart text offset k) (sym two)
+    (next-start text offset (suc e) (omega arith) some (stays ∙ same) (or_left (eqb (slice_index text (suc e)) 10) _ lf))
 
 -- the starts in order
 pub starts-ordered : (text : List ℕ) (end : ℕ) (starts : List ℕ) → AreStarts text end starts → IsNonDecreasing starts
@@ -150,37 +151,37 @@ starts-first text end starts s =
     let some : 0 < length starts = omega (arith, s.all) in
     (some, sym (s.begin 0 some) ∙ same-start text 0 (slice_index starts 0) (omega arith) (s.number 0 some))
 
--- the last start up to a place is its line's
-pub starts-at : (text : List ℕ) (end : ℕ) (starts : List ℕ) (place i : ℕ) → AreStarts text end starts → place ≤ end → i < length starts
-    → slice_index starts i ≤ place
-    → (i + 1 < length starts → place < slice_index starts (i + 1)) → (i ≡ line_at text place) × (slice_index starts i ≡ line_start text place)
-starts-at text end starts place i s within some low high =
-    let up = mono text (slice_index starts i) place low in
-    let top = mono text place end within in
-    let is : i ≡ line_at text place = elim (cases_lt i (line_at text place)) [
+-- the last start up to an offset is its line's
+pub starts-at : (text : List ℕ) (end : ℕ) (starts : List ℕ) (offset i : ℕ) → AreStarts text end starts → offset ≤ end → i < length starts
+    → slice_index starts i ≤ offset
+    → (i + 1 < length starts → offset < slice_index starts (i + 1)) → (i ≡ line_at text offset) × (slice_index starts i ≡ line_start text offset)
+starts-at text end starts offset i s within some low high =
+    let up = mono text (slice_index starts i) offset low in
+    let top = mono text offset end within in
+    let is : i ≡ line_at text offset = elim (cases_lt i (line_at text offset)) [
       | inl below ↦
           let more : i + 1 < length starts = omega (arith, s.all) in
           let past = high more in
-          let next = mono text place (slice_index starts (i + 1)) (omega arith) in
-          let same : line_at text (slice_index starts (i + 1)) ≡ line_at text place = omega (arith, s.number (i + 1) more) in
-          absurd (omega (arith, same-start text place (slice_index starts (i + 1)) (omega arith) same, s.begin (i + 1) more, start-le text place))
+          let next = mono text offset (slice_index starts (i + 1)) (omega arith) in
+          let same : line_at text (slice_index starts (i + 1)) ≡ line_at text offset = omega (arith, s.number (i + 1) more) in
+          absurd (omega (arith, same-start text offset (slice_index starts (i + 1)) (omega arith) same, s.begin (i + 1) more, start-le text offset))
       | inr ge ↦ omega (arith, s.number i some)
     ] in
-    (is, sym (s.begin i some) ∙ sym (same-start text (slice_index starts i) place low (sym is ∙ sym (s.number i some))))
+    (is, sym (s.begin i some) ∙ sym (same-start text (slice_index starts i) offset low (sym is ∙ sym (s.number i some))))
 
--- the last of the places up to one
-pub some-up-to : (places : List ℕ) (place n : ℕ) → 0 < length places → slice_index places 0 ≤ place
-    → IsPartitionPoint (λ y. leb y place ≡ true) (λ y. leb y place ≡ false) places n → 1 ≤ n
-some-up-to places place zero some first p = absurd (omega (arith, leb-false (slice_index places 0) place (p.1 0 0 (omega arith) some)))
-some-up-to places place (suc n) some first p = omega arith
+-- the last of the offsets up to one
+pub some-up-to : (offsets : List ℕ) (offset n : ℕ) → 0 < length offsets → slice_index offsets 0 ≤ offset
+    → IsPartitionPoint (λ y. leb y offset ≡ true) (λ y. leb y offset ≡ false) offsets n → 1 ≤ n
+some-up-to offsets offset zero some first p = absurd (omega (arith, leb-false (slice_index offsets 0) offset (p.1 0 0 (omega arith) some)))
+some-up-to offsets offset (suc n) some first p = omega arith
 
-pub at-up-to : (places : List ℕ) (place n : ℕ) → 1 ≤ n → IsPartitionPoint (λ y. leb y place ≡ true) (λ y. leb y place ≡ false) places n
-    → slice_index places (n - 1) ≤ place
-at-up-to places place n some p = leb-true (slice_index places (n - 1)) place (p.0 (n - 1) 0 (omega arith) (omega arith))
+pub at-up-to : (offsets : List ℕ) (offset n : ℕ) → 1 ≤ n → IsPartitionPoint (λ y. leb y offset ≡ true) (λ y. leb y offset ≡ false) offsets n
+    → slice_index offsets (n - 1) ≤ offset
+at-up-to offsets offset n some p = leb-true (slice_index offsets (n - 1)) offset (p.0 (n - 1) 0 (omega arith) (omega arith))
 
-pub past-up-to : (places : List ℕ) (place n : ℕ) → IsPartitionPoint (λ y. leb y place ≡ true) (λ y. leb y place ≡ false) places n → (k : ℕ) → n ≤ k
-    → k < length places → place < slice_index places k
-past-up-to places place n p k low high = leb-false (slice_index places k) place (p.1 k 0 low high)
+pub past-up-to : (offsets : List ℕ) (offset n : ℕ) → IsPartitionPoint (λ y. leb y offset ≡ true) (λ y. leb y offset ≡ false) offsets n → (k : ℕ) → n ≤ k
+    → k < length offsets → offset < slice_index offsets k
+past-up-to offsets offset n p k low high = leb-false (slice_index offsets k) offset (p.1 k 0 low high)
 
 -- as the code finds it
 pub found : (inner text starts slice : List ℕ) (offset i s : ℕ) → inner ≡ text → slice ≡ starts → AreStarts inner (length inner) starts → offset ≤ length text

@@ -1,4 +1,4 @@
--- The units of UTF-16 before a place, from the marks.
+-- The units of UTF-16 before an offset, from the marks.
 use Rattle.std.proofs.Common.{◌⊎◌, ◌≡◌, ℕ, ◌+◌, ◌-◌, ◌*◌, ◌/◌, ◌^◌, ◌<◌, ◌≤◌, max, List, [], ◌∷◌, ◌++◌, length, take, drop, refl, sym, ap, ◌∙◌, subst, inl, inr}
 use Rattle.std.proofs.Common.{arith, get_or, length-append, length-drop}
 use Rattle.std.specs.Prelude.{slice_index, slice_range}
@@ -14,7 +14,7 @@ use Rattle.line_index.specs.Columns.{utf16_units, utf16_len}
 use Rattle.line_index.specs.Marks.{AreMarks}
 use Rattle.line_index.proofs.ColumnLemmas.{utf16_len-le}
 
--- the units before a place and those from there up to another
+-- the units before an offset and those from there up to another
 pub units-add : (text : List ℕ) (n m k : ℕ) → k ≡ n + m → utf16_len (take k text) ≡ utf16_len (take n text) + utf16_len (take m (drop n text))
 units-add text n m k e = ap (λ (i : ℕ). utf16_len (take i text)) e ∙ ap utf16_len (take-add n m text)
     ∙ sum_by-append utf16_units (take n text) (take m (drop n text))

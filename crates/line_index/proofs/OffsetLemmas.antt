@@ -20,7 +20,7 @@ use Rattle.line_index.specs.declared.PositionEncoding.TheVariants.{Utf8, Utf16}
 use Rattle.line_index.proofs.LineLemmas.{start-boundary, start-le}
 use Rattle.line_index.proofs.ColumnLemmas.{utf16_len-le}
 use Rattle.line_index.proofs.CharacterLemmas.{begins-of, fresh, utf8-units, wide}
-use Rattle.line_index.proofs.TextLemmas.{found-place, quiet-front, cursor-quiet, start-begins, start-line, some-unit}
+use Rattle.line_index.proofs.TextLemmas.{found-offset, quiet-front, cursor-quiet, start-begins, start-line, some-unit}
 
 -- a line: where it begins, and where the text of it ends
 pub record IsLine (text : List ℕ) (start end line : ℕ) : Type 0 where
@@ -113,28 +113,28 @@ end-boundary text start end line l = elim (cases_lt end (length text)) [
   | inr ge ↦ (let e : length text ≡ end = omega (arith, l.within) in subst (IsCharBoundary text) e (IsCharBoundary-end text))
 ]
 
-width-le : (e : PositionEncoding) (text : List ℕ) (start place : ℕ) → IsUtf8 text → start ≤ place → place ≤ length text → IsCharBoundary text start
-    → IsCharBoundary text place
-    → width e (slice_range text start place) ≤ place - start
-width-le Utf8 text start place u le within b d = omega (arith, length-take (place - start) (drop start text), length-drop start text)
-width-le Utf16 text start place u le within b d =
+width-le : (e : PositionEncoding) (text : List ℕ) (start offset : ℕ) → IsUtf8 text → start ≤ offset → offset ≤ length text → IsCharBoundary text start
+    → IsCharBoundary text offset
+    → width e (slice_range text start offset) ≤ offset - start
+width-le Utf8 text start offset u le within b d = omega (arith, length-take (offset - start) (drop start text), length-drop start text)
+width-le Utf16 text start offset u le within b d =
     omega (
       arith,
-      utf16_len-le (slice_range text start place) (IsUtf8-between text start place u le b d),
-      length-take (place - start) (drop start text),
+      utf16_len-le (slice_range text start offset) (IsUtf8-between text start offset u le b d),
+      length-take (offset - start) (drop start text),
       length-drop start text,
     )
 
--- the character behind a place
-behind : (text : List ℕ) (place c : ℕ) (v : List ℕ) → scalar c ≡ true → drop place text ≡ encode c ++ v
-    → (place < length text) × (slice_index text place ≡ slice_index (encode c) 0)
-behind text place c v s eq =
+-- the character behind an offset
+behind : (text : List ℕ) (offset c : ℕ) (v : List ℕ) → scalar c ≡ true → drop offset text ≡ encode c ++ v
+    → (offset < length text) × (slice_index text offset ≡ slice_index (encode c) 0)
+behind text offset c v s eq =
     let b = begins-of Utf8 c s in
     let some : 0 < length (encode c) = omega (arith, ap length b.are) in
-    let len : length (drop place text) ≡ length (encode c) + length v = ap length eq ∙ length-append (encode c) v in
-    let here : place + 0 ≡ place = omega arith in (
-      omega (arith, length-drop place text),
-      ap (slice_index text) (sym here) ∙ sym (get_or-drop place text 0 0) ∙ ap (λ (u : List ℕ). slice_index u 0) eq ∙ get_or_append_left (encode c) v 0 0 some,
+    let len : length (drop offset text) ≡ length (encode c) + length v = ap length eq ∙ length-append (encode c) v in
+    let here : offset + 0 ≡ offset = omega arith in (
+      omega (arith, length-drop offset text),
+      ap (slice_index text) (sym here) ∙ sym (get_or-drop offset text 0 0) ∙ ap (λ (u : List ℕ). slice_index u 0) eq ∙ get_or_append_left (encode c) v 0 0 some,
     )
 
 none-behind : (text : List ℕ) (start end line c : ℕ) (v : List ℕ) → IsLine text start end line → scalar c ≡ true → drop end text ≡ encode c ++ v
@@ -151,12 +151,12 @@ none-behind text start end line c v l s eq plain =
 -- the end of the line, for a column beyond it
 pub at-end : (e : PositionEncoding) (text : List ℕ) (start end line column : ℕ) → IsLine text start end line → end - start ≤ column
     → length (units e (take end text)) ≡ whole e (units e text) (units_before (lines_of (units e text)) line column)
-at-end e text start end line column l far = found-place e text start end line column (record {
+at-end e text start end line column l far = found-offset e text start end line column (record {
   utf8 = l.utf8;
   ordered = l.ordered;
   within = l.within;
   start_boundary = l.boundary;
-  place_boundary = end-boundary text start end line l;
+  offset_boundary = end-boundary text start end line l;
   begins = l.begins;
   number = l.number;
   quiet = l.quiet;
@@ -168,44 +168,45 @@ at-end e text start end line column l far = found-place e text start end line co
 not-range : (x : ℕ) → continues Utf8 x ≡ false → 128 ≤ x → 192 ≤ x
 not-range x h low = grind (arith, nat_tests)
 
-boundary-behind : (text : List ℕ) (place c : ℕ) (zs : List ℕ) → place ≤ length text → scalars zs ≡ true → drop place text ≡ encode c ++ encodes zs
-    → IsCharBoundary text (place + length (encode c))
-boundary-behind text place c zs within s eq =
-    let len : length (drop place text) ≡ length (encode c) + length (encodes zs) = ap length eq ∙ length-append (encode c) (encodes zs) in
+boundary-behind : (text : List ℕ) (offset c : ℕ) (zs : List ℕ) → offset ≤ length text → scalars zs ≡ true → drop offset text ≡ encode c ++ encodes zs
+    → IsCharBoundary text (offset + length (encode c))
+boundary-behind text offset c zs within s eq =
+    let len : length (drop offset text) ≡ length (encode c) + length (encodes zs) = ap length eq ∙ length-append (encode c) (encodes zs) in
     let zero-more : length (encode c) + 0 ≡ length (encode c) = omega arith in
-    let at : slice_index text (place + length (encode c)) ≡ slice_index (encodes zs) 0
-    = sym (get_or-drop place text (length (encode c)) 0) ∙ ap (λ (u : List ℕ). slice_index u (length (encode c))) eq
+    let at : slice_index text (offset + length (encode c)) ≡ slice_index (encodes zs) 0
+    = sym (get_or-drop offset text (length (encode c)) 0) ∙ ap (λ (u : List ℕ). slice_index u (length (encode c))) eq
     ∙ ap (slice_index (encode c ++ encodes zs)) (sym zero-more) ∙ get_or-append-add (encode c) (encodes zs) 0 0 in
-    let new : continues Utf8 (slice_index text (place + length (encode c))) ≡ false = ap (continues Utf8) at
+    let new : continues Utf8 (slice_index text (offset + length (encode c))) ≡ false = ap (continues Utf8) at
     ∙ ap (λ (u : List ℕ). continues Utf8 (slice_index u 0)) (sym (utf8-units zs)) ∙ fresh Utf8 zs s in
-    (omega (arith, length-drop place text), λ less low. not-range (slice_index text (place + length (encode c))) new low)
+    (omega (arith, length-drop offset text), λ less low. not-range (slice_index text (offset + length (encode c))) new low)
 
-floor-after : (text : List ℕ) (start to place : ℕ) → IsCharBoundary text start → start ≤ to → ((i : ℕ) → place < i → i ≤ to → IsCharBoundary text i → ⊥)
-    → start ≤ place
-floor-after text start to place b le nearest = elim (cases_lt place start) [ inl lt ↦ absurd (nearest start lt le b) | inr ge ↦ ge ]
+floor-after : (text : List ℕ) (start to offset : ℕ) → IsCharBoundary text start → start ≤ to → ((i : ℕ) → offset < i → i ≤ to → IsCharBoundary text i → ⊥)
+    → start ≤ offset
+floor-after text start to offset b le nearest = elim (cases_lt offset start) [ inl lt ↦ absurd (nearest start lt le b) | inr ge ↦ ge ]
 
-pub at-floor : (text : List ℕ) (start end line column place : ℕ) → IsLine text start end line → start + column < end → place ≤ start + column
-    → IsCharBoundary text place
-    → ((i : ℕ) → place < i → i ≤ start + column → IsCharBoundary text i → ⊥)
-    → length (units Utf8 (take place text)) ≡ whole Utf8 (units Utf8 text) (units_before (lines_of (units Utf8 text)) line column)
-at-floor text start end line column place l short bound b nearest =
-    let after : start ≤ place = floor-after text start (start + column) place l.boundary (omega arith) nearest in
-    let within : place ≤ length text = omega (arith, l.within) in
-    let wide : length (slice_range text start place) ≡ place - start = omega (arith, length-take (place - start) (drop start text), length-drop start text) in
-    found-place Utf8 text start place line column (record {
+pub at-floor : (text : List ℕ) (start end line column offset : ℕ) → IsLine text start end line → start + column < end → offset ≤ start + column
+    → IsCharBoundary text offset
+    → ((i : ℕ) → offset < i → i ≤ start + column → IsCharBoundary text i → ⊥)
+    → length (units Utf8 (take offset text)) ≡ whole Utf8 (units Utf8 text) (units_before (lines_of (units Utf8 text)) line column)
+at-floor text start end line column offset l short bound b nearest =
+    let after : start ≤ offset = floor-after text start (start + column) offset l.boundary (omega arith) nearest in
+    let within : offset ≤ length text = omega (arith, l.within) in
+    let wide : length (slice_range text start offset) ≡ offset - start =
+    omega (arith, length-take (offset - start) (drop start text), length-drop start text) in
+    found-offset Utf8 text start offset line column (record {
       utf8 = l.utf8;
       ordered = after;
       within = within;
       start_boundary = l.boundary;
-      place_boundary = b;
+      offset_boundary = b;
       begins = l.begins;
       number = l.number;
       quiet = λ k low high. l.quiet k low (omega arith);
       fits = omega arith;
-      stops = λ c zs sc sz eq plain. elim (cases_lt column (length (slice_range text start place) + length (encode c))) [
+      stops = λ c zs sc sz eq plain. elim (cases_lt column (length (slice_range text start offset) + length (encode c))) [
         | inl lt ↦ lt
-        | inr ge ↦ absurd (nearest (place + length (encode c)) (omega (arith, some-unit Utf8 c sc)) (omega arith)
-            (boundary-behind text place c zs within sz eq))
+        | inr ge ↦ absurd (nearest (offset + length (encode c)) (omega (arith, some-unit Utf8 c sc)) (omega arith)
+            (boundary-behind text offset c zs within sz eq))
       ];
     })
 
@@ -213,48 +214,48 @@ at-floor text start end line column place l short bound b nearest =
 counted : (x : ℕ) → 0 < utf16_units x → 128 ≤ x → 192 ≤ x
 counted x h low = grind (arith, nat_tests)
 
-pub units-boundary : (text : List ℕ) (start end line column place : ℕ) → IsLine text start end line → place ≤ end
-    → utf16_len (slice_range text start place) ≤ column
-    → (place < end → column < utf16_len (slice_range text start place) + utf16_units (slice_index text place)) → IsCharBoundary text place
-units-boundary text start end line column place l to fits full = elim (cases_lt place end) [
-  | inl lt ↦ (omega (arith, l.within), λ less low. counted (slice_index text place) (omega (arith, full lt)) low)
-  | inr ge ↦ (let e : end ≡ place = omega arith in subst (IsCharBoundary text) e (end-boundary text start end line l))
+pub units-boundary : (text : List ℕ) (start end line column offset : ℕ) → IsLine text start end line → offset ≤ end
+    → utf16_len (slice_range text start offset) ≤ column
+    → (offset < end → column < utf16_len (slice_range text start offset) + utf16_units (slice_index text offset)) → IsCharBoundary text offset
+units-boundary text start end line column offset l to fits full = elim (cases_lt offset end) [
+  | inl lt ↦ (omega (arith, l.within), λ less low. counted (slice_index text offset) (omega (arith, full lt)) low)
+  | inr ge ↦ (let e : end ≡ offset = omega arith in subst (IsCharBoundary text) e (end-boundary text start end line l))
 ]
 
-pub at-units : (text : List ℕ) (start end line column place : ℕ) → IsLine text start end line → start ≤ place → place ≤ end
-    → utf16_len (slice_range text start place) ≤ column
-    → (place < end → column < utf16_len (slice_range text start place) + utf16_units (slice_index text place))
-    → length (units Utf16 (take place text)) ≡ whole Utf16 (units Utf16 text) (units_before (lines_of (units Utf16 text)) line column)
-at-units text start end line column place l from to fits full = found-place Utf16 text start place line column (record {
+pub at-units : (text : List ℕ) (start end line column offset : ℕ) → IsLine text start end line → start ≤ offset → offset ≤ end
+    → utf16_len (slice_range text start offset) ≤ column
+    → (offset < end → column < utf16_len (slice_range text start offset) + utf16_units (slice_index text offset))
+    → length (units Utf16 (take offset text)) ≡ whole Utf16 (units Utf16 text) (units_before (lines_of (units Utf16 text)) line column)
+at-units text start end line column offset l from to fits full = found-offset Utf16 text start offset line column (record {
   utf8 = l.utf8;
   ordered = from;
   within = omega (arith, l.within);
   start_boundary = l.boundary;
-  place_boundary = units-boundary text start end line column place l to fits full;
+  offset_boundary = units-boundary text start end line column offset l to fits full;
   begins = l.begins;
   number = l.number;
   quiet = λ k low high. l.quiet k low (omega arith);
   fits = fits;
-  stops = λ c zs sc sz eq plain. elim (cases_lt place end) [
-    | inl lt ↦ omega (arith, full lt, ap utf16_units (behind text place c (encodes zs) sc eq).1, (wide c).lead)
-    | inr ge ↦ (let e : place ≡ end = omega arith in absurd (none-behind text start end line c (encodes zs) l sc
+  stops = λ c zs sc sz eq plain. elim (cases_lt offset end) [
+    | inl lt ↦ omega (arith, full lt, ap utf16_units (behind text offset c (encodes zs) sc eq).1, (wide c).lead)
+    | inr ge ↦ (let e : offset ≡ end = omega arith in absurd (none-behind text start end line c (encodes zs) l sc
         (ap (λ (n : ℕ). drop n text) (sym e) ∙ eq) plain))
   ];
 })
 
--- the position of a place
-pub named : (e : PositionEncoding) (text : List ℕ) (place line column : ℕ) → IsUtf8 text → place ≤ length text → IsCursor text place → line ≡ line_at text place
-    → column ≡ width e (slice_range text (line_start text place) place)
-    → whole e (units e text) (units_before (lines_of (units e text)) line column) ≡ length (units e (take place text))
-named e text place line column u within c number is = sym (found-place e text (line_start text place) place line column (record {
+-- the position of an offset
+pub named : (e : PositionEncoding) (text : List ℕ) (offset line column : ℕ) → IsUtf8 text → offset ≤ length text → IsCursor text offset
+    → line ≡ line_at text offset → column ≡ width e (slice_range text (line_start text offset) offset)
+    → whole e (units e text) (units_before (lines_of (units e text)) line column) ≡ length (units e (take offset text))
+named e text offset line column u within c number is = sym (found-offset e text (line_start text offset) offset line column (record {
   utf8 = u;
-  ordered = start-le text place;
+  ordered = start-le text offset;
   within = within;
-  start_boundary = start-boundary text place u within;
-  place_boundary = c.boundary;
-  begins = start-begins text place;
-  number = number ∙ start-line text place;
-  quiet = cursor-quiet text place c;
+  start_boundary = start-boundary text offset u within;
+  offset_boundary = c.boundary;
+  begins = start-begins text offset;
+  number = number ∙ start-line text offset;
+  quiet = cursor-quiet text offset c;
   fits = omega arith;
   stops = λ d zs sd sz eq plain. omega (arith, some-unit e d sd);
 }))

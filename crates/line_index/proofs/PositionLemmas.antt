@@ -1,4 +1,4 @@
--- The place of a position, among the characters of a text.
+-- The offset of a position, among the characters of a text.
 use Rattle.std.proofs.Common.{◌≡◌, ℕ, zero, suc, ◌+◌, ◌-◌, ◌<◌, ◌≤◌, true, false, List, [], ◌∷◌, ◌++◌, length, refl, sym, ap, ◌∙◌, subst, inl, inr, arith, eqb}
 use Rattle.std.proofs.Common.{length-append}
 use Rattle.std.specs.Prelude.{slice_index}
@@ -15,7 +15,7 @@ use Rattle.line_index.proofs.WalkLemmas.{walk, Quiet, walk-inside, walk-past, wa
 use Rattle.line_index.proofs.WalkLemmas.{at-past, positive, whole-past, whole-first}
 use Rattle.line_index.proofs.CharacterLemmas.{all_units, quiet-of, one-of, begins-of, QuietAll, fresh, first-feed, utf8-units}
 
--- what follows a place in a line with this much room: the end of the text, the end of the line, or a character that is wider
+-- what follows an offset in a line with this much room: the end of the text, the end of the line, or a character that is wider
 abbrev pub Stops : PositionEncoding → ℕ → List ℕ → Type 0
 Stops e room [] = Unit {0}
 Stops e room (c ∷ cs) = is_line_terminator c ≡ false → room < length (units_of e c)
@@ -24,10 +24,10 @@ stop-inside : (e : PositionEncoding) (c : ℕ) (v : List ℕ) (room : ℕ) → s
     → whole e (units_of e c ++ v) (walk (units_of e c ++ v) zero room) ≡ 0
 stop-inside e c v room s plain h =
     let b = begins-of e c s in
-    let place : walk (units_of e c ++ v) zero room ≡ room = walk-inside (units_of e c) v room (quiet-of e c plain) (omega arith) in
+    let walked : walk (units_of e c ++ v) zero room ≡ room = walk-inside (units_of e c) v room (quiet-of e c plain) (omega arith) in
     let len : length (units_of e c) ≡ suc (length b.rest) = ap length b.are in
     let none : whole e (b.head ∷ (b.rest ++ v)) room ≡ 0 = whole-first e b.head b.rest v room b.tail (omega arith) in
-    ap (whole e (units_of e c ++ v)) place ∙ ap (λ (u : List ℕ). whole e (u ++ v) room) b.are ∙ none
+    ap (whole e (units_of e c ++ v)) walked ∙ ap (λ (u : List ℕ). whole e (u ++ v) room) b.are ∙ none
 
 stop-end : (e : PositionEncoding) (c : ℕ) (us v : List ℕ) (room : ℕ) → us ≡ c ∷ [] → is_line_terminator c ≡ true
     → whole e (us ++ v) (walk (us ++ v) zero room) ≡ 0
@@ -47,10 +47,10 @@ stop e (c ∷ ys) room s h =
 content : (e : PositionEncoding) (a ys : List ℕ) (column : ℕ) → Quiet a → scalars ys ≡ true → length a ≤ column → Stops e (column - length a) ys
     → whole e (a ++ all_units e ys) (walk (a ++ all_units e ys) zero column) ≡ length a
 content e a ys column q s fits h =
-    let place : walk (a ++ all_units e ys) zero column ≡ length a + walk (all_units e ys) zero (column - length a) = walk-past a
+    let walked : walk (a ++ all_units e ys) zero column ≡ length a + walk (all_units e ys) zero (column - length a) = walk-past a
     (all_units e ys) column q fits in
     let none = stop e ys (column - length a) s h in
-    ap (whole e (a ++ all_units e ys)) place ∙ whole-past e a (all_units e ys) (walk (all_units e ys) zero (column - length a))
+    ap (whole e (a ++ all_units e ys)) walked ∙ whole-past e a (all_units e ys) (walk (all_units e ys) zero (column - length a))
     (length a + walk (all_units e ys) zero (column - length a)) refl (fresh e ys s)
     ∙ (let sum : length a + whole e (all_units e ys) (walk (all_units e ys) zero (column - length a)) ≡ length a = omega (arith, none) in sum)
 
@@ -138,14 +138,14 @@ skip e (c ∷ ws) bs column sa sb b =
     ∙ one ∙ (let z : length (units_of e c) + (length (all_units e ws) + walk (all_units e bs) zero column)
     ≡ length (all_units e (c ∷ ws)) + walk (all_units e bs) zero column = omega arith in z)
 
--- the place of a position in the line that begins after some characters
+-- the offset of a position in the line that begins after some characters
 pub lands : (e : PositionEncoding) (ws xs ys : List ℕ) (column : ℕ) → scalars ws ≡ true → scalars xs ≡ true → scalars ys ≡ true
     → begins_line (encodes (ws ++ (xs ++ ys))) (length (encodes ws)) ≡ true → Quiet xs → length (all_units e xs) ≤ column
     → Stops e (column - length (all_units e xs)) ys
     → whole e (all_units e (ws ++ (xs ++ ys))) (walk (all_units e (ws ++ (xs ++ ys))) (line_at (encodes (ws ++ (xs ++ ys))) (length (encodes ws))) column)
     ≡ length (all_units e (ws ++ xs))
 lands e ws xs ys column sa sx sy b q fits h =
-    let place = skip e ws (xs ++ ys) column sa (scalars-both xs ys sx sy) b in
+    let walked = skip e ws (xs ++ ys) column sa (scalars-both xs ys sx sy) b in
     let parts : all_units e (ws ++ (xs ++ ys)) ≡ all_units e ws ++ all_units e (xs ++ ys) = flat_map-append (units_of e) ws (xs ++ ys) in
     let own : all_units e (xs ++ ys) ≡ all_units e xs ++ all_units e ys = flat_map-append (units_of e) xs ys in
     let line : whole e (all_units e (xs ++ ys)) (walk (all_units e (xs ++ ys)) zero column) ≡ length (all_units e xs)
@@ -153,7 +153,7 @@ lands e ws xs ys column sa sx sy b q fits h =
     (content e (all_units e xs) ys column (QuietAll e xs q) sy fits h) in
     let len : length (all_units e (ws ++ xs)) ≡ length (all_units e ws) + length (all_units e xs) = ap length (flat_map-append (units_of e) ws xs)
     ∙ length-append (all_units e ws) (all_units e xs) in
-    ap (whole e (all_units e (ws ++ (xs ++ ys)))) place
+    ap (whole e (all_units e (ws ++ (xs ++ ys)))) walked
     ∙ ap (λ (u : List ℕ). whole e u (length (all_units e ws) + walk (all_units e (xs ++ ys)) zero column)) parts
     ∙ whole-past e (all_units e ws) (all_units e (xs ++ ys)) (walk (all_units e (xs ++ ys)) zero column)
     (length (all_units e ws) + walk (all_units e (xs ++ ys)) zero column) refl (fresh e (xs ++ ys) (scalars-both xs ys sx sy))

@@ -1,4 +1,4 @@
--- The place of a position in a text.
+-- The offset of a position in a text.
 use Rattle.std.proofs.Common.{◌≡◌, ℕ, zero, suc, ◌+◌, ◌-◌, ◌<◌, ◌≤◌, true, false, not, List, [], ◌∷◌, ◌++◌, length, take, drop, refl, sym, ap, ◌∙◌, subst, inl}
 use Rattle.std.proofs.Common.{inr, arith, eqb, length-append, length-drop}
 use Rattle.std.specs.Prelude.{slice_index, slice_range, ◌&&◌, ◌||◌}
@@ -29,13 +29,13 @@ spelled-width : (e : PositionEncoding) (cs : List ℕ) → width e (encodes cs) 
 spelled-width Utf8 cs = ap length (sym (utf8-units cs))
 spelled-width Utf16 cs = sym (utf16-length cs)
 
-place-spelled : (e : PositionEncoding) (ws xs ys : List ℕ) (line column : ℕ) → scalars ws ≡ true → scalars xs ≡ true → scalars ys ≡ true
+offset-spelled : (e : PositionEncoding) (ws xs ys : List ℕ) (line column : ℕ) → scalars ws ≡ true → scalars xs ≡ true → scalars ys ≡ true
     → begins_line (encodes (ws ++ (xs ++ ys))) (length (encodes ws)) ≡ true → line ≡ line_at (encodes (ws ++ (xs ++ ys))) (length (encodes ws)) → Quiet xs
     → length (all_units e xs) ≤ column
     → Stops e (column - length (all_units e xs)) ys
     → length (units e (encodes (ws ++ xs))) ≡ whole e (units e (encodes (ws ++ (xs ++ ys))))
     (units_before (lines_of (units e (encodes (ws ++ (xs ++ ys))))) line column)
-place-spelled e ws xs ys line column sa sx sy b at q fits h =
+offset-spelled e ws xs ys line column sa sx sy b at q fits h =
     let whole-text : units e (encodes (ws ++ (xs ++ ys))) ≡ all_units e (ws ++ (xs ++ ys)) = spelled-units e (ws ++ (xs ++ ys))
     (scalars-both ws (xs ++ ys) sa (scalars-both xs ys sx sy)) in
     let front : units e (encodes (ws ++ xs)) ≡ all_units e (ws ++ xs) = spelled-units e (ws ++ xs) (scalars-both ws xs sa sx) in
@@ -80,53 +80,53 @@ three text i j le =
 two : (text : List ℕ) (i j : ℕ) → i ≤ j → take i text ++ take (j - i) (drop i text) ≡ take j text
 two text i j le = (let to : i + (j - i) ≡ j = omega arith in sym (take-add i (j - i) text) ∙ ap (λ (n : ℕ). take n text) to)
 
--- a line that begins at `start`, and a place in it
-pub record InLine (e : PositionEncoding) (text : List ℕ) (start place line column : ℕ) : Type 0 where
+-- a line that begins at `start`, and an offset in it
+pub record InLine (e : PositionEncoding) (text : List ℕ) (start offset line column : ℕ) : Type 0 where
   pub utf8 : IsUtf8 text
-  pub ordered : start ≤ place
-  pub within : place ≤ length text
+  pub ordered : start ≤ offset
+  pub within : offset ≤ length text
   pub start_boundary : IsCharBoundary text start
-  pub place_boundary : IsCharBoundary text place
+  pub offset_boundary : IsCharBoundary text offset
   pub begins : begins_line text start ≡ true
   pub number : line ≡ line_at text start
-  pub quiet : (k : ℕ) → start ≤ k → k < place → is_line_terminator (slice_index text k) ≡ false
-  pub fits : width e (slice_range text start place) ≤ column
-  pub stops : (c : ℕ) (zs : List ℕ) → scalar c ≡ true → scalars zs ≡ true → drop place text ≡ encode c ++ encodes zs → is_line_terminator c ≡ false
-      → column < width e (slice_range text start place) + length (units_of e c)
+  pub quiet : (k : ℕ) → start ≤ k → k < offset → is_line_terminator (slice_index text k) ≡ false
+  pub fits : width e (slice_range text start offset) ≤ column
+  pub stops : (c : ℕ) (zs : List ℕ) → scalar c ≡ true → scalars zs ≡ true → drop offset text ≡ encode c ++ encodes zs → is_line_terminator c ≡ false
+      → column < width e (slice_range text start offset) + length (units_of e c)
 
 part-byte : (text : List ℕ) (i j k : ℕ) → j ≤ length text → k < j - i → slice_index (take (j - i) (drop i text)) k ≡ slice_index text (i + k)
 part-byte text i j k within h = get_or-take (j - i) (drop i text) k 0 h ∙ get_or-drop i text k 0
 
-pub found-place : (e : PositionEncoding) (text : List ℕ) (start place line column : ℕ) → InLine e text start place line column
-    → length (units e (take place text)) ≡ whole e (units e text) (units_before (lines_of (units e text)) line column)
-found-place e text start place line column h =
+pub found-offset : (e : PositionEncoding) (text : List ℕ) (start offset line column : ℕ) → InLine e text start offset line column
+    → length (units e (take offset text)) ≡ whole e (units e text) (units_before (lines_of (units e text)) line column)
+found-offset e text start offset line column h =
     let a = IsUtf8-take text start h.utf8 h.start_boundary in
-    let x = IsUtf8-between text start place h.utf8 h.ordered h.start_boundary h.place_boundary in
-    let y = IsUtf8-drop text place h.utf8 h.place_boundary in
+    let x = IsUtf8-between text start offset h.utf8 h.ordered h.start_boundary h.offset_boundary in
+    let y = IsUtf8-drop text offset h.utf8 h.offset_boundary in
     let eq-a : encodes a.0 ≡ take start text = a.1.1 in
-    let eq-x : encodes x.0 ≡ take (place - start) (drop start text) = x.1.1 in
-    let eq-y : encodes y.0 ≡ drop place text = y.1.1 in
-    let eq-xy : encodes (x.0 ++ y.0) ≡ take (place - start) (drop start text) ++ drop place text = encodes-append x.0 y.0
-    ∙ ap (λ (v : List ℕ). v ++ encodes y.0) eq-x ∙ ap (λ (v : List ℕ). take (place - start) (drop start text) ++ v) eq-y in
+    let eq-x : encodes x.0 ≡ take (offset - start) (drop start text) = x.1.1 in
+    let eq-y : encodes y.0 ≡ drop offset text = y.1.1 in
+    let eq-xy : encodes (x.0 ++ y.0) ≡ take (offset - start) (drop start text) ++ drop offset text = encodes-append x.0 y.0
+    ∙ ap (λ (v : List ℕ). v ++ encodes y.0) eq-x ∙ ap (λ (v : List ℕ). take (offset - start) (drop start text) ++ v) eq-y in
     let eq-all : encodes (a.0 ++ (x.0 ++ y.0)) ≡ text
     = encodes-append a.0 (x.0 ++ y.0) ∙ ap (λ (v : List ℕ). v ++ encodes (x.0 ++ y.0)) eq-a ∙ ap (λ (v : List ℕ). take start text ++ v) eq-xy
-    ∙ three text start place h.ordered in
-    let eq-front : encodes (a.0 ++ x.0) ≡ take place text
-    = encodes-append a.0 x.0 ∙ ap (λ (v : List ℕ). v ++ encodes x.0) eq-a ∙ ap (λ (v : List ℕ). take start text ++ v) eq-x ∙ two text start place h.ordered in
+    ∙ three text start offset h.ordered in
+    let eq-front : encodes (a.0 ++ x.0) ≡ take offset text
+    = encodes-append a.0 x.0 ∙ ap (λ (v : List ℕ). v ++ encodes x.0) eq-a ∙ ap (λ (v : List ℕ). take start text ++ v) eq-x ∙ two text start offset h.ordered in
     let at : length (encodes a.0) ≡ start = ap length eq-a ∙ (let l : length (take start text)
     ≡ start = omega (arith, length-take start text, h.ordered, h.within) in l) in
     let b : begins_line (encodes (a.0 ++ (x.0 ++ y.0))) (length (encodes a.0)) ≡ true
     = ap (λ (t : List ℕ). begins_line t (length (encodes a.0))) eq-all ∙ ap (begins_line text) at ∙ h.begins in
     let n : line ≡ line_at (encodes (a.0 ++ (x.0 ++ y.0))) (length (encodes a.0))
     = h.number ∙ ap (line_at text) (sym at) ∙ ap (λ (t : List ℕ). line_at t (length (encodes a.0))) (sym eq-all) in
-    let len-x : length (encodes x.0) ≡ place - start = ap length eq-x ∙ (let l : length (take (place - start) (drop start text))
-    ≡ place - start = omega (arith, length-take (place - start) (drop start text), length-drop start text, h.ordered, h.within) in l) in
+    let len-x : length (encodes x.0) ≡ offset - start = ap length eq-x ∙ (let l : length (take (offset - start) (drop start text))
+    ≡ offset - start = omega (arith, length-take (offset - start) (drop start text), length-drop start text, h.ordered, h.within) in l) in
     let q : Quiet x.0 = quiet-chars x.0 x.1.0 (λ k lt. ap (λ (v : List ℕ). is_line_terminator (slice_index v k)) eq-x
-    ∙ ap is_line_terminator (part-byte text start place k h.within (omega arith)) ∙ h.quiet (start + k) (omega arith) (omega arith)) in
-    let w : width e (slice_range text start place) ≡ length (all_units e x.0) = ap (width e) (sym eq-x) ∙ spelled-width e x.0 in
+    ∙ ap is_line_terminator (part-byte text start offset k h.within (omega arith)) ∙ h.quiet (start + k) (omega arith) (omega arith)) in
+    let w : width e (slice_range text start offset) ≡ length (all_units e x.0) = ap (width e) (sym eq-x) ∙ spelled-width e x.0 in
     let st : Stops e (column - length (all_units e x.0)) y.0 = stops e (column - length (all_units e x.0)) y.0 y.1.0
     (λ c zs sc sz eq plain. omega (arith, w, h.stops c zs sc sz (sym eq-y ∙ eq) plain)) in
-    let result = place-spelled e a.0 x.0 y.0 line column a.1.0 x.1.0 y.1.0 b n q (omega (arith, w, h.fits)) st in
+    let result = offset-spelled e a.0 x.0 y.0 line column a.1.0 x.1.0 y.1.0 b n q (omega (arith, w, h.fits)) st in
     ap (λ (t : List ℕ). length (units e t)) (sym eq-front) ∙ result ∙ ap (λ (t : List ℕ). whole e (units e t) (units_before (lines_of (units e t)) line column))
     eq-all
 
@@ -197,15 +197,15 @@ beyond e text line column u h =
     ∙ sym (past-end e (units e text)) ∙ ap (whole e (units e text)) (sym there) ∙ ap (whole e (units e text)) (sym (walk-is (units e text) line column))
 
 -- a cursor has no line's end before it in its line
-none-begin : (text : List ℕ) (k place : ℕ) → line_start text place ≤ k → k < place → begins_line text (suc k) ≡ false
+none-begin : (text : List ℕ) (k offset : ℕ) → line_start text offset ≤ k → k < offset → begins_line text (suc k) ≡ false
 none-begin text k zero low high = absurd (omega arith)
-none-begin text k (suc place) low high = elim (cases_Bool (begins_line text (suc place))) [
-  | inl b ↦ (let at : line_start text (suc place) ≡ suc place = rw b refl in absurd (omega arith))
+none-begin text k (suc offset) low high = elim (cases_Bool (begins_line text (suc offset))) [
+  | inl b ↦ (let at : line_start text (suc offset) ≡ suc offset = rw b refl in absurd (omega arith))
   | inr b ↦
-      let at : line_start text (suc place) ≡ line_start text place = rw b refl in
-      elim (cases_lt k place) [
-        | inl lt ↦ none-begin text k place (omega arith) lt
-        | inr ge ↦ (let e : place ≡ k = omega arith in subst (λ (n : ℕ). begins_line text (suc n) ≡ false) e b)
+      let at : line_start text (suc offset) ≡ line_start text offset = rw b refl in
+      elim (cases_lt k offset) [
+        | inl lt ↦ none-begin text k offset (omega arith) lt
+        | inr ge ↦ (let e : offset ≡ k = omega arith in subst (λ (n : ℕ). begins_line text (suc n) ≡ false) e b)
       ]
 ]
 
@@ -215,32 +215,32 @@ cr-lf a b t h = grind (arith, nat_tests)
 lf : (a b : ℕ) → (eqb a 13 && eqb b 10) ≡ true → (x : ℕ) → (eqb b 10 || (eqb b 13 && not (eqb x 10))) ≡ false → ⊥
 lf a b h x none = grind (arith, nat_tests)
 
-pub cursor-quiet : (text : List ℕ) (place : ℕ) → IsCursor text place → (k : ℕ) → line_start text place ≤ k → k < place
+pub cursor-quiet : (text : List ℕ) (offset : ℕ) → IsCursor text offset → (k : ℕ) → line_start text offset ≤ k → k < offset
     → is_line_terminator (slice_index text k) ≡ false
-cursor-quiet text place c k low high = false_from_ne_true _ (λ t. (
+cursor-quiet text offset c k low high = false_from_ne_true _ (λ t. (
     let pair : (eqb (slice_index text k) 13 && eqb (slice_index text (suc k)) 10)
-    ≡ true = cr-lf (slice_index text k) (slice_index text (suc k)) t (none-begin text k place low high) in
-    elim (cases_lt (suc k) place) [
-      | inl lt ↦ lf (slice_index text k) (slice_index text (suc k)) pair (slice_index text (suc (suc k))) (none-begin text (suc k) place (omega arith) lt)
-      | inr ge ↦ (let e : place ≡ suc k = omega arith in c.apart k e (subst (λ (n : ℕ). (eqb (slice_index text k) 13 && eqb (slice_index text n) 10) ≡ true)
+    ≡ true = cr-lf (slice_index text k) (slice_index text (suc k)) t (none-begin text k offset low high) in
+    elim (cases_lt (suc k) offset) [
+      | inl lt ↦ lf (slice_index text k) (slice_index text (suc k)) pair (slice_index text (suc (suc k))) (none-begin text (suc k) offset (omega arith) lt)
+      | inr ge ↦ (let e : offset ≡ suc k = omega arith in c.apart k e (subst (λ (n : ℕ). (eqb (slice_index text k) 13 && eqb (slice_index text n) 10) ≡ true)
           (sym e) pair))
     ]))
 
-pub start-begins : (text : List ℕ) (place : ℕ) → begins_line text (line_start text place) ≡ true
+pub start-begins : (text : List ℕ) (offset : ℕ) → begins_line text (line_start text offset) ≡ true
 start-begins text zero = refl
-start-begins text (suc place) = elim (cases_Bool (begins_line text (suc place))) [
-  | inl b ↦ (let at : line_start text (suc place) ≡ suc place = rw b refl in ap (begins_line text) at ∙ b)
-  | inr b ↦ (let at : line_start text (suc place) ≡ line_start text place = rw b refl in ap (begins_line text) at ∙ start-begins text place)
+start-begins text (suc offset) = elim (cases_Bool (begins_line text (suc offset))) [
+  | inl b ↦ (let at : line_start text (suc offset) ≡ suc offset = rw b refl in ap (begins_line text) at ∙ b)
+  | inr b ↦ (let at : line_start text (suc offset) ≡ line_start text offset = rw b refl in ap (begins_line text) at ∙ start-begins text offset)
 ]
 
-pub start-line : (text : List ℕ) (place : ℕ) → line_at text place ≡ line_at text (line_start text place)
+pub start-line : (text : List ℕ) (offset : ℕ) → line_at text offset ≡ line_at text (line_start text offset)
 start-line text zero = refl
-start-line text (suc place) = elim (cases_Bool (begins_line text (suc place))) [
-  | inl b ↦ (let at : line_start text (suc place) ≡ suc place = rw b refl in sym (ap (line_at text) at))
+start-line text (suc offset) = elim (cases_Bool (begins_line text (suc offset))) [
+  | inl b ↦ (let at : line_start text (suc offset) ≡ suc offset = rw b refl in sym (ap (line_at text) at))
   | inr b ↦
-      let at : line_start text (suc place) ≡ line_start text place = rw b refl in
-      let same : line_at text (suc place) ≡ line_at text place = rw b refl in
-      same ∙ start-line text place ∙ sym (ap (line_at text) at)
+      let at : line_start text (suc offset) ≡ line_start text offset = rw b refl in
+      let same : line_at text (suc offset) ≡ line_at text offset = rw b refl in
+      same ∙ start-line text offset ∙ sym (ap (line_at text) at)
 ]
 
 pub some-unit : (e : PositionEncoding) (c : ℕ) → scalar c ≡ true → 0 < length (units_of e c)

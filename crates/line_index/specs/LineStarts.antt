@@ -4,22 +4,22 @@ use Rattle.std.specs.Str.{IsUtf8}
 use Rattle.line_index.specs.Lines.{line_at, line_start}
 use Rattle.line_index.specs.Marks.{AreMarks}
 
--- These are the places up to `end` at which a line begins, in order.
+-- These are the offsets up to `end` at which a line begins, in order.
 pub record AreStarts (text : List ℕ) (end : ℕ) (starts : List ℕ) : Type 0 where
   pub within : (i : ℕ) → i < length starts → slice_index starts i ≤ end
   pub begin : (i : ℕ) → i < length starts → line_start text (slice_index starts i) ≡ slice_index starts i
   pub number : (i : ℕ) → i < length starts → line_at text (slice_index starts i) ≡ i
   pub all : length starts ≡ line_at text end + 1
 
--- the next line after a place begins here
-pub record IsNextStart (text : List ℕ) (place next : ℕ) : Type 0 where
-  pub after : place < next
+-- the next line after an offset begins here
+pub record IsNextStart (text : List ℕ) (offset next : ℕ) : Type 0 where
+  pub after : offset < next
   pub within : next ≤ length text
   pub begins : line_start text next ≡ next
-  pub number : line_at text next ≡ line_at text place + 1
+  pub number : line_at text next ≡ line_at text offset + 1
 
 -- these are the line starts and the marks of a text in UTF-8
-pub record IsIndexed (text places counts : List ℕ) : Type 0 where
+pub record IsIndexed (text offsets counts : List ℕ) : Type 0 where
   pub utf8 : ∥ IsUtf8 text ∥₁
-  pub starts : AreStarts text (length text) places
+  pub starts : AreStarts text (length text) offsets
   pub marks : AreMarks text counts

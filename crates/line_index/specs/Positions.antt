@@ -45,14 +45,14 @@ units_before [] line column = 0
 units_before (first ∷ lines) zero column = min column (position_or_len is_line_terminator first)
 units_before (first ∷ lines) (suc line) column = length first + units_before lines line column
 
--- the last place up to this one that is not inside a character
+-- the last offset up to this one that is not inside a character
 abbrev pub whole : PositionEncoding → List ℕ → ℕ → ℕ
 whole encoding text zero = 0
 whole encoding text (suc k) = if continues encoding (slice_index text (suc k)) then whole encoding text k else suc k
 
--- the place of a position in a text of units, which is in front of that many units
-abbrev pub place_of : PositionEncoding → List ℕ → Position → ℕ
-place_of encoding text position = whole encoding text (units_before (lines_of text) position.line position.column)
+-- the offset of a position in a text of units, which is in front of that many units
+abbrev pub offset_of : PositionEncoding → List ℕ → Position → ℕ
+offset_of encoding text position = whole encoding text (units_before (lines_of text) position.line position.column)
 
 -- what a part of a text adds to a column
 abbrev pub width : PositionEncoding → List ℕ → ℕ

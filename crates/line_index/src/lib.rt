@@ -1,9 +1,9 @@
-//! The place of a byte of a text: its line, and its column in that line.
+//! The position of a byte of a text: its line, and its column in that line.
 //!
 //! `LineIndex` reads a text once and keeps where its lines begin. Columns are counted in bytes, in characters or in units of UTF-16, and lines
 //! end as GraphQL's line terminators do. All numbers count from 0.
 //!
-//! The crates above make one `LineIndex` for each text, and call its `place` and `position`.
+//! The crates above make one `LineIndex` for each text, and call its `line_column` and `position`.
 #![tactic(auto)]
 
 ghost use Rattle.std.specs.Prelude.{◌≡◌, ℕ, ◌+◌, ◌^◌, ◌<◌, ◌==◌, ◌&&◌, ◌≤◌, length, slice_index, slice_range, take, IfOk, MatchOption, take_while, not};
@@ -12,7 +12,7 @@ ghost use Rattle.lexical_grammar.specs.Characters.{is_line_terminator};
 ghost use Rattle.std.specs.List.Sorted.{IsNonDecreasing};
 ghost use Rattle.line_index.specs.Lines.{line_at, line_start, line_text};
 ghost use Rattle.line_index.specs.Columns.{char_count, utf16_len, begins_character, utf16_units};
-ghost use Rattle.line_index.specs.Positions.{units, width, place_of, IsCursor};
+ghost use Rattle.line_index.specs.Positions.{units, width, offset_of, IsCursor};
 ghost use Rattle.line_index.specs.LineStarts.{AreStarts, IsNextStart};
 ghost use Rattle.line_index.specs.Marks.{AreMarks};
 
@@ -20,27 +20,27 @@ use memchr::memchr2;
 use std::alloc::{AllocError, Allocator, Global};
 use std::marker::Model;
 
-/// A place in a text: the number of its line, and its column there in bytes, both from 0.
+/// A position in a text: the number of its line, and its column there in bytes, both from 0.
 #[derive(Clone, Copy, Debug, PartialEq, Eq)]
 pub struct LineColumn {
     pub line: usize,
     pub column: usize,
 }
 
-// Whether there is a CR LF at a place.
-fn is_cr_lf(bytes: &[u8], place: usize) -> bool
-    requires { place < length bytes.now }
-    ensures { result ≡ (slice_index bytes.now place == 13 && slice_index bytes.now (place + 1) == 10) }
+// Whether there is a CR LF at an offset.
+fn is_cr_lf(bytes: &[u8], offset: usize) -> bool
+    requires { offset < length bytes.now }
+    ensures { result ≡ (slice_index bytes.now offset == 13 && slice_index bytes.now (offset + 1) == 10) }
 {
-    bytes[place] == b'\r' && place + 1 < bytes.len() && bytes[place + 1] == b'\n'
+    bytes[offset] == b'\r' && offset + 1 < bytes.len() && bytes[offset + 1] == b'\n'
 }
 
-// Where the next line begins after a place.
-fn next_start(bytes: &[u8], place: usize) -> Option<usize>
-    requires { place ≤ length bytes.now }
-    ensures { MatchOption result (line_at bytes.now (length bytes.now) ≡ line_at bytes.now place) (IsNextStart bytes.now place) }
+// Where the next line begins after an offset.
+fn next_start(bytes: &[u8], offset: usize) -> Option<usize>
+    requires { offset ≤ length bytes.now }
+    ensures { MatchOption result (line_at bytes.now (length bytes.now) ≡ line_at bytes.now offset) (IsNextStart bytes.now offset) }
 {
-    let end = place + memchr2(b'\n', b'\r', &bytes[place..])?;
+    let end = offset + memchr2(b'\n', b'\r', &bytes[offset..])?;
     if is_cr_lf(bytes, end) {
         Some(end + 2)
     } else {
@@ -53,25 +53,25 @@ fn line_starts<A: Allocator>(alloc: A, bytes: &[u8]) -> Result<Vec<usize, A>, Al
     ensures { IfOk result (λ starts. AreStarts bytes.now (length bytes.now) starts.items) }
 {
     let mut starts = Vec::new(alloc);
-    let mut place = 0;
-    starts.push(place)?;
-    while let Some(next) = next_start(bytes, place) {
-        place = next;
-        starts.push(place)?;
+    let mut offset = 0;
+    starts.push(offset)?;
+    while let Some(next) = next_start(bytes, offset) {
+        offset = next;
+        starts.push(offset)?;
     }
     Ok(starts)
 }
 
-// The index of the last of some places that is at most the given one.
-fn last_up_to(places: &[usize], place: usize) -> usize
-    requires some { 0 < length places.now }
-    requires first { slice_index places.now 0 ≤ place }
-    requires ordered { IsNonDecreasing places.now }
-    ensures within { result < length places.now }
-    ensures up_to { slice_index places.now result ≤ place }
-    ensures last { result + 1 < length places.now → place < slice_index places.now (result + 1) }
+// The index of the last of some offsets that is at most the given one.
+fn last_up_to(offsets: &[usize], offset: usize) -> usize
+    requires some { 0 < length offsets.now }
+    requires first { slice_index offsets.now 0 ≤ offset }
+    requires ordered { IsNonDecreasing offsets.now }
+    ensures within { result < length offsets.now }
+    ensures up_to { slice_index offsets.now result ≤ offset }
+    ensures last { result + 1 < length offsets.now → offset < slice_index offsets.now (result + 1) }
 {
-    places.partition_point(|p| *p <= place) - 1
+    offsets.partition_point(|p| *p <= offset) - 1
 }
 
 fn begins_character(byte: u8) -> bool
@@ -133,10 +133,10 @@ fn fitting(bytes: &[u8], room: usize) -> usize
     ensures full { result < length bytes.now → room < utf16_len (take result bytes.now) + utf16_units (slice_index bytes.now result) }
 {
     let mut left = room;
-    for (place, byte) in bytes.iter().enumerate() {
+    for (offset, byte) in bytes.iter().enumerate() {
         let units = utf16_units(*byte);
         if units > left {
-            return place;
+            return offset;
         }
         left -= units;
     }
@@ -162,7 +162,7 @@ pub enum PositionEncoding {
     Utf16,
 }
 
-/// A place as the Language Server Protocol gives it: the number of its line, and its column there in units of an encoding, both from 0.
+/// A position as the Language Server Protocol gives it: the number of its line, and its column there in units of an encoding, both from 0.
 #[derive(Clone, Copy, Debug, PartialEq, Eq)]
 pub struct Position {
     pub line: usize,
@@ -172,8 +172,8 @@ pub struct Position {
 /// The lines of a text, indexed by where they begin. GraphQL's line terminators end them: LF, CR and CR LF. What follows the last of these
 /// is a line too, even when it is empty. It takes one number of memory for each line and for every 64 bytes.
 ///
-/// A place is given by its byte offset in the text, which may be the text's length; its line is found in the time of the logarithm of the
-/// number of lines. A place between the CR and the LF of a CR LF is in the line that they end.
+/// The calls take a byte offset in the text, which may be the text's length, and find its line in the time of the logarithm of the number of
+/// lines. An offset between the CR and the LF of a CR LF is in the line that they end.
 #[derive(Drop)]
 pub struct LineIndex<'a, A: Allocator = Global> {
     text: &'a str,
@@ -265,22 +265,22 @@ impl<'a, A: Allocator> LineIndex<'a, A> {
         self.marks[mark] + utf16_len(&self.text.as_bytes()[mark * STEP..offset])
     }
 
-    /// The position of a byte offset, as the protocol counts columns in this encoding. The client finds the same place by it, unless the offset is
+    /// The position of a byte offset, as the protocol counts columns in this encoding. The client finds the same byte by it, unless the offset is
     /// inside a character or between the CR and the LF of a CR LF.
     pub fn position(&self, encoding: PositionEncoding, offset: usize) -> Position
         requires { offset ≤ length self.now }
         ensures line { result.line ≡ line_at self.now offset }
         ensures column { result.column ≡ width encoding (slice_range self.now (line_start self.now offset) offset) }
-        ensures names { IsCursor self.now offset → place_of encoding (units encoding self.now) result ≡ length (units encoding (take offset self.now)) }
+        ensures names { IsCursor self.now offset → offset_of encoding (units encoding self.now) result ≡ length (units encoding (take offset self.now)) }
     {
-        let place = self.line_column(offset);
-        let part = &self.text.as_bytes()[offset - place.column..offset];
+        let position = self.line_column(offset);
+        let part = &self.text.as_bytes()[offset - position.column..offset];
         let column = match encoding {
             PositionEncoding::Utf8 => part.len(),
             PositionEncoding::Utf16 => self.column_in_utf16(offset),
         };
         Position {
-            line: place.line,
+            line: position.line,
             column,
         }
     }
@@ -311,7 +311,7 @@ impl<'a, A: Allocator> LineIndex<'a, A> {
     /// character is where that begins. It takes the time of the logarithm of the text's length, and of a search for the line's end.
     pub fn offset(&self, encoding: PositionEncoding, position: Position) -> usize
         ensures boundary { IsCharBoundary self.now result }
-        ensures place { length (units encoding (take result self.now)) ≡ place_of encoding (units encoding self.now) position }
+        ensures position { length (units encoding (take result self.now)) ≡ offset_of encoding (units encoding self.now) position }
     {
         let bytes = self.text.as_bytes();
         if position.line >= self.starts.len() {

@@ -52,12 +52,12 @@ pub data IsTypeRoot (state : State) : SyntaxKind → Rule → Type 0 where
   not_null : true ≡ holds (Here type_start) state → IsTypeRoot state kind.NON_NULL_TYPE non_null_root
   no_type : false ≡ holds (Here type_start) state → IsTypeRoot state kind.ERROR no_type_root
 
--- the root opened around all that was built: one of the kind, or where `!` came next a NON_NULL_TYPE around a type of the kind, from the place
+-- the root opened around all that was built: one of the kind, or where `!` came next a NON_NULL_TYPE around a type of the kind, from the index
 -- on, and the `!`
-pub data ClosesType (place : ℕ) (this_kind : SyntaxKind) (state after : State) : Type 0 where
-  nullable : false ≡ holds (At token.Bang) state → after ≡ wrapped_from 0 this_kind state → ClosesType place this_kind state after
-  non_null : {later : State} → true ≡ holds (At token.Bang) state → Runs (Do (Bump kind.BANG)) (closed (wrapped_from place this_kind state)) later
-      → after ≡ wrapped_from 0 kind.NON_NULL_TYPE later → ClosesType place this_kind state after
+pub data ClosesType (index : ℕ) (this_kind : SyntaxKind) (state after : State) : Type 0 where
+  nullable : false ≡ holds (At token.Bang) state → after ≡ wrapped_from 0 this_kind state → ClosesType index this_kind state after
+  non_null : {later : State} → true ≡ holds (At token.Bang) state → Runs (Do (Bump kind.BANG)) (closed (wrapped_from index this_kind state)) later
+      → after ≡ wrapped_from 0 kind.NON_NULL_TYPE later → ClosesType index this_kind state after
 
 -- a type's rule ran where no root is open, and the root opened around the trees that were built; or there is no type
 pub data RunsTypeRoot (state after : State) : Type 0 where

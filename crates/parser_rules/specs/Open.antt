@@ -3,7 +3,7 @@ use Rattle.std.specs.Prelude.{◌≡◌, ◌<◌, ℕ, Bool, true, false, List, 
 use Rattle.document_grammar.specs.declared.kind.SyntaxKind.{SyntaxKind}
 use Rattle.document_grammar.specs.declared.kind.SyntaxKind.TheVariants as kind
 use Rattle.document_grammar.specs.Forests.{none}
-use Rattle.document_grammar.specs.Builds.{Building, Open, IsPlace}
+use Rattle.document_grammar.specs.Builds.{Building, Open, CanOpenAt}
 use Rattle.parser_rules.specs.State.{State}
 
 -- the kinds whose nodes may have any children; a name and the literals have one leaf
@@ -22,9 +22,9 @@ is_free_in (o ∷ above) = is_free o.kind
 unfoldable pub IsOpen : Building → Type 0
 IsOpen building = is_free_in building.above ≡ true
 
--- a place where a node may open around what was added since
+-- an index where a node may open around what was added since
 unfoldable pub IsCheckpoint : ℕ → Building → Type 0
-IsCheckpoint place building = IsPlace place building
+IsCheckpoint index building = CanOpenAt index building
 
 -- a level was entered
 unfoldable pub IsInside : State → Type 0

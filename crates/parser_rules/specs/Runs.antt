@@ -29,8 +29,8 @@ pub data Runs : Rule → State → State → Type 0 where
   call : {part : Part} {state after : State} → Runs (body part) state after → Runs (Call part) state after
   plain : {rule : Rule} {state after later : State} → after ≡ flush state → Runs rule after later → false ≡ holds (At token.Bang) later
       → Runs (Typed rule) state later
-  wrapped : {rule : Rule} {place : ℕ} {state after later last end_state x : State}
-      → after ≡ flush state → place ≡ built_count after.tree → last ≡ wrapped_from place kind.NON_NULL_TYPE later → x ≡ closed end_state
+  wrapped : {rule : Rule} {index : ℕ} {state after later last end_state x : State}
+      → after ≡ flush state → index ≡ built_count after.tree → last ≡ wrapped_from index kind.NON_NULL_TYPE later → x ≡ closed end_state
       → Runs rule after later → true ≡ holds (At token.Bang) later → Runs (Do (Bump kind.BANG)) last end_state → Runs (Typed rule) state x
 
 -- turns of a loop

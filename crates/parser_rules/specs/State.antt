@@ -137,9 +137,9 @@ opened this_kind state = let f = flush state in record f { tree = start this_kin
 unfoldable pub closed : State → State
 closed state = record state { tree = finish state.tree }
 
--- what was added to the open node since the place is moved into a new node, which is open
+-- what was added to the open node since the index is moved into a new node, which is open
 unfoldable pub wrapped_from : ℕ → SyntaxKind → State → State
-wrapped_from place this_kind state = record state { tree = wrap place this_kind state.tree }
+wrapped_from index this_kind state = record state { tree = wrap index this_kind state.tree }
 
 -- moves the current token into the tree after the waiting leaves, and reads on; where there is none, nothing happens
 abbrev pub moved : SyntaxKind → State → Option Lexeme → State

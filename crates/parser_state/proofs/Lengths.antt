@@ -46,17 +46,17 @@ waiting-more (q ∷ parts) part = omega (arith, waiting-more parts part)
 -- ---- what is left
 
 -- no more than the text that is left, of which the first bytes may be the rest of an item
-items-length : (place inside : ℕ) (source : List ℕ) → length (texts (items_from place inside source)) ≤ length source - inside
+items-length : (offset inside : ℕ) (source : List ℕ) → length (texts (items_from offset inside source)) ≤ length source - inside
 unfolding items_from
-items-length place inside [] = omega arith
-items-length place (suc inside) (b ∷ bs) = omega (arith, items-length (1 + place) inside bs)
-items-length place zero (b ∷ bs) =
+items-length offset inside [] = omega arith
+items-length offset (suc inside) (b ∷ bs) = omega (arith, items-length (1 + offset) inside bs)
+items-length offset zero (b ∷ bs) =
     let n = (first_item (b ∷ bs)).1 in
     let t = take n (b ∷ bs) in
-    let rest = items_from (1 + place) (n - 1) bs in
+    let rest = items_from (1 + offset) (n - 1) bs in
     let e = length-append t (texts rest) in
     let m = length-take n (b ∷ bs) in
-    let i = items-length (1 + place) (n - 1) bs in
+    let i = items-length (1 + offset) (n - 1) bs in
     grind (arith, nat_tests, e, m, i)
 
 first-length : (n : ℕ) (items : List Item) → length (texts (take n items)) ≤ length (texts items)
@@ -64,12 +64,13 @@ first-length zero items = omega arith
 first-length (suc n) [] = omega arith
 first-length (suc n) (item ∷ items) = omega (arith, length-append item.text (texts (take n items)), length-append item.text (texts items), first-length n items)
 
-left-length : (done : Bool) (n place : ℕ) (source : List ℕ) → length (answers_text (limited n (if done then [] else items_from place 0 source))) ≤ length source
-left-length true n place source = let e = ap length (limited-text n []) in omega (arith, e, first-length n [])
-left-length false n place source =
-    let items = items_from place 0 source in
+left-length : (done : Bool) (n offset : ℕ) (source : List ℕ)
+    → length (answers_text (limited n (if done then [] else items_from offset 0 source))) ≤ length source
+left-length true n offset source = let e = ap length (limited-text n []) in omega (arith, e, first-length n [])
+left-length false n offset source =
+    let items = items_from offset 0 source in
     let e = ap length (limited-text n items) in
-    omega (arith, e, first-length n items, items-length place 0 source)
+    omega (arith, e, first-length n items, items-length offset 0 source)
 
 lexer-length : (l : Lexer) → length (answers_text (answers_left l)) ≤ length l.rest.now
 unfolding answers_left items_left
@@ -81,10 +82,10 @@ length-start : (k : SyntaxKind) (b : Building) (ps : List PendingToken) (o : Opt
 unfolding text_length
 length-start k b ps o xs = ap (λ t. length t + pending_length ps + current_length o + length (answers_text xs)) (start-text k b)
 
-length-wrap : (place : ℕ) (k : SyntaxKind) (b : Building) (ps : List PendingToken) (o : Option Lexeme) (xs : List Answer)
-    → text_length (wrap place k b) ps o xs ≡ text_length b ps o xs
+length-wrap : (index : ℕ) (k : SyntaxKind) (b : Building) (ps : List PendingToken) (o : Option Lexeme) (xs : List Answer)
+    → text_length (wrap index k b) ps o xs ≡ text_length b ps o xs
 unfolding text_length
-length-wrap place k b ps o xs = ap (λ t. length t + pending_length ps + current_length o + length (answers_text xs)) (wrap-text place k b)
+length-wrap index k b ps o xs = ap (λ t. length t + pending_length ps + current_length o + length (answers_text xs)) (wrap-text index k b)
 
 length-finish : (b : Building) (ps : List PendingToken) (o : Option Lexeme) (xs : List Answer) → CanFinish b
     → text_length (finish b) ps o xs ≡ text_length b ps o xs
@@ -141,9 +142,9 @@ pub after-start : (k : SyntaxKind) (b c : Building) (ps : List PendingToken) (o 
     → text_length b ps o xs < 2 ^ 64 → text_length c ps o xs < 2 ^ 64
 after-start k b c ps o xs e n = let m = ap (λ d. text_length d ps o xs) e in omega (arith, m, length-start k b ps o xs, n)
 
-pub after-wrap : (place : ℕ) (k : SyntaxKind) (b c : Building) (ps : List PendingToken) (o : Option Lexeme) (xs : List Answer) → c ≡ wrap place k b
+pub after-wrap : (index : ℕ) (k : SyntaxKind) (b c : Building) (ps : List PendingToken) (o : Option Lexeme) (xs : List Answer) → c ≡ wrap index k b
     → text_length b ps o xs < 2 ^ 64 → text_length c ps o xs < 2 ^ 64
-after-wrap place k b c ps o xs e n = let m = ap (λ d. text_length d ps o xs) e in omega (arith, m, length-wrap place k b ps o xs, n)
+after-wrap index k b c ps o xs e n = let m = ap (λ d. text_length d ps o xs) e in omega (arith, m, length-wrap index k b ps o xs, n)
 
 pub after-finish : (b c : Building) (ps : List PendingToken) (o : Option Lexeme) (xs : List Answer) → c ≡ finish b → CanFinish b
     → text_length b ps o xs < 2 ^ 64 → text_length c ps o xs < 2 ^ 64

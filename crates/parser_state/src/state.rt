@@ -144,17 +144,17 @@ impl<'i, A: Allocator + Copy> ParserState<'i, A> {
         self.read_on()
     }
 
-    /// Reads the first token, where no root is open, and takes in the items before it. The checkpoint is the place before all that is built.
+    /// Reads the first token, where no root is open, and takes in the items before it. The checkpoint is the index before all that is built.
     pub fn read_first(&mut self) -> Result<Checkpoint, AllocError>
         requires { self.old.tree ≡ nothing }
         ensures step { OnOk result (self.new ≡ state.flush (state.read_on self.old.items self.old)) }
-        ensures place { IfOk result (λ c. c.place ≡ 0) }
+        ensures index { IfOk result (λ c. c.index ≡ 0) }
         ensures budget { self.new.budget ≡ self.old.budget }
     {
-        let place = self.builder.checkpoint();
+        let checkpoint = self.builder.checkpoint();
         self.read_on()?;
         self.push_pending()?;
-        Ok(place)
+        Ok(checkpoint)
     }
 
     /// What was cut.

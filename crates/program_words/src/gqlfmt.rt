@@ -157,10 +157,10 @@ fn plan_of<'a, A: Allocator>(alloc: A, words: &[&'a str]) -> Result<Plan<'a, A>,
         settings: Settings::NOTHING,
         files: Vec::new(alloc),
     };
-    let mut place = 0;
-    while place < words.len() {
-        let taken = take_first(&mut read, words[place], &words[place + 1..])?;
-        place += 1 + taken;
+    let mut index = 0;
+    while index < words.len() {
+        let taken = take_first(&mut read, words[index], &words[index + 1..])?;
+        index += 1 + taken;
     }
     Ok(Plan {
         mode: read.settings.mode.unwrap_or(Mode::Write),

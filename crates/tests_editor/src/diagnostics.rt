@@ -2,7 +2,7 @@
 use crate::messages::put_body;
 use crate::printing::put;
 use apollo_lexer::{Error, static_error};
-use editor_diagnostics::{Places, publication, withdrawal};
+use editor_diagnostics::{Positions, publication, withdrawal};
 use line_index::{Position, PositionEncoding};
 use std::alloc::{AllocError, Global};
 use std::slice;
@@ -17,8 +17,8 @@ fn notice_of(
     version: Option<i64>,
     errors: &[Error],
 ) -> Result<Vec<u8>, AllocError> {
-    let places = Places::new(alloc, TEXT, encoding)?;
-    publication(alloc, "a", version, &places, errors)
+    let positions = Positions::new(alloc, TEXT, encoding)?;
+    publication(alloc, "a", version, &positions, errors)
 }
 
 // The notice of one error.
@@ -53,13 +53,17 @@ fn put_more(
 
 // No column of a client is between a CR and its LF: the line ends in front of them.
 fn put_line_end(alloc: Global, found: &mut String) -> Result<(), AllocError> {
-    let places = Places::new(alloc, "a\r\nb", PositionEncoding::Utf16)?;
-    put(found, &places.position(2), "\n")
+    let positions = Positions::new(alloc, "a\r\nb", PositionEncoding::Utf16)?;
+    put(found, &positions.position(2), "\n")
 }
 
 fn put_offset(alloc: Global, found: &mut String) -> Result<(), AllocError> {
-    let places = Places::new(alloc, TEXT, PositionEncoding::Utf8)?;
-    put(found, &places.offset(Position { line: 1, column: 0 }), "\n")
+    let positions = Positions::new(alloc, TEXT, PositionEncoding::Utf8)?;
+    put(
+        found,
+        &positions.offset(Position { line: 1, column: 0 }),
+        "\n",
+    )
 }
 
 pub fn put_answers(alloc: Global, found: &mut String) -> Result<(), AllocError> {

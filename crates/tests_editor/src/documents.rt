@@ -78,7 +78,7 @@ fn put_offsets(found: &mut String, lines: &LineIndex<'_>, rows: &[Row]) -> Resul
     found.push('\n')
 }
 
-fn put_places(alloc: Global, found: &mut String) -> Result<(), AllocError> {
+fn put_line_index(alloc: Global, found: &mut String) -> Result<(), AllocError> {
     for row in OFFSETS {
         put_position(alloc, found, row)?;
     }
@@ -141,7 +141,7 @@ fn put_changes_at_once(alloc: Global, found: &mut String) -> Result<(), AllocErr
 }
 
 pub fn put_answers(alloc: Global, found: &mut String) -> Result<(), AllocError> {
-    put_places(alloc, found)?;
+    put_line_index(alloc, found)?;
     put_long_line(alloc, found)?;
     put_changes(alloc, found)?;
     put_changes_at_once(alloc, found)

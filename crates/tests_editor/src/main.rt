@@ -6,7 +6,7 @@ mod diagnostics;
 mod documents;
 mod frames;
 mod messages;
-mod places;
+mod positions;
 mod printing;
 mod serving;
 
@@ -15,7 +15,7 @@ use std::io;
 
 fn answers(alloc: Global) -> Result<String, AllocError> {
     let mut found = String::new(alloc);
-    places::put_answers(alloc, &mut found)?;
+    positions::put_answers(alloc, &mut found)?;
     documents::put_answers(alloc, &mut found)?;
     frames::put_answers(alloc, &mut found)?;
     messages::put_answers(alloc, &mut found)?;

@@ -103,24 +103,24 @@ pub fn named_type<A: Allocator + Copy>(p: &mut ParserState<'_, A>) -> Result<(),
     Ok(())
 }
 
-/// The root of a type that is parsed by itself, which opens around what is there. The checkpoint is the place before the leading text.
+/// The root of a type that is parsed by itself, which opens around what is there. The checkpoint is the index before the leading text.
 pub fn type_root<A: Allocator + Copy>(
     p: &mut ParserState<'_, A>,
     first: Checkpoint,
 ) -> Result<(), AllocError>
-    requires first { first.place ≡ 0 }
+    requires first { first.index ≡ 0 }
     requires not_open { p.old.tree.above ≡ [] }
     ensures runs { OnOk result (fragments.RunsTypeRoot (flush p.old) p.new) }
     ensures budget { p.new.budget ≡ p.old.budget }
 {
-    let place = p.checkpoint()?;
+    let checkpoint = p.checkpoint()?;
     if p.at(TokenKind::LBracket) {
         inside_list_type(p)?;
-        return p.close_type(first, place, SyntaxKind::LIST_TYPE);
+        return p.close_type(first, checkpoint, SyntaxKind::LIST_TYPE);
     }
     if p.at(TokenKind::Name) {
         name(p)?;
-        return p.close_type(first, place, SyntaxKind::NAMED_TYPE);
+        return p.close_type(first, checkpoint, SyntaxKind::NAMED_TYPE);
     }
     p.err_and_pop(Message::ExpectedFieldType)?;
     p.wrap(first, SyntaxKind::ERROR)

@@ -9,64 +9,64 @@ use crate::hovering::{description_of, heading_of, hover_at};
 use crate::span::Span;
 use crate::usage::{definition, references};
 use apollo_tree::SyntaxNode;
-use editor_diagnostics::Places;
+use editor_diagnostics::Positions;
 use json::Value;
 use rpc_messages::{Piece, answer};
 use std::alloc::{AllocError, Global};
 
-// Adds a place in a document.
+// Adds a location in a document.
 fn push_location<'p>(
     pieces: &mut Vec<Piece<'p>>,
-    places: &Places<'_>,
+    positions: &Positions<'_>,
     uri: &'p str,
     span: Span,
 ) -> Result<(), AllocError> {
     pieces.extend_from_slice(&[Piece::Object, Piece::Key("uri"), Piece::Text(uri)])?;
-    push_range(pieces, places, "range", span)?;
+    push_range(pieces, positions, "range", span)?;
     pieces.extend_from_slice(&[Piece::EndObject])
 }
 
-/// Adds the result of definition: the place of the definition of the name at a byte offset, or null. It fails only where memory is refused.
+/// Adds the result of definition: the location of the definition of the name at a byte offset, or null. It fails only where memory is refused.
 pub fn push_definition<'p>(
     pieces: &mut Vec<Piece<'p>>,
     root: SyntaxNode<'_>,
-    places: &Places<'_>,
+    positions: &Positions<'_>,
     uri: &'p str,
     offset: usize,
 ) -> Result<(), AllocError> {
     match definition(root, offset) {
-        Some(span) => push_location(pieces, places, uri, span),
+        Some(span) => push_location(pieces, positions, uri, span),
         None => pieces.extend_from_slice(&[Piece::Null]),
     }
 }
 
-// Adds a list of places in a document.
+// Adds a list of locations in a document.
 fn push_locations<'p>(
     pieces: &mut Vec<Piece<'p>>,
-    places: &Places<'_>,
+    positions: &Positions<'_>,
     uri: &'p str,
     found: &[Span],
 ) -> Result<(), AllocError> {
     pieces.extend_from_slice(&[Piece::Array])?;
     for span in found {
-        push_location(pieces, places, uri, *span)?;
+        push_location(pieces, positions, uri, *span)?;
     }
     pieces.extend_from_slice(&[Piece::EndArray])
 }
 
-/// Adds the result of references: the places of the name at a byte offset, its definitions too when `with_definition` says so. It fails only where
+/// Adds the result of references: the locations of the name at a byte offset, its definitions too when `with_definition` says so. It fails only where
 /// memory is refused.
 pub fn push_references<'p>(
     alloc: Global,
     pieces: &mut Vec<Piece<'p>>,
     root: SyntaxNode<'_>,
-    places: &Places<'_>,
+    positions: &Positions<'_>,
     uri: &'p str,
     offset: usize,
     with_definition: bool,
 ) -> Result<(), AllocError> {
     let found = references(alloc, root, offset, with_definition)?;
-    push_locations(pieces, places, uri, found.as_slice())
+    push_locations(pieces, positions, uri, found.as_slice())
 }
 
 // What is shown of a definition, as Markdown.
@@ -92,13 +92,13 @@ const MARKDOWN: [Piece<'static>; 6] = [
 // Adds a text in Markdown that is shown for a part of the document.
 fn push_markdown<'p>(
     pieces: &mut Vec<Piece<'p>>,
-    places: &Places<'_>,
+    positions: &Positions<'_>,
     span: Span,
     text: &'p str,
 ) -> Result<(), AllocError> {
     pieces.extend_from_slice(&MARKDOWN)?;
     pieces.extend_from_slice(&[Piece::Text(text), Piece::EndObject])?;
-    push_range(pieces, places, "range", span)?;
+    push_range(pieces, positions, "range", span)?;
     pieces.extend_from_slice(&[Piece::EndObject])
 }
 
@@ -107,7 +107,7 @@ pub fn answer_hover(
     alloc: Global,
     id: &Value<'_>,
     root: SyntaxNode<'_>,
-    places: &Places<'_>,
+    positions: &Positions<'_>,
     offset: usize,
 ) -> Result<Vec<u8>, AllocError>
     requires { HasNumbers (value_view id.now) }
@@ -116,8 +116,8 @@ pub fn answer_hover(
     let Some(found) = hover_at(root, offset) else {
         return answer(alloc, id, &[Piece::Null]);
     };
-    let text = markdown_of(alloc, places.text, found.definition)?;
+    let text = markdown_of(alloc, positions.text, found.definition)?;
     let mut pieces = Vec::new(alloc);
-    push_markdown(&mut pieces, places, found.span, text.as_str())?;
+    push_markdown(&mut pieces, positions, found.span, text.as_str())?;
     answer(alloc, id, pieces.as_slice())
 }

@@ -4,7 +4,7 @@ use crate::folding::fold_of;
 use crate::selecting::selection;
 use crate::span::Span;
 use apollo_tree::{SyntaxKind, SyntaxNode};
-use editor_diagnostics::Places;
+use editor_diagnostics::Positions;
 use rpc_messages::Piece;
 use std::alloc::{AllocError, Global};
 
@@ -26,12 +26,12 @@ fn fold_end(is_comment: bool) -> &'static [Piece<'static>] {
 // Adds a fold, unless it is in one line. The closing bracket stays in sight.
 fn push_fold(
     pieces: &mut Vec<Piece<'_>>,
-    places: &Places<'_>,
+    positions: &Positions<'_>,
     span: Span,
     is_comment: bool,
 ) -> Result<(), AllocError> {
-    let first = places.position(span.start).line;
-    let end = places.position(span.end).line;
+    let first = positions.position(span.start).line;
+    let end = positions.position(span.end).line;
     let last = if is_comment {
         end
     } else {
@@ -55,14 +55,14 @@ fn push_fold(
 pub fn push_folds(
     pieces: &mut Vec<Piece<'_>>,
     root: SyntaxNode<'_>,
-    places: &Places<'_>,
+    positions: &Positions<'_>,
 ) -> Result<(), AllocError> {
     pieces.extend_from_slice(&[Piece::Array])?;
     for node in root.descendants() {
         if let Some(span) = fold_of(node) {
             push_fold(
                 pieces,
-                places,
+                positions,
                 span,
                 node.kind().is(SyntaxKind::DESCRIPTION),
             )?;
@@ -74,36 +74,36 @@ pub fn push_folds(
 // Adds parts, each with the next one as its parent.
 fn push_parts(
     pieces: &mut Vec<Piece<'_>>,
-    places: &Places<'_>,
+    positions: &Positions<'_>,
     parts: &[Span],
 ) -> Result<(), AllocError> {
     let mut front: &'static [Piece<'static>] = &[Piece::Object];
     for part in parts {
         pieces.extend_from_slice(front)?;
-        push_range(pieces, places, "range", *part)?;
+        push_range(pieces, positions, "range", *part)?;
         front = &[Piece::Key("parent"), Piece::Object];
     }
     let ended = pieces.len().saturating_add(parts.len());
     pieces.resize(ended, Piece::EndObject)
 }
 
-// Adds the parts around a place, the smallest first. At the end of the text there is none but that end.
+// Adds the parts around an offset, the smallest first. At the end of the text there is none but that end.
 fn push_selection(
     alloc: Global,
     pieces: &mut Vec<Piece<'_>>,
     root: SyntaxNode<'_>,
-    places: &Places<'_>,
+    positions: &Positions<'_>,
     offset: usize,
 ) -> Result<(), AllocError> {
     let parts = selection(alloc, root, offset)?;
     if !parts.is_empty() {
-        return push_parts(pieces, places, parts.as_slice());
+        return push_parts(pieces, positions, parts.as_slice());
     }
     let end = Span {
         start: offset,
         end: offset,
     };
-    push_parts(pieces, places, &[end])
+    push_parts(pieces, positions, &[end])
 }
 
 /// Adds the result of selectionRange: for each byte offset the parts around it, each with the next larger as its parent. It fails only where memory
@@ -112,12 +112,12 @@ pub fn push_selections(
     alloc: Global,
     pieces: &mut Vec<Piece<'_>>,
     root: SyntaxNode<'_>,
-    places: &Places<'_>,
+    positions: &Positions<'_>,
     offsets: &[usize],
 ) -> Result<(), AllocError> {
     pieces.extend_from_slice(&[Piece::Array])?;
     for offset in offsets {
-        push_selection(alloc, pieces, root, places, *offset)?;
+        push_selection(alloc, pieces, root, positions, *offset)?;
     }
     pieces.extend_from_slice(&[Piece::EndArray])
 }

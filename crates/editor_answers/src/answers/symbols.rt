@@ -9,7 +9,7 @@ ghost use Rattle.rpc_messages.specs.Messages.{IsAnswer};
 use crate::answers::ranges::push_range;
 use crate::outline::{Symbol, symbol_of};
 use apollo_tree::SyntaxNode;
-use editor_diagnostics::Places;
+use editor_diagnostics::Positions;
 use json::Value;
 use rpc_messages::{LongAnswer, Piece};
 use std::alloc::{AllocError, Global};
@@ -32,23 +32,23 @@ fn push_labels<'t>(pieces: &mut Vec<Piece<'t>>, symbol: &Symbol<'t>) -> Result<(
 // Begins a symbol, up to the list of those in it.
 fn push_symbol<'t>(
     pieces: &mut Vec<Piece<'t>>,
-    places: &Places<'_>,
+    positions: &Positions<'_>,
     symbol: &Symbol<'t>,
 ) -> Result<(), AllocError> {
     push_labels(pieces, symbol)?;
-    push_range(pieces, places, "range", symbol.span)?;
-    push_range(pieces, places, "selectionRange", symbol.name_span)?;
+    push_range(pieces, positions, "range", symbol.span)?;
+    push_range(pieces, positions, "selectionRange", symbol.name_span)?;
     pieces.extend_from_slice(&[Piece::Key("children"), Piece::Array])
 }
 
-// Ends the symbols that are open and end before a place, by where they end. These ends never rise.
+// Ends the symbols that are open and end before an offset, by where they end. These ends never rise.
 fn push_ends(
     pieces: &mut Vec<Piece<'_>>,
     open: &mut Vec<usize>,
-    place: usize,
+    offset: usize,
 ) -> Result<(), AllocError> {
     while let Some(end) = open.last().copied() {
-        if place < end {
+        if offset < end {
             break;
         }
         open.pop();
@@ -61,12 +61,12 @@ fn push_ends(
 fn push_node<'t>(
     pieces: &mut Vec<Piece<'t>>,
     open: &mut Vec<usize>,
-    places: &Places<'_>,
+    positions: &Positions<'_>,
     node: SyntaxNode<'t>,
 ) -> Result<(), AllocError> {
     if let Some(symbol) = symbol_of(node) {
         push_ends(pieces, open, symbol.span.start)?;
-        push_symbol(pieces, places, &symbol)?;
+        push_symbol(pieces, positions, &symbol)?;
         open.push(symbol.span.end)?;
     }
     Ok(())
@@ -77,7 +77,7 @@ fn put_symbols(
     alloc: Global,
     answer: LongAnswer,
     root: SyntaxNode<'_>,
-    places: &Places<'_>,
+    positions: &Positions<'_>,
 ) -> Result<LongAnswer, AllocError>
     ensures { IfOk result (λ new. (id : Json) → IsBegun id answer → IsBegun id new) }
 {
@@ -85,7 +85,7 @@ fn put_symbols(
     let mut open = Vec::new(alloc);
     let mut pieces = Vec::new(alloc);
     for node in root.descendants() {
-        push_node(&mut pieces, &mut open, places, node)?;
+        push_node(&mut pieces, &mut open, positions, node)?;
         answer = answer.put(pieces.as_slice())?;
         pieces.clear();
     }
@@ -98,14 +98,14 @@ pub fn answer_symbols(
     alloc: Global,
     id: &Value<'_>,
     root: SyntaxNode<'_>,
-    places: &Places<'_>,
+    positions: &Positions<'_>,
 ) -> Result<Vec<u8>, AllocError>
     requires { HasNumbers (value_view id.now) }
     ensures { IfOk result (λ body. IsAnswer (value_view id.now) body.items) }
 {
     let answer = LongAnswer::new(alloc, id)?;
     let answer = answer.put(&[Piece::Array])?;
-    let answer = put_symbols(alloc, answer, root, places)?;
+    let answer = put_symbols(alloc, answer, root, positions)?;
     let answer = answer.put(&[Piece::EndArray])?;
     answer.finish(alloc, id)
 }

@@ -7,7 +7,7 @@ ghost use Rattle.rpc_messages.specs.Messages.{IsAnswer};
 use crate::coloring::{SemanticToken, semantic_tokens};
 use crate::span::Span;
 use apollo_tree::SyntaxNode;
-use editor_diagnostics::Places;
+use editor_diagnostics::Positions;
 use json::Value;
 use line_index::Position;
 use rpc_messages::{Piece, answer};
@@ -16,12 +16,12 @@ use std::alloc::{AllocError, Global};
 // Adds the five numbers of a token that comes after another: how many lines and columns further it begins, its length, its type and no modifiers.
 fn push_numbers(
     numbers: &mut Vec<usize>,
-    places: &Places<'_>,
+    positions: &Positions<'_>,
     last: Position,
     token: &SemanticToken,
 ) -> Result<Position, AllocError> {
-    let start = places.position(token.span.start);
-    let end = places.position(token.span.end);
+    let start = positions.position(token.span.start);
+    let end = positions.position(token.span.end);
     let column = if start.line == last.line {
         start.column.saturating_sub(last.column)
     } else {
@@ -40,13 +40,13 @@ fn push_numbers(
 // The numbers of tokens.
 fn numbers_of(
     alloc: Global,
-    places: &Places<'_>,
+    positions: &Positions<'_>,
     tokens: &[SemanticToken],
 ) -> Result<Vec<usize>, AllocError> {
     let mut numbers = Vec::new(alloc);
     let mut last = Position { line: 0, column: 0 };
     for token in tokens {
-        last = push_numbers(&mut numbers, places, last, token)?;
+        last = push_numbers(&mut numbers, positions, last, token)?;
     }
     Ok(numbers)
 }
@@ -56,14 +56,14 @@ pub fn answer_tokens(
     alloc: Global,
     id: &Value<'_>,
     root: SyntaxNode<'_>,
-    places: &Places<'_>,
+    positions: &Positions<'_>,
     within: Span,
 ) -> Result<Vec<u8>, AllocError>
     requires { HasNumbers (value_view id.now) }
     ensures { IfOk result (λ body. IsAnswer (value_view id.now) body.items) }
 {
-    let tokens = semantic_tokens(alloc, places.text, root, within)?;
-    let numbers = numbers_of(alloc, places, tokens.as_slice())?;
+    let tokens = semantic_tokens(alloc, positions.text, root, within)?;
+    let numbers = numbers_of(alloc, positions, tokens.as_slice())?;
     answer(
         alloc,
         id,

@@ -1,13 +1,13 @@
 use Rattle.std.proofs.Common.{◌<◌, ◌≤◌, arith, inl}
 use Rattle.std.proofs.lemmas.Bool.Decides.{nat_tests}
 use Rattle.lexical_grammar.proofs.TheCut.{is-cut}
-use Rattle.apollo_lexer.proofs.Law.{few-from, answers-few}
+use Rattle.apollo_lexer.proofs.Law.{few-from, answers-fit}
 use Rattle.formatter.proofs.Items.{counted}
 use Rattle.formatter.proofs.Parses.{formatted-within}
 use Rattle.formatter.proofs.stays_within.Goals as goal
 
 pub count-requires-clause-fits : goal.count-requires-clause-fits
-count-requires-clause-fits c = inl (omega (arith, answers-few c.new.result))
+count-requires-clause-fits c = inl (omega (arith, answers-fit c.new.result))
 
 pub returns-then-text-token_limit-clause-yes : goal.returns-then-text-token_limit-clause-yes
 returns-then-text-token_limit-clause-yes c = λ e source r formatted.

@@ -1,4 +1,4 @@
-// A place, in decimal digits.
+// An offset, in decimal digits.
 ghost use Rattle.std.specs.Prelude.{◌≡◌, ◌≤◌, decimal, drop};
 
 use itoa::Integer;

@@ -1,10 +1,10 @@
 // The output of mode check.
 ghost use Rattle.std.specs.Prelude.{◌≡◌};
 ghost use Rattle.apollo_parser.specs.Printed.{subject_shown};
-ghost use Rattle.gqlcst_run.specs.Paging.{PutsSome};
+ghost use Rattle.gqlcst_run.specs.Buffering.{PutsSome};
 ghost use Rattle.gqlcst_run.specs.Rendering.{AreLines, IsErrorForm, IsVerdict};
 
-use crate::page::Page;
+use crate::output_buffer::OutputBuffer;
 use apollo_parser::Error;
 use byte_devices::Sink;
 use std::alloc::Allocator;
@@ -21,41 +21,45 @@ fn shown<A: Allocator>(error: &Error<A>) -> &str
 }
 
 /// Puts the printed form of an error.
-pub fn put_error<A: Allocator, W: Sink>(page: &mut Page, writer: &mut W, error: &Error<A>)
-    ensures { PutsSome (IsErrorForm error.now) (page.old, W.account writer.old) (page.new, W.account writer.new) }
+pub fn put_error<A: Allocator, W: Sink>(buffer: &mut OutputBuffer, writer: &mut W, error: &Error<A>)
+    ensures { PutsSome (IsErrorForm error.now) (buffer.old, W.account writer.old) (buffer.new, W.account writer.new) }
 {
     let start = error.index();
     let data = error.data();
-    page.put_str(writer, "ERROR@");
-    page.put_place(writer, start, data.len());
-    page.put_str(writer, " ");
-    page.put_quoted(writer, error.message());
-    page.put_str(writer, " ");
-    page.put_str(writer, shown(error));
+    buffer.put_str(writer, "ERROR@");
+    buffer.put_span(writer, start, data.len());
+    buffer.put_str(writer, " ");
+    buffer.put_quoted(writer, error.message());
+    buffer.put_str(writer, " ");
+    buffer.put_str(writer, shown(error));
 }
 
 // Puts a line for each of the errors.
 #[tactic(auto, using(crate::proofs::Lines::lines_put_none))]
-fn put_lines<A: Allocator, W: Sink>(page: &mut Page, writer: &mut W, errors: &[Error<A>])
-    ensures { PutsSome (AreLines IsErrorForm errors.now) (page.old, W.account writer.old) (page.new, W.account writer.new) }
+fn put_lines<A: Allocator, W: Sink>(buffer: &mut OutputBuffer, writer: &mut W, errors: &[Error<A>])
+    ensures { PutsSome (AreLines IsErrorForm errors.now) (buffer.old, W.account writer.old) (buffer.new, W.account writer.new) }
 {
     for error in errors {
-        put_error(page, writer, error);
-        page.put_str(writer, "\n");
+        put_error(buffer, writer, error);
+        buffer.put_str(writer, "\n");
     }
 }
 
 /// Puts `clean`, or the errors and their number.
 #[tactic(auto, using(crate::proofs::Verdicts::clean_put, crate::proofs::Verdicts::report_put))]
-pub fn put_errors<A: Allocator, W: Sink>(page: &mut Page, writer: &mut W, errors: &[Error<A>])
-    ensures { PutsSome (IsVerdict errors.now) (page.old, W.account writer.old) (page.new, W.account writer.new) }
+pub fn put_errors<A: Allocator, W: Sink>(
+    buffer: &mut OutputBuffer,
+    writer: &mut W,
+    errors: &[Error<A>],
+)
+    ensures { PutsSome (IsVerdict errors.now) (buffer.old, W.account writer.old) (buffer.new, W.account writer.new) }
 {
     if errors.is_empty() {
-        page.put_str(writer, "clean\n");
+        buffer.put_str(writer, "clean\n");
         return;
     }
-    put_lines(page, writer, errors);
-    page.put_str(writer, "errors: ");
-    page.put_number(writer, errors.len());
-    page.put_str(writer, "\n");
+    put_lines(buffer, writer, errors);
+    buffer.put_str(writer, "errors: ");
+    buffer.put_number(writer, errors.len());
+    buffer.put_str(writer, "\n");
 }

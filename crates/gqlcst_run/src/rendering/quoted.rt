@@ -5,7 +5,7 @@ ghost use Rattle.std.specs.Fmt.{digits, digit_glyph, debug_escape, debug_escape_
 ghost use Rattle.gqlcst_run.specs.Quoted.{is_plain, is_control, IsEscaped};
 ghost use Rattle.gqlcst_run.specs.Rendering.{IsForm, IsFormAfter};
 
-use crate::page::Page;
+use crate::output_buffer::OutputBuffer;
 use byte_devices::Sink;
 
 // Whether a byte is written as it is between quotes: a character of ASCII that prints, but for the quote and the backslash.
@@ -66,8 +66,8 @@ fn hex_digit(value: u8) -> u8
     if value < 10 { 48 + value } else { 87 + value }
 }
 
-impl Page {
-    ghost use Rattle.gqlcst_run.specs.Paging.{Puts, PutsSome, PutsAny};
+impl OutputBuffer {
+    ghost use Rattle.gqlcst_run.specs.Buffering.{Puts, PutsSome, PutsAny};
 
     // Puts a byte in hex digits.
     #[tactic(auto, using(crate::proofs::Quoting::hex_put_one, crate::proofs::Quoting::hex_put_two))]
@@ -138,7 +138,7 @@ impl Page {
     }
 
     // Puts a character past ASCII as it is written between quotes. What that is is not stated.
-    #[tactic(auto, using(crate::proofs::Pages::any_none, crate::proofs::Pages::any_then, crate::proofs::Pages::any_any))]
+    #[tactic(auto, using(crate::proofs::Buffers::any_none, crate::proofs::Buffers::any_then, crate::proofs::Buffers::any_any))]
     fn put_character<W: Sink>(&mut self, writer: &mut W, character: char)
         ensures { PutsAny (self.old, W.account writer.old) (self.new, W.account writer.new) }
     {
@@ -149,7 +149,7 @@ impl Page {
     }
 
     // Puts a character as it is written between quotes.
-    #[tactic(auto, using(crate::proofs::Pages::any_of))]
+    #[tactic(auto, using(crate::proofs::Buffers::any_of))]
     fn put_any_character<W: Sink>(&mut self, writer: &mut W, character: char)
         ensures { PutsAny (self.old, W.account writer.old) (self.new, W.account writer.new) }
     {
@@ -162,7 +162,7 @@ impl Page {
 
     // Puts a text as it is written between quotes. What that is is not stated.
     #[cold]
-    #[tactic(auto, using(crate::proofs::Pages::any_none, crate::proofs::Pages::any_any))]
+    #[tactic(auto, using(crate::proofs::Buffers::any_none, crate::proofs::Buffers::any_any))]
     fn put_any_escaped<W: Sink>(&mut self, writer: &mut W, text: &str)
         ensures { PutsAny (self.old, W.account writer.old) (self.new, W.account writer.new) }
     {

@@ -1,12 +1,12 @@
-// Texts, numbers and places, put on a page.
+// Texts, numbers and offsets, put in a buffer.
 ghost use Rattle.std.specs.Prelude.{◌+◌, ◌++◌, codes, decimal};
 
-use crate::page::Page;
+use crate::output_buffer::OutputBuffer;
 use byte_devices::Sink;
 use itoa::Buffer;
 
-impl Page {
-    ghost use Rattle.gqlcst_run.specs.Paging.{Puts};
+impl OutputBuffer {
+    ghost use Rattle.gqlcst_run.specs.Buffering.{Puts};
 
     /// Puts a text.
     #[inline(always)]
@@ -34,7 +34,7 @@ impl Page {
 
     /// Puts the bytes from where to where a text of an error is, as `5:10`. The sum is made in 128 bits, since no contract of an error says that it fits
     /// in fewer.
-    pub fn put_place<W: Sink>(&mut self, writer: &mut W, start: usize, len: usize)
+    pub fn put_span<W: Sink>(&mut self, writer: &mut W, start: usize, len: usize)
         ensures { Puts (self.old, W.account writer.old) (decimal start ++ (codes ":" ++ decimal (start + len))) (self.new, W.account writer.new) }
     {
         self.put_number(writer, start);

@@ -1,7 +1,7 @@
 // The output of mode tree.
-ghost use Rattle.gqlcst_run.specs.Paging.{PutsAny};
+ghost use Rattle.gqlcst_run.specs.Buffering.{PutsAny};
 
-use crate::page::Page;
+use crate::output_buffer::OutputBuffer;
 use crate::rendering::errors::put_error;
 use crate::rendering::kind_name::kind_name;
 use apollo_parser::{DocumentRoot, IndexedElement, LimitTracker, SyntaxTree};
@@ -13,47 +13,52 @@ const SPACES: &str =
     "                                                                                                                                ";
 
 // Puts four spaces for each level.
-#[tactic(auto, using(crate::proofs::Pages::any_none, crate::proofs::Pages::any_then, crate::proofs::Pages::any_any))]
-fn put_indent<W: Sink>(page: &mut Page, writer: &mut W, level: usize)
-    ensures { PutsAny (page.old, W.account writer.old) (page.new, W.account writer.new) }
+#[tactic(auto, using(crate::proofs::Buffers::any_none, crate::proofs::Buffers::any_then, crate::proofs::Buffers::any_any))]
+fn put_indent<W: Sink>(buffer: &mut OutputBuffer, writer: &mut W, level: usize)
+    ensures { PutsAny (buffer.old, W.account writer.old) (buffer.new, W.account writer.new) }
 {
     let mut left = level;
     while left > 32 {
-        page.put_str(writer, SPACES);
+        buffer.put_str(writer, SPACES);
         left -= 32;
     }
-    page.put_str(writer, SPACES.get(..4 * left).unwrap_or(""));
+    buffer.put_str(writer, SPACES.get(..4 * left).unwrap_or(""));
 }
 
 // Puts the text of a leaf in quotes, and nothing for a node.
-#[tactic(auto, using(crate::proofs::Pages::any_none))]
-fn put_leaf<W: Sink>(page: &mut Page, writer: &mut W, element: IndexedElement, source: &str)
-    ensures { PutsAny (page.old, W.account writer.old) (page.new, W.account writer.new) }
+#[tactic(auto, using(crate::proofs::Buffers::any_none))]
+fn put_leaf<W: Sink>(
+    buffer: &mut OutputBuffer,
+    writer: &mut W,
+    element: IndexedElement,
+    source: &str,
+)
+    ensures { PutsAny (buffer.old, W.account writer.old) (buffer.new, W.account writer.new) }
 {
     if element.is_node {
         return;
     }
     let text = source.get(element.start..element.end).unwrap_or("");
-    page.put_quoted_after(writer, " ", text);
+    buffer.put_quoted_after(writer, " ", text);
 }
 
 // Puts the line of an element: its kind, where it is, and the text of a leaf.
 fn put_element<W: Sink>(
-    page: &mut Page,
+    buffer: &mut OutputBuffer,
     writer: &mut W,
     level: usize,
     element: IndexedElement,
     source: &str,
 )
-    ensures { PutsAny (page.old, W.account writer.old) (page.new, W.account writer.new) }
+    ensures { PutsAny (buffer.old, W.account writer.old) (buffer.new, W.account writer.new) }
 {
-    put_indent(page, writer, level);
-    page.put_str(writer, "- ");
-    page.put_str(writer, kind_name(element.kind));
-    page.put_str(writer, "@");
-    page.put_range(writer, element.start, "..", element.end);
-    put_leaf(page, writer, element, source);
-    page.put_str(writer, "\n");
+    put_indent(buffer, writer, level);
+    buffer.put_str(writer, "- ");
+    buffer.put_str(writer, kind_name(element.kind));
+    buffer.put_str(writer, "@");
+    buffer.put_range(writer, element.start, "..", element.end);
+    put_leaf(buffer, writer, element, source);
+    buffer.put_str(writer, "\n");
 }
 
 // The parent of an element.
@@ -91,14 +96,14 @@ impl Open {
 }
 
 // Puts a line for each element, in document order.
-#[tactic(auto, using(crate::proofs::Pages::any_none, crate::proofs::Pages::any_any))]
+#[tactic(auto, using(crate::proofs::Buffers::any_none, crate::proofs::Buffers::any_any))]
 fn put_elements<A: Allocator, W: Sink>(
-    page: &mut Page,
+    buffer: &mut OutputBuffer,
     writer: &mut W,
     tree: &SyntaxTree<DocumentRoot, A>,
     source: &str,
 )
-    ensures { PutsAny (page.old, W.account writer.old) (page.new, W.account writer.new) }
+    ensures { PutsAny (buffer.old, W.account writer.old) (buffer.new, W.account writer.new) }
 {
     let mut open = Open {
         node: None,
@@ -109,7 +114,7 @@ fn put_elements<A: Allocator, W: Sink>(
             return;
         };
         open.close_to(tree, element.parent);
-        put_element(page, writer, open.level, element, source);
+        put_element(buffer, writer, open.level, element, source);
         if element.is_node {
             open.enter(index);
         }
@@ -117,43 +122,43 @@ fn put_elements<A: Allocator, W: Sink>(
 }
 
 // Puts a line for each of the errors.
-#[tactic(auto, using(crate::proofs::Pages::any_none, crate::proofs::Pages::any_then, crate::proofs::Pages::any_any))]
+#[tactic(auto, using(crate::proofs::Buffers::any_none, crate::proofs::Buffers::any_then, crate::proofs::Buffers::any_any))]
 fn put_error_lines<A: Allocator, W: Sink>(
-    page: &mut Page,
+    buffer: &mut OutputBuffer,
     writer: &mut W,
     tree: &SyntaxTree<DocumentRoot, A>,
 )
-    ensures { PutsAny (page.old, W.account writer.old) (page.new, W.account writer.new) }
+    ensures { PutsAny (buffer.old, W.account writer.old) (buffer.new, W.account writer.new) }
 {
     for error in tree.errors() {
-        page.put_str(writer, "- ");
-        put_error(page, writer, error);
-        page.put_str(writer, "\n");
+        buffer.put_str(writer, "- ");
+        put_error(buffer, writer, error);
+        buffer.put_str(writer, "\n");
     }
 }
 
 // Puts the printed form of the recursion limit.
-fn put_limit<W: Sink>(page: &mut Page, writer: &mut W, limit: LimitTracker)
-    ensures { PutsAny (page.old, W.account writer.old) (page.new, W.account writer.new) }
+fn put_limit<W: Sink>(buffer: &mut OutputBuffer, writer: &mut W, limit: LimitTracker)
+    ensures { PutsAny (buffer.old, W.account writer.old) (buffer.new, W.account writer.new) }
 {
-    page.put_str(writer, "recursion limit: ");
-    page.put_number(writer, limit.limit);
-    page.put_str(writer, ", high: ");
-    page.put_number(writer, limit.high);
-    page.put_str(writer, "\n");
+    buffer.put_str(writer, "recursion limit: ");
+    buffer.put_number(writer, limit.limit);
+    buffer.put_str(writer, ", high: ");
+    buffer.put_number(writer, limit.high);
+    buffer.put_str(writer, "\n");
 }
 
 /// Puts the printed form of the tree of a text, with its errors and its recursion limit.
-#[tactic(auto, using(crate::proofs::Pages::any_any))]
+#[tactic(auto, using(crate::proofs::Buffers::any_any))]
 pub fn put_tree<A: Allocator, W: Sink>(
-    page: &mut Page,
+    buffer: &mut OutputBuffer,
     writer: &mut W,
     tree: &SyntaxTree<DocumentRoot, A>,
     source: &str,
 )
-    ensures { PutsAny (page.old, W.account writer.old) (page.new, W.account writer.new) }
+    ensures { PutsAny (buffer.old, W.account writer.old) (buffer.new, W.account writer.new) }
 {
-    put_elements(page, writer, tree, source);
-    put_error_lines(page, writer, tree);
-    put_limit(page, writer, tree.recursion_limit());
+    put_elements(buffer, writer, tree, source);
+    put_error_lines(buffer, writer, tree);
+    put_limit(buffer, writer, tree.recursion_limit());
 }

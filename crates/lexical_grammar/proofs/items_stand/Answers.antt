@@ -1,5 +1,5 @@
-use Rattle.lexical_grammar.proofs.Places.{item-stands}
+use Rattle.lexical_grammar.proofs.Offsets.{items-stand}
 use Rattle.lexical_grammar.proofs.items_stand.Goals as goal
 
 pub returns : goal.returns
-returns c = item-stands
+returns c = items-stand

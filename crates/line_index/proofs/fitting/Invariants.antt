@@ -2,5 +2,5 @@ use Rattle.std.proofs.Common.{◌≡◌, ◌+◌, take}
 use Rattle.line_index.specs.Columns.{utf16_len}
 use Rattle.line_index.proofs.fitting.Given as goal
 
-abbrev pub invariant-loop-place : goal.invariant-loop-place
-invariant-loop-place l = l.left + utf16_len (take l.place l.bytes) ≡ l.room
+abbrev pub invariant-loop-offset : goal.invariant-loop-offset
+invariant-loop-offset l = l.left + utf16_len (take l.offset l.bytes) ≡ l.room

@@ -3,7 +3,7 @@ use Rattle.line_index.specs.LineStarts.{AreStarts}
 use Rattle.line_index.proofs.line_starts.Given as goal
 
 abbrev pub invariant-loop-next : goal.invariant-loop-next
-invariant-loop-next g l = (l.place ≤ length l.bytes) × AreStarts l.bytes l.place l.starts.items
+invariant-loop-next g l = (l.offset ≤ length l.bytes) × AreStarts l.bytes l.offset l.starts.items
 
 abbrev pub decreases-loop-next : goal.decreases-loop-next
-decreases-loop-next g l = length l.bytes - l.place
+decreases-loop-next g l = length l.bytes - l.offset

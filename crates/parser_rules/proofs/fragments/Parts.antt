@@ -99,10 +99,10 @@ module _ (sort : Sort) (max_depth : ℕ) (xs : List Answer) where
             let position : PositionHolds R (top R) at_root_start [] (flush state) = (
               record {
                 children = c.children;
-                place = record {
-                  reach = rw (unread-rest only_builds.reads_nothing) c.place.reach;
-                  leveled = still-leveled R only_builds c.place.leveled;
-                  alone = c.place.alone;
+                machine = record {
+                  reach = rw (unread-rest only_builds.reads_nothing) c.machine.reach;
+                  leveled = still-leveled R only_builds c.machine.leveled;
+                  alone = c.machine.alone;
                 };
                 built = flushed R state g.0.no_report ∙ c.built;
               },
@@ -140,7 +140,7 @@ module _ (sort : Sort) (max_depth : ℕ) (xs : List Answer) where
       let n : Next x y (rest this_state) = next-classes R g in
       let m : next (top R) q (rest this_state) ≡ closes_move = closes-move (top R) q x (absent_as_end y) (first_class (rest this_state))
       (second_class (rest this_state)) (and-l _ _ h) n.near n.far in
-      let e = root-ended R c.place m (eqb-true _ _ (and-r _ _ (and-r _ _ h))) in
+      let e = root-ended R c.machine m (eqb-true _ _ (and-r _ _ (and-r _ _ h))) in
       let t = current R this_state g.no_report in
       let words : answers_tokens xs ≡ yields forest ++ answers_tokens (given_by t.0 ∷ this_state.items) = e.split
       ∙ ap (λ (z : Option Lexeme). yields forest ++ rest (record this_state { current = z })) t.1 in

@@ -139,11 +139,11 @@ module _ (max_depth : ℕ) (xs : List Answer) where
   ]
 
   module _ {this_kind : SyntaxKind} {state : State} (second_nullable : Nullable first this_kind state) where
-    abbrev place : ℕ
-    place = built_count first.tree
+    abbrev index : ℕ
+    index = built_count first.tree
 
     abbrev type_node : State
-    type_node = closed (wrapped_from place this_kind state)
+    type_node = closed (wrapped_from index this_kind state)
 
     more : Adds first state
     more = adds second_nullable.run
@@ -197,7 +197,7 @@ module _ (max_depth : ℕ) (xs : List Answer) where
         ∙ ap (node NON_NULL_TYPE) (sym (stack-here end_state.tree) ∙ are) ∙ sym (ap type_of are ∙ two-trees _ _ (strip (parts_forest state.pending))) in
         type-out (wrap 0 kind.NON_NULL_TYPE end_state.tree) (bang-run b run) (tell-root kind.NON_NULL_TYPE end_state) tree g
 
-    nullable-outcome : {after : State} → EndsWell xs → ClosesType place this_kind state after → Outcome type max_depth xs after
+    nullable-outcome : {after : State} → EndsWell xs → ClosesType index this_kind state after → Outcome type max_depth xs after
     nullable-outcome ends_well (nullable b a) = from-first this_kind ends_well second_nullable.run a (alone b)
     nullable-outcome ends_well (non_null b run a) = from-first kind.NON_NULL_TYPE ends_well (bang-run b run) a (with-bang b run)
 

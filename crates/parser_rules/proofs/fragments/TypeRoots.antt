@@ -5,7 +5,7 @@ use Rattle.lexical_grammar.specs.declared.TokenKind.TheVariants as token
 use Rattle.lexical_grammar.specs.Answers.{Answer}
 use Rattle.document_grammar.specs.declared.kind.SyntaxKind.{SyntaxKind}
 use Rattle.document_grammar.specs.declared.kind.SyntaxKind.TheVariants as kind
-use Rattle.document_grammar.specs.Builds.{Building, Open, IsPlace, nothing, built_count}
+use Rattle.document_grammar.specs.Builds.{Building, Open, CanOpenAt, nothing, built_count}
 use Rattle.parser_rules.specs.declared.message.Message.TheVariants as message
 use Rattle.parser_rules.specs.State.{State, read_on, is_at, fresh, flush, closed, wrapped_from}
 use Rattle.parser_rules.specs.Open.{IsCheckpoint}
@@ -20,12 +20,12 @@ use Rattle.parser_rules.proofs.fragments.WrappedRuns.{wrapped-run, wrapped-root}
 
 -- ---- where no node is open
 
--- the place before all that is built
-pub root-checkpoint : (place : ℕ) (state : State) → place ≡ 0 → state.tree.above ≡ [] → IsCheckpoint place state.tree
+-- the index before all that is built
+pub root-checkpoint : (index : ℕ) (state : State) → index ≡ 0 → state.tree.above ≡ [] → IsCheckpoint index state.tree
 unfolding IsCheckpoint
-root-checkpoint place state first none =
-    let least : IsPlace 0 (record { here = state.tree.here; above = [] }) = record { inside = omega arith; seam = refl } in
-    subst (λ (n : ℕ). IsPlace n state.tree) (sym first) (subst (λ (above : List Open). IsPlace 0 (record { here = state.tree.here; above = above }))
+root-checkpoint index state first none =
+    let least : CanOpenAt 0 (record { here = state.tree.here; above = [] }) = record { inside = omega arith; seam = refl } in
+    subst (λ (n : ℕ). CanOpenAt n state.tree) (sym first) (subst (λ (above : List Open). CanOpenAt 0 (record { here = state.tree.here; above = above }))
     (sym none) least)
 
 pub still-none : {rule : Rule} {state after : State} → Runs rule state after → state.tree.above ≡ [] → after.tree.above ≡ []
@@ -35,11 +35,11 @@ pub flushed-none : (state : State) {after : State} → after ≡ flush state →
 unfolding flush
 flushed-none state e none = ap (λ (z : State). z.tree.above) e ∙ (add_all-above state.pending state.tree ∙ none)
 
--- a node that was opened at a place, and closed
-pub closed-none : (place : ℕ) (this_kind : SyntaxKind) (state : State) {after later : State} → after ≡ wrapped_from place this_kind state → later ≡ closed after
+-- a node that was opened at an index, and closed
+pub closed-none : (index : ℕ) (this_kind : SyntaxKind) (state : State) {after later : State} → after ≡ wrapped_from index this_kind state → later ≡ closed after
     → state.tree.above ≡ [] → later.tree.above ≡ []
 unfolding wrapped_from closed
-closed-none place this_kind state e f none = ap (λ (z : State). z.tree.above) (f ∙ ap closed e) ∙ none
+closed-none index this_kind state e f none = ap (λ (z : State). z.tree.above) (f ∙ ap closed e) ∙ none
 
 -- ---- the first token
 
@@ -57,32 +57,32 @@ starts-none state e f = ap₂ (λ (a b : Bool). a || b) f e
 
 -- ---- where the root opens
 
-pub from-place : (first place : ℕ) (this_kind : SyntaxKind) (state : State) {after later last end_state : State} → first ≡ 0
-    → true ≡ holds (At token.Bang) state → after ≡ wrapped_from place this_kind state → later ≡ closed after → Runs (Do (Bump kind.BANG)) later last
+pub from-checkpoint : (first index : ℕ) (this_kind : SyntaxKind) (state : State) {after later last end_state : State} → first ≡ 0
+    → true ≡ holds (At token.Bang) state → after ≡ wrapped_from index this_kind state → later ≡ closed after → Runs (Do (Bump kind.BANG)) later last
     → end_state ≡ wrapped_from first kind.NON_NULL_TYPE last
-    → ClosesType place this_kind state end_state
-from-place first place this_kind state {last = last} zero b e f run a =
+    → ClosesType index this_kind state end_state
+from-checkpoint first index this_kind state {last = last} zero b e f run a =
     non_null b (subst (λ (z : State). Runs (Do (Bump kind.BANG)) z last) (f ∙ ap closed e) run)
     (a ∙ ap (λ (n : ℕ). wrapped_from n kind.NON_NULL_TYPE last) zero)
 
 -- ---- the root
 
-pub list-made : (state : State) {after later last : State} (place : ℕ) → after ≡ flush state → place ≡ built_count after.tree
-    → true ≡ holds (At token.LBracket) after → Runs (inside ListType) after later → ClosesType place kind.LIST_TYPE later last → RunsTypeRoot (flush state) last
-list-made state {later = later} {last = last} place f is e run close =
+pub list-made : (state : State) {after later last : State} (index : ℕ) → after ≡ flush state → index ≡ built_count after.tree
+    → true ≡ holds (At token.LBracket) after → Runs (inside ListType) after later → ClosesType index kind.LIST_TYPE later last → RunsTypeRoot (flush state) last
+list-made state {later = later} {last = last} index f is e run close =
     subst (λ (z : State). RunsTypeRoot z last) f (makes_list e run (subst (λ (n : ℕ). ClosesType n kind.LIST_TYPE later last) is close))
 
-pub name-made : (state : State) {after later last : State} (place : ℕ) → after ≡ flush state → place ≡ built_count after.tree
+pub name-made : (state : State) {after later last : State} (index : ℕ) → after ≡ flush state → index ≡ built_count after.tree
     → false ≡ holds (At token.LBracket) after → true ≡ holds (At token.Name) after → Runs (Call RequiredName) after later
-    → ClosesType place kind.NAMED_TYPE later last → RunsTypeRoot (flush state) last
+    → ClosesType index kind.NAMED_TYPE later last → RunsTypeRoot (flush state) last
 unfolding inside
-name-made state {later = later} {last = last} place f is e n run close =
+name-made state {later = later} {last = last} index f is e n run close =
     subst (λ (z : State). RunsTypeRoot z last) f (makes_name e n run (subst (λ (n : ℕ). ClosesType n kind.NAMED_TYPE later last) is close))
 
-pub none-made : (state : State) {after later last : State} (place : ℕ) → place ≡ 0 → after ≡ flush state → false ≡ holds (At token.LBracket) after
-    → false ≡ holds (At token.Name) after → Runs (refuse message.ExpectedFieldType) after later → last ≡ wrapped_from place kind.ERROR later
+pub none-made : (state : State) {after later last : State} (index : ℕ) → index ≡ 0 → after ≡ flush state → false ≡ holds (At token.LBracket) after
+    → false ≡ holds (At token.Name) after → Runs (refuse message.ExpectedFieldType) after later → last ≡ wrapped_from index kind.ERROR later
     → RunsTypeRoot (flush state) last
-none-made state {after = after} {later = later} {last = last} place first f e n run a =
+none-made state {after = after} {later = later} {last = last} index first f e n run a =
     subst (λ (z : State). RunsTypeRoot z last) f (makes_none (starts-none after e n) run (a ∙ ap (λ (p : ℕ). wrapped_from p kind.ERROR later) first))
 
 -- ---- a type and what follows it

@@ -8,7 +8,7 @@ use Rattle.std.proofs.lemmas.List.Elements.{All-map, All-weaker}
 use Rattle.lexical_grammar.specs.Cut.{Item, Cut, CutFrom, texts, end_at, Significant, significant_word, are_tokens}
 use Rattle.lexical_grammar.specs.Answers.{Answer, gives, limit_at, limited, is_given}
 use Rattle.lexical_grammar.proofs.Limited.{all_given, within-limit}
-use Rattle.lexical_grammar.proofs.Places.{item-some}
+use Rattle.lexical_grammar.proofs.Offsets.{item-some}
 use Rattle.document_grammar.specs.declared.kind.SyntaxKind.TheVariants as kind
 use Rattle.document_grammar.specs.Numbers.{number}
 use Rattle.document_grammar.specs.Kinds.{ERROR, DOCUMENT}
@@ -145,20 +145,20 @@ token-index item this_lexeme = by-kind (λ found o. o ≡ token this_lexeme
     ap (λ (y : Lexeme). y.index) same) (λ k own i z. absurd cc)
 
 -- the first token that is not ignored is not beyond a significant one
-first-token : (place : ℕ) (pending : List PendingToken) (this_lexeme : Lexeme) (before : List Item) (item : Item) (more : List Item)
-    (these_sources : List Source) → CutFrom place (before ++ item ∷ more)
+first-token : (offset : ℕ) (pending : List PendingToken) (this_lexeme : Lexeme) (before : List Item) (item : Item) (more : List Item)
+    (these_sources : List Source) → CutFrom offset (before ++ item ∷ more)
     → map source_item (before ++ item ∷ more) ≡ flat (set_aside pending) ++ token this_lexeme ∷ these_sources → Significant (item ∷ []) ≢ []
     → this_lexeme.index ≤ item.index
-first-token place [] this_lexeme [] item more these_sources cut e s = let i = token-index item this_lexeme (head-same e) in omega (arith, i)
-first-token place [] this_lexeme (this_item ∷ before) item more these_sources cut e s =
+first-token offset [] this_lexeme [] item more these_sources cut e s = let i = token-index item this_lexeme (head-same e) in omega (arith, i)
+first-token offset [] this_lexeme (this_item ∷ before) item more these_sources cut e s =
     let i = token-index this_item this_lexeme (head-same e) in
-    let first = (item-then place before item more this_item cut).0 in
-    omega (arith, i, first, index-at place (this_item ∷ before) item more cut)
-first-token place (pending_token ∷ pending) this_lexeme [] item more these_sources cut e s =
+    let first = (item-then offset before item more this_item cut).0 in
+    omega (arith, i, first, index-at offset (this_item ∷ before) item more cut)
+first-token offset (pending_token ∷ pending) this_lexeme [] item more these_sources cut e s =
     absurd (s (by-kind (λ found o. o ≡ aside pending_token → significant_word found item.text ++ [] ≡ []) item (λ z. refl) (λ k i z. absurd cc)
     (λ k own i z. ignored-kinds (λ k own. significant_word (Some k) item.text ++ [] ≡ []) refl refl refl k own i) (head-same e)))
-first-token place (pending_token ∷ pending) this_lexeme (this_item ∷ before) item more these_sources cut e s =
-    first-token (place + length this_item.text) pending this_lexeme before item more these_sources (item-then place before item more this_item cut).2
+first-token offset (pending_token ∷ pending) this_lexeme (this_item ∷ before) item more these_sources cut e s =
+    first-token (offset + length this_item.text) pending this_lexeme before item more these_sources (item-then offset before item more this_item cut).2
     (tail-same e) s
 
 given-sources : (items : List Item) → sources (map gives items) ≡ map source_item items
@@ -166,24 +166,24 @@ given-sources [] = refl
 given-sources (item ∷ items) = ap (λ (v : List Source). source_item item ∷ v) (given-sources items)
 
 -- the rest after a number of bytes is of the items there, or none of them is a token
-left-there : (place : ℕ) (before : List Item) (item : Item) (more : List Item) (these_sources more_sources : List Source)
-    → CutFrom place (before ++ item ∷ more) → map source_item (before ++ item ∷ more) ≡ these_sources ++ more_sources
+left-there : (offset : ℕ) (before : List Item) (item : Item) (more : List Item) (these_sources more_sources : List Source)
+    → CutFrom offset (before ++ item ∷ more) → map source_item (before ++ item ∷ more) ≡ these_sources ++ more_sources
     → length (texts before) ≡ bytes these_sources
     → (map source_item (item ∷ more) ≡ more_sources) ⊎ (tokens_of (item ∷ more) ≡ [])
-left-there place [] item more [] more_sources cut e h = inl e
-left-there place [] item [] (source ∷ these_sources) more_sources cut e h = inr (ap (λ (x : Item). tokens_of (x ∷ [])) cut)
-left-there place [] item (other_item ∷ more) (source ∷ these_sources) more_sources cut e h =
+left-there offset [] item more [] more_sources cut e h = inl e
+left-there offset [] item [] (source ∷ these_sources) more_sources cut e h = inr (ap (λ (x : Item). tokens_of (x ∷ [])) cut)
+left-there offset [] item (other_item ∷ more) (source ∷ these_sources) more_sources cut e h =
     let t = ap length (sym (source-text item) ∙ ap text_of (head-same e)) in absurd (omega (arith, item-some item.kind item.text _ cut.1, t, h))
-left-there place (other_item ∷ before) item more [] more_sources cut e h =
+left-there offset (other_item ∷ before) item more [] more_sources cut e h =
     absurd (omega (
       arith,
-      item-some other_item.kind other_item.text _ (item-then place before item more other_item cut).1,
+      item-some other_item.kind other_item.text _ (item-then offset before item more other_item cut).1,
       h,
       length-append other_item.text (texts before),
     ))
-left-there place (other_item ∷ before) item more (source ∷ these_sources) more_sources cut e h =
+left-there offset (other_item ∷ before) item more (source ∷ these_sources) more_sources cut e h =
     let t = ap length (sym (source-text other_item) ∙ ap text_of (head-same e)) in
-    left-there (place + length other_item.text) before item more these_sources more_sources (item-then place before item more other_item cut).2 (tail-same e)
+    left-there (offset + length other_item.text) before item more these_sources more_sources (item-then offset before item more other_item cut).2 (tail-same e)
     (omega (arith, t, h, length-append other_item.text (texts before)))
 
 module _ (max_depth k : ℕ) (source : List ℕ) (items : List Item) (state : State) (cut : Cut source items)
@@ -226,8 +226,8 @@ module _ (max_depth k : ℕ) (source : List ℕ) (items : List Item) (state : St
       given = turns-along given-along turns (along given-along first (reading-given (reading xs (fresh xs max_depth kind.DOCUMENT)) refl
           (all_given k items count)))
 
-      place : length (texts a.before) ≡ bytes (flat trees)
-      place =
+      offset : length (texts a.before) ≡ bytes (flat trees)
+      offset =
           let i = index-at 0 a.before a.item a.more each in
           let j = a.index in
           let e : length (built.text front) ≡ bytes (flat trees) = ap (λ x. length (built.text x)) ends ∙ text-bytes trees in
@@ -283,7 +283,7 @@ module _ (max_depth k : ℕ) (source : List ℕ) (items : List Item) (state : St
 
       found-goes : Goes
       found-goes = elim (left-there 0 a.before a.item a.more (flat trees) (to_come here) each
-          (ap (map source_item) (sym a.split) ∙ (sym (ap sources (within-limit k items count) ∙ given-sources items) ∙ order)) place) [
+          (ap (map source_item) (sym a.split) ∙ (sym (ap sources (within-limit k items count) ∙ given-sources items) ∙ order)) offset) [
             | inl e ↦
                 here-goes e
             | inr e ↦ nothing-there e

@@ -8,7 +8,7 @@ use Rattle.lexical_grammar.specs.declared.TokenKind.TheVariants as token_kind
 use Rattle.lexical_grammar.specs.Cut.{Item, Cut, CutFrom, is_significant_kind}
 use Rattle.lexical_grammar.specs.Answers.{limited, is_end}
 use Rattle.lexical_grammar.proofs.Limited.{limited-end}
-use Rattle.lexical_grammar.proofs.Places.{item-some}
+use Rattle.lexical_grammar.proofs.Offsets.{item-some}
 use Rattle.document_grammar.specs.declared.kind.SyntaxKind.{SyntaxKind}
 use Rattle.document_grammar.specs.declared.kind.SyntaxKind.TheVariants as kind
 use Rattle.document_grammar.specs.Numbers.{number}
@@ -40,24 +40,24 @@ all-rowed k built.none h = tt
 all-rowed k (built.leaf j x rest) h = (or-c _ _ (and-l _ _ h), tt, all-rowed k rest (and-r _ _ h))
 all-rowed k (built.node j kids rest) h = let a = and-l _ _ h in (and-l _ _ a, all-rowed (number j) kids (and-r _ _ a), all-rowed k rest (and-r _ _ h))
 
--- ---- tokens at places
+-- ---- tokens at offsets
 
 module _ (kinds : TokenKind → Bool) where
   -- none begins before the first item
-  none-at : (place p : ℕ) (item : Item) (more : List Item) → CutFrom place (item ∷ more) → p < place → token_at kinds (item ∷ more) p ≡ false
-  none-at place p item [] cut h = rw (ne_eqb item.index p (λ z. omega (arith, z, index-at place [] item [] cut, h))) refl
-  none-at place p item (next ∷ more) cut h = rw (ne_eqb item.index p (λ z. omega (arith, z, cut.0, h)))
-      (none-at (place + length item.text) p next more cut.2 (omega (arith, h)))
+  none-at : (offset p : ℕ) (item : Item) (more : List Item) → CutFrom offset (item ∷ more) → p < offset → token_at kinds (item ∷ more) p ≡ false
+  none-at offset p item [] cut h = rw (ne_eqb item.index p (λ z. omega (arith, z, index-at offset [] item [] cut, h))) refl
+  none-at offset p item (next ∷ more) cut h = rw (ne_eqb item.index p (λ z. omega (arith, z, cut.0, h)))
+      (none-at (offset + length item.text) p next more cut.2 (omega (arith, h)))
 
-  -- at the first item's place none begins after it
-  none-behind : (place : ℕ) (item : Item) (more : List Item) → CutFrom place (item ∷ more) → token_at kinds more place ≡ false
-  none-behind place item [] cut = refl
-  none-behind place item (next ∷ more) cut = none-at (place + length item.text) place next more cut.2 (omega (arith, item-some item.kind item.text _ cut.1))
+  -- at the first item's offset none begins after it
+  none-behind : (offset : ℕ) (item : Item) (more : List Item) → CutFrom offset (item ∷ more) → token_at kinds more offset ≡ false
+  none-behind offset item [] cut = refl
+  none-behind offset item (next ∷ more) cut = none-at (offset + length item.text) offset next more cut.2 (omega (arith, item-some item.kind item.text _ cut.1))
 
-  token-there : (place : ℕ) (item : Item) (more : List Item) → CutFrom place (item ∷ more) → token_at kinds (item ∷ more) place ≡ is_such kinds item.kind
-  token-there place item more cut =
-      let i = index-at place [] item more cut in
-      rw (eq-eqb item.index place (omega (arith, i)), none-behind place item more cut)
+  token-there : (offset : ℕ) (item : Item) (more : List Item) → CutFrom offset (item ∷ more) → token_at kinds (item ∷ more) offset ≡ is_such kinds item.kind
+  token-there offset item more cut =
+      let i = index-at offset [] item more cut in
+      rw (eq-eqb item.index offset (omega (arith, i)), none-behind offset item more cut)
       (elim (is_such kinds item.kind) as (λ b. true && b || false ≡ b) [ true ↦ refl | false ↦ refl ])
 
 -- ---- the sources of leaves
@@ -94,7 +94,7 @@ unfolding same_kind
 bracket-kind token_kind.RBracket = refl
 bracket-kind _ = refl
 
--- what is at the place of a source, and of each of some in a row
+-- what is at the offset of a source, and of each of some in a row
 abbrev Known : List Item → ℕ → Source → Type 0
 Known items b (token lexeme) = (lexeme.index ≡ b) × (ignored lexeme.kind ≡ None) × ((kinds : TokenKind → Bool) → token_at kinds items b ≡ kinds lexeme.kind)
 Known items b (aside pending_token) = token_at is_significant_kind items b ≡ false
@@ -103,13 +103,13 @@ abbrev Known_all : List Item → ℕ → List Source → Type 0
 Known_all items b [] = ⊤
 Known_all items b (source ∷ these_sources) = Known items b source × Known_all items (b + length (text_of source)) these_sources
 
-known-first : (place : ℕ) (item : Item) (more : List Item) → CutFrom place (item ∷ more) → Known (item ∷ more) place (source_at item item.kind)
-known-first place item more cut =
-    let i = index-at place [] item more cut in
-    by-kind (λ found o. ((kinds : TokenKind → Bool) → token_at kinds (item ∷ more) place ≡ is_such kinds found)
-    → Known (item ∷ more) place o) item (λ t. t is_significant_kind) (λ k j t. (omega (arith, i), j, t))
+known-first : (offset : ℕ) (item : Item) (more : List Item) → CutFrom offset (item ∷ more) → Known (item ∷ more) offset (source_at item item.kind)
+known-first offset item more cut =
+    let i = index-at offset [] item more cut in
+    by-kind (λ found o. ((kinds : TokenKind → Bool) → token_at kinds (item ∷ more) offset ≡ is_such kinds found)
+    → Known (item ∷ more) offset o) item (λ t. t is_significant_kind) (λ k j t. (omega (arith, i), j, t))
     (λ k own j t. t is_significant_kind ∙ ignored-kinds (λ k own. is_significant_kind k ≡ false) refl refl refl k own j)
-    (λ kinds. token-there kinds place item more cut)
+    (λ kinds. token-there kinds offset item more cut)
 
 -- an item in front changes nothing
 known-behind : (item : Item) (items : List Item) (b : ℕ) (these_sources : List Source) → item.index < b → Known_all items b these_sources
@@ -125,20 +125,20 @@ known-behind item items b (aside pending_token ∷ these_sources) l known_all = 
       (omega (arith, l)) known_all.1,
 )
 
-known : (place max_items : ℕ) (items : List Item) → CutFrom place items → Known_all items place (sources (limited max_items items))
-known place max_items [] cut = absurd cut
-known place zero (item ∷ items) cut = tt
-known place (suc k) (item ∷ []) cut = (
-  known-first place item [] cut,
+known : (offset max_items : ℕ) (items : List Item) → CutFrom offset items → Known_all items offset (sources (limited max_items items))
+known offset max_items [] cut = absurd cut
+known offset zero (item ∷ items) cut = tt
+known offset (suc k) (item ∷ []) cut = (
+  known-first offset item [] cut,
   subst
-      (λ xs. Known_all (item ∷ []) (place + length (text_of (source_at item item.kind))) (sources xs)) (sym (limited-end k)) tt,
+      (λ xs. Known_all (item ∷ []) (offset + length (text_of (source_at item item.kind))) (sources xs)) (sym (limited-end k)) tt,
 )
-known place (suc k) (item ∷ next ∷ items) cut =
+known offset (suc k) (item ∷ next ∷ items) cut =
     let t = source-text item in
-    let rest : Known_all (next ∷ items) (place + length (text_of (source_at item item.kind))) (sources (limited k (next ∷ items))) =
-    subst (λ x. Known_all (next ∷ items) (place + length x) (sources (limited k (next ∷ items)))) (sym t)
-    (known (place + length item.text) k (next ∷ items) cut.2) in (
-      known-first place item (next ∷ items) cut,
+    let rest : Known_all (next ∷ items) (offset + length (text_of (source_at item item.kind))) (sources (limited k (next ∷ items))) =
+    subst (λ x. Known_all (next ∷ items) (offset + length x) (sources (limited k (next ∷ items)))) (sym t)
+    (known (offset + length item.text) k (next ∷ items) cut.2) in (
+      known-first offset item (next ∷ items) cut,
       known-behind item (next ∷ items) _ _
           (omega (arith, cut.0, ap length t, item-some item.kind item.text _ cut.1)) rest,
     )
@@ -149,7 +149,7 @@ known-parts items b [] more_sources known_all = (tt, subst (λ n. Known_all item
 known-parts items b (source ∷ these_sources) more_sources known_all = let r = known-parts items
     (b + length (text_of source)) these_sources more_sources known_all.1 in ((known_all.0, r.0), subst (λ n. Known_all items n more_sources) (omega arith) r.1)
 
--- what is said of the place and the text of each token that has a report
+-- what is said of the offset and the text of each token that has a report
 abbrev Said : List Report → (ℕ → Text → Type 0) → Type 0
 Said errors P = (message : Message) (lexeme : Lexeme) → is_end lexeme.kind ≡ false → Has errors (fault_report message lexeme) → P lexeme.index lexeme.text
 
@@ -160,7 +160,7 @@ module _ (items : List Item) where
   left-is (token lexeme) own b h = ap (λ (z : Bool). eqb (number own) ERROR && z) (h.2 is_significant_kind ∙ shown-kind lexeme.kind h.1)
   left-is (aside pending_token) own b h = and_right (eqb (number own) ERROR) _ h
 
-  -- the places in a node, and after it
+  -- the offsets in a node, and after it
   known-node : (b : ℕ) (kids : TreesWithSources) (these_sources : List Source) → Known_all items b (flat kids ++ these_sources)
       → Known_all items b (flat kids) × Known_all items (b + length (tree_texts (numbered (erase kids)))) these_sources
   known-node b kids these_sources known_all = rw (ap length (numbered-text (erase kids)) ∙ text-bytes kids)

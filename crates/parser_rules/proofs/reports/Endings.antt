@@ -12,11 +12,11 @@ no-end None text after is_item = refl
 no-end (Some token.Eof) text after is_item = absurd is_item.token
 no-end (Some _) text after is_item = refl
 
-pub ends-well : (max_items place : ℕ) (items : List Item) → CutFrom place items → EndsWell (limited max_items items)
-ends-well max_items place [] cut_from = absurd cut_from
-ends-well zero place (item ∷ []) cut_from = refl
-ends-well (suc k) place (item ∷ []) cut_from = subst (λ (i : Item). EndsWell (gives i ∷ limited k [])) (sym cut_from) (limited-end k)
-ends-well zero place (item ∷ next ∷ items) cut_from = refl
-ends-well (suc k) place (item ∷ next ∷ items) cut_from =
+pub ends-well : (max_items offset : ℕ) (items : List Item) → CutFrom offset items → EndsWell (limited max_items items)
+ends-well max_items offset [] cut_from = absurd cut_from
+ends-well zero offset (item ∷ []) cut_from = refl
+ends-well (suc k) offset (item ∷ []) cut_from = subst (λ (i : Item). EndsWell (gives i ∷ limited k [])) (sym cut_from) (limited-end k)
+ends-well zero offset (item ∷ next ∷ items) cut_from = refl
+ends-well (suc k) offset (item ∷ next ∷ items) cut_from =
     subst (λ (b : Bool). choose b (limited k (next ∷ items) ≡ []) (EndsWell (limited k (next ∷ items))))
-    (sym (no-end item.kind item.text (texts (next ∷ items)) cut_from.1)) (ends-well k (place + length item.text) (next ∷ items) cut_from.2)
+    (sym (no-end item.kind item.text (texts (next ∷ items)) cut_from.1)) (ends-well k (offset + length item.text) (next ∷ items) cut_from.2)

@@ -11,21 +11,21 @@ use Rattle.lexical_grammar.specs.declared.TokenKind.TheVariants as token
 use Rattle.lexical_grammar.specs.Cut.{Item, Cut, CutFrom, texts}
 use Rattle.lexical_grammar.specs.Answers.{Answer, gives, limit_at, limit_index_at, limited}
 use Rattle.lexical_grammar.proofs.Limited.{limited-end}
-use Rattle.lexical_grammar.proofs.Places.{item-some}
+use Rattle.lexical_grammar.proofs.Offsets.{item-some}
 use Rattle.parser_rules.specs.State.{Report}
 use Rattle.parser_rules.specs.Reports.{Reported, no_more, bad_text, token_limit, fault, recursion_limit, passed}
 
-abbrev place_of : Answer → ℕ
-place_of (gives item) = item.index
-place_of (limit_at index) = index
+abbrev offset_of : Answer → ℕ
+offset_of (gives item) = item.index
+offset_of (limit_at index) = index
 
 -- the numbers rise or stay, from this one on
 abbrev Rises : ℕ → List ℕ → Type 0
 Rises low [] = ⊤
 Rises low (n ∷ ns) = (low ≤ n) × Rises n ns
 
-abbrev places : List Answer → List ℕ
-places answers = map place_of answers
+abbrev offsets : List Answer → List ℕ
+offsets answers = map offset_of answers
 
 abbrev indices : List Report → List ℕ
 indices reports = map (λ (r : Report). r.index) reports
@@ -34,7 +34,7 @@ from-lower : (low high : ℕ) (ns : List ℕ) → low ≤ high → Rises high ns
 from-lower low high [] h rise = tt
 from-lower low high (n ∷ ns) h rise = let above = rise.0 in (omega (arith, above), rise.1)
 
-reports-rise : {taken : Bool} {answers : List Answer} {reports : List Report} (low : ℕ) → Reported taken answers reports → Rises low (places answers)
+reports-rise : {taken : Bool} {answers : List Answer} {reports : List Report} (low : ℕ) → Reported taken answers reports → Rises low (offsets answers)
     → Rises low (indices reports)
 reports-rise low no_more rise = tt
 reports-rise low (bad_text {item = item} e reported) rise = (rise.0, reports-rise item.index reported rise.1)
@@ -42,30 +42,30 @@ reports-rise low (token_limit {index = index} reported) rise = (rise.0, reports-
 reports-rise low (fault message {item = item} e i reported) rise = (rise.0, reports-rise item.index reported (omega arith, rise.1))
 reports-rise low (recursion_limit {item = item} e i reported) rise = (rise.0, reports-rise item.index reported (omega arith, rise.1))
 reports-rise low (passed {item = item} {answers = answers} e reported) rise =
-    reports-rise low reported (from-lower low item.index (places answers) rise.0 rise.1)
+    reports-rise low reported (from-lower low item.index (offsets answers) rise.0 rise.1)
 
 -- ---- the answers of a cut
 
--- the limit is reported at the item's place, or one byte before it
-pub limit-near : (found : Option TokenKind) (place : ℕ) → (place - 1 ≤ limit_index_at found place) × (limit_index_at found place ≤ place)
-limit-near None place = (omega arith, omega arith)
-limit-near (Some token.Eof) place = (omega arith, omega arith)
-limit-near (Some _) place = (omega arith, omega arith)
+-- the limit is reported at the item's offset, or one byte before it
+pub limit-near : (found : Option TokenKind) (offset : ℕ) → (offset - 1 ≤ limit_index_at found offset) × (limit_index_at found offset ≤ offset)
+limit-near None offset = (omega arith, omega arith)
+limit-near (Some token.Eof) offset = (omega arith, omega arith)
+limit-near (Some _) offset = (omega arith, omega arith)
 
-cut-rises : (max_items place low : ℕ) (items : List Item) → low ≤ place - 1 → CutFrom place items → Rises low (places (limited max_items items))
-cut-rises max_items place low [] h cut = absurd cut
-cut-rises zero place low (item ∷ []) h cut = subst (λ (i : Item). Rises low (places (limited zero (i ∷ [])))) (sym cut) (h, tt)
-cut-rises (suc k) place low (item ∷ []) h cut =
-    let at : item.index ≡ place = ap (λ (i : Item). i.index) cut in
-    (omega (arith, at), subst (λ answers. Rises item.index (places answers)) (sym (limited-end k)) tt)
-cut-rises zero place low (item ∷ next ∷ items) h cut =
+cut-rises : (max_items offset low : ℕ) (items : List Item) → low ≤ offset - 1 → CutFrom offset items → Rises low (offsets (limited max_items items))
+cut-rises max_items offset low [] h cut = absurd cut
+cut-rises zero offset low (item ∷ []) h cut = subst (λ (i : Item). Rises low (offsets (limited zero (i ∷ [])))) (sym cut) (h, tt)
+cut-rises (suc k) offset low (item ∷ []) h cut =
+    let at : item.index ≡ offset = ap (λ (i : Item). i.index) cut in
+    (omega (arith, at), subst (λ answers. Rises item.index (offsets answers)) (sym (limited-end k)) tt)
+cut-rises zero offset low (item ∷ next ∷ items) h cut =
     let at = cut.0 in
     let above = (limit-near item.kind item.index).0 in
     (omega (arith, at, above), tt)
-cut-rises (suc k) place low (item ∷ next ∷ items) h cut =
+cut-rises (suc k) offset low (item ∷ next ∷ items) h cut =
     let at = cut.0 in
     let some = item-some item.kind item.text (texts (next ∷ items)) cut.1 in
-    (omega (arith, at), cut-rises k (place + length item.text) item.index (next ∷ items) (omega (arith, at, some)) cut.2)
+    (omega (arith, at), cut-rises k (offset + length item.text) item.index (next ∷ items) (omega (arith, at, some)) cut.2)
 
 -- ---- as the standard library says it
 
@@ -93,7 +93,7 @@ pub in-order : {taken : Bool} {reports : List Report} (max_items : ℕ) (source 
 in-order {taken = taken} {reports = reports} max_items source items cut reported =
     in-order-front max_items source items reports [] cut (subst (Reported taken (limited max_items items)) (sym (append-nil reports)) reported)
 
--- reports up to a place
+-- reports up to an offset
 abbrev pub AllUpTo : ℕ → List Report → Type 0
 AllUpTo n = All (λ (e : Report). e.index ≤ n)
 

@@ -4,10 +4,10 @@ use Rattle.std.proofs.lemmas.Bool.{leb-false}
 use Rattle.lexical_grammar.specs.declared.TokenKind.{TokenKind}
 use Rattle.lexical_grammar.specs.Answers.{Answer}
 use Rattle.document_grammar.specs.declared.kind.SyntaxKind.{SyntaxKind}
-use Rattle.document_grammar.specs.Builds.{Building, nothing, start, add_leaf, built_count, IsPlace}
+use Rattle.document_grammar.specs.Builds.{Building, nothing, start, add_leaf, built_count, CanOpenAt}
 use Rattle.document_grammar.specs.Forests.{none as no_trees, Forest, join}
 use Rattle.document_grammar.specs.Forests as built
-use Rattle.document_grammar.proofs.Added.{Added, added-none, added-leaf, added-then, added-node, added-wrap, place-last, place-added}
+use Rattle.document_grammar.proofs.Added.{Added, added-none, added-leaf, added-then, added-node, added-wrap, can-open-last, can-open-added}
 use Rattle.parser_rules.specs.State.{State, Text, Lexeme, PendingToken, read_on, add_all, flush, opened, closed, wrapped_from, is_at, is_deep, enter, leave}
 use Rattle.parser_rules.specs.State.{too_deep, fresh, begun}
 use Rattle.parser_rules.specs.Open.{is_free, is_free_in, IsOpen, IsCheckpoint, IsInside, IsRoot}
@@ -239,19 +239,19 @@ pub still-inside : {rule : Rule} {state after : State} → Runs rule state after
 unfolding IsInside
 still-inside run is_inside = let k = (keeps run).depth in omega (arith, is_inside, k)
 
-pub open-wrapped : (kind : SyntaxKind) (place : ℕ) (state : State) {after : State} → is_free kind ≡ true → after ≡ wrapped_from place kind state
+pub open-wrapped : (kind : SyntaxKind) (index : ℕ) (state : State) {after : State} → is_free kind ≡ true → after ≡ wrapped_from index kind state
     → IsOpen after.tree
 unfolding wrapped_from IsOpen
-open-wrapped kind place state free e = subst (λ w. is_free_in w.tree.above ≡ true) (sym e) free
+open-wrapped kind index state free e = subst (λ w. is_free_in w.tree.above ≡ true) (sym e) free
 
--- the place after all that is built
-pub is-checkpoint : (state : State) (place : ℕ) → place ≡ built_count state.tree → IsCheckpoint place state.tree
+-- the index after all that is built
+pub is-checkpoint : (state : State) (index : ℕ) → index ≡ built_count state.tree → IsCheckpoint index state.tree
 unfolding IsCheckpoint
-is-checkpoint state place e = subst (λ n. IsPlace n state.tree) (sym e) (place-last state.tree)
+is-checkpoint state index e = subst (λ n. CanOpenAt n state.tree) (sym e) (can-open-last state.tree)
 
-pub still-checkpoint : (place : ℕ) {rule : Rule} {state after : State} → Runs rule state after → IsCheckpoint place state.tree → IsCheckpoint place after.tree
+pub still-checkpoint : (index : ℕ) {rule : Rule} {state after : State} → Runs rule state after → IsCheckpoint index state.tree → IsCheckpoint index after.tree
 unfolding IsCheckpoint
-still-checkpoint place run is_checkpoint = place-added place (adds run).trees is_checkpoint
+still-checkpoint index run is_checkpoint = can-open-added index (adds run).trees is_checkpoint
 
 -- a token that is there is still there in a node that was opened
 pub still-at : (this_kind : SyntaxKind) (kind : TokenKind) (state : State) {after : State} → true ≡ holds (At kind) state → after ≡ opened this_kind state

@@ -36,12 +36,12 @@ one-result same (refused d e) (refused d' e') = e ∙ ap too_deep same ∙ sym e
 one-result same (limited d e) (limited d' e') = e ∙ ap too_deep same ∙ sym e'
 one-result same (call run) (call third_run) = one-result same run third_run
 one-result same (plain e run n) (plain e' third_run n') = one-result (e ∙ ap flush same ∙ sym e') run third_run
-one-result same (plain e run n) (wrapped f place g k third_run y second_run) =
+one-result same (plain e run n) (wrapped f index g k third_run y second_run) =
     absurd (answered-once _ (sym (one-result (e ∙ ap flush same ∙ sym f) run third_run)) y n)
-one-result same (wrapped f place g k run y second_run) (plain e' third_run n') =
+one-result same (wrapped f index g k run y second_run) (plain e' third_run n') =
     absurd (answered-once _ (one-result (f ∙ ap flush same ∙ sym e') run third_run) y n')
-one-result same (wrapped {later = later} f p g k run y second_run) (wrapped {place = place'} f' p' g' k' third_run y' i') =
+one-result same (wrapped {later = later} f p g k run y second_run) (wrapped {index = index'} f' p' g' k' third_run y' i') =
     let begun = f ∙ ap flush same ∙ sym f' in
     let from = p ∙ ap (λ (t : State). built_count t.tree) begun ∙ sym p' in
-    let around = ap (λ at. wrapped_from at kind.NON_NULL_TYPE later) from ∙ ap (wrapped_from place' kind.NON_NULL_TYPE) (one-result begun run third_run) in
+    let around = ap (λ at. wrapped_from at kind.NON_NULL_TYPE later) from ∙ ap (wrapped_from index' kind.NON_NULL_TYPE) (one-result begun run third_run) in
     k ∙ ap closed (one-result (g ∙ around ∙ sym g') second_run i') ∙ sym k'

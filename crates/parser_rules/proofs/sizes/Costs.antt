@@ -40,9 +40,9 @@ finish-count building = on building.above
     on [] = refl
     on (o ∷ above) = count-close building.here o above
 
-wrap-count : (place : ℕ) (this_kind : SyntaxKind) (building : Building) → built_count (wrap place this_kind building) ≡ suc (built_count building)
-wrap-count place this_kind building =
-    let n : ℕ = place - open_count building.above in
+wrap-count : (index : ℕ) (this_kind : SyntaxKind) (building : Building) → built_count (wrap index this_kind building) ≡ suc (built_count building)
+wrap-count index this_kind building =
+    let n : ℕ = index - open_count building.above in
     let e = count-join (front n building.here) (back n building.here) in
     let f = ap built.count (join-front_back n building.here) in
     omega (arith, e, f)
@@ -127,10 +127,10 @@ module _ (rates : Rates) where
       let n = one-more rates.element (size (opened this_kind state)) (size state) (omega (arith, a)) in
       omega (arith, n)
 
-  pub wrapped-cost : (place : ℕ) (this_kind : SyntaxKind) (state : State) → outlay (wrapped_from place this_kind state) ≡ outlay state + rates.element
+  pub wrapped-cost : (index : ℕ) (this_kind : SyntaxKind) (state : State) → outlay (wrapped_from index this_kind state) ≡ outlay state + rates.element
   unfolding outlay wrapped_from
-  wrapped-cost place this_kind state = let w = wrap-count place this_kind state.tree in
-      let n = one-more rates.element (size (wrapped_from place this_kind state)) (size state) (omega (arith, w)) in omega (arith, n)
+  wrapped-cost index this_kind state = let w = wrap-count index this_kind state.tree in
+      let n = one-more rates.element (size (wrapped_from index this_kind state)) (size state) (omega (arith, w)) in omega (arith, n)
 
   pub levels-cost : (state : State) → (outlay (enter state) ≡ outlay state) × (outlay (leave state) ≡ outlay state)
   unfolding outlay enter leave

@@ -69,9 +69,9 @@ still-closed : (state : State) → Still state (closed state)
 unfolding is_deep closed
 still-closed state = record { current = refl; items = refl; deep = refl }
 
-still-wrapped : (place : ℕ) (this_kind : SyntaxKind) (state : State) → Still state (wrapped_from place this_kind state)
+still-wrapped : (index : ℕ) (this_kind : SyntaxKind) (state : State) → Still state (wrapped_from index this_kind state)
 unfolding is_deep wrapped_from
-still-wrapped place this_kind state = record { current = refl; items = refl; deep = refl }
+still-wrapped index this_kind state = record { current = refl; items = refl; deep = refl }
 
 still-flush : (state : State) → Still state (flush state)
 unfolding is_deep flush
@@ -402,12 +402,12 @@ module _ (rates : Rates) (fair : rates.element + rates.report ≤ rates.item) (c
   walked {state = state} (plain {later = later_state} e run z) n account rest all c held =
       let b = walked run n account (bang rest) all c (subst (Held account all) (sym e) (flushed account all state held)) in
       asks-no (At token.Bang) b.0 (λ c. spend rates.element c (λ e. take rates e rest)) rest all later_state z b.1 b.2
-  walked {state = state} (wrapped {place = place} {later = later_state} {end_state = end_state} e p q v run z second_run) n account rest all c held =
+  walked {state = state} (wrapped {index = index} {later = later_state} {end_state = end_state} e p q v run z second_run) n account rest all c held =
       let b = walked run n account (bang rest) all c (subst (Held account all) (sym e) (flushed account all state held)) in
       let m = asks-yes (At token.Bang) b.0 (λ c. spend rates.element c (λ e. take rates e rest)) rest all later_state z b.1 b.2 in
-      let g = wrapped-cost rates place kind.NON_NULL_TYPE later_state in
-      let r = spends rates.element m.0 (λ e. take rates e rest) all later_state (wrapped_from place kind.NON_NULL_TYPE later_state) m.1
-      (still-wrapped place kind.NON_NULL_TYPE later_state) (omega (arith, g)) m.2 in
+      let g = wrapped-cost rates index kind.NON_NULL_TYPE later_state in
+      let r = spends rates.element m.0 (λ e. take rates e rest) all later_state (wrapped_from index kind.NON_NULL_TYPE later_state) m.1
+      (still-wrapped index kind.NON_NULL_TYPE later_state) (omega (arith, g)) m.2 in
       subst (Comes rest all) (sym v) (after-closed rest all end_state (walked second_run n r.0 rest all r.1 (subst (Held r.0 all) (sym q) r.2)))
 
   -- ---- roots

@@ -25,7 +25,7 @@ use Rattle.parser_rules.proofs.reports.NoReport.{kind_tokens, item_tokens, end-k
 use Rattle.parser_rules.proofs.soundness.Settled as counted
 use Rattle.parser_rules.proofs.soundness.Soundness.{item-words}
 use Rattle.parser_rules.proofs.soundness.OverTexts.{IsRight, words-cons}
-use Rattle.parser_rules.proofs.soundness.FirstErrors.{place-is}
+use Rattle.parser_rules.proofs.soundness.FirstErrors.{offset-is}
 
 -- whether a leaf is ignored or not
 abbrev one_leaf : SyntaxKind → ℕ
@@ -48,9 +48,9 @@ at-most (Some k) text pending_token s is_leaf_of n = (elim (ignored k) as (λ o.
 words-length : (item : Item) (more : List Item) → length (tokens_of (item ∷ more)) ≡ length (item_tokens item.kind item.text) + length (tokens_of more)
 words-length item more = ap length (words-cons item more) ∙ length-append (item_tokens item.kind item.text) (tokens_of more)
 
--- the place of a token, which begins at the byte m and has fewer than n tokens before it
+-- the offset of a token, which begins at the byte m and has fewer than n tokens before it
 module _ (m n : ℕ) (item : Item) (more : List Item) (some : 0 < length item.text) (real : Significant (item ∷ []) ≢ []) where
-  -- after t tokens and b bytes: the place is passed, or the leaves are of the items up to the token, and so on
+  -- after t tokens and b bytes: the offset is passed, or the leaves are of the items up to the token, and so on
   abbrev Ahead : ℕ → ℕ → List PendingToken → Type 0
   Ahead t b ls = (m < b) ⊎ ((max_items : ℕ) × (before : List Item) × CutFrom b (before ++ item ∷ more) × (are_tokens before ≡ true)
       × (t + length (tokens_of before) < n) × (b + length (texts before) ≡ m) × OneLeafAnItem (limited max_items (before ++ item ∷ more)) ls)
@@ -116,7 +116,7 @@ ended-nodes {items = items} {max_items = max_items} {report = report} forest bac
     let there = index-at 0 a.before a.item a.more each in
     let own = index-at 0 is_right.before is_right.item is_right.more (subst (CutFrom 0) is_right.split cut.each) in
     let at = a.index in
-    let below : report.index ≤ is_right.item.index = elim (place-is is_right.reason) [
+    let below : report.index ≤ is_right.item.index = elim (offset-is is_right.reason) [
       | inl z ↦ (let y : report.index ≡ limit_index is_right.item = ap (λ (x : Report). x.index) z in
           let b = (limit-near is_right.item.kind is_right.item.index).1 in omega (arith, y, b))
       | inr z ↦ omega (arith, z)

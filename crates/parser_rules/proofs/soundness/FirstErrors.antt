@@ -60,19 +60,19 @@ terminals-some [] = omega arith
 terminals-some (this_token ∷ tokens) = omega arith
 
 -- something is shown after a token that is not the end
-more-shown : (place : ℕ) (lexeme : Lexeme) (more : List Item) → CutFrom place (item_of lexeme ∷ more) → is_end lexeme.kind ≡ false → 0 < length (shown more)
-more-shown place lexeme [] cut e = absurd (true≢false (sym (ap ends (ap (λ (i : Item). i.kind) cut)) ∙ e))
-more-shown place lexeme (next ∷ more) cut e = let m = ap length (cut-shown _ (next ∷ more) cut.2) in omega (arith, m, terminals-some (tokens_of (next ∷ more)))
+more-shown : (offset : ℕ) (lexeme : Lexeme) (more : List Item) → CutFrom offset (item_of lexeme ∷ more) → is_end lexeme.kind ≡ false → 0 < length (shown more)
+more-shown offset lexeme [] cut e = absurd (true≢false (sym (ap ends (ap (λ (i : Item). i.kind) cut)) ∙ e))
+more-shown offset lexeme (next ∷ more) cut e = let m = ap length (cut-shown _ (next ∷ more) cut.2) in omega (arith, m, terminals-some (tokens_of (next ∷ more)))
 
-answered : (max_items place : ℕ) (before : List Item) (lexeme : Lexeme) (more : List Item) → CutFrom place (before ++ item_of lexeme ∷ more)
+answered : (max_items offset : ℕ) (before : List Item) (lexeme : Lexeme) (more : List Item) → CutFrom offset (before ++ item_of lexeme ∷ more)
     → ignored lexeme.kind ≡ None
     → AreAmong max_items (before ++ item_of lexeme ∷ more) (shown before ++ take 2 (shown (item_of lexeme ∷ more))) → Answered max_items before more lexeme
-answered max_items place before lexeme more cut now (v, e) = elim (either (is_end lexeme.kind)) [
+answered max_items offset before lexeme more cut now (v, e) = elim (either (is_end lexeme.kind)) [
   | inl i ↦ inl i
   | inr i ↦ (
       let one = one-shown lexeme.kind lexeme.text now in
       let own = length-append (shown_kind lexeme.kind lexeme.text) (shown more) in
-      let next = more-shown _ lexeme more (cut-from place before (item_of lexeme) more cut) i in
+      let next = more-shown _ lexeme more (cut-from offset before (item_of lexeme) more cut) i in
       let two = length-take 2 (shown (item_of lexeme ∷ more)) in
       let all = ap length e ∙ length-append (shown before ++ take 2 (shown (item_of lexeme ∷ more))) v in
       let few : 0 < length (shown (take (max_items - suc (length before)) more)) = omega (
@@ -92,19 +92,19 @@ answered max_items place before lexeme more cut now (v, e) = elim (either (is_en
 -- ---- the clauses
 
 -- the token limit's report is another
-pub place-is : {sort : Sort} {items : List Item} {max_depth max_items : ℕ} {before : List Item} {item : Item} {more : List Item} {report : Report}
+pub offset-is : {sort : Sort} {items : List Item} {max_depth max_items : ℕ} {before : List Item} {item : Item} {more : List Item} {report : Report}
     → Reason sort items max_depth max_items before item more report → (report ≡ token_limit_report (limit_index item)) ⊎ (report.index ≡ item.index)
-place-is (fault said this_lexeme same now h) = inr (ap (λ (i : Item). i.index) same)
-place-is (too_deep this_lexeme same h) = inr (ap (λ (i : Item). i.index) same)
-place-is (bad_text h) = inr refl
-place-is too_many = inl refl
+offset-is (fault said this_lexeme same now h) = inr (ap (λ (i : Item). i.index) same)
+offset-is (too_deep this_lexeme same h) = inr (ap (λ (i : Item). i.index) same)
+offset-is (bad_text h) = inr refl
+offset-is too_many = inl refl
 
 module _ {sort : Sort} {source : List ℕ} {items : List Item} {max_depth max_items : ℕ} {report : Report} (cut : Cut source items)
     (is_right : IsRight sort source items max_depth max_items report) where
   each : CutFrom 0 (is_right.before ++ is_right.item ∷ is_right.more)
   each = subst (CutFrom 0) is_right.split cut.each
 
-  -- the place of a report of a token, the end or bad text
+  -- the offset of a report of a token, the end or bad text
   abbrev here : (n : ℕ) → is_right.item.index ≡ n → At items n
   here n h = record { before = is_right.before; item = is_right.item; more = is_right.more; split = is_right.split; index = h }
 
@@ -115,7 +115,7 @@ module _ {sort : Sort} {source : List ℕ} {items : List Item} {max_depth max_it
 
   -- No late fault.
   pub not-late : ((n : ℕ) → report ≢ token_limit_report n) → NotLate sort source report.index
-  not-late n = elim (place-is is_right.reason) [
+  not-late n = elim (offset-is is_right.reason) [
     | inl h ↦ absurd (n _ h)
     | inr h ↦ subst (Begins sort) (sym (ap (λ (n : ℕ). take n source) h ∙ text-before source is_right.before is_right.item is_right.more
         (subst (Cut source) is_right.split cut))) is_right.begins

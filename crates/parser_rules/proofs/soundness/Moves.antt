@@ -69,9 +69,9 @@ module _ (R : ParserInput) where
       let open_nodes_agree : OpenNodesAgree R symbol state _ fs st = state_fits.position.0 in
       let n = next-classes state_fits in (
         (
-          fault (top R) (start_begins R) w symbol state open_nodes_agree.children fs (rest st) open_nodes_agree.place.reach
+          fault (top R) (start_begins R) w symbol state open_nodes_agree.children fs (rest st) open_nodes_agree.machine.reach
               (sticks-move symbol state now (absent_as_end after) _ _ h n.near n.far),
-          (frame symbol state open_nodes_agree.children ∷ fs, open_nodes_agree.place.reach),
+          (frame symbol state open_nodes_agree.children ∷ fs, open_nodes_agree.machine.reach),
         ),
         agree-taken R open_nodes_agree,
       )
@@ -101,10 +101,13 @@ module _ (R : ParserInput) where
       on (go k) m = false-true (misses-fires (entries k) now (absent_as_end after) _ _
           (arcs-at (arcs symbol state) (λ k q'. misses k now (absent_as_end after)) k (and-l _ _ h) (move-has symbol state _ _ k m))
           (next-classes state_fits).near (next-classes state_fits).far) (move-fires symbol state _ _ k m)
-      on stuck m = (fault (top R) (start_begins R) w symbol state c.children fs (rest st) c.place.reach m, (frame symbol state c.children ∷ fs, c.place.reach))
+      on stuck m = (
+        fault (top R) (start_begins R) w symbol state c.children fs (rest st) c.machine.reach m,
+        (frame symbol state c.children ∷ fs, c.machine.reach),
+      )
       on close m = elim (or-c _ _ (and-r _ _ h)) [
         | inl e ↦ false-true (not-c _ e) (move-ends symbol state _ _ m)
-        | inr e ↦ root-stuck c.place (and-l _ _ e) m (λ z. false-true (holds-disjoint 0 now 1 (and-r _ _ e)
+        | inr e ↦ root-stuck c.machine (and-l _ _ e) m (λ z. false-true (holds-disjoint 0 now 1 (and-r _ _ e)
             (subst (λ (a : ℕ). within a now ≡ true) z (next-classes state_fits).near)) edges.end_one)
       ]
 
@@ -167,7 +170,7 @@ module _ (R : ParserInput) where
   too-many symbol (in_row state level OpenWhateverFollows) now after fs st h state_fits = false-true refl (and-l _ _ h)
   too-many symbol (in_row state level AtLimit) now after fs st h state_fits =
       let k = state_fits.position.1.0 in
-      let machine_is_at : MachineIsAt R symbol state level state_fits.position.0.children fs st = state_fits.position.0.place in
+      let machine_is_at : MachineIsAt R symbol state level state_fits.position.0.children fs st = state_fits.position.0.machine in
       record {
         before = k.before;
         split = k.split;
@@ -187,7 +190,7 @@ module _ (R : ParserInput) where
   -- What holds after a token has become a leaf of the open node; `shape` gives the builder's open nodes from the node's children.
   pub record LeafTaken (symbol state child after : ℕ) (level : Level) (forest : Forest) (fs : List Frame) (shape : Forest → Stack) (last : State) : Type 0 where
     pub first : Token
-    pub place : MachineIsAt R symbol (target symbol state child) level (forest +++ (leaf child first.1 ▸ none)) fs last
+    pub machine : MachineIsAt R symbol (target symbol state child) level (forest +++ (leaf child first.1 ▸ none)) fs last
     pub certain : Firm (top R) w (frame symbol (target symbol state child) (forest +++ (leaf child first.1 ▸ none)) ∷ fs) (rest last)
     pub no_report : NoReportYet R last
     pub seen : Seen after any last
@@ -238,7 +241,7 @@ module _ (R : ParserInput) where
             | inl o ↦ inl o
             | inr o ↦ inr (record {
               first = b;
-              place = record {
+              machine = record {
                 reach = rw o.1 there;
                 leveled = rw (still.depth, still.high, still.limit)
                     (leveled-leaf R k (target symbol state k) t.text leaf_next machine_is_at.leveled);
@@ -271,7 +274,7 @@ module _ (R : ParserInput) where
       let j : ℕ = leaf_of symbol (number kind) in
       let open_nodes_agree : OpenNodesAgree R symbol q level fs st = g.position.0 in
       elim (token-taken kind symbol q j now after level certainty open_nodes_agree.children fs st (λ f. lay symbol f (image fs)) (λ p'. then p' after any) h
-      (record { joins = λ f g. sym (lay-put symbol f g (image fs)); fits = λ q f r o. fitting R (frame symbol q f ∷ fs) r o }) open_nodes_agree.place
+      (record { joins = λ f g. sym (lay-put symbol f g (image fs)); fits = λ q f r o. fitting R (frame symbol q f ∷ fs) r o }) open_nodes_agree.machine
       open_nodes_agree.built g.no_report g.seen) [
         | inl o ↦ inl o
         | inr o ↦ inr (
@@ -285,7 +288,7 @@ module _ (R : ParserInput) where
             position = (
               record {
                 children = open_nodes_agree.children +++ (leaf j o.first.1 ▸ none);
-                place = o.place;
+                machine = o.machine;
                 built = o.built;
               },
               o.certain,
@@ -308,9 +311,9 @@ module _ (R : ParserInput) where
       moved-on R state_fits only_builds.reads_nothing (
         record {
           children = none;
-          place = record {
-            reach = rw (unread-rest only_builds.reads_nothing) (open' c.place.reach (machine-goes j state_fits m) i);
-            leveled = still-leveled R only_builds (leveled-begin R j h c.place.leveled);
+          machine = record {
+            reach = rw (unread-rest only_builds.reads_nothing) (open' c.machine.reach (machine-goes j state_fits m) i);
+            leveled = still-leveled R only_builds (leveled-begin R j h c.machine.leveled);
             alone = λ z. false-true ro z;
           };
           built = b c.built;
@@ -351,11 +354,11 @@ module _ (R : ParserInput) where
       let m : next j p (rest later) ≡ close = closes-move j p now any _ _ (and-r _ _ e) n (second-any (rest later)) in (
         record {
           children = open_nodes_agree.children +++ (node j forest ▸ none);
-          place = record {
+          machine = record {
             reach = rw (unread-rest only_builds.reads_nothing) (closes_node machine_is_at.reach m);
             leveled = still-leveled R only_builds (leveled-end R (target symbol state j + exit j p) h (eqb-true _ _ (and-l _ _ (and-l _ _ r)))
-                (eqb-true _ _ (and-r _ _ (and-l _ _ r))) open_nodes_agree.place.leveled machine_is_at.leveled);
-            alone = open_nodes_agree.place.alone;
+                (eqb-true _ _ (and-r _ _ (and-l _ _ r))) open_nodes_agree.machine.leveled machine_is_at.leveled);
+            alone = open_nodes_agree.machine.alone;
           };
           built = b ∙ put-image symbol state (target symbol state j + exit j p) open_nodes_agree.children (node j forest) fs;
         },
@@ -378,7 +381,7 @@ module _ (R : ParserInput) where
         after,
         and-r _ _ e,
         moved-on R state_fits only_builds.reads_nothing (ended open_nodes_agree certainty now h (and-l _ _ e)
-            (next-classes state_fits).near state_fits.position.1 state_fits.position.0.place only_builds b),
+            (next-classes state_fits).near state_fits.position.1 state_fits.position.0.machine only_builds b),
       )
 
   pub closed-built : {symbol state p : ℕ} {level : Level} {forest : Forest} {fs : List Frame} {last : State} (this_node : Node)
@@ -452,7 +455,7 @@ module _ (R : ParserInput) where
       leaves z n e v i = subst (λ (n : ℕ). StateFits R symbol (in_row (target symbol state (symbol_of this_node) + n) level OpenWhateverFollows) v any fs
           (closed later)) e
           (moved-on R (with-sets g i) (closed-builds later).reads_nothing (ended open_nodes_agree certainty x h z
-          (next-classes g).near g.position.1 g.position.0.place (closed-builds later) (closed-built this_node g.position.0)))
+          (next-classes g).near g.position.1 g.position.0.machine (closed-builds later) (closed-built this_node g.position.0)))
 
   pub inlined-outcome : {symbol state : ℕ} {level : Level} {fs : List Frame} {st : State} (this_node : Node) (then : Then) (later : State)
       (open_nodes_agree : OpenNodesAgree R symbol state level fs st) → levels_agree symbol level (symbol_of this_node) ≡ true

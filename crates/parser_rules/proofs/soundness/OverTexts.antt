@@ -62,7 +62,7 @@ sentence-answers sort max_depth max_items source items tree cut sentence within 
     let all : all_tokens (limited max_items items) ≡ true = all-given max_items items count tokens in
     (all, (sentence.derivation, sentence.yield ∙ (ap (λ (l : List Item). map token_of (Significant l)) same ∙ sym (given max_items items all).words)))
 
--- ---- the place of an answer in the text
+-- ---- the offset of an answer in the text
 
 -- the token is the end, or a significant token or the end follows it within the token limit
 abbrev pub Answered : ℕ → List Item → List Item → Lexeme → Type 0
@@ -265,13 +265,13 @@ module _ (sort : Sort) (max_depth max_items : ℕ) (source : List ℕ) (items : 
   abbrev Right_before : Report → ℕ → Type 0
   Right_before report m = (is_right : IsRight sort source items max_depth max_items report) × (m ≡ length (tokens_of is_right.before))
 
-  -- what holds at the place of an answer
-  at-place : IsUtf8 source → {answer : Answer} {ys : List Answer} (report : Report) (m : ℕ) (passed : Passed xs (answer ∷ ys))
+  -- what holds at the offset of an answer
+  at-offset : IsUtf8 source → {answer : Answer} {ys : List Answer} (report : Report) (m : ℕ) (passed : Passed xs (answer ∷ ys))
       → Viable sort xs max_depth (answers_tokens xs) (answers_tokens (answer ∷ ys))
       → TokensBefore sort xs max_depth (answers_tokens xs) m (answers_tokens (answer ∷ ys))
       → ((b : Before max_items items passed.front answer ys) → Reason sort items max_depth max_items b.before b.item b.more report) → Right_before report m
   unfolding xs
-  at-place u {answer = answer} {ys = ys} report m passed v tokens_before reason =
+  at-offset u {answer = answer} {ys = ys} report m passed v tokens_before reason =
       let b = before-at max_items items passed.front answer ys passed.split passed.tokens in
       let d : Cut source (b.before ++ b.item ∷ b.more) = subst (λ (l : List Item). Cut source l) b.split cut in
       let begins = viable-begins sort max_depth xs passed.front (answer ∷ ys) passed.split v in
@@ -304,21 +304,21 @@ module _ (sort : Sort) (max_depth max_items : ℕ) (source : List ℕ) (items : 
   right-before : IsUtf8 source → (report : Report) (m : ℕ) → RightReport sort xs max_depth (answers_tokens xs) report m → Right_before report m
   unfolding xs
   right-before u report m (stuck_here said {lexeme = this_lexeme} {items = ys} now held here tokens_before) =
-      at-place u (fault_report said this_lexeme) m held here.1 tokens_before
+      at-offset u (fault_report said this_lexeme) m held here.1 tokens_before
       (λ q. fault said this_lexeme (item-there this_lexeme q) now.0 (λ a z. not-starts sort (answers_tokens xs)
       (answers_tokens (given_by this_lexeme ∷ ys)) here.0
       (subst (λ (l : List Terminal). Starts sort l) (from-words here.0.before (tokens_of q.before) _ _
       (words-before xs held.front (given_by this_lexeme ∷ ys) here.0.before held.split here.0.split ∙ q.words) (two-at this_lexeme q now a))
       (sentence-starts sort _ z))))
   right-before u report m (deep_here {lexeme = this_lexeme} {items = ys} now held here tokens_before) =
-      at-place u (recursion_limit_report this_lexeme) m held here.comes tokens_before
+      at-offset u (recursion_limit_report this_lexeme) m held here.comes tokens_before
       (λ q. too_deep this_lexeme (item-there this_lexeme q) (λ z. not-within-one sort max_depth xs (answers_tokens xs)
       (answers_tokens (given_by this_lexeme ∷ ys)) here
       (subst (λ (l : List Terminal). StartsWithin sort max_depth l) (from-words here.before (tokens_of q.before) _ _
       (words-before xs held.front (given_by this_lexeme ∷ ys) here.before held.split here.split ∙ q.words) (one-at this_lexeme q now))
       (sentence-starts-within sort max_depth _ z))))
   right-before u report m (no_token {answer = answer} {items = ys} passed n viable tokens_before) =
-      let same = no-token-words answer ys n in at-place u (report_of answer) m passed (rw same viable) (rw same tokens_before)
+      let same = no-token-words answer ys n in at-offset u (report_of answer) m passed (rw same viable) (rw same tokens_before)
       (other-reason passed.front answer ys n)
 
   -- the first report is right, and the nodes that end before its last token fit, whatever waits at the end

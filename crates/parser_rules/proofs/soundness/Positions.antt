@@ -95,9 +95,9 @@ pub closed-builds : (st : State) → OnlyBuilds st (closed st)
 unfolding closed
 closed-builds st = rebuilt st st.pending _ (λ z. z) (λ m z. settled-finish m st.tree z)
 
-pub wrapped-builds : (place : ℕ) (kind : SyntaxKind) (st : State) → OnlyBuilds st (wrapped_from place kind st)
+pub wrapped-builds : (index : ℕ) (kind : SyntaxKind) (st : State) → OnlyBuilds st (wrapped_from index kind st)
 unfolding wrapped_from
-wrapped-builds place kind st = rebuilt st st.pending _ (λ z. z) (λ m z. settled-wrap m place kind st.tree z)
+wrapped-builds index kind st = rebuilt st st.pending _ (λ z. z) (λ m z. settled-wrap m index kind st.tree z)
 
 -- the depth and the greatest depth are all that changes
 pub renested : (st : State) (d h : ℕ) → ReadsNothing st (record st { depth = d; high = h })
@@ -165,7 +165,7 @@ module _ (R : ParserInput) where
   -- The machine's open nodes, and the builder has the same ones with the same children.
   pub record OpenNodesAgree (symbol state : ℕ) (level : Level) (fs : List Frame) (st : State) : Type 0 where
     pub children : Forest
-    pub place : MachineIsAt symbol state level children fs st
+    pub machine : MachineIsAt symbol state level children fs st
     pub built : stack st.tree ≡ image (frame symbol state children ∷ fs)
 
   -- So many tokens are taken, and the nodes that ended before the last of them fit their rows.
@@ -292,8 +292,8 @@ module _ (R : ParserInput) where
       let gs : List Frame = frame symbol state open_nodes_agree.children ∷ fs in
       record {
         count = length (spent gs);
-        before = spent-before gs (rest st) open_nodes_agree.place.reach;
-        settled = settled-at (length (spent gs)) st.tree (image gs) open_nodes_agree.built (fitting gs (rest st) open_nodes_agree.place.reach);
+        before = spent-before gs (rest st) open_nodes_agree.machine.reach;
+        settled = settled-at (length (spent gs)) st.tree (image gs) open_nodes_agree.built (fitting gs (rest st) open_nodes_agree.machine.reach);
       }
 
   pub taken-at : (symbol : ℕ) (position : Position) (fs : List Frame) (st : State) → PositionHolds symbol position fs st → TokensTaken (rest st) st.tree

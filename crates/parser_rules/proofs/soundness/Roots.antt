@@ -81,7 +81,7 @@ module _ (sort : Sort) (max_depth : ℕ) (xs : List Answer) where
     root-opened n m ys state untouched e = (
       record {
         children = none;
-        place = record {
+        machine = record {
           reach = subst (λ (z : List Token). Reach (top R) (answers_tokens xs) (frame (top R) 0 none ∷ []) z) (sym e) start;
           leveled = rw (untouched.depth, untouched.high, untouched.limit) root-level;
           alone = λ e. refl;

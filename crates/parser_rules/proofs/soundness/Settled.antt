@@ -150,9 +150,9 @@ settled-close m here (o ∷ above) settled =
 pub settled-finish : (m : ℕ) (building : Building) → Settled m building → Settled m (finish building)
 settled-finish m building settled = settled-close m building.here building.above settled
 
-pub settled-wrap : (m place : ℕ) (kind : SyntaxKind) (building : Building) → Settled m building → Settled m (wrap place kind building)
-settled-wrap m place kind building settled =
-    let n : ℕ = place - open_count building.above in
+pub settled-wrap : (m index : ℕ) (kind : SyntaxKind) (building : Building) → Settled m building → Settled m (wrap index kind building)
+settled-wrap m index kind building settled =
+    let n : ℕ = index - open_count building.above in
     let e : built.join (front n building.here) (back n building.here) ≡ building.here = join-front_back n building.here in
     let p = ended-parts m (open_tokens building.above) _ (front n building.here) (back n building.here) refl
     (subst (λ (f : built.Forest). EndedFit m (open_tokens building.above) f) (sym e) settled.1) in

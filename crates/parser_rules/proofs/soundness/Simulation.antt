@@ -270,7 +270,7 @@ module _ (R : ParserInput) where
   one-path : {state : ℕ} {level : Level} {fs : List Frame} {later : State} (open_nodes_agree : OpenNodesAgree R TYPE state level fs later) → eqb state 1 ≡ true
       → Path TYPE 0 open_nodes_agree.children 1
   one-path open_nodes_agree e = subst (λ (n : ℕ). Path TYPE 0 open_nodes_agree.children n) (eqb-true _ _ e)
-      (reach-sound (start-no-leaf (top R) (start_begins R)) open_nodes_agree.place.reach).1
+      (reach-sound (start-no-leaf (top R) (start_begins R)) open_nodes_agree.machine.reach).1
 
   -- no `!` follows: the machine ends its node, of which the builder has the child alone
   plain-type : (n symbol : ℕ) (position : Position) (now after : ℕ) (rule : Rule) (fs : List Frame) (then : Then) (st next_state later : State)
@@ -356,9 +356,9 @@ module _ (R : ParserInput) where
           subst (λ (z : State). RunOutcome R symbol fs then (closed z)) (sym j) (elim
           (token-taken R kind.BANG TYPE q' BANG x y other_level certainty f gs last shape (λ P. after_inlined TYPE p then P y any) (and-r _ _ t') shaped
           (record {
-            reach = rw (unread-rest al.reads_nothing) c.position.0.place.reach;
-            leveled = still-leveled R al c.position.0.place.leveled;
-            alone = c.position.0.place.alone;
+            reach = rw (unread-rest al.reads_nothing) c.position.0.machine.reach;
+            leveled = still-leveled R al c.position.0.machine.leveled;
+            alone = c.position.0.machine.alone;
           })
           built (unread-no-report R al.reads_nothing c.no_report) (unread-seen x y al.reads_nothing c.seen)) [
             | inl o ↦ inl (rightly-closed R (bump kind.BANG last) o)
@@ -377,7 +377,7 @@ module _ (R : ParserInput) where
                     no_report = unread-no-report R (closed-builds w'').reads_nothing o.no_report;
                     seen = unread-seen y any (closed-builds w'').reads_nothing o.seen;
                     position = ended R g.position.0 OpenWhateverFollows y (and-l _ _ (and-r _ _ (and-l _ _ h))) (and-l _ _ c')
-                        (sees-next y any w'' o.no_report.now o.seen).near o.certain o.place (closed-builds w'') done;
+                        (sees-next y any w'' o.no_report.now o.seen).near o.certain o.machine (closed-builds w'') done;
                   },
                 ))
           ])
@@ -411,18 +411,18 @@ module _ (R : ParserInput) where
       inner p x y = level_is_entered p and keeps_to_table n symbol (level_left p) x y other_rule then
 
       deeper_tree : (t : Tree) → Made R t → st.depth < nesting_all t
-      deeper_tree t p = goes-deeper R x t (rest st) w (and-r _ _ (and-l _ _ h)) position_holds.place (made-passes R (rest st) t p)
-          (next-classes R g).near position_holds.place.reach
+      deeper_tree t p = goes-deeper R x t (rest st) w (and-r _ _ (and-l _ _ h)) position_holds.machine (made-passes R (rest st) t p)
+          (next-classes R g).near position_holds.machine.reach
 
       within_it : PositionHolds R symbol (in_row q Entered (limit_forgotten certainty)) fs (enter st)
       within_it = (
         record {
           children = position_holds.children;
-          place = record {
-            reach = position_holds.place.reach;
+          machine = record {
+            reach = position_holds.machine.reach;
             leveled = leveled-enter R (eqb-true _ _ (and-l _ _ (and-r _ _ h)))
-                (leb-false st.limit st.depth (sym e)) deeper_tree position_holds.place.leveled;
-            alone = position_holds.place.alone;
+                (leb-false st.limit st.depth (sym e)) deeper_tree position_holds.machine.leveled;
+            alone = position_holds.machine.alone;
           };
           built = position_holds.built;
         },
@@ -434,10 +434,10 @@ module _ (R : ParserInput) where
       left_it q certainty position_holds = (
         record {
           children = position_holds.0.children;
-          place = record {
-            reach = position_holds.0.place.reach;
-            leveled = leveled-leave R position_holds.0.place.leveled;
-            alone = position_holds.0.place.alone;
+          machine = record {
+            reach = position_holds.0.machine.reach;
+            leveled = leveled-leave R position_holds.0.machine.leveled;
+            alone = position_holds.0.machine.alone;
           };
           built = position_holds.0.built;
         },

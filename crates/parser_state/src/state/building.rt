@@ -211,10 +211,10 @@ impl<'i, A: Allocator + Copy> ParserState<'i, A> {
         Ok(())
     }
 
-    /// The present place in the open node, after the pending tokens, for a later `wrap`.
+    /// A checkpoint in the open node, after the pending tokens, for a later `wrap`.
     pub fn checkpoint(&mut self) -> Result<Checkpoint, AllocError>
         ensures flushed { OnOk result (self.new ≡ state.flush self.old) }
-        ensures place { IfOk result (λ c. c.place ≡ built_count self.new.tree) }
+        ensures index { IfOk result (λ c. c.index ≡ built_count self.new.tree) }
         ensures budget { self.new.budget ≡ self.old.budget }
     {
         self.push_pending()?;
@@ -223,8 +223,8 @@ impl<'i, A: Allocator + Copy> ParserState<'i, A> {
 
     /// Opens a node around what was added to the open one since the checkpoint.
     pub fn wrap(&mut self, checkpoint: Checkpoint, kind: SyntaxKind) -> Result<(), AllocError>
-        requires { IsCheckpoint checkpoint.place self.old.tree }
-        ensures step { OnOk result (self.new ≡ state.wrapped_from checkpoint.place kind self.old) }
+        requires { IsCheckpoint checkpoint.index self.old.tree }
+        ensures step { OnOk result (self.new ≡ state.wrapped_from checkpoint.index kind self.old) }
         ensures budget { self.new.budget ≡ self.old.budget }
     {
         self.builder.wrap(checkpoint, kind)?;
@@ -232,25 +232,25 @@ impl<'i, A: Allocator + Copy> ParserState<'i, A> {
     }
 
     /// Opens the root around all that is built: a type of the kind, or where `!` comes next a NON_NULL_TYPE around the type, which begins at the
-    /// place, and the `!`.
+    /// checkpoint, and the `!`.
     #[tactic(auto, using(parser_rules::specs::Fragments::nullable, parser_rules::specs::Fragments::non_null))]
     pub fn close_type(
         &mut self,
         first: Checkpoint,
-        place: Checkpoint,
+        checkpoint: Checkpoint,
         kind: SyntaxKind,
     ) -> Result<(), AllocError>
-        requires first { first.place ≡ 0 }
+        requires first { first.index ≡ 0 }
         requires not_open { self.old.tree.above ≡ [] }
-        requires checkpoint { IsCheckpoint place.place self.old.tree }
+        requires checkpoint { IsCheckpoint checkpoint.index self.old.tree }
         requires free { is_free kind ≡ true }
-        ensures step { OnOk result (fragments.ClosesType place.place kind self.old self.new) }
+        ensures step { OnOk result (fragments.ClosesType checkpoint.index kind self.old self.new) }
         ensures budget { self.new.budget ≡ self.old.budget }
     {
         if !self.at(TokenKind::Bang) {
             return self.wrap(first, kind);
         }
-        self.wrap(place, kind)?;
+        self.wrap(checkpoint, kind)?;
         self.finish_node();
         self.bump(SyntaxKind::BANG)?;
         self.wrap(first, SyntaxKind::NON_NULL_TYPE)

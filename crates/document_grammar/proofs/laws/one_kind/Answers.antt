@@ -1,5 +1,5 @@
-use Rattle.document_grammar.proofs.KindNumbers.{number-same}
+use Rattle.document_grammar.proofs.KindNumbers.{one-kind}
 use Rattle.document_grammar.proofs.laws.one_kind.Goals as goal
 
 pub returns : goal.returns
-returns c = number-same
+returns c = one-kind

@@ -1,7 +1,7 @@
 use Rattle.std.proofs.Common.{arith, ◌∙◌, ◌<◌, sym, subst, length}
 use Rattle.dumyroke_flat.specs.Rows.{EndFits, error_rows}
 use Rattle.apollo_tree.proofs.Filling.{filled-as-far}
-use Rattle.dumyroke_flat.proofs.Messages.{length-error_rows, next-fits, next-place, next-row}
+use Rattle.dumyroke_flat.proofs.Messages.{length-error_rows, next-fits, next-offset, next-row}
 use Rattle.dumyroke_flat.proofs.errors.write_errors.Goals as goal
 
 pub row_of-requires : goal.row_of-requires
@@ -16,7 +16,7 @@ overflow_add-message g c =
       arith,
       c.requires.bytes,
       next-fits c.args.errors.now c.loop-index.index c.loop-index.message c.index-errors-index.result c.message.result.now
-          c.index-errors-index.is c.message.ensures c.loop-index.invariant.place here,
+          c.index-errors-index.is c.message.ensures c.loop-index.invariant.offset here,
     )
 
 pub loop-index-preserved : goal.loop-index-preserved
@@ -24,10 +24,10 @@ loop-index-preserved g c =
     let here : c.loop-index.index < length c.args.errors.now = omega arith in
     let room : c.loop-index.index < length c.args.rows.now = omega arith in
     record {
-      place = next-place c.args.errors.now c.loop-index.index c.loop-index.message c.index-errors-index.result c.message.result.now c.index-errors-index.is
-          c.message.ensures c.loop-index.invariant.place here;
+      offset = next-offset c.args.errors.now c.loop-index.index c.loop-index.message c.index-errors-index.result c.message.result.now c.index-errors-index.is
+          c.message.ensures c.loop-index.invariant.offset here;
       rows = next-row c.args.rows.now c.loop-index.rows c.args.errors.now c.loop-index.index c.loop-index.message c.index-errors-index.result c.row_of.result
-          c.loop-index.invariant.rows c.index-errors-index.is c.row_of.ensures c.loop-index.invariant.place room here;
+          c.loop-index.invariant.rows c.index-errors-index.is c.row_of.ensures c.loop-index.invariant.offset room here;
     }
 
 pub returns : goal.returns

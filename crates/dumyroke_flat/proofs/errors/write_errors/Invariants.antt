@@ -6,6 +6,6 @@ use Rattle.dumyroke_flat.proofs.errors.write_errors.Given as goal
 -- the errors that were passed have their rows
 abbrev pub invariant-loop-index : goal.invariant-loop-index
 invariant-loop-index g l = record {
-  place : l.message ≡ length (messages (take l.index l.errors));
+  offset : l.message ≡ length (messages (take l.index l.errors));
   rows : l.rows ≡ filled l.initial.rows (take l.index (error_rows 0 l.errors));
 }

@@ -6,6 +6,6 @@ use Rattle.dumyroke_flat.proofs.errors.write_messages.Given as goal
 -- the messages of the errors that were passed are written
 abbrev pub invariant-loop-error : goal.invariant-loop-error
 invariant-loop-error g l = record {
-  place : l.at ≡ length (messages (take l.error-index l.errors));
+  offset : l.at ≡ length (messages (take l.error-index l.errors));
   written : l.buffer ≡ filled l.initial.buffer (messages (take l.error-index l.errors));
 }

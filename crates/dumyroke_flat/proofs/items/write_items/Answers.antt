@@ -4,7 +4,7 @@ use Rattle.std.proofs.lemmas.List.{length-map}
 use Rattle.apollo_lexer.specs.Answers.{answer_of, answers_left}
 use Rattle.apollo_lexer.specs.LexErrors.{AreLexErrors}
 use Rattle.lexical_grammar.specs.Answers.{Answer}
-use Rattle.apollo_lexer.proofs.Law.{answers-few}
+use Rattle.apollo_lexer.proofs.Law.{answers-fit}
 use Rattle.apollo_lexer.proofs.Lexing.{lex-error-made}
 use Rattle.dumyroke_flat.specs.declared.rows.ItemRow.{ItemRow}
 use Rattle.dumyroke_flat.specs.Items.{item_row}
@@ -25,7 +25,7 @@ overflow_add-count g c =
       ap length p.split,
       length-append p.given (answers_left c.loop-item.item-iterator),
       ap length c.in-Some.ensures.steps.answers,
-      answers-few c.args.lexer,
+      answers-fit c.args.lexer,
     )
 
 pub loop-item-init : goal.loop-item-init

@@ -1,5 +1,5 @@
 use Rattle.editor_answers.specs.Parts.{HasNoLineEnd}
 use Rattle.editor_answers.proofs.coloring.line_end.Given as goal
 
-abbrev pub invariant-loop-place : goal.invariant-loop-place
-invariant-loop-place l = HasNoLineEnd l.source l.start l.place
+abbrev pub invariant-loop-offset : goal.invariant-loop-offset
+invariant-loop-offset l = HasNoLineEnd l.source l.start l.offset

@@ -8,7 +8,7 @@ pub end-requires : goal.end-requires
 end-requires c =
     let more : c.saturating_sub-more.result ≡ length c.args.errors.now - 100 = search rules in
     record {
-      members = publish_params c.args.uri.now c.args.version (diagnostics_of c.args.places.now.encoding c.args.places.now.text.now c.args.errors.now);
+      members = publish_params c.args.uri.now c.args.version (diagnostics_of c.args.positions.now.encoding c.args.positions.now.text.now c.args.errors.now);
       is = whole_params c.args.uri.now c.args.version _ _ _ _ _ _ _ _ c.first_errors-told.ensures more c.in_ok-push_front.ensures
           c.in_ok-push_errors.ensures c.in_ok-push_more.ensures;
     }

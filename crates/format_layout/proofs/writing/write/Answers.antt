@@ -1,6 +1,6 @@
 use Rattle.std.proofs.Common.{◌≡◌, ◌∷◌, ap, ◌∙◌, subst}
 use Rattle.apollo_lexer.specs.Answers.{answers_left, answer_of}
-use Rattle.apollo_lexer.proofs.Law.{answers-are}
+use Rattle.apollo_lexer.proofs.Law.{answers-are-items}
 use Rattle.lexical_grammar.specs.Answers.{usize_max, limited}
 use Rattle.lexical_grammar.specs.Reads.{items_of}
 use Rattle.format_layout.proofs.Reading.{writes-begin, writes-token, token-text}
@@ -16,7 +16,7 @@ pub write-requires : goal.write-requires
 write-requires g c =
     let given : answers_left c.loop-item.item-iterator ≡ answer_of c.in-Some.item ∷ answers_left c.next.new.self = c.in-Some.ensures.steps.answers in
     token-text _ _ _ _ _ (subst (λ item. answers_left c.loop-item.item-iterator ≡ answer_of item ∷ answers_left c.next.new.self) c.in-Ok.is given)
-    (answers-are c.loop-item.item-iterator)
+    (answers-are-items c.loop-item.item-iterator)
 
 pub loop-item-preserved-in_ok-write : goal.loop-item-preserved-in_ok-write
 loop-item-preserved-in_ok-write g c =

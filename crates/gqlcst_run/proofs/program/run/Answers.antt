@@ -2,14 +2,14 @@ use Rattle.std.proofs.Common.{refl}
 use Rattle.std.proofs.lemmas.Result.{err_from_is_err_and}
 use Rattle.gqlcst_run.specs.Program.{IsOutput}
 use Rattle.byte_devices.proofs.Ends.{cut, whole}
-use Rattle.gqlcst_run.proofs.Pages.{put-all}
+use Rattle.gqlcst_run.proofs.Buffers.{put-all}
 use Rattle.gqlcst_run.proofs.program.run.Goals as goal
 
 -- what the writer did where it failed or took no byte
 pub returns-in_err-finish : goal.returns-in_err-finish
 returns-in_err-finish g c =
     let put = c.in_ok-finding.ensures.ok in
-    let all = put-all _ _ _ _ _ c.new-page.ensures put.puts in
+    let all = put-all _ _ _ _ _ c.new-buffer.ensures put.puts in
     let k = cut (IsOutput c.args.mode c.args.limits) c.in_err-finish.field-0.0 c.in_ok-finding.finding c.in_ok-bytes.bytes.items c.as_slice.result.now
     c.in-Ok.source.now
     put.output put.output _ _ _ _ c.in_ok-bytes.ensures.ok c.as_slice.ensures.value c.in-Ok.ensures.cases put.made refl (c.in_err-finish.ensures _ _ all) in
@@ -20,7 +20,7 @@ returns-in_err-finish g c =
 pub returns : goal.returns
 returns g c =
     let put = c.in_ok-finding.ensures.ok in
-    let all = put-all _ _ _ _ _ c.new-page.ensures put.puts in (
+    let all = put-all _ _ _ _ _ c.new-buffer.ensures put.puts in (
       c.in_ok-bytes.bytes.items,
       c.in_ok-bytes.ensures.ok,
       whole (IsOutput c.args.mode c.args.limits) c.in_ok-finding.finding c.in_ok-bytes.bytes.items c.as_slice.result.now c.in-Ok.source.now put.output _ _

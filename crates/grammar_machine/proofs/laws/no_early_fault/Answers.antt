@@ -1,5 +1,5 @@
-use Rattle.grammar_machine.proofs.SentenceTheorems.{stuck-starts-none}
+use Rattle.grammar_machine.proofs.SentenceTheorems.{no-early-fault}
 use Rattle.grammar_machine.proofs.laws.no_early_fault.Goals as goal
 
 pub returns : goal.returns
-returns c = stuck-starts-none
+returns c = no-early-fault

@@ -26,7 +26,7 @@ inside_list_type-item_type-requires g t c =
     λ κs w. (omega (arith, h, k, c.decreases), w)
 
 pub ty-wrap-requires : goal.ty-wrap-requires
-ty-wrap-requires g t c = still-checkpoint _ c.in_ok-nullable_type.ensures.runs (is-checkpoint c.checkpoint.new.self _ c.in_ok-checkpoint.ensures.place)
+ty-wrap-requires g t c = still-checkpoint _ c.in_ok-nullable_type.ensures.runs (is-checkpoint c.checkpoint.new.self _ c.in_ok-checkpoint.ensures.index)
 
 pub ty-finish_node-requires : goal.ty-finish_node-requires
 ty-finish_node-requires g t c = still-open c.in_ok-bump.ensures.runs (open-wrapped kind.NON_NULL_TYPE _ _ refl c.in_ok-wrap.ensures.step)

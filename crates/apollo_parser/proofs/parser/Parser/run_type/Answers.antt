@@ -15,7 +15,7 @@ use Rattle.apollo_parser.proofs.PartRuns.{source-begins, open-root, kind-is, by-
 use Rattle.apollo_parser.proofs.parser.Parser.run_type.Goals as goal
 
 pub type_root-requires : goal.type_root-requires
-type_root-requires g c = record { first = c.in_ok-first.ensures.place; not_open = not-open _ _ _ c.start-p.ensures.unread c.in_ok-first.ensures.step }
+type_root-requires g c = record { first = c.in_ok-first.ensures.index; not_open = not-open _ _ _ c.start-p.ensures.unread c.in_ok-first.ensures.step }
 
 pub finish-requires : goal.finish-requires
 finish-requires g c =

@@ -1,20 +1,7 @@
-use Rattle.std.proofs.Common.{◌≡◌, length, ap, arith, None}
-use Rattle.apollo_tree.specs.Order.{Place, order}
-use Rattle.apollo_tree.specs.References.{table_tree}
-use Rattle.apollo_tree.specs.ReadBack.{length-records}
-use Rattle.apollo_tree.proofs.Places.{length-order}
+use Rattle.std.proofs.Common.{arith}
+use Rattle.apollo_tree.proofs.Nodes.{root-records}
 use Rattle.apollo_tree.proofs.subtree.Subtree.element.Goals as goal
 
 pub element-requires : goal.element-requires
 element-requires g c =
-    let t = c.root.result.table in
-    let same : length (order (table_tree t)) ≡ length (order c.args.self.now) = ap (λ (p : Place). length (order p.whole)) c.root.ensures.place in
-    omega (
-      arith,
-      c.if-index-element_count.true,
-      c.element_count.ensures,
-      same,
-      ap length t.is_table.table,
-      length-records 0 0 (table_tree t),
-      length-order 0 0 None (table_tree t),
-    )
+    omega (arith, c.if-index-element_count.true, c.element_count.ensures, root-records c.root.result c.args.self.now c.root.ensures.place)

@@ -1,5 +1,5 @@
 use Rattle.std.proofs.Common.{ap, length}
-use Rattle.gqlcst_run.proofs.Pages.{puts_then}
+use Rattle.gqlcst_run.proofs.Buffers.{puts_then}
 use Rattle.gqlcst_run.proofs.Forms.{error_pieces, error-form}
 use Rattle.gqlcst_run.proofs.rendering.errors.put_error.Goals as goal
 
@@ -13,6 +13,6 @@ returns g c =
           (length c.data-data.result.now) c.message.ensures quoted.made c.index-start.ensures
           (ap length c.data-data.ensures) c.shown.ensures;
       puts =
-          puts_then _ _ _ _ _ c.put_str.ensures (puts_then _ _ _ _ _ c.put_place.ensures (puts_then _ _ _ _ _ c.put_str-2.ensures
+          puts_then _ _ _ _ _ c.put_str.ensures (puts_then _ _ _ _ _ c.put_span.ensures (puts_then _ _ _ _ _ c.put_str-2.ensures
           (puts_then _ _ _ _ _ quoted.puts (puts_then _ _ _ _ _ c.put_str-3.ensures c.put_str-4.ensures))));
     }

@@ -1,7 +1,7 @@
 use Rattle.std.proofs.Common.{refl}
 use Rattle.gqlcst_run.specs.Rendering.{IsErrorForm}
 use Rattle.gqlcst_run.proofs.Lines.{lines-next}
-use Rattle.gqlcst_run.proofs.Pages.{puts_then}
+use Rattle.gqlcst_run.proofs.Buffers.{puts_then}
 use Rattle.gqlcst_run.proofs.rendering.errors.put_lines.Goals as goal
 
 pub loop-error-preserved : goal.loop-error-preserved

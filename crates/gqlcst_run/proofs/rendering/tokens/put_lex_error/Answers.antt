@@ -1,7 +1,7 @@
 use Rattle.std.proofs.Common.{◌++◌, ◌∙◌, length, ap, refl}
 use Rattle.apollo_parser.specs.Diagnostics.{Diagnostic}
 use Rattle.apollo_parser.specs.LexErrors.{lex_subject}
-use Rattle.gqlcst_run.proofs.Pages.{puts_then}
+use Rattle.gqlcst_run.proofs.Buffers.{puts_then}
 use Rattle.gqlcst_run.proofs.Forms.{error_pieces, error-form, lex-shown}
 use Rattle.gqlcst_run.proofs.Items.{error-form as answer-form}
 use Rattle.gqlcst_run.proofs.rendering.tokens.put_lex_error.Goals as goal

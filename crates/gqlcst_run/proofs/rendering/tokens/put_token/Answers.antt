@@ -1,7 +1,7 @@
 use Rattle.std.proofs.Common.{◌≡◌, ◌+◌, true, false, ◌++◌, ◌∙◌, codes, length}
 use Rattle.apollo_parser.specs.declared.TokenKind.TheVariants.{Eof}
-use Rattle.apollo_parser.specs.Printed.{place_text}
-use Rattle.gqlcst_run.proofs.Pages.{puts_then}
+use Rattle.apollo_parser.specs.Printed.{range_text}
+use Rattle.gqlcst_run.proofs.Buffers.{puts_then}
 use Rattle.gqlcst_run.proofs.Forms.{token-form}
 use Rattle.gqlcst_run.proofs.rendering.tokens.put_token.Goals as goal
 
@@ -13,7 +13,7 @@ returns g c =
     let quoted = c.put_quoted_after.ensures in
     let other : token.kind ≡ Eof → ⊥ = λ e. let is : false ≡ true = rw (c.kind.ensures ∙ e) at c.if-eq.ensures in (cc) in
     record {
-      output = place_text c.name.result.now start (start + length text) ++ (codes " " ++ quoted.made.form);
+      output = range_text c.name.result.now start (start + length text) ++ (codes " " ++ quoted.made.form);
       made = token-form token.kind token.text.now text c.name.result.now quoted.made.form token.index start other c.name.ensures c.data-text.ensures
           c.index.ensures quoted.made.stated_form;
       puts = puts_then _ _ _ _ _ c.put_head.ensures (rw quoted.made.joined at quoted.puts);

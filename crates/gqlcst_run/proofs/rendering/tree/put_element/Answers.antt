@@ -1,4 +1,4 @@
-use Rattle.gqlcst_run.proofs.Pages.{any_then, any_any}
+use Rattle.gqlcst_run.proofs.Buffers.{any_then, any_any}
 use Rattle.gqlcst_run.proofs.rendering.tree.put_element.Goals as goal
 
 pub returns : goal.returns

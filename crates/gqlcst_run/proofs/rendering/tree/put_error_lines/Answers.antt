@@ -1,4 +1,4 @@
-use Rattle.gqlcst_run.proofs.Pages.{any_then, any_some}
+use Rattle.gqlcst_run.proofs.Buffers.{any_then, any_some}
 use Rattle.gqlcst_run.proofs.rendering.tree.put_error_lines.Goals as goal
 
 pub loop-error-preserved : goal.loop-error-preserved

@@ -1,4 +1,4 @@
-use Rattle.gqlcst_run.proofs.Pages.{any_then}
+use Rattle.gqlcst_run.proofs.Buffers.{any_then}
 use Rattle.gqlcst_run.proofs.rendering.tree.put_indent.Goals as goal
 
 pub loop-left-preserved : goal.loop-left-preserved

@@ -1,4 +1,4 @@
-use Rattle.gqlcst_run.proofs.Pages.{puts_then}
+use Rattle.gqlcst_run.proofs.Buffers.{puts_then}
 use Rattle.gqlcst_run.proofs.rendering.tree.put_limit.Goals as goal
 
 pub returns : goal.returns

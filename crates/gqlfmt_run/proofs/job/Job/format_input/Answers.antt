@@ -9,11 +9,11 @@ use Rattle.gqlfmt_run.proofs.job.Job.format_input.Goals as goal
 pub returns-in_err-write_all-clause-output : goal.returns-in_err-write_all-clause-output
 returns-in_err-write_all-clause-output g c =
     let k =
-    cut (IsOutput c.args.self.now.mode c.args.self.now.limits) c.in_err-write_all.field-0.0 c.in_ok-outcome.outcome c.in_ok-bytes.bytes.items
+    cut (IsOutput c.args.self.now.mode c.args.self.now.limits) c.in_err-write_all.field-0.0 c.in_ok-settled.settled c.in_ok-bytes.bytes.items
     c.as_slice.result.now
     c.in-Ok.source.now
-    (string_bytes c.in_ok-outcome.output) c.as_bytes.result.now _ _ _ _ c.in_ok-bytes.ensures.ok c.as_slice.ensures.value c.in-Ok.ensures.cases
-    c.in_ok-outcome.ensures.output
+    (string_bytes c.in_ok-settled.output) c.as_bytes.result.now _ _ _ _ c.in_ok-bytes.ensures.ok c.as_slice.ensures.value c.in-Ok.ensures.cases
+    c.in_ok-settled.ensures.output
     c.as_bytes.ensures.value c.in_err-write_all.ensures.err in
     let p = err_from_is_err_and c.from_residual-in_err-write_all.result c.from_residual-in_err-write_all.ensures.1 in
     rw (p.1, p.2) (c.in_ok-bytes.bytes.items, k.0, k.1)
@@ -22,5 +22,5 @@ pub returns-in_err-write_all-clause-silent : goal.returns-in_err-write_all-claus
 returns-in_err-write_all-clause-silent g c =
     let p = err_from_is_err_and c.from_residual-in_err-write_all.result c.from_residual-in_err-write_all.ensures.1 in
     rw p.1 (silent-broken c.in_err-write_all.field-0.0
-    (string_bytes c.in_ok-outcome.output) c.as_bytes.result.now _ _ _ _ c.as_bytes.ensures.value c.in_err-write_all.ensures.err
-    c.in_ok-outcome.ensures.silent)
+    (string_bytes c.in_ok-settled.output) c.as_bytes.result.now _ _ _ _ c.as_bytes.ensures.value c.in_err-write_all.ensures.err
+    c.in_ok-settled.ensures.silent)

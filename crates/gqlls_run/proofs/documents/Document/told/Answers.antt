@@ -8,5 +8,5 @@ returns-clause-told c =
     record {
       parsed = c.args.self.now.tree;
       promise = c.requires;
-      published = same_publication _ _ _ _ _ _ _ _ _ c.in_ok-places.ensures.encoding c.in_ok-places.ensures.text errors c.in_ok-body.ensures.published;
+      published = same_publication _ _ _ _ _ _ _ _ _ c.in_ok-positions.ensures.encoding c.in_ok-positions.ensures.text errors c.in_ok-body.ensures.published;
     }

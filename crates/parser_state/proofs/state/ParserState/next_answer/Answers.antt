@@ -1,6 +1,6 @@
 use Rattle.std.proofs.Common.{rules, subst, arith, ◌<◌, ◌^◌}
 use Rattle.lexical_grammar.specs.Answers.{AreAnswers}
-use Rattle.apollo_lexer.proofs.Law.{answers-are}
+use Rattle.apollo_lexer.proofs.Law.{answers-are-items}
 use Rattle.parser_rules.specs.State.{State}
 use Rattle.parser_state.specs.Lengths.{length_of}
 use Rattle.parser_state.proofs.Lengths.{after-taken, taken-length}
@@ -15,7 +15,7 @@ returns-clause-taken g c = search rules
 
 pub returns-clause-text : goal.returns-clause-text
 returns-clause-text g c = taken-text _ _ _ (returns-clause-taken g c) (subst (λ (s : State). AreAnswers s.items) c.self.view_is
-    (answers-are c.self.inside.reader.lexer))
+    (answers-are-items c.self.inside.reader.lexer))
 
 pub returns-clause-len : goal.returns-clause-len
 returns-clause-len g c =

@@ -1,13 +1,13 @@
--- Pages, one call after the other.
+-- Buffers, one call after the other.
 use Rattle.std.proofs.Common.{◌≡◌, ℕ, ◌<◌, ◌⊎◌, Bool, true, false, inl, inr, List, [], ◌++◌, length, length-append, sym, ap, ◌∙◌, append_assoc, subst, arith}
 use Rattle.std.proofs.lemmas.List.{append-nil}
 use Rattle.byte_devices.specs.declared.fault.Fault.{Fault}
 use Rattle.byte_devices.specs.declared.fault.Fault.TheVariants.{Read, Utf8, Memory, Write}
-use Rattle.gqlcst_run.specs.declared.page.Page.{Page}
+use Rattle.gqlcst_run.specs.declared.output_buffer.OutputBuffer.{OutputBuffer}
 use Rattle.byte_devices.specs.Devices.{Account, moved, stopped, failed}
 use Rattle.byte_devices.specs.Writing.{IsTaken, IsBroken, EndsWriting}
 use Rattle.gqlcst_run.specs.Passing.{IsPassed}
-use Rattle.gqlcst_run.specs.Paging.{Paged, waiting, IsBlank, HasTaken, IsPut, Puts, PutsSome, PutsAny}
+use Rattle.gqlcst_run.specs.Buffering.{Buffered, waiting, IsEmpty, HasTaken, IsPut, Puts, PutsSome, PutsAny}
 use Rattle.byte_devices.proofs.Accounts.{moved_moved, taken_none, taken_all}
 
 -- where writing ends before the end, the bytes are broken off
@@ -18,29 +18,29 @@ ends_broken Utf8 bytes old new broken = absurd broken
 ends_broken Memory bytes old new broken = absurd broken
 
 -- nothing is put
-pub puts_nothing : (s : Paged) → Puts s [] s
+pub puts_nothing : (s : Buffered) → Puts s [] s
 puts_nothing s = record { after = λ bytes start is. subst (λ (bs : List ℕ). IsPut bs start s) (sym (append-nil bytes)) is }
 
 -- some bytes are put, and then some more
-pub puts_then : (s t u : Paged) (front more : List ℕ) → Puts s front t → Puts t more u → Puts s (front ++ more) u
+pub puts_then : (s t u : Buffered) (front more : List ℕ) → Puts s front t → Puts t more u → Puts s (front ++ more) u
 puts_then s t u front more p q = record {
   after = λ bytes start is. subst (λ (bs : List ℕ). IsPut bs start u) (append_assoc bytes front more) (q.after (bytes ++ front) start (p.after bytes start is));
 }
 
 -- some output is put, and then some more
-pub any_none : (s : Paged) → PutsAny s s
+pub any_none : (s : Buffered) → PutsAny s s
 any_none s = record { output = []; puts = puts_nothing s }
 
-pub any_of : (s t : Paged) (output : List ℕ) → Puts s output t → PutsAny s t
+pub any_of : (s t : Buffered) (output : List ℕ) → Puts s output t → PutsAny s t
 any_of s t output p = record { output = output; puts = p }
 
-pub any_then : (s t u : Paged) (more : List ℕ) → PutsAny s t → Puts t more u → PutsAny s u
+pub any_then : (s t u : Buffered) (more : List ℕ) → PutsAny s t → Puts t more u → PutsAny s u
 any_then s t u more p q = record { output = p.output ++ more; puts = puts_then s t u p.output more p.puts q }
 
-pub any_any : (s t u : Paged) → PutsAny s t → PutsAny t u → PutsAny s u
+pub any_any : (s t u : Buffered) → PutsAny s t → PutsAny t u → PutsAny s u
 any_any s t u p q = any_then s t u q.output p q.puts
 
-pub any_some : (IsOutput : List ℕ → Type 0) (s t u : Paged) → PutsAny s t → PutsSome IsOutput t u → PutsAny s u
+pub any_some : (IsOutput : List ℕ → Type 0) (s t u : Buffered) → PutsAny s t → PutsSome IsOutput t u → PutsAny s u
 any_some IsOutput s t u p q = any_then s t u q.output p q.puts
 
 some-more : (rest more : List ℕ) → 0 < length rest → 0 < length (rest ++ more)
@@ -105,38 +105,39 @@ passed false true bytes rest start old new h p = broken-rest bytes rest start ol
 passed false false bytes rest start old new h p = taken-rest bytes rest start old new h p
 
 -- bytes are put that there is room for
-pub filled : (old new : Page) (a : Account) (more : List ℕ) → waiting new ≡ waiting old ++ more → new.is_broken ≡ old.is_broken → Puts (old, a) more (new, a)
+pub filled : (old new : OutputBuffer) (a : Account) (more : List ℕ) → waiting new ≡ waiting old ++ more → new.is_broken ≡ old.is_broken
+    → Puts (old, a) more (new, a)
 filled old new a more waiting_is broken_is = record {
   after = λ bytes start is. rw (waiting_is, broken_is) (waits old.is_broken bytes (waiting old) more start a is);
 }
 
--- the page is turned
-pub turned : (old new : Page) (a b : Account) → IsPassed old.is_broken (waiting old) a new.is_broken b → waiting new ≡ [] → Puts (old, a) [] (new, b)
-turned old new a b p blank = record {
-  after = λ bytes start is. rw (append-nil bytes, blank) (passed old.is_broken new.is_broken bytes (waiting old) start a b is p);
+-- the buffer is written
+pub flushed : (old new : OutputBuffer) (a b : Account) → IsPassed old.is_broken (waiting old) a new.is_broken b → waiting new ≡ [] → Puts (old, a) [] (new, b)
+flushed old new a b p empty = record {
+  after = λ bytes start is. rw (append-nil bytes, empty) (passed old.is_broken new.is_broken bytes (waiting old) start a b is p);
 }
 
--- bytes are put that are larger than a page, when nothing waits
-pub put_through : (old new : Page) (a b : Account) (more : List ℕ) → waiting old ≡ [] → IsPassed old.is_broken more a new.is_broken b → waiting new ≡ []
+-- bytes are put that are larger than a buffer, when nothing waits
+pub put_through : (old new : OutputBuffer) (a b : Account) (more : List ℕ) → waiting old ≡ [] → IsPassed old.is_broken more a new.is_broken b → waiting new ≡ []
     → Puts (old, a) more (new, b)
-put_through old new a b more before p blank = record {
+put_through old new a b more before p empty = record {
   after = λ bytes start is.
       let all = waits old.is_broken bytes (waiting old) more start a is in
-      rw blank (passed old.is_broken new.is_broken (bytes ++ more) more start a b
+      rw empty (passed old.is_broken new.is_broken (bytes ++ more) more start a b
       (subst (λ (rest : List ℕ). HasTaken old.is_broken (bytes ++ more) (rest ++ more) start a) before all) p);
 }
 
--- what is put on a blank page is all that was put
-pub put-all : (blank page : Page) (a b : Account) (bytes : List ℕ) → IsBlank blank → Puts (blank, a) bytes (page, b) → IsPut bytes a (page, b)
-put-all blank page a b bytes is p = p.after [] a (rw (is.0, is.1) (taken_none [] a))
+-- what is put in an empty buffer is all that was put
+pub put-all : (empty buffer : OutputBuffer) (a b : Account) (bytes : List ℕ) → IsEmpty empty → Puts (empty, a) bytes (buffer, b) → IsPut bytes a (buffer, b)
+put-all empty buffer a b bytes is p = p.after [] a (rw (is.0, is.1) (taken_none [] a))
 
 -- nothing waits any more
-pub finished_ok : (s : Paged) (page : Page) (a : Account) → Puts s [] (page, a) → waiting page ≡ [] → page.is_broken ≡ false
+pub finished_ok : (s : Buffered) (buffer : OutputBuffer) (a : Account) → Puts s [] (buffer, a) → waiting buffer ≡ [] → buffer.is_broken ≡ false
     → (bytes : List ℕ) (start : Account) → IsPut bytes start s → a ≡ moved start bytes
-finished_ok s page a p blank unbroken bytes start is =
-    let done = rw (append-nil bytes, blank, unbroken) at (p.after bytes start is) in
+finished_ok s buffer a p empty unbroken bytes start is =
+    let done = rw (append-nil bytes, empty, unbroken) at (p.after bytes start is) in
     taken_all bytes start a done
 
-pub finished_err : (s : Paged) (page : Page) (a : Account) → Puts s [] (page, a) → page.is_broken ≡ true → (bytes : List ℕ) (start : Account)
+pub finished_err : (s : Buffered) (buffer : OutputBuffer) (a : Account) → Puts s [] (buffer, a) → buffer.is_broken ≡ true → (bytes : List ℕ) (start : Account)
     → IsPut bytes start s → EndsWriting Write bytes start a
-finished_err s page a p broken bytes start is = rw (append-nil bytes, broken) at (p.after bytes start is)
+finished_err s buffer a p broken bytes start is = rw (append-nil bytes, broken) at (p.after bytes start is)

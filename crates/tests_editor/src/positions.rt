@@ -9,7 +9,7 @@ const TEXT: &str = "a\n\u{e9}b\r\n\rx\u{1F600}y";
 const OFFSETS: [usize; 7] = [1, 2, 4, 6, 7, 13, 14];
 
 // The line of an offset, its columns in bytes, in characters and in units of UTF-16, and the text of the line.
-fn put_place(alloc: Global, found: &mut String, offset: usize) -> Result<(), AllocError> {
+fn put_position(alloc: Global, found: &mut String, offset: usize) -> Result<(), AllocError> {
     let index = LineIndex::new(alloc, TEXT)?;
     if offset > TEXT.len() {
         return Ok(());
@@ -22,7 +22,7 @@ fn put_place(alloc: Global, found: &mut String, offset: usize) -> Result<(), All
 
 pub fn put_answers(alloc: Global, found: &mut String) -> Result<(), AllocError> {
     for offset in OFFSETS {
-        put_place(alloc, found, offset)?;
+        put_position(alloc, found, offset)?;
     }
     let index = LineIndex::new(alloc, TEXT)?;
     put(found, &index.line_count(), " ")?;

@@ -1,10 +1,10 @@
-// Places of a text as the client counts them.
+// Positions in a text as the client counts them.
 ghost use Rattle.std.specs.Prelude.{◌≡◌, ◌+◌, ◌≤◌, IfOk, flat_map, length, min, take};
 ghost use Rattle.std.specs.Str.{IsCharBoundary};
 ghost use Rattle.json.specs.Tree.{json_tokens};
-ghost use Rattle.line_index.specs.Positions.{place_of, units};
+ghost use Rattle.line_index.specs.Positions.{offset_of, units};
 ghost use Rattle.rpc_messages.specs.Pieces.{tokens_of};
-ghost use Rattle.editor_diagnostics.specs.Places.{IsReadAt, cursor_at, position_of, range_value};
+ghost use Rattle.editor_diagnostics.specs.Positions.{IsReadAt, cursor_at, position_of, range_value};
 
 use line_index::{LineIndex, Position, PositionEncoding};
 use rpc_messages::Piece;
@@ -12,25 +12,25 @@ use std::alloc::{AllocError, Global};
 
 /// A text with its lines, and how its columns are counted.
 #[derive(Drop)]
-pub struct Places<'t> {
+pub struct Positions<'t> {
     pub text: &'t str,
     pub encoding: PositionEncoding,
     lines: LineIndex<'t>,
     ghost of_text: { lines ≡ text.now },
 }
 
-impl<'t> Places<'t> {
-    /// The places of a text. It fails only where memory is refused.
+impl<'t> Positions<'t> {
+    /// The positions in a text. It fails only where memory is refused.
     pub fn new(
         alloc: Global,
         text: &'t str,
         encoding: PositionEncoding,
-    ) -> Result<Places<'t>, AllocError>
-        ensures text { IfOk result (λ places. places.text.now ≡ text.now) }
-        ensures encoding { IfOk result (λ places. places.encoding ≡ encoding) }
+    ) -> Result<Positions<'t>, AllocError>
+        ensures text { IfOk result (λ positions. positions.text.now ≡ text.now) }
+        ensures encoding { IfOk result (λ positions. positions.encoding ≡ encoding) }
     {
         let lines = LineIndex::new(alloc, text)?;
-        Ok(Places {
+        Ok(Positions {
             text,
             encoding,
             lines,
@@ -54,7 +54,7 @@ impl<'t> Places<'t> {
         offset
     }
 
-    /// The position of a byte offset, by which a client finds the place of that byte. One after the text counts as its end, and one between the CR and
+    /// The position of a byte offset, by which a client finds that byte. One after the text counts as its end, and one between the CR and
     /// the LF of a CR LF, which no client can name, as in front of them.
     pub fn position(&self, offset: usize) -> Position
         ensures value { result ≡ position_of self.now.encoding self.now.text.now offset }
@@ -71,10 +71,10 @@ impl<'t> Places<'t> {
         start.saturating_add(count).min(self.text.len())
     }
 
-    /// The byte offset of a position, which is a boundary of characters: as many units are in front of it as in front of the place that the client means.
+    /// The byte offset of a position, which is a boundary of characters: as many units are in front of it as the client means.
     pub fn offset(&self, position: Position) -> usize
         ensures boundary { IsCharBoundary self.now.text.now result }
-        ensures place { length (units self.now.encoding (take result self.now.text.now)) ≡ place_of self.now.encoding (units self.now.encoding self.now.text.now) position }
+        ensures position { length (units self.now.encoding (take result self.now.text.now)) ≡ offset_of self.now.encoding (units self.now.encoding self.now.text.now) position }
     {
         self.lines.offset(self.encoding, position)
     }

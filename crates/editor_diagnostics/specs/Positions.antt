@@ -5,14 +5,14 @@ use Rattle.json.specs.Json.{Json, member, no_members, number, object}
 use Rattle.line_index.specs.declared.Position.{Position}
 use Rattle.line_index.specs.declared.PositionEncoding.{PositionEncoding}
 use Rattle.line_index.specs.Lines.{line_at, line_start}
-use Rattle.line_index.specs.Positions.{place_of, units, width}
+use Rattle.line_index.specs.Positions.{offset_of, units, width}
 
--- where a cursor may be: no client can name the place between the CR and the LF of a CR LF, and the line ends in front of them
+-- where a cursor may be: no client can name the offset between the CR and the LF of a CR LF, and the line ends in front of them
 abbrev pub cursor_at : List ℕ → ℕ → ℕ
 cursor_at text zero = zero
 cursor_at text (suc k) = if slice_index text k == 13 && slice_index text (suc k) == 10 then k else suc k
 
--- the position of a place
+-- the position of an offset
 abbrev pub position_in : PositionEncoding → List ℕ → ℕ → Position
 position_in encoding text offset = record { line = line_at text offset; column = width encoding (slice_range text (line_start text offset) offset) }
 
@@ -20,11 +20,11 @@ position_in encoding text offset = record { line = line_at text offset; column =
 abbrev pub position_of : PositionEncoding → List ℕ → ℕ → Position
 position_of encoding text offset = position_in encoding text (cursor_at text (min offset (length text)))
 
--- A client reads the position as the place of this byte offset: as many of its units are in front of both. The text is UTF-8, and a character begins at
+-- A client reads the position as this byte offset: as many of its units are in front of both. The text is UTF-8, and a character begins at
 -- the offset, or the text ends.
 abbrev pub IsReadAt : PositionEncoding → List ℕ → ℕ → Position → Type 0
 IsReadAt encoding text offset position =
-    IsUtf8 text → IsCharBoundary text offset → place_of encoding (units encoding text) position ≡ length (units encoding (take (cursor_at text offset) text))
+    IsUtf8 text → IsCharBoundary text offset → offset_of encoding (units encoding text) position ≡ length (units encoding (take (cursor_at text offset) text))
 
 -- `Position` and `Range` (Language Server Protocol 3.17)
 abbrev pub position_value : Position → Json

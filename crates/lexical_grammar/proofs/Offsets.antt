@@ -1,4 +1,4 @@
--- Tokens at the places of a text, and the items of a cut at theirs.
+-- Tokens at the offsets of a text, and the items of a cut at theirs.
 use Rattle.std.proofs.Common.{◌≡◌, ℕ, ◌+◌, ◌<◌, List, [], ◌∷◌, ◌++◌, length, take, drop, Option, Some, None, refl, sym, ap, ◌∙◌, subst, arith, length-append}
 use Rattle.std.proofs.Common.{length-drop, length-take-le}
 use Rattle.std.proofs.lemmas.List.{take-append-drop, take_at, drop_at, drop-drop}
@@ -9,16 +9,16 @@ use Rattle.lexical_grammar.proofs.Standing.{one_token}
 use Rattle.lexical_grammar.proofs.Cuts.{tok-some, texts-append, item-before}
 use Rattle.lexical_grammar.proofs.Agree.{bad-some}
 
--- the bytes from a place on, in two parts
-parts : (source : List ℕ) (place n : ℕ) → take n (drop place source) ++ drop (place + n) source ≡ drop place source
-parts source place n = ap (λ l. take n (drop place source) ++ l) (sym (drop-drop n place source)) ∙ take-append-drop n (drop place source)
+-- the bytes from an offset on, in two parts
+parts : (source : List ℕ) (offset n : ℕ) → take n (drop offset source) ++ drop (offset + n) source ≡ drop offset source
+parts source offset n = ap (λ l. take n (drop offset source) ++ l) (sym (drop-drop n offset source)) ∙ take-append-drop n (drop offset source)
 
-pub one-place : (source : List ℕ) (place m n : ℕ) (kind other : TokenKind) → TokenAt source place kind m → TokenAt source place other n
+pub at-most-one : (source : List ℕ) (offset m n : ℕ) (kind other : TokenKind) → TokenAt source offset kind m → TokenAt source offset other n
     → (kind ≡ other) × (m ≡ n)
-one-place source place m n kind other a b =
-    let same = one_token kind other _ _ _ _ a.stands b.stands (parts source place m ∙ sym (parts source place n)) in
-    let left = length-take-le m (drop place source) (omega (arith, a.within, length-drop place source)) in
-    let right = length-take-le n (drop place source) (omega (arith, b.within, length-drop place source)) in
+at-most-one source offset m n kind other a b =
+    let same = one_token kind other _ _ _ _ a.stands b.stands (parts source offset m ∙ sym (parts source offset n)) in
+    let left = length-take-le m (drop offset source) (omega (arith, a.within, length-drop offset source)) in
+    let right = length-take-le n (drop offset source) (omega (arith, b.within, length-drop offset source)) in
     (same.0, sym left ∙ ap (λ (l : List ℕ). length l) same.1 ∙ right)
 
 -- the text that comes after another
@@ -44,17 +44,17 @@ item-some None text after item = bad-some text after item.1
 item-some (Some kind) text after item = tok-some kind text item.token
 
 -- what a cut says of an item that isn't the last
-pub item-in : (place : ℕ) (before : List Item) (item next : Item) (more : List Item) → CutFrom place (before ++ item ∷ next ∷ more)
-    → (item.index ≡ place + length (texts before)) × IsItem item.kind item.text (texts (next ∷ more))
-item-in place [] item next more cut = (omega (arith, cut.0), cut.1)
-item-in place (first ∷ before) item next more cut =
-    let rest = item-before place first (before ++ item ∷ next ∷ more) cut (omega (arith, length-append before (item ∷ next ∷ more))) in
-    let there = item-in (place + length first.text) before item next more rest.2 in
+pub item-in : (offset : ℕ) (before : List Item) (item next : Item) (more : List Item) → CutFrom offset (before ++ item ∷ next ∷ more)
+    → (item.index ≡ offset + length (texts before)) × IsItem item.kind item.text (texts (next ∷ more))
+item-in offset [] item next more cut = (omega (arith, cut.0), cut.1)
+item-in offset (first ∷ before) item next more cut =
+    let rest = item-before offset first (before ++ item ∷ next ∷ more) cut (omega (arith, length-append before (item ∷ next ∷ more))) in
+    let there = item-in (offset + length first.text) before item next more rest.2 in
     (omega (arith, there.0, length-append first.text (texts before)), there.1)
 
-pub item-stands : (source : List ℕ) (before : List Item) (item next : Item) (more : List Item) → Cut source (before ++ item ∷ next ∷ more)
+pub items-stand : (source : List ℕ) (before : List Item) (item next : Item) (more : List Item) → Cut source (before ++ item ∷ next ∷ more)
     → StandsIn source (length (texts before)) item
-item-stands source before item next more cut =
+items-stand source before item next more cut =
     let here = item-in 0 before item next more cut.each in
     let after = texts (next ∷ more) in
     let joined : texts before ++ (item.text ++ after) ≡ source = sym (texts-append before (item ∷ next ∷ more)) ∙ cut.joined in

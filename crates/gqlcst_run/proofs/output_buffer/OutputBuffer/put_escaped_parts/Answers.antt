@@ -1,7 +1,7 @@
-use Rattle.gqlcst_run.proofs.Pages.{puts_then}
+use Rattle.gqlcst_run.proofs.Buffers.{puts_then}
 use Rattle.std.proofs.Common.{◌++◌}
 use Rattle.gqlcst_run.proofs.Quoting.{escaped-parts}
-use Rattle.gqlcst_run.proofs.page.Page.put_escaped_parts.Goals as goal
+use Rattle.gqlcst_run.proofs.output_buffer.OutputBuffer.put_escaped_parts.Goals as goal
 
 pub returns : goal.returns
 returns g c =

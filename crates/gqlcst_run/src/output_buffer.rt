@@ -1,16 +1,16 @@
-// A page: what is written is collected in it, so that the writer is called seldom, and writing needs no memory.
+// A buffer: what is written is collected in it, so that the writer is called seldom, and writing needs no memory.
 ghost use Rattle.std.specs.Prelude.{◌≡◌, ◌+◌, ◌≤◌, [], ◌++◌, length, take};
 ghost use Rattle.gqlcst_run.specs.Passing.{IsPassed};
 
 use byte_devices::{Fault, Sink, write_all};
 
-// How many bytes a page holds.
+// How many bytes a buffer holds.
 const SIZE: usize = 65536;
 
 /// Bytes that wait for a writer. It has a fixed size, and needs no memory of an allocator. When the writer fails or takes no byte, nothing
 /// goes to it any more, and `finish` says so.
 #[derive(Drop)]
-pub struct Page {
+pub struct OutputBuffer {
     bytes: [u8; 65536],
     filled: usize,
     is_broken: bool,
@@ -18,7 +18,7 @@ pub struct Page {
 }
 
 // Writes the bytes, unless the writer has failed before. Answers whether it has failed now.
-#[tactic(auto, using(crate::proofs::Pages::ends_broken))]
+#[tactic(auto, using(crate::proofs::Buffers::ends_broken))]
 fn pass<W: Sink>(writer: &mut W, is_broken: bool, bytes: &[u8]) -> bool
     ensures { IsPassed is_broken bytes.now (W.account writer.old) result (W.account writer.new) }
 {
@@ -31,26 +31,26 @@ fn pass<W: Sink>(writer: &mut W, is_broken: bool, bytes: &[u8]) -> bool
     }
 }
 
-// Writes a text into a page from a place on. Answers where it ends.
+// Writes a text into a buffer from an offset on. Answers where it ends.
 #[inline(always)]
-fn write_at(page: &mut [u8; 65536], start: usize, text: &[u8]) -> usize
+fn write_at(buffer: &mut [u8; 65536], start: usize, text: &[u8]) -> usize
     requires { start + length text.now ≤ 65536 }
     ensures end { result ≡ start + length text.now }
-    ensures written { take result page.new ≡ take start page.old ++ text.now }
+    ensures written { take result buffer.new ≡ take start buffer.old ++ text.now }
 {
     let end = start + text.len();
-    page[start..end].copy_from_slice(text);
+    buffer[start..end].copy_from_slice(text);
     end
 }
 
-impl Page {
-    ghost use Rattle.gqlcst_run.specs.Paging.{waiting, IsBlank, Puts, Finishes};
+impl OutputBuffer {
+    ghost use Rattle.gqlcst_run.specs.Buffering.{waiting, IsEmpty, Puts, Finishes};
 
-    /// A page with nothing on it.
-    pub fn new() -> Page
-        ensures { IsBlank result }
+    /// A buffer with nothing in it.
+    pub fn new() -> OutputBuffer
+        ensures { IsEmpty result }
     {
-        Page {
+        OutputBuffer {
             bytes: [0; 65536],
             filled: 0,
             is_broken: false,
@@ -67,23 +67,23 @@ impl Page {
         self.filled = write_at(&mut self.bytes, self.filled, bytes);
     }
 
-    // Writes what is on the page.
-    #[tactic(auto, using(crate::proofs::Pages::turned))]
-    fn turn<W: Sink>(&mut self, writer: &mut W)
+    // Writes what is in the buffer.
+    #[tactic(auto, using(crate::proofs::Buffers::flushed))]
+    fn flush<W: Sink>(&mut self, writer: &mut W)
         ensures puts { Puts (self.old, W.account writer.old) [] (self.new, W.account writer.new) }
-        ensures blank { self.new.filled ≡ 0 }
+        ensures empty { self.new.filled ≡ 0 }
     {
         self.is_broken = pass(writer, self.is_broken, &self.bytes[..self.filled]);
         self.filled = 0;
     }
 
-    // Puts bytes that the page has no room for.
+    // Puts bytes that the buffer has no room for.
     #[cold]
-    #[tactic(auto, using(crate::proofs::Pages::puts_then, crate::proofs::Pages::filled, crate::proofs::Pages::put_through))]
-    fn put_on_next<W: Sink>(&mut self, writer: &mut W, bytes: &[u8])
+    #[tactic(auto, using(crate::proofs::Buffers::puts_then, crate::proofs::Buffers::filled, crate::proofs::Buffers::put_through))]
+    fn put_without_room<W: Sink>(&mut self, writer: &mut W, bytes: &[u8])
         ensures { Puts (self.old, W.account writer.old) bytes.now (self.new, W.account writer.new) }
     {
-        self.turn(writer);
+        self.flush(writer);
         if bytes.len() <= SIZE {
             self.fill(bytes);
         } else {
@@ -93,14 +93,14 @@ impl Page {
 
     /// Puts bytes at the end.
     #[inline(always)]
-    #[tactic(auto, using(crate::proofs::Pages::filled))]
+    #[tactic(auto, using(crate::proofs::Buffers::filled))]
     pub fn put<W: Sink>(&mut self, writer: &mut W, bytes: &[u8])
         ensures { Puts (self.old, W.account writer.old) bytes.now (self.new, W.account writer.new) }
     {
         if bytes.len() <= SIZE - self.filled {
             self.fill(bytes);
         } else {
-            self.put_on_next(writer, bytes);
+            self.put_without_room(writer, bytes);
         }
     }
 
@@ -137,7 +137,7 @@ impl Page {
 
     /// Puts four texts, one after the other, with one look at the room for them.
     #[inline(always)]
-    #[tactic(auto, using(crate::proofs::Pages::filled))]
+    #[tactic(auto, using(crate::proofs::Buffers::filled))]
     pub fn put_four<W: Sink>(
         &mut self,
         writer: &mut W,
@@ -158,12 +158,12 @@ impl Page {
         }
     }
 
-    /// Writes what is left on the page. It fails when the writer has failed or took no byte, now or before.
-    #[tactic(auto, using(crate::proofs::Pages::finished_ok, crate::proofs::Pages::finished_err))]
+    /// Writes what is left in the buffer. It fails when the writer has failed or took no byte, now or before.
+    #[tactic(auto, using(crate::proofs::Buffers::finished_ok, crate::proofs::Buffers::finished_err))]
     pub fn finish<W: Sink>(&mut self, writer: &mut W) -> Result<(), Fault>
         ensures { Finishes result (self.old, W.account writer.old) (W.account writer.new) }
     {
-        self.turn(writer);
+        self.flush(writer);
         if self.is_broken {
             return Err(Fault::Write);
         }

@@ -2,15 +2,15 @@
 ghost use Rattle.std.specs.Prelude.{◌≡◌};
 ghost use Rattle.gqlfmt_run.specs.Status.{status_of};
 
-use gqlfmt_files::Outcome;
+use gqlfmt_files::Settled;
 
 /// The status that the program ends with for this text alone.
-pub fn status_of<E>(ended: &Result<Outcome, E>) -> u8
+pub fn status_of<E>(ended: &Result<Settled, E>) -> u8
     ensures { result ≡ status_of ended.now }
 {
     match ended {
-        Ok(Outcome::Done) => 0,
-        Ok(Outcome::Found) => 1,
+        Ok(Settled::Done) => 0,
+        Ok(Settled::Found) => 1,
         Err(_) => 2,
     }
 }
