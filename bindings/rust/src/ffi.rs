@@ -153,7 +153,13 @@ fn fill<T: Copy>(
     let _ = rows.try_reserve_exact(guess);
     let mut errors = [MaybeUninit::uninit(); FEW_ERRORS];
     let mut messages = [MaybeUninit::uninit(); FEW_BYTES];
-    check(call(rows.spare_capacity_mut(), &mut errors, &mut messages, &mut counts), text)?;
+    let mut status = call(rows.spare_capacity_mut(), &mut errors, &mut messages, &mut counts);
+    if status == NO_MEMORY {
+        // the guess may have taken what the library needs
+        rows = Vec::new();
+        status = call(&mut [], &mut errors, &mut messages, &mut counts);
+    }
+    check(status, text)?;
     if counts.elements <= rows.capacity() && counts.errors <= FEW_ERRORS && counts.message_bytes <= FEW_BYTES {
         // SAFETY: the call had the status OK and this room, which is enough for what it counts, so it wrote all of it
         let (rows, errors, messages) = unsafe { (filled(rows, counts.elements), copied(&errors, counts.errors), copied(&messages, counts.message_bytes)) };
