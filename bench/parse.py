@@ -1,19 +1,16 @@
 #!/usr/bin/env python3
-"""Measures lexer, parser, `gqlcst` and a walk over the typed tree, and the original beside them in the same run, if it is built (bench/original/README.md). Prints the
-tables of docs/SPEED.md: best and median, and how many times as fast as the original.
+"""Measures lexer, parser, `gqlcst` and a walk over the typed tree, parser and walk through the Rust crate too, and the original beside them in the same run, if it is
+built (bench/original/README.md). Prints the tables of docs/SPEED.md: best and median, and how many times as fast as the original.
 
 A run counts only on a processor at rest (calm.py). The number of those that did not count is printed."""
 
+import shutil
 import statistics
 import tempfile
 from pathlib import Path
 
 from calm import Processors
-from programs import HERE, Run, arguments, built, made_text
-
-# The original's programs: by cargo over the real rowan, or by bench/original/build.
-BUILT = [HERE / "original/target/release", HERE / "original/out"]
-ORIGINAL = next(filter(Path.is_dir, BUILT), None)
+from programs import ORIGINAL, Run, arguments, built, made_text, over_the_crate
 
 
 def rounds_of(processors, commands, path, count):
@@ -40,37 +37,53 @@ def steps(runs, step):
     return [int(micros) / 1000 for name, micros in lines if name == step]
 
 
-def table(processors, kind, path, count, has_original):
-    """The table of a text."""
-    print(f"\n| {path.stat().st_size / 1e6:.1f} MB of {kind} | Dumyroke |" + (" original | times |" if has_original else "") + "\n|---|---|" + "---|---|" * has_original)
-    ours, *theirs = rounds_of(processors, [[built("speed"), "parse"]] + [[f"{ORIGINAL}/measure"]] * has_original, path, count)
-    for name, step in [("the lexer's items", "lex"), ("parse in memory", "parse")]:
-        row(name, steps(ours, step), [each for runs in theirs for each in steps(runs, step)])
+def table(processors, kind, path, count, crate):
+    """The table of a text. `crate` has the programs over the Rust crate: to measure, to parse once, and to walk."""
+    print(f"\n| {path.stat().st_size / 1e6:.1f} MB of {kind} | Dumyroke |" + (" original | times |" if ORIGINAL else "") + "\n|---|---|" + "---|---|" * bool(ORIGINAL))
+    commands = [[built("speed"), "parse"], *([crate[0]] for _ in range(bool(crate))), *([ORIGINAL / "measure"] for _ in range(bool(ORIGINAL)))]
+    runs = rounds_of(processors, commands, path, count)
+    theirs = runs[-1] if ORIGINAL else []
+    row("the lexer's items", steps(runs[0], "lex"), steps(theirs, "lex"))
+    row("parse in memory", steps(runs[0], "parse"), steps(theirs, "parse"))
+    if crate:
+        row("parse through the Rust crate", steps(runs[1], "parse"), steps(theirs, "parse"))
     peaks = []
     for mode in ["check", "tokens", "tree"]:
-        ours, *theirs = rounds_of(processors, [[built("gqlcst"), mode]] + [[f"{ORIGINAL}/gqlcst", mode]] * has_original, path, count)
+        ours, *theirs = rounds_of(processors, [[built("gqlcst"), mode]] + [[ORIGINAL / "gqlcst", mode]] * bool(ORIGINAL), path, count)
         row(f"`gqlcst {mode}`", [1000 * run.seconds for run in ours], [1000 * run.seconds for runs in theirs for run in runs])
-        peaks.append(f"{mode} " + " and ".join(f"{max(run.memory for run in runs) / 1e6:.0f}" for runs in [ours, *theirs]))
+        peaks.append(f"{mode} " + peak([ours, *theirs]))
+    if crate:
+        peaks.append("a parse through the Rust crate " + peak(rounds_of(processors, [[crate[1], 1]] + [[ORIGINAL / "small", 1]] * bool(ORIGINAL), path, count)))
     print(f"\nPeak memory in MB: {', '.join(peaks)}")
 
 
-def walk(processors, path, count, has_original):
+def peak(programs):
+    """The greatest memory of each program's runs, in megabytes."""
+    return " and ".join(f"{max(run.memory for run in runs) / 1e6:.0f}" for runs in programs)
+
+
+def walk(processors, path, count, crate):
     """The megabytes a second of the walks, best and median."""
-    commands = [[built("speed"), "walk"]] + [[f"{ORIGINAL}/walk"]] * has_original
-    speeds = [[int(run.told.split()[0]) for run in runs] for runs in rounds_of(processors, commands, path, count)]
-    print("\nThe walk in MB/s: " + "; the original's ".join(f"{max(each)}, {statistics.median(each):.0f}" for each in speeds))
+    programs = {"Rattle": [built("speed"), "walk"]}
+    if crate:
+        programs["the Rust crate"] = [crate[2]]
+    if ORIGINAL:
+        programs["the original"] = [ORIGINAL / "walk"]
+    speeds = [[int(run.told.split()[0]) for run in runs] for runs in rounds_of(processors, programs.values(), path, count)]
+    print("\nThe walk in MB/s: " + "; ".join(f"{name} {max(each)}, {statistics.median(each):.0f}" for name, each in zip(programs, speeds)))
 
 
 def main():
     given = arguments(__doc__, rounds=15)
-    has_original, processors = ORIGINAL is not None, Processors()
-    if not has_original:
+    processors = Processors()
+    if not ORIGINAL:
         print("the original is not built (bench/original/README.md): it is left out")
     with tempfile.TemporaryDirectory() as name:
         folder = Path(name)
+        crate = over_the_crate(folder, "measure", "small", "walk") if shutil.which("cargo") else []
         for kind, text in [("queries", "queries"), ("type definitions", "schema")]:
-            table(processors, kind, made_text(folder / text, text), given.rounds, has_original)
-        walk(processors, made_text(folder / "orders", "orders"), given.rounds, has_original)
+            table(processors, kind, made_text(folder / text, text), given.rounds, crate)
+        walk(processors, made_text(folder / "orders", "orders"), given.rounds, crate)
     print(f"\n{processors.summary()}")
 
 

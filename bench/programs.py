@@ -10,6 +10,9 @@ from pathlib import Path
 HERE = Path(__file__).resolve().parent
 TOP = HERE.parent
 
+# The original's programs: by cargo over the real rowan, or by bench/original/build. None where they are not built.
+ORIGINAL = next(filter(Path.is_dir, [HERE / "original/target/release", HERE / "original/out"]), None)
+
 
 def built(name):
     """The program of this name that `rt ci` has proved and built."""
@@ -17,6 +20,27 @@ def built(name):
     if not program.exists():
         sys.exit(f"there is no program {program}: `./do gate`, or `rt ci {name}`, builds it")
     return program
+
+
+def over_the_crate(folder, *names):
+    """The original's programs of these names, built in the folder over the Rust crate of this repository, which has the same interface."""
+    programs = "".join(f"""
+[[bin]]
+name = "{name}"
+path = "{HERE / f"original/src/{name}.rs"}"
+""" for name in names)
+    (folder / "Cargo.toml").write_text(f"""[package]
+name = "over-the-crate"
+version = "0.0.0"
+edition = "2021"
+
+[dependencies]
+apollo-parser = {{ package = "dumyroke", path = "{TOP / "bindings/rust"}" }}
+{programs}
+[workspace]
+""")
+    subprocess.run(["cargo", "build", "--quiet", "--release", "--offline"], cwd=folder, check=True, env={**os.environ, "DUMYROKE_LIB_DIR": str(TOP / "build")})
+    return [folder / "target/release" / name for name in names]
 
 
 def arguments(about, **defaults):

@@ -1,7 +1,8 @@
 #!/usr/bin/env python3
-"""Measures queries as a gateway gets them, each parsed 100,000 times through C, the Rust crate and Python, as tools/bindings has built them, and beside them by the
-original, if it is built (bench/original/README.md), and by graphql-core and graphql-js, where they are installed. Prints microseconds a parse, best and median of
-`--rounds` runs in turn, which make `--parses` parses each. The slow ones make fewer: Python a tenth, graphql-core and graphql-js a fiftieth.
+"""Measures queries as a gateway gets them, each parsed 100,000 times by `speed`, as `rt ci` has built it, and through C, the Rust crate and Python, as tools/bindings
+has built them, and beside them by the original, if it is built (bench/original/README.md), and by graphql-core and graphql-js, where they are installed. Prints
+microseconds a parse, best and median of `--rounds` runs in turn, which make `--parses` parses each. The slow ones make fewer: Python a tenth, graphql-core and
+graphql-js a fiftieth.
 
 A run counts only on a processor at rest (calm.py). The number of those that did not count is printed."""
 
@@ -16,7 +17,7 @@ import time
 from pathlib import Path
 
 from calm import Processors
-from programs import HERE, TOP, arguments
+from programs import HERE, ORIGINAL, TOP, arguments, built, over_the_crate
 
 sys.path.insert(0, str(TOP / "bindings/python"))
 import dumyroke  # noqa: E402
@@ -79,38 +80,26 @@ def compiled(folder):
     return folder / "small"
 
 
-def built_by_cargo(folder):
-    """The original's program, over the Rust crate of this repository."""
-    (folder / "Cargo.toml").write_text(f"""[package]
-name = "small"
-version = "0.0.0"
-edition = "2021"
-
-[dependencies]
-apollo-parser = {{ package = "dumyroke", path = "{TOP / "bindings/rust"}" }}
-
-[[bin]]
-name = "small"
-path = "{HERE / "original/src/small.rs"}"
-
-[workspace]
-""")
-    subprocess.run(["cargo", "build", "--quiet", "--release", "--offline"], cwd=folder, check=True, env={**os.environ, "DUMYROKE_LIB_DIR": str(TOP / "build")})
-    return folder / "target/release/small"
-
-
 def by_program(*command):
     """How a program is run: the microseconds of a parse."""
     there = {**os.environ, "LD_LIBRARY_PATH": str(TOP / "build")}
 
     def run(text, parses):
         ended = subprocess.run([*command, str(parses)], input=text, stdout=subprocess.PIPE, check=True, text=True, env=there)
-        nanoseconds, errors = map(int, ended.stdout.split())
+        nanoseconds, errors = map(int, ended.stdout.split()[:2])
         if errors:
             sys.exit(f"{command[0]} finds errors")
         return nanoseconds / parses / 1000
 
     return run
+
+
+def by_speed(text, parses):
+    """The same for `speed`, which prints its time on standard error."""
+    ended = subprocess.run([built("speed"), str(parses)], input=text, capture_output=True, check=True, text=True)
+    if ended.stdout != "0 errors\n":
+        sys.exit("speed finds errors")
+    return int(ended.stderr) / parses / 1000
 
 
 def in_python(parse):
@@ -127,12 +116,11 @@ def in_python(parse):
 
 def ways(folder):
     """Who parses: how one run is made, and what divides its number of parses."""
-    found = {"C: `dumyroke_tree_parse`": (by_program(compiled(folder)), 1)}
+    found = {"Rattle: `Parser::parse`": (by_speed, 1), "C: `dumyroke_tree_parse`": (by_program(compiled(folder)), 1)}
     if shutil.which("cargo"):
-        found["Rust: `Parser::parse`"] = by_program(built_by_cargo(folder)), 1
-    original = next((path for path in [HERE / "original/target/release/small", HERE / "original/out/small"] if path.exists()), None)
-    if original:
-        found["apollo-parser 0.8.7"] = by_program(original), 1
+        found["Rust: `Parser::parse`"] = by_program(*over_the_crate(folder, "small")), 1
+    if ORIGINAL:
+        found["apollo-parser 0.8.7"] = by_program(ORIGINAL / "small"), 1
     found[f"Python {sys.version.split()[0]}: `parse`"] = in_python(dumyroke.parse), SLOWER["python"]
     try:
         import graphql

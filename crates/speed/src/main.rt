@@ -1,8 +1,10 @@
 //! Measures this project's library on the text of its standard input. Each word says what:
-//! `parse` goes over the text three times with the lexer and with the parser, and `walk` goes once over the typed tree.
+//! `parse` goes over the text three times with the lexer and with the parser, `walk` goes once over the typed tree, and a number is how often the
+//! text is parsed, for small texts.
 //!
 //! On standard output: how many bytes the tokens have and how many elements the tree; for the walk, the number of fields and of arguments,
-//! and the bytes of all values of strings. On standard error: the microseconds of each step, and the megabytes a second of the walk.
+//! and the bytes of all values of strings; for a number, the errors of one parse. On standard error: the microseconds of each step, the megabytes a
+//! second of the walk, and the nanoseconds of so many parses.
 #![tactic(auto)]
 
 mod parsing;
@@ -10,13 +12,16 @@ mod walking;
 
 use std::{env, io};
 
-const USAGE: &str = "usage: speed (parse | walk)..";
+const USAGE: &str = "usage: speed (parse | walk | NUMBER)..";
 
 fn measure(rt: &HostRuntime, word: &str, text: &str) -> io::Result<()> {
     match word {
         "parse" => parsing::lex_and_parse(rt, text),
         "walk" => walking::walk_text(rt, text),
-        _ => eprintln!(rt; "{USAGE}"),
+        _ => match word.parse::<u32>() {
+            Ok(parses) => parsing::parse_often(rt, text, parses),
+            Err(_) => eprintln!(rt; "{USAGE}"),
+        },
     }
 }
 

@@ -1,4 +1,4 @@
-// The lexer and the parser, each over the whole text some times.
+// The lexer and the parser, each over the whole text some times; and the parser alone, often.
 use apollo_parser::{Lexer, Parser};
 use std::io;
 use std::time::Instant;
@@ -41,4 +41,16 @@ pub fn lex_and_parse(rt: &HostRuntime, text: &str) -> io::Result<()> {
         parse(rt, text)?;
     }
     Ok(())
+}
+
+pub fn parse_often(rt: &HostRuntime, text: &str, parses: u32) -> io::Result<()> {
+    let started = Instant::now(rt)?;
+    let mut errors = 0;
+    for _ in 0..parses {
+        errors = Parser::new(text).parse(rt.alloc())?.errors().len();
+    }
+    let spent = started.elapsed(rt)?;
+    let nanos = spent.as_nanos();
+    eprintln!(rt; "{nanos}")?;
+    println!(rt; "{errors} errors")
 }
