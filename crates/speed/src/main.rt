@@ -4,7 +4,7 @@
 //!
 //! On standard output: how many bytes the tokens have and how many elements the tree; for the walk, the number of fields and of arguments,
 //! and the bytes of all values of strings; for a number, the errors of one parse. On standard error: the microseconds of each step, the megabytes a
-//! second of the walk, and the nanoseconds of so many parses.
+//! second of the walk, and the nanoseconds of that number of parses.
 #![tactic(auto)]
 
 mod parsing;
