@@ -44,7 +44,7 @@ class Trees(unittest.TestCase):
         self.assertEqual((len(tree), tree.text, tree.root.children, tree.root.parent, len(tree.errors)), (1, "", [], None, 1))
 
     def test_no_errors(self):
-        self.assertEqual(dumyroke.parse(SCHEMA).errors + dumyroke.parse(QUERY).errors, [])
+        self.assertEqual([*dumyroke.parse(SCHEMA).errors, *dumyroke.parse(QUERY).errors], [])
         self.assertEqual(dumyroke.check(QUERY.encode()), [])
 
     def test_relations(self):
@@ -169,6 +169,11 @@ class Nodes(unittest.TestCase):
         tree = dumyroke.parse('{ a(b: "\\u00e9\\n", c: """\n  x\n    y\n""", d: "") }')
         self.assertEqual([it.value for it in tree.find(nodes.StringValue)], ["é\n", "x\n  y", ""])
 
+    def test_digits(self):
+        """Python itself reads no longer number."""
+        (number,) = dumyroke.parse("{ a(b: %s) }" % ("1" * 4301)).find(nodes.IntValue)
+        self.assertRaises(ValueError, lambda: number.value)
+
     def test_missing_parts(self):
         (definition,) = dumyroke.parse("type { a }").find(nodes.ObjectTypeDefinition)
         self.assertEqual((definition.name, names(definition.fields), definition.fields[0].type), (None, ["a"], None))
@@ -204,8 +209,34 @@ class Errors(unittest.TestCase):
             self.assertRaises(TypeError, call, 5)
 
     def test_many(self):
-        self.assertEqual(len(dumyroke.check("!" * 5000)), len(dumyroke.parse("!" * 5000).errors))
+        self.assertEqual(dumyroke.check("!" * 5000), dumyroke.parse("!" * 5000).errors)
         self.assertGreater(len(dumyroke.check("!" * 5000)), 16)
+
+    def test_sequence(self):
+        """Errors are made when they are looked at, also after other calls have written to the shared buffers."""
+        for text in (HERO, "!" * 5000):
+            errors, again = dumyroke.check(text), dumyroke.check(text)
+            dumyroke.check("{ a(b) !")
+            self.assertEqual((list(errors), errors[0], errors[-1:], hash(errors[0])), (list(again), again[0], [again[-1]], hash(again[0])))
+            self.assertNotEqual(errors, dumyroke.check("{ a(b) !"))
+        self.assertEqual((dumyroke.check("{a}"), repr(dumyroke.check("{a}"))), ([], "[]"))
+
+    def test_words(self):
+        with self.assertRaises(dumyroke.NotADocument) as caught:
+            dumyroke.format("!" * 5000)
+        lines = str(caught.exception).splitlines()
+        self.assertEqual((len(lines), lines[-1]), (21, f"and {len(caught.exception.errors) - 20} more"))
+
+    def test_subclasses(self):
+        class Longer(bytes):
+            def __len__(self):
+                return 1 << 26
+
+        class Other(str):
+            def encode(self, *_):
+                return b"{"
+
+        self.assertEqual([dumyroke.parse(Longer(b"{a}")).text, dumyroke.parse(Other("{a}")).text], ["{a}", "{a}"])
 
 
 class Calls(unittest.TestCase):
@@ -254,9 +285,13 @@ class Calls(unittest.TestCase):
             Path(good).write_text("{a}")
             Path(bad).write_text("{a\n!")
             Path(binary).write_bytes(b"\xff")
+            Path(escapes := f"{folder}/escapes").write_text('{a "\033[31m\u202eé"}')
             self.assertEqual(checked("check", good), (0, ""))
             status, printed = checked("check", good, bad)
             self.assertEqual((status, printed.splitlines()[0].startswith(f"{bad}:2:1: ")), (1, True))
+            environment["PYTHONIOENCODING"] = "ascii"
+            status, printed = checked("check", escapes)
+            self.assertEqual((status, "\\x1b[31m\\u202e\\xe9" in printed, printed.isascii()), (1, True, True))
             self.assertEqual([checked("check", binary)[0], checked("check", f"{folder}/none")[0], checked("check")[0], checked()[0]], [2, 2, 2, 2])
 
     def test_documentation(self):

@@ -13,10 +13,10 @@
 
 from . import nodes
 from .calls import NotADocument, check, format, lex, parse, parse_selection_set, parse_type
-from .errors import Error
+from .errors import Error, Errors
 from .items import Item
 from .positions import Position
 from .tree import Element, Node, Token, Tree
 
-__all__ = ["Element", "Error", "Item", "Node", "NotADocument", "Position", "Token", "Tree", "check", "format", "lex", "nodes", "parse"]
+__all__ = ["Element", "Error", "Errors", "Item", "Node", "NotADocument", "Position", "Token", "Tree", "check", "format", "lex", "nodes", "parse"]
 __all__ += ["parse_selection_set", "parse_type"]

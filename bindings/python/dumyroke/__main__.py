@@ -2,8 +2,14 @@
 standard input. Ends with 0 if there are no errors, with 1 if there are, and with 2 if a file can't be read or is not UTF-8."""
 
 import sys
+import unicodedata
 
 from . import check
+
+
+def shown(text: str) -> str:
+    """A text whose control and format characters are escapes, so that a terminal obeys none of them."""
+    return "".join(c.encode("unicode_escape").decode() if unicodedata.category(c) in ("Cc", "Cf", "Cs") else c for c in text)
 
 
 def errors_in(name: str) -> int:
@@ -16,10 +22,10 @@ def errors_in(name: str) -> int:
                 text = file.read()
         errors = check(text)
     except (OSError, UnicodeDecodeError, ValueError) as fault:
-        print(f"{name}: {fault}", file=sys.stderr)
+        print(shown(f"{name}: {fault}"), file=sys.stderr)
         return 2
     for error in errors:
-        print(f"{name}:{error}")
+        print(shown(f"{name}:{error}"))
     return 1 if errors else 0
 
 
@@ -28,6 +34,7 @@ def main() -> None:
     if command != "check" or not files:
         print(__doc__, file=sys.stderr)
         sys.exit(2)
+    sys.stdout.reconfigure(errors="backslashreplace")  # type: ignore[union-attr]
     sys.exit(max(map(errors_in, files)))
 
 

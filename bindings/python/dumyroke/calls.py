@@ -9,7 +9,7 @@ import struct
 from typing import Any
 
 from . import library, nodes
-from .errors import Error
+from .errors import Error, Errors
 from .items import Item
 from .kinds import NAMES
 from .library import NO_LIMIT
@@ -19,11 +19,17 @@ from .tree import Node, Tree
 
 
 class NotADocument(ValueError):
-    """A text is not a document: it has errors."""
+    """A text is not a document: it has `errors`. Its words are the first twenty of them."""
 
-    def __init__(self, errors: list[Error]):
-        super().__init__("\n".join(map(str, errors)))
+    def __init__(self, errors: Errors):
+        words = [*map(str, errors[:_SAID_ERRORS])]
+        if len(errors) > _SAID_ERRORS:
+            words.append(f"and {len(errors) - _SAID_ERRORS} more")
+        super().__init__("\n".join(words))
         self.errors = errors
+
+
+_SAID_ERRORS = 20
 
 
 # The bytes of a spare buffer for rows, enough for a text of 87 kB, and room for errors that is enough for most texts.
@@ -80,14 +86,12 @@ class _Buffers:
         size = self.counts.elements * row_size
         return self.rows[:size] if self.row_bytes == _SPARE_BYTES else memoryview(self.rows)[:size]
 
-    def errors_of(self, source: bytes, positions: Positions) -> list[Error]:
-        """The errors that were written."""
-        found = []
-        for row in self.errors[: self.counts.errors]:
-            message = self.messages[row.message : row.message + row.message_length].decode()
-            data = source[row.start : row.end].decode()
-            found.append(Error(message, data, (row.start, row.end), bool(row.is_limit), bool(row.is_eof), positions))
-        return found
+    def errors_of(self, source: bytes, positions: Positions) -> Errors:
+        """The errors that were written, as a copy if other calls write to the buffer."""
+        rows: Any = self.errors
+        if self.error_room == _FEW_ERRORS:
+            rows = rows.__class__.from_buffer_copy(rows) if self.counts.errors else ()
+        return Errors(source, rows[: self.counts.errors], self.messages[: self.counts.message_bytes], positions)
 
 
 # The buffers that no call is using, each of `_SPARE_BYTES`: as many as threads that called at once.
@@ -113,8 +117,8 @@ def _filled(call: Any, source: bytes, limit: Limits | int, row_size: int) -> _Bu
     """Buffers with all that a call gives of a text, to be given back. With a row size of 0 rows are left out.
 
     The first call has room for a row for each byte and 64 more: none of the texts that the project is tried with has more. A text may have five for each
-    byte: then a second call has room for all."""
-    guess = min(len(source) + 64, 2**28) if len(source) < 2**31 else 0  # a longer text has no rows
+    token: then a second call has room for all."""
+    guess = min(len(source), 5 * (limit if isinstance(limit, int) else limit.tokens), 2**28) + 64 if len(source) < 2**31 else 0  # a longer text has no rows
     buffers = _taken(guess * row_size)
     while not buffers.fill(call, source, limit, row_size):
         small, counts = buffers, buffers.counts
@@ -134,7 +138,9 @@ def _limits(recursion_limit: int, token_limit: int | None) -> Limits:
 def _given(text: str | bytes, recursion_limit: int, token_limit: int | None) -> tuple[bytes, Limits]:
     if not isinstance(text, (str, bytes)):
         raise TypeError(f"a text is a str or bytes, and not {type(text).__name__}")
-    return text.encode() if isinstance(text, str) else text, _limits(recursion_limit, token_limit)
+    # of a subclass, which may say another length, the text itself
+    source = str.encode(text) if isinstance(text, str) else bytes.__getitem__(text, slice(None))
+    return source, _limits(recursion_limit, token_limit)
 
 
 def _parsed(call: Any, text: str | bytes, recursion_limit: int, token_limit: int | None) -> Tree[Any]:
@@ -185,7 +191,7 @@ def lex(text: str | bytes, token_limit: int | None = None) -> list[Item]:
     return found
 
 
-def check(text: str | bytes, recursion_limit: int = 500, token_limit: int | None = None) -> list[Error]:
+def check(text: str | bytes, recursion_limit: int = 500, token_limit: int | None = None) -> Errors:
     """The errors of a text. There are none exactly if it is a document within both limits. Limits and exceptions are those of `parse`."""
     source, limits = _given(text, recursion_limit, token_limit)
     buffers = _filled(library.parse, source, limits, 0)

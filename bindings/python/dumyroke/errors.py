@@ -2,7 +2,10 @@
 
 from __future__ import annotations
 
+from typing import Any, Sequence, overload
+
 from .positions import Placed, Positions
+from .rows import ErrorRow
 
 
 class Error(Placed):
@@ -44,3 +47,46 @@ class Error(Placed):
 
     def __repr__(self) -> str:
         return f"<Error {self.range[0]}..{self.range[1]} {self.message!r}>"
+
+    def _key(self) -> tuple[Any, ...]:
+        return self.message, self.data, self.range, self.is_limit, self.is_eof
+
+    def __eq__(self, other: object) -> bool:
+        return self._key() == other._key() if isinstance(other, Error) else NotImplemented
+
+    def __hash__(self) -> int:
+        return hash(self._key())
+
+
+class Errors(Sequence[Error]):
+    """The errors of a text, in the order in which they were found. Each is made when it is looked at: a text may have three for each of its bytes."""
+
+    __slots__ = ("_source", "_rows", "_messages", "_positions")
+
+    def __init__(self, source: bytes, rows: Sequence[ErrorRow], messages: bytes | bytearray, positions: Positions):
+        self._source, self._rows, self._messages, self._positions = source, rows, messages, positions
+
+    def __len__(self) -> int:
+        return len(self._rows)
+
+    @overload
+    def __getitem__(self, index: int) -> Error: ...
+    @overload
+    def __getitem__(self, index: slice) -> list[Error]: ...
+    def __getitem__(self, index: int | slice) -> Error | list[Error]:
+        if isinstance(index, slice):
+            return list(map(self._made, self._rows[index]))
+        return self._made(self._rows[index])
+
+    def _made(self, row: ErrorRow) -> Error:
+        message = self._messages[row.message : row.message + row.message_length].decode()
+        data = self._source[row.start : row.end].decode()
+        return Error(message, data, (row.start, row.end), bool(row.is_limit), bool(row.is_eof), self._positions)
+
+    def __eq__(self, other: object) -> bool:
+        return list(self) == list(other) if isinstance(other, (Errors, list)) else NotImplemented
+
+    __hash__ = None  # type: ignore[assignment]
+
+    def __repr__(self) -> str:
+        return repr(list(self))

@@ -9,7 +9,7 @@ from __future__ import annotations
 from array import array
 from typing import TYPE_CHECKING, Any, Generic, Iterator, TypeVar, overload
 
-from .errors import Error
+from .errors import Errors
 from .kinds import FIRST_NODE, NAMES, NUMBERS
 from .positions import Position, Positions
 from .rows import ELEMENT_SIZE, KIND_AT
@@ -219,14 +219,14 @@ class Tree(Generic[R]):
 
     __slots__ = ("errors", "recursion_high", "token_high", "_source", "_string", "_positions", "_starts", "_sizes", "_parents", "_kinds")
 
-    errors: list[Error]
+    errors: Errors
     """The errors of the text. There are none exactly if it is a document within both limits."""
     recursion_high: int
     """The deepest level of nesting that was tried, which is one above the limit where that was met."""
     token_high: int
     """How many tokens were counted, the end of the text among them: one above the limit where that was met."""
 
-    def __init__(self, source: bytes, elements: bytes | memoryview, errors: list[Error], recursion_high: int, token_high: int, positions: Positions):
+    def __init__(self, source: bytes, elements: bytes | memoryview, errors: Errors, recursion_high: int, token_high: int, positions: Positions):
         self.errors, self.recursion_high, self.token_high = errors, recursion_high, token_high
         self._source, self._positions = source, positions
         # where offsets of bytes are those of characters
