@@ -1,8 +1,9 @@
-//! Three small programs over the trees of `apollo_parser`, run one after the other on the document that standard input holds: its syntax
-//! errors, the variables that its operations never use, and the fields of its types.
+//! Four small programs over the trees of `apollo_parser`, run one after the other on the document that standard input holds: its syntax
+//! errors, the variables that its operations never use, the fields of its types, and the fields of their keys.
 #![tactic(auto)]
 
 mod fields;
+mod key_fields;
 mod syntax_errors;
 mod unused_variables;
 
@@ -18,5 +19,7 @@ fn main(rt: HostRuntime) -> io::Result<()> {
         println!(rt; "unused: ${name}")?;
     }
     let list = fields::list(rt.alloc(), tree.root())?;
-    print!(rt; "{list}")
+    print!(rt; "{list}")?;
+    let keys = key_fields::list(rt.alloc(), source.as_str(), tree.root())?;
+    print!(rt; "{keys}")
 }
