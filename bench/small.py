@@ -2,7 +2,7 @@
 """Measures queries as a gateway gets them, each parsed 100,000 times by `speed`, as `rt ci` has built it, and through C, the Rust crate and Python, as tools/bindings
 has built them, and beside them by the original, if it is built (bench/original/README.md), and by graphql-core and graphql-js, where they are installed. Prints
 microseconds a parse, best and median of `--rounds` runs in turn, which make `--parses` parses each. The slow ones make fewer: Python a tenth, graphql-core and
-graphql-js a fiftieth.
+graphql-js a fiftieth. The last lines are walks over the typed tree.
 
 A run counts only on a processor at rest (calm.py). The number of those that did not count is printed."""
 
@@ -86,7 +86,7 @@ def by_program(*command):
 
     def run(text, parses):
         ended = subprocess.run([*command, str(parses)], input=text, stdout=subprocess.PIPE, check=True, text=True, env=there)
-        nanoseconds, errors = map(int, ended.stdout.split()[:2])
+        nanoseconds, errors = map(int, ended.stdout.partition(":")[0].split())
         if errors:
             sys.exit(f"{command[0]} finds errors")
         return nanoseconds / parses / 1000
@@ -117,10 +117,13 @@ def in_python(parse):
 def ways(folder):
     """Who parses: how one run is made, and what divides its number of parses."""
     found = {"Rattle: `Parser::parse`": (by_speed, 1), "C: `dumyroke_tree_parse`": (by_program(compiled(folder)), 1)}
+    walks = {}
     if shutil.which("cargo"):
-        found["Rust: `Parser::parse`"] = by_program(*over_the_crate(folder, "small")), 1
+        parse, walk = over_the_crate(folder, "small", "walk")
+        found["Rust: `Parser::parse`"], walks["Rust: a walk"] = (by_program(parse), 1), (by_program(walk), 1)
     if ORIGINAL:
         found["apollo-parser 0.8.7"] = by_program(ORIGINAL / "small"), 1
+        walks["apollo-parser 0.8.7: a walk"] = by_program(ORIGINAL / "walk"), 1
     found[f"Python {sys.version.split()[0]}: `parse`"] = in_python(dumyroke.parse), SLOWER["python"]
     try:
         import graphql
@@ -133,7 +136,7 @@ def ways(folder):
         found["graphql-js: `parse`"] = by_program("node", HERE / "small.js"), SLOWER["graphql"]
     else:
         print("node or graphql-js is not installed here")
-    return found
+    return {**found, **walks}
 
 
 def main():

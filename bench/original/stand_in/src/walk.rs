@@ -2,6 +2,8 @@
 //! original's accessors do, which need `rowan`.
 use apollo_parser::{values, Parser, SyntaxKind};
 use rowan::{Element, GreenNode};
+use std::hint::black_box;
+use std::rc::Rc;
 use std::time::Instant;
 
 #[derive(Default)]
@@ -11,19 +13,29 @@ struct Walk {
     string_bytes: usize,
 }
 
-fn kind(tree: &GreenNode, node: u32) -> SyntaxKind {
-    SyntaxKind::from(tree.node(node).kind.0)
-}
+/// A node: a share of the tree, which is counted as `rowan` counts those of its nodes, and an index.
+#[derive(Clone)]
+struct Node(Rc<GreenNode>, u32);
 
-fn nodes(tree: &GreenNode, node: u32) -> impl Iterator<Item = u32> + '_ {
-    tree.children(node).iter().filter_map(|child| match child {
-        Element::Node(node) => Some(*node),
-        Element::Token(..) => None,
-    })
-}
+impl Node {
+    fn kind(&self) -> SyntaxKind {
+        SyntaxKind::from(self.0.node(self.1).kind.0)
+    }
 
-fn children(tree: &GreenNode, node: u32, wanted: SyntaxKind) -> impl Iterator<Item = u32> + '_ {
-    nodes(tree, node).filter(move |child| kind(tree, *child) == wanted)
+    fn nodes(&self) -> impl Iterator<Item = Node> + '_ {
+        self.0.children(self.1).iter().filter_map(|child| match child {
+            Element::Node(node) => Some(Node(Rc::clone(&self.0), *node)),
+            Element::Token(..) => None,
+        })
+    }
+
+    fn children(&self, wanted: SyntaxKind) -> impl Iterator<Item = Node> + '_ {
+        self.nodes().filter(move |child| child.kind() == wanted)
+    }
+
+    fn text(&self) -> &str {
+        self.0.text(self.0.node(self.1).range)
+    }
 }
 
 fn is_value(kind: SyntaxKind) -> bool {
@@ -43,37 +55,35 @@ fn string_length(text: &str) -> usize {
 }
 
 impl Walk {
-    fn selections(&mut self, tree: &GreenNode, node: u32) {
-        for set in children(tree, node, SyntaxKind::SELECTION_SET).take(1) {
-            for selection in nodes(tree, set) {
-                match kind(tree, selection) {
-                    SyntaxKind::FIELD => self.field(tree, selection),
-                    SyntaxKind::INLINE_FRAGMENT => self.selections(tree, selection),
+    fn selections(&mut self, node: &Node) {
+        for set in node.children(SyntaxKind::SELECTION_SET).take(1) {
+            for selection in set.nodes() {
+                match selection.kind() {
+                    SyntaxKind::FIELD => self.field(&selection),
+                    SyntaxKind::INLINE_FRAGMENT => self.selections(&selection),
                     _ => {}
                 }
             }
         }
     }
 
-    fn field(&mut self, tree: &GreenNode, field: u32) {
+    fn field(&mut self, field: &Node) {
         self.fields += 1;
-        for list in children(tree, field, SyntaxKind::ARGUMENTS).take(1) {
-            for argument in children(tree, list, SyntaxKind::ARGUMENT) {
+        for list in field.children(SyntaxKind::ARGUMENTS).take(1) {
+            for argument in list.children(SyntaxKind::ARGUMENT) {
                 self.arguments += 1;
-                self.values(tree, argument, 1);
+                self.values(&argument, 1);
             }
         }
-        self.selections(tree, field);
+        self.selections(field);
     }
 
-    fn values(&mut self, tree: &GreenNode, node: u32, most: usize) {
-        for value in nodes(tree, node).filter(|child| is_value(kind(tree, *child))).take(most) {
-            match kind(tree, value) {
-                SyntaxKind::STRING_VALUE => self.string_bytes += string_length(tree.text(tree.node(value).range)),
-                SyntaxKind::LIST_VALUE => self.values(tree, value, usize::MAX),
-                SyntaxKind::OBJECT_VALUE => {
-                    children(tree, value, SyntaxKind::OBJECT_FIELD).for_each(|field| self.values(tree, field, 1))
-                }
+    fn values(&mut self, node: &Node, most: usize) {
+        for value in node.nodes().filter(|child| is_value(child.kind())).take(most) {
+            match value.kind() {
+                SyntaxKind::STRING_VALUE => self.string_bytes += string_length(value.text()),
+                SyntaxKind::LIST_VALUE => self.values(&value, usize::MAX),
+                SyntaxKind::OBJECT_VALUE => value.children(SyntaxKind::OBJECT_FIELD).for_each(|field| self.values(&field, 1)),
                 _ => {}
             }
         }
@@ -82,14 +92,17 @@ impl Walk {
 
 fn main() {
     let text = std::io::read_to_string(std::io::stdin()).expect("a text");
-    let tree = Parser::new(&text).parse().tree;
+    let walks: u64 = std::env::args().nth(1).map_or(1, |word| word.parse().expect("a number of walks"));
+    let root = Node(Rc::new(Parser::new(&text).parse().tree), 0);
+    let root = Node(Rc::clone(&root.0), root.0.root());
     let started = Instant::now();
     let mut walk = Walk::default();
-    for definition in nodes(&tree, tree.root()) {
-        walk.selections(&tree, definition);
+    for _ in 0..walks {
+        walk = Walk::default();
+        black_box(&root).nodes().for_each(|definition| walk.selections(&definition));
     }
-    let speed = text.len() as u128 / started.elapsed().as_micros().max(1);
+    let nanoseconds = started.elapsed().as_nanos();
     let Walk { fields, arguments, string_bytes } = walk;
-    eprintln!("{speed} MB/s");
-    println!("{fields} fields, {arguments} arguments, {string_bytes} bytes of strings");
+    eprintln!("{} MB/s", 1000 * u128::from(walks) * text.len() as u128 / nanoseconds.max(1));
+    println!("{nanoseconds} 0: {fields} fields, {arguments} arguments, {string_bytes} bytes of strings");
 }
