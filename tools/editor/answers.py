@@ -4,19 +4,19 @@ OPTIONS = {"tabSize": 2, "insertSpaces": True}
 
 
 class View:
-    """A document that a client has open, its text, and a place in it."""
+    """A document that a client has open, its text, and an offset in it."""
 
-    def __init__(self, client, uri, text, place):
+    def __init__(self, client, uri, text, offset):
         self.client = client
         self.uri = uri
         self.text = text
-        self.place = place
+        self.offset = offset
 
     def ask(self, feature, **params):
         return self.client.ask_about(self.uri, feature, **params)
 
     def position(self):
-        return self.text.position(self.place)
+        return self.text.position(self.offset)
 
 
 def nested(symbols):
@@ -40,10 +40,10 @@ def folds(view):
 
 
 def selections(view):
-    """There is one for each place. It holds the place, and each part lies in its parent."""
+    """There is one for each offset. It holds the offset, and each part lies in its parent."""
     found = view.ask("selectionRange", positions=[view.position(), view.text.position(0)])
     part = view.text.part(found[0]["range"])
-    if len(found) != 2 or not part or not part[0] <= view.place <= part[1]:
+    if len(found) != 2 or not part or not part[0] <= view.offset <= part[1]:
         return False
     outer = found[0].get("parent")
     while outer:
@@ -68,32 +68,32 @@ def parts_of_tokens(text, data):
 
 def tokens(view):
     """Those of a part of the text are those of the whole text that lie in it, and maybe more of the whole."""
-    end = view.text.boundary(min(len(view.text.text), view.place + 20))
+    end = view.text.boundary(min(len(view.text.text), view.offset + 20))
     whole = parts_of_tokens(view.text, view.ask("semanticTokens/full")["data"])
-    part = parts_of_tokens(view.text, view.ask("semanticTokens/range", range=view.text.range(view.place, end))["data"])
+    part = parts_of_tokens(view.text, view.ask("semanticTokens/range", range=view.text.range(view.offset, end))["data"])
     if whole is None or part is None:
         return False
-    return set(part) <= set(whole) and {it for it in whole if it[0] < end and view.place < it[1]} <= set(part)
+    return set(part) <= set(whole) and {it for it in whole if it[0] < end and view.offset < it[1]} <= set(part)
 
 
 def names(view):
-    """What is found of a name has that name. The uses are among the uses and definitions, and one of these is at the place."""
+    """What is found of a name has that name. The uses are among the uses and definitions, and one of these is at the offset."""
     at = view.position()
     definition, hover = view.ask("definition", position=at), view.ask("hover", position=at)
     uses = [it["range"] for it in view.ask("references", position=at, context={"includeDeclaration": False})]
     found = [it["range"] for it in view.ask("references", position=at, context={"includeDeclaration": True})]
     parts = [view.text.part(it) for it in found]
-    if None in parts or parts and not any(start <= view.place <= end for start, end in parts):
+    if None in parts or parts and not any(start <= view.offset <= end for start, end in parts):
         return False
     texts = {view.text.of(it) for it in [*found, *(answer["range"] for answer in [definition, hover] if answer)]}
     return len(texts) <= 1 and None not in texts and all(it in found for it in uses) and (not definition or definition["range"] in found)
 
 
 def completions(view):
-    """No label is blank, and what each replaces is the end of the line's text before the place."""
+    """No label is blank, and what each replaces is the end of the line's text before the offset."""
     for item in view.ask("completion", position=view.position()):
         part = view.text.part(item["textEdit"]["range"])
-        if not item["label"].strip() or not part or part[1] != view.place or view.text.position(part[0])["line"] != view.position()["line"]:
+        if not item["label"].strip() or not part or part[1] != view.offset or view.text.position(part[0])["line"] != view.position()["line"]:
             return False
     return True
 

@@ -1,7 +1,7 @@
 #!/usr/bin/env python3
 """Makes random edits in many documents, and checks the server's messages after each: random_edits.py PROGRAM [EDITS] [SEED].
 
-The texts and positions are the client's own. The errors that are published have to be those of the same text opened anew and, where gqlcst is built, be at the places that
+The texts and positions are the client's own. The errors that are published have to be those of the same text opened anew and, where gqlcst is built, be at the offsets that
 it gives. Then it requests one of the other features, and its answer has to be as the protocol wants it (answers.py)."""
 import random
 import re
@@ -55,12 +55,12 @@ class Run:
         """The fault in the server's messages about a document, or nothing."""
         if errors != self.client.open("file:///anew", text.text)["diagnostics"]:
             return "other errors than the text opened anew"
-        if GQLCST.exists() and not at_their_places(text, errors):
-            return "other places of errors than gqlcst's"
-        place = text.boundary(self.random.randint(0, len(text.text)))
+        if GQLCST.exists() and not at_their_offsets(text, errors):
+            return "other offsets of errors than gqlcst's"
+        offset = text.boundary(self.random.randint(0, len(text.text)))
         feature = self.random.choice(answers.ALL)
-        if len(text.text) < SHORT and not feature(answers.View(self.client, uri, text, place)):
-            return f"{feature.__name__} at {text.position(place)}"
+        if len(text.text) < SHORT and not feature(answers.View(self.client, uri, text, offset)):
+            return f"{feature.__name__} at {text.position(offset)}"
         return None
 
     def document(self, text, edits):
@@ -80,7 +80,7 @@ class Run:
         self.client.close(uri)
 
 
-def at_their_places(text, errors):
+def at_their_offsets(text, errors):
     """Whether the errors are where gqlcst finds them, or at the line's end where that is between CR and LF: a hundred at most, and then how many more there are."""
     data = text.text.encode()
     report = subprocess.run([GQLCST, "check"], input=data, stdout=subprocess.PIPE).stdout
@@ -103,7 +103,7 @@ def main():
         assert run.client.end() == 0
     edits, documents, wrong = (sum(getattr(run, what) for run in runs) for what in ["edits", "documents", "wrong"])
     if not GQLCST.exists():
-        print(f"random_edits: {GQLCST} isn't built, so no places were compared with its own")
+        print(f"random_edits: {GQLCST} isn't built, so no offsets were compared with its own")
     print(f"random_edits: {edits} edits in {documents} documents, {wrong} of them answered wrongly")
     sys.exit(1 if wrong else 0)
 

@@ -35,13 +35,13 @@ def fewest(ends, arcs):
     """The same automaton with equivalent states merged into one, in the order in which they are first reached."""
     groups = [int(end) for end in ends]
     while True:
-        seen = [(groups[place], [(symbol, groups[target]) for symbol, target in here]) for place, here in enumerate(arcs)]
+        seen = [(groups[index], [(symbol, groups[target]) for symbol, target in here]) for index, here in enumerate(arcs)]
         finer = [seen.index(one) for one in seen]
         if len(set(finer)) == len(set(groups)):
             break
         groups = finer
     order = sorted(set(finer))
-    return [(ends[place], [(symbol, order.index(finer[target])) for symbol, target in arcs[place]]) for place in order]
+    return [(ends[index], [(symbol, order.index(finer[target])) for symbol, target in arcs[index]]) for index in order]
 
 
 def document(states):

@@ -1,7 +1,7 @@
 """What the generator reads: the list of kinds with their documentation, the choices of kinds, the rows, and two lists of the rules on
 derivations.
 
-Kinds are given by their names. Their numbers are their places in the list.
+Kinds are given by their names. Their numbers are their indices in the list.
 """
 
 import re
@@ -84,10 +84,10 @@ class Grammar:
         kinds = [kind.strip() for kind in text.split("∷")]
         if not end or kinds.pop():
             raise SystemExit(f"{where} does not end with ∷ []")
-        for place, kind in enumerate(kinds):
+        for index, kind in enumerate(kinds):
             if kind not in self.number:
                 raise SystemExit(f"{where} has {kind}, which is no kind")
-            if kind in kinds[:place]:
+            if kind in kinds[:index]:
                 raise SystemExit(f"{where} has {kind} twice")
         return kinds
 

@@ -24,13 +24,13 @@ def in_parentheses(text):
 
 def long_list(items):
     """A list with one element a line."""
-    lines = [f"    {'∷ ' if place else ''}{item}\n" for place, item in enumerate(items)]
+    lines = [f"    {'∷ ' if index else ''}{item}\n" for index, item in enumerate(items)]
     return "".join(lines) + "    ∷ []\n"
 
 
 def commented_list(items):
     """The same from pairs of a comment and an element, each comment on a line before its element."""
-    lines = [f"    -- {comment}\n    {'∷ ' if place else ''}{item}\n" for place, (comment, item) in enumerate(items)]
+    lines = [f"    -- {comment}\n    {'∷ ' if index else ''}{item}\n" for index, (comment, item) in enumerate(items)]
     return "".join(lines) + "    ∷ []\n"
 
 

@@ -123,14 +123,14 @@ class Lookahead:
     def check(self):
         """Two tokens decide which child comes next, and whether the row ends; this says where they do not."""
         for name, states in self.rows.items():
-            for place, state in enumerate(states):
+            for index, state in enumerate(states):
                 both = self.begins(state) & self.follow[name, state.exit] if state.ends else None
                 if both:
-                    raise SystemExit(f"Rows.antt: {name}, state {place}: the row may end, or go on, before {self.class_names(both)}")
+                    raise SystemExit(f"Rows.antt: {name}, state {index}: the row may end, or go on, before {self.class_names(both)}")
                 for later, arc in enumerate(state.arcs):
                     for other, _ in state.arcs[:later]:
                         if self.overlap(name, states, arc, other):
-                            raise SystemExit(f"Rows.antt: {name}, state {place}: two tokens do not tell {arc[0]} from {other}")
+                            raise SystemExit(f"Rows.antt: {name}, state {index}: two tokens do not tell {arc[0]} from {other}")
 
     def overlap(self, name, states, arc, other):
         """Whether tokens with which the other symbol begins may also begin the arc's, before its successors in the row."""
@@ -173,16 +173,16 @@ class Lookahead:
         for name in self.rows:
             if name not in height:
                 raise SystemExit(f"Rows.antt: no {self.symbols.label[name]} has an end: each has another one in it")
-        return {name: [self.ending(states, place, height)[1] for place in range(len(states))] for name, states in self.rows.items()}
+        return {name: [self.ending(states, index, height)[1] for index in range(len(states))] for name, states in self.rows.items()}
 
     def ending(self, states, start, height):
         """The least height of symbols that end the row from the state, and those symbols; None where no heights are known yet."""
         heap = [(0, 0, (), (), start)]
         while heap:
-            highest, length, numbers, word, place = heapq.heappop(heap)
-            if states[place].ends:
+            highest, length, numbers, word, index = heapq.heappop(heap)
+            if states[index].ends:
                 return highest, word
-            for symbol, target in states[place].arcs:
+            for symbol, target in states[index].arcs:
                 if symbol in height and length < len(states):
                     longer = (*numbers, self.number[symbol])
                     heapq.heappush(heap, (max(highest, height[symbol]), length + 1, longer, (*word, symbol), target))

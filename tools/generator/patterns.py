@@ -191,7 +191,7 @@ def or_else(first, second):
             choices.append(pattern[1])
             pattern = pattern[2]
         choices.append(pattern)
-    kept = [choice for place, choice in enumerate(choices) if choice != NEVER and choice not in choices[:place]]
+    kept = [choice for index, choice in enumerate(choices) if choice != NEVER and choice not in choices[:index]]
     if not kept:
         return NEVER
     result = kept.pop()

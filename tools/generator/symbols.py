@@ -92,5 +92,5 @@ class Symbols:
 
 def with_short_query(definitions):
     """The definitions; an operation is one with a keyword, or a selection set alone."""
-    place = definitions.index("OPERATION_DEFINITION") + 1
-    return definitions[:place] + ["SHORT_QUERY"] + definitions[place:]
+    index = definitions.index("OPERATION_DEFINITION") + 1
+    return definitions[:index] + ["SHORT_QUERY"] + definitions[index:]

@@ -49,10 +49,10 @@ use Rattle.std.specs.Prelude.{ℕ}
     )
 
 
-def came_by(states, place, symbols):
+def came_by(states, index, symbols):
     """What leads to the state, as a word for its comment."""
-    state = next(state for state in states if any(target == place for _, target in state.arcs))
-    found = [symbol for symbol, target in state.arcs if target == place]
+    state = next(state for state in states if any(target == index for _, target in state.arcs))
+    found = [symbol for symbol, target in state.arcs if target == index]
     if len(found) == 1:
         return found[0].removesuffix("_KW")
     groups = {"Definitions": "definition", "Selections": "selection", "Values": "value", "Types": "type"}
@@ -64,7 +64,7 @@ def came_by(states, place, symbols):
 
 def state_comments(name, states, symbols):
     """The number of each state, and what was read last."""
-    comments = ["0"] + [f"{place}, after {came_by(states, place, symbols)}" for place in range(1, len(states) - (name == "DOCUMENT"))]
+    comments = ["0"] + [f"{index}, after {came_by(states, index, symbols)}" for index in range(1, len(states) - (name == "DOCUMENT"))]
     return comments + (["2, after a definition that lacks its block"] if name == "DOCUMENT" else [])
 
 
@@ -171,11 +171,11 @@ spellings =
 def paths(states, symbols):
     """For each state kinds of children that lead there, by a shortest way; a definition that lacks its block is an operation as well."""
     found = {0: []}
-    for place in range(len(states)):
-        for symbol, target in states[place].arcs:
-            if place in found and target not in found:
-                found[target] = [*found[place], symbols.label[symbol]]
-    return [found.get(place, ["OPERATION_DEFINITION"]) for place in range(len(states))]
+    for index in range(len(states)):
+        for symbol, target in states[index].arcs:
+            if index in found and target not in found:
+                found[target] = [*found[index], symbols.label[symbol]]
+    return [found.get(index, ["OPERATION_DEFINITION"]) for index in range(len(states))]
 
 
 def labels_file(lookahead):

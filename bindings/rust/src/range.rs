@@ -1,4 +1,4 @@
-//! Places of a text, with the calls that they have in `rowan`.
+//! Offsets and ranges of a text, with the calls that they have in `rowan`.
 use std::cmp::Ordering;
 use std::fmt;
 use std::iter::Sum;

@@ -53,18 +53,18 @@ fn check_node(node: &SyntaxNode, text: &str) {
     assert_eq!(node.last_child_or_token(), children.last().cloned());
     // the children tile the node
     let (mut at, end) = range(&node.clone().into());
-    for (place, child) in children.iter().enumerate() {
+    for (index, child) in children.iter().enumerate() {
         assert_eq!(range(child).0, at);
         at = range(child).1;
         assert_eq!(child.parent().as_ref(), Some(node));
-        assert_eq!(child.index(), place);
-        assert_eq!(child.next_sibling_or_token(), children.get(place + 1).cloned());
-        assert_eq!(child.prev_sibling_or_token(), place.checked_sub(1).map(|it| children[it].clone()));
+        assert_eq!(child.index(), index);
+        assert_eq!(child.next_sibling_or_token(), children.get(index + 1).cloned());
+        assert_eq!(child.prev_sibling_or_token(), index.checked_sub(1).map(|it| children[it].clone()));
         if let NodeOrToken::Node(child) = child {
             let after: Vec<SyntaxElement> = child.siblings_with_tokens(Direction::Next).collect();
-            assert_eq!(after, children[place..]);
+            assert_eq!(after, children[index..]);
             let before: Vec<SyntaxElement> = child.siblings_with_tokens(Direction::Prev).collect();
-            assert_eq!(before, children[..=place].iter().rev().cloned().collect::<Vec<_>>());
+            assert_eq!(before, children[..=index].iter().rev().cloned().collect::<Vec<_>>());
             let among = nodes.iter().position(|it| it == child).unwrap();
             assert_eq!(child.next_sibling(), nodes.get(among + 1).cloned());
             assert_eq!(child.prev_sibling(), among.checked_sub(1).map(|it| nodes[it].clone()));

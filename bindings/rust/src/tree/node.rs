@@ -266,11 +266,11 @@ impl SyntaxNode {
         PreorderWithTokens::new(self.share.clone(), self.index)
     }
 
-    /// The tokens at a place: two if it is where one ends and the next begins. Panics if the place is outside the node.
+    /// The tokens at an offset: two if it is where one ends and the next begins. Panics if the offset is outside the node.
     pub fn token_at_offset(&self, offset: TextSize) -> TokenAtOffset<SyntaxToken> {
         let range = self.text_range();
         assert!(range.contains_inclusive(offset), "the offset {offset:?} is outside the node {self:?}");
-        // down to the elements that touch the place, past all others
+        // down to the elements that touch the offset, past all others
         let touches = |index: u32| !self.share.range(index).is_empty() && self.share.range(index).contains_inclusive(offset);
         let (mut index, mut found) = (self.index, Vec::new());
         while index < self.after() && found.len() < 2 {
@@ -384,7 +384,7 @@ impl fmt::Debug for SyntaxToken {
         if text.len() <= SHOWN {
             return write!(f, "{text:?}");
         }
-        let cut = text.char_indices().map(|(place, _)| place).find(|&place| place >= SHOWN - 3).unwrap_or(text.len());
+        let cut = text.char_indices().map(|(offset, _)| offset).find(|&offset| offset >= SHOWN - 3).unwrap_or(text.len());
         write!(f, "{:?}", format!("{} ...", &text[..cut]))
     }
 }

@@ -43,7 +43,7 @@ impl SyntaxText {
         self.as_str().split_once(c).map(|(before, _)| TextSize::of(before))
     }
 
-    /// The character at a place.
+    /// The character at an offset.
     pub fn char_at(&self, offset: TextSize) -> Option<char> {
         self.as_str().get(usize::from(offset)..)?.chars().next()
     }

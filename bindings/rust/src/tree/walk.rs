@@ -39,14 +39,14 @@ impl<T> WalkEvent<T> {
     }
 }
 
-/// The tokens at a place of a text. It is an iterator of them, too.
+/// The tokens at an offset of a text. It is an iterator of them, too.
 #[derive(Clone, Debug)]
 pub enum TokenAtOffset<T> {
     /// The node has no text.
     None,
-    /// The token that the place is in, or at the edge of the text.
+    /// The token that the offset is in, or at the edge of the text.
     Single(T),
-    /// The token that ends at the place, and the one that begins there.
+    /// The token that ends at the offset, and the one that begins there.
     Between(T, T),
 }
 
