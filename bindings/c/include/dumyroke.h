@@ -64,7 +64,7 @@ typedef struct dumyroke_element {
 
 /* An error in a text. */
 typedef struct dumyroke_error {
-    /* The bytes that the error is about. There are none for the end of the text and for a limit. */
+    /* The bytes that the error is about. There are none for the end of the text and for a limit. That of the token limit may lie inside a character. */
     size_t start, end;
     /* Where the message is in the messages, and how many bytes it has. It is UTF-8, with no zero after it. */
     size_t message, message_length;
