@@ -87,8 +87,9 @@ const SERVED = [
 ];
 
 class Client {
-  constructor(command) {
+  constructor(command, words) {
     this.command = command;
+    this.words = words;
     this.disposables = [];
   }
 
@@ -99,7 +100,7 @@ class Client {
       this.#dispose();
       if (this.isServing) window.showErrorMessage(`gqlls ended with ${how}`);
     };
-    this.connection = new Connection(this.command, { notified, ended });
+    this.connection = new Connection(this.command, this.words, { notified, ended });
     await this.connection.started;
     this.errors = languages.createDiagnosticCollection("gqlls");
     this.disposables.push(this.errors);

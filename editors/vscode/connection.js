@@ -8,9 +8,9 @@ class Connection {
   #waiting = new Map();
   #bytes = Buffer.alloc(0);
 
-  // Starts the program. `notified` gets the method and the parameters of each notification, `ended` a text when the program has ended by itself.
-  constructor(command, { notified, ended }) {
-    this.process = spawn(command, [], { stdio: ["pipe", "pipe", "inherit"] });
+  // Starts the program with these words. `notified` gets the method and the parameters of each notification, `ended` a text when the program has ended by itself.
+  constructor(command, words, { notified, ended }) {
+    this.process = spawn(command, words, { stdio: ["pipe", "pipe", "inherit"] });
     this.started = new Promise((resolve, reject) => this.process.once("spawn", resolve).once("error", reject));
     this.notified = notified;
     this.process.stdout.on("data", (bytes) => this.#read(bytes));

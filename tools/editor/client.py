@@ -9,8 +9,8 @@ import subprocess
 class Client:
     """A server that runs, and what is sent to it and read from it."""
 
-    def __init__(self, program):
-        self.process = subprocess.Popen([program], stdin=subprocess.PIPE, stdout=subprocess.PIPE, bufsize=0)
+    def __init__(self, program, *words):
+        self.process = subprocess.Popen([program, *words], stdin=subprocess.PIPE, stdout=subprocess.PIPE, bufsize=0)
         self.answers = os.fdopen(os.dup(self.process.stdout.fileno()), "rb")
         self.last_id = 0
 

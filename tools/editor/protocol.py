@@ -2,6 +2,7 @@
 """Tests what the protocol says of a server's states, errors and answers: protocol.py PROGRAM. The expected values are those of JSON-RPC 2.0, of the Language
 Server Protocol 3.17 and of the texts here, counted by hand."""
 import json
+import subprocess
 import sys
 
 from client import Client
@@ -289,8 +290,35 @@ def layout():
     client.end()
 
 
+# ---- the words of the command line
+
+
+def limits():
+    def errors(text, *words):
+        client = Client(PROGRAM, *words)
+        client.initialize()
+        found = client.open(URI, text)["diagnostics"]
+        layout = client.ask_about(URI, "formatting", options=OPTIONS)
+        client.end()
+        return [it["message"] for it in found], layout is None
+
+    expect("a level too deep", errors("{a{b}}", "--recursion", "1"), (["parser recursion limit reached"], True))
+    expect("as deep as allowed", errors("{a{b}}", "--recursion", "2"), ([], False))
+    # four tokens, the end among them, and seven with white space
+    expect("a token too many", errors("{a}", "--tokens", "3"), (["token limit reached, aborting lexing"], True))
+    expect("a layout with too many tokens", errors("{a}", "--stdio", "--tokens", "4"), ([], True))
+    expect("as many as allowed", errors("{a}", "--tokens", "7", "--stdio", "--recursion", "1"), ([], False))
+
+
+def refused_words():
+    usage = b"usage: gqlls [--recursion N] [--tokens N] [--stdio]\n"
+    for words in ["x", "--tokens", "--tokens x", "--recursion -1", "--recursion 1 --recursion 1", "--stdio=1", "-- --stdio"]:
+        ended = subprocess.run([PROGRAM, *words.split()], stdin=subprocess.DEVNULL, capture_output=True, timeout=10)
+        expect(f"the words {words}", (ended.returncode, ended.stdout, ended.stderr), (2, b"", usage))
+
+
 TESTS = [states, statuses_without_shutdown, faulty_messages, pieces_of_input, capabilities, changes, diagnostics, lambda: names("utf-16", 0), lambda: names("utf-8", 2),
-         lambda: parts("utf-16", 0), lambda: parts("utf-8", 2), names_of_symbols, more_folds, completion, layout]
+         lambda: parts("utf-16", 0), lambda: parts("utf-8", 2), names_of_symbols, more_folds, completion, layout, limits, refused_words]
 for test in TESTS:
     test()
 print(f"protocol: {len(TESTS)} tests, {failed} differences")

@@ -7,19 +7,20 @@ use Rattle.gqlfmt_files.specs.declared.settling.Settled.TheVariants.{Done, Found
 use Rattle.gqlfmt_files.specs.declared.settling.Revised.TheVariants.{Refused}
 use Rattle.gqlfmt_run.specs.declared.formatting.Refusal.{Refusal}
 use Rattle.gqlfmt_run.specs.declared.formatting.Refusal.TheVariants.{Errors, Outgrown}
-use Rattle.gqlfmt_run.specs.Formatting.{IsFormatted, IsRefused, IsChanged, IsRevised, IsShown}
+use Rattle.formatter.specs.Within.{IsFormattedWithin}
+use Rattle.gqlfmt_run.specs.Formatting.{IsRefused, IsChanged, IsRevised, IsShown}
 use Rattle.gqlfmt_run.specs.Input.{input_name, IsOutput, kept, settled_of}
 
-pub of_same : (mode : Mode) (limits : Limits) (source output : List ℕ) → IsFormatted limits source source → output ≡ kept mode source
+pub of_same : (mode : Mode) (limits : Limits) (source output : List ℕ) → IsFormattedWithin limits source source → output ≡ kept mode source
     → IsOutput mode limits source Done output
-of_same Write limits source output formatted same = subst (λ (text : List ℕ). IsFormatted limits source text) (sym same) formatted
+of_same Write limits source output formatted same = subst (λ (text : List ℕ). IsFormattedWithin limits source text) (sym same) formatted
 of_same Check limits source output formatted same = (formatted, same)
 of_same Diff limits source output formatted same = (formatted, same)
 
 pub of_changed : (mode : Mode) (limits : Limits) (source text output : List ℕ) → IsChanged limits source text
     → (text ≢ source → IsShown mode input_name text output) → IsOutput mode limits source (settled_of mode) output
 of_changed Write limits source text output changed shown =
-    subst (λ (text : List ℕ). IsFormatted limits source text) (sym (shown changed.other)) changed.formatted
+    subst (λ (text : List ℕ). IsFormattedWithin limits source text) (sym (shown changed.other)) changed.formatted
 of_changed Check limits source text output changed shown = inr (record { looks = λ e. (cc); text = text; changed = changed; shown = shown changed.other })
 of_changed Diff limits source text output changed shown = inr (record { looks = λ e. (cc); text = text; changed = changed; shown = shown changed.other })
 

@@ -1,7 +1,7 @@
 -- What formatting makes of a text, and what is shown of that.
-use Rattle.std.specs.Prelude.{◌≡◌, ◌≢◌, ◌<◌, ◌⊎◌, ℕ, List, [], ◌∷◌, ◌++◌, codes, length, string_bytes}
-use Rattle.apollo_parser.specs.Reads.{items_of}
+use Rattle.std.specs.Prelude.{◌≡◌, ◌≢◌, ◌⊎◌, ℕ, List, [], ◌∷◌, ◌++◌, codes, string_bytes}
 use Rattle.formatter.specs.Formatted as format
+use Rattle.formatter.specs.Within.{IsFormattedWithin, IsOutgrown}
 use Rattle.apollo_parser.specs.Diagnostics.{Diagnostic}
 use Rattle.apollo_parser.specs.declared.Limits.{Limits}
 use Rattle.gqlfmt_run.specs.declared.formatting.Refusal.{Refusal}
@@ -10,18 +10,6 @@ use Rattle.gqlfmt_files.specs.declared.settling.Mode.{Mode}
 use Rattle.gqlfmt_files.specs.declared.settling.Mode.TheVariants.{Write, Check, Diff}
 use Rattle.gqlfmt_files.specs.declared.settling.Revised.{Revised}
 use Rattle.gqlfmt_files.specs.declared.settling.Revised.TheVariants.{Same, Changed, Refused}
-
--- The source is a document within both limits, and this is its formatted text, which is within them too: it is not refused when it is formatted
--- once more.
-pub record IsFormatted (limits : Limits) (source text : List ℕ) : Type 0 where
-  pub formatted : format.IsFormatted source limits.recursion limits.tokens text
-  pub again : format.IsDocument text limits.recursion limits.tokens
-
--- The source is a document within both limits, but its formatted text has more items than are allowed.
-pub record IsOutgrown (limits : Limits) (source : List ℕ) : Type 0 where
-  pub text : List ℕ
-  pub formatted : format.IsFormatted source limits.recursion limits.tokens text
-  pub more : limits.tokens < length (items_of text)
 
 -- the source is no document within both limits
 pub record HasErrors (limits : Limits) (source : List ℕ) : Type 0 where
@@ -34,12 +22,12 @@ IsRefused limits source = HasErrors limits source ⊎ IsOutgrown limits source
 
 -- this is its formatted text, and another text than the source
 pub record IsChanged (limits : Limits) (source text : List ℕ) : Type 0 where
-  pub formatted : IsFormatted limits source text
+  pub formatted : IsFormattedWithin limits source text
   pub other : text ≢ source
 
 -- what formatting makes of a source; the errors of a refusal are those of its parse
 abbrev pub IsRevised : {A : Type 0} → Limits → List ℕ → Revised A (Refusal A) → Type 0
-IsRevised limits source Same = IsFormatted limits source source
+IsRevised limits source Same = IsFormattedWithin limits source source
 IsRevised limits source (Changed text) = IsChanged limits source (string_bytes text)
 IsRevised limits source (Refused (Errors errors)) = format.IsRefused source limits.recursion limits.tokens errors.items
 IsRevised limits source (Refused Outgrown) = IsOutgrown limits source

@@ -5,16 +5,17 @@ use Rattle.gqlfmt_files.specs.declared.settling.Mode.{Mode}
 use Rattle.gqlfmt_files.specs.declared.settling.Mode.TheVariants.{Write, Check, Diff}
 use Rattle.gqlfmt_files.specs.declared.settling.Settled.{Settled}
 use Rattle.gqlfmt_files.specs.declared.settling.Settled.TheVariants.{Done, Found}
-use Rattle.gqlfmt_run.specs.Formatting.{IsFormatted, IsRefused, IsListed}
+use Rattle.formatter.specs.Within.{IsFormattedWithin}
+use Rattle.gqlfmt_run.specs.Formatting.{IsRefused, IsListed}
 
 abbrev pub input_name : List ℕ
 input_name = codes "<stdin>"
 
 -- What is written of a text, by the outcome for it. In mode write that is the formatted text, and nothing of a text that is refused.
 abbrev pub IsOutput : Mode → Limits → List ℕ → Settled → List ℕ → Type 0
-IsOutput Write limits source Done output = IsFormatted limits source output
-IsOutput Check limits source Done output = IsFormatted limits source source × (output ≡ [])
-IsOutput Diff limits source Done output = IsFormatted limits source source × (output ≡ [])
+IsOutput Write limits source Done output = IsFormattedWithin limits source output
+IsOutput Check limits source Done output = IsFormattedWithin limits source source × (output ≡ [])
+IsOutput Diff limits source Done output = IsFormattedWithin limits source source × (output ≡ [])
 IsOutput mode limits source Found output = (IsRefused limits source × (output ≡ [])) ⊎ IsListed mode limits input_name source output
 
 -- the parts of that: what is written of a text that has the layout

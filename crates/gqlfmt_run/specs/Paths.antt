@@ -13,7 +13,8 @@ use Rattle.gqlfmt_run.specs.declared.fault.FileFault.TheVariants.{NotRead, NotRe
 use Rattle.gqlfmt_files.specs.declared.settling.Settled.{Settled}
 use Rattle.gqlfmt_files.specs.declared.settling.Settled.TheVariants.{Done, Found}
 use Rattle.gqlfmt_run.specs.Complaints.{SaysOfFile}
-use Rattle.gqlfmt_run.specs.Formatting.{IsFormatted, IsRefused, IsChanged, IsListed}
+use Rattle.formatter.specs.Within.{IsFormattedWithin}
+use Rattle.gqlfmt_run.specs.Formatting.{IsRefused, IsChanged, IsListed}
 use Rattle.gqlfmt_run.specs.Status.{status_of}
 
 -- The files, and what went through standard output and standard error.
@@ -35,7 +36,7 @@ module _ {S : Type 0} (reads : S → List ℕ → Option (List ℕ) → S → Ty
   -- output only where it has another layout in a mode that changes nothing.
   abbrev pub FollowsText : Mode → Limits → List ℕ → List ℕ → Result Settled FileFault → S → Account → S → Account → Type 0
   FollowsText mode limits path source (Ok Done) old output new output' =
-      IsUtf8 source × (output' ≡ output) × ((IsFormatted limits source source × (new ≡ old)) ⊎ IsRewritten mode limits path source true old new)
+      IsUtf8 source × (output' ≡ output) × ((IsFormattedWithin limits source source × (new ≡ old)) ⊎ IsRewritten mode limits path source true old new)
   FollowsText mode limits path source (Ok Found) old output new output' =
       IsUtf8 source × (new ≡ old)
       × ((IsRefused limits source × (output' ≡ output)) ⊎ ((shown : List ℕ) × IsListed mode limits path source shown × (output' ≡ moved output shown)))

@@ -3,16 +3,23 @@
 /// The version of the program.
 pub const VERSION: &str = "gqlls 0.1.0\n";
 
-/// How the program is called, and what it does.
-pub const HELP: &str = "usage: gqlls
+/// How the program is called.
+pub const USAGE: &str = "usage: gqlls [--recursion N] [--tokens N] [--stdio]";
 
+/// What it does.
+pub const HELP: &str = "
 A language server for GraphQL. It reads requests from standard input and writes
 answers to standard output, as the Language Server Protocol 3.17 has them, so
 an editor starts it.
 
-  --help     print this text
-  --version  print the version
+  --recursion N  how deep a document may nest (500 if not given)
+  --tokens N     how many tokens it may have, with white space, commas and
+                 comments (no limit if not given)
+  --stdio        use standard input and output, as it does without
+  --help         print this text
+  --version      print the version
 
 The status is 0 when the client ends it by shutdown and exit, 1 when it exits
-without shutdown, and 2 when something could not be read or written.
+without shutdown, and 2 when the program was called otherwise, or something
+could not be read or written.
 ";

@@ -1,19 +1,27 @@
 //! `gqlls` is a language server for GraphQL documents over standard input and output.
 //!
-//! Here are only the words, the standard devices and the exit status; what is done between them is in `gqlls_run`.
+//! Its options set the limits of each parse. Here are only the words, the standard devices and the exit status; what is done between them is in
+//! `gqlls_run`.
 #![tactic(auto)]
 
 mod command;
 
 use byte_devices::{Fault, StdSink, StdSource};
-use command::{HELP, VERSION};
-use gqlls_run::run;
+use command::{HELP, USAGE, VERSION};
+use gqlls_run::{Limits, run};
+use program_words::gqlls::options;
 use program_words::information::{Information, information_of};
 use std::env;
 use std::process::ExitCode;
 
-// What the words after the program's name have it print of itself, if anything. Other words change nothing.
-fn requested_information(rt: &HostRuntime) -> Option<Information> {
+#[derive(Clone, Copy)]
+enum Request {
+    Print(Information),
+    Serve(Limits),
+}
+
+// The request in the words after the program's name: nothing where they can't be had as texts, or the program is not called so.
+fn read_request(rt: &HostRuntime) -> Option<Request> {
     let words = env::args(rt).ok()?;
     let mut texts = Vec::new(rt.alloc());
     for word in words {
@@ -23,12 +31,16 @@ fn requested_information(rt: &HostRuntime) -> Option<Information> {
     for text in texts.iter().skip(1) {
         views.push(text.as_str()).ok()?;
     }
-    information_of(views.as_slice())
+    if let Some(information) = information_of(views.as_slice()) {
+        return Some(Request::Print(information));
+    }
+    let limits = options(views.as_slice())?;
+    Some(Request::Serve(limits))
 }
 
 fn print(rt: &HostRuntime, information: Information) -> Result<u8, Fault> {
     let printed = match information {
-        Information::Help => print!(rt; "{HELP}"),
+        Information::Help => print!(rt; "{USAGE}\n{HELP}"),
         Information::Version => print!(rt; "{VERSION}"),
     };
     match printed {
@@ -37,10 +49,10 @@ fn print(rt: &HostRuntime, information: Information) -> Result<u8, Fault> {
     }
 }
 
-fn serve(rt: &HostRuntime) -> Result<u8, Fault> {
+fn serve(rt: &HostRuntime, limits: Limits) -> Result<u8, Fault> {
     let mut reader = StdSource::new(rt.stdin());
     let mut writer = StdSink::new(rt.stdout());
-    run(rt.alloc(), &mut reader, &mut writer)
+    run(rt.alloc(), &mut reader, &mut writer, limits)
 }
 
 // What is said on standard error about a run that failed.
@@ -53,9 +65,13 @@ fn complaint_of(fault: Fault) -> &'static str {
 }
 
 fn main(rt: HostRuntime) -> ExitCode {
-    let ended = match requested_information(&rt) {
-        Some(information) => print(&rt, information),
-        None => serve(&rt),
+    let ended = match read_request(&rt) {
+        Some(Request::Print(information)) => print(&rt, information),
+        Some(Request::Serve(limits)) => serve(&rt, limits),
+        None => {
+            let _ = eprintln!(rt; "{USAGE}");
+            return ExitCode::from(2);
+        }
     };
     match ended {
         Ok(status) => ExitCode::from(status),

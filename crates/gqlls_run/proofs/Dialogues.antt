@@ -1,6 +1,7 @@
 -- The dialogue with a client, as its messages change it.
 use Rattle.std.proofs.Common.{◌≡◌, ℕ, List, Option, Some, None, subst, ap, inl, inr}
 use Rattle.json.specs.Json.{Json}
+use Rattle.apollo_parser.specs.declared.Limits.{Limits}
 use Rattle.rpc_messages.specs.Steps.{StepsBy, Takes}
 use Rattle.rpc_messages.specs.declared.reply.Reply.{Reply}
 use Rattle.rpc_serving.specs.Serving.{EndsServing, IsServed}
@@ -33,54 +34,54 @@ exchange_of (replied asked reply begins asks replies goes_on takes more) =
 exchange_of (ended asked reply status begins ends asks replies is takes) = ended asked reply status begins ends asks replies is (takes_of _ _ _ reply takes)
 exchange_of (passed_over never more) = passed_over never (exchange_of more)
 
-from_begun : (first last : Server) (input output left : List ℕ) (asked : Option ℕ) → dialogue_of first ≡ begun
-    → Exchange (Takes StepsOf) first input output left asked last → Exchange (Takes Steps) begun input output left asked (dialogue_of last)
-from_begun first last input output left asked new e =
+from_begun : (limits : Limits) (first last : Server) (input output left : List ℕ) (asked : Option ℕ) → dialogue_of first ≡ begun limits
+    → Exchange (Takes StepsOf) first input output left asked last → Exchange (Takes Steps) (begun limits) input output left asked (dialogue_of last)
+from_begun limits first last input output left asked new e =
     subst (λ (dialogue : Dialogue). Exchange (Takes Steps) dialogue input output left asked (dialogue_of last)) new (exchange_of e)
 
 -- the same of a whole run
-pub served_of : (first last : Server) (status : ℕ) (read_old read_new write_old write_new : Account) → dialogue_of first ≡ begun
-    → IsServed (Takes StepsOf) first last status read_old read_new write_old write_new → Serves status read_old read_new write_old write_new
-served_of first last status read_old read_new write_old write_new new served = record {
+pub served_of : (limits : Limits) (first last : Server) (status : ℕ) (read_old read_new write_old write_new : Account) → dialogue_of first ≡ begun limits
+    → IsServed (Takes StepsOf) first last status read_old read_new write_old write_new → Serves limits status read_old read_new write_old write_new
+served_of limits first last status read_old read_new write_old write_new new served = record {
   last = dialogue_of last;
   served = record {
     input = served.input;
     output = served.output;
     left = served.left;
     asked = served.asked;
-    exchange = from_begun first last served.input served.output served.left served.asked new served.exchange;
+    exchange = from_begun limits first last served.input served.output served.left served.asked new served.exchange;
     ends = served.ends;
     written = served.written;
   };
 }
 
 -- the same of a run that fails
-pub fails_of : (first last : Server) (read_old read_new write_old write_new : Account) (fault : Fault) → dialogue_of first ≡ begun
-    → EndsServing (Takes StepsOf) first last read_old read_new write_old write_new fault → Fails read_old read_new write_old write_new fault
-fails_of first last read_old read_new write_old write_new Read new e = record {
+pub fails_of : (limits : Limits) (first last : Server) (read_old read_new write_old write_new : Account) (fault : Fault) → dialogue_of first ≡ begun limits
+    → EndsServing (Takes StepsOf) first last read_old read_new write_old write_new fault → Fails limits read_old read_new write_old write_new fault
+fails_of limits first last read_old read_new write_old write_new Read new e = record {
   last = dialogue_of last;
   ends = record {
     input = e.input;
     output = e.output;
     left = e.left;
-    exchange = from_begun first last e.input e.output e.left None new e.exchange;
+    exchange = from_begun limits first last e.input e.output e.left None new e.exchange;
     read = e.read;
     written = e.written;
   };
 }
-fails_of first last read_old read_new write_old write_new Write new e = record {
+fails_of limits first last read_old read_new write_old write_new Write new e = record {
   last = dialogue_of last;
   ends = record {
     input = e.input;
     output = e.output;
     left = e.left;
     asked = e.asked;
-    exchange = from_begun first last e.input e.output e.left e.asked new e.exchange;
+    exchange = from_begun limits first last e.input e.output e.left e.asked new e.exchange;
     read = e.read;
     written = e.written;
   };
 }
-fails_of first last read_old read_new write_old write_new Memory new e = record {
+fails_of limits first last read_old read_new write_old write_new Memory new e = record {
   last = dialogue_of last;
   ends = record {
     input = e.input;
@@ -88,10 +89,10 @@ fails_of first last read_old read_new write_old write_new Memory new e = record 
     output = e.output;
     left = e.left;
     middle = dialogue_of e.middle;
-    exchange = from_begun first e.middle e.input e.output e.left None new e.exchange;
+    exchange = from_begun limits first e.middle e.input e.output e.left None new e.exchange;
     read = e.read;
     few = e.few;
     written = e.written;
   };
 }
-fails_of first last read_old read_new write_old write_new Utf8 new e = absurd e
+fails_of limits first last read_old read_new write_old write_new Utf8 new e = absurd e

@@ -11,16 +11,15 @@ use Rattle.std.proofs.lemmas.Bool.{and_right}
 use Rattle.std.proofs.lemmas.List.{append-nil}
 use Rattle.std.proofs.lemmas.Str.{chars-nil, IsCharBoundary-end, IsCharBoundary-from_drop}
 use Rattle.json.specs.Json.{Json}
-use Rattle.apollo_parser.specs.Answers.{usize_max}
-use Rattle.apollo_parser.specs.Limits.{default_recursion}
+use Rattle.apollo_parser.specs.declared.Limits.{Limits}
 use Rattle.editor_diagnostics.specs.Positions.{cursor_at, position_of}
 use Rattle.editor_diagnostics.proofs.Cursors.{read_at}
 use Rattle.editor_diagnostics.proofs.Told.{added_thrice}
-use Rattle.formatter.specs.Formatted.{IsDocument, IsFormatted}
 use Rattle.line_index.specs.Positions.{offset_of, units, units_of}
 use Rattle.line_index.specs.declared.PositionEncoding.{PositionEncoding}
 use Rattle.editor_text.specs.Client.{Opened, replaced}
-use Rattle.gqlls_run.specs.Layout.{IsFormatting, IsResultOf, IsWhole, extent_of}
+use Rattle.formatter.specs.Within.{IsFormattedWithin}
+use Rattle.gqlls_run.specs.Layout.{IsFormatting, IsLeft, IsResultOf, IsWhole, extent_of}
 use Rattle.gqlls_run.specs.declared.layout.Replacement.{Replacement}
 
 -- ---- its JSON
@@ -65,9 +64,9 @@ all_replaced old new start end first last =
     ∙ ap (λ (k : ℕ). replace_range old 0 k new) whole
     ∙ ap (λ (x : List ℕ). new ++ x) (drop-length old) ∙ append-nil new
 
-makes : (encoding : PositionEncoding) (text new : List ℕ) (change : Replacement) → IsWhole text change → IsUtf8 text
+makes : (limits : Limits) (encoding : PositionEncoding) (text new : List ℕ) (change : Replacement) → IsWhole limits text change → IsUtf8 text
     → replaced encoding (units encoding text) (Some (extent_of encoding text change)) new ≡ new
-makes encoding text new change whole utf8 =
+makes limits encoding text new change whole utf8 =
     all_replaced (units encoding text) new _ _ (begins encoding text change.span.start utf8 whole.start) (ends encoding text change.span.end utf8 whole.end)
 
 whole_range : (text : List ℕ) (start end : ℕ) → start ≡ 0 → end ≡ length text → slice_range text start end ≡ text
@@ -75,25 +74,26 @@ whole_range text start end first last =
     let all : end - 0 ≡ length text = omega (arith, last) in
     ap (λ (k : ℕ). slice_range text k end) first ∙ ap (λ (k : ℕ). take k text) all ∙ take-length text
 
-formatting_of : (encoding : PositionEncoding) (text : List ℕ) (change : Option Replacement) (value : Json)
-    → MatchOption change (¬ IsDocument text default_recursion usize_max) (IsWhole text) → IsResultOf encoding text change value
-    → IsFormatting (record { encoding = encoding; text = text }) value
-formatting_of encoding text None value none is = inl (none, is)
-formatting_of encoding text (Some change) value whole (inl same) =
+formatting_of : (limits : Limits) (encoding : PositionEncoding) (text : List ℕ) (change : Option Replacement) (value : Json)
+    → MatchOption change (IsLeft limits text) (IsWhole limits text) → IsResultOf encoding text change value
+    → IsFormatting limits (record { encoding = encoding; text = text }) value
+formatting_of limits encoding text None value none is = inl (none, is)
+formatting_of limits encoding text (Some change) value whole (inl same) =
     let is : string_bytes change.text ≡ text = sym same.1 ∙ whole_range text change.span.start change.span.end whole.start whole.end in
-    inr (inl (subst (IsFormatted text default_recursion usize_max) is whole.formatted, same.0))
-formatting_of encoding text (Some change) value whole (inr edit) =
+    inr (inl (subst (IsFormattedWithin limits text) is whole.formatted, same.0))
+formatting_of limits encoding text (Some change) value whole (inr edit) =
     inr (inr (record {
       extent = extent_of encoding text change;
       text = string_bytes change.text;
       is = edit;
       formatted = whole.formatted;
-      after = λ utf8. makes encoding text (units encoding (string_bytes change.text)) change whole utf8;
+      after = λ utf8. makes limits encoding text (units encoding (string_bytes change.text)) change whole utf8;
     }))
 
-pub formatting : (content : Opened) (encoding : PositionEncoding) (text : List ℕ) (change : Option Replacement) (value : Json)
-    → encoding ≡ content.encoding → text ≡ content.text → MatchOption change (¬ IsDocument text default_recursion usize_max) (IsWhole text)
-    → IsResultOf encoding text change value → IsFormatting content value
-formatting content encoding text change value same_encoding same_text made is =
-    subst (λ (e : PositionEncoding). IsFormatting (record { encoding = e; text = content.text }) value) same_encoding
-    (subst (λ (t : List ℕ). IsFormatting (record { encoding = encoding; text = t }) value) same_text (formatting_of encoding text change value made is))
+pub formatting : (limits : Limits) (content : Opened) (encoding : PositionEncoding) (text : List ℕ) (change : Option Replacement) (value : Json)
+    → encoding ≡ content.encoding → text ≡ content.text → MatchOption change (IsLeft limits text) (IsWhole limits text)
+    → IsResultOf encoding text change value → IsFormatting limits content value
+formatting limits content encoding text change value same_encoding same_text made is =
+    subst (λ (e : PositionEncoding). IsFormatting limits (record { encoding = e; text = content.text }) value) same_encoding
+    (subst (λ (t : List ℕ). IsFormatting limits (record { encoding = encoding; text = t }) value) same_text
+    (formatting_of limits encoding text change value made is))

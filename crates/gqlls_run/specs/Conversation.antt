@@ -5,6 +5,7 @@ use Rattle.byte_devices.specs.Devices.{Account}
 use Rattle.byte_devices.specs.declared.fault.Fault.{Fault}
 use Rattle.json.specs.Json as json
 use Rattle.json.specs.Json.{Json, Members, member, object, string}
+use Rattle.apollo_parser.specs.declared.Limits.{Limits}
 use Rattle.editor_diagnostics.specs.Publication.{IsNoticeAbout}
 use Rattle.line_index.specs.declared.PositionEncoding.{PositionEncoding}
 use Rattle.line_index.specs.declared.PositionEncoding.TheVariants.{Utf8, Utf16}
@@ -71,7 +72,7 @@ LacksDocument id body = IsRefusalOf id (neg_ℤ (pos 32602)) body
 abbrev pub Formats : Json → Json → Dialogue → List ℕ → Type 0
 Formats id params dialogue body =
     MatchOption (uri_in params) (LacksDocument id body)
-    (λ uri. MatchOption (dialogue.documents uri) (LacksDocument id body) (λ content. IsFormattingOf id content body))
+    (λ uri. MatchOption (dialogue.documents uri) (LacksDocument id body) (λ content. IsFormattingOf dialogue.limits id content body))
 
 -- The outcome of a request, by the stage and the method: the conversation begins, or the request is refused as `ServerNotInitialized`; it is shut
 -- down; or nothing changes, and a layout is the document's. After that each request is refused as `InvalidRequest`.
@@ -95,7 +96,7 @@ pub record Publishes (uri : List ℕ) (content : Opened) (params : Json) (reply 
   pub sets : Sets uri (Some content) old new
   pub version : Option ℤ
   pub versioned : IsVersionIn params version
-  pub told : Notifies (IsTold uri version content) reply
+  pub told : Notifies (IsTold old.limits uri version content) reply
 
 -- a text that is opened, in the encoding of the conversation
 abbrev pub opened : Dialogue → List ℕ → Opened
@@ -165,12 +166,12 @@ abbrev pub Steps : Dialogue → Option Json → List ℕ → Json → Reply → 
 Steps old (Some id) method params reply new = IsAsked id method params reply old new
 Steps old None method params reply new = IsHeard method params reply old new
 
--- what was written is what a conversation about the bytes that were read says, from its beginning
-pub record Serves (status : ℕ) (read_old read_new write_old write_new : Account) : Type 0 where
+-- what was written is what a conversation about the bytes that were read says, from its beginning and within these limits
+pub record Serves (limits : Limits) (status : ℕ) (read_old read_new write_old write_new : Account) : Type 0 where
   pub last : Dialogue
-  pub served : IsServed (Takes Steps) begun last status read_old read_new write_old write_new
+  pub served : IsServed (Takes Steps) (begun limits) last status read_old read_new write_old write_new
 
 -- the run fails, and what was written is what such a conversation says, as far as it came
-pub record Fails (read_old read_new write_old write_new : Account) (fault : Fault) : Type 0 where
+pub record Fails (limits : Limits) (read_old read_new write_old write_new : Account) (fault : Fault) : Type 0 where
   pub last : Dialogue
-  pub ends : EndsServing (Takes Steps) begun last read_old read_new write_old write_new fault
+  pub ends : EndsServing (Takes Steps) (begun limits) last read_old read_new write_old write_new fault

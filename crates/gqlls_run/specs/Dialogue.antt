@@ -1,5 +1,6 @@
 -- What a client and the server have in common during a conversation.
 use Rattle.std.specs.Prelude.{◌≡◌, ◌≢◌, ℕ, List, fold, Option, None}
+use Rattle.apollo_parser.specs.declared.Limits.{Limits}
 use Rattle.line_index.specs.Positions.{units}
 use Rattle.line_index.specs.declared.PositionEncoding.{PositionEncoding}
 use Rattle.line_index.specs.declared.PositionEncoding.TheVariants.{Utf16}
@@ -8,15 +9,16 @@ use Rattle.gqlls_run.specs.Parameters.{Edit}
 use Rattle.gqlls_run.specs.declared.server.Stage.{Stage}
 use Rattle.gqlls_run.specs.declared.server.Stage.TheVariants.{New}
 
--- how far the conversation is, how columns are counted, and by its name the text of each document that the client has open
+-- how far the conversation is, how columns are counted, the limits of each parse, and by its name the text of each document that the client has open
 pub record Dialogue : Type 0 where
   pub stage : Stage
   pub encoding : PositionEncoding
+  pub limits : Limits
   pub documents : List ℕ → Option Opened
 
 -- no message was read
-abbrev pub begun : Dialogue
-begun = record { stage = New; encoding = Utf16; documents = λ name. None }
+abbrev pub begun : Limits → Dialogue
+begun limits = record { stage = New; encoding = Utf16; limits = limits; documents = λ name. None }
 
 -- one document is opened, changed or closed, and the others stay
 pub record Updates (uri : List ℕ) (content : Option Opened) (old new : List ℕ → Option Opened) : Type 0 where
@@ -28,6 +30,7 @@ pub record Sets (uri : List ℕ) (content : Option Opened) (old new : Dialogue) 
   pub documents : Updates uri content old.documents new.documents
   pub stage : new.stage ≡ old.stage
   pub encoding : new.encoding ≡ old.encoding
+  pub limits : new.limits ≡ old.limits
 
 -- a text is the one before with some changes, each made by the client to the text that the one before it left
 pub record IsChanged (edits : List Edit) (old new : Opened) : Type 0 where

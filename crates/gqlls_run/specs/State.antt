@@ -18,7 +18,7 @@ abbrev pub contents : {A : Type 0} → BTreeMap (String A) Document → List ℕ
 contents documents name = option_map content_of (get_by_text documents name)
 
 abbrev pub dialogue_of : Server → Dialogue
-dialogue_of server = record { stage = server.stage; encoding = server.encoding; documents = contents server.documents }
+dialogue_of server = record { stage = server.stage; encoding = server.encoding; limits = server.limits; documents = contents server.documents }
 
 -- the message takes the old server's dialogue to the new one's
 abbrev pub StepsOf : Server → Option Json → List ℕ → Json → Reply → Server → Type 0

@@ -1,18 +1,17 @@
 -- What is published of the documents that a client has open.
 use Rattle.std.specs.Prelude.{ℕ, ℤ, List, Option}
-use Rattle.apollo_parser.specs.Answers.{usize_max}
-use Rattle.apollo_parser.specs.Limits.{default_recursion}
 use Rattle.apollo_parser.specs.Parsed.{Parsed}
 use Rattle.apollo_parser.specs.Promise.{Promise}
+use Rattle.apollo_parser.specs.declared.Limits.{Limits}
 use Rattle.editor_diagnostics.specs.Publication.{IsPublication}
 use Rattle.editor_text.specs.Client.{Opened}
 use Rattle.rpc_messages.specs.declared.reply.Reply.{Reply}
 use Rattle.rpc_messages.specs.declared.reply.Reply.TheVariants.{Nothing, Answer, Notice, Exit}
 
--- the body publishes the errors of a parse of this text, at their positions as the client counts them
-pub record IsTold (uri : List ℕ) (version : Option ℤ) (content : Opened) (body : List ℕ) : Type 0 where
+-- the body publishes the errors of a parse of this text within the limits, at their positions as the client counts them
+pub record IsTold (limits : Limits) (uri : List ℕ) (version : Option ℤ) (content : Opened) (body : List ℕ) : Type 0 where
   pub parsed : Parsed
-  pub promise : Promise content.text default_recursion usize_max parsed
+  pub promise : Promise content.text limits.recursion limits.tokens parsed
   pub published : IsPublication uri version content.encoding content.text parsed.errors body
 
 -- the reply is a notice whose body is such

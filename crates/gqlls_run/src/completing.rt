@@ -1,5 +1,7 @@
 // What may come next.
-use apollo_parser::{DocumentRoot, Parser, SyntaxKind, SyntaxNode, SyntaxToken, SyntaxTree};
+use apollo_parser::{
+    DocumentRoot, Limits, Parser, SyntaxKind, SyntaxNode, SyntaxToken, SyntaxTree,
+};
 use editor_answers::{NameKind, meaning_of, span_of};
 use editor_diagnostics::Positions;
 use rpc_messages::Piece;
@@ -104,31 +106,46 @@ fn taken_at(tree: &SyntaxTree<DocumentRoot>, offset: usize) -> Option<Taken> {
     })
 }
 
-// What the grammar takes the first of some words for, after a text; `None` where it fits nowhere.
-fn taken_after(alloc: Global, front: &str, words: &str) -> Result<Option<Taken>, AllocError> {
-    let text = format!(in alloc; "{front}{words}")?;
-    let tree = Parser::new(text.as_str()).parse(alloc)?;
-    Ok(taken_at(&tree, front.len()))
+// A text that words are tried after, within limits.
+#[derive(Clone, Copy)]
+struct Front<'t> {
+    alloc: Global,
+    text: &'t str,
+    limits: Limits,
 }
 
-// Whether the grammar takes a keyword after a text, which the words begin with.
-fn is_keyword_after(alloc: Global, front: &str, words: &str) -> Result<bool, AllocError> {
-    match taken_after(alloc, front, words)? {
-        Some(taken) => Ok(taken.is_keyword),
-        None => Ok(false),
+impl Front<'_> {
+    // What the grammar takes the first of some words for, after the text; `None` where it fits nowhere.
+    fn taken(self, words: &str) -> Result<Option<Taken>, AllocError> {
+        let front = self.text;
+        let text = format!(in self.alloc; "{front}{words}")?;
+        let tree = Parser::within(text.as_str(), self.limits).parse(self.alloc)?;
+        Ok(taken_at(&tree, front.len()))
+    }
+
+    // Whether the grammar takes a keyword after the text, which the words begin with.
+    fn takes_keyword(self, words: &str) -> Result<bool, AllocError> {
+        match self.taken(words)? {
+            Some(taken) => Ok(taken.is_keyword),
+            None => Ok(false),
+        }
+    }
+
+    // What a name after the text would mean.
+    fn name(self) -> Result<Option<NameKind>, AllocError> {
+        match self.taken("x")? {
+            Some(taken) => Ok(taken.names),
+            None => Ok(None),
+        }
     }
 }
 
 // Adds the keywords that the grammar takes after a text.
-fn push_keywords(
-    alloc: Global,
-    front: &str,
-    found: &mut Vec<Candidate<'_>>,
-) -> Result<(), AllocError> {
+fn push_keywords(front: Front<'_>, found: &mut Vec<Candidate<'_>>) -> Result<(), AllocError> {
     for number in 0..SyntaxKind::COUNT {
         if let Some(kind) = SyntaxKind::from_u16(number)
             && let Some(label) = kind.keyword()
-            && is_keyword_after(alloc, front, continued(kind, label))?
+            && front.takes_keyword(continued(kind, label))?
         {
             found.push(Candidate {
                 label,
@@ -137,14 +154,6 @@ fn push_keywords(
         }
     }
     Ok(())
-}
-
-// What a name after a text would mean.
-fn name_after(alloc: Global, front: &str) -> Result<Option<NameKind>, AllocError> {
-    match taken_after(alloc, front, "x")? {
-        Some(taken) => Ok(taken.names),
-        None => Ok(None),
-    }
 }
 
 // The protocol's number of the sort of thing that a name means.
@@ -213,9 +222,20 @@ fn push_built_in<'t>(kind: NameKind, found: &mut Vec<Candidate<'t>>) -> Result<(
 }
 
 // The end of a text from where its last definition begins, as its parse has it.
-fn last_front(alloc: Global, before: &str) -> Result<Option<&str>, AllocError> {
-    let tree = Parser::new(before).parse(alloc)?;
-    Ok(last_definition(before, tree.root()))
+fn last_front(
+    alloc: Global,
+    before: &str,
+    limits: Limits,
+) -> Result<Option<Front<'_>>, AllocError> {
+    let tree = Parser::within(before, limits).parse(alloc)?;
+    match last_definition(before, tree.root()) {
+        Some(text) => Ok(Some(Front {
+            alloc,
+            text,
+            limits,
+        })),
+        None => Ok(None),
+    }
 }
 
 // The words that may come after a front of a text: the keywords that the grammar takes, and where a name is expected those that the document
@@ -224,13 +244,14 @@ fn completions<'t>(
     alloc: Global,
     before: &str,
     root: SyntaxNode<'t>,
+    limits: Limits,
 ) -> Result<Vec<Candidate<'t>>, AllocError> {
     let mut found = Vec::new(alloc);
-    let Some(front) = last_front(alloc, before)? else {
+    let Some(front) = last_front(alloc, before, limits)? else {
         return Ok(found);
     };
-    push_keywords(alloc, front, &mut found)?;
-    if let Some(kind) = name_after(alloc, front)? {
+    push_keywords(front, &mut found)?;
+    if let Some(kind) = front.name()? {
         push_names(root, kind, &mut found)?;
         push_built_in(kind, &mut found)?;
     }
@@ -276,9 +297,10 @@ pub(crate) fn push_completions<'p>(
     root: SyntaxNode<'p>,
     positions: &Positions<'_>,
     offset: usize,
+    limits: Limits,
 ) -> Result<(), AllocError> {
     let before = front_of(positions.text, offset);
-    let found = completions(alloc, before, root)?;
+    let found = completions(alloc, before, root, limits)?;
     let range = positions.range(before.len(), offset);
     push_candidates(pieces, &range, found.as_slice())
 }

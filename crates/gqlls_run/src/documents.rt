@@ -1,7 +1,5 @@
 // The open documents.
 ghost use Rattle.std.specs.Prelude.{◌≡◌, IfOk, MatchBool, None, OnOk, Some, map};
-ghost use Rattle.apollo_parser.specs.Answers.{usize_max};
-ghost use Rattle.apollo_parser.specs.Limits.{default_recursion};
 ghost use Rattle.apollo_parser.specs.Promise.{Promise};
 ghost use Rattle.rpc_messages.specs.Messages.{IsNotice};
 ghost use Rattle.gqlls_run.specs.Parameters.{told};
@@ -9,19 +7,23 @@ ghost use Rattle.gqlls_run.specs.Dialogue.{IsChanged, Updates};
 ghost use Rattle.gqlls_run.specs.State.{contents};
 ghost use Rattle.gqlls_run.specs.Told.{IsTold};
 
-use apollo_parser::{DocumentRoot, Parser, SyntaxTree};
+use apollo_parser::{DocumentRoot, Limits, Parser, SyntaxTree};
 use editor_diagnostics::{Positions, publication};
 use editor_text::{Change, OpenDocument};
 use line_index::PositionEncoding;
 use std::alloc::{AllocError, Global};
 use std::collections::BTreeMap;
 
-// The tree of a document's text.
-fn parsed(alloc: Global, content: &OpenDocument) -> Result<SyntaxTree<DocumentRoot>, AllocError>
-    ensures { IfOk result (Promise content.now.text default_recursion usize_max) }
+// The tree of a document's text, within limits.
+fn parsed(
+    alloc: Global,
+    content: &OpenDocument,
+    limits: Limits,
+) -> Result<SyntaxTree<DocumentRoot>, AllocError>
+    ensures { IfOk result (Promise content.now.text limits.recursion limits.tokens) }
 {
     // bound to a name, so that its clauses on `Ok` are found
-    let tree = Parser::new(content.text()).parse(alloc)?;
+    let tree = Parser::within(content.text(), limits).parse(alloc)?;
     Ok(tree)
 }
 
@@ -33,27 +35,33 @@ pub(crate) struct Document {
 }
 
 impl Document {
-    /// A document with its tree.
+    /// A document with its tree, which is parsed within limits.
     pub(crate) fn new(
         alloc: Global,
         encoding: PositionEncoding,
         text: &str,
+        limits: Limits,
     ) -> Result<Document, AllocError>
         ensures content { IfOk result (λ document. document.content ≡ record { encoding = encoding; text = text.now }) }
-        ensures parsed { IfOk result (λ document. Promise document.content.text default_recursion usize_max document.tree) }
+        ensures parsed { IfOk result (λ document. Promise document.content.text limits.recursion limits.tokens document.tree) }
     {
         let content = OpenDocument::new(alloc, encoding, text)?;
-        let tree = parsed(alloc, &content)?;
+        let tree = parsed(alloc, &content, limits)?;
         Ok(Document { content, tree })
     }
 
-    /// Changes the text, and parses it.
-    pub(crate) fn change(&mut self, alloc: Global, changes: &[Change<'_>]) -> Result<(), AllocError>
+    /// Changes the text, and parses it within limits.
+    pub(crate) fn change(
+        &mut self,
+        alloc: Global,
+        changes: &[Change<'_>],
+        limits: Limits,
+    ) -> Result<(), AllocError>
         ensures changed { OnOk result (IsChanged (map told changes.now) self.old.content self.new.content) }
-        ensures parsed { OnOk result (Promise self.new.content.text default_recursion usize_max self.new.tree) }
+        ensures parsed { OnOk result (Promise self.new.content.text limits.recursion limits.tokens self.new.tree) }
     {
         self.content.change_all(alloc, changes)?;
-        self.tree = parsed(alloc, &self.content)?;
+        self.tree = parsed(alloc, &self.content, limits)?;
         Ok(())
     }
 
@@ -64,9 +72,9 @@ impl Document {
         uri: &str,
         version: Option<i64>,
     ) -> Result<Vec<u8>, AllocError>
-        requires { Promise self.now.content.text default_recursion usize_max self.now.tree }
         ensures notifies { IfOk result (λ body. IsNotice body.items) }
-        ensures told { IfOk result (λ body. IsTold uri.now version self.now.content body.items) }
+        ensures told { IfOk result (λ body. (limits : Limits) → Promise self.now.content.text limits.recursion limits.tokens self.now.tree
+            → IsTold limits uri.now version self.now.content body.items) }
     {
         let positions = self.positions(alloc)?;
         let errors = self.tree.errors().as_slice();

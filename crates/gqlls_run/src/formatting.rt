@@ -9,6 +9,7 @@ ghost use Rattle.gqlls_run.specs.Layout.{IsFormattingOf, IsListOf, IsResultOf};
 
 use crate::documents::Document;
 use crate::layout::{Replacement, format_whole};
+use apollo_parser::Limits;
 use editor_diagnostics::Positions;
 use json::Value;
 use rpc_messages::{Piece, answer};
@@ -60,18 +61,19 @@ pub(crate) fn answer_layout(
     answer(alloc, id, pieces.as_slice())
 }
 
-/// The answer to `textDocument/formatting` about a document.
+/// The answer to `textDocument/formatting` about a document, within limits.
 pub(crate) fn answer_formatting(
     alloc: Global,
     id: &Value<'_>,
     document: &Document,
+    limits: Limits,
 ) -> Result<Vec<u8>, AllocError>
     requires { HasNumbers (value_view id.now) }
     ensures answers { IfOk result (λ body. IsAnswer (value_view id.now) body.items) }
-    ensures formats { IfOk result (λ body. IsFormattingOf (value_view id.now) document.now.content body.items) }
+    ensures formats { IfOk result (λ body. IsFormattingOf limits (value_view id.now) document.now.content body.items) }
 {
     let positions = document.positions(alloc)?;
-    let change = format_whole(alloc, positions.text)?;
+    let change = format_whole(alloc, positions.text, limits)?;
     // bound to a name, so that its clauses on `Ok` are found
     let body = answer_layout(alloc, id, &positions, &change)?;
     Ok(body)

@@ -1,13 +1,11 @@
 // The layout of a document, or of some of its definitions.
 ghost use Rattle.std.specs.Prelude.{◌≡◌, [], ◌∷◌, IfOk, IfSome, MatchOption, slice_range, string_bytes, true};
-ghost use Rattle.apollo_parser.specs.Answers.{usize_max};
-ghost use Rattle.apollo_parser.specs.Limits.{default_recursion};
-ghost use Rattle.formatter.specs.Formatted.{IsDocument, IsFormatted};
-ghost use Rattle.gqlls_run.specs.Layout.{IsLayout, IsWhole};
+ghost use Rattle.formatter.specs.Within.{IsFormattedWithin};
+ghost use Rattle.gqlls_run.specs.Layout.{IsLayout, IsLeft, IsWhole};
 
 use apollo_parser::{Limits, SyntaxNode};
 use editor_answers::{Span, span_of};
-use formatter::format;
+use formatter::{format, stays_within};
 use std::alloc::{AllocError, Global};
 
 /// A text for a part of another.
@@ -26,13 +24,17 @@ impl Replacement {
     }
 }
 
-// A document with the layout of `formatter`; `None` where it has errors.
-fn formatted(alloc: Global, source: &str) -> Result<Option<String>, AllocError>
-    ensures { IfOk result (λ r. MatchOption r (¬ IsDocument source.now default_recursion usize_max) (λ text. IsFormatted source.now default_recursion usize_max (string_bytes text))) }
+// A document with the layout of `formatter`; `None` where it has errors, or would have more items than the limit allows.
+fn formatted(alloc: Global, source: &str, limits: Limits) -> Result<Option<String>, AllocError>
+    ensures { IfOk result (λ r. MatchOption r (IsLeft limits source.now) (λ text. IsFormattedWithin limits source.now (string_bytes text))) }
 {
-    match format(alloc, source, Limits::DEFAULT)? {
-        Ok(text) => Ok(Some(text)),
-        Err(_) => Ok(None),
+    let Ok(text) = format(alloc, source, limits)? else {
+        return Ok(None);
+    };
+    if stays_within(text.as_str(), limits.tokens) {
+        Ok(Some(text))
+    } else {
+        Ok(None)
     }
 }
 
@@ -63,11 +65,16 @@ fn definitions_within(root: SyntaxNode<'_>, within: Span) -> Option<Span> {
     found
 }
 
-/// The whole document with the layout of `formatter`; `None` where it has errors. It fails only where memory is refused.
-pub(crate) fn format_whole(alloc: Global, source: &str) -> Result<Option<Replacement>, AllocError>
-    ensures { IfOk result (λ r. MatchOption r (¬ IsDocument source.now default_recursion usize_max) (IsWhole source.now)) }
+/// The whole document with the layout of `formatter`; `None` where it has errors, or would have more items than the limit allows. It fails only
+/// where memory is refused.
+pub(crate) fn format_whole(
+    alloc: Global,
+    source: &str,
+    limits: Limits,
+) -> Result<Option<Replacement>, AllocError>
+    ensures { IfOk result (λ r. MatchOption r (IsLeft limits source.now) (IsWhole limits source.now)) }
 {
-    let Some(text) = formatted(alloc, source)? else {
+    let Some(text) = formatted(alloc, source, limits)? else {
         return Ok(None);
     };
     let span = Span {
@@ -86,14 +93,19 @@ fn trimmed(source: &str, span: Span) -> Span {
     }
 }
 
-// A part of a text with the layout of `formatter`, without the line end after it; `None` where it has errors.
-fn format_at(alloc: Global, source: &str, span: Span) -> Result<Option<Replacement>, AllocError>
-    ensures { IfOk result (λ r. IfSome r (IsLayout source.now (10 ∷ []))) }
+// A part of a text with the layout of `formatter`, without the line end after it; `None` where it has errors, or would have too many items.
+fn format_at(
+    alloc: Global,
+    source: &str,
+    span: Span,
+    limits: Limits,
+) -> Result<Option<Replacement>, AllocError>
+    ensures { IfOk result (λ r. IfSome r (IsLayout limits source.now (10 ∷ []))) }
 {
     let Some(part) = source.get(span.start..span.end) else {
         return Ok(None);
     };
-    let Some(text) = formatted(alloc, part)? else {
+    let Some(text) = formatted(alloc, part, limits)? else {
         return Ok(None);
     };
     let Some(text) = text.as_str().strip_suffix("\n") else {
@@ -104,17 +116,18 @@ fn format_at(alloc: Global, source: &str, span: Span) -> Result<Option<Replaceme
 }
 
 /// The definitions that are at least partly in a part of the text, with the layout of `formatter`; `None` where there are none, or where they
-/// have errors. It fails only where memory is refused.
+/// have errors or would have more items than the limit allows. It fails only where memory is refused.
 pub(crate) fn format_part(
     alloc: Global,
     source: &str,
     root: SyntaxNode<'_>,
     within: Span,
+    limits: Limits,
 ) -> Result<Option<Replacement>, AllocError>
-    ensures { IfOk result (λ r. IfSome r (IsLayout source.now (10 ∷ []))) }
+    ensures { IfOk result (λ r. IfSome r (IsLayout limits source.now (10 ∷ []))) }
 {
     match definitions_within(root, within) {
-        Some(span) => format_at(alloc, source, trimmed(source, span)),
+        Some(span) => format_at(alloc, source, trimmed(source, span), limits),
         None => Ok(None),
     }
 }

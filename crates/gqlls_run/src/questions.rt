@@ -9,7 +9,7 @@ use crate::documents::Document;
 use crate::formatting::answer_layout;
 use crate::layout::format_part;
 use crate::parameters::{asks_for_definition, offset_of, offsets_of, span_of};
-use apollo_parser::SyntaxNode;
+use apollo_parser::{Limits, SyntaxNode};
 use editor_answers::{
     answer_hover, answer_symbols, answer_tokens, push_definition, push_folds, push_references,
     push_selections,
@@ -56,7 +56,7 @@ pub(crate) fn question_of(method: &str) -> Option<Question> {
     None
 }
 
-// What a question is about: a document, and parameters.
+// What a question is about: a document, and parameters; and the limits of each parse for its answer.
 #[derive(Clone, Copy)]
 struct Asked<'a, 'd, 'v> {
     alloc: Global,
@@ -64,6 +64,7 @@ struct Asked<'a, 'd, 'v> {
     positions: &'a Positions<'d>,
     uri: &'a str,
     params: &'a Value<'v>,
+    limits: Limits,
 }
 
 impl Asked<'_, '_, '_> {
@@ -119,7 +120,8 @@ impl Asked<'_, '_, '_> {
         let Some(within) = span_of(self.positions, self.params) else {
             return self.refused(id);
         };
-        let change = format_part(self.alloc, self.positions.text, self.root, within)?;
+        let text = self.positions.text;
+        let change = format_part(self.alloc, text, self.root, within, self.limits)?;
         answer_layout(self.alloc, id, self.positions, &change)
     }
 
@@ -173,7 +175,14 @@ impl Asked<'_, '_, '_> {
             return self.refused(id);
         };
         let mut pieces = Vec::new(self.alloc);
-        push_completions(self.alloc, &mut pieces, self.root, self.positions, offset)?;
+        push_completions(
+            self.alloc,
+            &mut pieces,
+            self.root,
+            self.positions,
+            offset,
+            self.limits,
+        )?;
         answer(self.alloc, id, pieces.as_slice())
     }
 
@@ -196,7 +205,7 @@ impl Asked<'_, '_, '_> {
     }
 }
 
-/// The answer to a question about the document with a name.
+/// The answer to a question about the document with a name, within limits.
 pub(crate) fn answer_question(
     alloc: Global,
     id: &Value<'_>,
@@ -204,6 +213,7 @@ pub(crate) fn answer_question(
     uri: &str,
     document: &Document,
     params: &Value<'_>,
+    limits: Limits,
 ) -> Result<Vec<u8>, AllocError>
     requires { HasNumbers (value_view id.now) }
     ensures { IfOk result (λ body. IsAnswer (value_view id.now) body.items) }
@@ -215,6 +225,7 @@ pub(crate) fn answer_question(
         positions: &positions,
         uri,
         params,
+        limits,
     };
     asked.answered(id, question)
 }

@@ -15,6 +15,7 @@ use crate::documents::{Document, insert};
 use crate::formatting::answer_formatting;
 use crate::parameters::{changes_of, encoding_of, text_of, uri_of, version_of};
 use crate::questions::{answer_question, question_of};
+use apollo_parser::Limits;
 use editor_diagnostics::withdrawal;
 use json::Value;
 use line_index::PositionEncoding;
@@ -32,23 +33,25 @@ enum Stage {
     ShutDown,
 }
 
-/// The open documents by their names, and how far the conversation is.
+/// The open documents by their names, how far the conversation is, and the limits of each parse.
 #[derive(Drop)]
 pub struct Server {
     documents: BTreeMap<String, Document>,
     stage: Stage,
     encoding: PositionEncoding,
+    limits: Limits,
 }
 
 impl Server {
     /// A server that has read no message.
-    pub fn new(alloc: Global) -> Server
-        ensures { dialogue_of result ≡ begun }
+    pub fn new(alloc: Global, limits: Limits) -> Server
+        ensures { dialogue_of result ≡ begun limits }
     {
         Server {
             documents: BTreeMap::new(alloc),
             stage: Stage::New,
             encoding: PositionEncoding::Utf16,
+            limits,
         }
     }
 
@@ -69,7 +72,7 @@ impl Server {
         let Some(document) = self.documents.get(uri) else {
             return refused(alloc, id, code::INVALID_PARAMS, NO_DOCUMENT);
         };
-        answer_formatting(alloc, id, document)
+        answer_formatting(alloc, id, document, self.limits)
     }
 
     // The answer to a question about an open document.
@@ -97,7 +100,7 @@ impl Server {
         if let Some(uri) = uri_of(params)
             && let Some(document) = self.documents.get(uri)
         {
-            return answer_question(alloc, id, question, uri, document, params);
+            return answer_question(alloc, id, question, uri, document, params, self.limits);
         }
         refused(alloc, id, code::INVALID_PARAMS, NO_DOCUMENT)
     }
@@ -114,7 +117,7 @@ impl Server {
         let Some(text) = text_of(params) else {
             return Ok(Reply::Nothing);
         };
-        let document = Document::new(alloc, self.encoding, text)?;
+        let document = Document::new(alloc, self.encoding, text, self.limits)?;
         let told = document.told(alloc, uri, version_of(params))?;
         insert(alloc, &mut self.documents, uri, document)?;
         Ok(Reply::Notice(told))
@@ -135,7 +138,7 @@ impl Server {
         let Some(document) = self.documents.get_mut(uri) else {
             return Ok(Reply::Nothing);
         };
-        document.change(alloc, changes.as_slice())?;
+        document.change(alloc, changes.as_slice(), self.limits)?;
         let told = document.told(alloc, uri, version_of(params))?;
         Ok(Reply::Notice(told))
     }

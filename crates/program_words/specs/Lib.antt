@@ -3,4 +3,5 @@ pub mod LimitOptions
 pub mod Information
 pub mod Gqlcst
 pub mod Gqlfmt
+pub mod Gqlls
 pub mod Reading

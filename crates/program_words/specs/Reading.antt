@@ -6,6 +6,7 @@ use Rattle.apollo_lexer.specs.Limits.{default_limits}
 use Rattle.apollo_lexer.specs.declared.limits.Limits.{Limits}
 use Rattle.program_words.specs.LimitOptions.{GivenLimits, limits_given}
 use Rattle.program_words.specs.Gqlfmt.{texts, Given, Run, run_given, given_by}
+use Rattle.program_words.specs.Gqlls as gqlls
 use Rattle.program_words.specs.declared.limits.SetLimits.{SetLimits}
 use Rattle.program_words.specs.declared.gqlfmt.Settings.{Settings}
 use Rattle.program_words.specs.declared.gqlfmt.WordsError.{WordsError}
@@ -55,3 +56,10 @@ IsTakenFrom word more settings files settings' files' (Ok count) =
     ≡ option_and_then (run_after settings' files') (given_by (texts (drop count more)))
 IsTakenFrom word more settings files settings' files' (Err Usage) = option_and_then (run_after settings files) (given_by (word ∷ texts more)) ≡ None
 IsTakenFrom word more settings files settings' files' (Err Memory) = Unit {0}
+
+-- Limits with a word of `gqlls` and as many of the words after it as are answered, or that the words set no limits.
+abbrev pub IsLimitsFrom : List ℕ → List (Bor (List ℕ)) → SetLimits → Option (SetLimits × ℕ) → Type 0
+IsLimitsFrom word more set (Some step) =
+    option_and_then (limits_after set) (gqlls.given_by (word ∷ texts more))
+    ≡ option_and_then (limits_after step.0) (gqlls.given_by (texts (drop step.1 more)))
+IsLimitsFrom word more set None = option_and_then (limits_after set) (gqlls.given_by (word ∷ texts more)) ≡ None

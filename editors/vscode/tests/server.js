@@ -101,10 +101,26 @@ const tests = {
     const missing = { path: "missing", why: /^gqlls cannot be started as missing: .*ENOENT/ };
     for (const { path, why } of [missing, { path: "true", why: /^gqlls cannot be started as true: / }]) {
       settings.path = path;
-      tell("onDidChangeConfiguration", { affectsConfiguration: (name) => name === "gqlls.path" });
+      tell("onDidChangeConfiguration", { affectsConfiguration: (name) => name === "gqlls" });
       await until(() => shown.length > 0);
       assert.match(shown.pop(), why);
       assert.deepEqual([shown, Object.keys(providers), errors.size], [[], [], 0]);
+    }
+  },
+
+  // a text that the default limits allow, and smaller ones do not: a level too deep, and a token too many
+  async "limits are passed on, and a change starts the server anew"() {
+    settings.path = process.argv[2];
+    for (const [limits, found] of [
+      [{ recursionLimit: 1 }, ["parser recursion limit reached"]],
+      [{ tokenLimit: 4 }, ["token limit reached, aborting lexing"]],
+      [{}, []],
+    ]) {
+      Object.assign(settings, { recursionLimit: 500, tokenLimit: null }, limits);
+      errors.clear();
+      tell("onDidChangeConfiguration", { affectsConfiguration: (name) => name === "gqlls" });
+      await until(() => errorsOf(query));
+      assert.deepEqual(errorsOf(query).map(({ message }) => message), found);
     }
   },
 

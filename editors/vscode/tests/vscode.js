@@ -43,7 +43,7 @@ class Document {
   }
 }
 
-const [listeners, commands, providers, shown, errors, settings] = [{}, {}, {}, [], new Map(), { path: "gqlls" }];
+const [listeners, commands, providers, shown, errors, settings] = [{}, {}, {}, [], new Map(), { path: "gqlls", recursionLimit: 500, tokenLimit: null }];
 const tell = (event, given) => [...(listeners[event] ?? [])].forEach((listener) => listener(given));
 
 function listening(event) {

@@ -29,9 +29,10 @@ returns-clause-changes c =
               ((c.get_mut.follows.holds c.change.new.self).3 (search rules)) refl;
           stage = refl;
           encoding = refl;
+          limits = refl;
         };
         version = c.version_of.result;
         versioned = c.version_of.ensures;
-        told = c.in_ok-told.ensures.told;
+        told = c.in_ok-told.ensures.told c.args.self.now.limits c.in_ok-change.ensures.parsed;
       };
     })

@@ -19,6 +19,7 @@ returns-clause-closes c =
         documents = updated _ _ c.args.self.now.documents c.remove.new.self _ _ refl c.remove.ensures.updates refl;
         stage = refl;
         encoding = refl;
+        limits = refl;
       };
       told = c.in_ok-told.ensures.withdrawn;
     })

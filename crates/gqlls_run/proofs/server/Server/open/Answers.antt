@@ -13,8 +13,8 @@ returns-clause-opens c =
     c.in-Some.uri.now c.in-Some-text_of.text.now c.in_ok-document.document.content
     (found_in _ _ _ _ c.uri_of.ensures c.in-Some.is) (found_in _ _ _ _ c.text_of.ensures c.in-Some-text_of.is) c.in_ok-document.ensures.content
     (record {
-      sets = record { documents = c.in_ok-insert.ensures; stage = refl; encoding = refl };
+      sets = record { documents = c.in_ok-insert.ensures; stage = refl; encoding = refl; limits = refl };
       version = c.version_of.result;
       versioned = c.version_of.ensures;
-      told = c.in_ok-told.ensures.told;
+      told = c.in_ok-told.ensures.told c.args.self.now.limits c.in_ok-document.ensures.parsed;
     })
