@@ -8,4 +8,4 @@ mod executables;
 mod mentioning;
 
 pub use executables::{DefinitionKind, ExecutableDefinition, definitions, fragments};
-pub use mentioning::{Mention, MentionKind, mentions};
+pub use mentioning::{Mention, MentionKind, mentions, name, name_of_fragment};

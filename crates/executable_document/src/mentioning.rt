@@ -29,16 +29,16 @@ pub struct Mention<'t> {
     pub name: &'t str,
 }
 
-// The name that a node has as a child.
-pub(crate) fn name<'t>(node: &SyntaxNode<'t>) -> Option<&'t str>
+/// The name that a node has as a child.
+pub fn name<'t>(node: &SyntaxNode<'t>) -> Option<&'t str>
     ensures { option_map (λ n. n.now) result ≡ name_of (node_place node.now) }
 {
     let name: Option<Name<'t>> = child(node);
     Some(name?.text().as_str())
 }
 
-// The fragment's name in a spread or in a definition.
-pub(crate) fn name_of_fragment<'t>(node: &SyntaxNode<'t>) -> Option<&'t str>
+/// The fragment's name in a spread or in a definition.
+pub fn name_of_fragment<'t>(node: &SyntaxNode<'t>) -> Option<&'t str>
     ensures { option_map (λ n. n.now) result ≡ name_in FRAGMENT_NAME (node_place node.now) }
 {
     let fragment: Option<FragmentName<'t>> = child(node);
