@@ -6,22 +6,25 @@ ghost use Rattle.expansion_figures.specs.declared.items.Item.{Item};
 
 use crate::items::Item;
 
-/// How large an expanded operation is. Each number stops at `u64::MAX`.
+/// How large an operation is with its fragments expanded. Each number stops at `u64::MAX`, which then means that or more.
+///
+/// The figures limit an operation too: then each is the greatest that is allowed.
 #[derive(Clone, Copy, PartialEq, Eq, Debug)]
 pub struct Figures {
-    /// The greatest number of fields in one another.
+    /// The greatest number of fields in one another: 2 for `{a{b}}`.
     pub depth: u64,
-    /// The number of fields.
+    /// The number of fields (GraphQL October 2021, section 2.5), `__typename` among them.
     pub fields: u64,
     /// The number of fields that no field encloses.
     pub root_fields: u64,
-    /// The number of aliases.
+    /// The number of aliases (section 2.7).
     pub aliases: u64,
-    /// The number of directives.
+    /// The number of directives (section 2.12) of the operation, its variables, its selections, and its fragments at each of their spreads.
     pub directives: u64,
-    /// The number of fields where each selection set has a response name once.
+    /// The number of fields, where each selection set counts a response name (section 2.7) once. Inline fragments and fragments have selection
+    /// sets of their own. Apollo Router limits this number as `max_height`.
     pub height: u64,
-    /// The number of root fields where each selection set has a response name once.
+    /// The number of root fields, counted like `height`.
     pub distinct_root_fields: u64,
 }
 

@@ -159,10 +159,12 @@ fn measure_distinct<'t>(
     }
 }
 
-/// The figures of the operations of a document, in order; `document` is the node of its root.
+/// The figures of the operations of a document, in order. `document` is the root of its tree, which should have no syntax errors: a field or a
+/// fragment without a name counts by these rules too.
 ///
-/// There are figures exactly if no two fragments have one name, and no operation leads to a cycle of fragments or to a spread of no fragment, unless
-/// memory is refused. Unused fragments may spread what they like.
+/// Unless memory is refused, there are figures exactly if no two fragments have one name, and no operation leads to a cycle of fragments or to a spread
+/// of no fragment. Fragments that no operation leads to may have both. If several errors apply, names come first, and then the first wrong spread,
+/// fragments expanded.
 pub fn measure<'t>(
     alloc: Global,
     document: &SyntaxNode<'t>,
