@@ -1,5 +1,7 @@
 -- One vertex of a row more.
-use Rattle.std.proofs.Common.{◌≡◌, ◌≢◌, ℕ, ◌<◌, ◌+◌, List, [], ◌∷◌, ◌++◌, length, get_or, set, Bool, true, false, not, cond, arith, sym, ◌∙◌, refl, inl, inr, ⊎_elim, append_assoc, append-nil, length-append, length-set, get_or-set_same, get_or-set_other}
+use Rattle.std.proofs.Common.{◌≡◌, ◌≢◌, ℕ, ◌<◌, ◌+◌, List, [], ◌∷◌, ◌++◌, length, get_or, set, Bool, true, false}
+use Rattle.std.proofs.Common.{not, cond, arith, sym, ◌∙◌, refl, inl}
+use Rattle.std.proofs.Common.{inr, ⊎_elim, append_assoc, append-nil, length-append, length-set, get_or-set_same, get_or-set_other}
 use Rattle.std.specs.List.{Contains}
 use Rattle.std.proofs.lemmas.Bool.{cases_eq}
 use Rattle.std.proofs.lemmas.List.{get_or_default}

@@ -54,13 +54,15 @@ from_root :
 from_root graph parts sound zero v below le =
     ⊎_elim
     (λ (e : (part_of parts v).root ≡ v). rw e (itself graph v))
-    (λ (at : (from : ℕ) × HasEdge graph from v × ((part_of parts from).root ≡ (part_of parts v).root) × ((part_of parts from).from_root < (part_of parts v).from_root)).
+    (λ (at : (from : ℕ) × HasEdge graph from v × ((part_of parts from).root ≡ (part_of parts v).root) × ((part_of parts from).from_root <
+    (part_of parts v).from_root)).
     absurd (let less = at.3 in omega arith))
     (sound v below).into
 from_root graph parts sound (suc n) v below le =
     ⊎_elim
     (λ (e : (part_of parts v).root ≡ v). rw e (itself graph v))
-    (λ (at : (from : ℕ) × HasEdge graph from v × ((part_of parts from).root ≡ (part_of parts v).root) × ((part_of parts from).from_root < (part_of parts v).from_root)).
+    (λ (at : (from : ℕ) × HasEdge graph from v × ((part_of parts from).root ≡ (part_of parts v).root) × ((part_of parts from).from_root <
+    (part_of parts v).from_root)).
     let less = at.3 in
     let rest = from_root graph parts sound n at.0 (begins_inside graph at.0 v at.1) (omega arith) in
     next at.0 v (rw (← at.2) rest) at.1)
