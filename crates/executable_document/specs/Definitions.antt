@@ -11,7 +11,7 @@ use Rattle.name_lists.specs.Names.{Name}
 use Rattle.executable_document.specs.declared.executables.DefinitionKind.{DefinitionKind}
 use Rattle.executable_document.specs.declared.executables.DefinitionKind.TheVariants.{Operation, Fragment}
 use Rattle.executable_document.specs.declared.executables.ExecutableDefinition.{ExecutableDefinition}
-use Rattle.executable_document.specs.Mentions.{name_of, name_in}
+use Rattle.executable_document.specs.Mentions.{Named, name_of, name_in}
 
 -- an operation or a fragment: its element, and its name, which an operation may lack
 pub record Defined : Type 0 where
@@ -35,9 +35,24 @@ defined_at p =
 abbrev pub defined : Place → List Defined
 defined document = filter_map defined_at (child_nodes document)
 
+-- the name of an operation
+abbrev pub operation_name : Defined → Option Name
+operation_name d = elim d.kind [ Operation ↦ d.name | Fragment ↦ None ]
+
 -- the name of a fragment
 abbrev pub fragment_name : Defined → Option Name
 fragment_name d = elim d.kind [ Operation ↦ None | Fragment ↦ d.name ]
 
 abbrev pub fragment_names : List Defined → List (Option Name)
 fragment_names ds = map fragment_name ds
+
+abbrev pub name_as : DefinitionKind → Defined → Option Name
+name_as Operation d = operation_name d
+name_as Fragment d = fragment_name d
+
+abbrev pub named : DefinitionKind → Defined → Option Named
+named kind d = option_map (λ name. record { place = d.place; name = name }) (name_as kind d)
+
+-- the operations or the fragments that have a name
+abbrev pub named_definitions : DefinitionKind → List Defined → List Named
+named_definitions kind ds = filter_map (named kind) ds

@@ -2,9 +2,10 @@
 ghost use Rattle.std.specs.Prelude.{◌≡◌, IfOk, map, option_map};
 ghost use Rattle.apollo_tree.specs.References.{node_place};
 ghost use Rattle.name_lists.specs.Names.{AreFirstNumbers};
-ghost use Rattle.executable_document.specs.Definitions.{as_defined, defined, defined_at, fragment_names};
+ghost use Rattle.executable_document.specs.Definitions.{as_defined, defined, defined_at, fragment_names, named, named_definitions};
+ghost use Rattle.executable_document.specs.Mentions.{as_named};
 
-use crate::mentioning::{name, name_of_fragment};
+use crate::mentioning::{Mention, name, name_of_fragment};
 use apollo_tree::{SyntaxKind, SyntaxNode};
 use name_lists::enter;
 use std::alloc::{AllocError, Global};
@@ -33,7 +34,17 @@ pub struct ExecutableDefinition<'t> {
 
 impl<'t> ExecutableDefinition<'t> {
     ghost use Rattle.std.specs.Prelude.{◌≡◌, option_map};
-    ghost use Rattle.executable_document.specs.Definitions.{as_defined, fragment_name};
+    ghost use Rattle.executable_document.specs.Definitions.{as_defined, fragment_name, operation_name};
+
+    /// The operation's name, or `None` for a fragment and for an operation without a name.
+    pub fn operation_name(&self) -> Option<&'t str>
+        ensures { option_map (λ n. n.now) result ≡ operation_name (as_defined self.now) }
+    {
+        match self.kind {
+            DefinitionKind::Operation => self.name,
+            DefinitionKind::Fragment => None,
+        }
+    }
 
     /// The fragment's name, or `None` for an operation.
     pub fn fragment_name(&self) -> Option<&'t str>
@@ -82,6 +93,37 @@ pub fn definitions<'t>(
         }
     }
     Ok(definitions)
+}
+
+// A definition with its name, if it is of a kind.
+fn named<'t>(definition: &ExecutableDefinition<'t>, kind: DefinitionKind) -> Option<Mention<'t>>
+    ensures { option_map as_named result ≡ named kind (as_defined definition.now) }
+{
+    let name = match kind {
+        DefinitionKind::Operation => definition.operation_name(),
+        DefinitionKind::Fragment => definition.fragment_name(),
+    };
+    Some(Mention {
+        node: definition.node,
+        name: name?,
+    })
+}
+
+/// The definitions of a kind that have a name, with their names.
+pub fn named_definitions<'t>(
+    alloc: Global,
+    definitions: &[ExecutableDefinition<'t>],
+    kind: DefinitionKind,
+) -> Result<Vec<Mention<'t>>, AllocError>
+    ensures { IfOk result (λ found. map as_named found.items ≡ named_definitions kind (map as_defined definitions.now)) }
+{
+    let mut found = Vec::new(alloc);
+    for definition in definitions {
+        if let Some(mention) = named(definition, kind) {
+            found.push(mention)?;
+        }
+    }
+    Ok(found)
 }
 
 /// The first fragment of each name, as its number among the definitions.

@@ -7,5 +7,7 @@
 mod executables;
 mod mentioning;
 
-pub use executables::{DefinitionKind, ExecutableDefinition, definitions, fragments};
+pub use executables::{
+    DefinitionKind, ExecutableDefinition, definitions, fragments, named_definitions,
+};
 pub use mentioning::{Mention, MentionKind, mentions, name, name_of_fragment};

@@ -4,6 +4,11 @@ use Rattle.std.proofs.Common.{ltb, eqb, Option, Some, None, unwrap_or, bytes_eq,
 use Rattle.std.specs.List.{position, position_or_len}
 use Rattle.std.specs.Option.{option_or}
 use Rattle.std.proofs.lemmas.Bool.Decides.{nat_tests}
+use Rattle.std.proofs.lemmas.Grind.{common_steps}
+use Rattle.std.proofs.lemmas.List.Quantifiers.{position-Some}
+use Rattle.std.proofs.lemmas.List.Sums.{fails_before_first, position_or_len_is}
+use Rattle.std.proofs.Common.{get_or, take, ◌<◌}
+use Rattle.std.proofs.lemmas.List.{get_or-take}
 use Rattle.std.proofs.lemmas.List.Folds.{position_or_len_push}
 use Rattle.std.proofs.lemmas.List.{length-append}
 use Rattle.std.proofs.lemmas.Slice.Eq.{bytes_eq-Decides}
@@ -51,3 +56,48 @@ named_more old new names name number are is enters q =
         ≡ option_or (first_number names q) (cond b (Some (length names)) None)
     entered true e = rw (same e) (or_last (first_number names q) (length names))
     entered false e = sym (none_else (first_number names q))
+
+-- ---- a first number among the first n
+none_at : {X : Type 0} (p : X → Bool) (xs : List X) (d : X) → position p xs ≡ None → (k : ℕ) → k < length xs → p (get_or xs k d) ≡ false
+none_at p xs d none k below = fails_before_first p xs k d (at_end (ltb (position_or_len p xs) (length xs)) refl)
+  where
+    at_end : (b : Bool) → ltb (position_or_len p xs) (length xs) ≡ b → k < position_or_len p xs
+    at_end true e = absurd (let h : Some (position_or_len p xs) ≡ None = rw e at none in cc)
+    at_end false e = grind (arith, nat_tests, e)
+
+is_position :
+    {X : Type 0} (p : X → Bool) (xs : List X) (i : ℕ) (d : X) → i < length xs → p (get_or xs i d) ≡ true
+    → ((k : ℕ) → k < i → p (get_or xs k d) ≡ false) → position p xs ≡ Some i
+is_position p xs i d below passes none =
+    let e = position_or_len_is p xs i d (omega arith) none (λ _. passes) in
+    let l : ltb i (length xs) ≡ true = grind (arith, nat_tests) in
+    rw (e, l) refl
+
+abbrev pub name_at : List (Option Name) → ℕ → Option Name
+name_at names k = get_or names k None
+
+-- the first number among the first n is the first of all
+pub first_in_front :
+    (names : List (Option Name)) (n i : ℕ) (name : Name) → n ≤ length names → first_number (take n names) name ≡ Some i
+    → (i < n) × (first_number names name ≡ Some i)
+first_in_front names n i name le is =
+    let long : length (take n names) ≡ n = grind (arith, common_steps) in
+    let at = position-Some (has_name name) (take n names) i None is in
+    let below : i < n = rw long at at.0 in
+    let passes : has_name name (name_at names i) ≡ true = rw (get_or-take n names i None below) at at.1 in (
+      below,
+      is_position (has_name name) names i None (omega arith) passes
+          (λ k less. let l : k < n = omega arith in rw (get_or-take n names k None l) at (at.2 k less)),
+    )
+
+-- none of the first n has the name
+pub none_in_front :
+    (names : List (Option Name)) (n : ℕ) (name : Name) → n ≤ length names → first_number (take n names) name ≡ None
+    → (k : ℕ) → k < n → has_name name (name_at names k) ≡ false
+none_in_front names n name le none k below =
+    let long : length (take n names) ≡ n = grind (arith, common_steps) in
+    rw (get_or-take n names k None below) at (none_at (has_name name) (take n names) None none k (rw long below))
+
+-- the name at the first number is equal
+pub first_has_name : (names : List (Option Name)) (i : ℕ) (name : Name) → first_number names name ≡ Some i → has_name name (name_at names i) ≡ true
+first_has_name names i name is = (position-Some (has_name name) names i None is).1

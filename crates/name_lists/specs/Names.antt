@@ -1,5 +1,5 @@
 -- Names, and what is entered under them.
-use Rattle.std.specs.Prelude.{◌≡◌, ℕ, List, Bool, false, Option, Some, None, unwrap_or, if◌then◌else◌, bytes_eq}
+use Rattle.std.specs.Prelude.{◌≡◌, ℕ, List, Bool, false, Option, Some, None, is_some, true, unwrap_or, if◌then◌else◌, bytes_eq}
 use denote.Ref.{Bor}
 use Rattle.std.specs.Ordering.{nat_cmp}
 use Rattle.std.specs.Cmp.Lexicographic.{slice_cmp}
@@ -16,6 +16,9 @@ Entries V = BTreeMap (Bor (List ℕ)) V
 -- what is entered under a name
 abbrev pub entry_of : {V : Type 0} → Entries V → Name → Option V
 entry_of entries name = get_by (λ (k : Bor (List ℕ)). slice_cmp nat_cmp name k.now) entries
+
+abbrev pub HasEntry : {V : Type 0} → Entries V → Name → Type 0
+HasEntry entries name = is_some (entry_of entries name) ≡ true
 
 -- The value is entered under the name if there was none before. The other entries are as they were.
 abbrev pub Enters : {V : Type 0} → Entries V → Entries V → Name → V → Type 0

@@ -1,7 +1,7 @@
 //! Names, and what is entered first under each. All rules that ask whether names are unique, or whether one of a name exists, look it up here.
 #![tactic(auto)]
 
-ghost use Rattle.std.specs.Prelude.{◌≡◌, IfOk};
+ghost use Rattle.std.specs.Prelude.{◌≡◌, IfOk, is_some};
 ghost use Rattle.name_lists.specs.Names.{Enters, entry_of};
 
 use std::alloc::AllocError;
@@ -21,4 +21,11 @@ pub fn enter<'t, V: Copy>(
     }
     entries.insert(name, value)?;
     Ok(None)
+}
+
+/// Whether a value is entered under a name.
+pub fn is_entered<'t, V>(entries: &BTreeMap<&'t str, V>, name: &'t str) -> bool
+    ensures { result ≡ is_some (entry_of entries.now name.now) }
+{
+    entries.contains_key(name)
 }
