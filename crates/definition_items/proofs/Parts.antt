@@ -16,11 +16,9 @@ use Rattle.apollo_tree.proofs.Parts.{part}
 use Rattle.apollo_tree.proofs.Places.{length-order}
 use Rattle.name_lists.specs.Names.{Name, Entries}
 use Rattle.expansion_figures.specs.declared.items.Item.{Item}
-use Rattle.definition_items.specs.Items.{items_of, inside, seen_after, items_below, is_among, is_new, with_name, response_name, field_items, other_items}
+use Rattle.definition_items.specs.Items.{spot as at, items_of, inside, seen_after, items_below}
+use Rattle.definition_items.specs.Items.{is_among, is_new, with_name, response_name, field_items, other_items}
 use Rattle.definition_items.specs.Collecting.{ArePart, nodes_from, AreNames, IsLeft, IsNoted, Adds}
-
-abbrev at : Forest → ℕ → Place
-at whole i = record { whole = whole; index = i }
 
 regroup : (xs ys zs us : List Element) (e : Element) → xs ++ ((e ∷ (ys ++ zs)) ++ us) ≡ (xs ++ (e ∷ ys)) ++ (zs ++ us)
 regroup xs ys zs us e = simp append_assoc

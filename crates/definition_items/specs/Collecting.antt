@@ -4,7 +4,7 @@ use Rattle.document_grammar.specs.Forests.{Forest, none, leaf, node, count}
 use Rattle.apollo_tree.specs.Order.{Element, Place, order, order_from}
 use Rattle.name_lists.specs.Names.{Name, Entries, entry_of}
 use Rattle.expansion_figures.specs.declared.items.Item.{Item}
-use Rattle.definition_items.specs.Items.{is_among, is_new, with_name, items_of, seen_after, items_below}
+use Rattle.definition_items.specs.Items.{spot, is_among, is_new, with_name, items_of, seen_after, items_below}
 
 -- the number that a fragment's name has in a map
 abbrev pub number_of : Entries ℕ → Option Name → ℕ
@@ -39,7 +39,7 @@ pub record ArePart (whole : Forest) (i end : ℕ) (f : Forest) : Type 0 where
 abbrev pub nodes_from : Forest → ℕ → Forest → List Place
 nodes_from whole i none = []
 nodes_from whole i (leaf k s rest) = nodes_from whole (suc i) rest
-nodes_from whole i (node k kids rest) = record { whole = whole; index = i } ∷ nodes_from whole (suc (i + count kids)) rest
+nodes_from whole i (node k kids rest) = spot whole i ∷ nodes_from whole (suc (i + count kids)) rest
 
 -- what is left of the children of the element `p`: `left` are the nodes among them, `all` is what there is to be found, and `found` what has been
 pub record IsLeft (p : Place) (number : Option Name → ℕ) (n : ℕ) (all found : List Item) (names : Entries (Unit {0})) (left : List Place) : Type 0 where

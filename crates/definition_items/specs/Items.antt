@@ -12,6 +12,10 @@ use Rattle.expansion_figures.specs.declared.items.Item.{Item}
 use Rattle.expansion_figures.specs.declared.items.Item.TheVariants.{Field, ResponseName, Alias, Directive, Spread}
 use Rattle.expansion_figures.specs.declared.items.Span.{Span}
 
+-- the element with an index
+abbrev pub spot : Forest → ℕ → Place
+spot whole i = record { whole = whole; index = i }
+
 -- the response name of a field (GraphQL October 2021, section 2.7): its alias, or else its name
 abbrev pub response_name : Place → Option Name
 response_name p = elim (first_of (cast_children (is_kind ALIAS) p)) [ Some alias ↦ name_of alias | None ↦ name_of p ]
@@ -60,9 +64,9 @@ abbrev pub items_below : Forest → (Option Name → ℕ) → ℕ → ℕ → Li
 items_below whole number n i seen none = []
 items_below whole number n i seen (leaf k s rest) = items_below whole number n (suc i) seen rest
 items_below whole number n i seen (node k kids rest) =
-    items_of number n seen (record { whole = whole; index = i })
-    ++ (items_below whole number (inside n (record { whole = whole; index = i })) (suc i) [] kids
-    ++ items_below whole number n (suc (i + count kids)) (seen_after seen (record { whole = whole; index = i })) rest)
+    items_of number n seen (spot whole i)
+    ++ (items_below whole number (inside n (spot whole i)) (suc i) [] kids
+    ++ items_below whole number n (suc (i + count kids)) (seen_after seen (spot whole i)) rest)
 
 -- those of a definition: of all below its node
 abbrev pub definition_items : (Option Name → ℕ) → Place → List Item
