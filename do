@@ -12,7 +12,7 @@ usage: ./do COMMAND
   try CRATE [..]     runs a program, or with --test a crate's tests, and proves nothing (rt try)
   quick-bindings     makes the library for C without a proof, in a minute, and runs its tests and those of Rust and Python
   gate               what a merge has to pass: quick, rt ci, and test
-  test               the tests of the output of rt ci: formatted texts, C and Python, the page, editors, README, the release
+  test               the tests of the output of rt ci: formatted texts, figures, C and Python, the page, editors, README, the release
   release [trial]    makes build/release/ after the gate, or tries it in a bare Debian: programs, libraries, the page, packages for Debian,
                      Python, Rust, npm and VS Code
   bench [NAME [..]]  measures the programs of `rt ci`: small, parse, hostile, stack, format, server, c or python, or else all of them
@@ -41,6 +41,7 @@ quick() {
 
 tests() {
     tools/format_texts --trial
+    tools/figures
     tools/bindings
     tools/bindings pages
     tools/editor_tests

@@ -1,0 +1,13 @@
+use Rattle.std.proofs.Common.{map, option_map}
+use Rattle.apollo_tree.specs.References.{node_place}
+use Rattle.executable_document.specs.Mentions.{as_named}
+use Rattle.name_lists.specs.Names.{HasEntry}
+use Rattle.definition_rules.specs.Violations.{Adds}
+use Rattle.definition_rules.proofs.AddLemmas.{AllBelow, Below}
+use Rattle.definition_rules.proofs.NameLemmas.{KnownAt, UnknownAt}
+use Rattle.definition_rules.proofs.naming.add_unknown.Given as goal
+
+abbrev pub invariant-loop-item : goal.invariant-loop-item
+invariant-loop-item g l =
+    Adds (Below (UnknownAt l.rule (option_map node_place l.other) (HasEntry l.known) (map as_named l.items)) l.item-index)
+    (AllBelow (KnownAt (HasEntry l.known) (map as_named l.items)) l.item-index) l.initial.violations l.violations

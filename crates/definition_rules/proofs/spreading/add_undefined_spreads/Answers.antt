@@ -1,0 +1,29 @@
+use Rattle.std.proofs.Common.{◌≡◌, ◌≤◌, arith, length, map, ap, ◌∙◌}
+use Rattle.std.proofs.lemmas.List.{length-map}
+use Rattle.std.proofs.lemmas.Bool.Decides.{nat_tests}
+use Rattle.executable_document.specs.Mentions.{as_named}
+use Rattle.definition_rules.specs.Parts.{Parts, as_parts}
+use Rattle.definition_rules.specs.Violations.{count}
+use Rattle.definition_rules.proofs.FragmentLemmas.{spreads_all, spreads_full, spreads_more}
+use Rattle.definition_rules.proofs.spreading.add_undefined_spreads.Goals as goal
+
+pub loop-number-preserved : goal.loop-number-preserved
+loop-number-preserved c =
+    let spreads = ap (λ (d : Parts). d.spreads) c.part_at.ensures in
+    let same = ap (map as_named) c.deref.ensures.value ∙ spreads in
+    spreads_more (map as_parts c.args.parts.now) c.args.fragments.now c.loop-number.number _ _ _ _ c.requires same c.loop-number.invariant
+    c.in_ok-add_unknown.ensures
+
+pub returns-then-is_full : goal.returns-then-is_full
+returns-then-is_full c =
+    let ds = map as_parts c.args.parts.now in
+    let le : c.loop-number.number ≤ length ds = simp length-map (omega arith) in
+    let full = c.if-is_full.ensures in
+    let filled : c.loop-number.violations.most ≤ count c.loop-number.violations = grind (arith, nat_tests, full) in
+    spreads_full ds _ _ _ _ le filled c.loop-number.invariant
+
+pub returns : goal.returns
+returns c =
+    let ds = map as_parts c.args.parts.now in
+    let end : c.loop-number.number ≡ length ds = simp length-map (omega arith) in
+    spreads_all ds _ _ _ end c.loop-number.invariant

@@ -1,0 +1,26 @@
+-- Names that are entered.
+use Rattle.std.specs.Prelude.{◌⊎◌, ℕ, List, Some}
+use Rattle.std.specs.List.{Contains}
+use Rattle.name_lists.specs.Names.{Name, Entries, HasEntry}
+use Rattle.executable_document.specs.Mentions.{Named}
+use Rattle.definition_rules.specs.declared.violations.Rule.TheVariants.{NoUndefinedVariables}
+use Rattle.definition_rules.specs.Violations.{Breach}
+use Rattle.definition_rules.specs.Parts.{Parts, at, place_at}
+use Rattle.definition_rules.specs.Rules.{AreKnown, HasName, IsDeclared, IsUnknown}
+
+-- The new map has the names that the old one has, and those of the items.
+pub record EntersNames {V : Type 0} (old new : Entries V) (items : List Named) : Type 0 where
+  pub kept : (name : Name) → HasEntry old name → HasEntry new name
+  pub entered : (name : Name) → HasName items name → HasEntry new name
+  pub no_others : (name : Name) → HasEntry new name → HasEntry old name ⊎ HasName items name
+
+-- one of some definitions uses the variable
+abbrev pub IsUsedAmong : List Parts → List ℕ → Name → Type 0
+IsUsedAmong ds numbers name = (number : ℕ) × Contains numbers number × HasName (at ds number).used name
+
+-- Of some definitions, one uses a variable that an operation does not declare.
+abbrev pub UndefinedIn : List Parts → ℕ → ℕ → Breach → Type 0
+UndefinedIn ds operation number b = IsUnknown NoUndefinedVariables (Some (place_at ds operation)) (IsDeclared ds operation) (at ds number).used b
+
+abbrev pub DefinedIn : List Parts → ℕ → ℕ → Type 0
+DefinedIn ds operation number = AreKnown (IsDeclared ds operation) (at ds number).used

@@ -1,0 +1,77 @@
+-- What the rules ask of operations and fragments: their names, and the names that they mention.
+use Rattle.std.specs.Prelude.{ℕ, List, [], length, map, Bool, true, false, Option, None, is_none, slice_index_or}
+use Rattle.std.specs.List.{Contains, filter, filter_map, range_with_len}
+use Rattle.document_grammar.specs.Forests.{none}
+use Rattle.apollo_tree.specs.Order.{Place}
+use Rattle.name_lists.specs.Names.{Name, first_number}
+use Rattle.directed_graph.specs.Graph.{Reached}
+use Rattle.executable_document.specs.declared.executables.DefinitionKind.TheVariants.{Operation, Fragment}
+use Rattle.executable_document.specs.declared.mentioning.MentionKind.TheVariants.{Spread, Declared, Used}
+use Rattle.executable_document.specs.Definitions.{Defined, as_defined, fragment_names}
+use Rattle.executable_document.specs.Mentions.{Named, as_named, mentions}
+use Rattle.definition_rules.specs.declared.reading.DefinitionParts.{DefinitionParts}
+
+-- an operation or a fragment with the fragments that it spreads, and the variables that it declares and uses
+pub record Parts : Type 0 where
+  pub definition : Defined
+  pub spreads : List Named
+  pub declared : List Named
+  pub used : List Named
+
+abbrev pub as_parts : DefinitionParts → Parts
+as_parts d = record {
+  definition = as_defined d.definition;
+  spreads = map as_named d.spreads.items;
+  declared = map as_named d.declared.items;
+  used = map as_named d.used.items;
+}
+
+-- those of a definition in its tree
+abbrev pub parts_of : Defined → Parts
+parts_of d = record {
+  definition = d;
+  spreads = mentions Spread d.place;
+  declared = mentions Declared d.place;
+  used = mentions Used d.place;
+}
+
+abbrev pub definitions : List Parts → List Defined
+definitions ds = map (λ d. d.definition) ds
+
+abbrev pub nowhere : Place
+nowhere = record { whole = none; index = 0 }
+
+abbrev pub nothing : Parts
+nothing = record { definition = record { kind = Fragment; place = nowhere; name = None }; spreads = []; declared = []; used = [] }
+
+-- the definition with a number
+abbrev pub at : List Parts → ℕ → Parts
+at ds number = slice_index_or ds number nothing
+
+abbrev pub place_at : List Parts → ℕ → Place
+place_at ds number = (at ds number).definition.place
+
+abbrev pub is_operation : Parts → Bool
+is_operation d = elim d.definition.kind [ Operation ↦ true | Fragment ↦ false ]
+
+-- the numbers of the operations
+abbrev pub operations : List Parts → List ℕ
+operations ds = filter (λ number. is_operation (at ds number)) (range_with_len 0 (length ds))
+
+abbrev pub is_anonymous : Parts → Bool
+is_anonymous d = is_none d.definition.name
+
+-- the first fragment with a name
+abbrev pub fragment_named : List Parts → Name → Option ℕ
+fragment_named ds name = first_number (fragment_names (definitions ds)) name
+
+-- the fragments that a definition spreads, in order
+abbrev pub targets : List Parts → Parts → List ℕ
+targets ds d = filter_map (λ (s : Named). fragment_named ds s.name) d.spreads
+
+abbrev pub Spreads : List Parts → ℕ → ℕ → Type 0
+Spreads ds from to = Contains (targets ds (at ds from)) to
+
+-- A definition is one of these, or one of these spreads it, directly or through other fragments.
+abbrev pub Reaches : List Parts → List ℕ → ℕ → Type 0
+Reaches ds starts number = Reached (Spreads ds) starts number

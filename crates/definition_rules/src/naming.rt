@@ -1,0 +1,93 @@
+// Rules on names that must be unique, or must be there.
+ghost use Rattle.std.specs.Prelude.{◌≡◌, ◌==◌, OnOk, map, not, option_map};
+ghost use Rattle.std.specs.List.{find};
+ghost use Rattle.apollo_tree.specs.References.{node_place};
+ghost use Rattle.name_lists.specs.Names.{HasEntry};
+ghost use Rattle.executable_document.specs.Mentions.{as_named};
+ghost use Rattle.definition_rules.specs.Parts.{as_parts, operations};
+ghost use Rattle.definition_rules.specs.Rules.{AnonymousIsAlone, AreKnown, AreUnique, IsNotAlone, IsUnknown, Repeats};
+ghost use Rattle.definition_rules.specs.Violations.{Adds};
+
+use crate::reading::{DefinitionParts, part_at};
+use crate::violations::{Rule, Violations};
+use apollo_tree::SyntaxNode;
+use executable_document::Mention;
+use name_lists::{enter, is_entered};
+use std::alloc::{AllocError, Global};
+use std::collections::BTreeMap;
+
+/// Adds the items with the name of an earlier one.
+pub fn add_repeats<'t>(
+    alloc: Global,
+    violations: &mut Violations<'t>,
+    rule: Rule,
+    items: &[Mention<'t>],
+) -> Result<(), AllocError>
+    ensures { OnOk result (Adds (Repeats rule (map as_named items.now)) (AreUnique (map as_named items.now)) violations.old violations.new) }
+{
+    let mut numbers: BTreeMap<&'t str, usize> = BTreeMap::new(alloc);
+    for (number, item) in items.iter().enumerate() {
+        if violations.is_full() {
+            return Ok(());
+        }
+        if let Some(first) = enter(&mut numbers, item.name, number)? {
+            violations.add(rule, item.node, Some(items[first].node))?;
+        }
+    }
+    Ok(())
+}
+
+/// Adds the items whose name is not entered.
+pub(crate) fn add_unknown<'t, V>(
+    violations: &mut Violations<'t>,
+    rule: Rule,
+    other: Option<SyntaxNode<'t>>,
+    items: &[Mention<'t>],
+    known: &BTreeMap<&'t str, V>,
+) -> Result<(), AllocError>
+    ensures { OnOk result (Adds (IsUnknown rule (option_map node_place other.entry) (HasEntry known.now) (map as_named items.now)) (AreKnown (HasEntry known.now) (map as_named items.now)) violations.old violations.new) }
+{
+    for item in items {
+        if violations.is_full() {
+            return Ok(());
+        }
+        if !is_entered(known, item.name) {
+            violations.add(rule, item.node, other)?;
+        }
+    }
+    Ok(())
+}
+
+// The first operation that is not this one.
+fn other_operation(numbers: &[usize], number: usize) -> Option<usize>
+    ensures { result ≡ find (λ k. not (k == number)) numbers.now }
+{
+    numbers.iter().copied().find(|k| *k != number)
+}
+
+/// Adds the operations without a name beside which there are others.
+pub fn add_anonymous<'t>(
+    violations: &mut Violations<'t>,
+    parts: &[DefinitionParts<'t>],
+    numbers: &[usize],
+) -> Result<(), AllocError>
+    requires { numbers.now ≡ operations (map as_parts parts.now) }
+    ensures { OnOk result (Adds (IsNotAlone (map as_parts parts.now)) (AnonymousIsAlone (map as_parts parts.now)) violations.old violations.new) }
+{
+    for number in numbers {
+        if violations.is_full() {
+            return Ok(());
+        }
+        let operation = part_at(parts, *number);
+        if operation.is_anonymous() {
+            if let Some(other) = other_operation(numbers, *number) {
+                violations.add(
+                    Rule::LoneAnonymousOperation,
+                    operation.definition.node,
+                    Some(part_at(parts, other).definition.node),
+                )?;
+            }
+        }
+    }
+    Ok(())
+}

@@ -1,0 +1,94 @@
+// Violations of rules, collected up to a bound.
+use apollo_tree::SyntaxNode;
+use std::alloc::{AllocError, Global};
+
+/// A rule of validation, under the name that graphql-js gives it, with its section (GraphQL October 2021).
+#[derive(Clone, Copy)]
+pub enum Rule {
+    /// 5.1.1
+    ExecutableDefinitions,
+    /// 5.2.1.1
+    UniqueOperationNames,
+    /// 5.2.2.1
+    LoneAnonymousOperation,
+    /// 5.4.2
+    UniqueArgumentNames,
+    /// 5.5.1.1
+    UniqueFragmentNames,
+    /// 5.5.1.4
+    NoUnusedFragments,
+    /// 5.5.2.1
+    KnownFragmentNames,
+    /// 5.5.2.2
+    NoFragmentCycles,
+    /// 5.6.3
+    UniqueInputFieldNames,
+    /// 5.8.1
+    UniqueVariableNames,
+    /// 5.8.3
+    NoUndefinedVariables,
+    /// 5.8.4
+    NoUnusedVariables,
+    /// 3.6 and 3.10
+    UniqueFieldDefinitionNames,
+    /// 3.6 and 3.13
+    UniqueArgumentDefinitionNames,
+    /// 3.9
+    UniqueEnumValueNames,
+}
+
+/// A place at which a document breaks a rule.
+#[derive(Clone, Copy)]
+pub struct Violation<'t> {
+    pub rule: Rule,
+    /// What breaks the rule.
+    pub node: SyntaxNode<'t>,
+    /// The other party: the first of the name, the operation, or another operation or fragment.
+    pub other: Option<SyntaxNode<'t>>,
+}
+
+/// Violations, no more than a bound.
+#[derive(Drop)]
+pub struct Violations<'t> {
+    pub list: Vec<Violation<'t>>,
+    pub most: usize,
+}
+
+impl<'t> Violations<'t> {
+    ghost use Rattle.std.specs.Prelude.{◌≡◌, [], OnOk, option_map, length, nat_le};
+    ghost use Rattle.apollo_tree.specs.References.{node_place};
+    ghost use Rattle.definition_rules.specs.Violations.{Adds, breach};
+
+    /// None yet, and room for a number of them.
+    pub fn new(alloc: Global, most: usize) -> Violations<'t>
+        ensures none { result.list.items ≡ [] }
+        ensures most { result.most ≡ most }
+    {
+        Violations {
+            list: Vec::new(alloc),
+            most,
+        }
+    }
+
+    /// Whether no more are taken.
+    pub fn is_full(&self) -> bool
+        ensures { result ≡ nat_le self.now.most (length self.now.list.items) }
+    {
+        self.most <= self.list.len()
+    }
+
+    /// Adds one, unless the list is full.
+    pub fn add(
+        &mut self,
+        rule: Rule,
+        node: SyntaxNode<'t>,
+        other: Option<SyntaxNode<'t>>,
+    ) -> Result<(), AllocError>
+        ensures { OnOk result (Adds (λ b. b ≡ breach rule (node_place node.entry) (option_map node_place other.entry)) ⊥ self.old self.new) }
+    {
+        if !self.is_full() {
+            self.list.push(Violation { rule, node, other })?;
+        }
+        Ok(())
+    }
+}

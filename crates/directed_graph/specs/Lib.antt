@@ -1,0 +1,4 @@
+pub mod Graph
+pub mod Marks
+pub mod Parts
+pub mod Returns

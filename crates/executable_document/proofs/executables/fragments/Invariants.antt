@@ -1,0 +1,7 @@
+use Rattle.std.proofs.Common.{map, take}
+use Rattle.name_lists.specs.Names.{AreFirstNumbers}
+use Rattle.executable_document.specs.Definitions.{as_defined, fragment_names}
+use Rattle.executable_document.proofs.executables.fragments.Given as goal
+
+abbrev pub invariant-loop-number : goal.invariant-loop-number
+invariant-loop-number l = AreFirstNumbers l.fragments (fragment_names (map as_defined (take l.number l.definitions)))

@@ -1,0 +1,3 @@
+pub mod FiguresOfParts
+pub mod Expansions
+pub mod Steps

@@ -1,0 +1,10 @@
+use Rattle.std.proofs.Common.{◌≡◌, map, take}
+use Rattle.apollo_tree.specs.References.{node_place}
+use Rattle.definition_items.specs.Items.{definition_items}
+use Rattle.definition_items.specs.Collecting.{number_of}
+use Rattle.operation_limits.proofs.measuring.all_items.Given as goal
+
+abbrev pub invariant-loop-definition : goal.invariant-loop-definition
+invariant-loop-definition l =
+    map (λ items. items.items) l.found.items
+    ≡ map (λ d. definition_items (number_of l.fragments) (node_place d.node)) (take l.definition-index l.definitions)
