@@ -194,3 +194,13 @@ repeat_more rule items n first old mid new below is before adds =
     (λ b e. (first, front.0, front.1, e))
     (λ b (other, less, is_other, e). let same : other ≡ first = (let f : Some other ≡ Some first = sym is_other ∙ front.1 in cc) in rw same at e)
     (λ none. absurd none) adds)
+
+-- unique names do not repeat
+pub unique_repeats : (rule : Rule) (items : List Named) (b : Breach) → AreUnique items → ¬ Repeats rule items b
+unique_repeats rule items b unique so =
+    let name = (item_at items so.number).name in
+    let inside = so.inside in
+    let earlier = so.earlier in
+    let has = first_has_name (names items) so.first name so.is_first in
+    let same = (bytes_eq-Decides (item_at items so.first).name name).0 (rw (name_of_number items so.first (omega arith)) at has) in
+    unique so.first so.number earlier inside same

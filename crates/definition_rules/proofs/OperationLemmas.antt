@@ -41,6 +41,16 @@ pub find_has : {A : Type 0} (p : A → Bool) (xs : List A) (x : A) → find p xs
 find_has p [] x is = absurd (cc)
 find_has p (y ∷ ys) x is = found_later p x y ys (p y) refl (find_has p ys x) is
 
+passes_later :
+    {A : Type 0} (p : A → Bool) (x y : A) (ys : List A) (b : Bool) → p y ≡ b → (find p ys ≡ Some x → p x ≡ true) → cond b (Some y) (find p ys) ≡ Some x
+    → p x ≡ true
+passes_later p x y ys true e rest is = let s : y ≡ x = cc in ap p (sym s) ∙ e
+passes_later p x y ys false e rest is = rest is
+
+pub find_passes : {A : Type 0} (p : A → Bool) (xs : List A) (x : A) → find p xs ≡ Some x → p x ≡ true
+find_passes p [] x is = absurd (cc)
+find_passes p (y ∷ ys) x is = passes_later p x y ys (p y) refl (find_passes p ys x) is
+
 missed :
     {A : Type 0} (p : A → Bool) (x y : A) (ys : List A) (b : Bool) → p y ≡ b → (find p ys ≡ None → Contains ys x → p x ≡ false)
     → cond b (Some y) (find p ys) ≡ None → Contains (y ∷ ys) x → p x ≡ false

@@ -1,0 +1,187 @@
+-- A valid document breaks no rule, and what all rules add.
+use Rattle.std.proofs.Common.{◌≡◌, ◌⊎◌, ◌==◌, ℕ, ◌<◌, List, [], ◌∷◌, length, map, true, false}
+use Rattle.std.proofs.Common.{not, Option, Some, None, arith, refl, sym, ◌∙◌, ap, subst, inl, inr, ⊎_elim}
+use Rattle.std.specs.Prelude.{◌↔◌}
+use Rattle.std.specs.List.{Contains}
+use Rattle.std.proofs.lemmas.Bool.Decides.{nat_tests}
+use Rattle.std.proofs.lemmas.List.{get_or_default, length-map}
+use Rattle.apollo_tree.specs.Order.{Place}
+use Rattle.apollo_tree.specs.Children.{child_nodes}
+use Rattle.executable_document.specs.declared.executables.DefinitionKind.TheVariants.{Operation, Fragment}
+use Rattle.executable_document.specs.Definitions.{defined, named_definitions}
+use Rattle.definition_rules.specs.declared.violations.Rule.TheVariants.{UniqueFragmentNames, UniqueOperationNames}
+use Rattle.definition_rules.specs.declared.violations.Violation.{Violation}
+use Rattle.definition_rules.specs.declared.violations.Violations.{Violations}
+use Rattle.definition_rules.specs.Violations.{Adds, Breach, as_breach, count, found}
+use Rattle.definition_rules.specs.Parts.{at, operations, targets}
+use Rattle.definition_rules.specs.Rules.{AnonymousIsAlone, AreUnique, BreaksVariables, FragmentsAreUsed, HasNoCycles, IsNotAlone, IsOnCycle, IsUndefinedSpread}
+use Rattle.definition_rules.specs.Rules.{IsUndefinedVariable, IsUnusedFragment, IsUnusedVariable, Repeats, SpreadsAreDefined, VariablesAreWell}
+use Rattle.definition_rules.proofs.AddLemmas.{adds_same, adds_then}
+use Rattle.definition_rules.proofs.NameLemmas.{unique_repeats}
+use Rattle.definition_rules.proofs.OperationLemmas.{find_has, find_passes}
+use Rattle.apollo_validation.specs.declared.lists.NamedList.{NamedList}
+use Rattle.apollo_validation.specs.declared.lists.NamedList.TheVariants.{Arguments, ObjectFields, Variables}
+use Rattle.apollo_validation.specs.Lists.{EachOf, IsExecutable, IsForeign, OneOf, RepeatsAs, RepeatsIn, UniqueAs, UniqueIn, items_of, list_of, nodes, rule_of}
+use Rattle.apollo_validation.specs.Validity.{AreBreaches, Breaks, IsValid, parts_in}
+use Rattle.apollo_validation.specs.Validity.{executable_definitions, operation_names, lone_anonymous_operation, lists}
+use Rattle.apollo_validation.specs.Validity.{fragment_names, fragments_used, spreads_defined, no_cycles, variables}
+
+-- the lists of a kind are unique if all are
+pub unique_at : (p : Place) (list : NamedList) → list_of p ≡ Some list → UniqueIn p → AreUnique (items_of list p)
+unique_at p list is unique = let P : Option NamedList → Type 0 = λ o. UniqueAs o p in subst P is unique
+
+no_repeat : (p : Place) (o : Option NamedList) → list_of p ≡ o → ((list : NamedList) → list_of p ≡ Some list → AreUnique (items_of list p))
+    → (b : Breach) → ¬ RepeatsIn p b
+no_repeat p None is unique b so = let P : Option NamedList → Type 0 = λ o. RepeatsAs o p b in subst P is so
+no_repeat p (Some list) is unique b so =
+    let P : Option NamedList → Type 0 = λ o. RepeatsAs o p b in unique_repeats (rule_of list) (items_of list p) b (unique list is) (subst P is so)
+
+unique_of : (document : Place) → IsValid document → (p : Place) → Contains (nodes document) p → (list : NamedList) → list_of p ≡ Some list
+    → AreUnique (items_of list p)
+unique_of document valid p there Arguments is = valid.argument_names p there is
+unique_of document valid p there ObjectFields is = valid.object_field_names p there is
+unique_of document valid p there Variables is = valid.variable_names p there is
+
+not_other : (k number : ℕ) → not (k == number) ≡ true → ¬ (k ≡ number)
+not_other k number is same = grind (arith, nat_tests)
+
+pub valid_keeps : (document : Place) → IsValid document → (b : Breach) → ¬ Breaks document b
+valid_keeps document valid b (executable_definitions (p, there, (other, is))) =
+    let e : true ≡ false = sym (valid.executable_definitions p there) ∙ other in cc
+valid_keeps document valid b (operation_names so) =
+    unique_repeats UniqueOperationNames (named_definitions Operation (defined document)) b valid.operation_names so
+valid_keeps document valid b (lone_anonymous_operation so) =
+    let ds = parts_in document in
+    let same = valid.lone_anonymous_operation so.number so.operation so.anonymous so.other (find_has _ (operations ds) so.other so.is_other) in
+    not_other so.other so.number (find_passes (λ k. not (k == so.number)) (operations ds) so.other so.is_other) same
+valid_keeps document valid b (lists (p, there, so)) = no_repeat p (list_of p) refl (unique_of document valid p there) b so
+valid_keeps document valid b (fragment_names so) =
+    unique_repeats UniqueFragmentNames (named_definitions Fragment (defined document)) b valid.fragment_names so
+valid_keeps document valid b (fragments_used so) = so.unused (valid.fragments_used so.number so.inside)
+valid_keeps document valid b (spreads_defined (number, below, so)) = so.unknown (valid.spreads_defined number below so.item so.there)
+valid_keeps document valid b (no_cycles so) =
+    valid.no_cycles so.number so.other (
+      so.spread,
+      so.inside,
+      get_or_default (targets (parts_in document) (at
+          (parts_in document) so.number)) so.spread so.other 0 so.inside ∙ so.target,
+    )
+    so.leads_back
+valid_keeps document valid b (variables (operation, there, so)) =
+    ⊎_elim
+    (λ (unused : IsUnusedVariable (parts_in document) operation b). unused.unknown (valid.variables_used operation there unused.item unused.there))
+    (λ (undefined : IsUndefinedVariable (parts_in document) operation b).
+    undefined.unknown.unknown (valid.variables_defined operation there undefined.number undefined.reached undefined.unknown.item undefined.unknown.there))
+    so
+
+-- ---- what all rules add
+to_breaks :
+    (document : Place) (b : Breach)
+    → ((((((((OneOf (child_nodes document) IsForeign b ⊎ Repeats UniqueOperationNames (named_definitions Operation (defined document)) b)
+    ⊎ IsNotAlone (parts_in document) b) ⊎ OneOf (nodes document) RepeatsIn b) ⊎ Repeats UniqueFragmentNames (named_definitions Fragment (defined document)) b)
+    ⊎ IsUnusedFragment (parts_in document) b) ⊎ IsUndefinedSpread (parts_in document) b) ⊎ IsOnCycle (parts_in document) b) ⊎ BreaksVariables
+    (parts_in document) b)
+    → Breaks document b
+to_breaks document b (inl (inl (inl (inl (inl (inl (inl (inl so)))))))) = executable_definitions so
+to_breaks document b (inl (inl (inl (inl (inl (inl (inl (inr so)))))))) = operation_names so
+to_breaks document b (inl (inl (inl (inl (inl (inl (inr so))))))) = lone_anonymous_operation so
+to_breaks document b (inl (inl (inl (inl (inl (inr so)))))) = lists so
+to_breaks document b (inl (inl (inl (inl (inr so))))) = fragment_names so
+to_breaks document b (inl (inl (inl (inr so)))) = fragments_used so
+to_breaks document b (inl (inl (inr so))) = spreads_defined so
+to_breaks document b (inl (inr so)) = no_cycles so
+to_breaks document b (inr so) = variables so
+
+from_breaks :
+    (document : Place) (b : Breach) → Breaks document b
+    → (((((((OneOf (child_nodes document) IsForeign b ⊎ Repeats UniqueOperationNames (named_definitions Operation (defined document)) b)
+    ⊎ IsNotAlone (parts_in document) b) ⊎ OneOf (nodes document) RepeatsIn b) ⊎ Repeats UniqueFragmentNames (named_definitions Fragment (defined document)) b)
+    ⊎ IsUnusedFragment (parts_in document) b) ⊎ IsUndefinedSpread (parts_in document) b) ⊎ IsOnCycle (parts_in document) b) ⊎ BreaksVariables
+    (parts_in document) b
+from_breaks document b (executable_definitions so) = inl (inl (inl (inl (inl (inl (inl (inl so)))))))
+from_breaks document b (operation_names so) = inl (inl (inl (inl (inl (inl (inl (inr so)))))))
+from_breaks document b (lone_anonymous_operation so) = inl (inl (inl (inl (inl (inl (inr so))))))
+from_breaks document b (lists so) = inl (inl (inl (inl (inl (inr so)))))
+from_breaks document b (fragment_names so) = inl (inl (inl (inl (inr so))))
+from_breaks document b (fragments_used so) = inl (inl (inl (inr so)))
+from_breaks document b (spreads_defined so) = inl (inl (inr so))
+from_breaks document b (no_cycles so) = inl (inr so)
+from_breaks document b (variables so) = inr so
+
+are_valid :
+    (document : Place) → EachOf (child_nodes document) IsExecutable → AreUnique (named_definitions Operation (defined document))
+    → AnonymousIsAlone (parts_in document)
+    → EachOf (nodes document) UniqueIn → AreUnique (named_definitions Fragment (defined document)) → FragmentsAreUsed (parts_in document)
+    → SpreadsAreDefined (parts_in document) → HasNoCycles (parts_in document) → VariablesAreWell (parts_in document) → IsValid document
+are_valid document executable operation_unique alone unique fragment_unique used known acyclic well = record {
+  executable_definitions = executable;
+  operation_names = operation_unique;
+  lone_anonymous_operation = alone;
+  argument_names = λ p there is. unique_at p Arguments is (unique p there);
+  fragment_names = fragment_unique;
+  fragments_used = used;
+  spreads_defined = known;
+  no_cycles = acyclic;
+  object_field_names = λ p there is. unique_at p ObjectFields is (unique p there);
+  variable_names = λ p there is. unique_at p Variables is (unique p there);
+  variables_defined = λ operation there. (well operation there).1;
+  variables_used = λ operation there. (well operation there).0;
+}
+
+pub adds_all :
+    (d : Place) (v0 v1 v2 v3 v4 v5 v6 v7 v8 v9 : Violations) → Adds (OneOf (child_nodes d) IsForeign) (EachOf (child_nodes d) IsExecutable) v0 v1
+    → Adds (Repeats UniqueOperationNames (named_definitions Operation (defined d))) (AreUnique (named_definitions Operation (defined d))) v1 v2
+    → Adds (IsNotAlone (parts_in d)) (AnonymousIsAlone (parts_in d)) v2 v3 → Adds (OneOf (nodes d) RepeatsIn) (EachOf (nodes d) UniqueIn) v3 v4
+    → Adds (Repeats UniqueFragmentNames (named_definitions Fragment (defined d))) (AreUnique (named_definitions Fragment (defined d))) v4 v5
+    → Adds (IsUnusedFragment (parts_in d)) (FragmentsAreUsed (parts_in d)) v5 v6 → Adds (IsUndefinedSpread (parts_in d)) (SpreadsAreDefined (parts_in d)) v6 v7
+    → Adds (IsOnCycle (parts_in d)) (HasNoCycles (parts_in d)) v7 v8 → Adds (BreaksVariables (parts_in d)) (VariablesAreWell (parts_in d)) v8 v9
+    → Adds (Breaks d) (IsValid d) v0 v9
+adds_all d v0 v1 v2 v3 v4 v5 v6 v7 v8 v9 a1 a2 a3 a4 a5 a6 a7 a8 a9 =
+    let b2 = adds_then _ _ _ _ v0 v1 v2 a1 a2 in
+    let b3 = adds_then _ _ _ _ v0 v2 v3 b2 a3 in
+    let b4 = adds_then _ _ _ _ v0 v3 v4 b3 a4 in
+    let b5 = adds_then _ _ _ _ v0 v4 v5 b4 a5 in
+    let b6 = adds_then _ _ _ _ v0 v5 v6 b5 a6 in
+    let b7 = adds_then _ _ _ _ v0 v6 v7 b6 a7 in
+    let b8 = adds_then _ _ _ _ v0 v7 v8 b7 a8 in
+    adds_same _ (Breaks d) _ (IsValid d) v0 v9 (to_breaks d) (from_breaks d)
+    (λ ((((((((g1, g2), g3), g4), g5), g6), g7), g8), g9). are_valid d g1 g2 g3 g4 g5 g6 g7 g8 g9)
+    (adds_then _ _ _ _ v0 v8 v9 b8 a9)
+
+-- ---- what is found from an empty list on
+pub exact :
+    (d : Place) (most : ℕ) (old new : Violations) → old.list.items ≡ [] → old.most ≡ most → Adds (Breaks d) (IsValid d) old new
+    → AreBreaches most d (found new)
+exact d most old new none same adds = record {
+  no_others = λ b there. ⊎_elim (λ (was : Contains (found old) b). absurd (nothing b was)) (λ (breaks : Breaks d b). breaks) (adds.no_others b there);
+  all = λ less b breaks. adds.all (let l = long in omega arith) b breaks;
+  few = let l = long in let few = adds.few (let z = zero_long in omega arith) in omega arith;
+}
+  where
+    zero_long : count old ≡ 0
+    zero_long = ap length none
+
+    nothing : (b : Breach) → ¬ Contains (found old) b
+    nothing b (k, below, is) = let l = length-map old.list.items as_breach in let z = zero_long in omega arith
+
+    long : length (found new) ≡ count new
+    long = length-map new.list.items as_breach
+
+pub valid_if_none :
+    (d : Place) (most : ℕ) (old new : Violations) → old.list.items ≡ [] → old.most ≡ most → Adds (Breaks d) (IsValid d) old new → 0 < most
+    → (new.list.items ≡ []) ↔ IsValid d
+valid_if_none d most old new none same adds positive = (
+  (λ e. let n : count new ≡ 0 = ap length e in adds.well (omega arith) (omega arith)),
+  (λ valid. no_items new.list.items (λ v there. no_breach valid v there)),
+)
+  where
+    no_breach : IsValid d → (b : Breach) → ¬ Contains (found new) b
+    no_breach valid b there =
+        ⊎_elim
+        (λ (was : Contains (found old) b). let (k, below, is) = was in let l = length-map old.list.items as_breach in let z = ap length none in omega arith)
+        (λ (breaks : Breaks d b). valid_keeps d valid b breaks)
+        (adds.no_others b there)
+
+    no_items : (xs : List Violation) → ((b : Breach) → ¬ Contains (map as_breach xs) b) → xs ≡ []
+    no_items [] empty = refl
+    no_items (x ∷ xs) empty = absurd (empty (as_breach x) (0, omega arith, refl))

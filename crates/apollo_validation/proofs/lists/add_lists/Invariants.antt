@@ -1,0 +1,8 @@
+use Rattle.apollo_tree.specs.References.{node_place}
+use Rattle.apollo_tree.specs.Yields.{rest_descendant_nodes}
+use Rattle.apollo_validation.specs.Lists.{RepeatsIn, UniqueIn, nodes}
+use Rattle.apollo_validation.proofs.WalkLemmas.{Walked}
+use Rattle.apollo_validation.proofs.lists.add_lists.Given as goal
+
+abbrev pub invariant-loop-node : goal.invariant-loop-node
+invariant-loop-node l = Walked RepeatsIn UniqueIn (rest_descendant_nodes l.node-iterator) (nodes (node_place l.root)) l.initial.violations l.violations

@@ -1,0 +1,63 @@
+-- Which executable documents are valid by the rules that need no schema (GraphQL October 2021, section 5), and what breaks these rules.
+use Rattle.std.specs.Prelude.{◌≡◌, ℕ, ◌<◌, ◌≤◌, List, length, map, Some}
+use Rattle.std.specs.List.{Contains}
+use Rattle.apollo_tree.specs.Order.{Place}
+use Rattle.apollo_tree.specs.Children.{child_nodes}
+use Rattle.executable_document.specs.declared.executables.DefinitionKind.TheVariants.{Operation, Fragment}
+use Rattle.executable_document.specs.Definitions.{defined, named_definitions}
+use Rattle.definition_rules.specs.declared.violations.Rule.TheVariants.{UniqueFragmentNames, UniqueOperationNames}
+use Rattle.definition_rules.specs.Parts.{Parts, operations, parts_of}
+use Rattle.definition_rules.specs.Rules.{AnonymousIsAlone, AreUnique, BreaksVariables, FragmentsAreUsed, HasNoCycles, IsNotAlone}
+use Rattle.definition_rules.specs.Rules.{IsOnCycle, IsUndefinedSpread, IsUnusedFragment, Repeats, SpreadsAreDefined, VariablesAreDefined, VariablesAreUsed}
+use Rattle.definition_rules.specs.Violations.{Breach}
+use Rattle.apollo_validation.specs.declared.lists.NamedList.TheVariants.{Arguments, ObjectFields, Variables}
+use Rattle.apollo_validation.specs.Lists.{EachOf, IsExecutable, IsForeign, OneOf, RepeatsIn, items_of, list_of, nodes}
+
+-- the operations and fragments of a document
+abbrev pub parts_in : Place → List Parts
+parts_in document = map parts_of (defined document)
+
+-- The document keeps all of these rules.
+pub record IsValid (document : Place) : Type 0 where
+  -- 5.1.1: it has only executable definitions
+  pub executable_definitions : EachOf (child_nodes document) IsExecutable
+  -- 5.2.1.1: no two operations have the same name
+  pub operation_names : AreUnique (named_definitions Operation (defined document))
+  -- 5.2.2.1: an operation without a name is the only one
+  pub lone_anonymous_operation : AnonymousIsAlone (parts_in document)
+  -- 5.4.2: no two arguments at one place have the same name
+  pub argument_names : (p : Place) → Contains (nodes document) p → list_of p ≡ Some Arguments → AreUnique (items_of Arguments p)
+  -- 5.5.1.1: no two fragments have the same name
+  pub fragment_names : AreUnique (named_definitions Fragment (defined document))
+  -- 5.5.1.4: each fragment is spread by an operation, directly or through other fragments
+  pub fragments_used : FragmentsAreUsed (parts_in document)
+  -- 5.5.2.1: each fragment that is spread is defined
+  pub spreads_defined : SpreadsAreDefined (parts_in document)
+  -- 5.5.2.2: no spread of a fragment leads back to it
+  pub no_cycles : HasNoCycles (parts_in document)
+  -- 5.6.3: no two fields of an object have the same name
+  pub object_field_names : (p : Place) → Contains (nodes document) p → list_of p ≡ Some ObjectFields → AreUnique (items_of ObjectFields p)
+  -- 5.8.1: no two variables of an operation have the same name
+  pub variable_names : (p : Place) → Contains (nodes document) p → list_of p ≡ Some Variables → AreUnique (items_of Variables p)
+  -- 5.8.3: an operation declares each variable that it uses, in itself or in a fragment that it reaches
+  pub variables_defined : (operation : ℕ) → Contains (operations (parts_in document)) operation → VariablesAreDefined (parts_in document) operation
+  -- 5.8.4: an operation uses each variable that it declares, in itself or in a fragment that it reaches
+  pub variables_used : (operation : ℕ) → Contains (operations (parts_in document)) operation → VariablesAreUsed (parts_in document) operation
+
+-- It breaks one of these rules.
+pub data Breaks (document : Place) (b : Breach) : Type 0 where
+  executable_definitions : OneOf (child_nodes document) IsForeign b → Breaks document b
+  operation_names : Repeats UniqueOperationNames (named_definitions Operation (defined document)) b → Breaks document b
+  lone_anonymous_operation : IsNotAlone (parts_in document) b → Breaks document b
+  lists : OneOf (nodes document) RepeatsIn b → Breaks document b
+  fragment_names : Repeats UniqueFragmentNames (named_definitions Fragment (defined document)) b → Breaks document b
+  fragments_used : IsUnusedFragment (parts_in document) b → Breaks document b
+  spreads_defined : IsUndefinedSpread (parts_in document) b → Breaks document b
+  no_cycles : IsOnCycle (parts_in document) b → Breaks document b
+  variables : BreaksVariables (parts_in document) b → Breaks document b
+
+-- All of these break a rule. Unless there are as many as the bound allows, they are all that do.
+pub record AreBreaches (most : ℕ) (document : Place) (found : List Breach) : Type 0 where
+  pub no_others : (b : Breach) → Contains found b → Breaks document b
+  pub all : length found < most → (b : Breach) → Breaks document b → Contains found b
+  pub few : length found ≤ most

@@ -1,0 +1,86 @@
+// All rules on a document.
+ghost use Rattle.std.specs.Prelude.{◌≡◌, ◌<◌, ◌↔◌, ℕ, [], IfOk, OnOk, map};
+ghost use Rattle.apollo_tree.specs.References.{node_place};
+ghost use Rattle.name_lists.specs.Names.{AreFirstNumbers};
+ghost use Rattle.executable_document.specs.Definitions.{as_defined, defined, fragment_names};
+ghost use Rattle.definition_rules.specs.Parts.{as_parts, definitions as definitions_of};
+ghost use Rattle.definition_rules.specs.Violations.{Adds, as_breach};
+ghost use Rattle.apollo_validation.specs.Validity.{AreBreaches, Breaks, IsValid, parts_in};
+
+use crate::lists::{add_foreign, add_lists};
+use apollo_tree::SyntaxNode;
+use definition_rules::{
+    DefinitionParts, Rule, Violation, Violations, add_anonymous, add_cycles, add_repeats,
+    add_undefined_spreads, add_unused_fragments, add_variables, operations, parts, spread_graph,
+};
+use executable_document::{
+    DefinitionKind, ExecutableDefinition, definitions, fragments, named_definitions,
+};
+use std::alloc::{AllocError, Global};
+use std::collections::BTreeMap;
+
+// Adds what breaks a rule in a document whose definitions are read.
+fn add_all<'t>(
+    alloc: Global,
+    violations: &mut Violations<'t>,
+    document: &SyntaxNode<'t>,
+    definitions: &[ExecutableDefinition<'t>],
+    parts: &[DefinitionParts<'t>],
+    fragments: &BTreeMap<&'t str, usize>,
+) -> Result<(), AllocError>
+    requires definitions { map as_defined definitions.now ≡ defined (node_place document.now) }
+    requires parts { map as_parts parts.now ≡ parts_in (node_place document.now) }
+    requires fragments { AreFirstNumbers fragments.now (fragment_names (definitions_of (map as_parts parts.now))) }
+    ensures { OnOk result (Adds (Breaks (node_place document.now)) (IsValid (node_place document.now)) violations.old violations.new) }
+{
+    let operations_named = named_definitions(alloc, definitions, DefinitionKind::Operation)?;
+    let fragments_named = named_definitions(alloc, definitions, DefinitionKind::Fragment)?;
+    let numbers = operations(alloc, parts)?;
+    let graph = spread_graph(alloc, parts, fragments)?;
+    add_foreign(violations, document)?;
+    add_repeats(
+        alloc,
+        violations,
+        Rule::UniqueOperationNames,
+        &operations_named,
+    )?;
+    add_anonymous(violations, parts, &numbers)?;
+    add_lists(alloc, violations, document)?;
+    add_repeats(
+        alloc,
+        violations,
+        Rule::UniqueFragmentNames,
+        &fragments_named,
+    )?;
+    add_unused_fragments(alloc, violations, parts, &graph, &numbers)?;
+    add_undefined_spreads(violations, parts, fragments)?;
+    add_cycles(alloc, violations, parts, &graph)?;
+    add_variables(alloc, violations, parts, &graph, &numbers)?;
+    Ok(())
+}
+
+/// The places at which a document breaks a rule, no more than `most` of them, by the root of its tree. If there are fewer than `most`, they are all;
+/// and there are none exactly if the document keeps all rules.
+pub fn validate_executable<'t>(
+    alloc: Global,
+    document: &SyntaxNode<'t>,
+    most: usize,
+) -> Result<Vec<Violation<'t>>, AllocError>
+    ensures exact { IfOk result (λ found. AreBreaches most (node_place document.now) (map as_breach found.items)) }
+    ensures valid { IfOk result (λ found. 0 < most → ((found.items ≡ []) ↔ IsValid (node_place document.now))) }
+{
+    let mut violations = Violations::new(alloc, most);
+    let definitions = definitions(alloc, document)?;
+    let fragments = fragments(alloc, &definitions)?;
+    let parts = parts(alloc, &definitions)?;
+    add_all(
+        alloc,
+        &mut violations,
+        document,
+        &definitions,
+        &parts,
+        &fragments,
+    )?;
+    let Violations { list, most: _ } = violations;
+    Ok(list)
+}
