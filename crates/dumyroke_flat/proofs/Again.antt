@@ -1,5 +1,5 @@
 -- A second call, with the room that the first one counted.
-use Rattle.std.proofs.Common.{◌≡◌, ◌∙◌, ◌⊎◌, ℕ, List, [], ◌∷◌, length, refl, sym, ap, subst, ⊎_elim, arith}
+use Rattle.std.proofs.Common.{◌≡◌, ◌∙◌, ◌⊎◌, ℕ, suc, List, [], ◌∷◌, length, refl, sym, ap, subst, ⊎_elim, arith}
 use Rattle.std.proofs.Math.Logic.{∥∥₁_elim}
 use Rattle.std.proofs.Props.{props}
 use Rattle.lexical_grammar.specs.Strings.{Quoted}
@@ -8,14 +8,13 @@ use Rattle.lexical_grammar.proofs.StringValues.{quoted-one, block-one, one-form}
 use Rattle.apollo_parser.specs.StringValues.{IsStringValue}
 use Rattle.dumyroke_flat.specs.declared.rows.ByteCount.{ByteCount}
 use Rattle.dumyroke_flat.specs.declared.rows.Counts.{Counts}
-use Rattle.apollo_parser.specs.Order.{order}
+use Rattle.apollo_parser.specs.Order.{Element, order}
 use Rattle.apollo_parser.specs.Parsed.{Parsed}
 use Rattle.apollo_parser.proofs.OneParse.{one-parse}
-use Rattle.apollo_parser.specs.Compact.{compact_elements}
+use Rattle.apollo_parser.specs.Compact.{compact_elements, compact_from}
 use Rattle.apollo_parser.specs.Filled.{filled}
 use Rattle.dumyroke_flat.specs.Rows.{error_rows, messages}
 use Rattle.dumyroke_flat.specs.Again.{HasRoom, HoldParse}
-use Rattle.dumyroke_flat.proofs.ElementRows.{length-rows}
 use Rattle.dumyroke_flat.proofs.Messages.{length-error_rows}
 use Rattle.dumyroke_flat.specs.Outcomes.{Buffers, Outcome, counts_of, OK, StringOutcome}
 
@@ -25,6 +24,10 @@ filled-whole [] [] same = refl
 filled-whole [] (x ∷ xs) same = absurd (omega (arith, same))
 filled-whole (b ∷ bs) [] same = absurd (omega (arith, same))
 filled-whole (b ∷ bs) (x ∷ xs) same = ap (λ rest. x ∷ rest) (filled-whole bs xs (omega (arith, same)))
+
+length-rows : (index : ℕ) (es : List Element) → length (compact_from index es) ≡ length es
+length-rows index [] = refl
+length-rows index (e ∷ es) = ap suc (length-rows (suc index) es)
 
 -- ---- strings
 
