@@ -41,6 +41,7 @@ quick() {
 
 tests() {
     tools/format_texts --trial
+    tools/validation
     tools/bindings
     tools/bindings pages
     tools/editor_tests

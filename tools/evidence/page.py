@@ -20,6 +20,7 @@ PARTS = {
         dumyroke_flat/src/laws.rt dumyroke_c/src/lib.rt""",
     "places, and `gqlls`": """line_index/src/lib.rt editor_text/src/lib.rt rpc_frames/src/lib.rt rpc_messages/src rpc_serving/src editor_diagnostics/src
         editor_answers/src gqlls_run/src/server.rt gqlls_run/src/running.rt""",
+    "validation": "apollo_validation/src/validation.rt",
 }
 # Laws, and calls between crates: the page has their lemmas, and no definitions are listed for them.
 LAWS = """lexical_grammar/src/lib.rt lexical_grammar/src/escapes.rt document_grammar/src/kind.rt document_grammar/src/laws.rt grammar_machine/src/laws.rt
