@@ -42,6 +42,7 @@ quick() {
 tests() {
     tools/format_texts --trial
     tools/figures
+    tools/validation
     tools/bindings
     tools/bindings pages
     tools/editor_tests

@@ -20,6 +20,7 @@ PARTS = {
         dumyroke_flat/src/laws.rt dumyroke_c/src/lib.rt""",
     "positions, and `gqlls`": """line_index/src/lib.rt editor_text/src/lib.rt rpc_frames/src/lib.rt rpc_messages/src rpc_serving/src editor_diagnostics/src
         editor_answers/src program_words/src/gqlls.rt gqlls_run/src/server.rt gqlls_run/src/running.rt""",
+    "validation": "apollo_validation/src/validation.rt",
     "the cost of operations": "operation_limits/src/measuring.rt operation_limits/src/limiting.rt expansion_figures/src/limits.rt",
 }
 # Laws, and calls between crates: the page has their lemmas, and no definitions are listed for them.

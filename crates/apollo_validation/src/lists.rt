@@ -3,15 +3,15 @@ ghost use Rattle.std.specs.Prelude.{◌≡◌, IfOk, OnOk, map, option_map};
 ghost use Rattle.document_grammar.specs.declared.kind.SyntaxKind.TheVariants.{VARIABLE};
 ghost use Rattle.apollo_tree.specs.Children.{child_nodes};
 ghost use Rattle.apollo_tree.specs.References.{node_place};
-ghost use Rattle.executable_document.specs.Mentions.{as_named, name_in, name_of};
+ghost use Rattle.executable_document.specs.Mentions.{as_named, name_in};
 ghost use Rattle.definition_rules.specs.Violations.{Adds};
 ghost use Rattle.apollo_validation.specs.Lists.{EachOf, IsExecutable, IsForeign, OneOf, RepeatsIn, UniqueIn, is_executable, item_name, item_of, items_of, list_of, nodes, rule_of};
 
 use apollo_cst_core::{CstNode, child};
-use apollo_cst_executable::{Name, Variable};
+use apollo_cst_executable::Variable;
 use apollo_tree::{SyntaxKind, SyntaxNode};
 use definition_rules::{Rule, Violations, add_repeats};
-use executable_document::Mention;
+use executable_document::{Mention, name};
 use std::alloc::{AllocError, Global};
 
 // A list of items with names.
@@ -50,18 +50,11 @@ fn rule_of(list: NamedList) -> Rule
     }
 }
 
-fn own_name<'t>(node: &SyntaxNode<'t>) -> Option<&'t str>
-    ensures { option_map (λ n. n.now) result ≡ name_of (node_place node.now) }
-{
-    let name: Option<Name<'t>> = child(node);
-    Some(name?.text().as_str())
-}
-
 fn variable_name<'t>(node: &SyntaxNode<'t>) -> Option<&'t str>
     ensures { option_map (λ n. n.now) result ≡ name_in VARIABLE (node_place node.now) }
 {
     let variable: Option<Variable<'t>> = child(node);
-    own_name(variable?.syntax())
+    name(variable?.syntax())
 }
 
 // The name of an item of a list.
@@ -72,12 +65,12 @@ fn item_name<'t>(node: &SyntaxNode<'t>, list: NamedList) -> Option<&'t str>
     match list {
         NamedList::Arguments => {
             if kind.is(SyntaxKind::ARGUMENT) {
-                return own_name(node);
+                return name(node);
             }
         }
         NamedList::ObjectFields => {
             if kind.is(SyntaxKind::OBJECT_FIELD) {
-                return own_name(node);
+                return name(node);
             }
         }
         NamedList::Variables => {

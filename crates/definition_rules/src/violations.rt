@@ -29,12 +29,6 @@ pub enum Rule {
     NoUndefinedVariables,
     /// 5.8.4
     NoUnusedVariables,
-    /// 3.6 and 3.10
-    UniqueFieldDefinitionNames,
-    /// 3.6 and 3.13
-    UniqueArgumentDefinitionNames,
-    /// 3.9
-    UniqueEnumValueNames,
 }
 
 /// A place at which a document breaks a rule.
