@@ -61,10 +61,6 @@ module _ (whole : Forest) (i end : ℕ) (k : SyntaxKind) (kids rest : Forest) (s
   unfolding its inner outer
   node_there = ap (λ (x : Element). x.tree) (its_element whole i s.before ((inner ++ outer) ++ s.after) its s.is s.begins)
 
-  node_in_range : i < length (order whole)
-  unfolding its inner outer
-  node_in_range = omega (arith, ap (λ es. length es) s.is, length-append s.before (its ∷ ((inner ++ outer) ++ s.after)), s.begins)
-
   after_node : ArePart whole (suc (i + count kids)) end rest
   unfolding its inner outer
   after_node = record {

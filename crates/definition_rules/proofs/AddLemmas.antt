@@ -40,10 +40,6 @@ adds_full Breaks Others IsWell AreWell old new to full adds = record {
   well = λ less. absurd (let e = adds.most in omega arith);
 }
 
-pub adds_filled : (Breaks : Breach → Type 0) (IsWell : Type 0) (v : Violations) → v.most ≤ count v → Adds Breaks IsWell v v
-adds_filled Breaks IsWell v full =
-    adds_full (λ b. ⊥) Breaks (Unit {0}) IsWell v v (λ b none. absurd none) full (adds_nothing (λ b. ⊥) (Unit {0}) v (λ b none. none) tt)
-
 -- one more in a list that is not full
 pub adds_push :
     (b : Breach) (old new : Violations) → new.most ≡ old.most → found new ≡ found old ++ b ∷ [] → count old < old.most → Adds (λ x. x ≡ b) ⊥ old new
@@ -105,9 +101,6 @@ adds_then Breaks Others IsWell AreWell old mid new first second = record {
 
     within : count new < old.most → count new < mid.most
     within less = let e = first.most in omega arith
-
-pub adds_begin : (Breaks : ℕ → Breach → Type 0) (IsWell : ℕ → Type 0) (v : Violations) → Adds (Below Breaks 0) (AllBelow IsWell 0) v v
-adds_begin Breaks IsWell v = adds_nothing (Below Breaks 0) (AllBelow IsWell 0) v (λ b (k, below, breaks). omega arith) (λ k below. absurd (omega arith))
 
 -- one more of several
 pub adds_more :

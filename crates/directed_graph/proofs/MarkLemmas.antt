@@ -1,7 +1,7 @@
 -- One vertex of a row more.
 use Rattle.std.proofs.Common.{◌≡◌, ◌≢◌, ℕ, ◌<◌, ◌+◌, List, [], ◌∷◌, ◌++◌, length, get_or, set, Bool, true, false}
 use Rattle.std.proofs.Common.{not, cond, arith, sym, ◌∙◌, refl, inl}
-use Rattle.std.proofs.Common.{inr, ⊎_elim, append_assoc, append-nil, length-append, length-set, get_or-set_same, get_or-set_other}
+use Rattle.std.proofs.Common.{inr, ⊎_elim, append_assoc, length-append, length-set, get_or-set_same, get_or-set_other}
 use Rattle.std.specs.List.{Contains}
 use Rattle.std.proofs.lemmas.Bool.{cases_eq}
 use Rattle.std.proofs.lemmas.List.{get_or_default}
@@ -9,19 +9,6 @@ use Rattle.std.proofs.lemmas.List.Sums.{sum_by-set}
 use Rattle.std.proofs.lemmas.List.Elements.{Contains-append_left, Contains-push, Contains-push_cases}
 use Rattle.directed_graph.specs.Marks.{IsMarked, MarksAll, Unmarks, unmarked}
 
-pub marks_none : (marks : List Bool) (found : List ℕ) → MarksAll [] marks marks found found
-marks_none marks found = record {
-  as_many = refl;
-  kept = λ p m. m;
-  marked = λ p (i, inside, is). absurd (omega arith);
-  added = [];
-  found = sym (append-nil found);
-  from_row = λ p there. there;
-  no_others = λ p m. inl m;
-  budget = refl;
-}
-
--- the vertex was marked before
 pub marks_old :
     (row : List ℕ) (vertex : ℕ) (old new : List Bool) (found_old found_new : List ℕ) → IsMarked new vertex → MarksAll row old new found_old found_new
     → MarksAll (row ++ vertex ∷ []) old new found_old found_new
