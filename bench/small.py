@@ -85,7 +85,7 @@ def by_program(*command):
     there = {**os.environ, "LD_LIBRARY_PATH": str(TOP / "build")}
 
     def run(text, parses):
-        ended = subprocess.run([*command, str(parses)], input=text, stdout=subprocess.PIPE, check=True, text=True, env=there)
+        ended = subprocess.run([*command, str(parses)], input=text, capture_output=True, check=True, text=True, env=there)
         nanoseconds, errors = map(int, ended.stdout.partition(":")[0].split())
         if errors:
             sys.exit(f"{command[0]} finds errors")
