@@ -137,8 +137,8 @@ unsafe fn copied<T: Copy>(items: &[MaybeUninit<T>], count: usize) -> Vec<T> {
     items[..count].iter().map(|item| unsafe { item.assume_init() }).collect()
 }
 
-/// Asks Linux for large pages where there is much room: the first writes to many small pages would take as long as half of a parse. Without them, or on
-/// another system, nothing changes but time.
+/// Asks Linux for large pages where there is much room, since the kernel clears each page at the first write. Without them, or on another system, nothing
+/// changes but time.
 #[cfg(target_os = "linux")]
 fn ask_for_large_pages<T>(room: &mut [MaybeUninit<T>]) {
     extern "C" {
