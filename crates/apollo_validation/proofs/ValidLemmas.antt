@@ -1,7 +1,7 @@
 -- A valid document breaks no rule, and what all rules add.
 use Rattle.std.proofs.Common.{◌≡◌, ◌⊎◌, ◌==◌, ℕ, ◌<◌, List, [], ◌∷◌, length, map, true, false}
 use Rattle.std.proofs.Common.{not, Option, Some, None, arith, refl, sym, ◌∙◌, ap, subst, inl, inr, ⊎_elim}
-use Rattle.std.specs.Prelude.{◌↔◌}
+use Rattle.std.specs.Prelude.{◌↔◌, Bool, if◌then◌else◌, option_and_then}
 use Rattle.std.specs.List.{Contains}
 use Rattle.std.proofs.lemmas.Bool.Decides.{nat_tests}
 use Rattle.std.proofs.lemmas.List.{get_or_default, length-map}
@@ -20,27 +20,72 @@ use Rattle.definition_rules.proofs.AddLemmas.{adds_same, adds_then}
 use Rattle.definition_rules.proofs.NameLemmas.{unique_repeats}
 use Rattle.definition_rules.proofs.OperationLemmas.{find_has, find_passes}
 use Rattle.apollo_validation.specs.declared.lists.NamedList.{NamedList}
-use Rattle.apollo_validation.specs.declared.lists.NamedList.TheVariants.{Arguments, ObjectFields, Variables}
-use Rattle.apollo_validation.specs.Lists.{EachOf, IsExecutable, IsForeign, OneOf, RepeatsAs, RepeatsIn, UniqueAs, UniqueIn, items_of, list_of, nodes, rule_of}
-use Rattle.apollo_validation.specs.Validity.{AreBreaches, Breaks, IsValid, parts_in}
+use Rattle.apollo_validation.specs.declared.lists.NamedList.TheVariants.{Arguments, ObjectFields, Variables, FieldDefinitions}
+use Rattle.apollo_validation.specs.declared.lists.NamedList.TheVariants.{InputFieldDefinitions, ArgumentDefinitions, EnumValues}
+use Rattle.apollo_validation.specs.declared.lists.DocumentKind.{DocumentKind}
+use Rattle.apollo_validation.specs.declared.lists.DocumentKind.TheVariants.{Executable, TypeSystem}
+use Rattle.apollo_validation.specs.Lists.{EachOf, IsExecutable, IsForeign, OneOf, RepeatsAs, RepeatsIn, UniqueAs, UniqueIn, is_judged, items_of, list_of, nodes, rule_of}
+use Rattle.apollo_validation.specs.Validity.{AreBreaches, Breaks, BreaksTypeSystem, IsValid, IsValidTypeSystem, parts_in}
 use Rattle.apollo_validation.specs.Validity.{executable_definitions, operation_names, lone_anonymous_operation, lists}
 use Rattle.apollo_validation.specs.Validity.{fragment_names, fragments_used, spreads_defined, no_cycles, variables}
 
--- the lists of a kind are unique if all are
-pub unique_at : (p : Place) (list : NamedList) → list_of p ≡ Some list → UniqueIn p → AreUnique (items_of list p)
-unique_at p list is unique = let P : Option NamedList → Type 0 = λ o. UniqueAs o p in subst P is unique
+-- a list by which documents of a kind are judged
+abbrev judge : DocumentKind → Option NamedList → Option NamedList
+judge kind o = option_and_then (λ list. if is_judged list kind then Some list else None) o
 
-no_repeat : (p : Place) (o : Option NamedList) → list_of p ≡ o → ((list : NamedList) → list_of p ≡ Some list → AreUnique (items_of list p))
-    → (b : Breach) → ¬ RepeatsIn p b
-no_repeat p None is unique b so = let P : Option NamedList → Type 0 = λ o. RepeatsAs o p b in subst P is so
-no_repeat p (Some list) is unique b so =
-    let P : Option NamedList → Type 0 = λ o. RepeatsAs o p b in unique_repeats (rule_of list) (items_of list p) b (unique list is) (subst P is so)
+judged_of : (kind : DocumentKind) (list : NamedList) (o : Option NamedList) → o ≡ Some list → is_judged list kind ≡ true → judge kind o ≡ Some list
+judged_of kind list o is judged = rw (is, judged) refl
+
+-- such lists are unique if all are
+unique_at : (kind : DocumentKind) (p : Place) (list : NamedList) → list_of p ≡ Some list → is_judged list kind ≡ true → UniqueIn kind p → AreUnique (items_of p)
+unique_at kind p list is judged unique =
+    let P : Option NamedList → Type 0 = λ o. UniqueAs o p in subst P (judged_of kind list (list_of p) is judged) unique
+
+no_repeat_if : (p : Place) (list : NamedList) (judged : Bool) (b : Breach) → (judged ≡ true → AreUnique (items_of p))
+    → ¬ RepeatsAs (if judged then Some list else None) p b
+no_repeat_if p list true b unique so = unique_repeats (rule_of list) (items_of p) b (unique refl) so
+no_repeat_if p list false b unique so = so
+
+no_repeat :
+    (kind : DocumentKind) (p : Place) (o : Option NamedList) → list_of p ≡ o
+    → ((list : NamedList) → list_of p ≡ Some list → is_judged list kind ≡ true → AreUnique (items_of p)) → (b : Breach) → ¬ RepeatsIn kind p b
+no_repeat kind p None is unique b so = let P : Option NamedList → Type 0 = λ o. RepeatsAs (judge kind o) p b in subst P is so
+no_repeat kind p (Some list) is unique b so =
+    let P : Option NamedList → Type 0 = λ o. RepeatsAs (judge kind o) p b in
+    no_repeat_if p list (is_judged list kind) b (unique list is) (subst P is so)
 
 unique_of : (document : Place) → IsValid document → (p : Place) → Contains (nodes document) p → (list : NamedList) → list_of p ≡ Some list
-    → AreUnique (items_of list p)
-unique_of document valid p there Arguments is = valid.argument_names p there is
-unique_of document valid p there ObjectFields is = valid.object_field_names p there is
-unique_of document valid p there Variables is = valid.variable_names p there is
+    → is_judged list Executable ≡ true → AreUnique (items_of p)
+unique_of document valid p there Arguments is judged = valid.argument_names p there is
+unique_of document valid p there ObjectFields is judged = valid.object_field_names p there is
+unique_of document valid p there Variables is judged = valid.variable_names p there is
+unique_of document valid p there FieldDefinitions is judged = let e : false ≡ true = judged in cc
+unique_of document valid p there InputFieldDefinitions is judged = let e : false ≡ true = judged in cc
+unique_of document valid p there ArgumentDefinitions is judged = let e : false ≡ true = judged in cc
+unique_of document valid p there EnumValues is judged = let e : false ≡ true = judged in cc
+
+unique_of_type_system : (document : Place) → IsValidTypeSystem document → (p : Place) → Contains (nodes document) p → (list : NamedList)
+    → list_of p ≡ Some list → is_judged list TypeSystem ≡ true → AreUnique (items_of p)
+unique_of_type_system document valid p there Arguments is judged = valid.given_names p there is
+unique_of_type_system document valid p there ObjectFields is judged = valid.object_field_names p there is
+unique_of_type_system document valid p there Variables is judged = let e : false ≡ true = judged in cc
+unique_of_type_system document valid p there FieldDefinitions is judged = valid.field_names p there is
+unique_of_type_system document valid p there InputFieldDefinitions is judged = valid.input_field_names p there is
+unique_of_type_system document valid p there ArgumentDefinitions is judged = valid.argument_names p there is
+unique_of_type_system document valid p there EnumValues is judged = valid.enum_values p there is
+
+pub type_system_keeps : (document : Place) → IsValidTypeSystem document → (b : Breach) → ¬ BreaksTypeSystem document b
+type_system_keeps document valid b (p, there, so) = no_repeat TypeSystem p (list_of p) refl (unique_of_type_system document valid p there) b so
+
+pub is_type_system : (document : Place) → EachOf (nodes document) (UniqueIn TypeSystem) → IsValidTypeSystem document
+is_type_system document unique = record {
+  field_names = λ p there is. unique_at TypeSystem p FieldDefinitions is refl (unique p there);
+  argument_names = λ p there is. unique_at TypeSystem p ArgumentDefinitions is refl (unique p there);
+  enum_values = λ p there is. unique_at TypeSystem p EnumValues is refl (unique p there);
+  input_field_names = λ p there is. unique_at TypeSystem p InputFieldDefinitions is refl (unique p there);
+  given_names = λ p there is. unique_at TypeSystem p Arguments is refl (unique p there);
+  object_field_names = λ p there is. unique_at TypeSystem p ObjectFields is refl (unique p there);
+}
 
 not_other : (k number : ℕ) → not (k == number) ≡ true → ¬ (k ≡ number)
 not_other k number is same = grind (arith, nat_tests)
@@ -54,7 +99,7 @@ valid_keeps document valid b (lone_anonymous_operation so) =
     let ds = parts_in document in
     let same = valid.lone_anonymous_operation so.number so.operation so.anonymous so.other (find_has _ (operations ds) so.other so.is_other) in
     not_other so.other so.number (find_passes (λ k. not (k == so.number)) (operations ds) so.other so.is_other) same
-valid_keeps document valid b (lists (p, there, so)) = no_repeat p (list_of p) refl (unique_of document valid p there) b so
+valid_keeps document valid b (lists (p, there, so)) = no_repeat Executable p (list_of p) refl (unique_of document valid p there) b so
 valid_keeps document valid b (fragment_names so) =
     unique_repeats UniqueFragmentNames (named_definitions Fragment (defined document)) b valid.fragment_names so
 valid_keeps document valid b (fragments_used so) = so.unused (valid.fragments_used so.number so.inside)
@@ -78,7 +123,7 @@ valid_keeps document valid b (variables (operation, there, so)) =
 to_breaks :
     (document : Place) (b : Breach)
     → ((((((((OneOf (child_nodes document) IsForeign b ⊎ Repeats UniqueOperationNames (named_definitions Operation (defined document)) b)
-    ⊎ IsNotAlone (parts_in document) b) ⊎ OneOf (nodes document) RepeatsIn b) ⊎ Repeats UniqueFragmentNames (named_definitions Fragment (defined document)) b)
+    ⊎ IsNotAlone (parts_in document) b) ⊎ OneOf (nodes document) (RepeatsIn Executable) b) ⊎ Repeats UniqueFragmentNames (named_definitions Fragment (defined document)) b)
     ⊎ IsUnusedFragment (parts_in document) b) ⊎ IsUndefinedSpread (parts_in document) b) ⊎ IsOnCycle (parts_in document) b) ⊎ BreaksVariables
     (parts_in document) b)
     → Breaks document b
@@ -95,7 +140,7 @@ to_breaks document b (inr so) = variables so
 from_breaks :
     (document : Place) (b : Breach) → Breaks document b
     → (((((((OneOf (child_nodes document) IsForeign b ⊎ Repeats UniqueOperationNames (named_definitions Operation (defined document)) b)
-    ⊎ IsNotAlone (parts_in document) b) ⊎ OneOf (nodes document) RepeatsIn b) ⊎ Repeats UniqueFragmentNames (named_definitions Fragment (defined document)) b)
+    ⊎ IsNotAlone (parts_in document) b) ⊎ OneOf (nodes document) (RepeatsIn Executable) b) ⊎ Repeats UniqueFragmentNames (named_definitions Fragment (defined document)) b)
     ⊎ IsUnusedFragment (parts_in document) b) ⊎ IsUndefinedSpread (parts_in document) b) ⊎ IsOnCycle (parts_in document) b) ⊎ BreaksVariables
     (parts_in document) b
 from_breaks document b (executable_definitions so) = inl (inl (inl (inl (inl (inl (inl (inl so)))))))
@@ -111,19 +156,19 @@ from_breaks document b (variables so) = inr so
 are_valid :
     (document : Place) → EachOf (child_nodes document) IsExecutable → AreUnique (named_definitions Operation (defined document))
     → AnonymousIsAlone (parts_in document)
-    → EachOf (nodes document) UniqueIn → AreUnique (named_definitions Fragment (defined document)) → FragmentsAreUsed (parts_in document)
+    → EachOf (nodes document) (UniqueIn Executable) → AreUnique (named_definitions Fragment (defined document)) → FragmentsAreUsed (parts_in document)
     → SpreadsAreDefined (parts_in document) → HasNoCycles (parts_in document) → VariablesAreWell (parts_in document) → IsValid document
 are_valid document executable operation_unique alone unique fragment_unique used known acyclic well = record {
   executable_definitions = executable;
   operation_names = operation_unique;
   lone_anonymous_operation = alone;
-  argument_names = λ p there is. unique_at p Arguments is (unique p there);
+  argument_names = λ p there is. unique_at Executable p Arguments is refl (unique p there);
   fragment_names = fragment_unique;
   fragments_used = used;
   spreads_defined = known;
   no_cycles = acyclic;
-  object_field_names = λ p there is. unique_at p ObjectFields is (unique p there);
-  variable_names = λ p there is. unique_at p Variables is (unique p there);
+  object_field_names = λ p there is. unique_at Executable p ObjectFields is refl (unique p there);
+  variable_names = λ p there is. unique_at Executable p Variables is refl (unique p there);
   variables_defined = λ operation there. (well operation there).1;
   variables_used = λ operation there. (well operation there).0;
 }
@@ -131,7 +176,7 @@ are_valid document executable operation_unique alone unique fragment_unique used
 pub adds_all :
     (d : Place) (v0 v1 v2 v3 v4 v5 v6 v7 v8 v9 : Violations) → Adds (OneOf (child_nodes d) IsForeign) (EachOf (child_nodes d) IsExecutable) v0 v1
     → Adds (Repeats UniqueOperationNames (named_definitions Operation (defined d))) (AreUnique (named_definitions Operation (defined d))) v1 v2
-    → Adds (IsNotAlone (parts_in d)) (AnonymousIsAlone (parts_in d)) v2 v3 → Adds (OneOf (nodes d) RepeatsIn) (EachOf (nodes d) UniqueIn) v3 v4
+    → Adds (IsNotAlone (parts_in d)) (AnonymousIsAlone (parts_in d)) v2 v3 → Adds (OneOf (nodes d) (RepeatsIn Executable)) (EachOf (nodes d) (UniqueIn Executable)) v3 v4
     → Adds (Repeats UniqueFragmentNames (named_definitions Fragment (defined d))) (AreUnique (named_definitions Fragment (defined d))) v4 v5
     → Adds (IsUnusedFragment (parts_in d)) (FragmentsAreUsed (parts_in d)) v5 v6 → Adds (IsUndefinedSpread (parts_in d)) (SpreadsAreDefined (parts_in d)) v6 v7
     → Adds (IsOnCycle (parts_in d)) (HasNoCycles (parts_in d)) v7 v8 → Adds (BreaksVariables (parts_in d)) (VariablesAreWell (parts_in d)) v8 v9
@@ -150,10 +195,10 @@ adds_all d v0 v1 v2 v3 v4 v5 v6 v7 v8 v9 a1 a2 a3 a4 a5 a6 a7 a8 a9 =
 
 -- ---- what is found from an empty list on
 pub exact :
-    (d : Place) (most : ℕ) (old new : Violations) → old.list.items ≡ [] → old.most ≡ most → Adds (Breaks d) (IsValid d) old new
-    → AreBreaches most d (found new)
-exact d most old new none same adds = record {
-  no_others = λ b there. ⊎_elim (λ (was : Contains (found old) b). absurd (nothing b was)) (λ (breaks : Breaks d b). breaks) (adds.no_others b there);
+    (Breaks : Breach → Type 0) (IsWell : Type 0) (most : ℕ) (old new : Violations) → old.list.items ≡ [] → old.most ≡ most → Adds Breaks IsWell old new
+    → AreBreaches most Breaks (found new)
+exact Breaks IsWell most old new none same adds = record {
+  no_others = λ b there. ⊎_elim (λ (was : Contains (found old) b). absurd (nothing b was)) (λ (breaks : Breaks b). breaks) (adds.no_others b there);
   all = λ less b breaks. adds.all (let l = long in omega arith) b breaks;
   few = let l = long in let few = adds.few (let z = zero_long in omega arith) in omega arith;
 }
@@ -168,18 +213,18 @@ exact d most old new none same adds = record {
     long = length-map new.list.items as_breach
 
 pub valid_if_none :
-    (d : Place) (most : ℕ) (old new : Violations) → old.list.items ≡ [] → old.most ≡ most → Adds (Breaks d) (IsValid d) old new → 0 < most
-    → (new.list.items ≡ []) ↔ IsValid d
-valid_if_none d most old new none same adds positive = (
+    (Breaks : Breach → Type 0) (IsWell : Type 0) → (IsWell → (b : Breach) → ¬ Breaks b) → (most : ℕ) (old new : Violations) → old.list.items ≡ []
+    → old.most ≡ most → Adds Breaks IsWell old new → 0 < most → (new.list.items ≡ []) ↔ IsWell
+valid_if_none Breaks IsWell keeps most old new none same adds positive = (
   (λ e. let n : count new ≡ 0 = ap length e in adds.well (omega arith) (omega arith)),
-  (λ valid. no_items new.list.items (λ v there. no_breach valid v there)),
+  (λ well. no_items new.list.items (λ v there. no_breach well v there)),
 )
   where
-    no_breach : IsValid d → (b : Breach) → ¬ Contains (found new) b
-    no_breach valid b there =
+    no_breach : IsWell → (b : Breach) → ¬ Contains (found new) b
+    no_breach well b there =
         ⊎_elim
         (λ (was : Contains (found old) b). let (k, below, is) = was in let l = length-map old.list.items as_breach in let z = ap length none in omega arith)
-        (λ (breaks : Breaks d b). valid_keeps d valid b breaks)
+        (λ (breaks : Breaks b). keeps well b breaks)
         (adds.no_others b there)
 
     no_items : (xs : List Violation) → ((b : Breach) → ¬ Contains (map as_breach xs) b) → xs ≡ []

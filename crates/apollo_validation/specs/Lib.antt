@@ -1,2 +1,4 @@
 pub mod Lists
+pub mod Messages
+pub mod OwnNames
 pub mod Validity

@@ -1,20 +1,25 @@
 -- Lists in a tree whose items have to have different names, and definitions that are not executable.
-use Rattle.std.specs.Prelude.{◌≡◌, List, Bool, true, false, ◌||◌, Option, Some, None, option_map, if◌then◌else◌}
-use Rattle.std.specs.List.{Contains, filter, filter_map}
-use Rattle.document_grammar.specs.declared.kind.SyntaxKind.TheVariants.{ARGUMENT, ARGUMENTS, FRAGMENT_DEFINITION, OBJECT_FIELD}
-use Rattle.document_grammar.specs.declared.kind.SyntaxKind.TheVariants.{OBJECT_VALUE, OPERATION_DEFINITION, VARIABLE, VARIABLE_DEFINITION, VARIABLE_DEFINITIONS}
+use Rattle.std.specs.Prelude.{◌≡◌, List, Bool, true, false, not, ◌&&◌, ◌||◌, Option, Some, None, is_empty, option_and_then, option_map, if◌then◌else◌}
+use Rattle.std.specs.List.{Contains, filter, filter_map, list_any}
+use Rattle.document_grammar.specs.declared.kind.SyntaxKind.TheVariants.{ARGUMENTS, ARGUMENTS_DEFINITION, ENUM_VALUES_DEFINITION, FIELDS_DEFINITION}
+use Rattle.document_grammar.specs.declared.kind.SyntaxKind.TheVariants.{FRAGMENT_DEFINITION, INPUT_FIELDS_DEFINITION, OBJECT_VALUE, OPERATION_DEFINITION}
+use Rattle.document_grammar.specs.declared.kind.SyntaxKind.TheVariants.{VARIABLE_DEFINITIONS}
 use Rattle.document_grammar.specs.Numbers.{is_kind}
 use Rattle.apollo_tree.specs.Order.{Place, kind_at}
 use Rattle.apollo_tree.specs.Children.{child_nodes, is_node_place}
 use Rattle.apollo_tree.specs.Below.{at_or_below}
-use Rattle.name_lists.specs.Names.{Name}
-use Rattle.executable_document.specs.Mentions.{Named, name_in, name_of}
+use Rattle.executable_document.specs.Mentions.{Named}
 use Rattle.definition_rules.specs.declared.violations.Rule.{Rule}
 use Rattle.definition_rules.specs.declared.violations.Rule.TheVariants.{ExecutableDefinitions, UniqueArgumentNames, UniqueInputFieldNames, UniqueVariableNames}
+use Rattle.definition_rules.specs.declared.violations.Rule.TheVariants.{UniqueFieldDefinitionNames, UniqueArgumentDefinitionNames, UniqueEnumValueNames}
 use Rattle.definition_rules.specs.Violations.{Breach, breach}
 use Rattle.definition_rules.specs.Rules.{AreUnique, Repeats}
+use Rattle.apollo_validation.specs.declared.lists.DocumentKind.{DocumentKind}
+use Rattle.apollo_validation.specs.declared.lists.DocumentKind.TheVariants.{Executable, TypeSystem}
 use Rattle.apollo_validation.specs.declared.lists.NamedList.{NamedList}
-use Rattle.apollo_validation.specs.declared.lists.NamedList.TheVariants.{Arguments, ObjectFields, Variables}
+use Rattle.apollo_validation.specs.declared.lists.NamedList.TheVariants.{Arguments, ObjectFields, Variables, FieldDefinitions}
+use Rattle.apollo_validation.specs.declared.lists.NamedList.TheVariants.{InputFieldDefinitions, ArgumentDefinitions, EnumValues}
+use Rattle.apollo_validation.specs.OwnNames.{own_name}
 
 -- the list that an element is
 abbrev pub list_of : Place → Option NamedList
@@ -25,40 +30,65 @@ list_of p =
     then Some ObjectFields
     else (if is_kind VARIABLE_DEFINITIONS (kind_at p)
     then Some Variables
-    else None))
+    else (if is_kind FIELDS_DEFINITION (kind_at p)
+    then Some FieldDefinitions
+    else (if is_kind INPUT_FIELDS_DEFINITION (kind_at p)
+    then Some InputFieldDefinitions
+    else (if is_kind ARGUMENTS_DEFINITION (kind_at p)
+    then Some ArgumentDefinitions
+    else (if is_kind ENUM_VALUES_DEFINITION (kind_at p)
+    then Some EnumValues
+    else None))))))
 
 abbrev pub rule_of : NamedList → Rule
 rule_of Arguments = UniqueArgumentNames
 rule_of ObjectFields = UniqueInputFieldNames
 rule_of Variables = UniqueVariableNames
+rule_of FieldDefinitions = UniqueFieldDefinitionNames
+rule_of InputFieldDefinitions = UniqueFieldDefinitionNames
+rule_of ArgumentDefinitions = UniqueArgumentDefinitionNames
+rule_of EnumValues = UniqueEnumValueNames
 
--- the name of an item of such a list
-abbrev pub item_name : NamedList → Place → Option Name
-item_name Arguments p = if is_kind ARGUMENT (kind_at p) then name_of p else None
-item_name ObjectFields p = if is_kind OBJECT_FIELD (kind_at p) then name_of p else None
-item_name Variables p = if is_kind VARIABLE_DEFINITION (kind_at p) then name_in VARIABLE p else None
+abbrev pub is_as_executable : DocumentKind → Bool
+is_as_executable Executable = true
+is_as_executable TypeSystem = false
 
-abbrev pub item_of : NamedList → Place → Option Named
-item_of list p = option_map (λ name. record { place = p; name = name }) (item_name list p)
+-- whether documents of a kind are judged by a list
+abbrev pub is_judged : NamedList → DocumentKind → Bool
+is_judged Arguments kind = true
+is_judged ObjectFields kind = true
+is_judged Variables kind = is_as_executable kind
+is_judged FieldDefinitions kind = not (is_as_executable kind)
+is_judged InputFieldDefinitions kind = not (is_as_executable kind)
+is_judged ArgumentDefinitions kind = not (is_as_executable kind)
+is_judged EnumValues kind = not (is_as_executable kind)
+
+-- the list that an element is, if documents of a kind are judged by it
+abbrev pub judged_list : DocumentKind → Place → Option NamedList
+judged_list kind p = option_and_then (λ list. if is_judged list kind then Some list else None) (list_of p)
+
+-- an item of such a list
+abbrev pub item_of : Place → Option Named
+item_of p = option_map (λ name. record { place = p; name = name }) (own_name p)
 
 -- the items of a list that have a name, as each has in a tree without errors
-abbrev pub items_of : NamedList → Place → List Named
-items_of list p = filter_map (item_of list) (child_nodes p)
+abbrev pub items_of : Place → List Named
+items_of p = filter_map item_of (child_nodes p)
 
 -- An item of such a list has the name of an earlier one.
 abbrev pub RepeatsAs : Option NamedList → Place → Breach → Type 0
 RepeatsAs None p b = ⊥
-RepeatsAs (Some list) p b = Repeats (rule_of list) (items_of list p) b
+RepeatsAs (Some list) p b = Repeats (rule_of list) (items_of p) b
 
-abbrev pub RepeatsIn : Place → Breach → Type 0
-RepeatsIn p b = RepeatsAs (list_of p) p b
+abbrev pub RepeatsIn : DocumentKind → Place → Breach → Type 0
+RepeatsIn kind p b = RepeatsAs (judged_list kind p) p b
 
 abbrev pub UniqueAs : Option NamedList → Place → Type 0
 UniqueAs None p = Unit {0}
-UniqueAs (Some list) p = AreUnique (items_of list p)
+UniqueAs (Some list) p = AreUnique (items_of p)
 
-abbrev pub UniqueIn : Place → Type 0
-UniqueIn p = UniqueAs (list_of p) p
+abbrev pub UniqueIn : DocumentKind → Place → Type 0
+UniqueIn kind p = UniqueAs (judged_list kind p) p
 
 -- the nodes at and below an element
 abbrev pub nodes : Place → List Place
@@ -79,3 +109,10 @@ IsForeign p b = (is_executable p ≡ false) × (b ≡ breach ExecutableDefinitio
 
 abbrev pub IsExecutable : Place → Type 0
 IsExecutable p = is_executable p ≡ true
+
+-- What a document is judged as: as one of the type system if it has definitions, and none of them is an operation or a fragment.
+abbrev pub document_kind : Place → DocumentKind
+document_kind document =
+    if not (is_empty (child_nodes document)) && not (list_any is_executable (child_nodes document))
+    then TypeSystem
+    else Executable

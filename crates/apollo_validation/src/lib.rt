@@ -1,10 +1,16 @@
-//! Validation of executable documents by the rules of section 5 (GraphQL October 2021) that need no schema.
+//! Validation by the rules of the standard (GraphQL October 2021) that need no schema.
 //!
-//! `validate_executable` finds each place at which a document breaks one of them, up to a bound, and none exactly if the document keeps them all.
+//! `validate_executable` finds each place at which operations and fragments break a rule of section 5, up to a bound, and none exactly if the
+//! document keeps them all; `validate_type_system` finds names that are defined twice in one definition (section 3). `validate` takes the one
+//! that fits the document, and `message` says what is wrong.
 #![tactic(auto)]
 
 mod lists;
+mod messages;
+mod names;
 mod validation;
 
 pub use definition_rules::{Rule, Violation, Violations};
-pub use validation::validate_executable;
+pub use lists::{DocumentKind, document_kind};
+pub use messages::message;
+pub use validation::{validate, validate_executable, validate_type_system};

@@ -1,18 +1,26 @@
 // Lists in a tree whose items have to have different names, and definitions that are not executable.
-ghost use Rattle.std.specs.Prelude.{◌≡◌, IfOk, OnOk, map, option_map};
-ghost use Rattle.document_grammar.specs.declared.kind.SyntaxKind.TheVariants.{VARIABLE};
+ghost use Rattle.std.specs.Prelude.{◌≡◌, IfOk, OnOk, is_empty, map, not, option_map};
+ghost use Rattle.std.specs.List.{list_any};
 ghost use Rattle.apollo_tree.specs.Children.{child_nodes};
 ghost use Rattle.apollo_tree.specs.References.{node_place};
-ghost use Rattle.executable_document.specs.Mentions.{as_named, name_in};
+ghost use Rattle.executable_document.specs.Mentions.{as_named};
 ghost use Rattle.definition_rules.specs.Violations.{Adds};
-ghost use Rattle.apollo_validation.specs.Lists.{EachOf, IsExecutable, IsForeign, OneOf, RepeatsIn, UniqueIn, is_executable, item_name, item_of, items_of, list_of, nodes, rule_of};
+ghost use Rattle.apollo_validation.specs.Lists.{EachOf, IsExecutable, IsForeign, OneOf, RepeatsIn, UniqueIn, document_kind, is_executable, is_judged, item_of, items_of, judged_list, list_of, nodes, rule_of};
 
-use apollo_cst_core::{CstNode, child};
-use apollo_cst_executable::Variable;
+use crate::names::own_name;
 use apollo_tree::{SyntaxKind, SyntaxNode};
 use definition_rules::{Rule, Violations, add_repeats};
-use executable_document::{Mention, name};
+use executable_document::Mention;
 use std::alloc::{AllocError, Global};
+
+/// What a document is judged as.
+#[derive(Clone, Copy)]
+pub enum DocumentKind {
+    /// Operations and fragments.
+    Executable,
+    /// Definitions of the type system, and extensions.
+    TypeSystem,
+}
 
 // A list of items with names.
 #[derive(Clone, Copy)]
@@ -20,6 +28,10 @@ pub(crate) enum NamedList {
     Arguments,
     ObjectFields,
     Variables,
+    FieldDefinitions,
+    InputFieldDefinitions,
+    ArgumentDefinitions,
+    EnumValues,
 }
 
 // The list that a node is.
@@ -36,6 +48,43 @@ fn list_of(node: &SyntaxNode<'_>) -> Option<NamedList>
     if kind.is(SyntaxKind::VARIABLE_DEFINITIONS) {
         return Some(NamedList::Variables);
     }
+    if kind.is(SyntaxKind::FIELDS_DEFINITION) {
+        return Some(NamedList::FieldDefinitions);
+    }
+    if kind.is(SyntaxKind::INPUT_FIELDS_DEFINITION) {
+        return Some(NamedList::InputFieldDefinitions);
+    }
+    if kind.is(SyntaxKind::ARGUMENTS_DEFINITION) {
+        return Some(NamedList::ArgumentDefinitions);
+    }
+    if kind.is(SyntaxKind::ENUM_VALUES_DEFINITION) {
+        return Some(NamedList::EnumValues);
+    }
+    None
+}
+
+// Whether documents of a kind are judged by a list.
+fn is_judged(list: NamedList, kind: DocumentKind) -> bool
+    ensures { result ≡ is_judged list kind }
+{
+    match list {
+        NamedList::Arguments | NamedList::ObjectFields => true,
+        NamedList::Variables => matches!(kind, DocumentKind::Executable),
+        NamedList::FieldDefinitions
+        | NamedList::InputFieldDefinitions
+        | NamedList::ArgumentDefinitions
+        | NamedList::EnumValues => matches!(kind, DocumentKind::TypeSystem),
+    }
+}
+
+// The list that a node is, if documents of a kind are judged by it.
+fn judged_list(node: &SyntaxNode<'_>, kind: DocumentKind) -> Option<NamedList>
+    ensures { result ≡ judged_list kind (node_place node.now) }
+{
+    let list = list_of(node)?;
+    if is_judged(list, kind) {
+        return Some(list);
+    }
     None
 }
 
@@ -47,59 +96,28 @@ fn rule_of(list: NamedList) -> Rule
         NamedList::Arguments => Rule::UniqueArgumentNames,
         NamedList::ObjectFields => Rule::UniqueInputFieldNames,
         NamedList::Variables => Rule::UniqueVariableNames,
+        NamedList::FieldDefinitions | NamedList::InputFieldDefinitions => {
+            Rule::UniqueFieldDefinitionNames
+        }
+        NamedList::ArgumentDefinitions => Rule::UniqueArgumentDefinitionNames,
+        NamedList::EnumValues => Rule::UniqueEnumValueNames,
     }
 }
 
-fn variable_name<'t>(node: &SyntaxNode<'t>) -> Option<&'t str>
-    ensures { option_map (λ n. n.now) result ≡ name_in VARIABLE (node_place node.now) }
+fn item_of<'t>(node: SyntaxNode<'t>) -> Option<Mention<'t>>
+    ensures { option_map as_named result ≡ item_of (node_place node.entry) }
 {
-    let variable: Option<Variable<'t>> = child(node);
-    name(variable?.syntax())
-}
-
-// The name of an item of a list.
-fn item_name<'t>(node: &SyntaxNode<'t>, list: NamedList) -> Option<&'t str>
-    ensures { option_map (λ n. n.now) result ≡ item_name list (node_place node.now) }
-{
-    let kind = node.kind();
-    match list {
-        NamedList::Arguments => {
-            if kind.is(SyntaxKind::ARGUMENT) {
-                return name(node);
-            }
-        }
-        NamedList::ObjectFields => {
-            if kind.is(SyntaxKind::OBJECT_FIELD) {
-                return name(node);
-            }
-        }
-        NamedList::Variables => {
-            if kind.is(SyntaxKind::VARIABLE_DEFINITION) {
-                return variable_name(node);
-            }
-        }
-    }
-    None
-}
-
-fn item_of<'t>(node: SyntaxNode<'t>, list: NamedList) -> Option<Mention<'t>>
-    ensures { option_map as_named result ≡ item_of list (node_place node.entry) }
-{
-    let name = item_name(&node, list)?;
+    let name = own_name(&node)?;
     Some(Mention { node, name })
 }
 
 // The items of a list that have a name.
-fn items_of<'t>(
-    alloc: Global,
-    node: &SyntaxNode<'t>,
-    list: NamedList,
-) -> Result<Vec<Mention<'t>>, AllocError>
-    ensures { IfOk result (λ items. map as_named items.items ≡ items_of list (node_place node.now)) }
+fn items_of<'t>(alloc: Global, node: &SyntaxNode<'t>) -> Result<Vec<Mention<'t>>, AllocError>
+    ensures { IfOk result (λ items. map as_named items.items ≡ items_of (node_place node.now)) }
 {
     let mut items = Vec::new(alloc);
     for child in node.children() {
-        if let Some(item) = item_of(child, list) {
+        if let Some(item) = item_of(child) {
             items.push(item)?;
         }
     }
@@ -111,26 +129,28 @@ fn add_list<'t>(
     alloc: Global,
     violations: &mut Violations<'t>,
     node: &SyntaxNode<'t>,
+    kind: DocumentKind,
 ) -> Result<(), AllocError>
-    ensures { OnOk result (Adds (RepeatsIn (node_place node.now)) (UniqueIn (node_place node.now)) violations.old violations.new) }
+    ensures { OnOk result (Adds (RepeatsIn kind (node_place node.now)) (UniqueIn kind (node_place node.now)) violations.old violations.new) }
 {
-    if let Some(list) = list_of(node) {
-        let items = items_of(alloc, node, list)?;
+    if let Some(list) = judged_list(node, kind) {
+        let items = items_of(alloc, node)?;
         add_repeats(alloc, violations, rule_of(list), &items)?;
     }
     Ok(())
 }
 
-// Adds the items with the name of an earlier one, in all lists at or below a node.
+// Adds the items with the name of an earlier one, in all lists at or below a node by which documents of a kind are judged.
 pub(crate) fn add_lists<'t>(
     alloc: Global,
     violations: &mut Violations<'t>,
     root: &SyntaxNode<'t>,
+    kind: DocumentKind,
 ) -> Result<(), AllocError>
-    ensures { OnOk result (Adds (OneOf (nodes (node_place root.now)) RepeatsIn) (EachOf (nodes (node_place root.now)) UniqueIn) violations.old violations.new) }
+    ensures { OnOk result (Adds (OneOf (nodes (node_place root.now)) (RepeatsIn kind)) (EachOf (nodes (node_place root.now)) (UniqueIn kind)) violations.old violations.new) }
 {
     for node in root.descendants() {
-        add_list(alloc, violations, &node)?;
+        add_list(alloc, violations, &node, kind)?;
     }
     Ok(())
 }
@@ -166,4 +186,32 @@ pub(crate) fn add_foreign<'t>(
         add_if_foreign(violations, &node)?;
     }
     Ok(())
+}
+
+fn has_executable(document: &SyntaxNode<'_>) -> bool
+    ensures { result ≡ list_any is_executable (child_nodes (node_place document.now)) }
+{
+    for node in document.children() {
+        if is_executable(&node) {
+            return true;
+        }
+    }
+    false
+}
+
+fn has_definition(document: &SyntaxNode<'_>) -> bool
+    ensures { result ≡ not (is_empty (child_nodes (node_place document.now))) }
+{
+    document.children().next().is_some()
+}
+
+/// What a document is judged as: as one of the type system if it has definitions, and none of them is an operation or a fragment.
+pub fn document_kind(document: &SyntaxNode<'_>) -> DocumentKind
+    ensures { result ≡ document_kind (node_place document.now) }
+{
+    if has_definition(document) && !has_executable(document) {
+        DocumentKind::TypeSystem
+    } else {
+        DocumentKind::Executable
+    }
 }

@@ -5,9 +5,10 @@ ghost use Rattle.name_lists.specs.Names.{AreFirstNumbers};
 ghost use Rattle.executable_document.specs.Definitions.{as_defined, defined, fragment_names};
 ghost use Rattle.definition_rules.specs.Parts.{as_parts, definitions as definitions_of};
 ghost use Rattle.definition_rules.specs.Violations.{Adds, as_breach};
-ghost use Rattle.apollo_validation.specs.Validity.{AreBreaches, Breaks, IsValid, parts_in};
+ghost use Rattle.apollo_validation.specs.Validity.{AreBreaches, Breaks, BreaksAs, BreaksTypeSystem, IsValid, IsValidAs, IsValidTypeSystem, parts_in};
+ghost use Rattle.apollo_validation.specs.Lists.{document_kind as kind_of};
 
-use crate::lists::{add_foreign, add_lists};
+use crate::lists::{DocumentKind, add_foreign, add_lists, document_kind};
 use apollo_tree::SyntaxNode;
 use definition_rules::{
     DefinitionParts, Rule, Violation, Violations, add_anonymous, add_cycles, add_repeats,
@@ -45,7 +46,7 @@ fn add_all<'t>(
         &operations_named,
     )?;
     add_anonymous(violations, parts, &numbers)?;
-    add_lists(alloc, violations, document)?;
+    add_lists(alloc, violations, document, DocumentKind::Executable)?;
     add_repeats(
         alloc,
         violations,
@@ -59,14 +60,14 @@ fn add_all<'t>(
     Ok(())
 }
 
-/// The places at which a document breaks a rule, no more than `most` of them, by the root of its tree. If there are fewer than `most`, they are all;
-/// and there are none exactly if the document keeps all rules.
+/// The places at which a document of operations and fragments breaks a rule, no more than `most` of them, by the root of its tree. If there are
+/// fewer than `most`, they are all; and there are none exactly if the document keeps all rules.
 pub fn validate_executable<'t>(
     alloc: Global,
     document: &SyntaxNode<'t>,
     most: usize,
 ) -> Result<Vec<Violation<'t>>, AllocError>
-    ensures exact { IfOk result (λ found. AreBreaches most (node_place document.now) (map as_breach found.items)) }
+    ensures exact { IfOk result (λ found. AreBreaches most (Breaks (node_place document.now)) (map as_breach found.items)) }
     ensures valid { IfOk result (λ found. 0 < most → ((found.items ≡ []) ↔ IsValid (node_place document.now))) }
 {
     let mut violations = Violations::new(alloc, most);
@@ -83,4 +84,34 @@ pub fn validate_executable<'t>(
     )?;
     let Violations { list, most: _ } = violations;
     Ok(list)
+}
+
+/// The same for a document of the type system: the names that are defined, or given, twice in one list.
+pub fn validate_type_system<'t>(
+    alloc: Global,
+    document: &SyntaxNode<'t>,
+    most: usize,
+) -> Result<Vec<Violation<'t>>, AllocError>
+    ensures exact { IfOk result (λ found. AreBreaches most (BreaksTypeSystem (node_place document.now)) (map as_breach found.items)) }
+    ensures valid { IfOk result (λ found. 0 < most → ((found.items ≡ []) ↔ IsValidTypeSystem (node_place document.now))) }
+{
+    let mut violations = Violations::new(alloc, most);
+    add_lists(alloc, &mut violations, document, DocumentKind::TypeSystem)?;
+    let Violations { list, most: _ } = violations;
+    Ok(list)
+}
+
+/// The same by the rules for what the document is judged as: see `document_kind`.
+pub fn validate<'t>(
+    alloc: Global,
+    document: &SyntaxNode<'t>,
+    most: usize,
+) -> Result<Vec<Violation<'t>>, AllocError>
+    ensures exact { IfOk result (λ found. AreBreaches most (BreaksAs (kind_of (node_place document.now)) (node_place document.now)) (map as_breach found.items)) }
+    ensures valid { IfOk result (λ found. 0 < most → ((found.items ≡ []) ↔ IsValidAs (kind_of (node_place document.now)) (node_place document.now))) }
+{
+    match document_kind(document) {
+        DocumentKind::Executable => validate_executable(alloc, document, most),
+        DocumentKind::TypeSystem => validate_type_system(alloc, document, most),
+    }
 }

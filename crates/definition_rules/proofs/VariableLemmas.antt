@@ -7,12 +7,15 @@ use Rattle.std.proofs.lemmas.List.{get_or_default}
 use Rattle.std.proofs.lemmas.List.Elements.{Contains-append_left, Contains-get_or, Contains-push, Contains-push_cases}
 use Rattle.std.proofs.lemmas.Slice.Eq.{bytes_eq-Decides}
 use Rattle.name_lists.specs.Names.{Name, Entries, Enters, HasEntry, entry_of}
+use Rattle.directed_graph.specs.Graph.{Graph, HasEdge, Reached}
 use Rattle.executable_document.specs.Mentions.{Named}
 use Rattle.definition_rules.specs.declared.violations.Violations.{Violations}
 use Rattle.definition_rules.specs.Violations.{Breach, Adds, count}
-use Rattle.definition_rules.specs.Known.{DefinedIn, EntersNames, IsUsedAmong, UndefinedIn}
+use Rattle.definition_rules.specs.Graphs.{IsSpreadGraph}
+use Rattle.definition_rules.specs.Known.{AreReached, DefinedIn, EntersNames, IsUsedAmong, UndefinedIn}
 use Rattle.definition_rules.specs.Parts.{Parts, at, Reaches}
 use Rattle.definition_rules.specs.Rules.{AllAmong, Among, HasName, IsUndefinedVariable, IsUsed, VariablesAreDefined}
+use Rattle.definition_rules.proofs.OperationLemmas.{from_reaches, to_reaches}
 use Rattle.definition_rules.proofs.AddLemmas.{Below, AllBelow, adds_full, adds_same}
 
 -- ---- names
@@ -128,8 +131,13 @@ among_full numbers Breaks IsWell n old new le full adds =
     (among_from numbers Breaks n le) full adds
 
 -- ---- one operation, and the definitions that it reaches
-abbrev pub AreReached : List Parts → ℕ → List ℕ → Type 0
-AreReached ds operation numbers = (number : ℕ) → Contains numbers number ↔ Reaches ds (operation ∷ []) number
+pub are_reached :
+    (ds : List Parts) (graph : Graph) (operation : ℕ) (numbers : List ℕ) → IsSpreadGraph ds graph
+    → ((number : ℕ) → Contains numbers number ↔ Reached (HasEdge graph) (operation ∷ []) number) → AreReached ds operation numbers
+are_reached ds graph operation numbers spreads found number = (
+  (λ there. to_reaches ds graph (operation ∷ []) spreads number ((found number).0 there)),
+  (λ reached. (found number).1 (from_reaches ds graph (operation ∷ []) spreads number reached)),
+)
 
 pub used_to : (ds : List Parts) (operation : ℕ) (numbers : List ℕ) → AreReached ds operation numbers → (name : Name) → IsUsedAmong ds numbers name
     → IsUsed ds operation name

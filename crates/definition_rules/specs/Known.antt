@@ -1,11 +1,11 @@
 -- Names that are entered.
-use Rattle.std.specs.Prelude.{◌⊎◌, ℕ, List, Some}
+use Rattle.std.specs.Prelude.{◌⊎◌, ◌↔◌, ℕ, List, [], ◌∷◌, Some}
 use Rattle.std.specs.List.{Contains}
 use Rattle.name_lists.specs.Names.{Name, Entries, HasEntry}
 use Rattle.executable_document.specs.Mentions.{Named}
 use Rattle.definition_rules.specs.declared.violations.Rule.TheVariants.{NoUndefinedVariables}
 use Rattle.definition_rules.specs.Violations.{Breach}
-use Rattle.definition_rules.specs.Parts.{Parts, at, place_at}
+use Rattle.definition_rules.specs.Parts.{Parts, Reaches, at, place_at}
 use Rattle.definition_rules.specs.Rules.{AreKnown, HasName, IsDeclared, IsUnknown}
 
 -- The new map has the names that the old one has, and those of the items.
@@ -13,6 +13,10 @@ pub record EntersNames {V : Type 0} (old new : Entries V) (items : List Named) :
   pub kept : (name : Name) → HasEntry old name → HasEntry new name
   pub entered : (name : Name) → HasName items name → HasEntry new name
   pub no_others : (name : Name) → HasEntry new name → HasEntry old name ⊎ HasName items name
+
+-- the definitions that an operation reaches
+abbrev pub AreReached : List Parts → ℕ → List ℕ → Type 0
+AreReached ds operation numbers = (number : ℕ) → Contains numbers number ↔ Reaches ds (operation ∷ []) number
 
 -- one of some definitions uses the variable
 abbrev pub IsUsedAmong : List Parts → List ℕ → Name → Type 0

@@ -1,12 +1,12 @@
 // Rules on names that must be unique, or must be there.
-ghost use Rattle.std.specs.Prelude.{◌≡◌, ◌==◌, OnOk, map, not, option_map};
+ghost use Rattle.std.specs.Prelude.{◌≡◌, ◌==◌, OnOk, Some, map, not, option_map};
 ghost use Rattle.std.specs.List.{find};
 ghost use Rattle.apollo_tree.specs.References.{node_place};
 ghost use Rattle.name_lists.specs.Names.{HasEntry};
 ghost use Rattle.executable_document.specs.Mentions.{as_named};
 ghost use Rattle.definition_rules.specs.Parts.{as_parts, operations};
 ghost use Rattle.definition_rules.specs.Rules.{AnonymousIsAlone, AreKnown, AreUnique, IsNotAlone, IsUnknown, Repeats};
-ghost use Rattle.definition_rules.specs.Violations.{Adds};
+ghost use Rattle.definition_rules.specs.Violations.{Adds, breach};
 
 use crate::reading::{DefinitionParts, part_at};
 use crate::violations::{Rule, Violations};
@@ -15,6 +15,18 @@ use executable_document::Mention;
 use name_lists::{enter, is_entered};
 use std::alloc::{AllocError, Global};
 use std::collections::BTreeMap;
+
+// Adds an item that has the name of an earlier one.
+fn add_repeat<'t>(
+    violations: &mut Violations<'t>,
+    rule: Rule,
+    item: &Mention<'t>,
+    first: &Mention<'t>,
+) -> Result<(), AllocError>
+    ensures { OnOk result (Adds (λ b. b ≡ breach rule (as_named item.now).place (Some (as_named first.now).place)) ⊥ violations.old violations.new) }
+{
+    violations.add(rule, item.node, Some(first.node))
+}
 
 /// Adds the items with the name of an earlier one.
 pub fn add_repeats<'t>(
@@ -31,7 +43,7 @@ pub fn add_repeats<'t>(
             return Ok(());
         }
         if let Some(first) = enter(&mut numbers, item.name, number)? {
-            violations.add(rule, item.node, Some(items[first].node))?;
+            add_repeat(violations, rule, item, &items[first])?;
         }
     }
     Ok(())

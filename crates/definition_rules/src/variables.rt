@@ -6,9 +6,9 @@ ghost use Rattle.directed_graph.specs.Marks.{AreUnmarked};
 ghost use Rattle.executable_document.specs.Mentions.{as_named};
 ghost use Rattle.name_lists.specs.Names.{HasEntry, Name};
 ghost use Rattle.definition_rules.specs.Graphs.{IsSpreadGraph};
-ghost use Rattle.definition_rules.specs.Known.{DefinedIn, EntersNames, IsUsedAmong, UndefinedIn};
+ghost use Rattle.definition_rules.specs.Known.{AreReached, DefinedIn, EntersNames, IsUsedAmong, UndefinedIn};
 ghost use Rattle.definition_rules.specs.Parts.{as_parts, operations};
-ghost use Rattle.definition_rules.specs.Rules.{AllAmong, Among, BreaksVariables, BreaksVariablesOf, IsDeclared, VariablesAreWell, VariablesAreWellOf};
+ghost use Rattle.definition_rules.specs.Rules.{AllAmong, Among, BreaksVariables, BreaksVariablesOf, IsDeclared, IsUnusedVariable, VariablesAreUsed, VariablesAreWell, VariablesAreWellOf};
 ghost use Rattle.definition_rules.specs.Violations.{Adds};
 
 use crate::naming::add_unknown;
@@ -63,6 +63,26 @@ fn declared_names<'t>(
     Ok(known)
 }
 
+// Adds the variables that an operation declares, and that nothing it reaches uses.
+fn add_unused<'t>(
+    alloc: Global,
+    violations: &mut Violations<'t>,
+    parts: &[DefinitionParts<'t>],
+    operation: usize,
+    reached: &[usize],
+) -> Result<(), AllocError>
+    requires operation { operation < length parts.now }
+    requires inside { All (λ number. number < length parts.now) reached.now }
+    requires reached { AreReached (map as_parts parts.now) operation reached.now }
+    ensures { OnOk result (Adds (IsUnusedVariable (map as_parts parts.now) operation) (VariablesAreUsed (map as_parts parts.now) operation) violations.old violations.new) }
+{
+    let used = used_names(alloc, parts, reached)?;
+    let party = Some(part_at(parts, operation).definition.node);
+    let variables = &part_at(parts, operation).declared;
+    add_unknown(violations, Rule::NoUnusedVariables, party, variables, &used)?;
+    Ok(())
+}
+
 // Adds the uses of variables that an operation does not declare, in some definitions.
 fn add_undefined<'t>(
     violations: &mut Violations<'t>,
@@ -94,6 +114,7 @@ fn add_undefined<'t>(
 }
 
 // Adds what breaks the rules on the variables of an operation.
+#[tactic(auto, using(crate::proofs::VariableLemmas::are_reached))]
 fn add_operation<'t>(
     alloc: Global,
     violations: &mut Violations<'t>,
@@ -112,12 +133,10 @@ fn add_operation<'t>(
     ensures adds { OnOk result (Adds (BreaksVariablesOf (map as_parts parts.now) operation) (VariablesAreWellOf (map as_parts parts.now) operation) violations.old violations.new) }
 {
     let found = reach(alloc, graph, operation, marks)?;
-    let used = used_names(alloc, parts, &found)?;
+    let reached: &[usize] = &found;
+    add_unused(alloc, violations, parts, operation, reached)?;
     let declared = declared_names(alloc, parts, operation)?;
-    let party = Some(part_at(parts, operation).definition.node);
-    let variables = &part_at(parts, operation).declared;
-    add_unknown(violations, Rule::NoUnusedVariables, party, variables, &used)?;
-    add_undefined(violations, parts, operation, &found, &declared)?;
+    add_undefined(violations, parts, operation, reached, &declared)?;
     Ok(())
 }
 

@@ -2,7 +2,7 @@
 use apollo_tree::SyntaxNode;
 use std::alloc::{AllocError, Global};
 
-/// A rule of validation, under the name that graphql-js gives it, with its section (GraphQL October 2021).
+/// A rule of validation, under the name that graphql-js gives it, with its sections (GraphQL October 2021).
 #[derive(Clone, Copy)]
 pub enum Rule {
     /// 5.1.1
@@ -29,6 +29,12 @@ pub enum Rule {
     NoUndefinedVariables,
     /// 5.8.4
     NoUnusedVariables,
+    /// 3.6, 3.7 and 3.10
+    UniqueFieldDefinitionNames,
+    /// 3.6.1 and 3.13
+    UniqueArgumentDefinitionNames,
+    /// 3.9
+    UniqueEnumValueNames,
 }
 
 /// A place at which a document breaks a rule.

@@ -1,14 +1,14 @@
-//! Judges the documents of standard input, which are separated by lines of `---`: for each a line of the violated rules with the offsets of the
-//! node and of the other party.
+//! Judges the documents of standard input, which are separated by lines of `---`: for each a line with the number of its violations, and then
+//! each violation with its rule, the offsets of the node and of the other party, and its message.
 #![tactic(auto)]
 
 use apollo_parser::Parser;
 use apollo_tree::SyntaxNode;
-use apollo_validation::{Rule, Violation, validate_executable};
+use apollo_validation::{Rule, Violation, message, validate};
 use std::alloc::{AllocError, Global};
 use std::io;
 
-// As many violations as a row may have.
+// As many violations as a document may have.
 const MOST: usize = 10_000;
 
 fn rule_name(rule: Rule) -> &'static str {
@@ -25,6 +25,9 @@ fn rule_name(rule: Rule) -> &'static str {
         Rule::UniqueVariableNames => "UniqueVariableNames",
         Rule::NoUndefinedVariables => "NoUndefinedVariables",
         Rule::NoUnusedVariables => "NoUnusedVariables",
+        Rule::UniqueFieldDefinitionNames => "UniqueFieldDefinitionNames",
+        Rule::UniqueArgumentDefinitionNames => "UniqueArgumentDefinitionNames",
+        Rule::UniqueEnumValueNames => "UniqueEnumValueNames",
     }
 }
 
@@ -32,39 +35,44 @@ fn offset(node: SyntaxNode<'_>) -> usize {
     node.text_range().start()
 }
 
-fn put_violation(row: &mut String, violation: &Violation<'_>) -> Result<(), AllocError> {
-    row.push_str(" ")?;
-    row.push_str(rule_name(violation.rule))?;
+fn put_violation(
+    alloc: Global,
+    rows: &mut String,
+    violation: &Violation<'_>,
+) -> Result<(), AllocError> {
+    rows.push_str("\n  ")?;
+    rows.push_str(rule_name(violation.rule))?;
     let at = offset(violation.node);
-    write!(row, "@{at}")?;
+    write!(rows, "@{at}")?;
     if let Some(other) = violation.other {
         let at = offset(other);
-        write!(row, ":{at}")?;
+        write!(rows, ":{at}")?;
     }
-    Ok(())
+    rows.push_str(" ")?;
+    let text = message(alloc, violation)?;
+    rows.push_str(text.as_str())
 }
 
 fn judge(alloc: Global, text: &str) -> Result<String, AllocError> {
-    let mut row = String::new(alloc);
     let tree = Parser::new(text).parse(alloc)?;
     if tree.errors().next().is_some() {
-        row.push_str("syntax")?;
-        return Ok(row);
+        return String::from_str(alloc, "syntax");
     }
     let root = tree.root();
-    let violations = validate_executable(alloc, &root, MOST)?;
-    row.push_str("violations")?;
+    let violations = validate(alloc, &root, MOST)?;
+    let count = violations.len();
+    let mut rows = format!(in alloc; "violations {count}")?;
     for violation in &violations {
-        put_violation(&mut row, violation)?;
+        put_violation(alloc, &mut rows, violation)?;
     }
-    Ok(row)
+    Ok(rows)
 }
 
 fn main(rt: HostRuntime) -> io::Result<()> {
     let source = io::read_to_string(rt.alloc(), rt.stdin())?;
     for text in source.as_str().split("\n---\n") {
-        let row = judge(rt.alloc(), text)?;
-        println!(rt; "{row}")?;
+        let rows = judge(rt.alloc(), text)?;
+        println!(rt; "{rows}")?;
     }
     Ok(())
 }

@@ -3,8 +3,9 @@ use Rattle.apollo_tree.specs.References.{node_place}
 use Rattle.name_lists.specs.Names.{AreFirstNumbers}
 use Rattle.executable_document.specs.Definitions.{Defined, as_defined, fragment_names}
 use Rattle.definition_rules.specs.Parts.{as_parts, definitions, parts_of}
+use Rattle.apollo_validation.specs.Validity.{Breaks, IsValid}
 use Rattle.apollo_validation.proofs.ReadLemmas.{definitions_are, parts_are}
-use Rattle.apollo_validation.proofs.ValidLemmas.{exact, valid_if_none}
+use Rattle.apollo_validation.proofs.ValidLemmas.{exact, valid_if_none, valid_keeps}
 use Rattle.apollo_validation.proofs.validation.validate_executable.Goals as goal
 
 pub add_all-requires-clause-parts : goal.add_all-requires-clause-parts
@@ -25,11 +26,12 @@ add_all-requires-clause-fragments c =
 
 pub returns-clause-exact : goal.returns-clause-exact
 returns-clause-exact c =
-    exact (node_place c.args.document.now) c.args.most c.new-violations.result c.add_all.new.violations c.new-violations.ensures.none
+    exact (Breaks (node_place c.args.document.now)) (IsValid (node_place c.args.document.now)) c.args.most c.new-violations.result c.add_all.new.violations c.new-violations.ensures.none
     c.new-violations.ensures.most
     c.in_ok-add_all.ensures
 
 pub returns-clause-valid : goal.returns-clause-valid
 returns-clause-valid c =
-    valid_if_none (node_place c.args.document.now) c.args.most c.new-violations.result c.add_all.new.violations c.new-violations.ensures.none
+    let d = node_place c.args.document.now in
+    valid_if_none (Breaks d) (IsValid d) (valid_keeps d) c.args.most c.new-violations.result c.add_all.new.violations c.new-violations.ensures.none
     c.new-violations.ensures.most c.in_ok-add_all.ensures

@@ -9,7 +9,7 @@ use Rattle.definition_rules.specs.Rules.{item_at, names}
 use Rattle.definition_rules.proofs.NameLemmas.{first_earlier, item_at_index, item_read, names_long}
 use Rattle.definition_rules.proofs.NameLemmas.{names_more, repeat_more, repeats_all, repeats_full, unique_more}
 use Rattle.definition_rules.proofs.naming.add_repeats.Goals as goal
-use Rattle.definition_rules.proofs.naming.add_repeats.Goals.{in-Some+in_ok-add, in_default}
+use Rattle.definition_rules.proofs.naming.add_repeats.Goals.{in-Some+in_ok-add_repeat, in_default}
 
 pub bounds-items-first : goal.bounds-items-first
 bounds-items-first c =
@@ -37,14 +37,14 @@ loop-number-preserved c =
           (named_more c.loop-number.numbers c.enter.new.entries (take n (names items)) _ n inv.first (names_long items n below) c.in_ok-first.ensures.entered);
       adds =
           elim c.match-branch-2.branch [
-            | in-Some+in_ok-add w ↦
+            | in-Some+in_ok-add_repeat w ↦
                 let first = w.in-Some.first in
                 let is : first_number (take n (names items)) (item_at items n).name ≡ Some first = rw read (earlier ∙ w.in-Some.is) in
                 let less = first_earlier items n first below is in
                 let inside = c.loop-number-test.true in
                 let there : first < length c.args.items.now = omega arith in
                 let read_first = item_at_index c.args.items.now first w.index-items-first.result there in
-                rw w.violations-is (repeat_more c.args.rule items n first _ _ _ below is inv.adds (rw (read, read_first) w.in_ok-add.ensures))
+                rw w.violations-is (repeat_more c.args.rule items n first _ _ _ below is inv.adds (rw (read, read_first) w.in_ok-add_repeat.ensures))
             | in_default w ↦
                 rw w.violations-is (unique_more c.args.rule items n _ _ below (rw read (earlier ∙ w.in_default.is)) inv.adds)
           ];

@@ -1,0 +1,21 @@
+use Rattle.apollo_tree.specs.References.{node_place}
+use Rattle.definition_rules.proofs.AddLemmas.{adds_same}
+use Rattle.apollo_validation.specs.declared.lists.DocumentKind.TheVariants.{TypeSystem}
+use Rattle.apollo_validation.specs.Lists.{EachOf, UniqueIn, nodes}
+use Rattle.apollo_validation.specs.Validity.{BreaksTypeSystem, IsValidTypeSystem}
+use Rattle.apollo_validation.proofs.ValidLemmas.{exact, is_type_system, type_system_keeps, valid_if_none}
+use Rattle.apollo_validation.proofs.validation.validate_type_system.Goals as goal
+
+pub returns-clause-exact : goal.returns-clause-exact
+returns-clause-exact c =
+    let d = node_place c.args.document.now in
+    exact (BreaksTypeSystem d) (EachOf (nodes d) (UniqueIn TypeSystem)) c.args.most c.new-violations.result c.add_lists.new.violations
+    c.new-violations.ensures.none c.new-violations.ensures.most c.in_ok-add_lists.ensures
+
+pub returns-clause-valid : goal.returns-clause-valid
+returns-clause-valid c =
+    let d = node_place c.args.document.now in
+    valid_if_none (BreaksTypeSystem d) (IsValidTypeSystem d) (type_system_keeps d) c.args.most c.new-violations.result c.add_lists.new.violations
+    c.new-violations.ensures.none c.new-violations.ensures.most
+    (adds_same (BreaksTypeSystem d) (BreaksTypeSystem d) (EachOf (nodes d) (UniqueIn TypeSystem)) (IsValidTypeSystem d) _ _ (λ b so. so) (λ b so. so)
+    (is_type_system d) c.in_ok-add_lists.ensures)

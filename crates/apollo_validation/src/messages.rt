@@ -1,0 +1,205 @@
+// The messages of violations, in the words of graphql-js 16.
+ghost use Rattle.std.specs.Prelude.{◌≡◌, ◌++◌, IfOk, bytes_eq, codes, option_map, string_bytes};
+ghost use Rattle.apollo_tree.specs.References.{node_place};
+ghost use Rattle.definition_rules.specs.Violations.{as_breach};
+ghost use Rattle.apollo_validation.specs.OwnNames.{own_name};
+ghost use Rattle.apollo_validation.specs.Messages.{argument, is_schema, member, message_of, name_of_other, never_used, not_defined, not_executable, only_once, only_one, owner, with_arguments, within_itself};
+
+use crate::names::{name_at, or_nothing, own_name};
+use apollo_tree::{SyntaxKind, SyntaxNode};
+use definition_rules::{Rule, Violation};
+use std::alloc::{AllocError, Allocator};
+
+fn is_schema(node: &SyntaxNode<'_>) -> bool
+    ensures { result ≡ is_schema (node_place node.now) }
+{
+    let kind = node.kind();
+    kind.is(SyntaxKind::SCHEMA_DEFINITION) || kind.is(SyntaxKind::SCHEMA_EXTENSION)
+}
+
+fn not_executable<A: Allocator>(
+    alloc: A,
+    definition: &SyntaxNode<'_>,
+) -> Result<String<A>, AllocError>
+    ensures { IfOk result (λ text. string_bytes text ≡ not_executable (node_place definition.now)) }
+{
+    if is_schema(definition) {
+        return format!(in alloc; "The schema definition is not executable.");
+    }
+    let name = name_at(definition);
+    format!(in alloc; "The \"{name}\" definition is not executable.")
+}
+
+fn only_one<A: Allocator>(alloc: A, noun: &str, name: &str) -> Result<String<A>, AllocError>
+    ensures { IfOk result (λ text. string_bytes text ≡ only_one noun.now name.now) }
+{
+    format!(in alloc; "There can be only one {noun} named \"{name}\".")
+}
+
+fn only_one_variable<A: Allocator>(alloc: A, name: &str) -> Result<String<A>, AllocError>
+    ensures { IfOk result (λ text. string_bytes text ≡ only_one (codes "variable") (codes "$" ++ name.now)) }
+{
+    format!(in alloc; "There can be only one variable named \"${name}\".")
+}
+
+// A fragment on a cycle, and the one that it spreads.
+fn within_itself<A: Allocator>(alloc: A, name: &str, other: &str) -> Result<String<A>, AllocError>
+    ensures { IfOk result (λ text. string_bytes text ≡ within_itself name.now other.now) }
+{
+    if name == other {
+        return format!(in alloc; "Cannot spread fragment \"{name}\" within itself.");
+    }
+    format!(in alloc; "Cannot spread fragment \"{name}\" within itself via \"{other}\".")
+}
+
+fn not_defined<A: Allocator>(
+    alloc: A,
+    name: &str,
+    operation: Option<&str>,
+) -> Result<String<A>, AllocError>
+    ensures { IfOk result (λ text. string_bytes text ≡ not_defined name.now (option_map (λ n. n.now) operation)) }
+{
+    match operation {
+        Some(operation) => {
+            format!(in alloc; "Variable \"${name}\" is not defined by operation \"{operation}\".")
+        }
+        None => format!(in alloc; "Variable \"${name}\" is not defined."),
+    }
+}
+
+fn never_used<A: Allocator>(
+    alloc: A,
+    name: &str,
+    operation: Option<&str>,
+) -> Result<String<A>, AllocError>
+    ensures { IfOk result (λ text. string_bytes text ≡ never_used name.now (option_map (λ n. n.now) operation)) }
+{
+    match operation {
+        Some(operation) => {
+            format!(in alloc; "Variable \"${name}\" is never used in operation \"{operation}\".")
+        }
+        None => format!(in alloc; "Variable \"${name}\" is never used."),
+    }
+}
+
+fn unused_fragment<A: Allocator>(alloc: A, name: &str) -> Result<String<A>, AllocError>
+    ensures { IfOk result (λ text. string_bytes text ≡ codes "Fragment \"" ++ name.now ++ codes "\" is never used.") }
+{
+    format!(in alloc; "Fragment \"{name}\" is never used.")
+}
+
+fn unknown_fragment<A: Allocator>(alloc: A, name: &str) -> Result<String<A>, AllocError>
+    ensures { IfOk result (λ text. string_bytes text ≡ codes "Unknown fragment \"" ++ name.now ++ codes "\".") }
+{
+    format!(in alloc; "Unknown fragment \"{name}\".")
+}
+
+// The definition in whose list a node is.
+fn owner<'t>(node: &SyntaxNode<'t>) -> Option<SyntaxNode<'t>>
+    ensures { option_map node_place result ≡ owner (node_place node.now) }
+{
+    node.parent()?.parent()
+}
+
+// The name of another party.
+fn name_of_other<'t>(other: Option<SyntaxNode<'t>>) -> Option<&'t str>
+    ensures { option_map (λ n. n.now) result ≡ name_of_other (option_map node_place other) }
+{
+    own_name(&other?)
+}
+
+// A field or an enum value, after the name of its type.
+fn member<A: Allocator>(alloc: A, node: &SyntaxNode<'_>) -> Result<String<A>, AllocError>
+    ensures { IfOk result (λ text. string_bytes text ≡ member (node_place node.now)) }
+{
+    let holder = or_nothing(name_of_other(owner(node)));
+    let name = name_at(node);
+    format!(in alloc; "{holder}.{name}")
+}
+
+// What has an argument.
+fn with_arguments<A: Allocator>(
+    alloc: A,
+    node: Option<SyntaxNode<'_>>,
+) -> Result<String<A>, AllocError>
+    ensures { IfOk result (λ text. string_bytes text ≡ with_arguments (option_map node_place node)) }
+{
+    let Some(node) = node else {
+        return Ok(String::new(alloc));
+    };
+    if node.kind().is(SyntaxKind::DIRECTIVE_DEFINITION) {
+        let name = name_at(&node);
+        return format!(in alloc; "@{name}");
+    }
+    member(alloc, &node)
+}
+
+// An argument, after what has it.
+fn argument<A: Allocator + Copy>(alloc: A, node: &SyntaxNode<'_>) -> Result<String<A>, AllocError>
+    ensures { IfOk result (λ text. string_bytes text ≡ argument (node_place node.now)) }
+{
+    let holder = with_arguments(alloc, owner(node))?;
+    let holder = holder.as_str();
+    let name = name_at(node);
+    format!(in alloc; "{holder}({name}:)")
+}
+
+fn only_once<A: Allocator>(alloc: A, noun: &str, thing: &str) -> Result<String<A>, AllocError>
+    ensures { IfOk result (λ text. string_bytes text ≡ only_once noun.now thing.now) }
+{
+    format!(in alloc; "{noun} \"{thing}\" can only be defined once.")
+}
+
+// A part of a type that is defined twice.
+fn member_once<A: Allocator + Copy>(
+    alloc: A,
+    noun: &str,
+    node: &SyntaxNode<'_>,
+) -> Result<String<A>, AllocError>
+    ensures { IfOk result (λ text. string_bytes text ≡ only_once noun.now (member (node_place node.now))) }
+{
+    let thing = member(alloc, node)?;
+    only_once(alloc, noun, thing.as_str())
+}
+
+fn argument_once<A: Allocator + Copy>(
+    alloc: A,
+    node: &SyntaxNode<'_>,
+) -> Result<String<A>, AllocError>
+    ensures { IfOk result (λ text. string_bytes text ≡ only_once (codes "Argument") (argument (node_place node.now))) }
+{
+    let thing = argument(alloc, node)?;
+    only_once(alloc, "Argument", thing.as_str())
+}
+
+/// The message of a violation, in the words of graphql-js 16 with double quotes. For a fragment that is spread within itself, graphql-js names
+/// each fragment on the way; here it is the first.
+pub fn message<A: Allocator + Copy>(
+    alloc: A,
+    violation: &Violation<'_>,
+) -> Result<String<A>, AllocError>
+    ensures { IfOk result (λ text. string_bytes text ≡ message_of (as_breach violation.now)) }
+{
+    let node = &violation.node;
+    let name = name_at(node);
+    let other = name_of_other(violation.other);
+    match violation.rule {
+        Rule::ExecutableDefinitions => not_executable(alloc, node),
+        Rule::UniqueOperationNames => only_one(alloc, "operation", name),
+        Rule::LoneAnonymousOperation => {
+            format!(in alloc; "This anonymous operation must be the only defined operation.")
+        }
+        Rule::UniqueArgumentNames => only_one(alloc, "argument", name),
+        Rule::UniqueFragmentNames => only_one(alloc, "fragment", name),
+        Rule::NoUnusedFragments => unused_fragment(alloc, name),
+        Rule::KnownFragmentNames => unknown_fragment(alloc, name),
+        Rule::NoFragmentCycles => within_itself(alloc, name, or_nothing(other)),
+        Rule::UniqueInputFieldNames => only_one(alloc, "input field", name),
+        Rule::UniqueVariableNames => only_one_variable(alloc, name),
+        Rule::NoUndefinedVariables => not_defined(alloc, name, other),
+        Rule::NoUnusedVariables => never_used(alloc, name, other),
+        Rule::UniqueFieldDefinitionNames => member_once(alloc, "Field", node),
+        Rule::UniqueArgumentDefinitionNames => argument_once(alloc, node),
+        Rule::UniqueEnumValueNames => member_once(alloc, "Enum value", node),
+    }
+}
